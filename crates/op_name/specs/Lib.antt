@@ -1,0 +1,2 @@
+pub mod NameData
+pub mod Members

@@ -1,0 +1,28 @@
+-- Members of contexts as contracts see them, and their order.
+use Rattle.std.specs.Prelude.{◌≡◌, ℕ, ◌<◌, ◌≤◌, Bool, true, false, ◌&&◌, ◌||◌, ◌==◌, nat_lt, nat_cmp}
+use Rattle.op_name.specs.declared.member.Member.{Member}
+use Rattle.op_name.specs.declared.member.Member.TheVariants.{Original, Group}
+use Rattle.op_name.specs.NameData.{NameData, name_eq, name_lt, name_cmp, IsName}
+
+-- the original that a member is, or is an undo group of
+abbrev pub target_of : Member → NameData
+target_of (Original n) = n
+target_of (Group n g) = n
+
+-- the generation of a group is at least 1
+abbrev pub IsMember : Member → Type 0
+IsMember (Original n) = Unit {0}
+IsMember (Group n g) = 1 ≤ g
+
+abbrev pub member_eq : Member → Member → Bool
+member_eq (Original n) (Original m) = name_eq n m
+member_eq (Original n) (Group m h) = false
+member_eq (Group n g) (Original m) = false
+member_eq (Group n g) (Group m h) = name_eq n m && (g == h)
+
+-- originals before groups, then by name, then by generation
+abbrev pub member_lt : Member → Member → Bool
+member_lt (Original n) (Original m) = name_lt n m
+member_lt (Original n) (Group m h) = true
+member_lt (Group n g) (Original m) = false
+member_lt (Group n g) (Group m h) = name_lt n m || (name_eq n m && nat_lt g h)

@@ -1,0 +1,23 @@
+-- Names as contracts see them, their ranges and their order.
+use Rattle.std.specs.Prelude.{◌≡◌, ℕ, ◌<◌, ◌≤◌, Bool, ◌&&◌, ◌||◌, ◌==◌, nat_lt, nat_cmp}
+use Rattle.std.specs.declared.cmp.Ordering.{Ordering}
+use Rattle.std.specs.Ordering.{ordering_then}
+
+-- a site and a number of that site
+pub record NameData : Type 0 where
+  pub site : ℕ
+  pub number : ℕ
+
+-- the ranges of a name: 64 sites, numbers 1 to 1,000,000
+abbrev pub IsName : ℕ → ℕ → Type 0
+IsName site number = (site < 64) × (1 ≤ number) × (number ≤ 1000000)
+
+abbrev pub name_eq : NameData → NameData → Bool
+name_eq n m = (n.site == m.site) && (n.number == m.number)
+
+-- by site, then by number
+abbrev pub name_lt : NameData → NameData → Bool
+name_lt n m = nat_lt n.site m.site || ((n.site == m.site) && nat_lt n.number m.number)
+
+abbrev pub name_cmp : NameData → NameData → Ordering
+name_cmp n m = ordering_then (nat_cmp n.site m.site) (nat_cmp n.number m.number)
