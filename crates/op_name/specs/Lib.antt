@@ -1,2 +1,3 @@
 pub mod NameData
 pub mod Members
+pub mod Contexts

@@ -1,8 +1,8 @@
 -- Members of contexts as contracts see them, and their order.
-use Rattle.std.specs.Prelude.{◌≡◌, ℕ, ◌<◌, ◌≤◌, Bool, true, false, ◌&&◌, ◌||◌, ◌==◌, nat_lt, nat_cmp}
+use Rattle.std.specs.Prelude.{◌≡◌, ℕ, ◌<◌, ◌≤◌, Bool, true, false, ◌&&◌, ◌||◌, ◌==◌, nat_lt}
 use Rattle.op_name.specs.declared.member.Member.{Member}
 use Rattle.op_name.specs.declared.member.Member.TheVariants.{Original, Group}
-use Rattle.op_name.specs.NameData.{NameData, name_eq, name_lt, name_cmp, IsName}
+use Rattle.op_name.specs.NameData.{NameData, name_eq, name_lt}
 
 -- the original that a member is, or is an undo group of
 abbrev pub target_of : Member → NameData

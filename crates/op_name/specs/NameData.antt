@@ -1,7 +1,7 @@
 -- Names as contracts see them, their ranges and their order.
-use Rattle.std.specs.Prelude.{◌≡◌, ℕ, ◌<◌, ◌≤◌, Bool, ◌&&◌, ◌||◌, ◌==◌, nat_lt, nat_cmp}
+use Rattle.std.specs.Prelude.{◌≡◌, ℕ, ◌<◌, ◌≤◌, Bool, ◌&&◌, ◌||◌, ◌==◌, nat_lt}
 use Rattle.std.specs.declared.cmp.Ordering.{Ordering}
-use Rattle.std.specs.Ordering.{ordering_then}
+use Rattle.std.specs.Ordering.{ordering_then, nat_cmp}
 
 -- a site and a number of that site
 pub record NameData : Type 0 where

@@ -24,9 +24,11 @@ impl Member {
         ensures target { result ≡ target_of self.now }
         ensures range { IsName result.site result.number }
     {
-        match self {
+        let target = match self {
             Member::Original(name) => *name,
             Member::Group(name, _) => *name,
-        }
+        };
+        target.known();
+        target
     }
 }

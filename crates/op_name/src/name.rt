@@ -1,9 +1,8 @@
 //! Names: a site and the number that the site gave.
 
 ghost use Rattle.std.specs.Prelude.{◌≡◌, ◌↔◌, IsOk, IfOk};
-ghost use Rattle.op_name.specs.NameData.{NameData, coded_name, IsName, name_cmp};
+ghost use Rattle.op_name.specs.NameData.{NameData, IsName};
 
-use std::cmp::Ordering;
 use std::marker::Model;
 
 /// The number of sites: sites are numbered from 0 to `SITES - 1`.
@@ -24,8 +23,6 @@ pub struct Name {
 
 impl Model for Name {
     ghost Value = { NameData };
-
-    ghost coded = { coded_name };
 
     ghost view = { λ n. record { site = n.site; number = n.number } };
 
