@@ -433,3 +433,40 @@ three_inserts_over_abc =
 pub three_concurrent_inserts_stand_where_they_were_made : characters_of three_inserts_over_abc ≡ 112 ∷ 97 ∷ 98 ∷ 114 ∷ 99 ∷ 113 ∷ []
 unfolding put_by sort_by replay narrowed until onward through beyond gap stands_at
 three_concurrent_inserts_stand_where_they_were_made = refl
+
+-- over `Agenda: budget` site 1 writes `, staff` at the end while site 0 writes `draft ` in the middle
+abbrev pub two_write_notes : List OpData
+two_write_notes =
+    inserting (name 0 1) 0 65 (after [])
+    ∷ inserting (name 0 2) 1 103 (after ((0, 1) ∷ []))
+    ∷ inserting (name 0 3) 2 101 (after ((0, 2) ∷ []))
+    ∷ inserting (name 0 4) 3 110 (after ((0, 3) ∷ []))
+    ∷ inserting (name 0 5) 4 100 (after ((0, 4) ∷ []))
+    ∷ inserting (name 0 6) 5 97 (after ((0, 5) ∷ []))
+    ∷ inserting (name 0 7) 6 58 (after ((0, 6) ∷ []))
+    ∷ inserting (name 0 8) 7 32 (after ((0, 7) ∷ []))
+    ∷ inserting (name 0 9) 8 98 (after ((0, 8) ∷ []))
+    ∷ inserting (name 0 10) 9 117 (after ((0, 9) ∷ []))
+    ∷ inserting (name 0 11) 10 100 (after ((0, 10) ∷ []))
+    ∷ inserting (name 0 12) 11 103 (after ((0, 11) ∷ []))
+    ∷ inserting (name 0 13) 12 101 (after ((0, 12) ∷ []))
+    ∷ inserting (name 0 14) 13 116 (after ((0, 13) ∷ []))
+    ∷ inserting (name 1 1) 14 44 (after ((0, 14) ∷ []))
+    ∷ inserting (name 1 2) 15 32 (after ((0, 14) ∷ (1, 1) ∷ []))
+    ∷ inserting (name 1 3) 16 115 (after ((0, 14) ∷ (1, 2) ∷ []))
+    ∷ inserting (name 1 4) 17 116 (after ((0, 14) ∷ (1, 3) ∷ []))
+    ∷ inserting (name 1 5) 18 97 (after ((0, 14) ∷ (1, 4) ∷ []))
+    ∷ inserting (name 1 6) 19 102 (after ((0, 14) ∷ (1, 5) ∷ []))
+    ∷ inserting (name 1 7) 20 102 (after ((0, 14) ∷ (1, 6) ∷ []))
+    ∷ inserting (name 0 15) 8 100 (after ((0, 14) ∷ []))
+    ∷ inserting (name 0 16) 9 114 (after ((0, 15) ∷ []))
+    ∷ inserting (name 0 17) 10 97 (after ((0, 16) ∷ []))
+    ∷ inserting (name 0 18) 11 102 (after ((0, 17) ∷ []))
+    ∷ inserting (name 0 19) 12 116 (after ((0, 18) ∷ []))
+    ∷ inserting (name 0 20) 13 32 (after ((0, 19) ∷ []))
+    ∷ []
+
+-- both words stand whole where they were written
+pub notes_of_two_stand_where_they_were_written : characters_of two_write_notes ≡ 65 ∷ 103 ∷ 101 ∷ 110 ∷ 100 ∷ 97 ∷ 58 ∷ 32 ∷ 100 ∷ 114 ∷ 97 ∷ 102 ∷ 116 ∷ 32 ∷ 98 ∷ 117 ∷ 100 ∷ 103 ∷ 101 ∷ 116 ∷ 44 ∷ 32 ∷ 115 ∷ 116 ∷ 97 ∷ 102 ∷ 102 ∷ []
+unfolding put_by sort_by replay narrowed until onward through beyond gap stands_at
+notes_of_two_stand_where_they_were_written = refl
