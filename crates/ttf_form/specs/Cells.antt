@@ -19,7 +19,7 @@ pub record CellData : Type 0 where
   pub deleters : List (NameData × ℕ)
 
 -- the deleters with d among them, at g or above
-abbrev pub raise_in : NameData → ℕ → List (NameData × ℕ) → List (NameData × ℕ)
+unfoldable pub raise_in : NameData → ℕ → List (NameData × ℕ) → List (NameData × ℕ)
 raise_in d g [] = (d, g) ∷ []
 raise_in d g (e ∷ es) =
     if name_lt d e.0 then (d, g) ∷ (e ∷ es) else if name_eq d e.0 then (d, max e.1 g) ∷ es else e ∷ raise_in d g es

@@ -3,3 +3,4 @@ pub mod Names
 pub mod Families
 pub mod Forms
 pub mod Cells
+pub mod Laws

@@ -13,3 +13,50 @@ pub enum Form {
     Ins(Ins),
     Cover(Cover),
 }
+
+impl Include for Form {
+    ghost use Rattle.ttf_form.specs.Laws.Forms.{form_tp2, form_inert, form_apart_sym, form_apart_over, form_inert_over, form_extent_over, form_bound_place, form_bound_over};
+
+    ghost Apart = { ApartForms };
+
+    ghost place = { place_of };
+
+    ghost extent = { extent_of };
+
+    ghost IsBounded = { IsBoundedForm };
+
+    ghost IsInert = { IsInertForm };
+
+    ghost over = { form_over };
+
+    ghost tp2 = { form_tp2 };
+
+    ghost inert_law = { form_inert };
+
+    ghost apart_sym = { form_apart_sym };
+
+    ghost apart_over = { form_apart_over };
+
+    ghost inert_over = { form_inert_over };
+
+    ghost extent_over = { form_extent_over };
+
+    ghost bound_place = { form_bound_place };
+
+    ghost bound_over = { form_bound_over };
+
+    /// The rows of the table: the inclusion of a cover changes nothing, that of an insert moves each form
+    /// behind it that isn't in front of its new cell.
+    fn include(&self, other: &Form) -> Form {
+        match (self, other) {
+            (Form::Ins(ins), Form::Ins(added)) => Form::Ins(ins.over_ins(added)),
+            (Form::Cover(cover), Form::Ins(added)) => Form::Cover(cover.over_ins_at(added.place)),
+            (_, Form::Cover(_)) => *self,
+        }
+    }
+
+    /// True exactly for a cover.
+    fn inert(&self) -> bool {
+        matches!(self, Form::Cover(_))
+    }
+}
