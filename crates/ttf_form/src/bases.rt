@@ -4,8 +4,8 @@ ghost use Rattle.std.specs.Prelude.{◌≡◌, ◌≢◌, ℕ, ◌≤◌, Bool, 
 ghost use Rattle.op_name.specs.declared.member.Member.{Member};
 ghost use Rattle.ttf_form.specs.Families.{IsIn, sum_where, total_by};
 
-use op_name::Member;
 use crate::include::Include;
+use op_name::Member;
 
 /// A finite list of members, and for each of them its base form and its base context, the set of members
 /// that the base form's state is made of.

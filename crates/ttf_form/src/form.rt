@@ -3,6 +3,7 @@
 ghost use Rattle.std.specs.Prelude.{◌≡◌, ◌↔◌, IsTrue};
 ghost use Rattle.ttf_form.specs.Forms.{ApartForms, place_of, extent_of, IsBoundedForm, IsInertForm, form_over, added_by};
 
+use crate::applies::Applies;
 use crate::cover::Cover;
 use crate::include::Include;
 use crate::ins::Ins;
@@ -59,4 +60,33 @@ impl Include for Form {
     fn inert(&self) -> bool {
         matches!(self, Form::Cover(_))
     }
+}
+
+impl Applies for Form {
+    ghost use Rattle.std.specs.Prelude.{List};
+    ghost use Rattle.ttf_form.specs.Cells.{CellData, cells_of, FitsCells, applied};
+    ghost use Rattle.ttf_form.specs.Laws.Forms.{form_added_length, form_added_over};
+    ghost use Rattle.ttf_form.specs.Laws.Cells.{form_fits, form_fits_after, form_tp1, form_kept};
+
+    ghost State = { List CellData };
+
+    ghost cells = { cells_of };
+
+    ghost added = { added_by };
+
+    ghost Fits = { FitsCells };
+
+    ghost apply = { applied };
+
+    ghost fits = { form_fits };
+
+    ghost fits_after = { form_fits_after };
+
+    ghost tp1 = { form_tp1 };
+
+    ghost kept = { form_kept };
+
+    ghost added_length = { form_added_length };
+
+    ghost added_over = { form_added_over };
 }

@@ -1,5 +1,5 @@
 -- Deleters: the rows of `raise_in`, and that the raises of two may be made in either order, on any list.
-use Rattle.std.proofs.Common.{◌≡◌, ℕ, suc, ◌+◌, ◌<◌, ◌≤◌, max, Bool, true, false, ◌&&◌, ◌||◌, ◌==◌, nat_lt, if◌then◌else◌, List, [], ◌∷◌, refl, sym, ap, ◌∙◌, subst, arith}
+use Rattle.std.proofs.Common.{◌≡◌, ℕ, max, Bool, true, false, if◌then◌else◌, List, [], ◌∷◌, refl, sym, ap, ◌∙◌, subst, arith}
 use Rattle.std.proofs.Math.Nat.{max_comm}
 use Rattle.std.proofs.lemmas.Bool.Decides.{nat_tests}
 use Rattle.op_name.specs.NameData.{NameData, name_eq, name_lt}
@@ -44,6 +44,7 @@ compared n m = by_less (name_lt n m) refl
     by_equal : (b : Bool) → name_eq n m ≡ b → name_lt n m ≡ false → Compared n m
     by_equal true e l = same (name_same n m e)
     by_equal false e l = more (name_total n m l e)
+
     by_less : (b : Bool) → name_lt n m ≡ b → Compared n m
     by_less true e = less e
     by_less false e = by_equal (name_eq n m) refl e
@@ -71,3 +72,87 @@ unfolding raise_in
 raise_on d g e h es l =
     ap (λ (t : Bool). if t then (d, g) ∷ ((e, h) ∷ es) else if name_eq d e then (d, max h g) ∷ es else (e, h) ∷ raise_in d g es) (name_less_asym e d l)
     ∙ ap (λ (t : Bool). if t then (d, max h g) ∷ es else (e, h) ∷ raise_in d g es) (name_more_other e d l)
+
+pub max_assoc : (a b c : ℕ) → max (max a b) c ≡ max a (max b c)
+max_assoc a b c = omega arith
+
+pub max_right_comm : (a b c : ℕ) → max (max a b) c ≡ max (max a c) b
+max_right_comm a b c = max_assoc a b c ∙ ap (λ k. max a k) (max_comm b c) ∙ sym (max_assoc a c b)
+
+-- one name raised twice
+pub raise_again : (d : NameData) (g h : ℕ) (es : List (NameData × ℕ)) → raise_in d g (raise_in d h es) ≡ raise_in d (max h g) es
+unfolding raise_in
+raise_again d g h [] = raise_at d g h []
+raise_again d g h ((e, k) ∷ es) = by (raise_again d g h es) (compared d e)
+  where
+    by : raise_in d g (raise_in d h es) ≡ raise_in d (max h g) es → Compared d e
+        → raise_in d g (raise_in d h ((e, k) ∷ es)) ≡ raise_in d (max h g) ((e, k) ∷ es)
+    by again (less l) =
+        ap (raise_in d g) (raise_front d h e k es l)
+        ∙ raise_at d g h ((e, k) ∷ es)
+        ∙ sym (raise_front d (max h g) e k es l)
+    by again (same s) =
+        subst (λ (x : NameData). raise_in d g (raise_in d h ((x, k) ∷ es)) ≡ raise_in d (max h g) ((x, k) ∷ es)) s
+        (ap (raise_in d g) (raise_at d h k es)
+        ∙ raise_at d g (max k h) es
+        ∙ ap (λ (m : ℕ). (d, m) ∷ es) (max_assoc k h g)
+        ∙ sym (raise_at d (max h g) k es))
+    by again (more l) =
+        ap (raise_in d g) (raise_on d h e k es l)
+        ∙ raise_on d g e k (raise_in d h es) l
+        ∙ ap (λ (xs : List (NameData × ℕ)). (e, k) ∷ xs) again
+        ∙ sym (raise_on d (max h g) e k es l)
+
+-- two names, the one less than the other
+pub raise_apart : (d c : NameData) (g h : ℕ) (es : List (NameData × ℕ)) → name_lt d c ≡ true
+    → raise_in d g (raise_in c h es) ≡ raise_in c h (raise_in d g es)
+unfolding raise_in
+raise_apart d c g h [] l = raise_front d g c h [] l ∙ sym (raise_on c h d g [] l)
+raise_apart d c g h ((e, k) ∷ es) l = by (raise_apart d c g h es l) (compared d e)
+  where
+    by_other : name_lt d e ≡ true → Compared c e → raise_in d g (raise_in c h ((e, k) ∷ es)) ≡ raise_in c h (raise_in d g ((e, k) ∷ es))
+    by_other de (less ce) =
+        ap (raise_in d g) (raise_front c h e k es ce)
+        ∙ raise_front d g c h ((e, k) ∷ es) l
+        ∙ sym (ap (raise_in c h) (raise_front d g e k es de)
+        ∙ raise_on c h d g ((e, k) ∷ es) l
+        ∙ ap (λ (xs : List (NameData × ℕ)). (d, g) ∷ xs) (raise_front c h e k es ce))
+    by_other de (same s) =
+        subst (λ (x : NameData). raise_in d g (raise_in c h ((x, k) ∷ es)) ≡ raise_in c h (raise_in d g ((x, k) ∷ es))) s
+        (ap (raise_in d g) (raise_at c h k es)
+        ∙ raise_front d g c (max k h) es l
+        ∙ sym (ap (raise_in c h) (raise_front d g c k es l)
+        ∙ raise_on c h d g ((c, k) ∷ es) l
+        ∙ ap (λ (xs : List (NameData × ℕ)). (d, g) ∷ xs) (raise_at c h k es)))
+    by_other de (more ec) =
+        ap (raise_in d g) (raise_on c h e k es ec)
+        ∙ raise_front d g e k (raise_in c h es) de
+        ∙ sym (ap (raise_in c h) (raise_front d g e k es de)
+        ∙ raise_on c h d g ((e, k) ∷ es) l
+        ∙ ap (λ (xs : List (NameData × ℕ)). (d, g) ∷ xs) (raise_on c h e k es ec))
+
+    by : raise_in d g (raise_in c h es) ≡ raise_in c h (raise_in d g es) → Compared d e
+        → raise_in d g (raise_in c h ((e, k) ∷ es)) ≡ raise_in c h (raise_in d g ((e, k) ∷ es))
+    by rest (less de) = by_other de (compared c e)
+    by rest (same s) =
+        subst (λ (x : NameData). raise_in d g (raise_in c h ((x, k) ∷ es)) ≡ raise_in c h (raise_in d g ((x, k) ∷ es))) s
+        (ap (raise_in d g) (raise_on c h d k es l)
+        ∙ raise_at d g k (raise_in c h es)
+        ∙ sym (ap (raise_in c h) (raise_at d g k es) ∙ raise_on c h d (max k g) es l))
+    by rest (more ed) =
+        let ec : name_lt e c ≡ true = name_less_trans e d c ed l in
+        ap (raise_in d g) (raise_on c h e k es ec)
+        ∙ raise_on d g e k (raise_in c h es) ed
+        ∙ ap (λ (xs : List (NameData × ℕ)). (e, k) ∷ xs) rest
+        ∙ sym (ap (raise_in c h) (raise_on d g e k es ed) ∙ raise_on c h e k (raise_in d g es) ec)
+
+-- two raises, in either order, of any list
+pub raise_two : (d c : NameData) (g h : ℕ) (es : List (NameData × ℕ)) → raise_in d g (raise_in c h es) ≡ raise_in c h (raise_in d g es)
+raise_two d c g h es = by (compared d c)
+  where
+    by : Compared d c → raise_in d g (raise_in c h es) ≡ raise_in c h (raise_in d g es)
+    by (less l) = raise_apart d c g h es l
+    by (same s) =
+        subst (λ (x : NameData). raise_in d g (raise_in x h es) ≡ raise_in x h (raise_in d g es)) s
+        (raise_again d g h es ∙ ap (λ (m : ℕ). raise_in d m es) (max_comm h g) ∙ sym (raise_again d h g es))
+    by (more l) = sym (raise_apart c d h g es l)

@@ -1,13 +1,11 @@
 -- The laws of inclusion, of all forms.
-use Rattle.std.proofs.Common.{◌≡◌, ◌≢◌, ℕ, zero, suc, ◌+◌, ◌<◌, ◌≤◌, List, [], ◌∷◌, length, refl, sym, ap, ◌∙◌, arith, add-zero}
+use Rattle.std.proofs.Common.{◌≡◌, ℕ, zero, suc, ◌+◌, ◌≤◌, length, refl, sym, ap, arith}
 use Rattle.op_name.specs.NameData.{NameData}
-use Rattle.ttf_form.specs.declared.ins.Ins.{Ins}
 use Rattle.ttf_form.specs.declared.cover.Cover.{Cover}
 use Rattle.ttf_form.specs.declared.form.Form.{Form}
 use Rattle.ttf_form.specs.declared.form.Form.TheVariants.{Ins as Insert, Cover as Covered}
 use Rattle.ttf_form.specs.Names.{block}
-use Rattle.ttf_form.specs.Places.{over_place, cover_place}
-use Rattle.ttf_form.specs.Forms.{ins_extent, place_of, extent_of, IsBoundedForm, ApartForms, IsInertForm, ins_over, cover_over, form_over, added_by}
+use Rattle.ttf_form.specs.Forms.{ins_extent, place_of, extent_of, IsBoundedForm, ApartForms, IsInertForm, form_over, added_by}
 use Rattle.ttf_form.specs.Laws.Places.{over_two, cover_two, over_bound, cover_bound}
 
 -- a form brought over two others, in either order; no two of them need to be apart

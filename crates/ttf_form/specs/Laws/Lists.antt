@@ -1,5 +1,5 @@
 -- New elements at a place, and a change at a place, of any list.
-use Rattle.std.proofs.Common.{◌≡◌, ℕ, zero, suc, ◌+◌, ◌<◌, ◌≤◌, List, [], ◌∷◌, ◌++◌, map, take, drop, length, refl, sym, ap, ◌∙◌, arith, length-append, take-append-drop, length-take, length-drop}
+use Rattle.std.proofs.Common.{◌≡◌, ℕ, zero, suc, ◌+◌, ◌<◌, ◌≤◌, List, [], ◌∷◌, ◌++◌, map, length, refl, ap, arith, length-append, take-append-drop}
 use Rattle.std.proofs.lemmas.List.{map-append}
 use Rattle.ttf_form.specs.Cells.{put_in, change_at}
 
