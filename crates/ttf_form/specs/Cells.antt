@@ -1,7 +1,8 @@
 -- The cells of a document, the rule of applying a form to them, and which of them are shown.
-use Rattle.std.specs.Prelude.{ℕ, zero, suc, ◌%◌, Bool, not, ◌&&◌, ◌==◌, max, List, [], ◌∷◌, ◌++◌, map, take, drop, length, if◌then◌else◌}
+use Rattle.std.specs.Prelude.{◌≡◌, ℕ, zero, suc, ◌%◌, Bool, true, not, ◌&&◌, ◌==◌, max, List, [], ◌∷◌, ◌++◌, map, take, drop, length, if◌then◌else◌}
 use Rattle.std.specs.List.{list_any}
 use Rattle.op_name.specs.NameData.{NameData, name_eq, name_lt}
+use Rattle.op_name.specs.Contexts.{IsBefore}
 use Rattle.ttf_form.specs.declared.ins.Ins.{Ins}
 use Rattle.ttf_form.specs.declared.cover.Mark.{Mark}
 use Rattle.ttf_form.specs.declared.cover.Mark.TheVariants.{Own, By}
@@ -23,6 +24,21 @@ unfoldable pub raise_in : NameData → ℕ → List (NameData × ℕ) → List (
 raise_in d g [] = (d, g) ∷ []
 raise_in d g (e ∷ es) =
     if name_lt d e.0 then (d, g) ∷ (e ∷ es) else if name_eq d e.0 then (d, max e.1 g) ∷ es else e ∷ raise_in d g es
+
+-- one more than the greatest generation that d has among the deleters, 0 if it is none of them
+abbrev pub best : NameData → List (NameData × ℕ) → ℕ
+best d [] = 0
+best d (e ∷ es) = max (if name_eq d e.0 then suc e.1 else 0) (best d es)
+
+-- sorted by name, each name once
+abbrev pub IsRising : List (NameData × ℕ) → Type 0
+IsRising [] = Unit {0}
+IsRising (e ∷ es) = IsBefore e.0 es × IsRising es
+
+-- all names of the list are less than d
+abbrev pub AreBelow : List (NameData × ℕ) → NameData → Type 0
+AreBelow [] d = Unit {0}
+AreBelow (e ∷ es) d = (name_lt e.0 d ≡ true) × AreBelow es d
 
 -- a cell under a mark
 abbrev pub marked : Mark → CellData → CellData

@@ -1,9 +1,10 @@
 -- Deleters: the rows of `raise_in`, and that the raises of two may be made in either order, on any list.
-use Rattle.std.proofs.Common.{◌≡◌, ℕ, max, Bool, true, false, if◌then◌else◌, List, [], ◌∷◌, refl, sym, ap, ◌∙◌, subst, arith}
+use Rattle.std.proofs.Common.{◌≡◌, ℕ, suc, max, ◌++◌, Bool, true, false, if◌then◌else◌, List, [], ◌∷◌, refl, sym, ap, ◌∙◌, subst, arith}
 use Rattle.std.proofs.Math.Nat.{max_comm}
 use Rattle.std.proofs.lemmas.Bool.Decides.{nat_tests}
 use Rattle.op_name.specs.NameData.{NameData, name_eq, name_lt}
-use Rattle.ttf_form.specs.Cells.{raise_in}
+use Rattle.op_name.specs.Contexts.{IsBefore}
+use Rattle.ttf_form.specs.Cells.{raise_in, best, IsRising, AreBelow}
 
 pub name_self : (n : NameData) → name_eq n n ≡ true
 name_self n = grind (arith, nat_tests)
@@ -31,6 +32,15 @@ name_more_other n m h = grind (arith, nat_tests)
 
 pub name_total : (n m : NameData) → name_lt n m ≡ false → name_eq n m ≡ false → name_lt m n ≡ true
 name_total n m a b = grind (arith, nat_tests)
+
+two_best : (g h b : ℕ) → max (suc (max h g)) b ≡ max (suc g) (max (suc h) b)
+two_best g h b = omega arith
+
+past_best : (a g b : ℕ) → max a (max g b) ≡ max g (max a b)
+past_best a g b = omega arith
+
+none_best : (b : ℕ) → max 0 b ≡ b
+none_best b = omega arith
 
 -- how two names compare
 pub data Compared (n m : NameData) : Type 0 where
@@ -156,3 +166,77 @@ raise_two d c g h es = by (compared d c)
         subst (λ (x : NameData). raise_in d g (raise_in x h es) ≡ raise_in x h (raise_in d g es)) s
         (raise_again d g h es ∙ ap (λ (m : ℕ). raise_in d m es) (max_comm h g) ∙ sym (raise_again d h g es))
     by (more l) = sym (raise_apart c d h g es l)
+
+-- the best of a name after a raise
+pub best_raise : (d : NameData) (g : ℕ) (es : List (NameData × ℕ)) → best d (raise_in d g es) ≡ max (suc g) (best d es)
+unfolding raise_in
+best_raise d g [] = ap (λ (t : Bool). max (if t then suc g else 0) 0) (name_self d)
+best_raise d g ((e, h) ∷ es) = by (best_raise d g es) (compared d e)
+  where
+    by : best d (raise_in d g es) ≡ max (suc g) (best d es) → Compared d e → best d (raise_in d g ((e, h) ∷ es)) ≡ max (suc g) (best d ((e, h) ∷ es))
+    by rest (less l) =
+        ap (best d) (raise_front d g e h es l)
+        ∙ ap (λ (t : Bool). max (if t then suc g else 0) (best d ((e, h) ∷ es))) (name_self d)
+    by rest (same s) =
+        subst (λ (x : NameData). best d (raise_in d g ((x, h) ∷ es)) ≡ max (suc g) (best d ((x, h) ∷ es))) s
+            (ap (best d) (raise_at d g h es)
+            ∙ ap (λ (t : Bool). max (if t then suc (max h g) else 0) (best d es)) (name_self d)
+            ∙ two_best g h (best d es)
+            ∙ sym (ap (λ (t : Bool). max (suc g) (max (if t then suc h else 0) (best d es))) (name_self d)))
+    by rest (more l) =
+        ap (best d) (raise_on d g e h es l)
+        ∙ ap (λ (k : ℕ). max (if name_eq d e then suc h else 0) k) rest
+        ∙ past_best (if name_eq d e then suc h else 0) (suc g) (best d es)
+
+pub best_raise_other : (c d : NameData) (g : ℕ) (es : List (NameData × ℕ)) → name_eq c d ≡ false → best c (raise_in d g es) ≡ best c es
+unfolding raise_in
+best_raise_other c d g [] ne = ap (λ (t : Bool). max (if t then suc g else 0) 0) ne
+best_raise_other c d g ((e, h) ∷ es) ne = by (best_raise_other c d g es ne) (compared d e)
+  where
+    by : best c (raise_in d g es) ≡ best c es → Compared d e → best c (raise_in d g ((e, h) ∷ es)) ≡ best c ((e, h) ∷ es)
+    by rest (less l) =
+        ap (best c) (raise_front d g e h es l)
+        ∙ ap (λ (t : Bool). max (if t then suc g else 0) (best c ((e, h) ∷ es))) ne
+        ∙ none_best (best c ((e, h) ∷ es))
+    by rest (same s) =
+        subst (λ (x : NameData). best c (raise_in d g ((x, h) ∷ es)) ≡ best c ((x, h) ∷ es)) s
+            (ap (best c) (raise_at d g h es)
+            ∙ ap (λ (t : Bool). max (if t then suc (max h g) else 0) (best c es)) ne
+            ∙ sym (ap (λ (t : Bool). max (if t then suc h else 0) (best c es)) ne))
+    by rest (more l) =
+        ap (best c) (raise_on d g e h es l)
+        ∙ ap (λ (k : ℕ). max (if name_eq c e then suc h else 0) k) rest
+
+-- past entries that are all less
+pub raise_past : (d : NameData) (g : ℕ) (xs ys : List (NameData × ℕ)) → AreBelow xs d → raise_in d g (xs ++ ys) ≡ xs ++ raise_in d g ys
+raise_past d g [] ys h = refl
+raise_past d g ((e, k) ∷ xs) ys h =
+    raise_on d g e k (xs ++ ys) h.0
+    ∙ ap (λ (zs : List (NameData × ℕ)). (e, k) ∷ zs) (raise_past d g xs ys h.1)
+
+raise_before : (n d : NameData) (g : ℕ) (es : List (NameData × ℕ)) → IsBefore n es → name_lt n d ≡ true → IsBefore n (raise_in d g es)
+unfolding raise_in
+raise_before n d g [] b l = l
+raise_before n d g ((e, h) ∷ es) b l = by (compared d e)
+  where
+    by : Compared d e → IsBefore n (raise_in d g ((e, h) ∷ es))
+    by (less k) = subst (λ (xs : List (NameData × ℕ)). IsBefore n xs) (sym (raise_front d g e h es k)) l
+    by (same s) =
+        subst (λ (x : NameData). IsBefore n (raise_in d g ((x, h) ∷ es))) s
+            (subst (λ (xs : List (NameData × ℕ)). IsBefore n xs) (sym (raise_at d g h es)) l)
+    by (more k) = subst (λ (xs : List (NameData × ℕ)). IsBefore n xs) (sym (raise_on d g e h es k)) b
+
+-- the deleters stay sorted
+pub raise_rising : (d : NameData) (g : ℕ) (es : List (NameData × ℕ)) → IsRising es → IsRising (raise_in d g es)
+unfolding raise_in
+raise_rising d g [] r = (tt, tt)
+raise_rising d g ((e, h) ∷ es) r = by (raise_rising d g es r.1) (compared d e) r
+  where
+    by : IsRising (raise_in d g es) → Compared d e → IsRising ((e, h) ∷ es) → IsRising (raise_in d g ((e, h) ∷ es))
+    by rest (less k) q = subst IsRising (sym (raise_front d g e h es k)) (k, q)
+    by rest (same s) q =
+        subst (λ (x : NameData). IsRising ((x, h) ∷ es) → IsRising (raise_in d g ((x, h) ∷ es))) s
+            (λ p. subst IsRising (sym (raise_at d g h es)) p)
+            q
+    by rest (more k) q =
+        subst IsRising (sym (raise_on d g e h es k)) (raise_before e d g es q.0 k, rest)

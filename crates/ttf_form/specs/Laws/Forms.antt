@@ -1,12 +1,14 @@
 -- The laws of inclusion, of all forms.
-use Rattle.std.proofs.Common.{◌≡◌, ℕ, zero, suc, ◌+◌, ◌≤◌, length, refl, sym, ap, arith}
+use Rattle.std.proofs.Common.{◌≢◌, Bool, true, nat_lt, subst, ◌≡◌, ℕ, zero, suc, ◌+◌, ◌≤◌, length, refl, sym, ap, arith}
 use Rattle.op_name.specs.NameData.{NameData}
+use Rattle.ttf_form.specs.declared.ins.Ins.{Ins}
 use Rattle.ttf_form.specs.declared.cover.Cover.{Cover}
 use Rattle.ttf_form.specs.declared.form.Form.{Form}
 use Rattle.ttf_form.specs.declared.form.Form.TheVariants.{Ins as Insert, Cover as Covered}
+use Rattle.ttf_form.specs.Places.{IsMoved}
 use Rattle.ttf_form.specs.Names.{block}
 use Rattle.ttf_form.specs.Forms.{ins_extent, place_of, extent_of, IsBoundedForm, ApartForms, IsInertForm, form_over, added_by}
-use Rattle.ttf_form.specs.Laws.Places.{over_two, cover_two, over_bound, cover_bound}
+use Rattle.ttf_form.specs.Laws.Places.{over_moved, cover_place_moved, over_two, cover_two, over_bound, cover_bound}
 
 -- a form brought over two others, in either order; no two of them need to be apart
 pub form_two : (o a b : Form) → form_over (form_over o a) (form_over b a) ≡ form_over (form_over o b) (form_over a b)
@@ -86,3 +88,14 @@ length-block n first (suc k) = ap suc (length-block n (suc first) k)
 pub form_added_length : (a : Form) → length (added_by a) ≡ extent_of a
 form_added_length (Insert a) = length-block a.name 0 (ins_extent a)
 form_added_length (Covered c) = refl
+
+-- where the inclusion of an insert moves a form; of two inserts the smaller site is on the left
+pub ins_moved : (a b : Ins) → a.site ≢ b.site
+    → IsMoved a.place b.place (ins_extent b) (nat_lt b.name.site a.name.site) (place_of (form_over (Insert a) (Insert b)))
+ins_moved a b h =
+    subst (λ (left : Bool). IsMoved a.place b.place (ins_extent b) left (place_of (form_over (Insert a) (Insert b))))
+        (λ i. nat_lt (b.own i) (a.own i))
+        (over_moved a.place a.site b.place b.site (ins_extent b) h)
+
+pub cover_moved : (c : Cover) (b : Ins) → IsMoved c.place b.place (ins_extent b) true (place_of (form_over (Covered c) (Insert b)))
+cover_moved c b = cover_place_moved c.place b.place (ins_extent b)

@@ -1,7 +1,7 @@
 -- Where places go: the order of two inserts is kept by the inclusion of a third.
 use Rattle.std.proofs.Common.{◌≡◌, ◌≢◌, ℕ, ◌+◌, ◌<◌, ◌≤◌, Bool, true, false, nat_lt, if◌then◌else◌, refl, sym, ap, ◌∙◌, arith}
 use Rattle.std.proofs.lemmas.Bool.Decides.{nat_tests}
-use Rattle.ttf_form.specs.Places.{goes_before, over_place, cover_place}
+use Rattle.ttf_form.specs.Places.{IsMoved, goes_before, over_place, cover_place}
 
 pub over_stays : (p s q r n : ℕ) → goes_before p s q r ≡ true → over_place p s q r n ≡ p
 unfolding over_place
@@ -74,6 +74,30 @@ before_kept p s q r o t n = grind (arith, nat_tests)
 pub less_kept : (p q r o t n : ℕ) → nat_lt (cover_place p o n) (over_place q r o t n) ≡ nat_lt p q
 unfolding over_place cover_place
 less_kept p q r o t n = grind (arith, nat_tests)
+
+-- the row of an insert as it moves a place
+pub over_moved : (p s q r n : ℕ) → s ≢ r → IsMoved p q n (nat_lt r s) (over_place p s q r n)
+over_moved p s q r n ne =
+    record {
+      less = λ h. over_more p s q r n h;
+      more = λ h. over_less p s q r n h;
+      tie_left = λ e h. over_tie_behind p s q r n e (greater_behind s r h);
+      tie_right = λ e h. over_tie_front p s q r n e (other_front s r ne h)
+    }
+  where
+    greater_behind : (s r : ℕ) → nat_lt r s ≡ true → nat_lt s r ≡ false
+    greater_behind s r h = grind (arith, nat_tests)
+    other_front : (s r : ℕ) → s ≢ r → nat_lt r s ≡ false → nat_lt s r ≡ true
+    other_front s r ne h = grind (arith, nat_tests)
+
+pub cover_place_moved : (p q n : ℕ) → IsMoved p q n true (cover_place p q n)
+cover_place_moved p q n =
+    record {
+      less = λ h. cover_more p q n (omega arith);
+      more = λ h. cover_less p q n h;
+      tie_left = λ e h. cover_more p q n (omega arith);
+      tie_right = λ e h. cc
+    }
 
 rises : (b c : Bool) (p n m : ℕ) → (if b then (if c then p else p + n) else (if c then p else p + n) + m) ≡ (if c then (if b then p else p + m) else (if b then p else p + m) + n)
 rises true true p n m = refl
