@@ -52,7 +52,16 @@ fn an_insert_over_an_insert(rt: HostRuntime) {
         let a = ins(place, site);
         let b = ins(other, other_site);
         let moved = a.over_ins(&b);
-        assert_eq!(rt; moved, Ins { place: wanted, site, ch: 'x', name: Name { site, number: 7 } }, "{why}");
+        assert_eq!(rt;
+            moved,
+            Ins {
+                place: wanted,
+                site,
+                ch: 'x',
+                name: Name { site, number: 7 }
+            },
+            "{why}"
+        );
     }
 }
 
@@ -66,19 +75,53 @@ fn a_cover_over_an_insert(rt: HostRuntime) {
     ];
     for (why, place, other, wanted) in rows {
         assert!(rt; place < 1000);
-        assert_eq!(rt; delete_at(place).over_ins_at(other), delete_at(wanted), "{why}");
+        assert_eq!(rt;
+            delete_at(place).over_ins_at(other),
+            delete_at(wanted),
+            "{why}"
+        );
     }
 }
 
 #[test]
 fn forms_over_forms(rt: HostRuntime) {
     let rows: [(&str, Form, Form, u32); 6] = [
-        ("insert over insert, ahead", Form::Ins(ins(5, 1)), Form::Ins(ins(5, 2)), 5),
-        ("insert over insert, behind", Form::Ins(ins(5, 2)), Form::Ins(ins(5, 1)), 6),
-        ("insert over cover", Form::Ins(ins(5, 1)), Form::Cover(delete_at(2)), 5),
-        ("cover over insert, ahead", Form::Cover(delete_at(4)), Form::Ins(ins(5, 1)), 4),
-        ("cover over insert, behind", Form::Cover(delete_at(5)), Form::Ins(ins(5, 1)), 6),
-        ("cover over cover", Form::Cover(delete_at(5)), Form::Cover(delete_at(2)), 5),
+        (
+            "insert over insert, ahead",
+            Form::Ins(ins(5, 1)),
+            Form::Ins(ins(5, 2)),
+            5,
+        ),
+        (
+            "insert over insert, behind",
+            Form::Ins(ins(5, 2)),
+            Form::Ins(ins(5, 1)),
+            6,
+        ),
+        (
+            "insert over cover",
+            Form::Ins(ins(5, 1)),
+            Form::Cover(delete_at(2)),
+            5,
+        ),
+        (
+            "cover over insert, ahead",
+            Form::Cover(delete_at(4)),
+            Form::Ins(ins(5, 1)),
+            4,
+        ),
+        (
+            "cover over insert, behind",
+            Form::Cover(delete_at(5)),
+            Form::Ins(ins(5, 1)),
+            6,
+        ),
+        (
+            "cover over cover",
+            Form::Cover(delete_at(5)),
+            Form::Cover(delete_at(2)),
+            5,
+        ),
     ];
     for (why, a, b, wanted) in rows {
         assert!(rt; place(&a) < 1000);
