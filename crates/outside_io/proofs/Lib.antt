@@ -1,0 +1,3 @@
+-- Lemmas on the words of the contracts.
+pub mod Written
+pub mod Read
