@@ -1,5 +1,5 @@
 -- What writes leave, one after the other.
-use Rattle.std.proofs.Common.{◌≡◌, ℕ, ◌+◌, List, Option, take, drop, sym, take-append-drop}
+use Rattle.std.proofs.Common.{ℕ, ◌+◌, List, Option, take, drop, sym, take-append-drop}
 use Rattle.std.proofs.Math.Seq.{take-add}
 use Rattle.std.proofs.KnownBytes.{Appends-trans, Appends-kept}
 use Rattle.std.specs.Io.KnownBytes.{Appends, Keeps}

@@ -1,6 +1,5 @@
 -- The calls of a device in memory, counted, and those that are to fail.
-use Rattle.std.specs.Prelude.{ℕ, ◌+◌, List, min}
-use Rattle.outside_io.specs.Faults.{last_count}
+use Rattle.std.specs.Prelude.{ℕ, List}
 
 -- the numbers of the calls that fail, and the number of the next call
 pub record CallList : Type 0 where

@@ -1,5 +1,5 @@
 -- So far `out` gained what the source lost, and not past the byte behind the most that an input may have.
-use Rattle.std.proofs.Common.{◌≡◌, vec_len, ◌+◌, ◌-◌, ◌≤◌, ◌<◌, ℕ}
+use Rattle.std.proofs.Common.{◌≡◌, vec_len, ◌+◌, ◌-◌, ◌≤◌}
 use Rattle.outside_io.specs.Reading.{Gathers}
 use Rattle.outside_io.specs.declared.reading.TheConstants.{MAX_INPUT}
 use Rattle.outside_io.proofs.reading.gather.Given as goal

@@ -1,5 +1,5 @@
 -- So far the front up to `written` was written.
-use Rattle.std.proofs.Common.{length, take, ◌-◌, ◌≤◌, ℕ}
+use Rattle.std.proofs.Common.{length, take, ◌-◌, ◌≤◌}
 use Rattle.std.specs.Io.KnownBytes.{Appends}
 use Rattle.outside_io.proofs.writing.write_whole.Given as goal
 
