@@ -38,7 +38,10 @@ impl NoWire {
     }
 
     fn keep_asked(&mut self, asked: Asked)
-        ensures { self.new ≡ record self.old { asked = asked; asks = min (self.old.asks + 1) last_count } }
+        ensures { self.new ≡ record self.old {
+          asked = asked;
+          asks = min (self.old.asks + 1) last_count;
+        } }
     {
         self.asked = asked;
         self.asks = self.asks.saturating_add(1);
@@ -58,7 +61,11 @@ impl Wire for NoWire {
 
     fn link(&mut self, role: Role, port: u16) -> Result<(), Failed>
         ensures fails { IsErr result }
-        ensures state { self.new ≡ record { asked = Asked.Peer role port; asks = min (self.old.asks + 1) last_count; faults = min (self.old.faults + 1) last_count } }
+        ensures state { self.new ≡ record {
+          asked = Asked.Peer role port;
+          asks = min (self.old.asks + 1) last_count;
+          faults = min (self.old.faults + 1) last_count;
+        } }
         ensures later { self.old.faults ≤ self.new.faults }
     {
         self.keep_asked(Asked::Peer(role, port));
@@ -68,7 +75,11 @@ impl Wire for NoWire {
 
     fn link_pair(&mut self) -> Result<(), Failed>
         ensures fails { IsErr result }
-        ensures state { self.new ≡ record { asked = Asked.Pair; asks = min (self.old.asks + 1) last_count; faults = min (self.old.faults + 1) last_count } }
+        ensures state { self.new ≡ record {
+          asked = Asked.Pair;
+          asks = min (self.old.asks + 1) last_count;
+          faults = min (self.old.faults + 1) last_count;
+        } }
         ensures later { self.old.faults ≤ self.new.faults }
     {
         self.keep_asked(Asked::Pair);

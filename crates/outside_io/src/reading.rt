@@ -37,10 +37,13 @@ pub enum ReadBad {
 /// Appends to `out` what the source has left, at most `MAX_INPUT` bytes. A refused call leaves `out` as it
 /// was; what it read is gone from the source.
 pub fn read_whole<S: Source>(source: &mut S, out: &mut Vec<u8>) -> Result<Taken, ReadBad>
-    ensures end { result ≡ Ok Taken.End → IfSome (S.left source.old) (λ bytes. (length bytes ≤ MAX_INPUT) × (out.new.items ≡ out.old.items ++ bytes)) }
+    ensures end { result ≡ Ok Taken.End → IfSome (S.left source.old) (λ bytes.
+        (length bytes ≤ MAX_INPUT) × (out.new.items ≡ out.old.items ++ bytes)) }
     ensures ended { result ≡ Ok Taken.End → IsAtEnd (S.left source.new) }
-    ensures past { result ≡ Ok Taken.Past → IfSome (S.left source.old) (λ bytes. (MAX_INPUT < length bytes) × (out.new.items ≡ out.old.items ++ take MAX_INPUT bytes)) }
-    ensures rest { result ≡ Ok Taken.Past → IfSome (S.left source.old) (λ bytes. S.left source.new ≡ Some (drop (MAX_INPUT + 1) bytes)) }
+    ensures past { result ≡ Ok Taken.Past → IfSome (S.left source.old) (λ bytes.
+        (MAX_INPUT < length bytes) × (out.new.items ≡ out.old.items ++ take MAX_INPUT bytes)) }
+    ensures rest { result ≡ Ok Taken.Past → IfSome (S.left source.old) (λ bytes.
+        S.left source.new ≡ Some (drop (MAX_INPUT + 1) bytes)) }
 
     // Also of a source that doesn't tell its bytes.
     ensures front { StartsWith out.new.items out.old.items }
@@ -66,7 +69,8 @@ pub fn read_whole<S: Source>(source: &mut S, out: &mut Vec<u8>) -> Result<Taken,
 
 // Reads to the end, or until there is a byte past the most that an input may have, which it appends too.
 fn gather<S: Source>(source: &mut S, out: &mut Vec<u8>) -> Result<Taken, ReadBad>
-    ensures gathers { OnOk result (Gathers (S.left source.old) (S.left source.new) out.old.items out.new.items) }
+    ensures gathers { OnOk result (Gathers (S.left source.old) (S.left source.new)
+        out.old.items out.new.items) }
     ensures lost { OnErr result (LosesFront (S.left source.old) (S.left source.new)) }
     ensures front { StartsWith out.new.items out.old.items }
     ensures end { result ≡ Ok Taken.End → IsAtEnd (S.left source.new) }
@@ -98,7 +102,8 @@ fn read_piece<S: Source>(
     requires room { 0 < length piece.old }
     requires some { 0 < most }
     ensures amount { IfOk result (λ n. (n ≤ most) × (vec_len out.new ≡ vec_len out.old + n)) }
-    ensures gathers { OnOk result (Gathers (S.left source.old) (S.left source.new) out.old.items out.new.items) }
+    ensures gathers { OnOk result (Gathers (S.left source.old) (S.left source.new)
+        out.old.items out.new.items) }
     ensures lost { OnErr result (LosesFront (S.left source.old) (S.left source.new)) }
     ensures kept { OnErr result (out.new.items ≡ out.old.items) }
     ensures end { result ≡ Ok 0 → IsAtEnd (S.left source.new) }

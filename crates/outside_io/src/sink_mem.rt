@@ -23,7 +23,12 @@ pub struct SinkMem {
 impl Model for SinkMem {
     ghost Value = { Store };
 
-    ghost view = { λ s. record { held = s.held.items; failing = s.calls.failing; calls = s.calls.next; faults = s.faults } };
+    ghost view = { λ s. record {
+      held = s.held.items;
+      failing = s.calls.failing;
+      calls = s.calls.next;
+      faults = s.faults;
+    } };
 }
 
 impl SinkMem {
@@ -60,7 +65,8 @@ impl Sink for SinkMem {
         ensures whole { IfOk result (λ n. n ≡ length piece.now) }
         ensures failing { Contains self.old.failing self.old.calls → IsErr result }
         ensures calls { self.new.calls ≡ min (self.old.calls + 1) last_count }
-        ensures faults { self.new.faults ≡ (if is_ok result then self.old.faults else min (self.old.faults + 1) last_count) }
+        ensures faults { self.new.faults ≡ (if is_ok result then self.old.faults
+            else min (self.old.faults + 1) last_count) }
         ensures same_failing { self.new.failing ≡ self.old.failing }
     {
         let fails = self.calls.next_fails();

@@ -24,7 +24,13 @@ pub struct SourceMem {
 impl Model for SourceMem {
     ghost Value = { Feed };
 
-    ghost view = { λ s. record { left = drop s.taken s.bytes.items; chunk = s.chunk; failing = s.calls.failing; calls = s.calls.next; faults = s.faults } };
+    ghost view = { λ s. record {
+      left = drop s.taken s.bytes.items;
+      chunk = s.chunk;
+      failing = s.calls.failing;
+      calls = s.calls.next;
+      faults = s.faults;
+    } };
 
     ghost invariant = { λ s. (s.taken ≤ length s.bytes.items) × (1 ≤ s.chunk) };
 }
@@ -33,7 +39,13 @@ impl SourceMem {
     /// Gives `bytes`, at most `chunk` of them at a read. The reads whose numbers are in `failing` fail.
     pub fn new(bytes: Vec<u8>, chunk: u32, failing: Vec<u32>) -> SourceMem
         requires { 1 ≤ chunk }
-        ensures { result ≡ record { left = bytes.items; chunk = chunk; failing = failing.items; calls = 0; faults = 0 } }
+        ensures { result ≡ record {
+          left = bytes.items;
+          chunk = chunk;
+          failing = failing.items;
+          calls = 0;
+          faults = 0;
+        } }
     {
         SourceMem {
             bytes,
@@ -55,10 +67,12 @@ impl Source for SourceMem {
         ensures bytes { ReadConsumes (Some self.old.left) (Some self.new.left) result buf.new }
         ensures cause { HasCause self.old.faults self.new.faults result }
 
-        ensures amount { IfOk result (λ n. n ≡ min (min self.old.chunk (length buf.new)) (length self.old.left)) }
+        ensures amount { IfOk result (λ n.
+            n ≡ min (min self.old.chunk (length buf.new)) (length self.old.left)) }
         ensures failing { IsErr result ↔ Contains self.old.failing self.old.calls }
         ensures calls { self.new.calls ≡ min (self.old.calls + 1) last_count }
-        ensures faults { self.new.faults ≡ (if is_ok result then self.old.faults else min (self.old.faults + 1) last_count) }
+        ensures faults { self.new.faults ≡ (if is_ok result then self.old.faults
+            else min (self.old.faults + 1) last_count) }
         ensures same_chunk { self.new.chunk ≡ self.old.chunk }
         ensures same_failing { self.new.failing ≡ self.old.failing }
     {

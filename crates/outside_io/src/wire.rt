@@ -47,7 +47,8 @@ pub trait Wire {
     fn link_pair(&mut self) -> Result<(), Failed>
         requires { IsUnlinked (ends self.old) }
 
-        ensures linked { OnOk result ((end : ℕ) → end < 2 → ends self.new end ≡ linked_to (nothing_of (ends self.old end).to_come) (ends self.old end)) }
+        ensures linked { OnOk result ((end : ℕ) → end < 2 →
+            ends self.new end ≡ linked_to (nothing_of (ends self.old end).to_come) (ends self.old end)) }
         ensures failed { OnErr result ((end : ℕ) → end < 2 → ends self.new end ≡ ends self.old end) }
 
         ensures asked { asked self.new ≡ Asked.Pair }
@@ -83,7 +84,8 @@ pub trait Wire {
         ensures bound { IfOk result (λ n. n ≤ length piece.now) }
         ensures some { IfOk result (λ n. 0 < length piece.now → 0 < n) }
         ensures bytes { WritesEnd (ends self.old end) (ends self.new end) result piece.now }
-        ensures other_end { BringsEnd (asked self.old) (ends self.old (1 - end)) (ends self.new (1 - end)) result piece.now }
+        ensures other_end { BringsEnd (asked self.old) (ends self.old (1 - end)) (ends self.new (1 - end))
+            result piece.now }
 
         ensures asked { asked self.new ≡ asked self.old }
         ensures asks { asks self.new ≡ asks self.old }
