@@ -1,0 +1,3 @@
+pub mod Keyed
+pub mod Counts
+pub mod Entries
