@@ -1,5 +1,5 @@
 -- Lists of counts: sites that rise with their counts.
-use Rattle.std.proofs.Common.{◌≡◌, ℕ, zero, suc, ◌+◌, ◌-◌, ◌*◌, ◌<◌, ◌≤◌, Bool, true, false, List, [], ◌∷◌, ◌++◌, length, if◌then◌else◌, refl, sym, ap, subst, ◌∙◌, inl, inr, arith}
+use Rattle.std.proofs.Common.{◌≡◌, ℕ, zero, suc, ◌+◌, ◌-◌, ◌*◌, ◌<◌, ◌≤◌, Bool, true, false, List, [], ◌∷◌, ◌++◌, length, if◌then◌else◌, get_or, drop, add-one, refl, sym, ap, subst, ◌∙◌, inl, inr, arith}
 use Rattle.std.specs.Prelude.{◌==◌, nat_lt, nat_le}
 use Rattle.std.proofs.lemmas.Bool.{cases_lt, cases_order, eq-eqb, ne_eqb, lt-ltb, le-ltb}
 use Rattle.std.proofs.lemmas.Bool.Decides.{nat_tests}
@@ -104,3 +104,18 @@ sum_at_most low (p ∷ ps) le are = omega (arith, are.0, are.1, are.3, sum_at_mo
 pub sites_at_most : (low : ℕ) (ps : List (ℕ × ℕ)) → low ≤ 64 → AreCounts low ps → length ps + low ≤ 64
 sites_at_most low [] le are = omega arith
 sites_at_most low (p ∷ ps) le are = omega (arith, are.0, are.1, sites_at_most (p.0 + 1) ps (omega arith) are.4)
+
+-- a walk that adds the counts up
+sum_drop_suc : (ps : List (ℕ × ℕ)) (i : ℕ) (d : ℕ × ℕ) → i < length ps → sum_of_counts (drop i ps) ≡ (get_or ps i d).1 + sum_of_counts (drop (suc i) ps)
+sum_drop_suc [] i d within = absurd (omega arith)
+sum_drop_suc (p ∷ ps) zero d within = refl
+sum_drop_suc (p ∷ ps) (suc i) d within = sum_drop_suc ps i d (omega arith)
+
+pub sum_drop : (ps : List (ℕ × ℕ)) (i : ℕ) (d : ℕ × ℕ) → i < length ps → sum_of_counts (drop i ps) ≡ (get_or ps i d).1 + sum_of_counts (drop (i + 1) ps)
+sum_drop ps i d within = rw (add-one i) (sum_drop_suc ps i d within)
+
+pub sum_drop_all : (ps : List (ℕ × ℕ)) (i : ℕ) → length ps ≤ i → sum_of_counts (drop i ps) ≡ 0
+sum_drop_all [] zero past = refl
+sum_drop_all [] (suc i) past = refl
+sum_drop_all (p ∷ ps) zero past = absurd (omega arith)
+sum_drop_all (p ∷ ps) (suc i) past = sum_drop_all ps i (omega arith)
