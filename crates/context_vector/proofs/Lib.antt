@@ -3,3 +3,5 @@ pub mod Search
 pub mod Shortfalls
 pub mod Counts
 pub mod Entries
+pub mod Members
+pub mod Sets
