@@ -92,8 +92,11 @@ impl Vector {
         ensures members { (y : Member) → has self.new.set y ≡ (has self.old.set y && not (member_eq m.now y)) }
     {
         match m {
-            Member::Original(name) => lower_site(&mut self.counts, name),
-            Member::Group(name, generation) => lower_name(&mut self.entries, name, *generation),
+            Member::Original(name) => lower_site(&mut self.counts, name.site, name.number),
+            Member::Group(name, generation) => {
+                name.known();
+                lower_name(&mut self.entries, name, *generation);
+            }
         }
     }
 
@@ -103,10 +106,10 @@ impl Vector {
         ensures kept { OnErr result (self.new.set ≡ self.old.set) }
     {
         let mut union = self.try_clone()?;
-        for &(site, number) in other.counts.as_slice() {
+        for &(site, number) in other.counts() {
             union.raise(&Member::Original(Name { site, number }))?;
         }
-        for &(name, generation) in other.entries.as_slice() {
+        for &(name, generation) in other.named() {
             union.raise(&Member::Group(name, generation))?;
         }
         *self = union;
@@ -150,22 +153,24 @@ impl Vector {
         ensures { self.new.set ≡ raised self.old.set m.now }
     {
         match m {
-            Member::Original(name) => put_site(&mut self.counts, name),
-            Member::Group(name, generation) => put_name(&mut self.entries, name, *generation),
+            Member::Original(name) => put_site(&mut self.counts, name.site, name.number),
+            Member::Group(name, generation) => {
+                name.known();
+                put_name(&mut self.entries, name, *generation);
+            }
         }
     }
 }
 
-// Makes the name's number the count of its site.
-fn put_site(counts: &mut SmallVec<(u16, u32), 4>, name: &Name)
+// Makes the number the count of the site.
+fn put_site(counts: &mut SmallVec<(u16, u32), 4>, site: u16, number: u32)
     requires rising { AreCounts 0 counts.old.items }
-    requires room { count_in counts.old.items name.now.site ≡ 0 → Spare counts.old 1 }
-    ensures { counts.new.items ≡ put_count name.now.site name.now.number counts.old.items }
+    requires room { count_in counts.old.items site ≡ 0 → Spare counts.old 1 }
+    ensures { counts.new.items ≡ put_count site number counts.old.items }
 {
-    let pair = (name.site, name.number);
-    match place_of_site(counts.as_slice(), name.site) {
-        Ok(at) => counts.as_mut_slice()[at] = pair,
-        Err(at) => match counts.insert(at, pair) {
+    match place_of_site(counts.as_slice(), site) {
+        Ok(at) => counts.as_mut_slice()[at] = (site, number),
+        Err(at) => match counts.insert(at, (site, number)) {
             Ok(()) => {}
             Err(_) => unreachable!(),
         },
@@ -188,18 +193,18 @@ fn put_name(entries: &mut Vec<(Name, u16)>, name: &Name, generation: u16)
     }
 }
 
-// Takes one from the count of the name's site, which is the name's number.
-fn lower_site(counts: &mut SmallVec<(u16, u32), 4>, name: &Name)
+// Takes one from the count of the site, which is the number.
+fn lower_site(counts: &mut SmallVec<(u16, u32), 4>, site: u16, number: u32)
     requires rising { AreCounts 0 counts.old.items }
-    requires last { name.now.number ≡ count_in counts.old.items name.now.site }
-    ensures { counts.new.items ≡ lower_count name.now.site name.now.number counts.old.items }
+    requires least { 1 ≤ number }
+    requires last { number ≡ count_in counts.old.items site }
+    ensures { counts.new.items ≡ lower_count site number counts.old.items }
 {
-    name.known();
-    match place_of_site(counts.as_slice(), name.site) {
-        Ok(at) if name.number == 1 => {
+    match place_of_site(counts.as_slice(), site) {
+        Ok(at) if number == 1 => {
             counts.remove(at);
         }
-        Ok(at) => counts.as_mut_slice()[at] = (name.site, name.number - 1),
+        Ok(at) => counts.as_mut_slice()[at] = (site, number - 1),
         Err(_) => unreachable!(),
     }
 }

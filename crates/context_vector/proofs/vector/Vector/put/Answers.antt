@@ -1,0 +1,13 @@
+use Rattle.std.proofs.Common.{arith}
+use Rattle.context_vector.proofs.Counts.{counts_put}
+use Rattle.context_vector.proofs.Entries.{entries_put}
+use Rattle.context_vector.proofs.vector.Vector.put.Goals as goal
+
+pub invariant_of-self : goal.invariant_of-self
+invariant_of-self c = record {
+  counts = rw c.put_site.ensures (counts_put 0 _ _ _ (omega arith) c.name.invariant.0 c.name.invariant.1 c.name.invariant.2 c.self.invariant.counts);
+  entries = c.self.invariant.entries
+}
+
+pub invariant_of-self-in-Group : goal.invariant_of-self-in-Group
+invariant_of-self-in-Group c = ?
