@@ -98,7 +98,7 @@ same_context c d is is' same =
     both a b p q = omega arith
 
 -- sums of counts, where no count is greater
-none_counted : (low s : ℕ) (ps : List (ℕ × ℕ)) → s < low → AreCounts low ps → count_in ps s ≡ 0
+pub none_counted : (low s : ℕ) (ps : List (ℕ × ℕ)) → s < low → AreCounts low ps → count_in ps s ≡ 0
 none_counted low s [] less are = refl
 none_counted low s (p ∷ ps) less are = rw (ne_eqb p.0 s (omega (arith, are.0))) (none_counted (p.0 + 1) s ps (omega (arith, are.0)) are.4)
 

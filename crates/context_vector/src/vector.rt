@@ -132,8 +132,8 @@ impl Vector {
             return Some(Member::Original(Name { site, number }));
         }
         let group = rising::first_short_name(self.named(), other.named());
-        if let Some((name, generation)) = group {
-            return Some(Member::Group(name, generation));
+        if let Some(group) = group {
+            return Some(Member::Group(group.0, group.1));
         }
         None
     }

@@ -4,7 +4,7 @@ ghost use Rattle.std.specs.Prelude.{◌≡◌, ◌∷◌, [], ◌++◌, ◌<◌,
 ghost use Rattle.op_name.specs.declared.member.Member.{Member};
 ghost use Rattle.op_name.specs.Members.{IsMember, member_eq};
 ghost use Rattle.op_name.specs.Contexts.{has, raised, IsNextMember, count_in, entry_in, put_count, put_entry, AreCounts, AreEntries};
-ghost use Rattle.context_vector.specs.Vectors.{HasRoomFor, IsLastMember, lowered, lower_count, lower_entry, up_to, SitesBelow, NamesBelow};
+ghost use Rattle.context_vector.specs.Vectors.{HasRoomFor, IsLastMember, lowered, lower_count, lower_entry, up_to, SitesBelow, NamesBelow, of_counts, of_entries};
 ghost use Rattle.context_vector.specs.Refusals.{IsCause};
 ghost use Rattle.smallvec.specs.SmallVec.{HasRoomFor as Spare};
 
@@ -76,6 +76,7 @@ impl Vector {
         ensures raised { OnOk result ((y : Member) → has self.new.set y ≡ (has self.old.set y || up_to y m.now)) }
         ensures kept { OnErr result (self.new.set ≡ self.old.set) }
     {
+        let _ = m.target();
         if self.contains(m) {
             return Ok(());
         }
@@ -91,13 +92,9 @@ impl Vector {
         ensures set { self.new.set ≡ lowered self.old.set m.now }
         ensures members { (y : Member) → has self.new.set y ≡ (has self.old.set y && not (member_eq m.now y)) }
     {
-        match m {
-            Member::Original(name) => lower_site(&mut self.counts, name.site, name.number),
-            Member::Group(name, generation) => {
-                name.known();
-                lower_name(&mut self.entries, name, *generation);
-            }
-        }
+        self.known();
+        let _ = m.target();
+        self.lower(m);
     }
 
     /// Adds all members of `other`. Where memory is wanting nothing changes.
@@ -105,13 +102,10 @@ impl Vector {
         ensures joined { OnOk result ((y : Member) → has self.new.set y ≡ (has self.old.set y || has other.now.set y)) }
         ensures kept { OnErr result (self.new.set ≡ self.old.set) }
     {
+        other.known();
         let mut union = self.try_clone()?;
-        for &(site, number) in other.counts() {
-            union.raise(&Member::Original(Name { site, number }))?;
-        }
-        for &(name, generation) in other.named() {
-            union.raise(&Member::Group(name, generation))?;
-        }
+        union.raise_sites(other.counts())?;
+        union.raise_names(other.named())?;
         *self = union;
         Ok(())
     }
@@ -125,10 +119,9 @@ impl Vector {
         ensures pushed { OnOk result (self.new.set ≡ record self.old.set { counts = self.old.set.counts ++ (site, count) ∷ [] }) }
         ensures kept { OnErr result (self.new.set ≡ self.old.set) }
     {
-        match self.counts.push((site, count)) {
-            Ok(()) => Ok(()),
-            Err(_) => Err(Memory),
-        }
+        self.counts.reserve(1)?;
+        self.counts.push_reserved((site, count));
+        Ok(())
     }
 
     /// Appends an undone name with its greatest generation to a vector that is being read in the order of
@@ -140,10 +133,31 @@ impl Vector {
         ensures kept { OnErr result (self.new.set ≡ self.old.set) }
     {
         name.known();
-        match self.entries.push((name, generation)) {
-            Ok(()) => Ok(()),
-            Err(_) => Err(Memory),
+        self.entries.reserve(1)?;
+        self.entries.push_reserved((name, generation));
+        Ok(())
+    }
+
+    // Adds all originals that the counts tell.
+    fn raise_sites(&mut self, counts: &[(u16, u32)]) -> Result<(), Memory>
+        requires { AreCounts 0 counts.now }
+        ensures { OnOk result ((y : Member) → has self.new.set y ≡ (has self.old.set y || has (of_counts counts.now) y)) }
+    {
+        for &(site, number) in counts {
+            self.raise(&Member::Original(Name { site, number }))?;
         }
+        Ok(())
+    }
+
+    // Adds all groups that the entries tell.
+    fn raise_names(&mut self, entries: &[(Name, u16)]) -> Result<(), Memory>
+        requires { AreEntries entries.now }
+        ensures { OnOk result ((y : Member) → has self.new.set y ≡ (has self.old.set y || has (of_entries entries.now) y)) }
+    {
+        for &(name, generation) in entries {
+            self.raise(&Member::Group(name, generation))?;
+        }
+        Ok(())
     }
 
     // Makes the member the last of its site or its name.
@@ -160,6 +174,22 @@ impl Vector {
             }
         }
     }
+
+    // Makes the member below this one the last of its site or its name.
+    fn lower(&mut self, m: &Member)
+        requires member { IsMember m.now }
+        requires last { IsLastMember self.old.set m.now }
+        ensures { self.new.set ≡ lowered self.old.set m.now }
+    {
+        match m {
+            Member::Original(name) => lower_site(&mut self.counts, name.site, name.number),
+            Member::Group(name, generation) => {
+                name.known();
+                lower_name(&mut self.entries, name, *generation);
+            }
+        }
+    }
+
 }
 
 // Makes the number the count of the site.

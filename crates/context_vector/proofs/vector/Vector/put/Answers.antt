@@ -1,4 +1,5 @@
-use Rattle.std.proofs.Common.{arith}
+use Rattle.std.proofs.Common.{subst, arith}
+use Rattle.op_name.specs.Members.{IsMember}
 use Rattle.context_vector.proofs.Counts.{counts_put}
 use Rattle.context_vector.proofs.Entries.{entries_put}
 use Rattle.context_vector.proofs.vector.Vector.put.Goals as goal
@@ -10,4 +11,9 @@ invariant_of-self c = record {
 }
 
 pub invariant_of-self-in-Group : goal.invariant_of-self-in-Group
-invariant_of-self-in-Group c = ?
+invariant_of-self-in-Group c =
+    let least = subst IsMember c.in-Group.is c.requires.member in
+    record {
+      counts = c.self.invariant.counts;
+      entries = rw c.put_name.ensures (entries_put c.in-Group.name c.in-Group.generation _ c.known.ensures least (omega arith) c.self.invariant.entries)
+    }
