@@ -1,0 +1,256 @@
+//! The calls that change a vector.
+
+ghost use Rattle.std.specs.Prelude.{◌≡◌, ◌∷◌, [], ◌++◌, ◌<◌, ◌≤◌, ◌||◌, ◌&&◌, not, vec_len, vec_capacity, OnOk, OnErr, IfErr};
+ghost use Rattle.op_name.specs.declared.member.Member.{Member};
+ghost use Rattle.op_name.specs.Members.{IsMember, member_eq};
+ghost use Rattle.op_name.specs.Contexts.{has, raised, IsNextMember, count_in, entry_in, put_count, put_entry, AreCounts, AreEntries};
+ghost use Rattle.context_vector.specs.Vectors.{HasRoomFor, IsLastMember, lowered, lower_count, lower_entry, up_to, SitesBelow, NamesBelow, of_counts, of_entries};
+ghost use Rattle.context_vector.specs.Refusals.{IsCause};
+ghost use Rattle.smallvec.specs.SmallVec.{HasRoomFor as Spare};
+
+use op_name::{Member, Memory, Name};
+use smallvec::SmallVec;
+
+use super::rising::{place_of_name, place_of_site};
+use super::{AddBad, Vector};
+
+impl Vector {
+    /// Adds the member, which has to be the next of its site or its name. A refusal changes nothing.
+    pub fn add(&mut self, m: &Member) -> Result<(), AddBad>
+        requires { IsMember m.now }
+        ensures next { OnOk result (IsNextMember self.old.set m.now) }
+        ensures added { OnOk result (self.new.set ≡ raised self.old.set m.now) }
+        ensures cause { IfErr result (IsCause self.old.set m.now) }
+        ensures kept { OnErr result (self.new.set ≡ self.old.set) }
+    {
+        let (given, expected) = match m {
+            Member::Original(name) => (name.number, self.count(name.site) + 1),
+            Member::Group(name, generation) => (u32::from(*generation), u32::from(self.entry(name)) + 1),
+        };
+        if given != expected {
+            return Err(AddBad::NotNext { expected });
+        }
+        match self.reserve(m) {
+            Ok(()) => {
+                self.put(m);
+                Ok(())
+            }
+            Err(_) => Err(AddBad::Memory),
+        }
+    }
+
+    /// Makes room for the member; no member comes or goes.
+    pub fn reserve(&mut self, m: &Member) -> Result<(), Memory>
+        ensures same { self.new.set ≡ self.old.set }
+        ensures room { OnOk result (HasRoomFor self.new m.now) }
+    {
+        match m {
+            Member::Original(name) => {
+                if self.count(name.site) == 0 {
+                    self.counts.reserve(1)?;
+                }
+            }
+            Member::Group(name, _) => {
+                if self.entry(name) == 0 {
+                    self.entries.reserve(1)?;
+                }
+            }
+        }
+        Ok(())
+    }
+
+    /// Adds the member, the next of its site or its name, in the room that was made for it. It takes no
+    /// memory.
+    pub fn add_reserved(&mut self, m: &Member)
+        requires member { IsMember m.now }
+        requires next { IsNextMember self.old.set m.now }
+        requires room { HasRoomFor self.old m.now }
+        ensures { self.new.set ≡ raised self.old.set m.now }
+    {
+        self.put(m);
+    }
+
+    /// Adds the member and all below it. Where memory is wanting nothing changes.
+    pub fn raise(&mut self, m: &Member) -> Result<(), Memory>
+        requires { IsMember m.now }
+        ensures raised { OnOk result ((y : Member) → has self.new.set y ≡ (has self.old.set y || up_to y m.now)) }
+        ensures kept { OnErr result (self.new.set ≡ self.old.set) }
+    {
+        let _ = m.target();
+        if self.contains(m) {
+            return Ok(());
+        }
+        self.reserve(m)?;
+        self.put(m);
+        Ok(())
+    }
+
+    /// Takes the member out, the last of its site or its name. It takes no memory.
+    pub fn drop_last(&mut self, m: &Member)
+        requires member { IsMember m.now }
+        requires last { IsLastMember self.old.set m.now }
+        ensures set { self.new.set ≡ lowered self.old.set m.now }
+        ensures members { (y : Member) → has self.new.set y ≡ (has self.old.set y && not (member_eq m.now y)) }
+    {
+        self.known();
+        let _ = m.target();
+        self.lower(m);
+    }
+
+    /// Adds all members of `other`. Where memory is wanting nothing changes.
+    pub fn join(&mut self, other: &Vector) -> Result<(), Memory>
+        ensures joined { OnOk result ((y : Member) → has self.new.set y ≡ (has self.old.set y || has other.now.set y)) }
+        ensures kept { OnErr result (self.new.set ≡ self.old.set) }
+    {
+        other.known();
+        let mut union = self.try_clone()?;
+        union.raise_sites(other.counts())?;
+        union.raise_names(other.named())?;
+        *self = union;
+        Ok(())
+    }
+
+    /// Appends a site with its count to a vector that is being read in the order of sites.
+    pub fn push_count(&mut self, site: u16, count: u32) -> Result<(), Memory>
+        requires last { SitesBelow self.old.set.counts site }
+        requires site { site < 64 }
+        requires least { 1 ≤ count }
+        requires greatest { count ≤ 1000000 }
+        ensures pushed { OnOk result (self.new.set ≡ record self.old.set { counts = self.old.set.counts ++ (site, count) ∷ [] }) }
+        ensures kept { OnErr result (self.new.set ≡ self.old.set) }
+    {
+        self.counts.reserve(1)?;
+        self.counts.push_reserved((site, count));
+        Ok(())
+    }
+
+    /// Appends an undone name with its greatest generation to a vector that is being read in the order of
+    /// names.
+    pub fn push_entry(&mut self, name: Name, generation: u16) -> Result<(), Memory>
+        requires last { NamesBelow self.old.set.entries name }
+        requires least { 1 ≤ generation }
+        ensures pushed { OnOk result (self.new.set ≡ record self.old.set { entries = self.old.set.entries ++ (name, generation) ∷ [] }) }
+        ensures kept { OnErr result (self.new.set ≡ self.old.set) }
+    {
+        name.known();
+        self.entries.reserve(1)?;
+        self.entries.push_reserved((name, generation));
+        Ok(())
+    }
+
+    // Adds all originals that the counts tell.
+    fn raise_sites(&mut self, counts: &[(u16, u32)]) -> Result<(), Memory>
+        requires { AreCounts 0 counts.now }
+        ensures { OnOk result ((y : Member) → has self.new.set y ≡ (has self.old.set y || has (of_counts counts.now) y)) }
+    {
+        for &(site, number) in counts {
+            self.raise(&Member::Original(Name { site, number }))?;
+        }
+        Ok(())
+    }
+
+    // Adds all groups that the entries tell.
+    fn raise_names(&mut self, entries: &[(Name, u16)]) -> Result<(), Memory>
+        requires { AreEntries entries.now }
+        ensures { OnOk result ((y : Member) → has self.new.set y ≡ (has self.old.set y || has (of_entries entries.now) y)) }
+    {
+        for &(name, generation) in entries {
+            self.raise(&Member::Group(name, generation))?;
+        }
+        Ok(())
+    }
+
+    // Makes the member the last of its site or its name.
+    fn put(&mut self, m: &Member)
+        requires member { IsMember m.now }
+        requires room { HasRoomFor self.old m.now }
+        ensures { self.new.set ≡ raised self.old.set m.now }
+    {
+        match m {
+            Member::Original(name) => put_site(&mut self.counts, name.site, name.number),
+            Member::Group(name, generation) => {
+                name.known();
+                put_name(&mut self.entries, name, *generation);
+            }
+        }
+    }
+
+    // Makes the member below this one the last of its site or its name.
+    fn lower(&mut self, m: &Member)
+        requires member { IsMember m.now }
+        requires last { IsLastMember self.old.set m.now }
+        ensures { self.new.set ≡ lowered self.old.set m.now }
+    {
+        match m {
+            Member::Original(name) => lower_site(&mut self.counts, name.site, name.number),
+            Member::Group(name, generation) => {
+                name.known();
+                lower_name(&mut self.entries, name, *generation);
+            }
+        }
+    }
+
+}
+
+// Makes the number the count of the site.
+fn put_site(counts: &mut SmallVec<(u16, u32), 4>, site: u16, number: u32)
+    requires rising { AreCounts 0 counts.old.items }
+    requires room { count_in counts.old.items site ≡ 0 → Spare counts.old 1 }
+    ensures { counts.new.items ≡ put_count site number counts.old.items }
+{
+    match place_of_site(counts.as_slice(), site) {
+        Ok(at) => counts.as_mut_slice()[at] = (site, number),
+        Err(at) => match counts.insert(at, (site, number)) {
+            Ok(()) => {}
+            Err(_) => unreachable!(),
+        },
+    }
+}
+
+// Makes the generation the greatest of the name.
+fn put_name(entries: &mut Vec<(Name, u16)>, name: &Name, generation: u16)
+    requires rising { AreEntries entries.old.items }
+    requires room { entry_in entries.old.items name.now ≡ 0 → vec_len entries.old < vec_capacity entries.old }
+    ensures { entries.new.items ≡ put_entry name.now generation entries.old.items }
+{
+    let pair = (*name, generation);
+    match place_of_name(entries.as_slice(), name) {
+        Ok(at) => entries[at] = pair,
+        Err(at) => match entries.insert(at, pair) {
+            Ok(()) => {}
+            Err(_) => unreachable!(),
+        },
+    }
+}
+
+// Takes one from the count of the site, which is the number.
+fn lower_site(counts: &mut SmallVec<(u16, u32), 4>, site: u16, number: u32)
+    requires rising { AreCounts 0 counts.old.items }
+    requires least { 1 ≤ number }
+    requires last { number ≡ count_in counts.old.items site }
+    ensures { counts.new.items ≡ lower_count site number counts.old.items }
+{
+    match place_of_site(counts.as_slice(), site) {
+        Ok(at) if number == 1 => {
+            counts.remove(at);
+        }
+        Ok(at) => counts.as_mut_slice()[at] = (site, number - 1),
+        Err(_) => unreachable!(),
+    }
+}
+
+// Takes one from the greatest generation of the name.
+fn lower_name(entries: &mut Vec<(Name, u16)>, name: &Name, generation: u16)
+    requires rising { AreEntries entries.old.items }
+    requires least { 1 ≤ generation }
+    requires last { generation ≡ entry_in entries.old.items name.now }
+    ensures { entries.new.items ≡ lower_entry name.now generation entries.old.items }
+{
+    match place_of_name(entries.as_slice(), name) {
+        Ok(at) if generation == 1 => {
+            entries.remove(at);
+        }
+        Ok(at) => entries[at] = (*name, generation - 1),
+        Err(_) => unreachable!(),
+    }
+}
