@@ -1,7 +1,7 @@
 -- Lists of counts: sites that rise with their counts.
 use Rattle.std.proofs.Common.{◌≡◌, ℕ, zero, suc, ◌+◌, ◌-◌, ◌*◌, ◌<◌, ◌≤◌, ◌≢◌, set, Bool, true, false, List, [], ◌∷◌, ◌++◌, length, if◌then◌else◌, get_or, take, drop, add-one, refl, sym, ap, subst, ◌∙◌, inl, inr, arith}
 use Rattle.std.specs.Prelude.{◌==◌, nat_lt, nat_le}
-use Rattle.std.proofs.lemmas.Bool.{cases_lt, cases_order, eq-eqb, ne_eqb, lt-ltb, le-ltb}
+use Rattle.std.proofs.lemmas.Bool.{cases_order, eq-eqb, ne_eqb, lt-ltb}
 use Rattle.std.proofs.lemmas.Bool.Decides.{nat_tests}
 use Rattle.op_name.specs.Contexts.{count_in, sum_of_counts, put_count, AreCounts}
 use Rattle.op_name.proofs.Orders.{number_order}
@@ -52,6 +52,7 @@ counts_put low s k (p ∷ ps) from site least most are =
   where
     le_is_false : (a b : ℕ) → b < a → nat_le a b ≡ false
     le_is_false a b less = grind (arith, nat_tests)
+
     le_is_true : (a b : ℕ) → a ≤ b → nat_le a b ≡ true
     le_is_true a b le = grind (arith, nat_tests)
 

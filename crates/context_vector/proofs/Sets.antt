@@ -1,14 +1,14 @@
 -- Contexts as sets: what a member tells of counts and generations, sets within sets, equal sets, and the number of originals.
-use Rattle.std.proofs.Common.{◌≡◌, ℕ, ◌+◌, ◌-◌, ◌<◌, ◌≤◌, ◌≢◌, Bool, true, false, not, List, [], ◌∷◌, if◌then◌else◌, refl, sym, ap, subst, ◌∙◌, inl, inr, Option, Some, None, arith}
-use Rattle.std.specs.Prelude.{◌==◌, ◌&&◌, ◌||◌, nat_lt, nat_le}
+use Rattle.std.proofs.Common.{◌≡◌, ℕ, ◌+◌, ◌<◌, ◌≤◌, ◌≢◌, Bool, true, false, List, [], ◌∷◌, refl, sym, subst, ◌∙◌, inl, inr, Some, None, arith}
+use Rattle.std.specs.Prelude.{◌&&◌, nat_lt}
 use Rattle.std.proofs.lemmas.Bool.{cases_lt, cases_order, eq-eqb, ne_eqb, lt-ltb, le-ltb}
 use Rattle.std.proofs.lemmas.Bool.Decides.{nat_tests}
 use mathlib.Core.Bool.{false≢true}
 use Rattle.op_name.specs.declared.member.Member.{Member}
 use Rattle.op_name.specs.declared.member.Member.TheVariants.{Original, Group}
 use Rattle.op_name.specs.NameData.{NameData, IsName, name_eq, name_lt}
-use Rattle.op_name.specs.Members.{IsMember, target_of, member_eq, member_lt}
-use Rattle.op_name.specs.Contexts.{ContextData, count_in, entry_in, count_of, entry_of, has, Within, sum_of_counts, rank_of, AreCounts, AreEntries, IsContext}
+use Rattle.op_name.specs.Members.{member_lt}
+use Rattle.op_name.specs.Contexts.{ContextData, count_in, entry_in, count_of, entry_of, has, Within, sum_of_counts, rank_of, AreCounts, IsContext}
 use Rattle.op_name.proofs.Orders.{number_order, name_order, cases_by_order}
 use Rattle.context_vector.specs.Vectors.{IsFirstMissing}
 use Rattle.context_vector.specs.Shortfalls.{first_short}
@@ -89,9 +89,9 @@ same_context c d is is' same =
     let there = within_from_same c d same in
     let back = within_from_same d c (λ m. sym (same m)) in
     let counts : c.counts ≡ d.counts = same_values same_site nat_lt number_order c.counts d.counts (counts_rise 0 c.counts is.counts) (counts_rise 0 d.counts is'.counts)
-          (λ s. sym (count_is c.counts s) ∙ (both (count_of c s) (count_of d s) (within_counts c d there s) (within_counts d c back s) ∙ count_is d.counts s)) in
+    (λ s. sym (count_is c.counts s) ∙ (both (count_of c s) (count_of d s) (within_counts c d there s) (within_counts d c back s) ∙ count_is d.counts s)) in
     let entries : c.entries ≡ d.entries = same_values name_eq name_lt name_order c.entries d.entries (entries_rise c.entries is.entries) (entries_rise d.entries is'.entries)
-          (λ n. sym (entry_is c.entries n) ∙ (both (entry_of c n) (entry_of d n) (within_entries c d there n) (within_entries d c back n) ∙ entry_is d.entries n)) in
+    (λ n. sym (entry_is c.entries n) ∙ (both (entry_of c n) (entry_of d n) (within_entries c d there n) (within_entries d c back n) ∙ entry_is d.entries n)) in
     λ i. record { counts = counts i; entries = entries i }
   where
     both : (a b : ℕ) → a ≤ b → b ≤ a → a ≡ b
@@ -143,11 +143,11 @@ sums_below (q ∷ qs) (p ∷ ps) low low' are are' below =
     let order = not_first p q ps qs low low' are are' below in
     elim (cases_lt q.0 p.0) [
       | inl less ↦
-        let from : AreCounts p.0 (p ∷ ps) = (omega arith, are.1, are.2, are.3, are.4) in
-        omega (arith, sums_below qs (p ∷ ps) p.0 (q.0 + 1) from are'.4 (rest_below p.0 q (p ∷ ps) qs from less below))
+          let from : AreCounts p.0 (p ∷ ps) = (omega arith, are.1, are.2, are.3, are.4) in
+          omega (arith, sums_below qs (p ∷ ps) p.0 (q.0 + 1) from are'.4 (rest_below p.0 q (p ∷ ps) qs from less below))
       | inr le ↦
-        let one : p.0 ≡ q.0 = omega (arith, order) in
-        omega (arith, sums_below qs ps (p.0 + 1) (q.0 + 1) are.4 are'.4 (tails_below p q ps qs are.4 one below), first_counted p ps, subst (λ s. count_in (q ∷ qs) s ≡ q.1) (sym one) (first_counted q qs), below p.0)
+          let one : p.0 ≡ q.0 = omega (arith, order) in
+          omega (arith, sums_below qs ps (p.0 + 1) (q.0 + 1) are.4 are'.4 (tails_below p q ps qs are.4 one below), first_counted p ps, subst (λ s. count_in (q ∷ qs) s ≡ q.1) (sym one) (first_counted q qs), below p.0)
     ]
 
 pub sums_less : (qs ps : List (ℕ × ℕ)) (low low' : ℕ) → AreCounts low ps → AreCounts low' qs → NoneAbove ps qs → (r : ℕ) → count_in ps r < count_in qs r → sum_of_counts ps < sum_of_counts qs
@@ -158,20 +158,20 @@ sums_less (q ∷ qs) (p ∷ ps) low low' are are' below r less =
     let order = not_first p q ps qs low low' are are' below in
     elim (cases_lt q.0 p.0) [
       | inl before ↦
-        let from : AreCounts p.0 (p ∷ ps) = (omega arith, are.1, are.2, are.3, are.4) in
-        omega (arith, are'.2, sums_below qs (p ∷ ps) p.0 (q.0 + 1) from are'.4 (rest_below p.0 q (p ∷ ps) qs from before below))
+          let from : AreCounts p.0 (p ∷ ps) = (omega arith, are.1, are.2, are.3, are.4) in
+          omega (arith, are'.2, sums_below qs (p ∷ ps) p.0 (q.0 + 1) from are'.4 (rest_below p.0 q (p ∷ ps) qs from before below))
       | inr le ↦
-        let one : p.0 ≡ q.0 = omega (arith, order) in
-        let tails = tails_below p q ps qs are.4 one below in
-        let first : count_in (q ∷ qs) p.0 ≡ q.1 = subst (λ s. count_in (q ∷ qs) s ≡ q.1) (sym one) (first_counted q qs) in
-        elim (cases_order p.0 r) [
-          | inl here ↦
-            let greater : p.1 < q.1 = omega (arith, first, first_counted p ps, subst (λ s. count_in (p ∷ ps) s < count_in (q ∷ qs) s) (sym here) less) in
-            omega (arith, greater, sums_below qs ps (p.0 + 1) (q.0 + 1) are.4 are'.4 tails)
-          | inr other ↦
-            let later : count_in ps r < count_in qs r = omega (arith, less, past_first p ps r (omega arith), past_first q qs r (omega arith)) in
-            omega (arith, first, first_counted p ps, below p.0, sums_less qs ps (p.0 + 1) (q.0 + 1) are.4 are'.4 tails r later)
-        ]
+          let one : p.0 ≡ q.0 = omega (arith, order) in
+          let tails = tails_below p q ps qs are.4 one below in
+          let first : count_in (q ∷ qs) p.0 ≡ q.1 = subst (λ s. count_in (q ∷ qs) s ≡ q.1) (sym one) (first_counted q qs) in
+          elim (cases_order p.0 r) [
+            | inl here ↦
+                let greater : p.1 < q.1 = omega (arith, first, first_counted p ps, subst (λ s. count_in (p ∷ ps) s < count_in (q ∷ qs) s) (sym here) less) in
+                omega (arith, greater, sums_below qs ps (p.0 + 1) (q.0 + 1) are.4 are'.4 tails)
+            | inr other ↦
+                let later : count_in ps r < count_in qs r = omega (arith, less, past_first p ps r (omega arith), past_first q qs r (omega arith)) in
+                omega (arith, first, first_counted p ps, below p.0, sums_less qs ps (p.0 + 1) (q.0 + 1) are.4 are'.4 tails r later)
+          ]
     ]
 
 -- a context within another has at most its number of originals, and fewer where it lacks one
@@ -192,13 +192,14 @@ pub short_original : (c d : ContextData) → IsContext d → (q : ℕ × ℕ) �
 short_original c d is q found =
     let short = some_short same_site nat_lt number_order (count_in c.counts) d.counts (counts_rise 0 d.counts is.counts) q found in
     let count : value_at same_site nat_lt d.counts q.0 ≡ count_of d q.0 = sym (count_is d.counts q.0) in
-    let le : q.1 ≤ count_of d q.0 = omega (arith, short.least, short.short, count) in
-    (record {
-      there = among_from q.1 (count_of d q.0) (omega (arith, short.least)) le;
-      lacking = not_among q.1 (count_of c q.0) (omega (arith, short.least));
-      first = first_original c d q short
-    },
-    (counted_below 0 d.counts q.0 is.counts (omega (arith, le, short.least)), omega (arith, short.least), omega (arith, le, count_at_most 0 d.counts q.0 is.counts)))
+    let le : q.1 ≤ count_of d q.0 = omega (arith, short.least, short.short, count) in (
+      record {
+        there = among_from q.1 (count_of d q.0) (omega (arith, short.least)) le;
+        lacking = not_among q.1 (count_of c q.0) (omega (arith, short.least));
+        first = first_original c d q short;
+      },
+      (counted_below 0 d.counts q.0 is.counts (omega (arith, le, short.least)), omega (arith, short.least), omega (arith, le, count_at_most 0 d.counts q.0 is.counts)),
+    )
   where
     first_original : (c d : ContextData) (q : ℕ × ℕ) → IsFirstShort same_site nat_lt number_order (count_in c.counts) d.counts q → (y : Member) → has d y ≡ true → has c y ≡ false → member_lt y (original q.0 q.1) ≡ false
     first_original c d q short (Group n g) there lacks = refl
@@ -206,13 +207,13 @@ short_original c d is q found =
         let at = among_to n.number (count_of d n.site) there in
         let above : count_of c n.site < n.number = not_among_to n.number (count_of c n.site) lacks at.0 in
         let not_before : q.0 ≤ n.site = elim (cases_lt n.site q.0) [
-              | inl less ↦ absurd (omega (arith, at.1, above, count_is d.counts n.site, short.first n.site (lt-ltb n.site q.0 less)))
-              | inr le ↦ le
-            ] in
+          | inl less ↦ absurd (omega (arith, at.1, above, count_is d.counts n.site, short.first n.site (lt-ltb n.site q.0 less)))
+          | inr le ↦ le
+        ] in
         elim (cases_order n.site q.0) [
           | inl same ↦
-            let more : q.1 ≤ n.number = omega (arith, short.least, subst (λ s. count_of c s < n.number) same above) in
-            rw (le-ltb n.site q.0 not_before, le-ltb n.number q.1 more) (and_false _)
+              let more : q.1 ≤ n.number = omega (arith, short.least, subst (λ s. count_of c s < n.number) same above) in
+              rw (le-ltb n.site q.0 not_before, le-ltb n.number q.1 more) (and_false _)
           | inr other ↦ rw (le-ltb n.site q.0 not_before, ne_eqb n.site q.0 (omega arith)) refl
         ]
 
@@ -220,12 +221,14 @@ pub short_group : (c d : ContextData) → IsContext d → first_short (count_in 
 short_group c d is none q found =
     let short = some_short name_eq name_lt name_order (entry_in c.entries) d.entries (entries_rise d.entries is.entries) q found in
     let entry : value_at name_eq name_lt d.entries q.0 ≡ entry_of d q.0 = sym (entry_is d.entries q.0) in
-    let le : q.1 ≤ entry_of d q.0 = omega (arith, short.least, short.short, entry) in
-    (record {
-      there = among_from q.1 (entry_of d q.0) (omega (arith, short.least)) le;
-      lacking = not_among q.1 (entry_of c q.0) (omega (arith, short.least));
-      first = first_group c d q none short
-    }, omega (arith, short.least))
+    let le : q.1 ≤ entry_of d q.0 = omega (arith, short.least, short.short, entry) in (
+      record {
+        there = among_from q.1 (entry_of d q.0) (omega (arith, short.least)) le;
+        lacking = not_among q.1 (entry_of c q.0) (omega (arith, short.least));
+        first = first_group c d q none short;
+      },
+      omega (arith, short.least),
+    )
   where
     first_group : (c d : ContextData) (q : NameData × ℕ) → first_short (count_in c.counts) d.counts ≡ None → IsFirstShort name_eq name_lt name_order (entry_in c.entries) d.entries q → (y : Member) → has d y ≡ true → has c y ≡ false → member_lt y (Group q.0 q.1) ≡ false
     first_group c d q none short (Original n) there lacks =
@@ -237,8 +240,8 @@ short_group c d is none q found =
         let not_before : name_lt n q.0 ≡ true → ⊥ = λ less. omega (arith, at.1, above, entry_is d.entries n, short.first n less) in
         cases_by_order name_eq name_lt name_order n q.0 _
         (λ is e e' l l'.
-            let more : q.1 ≤ g = omega (arith, short.least, subst (λ x. entry_of c x < g) is above) in
-            rw (l, e, le-ltb g q.1 more) refl)
+        let more : q.1 ≤ g = omega (arith, short.least, subst (λ x. entry_of c x < g) is above) in
+        rw (l, e, le-ltb g q.1 more) refl)
         (λ e e' l l'. absurd (not_before l))
         (λ e e' l l'. rw (l, e) refl)
 

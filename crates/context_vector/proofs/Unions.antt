@@ -1,16 +1,15 @@
 -- The members of a context, one site and one name after the other.
-use Rattle.std.proofs.Common.{◌≡◌, ℕ, zero, suc, ◌+◌, ◌<◌, ◌≤◌, Bool, true, false, List, [], ◌∷◌, length, get_or, drop, if◌then◌else◌, add-one, refl, sym, ap, subst, ◌∙◌, inl, inr, arith}
-use Rattle.std.specs.Prelude.{◌==◌, ◌&&◌, ◌||◌, nat_lt, nat_le}
+use Rattle.std.proofs.Common.{◌≡◌, ℕ, zero, suc, ◌+◌, ◌<◌, ◌≤◌, Bool, true, false, List, [], ◌∷◌, length, get_or, drop, add-one, refl, sym, ap, subst, ◌∙◌, inl, inr, arith}
+use Rattle.std.specs.Prelude.{◌||◌}
 use Rattle.std.proofs.lemmas.Bool.{cases_order, eq-eqb, ne_eqb}
 use Rattle.std.proofs.lemmas.Bool.Decides.{nat_tests}
 use Rattle.op_name.specs.declared.member.Member.{Member}
 use Rattle.op_name.specs.declared.member.Member.TheVariants.{Original, Group}
 use Rattle.op_name.specs.NameData.{NameData, IsName, name_eq, name_lt}
-use Rattle.op_name.specs.Contexts.{ContextData, count_in, entry_in, count_of, entry_of, has, AreCounts, AreEntries}
-use Rattle.op_name.proofs.Orders.{name_order, name_same, cases_by_order}
+use Rattle.op_name.specs.Contexts.{ContextData, entry_in, has, AreCounts, AreEntries}
+use Rattle.op_name.proofs.Orders.{name_order, cases_by_order}
 use Rattle.context_vector.specs.Vectors.{up_to, of_counts, of_entries}
 use Rattle.context_vector.proofs.Keyed.{value_after, AllAfter}
-use Rattle.context_vector.proofs.Counts.{same_site}
 use Rattle.context_vector.proofs.Entries.{entry_is, entries_after}
 use Rattle.context_vector.proofs.Members.{among}
 use Rattle.context_vector.proofs.Sets.{original, none_counted}

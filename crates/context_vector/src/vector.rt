@@ -5,11 +5,10 @@ ghost use Rattle.op_name.specs.Members.{IsMember};
 ghost use Rattle.op_name.specs.Contexts.{empty, count_of, entry_of, has, Within, rank_of, IsContext};
 ghost use Rattle.context_vector.specs.Vectors.{IsFirstMissing};
 
-use std::alloc::Global;
-use std::marker::Model;
-
 use op_name::{Member, Memory, Name};
 use smallvec::SmallVec;
+use std::alloc::Global;
+use std::marker::Model;
 
 mod changes;
 mod equality;
@@ -19,7 +18,7 @@ mod rising;
 /// lower generations of its name (COT 2009 calls it a context).
 ///
 /// It costs by the sites that wrote and by the undone names, not by the members.
-#[derive(Drop)]
+#[derive(Debug, Drop)]
 pub struct Vector {
     /// Each site that has originals in the set with their number, sites rising.
     counts: SmallVec<(u16, u32), 4>,
@@ -35,8 +34,8 @@ impl Model for Vector {
     ghost Value = { VectorData };
 
     ghost view = { λ v. record {
-        set = record { counts = v.counts.items; entries = v.entries.items };
-        room = record { counts = v.counts.capacity - length v.counts.items; entries = vec_capacity v.entries - vec_len v.entries }
+      set = record { counts = v.counts.items; entries = v.entries.items };
+      room = record { counts = v.counts.capacity - length v.counts.items; entries = vec_capacity v.entries - vec_len v.entries };
     } };
 
     ghost invariant = { λ v. IsContext (record { counts = v.counts.items; entries = v.entries.items }) };

@@ -8,11 +8,10 @@ ghost use Rattle.context_vector.specs.Vectors.{HasRoomFor, IsLastMember, lowered
 ghost use Rattle.context_vector.specs.Refusals.{IsCause};
 ghost use Rattle.smallvec.specs.SmallVec.{HasRoomFor as Spare};
 
-use op_name::{Member, Memory, Name};
-use smallvec::SmallVec;
-
 use super::rising::{place_of_name, place_of_site};
 use super::{AddBad, Vector};
+use op_name::{Member, Memory, Name};
+use smallvec::SmallVec;
 
 impl Vector {
     /// Adds the member, which has to be the next of its site or its name. A refusal changes nothing.
@@ -25,7 +24,10 @@ impl Vector {
     {
         let (given, expected) = match m {
             Member::Original(name) => (name.number, self.count(name.site) + 1),
-            Member::Group(name, generation) => (u32::from(*generation), u32::from(self.entry(name)) + 1),
+            Member::Group(name, generation) => (
+                u32::from(*generation),
+                u32::from(self.entry(name)) + 1,
+            ),
         };
         if given != expected {
             return Err(AddBad::NotNext { expected });
@@ -189,7 +191,6 @@ impl Vector {
             }
         }
     }
-
 }
 
 // Makes the number the count of the site.

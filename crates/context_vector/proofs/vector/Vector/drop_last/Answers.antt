@@ -1,4 +1,3 @@
-use Rattle.std.proofs.Common.{subst, sym}
 use Rattle.context_vector.proofs.Members.{has_lowered, size_least}
 use Rattle.context_vector.proofs.vector.Vector.drop_last.Goals as goal
 

@@ -1,5 +1,4 @@
-use Rattle.std.proofs.Common.{◌≡◌, ◌∙◌, ap, subst, sym, arith}
-use Rattle.op_name.specs.Contexts.{ContextData}
+use Rattle.std.proofs.Common.{subst, sym, arith}
 use Rattle.context_vector.specs.Vectors.{VectorData, NamesBelow}
 use Rattle.context_vector.proofs.Entries.{entries_push}
 use Rattle.context_vector.proofs.vector.Vector.push_entry.Goals as goal
@@ -9,5 +8,5 @@ invariant_of-self-2 c =
     let below = subst (λ (v : VectorData). NamesBelow v.set.entries c.args.name) (sym c.self.view_is) c.requires.last in
     record {
       counts = c.self.invariant.counts;
-      entries = rw (c.push_reserved.ensures.items, c.reserve.ensures.items) (entries_push c.args.name c.args.generation _ c.known.ensures c.requires.least (omega arith) below c.self.invariant.entries)
+      entries = rw (c.push_reserved.ensures.items, c.reserve.ensures.items) (entries_push c.args.name c.args.generation _ c.known.ensures c.requires.least (omega arith) below c.self.invariant.entries);
     }

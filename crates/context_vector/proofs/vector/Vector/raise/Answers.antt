@@ -1,5 +1,5 @@
-use Rattle.std.proofs.Common.{subst, sym, ◌∙◌}
-use Rattle.context_vector.proofs.Members.{has_raised_up_to, has_up_to, size_least}
+use Rattle.std.proofs.Common.{sym, ◌∙◌}
+use Rattle.context_vector.proofs.Members.{has_raised_up_to, size_least}
 use Rattle.context_vector.proofs.vector.Vector.raise.Goals as goal
 
 pub returns-clause-raised : goal.returns-clause-raised

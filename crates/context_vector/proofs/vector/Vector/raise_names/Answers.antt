@@ -1,6 +1,4 @@
-use Rattle.std.proofs.Common.{◌≡◌, get_or, refl, arith}
-use Rattle.op_name.specs.Contexts.{has}
-use Rattle.context_vector.specs.Vectors.{of_entries, up_to}
+use Rattle.std.proofs.Common.{refl}
 use Rattle.context_vector.proofs.Unions.{names_step, names_end, name_in_range, union_step, union_end}
 use Rattle.context_vector.proofs.vector.Vector.raise_names.Goals as goal
 

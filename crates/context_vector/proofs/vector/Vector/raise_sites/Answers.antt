@@ -1,7 +1,4 @@
-use Rattle.std.proofs.Common.{◌≡◌, get_or, refl, arith}
-use Rattle.op_name.specs.Contexts.{has}
-use Rattle.context_vector.specs.Vectors.{of_counts, up_to}
-use Rattle.context_vector.proofs.Sets.{original}
+use Rattle.std.proofs.Common.{refl}
 use Rattle.context_vector.proofs.Unions.{sites_step, sites_end, site_in_range, union_step, union_end}
 use Rattle.context_vector.proofs.vector.Vector.raise_sites.Goals as goal
 

@@ -1,4 +1,4 @@
-use Rattle.std.proofs.Common.{subst, sym, ◌∙◌, ap, arith}
+use Rattle.std.proofs.Common.{subst, ◌∙◌, arith}
 use Rattle.context_vector.specs.Places.{IsPlace, IsGap}
 use Rattle.std.specs.Prelude.{nat_lt}
 use Rattle.context_vector.proofs.Counts.{count_in_gap, lower_at_place, remove_at_place, refilled}

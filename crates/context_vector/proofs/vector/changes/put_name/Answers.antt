@@ -1,4 +1,4 @@
-use Rattle.std.proofs.Common.{subst, sym, ◌∙◌, ap, arith}
+use Rattle.std.proofs.Common.{subst, ◌∙◌, arith}
 use Rattle.context_vector.specs.Places.{IsPlace, IsGap}
 use Rattle.op_name.specs.NameData.{name_lt}
 use Rattle.context_vector.proofs.Entries.{entry_in_gap, put_in_gap, put_at_place}

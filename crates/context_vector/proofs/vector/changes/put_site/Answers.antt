@@ -1,4 +1,4 @@
-use Rattle.std.proofs.Common.{subst, sym, ◌∙◌, ap}
+use Rattle.std.proofs.Common.{subst, ◌∙◌}
 use mathlib.Core.Bool.{false≢true}
 use Rattle.context_vector.specs.Places.{IsPlace, IsGap}
 use Rattle.std.specs.Prelude.{nat_lt}
