@@ -8,7 +8,7 @@ use Rattle.op_name.specs.declared.member.Member.{Member}
 use Rattle.op_name.specs.declared.member.Member.TheVariants.{Original, Group}
 use Rattle.op_name.specs.NameData.{NameData, IsName, name_eq, name_lt}
 use Rattle.op_name.specs.Members.{member_lt}
-use Rattle.op_name.specs.Contexts.{ContextData, count_in, entry_in, count_of, entry_of, has, Within, sum_of_counts, rank_of, AreCounts, IsContext}
+use Rattle.op_name.specs.Contexts.{ContextData, empty, count_in, entry_in, count_of, entry_of, has, raised, put_count, Within, sum_of_counts, rank_of, AreCounts, IsContext}
 use Rattle.op_name.proofs.Orders.{number_order, name_order, cases_by_order}
 use Rattle.context_vector.specs.Vectors.{IsFirstMissing}
 use Rattle.context_vector.specs.Shortfalls.{first_short}
@@ -254,3 +254,37 @@ none_missing c d counts entries =
 -- a context that lacks a member of another doesn't cover it
 pub missing_not_within : (c d : ContextData) (m : Member) → IsFirstMissing c d m → Within d c → ⊥
 missing_not_within c d m missing within = false≢true (sym missing.lacking ∙ within m missing.there)
+
+-- the empty context is one, has no member, and is within each
+pub empty_is_context : IsContext empty
+empty_is_context = record { counts = tt; entries = tt }
+
+pub has_empty : (m : Member) → has empty m ≡ false
+has_empty (Original n) = grind (arith, nat_tests)
+has_empty (Group n g) = grind (arith, nat_tests)
+
+pub empty_within : (c : ContextData) → Within empty c
+empty_within c m there = absurd (false≢true (sym (has_empty m) ∙ there))
+
+-- an added original is one more, and an added group none
+sum_put : (low s k : ℕ) (ps : List (ℕ × ℕ)) → AreCounts low ps → sum_of_counts (put_count s k ps) + count_in ps s ≡ sum_of_counts ps + k
+sum_put low s k [] are = omega arith
+sum_put low s k (p ∷ ps) are =
+    elim (cases_order p.0 s) [
+      | inl one ↦ rw (eq-eqb p.0 s one) (omega arith)
+      | inr (inl less) ↦ rw (ne_eqb p.0 s (omega arith), not_le s p.0 less) (omega (arith, sum_put (p.0 + 1) s k ps are.4))
+      | inr (inr more) ↦
+        let none = none_counted (p.0 + 1) s ps (omega arith) are.4 in
+        rw (ne_eqb p.0 s (omega arith), is_le s p.0 more) (omega (arith, none))
+    ]
+  where
+    not_le : (a b : ℕ) → b < a → nat_le a b ≡ false
+    not_le a b less = grind (arith, nat_tests)
+    is_le : (a b : ℕ) → a < b → nat_le a b ≡ true
+    is_le a b less = grind (arith, nat_tests)
+
+pub rank_raised : (c : ContextData) (n : NameData) → IsContext c → n.number ≡ count_of c n.site + 1 → rank_of (raised c (Original n)) ≡ rank_of c + 1
+rank_raised c n is next = omega (arith, next, sum_put 0 n.site n.number c.counts is.counts)
+
+pub rank_raised_group : (c : ContextData) (n : NameData) (g : ℕ) → rank_of (raised c (Group n g)) ≡ rank_of c
+rank_raised_group c n g = refl
