@@ -1,6 +1,6 @@
 -- Contexts as sets: what a member tells of counts and generations, sets within sets, equal sets, and the number of originals.
 use Rattle.std.proofs.Common.{◌≡◌, ℕ, ◌+◌, ◌<◌, ◌≤◌, ◌≢◌, Bool, true, false, List, [], ◌∷◌, refl, sym, subst, ◌∙◌, inl, inr, Some, None, arith}
-use Rattle.std.specs.Prelude.{◌&&◌, nat_lt}
+use Rattle.std.specs.Prelude.{nat_le, ◌&&◌, nat_lt}
 use Rattle.std.proofs.lemmas.Bool.{cases_lt, cases_order, eq-eqb, ne_eqb, lt-ltb, le-ltb}
 use Rattle.std.proofs.lemmas.Bool.Decides.{nat_tests}
 use mathlib.Core.Bool.{false≢true}
@@ -274,12 +274,13 @@ sum_put low s k (p ∷ ps) are =
       | inl one ↦ rw (eq-eqb p.0 s one) (omega arith)
       | inr (inl less) ↦ rw (ne_eqb p.0 s (omega arith), not_le s p.0 less) (omega (arith, sum_put (p.0 + 1) s k ps are.4))
       | inr (inr more) ↦
-        let none = none_counted (p.0 + 1) s ps (omega arith) are.4 in
-        rw (ne_eqb p.0 s (omega arith), is_le s p.0 more) (omega (arith, none))
+          let none = none_counted (p.0 + 1) s ps (omega arith) are.4 in
+          rw (ne_eqb p.0 s (omega arith), is_le s p.0 more) (omega (arith, none))
     ]
   where
     not_le : (a b : ℕ) → b < a → nat_le a b ≡ false
     not_le a b less = grind (arith, nat_tests)
+
     is_le : (a b : ℕ) → a < b → nat_le a b ≡ true
     is_le a b less = grind (arith, nat_tests)
 

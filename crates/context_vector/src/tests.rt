@@ -1,8 +1,6 @@
 use super::*;
-
-use std::alloc::Global;
-
 use op_name::{Member, Name};
+use std::alloc::Global;
 use std::test::Fail;
 
 /// A vector with the first `number` originals of the site.
@@ -76,7 +74,10 @@ fn a_join_keeps_counts_and_entries_of_both(rt: HostRuntime) -> Result<(), Fail> 
     assert_eq!(rt; (v.entries(), v.entry(&Name::new(0, 2)?)), (1, 3));
     assert_eq!(rt; v.entry_at(0), Some((Name::new(0, 2)?, 3)));
     assert_eq!(rt; v.entry_at(1), None);
-    assert_eq!(rt; (v.sites(), v.site_at(1), v.site_at(2)), (2, Some((1, 1)), None));
+    assert_eq!(rt;
+        (v.sites(), v.site_at(1), v.site_at(2)),
+        (2, Some((1, 1)), None)
+    );
     Ok(())
 }
 

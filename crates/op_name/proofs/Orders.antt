@@ -81,14 +81,14 @@ group_transitive a b c g h k e f =
         | inr same ↦ less (subst (λ x. name_lt a x ≡ true) (name_same b c (and_left _ _ same.1)) ab)
       ]
       | inr one ↦
-        let is : a ≡ b = name_same a b (and_left _ _ one.1) in
-        elim (or_cases (name_lt b c) _ f) [
-          | inl bc ↦ less (subst (λ x. name_lt x c ≡ true) (sym is) bc)
-          | inr same ↦
-            let ac : a ≡ c = is ∙ name_same b c (and_left _ _ same.1) in
-            let gk : nat_lt g k ≡ true = number_order.transitive g h k (and_right _ _ one.1) (and_right _ _ same.1) in
-            subst (λ x. member_lt (Group a g) (Group x k) ≡ true) ac (rw (name_irreflexive a, name_itself a, gk) refl)
-        ]
+          let is : a ≡ b = name_same a b (and_left _ _ one.1) in
+          elim (or_cases (name_lt b c) _ f) [
+            | inl bc ↦ less (subst (λ x. name_lt x c ≡ true) (sym is) bc)
+            | inr same ↦
+                let ac : a ≡ c = is ∙ name_same b c (and_left _ _ same.1) in
+                let gk : nat_lt g k ≡ true = number_order.transitive g h k (and_right _ _ one.1) (and_right _ _ same.1) in
+                subst (λ x. member_lt (Group a g) (Group x k) ≡ true) ac (rw (name_irreflexive a, name_itself a, gk) refl)
+          ]
     ]
 
 pub member_transitive : (a b c : Member) → member_lt a b ≡ true → member_lt b c ≡ true → member_lt a c ≡ true
@@ -125,8 +125,10 @@ cases_by_order {K} eq lt order a b P one before after =
       | true ↦ λ f. absurd (false≢true (sym e ∙ subst (λ x. eq x b ≡ true) (order.same b a f) (order.itself b)))
       | false ↦ λ f. refl
     ] refl
+
     not_both : lt a b ≡ true → lt b a ≡ true → ⊥
     not_both e f = false≢true (sym (order.irreflexive a) ∙ order.transitive a b a e f)
+
     apart : eq a b ≡ false → P
     apart e = elim (lt a b) as (λ v. lt a b ≡ v → P) [
       | true ↦ λ f. before e (other e) f (elim (lt b a) as (λ v. lt b a ≡ v → v ≡ false) [ true ↦ λ g. absurd (not_both f g) | false ↦ λ g. refl ] refl)

@@ -1,5 +1,4 @@
 use super::*;
-
 use std::alloc::AllocError;
 use std::test::Fail;
 
