@@ -6,10 +6,6 @@ use Rattle.script_text.specs.declared.first_lines.FirstLine.{FirstLine}
 use Rattle.script_text.specs.declared.first_lines.FirstLine.TheVariants.{Blank, Sites, Ins, Show, Other}
 use Rattle.script_text.specs.Fields.{pair_by, number_of, text_of}
 
--- at most 262,144 bytes, in UTF-8 (RFC 3629)
-abbrev pub IsText : List ℕ → Type 0
-IsText bs = (length bs ≤ 262144) × IsUtf8 bs
-
 -- a place, a blank and a text
 abbrev pub place_and_text : List ℕ → Option (ℕ × List ℕ)
 place_and_text bs = pair_by 32 number_of text_of bs

@@ -8,10 +8,15 @@ mod chars;
 mod field;
 mod first_lines;
 mod inserted;
+mod lines;
+mod octets;
+mod rows;
 
 pub use chars::Chars;
 pub use first_lines::{FirstLine, first_line};
 pub use inserted::inserted_line;
+pub use lines::{parse_line, Line, LineBad, LONGEST};
+pub use octets::Octets;
 
 #[cfg(test)]
 mod tests;
