@@ -1,14 +1,18 @@
 -- A line says what is spelled so, and nothing else.
-use Rattle.std.proofs.Common.{◌≡◌, ℕ, ◌+◌, ◌<◌, ◌≤◌, ◌^◌, Bool, true, false, List, [], ◌∷◌, ◌++◌, length, codes, bytes_eq, decimal, encode_utf8_all, chars, Option, Some, None, Result, Ok, Err, IfOk, refl, sym, ap, ◌∙◌, subst, arith, inl, inr, IsUtf8, option_map, eqb-true, ◌==◌, if◌then◌else◌}
-use Rattle.std.proofs.lemmas.Bool.{cond_both}
+use Rattle.std.proofs.Common.{◌≡◌, ℕ, ◌+◌, ◌<◌, ◌≤◌, ◌^◌, Bool, true, false, ◌&&◌, nat_lt, ltb-true, List, [], ◌∷◌, ◌++◌, length, codes, bytes_eq, decimal, encode_utf8_all, Option, Some, None, Result, Ok, Err, IfOk, refl, sym, ap, ◌∙◌, subst, arith, inl, inr, IsUtf8, option_map, eqb-true, ◌==◌, if◌then◌else◌}
+use Rattle.std.proofs.lemmas.Bool.{cond_both, and_parts}
 use Rattle.std.proofs.lemmas.Slice.Eq.{bytes_eq-Decides}
-use Rattle.hex.specs.Hex.{decode_of, encode_lower}
-use Rattle.hex.proofs.HexLemmas.{decode_of-encode_lower, decode_of-ok}
+use Rattle.std.proofs.lemmas.Str.{IsUtf8-from_ascii, IsUtf8-append, IsUtf8-nil}
+use Rattle.std.proofs.lemmas.Str.Ascii.{IsAscii-cons, IsAscii-nil}
+use Rattle.std.proofs.lemmas.Fmt.{IsAscii-decimal}
+use Rattle.std.specs.Str.{IsAscii}
+use Rattle.hex.specs.Hex.{decode_of, encode_lower, lower_digits}
+use Rattle.hex.proofs.HexLemmas.{decode_of-encode_lower, decode_of-ok, IsAscii-encode_with}
 use Rattle.script_text.specs.declared.lines.Line.{Line}
 use Rattle.script_text.specs.declared.lines.Line.TheVariants.{Blank, Sites, Ins, Nl, Del, Undo, Redo, Give, All, Sync, Raw, Show, State}
 use Rattle.script_text.specs.declared.lines.LineBad.{LineBad}
 use Rattle.script_text.specs.declared.lines.LineBad.TheVariants.{Long, Utf8, Form, Memory}
-use Rattle.op_name.specs.NameData.{NameData}
+use Rattle.op_name.specs.NameData.{NameData, IsName}
 use Rattle.script_text.specs.Names.{name_text}
 use Rattle.script_text.specs.Fields.{IsText, cut, pair_by, number_of, site_of, count_of, name_of, text_of, octets_of, IsNumber, IsSite, IsCount, IsNameText, IsCharacters, IsHex, IsPair}
 use Rattle.script_text.specs.Rows.{Row, table, row_in, sites_row, ins_row, nl_row, del_row, undo_row, redo_row, give_row, all_row, raw_row, show_row, state_row}
@@ -232,3 +236,50 @@ spelling_is (State site) r = (refl, r)
 
 pub one_line : (bs : List ℕ) (k l : Line) → IsLine bs k → IsLine bs l → k ≡ l
 one_line bs k l x y = some_is k l (sym (line_only bs k x) ∙ line_only bs l y)
+
+-- each spelling is UTF-8
+abbrev all_low : List ℕ → Bool
+all_low [] = true
+all_low (b ∷ bs) = nat_lt b 128 && all_low bs
+
+low_ascii : (bs : List ℕ) → all_low bs ≡ true → IsAscii bs
+low_ascii [] t = IsAscii-nil
+low_ascii (b ∷ bs) t = let p = and_parts (nat_lt b 128) (all_low bs) t in IsAscii-cons b bs (ltb-true b 128 p.0) (low_ascii bs p.1)
+
+word_utf8 : (word : List ℕ) → all_low word ≡ true → IsUtf8 word
+word_utf8 word t = IsUtf8-from_ascii word (low_ascii word t)
+
+number_utf8 : (n : ℕ) → n < 2 ^ 64 → IsUtf8 (decimal n)
+number_utf8 n h = IsUtf8-from_ascii (decimal n) (IsAscii-decimal n h)
+
+then_utf8 : (c : ℕ) (first second : List ℕ) → c < 128 → IsUtf8 first → IsUtf8 second → IsUtf8 (first ++ c ∷ second)
+then_utf8 c first second h x y =
+    IsUtf8-append first (c ∷ second) x (IsUtf8-append (c ∷ []) second (IsUtf8-from_ascii (c ∷ []) (IsAscii-cons c [] h IsAscii-nil)) y)
+
+blank_utf8 : (first second : List ℕ) → IsUtf8 first → IsUtf8 second → IsUtf8 (first ++ 32 ∷ second)
+blank_utf8 first second x y = then_utf8 32 first second (omega arith) x y
+
+name_utf8 : (n : NameData) → IsName n.site n.number → IsUtf8 (name_text n)
+name_utf8 n h = then_utf8 46 (decimal n.site) (decimal n.number) (omega arith) (number_utf8 n.site (omega (arith, h.0))) (number_utf8 n.number (omega (arith, h.2)))
+
+lower_ascii : IsAscii lower_digits
+lower_ascii = low_ascii lower_digits refl
+
+pub spelling_utf8 : (l : Line) → IsInRange l → IsUtf8 (spelling l)
+spelling_utf8 Blank r = IsUtf8-nil
+spelling_utf8 (Sites count) r = blank_utf8 _ _ (word_utf8 (codes "sites") refl) (number_utf8 count (omega arith))
+spelling_utf8 (Ins site place text) r =
+    blank_utf8 _ _ (word_utf8 (codes "ins") refl) (blank_utf8 _ _ (number_utf8 site (omega arith))
+      (blank_utf8 _ _ (number_utf8 place (omega arith)) (text, (r.3, refl))))
+spelling_utf8 (Nl site place) r = blank_utf8 _ _ (word_utf8 (codes "nl") refl) (blank_utf8 _ _ (number_utf8 site (omega arith)) (number_utf8 place (omega arith)))
+spelling_utf8 (Del site place) r = blank_utf8 _ _ (word_utf8 (codes "del") refl) (blank_utf8 _ _ (number_utf8 site (omega arith)) (number_utf8 place (omega arith)))
+spelling_utf8 (Give site message) r = blank_utf8 _ _ (word_utf8 (codes "give") refl) (blank_utf8 _ _ (number_utf8 site (omega arith)) (number_utf8 message (omega arith)))
+spelling_utf8 (Undo site name) r = blank_utf8 _ _ (word_utf8 (codes "undo") refl) (blank_utf8 _ _ (number_utf8 site (omega arith)) (name_utf8 name r.1))
+spelling_utf8 (Redo site name) r = blank_utf8 _ _ (word_utf8 (codes "redo") refl) (blank_utf8 _ _ (number_utf8 site (omega arith)) (name_utf8 name r.1))
+spelling_utf8 (All site) r = blank_utf8 _ _ (word_utf8 (codes "all") refl) (number_utf8 site (omega arith))
+spelling_utf8 (Show site) r = blank_utf8 _ _ (word_utf8 (codes "show") refl) (number_utf8 site (omega arith))
+spelling_utf8 (State site) r = blank_utf8 _ _ (word_utf8 (codes "state") refl) (number_utf8 site (omega arith))
+spelling_utf8 Sync r = word_utf8 (codes "sync") refl
+spelling_utf8 (Raw site bytes) r =
+    blank_utf8 _ _ (word_utf8 (codes "raw") refl) (blank_utf8 _ _ (number_utf8 site (omega arith))
+      (IsUtf8-from_ascii (encode_lower bytes) (IsAscii-encode_with lower_digits bytes lower_ascii)))

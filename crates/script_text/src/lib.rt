@@ -5,18 +5,25 @@
 #![tactic(auto)]
 
 mod chars;
+mod event;
 mod field;
 mod first_lines;
 mod inserted;
 mod lines;
+mod members;
 mod octets;
+mod refusal;
 mod rows;
+mod shown;
 
 pub use chars::Chars;
+pub use event::Event;
 pub use first_lines::{FirstLine, first_line};
 pub use inserted::inserted_line;
-pub use lines::{parse_line, Line, LineBad, LONGEST};
+pub use lines::{each_line_has_a_spelling, parse_line, Line, LineBad, LONGEST};
 pub use octets::Octets;
+pub use refusal::{refused_line, Refusal};
+pub use shown::shown_lines;
 
 #[cfg(test)]
 mod tests;

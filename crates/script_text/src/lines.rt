@@ -1,9 +1,9 @@
 //! Lines of scripts.
 
-ghost use Rattle.std.specs.Prelude.{◌≡◌, ◌<◌, ◌≤◌, ◌↔◌, length, Err, IfOk};
+ghost use Rattle.std.specs.Prelude.{◌≡◌, ℕ, List, ◌<◌, ◌≤◌, ◌↔◌, length, Err, IfOk};
 ghost use Rattle.std.specs.Str.{IsUtf8};
 ghost use Rattle.script_text.specs.Fields.{IsText};
-ghost use Rattle.script_text.specs.Lines.{IsLine};
+ghost use Rattle.script_text.specs.Lines.{IsLine, IsInRange, spelling};
 ghost use Rattle.script_text.specs.Answers.{Answers, FormAnswers, IsReadAs, line_in};
 
 use crate::chars::Chars;
@@ -100,4 +100,12 @@ fn text_line(alloc: Global, text: &str) -> Result<Line, LineBad>
         Some((word, fields)) => row(alloc, word, fields),
         None => Err(LineBad::Form),
     }
+}
+
+/// A law: each line in range has a spelling, which is UTF-8, and no bytes spell two lines.
+pub fn each_line_has_a_spelling()
+    ensures spelled { (line : Line) → IsInRange line → IsLine (spelling line) line }
+    ensures utf8 { (line : Line) → IsInRange line → IsUtf8 (spelling line) }
+    ensures one { (bytes : List ℕ) (l m : Line) → IsLine bytes l → IsLine bytes m → l ≡ m }
+{
 }
