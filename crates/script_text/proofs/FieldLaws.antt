@@ -201,9 +201,9 @@ pub tested_reads : {A : Type 0} (test : A → Bool) (read : List ℕ → Option 
     → Reads read Is → Reads (tested test read) (λ bs x. Is bs x × (test x ≡ true))
 tested_reads {A = A} test read Is r = record {
   from = λ bs x e.
-    let a = and_then_some (read bs) _ x e in
-    let p = some_if (test a.0) a.0 x a.2 in
-    (subst (Is bs) p.1 (r.from bs a.0 a.1), ap test (sym p.1) ∙ p.0);
+      let a = and_then_some (read bs) _ x e in
+      let p = some_if (test a.0) a.0 x a.2 in
+      (subst (Is bs) p.1 (r.from bs a.0 a.1), ap test (sym p.1) ∙ p.0);
   to = λ bs x h. rw (r.to bs x h.0, h.1) refl;
 }
 
@@ -223,7 +223,7 @@ count_reads =
     record {
       from = λ bs x e. let h = t.from bs x e in let p = and_parts (nat_le 1 x) (nat_le x 64) h.1 in (h.0.0, leb-true 1 x p.0, leb-true x 64 p.1);
       to = λ bs x h. let wide : x < 2 ^ 32 = omega arith in
-        t.to bs x ((h.0, wide), and_from (nat_le 1 x) (nat_le x 64) (le-leb 1 x h.1) (le-leb x 64 h.2));
+          t.to bs x ((h.0, wide), and_from (nat_le 1 x) (nat_le x 64) (le-leb 1 x h.1) (le-leb x 64 h.2));
     }
 
 pub site_lacks : (c : ℕ) → ¬ (IsInRange 48 57 c) → (bs : List ℕ) (n : ℕ) → IsSite bs n → Lacks c bs
@@ -250,16 +250,16 @@ name_reads =
     let pair = pair_reads 46 site_of IsSite number_of IsNumber site_reads number_reads (site_lacks 46 point_no_digit) in
     record {
       from = λ bs n e.
-        let a = and_then_some (pair_by 46 site_of number_of bs) _ n e in
-        let h = pair.from bs a.0 a.1 in
-        let q = some_if (nat_le 1 a.0.1 && nat_le a.0.1 1000000) _ n a.2 in
-        let p = and_parts (nat_le 1 a.0.1) (nat_le a.0.1 1000000) q.0 in
-        let spelled : bs ≡ decimal a.0.0 ++ 46 ∷ decimal a.0.1 = h.2 ∙ ap (λ x. x ++ 46 ∷ h.1) h.3.0 ∙ ap (λ y. decimal a.0.0 ++ 46 ∷ y) h.4.0 in
-        subst (λ (m : NameData). IsNameText bs m) q.1 (spelled, (h.3.1, leb-true _ _ p.0, leb-true _ _ p.1));
+          let a = and_then_some (pair_by 46 site_of number_of bs) _ n e in
+          let h = pair.from bs a.0 a.1 in
+          let q = some_if (nat_le 1 a.0.1 && nat_le a.0.1 1000000) _ n a.2 in
+          let p = and_parts (nat_le 1 a.0.1) (nat_le a.0.1 1000000) q.0 in
+          let spelled : bs ≡ decimal a.0.0 ++ 46 ∷ decimal a.0.1 = h.2 ∙ ap (λ x. x ++ 46 ∷ h.1) h.3.0 ∙ ap (λ y. decimal a.0.0 ++ 46 ∷ y) h.4.0 in
+          subst (λ (m : NameData). IsNameText bs m) q.1 (spelled, (h.3.1, leb-true _ _ p.0, leb-true _ _ p.1));
       to = λ bs n h.
-        let wide : n.number < 2 ^ 32 = omega (arith, h.1.2) in
-        let read = pair.to bs (n.site, n.number) (decimal n.site, decimal n.number, h.0, (refl, h.1.0), (refl, wide)) in
-        rw (read, le-leb 1 n.number h.1.1, le-leb n.number 1000000 h.1.2) refl;
+          let wide : n.number < 2 ^ 32 = omega (arith, h.1.2) in
+          let read = pair.to bs (n.site, n.number) (decimal n.site, decimal n.number, h.0, (refl, h.1.0), (refl, wide)) in
+          rw (read, le-leb 1 n.number h.1.1, le-leb n.number 1000000 h.1.2) refl;
     }
 
 result_some : {A E : Type 0} (r : Result A E) (x : A) → result_ok r ≡ Some x → r ≡ Ok x
@@ -270,13 +270,13 @@ pub octets_reads : Reads octets_of IsHex
 unfolding octets_of
 octets_reads = record {
   from = λ hex bytes e.
-    let p = hex_some (length hex == 0) (decode_of hex) bytes e in
-    let ok = decode_of-ok hex bytes p.1 in
-    (p.1, grind (arith, nat_tests));
+      let p = hex_some (length hex == 0) (decode_of hex) bytes e in
+      let ok = decode_of-ok hex bytes p.1 in
+      (p.1, grind (arith, nat_tests));
   to = λ hex bytes h.
-    let ok = decode_of-ok hex bytes h.0 in
-    let more : (length hex ≡ 0) → ⊥ = λ none. absurd (omega arith) in
-    rw (ne_eqb (length hex) 0 more, h.0) refl;
+      let ok = decode_of-ok hex bytes h.0 in
+      let more : (length hex ≡ 0) → ⊥ = λ none. absurd (omega arith) in
+      rw (ne_eqb (length hex) 0 more, h.0) refl;
 }
   where
     hex_some : {E : Type 0} (t : Bool) (r : Result (List ℕ) E) (x : List ℕ) → (if t then None else result_ok r) ≡ Some x → (t ≡ false) × (r ≡ Ok x)

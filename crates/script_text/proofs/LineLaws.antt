@@ -32,8 +32,8 @@ site_and_octets = pair_reads 32 site_of IsSite octets_of IsHex site_reads octets
 site_place_and_text : Reads (pair_by 32 site_of (pair_by 32 number_of text_of)) (IsPair 32 IsSite (IsPair 32 IsNumber IsCharacters))
 site_place_and_text =
     pair_reads 32 site_of IsSite (pair_by 32 number_of text_of) (IsPair 32 IsNumber IsCharacters) site_reads
-      (pair_reads 32 number_of IsNumber text_of IsCharacters number_reads text_reads (number_lacks 32 blank_no_digit))
-      (site_lacks 32 blank_no_digit)
+    (pair_reads 32 number_of IsNumber text_of IsCharacters number_reads text_reads (number_lacks 32 blank_no_digit))
+    (site_lacks 32 blank_no_digit)
 
 mapped_some : {A B : Type 0} (f : A → B) (o : Option A) (y : B) → option_map f o ≡ Some y → (x : A) × (o ≡ Some x) × (f x ≡ y)
 mapped_some f None y e = cc
@@ -147,22 +147,22 @@ unfolding AllFound Found
 row_found [] all word fields l e = cc
 row_found (r ∷ rs) all word fields l e =
     cond_both (bytes_eq word r.0) (r.1 fields) (row_in rs word fields) (λ o. o ≡ Some l → IsLine (command word fields) l)
-      (λ t read. subst (λ w. IsLine (command w fields) l) (sym ((bytes_eq-Decides word r.0).0 t)) (all.0 fields l read))
-      (λ t read. row_found rs all.1 word fields l read)
-      e
+    (λ t read. subst (λ w. IsLine (command w fields) l) (sym ((bytes_eq-Decides word r.0).0 t)) (all.0 fields l read))
+    (λ t read. row_found rs all.1 word fields l read)
+    e
 
 pub line_found : (bs : List ℕ) (l : Line) → line_in bs ≡ Some l → IsLine bs l
 unfolding line_in
 line_found [] l e = subst (IsLine []) (some_is Blank l e) (inl refl, tt)
 line_found (b ∷ bs) l e =
     cond_both (b == 35) _ _ (λ o. o ≡ Some l → IsLine (b ∷ bs) l)
-      (λ t read. subst (IsLine (b ∷ bs)) (some_is Blank l read) (inr (bs, ap (λ y. y ∷ bs) (eqb-true b 35 t)), tt))
-      (λ t. cond_both (bytes_eq (b ∷ bs) (codes "sync")) _ _ (λ o. o ≡ Some l → IsLine (b ∷ bs) l)
-        (λ t read. subst (IsLine (b ∷ bs)) (some_is Sync l read) ((bytes_eq-Decides (b ∷ bs) (codes "sync")).0 t, tt))
-        (λ t read.
-          let p = and_then_some (cut 32 (b ∷ bs)) _ l read in
-          subst (λ xs. IsLine xs l) (sym (cut_some 32 (b ∷ bs) p.0 p.1)) (row_found table table_found p.0.0 p.0.1 l p.2)))
-      e
+    (λ t read. subst (IsLine (b ∷ bs)) (some_is Blank l read) (inr (bs, ap (λ y. y ∷ bs) (eqb-true b 35 t)), tt))
+    (λ t. cond_both (bytes_eq (b ∷ bs) (codes "sync")) _ _ (λ o. o ≡ Some l → IsLine (b ∷ bs) l)
+    (λ t read. subst (IsLine (b ∷ bs)) (some_is Sync l read) ((bytes_eq-Decides (b ∷ bs) (codes "sync")).0 t, tt))
+    (λ t read.
+    let p = and_then_some (cut 32 (b ∷ bs)) _ l read in
+    subst (λ xs. IsLine xs l) (sym (cut_some 32 (b ∷ bs) p.0 p.1)) (row_found table table_found p.0.0 p.0.1 l p.2)))
+    e
 
 pub line_only : (bs : List ℕ) (l : Line) → IsLine bs l → line_in bs ≡ Some l
 unfolding line_in cut sites_row ins_row nl_row del_row undo_row redo_row give_row all_row raw_row show_row state_row
@@ -185,12 +185,12 @@ line_only bs (State site) (e, r) = ap line_in e ∙ ap (option_map (λ n. State 
 line_only bs (Ins site place text) (e, r) =
     let fields : List ℕ = two (decimal place) (encode_utf8_all text) in
     ap line_in e ∙ ap (option_map (λ (x : ℕ × (ℕ × List ℕ)). Ins x.0 x.1.0 x.1.1))
-      (site_place_and_text.to _ (site, (place, text))
-        (decimal site, fields, refl, (refl, r.0), (decimal place, encode_utf8_all text, refl, (refl, r.1), (refl, r.2, r.3))))
+    (site_place_and_text.to _ (site, (place, text))
+    (decimal site, fields, refl, (refl, r.0), (decimal place, encode_utf8_all text, refl, (refl, r.1), (refl, r.2, r.3))))
 line_only bs Sync (e, r) = rw e refl
 line_only bs (Raw site bytes) (h, r) =
     ap line_in h.1 ∙ ap (option_map (λ (x : ℕ × List ℕ). Raw x.0 x.1))
-      (site_and_octets.to _ (site, bytes) (decimal site, h.0, refl, (refl, r.0), (h.2, r.1)))
+    (site_and_octets.to _ (site, bytes) (decimal site, h.0, refl, (refl, r.0), (h.2, r.1)))
 
 -- the clauses of the call, from its answer
 pub answers_line : (bs text : List ℕ) (r : Result Line LineBad) → length bs ≤ 262144 → (text ≡ bs) × IsUtf8 bs → FormAnswers r (line_in text) → Answers bs r
@@ -270,7 +270,7 @@ spelling_utf8 Blank r = IsUtf8-nil
 spelling_utf8 (Sites count) r = blank_utf8 _ _ (word_utf8 (codes "sites") refl) (number_utf8 count (omega arith))
 spelling_utf8 (Ins site place text) r =
     blank_utf8 _ _ (word_utf8 (codes "ins") refl) (blank_utf8 _ _ (number_utf8 site (omega arith))
-      (blank_utf8 _ _ (number_utf8 place (omega arith)) (text, (r.3, refl))))
+    (blank_utf8 _ _ (number_utf8 place (omega arith)) (text, (r.3, refl))))
 spelling_utf8 (Nl site place) r = blank_utf8 _ _ (word_utf8 (codes "nl") refl) (blank_utf8 _ _ (number_utf8 site (omega arith)) (number_utf8 place (omega arith)))
 spelling_utf8 (Del site place) r = blank_utf8 _ _ (word_utf8 (codes "del") refl) (blank_utf8 _ _ (number_utf8 site (omega arith)) (number_utf8 place (omega arith)))
 spelling_utf8 (Give site message) r = blank_utf8 _ _ (word_utf8 (codes "give") refl) (blank_utf8 _ _ (number_utf8 site (omega arith)) (number_utf8 message (omega arith)))
@@ -282,4 +282,4 @@ spelling_utf8 (State site) r = blank_utf8 _ _ (word_utf8 (codes "state") refl) (
 spelling_utf8 Sync r = word_utf8 (codes "sync") refl
 spelling_utf8 (Raw site bytes) r =
     blank_utf8 _ _ (word_utf8 (codes "raw") refl) (blank_utf8 _ _ (number_utf8 site (omega arith))
-      (IsUtf8-from_ascii (encode_lower bytes) (IsAscii-encode_with lower_digits bytes lower_ascii)))
+    (IsUtf8-from_ascii (encode_lower bytes) (IsAscii-encode_with lower_digits bytes lower_ascii)))

@@ -54,8 +54,8 @@ count_text c = decimal c.0 ++ (codes ":" ++ decimal c.1)
 abbrev pub state_text : ℕ → ContextData → ℕ → List ℕ
 state_text site context waiting =
     codes "state " ++ (decimal site ++ (codes " have " ++ (listed (map count_text context.counts)
-      ++ (codes " groups " ++ (listed (map (λ e. group_text e.0 e.1) context.entries)
-      ++ (codes " waiting " ++ (decimal waiting ++ codes "\n")))))))
+    ++ (codes " groups " ++ (listed (map (λ e. group_text e.0 e.1) context.entries)
+    ++ (codes " waiting " ++ (decimal waiting ++ codes "\n")))))))
 
 -- the word of a cause for which a script ends
 abbrev pub refusal_word : Refusal → List ℕ

@@ -27,7 +27,13 @@ impl Event {
 }
 
 /// Appends `give S WORDS` or `free S WORDS` and a line feed; a refused call leaves `out` as it was.
-pub(crate) fn event_line(alloc: Global, event: Event, site: u16, words: &str, out: &mut Vec<u8>) -> Result<(), Memory>
+pub(crate) fn event_line(
+    alloc: Global,
+    event: Event,
+    site: u16,
+    words: &str,
+    out: &mut Vec<u8>,
+) -> Result<(), Memory>
     ensures ok { OnOk result (out.new.items ≡ out.old.items ++ event_text event site words.now) }
     ensures err { OnErr result (out.new.items ≡ out.old.items) }
 {

@@ -47,7 +47,11 @@ pub(crate) fn count(field: &str) -> Option<u16>
     ensures { result ≡ count_of field.now }
 {
     let count = number(field)?;
-    if 1 <= count && count <= 64 { Some(count as u16) } else { None }
+    if 1 <= count && count <= 64 {
+        Some(count as u16)
+    } else {
+        None
+    }
 }
 
 /// The name that the field spells: a site, a point and a number from 1 to 1,000,000.

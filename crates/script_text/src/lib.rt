@@ -20,9 +20,9 @@ pub use chars::Chars;
 pub use event::Event;
 pub use first_lines::{FirstLine, first_line};
 pub use inserted::inserted_line;
-pub use lines::{each_line_has_a_spelling, parse_line, Line, LineBad, LONGEST};
+pub use lines::{LONGEST, Line, LineBad, each_line_has_a_spelling, parse_line};
 pub use octets::Octets;
-pub use refusal::{refused_line, Refusal};
+pub use refusal::{Refusal, refused_line};
 pub use shown::shown_lines;
 
 #[cfg(test)]

@@ -107,5 +107,4 @@ pub fn each_line_has_a_spelling()
     ensures spelled { (line : Line) → IsInRange line → IsLine (spelling line) line }
     ensures utf8 { (line : Line) → IsInRange line → IsUtf8 (spelling line) }
     ensures one { (bytes : List ℕ) (l m : Line) → IsLine bytes l → IsLine bytes m → l ≡ m }
-{
-}
+{}

@@ -49,7 +49,12 @@ impl Refusal {
 /// Appends the report line of a refused line: `refused LINE CAUSE` and a line feed. Lines are numbered from 1.
 ///
 /// A refused call leaves `out` as it was.
-pub fn refused_line(alloc: Global, line: u32, cause: Refusal, out: &mut Vec<u8>) -> Result<(), Memory>
+pub fn refused_line(
+    alloc: Global,
+    line: u32,
+    cause: Refusal,
+    out: &mut Vec<u8>,
+) -> Result<(), Memory>
     ensures ok { OnOk result (out.new.items ≡ out.old.items ++ refused_text line cause) }
     ensures err { OnErr result (out.new.items ≡ out.old.items) }
 {
