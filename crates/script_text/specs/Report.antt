@@ -24,9 +24,13 @@ made_text (Delete name) = codes "delete " ++ name_text name
 made_text (Undo name g) = codes "undo " ++ group_text name g
 made_text (Redo name g) = codes "redo " ++ group_text name g
 
--- `op M insert S.N` and its like, and a line feed
+-- `op M WORDS` and a line feed
+abbrev pub op_words_text : ℕ → List ℕ → List ℕ
+op_words_text message words = codes "op " ++ (decimal message ++ (codes " " ++ (words ++ codes "\n")))
+
+-- the report line of a local operation that became a message
 abbrev pub op_text : ℕ → Made → List ℕ
-op_text message made = codes "op " ++ (decimal message ++ (codes " " ++ (made_text made ++ codes "\n")))
+op_text message made = op_words_text message (made_text made)
 
 -- a frame of `raw` that is bad, with the word of the cause, or too short
 abbrev pub raw_bad_text : ℕ → List ℕ → ℕ → List ℕ

@@ -15,10 +15,14 @@ pub data VerdictData : Type 0 where
   PlaceOut : ℕ → ℕ → VerdictData
   Integrated : VerdictData
 
--- the words of a verdict on the operation of this member; a forged one is named by its name
+-- a forged operation is named by its name
+abbrev pub forged_text : NameData → List ℕ
+forged_text name = codes "forged " ++ name_text name
+
+-- the words of a verdict on the operation of this member
 abbrev pub verdict_text : Member → VerdictData → List ℕ
 verdict_text m Repeat = codes "repeat " ++ member_text m
-verdict_text m (Forged name) = codes "forged " ++ name_text name
+verdict_text m (Forged name) = forged_text name
 verdict_text m (Waits missing) = codes "waits " ++ (member_text m ++ (codes " " ++ member_text missing))
 verdict_text m (NotClosed site) = codes "notclosed " ++ (member_text m ++ (codes " " ++ decimal site))
 verdict_text m (PlaceOut place cells) =
@@ -32,6 +36,10 @@ event_word Free = codes "free"
 -- `give S WORDS` or `free S WORDS`, and a line feed
 abbrev pub event_text : Event → ℕ → List ℕ → List ℕ
 event_text event site words = event_word event ++ (codes " " ++ (decimal site ++ (codes " " ++ (words ++ codes "\n"))))
+
+-- the report line of a verdict
+abbrev pub verdict_line_text : Event → ℕ → Member → VerdictData → List ℕ
+verdict_line_text event site member verdict = event_text event site (verdict_text member verdict)
 
 -- why a local operation was refused
 pub data ReasonData : Type 0 where
@@ -53,5 +61,8 @@ reason_text NumberFull = codes "numberfull"
 reason_text (ContextFull entries) = codes "contextfull " ++ decimal entries
 
 -- `no REASON` and a line feed
+abbrev pub no_text : List ℕ → List ℕ
+no_text reason = codes "no " ++ (reason ++ codes "\n")
+
 abbrev pub local_text : ReasonData → List ℕ
-local_text reason = codes "no " ++ (reason_text reason ++ codes "\n")
+local_text reason = no_text (reason_text reason)
