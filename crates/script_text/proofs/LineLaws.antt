@@ -1,12 +1,12 @@
 -- A line says what is spelled so, and nothing else.
-use Rattle.std.proofs.Common.{◌≡◌, ℕ, ◌+◌, ◌<◌, ◌≤◌, ◌^◌, Bool, true, false, ◌&&◌, nat_lt, ltb-true, List, [], ◌∷◌, ◌++◌, length, codes, bytes_eq, decimal, encode_utf8_all, Option, Some, None, Result, Ok, Err, IfOk, refl, sym, ap, ◌∙◌, subst, arith, inl, inr, IsUtf8, option_map, eqb-true, ◌==◌, if◌then◌else◌}
+use Rattle.std.proofs.Common.{◌≡◌, ℕ, ◌<◌, ◌≤◌, ◌^◌, Bool, true, ◌&&◌, nat_lt, ltb-true, List, [], ◌∷◌, ◌++◌, length, codes, bytes_eq, decimal, encode_utf8_all, Option, Some, None, Result, Ok, Err, IfOk, refl, sym, ap, ◌∙◌, subst, arith, inl, inr, IsUtf8, option_map, eqb-true, ◌==◌}
 use Rattle.std.proofs.lemmas.Bool.{cond_both, and_parts}
 use Rattle.std.proofs.lemmas.Slice.Eq.{bytes_eq-Decides}
 use Rattle.std.proofs.lemmas.Str.{IsUtf8-from_ascii, IsUtf8-append, IsUtf8-nil}
 use Rattle.std.proofs.lemmas.Str.Ascii.{IsAscii-cons, IsAscii-nil}
 use Rattle.std.proofs.lemmas.Fmt.{IsAscii-decimal}
 use Rattle.std.specs.Str.{IsAscii}
-use Rattle.hex.specs.Hex.{decode_of, encode_lower, lower_digits}
+use Rattle.hex.specs.Hex.{encode_lower, lower_digits}
 use Rattle.hex.proofs.HexLemmas.{decode_of-encode_lower, decode_of-ok, IsAscii-encode_with}
 use Rattle.script_text.specs.declared.lines.Line.{Line}
 use Rattle.script_text.specs.declared.lines.Line.TheVariants.{Blank, Sites, Ins, Nl, Del, Undo, Redo, Give, All, Sync, Raw, Show, State}
@@ -14,9 +14,9 @@ use Rattle.script_text.specs.declared.lines.LineBad.{LineBad}
 use Rattle.script_text.specs.declared.lines.LineBad.TheVariants.{Long, Utf8, Form, Memory}
 use Rattle.op_name.specs.NameData.{NameData, IsName}
 use Rattle.script_text.specs.Names.{name_text}
-use Rattle.script_text.specs.Fields.{IsText, cut, pair_by, number_of, site_of, count_of, name_of, text_of, octets_of, IsNumber, IsSite, IsCount, IsNameText, IsCharacters, IsHex, IsPair}
+use Rattle.script_text.specs.Fields.{IsText, cut, pair_by, number_of, site_of, count_of, name_of, text_of, octets_of, IsNumber, IsSite, IsNameText, IsCharacters, IsHex, IsPair}
 use Rattle.script_text.specs.Rows.{Row, table, row_in, sites_row, ins_row, nl_row, del_row, undo_row, redo_row, give_row, all_row, raw_row, show_row, state_row}
-use Rattle.script_text.specs.Lines.{command, two, spelling, IsInRange, IsSpelled, IsLine}
+use Rattle.script_text.specs.Lines.{command, two, spelling, IsInRange, IsLine}
 use Rattle.script_text.specs.Answers.{line_in, FormAnswers, Answers, IsReadAs}
 use Rattle.script_text.proofs.FieldLaws.{Reads, number_reads, site_reads, count_reads, name_reads, text_reads, octets_reads, pair_reads, number_lacks, site_lacks, blank_no_digit, some_is, and_then_some, cut_some}
 

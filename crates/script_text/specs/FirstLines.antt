@@ -1,6 +1,6 @@
 -- Lines of scripts of one site.
-use Rattle.std.specs.Prelude.{◌≡◌, ℕ, ◌≤◌, ◌&&◌, ◌==◌, nat_le, List, [], ◌∷◌, ◌++◌, length, drop, codes, bytes_eq, decimal, encode_utf8_all, Option, Some, None, ◌⊎◌, if◌then◌else◌, nat_eq, ◌<◌, ◌^◌, IsTrue}
-use Rattle.std.specs.Str.{is_utf8, IsUtf8, all_scalars}
+use Rattle.std.specs.Prelude.{◌≡◌, ℕ, ◌&&◌, ◌==◌, nat_le, List, [], ◌∷◌, ◌++◌, length, drop, codes, bytes_eq, decimal, encode_utf8_all, Option, Some, None, ◌⊎◌, if◌then◌else◌, nat_eq, ◌<◌, ◌^◌, IsTrue}
+use Rattle.std.specs.Str.{is_utf8, all_scalars}
 use Rattle.std.specs.List.{starts_with}
 use Rattle.script_text.specs.declared.first_lines.FirstLine.{FirstLine}
 use Rattle.script_text.specs.declared.first_lines.FirstLine.TheVariants.{Blank, Sites, Ins, Show, Other}

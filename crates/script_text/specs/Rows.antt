@@ -1,8 +1,8 @@
 -- The table of lines, as it is read: a word, and a reader of the fields behind it.
-use Rattle.std.specs.Prelude.{ℕ, List, [], ◌∷◌, codes, bytes_eq, Option, Some, None, option_map, if◌then◌else◌}
+use Rattle.std.specs.Prelude.{ℕ, List, [], ◌∷◌, codes, bytes_eq, Option, None, option_map, if◌then◌else◌}
 use Rattle.script_text.specs.declared.lines.Line.{Line}
-use Rattle.script_text.specs.declared.lines.Line.TheVariants.{Blank, Sites, Ins, Nl, Del, Undo, Redo, Give, All, Sync, Raw, Show, State}
-use Rattle.script_text.specs.Fields.{pair_by, count_of, site_of, number_of, name_of, text_of, octets_of, ◌>>=◌}
+use Rattle.script_text.specs.declared.lines.Line.TheVariants.{Sites, Ins, Nl, Del, Undo, Redo, Give, All, Raw, Show, State}
+use Rattle.script_text.specs.Fields.{pair_by, count_of, site_of, number_of, name_of, text_of, octets_of}
 
 unfoldable pub sites_row : List ℕ → Option Line
 sites_row bs = option_map (λ n. Sites n) (count_of bs)

@@ -1,5 +1,5 @@
 -- What a report says of a delivered or released operation, and of a refused local one, over plain values.
-use Rattle.std.specs.Prelude.{ℕ, List, ◌∷◌, ◌++◌, decimal, codes}
+use Rattle.std.specs.Prelude.{ℕ, List, ◌++◌, decimal, codes}
 use Rattle.op_name.specs.NameData.{NameData}
 use Rattle.op_name.specs.declared.member.Member.{Member}
 use Rattle.script_text.specs.Names.{name_text, member_text}

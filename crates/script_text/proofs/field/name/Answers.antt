@@ -1,5 +1,4 @@
-use Rattle.std.proofs.Common.{rules, arith}
-use Rattle.std.proofs.lemmas.Grind.{common_steps}
+use Rattle.std.proofs.Common.{rules}
 use Rattle.script_text.specs.Fields.{name_of}
 use Rattle.script_text.proofs.FieldLaws.{named_new}
 use Rattle.script_text.proofs.field.name.Goals as goal
