@@ -1,8 +1,8 @@
 -- Readers of fields: each reads what is spelled so, and nothing else.
-use Rattle.std.proofs.Common.{◌≡◌, ℕ, zero, suc, ◌<◌, ◌^◌, Bool, true, false, ◌&&◌, not, nat_lt, ◌==◌, ◌≢◌, List, [], ◌∷◌, ◌++◌, length, get_or, Option, Some, None, Result, Ok, Err, refl, sym, ap, ◌∙◌, arith, inl, inr, decimal, MatchOption, option_map, option_and_then, Bor, OkIff, eq-eqb, ne_eqb, encode_utf8_all, chars, subst, IsUtf8, if◌then◌else◌, lt-ltb, ltb-true, eqb-true}
+use Rattle.std.proofs.Common.{◌≡◌, ℕ, zero, suc, ◌<◌, ◌^◌, Bool, true, false, ◌&&◌, not, nat_lt, nat_le, ◌==◌, ◌≢◌, List, [], ◌∷◌, ◌++◌, length, get_or, Option, Some, None, Result, Ok, Err, refl, sym, ap, ◌∙◌, arith, inl, inr, decimal, MatchOption, option_map, option_and_then, Bor, OkIff, eq-eqb, ne_eqb, encode_utf8_all, chars, subst, IsUtf8, if◌then◌else◌, lt-ltb, le-leb, leb-true, IsOk, IfOk, ◌↔◌, ap₂, ltb-true, eqb-true}
 use Rattle.std.proofs.lemmas.Str.Pattern.{IsSplitOnceResult, split_parts}
 use Rattle.std.proofs.lemmas.Str.Parse.{numerals_by_value, tells_all_ascii_digits, parse_plain, not_in_digits, IsNumeralModel}
-use Rattle.std.proofs.lemmas.Bool.{and_parts, cases_Bool}
+use Rattle.std.proofs.lemmas.Bool.{and_parts, and_from, cases_Bool}
 use Rattle.std.proofs.lemmas.Bool.Decides.{nat_tests}
 use Rattle.std.proofs.lemmas.Fmt.{decimal-digits_value, digits_value-decimal, digits_decimal, first_decimal, decimal_digit}
 use Rattle.std.proofs.lemmas.Str.{chars-encodes, encodes-chars, scalars-chars, length-le-encodes}
@@ -12,7 +12,10 @@ use Rattle.std.specs.Int.{IsInRange}
 use Rattle.std.proofs.lemmas.Str.{is_utf8-from_IsUtf8, IsUtf8-from_is_utf8}
 use Rattle.std.specs.Str.Parse.{ParsesUnsigned, digits_value}
 use Rattle.std.specs.Result.{result_ok}
-use Rattle.script_text.specs.Fields.{cut, number_of, text_of, starts_numeral, is_numeral, IsNumber, IsCharacters, IsPair, pair_by}
+use Rattle.hex.specs.Hex.{decode_of}
+use Rattle.hex.proofs.HexLemmas.{decode_of-ok}
+use Rattle.op_name.specs.NameData.{NameData, IsName}
+use Rattle.script_text.specs.Fields.{cut, number_of, text_of, site_of, count_of, name_of, named, octets_of, tested, starts_numeral, is_numeral, IsSite, IsCount, IsNameText, IsHex, IsNumber, IsCharacters, IsPair, pair_by}
 
 -- the first field has no c
 abbrev pub Lacks : ℕ → List ℕ → Type 0
@@ -56,14 +59,14 @@ starts (d ∷ ds) s = record {
   alone = λ e. grind (arith, nat_tests);
 }
 
-some_if : {A : Type 0} (t : Bool) (x y : A) → (if t then Some x else None) ≡ Some y → (t ≡ true) × (x ≡ y)
+pub some_if : {A : Type 0} (t : Bool) (x y : A) → (if t then Some x else None) ≡ Some y → (t ≡ true) × (x ≡ y)
 some_if true x y e = (refl, (cc))
 some_if false x y e = cc
 
 pub not_true : (t : Bool) → (t ≡ true → ⊥) → t ≡ false
 not_true t never = elim (cases_Bool t) [ inl e ↦ absurd (never e) | inr e ↦ e ]
 
-no_if : {A : Type 0} (t : Bool) (x : A) → (t ≡ true → ⊥) → (if t then Some x else None) ≡ None
+pub no_if : {A : Type 0} (t : Bool) (x : A) → (t ≡ true → ⊥) → (if t then Some x else None) ≡ None
 no_if t x never = rw (not_true t never) refl
 
 -- what `parse` answers where a digit comes first is the number
@@ -148,11 +151,11 @@ text_reads = record {
 }
 
 -- two fields
-and_then_some : {A B : Type 0} (o : Option A) (f : A → Option B) (y : B) → option_and_then f o ≡ Some y → (x : A) × (o ≡ Some x) × (f x ≡ Some y)
+pub and_then_some : {A B : Type 0} (o : Option A) (f : A → Option B) (y : B) → option_and_then f o ≡ Some y → (x : A) × (o ≡ Some x) × (f x ≡ Some y)
 and_then_some None f y e = cc
 and_then_some (Some x) f y e = (x, refl, e)
 
-some_is : {A : Type 0} (x y : A) → Some x ≡ Some y → x ≡ y
+pub some_is : {A : Type 0} (x y : A) → Some x ≡ Some y → x ≡ y
 some_is x y e = cc
 
 pub cut_some : (c : ℕ) (bs : List ℕ) (p : List ℕ × List ℕ) → cut c bs ≡ Some p → bs ≡ p.0 ++ c ∷ p.1
@@ -192,3 +195,90 @@ number_lacks c other bs n h = subst (Lacks c) (sym h.0) (not_in_digits own (deci
 
 pub blank_no_digit : ¬ (IsInRange 48 57 32)
 blank_no_digit h = omega (arith, h)
+
+-- a field that also passes a test
+pub tested_reads : {A : Type 0} (test : A → Bool) (read : List ℕ → Option A) (Is : List ℕ → A → Type 0)
+    → Reads read Is → Reads (tested test read) (λ bs x. Is bs x × (test x ≡ true))
+tested_reads {A = A} test read Is r = record {
+  from = λ bs x e.
+      let a = and_then_some (read bs) _ x e in
+      let p = some_if (test a.0) a.0 x a.2 in
+      (subst (Is bs) p.1 (r.from bs a.0 a.1), ap test (sym p.1) ∙ p.0);
+  to = λ bs x h. rw (r.to bs x h.0, h.1) refl;
+}
+
+pub site_reads : Reads site_of IsSite
+unfolding site_of
+site_reads =
+    let t = tested_reads (λ n. nat_lt n 64) number_of IsNumber number_reads in
+    record {
+      from = λ bs x e. let h = t.from bs x e in (h.0.0, ltb-true x 64 h.1);
+      to = λ bs x h. let wide : x < 2 ^ 32 = omega arith in t.to bs x ((h.0, wide), lt-ltb x 64 h.1);
+    }
+
+pub count_reads : Reads count_of IsCount
+unfolding count_of
+count_reads =
+    let t = tested_reads (λ n. nat_le 1 n && nat_le n 64) number_of IsNumber number_reads in
+    record {
+      from = λ bs x e. let h = t.from bs x e in let p = and_parts (nat_le 1 x) (nat_le x 64) h.1 in (h.0.0, leb-true 1 x p.0, leb-true x 64 p.1);
+      to = λ bs x h. let wide : x < 2 ^ 32 = omega arith in
+          t.to bs x ((h.0, wide), and_from (nat_le 1 x) (nat_le x 64) (le-leb 1 x h.1) (le-leb x 64 h.2));
+    }
+
+pub site_lacks : (c : ℕ) → ¬ (IsInRange 48 57 c) → (bs : List ℕ) (n : ℕ) → IsSite bs n → Lacks c bs
+site_lacks c other bs n h = number_lacks c other bs n (h.0, omega arith)
+
+point_no_digit : ¬ (IsInRange 48 57 46)
+point_no_digit h = omega (arith, h)
+
+-- what `Name::new` answers is the name, if the parts are in range
+pub named_new : {E : Type 0} (s n : ℕ) (r : Result NameData E) → (IsOk r ↔ IsName s n) → IfOk r (λ m. m.site ≡ s) → IfOk r (λ m. m.number ≡ n) → s < 64
+    → result_ok r ≡ named (s, n)
+named_new s n (Ok m) accepted site number small =
+    let name = accepted.0 refl in
+    rw (le-leb 1 n name.1, le-leb n 1000000 name.2) (ap₂ (λ (a b : ℕ). let x : NameData = record { site = a; number = b } in Some x) site number)
+named_new s n (Err e) accepted site number small =
+    sym (no_if (nat_le 1 n && nat_le n 1000000) _ (λ t. let p = and_parts _ _ t in absurd (refused (accepted.1 (small, leb-true 1 n p.0, leb-true n 1000000 p.1)))))
+  where
+    refused : false ≡ true → ⊥
+    refused t = cc
+
+pub name_reads : Reads name_of IsNameText
+unfolding name_of
+name_reads =
+    let pair = pair_reads 46 site_of IsSite number_of IsNumber site_reads number_reads (site_lacks 46 point_no_digit) in
+    record {
+      from = λ bs n e.
+          let a = and_then_some (pair_by 46 site_of number_of bs) _ n e in
+          let h = pair.from bs a.0 a.1 in
+          let q = some_if (nat_le 1 a.0.1 && nat_le a.0.1 1000000) _ n a.2 in
+          let p = and_parts (nat_le 1 a.0.1) (nat_le a.0.1 1000000) q.0 in
+          let spelled : bs ≡ decimal a.0.0 ++ 46 ∷ decimal a.0.1 = h.2 ∙ ap (λ x. x ++ 46 ∷ h.1) h.3.0 ∙ ap (λ y. decimal a.0.0 ++ 46 ∷ y) h.4.0 in
+          subst (λ (m : NameData). IsNameText bs m) q.1 (spelled, (h.3.1, leb-true _ _ p.0, leb-true _ _ p.1));
+      to = λ bs n h.
+          let wide : n.number < 2 ^ 32 = omega (arith, h.1.2) in
+          let read = pair.to bs (n.site, n.number) (decimal n.site, decimal n.number, h.0, (refl, h.1.0), (refl, wide)) in
+          rw (read, le-leb 1 n.number h.1.1, le-leb n.number 1000000 h.1.2) refl;
+    }
+
+result_some : {A E : Type 0} (r : Result A E) (x : A) → result_ok r ≡ Some x → r ≡ Ok x
+result_some (Ok y) x e = ap Ok (some_is y x e)
+result_some (Err y) x e = cc
+
+pub octets_reads : Reads octets_of IsHex
+unfolding octets_of
+octets_reads = record {
+  from = λ hex bytes e.
+      let p = hex_some (length hex == 0) (decode_of hex) bytes e in
+      let ok = decode_of-ok hex bytes p.1 in
+      (p.1, grind (arith, nat_tests));
+  to = λ hex bytes h.
+      let ok = decode_of-ok hex bytes h.0 in
+      let more : (length hex ≡ 0) → ⊥ = λ none. absurd (omega arith) in
+      rw (ne_eqb (length hex) 0 more, h.0) refl;
+}
+  where
+    hex_some : {E : Type 0} (t : Bool) (r : Result (List ℕ) E) (x : List ℕ) → (if t then None else result_ok r) ≡ Some x → (t ≡ false) × (r ≡ Ok x)
+    hex_some true r x e = cc
+    hex_some false r x e = (refl, result_some r x e)

@@ -8,8 +8,8 @@ use Rattle.std.specs.List.{starts_with}
 use Rattle.std.specs.Str.{is_utf8}
 use Rattle.script_text.specs.declared.first_lines.FirstLine.{FirstLine}
 use Rattle.script_text.specs.declared.first_lines.FirstLine.TheVariants.{Blank, Sites, Ins, Show, Other}
-use Rattle.script_text.specs.Fields.{number_of, text_of, IsNumber, IsCharacters, IsPair}
-use Rattle.script_text.specs.FirstLines.{line_of, text_line_of, inserting, place_and_text, IsText, IsFirstLine}
+use Rattle.script_text.specs.Fields.{IsText, number_of, text_of, IsNumber, IsCharacters, IsPair}
+use Rattle.script_text.specs.FirstLines.{line_of, text_line_of, inserting, place_and_text, IsFirstLine}
 use Rattle.script_text.proofs.FieldLaws.{Reads, number_reads, text_reads, pair_reads, number_lacks, blank_no_digit, not_true}
 
 pub place_and_text_reads : Reads place_and_text (IsPair 32 IsNumber IsCharacters)

@@ -1,6 +1,10 @@
 -- Fields of a line: what stands between its blanks.
-use Rattle.std.specs.Prelude.{◌≡◌, ℕ, ◌<◌, ◌^◌, Bool, false, not, ◌&&◌, ◌==◌, nat_lt, nat_le, List, [], ◌∷◌, ◌++◌, length, chars, encode_utf8_all, decimal, Option, Some, None, option_map, option_and_then, if◌then◌else◌, IsTrue}
-use Rattle.std.specs.Str.{all_ascii_digits, is_utf8, all_scalars}
+use Rattle.std.specs.Prelude.{◌≡◌, ℕ, ◌<◌, ◌^◌, Bool, false, not, ◌&&◌, ◌==◌, nat_lt, nat_le, List, [], ◌∷◌, ◌++◌, length, chars, encode_utf8_all, decimal, Option, Some, None, Ok, ◌≤◌, option_map, option_and_then, if◌then◌else◌, IsTrue}
+use Rattle.std.specs.Str.{all_ascii_digits, is_utf8, all_scalars, IsUtf8}
+use Rattle.std.specs.Result.{result_ok}
+use Rattle.hex.specs.Hex.{decode_of}
+use Rattle.op_name.specs.NameData.{NameData, IsName}
+use Rattle.script_text.specs.Names.{name_text}
 use Rattle.std.specs.Str.Parse.{digits_value}
 
 infixl 10 ◌>>=◌
@@ -39,6 +43,28 @@ is_numeral ds = starts_numeral ds && all_ascii_digits ds
 unfoldable pub number_of : List ℕ → Option ℕ
 number_of ds = if is_numeral ds && nat_lt (digits_value 10 ds) (2 ^ 32) then Some (digits_value 10 ds) else None
 
+-- a site: 0 to 63
+unfoldable pub site_of : List ℕ → Option ℕ
+site_of bs = tested (λ n. nat_lt n 64) number_of bs
+
+-- a number of sites: 1 to 64
+unfoldable pub count_of : List ℕ → Option ℕ
+count_of bs = tested (λ n. nat_le 1 n && nat_le n 64) number_of bs
+
+-- the name that a site and a number make, if they are in its range
+abbrev pub named : ℕ × ℕ → Option NameData
+named x = if nat_le 1 x.1 && nat_le x.1 1000000 then Some (record { site = x.0; number = x.1 }) else None
+
+-- a name, `S.N`
+unfoldable pub name_of : List ℕ → Option NameData
+name_of bs = do
+  x ← pair_by 46 site_of number_of bs
+  named x
+
+-- bytes in hexadecimal, two digits each in either case, of which there is one at least
+unfoldable pub octets_of : List ℕ → Option (List ℕ)
+octets_of hex = if length hex == 0 then None else result_ok (decode_of hex)
+
 -- the characters of a field that has one at least
 unfoldable pub text_of : List ℕ → Option (List ℕ)
 text_of bs = if not (length bs == 0) && is_utf8 bs then Some (chars bs) else None
@@ -51,6 +77,26 @@ IsNumber bs n = (bs ≡ decimal n) × (n < 2 ^ 32)
 abbrev pub IsCharacters : List ℕ → List ℕ → Type 0
 IsCharacters bs cs = (bs ≡ encode_utf8_all cs) × (0 < length cs) × IsTrue (all_scalars cs)
 
+-- the field spells the site
+abbrev pub IsSite : List ℕ → ℕ → Type 0
+IsSite bs n = (bs ≡ decimal n) × (n < 64)
+
+-- the field spells the number of sites
+abbrev pub IsCount : List ℕ → ℕ → Type 0
+IsCount bs n = (bs ≡ decimal n) × (1 ≤ n) × (n ≤ 64)
+
+-- the field spells the name
+abbrev pub IsNameText : List ℕ → NameData → Type 0
+IsNameText bs n = (bs ≡ name_text n) × IsName n.site n.number
+
+-- the field spells the bytes
+abbrev pub IsHex : List ℕ → List ℕ → Type 0
+IsHex hex bytes = (decode_of hex ≡ Ok bytes) × (0 < length bytes)
+
 -- two fields with c between them
 abbrev pub IsPair : {A B : Type 0} → ℕ → (List ℕ → A → Type 0) → (List ℕ → B → Type 0) → List ℕ → A × B → Type 0
 IsPair c First Second bs x = (a : List ℕ) × (b : List ℕ) × (bs ≡ a ++ c ∷ b) × First a x.0 × Second b x.1
+
+-- the bytes may be a line: at most 262,144 of them, in UTF-8 (RFC 3629)
+abbrev pub IsText : List ℕ → Type 0
+IsText bs = (length bs ≤ 262144) × IsUtf8 bs

@@ -1,14 +1,10 @@
 -- Lines of scripts of one site.
-use Rattle.std.specs.Prelude.{◌≡◌, ℕ, ◌≤◌, ◌&&◌, ◌==◌, nat_le, List, [], ◌∷◌, ◌++◌, length, drop, codes, bytes_eq, decimal, encode_utf8_all, Option, Some, None, ◌⊎◌, if◌then◌else◌, nat_eq, ◌<◌, ◌^◌, IsTrue}
-use Rattle.std.specs.Str.{is_utf8, IsUtf8, all_scalars}
+use Rattle.std.specs.Prelude.{◌≡◌, ℕ, ◌&&◌, ◌==◌, nat_le, List, [], ◌∷◌, ◌++◌, length, drop, codes, bytes_eq, decimal, encode_utf8_all, Option, Some, None, ◌⊎◌, if◌then◌else◌, nat_eq, ◌<◌, ◌^◌, IsTrue}
+use Rattle.std.specs.Str.{is_utf8, all_scalars}
 use Rattle.std.specs.List.{starts_with}
 use Rattle.script_text.specs.declared.first_lines.FirstLine.{FirstLine}
 use Rattle.script_text.specs.declared.first_lines.FirstLine.TheVariants.{Blank, Sites, Ins, Show, Other}
 use Rattle.script_text.specs.Fields.{pair_by, number_of, text_of}
-
--- at most 262,144 bytes, in UTF-8 (RFC 3629)
-abbrev pub IsText : List ℕ → Type 0
-IsText bs = (length bs ≤ 262144) × IsUtf8 bs
 
 -- a place, a blank and a text
 abbrev pub place_and_text : List ℕ → Option (ℕ × List ℕ)

@@ -1,3 +1,8 @@
+pub mod Names
 pub mod Fields
 pub mod FirstLines
+pub mod Lines
+pub mod Rows
+pub mod Answers
 pub mod Report
+pub mod Verdicts

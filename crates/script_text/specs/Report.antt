@@ -1,7 +1,77 @@
 -- The lines of a report.
-use Rattle.std.specs.Prelude.{ℕ, List, ◌++◌, decimal, codes}
+use Rattle.std.specs.Prelude.{ℕ, List, [], ◌∷◌, ◌++◌, length, map, decimal, codes}
+use Rattle.std.specs.List.{join_with_byte}
 use Rattle.op_name.specs.NameData.{NameData}
+use Rattle.op_name.specs.Contexts.{ContextData}
+use Rattle.script_text.specs.Names.{name_text, group_text}
+use Rattle.script_text.specs.declared.refusal.Refusal.{Refusal}
+use Rattle.script_text.specs.declared.refusal.Refusal.TheVariants.{Limit, Long, Utf8, Form, NoSites, Twice, NoSite, NoMessage}
 
 -- `op M insert S.N` and a line feed
 abbrev pub inserted_text : ℕ → NameData → List ℕ
 inserted_text message name = codes "op " ++ (decimal message ++ (codes " insert " ++ (decimal name.site ++ (codes "." ++ (decimal name.number ++ codes "\n")))))
+
+-- what a local operation does
+pub data Made : Type 0 where
+  Insert : NameData → Made
+  Delete : NameData → Made
+  Undo : NameData → ℕ → Made
+  Redo : NameData → ℕ → Made
+
+abbrev pub made_text : Made → List ℕ
+made_text (Insert name) = codes "insert " ++ name_text name
+made_text (Delete name) = codes "delete " ++ name_text name
+made_text (Undo name g) = codes "undo " ++ group_text name g
+made_text (Redo name g) = codes "redo " ++ group_text name g
+
+-- `op M WORDS` and a line feed
+abbrev pub op_words_text : ℕ → List ℕ → List ℕ
+op_words_text message words = codes "op " ++ (decimal message ++ (codes " " ++ (words ++ codes "\n")))
+
+-- the report line of a local operation that became a message
+abbrev pub op_text : ℕ → Made → List ℕ
+op_text message made = op_words_text message (made_text made)
+
+-- a frame of `raw` that is bad, with the word of the cause, or too short
+abbrev pub raw_bad_text : ℕ → List ℕ → ℕ → List ℕ
+raw_bad_text site cause offset =
+    codes "raw " ++ (decimal site ++ (codes " bad " ++ (cause ++ (codes " " ++ (decimal offset ++ codes "\n")))))
+
+abbrev pub raw_more_text : ℕ → ℕ → List ℕ
+raw_more_text site at_least = codes "raw " ++ (decimal site ++ (codes " more " ++ (decimal at_least ++ codes "\n")))
+
+-- `text CHARS BYTES`, a line feed, the text, a line feed
+abbrev pub shown_text : ℕ → List ℕ → List ℕ
+shown_text chars text =
+    codes "text " ++ (decimal chars ++ (codes " " ++ (decimal (length text) ++ (codes "\n" ++ (text ++ codes "\n")))))
+
+-- items with commas between them; `-` for none
+abbrev pub listed : List (List ℕ) → List ℕ
+listed [] = codes "-"
+listed (item ∷ items) = join_with_byte 44 (item ∷ items)
+
+-- `S:COUNT`
+abbrev pub count_text : ℕ × ℕ → List ℕ
+count_text c = decimal c.0 ++ (codes ":" ++ decimal c.1)
+
+-- what a site has: the counts of its sites, the greatest generations of undone names, how many operations wait
+abbrev pub state_text : ℕ → ContextData → ℕ → List ℕ
+state_text site context waiting =
+    codes "state " ++ (decimal site ++ (codes " have " ++ (listed (map count_text context.counts)
+    ++ (codes " groups " ++ (listed (map (λ e. group_text e.0 e.1) context.entries)
+    ++ (codes " waiting " ++ (decimal waiting ++ codes "\n")))))))
+
+-- the word of a cause for which a script ends
+abbrev pub refusal_word : Refusal → List ℕ
+refusal_word Limit = codes "limit"
+refusal_word Long = codes "long"
+refusal_word Utf8 = codes "utf8"
+refusal_word Form = codes "form"
+refusal_word NoSites = codes "nosites"
+refusal_word Twice = codes "twice"
+refusal_word NoSite = codes "nosite"
+refusal_word NoMessage = codes "nomessage"
+
+-- `refused LINE CAUSE` and a line feed
+abbrev pub refused_text : ℕ → Refusal → List ℕ
+refused_text line cause = codes "refused " ++ (decimal line ++ (codes " " ++ (refusal_word cause ++ codes "\n")))

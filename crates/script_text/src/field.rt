@@ -1,9 +1,11 @@
 //! Fields: what stands between the blanks of a line.
 
-ghost use Rattle.std.specs.Prelude.{◌≡◌, Some, None, MatchOption, chars};
-ghost use Rattle.script_text.specs.Fields.{cut, number_of, text_of, starts_numeral};
+ghost use Rattle.std.specs.Prelude.{◌≡◌, Some, None, MatchOption, IfSome, chars, ◌<◌};
+ghost use Rattle.script_text.specs.Fields.{cut, number_of, site_of, count_of, name_of, text_of, starts_numeral};
 
-/// What stands before the first such byte and behind it; `byte` is an ASCII character.
+use op_name::Name;
+
+/// What stands before the first blank and behind it.
 
 pub(crate) fn cut_at_blank(text: &str) -> Option<(&str, &str)>
     ensures { MatchOption result (cut 32 text.now ≡ None) (λ p. cut 32 text.now ≡ Some (p.0.now, p.1.now)) }
@@ -27,6 +29,47 @@ fn starts_numeral(digits: &[u8]) -> bool
     ensures { result ≡ starts_numeral digits.now }
 {
     matches!(digits, [b'0'] | [b'1'..=b'9', ..])
+}
+
+/// The site that the field spells: 0 to 63.
+#[tactic(auto, unfolding(crate::specs::Fields::site_of))]
+pub(crate) fn site(field: &str) -> Option<u16>
+    ensures read { result ≡ site_of field.now }
+    ensures small { IfSome result (λ n. n < 64) }
+{
+    let site = number(field)?;
+    if site < 64 { Some(site as u16) } else { None }
+}
+
+/// The number of sites that the field spells: 1 to 64.
+#[tactic(auto, unfolding(crate::specs::Fields::count_of))]
+pub(crate) fn count(field: &str) -> Option<u16>
+    ensures { result ≡ count_of field.now }
+{
+    let count = number(field)?;
+    if 1 <= count && count <= 64 {
+        Some(count as u16)
+    } else {
+        None
+    }
+}
+
+/// The name that the field spells: a site, a point and a number from 1 to 1,000,000.
+#[tactic(auto, unfolding(crate::specs::Fields::name_of))]
+pub(crate) fn name(field: &str) -> Option<Name>
+    ensures { result ≡ name_of field.now }
+{
+    let (first, second) = cut_at_point(field)?;
+    let site = site(first)?;
+    let number = number(second)?;
+    Name::new(site, number).ok()
+}
+
+/// What stands before the first point and behind it.
+fn cut_at_point(text: &str) -> Option<(&str, &str)>
+    ensures { MatchOption result (cut 46 text.now ≡ None) (λ p. cut 46 text.now ≡ Some (p.0.now, p.1.now)) }
+{
+    text.split_once('.')
 }
 
 /// The field as the text of a line, which has one character at least.

@@ -1,15 +1,14 @@
 //! The few lines of a script of one site, until a session reads the whole table.
 
 ghost use Rattle.std.specs.Prelude.{◌≡◌, ◌≢◌, None, Some, MatchOption, IfOk, chars};
-ghost use Rattle.script_text.specs.FirstLines.{line_of, text_line_of, ins_of, place_and_text, IsText, IsFirstLine};
+ghost use Rattle.script_text.specs.Fields.{IsText};
+ghost use Rattle.script_text.specs.FirstLines.{line_of, text_line_of, ins_of, place_and_text, IsFirstLine};
 
 use crate::chars::Chars;
 use crate::field::{characters, cut_at_blank, number};
+use crate::lines::LONGEST;
 use op_name::Memory;
 use std::alloc::Global;
-
-/// The greatest number of bytes of a line, its line feed not counted.
-pub const LONGEST: usize = 262_144;
 
 /// What a line of a script of one site says.
 #[derive(Debug, Drop)]

@@ -5,13 +5,30 @@
 #![tactic(auto)]
 
 mod chars;
+mod event;
 mod field;
 mod first_lines;
 mod inserted;
+mod lines;
+mod made;
+mod members;
+mod octets;
+mod raw;
+mod reasons;
+mod refusal;
+mod rows;
+mod shown;
+mod verdicts;
 
 pub use chars::Chars;
+pub use event::Event;
 pub use first_lines::{FirstLine, first_line};
 pub use inserted::inserted_line;
+pub use lines::{LONGEST, Line, LineBad, each_line_has_a_spelling, parse_line};
+pub use octets::Octets;
+pub use raw::{raw_bad_line, raw_more_line};
+pub use refusal::{Refusal, refused_line};
+pub use shown::shown_lines;
 
 #[cfg(test)]
 mod tests;

@@ -1,1 +1,3 @@
 mod first_lines;
+mod lines;
+mod report;

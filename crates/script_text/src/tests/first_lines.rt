@@ -1,7 +1,8 @@
 //! Lines of scripts of one site, and the report line of an insert.
 
-use crate::first_lines::{FirstLine, LONGEST, first_line};
+use crate::first_lines::{FirstLine, first_line};
 use crate::inserted_line;
+use crate::lines::LONGEST;
 use op_name::{Memory, Name};
 use std::alloc::Global;
 
