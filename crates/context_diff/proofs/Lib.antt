@@ -16,3 +16,4 @@ pub mod Kept
 pub mod Listings
 pub mod PlaceSteps
 pub mod Covering
+pub mod GapEnds
