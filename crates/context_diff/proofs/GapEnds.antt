@@ -92,7 +92,7 @@ take_take_less (suc k) zero cs le = absurd (omega arith)
 take_take_less (suc k) (suc n) [] le = refl
 take_take_less (suc k) (suc n) (c ∷ cs) le = ap (λ xs. c ∷ xs) (take_take_less k n cs (omega arith))
 
-take_more : {K : Type 0} (l k : ℕ) (cs : List K) → take (l + k) cs ≡ take l cs ++ take k (drop l cs)
+pub take_more : {K : Type 0} (l k : ℕ) (cs : List K) → take (l + k) cs ≡ take l cs ++ take k (drop l cs)
 take_more zero k cs = ap (λ n. take n cs) (sym (zero_plus k))
 take_more (suc l) k [] = ap (λ n. take n []) (sym (suc_plus l k)) ∙ sym (take_none k)
 take_more (suc l) k (c ∷ cs) = ap (λ n. take n (c ∷ cs)) (sym (suc_plus l k)) ∙ ap (λ xs. c ∷ xs) (take_more l k cs)

@@ -17,3 +17,4 @@ pub mod Listings
 pub mod PlaceSteps
 pub mod Covering
 pub mod GapEnds
+pub mod Replaying
