@@ -21,10 +21,10 @@ pub no_entry : (h : List OpData) → IsComplete h → (t : NameData) → is_know
 no_entry h w t known =
     elim (cases_lt 0 (entry_of (original_context h t) t)) [
       | inl some ↦
-        let facts = original_facts h w t known in
-        let there = facts.stray t (entry_of (original_context h t) t) (has_group (original_context h t) t (entry_of (original_context h t) t) some (omega arith)) in
-        let less = own_alone h w t known t refl there in
-        absurd (omega arith)
+          let facts = original_facts h w t known in
+          let there = facts.stray t (entry_of (original_context h t) t) (has_group (original_context h t) t (entry_of (original_context h t) t) some (omega arith)) in
+          let less = own_alone h w t known t refl there in
+          absurd (omega arith)
       | inr none ↦ omega arith
     ]
 
@@ -39,16 +39,16 @@ below_value c t g next none (Original x) =
 below_value c t g next none (Group x k) =
     elim (cases_Bool (name_eq t x)) [
       | inl same ↦
-        let entry : entry_of c t ≡ entry_of c x = ap (entry_of c) (name_same t x same) in
-        elim (cases_Bool (nat_lt 1 g)) [
-          | inl more ↦ rw more (rw (entry_put t (g - 1) c.entries x) (rw same (grind (arith, nat_tests))))
-          | inr one ↦ rw one (rw same (grind (arith, nat_tests)))
-        ]
+          let entry : entry_of c t ≡ entry_of c x = ap (entry_of c) (name_same t x same) in
+          elim (cases_Bool (nat_lt 1 g)) [
+            | inl more ↦ rw more (rw (entry_put t (g - 1) c.entries x) (rw same (grind (arith, nat_tests))))
+            | inr one ↦ rw one (rw same (grind (arith, nat_tests)))
+          ]
       | inr other ↦
-        elim (cases_Bool (nat_lt 1 g)) [
-          | inl more ↦ rw more (rw (entry_put t (g - 1) c.entries x) (rw other (grind (arith, nat_tests))))
-          | inr one ↦ rw one (rw other (grind (arith, nat_tests)))
-        ]
+          elim (cases_Bool (nat_lt 1 g)) [
+            | inl more ↦ rw more (rw (entry_put t (g - 1) c.entries x) (rw other (grind (arith, nat_tests))))
+            | inr one ↦ rw one (rw other (grind (arith, nat_tests)))
+          ]
     ]
 
 pub base_value : (h : List OpData) → IsComplete h → (m : Member) → is_known h m ≡ true → (y : Member) → has (base_context_of h m) y ≡ base_has h m y
@@ -57,4 +57,4 @@ base_value h w (Group t g) known y =
     let target = (group_facts h w t g known).target in
     let next : t.number ≡ count_of (original_context h t) t.site + 1 = sym (original_facts h w t target).own in
     below_value (original_context h t) t g next (no_entry h w t target) y
-        ∙ sym (ap (λ b. b && (has (original_context h t) y || is_below t g y)) known)
+    ∙ sym (ap (λ b. b && (has (original_context h t) y || is_below t g y)) known)

@@ -83,11 +83,11 @@ holds_original h w v closed n there =
     let last_known = closed.ready (Original last) last_there in
     elim (cases_lt n.number (count_of v n.site)) [
       | inl less ↦
-        let chain = context_chain h w (count_of v n.site - n.number - 1) n last last_known refl range.0 (omega arith) in
-        λ m e. from_last m (chain m e)
+          let chain = context_chain h w (count_of v n.site - n.number - 1) n last last_known refl range.0 (omega arith) in
+          λ m e. from_last m (chain m e)
       | inr more ↦
-        let same : n ≡ last = same_name n last refl (omega (arith, range.1)) in
-        subst (λ (x : NameData). Within (original_context h x) v) (sym same) from_last
+          let same : n ≡ last = same_name n last refl (omega (arith, range.1)) in
+          subst (λ (x : NameData). Within (original_context h x) v) (sym same) from_last
     ]
 
 group_in : (v : ContextData) (t : NameData) (g k : ℕ) → has v (Group t g) ≡ true → 1 ≤ k → k ≤ g → has v (Group t k) ≡ true
@@ -117,12 +117,12 @@ closed_context h w v set = record {
   ready = set.known;
   stray = set_keeps_stray h (has v) set;
   closed = λ s o n at is site number m e.
-    let known : is_known h (Original n) ≡ true = ap (is_known h) (sym is) ∙ known_member h o at in
-    let low = (original_facts h w n known).number in
-    let last : n.number ≡ count_of v n.site = number ∙ ap (count_of v) (sym site) in
-    let there : has v (Original n) ≡ true = has_original v n low (omega arith) in
-    let seen : has (original_context h n) m ≡ true = ap (λ c. has c m) (context_is h w o n at is known) ∙ e in
-    set.closed (Original n) m there (in_original h n m known seen);
+      let known : is_known h (Original n) ≡ true = ap (is_known h) (sym is) ∙ known_member h o at in
+      let low = (original_facts h w n known).number in
+      let last : n.number ≡ count_of v n.site = number ∙ ap (count_of v) (sym site) in
+      let there : has v (Original n) ≡ true = has_original v n low (omega arith) in
+      let seen : has (original_context h n) m ≡ true = ap (λ c. has c m) (context_is h w o n at is known) ∙ e in
+      set.closed (Original n) m there (in_original h n m known seen);
 }
 
 -- the context of an original is closed
@@ -154,14 +154,14 @@ group_closed h w t g x y e f =
       | inl seen ↦ in_group h t g y e.known (of_target.closed x y seen f)
       | inr (inl is) ↦ in_group h t g y e.known (base_original h t y (subst (λ (z : Member). base_has h z y ≡ true) is f)).1
       | inr (inr below) ↦
-        let inner = base_group h t below.0 y (subst (λ (z : Member). base_has h z y ≡ true) below.1 f) in
-        elim inner.cases [
-          | inl seen ↦ in_group h t g y e.known seen
-          | inr (inl is) ↦ subst (λ (z : Member). base_has h (Group t g) z ≡ true) (sym is) (group_has_target h t g e.known)
-          | inr (inr less) ↦
-            subst (λ (z : Member). base_has h (Group t g) z ≡ true) (sym less.1)
+          let inner = base_group h t below.0 y (subst (λ (z : Member). base_has h z y ≡ true) below.1 f) in
+          elim inner.cases [
+            | inl seen ↦ in_group h t g y e.known seen
+            | inr (inl is) ↦ subst (λ (z : Member). base_has h (Group t g) z ≡ true) (sym is) (group_has_target h t g e.known)
+            | inr (inr less) ↦
+                subst (λ (z : Member). base_has h (Group t g) z ≡ true) (sym less.1)
                 (in_group_below h t g (Group t less.0) e.known (below_group t g less.0 less.2 (omega (arith, less.3, below.3))))
-        ]
+          ]
     ]
 
 -- each base context is closed
@@ -184,14 +184,14 @@ no_own_group h w t g e =
     let group = group_facts h w t g e.known in
     elim e.cases [
       | inl seen ↦
-        let facts = original_facts h w t group.target in
-        let less = own_alone h w t group.target t refl (facts.stray t g seen) in
-        omega arith
+          let facts = original_facts h w t group.target in
+          let less = own_alone h w t group.target t refl (facts.stray t g seen) in
+          omega arith
       | inr (inl is) ↦ cc
       | inr (inr below) ↦
-        let is : Group t g ≡ Group t below.0 = below.1 in
-        let same : g ≡ below.0 = cc in
-        omega (arith, below.3)
+          let is : Group t g ≡ Group t below.0 = below.1 in
+          let same : g ≡ below.0 = cc in
+          omega (arith, below.3)
     ]
 
 -- no member is in its own base context

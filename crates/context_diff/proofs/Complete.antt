@@ -32,9 +32,9 @@ pub count_within : (h : List OpData) (a c : ContextData) → LacksNothing h c �
 count_within h a c ready holds s =
     elim (cases_lt 0 (count_of c s)) [
       | inl some ↦
-        let last : NameData = record { site = s; number = count_of c s } in
-        let there : has c (Original last) ≡ true = has_original c last some (omega arith) in
-        (has_number a last (holds (Original last) ∙ ready (Original last) there)).1
+          let last : NameData = record { site = s; number = count_of c s } in
+          let there : has c (Original last) ≡ true = has_original c last some (omega arith) in
+          (has_number a last (holds (Original last) ∙ ready (Original last) there)).1
       | inr none ↦ omega arith
     ]
 
@@ -42,8 +42,8 @@ pub entry_within : (h : List OpData) (a c : ContextData) → LacksNothing h c �
 entry_within h a c ready holds t =
     elim (cases_lt 0 (entry_of c t)) [
       | inl some ↦
-        let there : has c (Group t (entry_of c t)) ≡ true = has_group c t (entry_of c t) some (omega arith) in
-        (has_generation a t (entry_of c t) (holds (Group t (entry_of c t)) ∙ ready (Group t (entry_of c t)) there)).1
+          let there : has c (Group t (entry_of c t)) ≡ true = has_group c t (entry_of c t) some (omega arith) in
+          (has_generation a t (entry_of c t) (holds (Group t (entry_of c t)) ∙ ready (Group t (entry_of c t)) there)).1
       | inr none ↦ omega arith
     ]
 
@@ -84,10 +84,10 @@ closed_on h o c formed new ready closed s q n at is site number =
     elim (Contains-push_cases h o q at) [
       | inl old ↦ closed s q n old is site number
       | inr now ↦
-        let named : member_of o ≡ Original n = ap member_of now ∙ is in
-        let last : n.number ≡ count_of c n.site = number ∙ ap (count_of c) (sym site) in
-        let there : has c (Original n) ≡ true = has_original c n (formed_number o formed n named) (omega arith) in
-        absurd (false≢true (sym new ∙ (ap (is_known h) named ∙ ready (Original n) there)))
+          let named : member_of o ≡ Original n = ap member_of now ∙ is in
+          let last : n.number ≡ count_of c n.site = number ∙ ap (count_of c) (sym site) in
+          let there : has c (Original n) ≡ true = has_original c n (formed_number o formed n named) (omega arith) in
+          absurd (false≢true (sym new ∙ (ap (is_known h) named ∙ ready (Original n) there)))
     ]
 
 complete_push : (h : List OpData) (o : OpData) → IsComplete h → IsNext h o → IsComplete (h ++ o ∷ [])
@@ -106,13 +106,13 @@ complete_push h o was next =
       closed = λ p at original. elim (Contains-push_cases h o p at) [
         | inl old ↦ closed_on h o (context_of p) next.formed next.new (was.ready p old) (was.closed p old original)
         | inr now ↦
-          let own : is_original o ≡ true = ap is_original now ∙ original in
-          subst (λ (x : OpData). IsClosed (h ++ o ∷ []) (context_of x)) now (closed_on h o (context_of o) next.formed next.new next.ready (next.closed own))
+            let own : is_original o ≡ true = ap is_original now ∙ original in
+            subst (λ (x : OpData). IsClosed (h ++ o ∷ []) (context_of x)) now (closed_on h o (context_of o) next.formed next.new next.ready (next.closed own))
       ];
       holds = λ m.
-        ap (λ c. has c m) (context_push h o)
-            ∙ (has_raised (context_of_all h) (member_of o) (next_member h (context_of_all h) o was.holds next) m
-            ∙ (ap (λ b. b || member_eq (member_of o) m) (was.holds m) ∙ sym (known_push h o m)));
+          ap (λ c. has c m) (context_push h o)
+          ∙ (has_raised (context_of_all h) (member_of o) (next_member h (context_of_all h) o was.holds next) m
+          ∙ (ap (λ b. b || member_eq (member_of o) m) (was.holds m) ∙ sym (known_push h o m)));
       one = λ p q at bt is. elim (Contains-push_cases h o p at) [
         | inl old ↦ elim (Contains-push_cases h o q bt) [
           | inl old' ↦ was.one p q old old' is

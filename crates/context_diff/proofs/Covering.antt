@@ -40,15 +40,15 @@ covered_before : (h : List OpData) → IsComplete h → (v : ContextData) → Ar
     → (r : ℕ) → ((j : ℕ) → slice_get v.counts j ≡ Some (r, count_of v r) → j < i) → CoversSite h v r
 covered_before h w v are i done r early =
     covers_from h w v r (λ some.
-        let place = count_place v.counts r some in
-        done place.place (r, count_of v r) (early place.place place.at) place.at)
+    let place = count_place v.counts r some in
+    done place.place (r, count_of v r) (early place.place place.at) place.at)
 
 -- all sites that are named are covered: the context is closed
 pub all_covered : (h : List OpData) → IsComplete h → (v : ContextData) → AreCounts 0 v.counts → ((j : ℕ) (p : ℕ × ℕ) → j < length v.counts → slice_get v.counts j ≡ Some p → Within (original_context h (record { site = p.0; number = p.1 })) v) → IsClosed h v
 all_covered h w v are done s =
     covers_from h w v s (λ some.
-        let place = count_place v.counts s some in
-        done place.place (s, count_of v s) place.within place.at)
+    let place = count_place v.counts s some in
+    done place.place (s, count_of v s) place.within place.at)
 
 -- sites before the first one that isn't covered are covered
 pub covered_below : (h : List OpData) → IsComplete h → (v : ContextData) → AreCounts 0 v.counts → (i : ℕ) (q : ℕ × ℕ) → slice_get v.counts i ≡ Some q → ((j : ℕ) (p : ℕ × ℕ) → j < i → slice_get v.counts j ≡ Some p → Within (original_context h (record { site = p.0; number = p.1 })) v)

@@ -30,41 +30,41 @@ last_may_be_taken_out before o behind from to v closed_from closed_to within las
     let both = valid_before before o behind v in
     let first = complete before both.0 in
     let unneeded : (m : Member) → to m ≡ true → member_eq x m ≡ false → base_has h m x ≡ true → ⊥ = λ m there other needs.
-        elim (cases_Bool (from m)) [
-          | inl in_from ↦ false≢true (sym last.not_in_from ∙ closed_from.closed m x in_from needs)
-          | inr outside ↦ elim (known_cases before (o ∷ behind) m (closed_to.known m there)) [
-            | inl early ↦ false≢true (sym both.1.new ∙ base_within before (o ∷ behind) first m x early needs)
-            | inr late ↦ elim (or_cases (member_eq x m) (is_known behind m) late) [
-              | inl same ↦ false≢true (sym other ∙ same)
-              | inr later ↦ false≢true (sym outside ∙ last.last m later there)
-            ]
-          ]
-        ] in
+    elim (cases_Bool (from m)) [
+      | inl in_from ↦ false≢true (sym last.not_in_from ∙ closed_from.closed m x in_from needs)
+      | inr outside ↦ elim (known_cases before (o ∷ behind) m (closed_to.known m there)) [
+        | inl early ↦ false≢true (sym both.1.new ∙ base_within before (o ∷ behind) first m x early needs)
+        | inr late ↦ elim (or_cases (member_eq x m) (is_known behind m) late) [
+          | inl same ↦ false≢true (sym other ∙ same)
+          | inr later ↦ false≢true (sym outside ∙ last.last m later there)
+        ]
+      ]
+    ] in
     let left : IsClosedSet h (without to x) = record {
-        known = λ m e. closed_to.known m (without_parts to x m e).0;
-        closed = λ m y e needs.
+      known = λ m e. closed_to.known m (without_parts to x m e).0;
+      closed = λ m y e needs.
           let parts = without_parts to x m e in
           without_from to x y (closed_to.closed m y parts.0 needs)
-              (false_from_ne_true (member_eq x y) (λ same. unneeded m parts.0 parts.1 (subst (λ (z : Member). base_has h m z ≡ true) (sym (member_same x y same)) needs)));
-      } in
+          (false_from_ne_true (member_eq x y) (λ same. unneeded m parts.0 parts.1 (subst (λ (z : Member). base_has h m z ≡ true) (sym (member_same x y same)) needs)));
+    } in
     (left, set_keeps_stray h (without to x) left, λ y e. without_from to x y (within y e) (false_from_ne_true (member_eq x y) (λ same. false≢true (sym last.not_in_from ∙ (ap from (member_same x y same) ∙ e)))))
 
 taken_apart : (h : List OpData) (c : Member → Bool) (x y : Member) → x ≢ y → c x ≡ true → IsClosedSet h (without c y) → base_has h x y ≡ false
 taken_apart h c x y apart there closed =
     false_from_ne_true (base_has h x y) (λ needs.
-        let still = closed.closed x y (without_from c y x there (member_apart y x (λ is. apart (sym is)))) needs in
-        false≢true (sym (without_parts c y y still).1 ∙ member_itself y))
+    let still = closed.closed x y (without_from c y x there (member_apart y x (λ is. apart (sym is)))) needs in
+    false≢true (sym (without_parts c y y still).1 ∙ member_itself y))
 
 pub two_may_be_taken_out : TwoMayBeTakenOut
 two_may_be_taken_out h c x y v apart there there' closed_x closed_y =
     let both = without (without c x) y in
     let left : IsClosedSet h both = record {
-        known = λ m e. closed_x.known m (without_parts (without c x) y m e).0;
-        closed = λ m z e needs.
+      known = λ m e. closed_x.known m (without_parts (without c x) y m e).0;
+      closed = λ m z e needs.
           let parts = without_parts (without c x) y m e in
           let inner = without_parts c x m parts.0 in
           let no_x = closed_x.closed m z parts.0 needs in
           let no_y = closed_y.closed m z (without_from c y m inner.0 parts.1) needs in
           without_from (without c x) y z no_x (without_parts c y z no_y).1;
-      } in
+    } in
     (taken_apart h c x y apart there closed_y, taken_apart h c y x (λ is. apart (sym is)) there' closed_x, left, set_keeps_stray h both left)

@@ -13,47 +13,47 @@ until_take : {K : Type 0} (p : K → Bool) (cs : List K) → until p cs ≡ take
 unfolding until
 until_take p [] = refl
 until_take p (c ∷ cs) = elim (cases_Bool (p c)) [
-    | inl e ↦ rw e refl
-    | inr e ↦ rw e (ap (λ xs. c ∷ xs) (until_take p cs))
-  ]
+  | inl e ↦ rw e refl
+  | inr e ↦ rw e (ap (λ xs. c ∷ xs) (until_take p cs))
+]
 
 onward_drop : {K : Type 0} (p : K → Bool) (cs : List K) → onward p cs ≡ drop (before_first p cs) cs
 unfolding onward
 onward_drop p [] = refl
 onward_drop p (c ∷ cs) = elim (cases_Bool (p c)) [
-    | inl e ↦ rw e refl
-    | inr e ↦ rw e (onward_drop p cs)
-  ]
+  | inl e ↦ rw e refl
+  | inr e ↦ rw e (onward_drop p cs)
+]
 
 through_take : {K : Type 0} (p : K → Bool) (cs : List K) → through p cs ≡ take (up_to_last p cs) cs
 unfolding through
 through_take p [] = refl
 through_take p (c ∷ cs) = elim (cases_Bool (p c || list_any p cs)) [
-    | inl e ↦ rw e (ap (λ xs. c ∷ xs) (through_take p cs))
-    | inr e ↦ rw e refl
-  ]
+  | inl e ↦ rw e (ap (λ xs. c ∷ xs) (through_take p cs))
+  | inr e ↦ rw e refl
+]
 
 beyond_drop : {K : Type 0} (p : K → Bool) (cs : List K) → beyond p cs ≡ drop (up_to_last p cs) cs
 unfolding beyond
 beyond_drop p [] = refl
 beyond_drop p (c ∷ cs) = elim (cases_Bool (p c || list_any p cs)) [
-    | inl e ↦ rw e (beyond_drop p cs)
-    | inr e ↦ rw e refl
-  ]
+  | inl e ↦ rw e (beyond_drop p cs)
+  | inr e ↦ rw e refl
+]
 
 pub before_first_within : {K : Type 0} (p : K → Bool) (cs : List K) → before_first p cs ≤ length cs
 before_first_within p [] = omega arith
 before_first_within p (c ∷ cs) = let rest = before_first_within p cs in elim (cases_Bool (p c)) [
-    | inl e ↦ rw e (omega arith)
-    | inr e ↦ rw e (omega arith)
-  ]
+  | inl e ↦ rw e (omega arith)
+  | inr e ↦ rw e (omega arith)
+]
 
 pub up_to_last_within : {K : Type 0} (p : K → Bool) (cs : List K) → up_to_last p cs ≤ length cs
 up_to_last_within p [] = omega arith
 up_to_last_within p (c ∷ cs) = let rest = up_to_last_within p cs in elim (cases_Bool (p c || list_any p cs)) [
-    | inl e ↦ rw e (omega arith)
-    | inr e ↦ rw e (omega arith)
-  ]
+  | inl e ↦ rw e (omega arith)
+  | inr e ↦ rw e (omega arith)
+]
 
 pub up_to_nth_within : {K : Type 0} (p : K → Bool) (n : ℕ) (cs : List K) → up_to_nth p n cs ≤ length cs
 up_to_nth_within p zero cs = omega arith
@@ -124,8 +124,8 @@ unfolding gap
 gap_ends p zero cs =
     let b = before_first p cs in
     same_gap (gap p zero cs) (gap_between cs 0 (0 + b)) refl
-        (until_take p cs ∙ sym (take_difference 0 b cs))
-        (onward_drop p cs ∙ ap (λ n. drop n cs) (zero_plus b))
+    (until_take p cs ∙ sym (take_difference 0 b cs))
+    (onward_drop p cs ∙ ap (λ n. drop n cs) (zero_plus b))
 gap_ends p (suc n) [] = refl
 gap_ends {K} p (suc n) (c ∷ cs) =
     let m = if p c then n else suc n in
@@ -133,9 +133,9 @@ gap_ends {K} p (suc n) (c ∷ cs) =
     let b = before_first p (drop l cs) in
     let rest = gap_ends p m cs in
     same_gap (gap p (suc n) (c ∷ cs)) (gap_between (c ∷ cs) (suc l) (suc l + b))
-        (ap (λ (g : Gap K). c ∷ g.before) rest)
-        (ap (λ (g : Gap K). g.between) rest ∙ (take_difference l b cs ∙ sym (take_difference (suc l) b (c ∷ cs))))
-        (ap (λ (g : Gap K). g.behind) rest ∙ ap (λ k. drop k (c ∷ cs)) (suc_plus l b))
+    (ap (λ (g : Gap K). c ∷ g.before) rest)
+    (ap (λ (g : Gap K). g.between) rest ∙ (take_difference l b cs ∙ sym (take_difference (suc l) b (c ∷ cs))))
+    (ap (λ (g : Gap K). g.behind) rest ∙ ap (λ k. drop k (c ∷ cs)) (suc_plus l b))
 
 -- a narrowing to the left moves the left end behind the last cell that passes
 pub narrow_left : {K : Type 0} (p : K → Bool) (cs : List K) (l r : ℕ) → l ≤ r → r ≤ length cs
@@ -146,9 +146,9 @@ narrow_left p cs l r le within =
     let most = up_to_last_within p mid in
     let size : length mid ≡ r - l = simp (length-take, length-drop) (omega arith) in
     same_gap (narrow true p (gap_between cs l r)) (gap_between cs (l + k) r)
-        (ap (λ xs. take l cs ++ xs) (through_take p mid ∙ take_take_less k (r - l) (drop l cs) (omega arith)) ∙ sym (take_more l k cs))
-        (beyond_drop p mid ∙ drop_of_take k (r - l) (drop l cs) ∙ middle l k r cs (omega arith))
-        refl
+    (ap (λ xs. take l cs ++ xs) (through_take p mid ∙ take_take_less k (r - l) (drop l cs) (omega arith)) ∙ sym (take_more l k cs))
+    (beyond_drop p mid ∙ drop_of_take k (r - l) (drop l cs) ∙ middle l k r cs (omega arith))
+    refl
 
 -- a narrowing to the right moves the right end before the first cell that passes
 pub narrow_right : {K : Type 0} (p : K → Bool) (cs : List K) (l r : ℕ) → l ≤ r → r ≤ length cs
@@ -159,6 +159,6 @@ narrow_right p cs l r le within =
     let most = before_first_within p mid in
     let size : length mid ≡ r - l = simp (length-take, length-drop) (omega arith) in
     same_gap (narrow false p (gap_between cs l r)) (gap_between cs l (l + k))
-        refl
-        (until_take p mid ∙ take_take_less k (r - l) (drop l cs) (omega arith) ∙ sym (take_difference l k cs))
-        (ap (λ xs. xs ++ drop r cs) (onward_drop p mid ∙ drop_of_take k (r - l) (drop l cs)) ∙ joined l k r cs (omega arith) (omega arith))
+    refl
+    (until_take p mid ∙ take_take_less k (r - l) (drop l cs) (omega arith) ∙ sym (take_difference l k cs))
+    (ap (λ xs. xs ++ drop r cs) (onward_drop p mid ∙ drop_of_take k (r - l) (drop l cs)) ∙ joined l k r cs (omega arith) (omega arith))

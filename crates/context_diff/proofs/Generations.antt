@@ -22,15 +22,15 @@ entry_raised a (deleting n p c) t next = omega arith
 entry_raised a (undoing u n g c) t next =
     rw (entry_put n g a.entries t) (elim (cases_Bool (name_eq n t)) [
       | inl same ↦
-        let entry : entry_of a n ≡ entry_of a t = ap (entry_of a) (name_same n t same) in
-        rw same (omega arith)
+          let entry : entry_of a n ≡ entry_of a t = ap (entry_of a) (name_same n t same) in
+          rw same (omega arith)
       | inr other ↦ rw other (omega arith)
     ])
 
 pub generation_is : (h : List OpData) → IsValid h → (t : NameData) → generation_in h t ≡ entry_of (context_of_all h) t
 generation_is h v =
     by_pushes (λ k. (t : NameData) → generation_in k t ≡ entry_of (context_of_all k) t) (λ t. refl) (λ k o valid was next t.
-        generation_push k o t
-            ∙ (ap (λ x. max x (generation_at o t)) (was t)
-            ∙ (sym (entry_raised (context_of_all k) o t (next_member k (context_of_all k) o (complete k valid).holds next))
-            ∙ ap (λ c. entry_of c t) (sym (context_push k o))))) h v
+    generation_push k o t
+    ∙ (ap (λ x. max x (generation_at o t)) (was t)
+    ∙ (sym (entry_raised (context_of_all k) o t (next_member k (context_of_all k) o (complete k valid).holds next))
+    ∙ ap (λ c. entry_of c t) (sym (context_push k o))))) h v

@@ -45,14 +45,14 @@ named_once low [] are n p ch c some = grind (arith, nat_tests)
 named_once low (q ∷ qs) are n p ch c some =
     elim (cases_Bool (n.site == q.0)) [
       | inl same ↦
-        let is : n.site ≡ q.0 = eqb-true n.site q.0 same in
-        let rest = named_none (q.0 + 1) qs are.4 n p ch c (omega arith) in
-        let back : (q.0 == n.site) ≡ true = grind (arith, nat_tests) in
-        rw (same, back) (rw rest (omega arith))
+          let is : n.site ≡ q.0 = eqb-true n.site q.0 same in
+          let rest = named_none (q.0 + 1) qs are.4 n p ch c (omega arith) in
+          let back : (q.0 == n.site) ≡ true = grind (arith, nat_tests) in
+          rw (same, back) (rw rest (omega arith))
       | inr other ↦
-        let rest = named_once (q.0 + 1) qs are.4 n p ch c some in
-        let back : (q.0 == n.site) ≡ false = grind (arith, nat_tests) in
-        rw (other, back) (rw rest (omega arith))
+          let rest = named_once (q.0 + 1) qs are.4 n p ch c some in
+          let back : (q.0 == n.site) ≡ false = grind (arith, nat_tests) in
+          rw (other, back) (rw rest (omega arith))
     ]
 
 named_nothing : (ps : List (ℕ × ℕ)) (o : OpData) → is_insert o ≡ false → named_by ps o ≡ 0
@@ -83,7 +83,7 @@ pub inserts_by_site : (h : List OpData) (v : ContextData) → AreCounts 0 v.coun
 inserts_by_site [] v are f = listed_nothing v.counts
 inserts_by_site (o ∷ os) v are f =
     listed_step o os v.counts
-        ∙ (λ i. named_here v are o (f o (contains_here o os)) i + inserts_by_site os v are (λ q at. f q (contains_later o os q at)) i)
+    ∙ (λ i. named_here v are o (f o (contains_here o os)) i + inserts_by_site os v are (λ q at. f q (contains_later o os q at)) i)
 
 -- the inserts of the first sites, with one more
 pub listed_push : (h : List OpData) (ps : List (ℕ × ℕ)) (p : ℕ × ℕ) → inserts_listed h (ps ++ p ∷ []) ≡ inserts_listed h ps + inserts_of h p.0 p.1
@@ -136,8 +136,8 @@ beyond h w (inserting n p ch c) next s k within =
     let after : n.number ≡ count_of (context_of_all h) n.site + 1 = next_member h (context_of_all h) (inserting n p ch c) w.holds next in
     elim (cases_Bool (n.site == s)) [
       | inl same ↦
-        let counts : count_of (context_of_all h) n.site ≡ count_of (context_of_all h) s = ap (count_of (context_of_all h)) (eqb-true n.site s same) in
-        grind (arith, nat_tests)
+          let counts : count_of (context_of_all h) n.site ≡ count_of (context_of_all h) s = ap (count_of (context_of_all h)) (eqb-true n.site s same) in
+          grind (arith, nat_tests)
       | inr other ↦ grind (arith, nat_tests)
     ]
 beyond h w (deleting n p c) next s k within = refl

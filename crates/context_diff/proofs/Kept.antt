@@ -29,9 +29,9 @@ module _ {X : Type 0} (op : X → OpData) (noted : X → ℕ) where
       elim (cases_Bool (test e.0)) [
         | inl passes ↦ let here : Some e.1 ≡ None = sym (ap (λ b. cond b (Some e.1) (lookup test es)) passes) ∙ none in cc
         | inr fails ↦
-          let rest : lookup test es ≡ None = sym (ap (λ b. cond b (Some e.1) (lookup test es)) fails) ∙ none in
-          let other : member_eq m e.0 ≡ false = sym (tells e.0) ∙ fails in
-          or_from (member_eq (member_of (op e.1)) m) (is_known (ops_in op es) m) (turned m (member_of (op e.1)) (ap (member_eq m) (sym kept.0) ∙ other)) (found_none h es kept.2 m test tells rest)
+            let rest : lookup test es ≡ None = sym (ap (λ b. cond b (Some e.1) (lookup test es)) fails) ∙ none in
+            let other : member_eq m e.0 ≡ false = sym (tells e.0) ∙ fails in
+            or_from (member_eq (member_of (op e.1)) m) (is_known (ops_in op es) m) (turned m (member_of (op e.1)) (ap (member_eq m) (sym kept.0) ∙ other)) (found_none h es kept.2 m test tells rest)
       ]
     where
       turned : (a b : Member) → member_eq a b ≡ false → member_eq b a ≡ false
@@ -45,18 +45,18 @@ module _ {X : Type 0} (op : X → OpData) (noted : X → ℕ) where
   found_some h (e ∷ es) kept m test tells x some =
       elim (cases_Bool (test e.0)) [
         | inl passes ↦
-          let here : Some e.1 ≡ Some x = sym (ap (λ b. cond b (Some e.1) (lookup test es)) passes) ∙ some in
-          let one : e.1 ≡ x = cc in
-          let is : m ≡ e.0 = member_same m e.0 (sym (tells e.0) ∙ passes) in
-          record {
-            there = subst (λ (y : X). Contains (op e.1 ∷ ops_in op es) (op y)) one (contains_here (op e.1) (ops_in op es));
-            is = ap (λ (y : X). member_of (op y)) (sym one) ∙ (sym kept.0 ∙ sym is);
-            count = ap noted (sym one) ∙ (kept.1 ∙ ap (inserts_up_to h) (sym is));
-          }
+            let here : Some e.1 ≡ Some x = sym (ap (λ b. cond b (Some e.1) (lookup test es)) passes) ∙ some in
+            let one : e.1 ≡ x = cc in
+            let is : m ≡ e.0 = member_same m e.0 (sym (tells e.0) ∙ passes) in
+            record {
+              there = subst (λ (y : X). Contains (op e.1 ∷ ops_in op es) (op y)) one (contains_here (op e.1) (ops_in op es));
+              is = ap (λ (y : X). member_of (op y)) (sym one) ∙ (sym kept.0 ∙ sym is);
+              count = ap noted (sym one) ∙ (kept.1 ∙ ap (inserts_up_to h) (sym is));
+            }
         | inr fails ↦
-          let rest : lookup test es ≡ Some x = sym (ap (λ b. cond b (Some e.1) (lookup test es)) fails) ∙ some in
-          let found = found_some h es kept.2 m test tells x rest in
-          record { there = contains_later (op e.1) (ops_in op es) (op x) found.there; is = found.is; count = found.count }
+            let rest : lookup test es ≡ Some x = sym (ap (λ b. cond b (Some e.1) (lookup test es)) fails) ∙ some in
+            let found = found_some h es kept.2 m test tells x rest in
+            record { there = contains_later (op e.1) (ops_in op es) (op x) found.there; is = found.is; count = found.count }
       ]
 
   pub kept_at : (h : List OpData) (es : List (Member × X)) → AreKept op noted h es → (i : ℕ) (e : Member × X) → slice_get es i ≡ Some e → (slice_get (ops_in op es) i ≡ Some (op e.1)) × (slice_get (members_in (ops_in op es)) i ≡ Some e.0)
@@ -95,6 +95,7 @@ module _ {X : Type 0} (op : X → OpData) (noted : X → ℕ) where
     where
       first : (m n : Member) (b : Bool) → m ≡ n → (member_eq n m || b) ≡ true
       first m n b is = ap (λ v. v || b) (ap (member_eq n) is ∙ member_itself n)
+
       later : (m n : Member) (b : Bool) → b ≡ true → (member_eq n m || b) ≡ true
       later m n b e = or_right (member_eq n m) b e
 
@@ -109,9 +110,9 @@ module _ {X : Type 0} (op : X → OpData) (noted : X → ℕ) where
         valid = subst IsValid (sym (ops_push es e)) (valid_push h (op e.1) book.valid next);
         kept = subst (λ (k : List OpData). AreKept op noted k (es ++ e ∷ [])) (sym (ops_push es e)) (kept_join (h ++ op e.1 ∷ []) es e moved key count);
         members =
-          ap (λ (c : ContextData). raised c e.0) book.members
-              ∙ (ap (raised (context_of_all h)) key
-              ∙ (sym (context_push h (op e.1)) ∙ ap context_of_all (sym (ops_push es e))));
+            ap (λ (c : ContextData). raised c e.0) book.members
+            ∙ (ap (raised (context_of_all h)) key
+            ∙ (sym (context_push h (op e.1)) ∙ ap context_of_all (sym (ops_push es e))));
         short = simp length-append (omega arith);
       }
 
@@ -124,12 +125,13 @@ module _ {X : Type 0} (op : X → OpData) (noted : X → ℕ) where
       let w = complete h parts.0 in
       let here : AreKept op noted (h ++ op e.1 ∷ []) (es ++ e ∷ []) = subst (λ (k : List OpData). AreKept op noted k (es ++ e ∷ [])) (ops_push es e) book.kept in
       let front : AreKept op noted (h ++ op e.1 ∷ []) es = kept_front (h ++ op e.1 ∷ []) es e here in
-      let short : length es + 1 < 4294967296 = simp length-append at book.short in
-      (record {
-        valid = parts.0;
-        kept = kept_moved (h ++ op e.1 ∷ []) h es (λ m known. sym (up_to_on h w (op e.1) parts.1 m known)) front;
-        members = refl;
-        short = omega arith;
-      },
-          parts.1,
-          book.members ∙ (ap context_of_all (ops_push es e) ∙ context_push h (op e.1)))
+      let short : length es + 1 < 4294967296 = simp length-append at book.short in (
+        record {
+          valid = parts.0;
+          kept = kept_moved (h ++ op e.1 ∷ []) h es (λ m known. sym (up_to_on h w (op e.1) parts.1 m known)) front;
+          members = refl;
+          short = omega arith;
+        },
+        parts.1,
+        book.members ∙ (ap context_of_all (ops_push es e) ∙ context_push h (op e.1)),
+      )

@@ -76,8 +76,8 @@ holder (p ∷ ps) m e =
     elim (or_cases (member_eq (member_of p) m) (is_known ps m) e) [
       | inl same ↦ record { op = p; there = contains_here p ps; is = member_same (member_of p) m same }
       | inr later ↦
-        let held = holder ps m later in
-        record { op = held.op; there = contains_later p ps held.op held.there; is = held.is }
+          let held = holder ps m later in
+          record { op = held.op; there = contains_later p ps held.op held.there; is = held.is }
     ]
 
 -- the operation of a history that is this original, and its context
@@ -98,27 +98,27 @@ original_holder [] n e = absurd (false≢true e)
 original_holder (p ∷ ps) n e =
     elim (cases_Bool (member_eq (member_of p) (Original n))) [
       | inl same ↦ record {
-          op = p;
-          there = contains_here p ps;
-          is = member_same (member_of p) (Original n) same;
-          context = if_true (member_eq (member_of p) (Original n)) (context_of p) (original_context ps n) same;
-        }
+        op = p;
+        there = contains_here p ps;
+        is = member_same (member_of p) (Original n) same;
+        context = if_true (member_eq (member_of p) (Original n)) (context_of p) (original_context ps n) same;
+      }
       | inr other ↦
-        let later : is_known ps (Original n) ≡ true = sym (ap (λ b. b || is_known ps (Original n)) other) ∙ e in
-        let held = original_holder ps n later in
-        record {
-          op = held.op;
-          there = contains_later p ps held.op held.there;
-          is = held.is;
-          context = if_false (member_eq (member_of p) (Original n)) (context_of p) (original_context ps n) other ∙ held.context;
-        }
+          let later : is_known ps (Original n) ≡ true = sym (ap (λ b. b || is_known ps (Original n)) other) ∙ e in
+          let held = original_holder ps n later in
+          record {
+            op = held.op;
+            there = contains_later p ps held.op held.there;
+            is = held.is;
+            context = if_false (member_eq (member_of p) (Original n)) (context_of p) (original_context ps n) other ∙ held.context;
+          }
     ]
 
 -- an original at the head is the one that its name finds
 pub context_here : (o : OpData) (os : List OpData) (n : NameData) → member_of o ≡ Original n → original_context (o ∷ os) n ≡ context_of o
 context_here o os n is =
     if_true (member_eq (member_of o) (Original n)) (context_of o) (original_context os n)
-        (ap (λ m. member_eq m (Original n)) is ∙ member_itself (Original n))
+    (ap (λ m. member_eq m (Original n)) is ∙ member_itself (Original n))
 
 -- what comes behind changes no context that was there
 pub context_on : (h k : List OpData) (n : NameData) → is_known h (Original n) ≡ true → original_context (h ++ k) n ≡ original_context h n
@@ -126,11 +126,11 @@ context_on [] k n e = absurd (false≢true e)
 context_on (p ∷ ps) k n e =
     elim (cases_Bool (member_eq (member_of p) (Original n))) [
       | inl same ↦
-        if_true (member_eq (member_of p) (Original n)) (context_of p) (original_context (ps ++ k) n) same
-            ∙ sym (if_true (member_eq (member_of p) (Original n)) (context_of p) (original_context ps n) same)
+          if_true (member_eq (member_of p) (Original n)) (context_of p) (original_context (ps ++ k) n) same
+          ∙ sym (if_true (member_eq (member_of p) (Original n)) (context_of p) (original_context ps n) same)
       | inr other ↦
-        let later : is_known ps (Original n) ≡ true = sym (ap (λ b. b || is_known ps (Original n)) other) ∙ e in
-        ap (λ c. if member_eq (member_of p) (Original n) then context_of p else c) (context_on ps k n later)
+          let later : is_known ps (Original n) ≡ true = sym (ap (λ b. b || is_known ps (Original n)) other) ∙ e in
+          ap (λ c. if member_eq (member_of p) (Original n) then context_of p else c) (context_on ps k n later)
     ]
 
 -- behind a part that hasn't the original its context is found in the rest
@@ -140,6 +140,6 @@ context_behind (p ∷ ps) k n e =
     elim (cases_Bool (member_eq (member_of p) (Original n))) [
       | inl same ↦ absurd (false≢true (sym e ∙ or_left (member_eq (member_of p) (Original n)) (is_known ps (Original n)) same))
       | inr other ↦
-        let later : is_known ps (Original n) ≡ false = sym (ap (λ b. b || is_known ps (Original n)) other) ∙ e in
-        if_false (member_eq (member_of p) (Original n)) (context_of p) (original_context (ps ++ k) n) other ∙ context_behind ps k n later
+          let later : is_known ps (Original n) ≡ false = sym (ap (λ b. b || is_known ps (Original n)) other) ∙ e in
+          if_false (member_eq (member_of p) (Original n)) (context_of p) (original_context (ps ++ k) n) other ∙ context_behind ps k n later
     ]

@@ -25,7 +25,7 @@ count_at low (q ∷ qs) are zero p at =
     let is : q ≡ p = cc in
     let self : (q.0 == q.0) ≡ true = grind (arith, nat_tests) in
     subst (λ (x : ℕ × ℕ). IsCountAt low (q ∷ qs) x) is
-        (record { from = are.0; site = are.1; least = are.2; greatest = are.3; count = ap (λ b. if b then q.1 else count_in qs q.0) self })
+    (record { from = are.0; site = are.1; least = are.2; greatest = are.3; count = ap (λ b. if b then q.1 else count_in qs q.0) self })
 count_at low (q ∷ qs) are (suc i) p at =
     let rest = count_at (q.0 + 1) qs are.4 i p at in
     let other : (q.0 == p.0) ≡ false = grind (arith, nat_tests, rest.from) in
@@ -48,12 +48,12 @@ count_place [] s some = absurd (omega arith)
 count_place (q ∷ qs) s some =
     elim (cases_Bool (q.0 == s)) [
       | inl same ↦
-        let is : q.0 ≡ s = eqb-true q.0 s same in
-        record { place = 0; within = omega arith; at = λ i. Some (is i, ap (λ b. if b then q.1 else count_in qs s) (sym same) i) }
+          let is : q.0 ≡ s = eqb-true q.0 s same in
+          record { place = 0; within = omega arith; at = λ i. Some (is i, ap (λ b. if b then q.1 else count_in qs s) (sym same) i) }
       | inr other ↦
-        let skip : count_in (q ∷ qs) s ≡ count_in qs s = ap (λ b. if b then q.1 else count_in qs s) other in
-        let rest = count_place qs s (omega arith) in
-        record { place = suc rest.place; within = omega (arith, rest.within); at = rest.at ∙ ap (λ k. Some (s, k)) (sym skip) }
+          let skip : count_in (q ∷ qs) s ≡ count_in qs s = ap (λ b. if b then q.1 else count_in qs s) other in
+          let rest = count_place qs s (omega arith) in
+          record { place = suc rest.place; within = omega (arith, rest.within); at = rest.at ∙ ap (λ k. Some (s, k)) (sym skip) }
     ]
 
 -- lesser sites stand before greater ones
@@ -99,8 +99,8 @@ count_more low (q ∷ qs) are (suc i) p at s =
     let more = count_more (q.0 + 1) qs are.4 i p at s in
     elim (cases_Bool (q.0 == s)) [
       | inl same ↦
-        let other : (p.0 == s) ≡ false = grind (arith, nat_tests, rest.from) in
-        rw (same, other) refl
+          let other : (p.0 == s) ≡ false = grind (arith, nat_tests, rest.from) in
+          rw (same, other) refl
       | inr apart ↦ rw apart more
     ]
 
@@ -131,7 +131,7 @@ entry_at [] are i e at = let none : None ≡ Some e = at in cc
 entry_at (d ∷ ds) are zero e at =
     let is : d ≡ e = cc in
     subst (λ (x : NameData × ℕ). IsEntryAt (d ∷ ds) x) is
-        (record { name = are.0; least = are.1; greatest = are.2; entry = ap (λ b. if b then d.1 else entry_in ds d.0) (name_itself d.0) })
+    (record { name = are.0; least = are.1; greatest = are.2; entry = ap (λ b. if b then d.1 else entry_in ds d.0) (name_itself d.0) })
 entry_at (d ∷ ds) are (suc i) e at =
     let rest = entry_at ds are.4 i e at in
     let other = less_differs d.0 e.0 (entry_later d.0 ds are.3 are.4 i e at) in
@@ -153,12 +153,12 @@ entry_place [] n some = absurd (omega arith)
 entry_place (d ∷ ds) n some =
     elim (cases_Bool (name_eq d.0 n)) [
       | inl same ↦
-        let is : d.0 ≡ n = name_same d.0 n same in
-        record { place = 0; within = omega arith; at = λ i. Some (is i, ap (λ b. if b then d.1 else entry_in ds n) (sym same) i) }
+          let is : d.0 ≡ n = name_same d.0 n same in
+          record { place = 0; within = omega arith; at = λ i. Some (is i, ap (λ b. if b then d.1 else entry_in ds n) (sym same) i) }
       | inr other ↦
-        let skip : entry_in (d ∷ ds) n ≡ entry_in ds n = ap (λ b. if b then d.1 else entry_in ds n) other in
-        let rest = entry_place ds n (omega arith) in
-        record { place = suc rest.place; within = omega (arith, rest.within); at = rest.at ∙ ap (λ k. Some (n, k)) (sym skip) }
+          let skip : entry_in (d ∷ ds) n ≡ entry_in ds n = ap (λ b. if b then d.1 else entry_in ds n) other in
+          let rest = entry_place ds n (omega arith) in
+          record { place = suc rest.place; within = omega (arith, rest.within); at = rest.at ∙ ap (λ k. Some (n, k)) (sym skip) }
     ]
 
 -- a name is not among those before its place
@@ -179,10 +179,10 @@ entry_more (d ∷ ds) are (suc i) e at n =
     let more = entry_more ds are.4 i e at n in
     elim (cases_Bool (name_eq d.0 n)) [
       | inl same ↦
-        let later = entry_later d.0 ds are.3 are.4 i e at in
-        let is : d.0 ≡ n = name_same d.0 n same in
-        let other : name_eq e.0 n ≡ false = ap (name_eq e.0) (sym is) ∙ turned d.0 e.0 (less_differs d.0 e.0 later) in
-        rw (same, other) refl
+          let later = entry_later d.0 ds are.3 are.4 i e at in
+          let is : d.0 ≡ n = name_same d.0 n same in
+          let other : name_eq e.0 n ≡ false = ap (name_eq e.0) (sym is) ∙ turned d.0 e.0 (less_differs d.0 e.0 later) in
+          rw (same, other) refl
       | inr apart ↦ rw apart more
     ]
   where

@@ -23,8 +23,8 @@ pub later_new_after : (b os : List OpData) (m : Member) → is_known b m ≡ tru
 later_new_after b [] m known v = refl
 later_new_after b (p ∷ ps) m known v =
     or_from (member_eq (member_of p) m) (is_known ps m)
-        (false_from_ne_true (member_eq (member_of p) m) (λ e. false≢true (sym v.0.new ∙ (ap (is_known b) (member_same (member_of p) m e) ∙ known))))
-        (later_new_after (b ++ p ∷ []) ps m (known_on b (p ∷ []) m known) v.1)
+    (false_from_ne_true (member_eq (member_of p) m) (λ e. false≢true (sym v.0.new ∙ (ap (is_known b) (member_same (member_of p) m e) ∙ known))))
+    (later_new_after (b ++ p ∷ []) ps m (known_on b (p ∷ []) m known) v.1)
 
 pub later_new : (b os : List OpData) (m : Member) → IsValid (b ++ os) → is_known b m ≡ true → is_known os m ≡ false
 later_new b os m v known = later_new_after b os m known (valid_parts b os v).1
@@ -69,7 +69,7 @@ earlier b o os v y e =
 pub not_later : (b : List OpData) (o : OpData) (os : List OpData) → IsValid (b ++ o ∷ os) → (z : Member) → is_known (o ∷ os) z ≡ true → base_has (b ++ o ∷ os) (member_of o) z ≡ false
 not_later b o os v z behind =
     false_from_ne_true (base_has (b ++ o ∷ os) (member_of o) z)
-        (λ e. false≢true (sym (later_new b (o ∷ os) z v (earlier b o os v z e)) ∙ behind))
+    (λ e. false≢true (sym (later_new b (o ∷ os) z v (earlier b o os v z e)) ∙ behind))
 
 -- what comes behind changes no base context of a member that is there
 pub base_on : (b os : List OpData) → IsComplete b → (m : Member) → is_known b m ≡ true → (y : Member) → base_has (b ++ os) m y ≡ base_has b m y

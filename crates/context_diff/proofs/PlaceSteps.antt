@@ -73,30 +73,30 @@ more_at : (h : List OpData) → IsValid h → (t : Member → Bool) (p : ℕ) (m
     → (if passes_at t (members_in h) q then 1 else 0) + (if p == q then 1 else 0) ≡ (if passes_at (λ y. t y || member_eq m y) (members_in h) q then 1 else 0)
 more_at h v t p m at outside q None bt =
     let apart : (p == q) ≡ false = elim (cases_Bool (p == q)) [
-        | inl same ↦ let is : p ≡ q = eqb-true p q same in let clash : None ≡ Some m = sym bt ∙ (ap (slice_get (members_in h)) (sym is) ∙ at) in cc
-        | inr other ↦ other
-      ] in
+      | inl same ↦ let is : p ≡ q = eqb-true p q same in let clash : None ≡ Some m = sym bt ∙ (ap (slice_get (members_in h)) (sym is) ∙ at) in cc
+      | inr other ↦ other
+    ] in
     rw (passes_none t (members_in h) q bt, passes_none (λ y. t y || member_eq m y) (members_in h) q bt, apart) refl
 more_at h v t p m at outside q (Some y) bt =
     let old = passes_is t (members_in h) q y bt in
     let new = passes_is (λ y. t y || member_eq m y) (members_in h) q y bt in
     elim (cases_Bool (member_eq m y)) [
       | inl same ↦
-        let is : m ≡ y = member_same m y same in
-        let one : p ≡ q = places_once h v p q m at (bt ∙ ap (λ (x : Member). Some x) (sym is)) in
-        let here : (p == q) ≡ true = grind (arith, nat_tests) in
-        let out : t y ≡ false = ap t (sym is) ∙ outside in
-        rw (old, new, out, same, here) refl
+          let is : m ≡ y = member_same m y same in
+          let one : p ≡ q = places_once h v p q m at (bt ∙ ap (λ (x : Member). Some x) (sym is)) in
+          let here : (p == q) ≡ true = grind (arith, nat_tests) in
+          let out : t y ≡ false = ap t (sym is) ∙ outside in
+          rw (old, new, out, same, here) refl
       | inr other ↦
-        let apart : (p == q) ≡ false = elim (cases_Bool (p == q)) [
+          let apart : (p == q) ≡ false = elim (cases_Bool (p == q)) [
             | inl e ↦
-              let is : p ≡ q = eqb-true p q e in
-              let both : Some m ≡ Some y = sym at ∙ (ap (slice_get (members_in h)) is ∙ bt) in
-              let one : m ≡ y = cc in
-              absurd (false≢true (sym other ∙ (ap (member_eq m) (sym one) ∙ member_itself m)))
+                let is : p ≡ q = eqb-true p q e in
+                let both : Some m ≡ Some y = sym at ∙ (ap (slice_get (members_in h)) is ∙ bt) in
+                let one : m ≡ y = cc in
+                absurd (false≢true (sym other ∙ (ap (member_eq m) (sym one) ∙ member_itself m)))
             | inr e ↦ e
           ] in
-        rw (old, new, other, apart) (or_plus (t y))
+          rw (old, new, other, apart) (or_plus (t y))
     ]
   where
     or_plus : (b : Bool) → ◌≡◌ {A = ℕ} ((if b then 1 else 0) + 0) (if b || false then 1 else 0)
@@ -138,13 +138,13 @@ sites_more from to are i p at (Original n) =
     let before = count_before 0 to.counts are i p at in
     rw more (elim (cases_Bool (p.0 == n.site)) [
       | inl same ↦
-        let is : p.0 ≡ n.site = eqb-true p.0 n.site same in
-        let none : count_in (take i to.counts) n.site ≡ 0 = ap (count_in (take i to.counts)) (sym is) ∙ before in
-        let counts : count_of from p.0 ≡ count_of from n.site = ap (count_of from) is in
-        rw (same, none, counts) (grind (arith, nat_tests))
+          let is : p.0 ≡ n.site = eqb-true p.0 n.site same in
+          let none : count_in (take i to.counts) n.site ≡ 0 = ap (count_in (take i to.counts)) (sym is) ∙ before in
+          let counts : count_of from p.0 ≡ count_of from n.site = ap (count_of from) is in
+          rw (same, none, counts) (grind (arith, nat_tests))
       | inr other ↦
-        let back : (n.site == p.0) ≡ false = grind (arith, nat_tests) in
-        rw (other, back) (grind (arith, nat_tests))
+          let back : (n.site == p.0) ≡ false = grind (arith, nat_tests) in
+          rw (other, back) (grind (arith, nat_tests))
     ])
 sites_more from to are i p at (Group t g) = grind (arith, nat_tests)
 
@@ -169,14 +169,14 @@ names_more from to are i e at (Group n g) =
     let before = entry_before to.entries are i e at in
     rw more (elim (cases_Bool (name_eq e.0 n)) [
       | inl same ↦
-        let is : e.0 ≡ n = name_same e.0 n same in
-        let none : entry_in (take i to.entries) n ≡ 0 = ap (entry_in (take i to.entries)) (sym is) ∙ before in
-        let entries : entry_of from e.0 ≡ entry_of from n = ap (entry_of from) is in
-        let back : name_eq n e.0 ≡ true = ap (name_eq n) is ∙ name_itself n in
-        rw (same, none, entries, back) (grind (arith, nat_tests))
+          let is : e.0 ≡ n = name_same e.0 n same in
+          let none : entry_in (take i to.entries) n ≡ 0 = ap (entry_in (take i to.entries)) (sym is) ∙ before in
+          let entries : entry_of from e.0 ≡ entry_of from n = ap (entry_of from) is in
+          let back : name_eq n e.0 ≡ true = ap (name_eq n) is ∙ name_itself n in
+          rw (same, none, entries, back) (grind (arith, nat_tests))
       | inr other ↦
-        let back : name_eq n e.0 ≡ false = grind (arith, nat_tests) in
-        rw (other, back) (grind (arith, nat_tests))
+          let back : name_eq n e.0 ≡ false = grind (arith, nat_tests) in
+          rw (other, back) (grind (arith, nat_tests))
     ])
 
 pub name_is_new : (from to : ContextData) → AreEntries to.entries → (i : ℕ) (e : NameData × ℕ) → slice_get to.entries i ≡ Some e → (y : Member) → is_group_between e.0 (entry_of from e.0) e.1 y ≡ true → is_missing from (first_names to i) y ≡ false

@@ -20,9 +20,10 @@ IsSortedFrom low (p ∷ ps) = (low ≤ p) × IsSortedFrom p ps
 sorted_from : (low : ℕ) (ps : List ℕ) → IsNonDecreasingBy (λ x. x) ps → ((d : ℕ) → 0 < length ps → low ≤ get_or ps 0 d) → IsSortedFrom low ps
 unfolding IsSortedFrom
 sorted_from low [] up least = tt
-sorted_from low (p ∷ ps) up least =
-    (least p (omega (arith)),
-        sorted_from p ps (λ i j d le within. up (suc i) (suc j) d (omega arith) (omega arith)) (λ d some. up 0 1 d (omega arith) (omega arith)))
+sorted_from low (p ∷ ps) up least = (
+  least p (omega (arith)),
+  sorted_from p ps (λ i j d le within. up (suc i) (suc j) d (omega arith) (omega arith)) (λ d some. up 0 1 d (omega arith) (omega arith)),
+)
 
 weaker : (low k : ℕ) (ps : List ℕ) → low ≤ k → IsSortedFrom k ps → IsSortedFrom low ps
 unfolding IsSortedFrom
@@ -45,17 +46,17 @@ same_sorted a b (p ∷ ps) [] up up' same = let at = same p in absurd (grind (ar
 same_sorted a b (p ∷ ps) (q ∷ qs) up up' same =
     elim (cases_order p q) [
       | inl is ↦
-        let bits : (z : ℕ) → ◌≡◌ {A = ℕ} (if p == z then 1 else 0) (if q == z then 1 else 0) = λ z. ap (λ (x : ℕ). if x == z then 1 else 0) is in
-        let tails : (z : ℕ) → times z ps ≡ times z qs = λ z. omega (arith, same z, bits z) in
-        ap (λ x. x ∷ ps) is ∙ ap (λ xs. q ∷ xs) (same_sorted p q ps qs up.1 up'.1 tails)
+          let bits : (z : ℕ) → ◌≡◌ {A = ℕ} (if p == z then 1 else 0) (if q == z then 1 else 0) = λ z. ap (λ (x : ℕ). if x == z then 1 else 0) is in
+          let tails : (z : ℕ) → times z ps ≡ times z qs = λ z. omega (arith, same z, bits z) in
+          ap (λ x. x ∷ ps) is ∙ ap (λ xs. q ∷ xs) (same_sorted p q ps qs up.1 up'.1 tails)
       | inr (inl less) ↦
-        let none = times_below p q qs less up'.1 in
-        let at = same p in
-        absurd (grind (arith, nat_tests, at, none))
+          let none = times_below p q qs less up'.1 in
+          let at = same p in
+          absurd (grind (arith, nat_tests, at, none))
       | inr (inr more) ↦
-        let none = times_below q p ps more up.1 in
-        let at = same q in
-        absurd (grind (arith, nat_tests, at, none))
+          let none = times_below q p ps more up.1 in
+          let at = same q in
+          absurd (grind (arith, nat_tests, at, none))
     ]
 
 -- the places of the members that pass, counted from k
@@ -106,8 +107,8 @@ places_members t b (m ∷ ms) =
     let moved : (b ++ m ∷ []) ++ ms ≡ b ++ m ∷ ms = append_assoc b (m ∷ []) ms in
     let longer : length (b ++ m ∷ []) ≡ suc (length b) = simp length-append (omega arith) in
     let rest : members_at (b ++ m ∷ ms) (places_from t (suc (length b)) ms) ≡ filter t ms =
-        subst (λ (n : ℕ). members_at (b ++ m ∷ ms) (places_from t n ms) ≡ filter t ms) longer
-            (subst (λ (all : List Member). members_at all (places_from t (length (b ++ m ∷ [])) ms) ≡ filter t ms) moved (places_members t (b ++ m ∷ []) ms)) in
+    subst (λ (n : ℕ). members_at (b ++ m ∷ ms) (places_from t n ms) ≡ filter t ms) longer
+    (subst (λ (all : List Member). members_at all (places_from t (length (b ++ m ∷ [])) ms) ≡ filter t ms) moved (places_members t (b ++ m ∷ []) ms)) in
     elim (cases_Bool (t m)) [
       | inl passes ↦ rw passes (at_one (b ++ m ∷ ms) (length b) (places_from t (suc (length b)) ms) m (nth_behind b m ms) ∙ ap (λ xs. m ∷ xs) rest)
       | inr fails ↦ rw fails rest

@@ -19,9 +19,9 @@ pub put_is_insert : {A : Type 0} (less : A → A → Bool) (x : A) (ys : List A)
 unfolding put_by
 put_is_insert less x [] = refl
 put_is_insert less x (y ∷ ys) = elim (cases_Bool (less x y)) [
-    | inl e ↦ rw e refl
-    | inr e ↦ rw e (ap (λ zs. y ∷ zs) (put_is_insert less x ys))
-  ]
+  | inl e ↦ rw e refl
+  | inr e ↦ rw e (ap (λ zs. y ∷ zs) (put_is_insert less x ys))
+]
 
 pub map_insert : {A B : Type 0} (f : A → B) (k : ℕ) (ys : List A) (x : A) → map f (take k ys ++ x ∷ drop k ys) ≡ take k (map f ys) ++ f x ∷ drop k (map f ys)
 map_insert f zero ys x = refl

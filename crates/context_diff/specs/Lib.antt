@@ -1,3 +1,4 @@
+pub mod Ops
 pub mod GapEnds
 pub mod Kept
 pub mod Places

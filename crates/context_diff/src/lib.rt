@@ -5,5 +5,7 @@
 #![tactic(auto)]
 
 mod laws;
+mod op;
 
 pub use laws::{difference_is_ready, last_may_be_taken_out, two_may_be_taken_out};
+pub use op::{Op, OpFault};

@@ -1,0 +1,10 @@
+use Rattle.std.proofs.Common.{◌≡◌, ℕ, ◌<◌, true}
+use Rattle.std.specs.Prelude.{Some, slice_get}
+use Rattle.op_name.specs.NameData.{NameData}
+use Rattle.op_name.specs.declared.member.Member.TheVariants.{Original}
+use Rattle.op_name.specs.Contexts.{has}
+use Rattle.context_diff.proofs.op.keeps_stray.Given as goal
+
+-- the originals of the entries so far are there
+abbrev pub invariant-loop-i : goal.invariant-loop-i
+invariant-loop-i l = (j : ℕ) (e : NameData × ℕ) → j < l.i → slice_get l.context.set.entries j ≡ Some e → has l.context.set (Original e.0) ≡ true

@@ -1,0 +1,21 @@
+-- Operations as the code has them: what contracts see of one, and the rules that it may break.
+use Rattle.std.specs.Prelude.{ℕ}
+use Rattle.op_name.specs.Operations.{OpData, inserting, deleting, undoing, context_of, IsInRange, KeepsOwn, KeepsTarget}
+use Rattle.op_name.specs.Contexts.{KeepsStray}
+use Rattle.context_diff.specs.declared.op.Op.{Op}
+use Rattle.context_diff.specs.declared.op.Op.TheVariants.{Insert, Delete, Undo}
+use Rattle.context_diff.specs.declared.op.OpFault.{OpFault}
+use Rattle.context_diff.specs.declared.op.OpFault.TheVariants.{Range, Own, Target, Stray}
+
+-- the operation without the room that its context has
+abbrev pub data_of : Op → OpData
+data_of (Insert name place ch context) = inserting name place ch context.set
+data_of (Delete name place context) = deleting name place context.set
+data_of (Undo author target generation context) = undoing author target generation context.set
+
+-- the operation keeps the rules before this one, and breaks it
+abbrev pub IsFirstBroken : OpData → OpFault → Type 0
+IsFirstBroken o Range = ¬ IsInRange o
+IsFirstBroken o Own = IsInRange o × (¬ KeepsOwn o)
+IsFirstBroken o Target = IsInRange o × KeepsOwn o × (¬ KeepsTarget o)
+IsFirstBroken o Stray = IsInRange o × KeepsOwn o × KeepsTarget o × (¬ KeepsStray (context_of o))

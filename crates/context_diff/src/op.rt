@@ -1,0 +1,235 @@
+//! Operations: inserts, deletes and undos, each with the context that it was made in.
+
+ghost use Rattle.std.specs.Prelude.{◌≡◌, ◌↔◌, ◌≤◌, IsNone, IsTrue, IfOk, IfSome, length};
+ghost use Rattle.op_name.specs.Members.{IsMember};
+ghost use Rattle.op_name.specs.Contexts.{IsContext, KeepsStray};
+ghost use Rattle.op_name.specs.Operations.{member_of, context_of, is_insert, IsWellFormed, IsInRange, KeepsOwn, KeepsTarget};
+ghost use Rattle.context_diff.specs.Ops.{data_of, IsFirstBroken};
+
+use context_vector::Vector;
+use op_name::{Member, Memory, Name, SITES};
+
+/// The greatest place that an operation names: a place counts cells of the text.
+pub const PLACES: u32 = 64_000_000;
+
+/// The greatest number of undo entries that the context of an operation has.
+pub const UNDO_ENTRIES: u32 = 16_384;
+
+/// An operation of a session: what one site did to the text, or an undo or a redo of that.
+///
+/// A place counts the cells, from 0, that the inserts of the context put (TTF 2006: deleted cells count,
+/// since cells never go). Two operations are equal where all their parts are, and contexts as sets.
+#[derive(Drop)]
+pub enum Op {
+    /// Puts a character before the cell at `place`, or behind the last one.
+    Insert {
+        name: Name,
+        place: u32,
+        ch: char,
+        context: Vector,
+    },
+    /// Hides the cell at `place`.
+    Delete {
+        name: Name,
+        place: u32,
+        context: Vector,
+    },
+    /// Undoes `target` (an odd generation) or redoes it (an even one). The author is a site, below `SITES`.
+    Undo {
+        author: u16,
+        target: Name,
+        generation: u16,
+        context: Vector,
+    },
+}
+
+/// The first rule that an operation breaks by itself, whatever the history.
+#[derive(Clone, Copy, Debug, PartialEq, Eq, Drop)]
+pub enum OpFault {
+    /// A part is out of its range.
+    Range,
+    /// An original doesn't know all earlier originals of its site, or knows others of it.
+    Own,
+    /// An undo doesn't know its target, or not at the generation before its own.
+    Target,
+    /// The context has an undo entry of an original that it hasn't.
+    Stray,
+}
+
+impl Op {
+    /// The member that the operation is: all undos of one original at one generation are one member.
+    pub fn member(&self) -> Member
+        requires { IsMember (member_of (data_of self.now)) }
+        ensures member { result ≡ member_of (data_of self.now) }
+        ensures range { IsMember result }
+    {
+        match self {
+            Op::Insert { name, .. } | Op::Delete { name, .. } => Member::Original(*name),
+            Op::Undo {
+                target,
+                generation,
+                ..
+            } => Member::Group(*target, *generation),
+        }
+    }
+
+    /// The members that the operation was made after.
+    pub fn context(&self) -> &Vector
+        ensures { result.now.set ≡ context_of (data_of self.now) }
+    {
+        match self {
+            Op::Insert { context, .. } | Op::Delete { context, .. } | Op::Undo { context, .. } =>
+                context,
+        }
+    }
+
+    /// Whether the operation is an insert.
+    pub fn is_insert(&self) -> bool
+        ensures { result ≡ is_insert (data_of self.now) }
+    {
+        matches!(self, Op::Insert { .. })
+    }
+
+    /// The same operation once more.
+    pub fn try_clone(&self) -> Result<Op, Memory>
+        ensures { IfOk result (λ o. data_of o ≡ data_of self.now) }
+    {
+        let context = self.context().try_clone()?;
+        Ok(match self {
+            Op::Insert {
+                name,
+                place,
+                ch,
+                ..
+            } => Op::Insert {
+                name: *name,
+                place: *place,
+                ch: *ch,
+                context,
+            },
+            Op::Delete { name, place, .. } => Op::Delete {
+                name: *name,
+                place: *place,
+                context,
+            },
+            Op::Undo {
+                author,
+                target,
+                generation,
+                ..
+            } => Op::Undo {
+                author: *author,
+                target: *target,
+                generation: *generation,
+                context,
+            },
+        })
+    }
+
+    /// The first rule that the operation breaks; None exactly where it is well formed.
+    pub fn fault(&self) -> Option<OpFault>
+        ensures none { IsNone result ↔ IsWellFormed (data_of self.now) }
+        ensures cause { IfSome result (IsFirstBroken (data_of self.now)) }
+    {
+        if !self.is_in_range() {
+            Some(OpFault::Range)
+        } else if !self.keeps_own() {
+            Some(OpFault::Own)
+        } else if !self.keeps_target() {
+            Some(OpFault::Target)
+        } else if !keeps_stray(self.context()) {
+            Some(OpFault::Stray)
+        } else {
+            None
+        }
+    }
+
+    // Whether each part is in its range.
+    fn is_in_range(&self) -> bool
+        ensures { IsTrue result ↔ IsInRange (data_of self.now) }
+    {
+        match self {
+            Op::Insert {
+                name,
+                place,
+                ch,
+                context,
+            } => {
+                let _scalar = *ch;
+                name.known();
+                *place <= PLACES && is_short(context)
+            }
+            Op::Delete {
+                name,
+                place,
+                context,
+            } => {
+                name.known();
+                *place <= PLACES && is_short(context)
+            }
+            Op::Undo {
+                author,
+                target,
+                generation,
+                context,
+            } => {
+                target.known();
+                *author < SITES && 1 <= *generation && is_short(context)
+            }
+        }
+    }
+
+    // Whether an original knows all earlier originals of its site and no others of it.
+    fn keeps_own(&self) -> bool
+        ensures { IsTrue result ↔ KeepsOwn (data_of self.now) }
+    {
+        match self {
+            Op::Insert { name, context, .. } | Op::Delete { name, context, .. } => {
+                context.count(name.site) + 1 == name.number
+            }
+            Op::Undo { .. } => true,
+        }
+    }
+
+    // Whether an undo knows its target, at the generation before its own.
+    fn keeps_target(&self) -> bool
+        ensures { IsTrue result ↔ KeepsTarget (data_of self.now) }
+    {
+        match self {
+            Op::Insert { .. } | Op::Delete { .. } => true,
+            Op::Undo {
+                target,
+                generation,
+                context,
+                ..
+            } => {
+                let known = context.contains(&Member::Original(*target));
+                known && u32::from(context.entry(target)) + 1 == u32::from(*generation)
+            }
+        }
+    }
+}
+
+// Whether the context has no more undo entries than an operation may carry.
+fn is_short(context: &Vector) -> bool
+    ensures short { IsTrue result ↔ (length context.now.set.entries ≤ 16384) }
+    ensures form { IsContext context.now.set }
+{
+    context.known();
+    context.entries() <= UNDO_ENTRIES
+}
+
+// Whether the context has the original of each of its undo entries.
+fn keeps_stray(context: &Vector) -> bool
+    ensures { IsTrue result ↔ KeepsStray context.now.set }
+{
+    context.known();
+    for i in 0..context.entries() {
+        if let Some(entry) = context.entry_at(i) {
+            if !context.contains(&Member::Original(entry.0)) {
+                return false;
+            }
+        }
+    }
+    true
+}
