@@ -18,3 +18,6 @@ pub mod PlaceSteps
 pub mod Covering
 pub mod GapEnds
 pub mod Replaying
+pub mod Derived
+pub mod Members
+pub mod Books

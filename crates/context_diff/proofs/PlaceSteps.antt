@@ -45,7 +45,7 @@ places_nothing ms t none p = ap (λ b. if b then 1 else 0) (sym (fails ms p))
     fails (m ∷ ms) (suc p) = fails ms p
 
 -- what stands in a history is known
-known_at : (h : List OpData) (p : ℕ) (m : Member) → slice_get (members_in h) p ≡ Some m → is_known h m ≡ true
+pub known_at : (h : List OpData) (p : ℕ) (m : Member) → slice_get (members_in h) p ≡ Some m → is_known h m ≡ true
 known_at [] p m at = let none : None ≡ Some m = at in cc
 known_at (o ∷ os) zero m at = let is : member_of o ≡ m = cc in ap (λ b. b || is_known os m) (ap (member_eq (member_of o)) (sym is) ∙ member_itself (member_of o))
 known_at (o ∷ os) (suc p) m at = or_right (member_eq (member_of o) m) (is_known os m) (known_at os p m at)

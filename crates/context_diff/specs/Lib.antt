@@ -1,3 +1,4 @@
+pub mod Books
 pub mod Ops
 pub mod GapEnds
 pub mod Kept

@@ -4,8 +4,14 @@
 //! of which might come next after those before it.
 #![tactic(auto)]
 
+mod book;
+mod contexts;
+mod difference;
 mod laws;
 mod op;
 
+pub use book::Book;
+pub use contexts::{base_context, closed};
+pub use difference::difference;
 pub use laws::{difference_is_ready, last_may_be_taken_out, two_may_be_taken_out};
 pub use op::{Op, OpFault};

@@ -1,0 +1,51 @@
+-- The members of a valid history are a context.
+use Rattle.std.proofs.Common.{◌≡◌, ℕ, ◌≤◌, ◌+◌, Bool, true, false, ◌⊎◌, inl, inr, List, [], ◌∷◌, ◌++◌, refl, ap, sym, subst, ◌∙◌, arith, not}
+use Rattle.std.specs.Prelude.{◌&&◌, ◌||◌}
+use Rattle.std.proofs.lemmas.Bool.{cases_Bool, false≢true}
+use Rattle.op_name.specs.NameData.{NameData, IsName}
+use Rattle.op_name.specs.declared.member.Member.{Member}
+use Rattle.op_name.specs.declared.member.Member.TheVariants.{Original, Group}
+use Rattle.op_name.specs.Members.{member_eq, IsMember, target_of}
+use Rattle.op_name.specs.Contexts.{ContextData, IsContext, raised, has, empty}
+use Rattle.op_name.specs.Operations.{OpData, inserting, deleting, undoing, member_of, IsWellFormed}
+use Rattle.op_name.specs.Histories.{is_known, context_of_all, IsNext, IsValid}
+use Rattle.context_vector.proofs.Members.{raised_is_context}
+use Rattle.context_vector.proofs.Sets.{same_context}
+use Rattle.context_diff.proofs.Names.{member_same, member_itself}
+use Rattle.context_diff.proofs.Contexts.{has_raised}
+use Rattle.context_diff.proofs.Valid.{by_pushes}
+use Rattle.context_diff.proofs.Complete.{complete, next_member, context_push}
+
+-- the member of a well formed operation is in its range
+pub formed_member : (o : OpData) → IsWellFormed o → IsMember (member_of o)
+formed_member (inserting n p ch c) f = tt
+formed_member (deleting n p c) f = tt
+formed_member (undoing a t g c) f = f.in_range.2
+
+raised_by : (c : ContextData) (o : OpData) → IsContext c → IsWellFormed o → IsContext (raised c (member_of o))
+raised_by c (inserting n p ch d) is f = raised_is_context c (Original n) is f.in_range.0 tt f.in_range.0.2
+raised_by c (deleting n p d) is f = raised_is_context c (Original n) is f.in_range.0 tt f.in_range.0.2
+raised_by c (undoing a t g d) is f = raised_is_context c (Group t g) is f.in_range.1 f.in_range.2 f.in_range.3
+
+pub all_is_context : (h : List OpData) → IsValid h → IsContext (context_of_all h)
+all_is_context h v =
+    by_pushes (λ k. IsContext (context_of_all k)) (record { counts = tt; entries = tt }) (λ k o valid was next.
+        subst IsContext (sym (context_push k o)) (raised_by (context_of_all k) o was next.formed)) h v
+
+-- a context that was raised by a next operation and then lacks its member again is the context before
+pub lowered_back : (h : List OpData) (o : OpData) (c d : ContextData) (m : Member) → IsValid h → IsNext h o → m ≡ member_of o → c ≡ raised (context_of_all h) (member_of o) → IsContext d → ((y : Member) → has d y ≡ (has c y && not (member_eq m y))) → d ≡ context_of_all h
+lowered_back h o c d m v next is was form members =
+    let a = context_of_all h in
+    let w = complete h v in
+    let raised_has = has_raised a (member_of o) (next_member h a o w.holds next) in
+    same_context d a form (all_is_context h v) (λ y.
+        members y ∙ ((λ i. has (was i) y && not (member_eq (is i) y)) ∙ ((ap (λ b. b && not (member_eq (member_of o) y)) (raised_has y)) ∙ back y)))
+  where
+    apart : (a b : Bool) → (b ≡ true → a ≡ false) → ((a || b) && not b) ≡ a
+    apart true true f = sym (f refl)
+    apart true false f = refl
+    apart false true f = refl
+    apart false false f = refl
+    back : (y : Member) → ((has (context_of_all h) y || member_eq (member_of o) y) && not (member_eq (member_of o) y)) ≡ has (context_of_all h) y
+    back y = apart (has (context_of_all h) y) (member_eq (member_of o) y) (λ e.
+        (complete h v).holds y ∙ (ap (is_known h) (sym (member_same (member_of o) y e)) ∙ next.new))

@@ -1,0 +1,24 @@
+use Rattle.std.proofs.Common.{◌≡◌, ◌↔◌, ℕ, zero, suc, ◌+◌, ◌-◌, ◌<◌, ◌≤◌, Bool, true, false, ◌⊎◌, inl, inr, List, [], ◌∷◌, ◌++◌, refl, ap, sym, subst, ◌∙◌, arith, length, take, IsTrue, IsNone, IfSome, OnOk, Bor}
+use Rattle.std.specs.Prelude.{Contains, Option, Some, None, slice_get, option_map, option_copied}
+use Rattle.op_name.specs.declared.member.Member.{Member}
+use Rattle.op_name.specs.declared.member.Member.TheVariants.{Original, Group}
+use Rattle.op_name.specs.Members.{member_eq, IsMember}
+use Rattle.op_name.specs.Operations.{OpData, member_of}
+use Rattle.op_name.specs.Histories.{is_known, members_in, context_of_all}
+use Rattle.context_diff.specs.Ops.{data_of}
+use Rattle.context_diff.specs.Books.{BookData, HasRoom, kept_op, kept_inserts}
+use Rattle.context_diff.specs.Kept.{ops_in, AreKept, IsBook, inserts_up_to}
+use Rattle.context_diff.proofs.Kept.{ops_length, kept_at}
+use Rattle.op_name.specs.NameData.{NameData}
+use Rattle.context_diff.proofs.Inserts.{inserts_of_at_most}
+use Rattle.context_diff.proofs.Books.{inserts_of_name}
+use Rattle.context_diff.proofs.book.Book.inserts_before.Goals as goal
+
+pub returns-then-name-gt1-clause-bound : goal.returns-then-name-gt1-clause-bound
+returns-then-name-gt1-clause-bound c =
+    omega (arith, c.inserts_up_to.ensures, inserts_of_at_most c.args.self.now.ops c.name.inside.site (c.name.inside.number - 1))
+
+pub returns-else-name-gt1-clause-count : goal.returns-else-name-gt1-clause-count
+returns-else-name-gt1-clause-count c =
+    let number : c.name.inside.number ≡ c.args.name.now.number = ap (λ (n : NameData). n.number) c.name.view_is in
+    inserts_of_name c.args.self.now.ops c.args.name.now c.known.ensures.valid (omega arith)

@@ -1,0 +1,28 @@
+use Rattle.std.proofs.Common.{◌≡◌, ◌↔◌, ℕ, zero, suc, ◌+◌, ◌<◌, ◌≤◌, Bool, true, false, ◌⊎◌, inl, inr, List, [], ◌∷◌, ◌++◌, refl, ap, sym, subst, ◌∙◌, arith, length, take, IsTrue, IsNone, IfSome, OnOk, Bor}
+use Rattle.std.specs.Prelude.{Contains, Option, Some, None, slice_get, option_map, option_copied}
+use Rattle.op_name.specs.declared.member.Member.{Member}
+use Rattle.op_name.specs.declared.member.Member.TheVariants.{Original, Group}
+use Rattle.op_name.specs.Members.{member_eq, IsMember}
+use Rattle.op_name.specs.Operations.{OpData, member_of}
+use Rattle.op_name.specs.Histories.{is_known, members_in, context_of_all}
+use Rattle.context_diff.specs.Ops.{data_of}
+use Rattle.context_diff.specs.Books.{BookData, HasRoom, kept_op, kept_inserts}
+use Rattle.context_diff.specs.Kept.{ops_in, AreKept, IsBook, inserts_up_to}
+use Rattle.context_diff.proofs.Kept.{ops_length, kept_at}
+use Rattle.std.specs.Result.{OnOk}
+use Rattle.std.specs.Prelude.{Result, Ok, Err}
+use Rattle.op_name.specs.declared.memory.Memory.{Memory}
+use Rattle.context_vector.specs.Vectors.{VectorData, HasRoomFor}
+use Rattle.context_diff.proofs.book.Book.reserve.Goals as goal
+
+-- what the last call made room for is the last part of the room
+roomy : (b : BookData) (o : OpData) (m : Member) (r : Result (Unit {0}) Memory) → 0 < b.spare → length b.ops + 1 < 4294967296 → m ≡ member_of o → OnOk r (HasRoomFor b.have m) → OnOk r (HasRoom b o)
+roomy b o m (Ok u) place short is room = record { place = place; member = subst (λ (x : Member). HasRoomFor b.have x) is room; short = short }
+roomy b o m (Err e) place short is room = tt
+
+pub returns-clause-room : goal.returns-clause-room
+returns-clause-room c =
+    let es = c.reserve.new.self.entries in
+    let size : length (ops_in kept_op es) ≡ length es = ops_length kept_op kept_inserts es in
+    let same : length es ≡ length c.self.inside.kept.entries = ap length c.reserve.ensures.entries in
+    roomy _ (data_of c.args.op.now) c.member.result c.reserve-2.result (c.in_ok-reserve.ensures).ok (omega (arith, c.len.ensures.len)) c.member.ensures.member c.reserve-2.ensures.room

@@ -1,0 +1,9 @@
+use Rattle.std.proofs.Common.{◌≡◌, ℕ, ◌<◌}
+use Rattle.std.specs.Prelude.{Some, slice_get}
+use Rattle.op_name.specs.Contexts.{Within}
+use Rattle.context_diff.specs.Bases.{original_context}
+use Rattle.context_diff.proofs.contexts.closed.Given as goal
+
+-- the sites so far are covered
+abbrev pub invariant-loop-i : goal.invariant-loop-i
+invariant-loop-i l = (j : ℕ) (p : ℕ × ℕ) → j < l.i → slice_get l.v.set.counts j ≡ Some p → Within (original_context l.book.ops (record { site = p.0; number = p.1 })) l.v.set

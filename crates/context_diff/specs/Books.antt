@@ -1,0 +1,31 @@
+-- Books as contracts see them: a valid history beside its members and the room that is left.
+use Rattle.std.specs.Prelude.{◌≡◌, ℕ, ◌+◌, ◌<◌, ◌≤◌, Bool, List, length}
+use Rattle.op_name.specs.Operations.{OpData, member_of}
+use Rattle.op_name.specs.Contexts.{ContextData}
+use Rattle.op_name.specs.Histories.{CoversSite}
+use Rattle.context_vector.specs.Vectors.{VectorData, HasRoomFor}
+use Rattle.context_diff.specs.Ops.{data_of}
+use Rattle.context_diff.specs.declared.book.Kept.{Kept}
+
+pub record BookData : Type 0 where
+  pub ops : List OpData
+  pub have : VectorData
+  pub spare : ℕ
+
+-- the operation can be appended without memory
+pub record HasRoom (b : BookData) (o : OpData) : Type 0 where
+  pub place : 0 < b.spare
+  pub member : HasRoomFor b.have (member_of o)
+  pub short : length b.ops + 1 < 4294967296
+
+-- the operation that is kept, and the count beside it
+abbrev pub kept_op : Kept → OpData
+kept_op k = data_of k.op
+
+abbrev pub kept_inserts : Kept → ℕ
+kept_inserts k = k.inserts
+
+-- the least site whose last named original knows something that the context hasn't
+pub record IsFirstOpenSite (h : List OpData) (v : ContextData) (s : ℕ) : Type 0 where
+  pub open_site : ¬ CoversSite h v s
+  pub first : (r : ℕ) → r < s → CoversSite h v r

@@ -1,0 +1,80 @@
+//! What contexts are within a book: closed or not, the base contexts of members, and differences.
+
+ghost use Rattle.std.specs.Prelude.{◌≡◌, ◌↔◌, ◌++◌, true, false, IsNone, IsTrue, OnOk, OnErr, IfOk, IfSome};
+ghost use Rattle.op_name.specs.declared.member.Member.{Member};
+ghost use Rattle.op_name.specs.declared.member.Member.TheVariants.{Original};
+ghost use Rattle.op_name.specs.Contexts.{Within, has};
+ghost use Rattle.op_name.specs.Histories.{is_known, IsClosed};
+ghost use Rattle.context_diff.specs.Bases.{base_has, base_context_of, original_context};
+ghost use Rattle.context_diff.specs.Books.{IsFirstOpenSite};
+ghost use Rattle.context_diff.specs.Differences.{difference_of};
+
+use context_vector::Vector;
+use op_name::{Member, Memory, Name};
+
+use crate::book::Book;
+
+/// The first site of which `v` names a last original that was made after something that `v` hasn't; None
+/// exactly where `v` is closed. The book has the members of `v`.
+pub fn closed(book: &Book, v: &Vector) -> Option<u16>
+    requires { Within v.now.set book.now.have.set }
+    ensures none { IsNone result ↔ IsClosed book.now.ops v.now.set }
+    ensures first { IfSome result (IsFirstOpenSite book.now.ops v.now.set) }
+{
+    v.known();
+    book.known();
+    for i in 0..v.sites() {
+        if let Some(counted) = v.site_at(i) {
+            if !covers_context(book, v, &Name { site: counted.0, number: counted.1 }) {
+                return Some(counted.0);
+            }
+        }
+    }
+    None
+}
+
+// Whether `v` has all that the original of this name was made after.
+fn covers_context(book: &Book, v: &Vector, name: &Name) -> bool
+    requires { is_known book.now.ops (Original name.now) ≡ true }
+    ensures { IsTrue result ↔ Within (original_context book.now.ops name.now) v.now.set }
+{
+    book.known();
+    match book.original(name) {
+        Some(op) => v.covers(op.context()),
+        None => unreachable!(),
+    }
+}
+
+/// The base context of a member of the book: of an original the members that it was made after; of a
+/// group the base context of its original, that original, and its groups at lower generations.
+pub fn base_context(book: &Book, m: &Member) -> Result<Vector, Memory>
+    requires { is_known book.now.ops m.now ≡ true }
+    ensures members { IfOk result (λ v. (y : Member) → has v.set y ≡ base_has book.now.ops m.now y) }
+    ensures value { IfOk result (λ v. v.set ≡ base_context_of book.now.ops m.now) }
+{
+    book.known();
+    match m {
+        Member::Original(name) => original_base(book, name),
+        Member::Group(name, generation) => {
+            let mut base = original_base(book, name)?;
+            base.raise(&Member::Original(*name))?;
+            if *generation > 1 {
+                base.raise(&Member::Group(*name, *generation - 1))?;
+            }
+            base.known();
+            Ok(base)
+        }
+    }
+}
+
+// What the original of this name was made after.
+fn original_base(book: &Book, name: &Name) -> Result<Vector, Memory>
+    requires { is_known book.now.ops (Original name.now) ≡ true }
+    ensures { IfOk result (λ v. v.set ≡ original_context book.now.ops name.now) }
+{
+    book.known();
+    match book.original(name) {
+        Some(op) => op.context().try_clone(),
+        None => unreachable!(),
+    }
+}
