@@ -12,7 +12,7 @@ use Rattle.op_name.specs.Operations.{OpData}
 use Rattle.op_name.specs.Histories.{is_known}
 use Rattle.context_diff.specs.Bases.{original_context, is_below, is_before, base_has, base_context_of}
 use Rattle.context_diff.proofs.Names.{name_same}
-use Rattle.context_diff.proofs.Contexts.{has_raised, entry_put, has_group}
+use Rattle.context_diff.proofs.Raising.{has_raised, entry_put, has_group}
 use Rattle.context_diff.proofs.Complete.{IsComplete}
 use Rattle.context_diff.proofs.Histories.{original_facts, group_facts, own_alone}
 

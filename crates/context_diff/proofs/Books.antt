@@ -21,7 +21,7 @@ use Rattle.context_diff.proofs.Inserts.{inserts_of_new, inserts_by_site, inserts
 use Rattle.context_diff.specs.declared.book.Kept.{Kept}
 use Rattle.context_vector.specs.Vectors.{IsLastMember}
 use Rattle.context_diff.proofs.Names.{member_same, member_itself, name_itself}
-use Rattle.context_diff.proofs.Contexts.{count_put, entry_put, has_original}
+use Rattle.context_diff.proofs.Raising.{count_put, entry_put, has_original}
 use Rattle.std.proofs.lemmas.Bool.{eq-eqb}
 use Rattle.context_diff.proofs.Known.{known_member}
 use Rattle.context_diff.proofs.Derived.{derived_eq}
@@ -60,9 +60,9 @@ key_found test [] k found = let none : None ≡ Some k = found in cc
 key_found test (e ∷ es) k found =
     elim (cases_Bool (test e.0)) [
       | inl passes ↦
-        let here : Some e.0 ≡ Some k = rw passes at found in
-        let is : e.0 ≡ k = cc in
-        ap test (sym is) ∙ passes
+          let here : Some e.0 ≡ Some k = rw passes at found in
+          let is : e.0 ≡ k = cc in
+          ap test (sym is) ∙ passes
       | inr fails ↦ key_found test es k (rw fails at found)
     ]
 
@@ -97,7 +97,7 @@ place_read es have book m r e key at some =
 pub place_missing : (es : List (Member × Kept)) (have : ContextData) → IsBook kept_op kept_inserts es have → (m : Member) (r : Option (ℕ × Bor Member × Bor Kept)) → option_map (λ p. p.1.now) r ≡ lookup_key (eq-value.it m) es → r ≡ None → is_known (ops_in kept_op es) m ≡ false
 place_missing es have book m r key none =
     found_none kept_op kept_inserts (ops_in kept_op es) es book.kept m (eq-value.it m) (derived_eq m)
-        (key_none (eq-value.it m) es (sym key ∙ ap (option_map (λ (p : ℕ × Bor Member × Bor Kept). p.1.now)) none))
+    (key_none (eq-value.it m) es (sym key ∙ ap (option_map (λ (p : ℕ × Bor Member × Bor Kept). p.1.now)) none))
 
 -- the last operation of a book
 pub pop_member : (es : List (Member × Kept)) (have : ContextData) (e : Member × Kept) → IsBook kept_op kept_inserts (es ++ e ∷ []) have → IsMember e.0

@@ -8,7 +8,7 @@ use Rattle.op_name.specs.Contexts.{ContextData, Within, AreCounts, has, count_of
 use Rattle.op_name.specs.Operations.{OpData, member_of, context_of}
 use Rattle.op_name.specs.Histories.{is_known, LacksNothing, CoversSite, IsClosed}
 use Rattle.context_diff.specs.Bases.{original_context}
-use Rattle.context_diff.proofs.Contexts.{has_original}
+use Rattle.context_diff.proofs.Raising.{has_original}
 use Rattle.context_diff.proofs.Known.{known_member, original_holder}
 use Rattle.context_diff.proofs.Complete.{IsComplete}
 use Rattle.context_diff.proofs.Histories.{original_facts, context_is, same_name}

@@ -12,7 +12,7 @@ use Rattle.context_diff.proofs.Names.{member_same, member_itself, member_apart, 
 use Rattle.context_diff.proofs.Known.{known_cases}
 use Rattle.context_diff.proofs.Valid.{valid_before}
 use Rattle.context_diff.proofs.Complete.{complete}
-use Rattle.context_diff.proofs.Closed.{set_keeps_stray}
+use Rattle.context_diff.proofs.ClosedSets.{set_keeps_stray}
 use Rattle.context_diff.proofs.Order.{base_within}
 
 pub without_parts : (c : Member → Bool) (x y : Member) → without c x y ≡ true → (c y ≡ true) × (member_eq x y ≡ false)

@@ -8,7 +8,7 @@ use Rattle.op_name.specs.Contexts.{ContextData, entry_of, entry_in, raised, IsNe
 use Rattle.op_name.specs.Operations.{OpData, inserting, deleting, undoing, member_of}
 use Rattle.op_name.specs.Histories.{context_of_all, generation_at, generation_in, IsNext, IsValid}
 use Rattle.context_diff.proofs.Names.{name_same}
-use Rattle.context_diff.proofs.Contexts.{entry_put}
+use Rattle.context_diff.proofs.Raising.{entry_put}
 use Rattle.context_diff.proofs.Valid.{by_pushes}
 use Rattle.context_diff.proofs.Complete.{complete, next_member, context_push}
 

@@ -10,7 +10,7 @@ use Rattle.op_name.specs.Contexts.{ContextData, Within, IsContext, KeepsStray, h
 use Rattle.op_name.specs.Operations.{OpData, inserting, deleting, undoing, member_of, context_of, is_original, IsWellFormed}
 use Rattle.op_name.specs.Histories.{is_known, context_of_all, LacksNothing, IsClosed}
 use Rattle.context_diff.specs.Bases.{original_context}
-use Rattle.context_diff.proofs.Contexts.{has_original, has_number, has_group, has_generation}
+use Rattle.context_diff.proofs.Raising.{has_original, has_number, has_group, has_generation}
 use Rattle.context_diff.proofs.Known.{holder, original_holder}
 use Rattle.context_diff.proofs.Complete.{IsComplete}
 

@@ -13,7 +13,7 @@ use Rattle.context_diff.specs.Counting.{is_insert_of, inserts_of, inserts_listed
 use Rattle.context_diff.specs.Kept.{inserts_up_to}
 use Rattle.context_diff.proofs.Known.{contains_here, contains_later, known_member}
 use Rattle.context_diff.proofs.Names.{member_itself}
-use Rattle.context_diff.proofs.Contexts.{has_number, has_original}
+use Rattle.context_diff.proofs.Raising.{has_number, has_original}
 use Rattle.context_diff.proofs.Complete.{IsComplete, next_member}
 use Rattle.context_diff.proofs.Histories.{same_name}
 

@@ -1,10 +1,10 @@
 pub mod Names
 pub mod Known
-pub mod Contexts
+pub mod Raising
 pub mod Valid
 pub mod Complete
 pub mod Histories
-pub mod Closed
+pub mod ClosedSets
 pub mod Order
 pub mod Generations
 pub mod Differences
@@ -20,4 +20,5 @@ pub mod GapEnds
 pub mod Replaying
 pub mod Derived
 pub mod Members
+pub mod BaseSteps
 pub mod Books

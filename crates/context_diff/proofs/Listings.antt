@@ -9,7 +9,7 @@ use Rattle.op_name.specs.declared.member.Member.TheVariants.{Original, Group}
 use Rattle.op_name.specs.Contexts.{ContextData, AreCounts, AreEntries, IsBefore, count_in, entry_in, KeepsStray, has}
 use Rattle.op_name.proofs.Orders.{name_order}
 use Rattle.context_diff.proofs.Names.{name_same, name_itself}
-use Rattle.context_diff.proofs.Contexts.{has_generation, has_group}
+use Rattle.context_diff.proofs.Raising.{has_generation, has_group}
 
 -- what stands at a place of the counts
 pub record IsCountAt (low : ℕ) (ps : List (ℕ × ℕ)) (p : ℕ × ℕ) : Type 0 where

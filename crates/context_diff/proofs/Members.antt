@@ -12,7 +12,7 @@ use Rattle.op_name.specs.Histories.{is_known, context_of_all, IsNext, IsValid}
 use Rattle.context_vector.proofs.Members.{raised_is_context}
 use Rattle.context_vector.proofs.Sets.{same_context}
 use Rattle.context_diff.proofs.Names.{member_same, member_itself}
-use Rattle.context_diff.proofs.Contexts.{has_raised}
+use Rattle.context_diff.proofs.Raising.{has_raised}
 use Rattle.context_diff.proofs.Valid.{by_pushes}
 use Rattle.context_diff.proofs.Complete.{complete, next_member, context_push}
 
@@ -30,7 +30,7 @@ raised_by c (undoing a t g d) is f = raised_is_context c (Group t g) is f.in_ran
 pub all_is_context : (h : List OpData) → IsValid h → IsContext (context_of_all h)
 all_is_context h v =
     by_pushes (λ k. IsContext (context_of_all k)) (record { counts = tt; entries = tt }) (λ k o valid was next.
-        subst IsContext (sym (context_push k o)) (raised_by (context_of_all k) o was next.formed)) h v
+    subst IsContext (sym (context_push k o)) (raised_by (context_of_all k) o was next.formed)) h v
 
 -- a context that was raised by a next operation and then lacks its member again is the context before
 pub lowered_back : (h : List OpData) (o : OpData) (c d : ContextData) (m : Member) → IsValid h → IsNext h o → m ≡ member_of o → c ≡ raised (context_of_all h) (member_of o) → IsContext d → ((y : Member) → has d y ≡ (has c y && not (member_eq m y))) → d ≡ context_of_all h
@@ -39,13 +39,14 @@ lowered_back h o c d m v next is was form members =
     let w = complete h v in
     let raised_has = has_raised a (member_of o) (next_member h a o w.holds next) in
     same_context d a form (all_is_context h v) (λ y.
-        members y ∙ ((λ i. has (was i) y && not (member_eq (is i) y)) ∙ ((ap (λ b. b && not (member_eq (member_of o) y)) (raised_has y)) ∙ back y)))
+    members y ∙ ((λ i. has (was i) y && not (member_eq (is i) y)) ∙ ((ap (λ b. b && not (member_eq (member_of o) y)) (raised_has y)) ∙ back y)))
   where
     apart : (a b : Bool) → (b ≡ true → a ≡ false) → ((a || b) && not b) ≡ a
     apart true true f = sym (f refl)
     apart true false f = refl
     apart false true f = refl
     apart false false f = refl
+
     back : (y : Member) → ((has (context_of_all h) y || member_eq (member_of o) y) && not (member_eq (member_of o) y)) ≡ has (context_of_all h) y
     back y = apart (has (context_of_all h) y) (member_eq (member_of o) y) (λ e.
         (complete h v).holds y ∙ (ap (is_known h) (sym (member_same (member_of o) y e)) ∙ next.new))

@@ -11,12 +11,12 @@ use Rattle.op_name.specs.Operations.{OpData, inserting, deleting, undoing, membe
 use Rattle.op_name.specs.Histories.{is_known, IsNext, IsValid, IsValidAfter}
 use Rattle.context_diff.specs.Bases.{original_context, is_below, is_before, base_has}
 use Rattle.context_diff.proofs.Names.{member_same, member_itself}
-use Rattle.context_diff.proofs.Contexts.{has_group}
+use Rattle.context_diff.proofs.Raising.{has_group}
 use Rattle.context_diff.proofs.Known.{known_push, known_on, known_append, known_cases, context_on, context_behind, context_here}
 use Rattle.context_diff.proofs.Valid.{valid_before, valid_parts}
 use Rattle.context_diff.proofs.Complete.{IsComplete, complete}
 use Rattle.context_diff.proofs.Histories.{original_facts, group_facts}
-use Rattle.context_diff.proofs.Closed.{base_original, base_group, base_known, base_listed, InGroupBase}
+use Rattle.context_diff.proofs.ClosedSets.{base_original, base_group, base_known, base_listed, InGroupBase}
 
 -- a member that is there comes no second time
 pub later_new_after : (b os : List OpData) (m : Member) → is_known b m ≡ true → IsValidAfter b os → is_known os m ≡ false

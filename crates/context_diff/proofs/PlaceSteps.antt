@@ -1,5 +1,5 @@
 -- How the places of a difference are gathered: number by number, site by site, and name by name.
-use Rattle.std.proofs.Common.{◌≡◌, ℕ, zero, suc, ◌+◌, ◌<◌, ◌≤◌, Bool, true, false, ◌⊎◌, inl, inr, List, [], ◌∷◌, ◌++◌, refl, ap, sym, subst, ◌∙◌, arith, length, take, take_all, not}
+use Rattle.std.proofs.Common.{◌≡◌, ℕ, zero, suc, ◌+◌, ◌-◌, ◌<◌, ◌≤◌, Bool, true, false, ◌⊎◌, inl, inr, List, [], ◌∷◌, ◌++◌, refl, ap, sym, subst, ◌∙◌, arith, length, take, take_all, not}
 use Rattle.std.specs.Prelude.{◌==◌, ◌&&◌, ◌||◌, nat_le, nat_lt, Option, Some, None, slice_get, if◌then◌else◌}
 use Rattle.std.proofs.lemmas.Bool.Decides.{nat_tests}
 use Rattle.std.proofs.lemmas.Bool.{cases_Bool, cases_lt, false≢true, eqb-true, or_right, and_parts}
@@ -190,3 +190,76 @@ name_is_new from to are i e at (Group n g) f =
 
 pub names_all : (from to : ContextData) (i : ℕ) → length to.entries ≤ i → (y : Member) → is_missing from (first_names to i) y ≡ is_missing from to y
 names_all from to i past y = ap (λ (es : List (NameData × ℕ)). is_missing from (record { counts = to.counts; entries = es }) y) (take_all i to.entries past)
+
+and_or : (b c d e : Bool) → (c || d) ≡ e → ((b || c) || d) ≡ (b || e)
+and_or true c d e is = refl
+and_or false c d e is = is
+
+-- nothing between the bounds yet
+pub between_start : (ms : List Member) (t : Member → Bool) (s low : ℕ) (ps : List ℕ) → ArePlacesOf ms t ps → ArePlacesOf ms (λ y. t y || is_between s low (low + 0) y) ps
+between_start ms t s low ps are =
+    places_same ms t (λ y. t y || is_between s low (low + 0) y) ps (λ y. or_nothing (t y) (is_between s low (low + 0) y) (between_none s low (low + 0) (omega arith) y)) are
+  where
+    or_nothing : (b c : Bool) → c ≡ false → b ≡ (b || c)
+    or_nothing true c e = refl
+    or_nothing false c e = sym e
+
+-- one more number
+pub between_step : (h : List OpData) → IsValid h → (t : Member → Bool) (s low high step : ℕ) (ps : List ℕ) (p : ℕ) → slice_get (members_in h) p ≡ Some (Original (record { site = s; number = (low + step) + 1 })) → step < high - low
+    → ((y : Member) → is_between s low high y ≡ true → t y ≡ false)
+    → ArePlacesOf (members_in h) (λ y. t y || is_between s low (low + step) y) ps → ArePlacesOf (members_in h) (λ y. t y || is_between s low (low + (step + 1)) y) (ps ++ p ∷ [])
+between_step h v t s low high step ps p at less apart are =
+    let m = Original (record { site = s; number = (low + step) + 1 }) in
+    let inside : is_between s low high m ≡ true = grind (arith, nat_tests) in
+    let outside : is_between s low (low + step) m ≡ false = grind (arith, nat_tests) in
+    let fresh : (t m || is_between s low (low + step) m) ≡ false = (λ i. apart m inside i || outside i) in
+    let next : (low + step) + 1 ≡ suc (low + step) = omega arith in
+    let far : suc (low + step) ≡ low + (step + 1) = omega arith in
+    let same : (y : Member) → ((t y || is_between s low (low + step) y) || member_eq m y) ≡ (t y || is_between s low (low + (step + 1)) y) = λ y.
+        and_or (t y) (is_between s low (low + step) y) (member_eq m y) (is_between s low (low + (step + 1)) y)
+            (ap (λ k. is_between s low (low + step) y || member_eq (Original (record { site = s; number = k })) y) next
+                ∙ (sym (between_more s low (low + step) (omega arith) y) ∙ ap (λ k. is_between s low k y) far)) in
+    places_same (members_in h) (λ y. (t y || is_between s low (low + step) y) || member_eq m y) (λ y. t y || is_between s low (low + (step + 1)) y) (ps ++ p ∷ []) same
+        (place_more h v (λ y. t y || is_between s low (low + step) y) ps p m at fresh are)
+
+-- all numbers
+pub between_end : (ms : List Member) (t : Member → Bool) (s low high step : ℕ) (ps : List ℕ) → high - low ≤ step → step ≤ high - low → ArePlacesOf ms (λ y. t y || is_between s low (low + step) y) ps → ArePlacesOf ms (λ y. t y || is_between s low high y) ps
+between_end ms t s low high step ps most least are =
+    places_same ms (λ y. t y || is_between s low (low + step) y) (λ y. t y || is_between s low high y) ps (λ y. ap (λ b. t y || b) (same y)) are
+  where
+    same : (y : Member) → is_between s low (low + step) y ≡ is_between s low high y
+    same (Original n) = grind (arith, nat_tests)
+    same (Group x g) = refl
+
+pub groups_start : (ms : List Member) (t : Member → Bool) (n : NameData) (low : ℕ) (ps : List ℕ) → ArePlacesOf ms t ps → ArePlacesOf ms (λ y. t y || is_group_between n low (low + 0) y) ps
+groups_start ms t n low ps are =
+    places_same ms t (λ y. t y || is_group_between n low (low + 0) y) ps (λ y. or_nothing (t y) (is_group_between n low (low + 0) y) (group_between_none n low (low + 0) (omega arith) y)) are
+  where
+    or_nothing : (b c : Bool) → c ≡ false → b ≡ (b || c)
+    or_nothing true c e = refl
+    or_nothing false c e = sym e
+
+pub groups_step : (h : List OpData) → IsValid h → (t : Member → Bool) (n : NameData) (low high step : ℕ) (ps : List ℕ) (p : ℕ) → slice_get (members_in h) p ≡ Some (Group n ((low + step) + 1)) → step < high - low
+    → ((y : Member) → is_group_between n low high y ≡ true → t y ≡ false)
+    → ArePlacesOf (members_in h) (λ y. t y || is_group_between n low (low + step) y) ps → ArePlacesOf (members_in h) (λ y. t y || is_group_between n low (low + (step + 1)) y) (ps ++ p ∷ [])
+groups_step h v t n low high step ps p at less apart are =
+    let m = Group n ((low + step) + 1) in
+    let inside : is_group_between n low high m ≡ true = grind (arith, nat_tests) in
+    let outside : is_group_between n low (low + step) m ≡ false = grind (arith, nat_tests) in
+    let fresh : (t m || is_group_between n low (low + step) m) ≡ false = (λ i. apart m inside i || outside i) in
+    let next : (low + step) + 1 ≡ suc (low + step) = omega arith in
+    let far : suc (low + step) ≡ low + (step + 1) = omega arith in
+    let same : (y : Member) → ((t y || is_group_between n low (low + step) y) || member_eq m y) ≡ (t y || is_group_between n low (low + (step + 1)) y) = λ y.
+        and_or (t y) (is_group_between n low (low + step) y) (member_eq m y) (is_group_between n low (low + (step + 1)) y)
+            (ap (λ k. is_group_between n low (low + step) y || member_eq (Group n k) y) next
+                ∙ (sym (group_between_more n low (low + step) (omega arith) y) ∙ ap (λ k. is_group_between n low k y) far)) in
+    places_same (members_in h) (λ y. (t y || is_group_between n low (low + step) y) || member_eq m y) (λ y. t y || is_group_between n low (low + (step + 1)) y) (ps ++ p ∷ []) same
+        (place_more h v (λ y. t y || is_group_between n low (low + step) y) ps p m at fresh are)
+
+pub groups_end : (ms : List Member) (t : Member → Bool) (n : NameData) (low high step : ℕ) (ps : List ℕ) → high - low ≤ step → step ≤ high - low → ArePlacesOf ms (λ y. t y || is_group_between n low (low + step) y) ps → ArePlacesOf ms (λ y. t y || is_group_between n low high y) ps
+groups_end ms t n low high step ps most least are =
+    places_same ms (λ y. t y || is_group_between n low (low + step) y) (λ y. t y || is_group_between n low high y) ps (λ y. ap (λ b. t y || b) (same y)) are
+  where
+    same : (y : Member) → is_group_between n low (low + step) y ≡ is_group_between n low high y
+    same (Original x) = refl
+    same (Group x g) = grind (arith, nat_tests)

@@ -12,14 +12,12 @@ ghost use Rattle.context_diff.specs.Books.{HasRoom, kept_inserts};
 ghost use Rattle.context_diff.specs.Kept.{inserts_up_to};
 ghost use Rattle.context_diff.specs.Counting.{inserts_of};
 
-use std::alloc::Global;
-use std::marker::Model;
-
+use crate::op::Op;
 use context_vector::Vector;
 use indexmap::IndexMap;
 use op_name::{Member, Memory, Name};
-
-use crate::op::Op;
+use std::alloc::Global;
+use std::marker::Model;
 
 /// The number of operations that a book can't reach.
 const OPS: usize = 4_294_967_295;
@@ -160,7 +158,10 @@ impl Book {
         let mut total = 0;
         for i in 0..v.sites() {
             if let Some(counted) = v.site_at(i) {
-                total += self.inserts_up_to(&Name { site: counted.0, number: counted.1 });
+                total += self.inserts_up_to(&Name {
+                    site: counted.0,
+                    number: counted.1,
+                });
             }
         }
         total
@@ -218,11 +219,7 @@ impl Book {
             return 0;
         };
         let before = self.inserts_before(&name);
-        if op.is_insert() {
-            before + 1
-        } else {
-            before
-        }
+        if op.is_insert() { before + 1 } else { before }
     }
 
     // How many inserts the name's site made before the name; the book has the original before it.
@@ -234,7 +231,10 @@ impl Book {
         self.known();
         name.known();
         if name.number > 1 {
-            self.inserts_up_to(&Name { site: name.site, number: name.number - 1 })
+            self.inserts_up_to(&Name {
+                site: name.site,
+                number: name.number - 1,
+            })
         } else {
             0
         }

@@ -5,13 +5,13 @@
 #![tactic(auto)]
 
 mod book;
-mod contexts;
-mod difference;
+mod coverage;
+mod gathering;
 mod laws;
 mod op;
 
 pub use book::Book;
-pub use contexts::{base_context, closed};
-pub use difference::difference;
+pub use coverage::{base_context, closed};
+pub use gathering::difference;
 pub use laws::{difference_is_ready, last_may_be_taken_out, two_may_be_taken_out};
 pub use op::{Op, OpFault};

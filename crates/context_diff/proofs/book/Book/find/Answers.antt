@@ -24,7 +24,7 @@ moved es h m r same answer =
 abbrev answered : (c : goal.After-get) → (IsNone c.get.result ↔ (is_known c.args.self.now.ops c.args.m.now ≡ false)) × IfSome c.get.result (λ k. Contains c.args.self.now.ops (data_of k.now.op)) × IfSome c.get.result (λ k. member_of (data_of k.now.op) ≡ c.args.m.now) × IfSome c.get.result (λ k. kept_inserts k.now ≡ inserts_up_to c.args.self.now.ops c.args.m.now)
 answered c =
     moved c.self.inside.kept.entries c.args.self.now.ops c.args.m.now c.get.result (ap (λ (b : BookData). b.ops) c.self.view_is)
-        (find_answer c.self.inside.kept.entries c.self.inside.have.set c.self.invariant c.args.m.now c.get.result c.get.ensures.value)
+    (find_answer c.self.inside.kept.entries c.self.inside.have.set c.self.invariant c.args.m.now c.get.result c.get.ensures.value)
 
 pub returns-clause-none : goal.returns-clause-none
 returns-clause-none c = (answered c).0

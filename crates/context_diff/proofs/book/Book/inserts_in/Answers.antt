@@ -45,12 +45,12 @@ loop-i-preserved c =
     let v = c.args.v.now.set in
     elim c.match-site_at.branch [
       | in-Some w ↦
-        let at : slice_get v.counts c.loop-i.i ≡ Some w.in-Some.counted = sym c.site_at.ensures ∙ w.in-Some.is in
-        let more = listed_more h v.counts c.loop-i.i w.in-Some.counted at in
-        let step : inserts_listed h (take (c.loop-i.i + 1) v.counts) ≡ inserts_listed h (take (suc c.loop-i.i) v.counts) = ap (λ n. inserts_listed h (take n v.counts)) (add-one c.loop-i.i) in
-        omega (arith, c.loop-i.invariant, w.inserts_up_to-total.ensures, w.total-is)
+          let at : slice_get v.counts c.loop-i.i ≡ Some w.in-Some.counted = sym c.site_at.ensures ∙ w.in-Some.is in
+          let more = listed_more h v.counts c.loop-i.i w.in-Some.counted at in
+          let step : inserts_listed h (take (c.loop-i.i + 1) v.counts) ≡ inserts_listed h (take (suc c.loop-i.i) v.counts) = ap (λ n. inserts_listed h (take n v.counts)) (add-one c.loop-i.i) in
+          omega (arith, c.loop-i.invariant, w.inserts_up_to-total.ensures, w.total-is)
       | in_default w ↦
-        absurd (not_past v.counts c.loop-i.i (omega (arith, c.sites-i-end.ensures.sites)) (sym c.site_at.ensures ∙ w.in_default.is))
+          absurd (not_past v.counts c.loop-i.i (omega (arith, c.sites-i-end.ensures.sites)) (sym c.site_at.ensures ∙ w.in_default.is))
     ]
 
 pub returns : goal.returns

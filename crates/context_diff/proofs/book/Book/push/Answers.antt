@@ -28,7 +28,7 @@ add_reserved-requires-clause-next c =
     let next : IsNext (ops_in kept_op c.self.inside.kept.entries) (data_of c.args.op) = subst (λ (k : List OpData). IsNext k (data_of c.args.op)) (sym ops) c.requires.next in
     let at = next_member (ops_in kept_op c.self.inside.kept.entries) (context_of_all (ops_in kept_op c.self.inside.kept.entries)) (data_of c.args.op) w.holds next in
     subst (λ (d : ContextData). IsNextMember d c.member-member.result) (sym c.self.invariant.members)
-        (subst (λ (m : Member). IsNextMember (context_of_all (ops_in kept_op c.self.inside.kept.entries)) m) (sym c.member-member.ensures.member) at)
+    (subst (λ (m : Member). IsNextMember (context_of_all (ops_in kept_op c.self.inside.kept.entries)) m) (sym c.member-member.ensures.member) at)
 
 -- the entries with the new one at their end
 entries_after : (es ds : List (Member × Kept)) (have : ContextData) (m : Member) (k : Kept) → IsBook kept_op kept_inserts es have → is_known (ops_in kept_op es) m ≡ false → ds ≡ insert_entry eq-value.it es m k → ds ≡ es ++ (m, k) ∷ []
@@ -51,12 +51,12 @@ invariant_of-self c =
     let all = pushed es c.insert.new.self.entries h c.self.inside.have.set c.args.op m c.inserts_with-inserts.result c.self.invariant ops c.requires.next c.member-member.ensures.member (c.in-Ok.ensures).entries in
     let next : IsNext (ops_in kept_op es) (data_of c.args.op) = subst (λ (j : List OpData). IsNext j (data_of c.args.op)) (sym ops) c.requires.next in
     let count : kept_inserts k ≡ inserts_up_to (ops_in kept_op es ++ data_of c.args.op ∷ []) m =
-        c.inserts_with-inserts.ensures ∙ (λ i. inserts_up_to (sym ops i ++ data_of c.args.op ∷ []) (sym c.member-member.ensures.member i)) in
+    c.inserts_with-inserts.ensures ∙ (λ i. inserts_up_to (sym ops i ++ data_of c.args.op ∷ []) (sym c.member-member.ensures.member i)) in
     let size : length (ops_in kept_op es) ≡ length es = ops_length kept_op kept_inserts es in
     let size' : length (ops_in kept_op es) ≡ length h = ap length ops in
     let book = book_push kept_op kept_inserts es c.self.inside.have.set (m, k) c.self.invariant next c.member-member.ensures.member count (omega (arith, c.requires.room.short)) in
     subst (λ (d : ContextData). IsBook kept_op kept_inserts c.insert.new.self.entries d) (sym c.add_reserved.ensures)
-        (subst (λ (ds : List (Member × Kept)). IsBook kept_op kept_inserts ds (raised c.self.inside.have.set m)) (sym all) book)
+    (subst (λ (ds : List (Member × Kept)). IsBook kept_op kept_inserts ds (raised c.self.inside.have.set m)) (sym all) book)
 
 pub returns : goal.returns
 returns c =

@@ -12,7 +12,7 @@ use Rattle.op_name.specs.Histories.{is_known, LacksNothing, IsClosed, IsNext, Is
 use Rattle.context_diff.specs.Bases.{original_context, is_below, is_before, base_has}
 use Rattle.context_diff.specs.Differences.{IsClosedSet, KeepsStraySet}
 use Rattle.context_diff.proofs.Names.{name_same, name_itself, member_same, member_itself}
-use Rattle.context_diff.proofs.Contexts.{has_original, has_number, has_group, has_generation}
+use Rattle.context_diff.proofs.Raising.{has_original, has_number, has_group, has_generation}
 use Rattle.context_diff.proofs.Known.{known_on, known_append, known_behind, known_member, original_holder, context_on, context_behind}
 use Rattle.context_diff.proofs.Valid.{valid_before}
 use Rattle.context_diff.proofs.Complete.{IsComplete, complete}

@@ -2,17 +2,16 @@
 
 ghost use Rattle.std.specs.Prelude.{◌≡◌, ◌↔◌, ◌++◌, true, false, IsNone, IsTrue, OnOk, OnErr, IfOk, IfSome};
 ghost use Rattle.op_name.specs.declared.member.Member.{Member};
-ghost use Rattle.op_name.specs.declared.member.Member.TheVariants.{Original};
+ghost use Rattle.op_name.specs.declared.member.Member.TheVariants.{Original, Group};
 ghost use Rattle.op_name.specs.Contexts.{Within, has};
 ghost use Rattle.op_name.specs.Histories.{is_known, IsClosed};
 ghost use Rattle.context_diff.specs.Bases.{base_has, base_context_of, original_context};
 ghost use Rattle.context_diff.specs.Books.{IsFirstOpenSite};
 ghost use Rattle.context_diff.specs.Differences.{difference_of};
 
+use crate::book::Book;
 use context_vector::Vector;
 use op_name::{Member, Memory, Name};
-
-use crate::book::Book;
 
 /// The first site of which `v` names a last original that was made after something that `v` hasn't; None
 /// exactly where `v` is closed. The book has the members of `v`.
@@ -25,7 +24,14 @@ pub fn closed(book: &Book, v: &Vector) -> Option<u16>
     book.known();
     for i in 0..v.sites() {
         if let Some(counted) = v.site_at(i) {
-            if !covers_context(book, v, &Name { site: counted.0, number: counted.1 }) {
+            if !covers_context(
+                book,
+                v,
+                &Name {
+                    site: counted.0,
+                    number: counted.1,
+                },
+            ) {
                 return Some(counted.0);
             }
         }
@@ -55,16 +61,24 @@ pub fn base_context(book: &Book, m: &Member) -> Result<Vector, Memory>
     book.known();
     match m {
         Member::Original(name) => original_base(book, name),
-        Member::Group(name, generation) => {
-            let mut base = original_base(book, name)?;
-            base.raise(&Member::Original(*name))?;
-            if *generation > 1 {
-                base.raise(&Member::Group(*name, *generation - 1))?;
-            }
-            base.known();
-            Ok(base)
-        }
+        Member::Group(name, generation) => group_base(book, name, *generation),
     }
+}
+
+// The base context of a group: that of its original, with the original and the groups before.
+fn group_base(book: &Book, name: &Name, generation: u16) -> Result<Vector, Memory>
+    requires { is_known book.now.ops (Group name.now generation) ≡ true }
+    ensures members { IfOk result (λ v. (y : Member) → has v.set y ≡ base_has book.now.ops (Group name.now generation) y) }
+    ensures value { IfOk result (λ v. v.set ≡ base_context_of book.now.ops (Group name.now generation)) }
+{
+    book.known();
+    let mut base = original_base(book, name)?;
+    base.raise(&Member::Original(*name))?;
+    if generation > 1 {
+        base.raise(&Member::Group(*name, generation - 1))?;
+    }
+    base.known();
+    Ok(base)
 }
 
 // What the original of this name was made after.

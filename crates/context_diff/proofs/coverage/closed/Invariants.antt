@@ -2,7 +2,7 @@ use Rattle.std.proofs.Common.{◌≡◌, ℕ, ◌<◌}
 use Rattle.std.specs.Prelude.{Some, slice_get}
 use Rattle.op_name.specs.Contexts.{Within}
 use Rattle.context_diff.specs.Bases.{original_context}
-use Rattle.context_diff.proofs.contexts.closed.Given as goal
+use Rattle.context_diff.proofs.coverage.closed.Given as goal
 
 -- the sites so far are covered
 abbrev pub invariant-loop-i : goal.invariant-loop-i

@@ -8,14 +8,18 @@ ghost use Rattle.op_name.specs.Histories.{is_known, members_in};
 ghost use Rattle.context_diff.specs.Places.{ArePlacesOf, is_between, is_group_between, is_missing, first_names};
 ghost use Rattle.context_diff.specs.Differences.{difference_of};
 
+use crate::book::Book;
 use context_vector::Vector;
 use op_name::{Member, Memory, Name};
 
-use crate::book::Book;
-
 /// Appends the members of `to` that `from` lacks, in the order of the book, which has the members of `to`.
 /// It costs by the two contexts and by what it appends, and not by the book.
-pub fn difference(book: &Book, from: &Vector, to: &Vector, out: &mut Vec<Member>) -> Result<(), Memory>
+pub fn difference(
+    book: &Book,
+    from: &Vector,
+    to: &Vector,
+    out: &mut Vec<Member>,
+) -> Result<(), Memory>
     requires { Within to.now.set book.now.have.set }
     ensures appended { OnOk result (out.new.items ≡ out.old.items ++ difference_of book.now.ops from.now.set to.now.set) }
     ensures kept { OnErr result (out.new.items ≡ out.old.items) }
@@ -34,7 +38,12 @@ pub fn difference(book: &Book, from: &Vector, to: &Vector, out: &mut Vec<Member>
 }
 
 // Adds the places of the originals of `to` that `from` lacks.
-fn add_originals(book: &Book, from: &Vector, to: &Vector, places: &mut Vec<usize>) -> Result<(), Memory>
+fn add_originals(
+    book: &Book,
+    from: &Vector,
+    to: &Vector,
+    places: &mut Vec<usize>,
+) -> Result<(), Memory>
     requires covered { Within to.now.set book.now.have.set }
     requires empty { places.old.items ≡ [] }
     ensures { OnOk result (ArePlacesOf (members_in book.now.ops) (is_missing from.now.set (first_names to.now.set 0)) places.new.items) }
@@ -50,15 +59,21 @@ fn add_originals(book: &Book, from: &Vector, to: &Vector, places: &mut Vec<usize
 }
 
 // Adds the places of the originals of one site with numbers above the first bound, up to the second.
-fn add_numbers(book: &Book, site: u16, low: u32, high: u32, places: &mut Vec<usize>) -> Result<(), Memory>
+fn add_numbers(
+    book: &Book,
+    site: u16,
+    low: u32,
+    high: u32,
+    places: &mut Vec<usize>,
+) -> Result<(), Memory>
     requires site { site < 64 }
     requires high { high ≤ 1000000 }
     requires there { (k : ℕ) → low < k → k ≤ high → is_known book.now.ops (Original (record { site = site; number = k })) ≡ true }
     ensures { OnOk result ((t : Member → Bool) → ((y : Member) → is_between site low high y ≡ true → t y ≡ false) → ArePlacesOf (members_in book.now.ops) t places.old.items → ArePlacesOf (members_in book.now.ops) (λ y. t y || is_between site low high y) places.new.items) }
 {
     book.known();
-    for number in low..high {
-        let m = Member::Original(Name { site, number: number + 1 });
+    for step in 0..high.saturating_sub(low) {
+        let m = Member::Original(Name { site, number: low + step + 1 });
         if let Some(place) = book.place_of(&m) {
             add_place(places, place)?;
         }
@@ -67,7 +82,12 @@ fn add_numbers(book: &Book, site: u16, low: u32, high: u32, places: &mut Vec<usi
 }
 
 // Adds the places of the groups of `to` that `from` lacks, beside those of the originals.
-fn add_groups(book: &Book, from: &Vector, to: &Vector, places: &mut Vec<usize>) -> Result<(), Memory>
+fn add_groups(
+    book: &Book,
+    from: &Vector,
+    to: &Vector,
+    places: &mut Vec<usize>,
+) -> Result<(), Memory>
     requires covered { Within to.now.set book.now.have.set }
     requires originals { ArePlacesOf (members_in book.now.ops) (is_missing from.now.set (first_names to.now.set 0)) places.old.items }
     ensures { OnOk result (ArePlacesOf (members_in book.now.ops) (is_missing from.now.set to.now.set) places.new.items) }
@@ -83,13 +103,19 @@ fn add_groups(book: &Book, from: &Vector, to: &Vector, places: &mut Vec<usize>) 
 }
 
 // Adds the places of the groups of one name with generations above the first bound, up to the second.
-fn add_generations(book: &Book, name: Name, low: u16, high: u16, places: &mut Vec<usize>) -> Result<(), Memory>
+fn add_generations(
+    book: &Book,
+    name: Name,
+    low: u16,
+    high: u16,
+    places: &mut Vec<usize>,
+) -> Result<(), Memory>
     requires { (k : ℕ) → low < k → k ≤ high → is_known book.now.ops (Group name k) ≡ true }
     ensures { OnOk result ((t : Member → Bool) → ((y : Member) → is_group_between name low high y ≡ true → t y ≡ false) → ArePlacesOf (members_in book.now.ops) t places.old.items → ArePlacesOf (members_in book.now.ops) (λ y. t y || is_group_between name low high y) places.new.items) }
 {
     book.known();
-    for generation in low..high {
-        let m = Member::Group(name, generation + 1);
+    for step in 0..high.saturating_sub(low) {
+        let m = Member::Group(name, low + step + 1);
         if let Some(place) = book.place_of(&m) {
             add_place(places, place)?;
         }

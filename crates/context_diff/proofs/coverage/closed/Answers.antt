@@ -1,0 +1,56 @@
+use Rattle.std.proofs.Common.{◌≡◌, ◌↔◌, ℕ, zero, suc, ◌+◌, ◌-◌, ◌<◌, ◌≤◌, Bool, true, false, ◌⊎◌, inl, inr, List, [], ◌∷◌, ◌++◌, refl, ap, sym, subst, ◌∙◌, arith, length, take, IsTrue, IsNone, IfSome, OnOk, Bor}
+use Rattle.std.specs.Prelude.{Contains, Option, Some, None, slice_get}
+use Rattle.std.proofs.lemmas.Bool.{false≢true, true≢false}
+use Rattle.op_name.specs.NameData.{NameData}
+use Rattle.op_name.specs.declared.member.Member.{Member}
+use Rattle.op_name.specs.declared.member.Member.TheVariants.{Original, Group}
+use Rattle.op_name.specs.Contexts.{ContextData, Within, has}
+use Rattle.op_name.specs.Operations.{OpData, member_of, context_of}
+use Rattle.op_name.specs.Histories.{is_known, IsClosed, LacksNothing}
+use Rattle.context_diff.specs.Ops.{data_of}
+use Rattle.context_diff.specs.Bases.{original_context}
+use Rattle.context_diff.proofs.Complete.{complete}
+use Rattle.context_diff.proofs.Listings.{count_at}
+use Rattle.context_diff.proofs.Covering.{named_known, all_covered, covered_below, not_covered}
+use Rattle.context_diff.proofs.Books.{covered_ready, not_past}
+use Rattle.context_diff.proofs.coverage.closed.Goals as goal
+
+pub invariant_of-covers_context : goal.invariant_of-covers_context
+invariant_of-covers_context c =
+    let at : slice_get c.args.v.now.set.counts c.loop-i.i ≡ Some c.in-Some.counted = sym c.site_at.ensures ∙ c.in-Some.is in
+    let here = count_at 0 c.args.v.now.set.counts c.known.ensures.counts c.loop-i.i c.in-Some.counted at in
+    (here.site, here.least, here.greatest)
+
+pub covers_context-requires : goal.covers_context-requires
+covers_context-requires c =
+    let h = c.args.book.now.ops in
+    let v = c.args.v.now.set in
+    let at : slice_get v.counts c.loop-i.i ≡ Some c.in-Some.counted = sym c.site_at.ensures ∙ c.in-Some.is in
+    named_known h v (covered_ready h c.args.book.now.have.set v c.known-2.ensures.valid c.known-2.ensures.have c.requires) c.known.ensures.counts c.loop-i.i c.in-Some.counted at
+
+pub returns-then-not-covers_context-clause-none : goal.returns-then-not-covers_context-clause-none
+returns-then-not-covers_context-clause-none c =
+    let h = c.args.book.now.ops in
+    let v = c.args.v.now.set in
+    let at : slice_get v.counts c.loop-i.i ≡ Some c.in-Some.counted = sym c.site_at.ensures ∙ c.in-Some.is in
+    let ready = covered_ready h c.args.book.now.have.set v c.known-2.ensures.valid c.known-2.ensures.have c.requires in
+    let fails : Within (original_context h (record { site = c.in-Some.counted.0; number = c.in-Some.counted.1 })) v → ⊥ = λ within. false≢true (sym c.if-not-covers_context.true ∙ c.covers_context.ensures.1 within) in
+    (λ no. absurd (true≢false no), λ closed. absurd (not_covered h v ready c.known.ensures.counts c.loop-i.i c.in-Some.counted at fails (closed c.in-Some.counted.0)))
+
+pub returns-then-not-covers_context-clause-first : goal.returns-then-not-covers_context-clause-first
+returns-then-not-covers_context-clause-first c =
+    let h = c.args.book.now.ops in
+    let v = c.args.v.now.set in
+    let at : slice_get v.counts c.loop-i.i ≡ Some c.in-Some.counted = sym c.site_at.ensures ∙ c.in-Some.is in
+    let ready = covered_ready h c.args.book.now.have.set v c.known-2.ensures.valid c.known-2.ensures.have c.requires in
+    let fails : Within (original_context h (record { site = c.in-Some.counted.0; number = c.in-Some.counted.1 })) v → ⊥ = λ within. false≢true (sym c.if-not-covers_context.true ∙ c.covers_context.ensures.1 within) in
+    record {
+      open_site = not_covered h v ready c.known.ensures.counts c.loop-i.i c.in-Some.counted at fails;
+      first = covered_below h (complete h c.known-2.ensures.valid) v c.known.ensures.counts c.loop-i.i c.in-Some.counted at c.loop-i.invariant;
+    }
+
+pub returns-clause-none : goal.returns-clause-none
+returns-clause-none c =
+    let h = c.args.book.now.ops in
+    let v = c.args.v.now.set in
+    (λ _. all_covered h (complete h c.known-2.ensures.valid) v c.known.ensures.counts (λ j p less at. c.loop-i.invariant j p (omega (arith, c.sites-i-end.ensures.sites)) at), λ _. refl)

@@ -1,0 +1,23 @@
+use Rattle.std.proofs.Common.{◌≡◌, ◌↔◌, ℕ, zero, suc, ◌+◌, ◌-◌, ◌<◌, ◌≤◌, Bool, true, false, ◌⊎◌, inl, inr, List, [], ◌∷◌, ◌++◌, refl, ap, sym, subst, ◌∙◌, arith, length, take, IsTrue, IsNone, IfSome, OnOk, Bor}
+use Rattle.std.specs.Prelude.{Contains, Option, Some, None, slice_get}
+use Rattle.std.proofs.lemmas.Bool.{false≢true, true≢false}
+use Rattle.op_name.specs.NameData.{NameData}
+use Rattle.op_name.specs.declared.member.Member.{Member}
+use Rattle.op_name.specs.declared.member.Member.TheVariants.{Original, Group}
+use Rattle.op_name.specs.Contexts.{ContextData, Within, has}
+use Rattle.op_name.specs.Operations.{OpData, member_of, context_of}
+use Rattle.op_name.specs.Histories.{is_known, IsClosed, LacksNothing}
+use Rattle.context_diff.specs.Ops.{data_of}
+use Rattle.context_diff.specs.Bases.{original_context}
+use Rattle.context_diff.proofs.Complete.{complete}
+use Rattle.context_diff.proofs.Histories.{context_is}
+use Rattle.context_diff.proofs.coverage.covers_context.Goals as goal
+
+pub returns : goal.returns
+returns c =
+    let h = c.args.book.now.ops in
+    let o = data_of c.in-Some.op.now in
+    let n : NameData = c.args.name.now in
+    let is = context_is h (complete h c.known.ensures.valid) o n (c.in-Some.ensures).there (c.in-Some.ensures).named c.requires in
+    let same : c.context.result.now.set ≡ original_context h n = c.context.ensures ∙ sym is in
+    subst (λ (d : ContextData). IsTrue c.covers.result ↔ Within d c.args.v.now.set) same c.covers.ensures
