@@ -1,0 +1,37 @@
+use Rattle.std.proofs.Common.{◌≡◌, ◌↔◌, ℕ, zero, suc, ◌+◌, ◌-◌, ◌<◌, ◌≤◌, Bool, true, false, ◌||◌, ◌⊎◌, inl, inr, List, [], ◌∷◌, ◌++◌, refl, ap, sym, subst, ◌∙◌, arith, length, take, take_all, add-one, IsTrue, IsNone, IfSome, OnOk, Bor}
+use Rattle.std.specs.Prelude.{Contains, Option, Some, None, slice_get}
+use Rattle.std.proofs.lemmas.Bool.{false≢true, true≢false}
+use Rattle.op_name.specs.NameData.{NameData}
+use Rattle.op_name.specs.declared.member.Member.{Member}
+use Rattle.op_name.specs.declared.member.Member.TheVariants.{Original, Group}
+use Rattle.op_name.specs.Contexts.{ContextData, Within, has, count_of, entry_of}
+use Rattle.op_name.specs.Operations.{OpData, member_of, context_of}
+use Rattle.op_name.specs.Histories.{is_known, members_in, LacksNothing}
+use Rattle.context_diff.specs.Places.{ArePlacesOf, is_between, is_group_between, is_missing, first_sites, first_names, members_at}
+use Rattle.context_diff.proofs.Listings.{count_at, entry_at}
+use Rattle.context_diff.proofs.Raising.{has_original, has_group}
+use Rattle.context_diff.proofs.Books.{covered_ready, not_past}
+use Rattle.context_diff.proofs.PlaceSteps.{groups_start, groups_step, groups_end}
+use Rattle.context_diff.proofs.gathering.add_generations.Goals as goal
+use Rattle.context_diff.proofs.gathering.add_generations.Goals.{in-Some+in_ok-add_place, in_default}
+
+pub loop-step-preserved : goal.loop-step-preserved
+loop-step-preserved c t apart first =
+    let h = c.args.book.now.ops in
+    let s = c.args.name in
+    let low = c.args.low in
+    let step = c.loop-step.step in
+    elim c.match-place_of.branch [
+      | in-Some+in_ok-add_place w ↦
+        let at : slice_get (members_in h) w.in-Some.place ≡ Some (Group s ((low + step) + 1)) = (w.in-Some.ensures).place in
+        let items : c.match-place_of.places.items ≡ c.loop-step.places.items ++ w.in-Some.place ∷ [] = (λ i. (w.places-is i).items) ∙ (w.in_ok-add_place.ensures) in
+        subst (λ (ps : List ℕ). ArePlacesOf (members_in h) (λ y. t y || is_group_between s low (low + (step + 1)) y) ps) (sym items)
+            (groups_step h c.known.ensures.valid t s low c.args.high step c.loop-step.places.items w.in-Some.place at (omega (arith, c.saturating_sub-step-end.ensures)) apart (c.loop-step.invariant t apart first))
+      | in_default w ↦
+        let there : is_known h (Group s ((low + step) + 1)) ≡ true = c.requires ((low + step) + 1) (omega arith) (omega (arith, c.saturating_sub-step-end.ensures)) in
+        absurd (false≢true (sym ((w.in_default.ensures).none.0 refl) ∙ there))
+    ]
+
+pub returns : goal.returns
+returns c t apart first =
+    groups_end (members_in c.args.book.now.ops) t c.args.name c.args.low c.args.high c.loop-step.step c.loop-step.places.items (omega (arith, c.saturating_sub-step-end.ensures)) (omega (arith, c.saturating_sub-step-end.ensures)) (c.loop-step.invariant t apart first)
