@@ -1,11 +1,12 @@
 -- The places of the members that pass a test, sorted, name those members in the history's order.
-use Rattle.std.proofs.Common.{◌≡◌, ℕ, zero, suc, ◌+◌, ◌-◌, ◌<◌, ◌≤◌, Bool, true, false, ◌⊎◌, inl, inr, List, [], ◌∷◌, ◌++◌, refl, ap, sym, subst, ◌∙◌, arith, length, length-append, get_or, append_assoc, append-nil}
+use Rattle.std.proofs.Common.{◌≡◌, ℕ, zero, suc, ◌+◌, ◌-◌, ◌<◌, ◌≤◌, Bool, true, false, ◌⊎◌, inl, inr, List, [], ◌∷◌, ◌++◌, refl, ap, sym, subst, ◌∙◌, arith, length, length-append, get_or, take, append_assoc, append-nil}
 use Rattle.std.specs.Prelude.{◌==◌, Option, Some, None, slice_get, filter, if◌then◌else◌}
 use Rattle.std.specs.List.Sorted.{IsNonDecreasingBy, IsPermutation, IsSorted}
 use Rattle.std.specs.List.{sum_by}
 use Rattle.std.specs.Ordering.{nat_cmp}
 use Rattle.std.proofs.lemmas.List.Recursion.{is_sum_by}
 use Rattle.std.proofs.lemmas.List.Sorted.{sum_by-IsPermutation, IsNonDecreasingBy-from_sort}
+use Rattle.std.proofs.lemmas.Grind.{take_at_read}
 use Rattle.std.proofs.lemmas.Bool.Decides.{nat_tests}
 use Rattle.std.proofs.lemmas.Bool.{cases_Bool, cases_lt, false≢true, cases_order}
 use Rattle.op_name.specs.declared.member.Member.{Member}
@@ -127,3 +128,27 @@ members_of_places ms t ps qs are moved sorted =
     let counts : (z : ℕ) → times z qs ≡ times z (places_from t 0 ms) = λ z. times_permutation z ps qs moved ∙ (are z ∙ sym (places_times t 0 ms z z (omega arith))) in
     let same : qs ≡ places_from t 0 ms = same_sorted 0 0 qs (places_from t 0 ms) (sorted_from 0 qs up (λ d some. omega arith)) (places_sorted t 0 ms) counts in
     ap (members_at ms) same ∙ places_members t [] ms
+
+at_none : (all : List Member) (p : ℕ) (ps : List ℕ) → slice_get all p ≡ None → members_at all (p ∷ ps) ≡ members_at all ps
+at_none all p ps at = ap (λ (o : Option Member). elim o [ None ↦ members_at all ps | Some x ↦ x ∷ members_at all ps ]) at
+
+push_by : (ms : List Member) (x : ℕ) (xs : List ℕ) (p : ℕ) → members_at ms (xs ++ p ∷ []) ≡ members_at ms xs ++ members_at ms (p ∷ []) → (o : Option Member) → slice_get ms x ≡ o → members_at ms ((x ∷ xs) ++ p ∷ []) ≡ members_at ms (x ∷ xs) ++ members_at ms (p ∷ [])
+push_by ms x xs p rest None at =
+    at_none ms x (xs ++ p ∷ []) at ∙ (rest ∙ ap (λ ys. ys ++ members_at ms (p ∷ [])) (sym (at_none ms x xs at)))
+push_by ms x xs p rest (Some m) at =
+    at_one ms x (xs ++ p ∷ []) m at ∙ (ap (λ ys. m ∷ ys) rest ∙ ap (λ ys. ys ++ members_at ms (p ∷ [])) (sym (at_one ms x xs m at)))
+
+members_at_push : (ms : List Member) (xs : List ℕ) (p : ℕ) → members_at ms (xs ++ p ∷ []) ≡ members_at ms xs ++ members_at ms (p ∷ [])
+members_at_push ms [] p = refl
+members_at_push ms (x ∷ xs) p = push_by ms x xs p (members_at_push ms xs p) (slice_get ms x) refl
+
+-- the members at one more place
+pub members_at_more : (ms : List Member) (ps : List ℕ) (i : ℕ) → i < length ps → members_at ms (take (i + 1) ps) ≡ members_at ms (take i ps) ++ members_at ms (get_or ps i 0 ∷ [])
+members_at_more ms ps i less =
+    ap (members_at ms) (take_at_read ps i 0 less).1 ∙ members_at_push ms (take i ps) (get_or ps i 0)
+
+pub members_at_some : (ms : List Member) (p : ℕ) (m : Member) → slice_get ms p ≡ Some m → members_at ms (p ∷ []) ≡ m ∷ []
+members_at_some ms p m at = at_one ms p [] m at
+
+pub members_at_none : (ms : List Member) (p : ℕ) → slice_get ms p ≡ None → members_at ms (p ∷ []) ≡ []
+members_at_none ms p at = at_none ms p [] at
