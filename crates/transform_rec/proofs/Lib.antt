@@ -1,0 +1,4 @@
+pub mod Members
+pub mod Lists
+pub mod Sets
+pub mod Families
