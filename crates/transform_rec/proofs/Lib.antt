@@ -2,3 +2,5 @@ pub mod Members
 pub mod Lists
 pub mod Sets
 pub mod Families
+pub mod Forms
+pub mod Uniqueness
