@@ -4,3 +4,7 @@ pub mod Sets
 pub mod Families
 pub mod Forms
 pub mod Uniqueness
+pub mod Executing
+pub mod Order
+pub mod Restriction
+pub mod CausalOrders

@@ -155,3 +155,95 @@ in_take {A} z n xs i = subst (λ (l : List A). IsIn z l) (take-append-drop n xs)
 
 pub in_drop : {A : Type 0} (z : A) (n : ℕ) (xs : List A) → IsIn z (drop n xs) → IsIn z xs
 in_drop {A} z n xs i = subst (λ (l : List A). IsIn z l) (take-append-drop n xs) (in_right z (take n xs) (drop n xs) i)
+
+pub length-put : {A : Type 0} (n : ℕ) (xs ys : List A) → length (take n xs ++ (ys ++ drop n xs)) ≡ length xs + length ys
+length-put n xs ys =
+  let a = length-append (take n xs) (ys ++ drop n xs) in
+  let b = length-append ys (drop n xs) in
+  let c = length-append (take n xs) (drop n xs) in
+  let d : length (take n xs ++ drop n xs) ≡ length xs = ap length (take-append-drop n xs) in
+  omega arith
+
+-- what is put into a list at a place and fails the test isn't seen by the filter
+pub filter_put : {A : Type 0} (p : A → Bool) (n : ℕ) (xs ys : List A) → ((z : A) → IsIn z ys → p z ≡ false) → filter p (take n xs ++ (ys ++ drop n xs)) ≡ filter p xs
+filter_put p n xs ys h =
+  let a = filter-append p (take n xs) (ys ++ drop n xs) in
+  let b : filter p (ys ++ drop n xs) ≡ filter p (drop n xs) = filter-append p ys (drop n xs) ∙ ap (λ l. l ++ filter p (drop n xs)) (filter_none p ys h) in
+  a ∙ (ap (λ l. filter p (take n xs) ++ l) b ∙ filter-parts p n xs)
+
+-- ---- how many elements of one kind stand before each element of another
+
+cons_head : {A : Type 0} (x y : A) (xs ys : List A) → x ∷ xs ≡ y ∷ ys → x ≡ y
+cons_head x y xs ys e = cc
+
+cons_tail : {A : Type 0} (x y : A) (xs ys : List A) → x ∷ xs ≡ y ∷ ys → xs ≡ ys
+cons_tail x y xs ys e = cc
+
+pub count-either : {A : Type 0} (p x : A → Bool) → ((c : A) → p c ≡ true → x c ≡ false) → (S : List A) → count (either p x) S ≡ count p S + count x S
+count-either p x d [] = omega arith
+count-either p x d (c ∷ S) = let ih = count-either p x d S in elim (cases_Bool (p c)) [ inl h ↦ rw (h, d c h) (omega arith) | inr h ↦ rw h (omega arith) ]
+
+pub each_none : {A : Type 0} (p x : A → Bool) (q k : ℕ) (S : List A) → count x S ≡ 0 → EachAt p x q k S
+each_none p x q k [] h = tt
+each_none p x q k (c ∷ S) h =
+  elim (cases_Bool (x c)) [ inl e ↦ let f : 1 + count x S ≡ 0 = rw e at h in absurd (omega arith) | inr e ↦ let f : 0 + count x S ≡ 0 = rw e at h in let g : count x S ≡ 0 = omega arith in ((λ t. absurd (both_ways (x c) e t)), each_none p x q ((if p c then 1 else 0) + k) S g) ]
+
+pub count_own : {A : Type 0} (p x : A → Bool) → ((c : A) → p c ≡ true → x c ≡ false) → (S P As Q : List A) → filter p S ≡ P ++ Q → filter (either p x) S ≡ P ++ (As ++ Q) → count x S ≡ length As
+count_own p x d S P As Q fp fe =
+  let a = length-count p S in
+  let b = length-count (either p x) S in
+  let c = count-either p x d S in
+  let e : length (filter p S) ≡ length (P ++ Q) = ap length fp in
+  let f : length (filter (either p x) S) ≡ length (P ++ (As ++ Q)) = ap length fe in
+  let g = length-append P Q in
+  let h = length-append P (As ++ Q) in
+  let i = length-append As Q in
+  omega arith
+
+either_left : {A : Type 0} (p x : A → Bool) (c : A) → p c ≡ true → either p x c ≡ true
+either_left p x c h = or_left (p c) (x c) h
+
+either_right : {A : Type 0} (p x : A → Bool) (c : A) → x c ≡ true → either p x c ≡ true
+either_right p x c h = or_right (p c) (x c) h
+
+either_none : {A : Type 0} (p x : A → Bool) (c : A) → p c ≡ false → x c ≡ false → either p x c ≡ false
+either_none p x c h k = ap₂ (λ a b. a || b) h k
+
+-- lists whose elements that pass p are P ++ Q, and those that pass p or x are P ++ (As ++ Q), where k stands in front and P
+-- ends at q
+module _ {A : Type 0} (p x : A → Bool) (d : (c : A) → p c ≡ true → x c ≡ false) (q : ℕ) (Q : List A) where
+  abbrev pub Before : List A → Type 0
+  Before S = (P As : List A) (k : ℕ) → ((c : A) → IsIn c As → x c ≡ true) → filter p S ≡ P ++ Q → filter (either p x) S ≡ P ++ (As ++ Q) → k + length P ≡ q → EachAt p x q k S
+
+  at_first : (c : A) (S : List A) → Before S → (P As : List A) (k : ℕ) → ((e : A) → IsIn e As → x e ≡ true) → p c ≡ true → c ∷ filter p S ≡ P ++ Q → c ∷ filter (either p x) S ≡ P ++ (As ++ Q) → k + length P ≡ q → EachAt p x q (1 + k) S
+  at_first c S again (r ∷ P) As k mine h fp fe e = again P As (1 + k) mine (cons_tail c r (filter p S) (P ++ Q) fp) (cons_tail c r (filter (either p x) S) (P ++ (As ++ Q)) fe) (omega arith)
+  at_first c S again [] (a ∷ As) k mine h fp fe e = absurd (both_ways (x c) (d c h) (subst (λ (y : A). x y ≡ true) (sym (cons_head c a (filter (either p x) S) (As ++ Q) fe)) (mine a (inl refl))))
+  at_first c S again [] [] k mine h fp fe e =
+    let same : filter (either p x) S ≡ filter p S = cons_tail c c (filter (either p x) S) (filter p S) (fe ∙ sym fp) in
+    let long : length (filter (either p x) S) ≡ length (filter p S) = ap length same in
+    let a = length-count p S in
+    let b = length-count (either p x) S in
+    let n = count-either p x d S in
+    each_none p x q (1 + k) S (omega arith)
+
+  at_second : (c : A) (S : List A) → Before S → (P As : List A) (k : ℕ) → ((e : A) → IsIn e As → x e ≡ true) → p c ≡ false → filter p S ≡ P ++ Q → c ∷ filter (either p x) S ≡ P ++ (As ++ Q) → k + length P ≡ q → (k ≡ q) × EachAt p x q (0 + k) S
+  at_second c S again (r ∷ P) As k mine h fp fe e =
+    let is : c ≡ r = cons_head c r (filter (either p x) S) (P ++ (As ++ Q)) fe in
+    let passes : p r ≡ true = (filter_in p r S (subst (λ (l : List A). IsIn r l) (sym fp) (inl refl))).1 in
+    absurd (both_ways (p c) h (subst (λ (y : A). p y ≡ true) (sym is) passes))
+  at_second c S again [] (a ∷ As) k mine h fp fe e = (omega arith, again [] As (0 + k) (λ y i. mine y (inr i)) fp (cons_tail c a (filter (either p x) S) (As ++ Q) fe) (omega arith))
+  at_second c S again [] [] k mine h fp fe e =
+    let passes : p c ≡ true = (filter_in p c S (subst (λ (l : List A). IsIn c l) (fe ∙ sym fp) (inl refl))).1 in
+    absurd (both_ways (p c) h passes)
+
+  pub before_each : (S : List A) → Before S
+  before_each [] P As k mine fp fe e = tt
+  before_each (c ∷ S) P As k mine fp fe e =
+    elim (cases_Bool (p c)) [
+      inl h ↦ ((λ t. absurd (both_ways (x c) (d c h) t)), subst (λ (b : Bool). EachAt p x q ((if b then 1 else 0) + k) S) (sym h) (at_first c S (before_each S) P As k mine h (sym (filter_keeps p c S h) ∙ fp) (sym (filter_keeps (either p x) c S (either_left p x c h)) ∙ fe) e))
+    | inr h ↦ elim (cases_Bool (x c)) [
+        inl t ↦ let r = at_second c S (before_each S) P As k mine h (sym (filter_drops p c S h) ∙ fp) (sym (filter_keeps (either p x) c S (either_right p x c t)) ∙ fe) e in
+          ((λ u. r.0), subst (λ (b : Bool). EachAt p x q ((if b then 1 else 0) + k) S) (sym h) r.1)
+      | inr t ↦ ((λ u. absurd (both_ways (x c) t u)), subst (λ (b : Bool). EachAt p x q ((if b then 1 else 0) + k) S) (sym h) (before_each S P As (0 + k) mine (sym (filter_drops p c S h) ∙ fp) (sym (filter_drops (either p x) c S (either_none p x c h t)) ∙ fe) (omega arith)))
+      ]
+    ]
