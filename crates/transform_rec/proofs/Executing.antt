@@ -5,16 +5,18 @@ use Rattle.op_name.specs.NameData.{NameData}
 use Rattle.op_name.specs.declared.member.Member.{Member}
 use Rattle.op_name.specs.declared.member.Member.TheVariants.{Original}
 use Rattle.transform_rec.specs.Sets.{none, IsSubset, SameSet, plus, plus_all}
-use Rattle.transform_rec.specs.Lists.{IsIn, AreApart}
+use Rattle.ttf_form.specs.Families.{IsIn}
+use Rattle.transform_rec.specs.Lists.{AreApart}
 use Rattle.transform_rec.specs.Family.{Family, IsClosed, IsSound}
 use Rattle.transform_rec.specs.Derived.{Derived, Deriving, weight}
 use Rattle.transform_rec.specs.Derived.Derived.{at_base, by_step}
-use Rattle.transform_rec.specs.Executing.{LacksName, NewNames, Table, IsTable, Setting, deriving_of, IsCausalFrom, AreFormsFrom, executed, keep, own, IsStateAt}
+use Rattle.ttf_form.specs.Names.{LacksName, NewNames}
+use Rattle.transform_rec.specs.Executing.{Table, IsTable, Setting, deriving_of, IsCausalFrom, AreFormsFrom, executed, keep, own, IsStateAt}
 use Rattle.transform_rec.proofs.Members.{member_cases, member_self}
 use Rattle.transform_rec.proofs.Lists.{in_cases, in_take, in_drop, length-put, sum_none}
 use Rattle.transform_rec.proofs.Sets.{same_set, plus_here, plus_keeps, plus_cases, plus_parts}
 use Rattle.transform_rec.proofs.Families.{closed_plus}
-use Rattle.transform_rec.proofs.Forms.{derived_sound, derived_bounded, weight_plus, exists}
+use Rattle.transform_rec.proofs.Forms.{derived_sound, derived_bounded, weight_plus, list_forms}
 use Rattle.transform_rec.proofs.Uniqueness.{derived_once}
 
 -- ---- names of cells
@@ -107,11 +109,7 @@ module _ {F S : Type 0} (w : Setting F S) where
 
   -- each causal list has its forms
   pub run_forms : (xs : List Member) (C : Member → Bool) → Run C xs → (fs : List F) × Forms C xs fs
-  run_forms [] C r = ([], tt)
-  run_forms (x ∷ xs) C r =
-    let f = exists (deriving_of w) x C r.0 in
-    let fs = run_forms xs (plus C x) r.1 in
-    (f.0 ∷ fs.0, (f.1, fs.1))
+  run_forms xs C r = list_forms (deriving_of w) xs C r
 
   -- and they are the only ones
   pub forms_once : (xs : List Member) (C : Member → Bool) (fs gs : List F) → Forms C xs fs → Forms C xs gs → fs ≡ gs

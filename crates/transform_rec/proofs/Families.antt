@@ -4,7 +4,8 @@ use Rattle.std.proofs.lemmas.Bool.{cases_Bool, both_ways, and_parts, and_from, n
 use Rattle.op_name.specs.declared.member.Member.{Member}
 use Rattle.op_name.specs.Members.{member_eq}
 use Rattle.transform_rec.specs.Sets.{none, IsSubset, SameSet, plus, minus, meet, plus_all}
-use Rattle.transform_rec.specs.Lists.{IsIn, sum_where, AreApart}
+use Rattle.ttf_form.specs.Families.{IsIn, sum_where}
+use Rattle.transform_rec.specs.Lists.{AreApart}
 use Rattle.transform_rec.specs.Family.{Family, IsCausal, IsCausalFamily, IsClosed, IsSound, size}
 use Rattle.transform_rec.proofs.Lists.{LastOf, last_of, in_cases, in_left}
 use Rattle.transform_rec.proofs.Sets.{same_set, same_from, lacks_from, plus_here, plus_keeps, plus_cases, plus_lacks, plus_parts, plus_other, plus_within, minus_parts, minus_from, minus_lacks, minus_here, minus_plus, sum_plus}

@@ -3,10 +3,11 @@
 use Rattle.std.proofs.Common.{◌≡◌, ◌≢◌, ℕ, zero, suc, ◌+◌, ◌≤◌, Bool, true, false, List, [], ◌∷◌, ◌⊎◌, inl, inr, refl, sym, ap, ap₂, subst, ◌∙◌, arith}
 use Rattle.op_name.specs.declared.member.Member.{Member}
 use Rattle.transform_rec.specs.Sets.{IsSubset, SameSet, plus, minus}
-use Rattle.transform_rec.specs.Lists.{IsIn, sum_where, total_by}
+use Rattle.ttf_form.specs.Families.{IsIn, sum_where, total_by}
 use Rattle.transform_rec.specs.Family.{Family, IsCausalFamily, IsClosed, IsSound, size}
 use Rattle.transform_rec.specs.Derived.{Derived, IsOnlyFormAt, Inclusion, IsInclusion, IsFamily, Deriving, weight, Holds}
 use Rattle.transform_rec.specs.Derived.Derived.{at_base, by_step}
+use Rattle.transform_rec.specs.Executing.{IsCausalFrom, AreFormsFrom}
 use Rattle.transform_rec.proofs.Lists.{sum_same, sum_below}
 use Rattle.transform_rec.proofs.Sets.{same_set, sum_plus}
 use Rattle.transform_rec.proofs.Families.{sound_moves, sound_plus, sound_unrelated, base_sound, free_last, Free, size_plus}
@@ -94,3 +95,11 @@ module _ {F : Type 0} (d : Deriving F) where
 
   pub exists : (m : Member) (C : Member → Bool) → IsSound d.family m C → (f : F) × IsForm m C f
   exists m C s = exists_up_to (size d.family C) m C (omega arith) s
+
+  -- each causal list has its forms
+  pub list_forms : (xs : List Member) (C : Member → Bool) → IsCausalFrom d.family C xs → (fs : List F) × AreFormsFrom d.inclusion.over d.family C xs fs
+  list_forms [] C r = ([], tt)
+  list_forms (x ∷ xs) C r =
+    let f = exists x C r.0 in
+    let fs = list_forms xs (plus C x) r.1 in
+    (f.0 ∷ fs.0, (f.1, fs.1))

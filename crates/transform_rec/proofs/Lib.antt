@@ -6,5 +6,6 @@ pub mod Forms
 pub mod Uniqueness
 pub mod Executing
 pub mod Order
-pub mod Restriction
+pub mod Parts
 pub mod CausalOrders
+pub mod LawsHold

@@ -3,7 +3,8 @@ use Rattle.std.proofs.Common.{◌≡◌, ◌≢◌, ℕ, zero, suc, ◌+◌, ◌
 use Rattle.std.proofs.lemmas.Bool.{cases_Bool, both_ways, or_right, or_left, or_cases, false≢true}
 use Rattle.op_name.specs.declared.member.Member.{Member}
 use Rattle.op_name.specs.Members.{member_eq}
-use Rattle.transform_rec.specs.Lists.{IsIn, sum_where, total_by, AreApart, SameElements, IsRising, count, either, EachAt}
+use Rattle.ttf_form.specs.Families.{IsIn, sum_where, total_by}
+use Rattle.transform_rec.specs.Lists.{AreApart, SameElements, IsRising, count, either, EachAt}
 
 -- ---- what is in a list
 
@@ -247,3 +248,10 @@ module _ {A : Type 0} (p x : A → Bool) (d : (c : A) → p c ≡ true → x c �
       | inr t ↦ ((λ u. absurd (both_ways (x c) t u)), subst (λ (b : Bool). EachAt p x q ((if b then 1 else 0) + k) S) (sym h) (before_each S P As (0 + k) mine (sym (filter_drops p c S h) ∙ fp) (sym (filter_drops (either p x) c S (either_none p x c h t)) ∙ fe) (omega arith)))
       ]
     ]
+
+pub in_swap : {A : Type 0} (z x y : A) (xs ys : List A) → IsIn z (xs ++ (x ∷ (y ∷ ys))) → IsIn z (xs ++ (y ∷ (x ∷ ys)))
+in_swap z x y [] ys (inl e) = inr (inl e)
+in_swap z x y [] ys (inr (inl e)) = inl e
+in_swap z x y [] ys (inr (inr i)) = inr (inr i)
+in_swap z x y (w ∷ xs) ys (inl e) = inl e
+in_swap z x y (w ∷ xs) ys (inr i) = inr (in_swap z x y xs ys i)

@@ -2,7 +2,8 @@
 use Rattle.std.proofs.Common.{◌≡◌, ◌≢◌, ℕ, Bool, true, false, List, [], ◌∷◌, ◌++◌, ◌⊎◌, inl, inr, refl, sym, ap, ap₂, subst, ◌∙◌}
 use Rattle.op_name.specs.declared.member.Member.{Member}
 use Rattle.transform_rec.specs.Sets.{none, IsSubset, SameSet, plus, plus_all}
-use Rattle.transform_rec.specs.Lists.{IsIn, SameElements}
+use Rattle.ttf_form.specs.Families.{IsIn}
+use Rattle.transform_rec.specs.Lists.{SameElements}
 use Rattle.transform_rec.specs.Family.{Family, IsClosed, IsSound}
 use Rattle.transform_rec.specs.Executing.{Setting, deriving_of, IsStateAt}
 use Rattle.transform_rec.proofs.Lists.{Around, around, in_around, in_without}

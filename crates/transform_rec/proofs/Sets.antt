@@ -4,7 +4,8 @@ use Rattle.std.proofs.lemmas.Bool.{cases_Bool, both_ways, or_right, or_left, or_
 use Rattle.op_name.specs.declared.member.Member.{Member}
 use Rattle.op_name.specs.Members.{member_eq}
 use Rattle.transform_rec.specs.Sets.{none, IsSubset, SameSet, plus, minus, meet, plus_all}
-use Rattle.transform_rec.specs.Lists.{IsIn, sum_where, AreApart}
+use Rattle.ttf_form.specs.Families.{IsIn, sum_where}
+use Rattle.transform_rec.specs.Lists.{AreApart}
 use Rattle.transform_rec.proofs.Members.{member_tells, member_self, member_apart, member_other}
 use Rattle.transform_rec.proofs.Lists.{sum_same}
 

@@ -3,7 +3,7 @@ use Rattle.std.proofs.Common.{◌≡◌, ◌≢◌, ℕ, zero, suc, ◌+◌, ◌
 use Rattle.std.proofs.lemmas.Bool.{both_ways, and_parts, and_from, and_left, and_right, false_from_ne_true}
 use Rattle.op_name.specs.declared.member.Member.{Member}
 use Rattle.transform_rec.specs.Sets.{IsSubset, SameSet, plus, minus, meet}
-use Rattle.transform_rec.specs.Lists.{IsIn, sum_where}
+use Rattle.ttf_form.specs.Families.{IsIn, sum_where}
 use Rattle.transform_rec.specs.Family.{Family, IsCausalFamily, IsClosed, IsSound, size}
 use Rattle.transform_rec.specs.Derived.{Derived, IsOnlyFormAt, Inclusion, IsInclusion, IsFamily, Deriving, Holds}
 use Rattle.transform_rec.specs.Derived.Derived.{at_base, by_step}

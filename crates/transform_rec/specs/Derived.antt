@@ -3,7 +3,7 @@
 use Rattle.std.specs.Prelude.{◌≡◌, ◌≢◌, ℕ, ◌+◌, ◌≤◌, Bool, false, List}
 use Rattle.op_name.specs.declared.member.Member.{Member}
 use Rattle.transform_rec.specs.Sets.{SameSet, plus}
-use Rattle.transform_rec.specs.Lists.{IsIn, sum_where}
+use Rattle.ttf_form.specs.Families.{IsIn, sum_where}
 use Rattle.transform_rec.specs.Family.{Family, IsCausalFamily}
 
 module _ {F : Type 0} (over : F → F → F) (b : Family F) where

@@ -3,3 +3,4 @@ pub mod Lists
 pub mod Family
 pub mod Derived
 pub mod Executing
+pub mod Laws

@@ -5,7 +5,8 @@ use Rattle.op_name.specs.NameData.{NameData}
 use Rattle.op_name.specs.declared.member.Member.{Member}
 use Rattle.op_name.specs.declared.member.Member.TheVariants.{Original}
 use Rattle.transform_rec.specs.Sets.{none, IsSubset, SameSet, plus, meet, plus_all}
-use Rattle.transform_rec.specs.Lists.{IsIn, SameElements, count, EachAt}
+use Rattle.ttf_form.specs.Families.{IsIn}
+use Rattle.transform_rec.specs.Lists.{SameElements, count, EachAt}
 use Rattle.transform_rec.specs.Family.{Family, IsClosed, IsSound}
 use Rattle.transform_rec.specs.Derived.{weight}
 use Rattle.transform_rec.specs.Executing.{Setting, deriving_of, IsStateAt, keep, own}
