@@ -4,3 +4,4 @@ pub mod Family
 pub mod Derived
 pub mod Executing
 pub mod Laws
+pub mod TwoInserts
