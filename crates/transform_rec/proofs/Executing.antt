@@ -1,20 +1,20 @@
 -- Executing derived forms: each of them fits the state that it meets, and the state after it has the cells that it should.
-use Rattle.std.proofs.Common.{◌≡◌, ◌≢◌, ℕ, zero, suc, ◌+◌, ◌≤◌, Bool, true, false, List, [], ◌∷◌, ◌++◌, length, take, drop, ◌⊎◌, inl, inr, refl, sym, ap, ap₂, subst, ◌∙◌, arith}
+use Rattle.std.proofs.Common.{◌≡◌, ◌≢◌, ℕ, ◌+◌, Bool, true, false, List, [], ◌∷◌, ◌++◌, length, take, drop, inl, inr, refl, sym, ap, ap₂, subst, ◌∙◌}
 use Rattle.std.proofs.lemmas.Bool.{both_ways}
 use Rattle.op_name.specs.NameData.{NameData}
 use Rattle.op_name.specs.declared.member.Member.{Member}
 use Rattle.op_name.specs.declared.member.Member.TheVariants.{Original}
-use Rattle.transform_rec.specs.Sets.{none, IsSubset, SameSet, plus, plus_all}
+use Rattle.transform_rec.specs.Sets.{none, SameSet, plus, plus_all}
 use Rattle.ttf_form.specs.Families.{IsIn}
 use Rattle.transform_rec.specs.Lists.{AreApart}
-use Rattle.transform_rec.specs.Family.{Family, IsClosed, IsSound}
-use Rattle.transform_rec.specs.Derived.{Derived, Deriving, weight}
+use Rattle.transform_rec.specs.Family.{IsClosed}
+use Rattle.transform_rec.specs.Derived.{Derived}
 use Rattle.transform_rec.specs.Derived.Derived.{at_base, by_step}
 use Rattle.ttf_form.specs.Names.{LacksName, NewNames}
-use Rattle.transform_rec.specs.Executing.{Table, IsTable, Setting, deriving_of, IsCausalFrom, AreFormsFrom, executed, keep, own, IsStateAt}
+use Rattle.transform_rec.specs.Executing.{Setting, deriving_of, IsCausalFrom, AreFormsFrom, executed, own, IsStateAt}
 use Rattle.transform_rec.proofs.Members.{member_cases, member_self}
 use Rattle.transform_rec.proofs.Lists.{in_cases, in_take, in_drop, length-put, sum_none}
-use Rattle.transform_rec.proofs.Sets.{same_set, plus_here, plus_keeps, plus_cases, plus_parts}
+use Rattle.transform_rec.proofs.Sets.{same_set, plus_here, plus_keeps, plus_parts}
 use Rattle.transform_rec.proofs.Families.{closed_plus}
 use Rattle.transform_rec.proofs.Forms.{derived_sound, derived_bounded, weight_plus, list_forms}
 use Rattle.transform_rec.proofs.Uniqueness.{derived_once}
@@ -59,9 +59,9 @@ module _ {F S : Type 0} (w : Setting F S) where
   -- each cell that a form adds has the name of the form's member
   pub added_owner : (x : Member) (C : Member → Bool) (f : F) → IsForm x C f → (c : NameData × ℕ) → IsIn c (w.table.added f) → x ≡ Original c.0
   added_owner x C f df c i =
-    let s = derived_sound (deriving_of w) x C f df in
-    let j : IsIn c (w.table.added (w.family.form x)) = subst (λ (cs : List (NameData × ℕ)). IsIn c cs) (derived_added x C f df) i in
-    elim (member_cases x (Original c.0)) [ inl e ↦ e | inr ne ↦ absurd (lacks_in (w.table.added (w.family.form x)) c.0 c (w.own_names x c.0 s.listed ne) j refl) ]
+      let s = derived_sound (deriving_of w) x C f df in
+      let j : IsIn c (w.table.added (w.family.form x)) = subst (λ (cs : List (NameData × ℕ)). IsIn c cs) (derived_added x C f df) i in
+      elim (member_cases x (Original c.0)) [ inl e ↦ e | inr ne ↦ absurd (lacks_in (w.table.added (w.family.form x)) c.0 c (w.own_names x c.0 s.listed ne) j refl) ]
 
   pub added_own : (x : Member) (C : Member → Bool) (f : F) → IsForm x C f → (c : NameData × ℕ) → IsIn c (w.table.added f) → own x c ≡ true
   added_own x C f df c i = subst (λ (z : Member). own z c ≡ true) (sym (added_owner x C f df c i)) (member_self (Original c.0))
@@ -70,33 +70,33 @@ module _ {F S : Type 0} (w : Setting F S) where
 
   pub addable_fits : (C : Member → Bool) (s : S) (x : Member) (f : F) → At C s → IsForm x C f → w.table.Fits s f
   addable_fits C s x f st df =
-    let sound = derived_sound (deriving_of w) x C f df in
-    let bounded : w.table.inclusion.IsBounded f (length (w.table.cells s)) = subst (λ (n : ℕ). w.table.inclusion.IsBounded f n) (sym st.weighs) (derived_bounded (deriving_of w) x C f df) in
-    w.laws.fits s f bounded (new_names (w.table.cells s) (w.table.added f) (λ a i c j. λ p.
+      let sound = derived_sound (deriving_of w) x C f df in
+      let bounded : w.table.inclusion.IsBounded f (length (w.table.cells s)) = subst (λ (n : ℕ). w.table.inclusion.IsBounded f n) (sym st.weighs) (derived_bounded (deriving_of w) x C f df) in
+      w.laws.fits s f bounded (new_names (w.table.cells s) (w.table.added f) (λ a i c j. λ p.
       let is : x ≡ Original c.0 = added_owner x C f df a i ∙ ap Original (sym p) in
       both_ways (C x) sound.lacks (subst (λ (y : Member). C y ≡ true) (sym is) (st.names c j))))
 
   pub state_more : (C : Member → Bool) (s : S) (x : Member) (f : F) → At C s → IsForm x C f → At (plus C x) (w.table.apply s f)
   state_more C s x f st df =
-    let cs = w.table.cells s in
-    let p = w.table.inclusion.place f in
-    let whole = w.laws.kept_at s f (addable_fits C s x f st df) in
-    let long : length (w.table.cells (w.table.apply s f)) ≡ length cs + length (w.table.added f) = ap length whole ∙ length-put p cs (w.table.added f) in
-    let many = w.laws.added_length f in
-    let more = weight_plus (deriving_of w) x C f df in
-    let was = st.weighs in
-    record {
-      weighs = long ∙ (ap₂ (λ m n. m + n) was many ∙ sym more);
-      names = λ c i.
-        let j : IsIn c (take p cs ++ (w.table.added f ++ drop p cs)) = subst (λ (l : List (NameData × ℕ)). IsIn c l) whole i in
-        elim (in_cases c (take p cs) (w.table.added f ++ drop p cs) j) [ inl a ↦ plus_keeps C x (Original c.0) (st.names c (in_take c p cs a)) | inr a ↦ elim (in_cases c (w.table.added f) (drop p cs) a) [ inl e ↦ subst (λ (y : Member). plus C x y ≡ true) (added_owner x C f df c e) (plus_here C x) | inr e ↦ plus_keeps C x (Original c.0) (st.names c (in_drop c p cs e)) ] ]
-    }
+      let cs = w.table.cells s in
+      let p = w.table.inclusion.place f in
+      let whole = w.laws.kept_at s f (addable_fits C s x f st df) in
+      let long : length (w.table.cells (w.table.apply s f)) ≡ length cs + length (w.table.added f) = ap length whole ∙ length-put p cs (w.table.added f) in
+      let many = w.laws.added_length f in
+      let more = weight_plus (deriving_of w) x C f df in
+      let was = st.weighs in
+      record {
+        weighs = long ∙ (ap₂ (λ m n. m + n) was many ∙ sym more);
+        names = λ c i.
+            let j : IsIn c (take p cs ++ (w.table.added f ++ drop p cs)) = subst (λ (l : List (NameData × ℕ)). IsIn c l) whole i in
+            elim (in_cases c (take p cs) (w.table.added f ++ drop p cs) j) [ inl a ↦ plus_keeps C x (Original c.0) (st.names c (in_take c p cs a)) | inr a ↦ elim (in_cases c (w.table.added f) (drop p cs) a) [ inl e ↦ subst (λ (y : Member). plus C x y ≡ true) (added_owner x C f df c e) (plus_here C x) | inr e ↦ plus_keeps C x (Original c.0) (st.names c (in_drop c p cs e)) ] ];
+      }
 
   -- a state without cells is a state at the empty set
   pub empty_state : (s : S) → w.table.cells s ≡ [] → At none s
   empty_state s e = record {
     weighs = ap length e ∙ sym (sum_none (λ (x : Member). w.table.inclusion.extent (w.family.form x)) w.family.members);
-    names = λ c i. absurd (subst (λ (l : List (NameData × ℕ)). IsIn c l) e i)
+    names = λ c i. absurd (subst (λ (l : List (NameData × ℕ)). IsIn c l) e i);
   }
 
   -- ---- lists of members and their forms

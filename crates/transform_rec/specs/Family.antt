@@ -1,5 +1,5 @@
 -- A family: a list of members, each with its base context and its base form.
-use Rattle.std.specs.Prelude.{◌≡◌, ◌≢◌, ℕ, Bool, true, false, List, [], ◌∷◌}
+use Rattle.std.specs.Prelude.{◌≡◌, ℕ, Bool, true, false, List, [], ◌∷◌}
 use Rattle.op_name.specs.declared.member.Member.{Member}
 use Rattle.transform_rec.specs.Sets.{IsSubset}
 use Rattle.ttf_form.specs.Families.{IsIn, sum_where}

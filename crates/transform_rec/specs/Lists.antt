@@ -1,5 +1,5 @@
 -- Lists of members and of cells: what is in them, how much passes a test, and in which order they stand.
-use Rattle.std.specs.Prelude.{◌≡◌, ◌≢◌, ℕ, ◌+◌, Bool, true, ◌||◌, List, [], ◌∷◌, ◌⊎◌, if◌then◌else◌}
+use Rattle.std.specs.Prelude.{◌≡◌, ◌≢◌, ℕ, ◌+◌, Bool, true, ◌||◌, List, [], ◌∷◌, if◌then◌else◌}
 use Rattle.ttf_form.specs.Families.{IsIn}
 
 -- no element stands twice

@@ -8,7 +8,8 @@
 mod laws;
 
 pub use laws::{
-    addable_form_fits, causal_lists_have_forms, one_form, one_more_member, order_independence, restriction, swap, to_the_front,
+    addable_form_fits, causal_lists_have_forms, one_form, one_more_member, order_independence,
+    restriction, swap, to_the_front,
 };
 
 #[cfg(test)]

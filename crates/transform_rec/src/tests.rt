@@ -6,7 +6,8 @@ ghost use Rattle.ttf_form.specs.Families.{IsIn};
 ghost use Rattle.transform_rec.specs.TwoInserts.{two_members, two_form, unseen, AreTwo, two_apart, two_bounded, two_total};
 
 use super::{
-    addable_form_fits, causal_lists_have_forms, one_form, one_more_member, order_independence, restriction, swap, to_the_front,
+    addable_form_fits, causal_lists_have_forms, one_form, one_more_member, order_independence,
+    restriction, swap, to_the_front,
 };
 use op_name::{Member, Name};
 use ttf_form::{Bases, Form, Ins};
@@ -84,5 +85,8 @@ fn the_laws_at_the_forms_of_the_editor(rt: HostRuntime) {
     order_independence::<Form, TwoInserts>(&bases);
     restriction::<Form, TwoInserts>(&bases);
     one_more_member::<Form, TwoInserts>(&bases);
-    assert_eq!(rt; bases.base(&Member::Original(bases.left.name)), Form::Ins(bases.left));
+    assert_eq!(rt;
+        bases.base(&Member::Original(bases.left.name)),
+        Form::Ins(bases.left)
+    );
 }

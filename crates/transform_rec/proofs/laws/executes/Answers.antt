@@ -7,5 +7,5 @@ returns-clause-table g c = record {
   tp1 = g.met.F.Applies.tp1;
   kept_at = g.met.F.Applies.kept;
   added_length = g.met.F.Applies.added_length;
-  added_over = g.met.F.Applies.added_over
+  added_over = g.met.F.Applies.added_over;
 }
