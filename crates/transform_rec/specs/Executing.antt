@@ -4,7 +4,7 @@ use Rattle.op_name.specs.NameData.{NameData}
 use Rattle.op_name.specs.declared.member.Member.{Member}
 use Rattle.op_name.specs.declared.member.Member.TheVariants.{Original}
 use Rattle.op_name.specs.Members.{member_eq}
-use Rattle.ttf_form.specs.Names.{LacksName, NewNames}
+pub use Rattle.ttf_form.specs.Names.{LacksName, NewNames}
 use Rattle.transform_rec.specs.Sets.{plus}
 use Rattle.ttf_form.specs.Families.{IsIn}
 use Rattle.transform_rec.specs.Family.{Family, IsSound}

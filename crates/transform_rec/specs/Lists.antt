@@ -1,6 +1,6 @@
 -- Lists of members and of cells: what is in them, how much passes a test, and in which order they stand.
 use Rattle.std.specs.Prelude.{◌≡◌, ◌≢◌, ℕ, ◌+◌, Bool, true, ◌||◌, List, [], ◌∷◌, if◌then◌else◌}
-use Rattle.ttf_form.specs.Families.{IsIn}
+pub use Rattle.ttf_form.specs.Families.{IsIn, sum_where, total_by}
 
 -- no element stands twice
 abbrev pub AreApart : {A : Type 0} → List A → Type 0
