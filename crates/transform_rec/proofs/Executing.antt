@@ -17,6 +17,7 @@ use Rattle.transform_rec.proofs.Lists.{in_cases, in_take, in_drop, length-put, s
 use Rattle.transform_rec.proofs.Sets.{same_set, plus_here, plus_keeps, plus_parts}
 use Rattle.transform_rec.proofs.Families.{closed_plus}
 use Rattle.transform_rec.proofs.Forms.{derived_sound, derived_bounded, weight_plus, list_forms}
+use Rattle.transform_rec.proofs.CausalLists.{causal_moves, causal-append, causal_parts, causal_out, causal_listed, causal_apart, causal_closed}
 use Rattle.transform_rec.proofs.Uniqueness.{derived_once}
 
 -- ---- names of cells
@@ -102,7 +103,7 @@ module _ {F S : Type 0} (w : Setting F S) where
   -- ---- lists of members and their forms
 
   pub run_moves : (C D : Member → Bool) (xs : List Member) → SameSet C D → Run C xs → Run D xs
-  run_moves C D xs h r = subst (λ (E : Member → Bool). Run E xs) (same_set C D h) r
+  run_moves C D xs h r = causal_moves w.family C D xs h r
 
   pub forms_move : (C D : Member → Bool) (xs : List Member) (fs : List F) → SameSet C D → Forms C xs fs → Forms D xs fs
   forms_move C D xs fs h r = subst (λ (E : Member → Bool). Forms E xs fs) (same_set C D h) r
@@ -133,12 +134,10 @@ module _ {F S : Type 0} (w : Setting F S) where
   state_after (x ∷ xs) C s (f ∷ fs) st df = state_after xs (plus C x) (w.table.apply s f) fs (state_more C s x f st df.0) df.1
 
   pub run-append : (xs ys : List Member) (C : Member → Bool) → Run C xs → Run (plus_all C xs) ys → Run C (xs ++ ys)
-  run-append [] ys C r q = q
-  run-append (x ∷ xs) ys C r q = (r.0, run-append xs ys (plus C x) r.1 q)
+  run-append xs ys C r q = causal-append w.family xs ys C r q
 
   pub run_parts : (xs ys : List Member) (C : Member → Bool) → Run C (xs ++ ys) → Run C xs × Run (plus_all C xs) ys
-  run_parts [] ys C r = (tt, r)
-  run_parts (x ∷ xs) ys C r = let q = run_parts xs ys (plus C x) r.1 in ((r.0, q.0), q.1)
+  run_parts xs ys C r = causal_parts w.family xs ys C r
 
   pub forms-append : (xs ys : List Member) (C : Member → Bool) (fs gs : List F) → Forms C xs fs → Forms (plus_all C xs) ys gs → Forms C (xs ++ ys) (fs ++ gs)
   forms-append [] ys C [] gs df dg = dg
@@ -150,22 +149,14 @@ module _ {F S : Type 0} (w : Setting F S) where
   run_append s [] gs = refl
   run_append s (f ∷ fs) gs = run_append (w.table.apply s f) fs gs
 
-  -- no member of a causal list is in the set that it starts from
   pub run_out : (xs : List Member) (C : Member → Bool) (z : Member) → Run C xs → IsIn z xs → C z ≡ false
-  run_out [] C z r i = absurd i
-  run_out (x ∷ xs) C z r (inl e) = subst (λ (y : Member). C y ≡ false) (sym e) r.0.lacks
-  run_out (x ∷ xs) C z r (inr i) = (plus_parts C x z (run_out xs (plus C x) z r.1 i)).0
+  run_out xs C z r i = causal_out w.family xs C z r i
 
   pub run_listed : (xs : List Member) (C : Member → Bool) (z : Member) → Run C xs → IsIn z xs → IsIn z w.family.members
-  run_listed [] C z r i = absurd i
-  run_listed (x ∷ xs) C z r (inl e) = subst (λ (y : Member). IsIn y w.family.members) (sym e) r.0.listed
-  run_listed (x ∷ xs) C z r (inr i) = run_listed xs (plus C x) z r.1 i
+  run_listed xs C z r i = causal_listed w.family xs C z r i
 
-  -- no member stands twice in a causal list
   pub run_apart : (xs : List Member) (C : Member → Bool) → Run C xs → AreApart xs
-  run_apart [] C r = tt
-  run_apart (x ∷ xs) C r = ((λ z i. (plus_parts C x z (run_out xs (plus C x) z r.1 i)).1), run_apart xs (plus C x) r.1)
+  run_apart xs C r = causal_apart w.family xs C r
 
   pub run_closed : (xs : List Member) (C : Member → Bool) → IsClosed w.family C → Run C xs → IsClosed w.family (plus_all C xs)
-  run_closed [] C c r = c
-  run_closed (x ∷ xs) C c r = run_closed xs (plus C x) (closed_plus w.family x C r.0) r.1
+  run_closed xs C c r = causal_closed w.family xs C c r

@@ -3,6 +3,8 @@ pub mod Lists
 pub mod Sets
 pub mod Families
 pub mod Forms
+pub mod CausalLists
+pub mod Turns
 pub mod Uniqueness
 pub mod Executing
 pub mod Order

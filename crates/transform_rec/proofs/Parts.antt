@@ -16,60 +16,20 @@ use Rattle.transform_rec.proofs.Sets.{same_set, same_from, plus_here, plus_keeps
 use Rattle.transform_rec.proofs.Families.{closed_meet, closed_plus, sound_moves}
 use Rattle.transform_rec.proofs.Forms.{derived_sound, derived_bounded, form_moves}
 use Rattle.transform_rec.proofs.Executing.{IsForm, Run, Forms, run, At, added_own, added_owner, addable_fits, state_more, state_after, run_forms, forms_run, forms-append, run_append, run_out, run_closed}
+use Rattle.transform_rec.proofs.CausalLists.{causal_filter, causal_part, causal_rest}
 use Rattle.transform_rec.proofs.Order.{any_order}
 
 module _ {F S : Type 0} (w : Setting F S) where
   -- ---- the part of a causal list in a set, and the rest
 
-  -- C and E agree on the part by D, with x in D more
-  meet_more : (C E D : Member → Bool) (x : Member) → SameSet E (meet C D) → D x ≡ true → SameSet (plus E x) (meet (plus C x) D)
-  meet_more C E D x h d =
-      same_from (plus E x) (meet (plus C x) D)
-      (plus_within E (meet (plus C x) D) x
-      (λ z i. let r = and_parts (C z) (D z) (sym (h z) ∙ i) in and_from (plus C x z) (D z) (plus_keeps C x z r.0) r.1)
-      (and_from (plus C x x) (D x) (plus_here C x) d))
-      (λ z i. let r = and_parts (plus C x z) (D z) i in elim (plus_cases C x z r.0) [ inl a ↦ plus_keeps E x z (h z ∙ and_from (C z) (D z) a r.1) | inr e ↦ subst (λ (y : Member). plus E x y ≡ true) e (plus_here E x) ])
-
-  meet_stays : (C E D : Member → Bool) (x : Member) → SameSet E (meet C D) → D x ≡ false → SameSet E (meet (plus C x) D)
-  meet_stays C E D x h d =
-      same_from E (meet (plus C x) D)
-      (λ z i. let r = and_parts (C z) (D z) (sym (h z) ∙ i) in and_from (plus C x z) (D z) (plus_keeps C x z r.0) r.1)
-      (λ z i. let r = and_parts (plus C x z) (D z) i in elim (plus_cases C x z r.0) [ inl a ↦ h z ∙ and_from (C z) (D z) a r.1 | inr e ↦ absurd (both_ways (D x) d (subst (λ (y : Member). D y ≡ true) (sym e) r.1)) ])
-
-  -- the members of a causal list that a closed test keeps are a causal list, from the part of the first set
   pub filter_run : (D : Member → Bool) → ((x : Member) → D x ≡ true → IsSubset (w.family.context x) D) → (xs : List Member) (C E : Member → Bool) → SameSet E (meet C D) → Run w C xs → Run w E (filter D xs)
-  filter_run D closed [] C E h r = tt
-  filter_run D closed (x ∷ xs) C E h r =
-      elim (cases_Bool (D x)) [
-        | inl d ↦ let sound : IsSound w.family x (meet C D) = record {
-          listed = r.0.listed;
-          covers = λ z i. and_from (C z) (D z) (r.0.covers z i) (closed x d z i);
-          set = closed_meet w.family C D r.0.set closed;
-          lacks = and_left (C x) (D x) r.0.lacks;
-        } in
-            subst (λ (l : List Member). Run w E l) (sym (filter_keeps D x xs d)) (sound_moves w.family x (meet C D) E (λ z. sym (h z)) sound, filter_run D closed xs (plus C x) (plus E x) (meet_more C E D x h d) r.1)
-        | inr d ↦ subst (λ (l : List Member). Run w E l) (sym (filter_drops D x xs d)) (filter_run D closed xs (plus C x) E (meet_stays C E D x h d) r.1)
-      ]
+  filter_run D closed xs C E h r = causal_filter w.family D closed xs C E h r
 
-  -- from a set within D the part is a causal list from that set itself
   pub part_run : (D : Member → Bool) → ((x : Member) → D x ≡ true → IsSubset (w.family.context x) D) → (xs : List Member) (C : Member → Bool) → IsSubset C D → Run w C xs → Run w C (filter D xs)
-  part_run D closed xs C h r = filter_run D closed xs C C (same_from C (meet C D) (λ z i. and_from (C z) (D z) i (h z i)) (λ z i. (and_parts (C z) (D z) i).0)) r
+  part_run D closed xs C h r = causal_part w.family D closed xs C h r
 
-  -- the other members of a causal list are a causal list from a closed set that holds the first set and the members left out
   pub rest_run : (D : Member → Bool) (xs : List Member) (C K : Member → Bool) → IsClosed w.family K → IsSubset C K → ((z : Member) → IsIn z xs → D z ≡ true → K z ≡ true) → ((z : Member) → IsIn z xs → K z ≡ true → D z ≡ true) → Run w C xs → Run w K (filter (λ z. not (D z)) xs)
-  rest_run D [] C K k h f g r = tt
-  rest_run D (x ∷ xs) C K k h f g r =
-      elim (cases_Bool (D x)) [
-        | inl d ↦ subst (λ (l : List Member). Run w K l) (sym (filter_drops (λ z. not (D z)) x xs (not_from_true (D x) d))) (rest_run D xs (plus C x) K k (plus_within C K x h (f x (inl refl) d)) (λ z i e. f z (inr i) e) (λ z i e. g z (inr i) e) r.1)
-        | inr d ↦ let sound : IsSound w.family x K = record {
-          listed = r.0.listed;
-          covers = λ z i. h z (r.0.covers z i);
-          set = k;
-          lacks = false_from_ne_true (K x) (λ e. both_ways (D x) d (g x (inl refl) e));
-        } in
-            let later : (z : Member) → IsIn z xs → x ≢ z = λ z i. (plus_parts C x z (run_out w xs (plus C x) z r.1 i)).1 in
-            subst (λ (l : List Member). Run w K l) (sym (filter_keeps (λ z. not (D z)) x xs (not_from_false (D x) d))) (sound, rest_run D xs (plus C x) (plus K x) (closed_plus w.family x K sound) (plus_both C K x h) (λ z i e. plus_keeps K x z (f z (inr i) e)) (λ z i e. elim (plus_cases K x z e) [ inl a ↦ g z (inr i) a | inr q ↦ absurd (later z i q) ]) r.1)
-      ]
+  rest_run D xs C K k h f g r = causal_rest w.family D xs C K k h f g r
 
   -- ---- restriction
 

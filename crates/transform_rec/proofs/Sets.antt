@@ -1,5 +1,5 @@
 -- Facts on sets of members: one member more or less, and the members of a list more.
-use Rattle.std.proofs.Common.{◌≡◌, ◌≢◌, ℕ, ◌+◌, Bool, true, false, not, ◌&&◌, ◌||◌, List, [], ◌∷◌, ◌++◌, if◌then◌else◌, ◌⊎◌, inl, inr, refl, sym, ap, ap₂, subst, ◌∙◌, arith}
+use Rattle.std.proofs.Common.{◌≡◌, ◌≢◌, ℕ, ◌+◌, ◌≤◌, Bool, true, false, not, ◌&&◌, ◌||◌, List, [], ◌∷◌, ◌++◌, if◌then◌else◌, ◌⊎◌, inl, inr, refl, sym, ap, ap₂, subst, ◌∙◌, arith}
 use Rattle.std.proofs.lemmas.Bool.{cases_Bool, both_ways, or_right, or_left, or_cases, or_from, or_parts, and_parts, and_from, not-true, not_from_false, false_from_ne_true}
 use Rattle.op_name.specs.declared.member.Member.{Member}
 use Rattle.op_name.specs.Members.{member_eq}
@@ -134,3 +134,13 @@ sum_plus C x f (y ∷ ys) a (inr i) l =
     let here : plus C x y ≡ C y = plus_other C x y (λ e. a.0 x i (sym e)) in
     let lhs : sum_where (plus C x) f (y ∷ ys) ≡ (if C y then f y else 0) + (sum_where C f ys + f x) = ap₂ (λ b n. (if b then f y else 0) + n) here ih in
     lhs ∙ omega arith
+
+-- a greater set has a greater sum
+pub sum_within : (C D : Member → Bool) (f : Member → ℕ) (xs : List Member) → IsSubset C D → sum_where C f xs ≤ sum_where D f xs
+sum_within C D f [] h = omega arith
+sum_within C D f (x ∷ xs) h =
+  let ih = sum_within C D f xs h in
+  elim (cases_Bool (C x)) [ inl c ↦ let d = h x c in rw (c, d) (omega arith) | inr c ↦ rw c (omega arith) ]
+
+pub all_same : (xs : List Member) (C D : Member → Bool) → SameSet C D → SameSet (plus_all C xs) (plus_all D xs)
+all_same xs C D h = subst (λ (E : Member → Bool). SameSet (plus_all C xs) (plus_all E xs)) (same_set C D h) (λ z. refl)
