@@ -1,21 +1,34 @@
 -- What every derived form has: its set is one that its member may be added to, and it keeps the extent, the apartness and
 -- the bound of its base form.
-use Rattle.std.proofs.Common.{◌≡◌, ◌≢◌, ℕ, zero, suc, ◌+◌, ◌≤◌, Bool, List, [], ◌∷◌, ◌⊎◌, inl, inr, refl, sym, ap, subst, ◌∙◌, arith}
+use Rattle.std.proofs.Common.{◌≡◌, ◌≢◌, ℕ, zero, suc, ◌+◌, ◌≤◌, Bool, true, List, [], ◌∷◌, ◌⊎◌, inl, inr, refl, sym, ap, subst, ◌∙◌, arith}
 use Rattle.op_name.specs.declared.member.Member.{Member}
 use Rattle.transform_rec.specs.Sets.{SameSet, plus, minus}
-use Rattle.ttf_form.specs.Families.{total_by}
+use Rattle.ttf_form.specs.Families.{IsIn, total_by}
 use Rattle.transform_rec.specs.Family.{Family, IsSound, size}
 use Rattle.transform_rec.specs.Derived.{Derived, Deriving, weight, Holds}
 use Rattle.transform_rec.specs.Derived.Derived.{at_base, by_step}
 use Rattle.transform_rec.specs.Executing.{IsCausalFrom, AreFormsFrom}
 use Rattle.transform_rec.proofs.Lists.{sum_below}
-use Rattle.transform_rec.proofs.Sets.{same_set, sum_plus}
+use Rattle.transform_rec.proofs.Sets.{same_set, plus_here, plus_keeps, sum_plus}
 use Rattle.transform_rec.proofs.Families.{sound_moves, sound_plus, sound_unrelated, base_sound, free_last, Free, size_plus}
 
 -- a derivation holds of any family that holds the members, base contexts and base forms of the first
 pub derived_moves : {F : Type 0} (over : F → F → F) (b c : Family F) → Holds b c → (m : Member) (C : Member → Bool) (f : F) → Derived over b m C f → Derived over c m C f
 derived_moves over b c h m C f (at_base i s e) = at_base (h.members m i) (λ z. s z ∙ h.context m i z) (e ∙ h.form m i)
 derived_moves over b c h m C f (by_step D x g k i ne l s dg dk e) = by_step D x g k (h.members x i) ne l s (derived_moves over b c h m D g dg) (derived_moves over b c h x D k dk) e
+
+-- a derivation at C of m names m and members of C alone: it holds of any family that has these as the first has them
+pub derived_among : {F : Type 0} (over : F → F → F) (b c : Family F) (m : Member) (C : Member → Bool) (f : F) → ((x : Member) → (x ≡ m) ⊎ (C x ≡ true) → IsIn x b.members → IsIn x c.members × (SameSet (b.context x) (c.context x) × (b.form x ≡ c.form x))) → Derived over b m C f → Derived over c m C f
+derived_among over b c m C f h (at_base i s e) =
+  let r = h m (inl refl) i in
+  at_base r.0 (λ z. s z ∙ r.1.0 z) (e ∙ r.1.1)
+derived_among over b c m C f h (by_step D x g k i ne l s dg dk e) =
+  let wider : (z : Member) → D z ≡ true → C z ≡ true = λ z d. s z ∙ plus_keeps D x z d in
+  let there : C x ≡ true = s x ∙ plus_here D x in
+  by_step D x g k (h x (inr there) i).0 ne l s
+    (derived_among over b c m D g (λ z u. h z (elim u [ inl p ↦ inl p | inr d ↦ inr (wider z d) ])) dg)
+    (derived_among over b c x D k (λ z u. h z (elim u [ inl p ↦ inr (subst (λ (y : Member). C y ≡ true) (sym p) there) | inr d ↦ inr (wider z d) ])) dk)
+    e
 
 module _ {F : Type 0} (d : Deriving F) where
   abbrev pub IsForm : Member → (Member → Bool) → F → Type 0
