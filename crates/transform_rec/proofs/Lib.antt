@@ -1,0 +1,13 @@
+pub mod Members
+pub mod Lists
+pub mod Sets
+pub mod Families
+pub mod Forms
+pub mod CausalLists
+pub mod Turns
+pub mod Uniqueness
+pub mod Executing
+pub mod Order
+pub mod Parts
+pub mod CausalOrders
+pub mod LawsHold

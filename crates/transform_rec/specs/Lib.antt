@@ -1,0 +1,7 @@
+pub mod Sets
+pub mod Lists
+pub mod Family
+pub mod Derived
+pub mod Executing
+pub mod Laws
+pub mod TwoInserts

@@ -1,0 +1,16 @@
+//! The one form that each member has at each context, and the laws of executing such forms.
+//!
+//! A family is a list of members, each with a base form and a base context. From it a form of a member at a
+//! greater context is derived by inclusion steps between equal contexts (COT 2009), and there is exactly one.
+//! Executed in any causal order these forms give one state.
+#![tactic(auto)]
+
+mod laws;
+
+pub use laws::{
+    addable_form_fits, causal_lists_have_forms, one_form, one_more_member, order_independence,
+    restriction, swap, to_the_front,
+};
+
+#[cfg(test)]
+mod tests;
