@@ -1,0 +1,5 @@
+pub mod Elements
+pub mod Counts
+pub mod Stretches
+pub mod Narrowing
+pub mod Sorting
