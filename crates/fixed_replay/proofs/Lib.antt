@@ -3,3 +3,5 @@ pub mod Counts
 pub mod Stretches
 pub mod Narrowing
 pub mod Sorting
+pub mod Names
+pub mod SameText
