@@ -1,5 +1,5 @@
 -- Counts: how many elements of a list pass a test, and how many of them stand before each element that passes another.
-use Rattle.std.proofs.Common.{◌≡◌, ℕ, ◌+◌, ◌<◌, ◌≤◌, ◌≢◌, Bool, true, false, ◌||◌, List, [], ◌∷◌, ◌++◌, length, filter, if◌then◌else◌, ◌⊎◌, inl, inr, refl, ap, sym, subst, arith, zero-add, length-append}
+use Rattle.std.proofs.Common.{◌≡◌, ℕ, ◌+◌, ◌<◌, ◌≤◌, ◌≢◌, Bool, true, false, ◌||◌, List, [], ◌∷◌, ◌++◌, length, filter, if◌then◌else◌, inl, inr, refl, subst, arith, zero-add}
 use Rattle.std.specs.List.{list_any}
 use Rattle.fixed_replay.proofs.Elements.{IsIn, true_or_false, not_both}
 
@@ -26,8 +26,8 @@ AreDisjoint {K} p q = (c : K) → p c ≡ true → q c ≡ false
 pub count-either : {K : Type 0} (p q : K → Bool) → AreDisjoint p q → (xs : List K) → count (either p q) xs ≡ count p xs + count q xs
 count-either p q d [] = refl
 count-either p q d (x ∷ xs) =
-  let ih = count-either p q d xs in
-  elim (true_or_false (p x)) [ inl h ↦ rw (h, d x h, ih) (omega arith) | inr h ↦ rw (h, ih) (omega arith) ]
+    let ih = count-either p q d xs in
+    elim (true_or_false (p x)) [ inl h ↦ rw (h, d x h, ih) (omega arith) | inr h ↦ rw (h, ih) (omega arith) ]
 
 -- each element that passes x has q elements that pass p before it, of which k are in front of the list
 abbrev pub EachAt : {K : Type 0} → (K → Bool) → (K → Bool) → ℕ → ℕ → List K → Type 0
@@ -37,22 +37,22 @@ EachAt p x q k (c ∷ cs) = (x c ≡ true → k ≡ q) × EachAt p x q ((if p c 
 pub each-append : {K : Type 0} (p x : K → Bool) (q k : ℕ) (xs ys : List K) → EachAt p x q k (xs ++ ys) → EachAt p x q k xs × EachAt p x q (count p xs + k) ys
 each-append p x q k [] ys e = (tt, rw zero-add e)
 each-append p x q k (c ∷ cs) ys e =
-  let ih = each-append p x q ((if p c then 1 else 0) + k) cs ys e.1 in
-  ((e.0, ih.0), subst (λ (j : ℕ). EachAt p x q j ys) (omega arith) ih.1)
+    let ih = each-append p x q ((if p c then 1 else 0) + k) cs ys e.1 in
+    ((e.0, ih.0), subst (λ (j : ℕ). EachAt p x q j ys) (omega arith) ih.1)
 
 -- too many are in front already
 pub each-late : {K : Type 0} (p x : K → Bool) (q k : ℕ) (cs : List K) → q < k → EachAt p x q k cs → count x cs ≡ 0
 each-late p x q k [] h e = refl
 each-late p x q k (c ∷ cs) h e =
-  let ih = each-late p x q ((if p c then 1 else 0) + k) cs (omega arith) e.1 in
-  elim (true_or_false (x c)) [ inl t ↦ let b : k ≡ q = e.0 t in absurd (omega arith) | inr f ↦ rw (f, ih) refl ]
+    let ih = each-late p x q ((if p c then 1 else 0) + k) cs (omega arith) e.1 in
+    elim (true_or_false (x c)) [ inl t ↦ let b : k ≡ q = e.0 t in absurd (omega arith) | inr f ↦ rw (f, ih) refl ]
 
 -- none of p stands here, and the number in front is another
 pub each-between : {K : Type 0} (p x : K → Bool) (q k : ℕ) (cs : List K) → count p cs ≡ 0 → k ≢ q → EachAt p x q k cs → count x cs ≡ 0
 each-between p x q k [] h ne e = refl
 each-between p x q k (c ∷ cs) h ne e =
-  let ih = each-between p x q ((if p c then 1 else 0) + k) cs (omega arith) (λ (j : (if p c then 1 else 0) + k ≡ q). ne (omega arith)) e.1 in
-  elim (true_or_false (x c)) [ inl t ↦ absurd (ne (e.0 t)) | inr f ↦ rw (f, ih) refl ]
+    let ih = each-between p x q ((if p c then 1 else 0) + k) cs (omega arith) (λ (j : (if p c then 1 else 0) + k ≡ q). ne (omega arith)) e.1 in
+    elim (true_or_false (x c)) [ inl t ↦ absurd (ne (e.0 t)) | inr f ↦ rw (f, ih) refl ]
 
 -- the list is empty or its first element passes
 abbrev pub BeginsIn : {K : Type 0} → (K → Bool) → List K → Type 0
@@ -74,16 +74,16 @@ pub each-early : {K : Type 0} (p x : K → Bool) → AreDisjoint p x → (q k : 
 each-early p x d q k [] ends le e = refl
 each-early p x d q k (c ∷ []) ends le e = rw (d c ends) refl
 each-early p x d q k (c ∷ (c' ∷ cs)) ends le e =
-  let pos = ends-count p c' cs ends in
-  let ih = each-early p x d q ((if p c then 1 else 0) + k) (c' ∷ cs) ends (omega arith) e.1 in
-  elim (true_or_false (x c)) [ inl t ↦ let b : k ≡ q = e.0 t in absurd (omega arith) | inr f ↦ rw (f, ih) refl ]
+    let pos = ends-count p c' cs ends in
+    let ih = each-early p x d q ((if p c then 1 else 0) + k) (c' ∷ cs) ends (omega arith) e.1 in
+    elim (true_or_false (x c)) [ inl t ↦ let b : k ≡ q = e.0 t in absurd (omega arith) | inr f ↦ rw (f, ih) refl ]
 
 -- the list begins in p, with enough of p in front
 pub begins-late : {K : Type 0} (p x : K → Bool) → AreDisjoint p x → (q k : ℕ) (cs : List K) → BeginsIn p cs → q ≤ k → EachAt p x q k cs → count x cs ≡ 0
 begins-late p x d q k [] b le e = refl
 begins-late p x d q k (c ∷ cs) b le e =
-  let u : EachAt p x q (1 + k) cs = rw b at e.1 in
-  rw (d c b, each-late p x q (1 + k) cs (omega arith) u) refl
+    let u : EachAt p x q (1 + k) cs = rw b at e.1 in
+    rw (d c b, each-late p x q (1 + k) cs (omega arith) u) refl
 
 pub begins-more : {K : Type 0} (p r : K → Bool) → ((c : K) → p c ≡ true → r c ≡ true) → (xs : List K) → BeginsIn p xs → BeginsIn r xs
 begins-more p r h [] b = tt

@@ -1,5 +1,5 @@
 -- Elements of lists: which there are, in joined and filtered lists, and lists without repeats.
-use Rattle.std.proofs.Common.{◌≡◌, ℕ, zero, suc, ◌+◌, ◌<◌, ◌≢◌, Bool, true, false, List, [], ◌∷◌, ◌++◌, length, filter, map, if◌then◌else◌, ◌⊎◌, inl, inr, refl, ap, sym, ◌∙◌, subst, arith, slice_index_or, Contains, ◌↔◌}
+use Rattle.std.proofs.Common.{◌≡◌, ℕ, zero, suc, ◌<◌, Bool, true, false, List, [], ◌∷◌, ◌++◌, length, filter, map, ◌⊎◌, inl, inr, refl, ap, sym, ◌∙◌, arith, slice_index_or, Contains}
 use Rattle.std.specs.List.{list_any}
 
 -- a test gives true or false
@@ -52,8 +52,8 @@ filter-in p x (z ∷ zs) (inr i) h = elim (true_or_false (p z)) [ inl k ↦ rw k
 pub filter_same : {K : Type 0} (p q : K → Bool) (xs : List K) → ((x : K) → IsIn x xs → p x ≡ q x) → filter p xs ≡ filter q xs
 filter_same p q [] h = refl
 filter_same {K} p q (x ∷ xs) h =
-  let ih = filter_same p q xs (λ y i. h y (inr i)) in
-  elim (true_or_false (q x)) [ inl k ↦ let l : p x ≡ true = h x (inl refl) ∙ k in rw (l, k, ih) refl | inr k ↦ let l : p x ≡ false = h x (inl refl) ∙ k in rw (l, k, ih) refl ]
+    let ih = filter_same p q xs (λ y i. h y (inr i)) in
+    elim (true_or_false (q x)) [ inl k ↦ let l : p x ≡ true = h x (inl refl) ∙ k in rw (l, k, ih) refl | inr k ↦ let l : p x ≡ false = h x (inl refl) ∙ k in rw (l, k, ih) refl ]
 
 pub map_same : {K L : Type 0} (f g : K → L) (xs : List K) → ((x : K) → IsIn x xs → f x ≡ g x) → map f xs ≡ map g xs
 map_same f g [] h = refl

@@ -5,3 +5,6 @@ pub mod Narrowing
 pub mod Sorting
 pub mod Names
 pub mod SameText
+pub mod ValidHistories
+pub mod Ranks
+pub mod ValidOriginals

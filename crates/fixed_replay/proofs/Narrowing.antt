@@ -1,8 +1,8 @@
 -- Narrowing: a gap narrowed by one earlier insert after the other.
-use Rattle.std.proofs.Common.{◌≡◌, ℕ, Bool, true, false, List, [], ◌∷◌, ◌++◌, filter, not, nat_lt, ◌⊎◌, inl, inr, refl, ap, sym, ◌∙◌, subst}
+use Rattle.std.proofs.Common.{◌≡◌, true, false, List, [], ◌∷◌, ◌++◌, filter, not, ◌⊎◌, inl, inr, refl, ap, sym, ◌∙◌, subst}
 use Rattle.op_name.specs.NameData.{NameData}
-use Rattle.op_name.specs.Gaps.{Gap, gap, narrow}
-use Rattle.op_name.specs.Replays.{Insertion, Cell, cells_from, of_name, narrowed_by, narrowed, gap_of, put, replay}
+use Rattle.op_name.specs.Gaps.{Gap, gap}
+use Rattle.op_name.specs.Replays.{Insertion, Cell, cells_from, narrowed_by, narrowed, gap_of, put, replay}
 use Rattle.fixed_replay.proofs.Elements.{IsIn, true_or_false, in-append, append-in_left, append-in_right}
 use Rattle.fixed_replay.proofs.Stretches.{whole_of, gap_whole, narrow_whole}
 
@@ -18,8 +18,9 @@ narrowed_seen o x g h = rw h refl
 unseen_step : (o : Insertion) (x : NameData) (xs ys : List NameData) (g : Gap Cell) → (o.sees x ≡ true → ys ≡ xs) → (o.sees x ≡ false → ys ≡ x ∷ xs) → narrowed o xs (narrowed_by o x g) ≡ narrowed o ys g
 unfolding narrowed
 unseen_step o x xs ys g f h = elim (true_or_false (o.sees x)) [
-  inl k ↦ ap (λ (e : Gap Cell). narrowed o xs e) (narrowed_seen o x g k) ∙ ap (λ (zs : List NameData). narrowed o zs g) (sym (f k))
-  | inr k ↦ ap (λ (zs : List NameData). narrowed o zs g) (sym (h k)) ]
+  | inl k ↦ ap (λ (e : Gap Cell). narrowed o xs e) (narrowed_seen o x g k) ∙ ap (λ (zs : List NameData). narrowed o zs g) (sym (f k))
+  | inr k ↦ ap (λ (zs : List NameData). narrowed o zs g) (sym (h k))
+]
 
 pub narrowed_unseen : (o : Insertion) (xs : List NameData) (g : Gap Cell) → narrowed o xs g ≡ narrowed o (filter (λ (x : NameData). not (o.sees x)) xs) g
 unfolding narrowed
@@ -41,22 +42,27 @@ gap_of_whole o earlier cells = narrowed_whole o earlier (gap (λ c. o.sees c.0) 
 pub in-put : (c : Cell) (o : Insertion) (earlier : List NameData) (cells : List Cell) → IsIn c (put o earlier cells) → IsIn c cells ⊎ IsIn c (cells_from o)
 in-put c o earlier cells i = in_parts (in-append c g.before (g.between ++ (cells_from o ++ g.behind)) i)
   where
-  g : Gap Cell
-  g = gap_of o earlier cells
-  old : IsIn c (whole_of g) → IsIn c cells
-  old j = subst (λ (xs : List Cell). IsIn c xs) (gap_of_whole o earlier cells) j
-  in_parts : IsIn c g.before ⊎ IsIn c (g.between ++ (cells_from o ++ g.behind)) → IsIn c cells ⊎ IsIn c (cells_from o)
-  in_parts (inl j) = inl (old (append-in_left c g.before (g.between ++ g.behind) j))
-  in_parts (inr j) = elim (in-append c g.between (cells_from o ++ g.behind) j) [
-    inl k ↦ inl (old (append-in_right c g.before (g.between ++ g.behind) (append-in_left c g.between g.behind k)))
-    | inr k ↦ elim (in-append c (cells_from o) g.behind k) [
-      inl l ↦ inr l
-      | inr l ↦ inl (old (append-in_right c g.before (g.between ++ g.behind) (append-in_right c g.between g.behind l))) ] ]
+    g : Gap Cell
+    g = gap_of o earlier cells
+
+    old : IsIn c (whole_of g) → IsIn c cells
+    old j = subst (λ (xs : List Cell). IsIn c xs) (gap_of_whole o earlier cells) j
+
+    in_parts : IsIn c g.before ⊎ IsIn c (g.between ++ (cells_from o ++ g.behind)) → IsIn c cells ⊎ IsIn c (cells_from o)
+    in_parts (inl j) = inl (old (append-in_left c g.before (g.between ++ g.behind) j))
+    in_parts (inr j) = elim (in-append c g.between (cells_from o ++ g.behind) j) [
+      | inl k ↦ inl (old (append-in_right c g.before (g.between ++ g.behind) (append-in_left c g.between g.behind k)))
+      | inr k ↦ elim (in-append c (cells_from o) g.behind k) [
+        | inl l ↦ inr l
+        | inr l ↦ inl (old (append-in_right c g.before (g.between ++ g.behind) (append-in_right c g.between g.behind l)))
+      ]
+    ]
 
 -- a cell of a replay stood there before, or is of an insert of the list
 pub in-replay : (c : Cell) (os : List Insertion) (earlier : List NameData) (cells : List Cell) → IsIn c (replay earlier cells os) → IsIn c cells ⊎ ((o : Insertion) × IsIn o os × IsIn c (cells_from o))
 unfolding replay
 in-replay c [] earlier cells i = inl i
 in-replay c (o ∷ os) earlier cells i = elim (in-replay c os (earlier ++ (o.name ∷ [])) (put o earlier cells) i) [
-  inl j ↦ elim (in-put c o earlier cells j) [ inl k ↦ inl k | inr k ↦ inr (o, inl refl, k) ]
-  | inr j ↦ inr (j.0, inr j.1, j.2) ]
+  | inl j ↦ elim (in-put c o earlier cells j) [ inl k ↦ inl k | inr k ↦ inr (o, inl refl, k) ]
+  | inr j ↦ inr (j.0, inr j.1, j.2)
+]

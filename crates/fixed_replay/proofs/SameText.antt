@@ -1,21 +1,21 @@
 -- Two histories with the same originals, each at the same generation, have the same text.
-use Rattle.std.proofs.Common.{◌≡◌, ◌≢◌, ℕ, ◌<◌, Bool, true, false, not, ◌&&◌, ◌||◌, ◌==◌, nat_lt, List, [], ◌∷◌, ◌++◌, map, filter, max, encode_utf8_all, if◌then◌else◌, ◌⊎◌, inl, inr, refl, ap, ap₂, sym, ◌∙◌, subst, arith, Contains, ◌↔◌}
-use Rattle.std.proofs.lemmas.Bool.{and_parts, and_from, or_left, or_right}
+use Rattle.std.proofs.Common.{◌≡◌, ◌≢◌, ℕ, Bool, true, false, not, ◌&&◌, List, [], ◌∷◌, map, filter, encode_utf8_all, ◌⊎◌, inl, inr, refl, ap, ap₂, sym, ◌∙◌, subst, arith}
+use Rattle.std.proofs.lemmas.Bool.{or_left, or_right}
 use Rattle.std.proofs.lemmas.Bool.Decides.{nat_tests}
 use Rattle.std.specs.List.{list_any}
 use Rattle.op_name.specs.declared.member.Member.{Member}
-use Rattle.op_name.specs.declared.member.Member.TheVariants.{Original, Group}
+use Rattle.op_name.specs.declared.member.Member.TheVariants.{Original}
 use Rattle.op_name.specs.NameData.{NameData, name_eq}
 use Rattle.op_name.specs.Members.{member_eq}
 use Rattle.op_name.specs.Contexts.{ContextData, has, rank_of}
-use Rattle.op_name.specs.Operations.{OpData, inserting, deleting, undoing, member_of, context_of, is_original}
-use Rattle.op_name.specs.Histories.{is_known, in_force, generation_in, is_even, Same}
-use Rattle.op_name.specs.Replays.{Insertion, Cell, cells_from, insertions_in, is_earlier, sort_by, fixed_order, replay, replay_of, stands_at, hits, covers, is_shown, shown, character_in, characters_of, text_of}
-use Rattle.fixed_replay.specs.Originals.{AreTold, AreToldFrom, AreToldApart, site_of}
-use Rattle.fixed_replay.proofs.Elements.{IsIn, true_or_false, not_both, same_bool, contains_in, in_contains, any_in, in_any, filter_same, map_same, in-filter}
+use Rattle.op_name.specs.Operations.{OpData, inserting, deleting, undoing, member_of, is_original}
+use Rattle.op_name.specs.Histories.{is_known, in_force, is_even, Same}
+use Rattle.op_name.specs.Replays.{Insertion, Cell, cells_from, insertions_in, is_earlier, fixed_order, replay, replay_of, stands_at, hits, covers, is_shown, shown, character_in, characters_of, text_of}
+use Rattle.fixed_replay.specs.Originals.{AreTold, AreToldFrom, AreToldApart}
+use Rattle.fixed_replay.proofs.Elements.{IsIn, true_or_false, same_bool, contains_in, in_contains, any_in, in_any, filter_same, map_same, in-filter}
 use Rattle.fixed_replay.proofs.Sorting.{AreComparable, SameElements, in-sort_by, sort_by-in, sort_by-sorted, sorted_once}
 use Rattle.fixed_replay.proofs.Narrowing.{in-replay}
-use Rattle.fixed_replay.proofs.Names.{name_tells, name_self, member_self, member_tells}
+use Rattle.fixed_replay.proofs.Names.{name_tells, name_self, member_self}
 
 -- what is told from all is told from each
 pub told_from : (o : OpData) (os : List OpData) → AreToldFrom o os → (p : OpData) → IsIn p os → AreTold o p
@@ -70,11 +70,11 @@ pub insertions_comparable : (h : List OpData) → AreToldApart h → AreComparab
 insertions_comparable [] t = tt
 insertions_comparable (inserting n p ch c ∷ os) t = (first, insertions_comparable os t.1)
   where
-  first : (z : Insertion) → IsIn z (insertions_in os) → (is_earlier (insertion n p c) z ≡ true) ⊎ (is_earlier z (insertion n p c) ≡ true)
-  first z i = let r = in-insertions z os i in
-    let told = told_from (inserting n p ch c) os t.0 (inserting r.name r.place r.character r.context) r.there in
-    subst (λ (w : Insertion). (is_earlier (insertion n p c) w ≡ true) ⊎ (is_earlier w (insertion n p c) ≡ true)) (sym r.is)
-      (earlier_one (insertion n p c) (insertion r.name r.place r.context) (told.keys refl refl))
+    first : (z : Insertion) → IsIn z (insertions_in os) → (is_earlier (insertion n p c) z ≡ true) ⊎ (is_earlier z (insertion n p c) ≡ true)
+    first z i = let r = in-insertions z os i in
+        let told = told_from (inserting n p ch c) os t.0 (inserting r.name r.place r.character r.context) r.there in
+        subst (λ (w : Insertion). (is_earlier (insertion n p c) w ≡ true) ⊎ (is_earlier w (insertion n p c) ≡ true)) (sym r.is)
+        (earlier_one (insertion n p c) (insertion r.name r.place r.context) (told.keys refl refl))
 insertions_comparable (deleting n p c ∷ os) t = insertions_comparable os t.1
 insertions_comparable (undoing s n g c ∷ os) t = insertions_comparable os t.1
 
@@ -89,19 +89,20 @@ module _ (h k : List OpData) (told_h : AreToldApart h) (told_k : AreToldApart k)
 
   moved : (a b : List OpData) → ((o : OpData) → is_original o ≡ true → IsIn o a → IsIn o b) → (z : Insertion) → IsIn z (insertions_in a) → IsIn z (insertions_in b)
   moved a b f z i =
-    let r = in-insertions z a i in
-    subst (λ (w : Insertion). IsIn w (insertions_in b)) (sym r.is) (insertions-in r.name r.place r.character r.context b (f (inserting r.name r.place r.character r.context) refl r.there))
+      let r = in-insertions z a i in
+      subst (λ (w : Insertion). IsIn w (insertions_in b)) (sym r.is) (insertions-in r.name r.place r.character r.context b (f (inserting r.name r.place r.character r.context) refl r.there))
 
   same_elements : SameElements (fixed_order h) (fixed_order k)
-  same_elements z =
-    ( λ i. sort_by-in is_earlier z (insertions_in k) (moved h k forth z (in-sort_by is_earlier z (insertions_in h) i))
-    , λ i. sort_by-in is_earlier z (insertions_in h) (moved k h back z (in-sort_by is_earlier z (insertions_in k) i)) )
+  same_elements z = (
+    λ i. sort_by-in is_earlier z (insertions_in k) (moved h k forth z (in-sort_by is_earlier z (insertions_in h) i)),
+    λ i. sort_by-in is_earlier z (insertions_in h) (moved k h back z (in-sort_by is_earlier z (insertions_in k) i)),
+  )
 
   pub same_order : fixed_order h ≡ fixed_order k
   same_order = sorted_once is_earlier earlier_asym earlier_trans (fixed_order h) (fixed_order k)
-    (sort_by-sorted is_earlier earlier_asym earlier_trans (insertions_in h) (insertions_comparable h told_h))
-    (sort_by-sorted is_earlier earlier_asym earlier_trans (insertions_in k) (insertions_comparable k told_k))
-    same_elements
+      (sort_by-sorted is_earlier earlier_asym earlier_trans (insertions_in h) (insertions_comparable h told_h))
+      (sort_by-sorted is_earlier earlier_asym earlier_trans (insertions_in k) (insertions_comparable k told_k))
+      same_elements
 
   pub same_replay : replay_of h ≡ replay_of k
   same_replay = ap (replay [] []) same_order
@@ -110,8 +111,8 @@ module _ (h k : List OpData) (told_h : AreToldApart h) (told_k : AreToldApart k)
 pub in_known : (o : OpData) (n : NameData) (h : List OpData) → IsIn o h → member_of o ≡ Original n → is_known h (Original n) ≡ true
 in_known o n [] i e = absurd i
 in_known o n (p ∷ ps) (inl q) e =
-  let s : member_of p ≡ Original n = ap member_of (sym q) ∙ e in
-  or_left (member_eq (member_of p) (Original n)) (is_known ps (Original n)) (subst (λ (m : Member). member_eq m (Original n) ≡ true) (sym s) (member_self (Original n)))
+    let s : member_of p ≡ Original n = ap member_of (sym q) ∙ e in
+    or_left (member_eq (member_of p) (Original n)) (is_known ps (Original n)) (subst (λ (m : Member). member_eq m (Original n) ≡ true) (sym s) (member_self (Original n)))
 in_known o n (p ∷ ps) (inr i) e = or_right (member_eq (member_of p) (Original n)) (is_known ps (Original n)) (in_known o n ps i e)
 
 -- a cell of the replay is of an insert
@@ -123,28 +124,30 @@ pub record IsPut (h : List OpData) (c : Cell) : Type 0 where
 
 pub in-replay_of : (h : List OpData) (c : Cell) → IsIn c (replay_of h) → IsPut h c
 in-replay_of h c i = elim (in-replay c (fixed_order h) [] [] i) [
-  inl j ↦ absurd j
-  | inr r ↦ of_insert r.0 r.1 r.2 ]
+  | inl j ↦ absurd j
+  | inr r ↦ of_insert r.0 r.1 r.2
+]
   where
-  of_insert : (o : Insertion) → IsIn o (fixed_order h) → IsIn c (cells_from o) → IsPut h c
-  of_insert o j (inr a) = absurd a
-  of_insert o j (inl e) =
-    let r = in-insertions o h (in-sort_by is_earlier o (insertions_in h) j) in
-    let name : c.0 ≡ r.name = ap (λ (d : Cell). d.0) e ∙ ap (λ (x : Insertion). x.name) r.is in
-    record { place = r.place; character = r.character; context = r.context; there = subst (λ (n : NameData). IsIn (inserting n r.place r.character r.context) h) (sym name) r.there }
+    of_insert : (o : Insertion) → IsIn o (fixed_order h) → IsIn c (cells_from o) → IsPut h c
+    of_insert o j (inr a) = absurd a
+    of_insert o j (inl e) =
+        let r = in-insertions o h (in-sort_by is_earlier o (insertions_in h) j) in
+        let name : c.0 ≡ r.name = ap (λ (d : Cell). d.0) e ∙ ap (λ (x : Insertion). x.name) r.is in
+        record { place = r.place; character = r.character; context = r.context; there = subst (λ (n : NameData). IsIn (inserting n r.place r.character r.context) h) (sym name) r.there }
 
 -- ---- characters
 
 pub character_at : (h : List OpData) → AreToldApart h → (n : NameData) (p ch : ℕ) (ctx : ContextData) (offset : ℕ) → IsIn (inserting n p ch ctx) h → character_in h (n, offset) ≡ ch
 character_at [] t n p ch ctx offset i = absurd i
 character_at (inserting n' p' ch' ctx' ∷ os) t n p ch ctx offset (inl e) =
-  let a : n' ≡ n = (cc) in
-  let b : ch' ≡ ch = (cc) in
-  let eq : name_eq n' n ≡ true = subst (λ (m : NameData). name_eq n' m ≡ true) a (name_self n') in
-  rw eq b
+    let a : n' ≡ n = (cc) in
+    let b : ch' ≡ ch = (cc) in
+    let eq : name_eq n' n ≡ true = subst (λ (m : NameData). name_eq n' m ≡ true) a (name_self n') in
+    rw eq b
 character_at (inserting n' p' ch' ctx' ∷ os) t n p ch ctx offset (inr i) = elim (true_or_false (name_eq n' n)) [
-  inl eq ↦ absurd ((told_from (inserting n' p' ch' ctx') os t.0 (inserting n p ch ctx) i).names refl refl (ap Original (name_tells n' n eq)))
-  | inr eq ↦ rw eq (character_at os t.1 n p ch ctx offset i) ]
+  | inl eq ↦ absurd ((told_from (inserting n' p' ch' ctx') os t.0 (inserting n p ch ctx) i).names refl refl (ap Original (name_tells n' n eq)))
+  | inr eq ↦ rw eq (character_at os t.1 n p ch ctx offset i)
+]
 character_at (deleting n' p' ctx' ∷ os) t n p ch ctx offset (inl e) = absurd (cc)
 character_at (deleting n' p' ctx' ∷ os) t n p ch ctx offset (inr i) = character_at os t.1 n p ch ctx offset i
 character_at (undoing s n' g ctx' ∷ os) t n p ch ctx offset (inl e) = absurd (cc)
@@ -172,28 +175,29 @@ module _ (h k : List OpData) (told_h : AreToldApart h) (told_k : AreToldApart k)
   same_covered : (c : Cell) → list_any (covers h c) h ≡ list_any (covers k c) k
   same_covered c = same_bool (list_any (covers h c) h) (list_any (covers k c) k) to from
     where
-    to : list_any (covers h c) h ≡ true → list_any (covers k c) k ≡ true
-    to e =
-      let r = any_in (covers h c) h e in
-      in_any (covers k c) r.0 k (forth h k told_h told_k same r.0 (cover_original h c r.0 r.2) r.1) (sym (same_covers r.0 c r.1) ∙ r.2)
-    from : list_any (covers k c) k ≡ true → list_any (covers h c) h ≡ true
-    from e =
-      let r = any_in (covers k c) k e in
-      let there = back h k told_h told_k same r.0 (cover_original k c r.0 r.2) r.1 in
-      in_any (covers h c) r.0 h there (same_covers r.0 c there ∙ r.2)
+      to : list_any (covers h c) h ≡ true → list_any (covers k c) k ≡ true
+      to e =
+          let r = any_in (covers h c) h e in
+          in_any (covers k c) r.0 k (forth h k told_h told_k same r.0 (cover_original h c r.0 r.2) r.1) (sym (same_covers r.0 c r.1) ∙ r.2)
+
+      from : list_any (covers k c) k ≡ true → list_any (covers h c) h ≡ true
+      from e =
+          let r = any_in (covers k c) k e in
+          let there = back h k told_h told_k same r.0 (cover_original k c r.0 r.2) r.1 in
+          in_any (covers h c) r.0 h there (same_covers r.0 c there ∙ r.2)
 
   same_is_shown : (c : Cell) → IsIn c (replay_of h) → is_shown h c ≡ is_shown k c
   same_is_shown c i =
-    let r = in-replay_of h c i in
-    ap₂ (λ (a b : Bool). a && b) (same_force (inserting c.0 r.place r.character r.context) c.0 r.there refl) (ap not (same_covered c))
+      let r = in-replay_of h c i in
+      ap₂ (λ (a b : Bool). a && b) (same_force (inserting c.0 r.place r.character r.context) c.0 r.there refl) (ap not (same_covered c))
 
   pub same_shown : shown h ≡ shown k
   same_shown = filter_same (is_shown h) (is_shown k) (replay_of h) same_is_shown ∙ ap (filter (is_shown k)) (same_replay h k told_h told_k same)
 
   same_character : (c : Cell) → IsIn c (shown h) → character_in h c ≡ character_in k c
   same_character c i =
-    let r = in-replay_of h c (in-filter (is_shown h) c (replay_of h) i).0 in
-    character_at h told_h c.0 r.place r.character r.context c.1 r.there
+      let r = in-replay_of h c (in-filter (is_shown h) c (replay_of h) i).0 in
+      character_at h told_h c.0 r.place r.character r.context c.1 r.there
       ∙ sym (character_at k told_k c.0 r.place r.character r.context c.1 (forth h k told_h told_k same (inserting c.0 r.place r.character r.context) refl r.there))
 
   pub same_characters : characters_of h ≡ characters_of k

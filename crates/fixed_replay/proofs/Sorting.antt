@@ -1,5 +1,5 @@
 -- Sorting by insertion: the same elements in order, and one list of given elements in a strict order.
-use Rattle.std.proofs.Common.{◌≡◌, ℕ, Bool, true, false, List, [], ◌∷◌, ◌++◌, filter, ◌⊎◌, inl, inr, refl, ap, sym, ◌∙◌, subst, if◌then◌else◌}
+use Rattle.std.proofs.Common.{◌≡◌, Bool, true, false, List, [], ◌∷◌, ◌⊎◌, inl, inr, refl, ap, sym, ◌∙◌, subst}
 use Rattle.op_name.specs.Replays.{put_by, sort_by}
 use Rattle.fixed_replay.proofs.Elements.{IsIn, true_or_false, not_both, IsPairwise}
 
@@ -52,16 +52,19 @@ module _ {A : Type 0} (less : A → A → Bool) (asym : (x y : A) → less x y �
   unfolding put_by
   put_by-sorted x [] c s = (λ z i. absurd i, tt)
   put_by-sorted x (y ∷ ys) c s = elim (true_or_false (less x y)) [
-    inl h ↦ rw h (before h, s)
-    | inr h ↦ rw h (behind h, put_by-sorted x ys (λ z i. c z (inr i)) s.1) ]
+    | inl h ↦ rw h (before h, s)
+    | inr h ↦ rw h (behind h, put_by-sorted x ys (λ z i. c z (inr i)) s.1)
+  ]
     where
-    before : less x y ≡ true → (z : A) → IsIn z (y ∷ ys) → less x z ≡ true
-    before h z (inl e) = subst (λ (w : A). less x w ≡ true) (sym e) h
-    before h z (inr i) = trans x y z h (s.0 z i)
-    y_x : less x y ≡ false → less y x ≡ true
-    y_x h = elim (c y (inl refl)) [ inl k ↦ not_both k h | inr k ↦ k ]
-    behind : less x y ≡ false → (z : A) → IsIn z (put_by less x ys) → less y z ≡ true
-    behind h z i = elim (in-put_by less z x ys i) [ inl e ↦ subst (λ (w : A). less y w ≡ true) (sym e) (y_x h) | inr j ↦ s.0 z j ]
+      before : less x y ≡ true → (z : A) → IsIn z (y ∷ ys) → less x z ≡ true
+      before h z (inl e) = subst (λ (w : A). less x w ≡ true) (sym e) h
+      before h z (inr i) = trans x y z h (s.0 z i)
+
+      y_x : less x y ≡ false → less y x ≡ true
+      y_x h = elim (c y (inl refl)) [ inl k ↦ not_both k h | inr k ↦ k ]
+
+      behind : less x y ≡ false → (z : A) → IsIn z (put_by less x ys) → less y z ≡ true
+      behind h z i = elim (in-put_by less z x ys i) [ inl e ↦ subst (λ (w : A). less y w ≡ true) (sym e) (y_x h) | inr j ↦ s.0 z j ]
 
   pub sort_by-sorted : (xs : List A) → AreComparable less xs → IsSortedBy less (sort_by less xs)
   unfolding sort_by
@@ -78,19 +81,22 @@ module _ {A : Type 0} (less : A → A → Bool) (asym : (x y : A) → less x y �
   sorted_once [] (y ∷ ys) s t e = absurd ((e y).1 (inl refl))
   sorted_once (x ∷ xs) [] s t e = absurd ((e x).0 (inl refl))
   sorted_once (x ∷ xs) (y ∷ ys) s t e =
-    let h = head_is in
-    ap (λ (z : A). z ∷ xs) h ∙ ap (λ (zs : List A). y ∷ zs) (sorted_once xs ys s.1 t.1 (tails h))
+      let h = head_is in
+      ap (λ (z : A). z ∷ xs) h ∙ ap (λ (zs : List A). y ∷ zs) (sorted_once xs ys s.1 t.1 (tails h))
     where
-    head_is : x ≡ y
-    head_is = elim ((e x).0 (inl refl)) [
-      inl k ↦ k
-      | inr i ↦ elim ((e y).1 (inl refl)) [ inl k ↦ sym k | inr j ↦ absurd (irreflexive x (trans x y x (s.0 y j) (t.0 x i))) ] ]
-    tails : x ≡ y → SameElements xs ys
-    tails h z = (λ i. to h z i ((e z).0 (inr i)), λ i. from h z i ((e z).1 (inr i)))
-      where
-      to : x ≡ y → (w : A) → IsIn w xs → IsIn w (y ∷ ys) → IsIn w ys
-      to k w i (inl l) = absurd (irreflexive x (subst (λ (v : A). less x v ≡ true) (l ∙ sym k) (s.0 w i)))
-      to k w i (inr j) = j
-      from : x ≡ y → (w : A) → IsIn w ys → IsIn w (x ∷ xs) → IsIn w xs
-      from k w i (inl l) = absurd (irreflexive y (subst (λ (v : A). less y v ≡ true) (l ∙ k) (t.0 w i)))
-      from k w i (inr j) = j
+      head_is : x ≡ y
+      head_is = elim ((e x).0 (inl refl)) [
+        | inl k ↦ k
+        | inr i ↦ elim ((e y).1 (inl refl)) [ inl k ↦ sym k | inr j ↦ absurd (irreflexive x (trans x y x (s.0 y j) (t.0 x i))) ]
+      ]
+
+      tails : x ≡ y → SameElements xs ys
+      tails h z = (λ i. to h z i ((e z).0 (inr i)), λ i. from h z i ((e z).1 (inr i)))
+        where
+          to : x ≡ y → (w : A) → IsIn w xs → IsIn w (y ∷ ys) → IsIn w ys
+          to k w i (inl l) = absurd (irreflexive x (subst (λ (v : A). less x v ≡ true) (l ∙ sym k) (s.0 w i)))
+          to k w i (inr j) = j
+
+          from : x ≡ y → (w : A) → IsIn w ys → IsIn w (x ∷ xs) → IsIn w xs
+          from k w i (inl l) = absurd (irreflexive y (subst (λ (v : A). less y v ≡ true) (l ∙ k) (t.0 w i)))
+          from k w i (inr j) = j

@@ -1,5 +1,5 @@
 -- Stretches: what a gap is among cells, where it starts, and how one more insert narrows it.
-use Rattle.std.proofs.Common.{◌≡◌, ℕ, zero, suc, ◌+◌, ◌<◌, ◌≤◌, ◌≢◌, Bool, true, false, ◌||◌, List, [], ◌∷◌, ◌++◌, length, take, drop, if◌then◌else◌, ◌⊎◌, inl, inr, refl, ap, sym, ◌∙◌, subst, arith, append_assoc, append-nil}
+use Rattle.std.proofs.Common.{◌≡◌, ℕ, zero, suc, ◌+◌, ◌<◌, ◌≤◌, Bool, true, false, ◌||◌, List, [], ◌∷◌, ◌++◌, length, take, drop, if◌then◌else◌, ◌⊎◌, inl, inr, refl, ap, sym, ◌∙◌, subst, arith, append_assoc, append-nil}
 use Rattle.std.specs.List.{list_any}
 use Rattle.std.proofs.Math.Seq.{take-append_seam, drop-append_seam}
 use Rattle.op_name.specs.Gaps.{Gap, until, onward, through, beyond, gap, narrow}
@@ -107,7 +107,7 @@ grown {K} p n c cs g s = record {
   at = grown_count p n c g.before s.at;
   free = s.free;
   ends = ends-cons p c g.before s.ends (grown_end p n c g.before s.at);
-  begins = s.begins
+  begins = s.begins;
 }
 
 fewer : {K : Type 0} (p : K → Bool) (n : ℕ) (c : K) (cs : List K) → suc n ≤ count p (c ∷ cs) → (if p c then n else suc n) ≤ count p cs
@@ -126,7 +126,7 @@ pub record IsMoved (n q extent : ℕ) (left : Bool) (n' : ℕ) : Type 0 where
   pub tie_left : n ≡ q → left ≡ true → n' ≡ n + extent
   pub tie_right : n ≡ q → left ≡ false → n' ≡ n
 
-three : (n q : ℕ) → (q < n) ⊎ ((n < q) ⊎ (n ≡ q))
+pub three : (n q : ℕ) → (q < n) ⊎ ((n < q) ⊎ (n ≡ q))
 three zero zero = inr (inr refl)
 three zero (suc q) = inr (inl (omega arith))
 three (suc n) zero = inl (omega arith)
@@ -139,11 +139,11 @@ module _ {K : Type 0} (S : List K) (p x : K → Bool) (disjoint : AreDisjoint p 
   -- the cells of x in the three lists
   parts : EachAt p x q 0 g.before × EachAt p x q n g.between × EachAt p x q n g.behind
   parts =
-    let e : EachAt p x q 0 (whole_of g) = subst (λ (xs : List K). EachAt p x q 0 xs) s.whole each in
-    let a = each-append p x q 0 g.before (g.between ++ g.behind) e in
-    let at : count p g.before + 0 ≡ n = let m = s.at in omega arith in
-    let b = each-append p x q (count p g.before + 0) g.between g.behind a.1 in
-    (a.0, subst (λ (k : ℕ). EachAt p x q k g.between) at b.0, subst (λ (k : ℕ). EachAt p x q k g.behind) (let f = s.free in let m = s.at in omega arith) b.1)
+      let e : EachAt p x q 0 (whole_of g) = subst (λ (xs : List K). EachAt p x q 0 xs) s.whole each in
+      let a = each-append p x q 0 g.before (g.between ++ g.behind) e in
+      let at : count p g.before + 0 ≡ n = let m = s.at in omega arith in
+      let b = each-append p x q (count p g.before + 0) g.between g.behind a.1 in
+      (a.0, subst (λ (k : ℕ). EachAt p x q k g.between) at b.0, subst (λ (k : ℕ). EachAt p x q k g.behind) (let f = s.free in let m = s.at in omega arith) b.1)
 
   all_x : count x S ≡ count x g.before + (count x g.between + count x g.behind)
   all_x = ap (count x) s.whole ∙ count-append x g.before (g.between ++ g.behind) ∙ ap (λ (k : ℕ). count x g.before + k) (count-append x g.between g.behind)
@@ -161,7 +161,7 @@ module _ {K : Type 0} (S : List K) (p x : K → Bool) (disjoint : AreDisjoint p 
     at = let a = count-either p x disjoint g.before in let b = s.at in omega arith;
     free = let a = count-either p x disjoint g.between in let b = s.free in omega arith;
     ends = ends_either;
-    begins = begins_either
+    begins = begins_either;
   })
 
   -- the last one becomes the left neighbour
@@ -169,21 +169,21 @@ module _ {K : Type 0} (S : List K) (p x : K → Bool) (disjoint : AreDisjoint p 
   to_left n' no_before no_behind e = record {
     whole = s.whole ∙ sym (narrow_whole true x g);
     at =
-      let a = count-either p x disjoint (g.before ++ through x g.between) in
-      let b = count-append p g.before (through x g.between) in
-      let c = count-append x g.before (through x g.between) in
-      let d = count_parts p in let f = count_parts x in
-      let h = beyond_none x g.between in let k = all_x in
-      let at = s.at in let free = s.free in omega arith;
+        let a = count-either p x disjoint (g.before ++ through x g.between) in
+        let b = count-append p g.before (through x g.between) in
+        let c = count-append x g.before (through x g.between) in
+        let d = count_parts p in let f = count_parts x in
+        let h = beyond_none x g.between in let k = all_x in
+        let at = s.at in let free = s.free in omega arith;
     free =
-      let a = count-either p x disjoint (beyond x g.between) in
-      let d = count_parts p in let h = beyond_none x g.between in let free = s.free in omega arith;
+        let a = count-either p x disjoint (beyond x g.between) in
+        let d = count_parts p in let h = beyond_none x g.between in let free = s.free in omega arith;
     ends = ends-append (either p x) g.before (through x g.between) ends_either (ends-more x (either p x) (either_right p x) (through x g.between) (through_ends x g.between));
-    begins = begins_either
+    begins = begins_either;
   }
     where
-    count_parts : (r : K → Bool) → count r g.between ≡ count r (through x g.between) + count r (beyond x g.between)
-    count_parts r = ap (count r) (sym (through-beyond x g.between)) ∙ count-append r (through x g.between) (beyond x g.between)
+      count_parts : (r : K → Bool) → count r g.between ≡ count r (through x g.between) + count r (beyond x g.between)
+      count_parts r = ap (count r) (sym (through-beyond x g.between)) ∙ count-append r (through x g.between) (beyond x g.between)
 
   -- the first one becomes the right neighbour
   to_right : (n' : ℕ) → count x g.before ≡ 0 → n' ≡ n → Stretch S (either p x) n' (narrow false x g)
@@ -191,37 +191,39 @@ module _ {K : Type 0} (S : List K) (p x : K → Bool) (disjoint : AreDisjoint p 
     whole = s.whole ∙ sym (narrow_whole false x g);
     at = let a = count-either p x disjoint g.before in let at = s.at in omega arith;
     free =
-      let a = count-either p x disjoint (until x g.between) in
-      let d = ap (count p) (sym (until-onward x g.between)) ∙ count-append p (until x g.between) (onward x g.between) in
-      let h = until_none x g.between in let free = s.free in omega arith;
+        let a = count-either p x disjoint (until x g.between) in
+        let d = ap (count p) (sym (until-onward x g.between)) ∙ count-append p (until x g.between) (onward x g.between) in
+        let h = until_none x g.between in let free = s.free in omega arith;
     ends = ends_either;
-    begins = begins-append (either p x) (onward x g.between) g.behind (begins-more x (either p x) (either_right p x) (onward x g.between) (onward_begins x g.between)) begins_either
+    begins = begins-append (either p x) (onward x g.between) g.behind (begins-more x (either p x) (either_right p x) (onward x g.between) (onward_begins x g.between)) begins_either;
   }
 
   -- the insert of x has its cells in one of the three lists, by its place and by the tie
   pub walk_step : (left : Bool) (n' : ℕ) → IsMoved n q (count x S) left n' → Stretch S (either p x) n' (narrow left x g)
   walk_step left n' m = by_place (three n q)
     where
-    by_place : (q < n) ⊎ ((n < q) ⊎ (n ≡ q)) → Stretch S (either p x) n' (narrow left x g)
-    by_place (inl h) =
-      let b = each-between p x q n g.between s.free (λ (f : n ≡ q). absurd (omega arith)) parts.1 in
-      let c = each-late p x q n g.behind h parts.2 in
-      let k = all_x in let e = m.less h in
-      stays n' left b (omega arith)
-    by_place (inr (inl h)) =
-      let a = each-early p x disjoint q 0 g.before s.ends (let at = s.at in omega arith) parts.0 in
-      let b = each-between p x q n g.between s.free (λ (f : n ≡ q). absurd (omega arith)) parts.1 in
-      let e = m.more h in
-      stays n' left b (omega arith)
-    by_place (inr (inr h)) = tie left refl
-      where
-      no_before : count x g.before ≡ 0
-      no_before = each-early p x disjoint q 0 g.before s.ends (let at = s.at in omega arith) parts.0
-      no_behind : count x g.behind ≡ 0
-      no_behind = begins-late p x disjoint q n g.behind s.begins (omega arith) parts.2
-      tie : (l : Bool) → left ≡ l → Stretch S (either p x) n' (narrow left x g)
-      tie true t = rw t (to_left n' no_before no_behind (m.tie_left h t))
-      tie false t = rw t (to_right n' no_before (m.tie_right h t))
+      by_place : (q < n) ⊎ ((n < q) ⊎ (n ≡ q)) → Stretch S (either p x) n' (narrow left x g)
+      by_place (inl h) =
+          let b = each-between p x q n g.between s.free (λ (f : n ≡ q). absurd (omega arith)) parts.1 in
+          let c = each-late p x q n g.behind h parts.2 in
+          let k = all_x in let e = m.less h in
+          stays n' left b (omega arith)
+      by_place (inr (inl h)) =
+          let a = each-early p x disjoint q 0 g.before s.ends (let at = s.at in omega arith) parts.0 in
+          let b = each-between p x q n g.between s.free (λ (f : n ≡ q). absurd (omega arith)) parts.1 in
+          let e = m.more h in
+          stays n' left b (omega arith)
+      by_place (inr (inr h)) = tie left refl
+        where
+          no_before : count x g.before ≡ 0
+          no_before = each-early p x disjoint q 0 g.before s.ends (let at = s.at in omega arith) parts.0
+
+          no_behind : count x g.behind ≡ 0
+          no_behind = begins-late p x disjoint q n g.behind s.begins (omega arith) parts.2
+
+          tie : (l : Bool) → left ≡ l → Stretch S (either p x) n' (narrow left x g)
+          tie true t = rw t (to_left n' no_before no_behind (m.tie_left h t))
+          tie false t = rw t (to_right n' no_before (m.tie_right h t))
 
 no_length : {K : Type 0} (xs : List K) → length xs ≡ 0 → xs ≡ []
 no_length [] h = refl
@@ -233,11 +235,11 @@ seam xs new ys n h = rw (← h, take-append_seam xs ys, drop-append_seam xs ys) 
 -- when all cells pass, the gap behind n of them is the place n
 pub whole_gap : {K : Type 0} (S new : List K) (p : K → Bool) (n : ℕ) (g : Gap K) → Stretch S p n g → ((c : K) → IsIn c S → p c ≡ true) → g.before ++ (g.between ++ (new ++ g.behind)) ≡ take n S ++ (new ++ drop n S)
 whole_gap {K} S new p n g s all =
-  let in_whole = λ (c : K) (i : IsIn c (whole_of g)). all c (subst (λ (xs : List K). IsIn c xs) (sym s.whole) i) in
-  let before = count_all p g.before (λ c i. in_whole c (append-in_left c g.before (g.between ++ g.behind) i)) in
-  let between = count_all p g.between (λ c i. in_whole c (append-in_right c g.before (g.between ++ g.behind) (append-in_left c g.between g.behind i))) in
-  let free = s.free in
-  let none : g.between ≡ [] = no_length g.between (omega arith) in
-  let at = s.at in
-  let e : S ≡ g.before ++ g.behind = s.whole ∙ ap (λ (ys : List K). g.before ++ (ys ++ g.behind)) none in
-  rw (none, e) (seam g.before new g.behind n (omega arith))
+    let in_whole = λ (c : K) (i : IsIn c (whole_of g)). all c (subst (λ (xs : List K). IsIn c xs) (sym s.whole) i) in
+    let before = count_all p g.before (λ c i. in_whole c (append-in_left c g.before (g.between ++ g.behind) i)) in
+    let between = count_all p g.between (λ c i. in_whole c (append-in_right c g.before (g.between ++ g.behind) (append-in_left c g.between g.behind i))) in
+    let free = s.free in
+    let none : g.between ≡ [] = no_length g.between (omega arith) in
+    let at = s.at in
+    let e : S ≡ g.before ++ g.behind = s.whole ∙ ap (λ (ys : List K). g.before ++ (ys ++ g.behind)) none in
+    rw (none, e) (seam g.before new g.behind n (omega arith))

@@ -1,7 +1,5 @@
 -- Originals that can be told apart: by their names, and by rank and site, by which they are ordered.
 use Rattle.std.specs.Prelude.{◌≡◌, ◌≢◌, ℕ, true, List, [], ◌∷◌}
-use Rattle.op_name.specs.declared.member.Member.{Member}
-use Rattle.op_name.specs.NameData.{NameData}
 use Rattle.op_name.specs.Members.{target_of}
 use Rattle.op_name.specs.Contexts.{rank_of}
 use Rattle.op_name.specs.Operations.{OpData, member_of, context_of, is_original}
