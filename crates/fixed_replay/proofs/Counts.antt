@@ -1,11 +1,8 @@
 -- Counts: how many elements of a list pass a test, and how many of them stand before each element that passes another.
 use Rattle.std.proofs.Common.{◌≡◌, ℕ, ◌+◌, ◌<◌, ◌≤◌, ◌≢◌, Bool, true, false, ◌||◌, List, [], ◌∷◌, ◌++◌, length, filter, if◌then◌else◌, inl, inr, refl, subst, arith, zero-add}
 use Rattle.std.specs.List.{list_any}
-use Rattle.fixed_replay.proofs.Elements.{IsIn, true_or_false, not_both}
-
-abbrev pub count : {K : Type 0} → (K → Bool) → List K → ℕ
-count p [] = 0
-count p (c ∷ cs) = (if p c then 1 else 0) + count p cs
+use Rattle.transform_rec.specs.Lists.{IsIn, count, either, EachAt}
+use Rattle.fixed_replay.proofs.Elements.{true_or_false, not_both}
 
 pub count-append : {K : Type 0} (p : K → Bool) (xs ys : List K) → count p (xs ++ ys) ≡ count p xs + count p ys
 count-append p [] ys = omega arith
@@ -14,10 +11,6 @@ count-append p (x ∷ xs) ys = let ih = count-append p xs ys in omega arith
 pub count-filter : {K : Type 0} (p : K → Bool) (xs : List K) → length (filter p xs) ≡ count p xs
 count-filter p [] = refl
 count-filter p (x ∷ xs) = elim (true_or_false (p x)) [ inl h ↦ rw (h, count-filter p xs) (omega arith) | inr h ↦ rw (h, count-filter p xs) (omega arith) ]
-
--- one or the other test passes
-abbrev pub either : {K : Type 0} → (K → Bool) → (K → Bool) → K → Bool
-either p q c = p c || q c
 
 -- no element passes both tests
 abbrev pub AreDisjoint : {K : Type 0} → (K → Bool) → (K → Bool) → Type 0
@@ -28,11 +21,6 @@ count-either p q d [] = refl
 count-either p q d (x ∷ xs) =
     let ih = count-either p q d xs in
     elim (true_or_false (p x)) [ inl h ↦ rw (h, d x h, ih) (omega arith) | inr h ↦ rw (h, ih) (omega arith) ]
-
--- each element that passes x has q elements that pass p before it, of which k are in front of the list
-abbrev pub EachAt : {K : Type 0} → (K → Bool) → (K → Bool) → ℕ → ℕ → List K → Type 0
-EachAt p x q k [] = Unit {0}
-EachAt p x q k (c ∷ cs) = (x c ≡ true → k ≡ q) × EachAt p x q ((if p c then 1 else 0) + k) cs
 
 pub each-append : {K : Type 0} (p x : K → Bool) (q k : ℕ) (xs ys : List K) → EachAt p x q k (xs ++ ys) → EachAt p x q k xs × EachAt p x q (count p xs + k) ys
 each-append p x q k [] ys e = (tt, rw zero-add e)

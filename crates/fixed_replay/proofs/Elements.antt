@@ -1,6 +1,7 @@
 -- Elements of lists: which there are, in joined and filtered lists, and lists without repeats.
 use Rattle.std.proofs.Common.{◌≡◌, ℕ, zero, suc, ◌<◌, Bool, true, false, List, [], ◌∷◌, ◌++◌, length, filter, map, ◌⊎◌, inl, inr, refl, ap, sym, ◌∙◌, arith, slice_index_or, Contains}
 use Rattle.std.specs.List.{list_any}
+use Rattle.transform_rec.specs.Lists.{IsIn}
 
 -- a test gives true or false
 pub true_or_false : (b : Bool) → (b ≡ true) ⊎ (b ≡ false)
@@ -16,10 +17,6 @@ same_bool true true f g = refl
 same_bool true false f g = sym (f refl)
 same_bool false true f g = g refl
 same_bool false false f g = refl
-
-abbrev pub IsIn : {K : Type 0} → K → List K → Type 0
-IsIn x [] = ⊥
-IsIn x (y ∷ ys) = (x ≡ y) ⊎ IsIn x ys
 
 pub in-append : {K : Type 0} (x : K) (xs ys : List K) → IsIn x (xs ++ ys) → IsIn x xs ⊎ IsIn x ys
 in-append x [] ys i = inr i

@@ -8,3 +8,4 @@ pub mod SameText
 pub mod ValidHistories
 pub mod Ranks
 pub mod ValidOriginals
+pub mod Editor

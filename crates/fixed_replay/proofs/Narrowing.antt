@@ -3,7 +3,8 @@ use Rattle.std.proofs.Common.{◌≡◌, true, false, List, [], ◌∷◌, ◌++
 use Rattle.op_name.specs.NameData.{NameData}
 use Rattle.op_name.specs.Gaps.{Gap, gap}
 use Rattle.op_name.specs.Replays.{Insertion, Cell, cells_from, narrowed_by, narrowed, gap_of, put, replay}
-use Rattle.fixed_replay.proofs.Elements.{IsIn, true_or_false, in-append, append-in_left, append-in_right}
+use Rattle.transform_rec.specs.Lists.{IsIn}
+use Rattle.fixed_replay.proofs.Elements.{true_or_false, in-append, append-in_left, append-in_right}
 use Rattle.fixed_replay.proofs.Stretches.{whole_of, gap_whole, narrow_whole}
 
 pub narrowed-append : (o : Insertion) (xs ys : List NameData) (g : Gap Cell) → narrowed o (xs ++ ys) g ≡ narrowed o ys (narrowed o xs g)

@@ -12,8 +12,9 @@ use Rattle.op_name.specs.Operations.{OpData, inserting, deleting, undoing, membe
 use Rattle.op_name.specs.Histories.{is_known, in_force, is_even, Same}
 use Rattle.op_name.specs.Replays.{Insertion, Cell, cells_from, insertions_in, is_earlier, fixed_order, replay, replay_of, stands_at, hits, covers, is_shown, shown, character_in, characters_of, text_of}
 use Rattle.fixed_replay.specs.Originals.{AreTold, AreToldFrom, AreToldApart}
-use Rattle.fixed_replay.proofs.Elements.{IsIn, true_or_false, same_bool, contains_in, in_contains, any_in, in_any, filter_same, map_same, in-filter}
-use Rattle.fixed_replay.proofs.Sorting.{AreComparable, SameElements, in-sort_by, sort_by-in, sort_by-sorted, sorted_once}
+use Rattle.transform_rec.specs.Lists.{IsIn, SameElements}
+use Rattle.fixed_replay.proofs.Elements.{true_or_false, same_bool, contains_in, in_contains, any_in, in_any, filter_same, map_same, in-filter}
+use Rattle.fixed_replay.proofs.Sorting.{AreComparable, in-sort_by, sort_by-in, sort_by-sorted, sorted_once}
 use Rattle.fixed_replay.proofs.Narrowing.{in-replay}
 use Rattle.fixed_replay.proofs.Names.{name_tells, name_self, member_self}
 
@@ -93,10 +94,10 @@ module _ (h k : List OpData) (told_h : AreToldApart h) (told_k : AreToldApart k)
       subst (λ (w : Insertion). IsIn w (insertions_in b)) (sym r.is) (insertions-in r.name r.place r.character r.context b (f (inserting r.name r.place r.character r.context) refl r.there))
 
   same_elements : SameElements (fixed_order h) (fixed_order k)
-  same_elements z = (
-    λ i. sort_by-in is_earlier z (insertions_in k) (moved h k forth z (in-sort_by is_earlier z (insertions_in h) i)),
-    λ i. sort_by-in is_earlier z (insertions_in h) (moved k h back z (in-sort_by is_earlier z (insertions_in k) i)),
-  )
+  same_elements = record {
+    forth = λ z i. sort_by-in is_earlier z (insertions_in k) (moved h k forth z (in-sort_by is_earlier z (insertions_in h) i));
+    back = λ z i. sort_by-in is_earlier z (insertions_in h) (moved k h back z (in-sort_by is_earlier z (insertions_in k) i))
+  }
 
   pub same_order : fixed_order h ≡ fixed_order k
   same_order = sorted_once is_earlier earlier_asym earlier_trans (fixed_order h) (fixed_order k)

@@ -1,15 +1,8 @@
 -- Sorting by insertion: the same elements in order, and one list of given elements in a strict order.
 use Rattle.std.proofs.Common.{◌≡◌, Bool, true, false, List, [], ◌∷◌, ◌⊎◌, inl, inr, refl, ap, sym, ◌∙◌, subst}
 use Rattle.op_name.specs.Replays.{put_by, sort_by}
-use Rattle.fixed_replay.proofs.Elements.{IsIn, true_or_false, not_both, IsPairwise}
-
--- each element is less than all behind it
-abbrev pub IsSortedBy : {A : Type 0} → (A → A → Bool) → List A → Type 0
-IsSortedBy {A} less xs = IsPairwise (λ (x y : A). less x y ≡ true) xs
-
--- the same elements, however often
-abbrev pub SameElements : {A : Type 0} → List A → List A → Type 0
-SameElements {A} xs ys = (x : A) → (IsIn x xs → IsIn x ys) × (IsIn x ys → IsIn x xs)
+use Rattle.transform_rec.specs.Lists.{IsIn, SameElements, IsRising}
+use Rattle.fixed_replay.proofs.Elements.{true_or_false, not_both, IsPairwise}
 
 -- a strict order of the elements of a list: of two at different places one is less
 abbrev pub AreComparable : {A : Type 0} → (A → A → Bool) → List A → Type 0
@@ -48,7 +41,7 @@ sort_by-in less z (x ∷ xs) (inr i) = put_by-old less z x (sort_by less xs) (so
 sort_by-in less z [] i = i
 
 module _ {A : Type 0} (less : A → A → Bool) (asym : (x y : A) → less x y ≡ true → less y x ≡ false) (trans : (x y z : A) → less x y ≡ true → less y z ≡ true → less x z ≡ true) where
-  pub put_by-sorted : (x : A) (ys : List A) → ((z : A) → IsIn z ys → (less x z ≡ true) ⊎ (less z x ≡ true)) → IsSortedBy less ys → IsSortedBy less (put_by less x ys)
+  pub put_by-sorted : (x : A) (ys : List A) → ((z : A) → IsIn z ys → (less x z ≡ true) ⊎ (less z x ≡ true)) → IsRising less ys → IsRising less (put_by less x ys)
   unfolding put_by
   put_by-sorted x [] c s = (λ z i. absurd i, tt)
   put_by-sorted x (y ∷ ys) c s = elim (true_or_false (less x y)) [
@@ -66,7 +59,7 @@ module _ {A : Type 0} (less : A → A → Bool) (asym : (x y : A) → less x y �
       behind : less x y ≡ false → (z : A) → IsIn z (put_by less x ys) → less y z ≡ true
       behind h z i = elim (in-put_by less z x ys i) [ inl e ↦ subst (λ (w : A). less y w ≡ true) (sym e) (y_x h) | inr j ↦ s.0 z j ]
 
-  pub sort_by-sorted : (xs : List A) → AreComparable less xs → IsSortedBy less (sort_by less xs)
+  pub sort_by-sorted : (xs : List A) → AreComparable less xs → IsRising less (sort_by less xs)
   unfolding sort_by
   sort_by-sorted [] c = tt
   sort_by-sorted (x ∷ xs) c = put_by-sorted x (sort_by less xs) (λ z i. c.0 z (in-sort_by less z xs i)) (sort_by-sorted xs c.1)
@@ -76,22 +69,22 @@ module _ {A : Type 0} (less : A → A → Bool) (asym : (x y : A) → less x y �
   irreflexive x h = not_both h (asym x x h)
 
   -- two sorted lists with the same elements are one
-  pub sorted_once : (xs ys : List A) → IsSortedBy less xs → IsSortedBy less ys → SameElements xs ys → xs ≡ ys
+  pub sorted_once : (xs ys : List A) → IsRising less xs → IsRising less ys → SameElements xs ys → xs ≡ ys
   sorted_once [] [] s t e = refl
-  sorted_once [] (y ∷ ys) s t e = absurd ((e y).1 (inl refl))
-  sorted_once (x ∷ xs) [] s t e = absurd ((e x).0 (inl refl))
+  sorted_once [] (y ∷ ys) s t e = absurd (e.back y (inl refl))
+  sorted_once (x ∷ xs) [] s t e = absurd (e.forth x (inl refl))
   sorted_once (x ∷ xs) (y ∷ ys) s t e =
       let h = head_is in
       ap (λ (z : A). z ∷ xs) h ∙ ap (λ (zs : List A). y ∷ zs) (sorted_once xs ys s.1 t.1 (tails h))
     where
       head_is : x ≡ y
-      head_is = elim ((e x).0 (inl refl)) [
+      head_is = elim (e.forth x (inl refl)) [
         | inl k ↦ k
-        | inr i ↦ elim ((e y).1 (inl refl)) [ inl k ↦ sym k | inr j ↦ absurd (irreflexive x (trans x y x (s.0 y j) (t.0 x i))) ]
+        | inr i ↦ elim (e.back y (inl refl)) [ inl k ↦ sym k | inr j ↦ absurd (irreflexive x (trans x y x (s.0 y j) (t.0 x i))) ]
       ]
 
       tails : x ≡ y → SameElements xs ys
-      tails h z = (λ i. to h z i ((e z).0 (inr i)), λ i. from h z i ((e z).1 (inr i)))
+      tails h = record { forth = λ z i. to h z i (e.forth z (inr i)); back = λ z i. from h z i (e.back z (inr i)) }
         where
           to : x ≡ y → (w : A) → IsIn w xs → IsIn w (y ∷ ys) → IsIn w ys
           to k w i (inl l) = absurd (irreflexive x (subst (λ (v : A). less x v ≡ true) (l ∙ sym k) (s.0 w i)))

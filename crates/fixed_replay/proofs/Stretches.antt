@@ -2,9 +2,11 @@
 use Rattle.std.proofs.Common.{◌≡◌, ℕ, zero, suc, ◌+◌, ◌<◌, ◌≤◌, Bool, true, false, ◌||◌, List, [], ◌∷◌, ◌++◌, length, take, drop, if◌then◌else◌, ◌⊎◌, inl, inr, refl, ap, sym, ◌∙◌, subst, arith, append_assoc, append-nil}
 use Rattle.std.specs.List.{list_any}
 use Rattle.std.proofs.Math.Seq.{take-append_seam, drop-append_seam}
+use Rattle.ttf_form.specs.Places.{IsMoved}
 use Rattle.op_name.specs.Gaps.{Gap, until, onward, through, beyond, gap, narrow}
-use Rattle.fixed_replay.proofs.Elements.{IsIn, true_or_false, not_both, append-in_left, append-in_right}
-use Rattle.fixed_replay.proofs.Counts.{count, count-append, count-either, any_count, count_any, count_all, either, AreDisjoint, EachAt, each-append, each-late, each-between, each-early, begins-late, BeginsIn, EndsIn, ends-more, ends-append, ends-cons, begins-more, begins-append}
+use Rattle.transform_rec.specs.Lists.{IsIn, count, either, EachAt}
+use Rattle.fixed_replay.proofs.Elements.{true_or_false, not_both, append-in_left, append-in_right}
+use Rattle.fixed_replay.proofs.Counts.{count-append, count-either, any_count, count_any, count_all, AreDisjoint, each-append, each-late, each-between, each-early, begins-late, BeginsIn, EndsIn, ends-more, ends-append, ends-cons, begins-more, begins-append}
 
 -- the four parts of a list
 
@@ -118,13 +120,6 @@ unfolding gap
 start p zero S h = record { whole = sym (until-onward p S); at = refl; free = until_none p S; ends = tt; begins = onward_begins p S }
 start p (suc n) [] h = absurd (omega arith)
 start p (suc n) (c ∷ cs) h = grown p n c cs (gap p (if p c then n else suc n) cs) (start p (if p c then n else suc n) cs (fewer p n c cs h))
-
--- where the place behind n cells goes, when an insert with q cells before it is included
-pub record IsMoved (n q extent : ℕ) (left : Bool) (n' : ℕ) : Type 0 where
-  pub less : q < n → n' ≡ n + extent
-  pub more : n < q → n' ≡ n
-  pub tie_left : n ≡ q → left ≡ true → n' ≡ n + extent
-  pub tie_right : n ≡ q → left ≡ false → n' ≡ n
 
 pub three : (n q : ℕ) → (q < n) ⊎ ((n < q) ⊎ (n ≡ q))
 three zero zero = inr (inr refl)

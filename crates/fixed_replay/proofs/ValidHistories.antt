@@ -9,7 +9,8 @@ use Rattle.op_name.specs.Members.{member_eq}
 use Rattle.op_name.specs.Contexts.{ContextData, IsContext, Within, has, count_of}
 use Rattle.op_name.specs.Operations.{OpData, inserting, deleting, undoing, member_of, context_of, is_original, IsWellFormed}
 use Rattle.op_name.specs.Histories.{is_known, IsNext, IsValidAfter, IsValid}
-use Rattle.fixed_replay.proofs.Elements.{IsIn, true_or_false, not_both, in_contains, append-in_left, append-in_right, around}
+use Rattle.transform_rec.specs.Lists.{IsIn}
+use Rattle.fixed_replay.proofs.Elements.{true_or_false, not_both, in_contains, append-in_left, append-in_right, around}
 use Rattle.fixed_replay.proofs.Names.{same_name, member_self, member_tells}
 
 pub equal_or_less : (a b : ℕ) → a ≤ b → (a ≡ b) ⊎ (a < b)

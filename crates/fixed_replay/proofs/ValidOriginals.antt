@@ -9,7 +9,8 @@ use Rattle.op_name.specs.Operations.{OpData, inserting, deleting, undoing, membe
 use Rattle.op_name.specs.Histories.{IsValidAfter, IsValid, Same}
 use Rattle.op_name.specs.Replays.{text_of}
 use Rattle.fixed_replay.specs.Originals.{AreTold, AreToldFrom, AreToldApart, site_of}
-use Rattle.fixed_replay.proofs.Elements.{IsIn, append-in_right}
+use Rattle.transform_rec.specs.Lists.{IsIn}
+use Rattle.fixed_replay.proofs.Elements.{append-in_right}
 use Rattle.fixed_replay.proofs.Stretches.{three}
 use Rattle.fixed_replay.proofs.Names.{same_name}
 use Rattle.fixed_replay.proofs.ValidHistories.{new_behind, placed_in, context_in_range, seen_within, not_itself, sees_own}
