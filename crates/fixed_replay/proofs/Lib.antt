@@ -9,3 +9,4 @@ pub mod ValidHistories
 pub mod Ranks
 pub mod ValidOriginals
 pub mod Editor
+pub mod Walk
