@@ -1,0 +1,10 @@
+pub mod Members
+pub mod Lists
+pub mod Sets
+pub mod Families
+pub mod Forms
+pub mod Uniqueness
+pub mod Executing
+pub mod Order
+pub mod Restriction
+pub mod CausalOrders

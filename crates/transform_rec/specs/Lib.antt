@@ -1,0 +1,5 @@
+pub mod Sets
+pub mod Lists
+pub mod Family
+pub mod Derived
+pub mod Executing
