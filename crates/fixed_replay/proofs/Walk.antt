@@ -1,5 +1,5 @@
 -- The walk: the place of an insert among the cells of earlier ones is found by narrowing its gap, one insert after the other.
-use Rattle.std.proofs.Common.{◌≡◌, ◌≢◌, ℕ, zero, suc, ◌+◌, ◌<◌, ◌≤◌, Bool, true, false, nat_lt, not, ◌||◌, if◌then◌else◌, List, [], ◌∷◌, ◌++◌, length, take, drop, filter, ◌⊎◌, inl, inr, refl, ap, sym, ◌∙◌, subst, subst₂, arith, append_assoc, append-nil, take-append-drop}
+use Rattle.std.proofs.Common.{◌≡◌, ◌≢◌, ℕ, zero, suc, ◌+◌, ◌<◌, ◌≤◌, Bool, true, false, nat_lt, not, ◌||◌, if◌then◌else◌, List, [], ◌∷◌, ◌++◌, length, take, drop, filter, ◌⊎◌, inl, inr, refl, ap, ap₂, sym, ◌∙◌, subst, subst₂, arith, append_assoc, append-nil, take-append-drop}
 use Rattle.std.proofs.lemmas.Bool.{both_ways, not-true}
 use Rattle.op_name.specs.NameData.{NameData, name_eq}
 use Rattle.op_name.specs.declared.member.Member.{Member}
@@ -24,11 +24,11 @@ use Rattle.transform_rec.specs.Derived.Derived.{at_base, by_step}
 use Rattle.transform_rec.specs.Executing.{Setting, deriving_of, HasOwnNames, keep, own}
 use Rattle.transform_rec.proofs.Members.{member_apart}
 use Rattle.transform_rec.proofs.Lists.{in_filter, filter_in, length-count, count-append}
-use Rattle.transform_rec.proofs.Sets.{same_set, same_from, plus_cases, plus_lacks, all_in, all_cases, all_keeps}
+use Rattle.transform_rec.proofs.Sets.{same_set, same_from, plus_cases, plus_lacks, all_in, all_cases, all_keeps, all-append}
 use Rattle.transform_rec.proofs.Families.{base_sound, sound_plus}
 use Rattle.transform_rec.proofs.Forms.{derived_sound, forms_apart, form_moves, form_step, exists}
 use Rattle.transform_rec.proofs.Uniqueness.{derived_once}
-use Rattle.transform_rec.proofs.Executing.{IsForm, Run, Forms, run, At, state_after, forms_run, run_listed, run_parts}
+use Rattle.transform_rec.proofs.Executing.{IsForm, Run, Forms, run, At, state_after, forms_run, run_listed, run_append, forms-append}
 use Rattle.transform_rec.proofs.Restriction.{rest_run, part_state, before_cell}
 use Rattle.fixed_replay.proofs.Elements.{true_or_false, not_both}
 use Rattle.fixed_replay.proofs.Stretches.{Stretch, start, walk_step, narrow_none, whole_gap}
@@ -185,15 +185,36 @@ module _ (b : Family Form) (known : IsFamily form_inclusion b) (own_names : HasO
   cover_cells : (s : List CellData) (f : Form) (c : Cover) → f ≡ Covered c → cells_of (applied s f) ≡ cells_of s
   cover_cells s f c e = kept_at s f ∙ (rw e (take-append-drop c.place (cells_of s)))
 
-  -- the replay of the inserts of a causal list, from what an earlier list gave
-  replay_by : (rank : NameData → ℕ) (L0 : List Member) (x : Member) (xs : List Member) (s : List CellData) (fs0 : List Form) (f : Form) → At w none s → Forms w none L0 fs0 → IsForm w x (plus_all none L0) f → (base : Form) → b.form x ≡ base
-      → (replay (names_of b (L0 ++ (x ∷ []))) (cells_of (applied (run w s fs0) f)) (insertions_of b rank xs) ≡ replay (names_of b L0 ++ named_by base) (cells_of (applied (run w s fs0) f)) (insertions_of b rank xs))
+  -- one member further along a causal list
+  replay_on : (rank : NameData → ℕ) (L0 : List Member) (x : Member) (xs : List Member) (s : List CellData) (fs0 : List Form) (f : Form) → At w none s → Forms w none L0 fs0 → IsForm w x (plus_all none L0) f → (base : Form) → b.form x ≡ base
       → replay (names_of b L0) (cells_of (run w s fs0)) (inserted_by base (rank (target_of x)) (λ n. b.context x (Original n)) ++ insertions_of b rank xs) ≡ replay (names_of b L0 ++ named_by base) (cells_of (applied (run w s fs0) f)) (insertions_of b rank xs)
-  replay_by rank L0 x xs s fs0 f st df dx (Insert a) e names = ?
-  replay_by rank L0 x xs s fs0 f st df dx (Covered c) e names = ?
+  unfolding replay
+  replay_on rank L0 x xs s fs0 f st df dx (Insert a) e =
+    let sound = derived_sound (deriving_of w) x (plus_all none L0) f dx in
+    ap (λ (cs : List Cell). replay (names_of b L0 ++ (a.name ∷ [])) cs (insertions_of b rank xs)) (walk L0 s fs0 st df x a e (rank (target_of x)) sound.listed sound.covers sound.lacks f dx)
+  replay_on rank L0 x xs s fs0 f st df dx (Covered c) e =
+    let fi = derived_cover b c x (plus_all none L0) f e dx in
+    ap₂ (λ (ns : List NameData) (cs : List Cell). replay ns cs (insertions_of b rank xs)) (sym (append-nil (names_of b L0))) (sym (cover_cells (run w s fs0) f fi.cover fi.is))
 
+  one_name_more : (L0 : List Member) (x : Member) → names_of b L0 ++ named_by (b.form x) ≡ names_of b (L0 ++ (x ∷ []))
+  one_name_more L0 x = ap (λ (ns : List NameData). names_of b L0 ++ ns) (sym (append-nil (named_by (b.form x)))) ∙ sym (names-append b L0 (x ∷ []))
+
+  -- the replay of the inserts of a causal list, from what an earlier list gave
   pub replay_from : (rank : NameData → ℕ) (L L0 : List Member) (s : List CellData) (fs0 fs : List Form) → At w none s → Forms w none L0 fs0 → Forms w (plus_all none L0) L fs → replay (names_of b L0) (cells_of (run w s fs0)) (insertions_of b rank L) ≡ cells_of (run w (run w s fs0) fs)
-  replay_from rank [] L0 s fs0 [] st df0 df = ?
+  unfolding replay
+  replay_from rank [] L0 s fs0 [] st df0 df = refl
   replay_from rank [] L0 s fs0 (f ∷ fs) st df0 df = absurd df
   replay_from rank (x ∷ xs) L0 s fs0 [] st df0 df = absurd df
-  replay_from rank (x ∷ xs) L0 s fs0 (f ∷ fs) st df0 df = ?
+  replay_from rank (x ∷ xs) L0 s fs0 (f ∷ fs) st df0 df =
+    let forms = forms-append w L0 (x ∷ []) none fs0 (f ∷ []) df0 (df.0, tt) in
+    let set : plus (plus_all none L0) x ≡ plus_all none (L0 ++ (x ∷ [])) = sym (all-append none L0 (x ∷ [])) in
+    let rest_forms : Forms w (plus_all none (L0 ++ (x ∷ []))) xs fs = subst (λ (C : Member → Bool). Forms w C xs fs) set df.1 in
+    let state : run w s (fs0 ++ (f ∷ [])) ≡ applied (run w s fs0) f = run_append w s fs0 (f ∷ []) in
+    let ih = replay_from rank xs (L0 ++ (x ∷ [])) s (fs0 ++ (f ∷ [])) fs st forms rest_forms in
+    replay_on rank L0 x xs s fs0 f st df0 df.0 (b.form x) refl
+      ∙ (ap₂ (λ (ns : List NameData) (t : List CellData). replay ns (cells_of t) (insertions_of b rank xs)) (one_name_more L0 x) (sym state)
+      ∙ (ih ∙ ap (λ (t : List CellData). cells_of (run w t fs)) state))
+
+  -- along every causal list of members the replay gives the cells of the executed forms
+  pub replay_along : (rank : NameData → ℕ) (L : List Member) (fs : List Form) → At w none [] → Forms w none L fs → replay [] [] (insertions_of b rank L) ≡ cells_of (run w [] fs)
+  replay_along rank L fs st df = replay_from rank L [] [] [] fs st tt df
