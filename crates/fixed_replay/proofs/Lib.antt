@@ -10,3 +10,4 @@ pub mod Ranks
 pub mod ValidOriginals
 pub mod Editor
 pub mod Walk
+pub mod FixedList
