@@ -11,3 +11,5 @@ pub mod ValidOriginals
 pub mod Editor
 pub mod Walk
 pub mod FixedList
+pub mod Splits
+pub mod CoverStays
