@@ -10,7 +10,7 @@ use Rattle.ttf_form.specs.declared.cover.Cover.{Cover}
 use Rattle.ttf_form.specs.declared.form.Form.{Form}
 use Rattle.ttf_form.specs.declared.form.Form.TheVariants.{Ins as Insert, Cover as Covered}
 use Rattle.ttf_form.specs.Forms.{place_of, extent_of, IsBoundedForm, ApartForms, form_over, added_by}
-use Rattle.ttf_form.specs.Cells.{CellData, cells_of, FitsCells, applied}
+use Rattle.ttf_form.specs.Cells.{CellData, bare_cells, cells_of, FitsCells, applied}
 use Rattle.ttf_form.specs.Laws.Forms.{form_tp2, form_apart_sym, form_apart_over, form_extent_over, form_bound_place, form_bound_over, form_added_length, form_added_over}
 use Rattle.ttf_form.specs.Laws.Cells.{form_tp1, form_kept}
 use Rattle.transform_rec.specs.Lists.{IsIn}
@@ -49,6 +49,7 @@ pub record IsInsertOf (a : Ins) (f : Form) : Type 0 where
   pub ins : Ins
   pub is : f ≡ Insert ins
   pub name : ins.name ≡ a.name
+  pub bare : bare_cells ins ≡ bare_cells a
 
 -- a cover with the mark of another
 pub record IsCoverOf (c : Cover) (f : Form) : Type 0 where
@@ -57,10 +58,11 @@ pub record IsCoverOf (c : Cover) (f : Form) : Type 0 where
   pub mark : cover.mark ≡ c.mark
 
 insert_over : (a : Ins) (f k : Form) → IsInsertOf a f → IsInsertOf a (form_over f k)
-insert_over a (Insert c) (Insert d) i = record { ins = _; is = refl; name = let e : c ≡ i.ins = ins_once c i.ins i.is in ap (λ (x : Ins). x.name) e ∙ i.name }
+insert_over a (Insert c) (Insert d) i = let e : c ≡ i.ins = ins_once c i.ins i.is in record { ins = _; is = refl; name = ap (λ (x : Ins). x.name) e ∙ i.name; bare = ap bare_cells e ∙ i.bare }
   where
-  ins_once : (x y : Ins) → Insert x ≡ Insert y → x ≡ y
-  ins_once x y e = cc
+    ins_once : (x y : Ins) → Insert x ≡ Insert y → x ≡ y
+    ins_once x y e = cc
+
 insert_over a (Insert c) (Covered d) i = i
 insert_over a (Covered c) k i = absurd (let e = i.is in (cc))
 
@@ -74,7 +76,7 @@ cover_over c (Covered d) (Covered a) i = i
 
 -- the forms of a member are of the kind of its base form
 pub derived_insert : (b : Family Form) (a : Ins) (m : Member) (C : Member → Bool) (f : Form) → b.form m ≡ Insert a → Derived form_over b m C f → IsInsertOf a f
-derived_insert b a m C f base (at_base i s e) = record { ins = a; is = e ∙ base; name = refl }
+derived_insert b a m C f base (at_base i s e) = record { ins = a; is = e ∙ base; name = refl; bare = refl }
 derived_insert b a m C f base (by_step D x g k i ne l s dg dk e) = subst (λ (h : Form). IsInsertOf a h) (sym e) (insert_over a g k (derived_insert b a m D g base dg))
 
 pub derived_cover : (b : Family Form) (c : Cover) (m : Member) (C : Member → Bool) (f : Form) → b.form m ≡ Covered c → Derived form_over b m C f → IsCoverOf c f

@@ -13,3 +13,4 @@ pub mod Walk
 pub mod FixedList
 pub mod Splits
 pub mod CoverStays
+pub mod Marks
