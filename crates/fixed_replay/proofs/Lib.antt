@@ -14,3 +14,4 @@ pub mod FixedList
 pub mod Splits
 pub mod CoverStays
 pub mod Marks
+pub mod Marking
