@@ -15,3 +15,4 @@ pub mod Splits
 pub mod CoverStays
 pub mod Marks
 pub mod Marking
+pub mod DeleterLists

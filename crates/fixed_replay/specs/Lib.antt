@@ -1,2 +1,3 @@
 pub mod Originals
 pub mod Families
+pub mod HistoryFamilies
