@@ -16,3 +16,4 @@ pub mod CoverStays
 pub mod Marks
 pub mod Marking
 pub mod DeleterLists
+pub mod Reading

@@ -1,0 +1,262 @@
+-- Reading the marks: a cell's generation is that of its insert in the history, and it is shown as the history says.
+use Rattle.std.proofs.Common.{◌≡◌, ◌≢◌, ℕ, zero, suc, ◌+◌, ◌<◌, ◌≤◌, max, Bool, true, false, not, ◌&&◌, ◌==◌, if◌then◌else◌, List, [], ◌∷◌, ◌++◌, length, filter, map, take, drop, ◌⊎◌, inl, inr, refl, ap, ap₂, sym, ◌∙◌, subst, subst₂, arith, take-append-drop, length-take-le}
+use Rattle.std.proofs.lemmas.Bool.{both_ways, and_parts, and_from, false_from_ne_true}
+use Rattle.std.specs.List.{list_any}
+use Rattle.op_name.specs.NameData.{NameData, name_eq}
+use Rattle.op_name.specs.declared.member.Member.{Member}
+use Rattle.op_name.specs.declared.member.Member.TheVariants.{Original, Group}
+use Rattle.op_name.specs.Members.{member_eq}
+use Rattle.op_name.specs.Contexts.{ContextData, has}
+use Rattle.op_name.specs.Operations.{OpData, inserting, deleting, undoing, member_of, context_of, is_original}
+use Rattle.op_name.specs.Histories.{members_in, generation_at, generation_in, in_force}
+use Rattle.op_name.specs.Replays.{Cell, stands_at, replay_of, hits, covers, is_shown, character_in}
+use Rattle.ttf_form.specs.declared.ins.Ins.{Ins}
+use Rattle.ttf_form.specs.declared.cover.Cover.{Cover}
+use Rattle.ttf_form.specs.declared.cover.Mark.{Mark}
+use Rattle.ttf_form.specs.declared.cover.Mark.TheVariants.{Own, By}
+use Rattle.ttf_form.specs.declared.form.Form.{Form}
+use Rattle.ttf_form.specs.declared.form.Form.TheVariants.{Ins as Insert, Cover as Covered}
+use Rattle.ttf_form.specs.Forms.{place_of, extent_of, IsBoundedForm}
+use Rattle.ttf_form.specs.Cells.{CellData, marked, raise_in, best, IsRising, cell_key, cells_of, is_even, cell_shown}
+use Rattle.ttf_form.specs.Laws.Deleters.{best_raise, best_raise_other, raise_rising}
+use Rattle.ttf_form.specs.Laws.Cells.{marked_key, marked_char}
+use Rattle.transform_rec.specs.Sets.{none, IsSubset, SameSet, plus, plus_all}
+use Rattle.transform_rec.specs.Lists.{IsIn, AreApart, count}
+use Rattle.transform_rec.specs.Family.{Family, IsClosed, IsSound}
+use Rattle.transform_rec.specs.Derived.{IsFamily, weight}
+use Rattle.transform_rec.specs.Derived.Derived.{at_base, by_step}
+use Rattle.transform_rec.specs.Executing.{Setting, deriving_of, HasOwnNames, keep, own}
+use Rattle.transform_rec.proofs.Members.{name_tells, name_self, member_cases}
+use Rattle.transform_rec.proofs.Lists.{filter_all, length-count}
+use Rattle.transform_rec.proofs.Sets.{plus_here, plus_keeps, plus_cases, all_in}
+use Rattle.transform_rec.proofs.Families.{base_sound}
+use Rattle.transform_rec.proofs.Executing.{IsForm, Run, Forms, run, At, state_after, forms_run}
+use Rattle.transform_rec.proofs.Restriction.{part_state, one_more}
+use Rattle.fixed_replay.specs.Originals.{AreToldApart}
+use Rattle.fixed_replay.specs.Families.{HasGroups}
+use Rattle.fixed_replay.specs.HistoryFamilies.{IsInsertForm, IsCoverForm, IsFamilyOf}
+use Rattle.fixed_replay.proofs.Elements.{true_or_false, not_both, same_bool, filter_same, map_same, any_in, in_any}
+use Rattle.fixed_replay.proofs.SameText.{IsPut, in-replay_of, character_at}
+use Rattle.fixed_replay.proofs.Editor.{form_inclusion, form_table, setting_of}
+use Rattle.fixed_replay.proofs.Marks.{same_cell, stands_behind, mark_by, bare_at, hits_in, marks_of, marks_same}
+use Rattle.fixed_replay.proofs.Marking.{state_marks}
+use Rattle.fixed_replay.proofs.DeleterLists.{Entry, in-raise, entry_best, best_entry}
+
+-- ---- members of a history
+
+pub member_listed : (o : OpData) (h : List OpData) → IsIn o h → IsIn (member_of o) (members_in h)
+member_listed o [] i = absurd i
+member_listed o (p ∷ ps) (inl e) = inl (ap member_of e)
+member_listed o (p ∷ ps) (inr i) = inr (member_listed o ps i)
+
+pub listed_member : (m : Member) (h : List OpData) → IsIn m (members_in h) → (o : OpData) × IsIn o h × (member_of o ≡ m)
+listed_member m [] i = absurd i
+listed_member m (p ∷ ps) (inl e) = (p, inl refl, sym e)
+listed_member m (p ∷ ps) (inr i) = let r = listed_member m ps i in (r.0, inr r.1, r.2)
+
+-- where no member stands twice, a member is one operation
+pub one_operation : (h : List OpData) → AreApart (members_in h) → (o p : OpData) → IsIn o h → IsIn p h → member_of o ≡ member_of p → o ≡ p
+one_operation [] a o p i j e = absurd i
+one_operation (q ∷ qs) a o p (inl k) (inl l) e = k ∙ sym l
+one_operation (q ∷ qs) a o p (inl k) (inr j) e = absurd (a.0 (member_of p) (member_listed p qs j) (ap member_of (sym k) ∙ e))
+one_operation (q ∷ qs) a o p (inr i) (inl l) e = absurd (a.0 (member_of o) (member_listed o qs i) (ap member_of (sym l) ∙ sym e))
+one_operation (q ∷ qs) a o p (inr i) (inr j) e = one_operation qs a.1 o p i j e
+
+offset_zero : (s : List CellData) (c : Cell) → IsIn c (cells_of s) → c.1 ≡ 0
+offset_zero [] c i = absurd i
+offset_zero (d ∷ ds) c (inl e) = ap (λ (x : Cell). x.1) e
+offset_zero (d ∷ ds) c (inr i) = offset_zero ds c i
+
+and_true : (x : Bool) → (x && true) ≡ x
+and_true true = refl
+and_true false = refl
+
+abbrev pub everyone : Member → Bool
+everyone m = true
+
+-- ---- what a mark changes
+
+mark_key : (f : Form) (h : Bool) (d : CellData) → cell_key (mark_by f h d) ≡ cell_key d
+mark_key (Insert a) h d = refl
+mark_key (Covered k) true d = marked_key k.mark d
+mark_key (Covered k) false d = refl
+
+mark_char : (f : Form) (h : Bool) (d : CellData) → (mark_by f h d).ch ≡ d.ch
+mark_char (Insert a) h d = refl
+mark_char (Covered k) true d = marked_char k.mark d
+mark_char (Covered k) false d = refl
+
+rising_under : (m : Mark) (d : CellData) → IsRising d.deleters → IsRising (marked m d).deleters
+rising_under (Own g) d r = r
+rising_under (By n g) d r = raise_rising n g d.deleters r
+
+mark_rising : (f : Form) (h : Bool) (d : CellData) → IsRising d.deleters → IsRising (mark_by f h d).deleters
+mark_rising (Insert a) h d r = r
+mark_rising (Covered k) true d r = rising_under k.mark d r
+mark_rising (Covered k) false d r = r
+
+-- a mark of a delete leaves the generation, an own mark the deleters
+by_generation : (p : ℕ) (n : NameData) (g : ℕ) (f : Form) (h : Bool) (d : CellData) → IsCoverForm p (By n g) f → (mark_by f h d).generation ≡ d.generation
+by_generation p n g f h d k = ap (λ (x : Form). (mark_by x h d).generation) k.is ∙ (ap (λ (m : Mark). (if h then marked m d else d).generation) k.mark ∙ same_generation h)
+  where
+  same_generation : (b : Bool) → (if b then marked (By n g) d else d).generation ≡ d.generation
+  same_generation true = refl
+  same_generation false = refl
+
+own_generation : (p g : ℕ) (f : Form) (h : Bool) (d : CellData) → IsCoverForm p (Own g) f → (mark_by f h d).generation ≡ max (if h then g else 0) d.generation
+own_generation p g f h d k = ap (λ (x : Form). (mark_by x h d).generation) k.is ∙ (ap (λ (m : Mark). (if h then marked m d else d).generation) k.mark ∙ more_generation h)
+  where
+  more_generation : (b : Bool) → (if b then marked (Own g) d else d).generation ≡ max (if b then g else 0) d.generation
+  more_generation true = omega arith
+  more_generation false = omega arith
+
+own_deleters : (p g : ℕ) (f : Form) (h : Bool) (d : CellData) → IsCoverForm p (Own g) f → (mark_by f h d).deleters ≡ d.deleters
+own_deleters p g f h d k = ap (λ (x : Form). (mark_by x h d).deleters) k.is ∙ (ap (λ (m : Mark). (if h then marked m d else d).deleters) k.mark ∙ same_deleters h)
+  where
+  same_deleters : (b : Bool) → (if b then marked (Own g) d else d).deleters ≡ d.deleters
+  same_deleters true = refl
+  same_deleters false = refl
+
+by_deleters : (p : ℕ) (n : NameData) (g : ℕ) (f : Form) (h : Bool) (d : CellData) → IsCoverForm p (By n g) f → (mark_by f h d).deleters ≡ (if h then raise_in n g d.deleters else d.deleters)
+by_deleters p n g f h d k = ap (λ (x : Form). (mark_by x h d).deleters) k.is ∙ (ap (λ (m : Mark). (if h then marked m d else d).deleters) k.mark ∙ more_deleters h)
+  where
+  more_deleters : (b : Bool) → (if b then marked (By n g) d else d).deleters ≡ (if b then raise_in n g d.deleters else d.deleters)
+  more_deleters true = refl
+  more_deleters false = refl
+
+module _ (b : Family Form) (known : IsFamily form_inclusion b) (own_names : HasOwnNames form_table b) (groups : HasGroups b) (h : List OpData) (family : IsFamilyOf h b) where
+  abbrev w : Setting Form (List CellData)
+  w = setting_of b known own_names
+
+  listed_of : (o : OpData) → IsIn o h → IsIn (member_of o) b.members
+  listed_of o i = subst (λ (ms : List Member). IsIn (member_of o) ms) (sym family.members) (member_listed o h i)
+
+  apart_members : AreApart (members_in h)
+  apart_members = subst (λ (ms : List Member). AreApart ms) family.members known.causal.distinct
+
+  one_op : (o p : OpData) → IsIn o h → IsIn p h → member_of o ≡ member_of p → o ≡ p
+  one_op o p i j e = one_operation h apart_members o p i j e
+
+  -- an insert's name is no delete's
+  not_delete : (n m : NameData) (p ch q : ℕ) (c k : ContextData) → IsIn (inserting n p ch c) h → IsIn (deleting m q k) h → name_eq m n ≡ false
+  not_delete n m p ch q c k i j = false_from_ne_true (name_eq m n) (λ e. let o : inserting n p ch c ≡ deleting m q k = one_op (inserting n p ch c) (deleting m q k) i j (ap Original (sym (name_tells m n e))) in (cc))
+
+  module _ (fs : List Form) (st : At w none []) (df : Forms w none b.members fs) (is_replay : cells_of (run w [] fs) ≡ replay_of h) where
+    abbrev S : List Cell
+    S = cells_of (run w [] fs)
+
+    -- a cell is of an insert of the history
+    put_by : (c : Cell) → IsIn c S → IsPut h c
+    put_by c i = in-replay_of h c (subst (λ (cs : List Cell). IsIn c cs) is_replay i)
+
+    -- ---- which cells are hit
+
+    delete_hits : (n : NameData) (p : ℕ) (k : ContextData) (c : Cell) → IsIn (deleting n p k) h → hits_in b S (Original n) c ≡ hits h (deleting n p k) c
+    delete_hits n p k c i =
+      let d = family.deletes n p k i in
+      let place : place_of (b.form (Original n)) ≡ p = ap place_of d.is ∙ d.place in
+      let part : filter (keep (b.context (Original n))) S ≡ filter (λ (e : Cell). has k (Original e.0)) (replay_of h) =
+        filter_same (keep (b.context (Original n))) (λ (e : Cell). has k (Original e.0)) S (λ e j. family.contexts (deleting n p k) n i refl (Original e.0)) ∙ ap (filter (λ (e : Cell). has k (Original e.0))) is_replay in
+      ap₂ (λ (q : ℕ) (cs : List Cell). stands_at q cs c) place part
+
+    -- a group's base context holds its original's
+    group_within : (t : NameData) (g : ℕ) → IsIn (Group t g) b.members → (z : Member) → b.context (Original t) z ≡ true → b.context (Group t g) z ≡ true
+    group_within t g i z e = known.causal.closed (Group t g) (Original t) i (groups.target t g i) z e
+
+    -- a group of a delete hits what the delete hits
+    delete_group_hits : (n t : NameData) (p g q : ℕ) (k : ContextData) (d : Cover) (c : Cell) → IsIn (deleting t q k) h → b.form (Original t) ≡ Covered d → IsIn (Group t g) b.members → hits_in b S (Group t g) c ≡ hits_in b S (Original t) c
+    delete_group_hits n t p g q k d c j base i =
+      let f = family.delete_groups t g d i base in
+      let place : place_of (b.form (Group t g)) ≡ place_of (b.form (Original t)) = ap place_of f.is ∙ (f.place ∙ ap place_of (sym base)) in
+      let same : (e : Cell) → IsIn e S → keep (b.context (Group t g)) e ≡ keep (b.context (Original t)) e = λ e l.
+        same_bool (keep (b.context (Group t g)) e) (keep (b.context (Original t)) e)
+          (λ m. elim (groups.before t g (Original e.0) i m) [
+            inl a ↦ a
+            | inr a ↦ elim a [
+              inl r ↦ let put = put_by e l in absurd (both_ways (name_eq t e.0) (not_delete e.0 t put.place put.character q put.context k put.there j) (let s : e.0 ≡ t = (cc) in subst (λ (v : NameData). name_eq t v ≡ true) (sym s) (name_self t)))
+              | inr r ↦ let s = r.1 in absurd (cc) ] ])
+          (λ m. group_within t g i (Original e.0) m) in
+      ap₂ (λ (v : ℕ) (cs : List Cell). stands_at v cs c) place (filter_same (keep (b.context (Group t g))) (keep (b.context (Original t))) S same)
+
+    -- a group of an insert hits the cell of the insert
+    insert_group_hits : (t : NameData) (g p ch : ℕ) (k : ContextData) (c : Cell) → IsIn (inserting t p ch k) h → IsIn (Group t g) b.members → IsIn c S → hits_in b S (Group t g) c ≡ name_eq t c.0
+    insert_group_hits t g p ch k c j i l =
+      let y : Member = Original t in
+      let f = family.inserts t p ch k j in
+      let a = f.ins in
+      let cover = family.insert_groups t g a i f.is in
+      let listed = listed_of (inserting t p ch k) j in
+      let needs = b.context y in
+      let P = filter (keep needs) S in
+      let within : (z : Member) → needs z ≡ true → IsIn z b.members = λ z e. known.causal.listed y z listed e in
+      let part = part_state w needs b.members none [] fs (base_sound b known.causal y listed).set.closed st df (λ z e. not_both e refl) (λ z e. inr (within z e)) in
+      let long : length P ≡ weight form_inclusion b needs = ap length part.2 ∙ part.1.weighs in
+      let bounded : a.place ≤ weight form_inclusion b needs = subst (λ (x : Form). IsBoundedForm x (weight form_inclusion b needs)) f.is (known.bounded y listed) in
+      let more = one_more w needs y (Insert a) b.members [] fs st df within listed (at_base listed (λ z. refl) (sym f.is)) in
+      let same : (e : Cell) → IsIn e S → keep (b.context (Group t g)) e ≡ keep (plus needs y) e = λ e m.
+        same_bool (keep (b.context (Group t g)) e) (keep (plus needs y) e)
+          (λ q. elim (groups.before t g (Original e.0) i q) [
+            inl u ↦ plus_keeps needs y (Original e.0) u
+            | inr u ↦ elim u [
+              inl r ↦ subst (λ (z : Member). plus needs y z ≡ true) (sym r) (plus_here needs y)
+              | inr r ↦ let v = r.1 in absurd (cc) ] ])
+          (λ q. elim (plus_cases needs y (Original e.0) q) [
+            inl u ↦ group_within t g i (Original e.0) u
+            | inr u ↦ subst (λ (z : Member). b.context (Group t g) z ≡ true) u (groups.target t g i) ]) in
+      let place : place_of (b.form (Group t g)) ≡ a.place = ap place_of cover.is ∙ cover.place in
+      let cells : filter (keep (b.context (Group t g))) S ≡ take a.place P ++ ((a.name, 0) ∷ drop a.place P) = filter_same (keep (b.context (Group t g))) (keep (plus needs y)) S same ∙ more in
+      ap₂ (λ (n : ℕ) (cs : List Cell). stands_at n cs c) place cells
+        ∙ (stands_behind (take a.place P) (a.name, 0) (drop a.place P) a.place c (length-take-le a.place P (omega arith))
+        ∙ (ap₂ (λ (n : NameData) (o : ℕ). name_eq n c.0 && (0 == o)) f.name (offset_zero (run w [] fs) c l)
+        ∙ and_true (name_eq t c.0)))
+
+    -- ---- what an operation's mark does to a cell
+
+    abbrev mark_of : OpData → Cell → CellData → CellData
+    mark_of o c d = mark_by (b.form (member_of o)) (hits_in b S (member_of o) c) d
+
+    -- the original that a group is of is an insert or a delete
+    target_is : (t : NameData) (g : ℕ) → IsIn (Group t g) b.members → ((p : ℕ) × (ch : ℕ) × (k : ContextData) × IsIn (inserting t p ch k) h) ⊎ ((p : ℕ) × (k : ContextData) × IsIn (deleting t p k) h)
+    target_is t g i =
+      let there = known.causal.listed (Group t g) (Original t) i (groups.target t g i) in
+      let r = listed_member (Original t) h (subst (λ (ms : List Member). IsIn (Original t) ms) family.members there) in
+      of_kind r.0 r.1 r.2
+      where
+      of_kind : (o : OpData) → IsIn o h → member_of o ≡ Original t → ((p : ℕ) × (ch : ℕ) × (k : ContextData) × IsIn (inserting t p ch k) h) ⊎ ((p : ℕ) × (k : ContextData) × IsIn (deleting t p k) h)
+      of_kind (inserting n p ch k) j e = let s : n ≡ t = (cc) in inl (p, ch, k, subst (λ (v : NameData). IsIn (inserting v p ch k) h) s j)
+      of_kind (deleting n p k) j e = let s : n ≡ t = (cc) in inr (p, k, subst (λ (v : NameData). IsIn (deleting v p k) h) s j)
+      of_kind (undoing q n f k) j e = absurd (cc)
+
+    -- ---- generations
+
+    mark_generation : (o : OpData) → IsIn o h → (c : Cell) → IsIn c S → (d : CellData) → (mark_of o c d).generation ≡ max (generation_at o c.0) d.generation
+    mark_generation (inserting n p ch k) i c l d = let f = family.inserts n p ch k i in ap (λ (x : Form). (mark_by x (hits_in b S (Original n) c) d).generation) f.is ∙ omega arith
+    mark_generation (deleting n p k) i c l d = by_generation p n 0 (b.form (Original n)) (hits_in b S (Original n) c) d (family.deletes n p k i) ∙ omega arith
+    mark_generation (undoing a t g k) i c l d = elim (target_is t g (listed_of (undoing a t g k) i)) [
+      inl r ↦
+        let f = family.inserts t r.0 r.1 r.2 r.3 in
+        let listed = listed_of (undoing a t g k) i in
+        own_generation f.ins.place g (b.form (Group t g)) (hits_in b S (Group t g) c) d (family.insert_groups t g f.ins listed f.is)
+          ∙ ap (λ (x : Bool). max (if x then g else 0) d.generation) (insert_group_hits t g r.0 r.1 r.2 c r.3 listed l)
+      | inr r ↦
+        let f = family.deletes t r.0 r.1 r.2 in
+        let listed = listed_of (undoing a t g k) i in
+        let put = put_by c l in
+        let other : name_eq t c.0 ≡ false = not_delete c.0 t put.place put.character r.0 put.context r.1 put.there r.2 in
+        by_generation f.cover.place t g (b.form (Group t g)) (hits_in b S (Group t g) c) d (family.delete_groups t g f.cover listed f.is)
+          ∙ (rw other (omega arith)) ]
+
+    bare_generation : (c : Cell) (f : Form) → (bare_at c f).generation ≡ 0
+    bare_generation c (Insert a) = refl
+    bare_generation c (Covered d) = refl
+
+    bare_deleters : (c : Cell) (f : Form) → (bare_at c f).deleters ≡ []
+    bare_deleters c (Insert a) = refl
+    bare_deleters c (Covered d) = refl
+
+    abbrev marks : Cell → List OpData → CellData
+    marks c os = marks_of b S everyone c (members_in os)
+
+    generation_is : (os : List OpData) → ((o : OpData) → IsIn o os → IsIn o h) → (c : Cell) → IsIn c S → (marks c os).generation ≡ generation_in os c.0
+    generation_is [] all c l = bare_generation c (b.form (Original c.0))
+    generation_is (o ∷ os) all c l = mark_generation o (all o (inl refl)) c l (marks c os) ∙ ap (max (generation_at o c.0)) (generation_is os (λ p i. all p (inr i)) c l)
