@@ -4,7 +4,7 @@ use Rattle.std.proofs.lemmas.Bool.{both_ways}
 use Rattle.op_name.specs.NameData.{NameData, name_eq, name_lt}
 use Rattle.op_name.specs.Contexts.{IsBefore}
 use Rattle.ttf_form.specs.Cells.{raise_in, best, IsRising}
-use Rattle.ttf_form.specs.Laws.Deleters.{name_self, name_same, name_less_trans, name_less_other}
+use Rattle.ttf_form.specs.Laws.Deleters.{best_raise, best_raise_other, name_self, name_same, name_less_trans, name_less_other}
 use Rattle.transform_rec.specs.Lists.{IsIn}
 use Rattle.fixed_replay.proofs.Elements.{true_or_false, not_both}
 
@@ -63,3 +63,9 @@ best_entry d g (e ∷ es) h = elim (true_or_false (name_eq d e.0)) [
   | inr k ↦ elim (max_is 0 (best d es) (suc g) (rw k at h)) [
     inl p ↦ absurd (omega arith)
     | inr p ↦ inr (best_entry d g es p) ] ]
+
+-- a raise lowers no best
+pub best_more : (d n : NameData) (g : ℕ) (es : List Entry) → best d es ≤ best d (raise_in n g es)
+best_more d n g es = elim (true_or_false (name_eq d n)) [
+  inl k ↦ let s : d ≡ n = name_same d n k in let e : best d (raise_in n g es) ≡ max (suc g) (best d es) = subst (λ (m : NameData). best d (raise_in m g es) ≡ max (suc g) (best d es)) s (best_raise d g es) in omega arith
+  | inr k ↦ let e = best_raise_other d n g es k in omega arith ]

@@ -40,7 +40,7 @@ use Rattle.fixed_replay.proofs.SameText.{IsPut, in-replay_of, character_at}
 use Rattle.fixed_replay.proofs.Editor.{form_inclusion, form_table, setting_of}
 use Rattle.fixed_replay.proofs.Marks.{same_cell, stands_behind, mark_by, bare_at, hits_in, marks_of, marks_same}
 use Rattle.fixed_replay.proofs.Marking.{state_marks}
-use Rattle.fixed_replay.proofs.DeleterLists.{Entry, in-raise, entry_best, best_entry}
+use Rattle.fixed_replay.proofs.DeleterLists.{Entry, in-raise, entry_best, best_entry, best_more}
 
 -- ---- members of a history
 
@@ -260,3 +260,119 @@ module _ (b : Family Form) (known : IsFamily form_inclusion b) (own_names : HasO
     generation_is : (os : List OpData) → ((o : OpData) → IsIn o os → IsIn o h) → (c : Cell) → IsIn c S → (marks c os).generation ≡ generation_in os c.0
     generation_is [] all c l = bare_generation c (b.form (Original c.0))
     generation_is (o ∷ os) all c l = mark_generation o (all o (inl refl)) c l (marks c os) ∙ ap (max (generation_at o c.0)) (generation_is os (λ p i. all p (inr i)) c l)
+
+    -- ---- deleters
+
+    -- the best of d after a raise of n, if it happens
+    raise_best : (d n : NameData) (g : ℕ) (hit : Bool) (es : List Entry) → (name_eq n d ≡ true → hit ≡ true) → best d (if hit then raise_in n g es else es) ≡ max (if name_eq n d then suc g else 0) (best d es)
+    raise_best d n g hit es f = elim (true_or_false (name_eq n d)) [
+      inl k ↦ let s : n ≡ d = name_tells n d k in let e : best d (raise_in n g es) ≡ max (suc g) (best d es) = subst (λ (m : NameData). best d (raise_in m g es) ≡ max (suc g) (best d es)) (sym s) (best_raise d g es) in rw (f k, k) e
+      | inr k ↦ rw k (by_hit hit k) ]
+      where
+      by_hit : (x : Bool) → name_eq n d ≡ false → best d (if x then raise_in n g es else es) ≡ max 0 (best d es)
+      by_hit true k = let other : name_eq d n ≡ false = false_from_ne_true (name_eq d n) (λ e. both_ways (name_eq n d) k (subst (λ (m : NameData). name_eq n m ≡ true) (sym (name_tells d n e)) (name_self n))) in best_raise_other d n g es other ∙ omega arith
+      by_hit false k = omega arith
+
+    -- d is a delete that hits the cell
+    record Deletes (d : NameData) (c : Cell) : Type 0 where
+      place : ℕ
+      context : ContextData
+      there : IsIn (deleting d place context) h
+      hit : hits_in b S (Original d) c ≡ true
+
+    zero_either : (y : Bool) → let z : ℕ = if y then 0 else 0 in z ≡ 0
+    zero_either true = refl
+    zero_either false = refl
+
+    max_one : (x g r : ℕ) (y : Bool) → x ≡ max (if y then suc g else 0) r → max 1 x ≡ max (suc (if y then g else 0)) (max 1 r)
+    max_one x g r true e = omega arith
+    max_one x g r false e = omega arith
+
+    mark_best : (o : OpData) → IsIn o h → (c : Cell) (d : NameData) → Deletes d c → (e : CellData) → max 1 (best d (mark_of o c e).deleters) ≡ max (suc (generation_at o d)) (max 1 (best d e.deleters))
+    mark_best (inserting n p ch k) i c d del e = let f = family.inserts n p ch k i in ap (λ (x : Form). max 1 (best d (mark_by x (hits_in b S (Original n) c) e).deleters)) f.is ∙ omega arith
+    mark_best (deleting n p k) i c d del e =
+      let f = family.deletes n p k i in
+      let hit : name_eq n d ≡ true → hits_in b S (Original n) c ≡ true = λ q. subst (λ (m : NameData). hits_in b S (Original m) c ≡ true) (sym (name_tells n d q)) del.hit in
+      let r : best d (mark_of (deleting n p k) c e).deleters ≡ max (if name_eq n d then suc 0 else 0) (best d e.deleters) =
+        ap (best d) (by_deleters p n 0 (b.form (Original n)) (hits_in b S (Original n) c) e f) ∙ raise_best d n 0 (hits_in b S (Original n) c) e.deleters hit in
+      max_one (best d (mark_of (deleting n p k) c e).deleters) 0 (best d e.deleters) (name_eq n d) r ∙ ap (λ (x : ℕ). max (suc x) (max 1 (best d e.deleters))) (zero_either (name_eq n d))
+    mark_best (undoing a t g k) i c d del e = elim (target_is t g (listed_of (undoing a t g k) i)) [
+      inl r ↦
+        let f = family.inserts t r.0 r.1 r.2 r.3 in
+        let listed = listed_of (undoing a t g k) i in
+        let other : name_eq t d ≡ false = false_from_ne_true (name_eq t d) (λ q. both_ways (name_eq d t) (not_delete t d r.0 r.1 del.place r.2 del.context r.3 del.there) (subst (λ (m : NameData). name_eq d m ≡ true) (sym (name_tells t d q)) (name_self d))) in
+        ap (λ (es : List Entry). max 1 (best d es)) (own_deleters f.ins.place g (b.form (Group t g)) (hits_in b S (Group t g) c) e (family.insert_groups t g f.ins listed f.is)) ∙ (rw other (omega arith))
+      | inr r ↦
+        let f = family.deletes t r.0 r.1 r.2 in
+        let listed = listed_of (undoing a t g k) i in
+        let same = delete_group_hits d t r.0 g r.0 r.1 f.cover c r.2 f.is listed in
+        let hit : name_eq t d ≡ true → hits_in b S (Group t g) c ≡ true = λ q. same ∙ subst (λ (m : NameData). hits_in b S (Original m) c ≡ true) (sym (name_tells t d q)) del.hit in
+        let raised : best d (mark_of (undoing a t g k) c e).deleters ≡ max (if name_eq t d then suc g else 0) (best d e.deleters) =
+          ap (best d) (by_deleters f.cover.place t g (b.form (Group t g)) (hits_in b S (Group t g) c) e (family.delete_groups t g f.cover listed f.is)) ∙ raise_best d t g (hits_in b S (Group t g) c) e.deleters hit in
+        max_one (best d (mark_of (undoing a t g k) c e).deleters) g (best d e.deleters) (name_eq t d) raised ]
+
+    suc_max : (x y : ℕ) → max (suc x) (suc y) ≡ suc (max x y)
+    suc_max x y = omega arith
+
+    best_is : (os : List OpData) → ((o : OpData) → IsIn o os → IsIn o h) → (c : Cell) (d : NameData) → Deletes d c → max 1 (best d (marks c os).deleters) ≡ suc (generation_in os d)
+    best_is [] all c d del = ap (λ (es : List Entry). max 1 (best d es)) (bare_deleters c (b.form (Original c.0)))
+    best_is (o ∷ os) all c d del =
+      mark_best o (all o (inl refl)) c d del (marks c os)
+        ∙ (ap (max (suc (generation_at o d))) (best_is os (λ p i. all p (inr i)) c d del) ∙ suc_max (generation_at o d) (generation_in os d))
+
+    -- a mark lowers no best
+    best_kept : (f : Form) (hit : Bool) (e : CellData) (d : NameData) → best d e.deleters ≤ best d (mark_by f hit e).deleters
+    best_kept (Insert a) hit e d = omega arith
+    best_kept (Covered k) false e d = omega arith
+    best_kept (Covered k) true e d = by_mark k.mark
+      where
+      by_mark : (m : Mark) → best d e.deleters ≤ best d (marked m e).deleters
+      by_mark (Own g) = omega arith
+      by_mark (By n g) = best_more d n g e.deleters
+
+    -- a delete that hits the cell is among its deleters
+    best_some : (os : List OpData) → ((o : OpData) → IsIn o os → IsIn o h) → (c : Cell) (d : NameData) (del : Deletes d c) → IsIn (deleting d del.place del.context) os → 1 ≤ best d (marks c os).deleters
+    best_some [] all c d del i = absurd i
+    best_some (o ∷ os) all c d del (inl q) =
+      let f = family.deletes d del.place del.context del.there in
+      let first : (mark_of (deleting d del.place del.context) c (marks c os)).deleters ≡ raise_in d 0 (marks c os).deleters =
+        by_deleters del.place d 0 (b.form (Original d)) (hits_in b S (Original d) c) (marks c os) f ∙ ap (λ (x : Bool). if x then raise_in d 0 (marks c os).deleters else (marks c os).deleters) del.hit in
+      let r : best d (mark_of (deleting d del.place del.context) c (marks c os)).deleters ≡ max 1 (best d (marks c os).deleters) = ap (best d) first ∙ best_raise d 0 (marks c os).deleters in
+      let some : 1 ≤ best d (mark_of (deleting d del.place del.context) c (marks c os)).deleters = omega arith in
+      subst (λ (p : OpData). 1 ≤ best d (mark_of p c (marks c os)).deleters) q some
+    best_some (o ∷ os) all c d del (inr i) =
+      let ih = best_some os (λ p j. all p (inr j)) c d del i in
+      let more = best_kept (b.form (member_of o)) (hits_in b S (member_of o) c) (marks c os) d in
+      omega arith
+
+    raised_entries : (n : NameData) (g : ℕ) (c : Cell) (e : CellData) → ((x : Entry) → IsIn x e.deleters → Deletes x.0 c) → (hit : Bool) (x : Entry) → (hit ≡ true → Deletes n c) → IsIn x (if hit then raise_in n g e.deleters else e.deleters) → Deletes x.0 c
+    raised_entries n g c e old true x new j = elim (in-raise n g x e.deleters j) [
+      inl p ↦ subst (λ (m : NameData). Deletes m c) (sym p) (new refl)
+      | inr y ↦ subst (λ (m : NameData). Deletes m c) y.2 (old y.0 y.1) ]
+    raised_entries n g c e old false x new j = old x j
+
+    -- each deleter of the cell is a delete that hits it
+    mark_entries : (o : OpData) → IsIn o h → (c : Cell) (e : CellData) → ((x : Entry) → IsIn x e.deleters → Deletes x.0 c) → (x : Entry) → IsIn x (mark_of o c e).deleters → Deletes x.0 c
+    mark_entries (inserting n p ch k) i c e old x j = let f = family.inserts n p ch k i in old x (subst (λ (g : Form). IsIn x (mark_by g (hits_in b S (Original n) c) e).deleters) f.is j)
+    mark_entries (deleting n p k) i c e old x j =
+      raised_entries n 0 c e old (hits_in b S (Original n) c) x (λ q. record { place = p; context = k; there = i; hit = q })
+        (subst (λ (es : List Entry). IsIn x es) (by_deleters p n 0 (b.form (Original n)) (hits_in b S (Original n) c) e (family.deletes n p k i)) j)
+    mark_entries (undoing a t g k) i c e old x j = elim (target_is t g (listed_of (undoing a t g k) i)) [
+      inl r ↦
+        let f = family.inserts t r.0 r.1 r.2 r.3 in
+        let listed = listed_of (undoing a t g k) i in
+        old x (subst (λ (es : List Entry). IsIn x es) (own_deleters f.ins.place g (b.form (Group t g)) (hits_in b S (Group t g) c) e (family.insert_groups t g f.ins listed f.is)) j)
+      | inr r ↦
+        let f = family.deletes t r.0 r.1 r.2 in
+        let listed = listed_of (undoing a t g k) i in
+        let same = delete_group_hits t t r.0 g r.0 r.1 f.cover c r.2 f.is listed in
+        raised_entries t g c e old (hits_in b S (Group t g) c) x (λ q. record { place = r.0; context = r.1; there = r.2; hit = sym same ∙ q })
+          (subst (λ (es : List Entry). IsIn x es) (by_deleters f.cover.place t g (b.form (Group t g)) (hits_in b S (Group t g) c) e (family.delete_groups t g f.cover listed f.is)) j) ]
+
+    entries_are : (os : List OpData) → ((o : OpData) → IsIn o os → IsIn o h) → (c : Cell) → (x : Entry) → IsIn x (marks c os).deleters → Deletes x.0 c
+    entries_are [] all c x j = absurd (subst (λ (es : List Entry). IsIn x es) (bare_deleters c (b.form (Original c.0))) j)
+    entries_are (o ∷ os) all c x j = mark_entries o (all o (inl refl)) c (marks c os) (entries_are os (λ p i. all p (inr i)) c) x j
+
+    marks_rising : (ms : List Member) (c : Cell) → IsRising (marks_of b S everyone c ms).deleters
+    marks_rising [] c = rw (bare_deleters c (b.form (Original c.0))) tt
+    marks_rising (m ∷ ms) c = mark_rising (b.form m) (hits_in b S m c) (marks_of b S everyone c ms) (marks_rising ms c)
