@@ -34,6 +34,7 @@ use Rattle.transform_rec.proofs.Executing.{IsForm, Run, Forms, run, At, state_af
 use Rattle.transform_rec.proofs.Restriction.{part_state, one_more}
 use Rattle.fixed_replay.specs.Originals.{AreToldApart}
 use Rattle.fixed_replay.specs.Families.{HasGroups}
+use Rattle.fixed_replay.specs.Replayed.{IsReplayed}
 use Rattle.fixed_replay.specs.HistoryFamilies.{IsInsertForm, IsCoverForm, IsFamilyOf}
 use Rattle.fixed_replay.proofs.Elements.{true_or_false, not_both, same_bool, filter_same, map_same, any_in, in_any}
 use Rattle.fixed_replay.proofs.SameText.{IsPut, in-replay_of, character_at}
@@ -66,6 +67,11 @@ offset_zero : (s : List CellData) (c : Cell) → IsIn c (cells_of s) → c.1 ≡
 offset_zero [] c i = absurd i
 offset_zero (d ∷ ds) c (inl e) = ap (λ (x : Cell). x.1) e
 offset_zero (d ∷ ds) c (inr i) = offset_zero ds c i
+
+in-map : {A B : Type 0} (f : A → B) (y : B) (xs : List A) → IsIn y (map f xs) → (x : A) × IsIn x xs × (y ≡ f x)
+in-map f y [] i = absurd i
+in-map f y (x ∷ xs) (inl e) = (x, inl refl, e)
+in-map f y (x ∷ xs) (inr i) = let r = in-map f y xs i in (r.0, inr r.1, r.2)
 
 and_true : (x : Bool) → (x && true) ≡ x
 and_true true = refl
@@ -376,3 +382,88 @@ module _ (b : Family Form) (known : IsFamily form_inclusion b) (own_names : HasO
     marks_rising : (ms : List Member) (c : Cell) → IsRising (marks_of b S everyone c ms).deleters
     marks_rising [] c = rw (bare_deleters c (b.form (Original c.0))) tt
     marks_rising (m ∷ ms) c = mark_rising (b.form m) (hits_in b S m c) (marks_of b S everyone c ms) (marks_rising ms c)
+
+    all_h : (o : OpData) → IsIn o h → IsIn o h
+    all_h o i = i
+
+    best_of_delete : (c : Cell) (d : NameData) → Deletes d c → best d (marks c h).deleters ≡ suc (generation_in h d)
+    best_of_delete c d del =
+      let a = best_is h all_h c d del in
+      let some = best_some h all_h c d del del.there in
+      omega arith
+
+    -- a deleter in force is a delete in force that hits the cell
+    covered_is : (c : Cell) → list_any (λ (e : Entry). is_even e.1) (marks c h).deleters ≡ list_any (covers h c) h
+    covered_is c = same_bool (list_any (λ (e : Entry). is_even e.1) (marks c h).deleters) (list_any (covers h c) h) to from
+      where
+      to : list_any (λ (e : Entry). is_even e.1) (marks c h).deleters ≡ true → list_any (covers h c) h ≡ true
+      to q =
+        let r = any_in (λ (e : Entry). is_even e.1) (marks c h).deleters q in
+        let x = r.0 in
+        let del = entries_are h all_h c x r.1 in
+        let one = entry_best x (marks c h).deleters (marks_rising (members_in h) c) r.1 in
+        let two = best_of_delete c x.0 del in
+        let same : x.1 ≡ generation_in h x.0 = omega arith in
+        let force : in_force h x.0 ≡ true = subst (λ (g : ℕ). is_even g ≡ true) same r.2 in
+        let hit : hits h (deleting x.0 del.place del.context) c ≡ true = sym (delete_hits x.0 del.place del.context c del.there) ∙ del.hit in
+        in_any (covers h c) (deleting x.0 del.place del.context) h del.there (and_from (in_force h x.0) (hits h (deleting x.0 del.place del.context) c) force hit)
+      of_op : (o : OpData) → IsIn o h → covers h c o ≡ true → list_any (λ (e : Entry). is_even e.1) (marks c h).deleters ≡ true
+      of_op (inserting n p ch k) i q = not_both q refl
+      of_op (deleting n p k) i q =
+        let r = and_parts (in_force h n) (hits h (deleting n p k) c) q in
+        let del : Deletes n c = record { place = p; context = k; there = i; hit = delete_hits n p k c i ∙ r.1 } in
+        in_any (λ (e : Entry). is_even e.1) (n, generation_in h n) (marks c h).deleters (best_entry n (generation_in h n) (marks c h).deleters (best_of_delete c n del)) r.0
+      of_op (undoing a t g k) i q = not_both q refl
+      from : list_any (covers h c) h ≡ true → list_any (λ (e : Entry). is_even e.1) (marks c h).deleters ≡ true
+      from q = let r = any_in (covers h c) h q in of_op r.0 r.1 r.2
+
+    shown_is : (c : Cell) → IsIn c S → cell_shown (marks c h) ≡ is_shown h c
+    shown_is c i = ap₂ (λ (g : ℕ) (q : Bool). is_even g && not q) (generation_is h all_h c i) (covered_is c)
+
+    -- ---- names and characters
+
+    marks_key : (ms : List Member) (c : Cell) → cell_key (marks_of b S everyone c ms) ≡ cell_key (bare_at c (b.form (Original c.0)))
+    marks_key [] c = refl
+    marks_key (m ∷ ms) c = mark_key (b.form m) (hits_in b S m c) (marks_of b S everyone c ms) ∙ marks_key ms c
+
+    marks_char : (ms : List Member) (c : Cell) → (marks_of b S everyone c ms).ch ≡ (bare_at c (b.form (Original c.0))).ch
+    marks_char [] c = refl
+    marks_char (m ∷ ms) c = mark_char (b.form m) (hits_in b S m c) (marks_of b S everyone c ms) ∙ marks_char ms c
+
+    key_is : (c : Cell) → IsIn c S → cell_key (marks c h) ≡ c
+    key_is c i =
+      let put = put_by c i in
+      let f = family.inserts c.0 put.place put.character put.context put.there in
+      let zero_is = offset_zero (run w [] fs) c i in
+      marks_key (members_in h) c ∙ (ap (λ (x : Form). cell_key (bare_at c x)) f.is ∙ (λ j. (f.name j, sym zero_is j)))
+
+    char_is : AreToldApart h → (c : Cell) → IsIn c S → (marks c h).ch ≡ character_in h c
+    char_is told c i =
+      let put = put_by c i in
+      let f = family.inserts c.0 put.place put.character put.context put.there in
+      marks_char (members_in h) c ∙ (ap (λ (x : Form). (bare_at c x).ch) f.is ∙ (f.char ∙ sym (character_at h told c.0 put.place put.character put.context c.1 put.there)))
+
+    -- ---- the state
+
+    state_is : run w [] fs ≡ map (λ (c : Cell). marks c h) S
+    state_is =
+      let C = plus_all none b.members in
+      let all : filter (keep C) S ≡ S = filter_all (keep C) S (λ c i. (state_after w b.members none [] fs st df).names c i) in
+      state_marks b known own_names b.members fs st df
+        ∙ (ap (map (λ (c : Cell). marks_of b S C c b.members)) all
+        ∙ map_same (λ (c : Cell). marks_of b S C c b.members) (λ (c : Cell). marks c h) S
+            (λ c i. marks_same b S C everyone c b.members (λ z j. all_in b.members none z j) ∙ ap (marks_of b S everyone c) family.members))
+
+    in_state : (d : CellData) → IsIn d (run w [] fs) → (c : Cell) × IsIn c S × (d ≡ marks c h)
+    in_state d i = in-map (λ (c : Cell). marks c h) d S (subst (λ (ds : List CellData). IsIn d ds) state_is i)
+
+    pub replayed : AreToldApart h → IsReplayed h (run w [] fs)
+    replayed told = record {
+      cells = is_replay;
+      characters = λ d i. let r = in_state d i in ap (λ (x : CellData). x.ch) r.2 ∙ (char_is told r.0 r.1 ∙ ap (character_in h) (sym (key_of d r.0 r.1 r.2)));
+      generations = λ d i. let r = in_state d i in ap (λ (x : CellData). x.generation) r.2 ∙ (generation_is h all_h r.0 r.1 ∙ ap (λ (c : Cell). generation_in h c.0) (sym (key_of d r.0 r.1 r.2)));
+      shown = λ d i. let r = in_state d i in ap cell_shown r.2 ∙ (shown_is r.0 r.1 ∙ ap (is_shown h) (sym (key_of d r.0 r.1 r.2)))
+    }
+      where
+      key_of : (d : CellData) (c : Cell) → IsIn c S → d ≡ marks c h → cell_key d ≡ c
+      key_of d c i e = ap cell_key e ∙ key_is c i

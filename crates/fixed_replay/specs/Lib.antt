@@ -1,3 +1,4 @@
 pub mod Originals
 pub mod Families
 pub mod HistoryFamilies
+pub mod Replayed
