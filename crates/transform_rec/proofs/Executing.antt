@@ -1,20 +1,23 @@
 -- Executing derived forms: each of them fits the state that it meets, and the state after it has the cells that it should.
-use Rattle.std.proofs.Common.{◌≡◌, ◌≢◌, ℕ, zero, suc, ◌+◌, ◌≤◌, Bool, true, false, List, [], ◌∷◌, ◌++◌, length, take, drop, ◌⊎◌, inl, inr, refl, sym, ap, ap₂, subst, ◌∙◌, arith}
+use Rattle.std.proofs.Common.{◌≡◌, ◌≢◌, ℕ, ◌+◌, Bool, true, false, List, [], ◌∷◌, ◌++◌, length, take, drop, inl, inr, refl, sym, ap, ap₂, subst, ◌∙◌}
 use Rattle.std.proofs.lemmas.Bool.{both_ways}
 use Rattle.op_name.specs.NameData.{NameData}
 use Rattle.op_name.specs.declared.member.Member.{Member}
 use Rattle.op_name.specs.declared.member.Member.TheVariants.{Original}
-use Rattle.transform_rec.specs.Sets.{none, IsSubset, SameSet, plus, plus_all}
-use Rattle.transform_rec.specs.Lists.{IsIn, AreApart}
-use Rattle.transform_rec.specs.Family.{Family, IsClosed, IsSound}
-use Rattle.transform_rec.specs.Derived.{Derived, Deriving, weight}
+use Rattle.transform_rec.specs.Sets.{none, SameSet, plus, plus_all}
+use Rattle.ttf_form.specs.Families.{IsIn}
+use Rattle.transform_rec.specs.Lists.{AreApart}
+use Rattle.transform_rec.specs.Family.{IsClosed}
+use Rattle.transform_rec.specs.Derived.{Derived}
 use Rattle.transform_rec.specs.Derived.Derived.{at_base, by_step}
-use Rattle.transform_rec.specs.Executing.{LacksName, NewNames, Table, IsTable, Setting, deriving_of, IsCausalFrom, AreFormsFrom, executed, keep, own, IsStateAt}
+use Rattle.ttf_form.specs.Names.{LacksName, NewNames}
+use Rattle.transform_rec.specs.Executing.{Setting, deriving_of, IsCausalFrom, AreFormsFrom, executed, own, IsStateAt}
 use Rattle.transform_rec.proofs.Members.{member_cases, member_self}
 use Rattle.transform_rec.proofs.Lists.{in_cases, in_take, in_drop, length-put, sum_none}
-use Rattle.transform_rec.proofs.Sets.{same_set, plus_here, plus_keeps, plus_cases, plus_parts}
+use Rattle.transform_rec.proofs.Sets.{same_set, plus_here, plus_keeps, plus_parts}
 use Rattle.transform_rec.proofs.Families.{closed_plus}
-use Rattle.transform_rec.proofs.Forms.{derived_sound, derived_bounded, weight_plus, exists}
+use Rattle.transform_rec.proofs.Forms.{derived_sound, derived_bounded, weight_plus, list_forms}
+use Rattle.transform_rec.proofs.CausalLists.{causal_moves, causal-append, causal_parts, causal_out, causal_listed, causal_apart, causal_closed}
 use Rattle.transform_rec.proofs.Uniqueness.{derived_once}
 
 -- ---- names of cells
@@ -57,9 +60,9 @@ module _ {F S : Type 0} (w : Setting F S) where
   -- each cell that a form adds has the name of the form's member
   pub added_owner : (x : Member) (C : Member → Bool) (f : F) → IsForm x C f → (c : NameData × ℕ) → IsIn c (w.table.added f) → x ≡ Original c.0
   added_owner x C f df c i =
-    let s = derived_sound (deriving_of w) x C f df in
-    let j : IsIn c (w.table.added (w.family.form x)) = subst (λ (cs : List (NameData × ℕ)). IsIn c cs) (derived_added x C f df) i in
-    elim (member_cases x (Original c.0)) [ inl e ↦ e | inr ne ↦ absurd (lacks_in (w.table.added (w.family.form x)) c.0 c (w.own_names x c.0 s.listed ne) j refl) ]
+      let s = derived_sound (deriving_of w) x C f df in
+      let j : IsIn c (w.table.added (w.family.form x)) = subst (λ (cs : List (NameData × ℕ)). IsIn c cs) (derived_added x C f df) i in
+      elim (member_cases x (Original c.0)) [ inl e ↦ e | inr ne ↦ absurd (lacks_in (w.table.added (w.family.form x)) c.0 c (w.own_names x c.0 s.listed ne) j refl) ]
 
   pub added_own : (x : Member) (C : Member → Bool) (f : F) → IsForm x C f → (c : NameData × ℕ) → IsIn c (w.table.added f) → own x c ≡ true
   added_own x C f df c i = subst (λ (z : Member). own z c ≡ true) (sym (added_owner x C f df c i)) (member_self (Original c.0))
@@ -68,50 +71,46 @@ module _ {F S : Type 0} (w : Setting F S) where
 
   pub addable_fits : (C : Member → Bool) (s : S) (x : Member) (f : F) → At C s → IsForm x C f → w.table.Fits s f
   addable_fits C s x f st df =
-    let sound = derived_sound (deriving_of w) x C f df in
-    let bounded : w.table.inclusion.IsBounded f (length (w.table.cells s)) = subst (λ (n : ℕ). w.table.inclusion.IsBounded f n) (sym st.weighs) (derived_bounded (deriving_of w) x C f df) in
-    w.laws.fits s f bounded (new_names (w.table.cells s) (w.table.added f) (λ a i c j. λ p.
+      let sound = derived_sound (deriving_of w) x C f df in
+      let bounded : w.table.inclusion.IsBounded f (length (w.table.cells s)) = subst (λ (n : ℕ). w.table.inclusion.IsBounded f n) (sym st.weighs) (derived_bounded (deriving_of w) x C f df) in
+      w.laws.fits s f bounded (new_names (w.table.cells s) (w.table.added f) (λ a i c j. λ p.
       let is : x ≡ Original c.0 = added_owner x C f df a i ∙ ap Original (sym p) in
       both_ways (C x) sound.lacks (subst (λ (y : Member). C y ≡ true) (sym is) (st.names c j))))
 
   pub state_more : (C : Member → Bool) (s : S) (x : Member) (f : F) → At C s → IsForm x C f → At (plus C x) (w.table.apply s f)
   state_more C s x f st df =
-    let cs = w.table.cells s in
-    let p = w.table.inclusion.place f in
-    let whole = w.laws.kept_at s f (addable_fits C s x f st df) in
-    let long : length (w.table.cells (w.table.apply s f)) ≡ length cs + length (w.table.added f) = ap length whole ∙ length-put p cs (w.table.added f) in
-    let many = w.laws.added_length f in
-    let more = weight_plus (deriving_of w) x C f df in
-    let was = st.weighs in
-    record {
-      weighs = long ∙ (ap₂ (λ m n. m + n) was many ∙ sym more);
-      names = λ c i.
-        let j : IsIn c (take p cs ++ (w.table.added f ++ drop p cs)) = subst (λ (l : List (NameData × ℕ)). IsIn c l) whole i in
-        elim (in_cases c (take p cs) (w.table.added f ++ drop p cs) j) [ inl a ↦ plus_keeps C x (Original c.0) (st.names c (in_take c p cs a)) | inr a ↦ elim (in_cases c (w.table.added f) (drop p cs) a) [ inl e ↦ subst (λ (y : Member). plus C x y ≡ true) (added_owner x C f df c e) (plus_here C x) | inr e ↦ plus_keeps C x (Original c.0) (st.names c (in_drop c p cs e)) ] ]
-    }
+      let cs = w.table.cells s in
+      let p = w.table.inclusion.place f in
+      let whole = w.laws.kept_at s f (addable_fits C s x f st df) in
+      let long : length (w.table.cells (w.table.apply s f)) ≡ length cs + length (w.table.added f) = ap length whole ∙ length-put p cs (w.table.added f) in
+      let many = w.laws.added_length f in
+      let more = weight_plus (deriving_of w) x C f df in
+      let was = st.weighs in
+      record {
+        weighs = long ∙ (ap₂ (λ m n. m + n) was many ∙ sym more);
+        names = λ c i.
+            let j : IsIn c (take p cs ++ (w.table.added f ++ drop p cs)) = subst (λ (l : List (NameData × ℕ)). IsIn c l) whole i in
+            elim (in_cases c (take p cs) (w.table.added f ++ drop p cs) j) [ inl a ↦ plus_keeps C x (Original c.0) (st.names c (in_take c p cs a)) | inr a ↦ elim (in_cases c (w.table.added f) (drop p cs) a) [ inl e ↦ subst (λ (y : Member). plus C x y ≡ true) (added_owner x C f df c e) (plus_here C x) | inr e ↦ plus_keeps C x (Original c.0) (st.names c (in_drop c p cs e)) ] ];
+      }
 
   -- a state without cells is a state at the empty set
   pub empty_state : (s : S) → w.table.cells s ≡ [] → At none s
   empty_state s e = record {
     weighs = ap length e ∙ sym (sum_none (λ (x : Member). w.table.inclusion.extent (w.family.form x)) w.family.members);
-    names = λ c i. absurd (subst (λ (l : List (NameData × ℕ)). IsIn c l) e i)
+    names = λ c i. absurd (subst (λ (l : List (NameData × ℕ)). IsIn c l) e i);
   }
 
   -- ---- lists of members and their forms
 
   pub run_moves : (C D : Member → Bool) (xs : List Member) → SameSet C D → Run C xs → Run D xs
-  run_moves C D xs h r = subst (λ (E : Member → Bool). Run E xs) (same_set C D h) r
+  run_moves C D xs h r = causal_moves w.family C D xs h r
 
   pub forms_move : (C D : Member → Bool) (xs : List Member) (fs : List F) → SameSet C D → Forms C xs fs → Forms D xs fs
   forms_move C D xs fs h r = subst (λ (E : Member → Bool). Forms E xs fs) (same_set C D h) r
 
   -- each causal list has its forms
   pub run_forms : (xs : List Member) (C : Member → Bool) → Run C xs → (fs : List F) × Forms C xs fs
-  run_forms [] C r = ([], tt)
-  run_forms (x ∷ xs) C r =
-    let f = exists (deriving_of w) x C r.0 in
-    let fs = run_forms xs (plus C x) r.1 in
-    (f.0 ∷ fs.0, (f.1, fs.1))
+  run_forms xs C r = list_forms (deriving_of w) xs C r
 
   -- and they are the only ones
   pub forms_once : (xs : List Member) (C : Member → Bool) (fs gs : List F) → Forms C xs fs → Forms C xs gs → fs ≡ gs
@@ -135,12 +134,10 @@ module _ {F S : Type 0} (w : Setting F S) where
   state_after (x ∷ xs) C s (f ∷ fs) st df = state_after xs (plus C x) (w.table.apply s f) fs (state_more C s x f st df.0) df.1
 
   pub run-append : (xs ys : List Member) (C : Member → Bool) → Run C xs → Run (plus_all C xs) ys → Run C (xs ++ ys)
-  run-append [] ys C r q = q
-  run-append (x ∷ xs) ys C r q = (r.0, run-append xs ys (plus C x) r.1 q)
+  run-append xs ys C r q = causal-append w.family xs ys C r q
 
   pub run_parts : (xs ys : List Member) (C : Member → Bool) → Run C (xs ++ ys) → Run C xs × Run (plus_all C xs) ys
-  run_parts [] ys C r = (tt, r)
-  run_parts (x ∷ xs) ys C r = let q = run_parts xs ys (plus C x) r.1 in ((r.0, q.0), q.1)
+  run_parts xs ys C r = causal_parts w.family xs ys C r
 
   pub forms-append : (xs ys : List Member) (C : Member → Bool) (fs gs : List F) → Forms C xs fs → Forms (plus_all C xs) ys gs → Forms C (xs ++ ys) (fs ++ gs)
   forms-append [] ys C [] gs df dg = dg
@@ -152,22 +149,14 @@ module _ {F S : Type 0} (w : Setting F S) where
   run_append s [] gs = refl
   run_append s (f ∷ fs) gs = run_append (w.table.apply s f) fs gs
 
-  -- no member of a causal list is in the set that it starts from
   pub run_out : (xs : List Member) (C : Member → Bool) (z : Member) → Run C xs → IsIn z xs → C z ≡ false
-  run_out [] C z r i = absurd i
-  run_out (x ∷ xs) C z r (inl e) = subst (λ (y : Member). C y ≡ false) (sym e) r.0.lacks
-  run_out (x ∷ xs) C z r (inr i) = (plus_parts C x z (run_out xs (plus C x) z r.1 i)).0
+  run_out xs C z r i = causal_out w.family xs C z r i
 
   pub run_listed : (xs : List Member) (C : Member → Bool) (z : Member) → Run C xs → IsIn z xs → IsIn z w.family.members
-  run_listed [] C z r i = absurd i
-  run_listed (x ∷ xs) C z r (inl e) = subst (λ (y : Member). IsIn y w.family.members) (sym e) r.0.listed
-  run_listed (x ∷ xs) C z r (inr i) = run_listed xs (plus C x) z r.1 i
+  run_listed xs C z r i = causal_listed w.family xs C z r i
 
-  -- no member stands twice in a causal list
   pub run_apart : (xs : List Member) (C : Member → Bool) → Run C xs → AreApart xs
-  run_apart [] C r = tt
-  run_apart (x ∷ xs) C r = ((λ z i. (plus_parts C x z (run_out xs (plus C x) z r.1 i)).1), run_apart xs (plus C x) r.1)
+  run_apart xs C r = causal_apart w.family xs C r
 
   pub run_closed : (xs : List Member) (C : Member → Bool) → IsClosed w.family C → Run C xs → IsClosed w.family (plus_all C xs)
-  run_closed [] C c r = c
-  run_closed (x ∷ xs) C c r = run_closed xs (plus C x) (closed_plus w.family x C r.0) r.1
+  run_closed xs C c r = causal_closed w.family xs C c r

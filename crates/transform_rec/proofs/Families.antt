@@ -1,13 +1,12 @@
 -- Where a member may be added to a set, and which member may be taken out of one.
-use Rattle.std.proofs.Common.{◌≡◌, ◌≢◌, ℕ, ◌+◌, Bool, true, false, not, ◌&&◌, List, [], ◌∷◌, ◌++◌, ◌⊎◌, inl, inr, refl, sym, ap, subst, ◌∙◌, arith}
+use Rattle.std.proofs.Common.{◌≡◌, ◌≢◌, ◌+◌, Bool, true, false, not, ◌&&◌, List, [], ◌∷◌, ◌++◌, ◌⊎◌, inl, inr, refl, sym, subst}
 use Rattle.std.proofs.lemmas.Bool.{cases_Bool, both_ways, and_parts, and_from, not-true, not_from_false, false_from_ne_true}
 use Rattle.op_name.specs.declared.member.Member.{Member}
-use Rattle.op_name.specs.Members.{member_eq}
-use Rattle.transform_rec.specs.Sets.{none, IsSubset, SameSet, plus, minus, meet, plus_all}
-use Rattle.transform_rec.specs.Lists.{IsIn, sum_where, AreApart}
+use Rattle.transform_rec.specs.Sets.{none, IsSubset, SameSet, plus, minus, meet}
+use Rattle.ttf_form.specs.Families.{IsIn}
 use Rattle.transform_rec.specs.Family.{Family, IsCausal, IsCausalFamily, IsClosed, IsSound, size}
-use Rattle.transform_rec.proofs.Lists.{LastOf, last_of, in_cases, in_left}
-use Rattle.transform_rec.proofs.Sets.{same_set, same_from, lacks_from, plus_here, plus_keeps, plus_cases, plus_lacks, plus_parts, plus_other, plus_within, minus_parts, minus_from, minus_lacks, minus_here, minus_plus, sum_plus}
+use Rattle.transform_rec.proofs.Lists.{LastOf, last_of, in_cases}
+use Rattle.transform_rec.proofs.Sets.{same_set, same_from, lacks_from, plus_keeps, plus_cases, plus_lacks, plus_parts, minus_parts, minus_from, minus_lacks, minus_here, minus_plus, sum_plus}
 
 -- ---- lists in causal order
 
@@ -41,13 +40,13 @@ module _ {F : Type 0} (b : Family F) where
   pub closed_plus : (x : Member) (D : Member → Bool) → IsSound b x D → IsClosed b (plus D x)
   closed_plus x D s = record {
     listed = λ y h. elim (plus_cases D x y h) [ inl a ↦ s.set.listed y a | inr e ↦ subst (λ (z : Member). IsIn z b.members) e s.listed ];
-    closed = λ y h z k. plus_keeps D x z (elim (plus_cases D x y h) [ inl a ↦ s.set.closed y a z k | inr e ↦ s.covers z (subst (λ (w : Member). b.context w z ≡ true) (sym e) k) ])
+    closed = λ y h z k. plus_keeps D x z (elim (plus_cases D x y h) [ inl a ↦ s.set.closed y a z k | inr e ↦ s.covers z (subst (λ (w : Member). b.context w z ≡ true) (sym e) k) ]);
   }
 
   pub closed_meet : (C D : Member → Bool) → IsClosed b C → ((x : Member) → D x ≡ true → IsSubset (b.context x) D) → IsClosed b (meet C D)
   closed_meet C D s h = record {
     listed = λ x i. s.listed x (and_parts (C x) (D x) i).0;
-    closed = λ x i z k. let r = and_parts (C x) (D x) i in and_from (C z) (D z) (s.closed x r.0 z k) (h x r.1 z k)
+    closed = λ x i z k. let r = and_parts (C x) (D x) i in and_from (C z) (D z) (s.closed x r.0 z k) (h x r.1 z k);
   }
 
   -- ---- members that may be added
@@ -58,7 +57,7 @@ module _ {F : Type 0} (b : Family F) where
     listed = sm.listed;
     covers = λ z h. plus_keeps D x z (sm.covers z h);
     set = closed_plus x D sx;
-    lacks = plus_lacks D x m sm.lacks (λ e. ne (sym e))
+    lacks = plus_lacks D x m sm.lacks (λ e. ne (sym e));
   }
 
   -- neither of two members that may each be added is in the other's base context
@@ -81,7 +80,7 @@ module _ {F : Type 0} (b : Family F) where
     listed = i;
     covers = λ z h. h;
     set = record { listed = λ x h. c.listed m x i h; closed = λ x h. c.closed m x i h };
-    lacks = causal_self b.context b.members m c.causal i
+    lacks = causal_self b.context b.members m c.causal i;
   }
 
   -- a member of C outside of m's base context that may be taken out of C
@@ -96,39 +95,39 @@ module _ {F : Type 0} (b : Family F) where
   -- the last member of the difference, with what is known of its place in the list
   free_at : (c : IsCausalFamily b) (m : Member) (C : Member → Bool) → IsSound b m C → (l : LastOf (λ y. C y && not (b.context m y)) b.members) → IsClosed b (minus C l.it)
   free_at c m C s l =
-    let x = l.it in
-    let r = and_parts (C x) (not (b.context m x)) l.passes in
-    let out : b.context m x ≡ false = not-true (b.context m x) r.1 in
-    record {
-      listed = λ y h. s.set.listed y (minus_parts C x y h).0;
-      closed = λ y h z k.
-        let p = minus_parts C x y h in
-        let i = s.set.listed y p.0 in
-        let apart : x ≢ z = λ (e : x ≡ z).
-          let back : b.context y x ≡ true = subst (λ (w : Member). b.context y w ≡ true) (sym e) k in
-          let unseen : b.context m y ≡ false = false_from_ne_true (b.context m y) (λ t. both_ways (b.context m x) out (c.closed m y s.listed t x back)) in
-          let passes : (C y && not (b.context m y)) ≡ true = and_from (C y) (not (b.context m y)) p.0 (not_from_false (b.context m y) unseen) in
-          elim (in_cases y l.before (x ∷ l.behind) (subst (λ (ys : List Member). IsIn y ys) l.whole i)) [ inl j ↦ both_ways (b.context y x) (causal_before b.context l.before x l.behind y (subst (λ (ys : List Member). IsCausal b.context ys) l.whole c.causal) j) back | inr (inl e2) ↦ p.1 (sym e2) | inr (inr j) ↦ both_ways (C y && not (b.context m y)) (l.rest y j) passes ] in
-        minus_from C x z (s.set.closed y p.0 z k) apart
-    }
+      let x = l.it in
+      let r = and_parts (C x) (not (b.context m x)) l.passes in
+      let out : b.context m x ≡ false = not-true (b.context m x) r.1 in
+      record {
+        listed = λ y h. s.set.listed y (minus_parts C x y h).0;
+        closed = λ y h z k.
+            let p = minus_parts C x y h in
+            let i = s.set.listed y p.0 in
+            let apart : x ≢ z = λ (e : x ≡ z).
+            let back : b.context y x ≡ true = subst (λ (w : Member). b.context y w ≡ true) (sym e) k in
+            let unseen : b.context m y ≡ false = false_from_ne_true (b.context m y) (λ t. both_ways (b.context m x) out (c.closed m y s.listed t x back)) in
+            let passes : (C y && not (b.context m y)) ≡ true = and_from (C y) (not (b.context m y)) p.0 (not_from_false (b.context m y) unseen) in
+            elim (in_cases y l.before (x ∷ l.behind) (subst (λ (ys : List Member). IsIn y ys) l.whole i)) [ inl j ↦ both_ways (b.context y x) (causal_before b.context l.before x l.behind y (subst (λ (ys : List Member). IsCausal b.context ys) l.whole c.causal) j) back | inr (inl e2) ↦ p.1 (sym e2) | inr (inr j) ↦ both_ways (C y && not (b.context m y)) (l.rest y j) passes ] in
+            minus_from C x z (s.set.closed y p.0 z k) apart;
+      }
 
   free_by : (c : IsCausalFamily b) (m : Member) (C : Member → Bool) → IsSound b m C → ((z : Member) → IsIn z b.members → (C z && not (b.context m z)) ≡ false) ⊎ LastOf (λ y. C y && not (b.context m y)) b.members → SameSet C (b.context m) ⊎ Free m C
   free_by c m C s (inl n) =
-    inl (same_from C (b.context m) (λ z h. elim (cases_Bool (b.context m z)) [ inl e ↦ e | inr e ↦ absurd (both_ways (C z && not (b.context m z)) (n z (s.set.listed z h)) (and_from (C z) (not (b.context m z)) h (not_from_false (b.context m z) e))) ]) s.covers)
+      inl (same_from C (b.context m) (λ z h. elim (cases_Bool (b.context m z)) [ inl e ↦ e | inr e ↦ absurd (both_ways (C z && not (b.context m z)) (n z (s.set.listed z h)) (and_from (C z) (not (b.context m z)) h (not_from_false (b.context m z) e))) ]) s.covers)
   free_by c m C s (inr l) =
-    let x = l.it in
-    let r = and_parts (C x) (not (b.context m x)) l.passes in
-    let out : b.context m x ≡ false = not-true (b.context m x) r.1 in
-    let i = s.set.listed x r.0 in
-    let set = free_at c m C s l in
-    inr (record {
-      it = x;
-      other = λ e. both_ways (C m) s.lacks (subst (λ (y : Member). C y ≡ true) (sym e) r.0);
-      out = minus_here C x;
-      whole = minus_plus C x r.0;
-      mine = record { listed = s.listed; covers = λ z h. minus_from C x z (s.covers z h) (λ e. both_ways (b.context m z) (subst (λ (y : Member). b.context m y ≡ false) e out) h); set = set; lacks = minus_lacks C x m s.lacks };
-      its = record { listed = i; covers = λ z h. minus_from C x z (s.set.closed x r.0 z h) (λ e. both_ways (b.context x x) (causal_self b.context b.members x c.causal i) (subst (λ (y : Member). b.context x y ≡ true) (sym e) h)); set = set; lacks = minus_here C x }
-    })
+      let x = l.it in
+      let r = and_parts (C x) (not (b.context m x)) l.passes in
+      let out : b.context m x ≡ false = not-true (b.context m x) r.1 in
+      let i = s.set.listed x r.0 in
+      let set = free_at c m C s l in
+      inr (record {
+        it = x;
+        other = λ e. both_ways (C m) s.lacks (subst (λ (y : Member). C y ≡ true) (sym e) r.0);
+        out = minus_here C x;
+        whole = minus_plus C x r.0;
+        mine = record { listed = s.listed; covers = λ z h. minus_from C x z (s.covers z h) (λ e. both_ways (b.context m z) (subst (λ (y : Member). b.context m y ≡ false) e out) h); set = set; lacks = minus_lacks C x m s.lacks };
+        its = record { listed = i; covers = λ z h. minus_from C x z (s.set.closed x r.0 z h) (λ e. both_ways (b.context x x) (causal_self b.context b.members x c.causal i) (subst (λ (y : Member). b.context x y ≡ true) (sym e) h)); set = set; lacks = minus_here C x };
+      })
 
   -- a set that m may be added to is m's base context, or has a member that may be taken out
   pub free_last : IsCausalFamily b → (m : Member) (C : Member → Bool) → IsSound b m C → SameSet C (b.context m) ⊎ Free m C

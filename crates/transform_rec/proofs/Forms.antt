@@ -1,13 +1,14 @@
 -- What every derived form has: its set is one that its member may be added to, and it keeps the extent, the apartness and
 -- the bound of its base form.
-use Rattle.std.proofs.Common.{◌≡◌, ◌≢◌, ℕ, zero, suc, ◌+◌, ◌≤◌, Bool, true, false, List, [], ◌∷◌, ◌⊎◌, inl, inr, refl, sym, ap, ap₂, subst, ◌∙◌, arith}
+use Rattle.std.proofs.Common.{◌≡◌, ◌≢◌, ℕ, zero, suc, ◌+◌, ◌≤◌, Bool, List, [], ◌∷◌, ◌⊎◌, inl, inr, refl, sym, ap, subst, ◌∙◌, arith}
 use Rattle.op_name.specs.declared.member.Member.{Member}
-use Rattle.transform_rec.specs.Sets.{IsSubset, SameSet, plus, minus}
-use Rattle.transform_rec.specs.Lists.{IsIn, sum_where, total_by}
-use Rattle.transform_rec.specs.Family.{Family, IsCausalFamily, IsClosed, IsSound, size}
-use Rattle.transform_rec.specs.Derived.{Derived, IsOnlyFormAt, Inclusion, IsInclusion, IsFamily, Deriving, weight, Holds}
+use Rattle.transform_rec.specs.Sets.{SameSet, plus, minus}
+use Rattle.ttf_form.specs.Families.{total_by}
+use Rattle.transform_rec.specs.Family.{Family, IsSound, size}
+use Rattle.transform_rec.specs.Derived.{Derived, Deriving, weight, Holds}
 use Rattle.transform_rec.specs.Derived.Derived.{at_base, by_step}
-use Rattle.transform_rec.proofs.Lists.{sum_same, sum_below}
+use Rattle.transform_rec.specs.Executing.{IsCausalFrom, AreFormsFrom}
+use Rattle.transform_rec.proofs.Lists.{sum_below}
 use Rattle.transform_rec.proofs.Sets.{same_set, sum_plus}
 use Rattle.transform_rec.proofs.Families.{sound_moves, sound_plus, sound_unrelated, base_sound, free_last, Free, size_plus}
 
@@ -43,50 +44,50 @@ module _ {F : Type 0} (d : Deriving F) where
   -- the forms of two members at a set that each of them may be added to are apart
   pub forms_apart : (m x : Member) (D : Member → Bool) (f k : F) → m ≢ x → IsForm m D f → IsForm x D k → d.inclusion.Apart f k
   forms_apart m x D f k ne df dk =
-    let sm = derived_sound m D f df in
-    let sx = derived_sound x D k dk in
-    let base = d.known.apart m x sm.listed sx.listed ne (sound_unrelated d.family m x D sm sx) (sound_unrelated d.family x m D sx sm) in
-    apart_from_base m D f df k (d.laws.apart_sym k (d.family.form m) (apart_from_base x D k dk (d.family.form m) (d.laws.apart_sym (d.family.form m) (d.family.form x) base)))
+      let sm = derived_sound m D f df in
+      let sx = derived_sound x D k dk in
+      let base = d.known.apart m x sm.listed sx.listed ne (sound_unrelated d.family m x D sm sx) (sound_unrelated d.family x m D sx sm) in
+      apart_from_base m D f df k (d.laws.apart_sym k (d.family.form m) (apart_from_base x D k dk (d.family.form m) (d.laws.apart_sym (d.family.form m) (d.family.form x) base)))
 
   -- one member more weighs as much as its forms
   pub weight_plus : (x : Member) (D : Member → Bool) (k : F) → IsForm x D k → weight d.inclusion d.family (plus D x) ≡ weight d.inclusion d.family D + d.inclusion.extent k
   weight_plus x D k dk =
-    let s = derived_sound x D k dk in
-    let own = derived_extent x D k dk in
-    let more = sum_plus D x (λ y. d.inclusion.extent (d.family.form y)) d.family.members d.known.causal.distinct s.listed s.lacks in
-    more ∙ ap (λ n. weight d.inclusion d.family D + n) (sym own)
+      let s = derived_sound x D k dk in
+      let own = derived_extent x D k dk in
+      let more = sum_plus D x (λ y. d.inclusion.extent (d.family.form y)) d.family.members d.known.causal.distinct s.listed s.lacks in
+      more ∙ ap (λ n. weight d.inclusion d.family D + n) (sym own)
 
   -- a derived form is bounded by the weight of its set
   pub derived_bounded : (m : Member) (C : Member → Bool) (f : F) → IsForm m C f → d.inclusion.IsBounded f (weight d.inclusion d.family C)
   derived_bounded m C f (at_base i s e) =
-    let here : d.inclusion.IsBounded (d.family.form m) (weight d.inclusion d.family C) = subst (λ (E : Member → Bool). d.inclusion.IsBounded (d.family.form m) (weight d.inclusion d.family E)) (sym (same_set C (d.family.context m) s)) (d.known.bounded m i) in
-    subst (λ (x : F). d.inclusion.IsBounded x (weight d.inclusion d.family C)) (sym e) here
+      let here : d.inclusion.IsBounded (d.family.form m) (weight d.inclusion d.family C) = subst (λ (E : Member → Bool). d.inclusion.IsBounded (d.family.form m) (weight d.inclusion d.family E)) (sym (same_set C (d.family.context m) s)) (d.known.bounded m i) in
+      subst (λ (x : F). d.inclusion.IsBounded x (weight d.inclusion d.family C)) (sym e) here
   derived_bounded m C f (by_step D x g k i ne l s dg dk e) =
-    let step : d.inclusion.IsBounded (d.inclusion.over g k) (weight d.inclusion d.family D + d.inclusion.extent k) = d.laws.bound_over g k (weight d.inclusion d.family D) (derived_bounded m D g dg) in
-    let more : d.inclusion.IsBounded (d.inclusion.over g k) (weight d.inclusion d.family (plus D x)) = subst (λ (n : ℕ). d.inclusion.IsBounded (d.inclusion.over g k) n) (sym (weight_plus x D k dk)) step in
-    let here : d.inclusion.IsBounded (d.inclusion.over g k) (weight d.inclusion d.family C) = subst (λ (E : Member → Bool). d.inclusion.IsBounded (d.inclusion.over g k) (weight d.inclusion d.family E)) (sym (same_set C (plus D x) s)) more in
-    subst (λ (y : F). d.inclusion.IsBounded y (weight d.inclusion d.family C)) (sym e) here
+      let step : d.inclusion.IsBounded (d.inclusion.over g k) (weight d.inclusion d.family D + d.inclusion.extent k) = d.laws.bound_over g k (weight d.inclusion d.family D) (derived_bounded m D g dg) in
+      let more : d.inclusion.IsBounded (d.inclusion.over g k) (weight d.inclusion d.family (plus D x)) = subst (λ (n : ℕ). d.inclusion.IsBounded (d.inclusion.over g k) n) (sym (weight_plus x D k dk)) step in
+      let here : d.inclusion.IsBounded (d.inclusion.over g k) (weight d.inclusion d.family C) = subst (λ (E : Member → Bool). d.inclusion.IsBounded (d.inclusion.over g k) (weight d.inclusion d.family E)) (sym (same_set C (plus D x) s)) more in
+      subst (λ (y : F). d.inclusion.IsBounded y (weight d.inclusion d.family C)) (sym e) here
 
   -- the place of a form with the extent of another at the same set stays within the weight of the family
   pub derived_room : (m x : Member) (D : Member → Bool) (f k : F) → IsForm m D f → IsForm x D k → d.inclusion.place f + d.inclusion.extent k ≤ total_by (λ y. d.inclusion.extent (d.family.form y)) d.family.members
   derived_room m x D f k df dk =
-    let place = d.laws.bound_place f (weight d.inclusion d.family D) (derived_bounded m D f df) in
-    let more = weight_plus x D k dk in
-    let all = sum_below (plus D x) (λ y. d.inclusion.extent (d.family.form y)) d.family.members in
-    omega arith
+      let place = d.laws.bound_place f (weight d.inclusion d.family D) (derived_bounded m D f df) in
+      let more = weight_plus x D k dk in
+      let all = sum_below (plus D x) (λ y. d.inclusion.extent (d.family.form y)) d.family.members in
+      omega arith
 
   -- ---- each member has a form at each set that it may be added to
 
   exists_by : (n : ℕ) → ((m : Member) (C : Member → Bool) → suc (size d.family C) ≤ n → IsSound d.family m C → (f : F) × IsForm m C f) → (m : Member) (C : Member → Bool) → size d.family C ≤ n → IsSound d.family m C → SameSet C (d.family.context m) ⊎ Free d.family m C → (f : F) × IsForm m C f
   exists_by n smaller m C le s (inl h) = (d.family.form m, at_base s.listed h refl)
   exists_by n smaller m C le s (inr r) =
-    let D = minus C r.it in
-    let same : size d.family C ≡ size d.family (plus D r.it) = ap (size d.family) (same_set C (plus D r.it) r.whole) in
-    let more = size_plus d.family d.known.causal r.it D r.its.listed r.out in
-    let less : suc (size d.family D) ≤ n = omega arith in
-    let g = smaller m D less r.mine in
-    let k = smaller r.it D less r.its in
-    (d.inclusion.over g.0 k.0, by_step D r.it g.0 k.0 r.its.listed r.other r.out r.whole g.1 k.1 refl)
+      let D = minus C r.it in
+      let same : size d.family C ≡ size d.family (plus D r.it) = ap (size d.family) (same_set C (plus D r.it) r.whole) in
+      let more = size_plus d.family d.known.causal r.it D r.its.listed r.out in
+      let less : suc (size d.family D) ≤ n = omega arith in
+      let g = smaller m D less r.mine in
+      let k = smaller r.it D less r.its in
+      (d.inclusion.over g.0 k.0, by_step D r.it g.0 k.0 r.its.listed r.other r.out r.whole g.1 k.1 refl)
 
   exists_up_to : (n : ℕ) (m : Member) (C : Member → Bool) → size d.family C ≤ n → IsSound d.family m C → (f : F) × IsForm m C f
   exists_up_to zero m C le s = exists_by zero (λ x D l r. absurd (omega arith)) m C le s (free_last d.family d.known.causal m C s)
@@ -94,3 +95,11 @@ module _ {F : Type 0} (d : Deriving F) where
 
   pub exists : (m : Member) (C : Member → Bool) → IsSound d.family m C → (f : F) × IsForm m C f
   exists m C s = exists_up_to (size d.family C) m C (omega arith) s
+
+  -- each causal list has its forms
+  pub list_forms : (xs : List Member) (C : Member → Bool) → IsCausalFrom d.family C xs → (fs : List F) × AreFormsFrom d.inclusion.over d.family C xs fs
+  list_forms [] C r = ([], tt)
+  list_forms (x ∷ xs) C r =
+      let f = exists x C r.0 in
+      let fs = list_forms xs (plus C x) r.1 in
+      (f.0 ∷ fs.0, (f.1, fs.1))

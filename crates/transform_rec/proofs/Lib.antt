@@ -3,8 +3,11 @@ pub mod Lists
 pub mod Sets
 pub mod Families
 pub mod Forms
+pub mod CausalLists
+pub mod Turns
 pub mod Uniqueness
 pub mod Executing
 pub mod Order
-pub mod Restriction
+pub mod Parts
 pub mod CausalOrders
+pub mod LawsHold

@@ -1,9 +1,8 @@
 -- Facts on lists: what is in them, filters, sums and counts.
-use Rattle.std.proofs.Common.{◌≡◌, ◌≢◌, ℕ, zero, suc, ◌+◌, ◌≤◌, Bool, true, false, not, cond, ◌&&◌, ◌||◌, List, [], ◌∷◌, ◌++◌, length, take, drop, filter, if◌then◌else◌, ◌⊎◌, inl, inr, refl, sym, ap, ap₂, subst, ◌∙◌, append_assoc, append-nil, arith, take-append-drop, length-append}
-use Rattle.std.proofs.lemmas.Bool.{cases_Bool, both_ways, or_right, or_left, or_cases, false≢true}
-use Rattle.op_name.specs.declared.member.Member.{Member}
-use Rattle.op_name.specs.Members.{member_eq}
-use Rattle.transform_rec.specs.Lists.{IsIn, sum_where, total_by, AreApart, SameElements, IsRising, count, either, EachAt}
+use Rattle.std.proofs.Common.{◌≡◌, ◌≢◌, ℕ, ◌+◌, ◌≤◌, Bool, true, false, cond, ◌||◌, List, [], ◌∷◌, ◌++◌, length, take, drop, filter, if◌then◌else◌, ◌⊎◌, inl, inr, refl, sym, ap, ap₂, subst, ◌∙◌, arith, take-append-drop, length-append}
+use Rattle.std.proofs.lemmas.Bool.{cases_Bool, both_ways, or_right, or_left}
+use Rattle.ttf_form.specs.Families.{IsIn, sum_where, total_by}
+use Rattle.transform_rec.specs.Lists.{count, either, EachAt}
 
 -- ---- what is in a list
 
@@ -50,8 +49,8 @@ pub around : {A : Type 0} (x : A) (xs : List A) → IsIn x xs → Around x xs
 around x [] i = absurd i
 around x (y ∷ ys) (inl e) = record { before = []; behind = ys; whole = ap (λ z. z ∷ ys) (sym e) }
 around x (y ∷ ys) (inr i) =
-  let r = around x ys i in
-  record { before = y ∷ r.before; behind = r.behind; whole = ap (λ zs. y ∷ zs) r.whole }
+    let r = around x ys i in
+    record { before = y ∷ r.before; behind = r.behind; whole = ap (λ zs. y ∷ zs) r.whole }
 
 -- a list as what stands before the last element that passes a test, that element, and what stands behind it
 pub record LastOf {A : Type 0} (p : A → Bool) (xs : List A) : Type 0 where
@@ -94,7 +93,7 @@ pub in_filter : {A : Type 0} (p : A → Bool) (z : A) (xs : List A) → IsIn z x
 in_filter p z [] i h = absurd i
 in_filter {A} p z (x ∷ xs) (inl e) h = subst (λ (l : List A). IsIn z l) (sym (filter_true p x xs (subst (λ (y : A). p y ≡ true) e h))) (inl e)
 in_filter {A} p z (x ∷ xs) (inr i) h =
-  elim (cases_Bool (p x)) [ inl t ↦ subst (λ (l : List A). IsIn z l) (sym (filter_true p x xs t)) (inr (in_filter p z xs i h)) | inr f ↦ subst (λ (l : List A). IsIn z l) (sym (filter_false p x xs f)) (in_filter p z xs i h) ]
+    elim (cases_Bool (p x)) [ inl t ↦ subst (λ (l : List A). IsIn z l) (sym (filter_true p x xs t)) (inr (in_filter p z xs i h)) | inr f ↦ subst (λ (l : List A). IsIn z l) (sym (filter_false p x xs f)) (in_filter p z xs i h) ]
 
 filter_in_cons : {A : Type 0} (p : A → Bool) (z x : A) (xs : List A) → (IsIn z (filter p xs) → IsIn z xs × (p z ≡ true)) → p x ≡ true → IsIn z (x ∷ filter p xs) → IsIn z (x ∷ xs) × (p z ≡ true)
 filter_in_cons {A} p z x xs ih t (inl e) = (inl e, subst (λ (y : A). p y ≡ true) (sym e) t)
@@ -104,7 +103,7 @@ filter_in_cons p z x xs ih t (inr i) = let r = ih i in (inr r.0, r.1)
 pub filter_in : {A : Type 0} (p : A → Bool) (z : A) (xs : List A) → IsIn z (filter p xs) → IsIn z xs × (p z ≡ true)
 filter_in p z [] i = absurd i
 filter_in {A} p z (x ∷ xs) i =
-  elim (cases_Bool (p x)) [ inl t ↦ filter_in_cons p z x xs (filter_in p z xs) t (subst (λ (l : List A). IsIn z l) (filter_true p x xs t) i) | inr f ↦ let r = filter_in p z xs (subst (λ (l : List A). IsIn z l) (filter_false p x xs f) i) in (inr r.0, r.1) ]
+    elim (cases_Bool (p x)) [ inl t ↦ filter_in_cons p z x xs (filter_in p z xs) t (subst (λ (l : List A). IsIn z l) (filter_true p x xs t) i) | inr f ↦ let r = filter_in p z xs (subst (λ (l : List A). IsIn z l) (filter_false p x xs f) i) in (inr r.0, r.1) ]
 
 pub filter_all : {A : Type 0} (p : A → Bool) (xs : List A) → ((z : A) → IsIn z xs → p z ≡ true) → filter p xs ≡ xs
 filter_all p [] h = refl
@@ -158,18 +157,18 @@ in_drop {A} z n xs i = subst (λ (l : List A). IsIn z l) (take-append-drop n xs)
 
 pub length-put : {A : Type 0} (n : ℕ) (xs ys : List A) → length (take n xs ++ (ys ++ drop n xs)) ≡ length xs + length ys
 length-put n xs ys =
-  let a = length-append (take n xs) (ys ++ drop n xs) in
-  let b = length-append ys (drop n xs) in
-  let c = length-append (take n xs) (drop n xs) in
-  let d : length (take n xs ++ drop n xs) ≡ length xs = ap length (take-append-drop n xs) in
-  omega arith
+    let a = length-append (take n xs) (ys ++ drop n xs) in
+    let b = length-append ys (drop n xs) in
+    let c = length-append (take n xs) (drop n xs) in
+    let d : length (take n xs ++ drop n xs) ≡ length xs = ap length (take-append-drop n xs) in
+    omega arith
 
 -- what is put into a list at a place and fails the test isn't seen by the filter
 pub filter_put : {A : Type 0} (p : A → Bool) (n : ℕ) (xs ys : List A) → ((z : A) → IsIn z ys → p z ≡ false) → filter p (take n xs ++ (ys ++ drop n xs)) ≡ filter p xs
 filter_put p n xs ys h =
-  let a = filter-append p (take n xs) (ys ++ drop n xs) in
-  let b : filter p (ys ++ drop n xs) ≡ filter p (drop n xs) = filter-append p ys (drop n xs) ∙ ap (λ l. l ++ filter p (drop n xs)) (filter_none p ys h) in
-  a ∙ (ap (λ l. filter p (take n xs) ++ l) b ∙ filter-parts p n xs)
+    let a = filter-append p (take n xs) (ys ++ drop n xs) in
+    let b : filter p (ys ++ drop n xs) ≡ filter p (drop n xs) = filter-append p ys (drop n xs) ∙ ap (λ l. l ++ filter p (drop n xs)) (filter_none p ys h) in
+    a ∙ (ap (λ l. filter p (take n xs) ++ l) b ∙ filter-parts p n xs)
 
 -- ---- how many elements of one kind stand before each element of another
 
@@ -186,19 +185,19 @@ count-either p x d (c ∷ S) = let ih = count-either p x d S in elim (cases_Bool
 pub each_none : {A : Type 0} (p x : A → Bool) (q k : ℕ) (S : List A) → count x S ≡ 0 → EachAt p x q k S
 each_none p x q k [] h = tt
 each_none p x q k (c ∷ S) h =
-  elim (cases_Bool (x c)) [ inl e ↦ let f : 1 + count x S ≡ 0 = rw e at h in absurd (omega arith) | inr e ↦ let f : 0 + count x S ≡ 0 = rw e at h in let g : count x S ≡ 0 = omega arith in ((λ t. absurd (both_ways (x c) e t)), each_none p x q ((if p c then 1 else 0) + k) S g) ]
+    elim (cases_Bool (x c)) [ inl e ↦ let f : 1 + count x S ≡ 0 = rw e at h in absurd (omega arith) | inr e ↦ let f : 0 + count x S ≡ 0 = rw e at h in let g : count x S ≡ 0 = omega arith in ((λ t. absurd (both_ways (x c) e t)), each_none p x q ((if p c then 1 else 0) + k) S g) ]
 
 pub count_own : {A : Type 0} (p x : A → Bool) → ((c : A) → p c ≡ true → x c ≡ false) → (S P As Q : List A) → filter p S ≡ P ++ Q → filter (either p x) S ≡ P ++ (As ++ Q) → count x S ≡ length As
 count_own p x d S P As Q fp fe =
-  let a = length-count p S in
-  let b = length-count (either p x) S in
-  let c = count-either p x d S in
-  let e : length (filter p S) ≡ length (P ++ Q) = ap length fp in
-  let f : length (filter (either p x) S) ≡ length (P ++ (As ++ Q)) = ap length fe in
-  let g = length-append P Q in
-  let h = length-append P (As ++ Q) in
-  let i = length-append As Q in
-  omega arith
+    let a = length-count p S in
+    let b = length-count (either p x) S in
+    let c = count-either p x d S in
+    let e : length (filter p S) ≡ length (P ++ Q) = ap length fp in
+    let f : length (filter (either p x) S) ≡ length (P ++ (As ++ Q)) = ap length fe in
+    let g = length-append P Q in
+    let h = length-append P (As ++ Q) in
+    let i = length-append As Q in
+    omega arith
 
 either_left : {A : Type 0} (p x : A → Bool) (c : A) → p c ≡ true → either p x c ≡ true
 either_left p x c h = or_left (p c) (x c) h
@@ -219,31 +218,38 @@ module _ {A : Type 0} (p x : A → Bool) (d : (c : A) → p c ≡ true → x c �
   at_first c S again (r ∷ P) As k mine h fp fe e = again P As (1 + k) mine (cons_tail c r (filter p S) (P ++ Q) fp) (cons_tail c r (filter (either p x) S) (P ++ (As ++ Q)) fe) (omega arith)
   at_first c S again [] (a ∷ As) k mine h fp fe e = absurd (both_ways (x c) (d c h) (subst (λ (y : A). x y ≡ true) (sym (cons_head c a (filter (either p x) S) (As ++ Q) fe)) (mine a (inl refl))))
   at_first c S again [] [] k mine h fp fe e =
-    let same : filter (either p x) S ≡ filter p S = cons_tail c c (filter (either p x) S) (filter p S) (fe ∙ sym fp) in
-    let long : length (filter (either p x) S) ≡ length (filter p S) = ap length same in
-    let a = length-count p S in
-    let b = length-count (either p x) S in
-    let n = count-either p x d S in
-    each_none p x q (1 + k) S (omega arith)
+      let same : filter (either p x) S ≡ filter p S = cons_tail c c (filter (either p x) S) (filter p S) (fe ∙ sym fp) in
+      let long : length (filter (either p x) S) ≡ length (filter p S) = ap length same in
+      let a = length-count p S in
+      let b = length-count (either p x) S in
+      let n = count-either p x d S in
+      each_none p x q (1 + k) S (omega arith)
 
   at_second : (c : A) (S : List A) → Before S → (P As : List A) (k : ℕ) → ((e : A) → IsIn e As → x e ≡ true) → p c ≡ false → filter p S ≡ P ++ Q → c ∷ filter (either p x) S ≡ P ++ (As ++ Q) → k + length P ≡ q → (k ≡ q) × EachAt p x q (0 + k) S
   at_second c S again (r ∷ P) As k mine h fp fe e =
-    let is : c ≡ r = cons_head c r (filter (either p x) S) (P ++ (As ++ Q)) fe in
-    let passes : p r ≡ true = (filter_in p r S (subst (λ (l : List A). IsIn r l) (sym fp) (inl refl))).1 in
-    absurd (both_ways (p c) h (subst (λ (y : A). p y ≡ true) (sym is) passes))
+      let is : c ≡ r = cons_head c r (filter (either p x) S) (P ++ (As ++ Q)) fe in
+      let passes : p r ≡ true = (filter_in p r S (subst (λ (l : List A). IsIn r l) (sym fp) (inl refl))).1 in
+      absurd (both_ways (p c) h (subst (λ (y : A). p y ≡ true) (sym is) passes))
   at_second c S again [] (a ∷ As) k mine h fp fe e = (omega arith, again [] As (0 + k) (λ y i. mine y (inr i)) fp (cons_tail c a (filter (either p x) S) (As ++ Q) fe) (omega arith))
   at_second c S again [] [] k mine h fp fe e =
-    let passes : p c ≡ true = (filter_in p c S (subst (λ (l : List A). IsIn c l) (fe ∙ sym fp) (inl refl))).1 in
-    absurd (both_ways (p c) h passes)
+      let passes : p c ≡ true = (filter_in p c S (subst (λ (l : List A). IsIn c l) (fe ∙ sym fp) (inl refl))).1 in
+      absurd (both_ways (p c) h passes)
 
   pub before_each : (S : List A) → Before S
   before_each [] P As k mine fp fe e = tt
   before_each (c ∷ S) P As k mine fp fe e =
-    elim (cases_Bool (p c)) [
-      inl h ↦ ((λ t. absurd (both_ways (x c) (d c h) t)), subst (λ (b : Bool). EachAt p x q ((if b then 1 else 0) + k) S) (sym h) (at_first c S (before_each S) P As k mine h (sym (filter_keeps p c S h) ∙ fp) (sym (filter_keeps (either p x) c S (either_left p x c h)) ∙ fe) e))
-    | inr h ↦ elim (cases_Bool (x c)) [
-        inl t ↦ let r = at_second c S (before_each S) P As k mine h (sym (filter_drops p c S h) ∙ fp) (sym (filter_keeps (either p x) c S (either_right p x c t)) ∙ fe) e in
-          ((λ u. r.0), subst (λ (b : Bool). EachAt p x q ((if b then 1 else 0) + k) S) (sym h) r.1)
-      | inr t ↦ ((λ u. absurd (both_ways (x c) t u)), subst (λ (b : Bool). EachAt p x q ((if b then 1 else 0) + k) S) (sym h) (before_each S P As (0 + k) mine (sym (filter_drops p c S h) ∙ fp) (sym (filter_drops (either p x) c S (either_none p x c h t)) ∙ fe) (omega arith)))
+      elim (cases_Bool (p c)) [
+        | inl h ↦ ((λ t. absurd (both_ways (x c) (d c h) t)), subst (λ (b : Bool). EachAt p x q ((if b then 1 else 0) + k) S) (sym h) (at_first c S (before_each S) P As k mine h (sym (filter_keeps p c S h) ∙ fp) (sym (filter_keeps (either p x) c S (either_left p x c h)) ∙ fe) e))
+        | inr h ↦ elim (cases_Bool (x c)) [
+          | inl t ↦ let r = at_second c S (before_each S) P As k mine h (sym (filter_drops p c S h) ∙ fp) (sym (filter_keeps (either p x) c S (either_right p x c t)) ∙ fe) e in
+              ((λ u. r.0), subst (λ (b : Bool). EachAt p x q ((if b then 1 else 0) + k) S) (sym h) r.1)
+          | inr t ↦ ((λ u. absurd (both_ways (x c) t u)), subst (λ (b : Bool). EachAt p x q ((if b then 1 else 0) + k) S) (sym h) (before_each S P As (0 + k) mine (sym (filter_drops p c S h) ∙ fp) (sym (filter_drops (either p x) c S (either_none p x c h t)) ∙ fe) (omega arith)))
+        ]
       ]
-    ]
+
+pub in_swap : {A : Type 0} (z x y : A) (xs ys : List A) → IsIn z (xs ++ (x ∷ (y ∷ ys))) → IsIn z (xs ++ (y ∷ (x ∷ ys)))
+in_swap z x y [] ys (inl e) = inr (inl e)
+in_swap z x y [] ys (inr (inl e)) = inl e
+in_swap z x y [] ys (inr (inr i)) = inr (inr i)
+in_swap z x y (w ∷ xs) ys (inl e) = inl e
+in_swap z x y (w ∷ xs) ys (inr i) = inr (in_swap z x y xs ys i)

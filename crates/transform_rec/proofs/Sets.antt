@@ -1,10 +1,11 @@
 -- Facts on sets of members: one member more or less, and the members of a list more.
-use Rattle.std.proofs.Common.{◌≡◌, ◌≢◌, ℕ, ◌+◌, Bool, true, false, not, ◌&&◌, ◌||◌, List, [], ◌∷◌, ◌++◌, if◌then◌else◌, ◌⊎◌, inl, inr, refl, sym, ap, ap₂, subst, ◌∙◌, arith}
+use Rattle.std.proofs.Common.{◌≡◌, ◌≢◌, ℕ, ◌+◌, ◌≤◌, Bool, true, false, not, ◌&&◌, ◌||◌, List, [], ◌∷◌, ◌++◌, if◌then◌else◌, ◌⊎◌, inl, inr, refl, sym, ap, ap₂, subst, ◌∙◌, arith}
 use Rattle.std.proofs.lemmas.Bool.{cases_Bool, both_ways, or_right, or_left, or_cases, or_from, or_parts, and_parts, and_from, not-true, not_from_false, false_from_ne_true}
 use Rattle.op_name.specs.declared.member.Member.{Member}
 use Rattle.op_name.specs.Members.{member_eq}
-use Rattle.transform_rec.specs.Sets.{none, IsSubset, SameSet, plus, minus, meet, plus_all}
-use Rattle.transform_rec.specs.Lists.{IsIn, sum_where, AreApart}
+use Rattle.transform_rec.specs.Sets.{IsSubset, SameSet, plus, minus, plus_all}
+use Rattle.ttf_form.specs.Families.{IsIn, sum_where}
+use Rattle.transform_rec.specs.Lists.{AreApart}
 use Rattle.transform_rec.proofs.Members.{member_tells, member_self, member_apart, member_other}
 use Rattle.transform_rec.proofs.Lists.{sum_same}
 
@@ -79,21 +80,21 @@ minus_here C x = false_from_ne_true (minus C x x) (λ e. (minus_parts C x x e).1
 -- taken out and put back
 pub minus_plus : (C : Member → Bool) (x : Member) → C x ≡ true → SameSet C (plus (minus C x) x)
 minus_plus C x h =
-  same_from C (plus (minus C x) x)
+    same_from C (plus (minus C x) x)
     (λ z i. elim (cases_Bool (member_eq x z)) [ inl e ↦ or_right (minus C x z) (member_eq x z) e | inr e ↦ plus_keeps (minus C x) x z (minus_from C x z i (member_other x z e)) ])
     (plus_within (minus C x) C x (λ z i. (minus_parts C x z i).0) h)
 
 -- put in and taken out
 pub plus_minus : (C : Member → Bool) (x : Member) → C x ≡ false → SameSet C (minus (plus C x) x)
 plus_minus C x l =
-  same_from C (minus (plus C x) x)
+    same_from C (minus (plus C x) x)
     (λ z i. minus_from (plus C x) x z (plus_keeps C x z i) (λ e. both_ways (C x) l (subst (λ (y : Member). C y ≡ true) (sym e) i)))
     (λ z i. let r = minus_parts (plus C x) x z i in elim (plus_cases C x z r.0) [ inl a ↦ a | inr e ↦ absurd (r.1 e) ])
 
 -- sets that agree with one member more, which both lack, agree
 pub plus_cancel : (C D : Member → Bool) (x : Member) → C x ≡ false → D x ≡ false → SameSet (plus C x) (plus D x) → SameSet C D
 plus_cancel C D x c d h z =
-  plus_minus C x c z ∙ (ap (λ b. b && not (member_eq x z)) (h z) ∙ sym (plus_minus D x d z))
+    plus_minus C x c z ∙ (ap (λ b. b && not (member_eq x z)) (h z) ∙ sym (plus_minus D x d z))
 
 -- ---- the members of a list more
 
@@ -109,7 +110,7 @@ all_in (x ∷ xs) C z (inr i) = all_in xs (plus C x) z i
 pub all_cases : (xs : List Member) (C : Member → Bool) (z : Member) → plus_all C xs z ≡ true → (C z ≡ true) ⊎ IsIn z xs
 all_cases [] C z h = inl h
 all_cases (x ∷ xs) C z h =
-  elim (all_cases xs (plus C x) z h) [ inl a ↦ elim (plus_cases C x z a) [ inl b ↦ inl b | inr e ↦ inr (inl (sym e)) ] | inr i ↦ inr (inr i) ]
+    elim (all_cases xs (plus C x) z h) [ inl a ↦ elim (plus_cases C x z a) [ inl b ↦ inl b | inr e ↦ inr (inl (sym e)) ] | inr i ↦ inr (inr i) ]
 
 pub all-append : (C : Member → Bool) (xs ys : List Member) → plus_all C (xs ++ ys) ≡ plus_all (plus_all C xs) ys
 all-append C [] ys = refl
@@ -121,15 +122,25 @@ all-append C (x ∷ xs) ys = all-append (plus C x) xs ys
 pub sum_plus : (C : Member → Bool) (x : Member) (f : Member → ℕ) (xs : List Member) → AreApart xs → IsIn x xs → C x ≡ false → sum_where (plus C x) f xs ≡ sum_where C f xs + f x
 sum_plus C x f [] a i l = absurd i
 sum_plus C x f (y ∷ ys) a (inl e) l =
-  let rest : sum_where (plus C x) f ys ≡ sum_where C f ys = sum_same (plus C x) C f ys (λ z i. plus_other C x z (λ p. a.0 z i (sym e ∙ p))) in
-  let here : plus C x y ≡ true = subst (λ (z : Member). plus C x z ≡ true) e (plus_here C x) in
-  let out : C y ≡ false = subst (λ (z : Member). C z ≡ false) e l in
-  let lhs : sum_where (plus C x) f (y ∷ ys) ≡ f y + sum_where C f ys = ap₂ (λ b n. (if b then f y else 0) + n) here rest in
-  let rhs : sum_where C f (y ∷ ys) ≡ 0 + sum_where C f ys = ap (λ b. (if b then f y else 0) + sum_where C f ys) out in
-  let same : f x ≡ f y = ap f e in
-  lhs ∙ (omega arith ∙ ap (λ n. n + f x) (sym rhs))
+    let rest : sum_where (plus C x) f ys ≡ sum_where C f ys = sum_same (plus C x) C f ys (λ z i. plus_other C x z (λ p. a.0 z i (sym e ∙ p))) in
+    let here : plus C x y ≡ true = subst (λ (z : Member). plus C x z ≡ true) e (plus_here C x) in
+    let out : C y ≡ false = subst (λ (z : Member). C z ≡ false) e l in
+    let lhs : sum_where (plus C x) f (y ∷ ys) ≡ f y + sum_where C f ys = ap₂ (λ b n. (if b then f y else 0) + n) here rest in
+    let rhs : sum_where C f (y ∷ ys) ≡ 0 + sum_where C f ys = ap (λ b. (if b then f y else 0) + sum_where C f ys) out in
+    let same : f x ≡ f y = ap f e in
+    lhs ∙ (omega arith ∙ ap (λ n. n + f x) (sym rhs))
 sum_plus C x f (y ∷ ys) a (inr i) l =
-  let ih = sum_plus C x f ys a.1 i l in
-  let here : plus C x y ≡ C y = plus_other C x y (λ e. a.0 x i (sym e)) in
-  let lhs : sum_where (plus C x) f (y ∷ ys) ≡ (if C y then f y else 0) + (sum_where C f ys + f x) = ap₂ (λ b n. (if b then f y else 0) + n) here ih in
-  lhs ∙ omega arith
+    let ih = sum_plus C x f ys a.1 i l in
+    let here : plus C x y ≡ C y = plus_other C x y (λ e. a.0 x i (sym e)) in
+    let lhs : sum_where (plus C x) f (y ∷ ys) ≡ (if C y then f y else 0) + (sum_where C f ys + f x) = ap₂ (λ b n. (if b then f y else 0) + n) here ih in
+    lhs ∙ omega arith
+
+-- a greater set has a greater sum
+pub sum_within : (C D : Member → Bool) (f : Member → ℕ) (xs : List Member) → IsSubset C D → sum_where C f xs ≤ sum_where D f xs
+sum_within C D f [] h = omega arith
+sum_within C D f (x ∷ xs) h =
+  let ih = sum_within C D f xs h in
+  elim (cases_Bool (C x)) [ inl c ↦ let d = h x c in rw (c, d) (omega arith) | inr c ↦ rw c (omega arith) ]
+
+pub all_same : (xs : List Member) (C D : Member → Bool) → SameSet C D → SameSet (plus_all C xs) (plus_all D xs)
+all_same xs C D h = subst (λ (E : Member → Bool). SameSet (plus_all C xs) (plus_all E xs)) (same_set C D h) (λ z. refl)

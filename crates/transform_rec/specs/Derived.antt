@@ -1,9 +1,9 @@
 -- Derived forms (COT 2009: an operation is brought to a greater context by including, one after the other, the
 -- operations of the difference, each of them in its form at the context that is reached).
-use Rattle.std.specs.Prelude.{◌≡◌, ◌≢◌, ℕ, ◌+◌, ◌≤◌, Bool, false, List}
+use Rattle.std.specs.Prelude.{◌≡◌, ◌≢◌, ℕ, ◌+◌, ◌≤◌, Bool, false}
 use Rattle.op_name.specs.declared.member.Member.{Member}
 use Rattle.transform_rec.specs.Sets.{SameSet, plus}
-use Rattle.transform_rec.specs.Lists.{IsIn, sum_where}
+use Rattle.ttf_form.specs.Families.{IsIn, sum_where}
 use Rattle.transform_rec.specs.Family.{Family, IsCausalFamily}
 
 module _ {F : Type 0} (over : F → F → F) (b : Family F) where

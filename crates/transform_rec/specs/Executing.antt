@@ -4,20 +4,11 @@ use Rattle.op_name.specs.NameData.{NameData}
 use Rattle.op_name.specs.declared.member.Member.{Member}
 use Rattle.op_name.specs.declared.member.Member.TheVariants.{Original}
 use Rattle.op_name.specs.Members.{member_eq}
+pub use Rattle.ttf_form.specs.Names.{LacksName, NewNames}
 use Rattle.transform_rec.specs.Sets.{plus}
-use Rattle.transform_rec.specs.Lists.{IsIn}
+use Rattle.ttf_form.specs.Families.{IsIn}
 use Rattle.transform_rec.specs.Family.{Family, IsSound}
 use Rattle.transform_rec.specs.Derived.{Derived, Inclusion, IsInclusion, IsFamily, Deriving, weight}
-
--- no cell of the list has the name
-abbrev pub LacksName : List (NameData × ℕ) → NameData → Type 0
-LacksName [] n = Unit {0}
-LacksName (c ∷ cs) n = (c.0 ≢ n) × LacksName cs n
-
--- no cell of the second list has the name of one of the first
-abbrev pub NewNames : List (NameData × ℕ) → List (NameData × ℕ) → Type 0
-NewNames cs [] = Unit {0}
-NewNames cs (a ∷ new) = LacksName cs a.0 × NewNames cs new
 
 -- a type of forms with the states that they are applied to; a cell is a name with an offset
 pub record Table (F S : Type 0) : Type 1 where

@@ -1,8 +1,9 @@
 -- A family: a list of members, each with its base context and its base form.
-use Rattle.std.specs.Prelude.{◌≡◌, ◌≢◌, ℕ, Bool, true, false, List, [], ◌∷◌}
+use Rattle.std.specs.Prelude.{◌≡◌, ℕ, Bool, true, false, List, [], ◌∷◌}
 use Rattle.op_name.specs.declared.member.Member.{Member}
 use Rattle.transform_rec.specs.Sets.{IsSubset}
-use Rattle.transform_rec.specs.Lists.{IsIn, AreApart, sum_where}
+use Rattle.ttf_form.specs.Families.{IsIn, sum_where}
+use Rattle.transform_rec.specs.Lists.{AreApart}
 
 pub record Family (F : Type 0) : Type 0 where
   pub members : List Member

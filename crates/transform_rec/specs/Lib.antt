@@ -3,3 +3,5 @@ pub mod Lists
 pub mod Family
 pub mod Derived
 pub mod Executing
+pub mod Laws
+pub mod TwoInserts

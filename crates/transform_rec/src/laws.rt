@@ -1,13 +1,103 @@
-//! Laws on derived forms, as contracts of functions that do nothing.
+//! The laws of derived forms and of executing them, each as the contract of a function that does nothing.
+//!
+//! They hold of every type that meets `Include`, or `Applies` where states are spoken of, and of every bases over it,
+//! on these conditions: the bases list their members in causal order, with closed base contexts; and, where states are
+//! spoken of, the cells that a base form adds have the name of its member, those of a group none.
 
-ghost use Rattle.std.specs.Prelude.{Bool};
-ghost use Rattle.op_name.specs.declared.member.Member.{Member};
-ghost use Rattle.transform_rec.specs.Sets.{none, IsSubset};
+ghost use Rattle.transform_rec.specs.Family.{IsCausalFamily};
+ghost use Rattle.transform_rec.specs.Derived.{IsInclusion, IsFamily};
+ghost use Rattle.transform_rec.specs.Executing.{HasOwnNames, IsTable};
+ghost use Rattle.transform_rec.specs.Laws.{table_of, inclusion_of, family_of, OneForm, CausalListsHaveForms, AddableFormFits, Swap, ToTheFront, OrderIndependence, Restriction, OneMoreMember};
 
-use op_name::Member;
+use ttf_form::{Applies, Bases, Include};
 
-/// The empty set of members lies in every set.
-pub fn nothing_is_within(_member: &Member)
-    ensures { (C : Member → Bool) → IsSubset none C }
+/// What derived forms rest on, from the laws of the traits.
+fn derives<F: Include, B: Bases<F>>(bases: &B)
+    requires causal { IsCausalFamily (family_of ⟦<B as Bases<F>>⟧ bases.now) }
+    ensures inclusion { IsInclusion (inclusion_of ⟦<F as Include>⟧) }
+    ensures family { IsFamily (inclusion_of ⟦<F as Include>⟧) (family_of ⟦<B as Bases<F>>⟧ bases.now) }
 {
+    bases.known();
+}
+
+/// What executing rests on, from the laws of the traits.
+fn executes<F: Applies, B: Bases<F>>(bases: &B)
+    requires causal { IsCausalFamily (family_of ⟦<B as Bases<F>>⟧ bases.now) }
+    ensures table { IsTable (table_of ⟦<F as Include>⟧ F.Fits F.added F.cells F.apply) }
+    ensures family { IsFamily (inclusion_of ⟦<F as Include>⟧) (family_of ⟦<B as Bases<F>>⟧ bases.now) }
+{
+    derives::<F, B>(bases);
+}
+
+/// Each member has exactly one derived form at each closed set that holds its base context and lacks the member.
+pub fn one_form<F: Include, B: Bases<F>>(bases: &B)
+    requires causal { IsCausalFamily (family_of ⟦<B as Bases<F>>⟧ bases.now) }
+    ensures { OneForm (inclusion_of ⟦<F as Include>⟧) (family_of ⟦<B as Bases<F>>⟧ bases.now) }
+{
+    derives::<F, B>(bases);
+}
+
+/// The list of the bases is causal from the empty set, and each causal list has its derived forms.
+pub fn causal_lists_have_forms<F: Include, B: Bases<F>>(bases: &B)
+    requires causal { IsCausalFamily (family_of ⟦<B as Bases<F>>⟧ bases.now) }
+    ensures { CausalListsHaveForms (inclusion_of ⟦<F as Include>⟧) (family_of ⟦<B as Bases<F>>⟧ bases.now) }
+{
+    derives::<F, B>(bases);
+}
+
+/// The form of a member that may be added to a set fits each state at the set, and leaves a state at the set with
+/// that member.
+pub fn addable_form_fits<F: Applies, B: Bases<F>>(bases: &B)
+    requires causal { IsCausalFamily (family_of ⟦<B as Bases<F>>⟧ bases.now) }
+    requires own_names { HasOwnNames (table_of ⟦<F as Include>⟧ F.Fits F.added F.cells F.apply) (family_of ⟦<B as Bases<F>>⟧ bases.now) }
+    ensures { AddableFormFits (table_of ⟦<F as Include>⟧ F.Fits F.added F.cells F.apply) (family_of ⟦<B as Bases<F>>⟧ bases.now) }
+{
+    executes::<F, B>(bases);
+}
+
+/// Two neighbours of a causal list that may each be added where they stand may change places, and the state stays.
+pub fn swap<F: Applies, B: Bases<F>>(bases: &B)
+    requires causal { IsCausalFamily (family_of ⟦<B as Bases<F>>⟧ bases.now) }
+    requires own_names { HasOwnNames (table_of ⟦<F as Include>⟧ F.Fits F.added F.cells F.apply) (family_of ⟦<B as Bases<F>>⟧ bases.now) }
+    ensures { Swap (table_of ⟦<F as Include>⟧ F.Fits F.added F.cells F.apply) (family_of ⟦<B as Bases<F>>⟧ bases.now) }
+{
+    executes::<F, B>(bases);
+}
+
+/// A member of a causal list whose base context is in the set that the list starts from may be executed first, and the
+/// state stays.
+pub fn to_the_front<F: Applies, B: Bases<F>>(bases: &B)
+    requires causal { IsCausalFamily (family_of ⟦<B as Bases<F>>⟧ bases.now) }
+    requires own_names { HasOwnNames (table_of ⟦<F as Include>⟧ F.Fits F.added F.cells F.apply) (family_of ⟦<B as Bases<F>>⟧ bases.now) }
+    ensures { ToTheFront (table_of ⟦<F as Include>⟧ F.Fits F.added F.cells F.apply) (family_of ⟦<B as Bases<F>>⟧ bases.now) }
+{
+    executes::<F, B>(bases);
+}
+
+/// Two causal lists with the same members give the same state.
+pub fn order_independence<F: Applies, B: Bases<F>>(bases: &B)
+    requires causal { IsCausalFamily (family_of ⟦<B as Bases<F>>⟧ bases.now) }
+    requires own_names { HasOwnNames (table_of ⟦<F as Include>⟧ F.Fits F.added F.cells F.apply) (family_of ⟦<B as Bases<F>>⟧ bases.now) }
+    ensures { OrderIndependence (table_of ⟦<F as Include>⟧ F.Fits F.added F.cells F.apply) (family_of ⟦<B as Bases<F>>⟧ bases.now) }
+{
+    executes::<F, B>(bases);
+}
+
+/// The cells whose names lie in a closed set are, in order, those that the members of the set alone give.
+pub fn restriction<F: Applies, B: Bases<F>>(bases: &B)
+    requires causal { IsCausalFamily (family_of ⟦<B as Bases<F>>⟧ bases.now) }
+    requires own_names { HasOwnNames (table_of ⟦<F as Include>⟧ F.Fits F.added F.cells F.apply) (family_of ⟦<B as Bases<F>>⟧ bases.now) }
+    ensures { Restriction (table_of ⟦<F as Include>⟧ F.Fits F.added F.cells F.apply) (family_of ⟦<B as Bases<F>>⟧ bases.now) }
+{
+    executes::<F, B>(bases);
+}
+
+/// The cells of a closed set with one member more are the cells of the set, with the cells of that member at the place
+/// of its form at the set.
+pub fn one_more_member<F: Applies, B: Bases<F>>(bases: &B)
+    requires causal { IsCausalFamily (family_of ⟦<B as Bases<F>>⟧ bases.now) }
+    requires own_names { HasOwnNames (table_of ⟦<F as Include>⟧ F.Fits F.added F.cells F.apply) (family_of ⟦<B as Bases<F>>⟧ bases.now) }
+    ensures { OneMoreMember (table_of ⟦<F as Include>⟧ F.Fits F.added F.cells F.apply) (family_of ⟦<B as Bases<F>>⟧ bases.now) }
+{
+    executes::<F, B>(bases);
 }

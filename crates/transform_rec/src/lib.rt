@@ -6,3 +6,11 @@
 #![tactic(auto)]
 
 mod laws;
+
+pub use laws::{
+    addable_form_fits, causal_lists_have_forms, one_form, one_more_member, order_independence,
+    restriction, swap, to_the_front,
+};
+
+#[cfg(test)]
+mod tests;
