@@ -1,0 +1,4 @@
+pub mod Names
+pub mod Known
+pub mod Contexts
+pub mod Valid

@@ -1,0 +1,5 @@
+//! Operations and books of them.
+//!
+//! A `Book` is a valid history: a list of operations in the order in which a site integrated them, each
+//! of which might come next after those before it.
+#![tactic(auto)]
