@@ -114,6 +114,12 @@ original_holder (p ∷ ps) n e =
         }
     ]
 
+-- an original at the head is the one that its name finds
+pub context_here : (o : OpData) (os : List OpData) (n : NameData) → member_of o ≡ Original n → original_context (o ∷ os) n ≡ context_of o
+context_here o os n is =
+    if_true (member_eq (member_of o) (Original n)) (context_of o) (original_context os n)
+        (ap (λ m. member_eq m (Original n)) is ∙ member_itself (Original n))
+
 -- what comes behind changes no context that was there
 pub context_on : (h k : List OpData) (n : NameData) → is_known h (Original n) ≡ true → original_context (h ++ k) n ≡ original_context h n
 context_on [] k n e = absurd (false≢true e)

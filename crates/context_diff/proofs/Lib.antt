@@ -5,3 +5,6 @@ pub mod Valid
 pub mod Complete
 pub mod Histories
 pub mod Closed
+pub mod Order
+pub mod Generations
+pub mod Differences

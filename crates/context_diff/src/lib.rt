@@ -3,3 +3,7 @@
 //! A `Book` is a valid history: a list of operations in the order in which a site integrated them, each
 //! of which might come next after those before it.
 #![tactic(auto)]
+
+mod laws;
+
+pub use laws::{last_may_be_taken_out, two_may_be_taken_out};
