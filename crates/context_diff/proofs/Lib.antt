@@ -8,3 +8,5 @@ pub mod Closed
 pub mod Order
 pub mod Generations
 pub mod Differences
+pub mod Inserts
+pub mod Ready

@@ -1,5 +1,5 @@
 -- Closed sets of members, and differences of contexts.
-use Rattle.std.specs.Prelude.{◌≡◌, ℕ, Bool, true, false, List, [], ◌∷◌, ◌++◌, ◌&&◌, ◌≢◌, not, filter}
+use Rattle.std.specs.Prelude.{◌≡◌, ℕ, Bool, true, false, List, [], ◌∷◌, ◌++◌, ◌&&◌, ◌||◌, ◌≢◌, not, filter}
 use Rattle.op_name.specs.declared.member.Member.{Member}
 use Rattle.op_name.specs.declared.member.Member.TheVariants.{Original, Group}
 use Rattle.op_name.specs.NameData.{NameData}
@@ -61,3 +61,17 @@ TwoMayBeTakenOut =
     × (base_has h y x ≡ false)
     × IsClosedSet h (without (without c x) y)
     × KeepsStraySet (without (without c x) y)
+
+-- The base context of each member of a list lies in the set with the members that stand before it in the list.
+abbrev pub AreReady : List OpData → (Member → Bool) → List Member → Type 0
+AreReady h c [] = Unit {0}
+AreReady h c (m ∷ ms) = ((y : Member) → base_has h m y ≡ true → c y ≡ true) × AreReady h (λ y. c y || member_eq m y) ms
+
+-- A difference of closed contexts, in the history's order, may be taken one member after the other.
+abbrev pub DifferenceIsReady : Type 0
+DifferenceIsReady =
+    (h : List OpData) (from to : ContextData)
+    → IsValid h
+    → IsClosedSet h (has from)
+    → IsClosedSet h (has to)
+    → AreReady h (has from) (difference_of h from to)

@@ -6,4 +6,4 @@
 
 mod laws;
 
-pub use laws::{last_may_be_taken_out, two_may_be_taken_out};
+pub use laws::{difference_is_ready, last_may_be_taken_out, two_may_be_taken_out};
