@@ -10,3 +10,4 @@ pub mod Generations
 pub mod Differences
 pub mod Inserts
 pub mod Ready
+pub mod BaseValues
