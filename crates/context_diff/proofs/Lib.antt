@@ -11,3 +11,4 @@ pub mod Differences
 pub mod Inserts
 pub mod Ready
 pub mod BaseValues
+pub mod Places
