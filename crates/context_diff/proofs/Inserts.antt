@@ -10,6 +10,7 @@ use Rattle.op_name.specs.Contexts.{ContextData, has, count_of}
 use Rattle.op_name.specs.Operations.{OpData, inserting, deleting, undoing, member_of, is_insert, IsWellFormed}
 use Rattle.op_name.specs.Histories.{is_known, inserts_in, IsNext, context_of_all, LacksNothing}
 use Rattle.context_diff.specs.Counting.{is_insert_of, inserts_of, is_insert_below, inserts_below}
+use Rattle.context_diff.specs.Kept.{inserts_up_to}
 use Rattle.context_diff.proofs.Known.{contains_here, contains_later, known_member}
 use Rattle.context_diff.proofs.Names.{member_itself}
 use Rattle.context_diff.proofs.Contexts.{has_number, has_original}
@@ -107,11 +108,6 @@ inserts_of_less (inserting m p ch c ∷ os) n k new at =
 inserts_of_less (deleting m p c ∷ os) n k new at =
     rw (inserts_of_less os n k (or_parts (name_eq m n) (is_known os (Original n)) new).1 at) refl
 inserts_of_less (undoing a t g c ∷ os) n k new at = rw (inserts_of_less os n k new at) refl
-
--- what a book notes beside each operation: the inserts of its site up to it
-abbrev pub inserts_up_to : List OpData → Member → ℕ
-inserts_up_to h (Original n) = inserts_of h n.site n.number
-inserts_up_to h (Group t g) = 0
 
 bit_of : (o : OpData) (n : NameData) → member_of o ≡ Original n → ◌≡◌ {A = ℕ} (if is_insert_of n.site n.number o then 1 else 0) (if is_insert o then 1 else 0)
 bit_of (inserting m p ch c) n is =

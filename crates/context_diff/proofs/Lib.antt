@@ -12,3 +12,4 @@ pub mod Inserts
 pub mod Ready
 pub mod BaseValues
 pub mod Places
+pub mod Kept
