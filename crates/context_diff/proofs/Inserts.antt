@@ -1,15 +1,15 @@
 -- Inserts of a context, counted site by site.
-use Rattle.std.proofs.Common.{◌≡◌, ℕ, zero, suc, ◌+◌, ◌<◌, ◌≤◌, Bool, true, false, ◌⊎◌, inl, inr, List, [], ◌∷◌, ◌++◌, refl, ap, sym, subst, ◌∙◌, arith}
+use Rattle.std.proofs.Common.{◌≡◌, ℕ, zero, suc, ◌+◌, ◌<◌, ◌≤◌, Bool, true, false, ◌⊎◌, inl, inr, List, [], ◌∷◌, ◌++◌, refl, ap, sym, subst, ◌∙◌, arith, length}
 use Rattle.std.specs.Prelude.{Contains, ◌==◌, ◌&&◌, nat_le, nat_lt, if◌then◌else◌}
 use Rattle.std.proofs.lemmas.Bool.Decides.{nat_tests}
 use Rattle.std.proofs.lemmas.Bool.{or_parts, false≢true, cases_Bool, and_parts, and_from, cases_lt, eqb-true, leb-true, false_from_ne_true, le-leb}
 use Rattle.op_name.specs.declared.member.Member.{Member}
 use Rattle.op_name.specs.declared.member.Member.TheVariants.{Original, Group}
 use Rattle.op_name.specs.NameData.{NameData, name_eq}
-use Rattle.op_name.specs.Contexts.{ContextData, has, count_of}
+use Rattle.op_name.specs.Contexts.{ContextData, has, count_of, count_in, AreCounts}
 use Rattle.op_name.specs.Operations.{OpData, inserting, deleting, undoing, member_of, is_insert, IsWellFormed}
 use Rattle.op_name.specs.Histories.{is_known, inserts_in, IsNext, context_of_all, LacksNothing}
-use Rattle.context_diff.specs.Counting.{is_insert_of, inserts_of, is_insert_below, inserts_below}
+use Rattle.context_diff.specs.Counting.{is_insert_of, inserts_of, inserts_listed}
 use Rattle.context_diff.specs.Kept.{inserts_up_to}
 use Rattle.context_diff.proofs.Known.{contains_here, contains_later, known_member}
 use Rattle.context_diff.proofs.Names.{member_itself}
@@ -25,41 +25,72 @@ pub inserts_of_push : (h : List OpData) (o : OpData) (s k : ℕ) → inserts_of 
 inserts_of_push [] o s k = omega arith
 inserts_of_push (p ∷ ps) o s k = rw (inserts_of_push ps o s k) (omega arith)
 
-below_step : (o : OpData) (v : ContextData) (i : ℕ) → (if is_insert_below v (suc i) o then 1 else 0) ≡ (if is_insert_below v i o then 1 else 0) + (if is_insert_of i (count_of v i) o then 1 else 0)
-below_step (inserting n p ch c) v i =
-    elim (cases_Bool (n.site == i)) [
+-- how many of the pairs name an insert
+named_by : List (ℕ × ℕ) → OpData → ℕ
+named_by [] o = 0
+named_by (p ∷ ps) o = (if is_insert_of p.0 p.1 o then 1 else 0) + named_by ps o
+
+named_none : (low : ℕ) (ps : List (ℕ × ℕ)) → AreCounts low ps → (n : NameData) (p ch : ℕ) (c : ContextData) → n.site < low → named_by ps (inserting n p ch c) ≡ 0
+unfolding named_by
+named_none low [] are n p ch c less = refl
+named_none low (q ∷ qs) are n p ch c less =
+    let rest = named_none (q.0 + 1) qs are.4 n p ch c (omega (arith, are.0)) in
+    let other : (n.site == q.0) ≡ false = grind (arith, nat_tests, are.0) in
+    rw other (rw rest refl)
+
+-- of the sites, each once, the one of an insert names it if its number is among the first
+named_once : (low : ℕ) (ps : List (ℕ × ℕ)) → AreCounts low ps → (n : NameData) (p ch : ℕ) (c : ContextData) → 1 ≤ n.number → ◌≡◌ {A = ℕ} (named_by ps (inserting n p ch c)) (if nat_le n.number (count_in ps n.site) then 1 else 0)
+unfolding named_by
+named_once low [] are n p ch c some = grind (arith, nat_tests)
+named_once low (q ∷ qs) are n p ch c some =
+    elim (cases_Bool (n.site == q.0)) [
       | inl same ↦
-        let is : n.site ≡ i = eqb-true n.site i same in
-        let counts : count_of v n.site ≡ count_of v i = ap (count_of v) is in
-        rw counts (grind (arith, nat_tests))
-      | inr other ↦ grind (arith, nat_tests)
+        let is : n.site ≡ q.0 = eqb-true n.site q.0 same in
+        let rest = named_none (q.0 + 1) qs are.4 n p ch c (omega arith) in
+        let back : (q.0 == n.site) ≡ true = grind (arith, nat_tests) in
+        rw (same, back) (rw rest (omega arith))
+      | inr other ↦
+        let rest = named_once (q.0 + 1) qs are.4 n p ch c some in
+        let back : (q.0 == n.site) ≡ false = grind (arith, nat_tests) in
+        rw (other, back) (rw rest (omega arith))
     ]
-below_step (deleting n p c) v i = omega arith
-below_step (undoing a t g c) v i = omega arith
 
--- with one more site its inserts come besides
-pub inserts_below_step : (h : List OpData) (v : ContextData) (i : ℕ) → inserts_below h v (suc i) ≡ inserts_below h v i + inserts_of h i (count_of v i)
-inserts_below_step [] v i = omega arith
-inserts_below_step (o ∷ os) v i = rw (inserts_below_step os v i, below_step o v i) (omega arith)
+named_nothing : (ps : List (ℕ × ℕ)) (o : OpData) → is_insert o ≡ false → named_by ps o ≡ 0
+unfolding named_by
+named_nothing [] o none = refl
+named_nothing (q ∷ qs) (inserting n p ch c) none = absurd (false≢true (sym none))
+named_nothing (q ∷ qs) (deleting n p c) none = rw (named_nothing qs (deleting n p c) none) refl
+named_nothing (q ∷ qs) (undoing a t g c) none = rw (named_nothing qs (undoing a t g c) none) refl
 
-pub inserts_below_none : (h : List OpData) (v : ContextData) → inserts_below h v 0 ≡ 0
-inserts_below_none [] v = refl
-inserts_below_none (inserting n p ch c ∷ os) v = rw (inserts_below_none os v) (grind (arith, nat_tests))
-inserts_below_none (deleting n p c ∷ os) v = rw (inserts_below_none os v) refl
-inserts_below_none (undoing a t g c ∷ os) v = rw (inserts_below_none os v) refl
+listed_step : (o : OpData) (os : List OpData) (ps : List (ℕ × ℕ)) → inserts_listed (o ∷ os) ps ≡ named_by ps o + inserts_listed os ps
+unfolding named_by
+listed_step o os [] = refl
+listed_step o os (q ∷ qs) = rw (listed_step o os qs) (omega arith)
 
-all_named : (o : OpData) (v : ContextData) → IsWellFormed o → is_insert_below v 64 o ≡ (is_insert o && has v (member_of o))
-all_named (inserting n p ch c) v f = let low : 1 ≤ n.number = f.in_range.0.1 in let site : n.site < 64 = f.in_range.0.0 in grind (arith, nat_tests)
-all_named (deleting n p c) v f = refl
-all_named (undoing a t g c) v f = refl
+listed_nothing : (ps : List (ℕ × ℕ)) → inserts_listed [] ps ≡ 0
+listed_nothing [] = refl
+listed_nothing (q ∷ qs) = rw (listed_nothing qs) refl
 
--- all sites together have the inserts of the context
-pub inserts_below_all : (h : List OpData) (v : ContextData) → ((o : OpData) → Contains h o → IsWellFormed o) → inserts_below h v 64 ≡ inserts_in h v
-inserts_below_all [] v f = refl
-inserts_below_all (o ∷ os) v f =
-    rw (inserts_below_all os v (λ q at. f q (contains_later o os q at)), all_named o v (f o (contains_here o os))) refl
+named_here : (v : ContextData) → AreCounts 0 v.counts → (o : OpData) → IsWellFormed o → ◌≡◌ {A = ℕ} (named_by v.counts o) (if is_insert o && has v (member_of o) then 1 else 0)
+named_here v are (inserting n p ch c) f =
+    let low : 1 ≤ n.number = f.in_range.0.1 in
+    named_once 0 v.counts are n p ch c low ∙ grind (arith, nat_tests)
+named_here v are (deleting n p c) f = named_nothing v.counts (deleting n p c) refl
+named_here v are (undoing a t g c) f = named_nothing v.counts (undoing a t g c) refl
 
--- a site of which the context has no originals has no inserts in it
+-- the inserts of a context, site by site
+pub inserts_by_site : (h : List OpData) (v : ContextData) → AreCounts 0 v.counts → ((o : OpData) → Contains h o → IsWellFormed o) → inserts_listed h v.counts ≡ inserts_in h v
+inserts_by_site [] v are f = listed_nothing v.counts
+inserts_by_site (o ∷ os) v are f =
+    listed_step o os v.counts
+        ∙ (λ i. named_here v are o (f o (contains_here o os)) i + inserts_by_site os v are (λ q at. f q (contains_later o os q at)) i)
+
+-- the inserts of the first sites, with one more
+pub listed_push : (h : List OpData) (ps : List (ℕ × ℕ)) (p : ℕ × ℕ) → inserts_listed h (ps ++ p ∷ []) ≡ inserts_listed h ps + inserts_of h p.0 p.1
+listed_push h [] p = omega arith
+listed_push h (q ∷ qs) p = rw (listed_push h qs p) (omega arith)
+
+-- no originals have no inserts
 pub no_inserts : (h : List OpData) (s : ℕ) → ((o : OpData) → Contains h o → IsWellFormed o) → inserts_of h s 0 ≡ 0
 no_inserts [] s f = refl
 no_inserts (inserting n p ch c ∷ os) s f =
@@ -67,6 +98,24 @@ no_inserts (inserting n p ch c ∷ os) s f =
     rw (no_inserts os s (λ q at. f q (contains_later (inserting n p ch c) os q at))) (grind (arith, nat_tests))
 no_inserts (deleting n p c ∷ os) s f = rw (no_inserts os s (λ q at. f q (contains_later (deleting n p c) os q at))) refl
 no_inserts (undoing a t g c ∷ os) s f = rw (no_inserts os s (λ q at. f q (contains_later (undoing a t g c) os q at))) refl
+
+pub inserts_at_most : (h : List OpData) (v : ContextData) → inserts_in h v ≤ length h
+inserts_at_most [] v = omega arith
+inserts_at_most (o ∷ os) v =
+    let rest = inserts_at_most os v in
+    elim (cases_Bool (is_insert o && has v (member_of o))) [
+      | inl one ↦ rw one (omega arith)
+      | inr none ↦ rw none (omega arith)
+    ]
+
+pub inserts_of_at_most : (h : List OpData) (s k : ℕ) → inserts_of h s k ≤ length h
+inserts_of_at_most [] s k = omega arith
+inserts_of_at_most (o ∷ os) s k =
+    let rest = inserts_of_at_most os s k in
+    elim (cases_Bool (is_insert_of s k o)) [
+      | inl one ↦ rw one (omega arith)
+      | inr none ↦ rw none (omega arith)
+    ]
 
 -- an insert counts among the first originals of its own site, from its own number on
 insert_counts : (o : OpData) (n : NameData) → member_of o ≡ Original n → (s k : ℕ) → is_insert_of s k o ≡ (is_insert o && ((n.site == s) && nat_le n.number k))

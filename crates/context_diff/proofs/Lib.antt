@@ -13,3 +13,4 @@ pub mod Ready
 pub mod BaseValues
 pub mod Places
 pub mod Kept
+pub mod Listings

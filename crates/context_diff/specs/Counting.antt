@@ -15,13 +15,7 @@ abbrev pub inserts_of : List OpData → ℕ → ℕ → ℕ
 inserts_of [] s k = 0
 inserts_of (o ∷ os) s k = (if is_insert_of s k o then 1 else 0) + inserts_of os s k
 
--- an insert that the context names, of a site below this one
-abbrev pub is_insert_below : ContextData → ℕ → OpData → Bool
-is_insert_below v i (inserting n p ch c) = nat_lt n.site i && nat_le n.number (count_of v n.site)
-is_insert_below v i (deleting n p c) = false
-is_insert_below v i (undoing a t g c) = false
-
--- the number of inserts that the context names, of sites below this one
-abbrev pub inserts_below : List OpData → ContextData → ℕ → ℕ
-inserts_below [] v i = 0
-inserts_below (o ∷ os) v i = (if is_insert_below v i o then 1 else 0) + inserts_below os v i
+-- the inserts that counts of sites name
+abbrev pub inserts_listed : List OpData → List (ℕ × ℕ) → ℕ
+inserts_listed h [] = 0
+inserts_listed h (p ∷ ps) = inserts_of h p.0 p.1 + inserts_listed h ps
