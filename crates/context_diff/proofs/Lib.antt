@@ -14,3 +14,4 @@ pub mod BaseValues
 pub mod Places
 pub mod Kept
 pub mod Listings
+pub mod PlaceSteps

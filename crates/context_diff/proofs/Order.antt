@@ -19,7 +19,7 @@ use Rattle.context_diff.proofs.Histories.{original_facts, group_facts}
 use Rattle.context_diff.proofs.Closed.{base_original, base_group, base_known, base_listed, InGroupBase}
 
 -- a member that is there comes no second time
-later_new_after : (b os : List OpData) (m : Member) → is_known b m ≡ true → IsValidAfter b os → is_known os m ≡ false
+pub later_new_after : (b os : List OpData) (m : Member) → is_known b m ≡ true → IsValidAfter b os → is_known os m ≡ false
 later_new_after b [] m known v = refl
 later_new_after b (p ∷ ps) m known v =
     or_from (member_eq (member_of p) m) (is_known ps m)
