@@ -15,3 +15,4 @@ pub mod Places
 pub mod Kept
 pub mod Listings
 pub mod PlaceSteps
+pub mod Covering
