@@ -1,3 +1,8 @@
+pub mod Order
 pub mod NameData
 pub mod Members
 pub mod Contexts
+pub mod Operations
+pub mod Histories
+pub mod Gaps
+pub mod Replays

@@ -1,0 +1,62 @@
+-- Operations as contracts see them (COT 2009: an operation carries the context that it was made in).
+use Rattle.std.specs.Prelude.{◌≡◌, ℕ, ◌+◌, ◌<◌, ◌≤◌, Bool, true, false, List, length}
+use Rattle.std.specs.Char.{IsScalar}
+use Rattle.op_name.specs.declared.member.Member.{Member}
+use Rattle.op_name.specs.declared.member.Member.TheVariants.{Original, Group}
+use Rattle.op_name.specs.NameData.{NameData, IsName}
+use Rattle.op_name.specs.Contexts.{ContextData, IsContext, KeepsStray, has, count_of, entry_of}
+
+-- an insert has a name, a place, a character and a context; a delete has no character; an undo has its author, the
+-- original that it is of, a generation (odd: undo, even: redo) and a context
+pub data OpData : Type 0 where
+  inserting : NameData → ℕ → ℕ → ContextData → OpData
+  deleting : NameData → ℕ → ContextData → OpData
+  undoing : ℕ → NameData → ℕ → ContextData → OpData
+
+-- the member that an operation is: all undos of one original at one generation are one member
+abbrev pub member_of : OpData → Member
+member_of (inserting n p ch c) = Original n
+member_of (deleting n p c) = Original n
+member_of (undoing a t g c) = Group t g
+
+abbrev pub context_of : OpData → ContextData
+context_of (inserting n p ch c) = c
+context_of (deleting n p c) = c
+context_of (undoing a t g c) = c
+
+-- an original is an insert or a delete
+abbrev pub is_original : OpData → Bool
+is_original (inserting n p ch c) = true
+is_original (deleting n p c) = true
+is_original (undoing a t g c) = false
+
+abbrev pub is_insert : OpData → Bool
+is_insert (inserting n p ch c) = true
+is_insert (deleting n p c) = false
+is_insert (undoing a t g c) = false
+
+-- Range: names and contexts are in their ranges, a place is at most 64,000,000, a character is a Unicode scalar value
+-- (RFC 3629), an author is below 64, a generation is 1 to 65,535, a context has at most 16,384 undo entries
+abbrev pub IsInRange : OpData → Type 0
+IsInRange (inserting n p ch c) = IsName n.site n.number × (p ≤ 64000000) × IsScalar ch × IsContext c × (length c.entries ≤ 16384)
+IsInRange (deleting n p c) = IsName n.site n.number × (p ≤ 64000000) × IsContext c × (length c.entries ≤ 16384)
+IsInRange (undoing a t g c) = (a < 64) × IsName t.site t.number × (1 ≤ g) × (g ≤ 65535) × IsContext c × (length c.entries ≤ 16384)
+
+-- Own: an original knows all earlier originals of its site and no others of it
+abbrev pub KeepsOwn : OpData → Type 0
+KeepsOwn (inserting n p ch c) = count_of c n.site + 1 ≡ n.number
+KeepsOwn (deleting n p c) = count_of c n.site + 1 ≡ n.number
+KeepsOwn (undoing a t g c) = Unit {0}
+
+-- Target: an undo knows its target, at the generation before its own
+abbrev pub KeepsTarget : OpData → Type 0
+KeepsTarget (inserting n p ch c) = Unit {0}
+KeepsTarget (deleting n p c) = Unit {0}
+KeepsTarget (undoing a t g c) = (has c (Original t) ≡ true) × (entry_of c t + 1 ≡ g)
+
+-- the rules that an operation keeps by itself, in the order in which they are judged
+pub record IsWellFormed (o : OpData) : Type 0 where
+  pub in_range : IsInRange o
+  pub own : KeepsOwn o
+  pub target : KeepsTarget o
+  pub stray : KeepsStray (context_of o)

@@ -1,0 +1,119 @@
+-- The fixed replay of the inserts of a history, and the text that is shown.
+use Rattle.std.specs.Prelude.{◌≡◌, ℕ, zero, suc, Bool, true, false, List, [], ◌∷◌, ◌++◌, ◌&&◌, ◌||◌, ◌==◌, not, nat_lt, filter, map, encode_utf8_all, length, if◌then◌else◌}
+use Rattle.std.specs.List.{list_any}
+use Rattle.op_name.specs.declared.member.Member.TheVariants.{Original}
+use Rattle.op_name.specs.NameData.{NameData, name_eq}
+use Rattle.op_name.specs.Contexts.{has, rank_of}
+use Rattle.op_name.specs.Operations.{OpData, inserting, deleting, undoing}
+use Rattle.op_name.specs.Histories.{in_force}
+use Rattle.op_name.specs.Gaps.{Gap, gap, narrow}
+
+-- what the replay reads of an insert: its name, its place, its rank (the number of originals in its context) and which
+-- originals its context holds
+pub record Insertion : Type 0 where
+  pub name : NameData
+  pub place : ℕ
+  pub rank : ℕ
+  pub sees : NameData → Bool
+
+-- a cell is named by its insert and by its offset in that insert, which is 0 for an insert of one character
+abbrev pub Cell : Type 0
+Cell = NameData × ℕ
+
+-- the inserts of a history, in its order
+abbrev pub insertions_in : List OpData → List Insertion
+insertions_in [] = []
+insertions_in (inserting n p ch c ∷ os) = record { name = n; place = p; rank = rank_of c; sees = λ m. has c (Original m) } ∷ insertions_in os
+insertions_in (deleting n p c ∷ os) = insertions_in os
+insertions_in (undoing a t g c ∷ os) = insertions_in os
+
+-- by rank, then by site: a cause has a smaller rank than its effect
+abbrev pub is_earlier : Insertion → Insertion → Bool
+is_earlier o p = nat_lt o.rank p.rank || ((o.rank == p.rank) && nat_lt o.name.site p.name.site)
+
+-- a list sorted by an order: each element stands before those that it is less than
+unfoldable pub put_by : {A : Type 0} → (A → A → Bool) → A → List A → List A
+put_by less x [] = x ∷ []
+put_by less x (y ∷ ys) = if less x y then x ∷ (y ∷ ys) else y ∷ put_by less x ys
+
+unfoldable pub sort_by : {A : Type 0} → (A → A → Bool) → List A → List A
+sort_by less [] = []
+sort_by less (x ∷ xs) = put_by less x (sort_by less xs)
+
+-- Order: the inserts of a history in their fixed order
+abbrev pub fixed_order : List OpData → List Insertion
+fixed_order h = sort_by is_earlier (insertions_in h)
+
+-- the cells of the insert of this name
+abbrev pub of_name : NameData → Cell → Bool
+of_name n c = name_eq n c.0
+
+-- the cells that an insert puts
+abbrev pub cells_from : Insertion → List Cell
+cells_from o = (o.name, 0) ∷ []
+
+-- an earlier insert that o doesn't see, if it lies in the gap, becomes its left neighbour where its site is smaller than
+-- o's, and its right neighbour otherwise
+abbrev pub narrowed_by : Insertion → NameData → Gap Cell → Gap Cell
+narrowed_by o x g = if o.sees x then g else narrow (nat_lt x.site o.name.site) (of_name x) g
+
+unfoldable pub narrowed : Insertion → List NameData → Gap Cell → Gap Cell
+narrowed o [] g = g
+narrowed o (x ∷ xs) g = narrowed o xs (narrowed_by o x g)
+
+-- Place: the gap into which o goes, among cells that the earlier inserts put: first between its two neighbours among the
+-- cells that it sees, then narrowed by each earlier insert in turn
+abbrev pub gap_of : Insertion → List NameData → List Cell → Gap Cell
+gap_of o earlier cells = narrowed o earlier (gap (λ c. o.sees c.0) o.place cells)
+
+-- the cells with o's put directly before its right neighbour
+abbrev pub put : Insertion → List NameData → List Cell → List Cell
+put o earlier cells = let g = gap_of o earlier cells in g.before ++ (g.between ++ (cells_from o ++ g.behind))
+
+unfoldable pub replay : List NameData → List Cell → List Insertion → List Cell
+replay earlier cells [] = cells
+replay earlier cells (o ∷ os) = replay (earlier ++ o.name ∷ []) (put o earlier cells) os
+
+-- Replay: the cells of the inserts of a history, put in their fixed order
+abbrev pub replay_of : List OpData → List Cell
+replay_of h = replay [] [] (fixed_order h)
+
+-- whether the cell stands at this place of a list
+unfoldable pub stands_at : ℕ → List Cell → Cell → Bool
+stands_at n [] c = false
+stands_at zero (d ∷ ds) c = name_eq d.0 c.0 && (d.1 == c.1)
+stands_at (suc n) (d ∷ ds) c = stands_at n ds c
+
+-- Hit: the cell stands at the delete's place among those cells of the replay that the delete's context holds
+abbrev pub hits : List OpData → OpData → Cell → Bool
+hits h (inserting n p ch k) c = false
+hits h (deleting n p k) c = stands_at p (filter (λ d. has k (Original d.0)) (replay_of h)) c
+hits h (undoing a t g k) c = false
+
+-- the operation is a delete that is in force and hits the cell
+abbrev pub covers : List OpData → Cell → OpData → Bool
+covers h c (inserting n p ch k) = false
+covers h c (deleting n p k) = in_force h n && hits h (deleting n p k) c
+covers h c (undoing a t g k) = false
+
+-- a cell is shown if its insert is in force and no delete in force hits it
+abbrev pub is_shown : List OpData → Cell → Bool
+is_shown h c = in_force h c.0 && not (list_any (covers h c) h)
+
+-- Shown: the shown cells of a history
+abbrev pub shown : List OpData → List Cell
+shown h = filter (is_shown h) (replay_of h)
+
+-- the character of a cell
+abbrev pub character_in : List OpData → Cell → ℕ
+character_in [] c = 0
+character_in (inserting n p ch k ∷ os) c = if name_eq n c.0 then ch else character_in os c
+character_in (deleting n p k ∷ os) c = character_in os c
+character_in (undoing a t g k ∷ os) c = character_in os c
+
+abbrev pub characters_of : List OpData → List ℕ
+characters_of h = map (character_in h) (shown h)
+
+-- Text: the characters of the shown cells in UTF-8 (RFC 3629)
+abbrev pub text_of : List OpData → List ℕ
+text_of h = encode_utf8_all (characters_of h)
