@@ -1,0 +1,5 @@
+pub mod Kept
+pub mod Places
+pub mod Counting
+pub mod Bases
+pub mod Differences

@@ -1,0 +1,9 @@
+//! Operations and books of them.
+//!
+//! A `Book` is a valid history: a list of operations in the order in which a site integrated them, each
+//! of which might come next after those before it.
+#![tactic(auto)]
+
+mod laws;
+
+pub use laws::{difference_is_ready, last_may_be_taken_out, two_may_be_taken_out};

@@ -1,0 +1,150 @@
+-- Contexts as sets: what a member tells of counts and generations, sets within sets, equal sets, and the number of originals.
+use Rattle.std.proofs.Common.{◌≡◌, ℕ, ◌+◌, ◌-◌, ◌<◌, ◌≤◌, ◌≢◌, Bool, true, false, not, List, [], ◌∷◌, if◌then◌else◌, refl, sym, ap, subst, ◌∙◌, inl, inr, Option, Some, None, arith}
+use Rattle.std.specs.Prelude.{◌==◌, ◌&&◌, ◌||◌, nat_lt, nat_le}
+use Rattle.std.proofs.lemmas.Bool.{cases_lt, cases_order, eq-eqb, ne_eqb, lt-ltb, le-ltb}
+use Rattle.std.proofs.lemmas.Bool.Decides.{nat_tests}
+use Rattle.op_name.specs.declared.member.Member.{Member}
+use Rattle.op_name.specs.declared.member.Member.TheVariants.{Original, Group}
+use Rattle.op_name.specs.NameData.{NameData, IsName, name_eq, name_lt}
+use Rattle.op_name.specs.Members.{IsMember, target_of, member_eq, member_lt}
+use Rattle.op_name.specs.Contexts.{ContextData, count_in, entry_in, count_of, entry_of, has, Within, sum_of_counts, rank_of, AreCounts, AreEntries, IsContext}
+use Rattle.op_name.proofs.Orders.{number_order, name_order, name_same, name_irreflexive}
+use Rattle.context_vector.specs.Vectors.{IsFirstMissing}
+use Rattle.context_vector.specs.Shortfalls.{first_short}
+use Rattle.context_vector.proofs.Keyed.{value_at, same_values, none_short, some_short, IsFirstShort}
+use Rattle.context_vector.proofs.Counts.{same_site, count_is, counts_rise, counts_from, counted_below}
+use Rattle.context_vector.proofs.Entries.{entry_is, entries_rise}
+use Rattle.context_vector.proofs.Members.{among}
+
+-- the k-th original of a site, and the group of a name at a generation
+abbrev pub original : ℕ → ℕ → Member
+original s k = Original (record { site = s; number = k })
+
+among_from : (k v : ℕ) → 1 ≤ k → k ≤ v → among v k ≡ true
+among_from k v least le = grind (arith, nat_tests)
+
+among_to : (k v : ℕ) → among v k ≡ true → (1 ≤ k) × (k ≤ v)
+among_to k v there = (grind (arith, nat_tests), grind (arith, nat_tests))
+
+not_among : (k v : ℕ) → v < k → among v k ≡ false
+not_among k v less = grind (arith, nat_tests)
+
+not_among_to : (k v : ℕ) → among v k ≡ false → 1 ≤ k → v < k
+not_among_to k v lacks least = grind (arith, nat_tests)
+
+-- an original is in a context exactly where its number is 1 to the count of its site, a group likewise
+pub has_original : (c : ContextData) (n : NameData) → 1 ≤ n.number → n.number ≤ count_of c n.site → has c (Original n) ≡ true
+has_original c n least le = among_from n.number (count_of c n.site) least le
+
+pub original_counted : (c : ContextData) (n : NameData) → has c (Original n) ≡ true → (1 ≤ n.number) × (n.number ≤ count_of c n.site)
+original_counted c n there = among_to n.number (count_of c n.site) there
+
+pub has_group : (c : ContextData) (n : NameData) (g : ℕ) → 1 ≤ g → g ≤ entry_of c n → has c (Group n g) ≡ true
+has_group c n g least le = among_from g (entry_of c n) least le
+
+pub group_entered : (c : ContextData) (n : NameData) (g : ℕ) → has c (Group n g) ≡ true → (1 ≤ g) × (g ≤ entry_of c n)
+group_entered c n g there = among_to g (entry_of c n) there
+
+-- with a member all below it are there
+pub has_lower_original : (c : ContextData) (s k : ℕ) → has c (original s (k + 1)) ≡ true → 1 ≤ k → has c (original s k) ≡ true
+has_lower_original c s k there least = among_from k (count_of c s) least (let below = among_to (k + 1) (count_of c s) there in omega (arith, below.1))
+
+pub has_lower_group : (c : ContextData) (n : NameData) (g : ℕ) → has c (Group n (g + 1)) ≡ true → 1 ≤ g → has c (Group n g) ≡ true
+has_lower_group c n g there least = among_from g (entry_of c n) least (let below = among_to (g + 1) (entry_of c n) there in omega (arith, below.1))
+
+-- one context is within another exactly where no count and no generation is greater
+pub within_counts : (c d : ContextData) → Within c d → (s : ℕ) → count_of c s ≤ count_of d s
+within_counts c d within s =
+    elim (cases_lt 0 (count_of c s)) [
+      | inl some ↦ let there = among_to (count_of c s) (count_of d s) (within (original s (count_of c s)) (among_from (count_of c s) (count_of c s) some (omega arith))) in there.1
+      | inr none ↦ omega arith
+    ]
+
+pub within_entries : (c d : ContextData) → Within c d → (n : NameData) → entry_of c n ≤ entry_of d n
+within_entries c d within n =
+    elim (cases_lt 0 (entry_of c n)) [
+      | inl some ↦ let there = among_to (entry_of c n) (entry_of d n) (within (Group n (entry_of c n)) (among_from (entry_of c n) (entry_of c n) some (omega arith))) in there.1
+      | inr none ↦ omega arith
+    ]
+
+pub within_from : (c d : ContextData) → ((s : ℕ) → count_of c s ≤ count_of d s) → ((n : NameData) → entry_of c n ≤ entry_of d n) → Within c d
+within_from c d counts entries (Original n) there =
+    let at = among_to n.number (count_of c n.site) there in among_from n.number (count_of d n.site) at.0 (omega (arith, at.1, counts n.site))
+within_from c d counts entries (Group n g) there =
+    let at = among_to g (entry_of c n) there in among_from g (entry_of d n) at.0 (omega (arith, at.1, entries n))
+
+pub within_itself : (c : ContextData) → Within c c
+within_itself c m there = there
+
+pub within_trans : (c d e : ContextData) → Within c d → Within d e → Within c e
+within_trans c d e one other m there = other m (one m there)
+
+-- contexts that have the same members are equal
+within_from_same : (c d : ContextData) → ((m : Member) → has c m ≡ has d m) → Within c d
+within_from_same c d same m there = sym (same m) ∙ there
+
+pub same_context : (c d : ContextData) → IsContext c → IsContext d → ((m : Member) → has c m ≡ has d m) → c ≡ d
+same_context c d is is' same =
+    let there = within_from_same c d same in
+    let back = within_from_same d c (λ m. sym (same m)) in
+    let counts : c.counts ≡ d.counts = same_values same_site nat_lt number_order c.counts d.counts (counts_rise 0 c.counts is.counts) (counts_rise 0 d.counts is'.counts)
+          (λ s. sym (count_is c.counts s) ∙ (both (count_of c s) (count_of d s) (within_counts c d there s) (within_counts d c back s) ∙ count_is d.counts s)) in
+    let entries : c.entries ≡ d.entries = same_values name_eq name_lt name_order c.entries d.entries (entries_rise c.entries is.entries) (entries_rise d.entries is'.entries)
+          (λ n. sym (entry_is c.entries n) ∙ (both (entry_of c n) (entry_of d n) (within_entries c d there n) (within_entries d c back n) ∙ entry_is d.entries n)) in
+    λ i. record { counts = counts i; entries = entries i }
+  where
+    both : (a b : ℕ) → a ≤ b → b ≤ a → a ≡ b
+    both a b p q = omega arith
+
+-- sums of counts, where no count is greater
+none_counted : (low s : ℕ) (ps : List (ℕ × ℕ)) → s < low → AreCounts low ps → count_in ps s ≡ 0
+none_counted low s [] less are = refl
+none_counted low s (p ∷ ps) less are = rw (ne_eqb p.0 s (omega (arith, are.0))) (none_counted (p.0 + 1) s ps (omega (arith, are.0)) are.4)
+
+first_counted : (p : ℕ × ℕ) (ps : List (ℕ × ℕ)) → count_in (p ∷ ps) p.0 ≡ p.1
+first_counted p ps = rw (eq-eqb p.0 p.0 refl) refl
+
+past_first : (p : ℕ × ℕ) (ps : List (ℕ × ℕ)) (s : ℕ) → p.0 ≢ s → count_in (p ∷ ps) s ≡ count_in ps s
+past_first p ps s other = rw (ne_eqb p.0 s other) refl
+
+-- no count of the first list is above that of the second
+abbrev NoneAbove : List (ℕ × ℕ) → List (ℕ × ℕ) → Type 0
+NoneAbove ps qs = (s : ℕ) → count_in ps s ≤ count_in qs s
+
+-- the tails, where both lists start with one site
+tails_below : (p q : ℕ × ℕ) (ps qs : List (ℕ × ℕ)) → AreCounts (p.0 + 1) ps → p.0 ≡ q.0 → NoneAbove (p ∷ ps) (q ∷ qs) → NoneAbove ps qs
+tails_below p q ps qs are one below s =
+    elim (cases_order p.0 s) [
+      | inl same ↦ omega (arith, none_counted (p.0 + 1) s ps (omega arith) are)
+      | inr other ↦ omega (arith, below s, past_first p ps s (omega arith), past_first q qs s (omega arith))
+    ]
+
+-- the second list's tail, where it starts with a lesser site
+rest_below : (low : ℕ) (q : ℕ × ℕ) (ps qs : List (ℕ × ℕ)) → AreCounts low ps → q.0 < low → NoneAbove ps (q ∷ qs) → NoneAbove ps qs
+rest_below low q ps qs are less below s =
+    elim (cases_order q.0 s) [
+      | inl same ↦ omega (arith, none_counted low s ps (omega arith) are)
+      | inr other ↦ omega (arith, below s, past_first q qs s (omega arith))
+    ]
+
+-- the first site of the one list is not below that of the other
+not_first : (p q : ℕ × ℕ) (ps qs : List (ℕ × ℕ)) (low low' : ℕ) → AreCounts low (p ∷ ps) → AreCounts low' (q ∷ qs) → NoneAbove (p ∷ ps) (q ∷ qs) → q.0 ≤ p.0
+not_first p q ps qs low low' are are' below =
+    elim (cases_lt p.0 q.0) [
+      | inl less ↦ absurd (omega (arith, are.2, below p.0, first_counted p ps, none_counted q.0 p.0 (q ∷ qs) less (omega arith, are'.1, are'.2, are'.3, are'.4)))
+      | inr le ↦ le
+    ]
+
+pub sums_below : (qs ps : List (ℕ × ℕ)) (low low' : ℕ) → AreCounts low ps → AreCounts low' qs → NoneAbove ps qs → sum_of_counts ps ≤ sum_of_counts qs
+sums_below qs [] low low' are are' below = omega arith
+sums_below [] (p ∷ ps) low low' are are' below = absurd (omega (arith, are.2, below p.0, first_counted p ps))
+sums_below (q ∷ qs) (p ∷ ps) low low' are are' below =
+    let order = not_first p q ps qs low low' are are' below in
+    elim (cases_lt q.0 p.0) [
+      | inl less ↦
+        let from : AreCounts p.0 (p ∷ ps) = (omega arith, are.1, are.2, are.3, are.4) in
+        omega (arith, sums_below qs (p ∷ ps) p.0 (q.0 + 1) from are'.4 (rest_below p.0 q (p ∷ ps) qs from less below))
+      | inr le ↦
+        let one : p.0 ≡ q.0 = omega (arith, order) in
+        omega (arith, sums_below qs ps (p.0 + 1) (q.0 + 1) are.4 are'.4 (tails_below p q ps qs are.4 one below), first_counted p ps, subst (λ s. count_in (q ∷ qs) s ≡ q.1) (sym one) (first_counted q qs), below p.0)
+    ]

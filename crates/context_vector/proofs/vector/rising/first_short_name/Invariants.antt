@@ -1,0 +1,8 @@
+use Rattle.std.proofs.Common.{◌≡◌, drop}
+use Rattle.op_name.specs.Contexts.{entry_in}
+use Rattle.context_vector.specs.Shortfalls.{first_short}
+use Rattle.context_vector.proofs.vector.rising.first_short_name.Given as goal
+
+-- no name before this place is short
+abbrev pub invariant-loop-name : goal.invariant-loop-name
+invariant-loop-name l = first_short (entry_in l.mine) l.theirs ≡ first_short (entry_in l.mine) (drop l.name-index l.theirs)

@@ -1,0 +1,8 @@
+use Rattle.std.proofs.Common.{◌≡◌, drop}
+use Rattle.op_name.specs.Contexts.{count_in}
+use Rattle.context_vector.specs.Shortfalls.{first_short}
+use Rattle.context_vector.proofs.vector.rising.first_short_site.Given as goal
+
+-- no site before this place is short
+abbrev pub invariant-loop-site : goal.invariant-loop-site
+invariant-loop-site l = first_short (count_in l.mine) l.theirs ≡ first_short (count_in l.mine) (drop l.site-index l.theirs)

@@ -1,0 +1,4 @@
+pub mod Vectors
+pub mod Places
+pub mod Shortfalls
+pub mod Refusals

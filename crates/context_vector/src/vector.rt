@@ -1,0 +1,175 @@
+//! The vector: its parts, what contracts see of it, and the calls that only read.
+
+ghost use Rattle.std.specs.Prelude.{◌≡◌, ◌≤◌, ◌↔◌, IsTrue, IsNone, IfOk, IfSome, length, slice_get};
+ghost use Rattle.op_name.specs.Members.{IsMember};
+ghost use Rattle.op_name.specs.Contexts.{empty, count_of, entry_of, has, Within, rank_of, IsContext};
+ghost use Rattle.context_vector.specs.Vectors.{IsFirstMissing};
+
+use std::alloc::Global;
+use std::marker::Model;
+
+use op_name::{Member, Memory, Name};
+use smallvec::SmallVec;
+
+mod changes;
+mod equality;
+mod rising;
+
+/// A set of members, closed downwards: with an original all earlier ones of its site, with an undo group all
+/// lower generations of its name (COT 2009 calls it a context).
+///
+/// It costs by the sites that wrote and by the undone names, not by the members.
+#[derive(Drop)]
+pub struct Vector {
+    /// Each site that has originals in the set with their number, sites rising.
+    counts: SmallVec<(u16, u32), 4>,
+    /// Each undone name with its greatest generation in the set, names rising.
+    entries: Vec<(Name, u16)>,
+}
+
+impl Model for Vector {
+    ghost use Rattle.std.specs.Prelude.{◌-◌, length, vec_len, vec_capacity};
+    ghost use Rattle.op_name.specs.Contexts.{IsContext};
+    ghost use Rattle.context_vector.specs.Vectors.{VectorData};
+
+    ghost Value = { VectorData };
+
+    ghost view = { λ v. record {
+        set = record { counts = v.counts.items; entries = v.entries.items };
+        room = record { counts = v.counts.capacity - length v.counts.items; entries = vec_capacity v.entries - vec_len v.entries }
+    } };
+
+    ghost invariant = { λ v. IsContext (record { counts = v.counts.items; entries = v.entries.items }) };
+}
+
+/// Why a member was not added. Nothing is changed then.
+#[derive(Debug, Drop)]
+pub enum AddBad {
+    /// The member is not the next of its site or its name; `expected` is the number or the generation of
+    /// the next.
+    NotNext { expected: u32 },
+    /// Memory was wanting.
+    Memory,
+}
+
+impl Vector {
+    /// The empty set. It takes no memory.
+    pub fn new(alloc: Global) -> Vector
+        ensures { result.set ≡ empty }
+    {
+        Vector {
+            counts: SmallVec::new(alloc),
+            entries: Vec::new(alloc),
+        }
+    }
+
+    /// The same set once more.
+    pub fn try_clone(&self) -> Result<Vector, Memory>
+        ensures { IfOk result (λ v. v.set ≡ self.now.set) }
+    {
+        let counts = SmallVec::from_slice(*self.counts.allocator(), self.counts.as_slice())?;
+        let entries = Vec::from_slice(*self.entries.allocator(), self.entries.as_slice())?;
+        Ok(Vector { counts, entries })
+    }
+
+    /// Nothing but what the type keeps: sites and names rise, and all numbers are in range.
+    pub fn known(&self)
+        ensures { IsContext self.now.set }
+    {
+        let _ = &self.counts;
+    }
+
+    /// How many originals of the site the set has: these are its first ones.
+    pub fn count(&self, site: u16) -> u32
+        ensures count { result ≡ count_of self.now.set site }
+        ensures range { result ≤ 1000000 }
+    {
+        rising::count_among(self.counts.as_slice(), site)
+    }
+
+    /// The greatest generation at which the set has an undo group of the name, 0 if it has none.
+    pub fn entry(&self, name: &Name) -> u16
+        ensures { result ≡ entry_of self.now.set name.now }
+    {
+        rising::entry_among(self.entries.as_slice(), name)
+    }
+
+    /// Whether the member is in the set.
+    pub fn contains(&self, m: &Member) -> bool
+        ensures { result ≡ has self.now.set m.now }
+    {
+        match m {
+            Member::Original(name) => {
+                name.known();
+                name.number <= self.count(name.site)
+            }
+            Member::Group(name, generation) => {
+                1 <= *generation && *generation <= self.entry(name)
+            }
+        }
+    }
+
+    /// Whether each member of `other` is in this set.
+    pub fn covers(&self, other: &Vector) -> bool
+        ensures { IsTrue result ↔ Within other.now.set self.now.set }
+    {
+        self.first_missing(other).is_none()
+    }
+
+    /// The first member of `other` that this set lacks, in the order of members: originals by site and
+    /// number, then groups by name and generation. None exactly where this set covers `other`.
+    pub fn first_missing(&self, other: &Vector) -> Option<Member>
+        ensures first { IfSome result (IsFirstMissing self.now.set other.now.set) }
+        ensures none { IsNone result ↔ Within other.now.set self.now.set }
+        ensures range { IfSome result IsMember }
+    {
+        let original = rising::first_short_site(self.counts.as_slice(), other.counts.as_slice());
+        if let Some((site, number)) = original {
+            return Some(Member::Original(Name { site, number }));
+        }
+        let group = rising::first_short_name(self.entries.as_slice(), other.entries.as_slice());
+        if let Some((name, generation)) = group {
+            return Some(Member::Group(name, generation));
+        }
+        None
+    }
+
+    /// The number of originals in the set.
+    pub fn rank(&self) -> u32
+        ensures rank { result ≡ rank_of self.now.set }
+        ensures range { result ≤ 64000000 }
+    {
+        rising::total(self.counts.as_slice())
+    }
+
+    /// The number of undone names.
+    pub fn entries(&self) -> u32
+        ensures entries { result ≡ length self.now.set.entries }
+        ensures range { result ≤ 64000000 }
+    {
+        self.entries.len() as u32
+    }
+
+    /// The i-th undone name, in the order of names, with its greatest generation; None exactly past the end.
+    pub fn entry_at(&self, i: u32) -> Option<(Name, u16)>
+        ensures { result ≡ slice_get self.now.set.entries i }
+    {
+        self.entries.get(i as usize).copied()
+    }
+
+    /// The number of sites that have originals in the set. Readers of a vector's listing use it.
+    pub fn sites(&self) -> u32
+        ensures sites { result ≡ length self.now.set.counts }
+        ensures range { result ≤ 64 }
+    {
+        self.counts.len() as u32
+    }
+
+    /// The i-th site, rising, with the number of its originals in the set, at least 1; None exactly past
+    /// the end.
+    pub fn site_at(&self, i: u32) -> Option<(u16, u32)>
+        ensures { result ≡ slice_get self.now.set.counts i }
+    {
+        self.counts.as_slice().get(i as usize).copied()
+    }
+}

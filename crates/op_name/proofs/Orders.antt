@@ -1,0 +1,134 @@
+-- Names and members are ordered: `name_eq` and `member_eq` decide equality, `name_lt` and `member_lt` are total orders.
+use Rattle.std.proofs.Common.{◌≡◌, ℕ, Bool, true, false, inl, inr, refl, ap, sym, subst, ◌∙◌, arith}
+use mathlib.Core.Bool.{false≢true}
+use Rattle.std.specs.Prelude.{◌==◌, nat_lt, ◌||◌, ◌&&◌, ◌⊎◌}
+use Rattle.std.proofs.lemmas.Bool.Decides.{nat_tests}
+use Rattle.op_name.specs.declared.member.Member.{Member}
+use Rattle.op_name.specs.declared.member.Member.TheVariants.{Original, Group}
+use Rattle.op_name.specs.Order.{IsOrder}
+use Rattle.op_name.specs.NameData.{NameData, name_eq, name_lt}
+use Rattle.op_name.specs.Members.{member_eq, member_lt}
+
+-- numbers are ordered by their value
+pub number_order : IsOrder {K = ℕ} (λ a b. a == b) nat_lt
+number_order = record {
+  same = λ a b e. grind (arith, nat_tests);
+  itself = λ a. grind (arith, nat_tests);
+  irreflexive = λ a. grind (arith, nat_tests);
+  transitive = λ a b c e f. grind (arith, nat_tests);
+  total = λ a b e f. grind (arith, nat_tests);
+}
+
+-- the parts of a name are equal where the test says so
+name_parts : (a b : NameData) → name_eq a b ≡ true → (a.site ≡ b.site) × (a.number ≡ b.number)
+name_parts a b e = (grind (arith, nat_tests), grind (arith, nat_tests))
+
+pub name_same : (a b : NameData) → name_eq a b ≡ true → a ≡ b
+name_same a b e =
+    let parts = name_parts a b e in
+    λ i. record { site = parts.0 i; number = parts.1 i }
+
+pub name_itself : (a : NameData) → name_eq a a ≡ true
+name_itself a = grind (arith, nat_tests)
+
+pub name_irreflexive : (a : NameData) → name_lt a a ≡ false
+name_irreflexive a = grind (arith, nat_tests)
+
+pub name_transitive : (a b c : NameData) → name_lt a b ≡ true → name_lt b c ≡ true → name_lt a c ≡ true
+name_transitive a b c e f = grind (arith, nat_tests)
+
+pub name_total : (a b : NameData) → name_eq a b ≡ false → name_lt a b ≡ false → name_lt b a ≡ true
+name_total a b e f = grind (arith, nat_tests)
+
+pub name_order : IsOrder name_eq name_lt
+name_order = record { same = name_same; itself = name_itself; irreflexive = name_irreflexive; transitive = name_transitive; total = name_total }
+
+and_left : (x y : Bool) → (x && y) ≡ true → x ≡ true
+and_left true y e = refl
+and_left false y e = e
+
+and_right : (x y : Bool) → (x && y) ≡ true → y ≡ true
+and_right true y e = e
+and_right false y e = absurd (false≢true e)
+
+pub member_same : (a b : Member) → member_eq a b ≡ true → a ≡ b
+member_same (Original n) (Original m) e = ap (λ x. Original x) (name_same n m e)
+member_same (Original n) (Group m h) e = cc
+member_same (Group n g) (Original m) e = cc
+member_same (Group n g) (Group m h) e =
+    let names : name_eq n m ≡ true = grind (arith, nat_tests) in
+    let generations : g ≡ h = grind (arith, nat_tests) in
+    ap (λ x. Group x g) (name_same n m names) ∙ ap (λ x. Group m x) generations
+
+pub member_itself : (a : Member) → member_eq a a ≡ true
+member_itself (Original n) = name_itself n
+member_itself (Group n g) = grind (arith, nat_tests)
+
+pub member_irreflexive : (a : Member) → member_lt a a ≡ false
+member_irreflexive (Original n) = name_irreflexive n
+member_irreflexive (Group n g) = grind (arith, nat_tests)
+
+or_cases : (x y : Bool) → (x || y) ≡ true → (x ≡ true) ⊎ (x ≡ false) × (y ≡ true)
+or_cases true y e = inl refl
+or_cases false y e = inr (refl, e)
+
+group_transitive : (a b c : NameData) (g h k : ℕ) → member_lt (Group a g) (Group b h) ≡ true → member_lt (Group b h) (Group c k) ≡ true → member_lt (Group a g) (Group c k) ≡ true
+group_transitive a b c g h k e f =
+    let less : name_lt a c ≡ true → member_lt (Group a g) (Group c k) ≡ true = λ l. rw l refl in
+    elim (or_cases (name_lt a b) _ e) [
+      | inl ab ↦ elim (or_cases (name_lt b c) _ f) [
+        | inl bc ↦ less (name_transitive a b c ab bc)
+        | inr same ↦ less (subst (λ x. name_lt a x ≡ true) (name_same b c (and_left _ _ same.1)) ab)
+      ]
+      | inr one ↦
+        let is : a ≡ b = name_same a b (and_left _ _ one.1) in
+        elim (or_cases (name_lt b c) _ f) [
+          | inl bc ↦ less (subst (λ x. name_lt x c ≡ true) (sym is) bc)
+          | inr same ↦
+            let ac : a ≡ c = is ∙ name_same b c (and_left _ _ same.1) in
+            let gk : nat_lt g k ≡ true = number_order.transitive g h k (and_right _ _ one.1) (and_right _ _ same.1) in
+            subst (λ x. member_lt (Group a g) (Group x k) ≡ true) ac (rw (name_irreflexive a, name_itself a, gk) refl)
+        ]
+    ]
+
+pub member_transitive : (a b c : Member) → member_lt a b ≡ true → member_lt b c ≡ true → member_lt a c ≡ true
+member_transitive (Original a) (Original b) (Original c) e f = name_transitive a b c e f
+member_transitive (Original a) (Original b) (Group c k) e f = refl
+member_transitive (Original a) (Group b h) (Original c) e f = cc
+member_transitive (Original a) (Group b h) (Group c k) e f = refl
+member_transitive (Group a g) (Original b) (Original c) e f = cc
+member_transitive (Group a g) (Original b) (Group c k) e f = cc
+member_transitive (Group a g) (Group b h) (Original c) e f = cc
+member_transitive (Group a g) (Group b h) (Group c k) e f = group_transitive a b c g h k e f
+
+pub member_total : (a b : Member) → member_eq a b ≡ false → member_lt a b ≡ false → member_lt b a ≡ true
+member_total (Original a) (Original b) e f = name_total a b e f
+member_total (Original a) (Group b h) e f = cc
+member_total (Group a g) (Original b) e f = refl
+member_total (Group a g) (Group b h) e f = grind (arith, nat_tests)
+
+pub member_order : IsOrder member_eq member_lt
+member_order = record { same = member_same; itself = member_itself; irreflexive = member_irreflexive; transitive = member_transitive; total = member_total }
+
+-- one of two values comes first, or they are one
+pub cases_by_order : {K : Type 0} (eq lt : K → K → Bool) → IsOrder eq lt → (a b : K) (P : Type 0) → (a ≡ b → eq a b ≡ true → eq b a ≡ true → lt a b ≡ false → lt b a ≡ false → P) → (eq a b ≡ false → eq b a ≡ false → lt a b ≡ true → lt b a ≡ false → P) → (eq a b ≡ false → eq b a ≡ false → lt a b ≡ false → lt b a ≡ true → P) → P
+cases_by_order {K} eq lt order a b P one before after =
+    elim (eq a b) as (λ v. eq a b ≡ v → P) [
+      | true ↦ λ e.
+          let is : a ≡ b = order.same a b e in
+          one is e (subst (λ x. eq x a ≡ true) is (order.itself a)) (subst (λ x. lt a x ≡ false) is (order.irreflexive a)) (subst (λ x. lt x a ≡ false) is (order.irreflexive a))
+      | false ↦ λ e. apart e
+    ] refl
+  where
+    other : eq a b ≡ false → eq b a ≡ false
+    other e = elim (eq b a) as (λ v. eq b a ≡ v → v ≡ false) [
+      | true ↦ λ f. absurd (false≢true (sym e ∙ subst (λ x. eq x b ≡ true) (order.same b a f) (order.itself b)))
+      | false ↦ λ f. refl
+    ] refl
+    not_both : lt a b ≡ true → lt b a ≡ true → ⊥
+    not_both e f = false≢true (sym (order.irreflexive a) ∙ order.transitive a b a e f)
+    apart : eq a b ≡ false → P
+    apart e = elim (lt a b) as (λ v. lt a b ≡ v → P) [
+      | true ↦ λ f. before e (other e) f (elim (lt b a) as (λ v. lt b a ≡ v → v ≡ false) [ true ↦ λ g. absurd (not_both f g) | false ↦ λ g. refl ] refl)
+      | false ↦ λ f. after e (other e) f (order.total a b e f)
+    ] refl
