@@ -27,7 +27,7 @@ use Rattle.transform_rec.proofs.Families.{base_sound}
 use Rattle.transform_rec.proofs.Forms.{derived_sound, form_step, form_moves, exists}
 use Rattle.transform_rec.proofs.Uniqueness.{derived_once}
 use Rattle.transform_rec.proofs.Executing.{IsForm, Run, Forms, run, At, forms_run}
-use Rattle.transform_rec.proofs.Restriction.{rest_run, part_run, before_cell}
+use Rattle.transform_rec.proofs.Parts.{rest_run, part_run, before_cell}
 use Rattle.fixed_replay.proofs.Elements.{true_or_false, not_both}
 use Rattle.fixed_replay.proofs.Splits.{IsSplit, split_moves}
 use Rattle.fixed_replay.proofs.Editor.{form_inclusion, form_table, setting_of}

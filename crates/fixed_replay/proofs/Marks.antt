@@ -28,7 +28,7 @@ use Rattle.transform_rec.proofs.Sets.{plus_here, plus_other, all_in, all_cases}
 use Rattle.transform_rec.proofs.Families.{none_closed, base_sound}
 use Rattle.transform_rec.proofs.Forms.{derived_sound}
 use Rattle.transform_rec.proofs.Executing.{IsForm, Run, Forms, run, At, state_after, forms_run, run_listed, run_closed}
-use Rattle.transform_rec.proofs.Restriction.{part_state, one_more, before_cell}
+use Rattle.transform_rec.proofs.Parts.{part_state, one_more, before_cell}
 use Rattle.fixed_replay.proofs.Elements.{true_or_false, not_both, filter_same, map_same}
 use Rattle.fixed_replay.proofs.Counts.{count-append}
 use Rattle.fixed_replay.proofs.Splits.{IsSplit, Split, split}

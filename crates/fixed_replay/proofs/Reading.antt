@@ -31,7 +31,7 @@ use Rattle.transform_rec.proofs.Lists.{filter_all, length-count}
 use Rattle.transform_rec.proofs.Sets.{plus_here, plus_keeps, plus_cases, all_in}
 use Rattle.transform_rec.proofs.Families.{base_sound}
 use Rattle.transform_rec.proofs.Executing.{IsForm, Run, Forms, run, At, state_after, forms_run}
-use Rattle.transform_rec.proofs.Restriction.{part_state, one_more}
+use Rattle.transform_rec.proofs.Parts.{part_state, one_more}
 use Rattle.fixed_replay.specs.Originals.{AreToldApart}
 use Rattle.fixed_replay.specs.Families.{HasGroups}
 use Rattle.fixed_replay.specs.Replayed.{IsReplayed}

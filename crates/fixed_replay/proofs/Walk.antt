@@ -29,7 +29,7 @@ use Rattle.transform_rec.proofs.Families.{base_sound, sound_plus}
 use Rattle.transform_rec.proofs.Forms.{derived_sound, forms_apart, form_moves, form_step, exists}
 use Rattle.transform_rec.proofs.Uniqueness.{derived_once}
 use Rattle.transform_rec.proofs.Executing.{IsForm, Run, Forms, run, At, state_after, forms_run, run_listed, run_append, forms-append}
-use Rattle.transform_rec.proofs.Restriction.{rest_run, part_state, before_cell}
+use Rattle.transform_rec.proofs.Parts.{rest_run, part_state, before_cell}
 use Rattle.fixed_replay.proofs.Elements.{true_or_false, not_both}
 use Rattle.fixed_replay.proofs.Stretches.{Stretch, start, walk_step, narrow_none, whole_gap}
 use Rattle.fixed_replay.proofs.Narrowing.{narrowed-append, narrowed_unseen}
