@@ -1,0 +1,20 @@
+# `make` leaves the proved program at bin/cotpad; `make demo` replays the examples with it.
+.PHONY: all demo clean
+
+SOURCES := $(shell find crates -name out -prune -o -type f \( -name '*.rt' -o -name '*.antt' \) -print) crates.txt
+
+all: bin/cotpad
+
+# `rt run` proves, compiles and links; the empty script that it is run on shows nothing.
+bin/cotpad: $(SOURCES)
+	mkdir -p bin
+	cd crates/cotpad && rt run -- replay < /dev/null
+	cp crates/cotpad/out/cotpad bin/cotpad
+
+demo: bin/cotpad
+	@for script in examples/*.script; do \
+		echo "== $$script"; cat $$script; echo "-- replayed"; bin/cotpad replay < $$script; echo; \
+	done
+
+clean:
+	rm -rf bin
