@@ -1,12 +1,16 @@
 -- Lists of counts: sites that rise with their counts.
-use Rattle.std.proofs.Common.{◌≡◌, ℕ, zero, suc, ◌+◌, ◌-◌, ◌*◌, ◌<◌, ◌≤◌, Bool, true, false, List, [], ◌∷◌, ◌++◌, length, if◌then◌else◌, get_or, drop, add-one, refl, sym, ap, subst, ◌∙◌, inl, inr, arith}
+use Rattle.std.proofs.Common.{◌≡◌, ℕ, zero, suc, ◌+◌, ◌-◌, ◌*◌, ◌<◌, ◌≤◌, ◌≢◌, set, Bool, true, false, List, [], ◌∷◌, ◌++◌, length, if◌then◌else◌, get_or, take, drop, add-one, refl, sym, ap, subst, ◌∙◌, inl, inr, arith}
 use Rattle.std.specs.Prelude.{◌==◌, nat_lt, nat_le}
-use Rattle.std.proofs.lemmas.Bool.{cases_lt, cases_order, eq-eqb, ne_eqb, lt-ltb, le-ltb}
+use Rattle.std.proofs.lemmas.Bool.{cases_order, eq-eqb, ne_eqb, lt-ltb}
 use Rattle.std.proofs.lemmas.Bool.Decides.{nat_tests}
 use Rattle.op_name.specs.Contexts.{count_in, sum_of_counts, put_count, AreCounts}
 use Rattle.op_name.proofs.Orders.{number_order}
 use Rattle.context_vector.specs.Vectors.{without_site, lower_count, SitesBelow}
-use Rattle.context_vector.proofs.Keyed.{value_at, put_at, take_out, AllAfter, IsRising}
+use Rattle.context_vector.proofs.Keyed.{value_at, put_at, take_out, AllAfter, IsRising, gap_value, gap_put, put_is_set, take_out_is_remove}
+use Rattle.context_vector.specs.Places.{IsPlace, IsGap}
+use Rattle.std.specs.List.{insert, remove, refill}
+use Rattle.std.proofs.Math.Seq.{take-append_seam}
+use Rattle.std.proofs.lemmas.List.{length-set}
 
 abbrev pub same_site : ℕ → ℕ → Bool
 same_site a b = a == b
@@ -48,6 +52,7 @@ counts_put low s k (p ∷ ps) from site least most are =
   where
     le_is_false : (a b : ℕ) → b < a → nat_le a b ≡ false
     le_is_false a b less = grind (arith, nat_tests)
+
     le_is_true : (a b : ℕ) → a ≤ b → nat_le a b ≡ true
     le_is_true a b le = grind (arith, nat_tests)
 
@@ -119,3 +124,26 @@ sum_drop_all [] zero past = refl
 sum_drop_all [] (suc i) past = refl
 sum_drop_all (p ∷ ps) zero past = absurd (omega arith)
 sum_drop_all (p ∷ ps) (suc i) past = sum_drop_all ps i (omega arith)
+
+-- what a write at the place of a site, an insert at its gap and a removal make
+pub count_in_gap : (ps : List (ℕ × ℕ)) (s i : ℕ) → IsGap nat_lt ps s i → count_in ps s ≡ 0
+count_in_gap ps s i gap = count_is ps s ∙ gap_value same_site nat_lt number_order ps s i gap
+
+pub put_in_gap : (ps : List (ℕ × ℕ)) (s k i : ℕ) → IsGap nat_lt ps s i → insert ps i (s, k) ≡ put_count s k ps
+put_in_gap ps s k i gap = sym (put_count_is s k ps ∙ gap_put same_site nat_lt number_order ps s k i gap)
+
+pub put_at_place : (ps : List (ℕ × ℕ)) (s k i : ℕ) → AreCounts 0 ps → IsPlace ps s i → set ps i (s, k) ≡ put_count s k ps
+put_at_place ps s k i are place = sym (put_count_is s k ps ∙ put_is_set same_site nat_lt number_order ps (counts_rise 0 ps are) s k i place)
+
+pub lower_at_place : (ps : List (ℕ × ℕ)) (s k i : ℕ) → AreCounts 0 ps → IsPlace ps s i → k ≢ 1 → set ps i (s, k - 1) ≡ lower_count s k ps
+lower_at_place ps s k i are place more = put_at_place ps s (k - 1) i are place ∙ rw (ne_eqb k 1 more) refl
+
+pub remove_at_place : (ps : List (ℕ × ℕ)) (s k i : ℕ) → AreCounts 0 ps → IsPlace ps s i → k ≡ 1 → remove ps i ≡ lower_count s k ps
+remove_at_place ps s k i are place one =
+    sym (rw (eq-eqb k 1 one) (without_site_is s ps ∙ take_out_is_remove same_site nat_lt number_order ps (counts_rise 0 ps are) s i place))
+
+-- a list into which one write went is that list as long as it was
+pub refilled : {X : Type 0} (xs : List X) (i : ℕ) (x : X) → refill (length xs) xs (set xs i x) ≡ set xs i x
+refilled xs i x =
+    let ws = set xs i x in
+    subst (λ n. take n (ws ++ drop (length ws) xs) ≡ ws) (length-set xs i x) (take-append_seam ws (drop (length ws) xs))

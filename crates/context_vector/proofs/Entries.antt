@@ -1,13 +1,14 @@
 -- Lists of entries: names that rise with their greatest generations.
-use Rattle.std.proofs.Common.{◌≡◌, ℕ, zero, suc, ◌+◌, ◌-◌, ◌*◌, ◌<◌, ◌≤◌, Bool, true, false, List, [], ◌∷◌, ◌++◌, length, if◌then◌else◌, refl, sym, ap, subst, ◌∙◌, inl, inr, arith}
-use Rattle.std.specs.Prelude.{◌==◌, nat_lt, nat_le}
+use Rattle.std.proofs.Common.{◌≡◌, ℕ, ◌+◌, ◌-◌, ◌*◌, ◌<◌, ◌≤◌, ◌≢◌, set, true, false, List, [], ◌∷◌, ◌++◌, length, if◌then◌else◌, refl, sym, ap, subst, ◌∙◌, inl, inr, arith}
 use Rattle.std.proofs.lemmas.Bool.{cases_order, eq-eqb, ne_eqb}
 use Rattle.std.proofs.lemmas.Bool.Decides.{nat_tests}
 use Rattle.op_name.specs.NameData.{NameData, IsName, name_eq, name_lt}
 use Rattle.op_name.specs.Contexts.{entry_in, put_entry, IsBefore, AreEntries}
 use Rattle.op_name.proofs.Orders.{name_order, name_transitive, cases_by_order}
 use Rattle.context_vector.specs.Vectors.{without_name, lower_entry, NamesBelow}
-use Rattle.context_vector.proofs.Keyed.{value_at, put_at, take_out, AllAfter, IsRising}
+use Rattle.context_vector.proofs.Keyed.{value_at, put_at, take_out, AllAfter, IsRising, gap_value, gap_put, put_is_set, take_out_is_remove}
+use Rattle.context_vector.specs.Places.{IsPlace, IsGap}
+use Rattle.std.specs.List.{insert, remove}
 
 -- entries are pairs with keys that rise, read and written as such
 pub entry_is : (es : List (NameData × ℕ)) (n : NameData) → entry_in es n ≡ value_at name_eq name_lt es n
@@ -110,3 +111,20 @@ entries_at_most e (f ∷ es) are = omega (arith, entries_at_most f es are.4, pla
 pub length_at_most : (es : List (NameData × ℕ)) → AreEntries es → length es ≤ 64000000
 length_at_most [] are = omega arith
 length_at_most (e ∷ es) are = omega (arith, entries_at_most e es are, are.0.1)
+
+-- what a write at the place of a name, an insert at its gap and a removal make
+pub entry_in_gap : (es : List (NameData × ℕ)) (n : NameData) (i : ℕ) → IsGap name_lt es n i → entry_in es n ≡ 0
+entry_in_gap es n i gap = entry_is es n ∙ gap_value name_eq name_lt name_order es n i gap
+
+pub put_in_gap : (es : List (NameData × ℕ)) (n : NameData) (g i : ℕ) → IsGap name_lt es n i → insert es i (n, g) ≡ put_entry n g es
+put_in_gap es n g i gap = sym (put_entry_is n g es ∙ gap_put name_eq name_lt name_order es n g i gap)
+
+pub put_at_place : (es : List (NameData × ℕ)) (n : NameData) (g i : ℕ) → AreEntries es → IsPlace es n i → set es i (n, g) ≡ put_entry n g es
+put_at_place es n g i are place = sym (put_entry_is n g es ∙ put_is_set name_eq name_lt name_order es (entries_rise es are) n g i place)
+
+pub lower_at_place : (es : List (NameData × ℕ)) (n : NameData) (g i : ℕ) → AreEntries es → IsPlace es n i → g ≢ 1 → set es i (n, g - 1) ≡ lower_entry n g es
+lower_at_place es n g i are place more = put_at_place es n (g - 1) i are place ∙ rw (ne_eqb g 1 more) refl
+
+pub remove_at_place : (es : List (NameData × ℕ)) (n : NameData) (g i : ℕ) → AreEntries es → IsPlace es n i → g ≡ 1 → remove es i ≡ lower_entry n g es
+remove_at_place es n g i are place one =
+    sym (rw (eq-eqb g 1 one) (without_name_is n es ∙ take_out_is_remove name_eq name_lt name_order es (entries_rise es are) n i place))

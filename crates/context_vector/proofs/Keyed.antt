@@ -1,9 +1,8 @@
 -- Lists of pairs whose keys rise, under any order of keys: what a search, a write, an insert and a removal do to the value of a key.
-use Rattle.std.proofs.Common.{◌≡◌, ℕ, zero, suc, ◌+◌, ◌<◌, ◌≤◌, Bool, true, false, List, [], ◌∷◌, ◌++◌, length, get_or, set, take, drop, if◌then◌else◌, Result, Ok, Err, refl, sym, ap, subst, ◌∙◌, inl, inr, arith}
-use Rattle.std.specs.Prelude.{◌⊎◌}
+use Rattle.std.proofs.Common.{◌≡◌, ℕ, zero, suc, ◌+◌, ◌<◌, ◌≤◌, Bool, true, false, List, [], ◌∷◌, length, get_or, set, if◌then◌else◌, refl, sym, ap, subst, ◌∙◌, inl, inr, arith}
 use Rattle.std.specs.List.{insert, remove}
 use mathlib.Core.Bool.{false≢true}
-use Rattle.std.proofs.Common.{Option, Some, None}
+use Rattle.std.proofs.Common.{Some, None}
 use Rattle.std.proofs.lemmas.Bool.{cases_lt, lt-ltb, le-ltb}
 use Rattle.context_vector.specs.Places.{IsPlace, IsGap}
 use Rattle.context_vector.specs.Shortfalls.{first_short}
@@ -61,9 +60,9 @@ module _ {K : Type 0} (eq lt : K → K → Bool) where
         cases_by_order eq lt order p.0 k _
         (λ is e e' l l'. rw e (subst (λ x. value_at ((k, v) ∷ ps) j ≡ (if eq k j then v else if eq x j then p.1 else value_at ps j)) (sym is) (same_key k v p.1 (value_at ps j) j)))
         (λ e e' l l'. rw (e, l') (cases_by_order eq lt order p.0 j _
-            (λ is f f' m m'. rw (f, subst (λ x. eq k x ≡ false) is e') refl)
-            (λ f f' m m'. rw f (value_put k v ps j))
-            (λ f f' m m'. rw f (value_put k v ps j))))
+        (λ is f f' m m'. rw (f, subst (λ x. eq k x ≡ false) is e') refl)
+        (λ f f' m m'. rw f (value_put k v ps j))
+        (λ f f' m m'. rw f (value_put k v ps j))))
         (λ e e' l l'. rw (e, l') refl)
       where
         same_key : (k : K) (v a b : ℕ) (j : K) → (if eq k j then v else b) ≡ (if eq k j then v else if eq k j then a else b)
@@ -81,9 +80,9 @@ module _ {K : Type 0} (eq lt : K → K → Bool) where
     value_take_out k (p ∷ ps) rising j =
         cases_by_order eq lt order p.0 k _
         (λ is e e' l l'. rw e (cases_by_order eq lt order k j _
-            (λ at f f' m m'. rw f (subst (λ x. value_at ps x ≡ 0) (is ∙ at) (value_after p.0 ps rising.1)))
-            (λ f f' m m'. rw (f, subst (λ x. eq x j ≡ false) (sym is) f) refl)
-            (λ f f' m m'. rw (f, subst (λ x. eq x j ≡ false) (sym is) f) refl)))
+        (λ at f f' m m'. rw f (subst (λ x. value_at ps x ≡ 0) (is ∙ at) (value_after p.0 ps rising.1)))
+        (λ f f' m m'. rw (f, subst (λ x. eq x j ≡ false) (sym is) f) refl)
+        (λ f f' m m'. rw (f, subst (λ x. eq x j ≡ false) (sym is) f) refl)))
         (λ e e' l l'. rw e (kept_first k p ps (take_out k ps) e' j (value_take_out k ps rising.2 j)))
         (λ e e' l l'. rw e (kept_first k p ps (take_out k ps) e' j (value_take_out k ps rising.2 j)))
 
@@ -141,7 +140,7 @@ module _ {K : Type 0} (eq lt : K → K → Bool) where
     tail_gap p ps k i gap = record {
       within = omega (arith, gap.within);
       before = λ j d less. gap.before (suc j) d (omega arith);
-      after = λ j d from within. gap.after (suc j) d (omega arith) (omega arith)
+      after = λ j d from within. gap.after (suc j) d (omega arith) (omega arith);
     }
 
     -- the first of the list is not the key, and on which side of it it stands
@@ -195,8 +194,8 @@ module _ {K : Type 0} (eq lt : K → K → Bool) where
     tail_values p q ps qs heads rising rising' same k =
         cases_by_order eq lt order p.0 k _
         (λ is e e' l l'.
-            value_after k ps (subst (λ x. AllAfter x ps) is rising.1)
-            ∙ sym (value_after k qs (subst (λ x. AllAfter x qs) (sym (ap (λ (x : K × ℕ). x.0) heads) ∙ is) rising'.1)))
+        value_after k ps (subst (λ x. AllAfter x ps) is rising.1)
+        ∙ sym (value_after k qs (subst (λ x. AllAfter x qs) (sym (ap (λ (x : K × ℕ). x.0) heads) ∙ is) rising'.1)))
         (λ e e' l l'. past e)
         (λ e e' l l'. past e)
       where
@@ -217,10 +216,10 @@ module _ {K : Type 0} (eq lt : K → K → Bool) where
     same_values (p ∷ ps) (q ∷ qs) rising rising' same =
         cases_by_order eq lt order p.0 q.0 _
         (λ is e e' l l'.
-            let values : p.1 ≡ q.1 = first_values p q ps qs is same in
-            let heads : p ≡ q = λ i. (is i, values i) in
-            let tails : ps ≡ qs = same_values ps qs rising.2 rising'.2 (tail_values p q ps qs heads rising rising' same) in
-            λ i. heads i ∷ tails i)
+        let values : p.1 ≡ q.1 = first_values p q ps qs is same in
+        let heads : p ≡ q = λ i. (is i, values i) in
+        let tails : ps ≡ qs = same_values ps qs rising.2 rising'.2 (tail_values p q ps qs heads rising rising' same) in
+        λ i. heads i ∷ tails i)
         (λ e e' l l'. absurd (missing p q ps qs rising rising' l same))
         (λ e e' l l'. absurd (missing q p qs ps rising' rising l' (λ k. sym (same k))))
 
@@ -231,11 +230,11 @@ module _ {K : Type 0} (eq lt : K → K → Bool) where
         elim (cases_lt (had p.0) p.1) [
           | inl short ↦ some_not_none (p.0, had p.0 + 1) _ (sym (rw (lt-ltb (had p.0) p.1 short) refl) ∙ none)
           | inr enough ↦
-            let rest : first_short had ps ≡ None = sym (rw (le-ltb (had p.0) p.1 enough) refl) ∙ none in
-            cases_by_order eq lt order p.0 k _
-            (λ is e e' l l'. rw e (subst (λ x. p.1 ≤ had x) is enough))
-            (λ e e' l l'. rw e (none_short had ps rest k))
-            (λ e e' l l'. rw e (none_short had ps rest k))
+              let rest : first_short had ps ≡ None = sym (rw (le-ltb (had p.0) p.1 enough) refl) ∙ none in
+              cases_by_order eq lt order p.0 k _
+              (λ is e e' l l'. rw e (subst (λ x. p.1 ≤ had x) is enough))
+              (λ e e' l l'. rw e (none_short had ps rest k))
+              (λ e e' l l'. rw e (none_short had ps rest k))
         ]
 
     -- the first short key has more than is had, and lesser keys have not
@@ -248,25 +247,25 @@ module _ {K : Type 0} (eq lt : K → K → Bool) where
     here had p ps rising q short is =
         let at : q ≡ (p.0, had p.0 + 1) = cc in
         let goal : IsFirstShort had (p ∷ ps) (p.0, had p.0 + 1) = record {
-              least = refl;
-              short = rw (order.itself p.0) short;
-              first = λ k less. rw (value_after k (p ∷ ps) (less, after_trans k p.0 ps less rising.1)) (omega arith)
-            } in
+          least = refl;
+          short = rw (order.itself p.0) short;
+          first = λ k less. rw (value_after k (p ∷ ps) (less, after_trans k p.0 ps less rising.1)) (omega arith);
+        } in
         subst (λ x. IsFirstShort had (p ∷ ps) x) (sym at) goal
 
     further : (had : K → ℕ) (p : K × ℕ) (ps : List (K × ℕ)) → IsRising (p ∷ ps) → (q : K × ℕ) → p.1 ≤ had p.0 → IsFirstShort had ps q → IsFirstShort had (p ∷ ps) q
     further had p ps rising q enough rest = record {
       least = rest.least;
       short =
-        cases_by_order eq lt order p.0 q.0 _
-        (λ is e e' l l'. absurd (omega (arith, rest.short, value_after q.0 ps (subst (λ x. AllAfter x ps) is rising.1))))
-        (λ e e' l l'. rw e rest.short)
-        (λ e e' l l'. rw e rest.short);
+          cases_by_order eq lt order p.0 q.0 _
+          (λ is e e' l l'. absurd (omega (arith, rest.short, value_after q.0 ps (subst (λ x. AllAfter x ps) is rising.1))))
+          (λ e e' l l'. rw e rest.short)
+          (λ e e' l l'. rw e rest.short);
       first = λ k less.
-        cases_by_order eq lt order p.0 k _
-        (λ is e e' l l'. rw e (subst (λ x. p.1 ≤ had x) is enough))
-        (λ e e' l l'. rw e (rest.first k less))
-        (λ e e' l l'. rw e (rest.first k less))
+          cases_by_order eq lt order p.0 k _
+          (λ is e e' l l'. rw e (subst (λ x. p.1 ≤ had x) is enough))
+          (λ e e' l l'. rw e (rest.first k less))
+          (λ e e' l l'. rw e (rest.first k less));
     }
 
     pub some_short : (had : K → ℕ) (ps : List (K × ℕ)) → IsRising ps → (q : K × ℕ) → first_short had ps ≡ Some q → IsFirstShort had ps q

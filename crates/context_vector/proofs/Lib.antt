@@ -5,3 +5,4 @@ pub mod Counts
 pub mod Entries
 pub mod Members
 pub mod Sets
+pub mod Unions

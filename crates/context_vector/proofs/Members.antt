@@ -1,5 +1,5 @@
 -- The members of a context after each change of it, by the count of a site and the greatest generation of a name.
-use Rattle.std.proofs.Common.{◌≡◌, ℕ, ◌+◌, ◌-◌, ◌<◌, ◌≤◌, Bool, true, false, not, List, [], ◌∷◌, ◌++◌, if◌then◌else◌, refl, sym, ap, subst, ◌∙◌, inl, inr, arith}
+use Rattle.std.proofs.Common.{◌≡◌, ℕ, ◌+◌, ◌-◌, ◌≤◌, Bool, true, false, not, List, if◌then◌else◌, refl, sym, ap, subst, ◌∙◌, inl, inr, arith}
 use Rattle.std.specs.Prelude.{◌==◌, ◌&&◌, ◌||◌, nat_lt, nat_le}
 use Rattle.std.proofs.lemmas.Bool.{cases_order, eq-eqb, ne_eqb}
 use Rattle.std.proofs.lemmas.Bool.Decides.{nat_tests}
@@ -175,3 +175,8 @@ raised_is_context c (Group n g) is name member most = record { counts = is.count
 pub lowered_is_context : (c : ContextData) (m : Member) → IsContext c → IsName (target_of m).site (target_of m).number → IsMember m → size_of m ≤ greatest_of m → IsContext (lowered c m)
 lowered_is_context c (Original n) is name member most = record { counts = counts_lower n.site n.number c.counts name.0 name.1 name.2 is.counts; entries = is.entries }
 lowered_is_context c (Group n g) is name member most = record { counts = is.counts; entries = entries_lower n g c.entries name member most is.entries }
+
+-- numbers and generations start at 1
+pub size_least : (m : Member) → IsName (target_of m).site (target_of m).number → IsMember m → 1 ≤ size_of m
+size_least (Original n) name member = name.1
+size_least (Group n g) name member = member

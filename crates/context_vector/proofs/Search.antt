@@ -1,17 +1,16 @@
 -- What a binary search finds among pairs whose keys rise.
-use Rattle.std.proofs.Common.{◌≡◌, ℕ, zero, suc, ◌+◌, ◌<◌, ◌≤◌, Bool, true, false, List, [], ◌∷◌, length, get_or, if◌then◌else◌, Result, Ok, Err, IfOk, IfErr, refl, sym, ap, subst, ◌∙◌, inl, inr, arith}
+use Rattle.std.proofs.Common.{◌≡◌, ℕ, zero, suc, ◌<◌, ◌≤◌, Bool, true, List, [], ◌∷◌, length, get_or, if◌then◌else◌, Result, Ok, Err, IfOk, IfErr, refl, subst, ◌∙◌, inl, inr, arith}
 use Rattle.std.specs.Prelude.{◌==◌, nat_lt}
 use Rattle.std.specs.List.Sorted.{IsSearchInRange, IsBinarySearchResult, IsNonDecreasingBy}
 use Rattle.std.specs.declared.cmp.Ordering.{Ordering}
 use Rattle.std.specs.declared.cmp.Ordering.TheVariants.{Less, Equal, Greater}
-use Rattle.std.specs.Ordering.{nat_cmp, ordering_then, ordering_index}
+use Rattle.std.specs.Ordering.{nat_cmp, ordering_index}
 use Rattle.std.proofs.lemmas.Bool.{cases_lt, cases_order, eq-eqb, ne_eqb, lt-ltb, le-ltb}
-use Rattle.std.proofs.lemmas.Bool.Decides.{nat_tests}
 use Rattle.op_name.specs.Order.{IsOrder}
 use Rattle.op_name.specs.NameData.{NameData, name_eq, name_lt, name_cmp}
-use Rattle.op_name.proofs.Orders.{number_order, name_order, cases_by_order}
+use Rattle.op_name.proofs.Orders.{cases_by_order}
 use Rattle.context_vector.specs.Places.{IsPlace, IsGap}
-use Rattle.context_vector.proofs.Keyed.{IsRising, AllAfter, later_key}
+use Rattle.context_vector.proofs.Keyed.{IsRising, later_key}
 
 -- what a comparison answers in an order
 abbrev pub answer_of : Bool → Bool → Ordering
@@ -73,12 +72,14 @@ module _ {K : Type 0} (eq lt : K → K → Bool) (order : IsOrder eq lt) (cmp : 
   pub searched : (ps : List (K × ℕ)) → IsRising eq lt ps → (k : K) (r : Result ℕ ℕ) → IsSearchInRange r (length ps) → IsBinarySearchResult (λ (p : K × ℕ). cmp p.0 k) ps r → IfOk r (IsPlace ps k) × IfErr r (IsGap lt ps k)
   searched ps rising k (Ok at) within equal = (record { within = within; key = λ d. is_equal _ k (equal d) }, tt)
   searched ps rising k (Err at) within parted =
-      let parts = parted (all_rise ps rising k) in
-      (tt, record {
-        within = within;
-        before = λ j d less. is_less _ k (parts.0 j d (omega arith) less);
-        after = λ j d from less. is_greater _ k (parts.1 j d from less)
-      })
+      let parts = parted (all_rise ps rising k) in (
+        tt,
+        record {
+          within = within;
+          before = λ j d less. is_less _ k (parts.0 j d (omega arith) less);
+          after = λ j d from less. is_greater _ k (parts.1 j d from less);
+        },
+      )
 
 -- the comparisons of numbers and of names
 pub number_answers : (a b : ℕ) → nat_cmp a b ≡ answer_of (nat_lt a b) (a == b)

@@ -1,4 +1,5 @@
 pub mod Vectors
+pub mod Equality
 pub mod Places
 pub mod Shortfalls
 pub mod Refusals

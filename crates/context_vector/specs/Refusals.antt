@@ -1,5 +1,5 @@
 -- Why a member was not added.
-use Rattle.std.specs.Prelude.{◌≡◌, ℕ}
+use Rattle.std.specs.Prelude.{◌≡◌}
 use Rattle.op_name.specs.declared.member.Member.{Member}
 use Rattle.op_name.specs.Contexts.{ContextData, IsNextMember}
 use Rattle.context_vector.specs.Vectors.{next_of}

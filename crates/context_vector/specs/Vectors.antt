@@ -74,3 +74,10 @@ SitesBelow (p ∷ ps) s = (p.0 < s) × SitesBelow ps s
 abbrev pub NamesBelow : List (NameData × ℕ) → NameData → Type 0
 NamesBelow [] n = Unit {0}
 NamesBelow (e ∷ es) n = (name_lt e.0 n ≡ true) × NamesBelow es n
+
+-- the originals that counts tell, and the groups that entries tell
+abbrev pub of_counts : List (ℕ × ℕ) → ContextData
+of_counts ps = record { counts = ps; entries = [] }
+
+abbrev pub of_entries : List (NameData × ℕ) → ContextData
+of_entries es = record { counts = []; entries = es }

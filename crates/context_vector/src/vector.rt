@@ -5,11 +5,10 @@ ghost use Rattle.op_name.specs.Members.{IsMember};
 ghost use Rattle.op_name.specs.Contexts.{empty, count_of, entry_of, has, Within, rank_of, IsContext};
 ghost use Rattle.context_vector.specs.Vectors.{IsFirstMissing};
 
-use std::alloc::Global;
-use std::marker::Model;
-
 use op_name::{Member, Memory, Name};
 use smallvec::SmallVec;
+use std::alloc::Global;
+use std::marker::Model;
 
 mod changes;
 mod equality;
@@ -19,7 +18,7 @@ mod rising;
 /// lower generations of its name (COT 2009 calls it a context).
 ///
 /// It costs by the sites that wrote and by the undone names, not by the members.
-#[derive(Drop)]
+#[derive(Debug, Drop)]
 pub struct Vector {
     /// Each site that has originals in the set with their number, sites rising.
     counts: SmallVec<(u16, u32), 4>,
@@ -35,8 +34,8 @@ impl Model for Vector {
     ghost Value = { VectorData };
 
     ghost view = { λ v. record {
-        set = record { counts = v.counts.items; entries = v.entries.items };
-        room = record { counts = v.counts.capacity - length v.counts.items; entries = vec_capacity v.entries - vec_len v.entries }
+      set = record { counts = v.counts.items; entries = v.entries.items };
+      room = record { counts = v.counts.capacity - length v.counts.items; entries = vec_capacity v.entries - vec_len v.entries };
     } };
 
     ghost invariant = { λ v. IsContext (record { counts = v.counts.items; entries = v.entries.items }) };
@@ -84,14 +83,16 @@ impl Vector {
         ensures count { result ≡ count_of self.now.set site }
         ensures range { result ≤ 1000000 }
     {
-        rising::count_among(self.counts.as_slice(), site)
+        self.known();
+        rising::count_among(self.counts(), site)
     }
 
     /// The greatest generation at which the set has an undo group of the name, 0 if it has none.
     pub fn entry(&self, name: &Name) -> u16
         ensures { result ≡ entry_of self.now.set name.now }
     {
-        rising::entry_among(self.entries.as_slice(), name)
+        self.known();
+        rising::entry_among(self.named(), name)
     }
 
     /// Whether the member is in the set.
@@ -123,13 +124,15 @@ impl Vector {
         ensures none { IsNone result ↔ Within other.now.set self.now.set }
         ensures range { IfSome result IsMember }
     {
-        let original = rising::first_short_site(self.counts.as_slice(), other.counts.as_slice());
+        self.known();
+        other.known();
+        let original = rising::first_short_site(self.counts(), other.counts());
         if let Some((site, number)) = original {
             return Some(Member::Original(Name { site, number }));
         }
-        let group = rising::first_short_name(self.entries.as_slice(), other.entries.as_slice());
-        if let Some((name, generation)) = group {
-            return Some(Member::Group(name, generation));
+        let group = rising::first_short_name(self.named(), other.named());
+        if let Some(group) = group {
+            return Some(Member::Group(group.0, group.1));
         }
         None
     }
@@ -139,7 +142,8 @@ impl Vector {
         ensures rank { result ≡ rank_of self.now.set }
         ensures range { result ≤ 64000000 }
     {
-        rising::total(self.counts.as_slice())
+        self.known();
+        rising::total(self.counts())
     }
 
     /// The number of undone names.
@@ -147,14 +151,15 @@ impl Vector {
         ensures entries { result ≡ length self.now.set.entries }
         ensures range { result ≤ 64000000 }
     {
-        self.entries.len() as u32
+        self.known();
+        self.named().len() as u32
     }
 
     /// The i-th undone name, in the order of names, with its greatest generation; None exactly past the end.
     pub fn entry_at(&self, i: u32) -> Option<(Name, u16)>
         ensures { result ≡ slice_get self.now.set.entries i }
     {
-        self.entries.get(i as usize).copied()
+        self.named().get(i as usize).copied()
     }
 
     /// The number of sites that have originals in the set. Readers of a vector's listing use it.
@@ -162,7 +167,8 @@ impl Vector {
         ensures sites { result ≡ length self.now.set.counts }
         ensures range { result ≤ 64 }
     {
-        self.counts.len() as u32
+        self.known();
+        self.counts().len() as u32
     }
 
     /// The i-th site, rising, with the number of its originals in the set, at least 1; None exactly past
@@ -170,6 +176,20 @@ impl Vector {
     pub fn site_at(&self, i: u32) -> Option<(u16, u32)>
         ensures { result ≡ slice_get self.now.set.counts i }
     {
-        self.counts.as_slice().get(i as usize).copied()
+        self.counts().get(i as usize).copied()
+    }
+
+    // The sites with their counts.
+    fn counts(&self) -> &[(u16, u32)]
+        ensures { result.now ≡ self.now.set.counts }
+    {
+        self.counts.as_slice()
+    }
+
+    // The undone names with their greatest generations.
+    fn named(&self) -> &[(Name, u16)]
+        ensures { result.now ≡ self.now.set.entries }
+    {
+        self.entries.as_slice()
     }
 }

@@ -1,1 +1,3 @@
+pub mod WorkedCases
+pub mod ValidCases
 pub mod Orders

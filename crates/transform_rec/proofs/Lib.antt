@@ -11,3 +11,4 @@ pub mod Order
 pub mod Parts
 pub mod CausalOrders
 pub mod LawsHold
+pub mod Histories

@@ -7,8 +7,7 @@ ghost use Rattle.ttf_form.specs.Places.{cover_place, over_place};
 use crate::cover::Cover;
 use crate::ins::Ins;
 
-/// The place of a cell that is to stand at `place` and is of `site`, after the insert of `extent` cells at
-/// `other` by the site `other_site`.
+/// The place of an insert at `place` by `site` after one cell came in at `other` by `other_site`.
 #[tactic(auto, unfolding(crate::specs::Places::over_place))]
 fn place_over(place: u32, site: u16, other: u32, other_site: u16) -> u32
     requires { place + 1 ≤ 4294967295 }

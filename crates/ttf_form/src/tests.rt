@@ -1,8 +1,8 @@
 //! The rows of the table at chosen places, and each trait through its bound.
 
 ghost use Rattle.std.specs.Prelude.{◌≡◌, ◌+◌, ◌<◌, ◌≤◌, []};
-ghost use Rattle.std.specs.Prelude.{length, refl, false, ◌∷◌, inl, inr};
-ghost use Rattle.std.proofs.Common.{◌∙◌, sym, lit≤, inl, inr};
+ghost use Rattle.std.specs.Prelude.{false, ◌∷◌};
+ghost use Rattle.std.proofs.Common.{◌∙◌, sym, lit≤, inl, inr, arith};
 ghost use Rattle.op_name.specs.declared.member.Member.{Member};
 ghost use Rattle.op_name.specs.declared.member.Member.TheVariants.{Original};
 ghost use Rattle.ttf_form.specs.Forms.{place_of, extent_of};
@@ -14,7 +14,8 @@ use op_name::{Member, Name};
 /// An insert of a site, at a place below a thousand.
 fn ins(place: u32, site: u16) -> Ins
     requires { site < 64 }
-    ensures { result.place ≡ place }
+    ensures place { result.place ≡ place }
+    ensures name { result.name ≡ record { site = site; number = 7 } }
 {
     Ins {
         place,
@@ -51,7 +52,16 @@ fn an_insert_over_an_insert(rt: HostRuntime) {
         let a = ins(place, site);
         let b = ins(other, other_site);
         let moved = a.over_ins(&b);
-        assert_eq!(rt; moved, Ins { place: wanted, site, ch: 'x', name: Name { site, number: 7 } }, "{why}");
+        assert_eq!(rt;
+            moved,
+            Ins {
+                place: wanted,
+                site,
+                ch: 'x',
+                name: Name { site, number: 7 }
+            },
+            "{why}"
+        );
     }
 }
 
@@ -65,19 +75,53 @@ fn a_cover_over_an_insert(rt: HostRuntime) {
     ];
     for (why, place, other, wanted) in rows {
         assert!(rt; place < 1000);
-        assert_eq!(rt; delete_at(place).over_ins_at(other), delete_at(wanted), "{why}");
+        assert_eq!(rt;
+            delete_at(place).over_ins_at(other),
+            delete_at(wanted),
+            "{why}"
+        );
     }
 }
 
 #[test]
 fn forms_over_forms(rt: HostRuntime) {
     let rows: [(&str, Form, Form, u32); 6] = [
-        ("insert over insert, ahead", Form::Ins(ins(5, 1)), Form::Ins(ins(5, 2)), 5),
-        ("insert over insert, behind", Form::Ins(ins(5, 2)), Form::Ins(ins(5, 1)), 6),
-        ("insert over cover", Form::Ins(ins(5, 1)), Form::Cover(delete_at(2)), 5),
-        ("cover over insert, ahead", Form::Cover(delete_at(4)), Form::Ins(ins(5, 1)), 4),
-        ("cover over insert, behind", Form::Cover(delete_at(5)), Form::Ins(ins(5, 1)), 6),
-        ("cover over cover", Form::Cover(delete_at(5)), Form::Cover(delete_at(2)), 5),
+        (
+            "insert over insert, ahead",
+            Form::Ins(ins(5, 1)),
+            Form::Ins(ins(5, 2)),
+            5,
+        ),
+        (
+            "insert over insert, behind",
+            Form::Ins(ins(5, 2)),
+            Form::Ins(ins(5, 1)),
+            6,
+        ),
+        (
+            "insert over cover",
+            Form::Ins(ins(5, 1)),
+            Form::Cover(delete_at(2)),
+            5,
+        ),
+        (
+            "cover over insert, ahead",
+            Form::Cover(delete_at(4)),
+            Form::Ins(ins(5, 1)),
+            4,
+        ),
+        (
+            "cover over insert, behind",
+            Form::Cover(delete_at(5)),
+            Form::Ins(ins(5, 1)),
+            6,
+        ),
+        (
+            "cover over cover",
+            Form::Cover(delete_at(5)),
+            Form::Cover(delete_at(2)),
+            5,
+        ),
     ];
     for (why, a, b, wanted) in rows {
         assert!(rt; place(&a) < 1000);
@@ -107,15 +151,18 @@ fn included<F: Applies>(a: &F, b: &F) -> F
 }
 
 /// A family of one insert, in front of no cells.
+#[derive(Drop)]
 struct One {
     ins: Ins,
     ghost front: { ins.place ≡ 0 },
 }
 
 impl Bases<Form> for One {
+    ghost use Rattle.ttf_form.specs.declared.form.Form.TheVariants.{Ins as Insert};
+
     ghost members = { λ s. Original s.ins.name ∷ [] };
 
-    ghost base_form = { λ s m. Form.Ins s.ins };
+    ghost base_form = { λ s m. Insert s.ins };
 
     ghost base_context = { λ s m x. false };
 
@@ -129,7 +176,7 @@ impl Bases<Form> for One {
 
     ghost apart = { λ s m x k i j ne c d. elim i [ inl p ↦ elim j [ inl q ↦ absurd (ne (p ∙ sym q)) | inr q ↦ absurd q ] | inr q ↦ absurd q ] };
 
-    ghost bounded = { λ s m k i. Prim.omega Rattle.std.proofs.Common.arith };
+    ghost bounded = { λ s m k i. Prim.omega arith };
 
     ghost total = { λ s k. lit≤ tt };
 }
@@ -146,7 +193,7 @@ fn base_of<F: Include, B: Bases<F>>(bases: &B, m: &Member) -> F
 #[test]
 fn a_base_form_through_the_bound(rt: HostRuntime) {
     let one = One { ins: ins(0, 4) };
-    let member = Member::Original(one.ins.name);
+    let member = Member::Original(Name { site: 4, number: 7 });
     let form: Form = base_of(&one, &member);
     assert_eq!(rt; form, Form::Ins(ins(0, 4)));
 }

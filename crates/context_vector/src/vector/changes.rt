@@ -4,15 +4,14 @@ ghost use Rattle.std.specs.Prelude.{◌≡◌, ◌∷◌, [], ◌++◌, ◌<◌,
 ghost use Rattle.op_name.specs.declared.member.Member.{Member};
 ghost use Rattle.op_name.specs.Members.{IsMember, member_eq};
 ghost use Rattle.op_name.specs.Contexts.{has, raised, IsNextMember, count_in, entry_in, put_count, put_entry, AreCounts, AreEntries};
-ghost use Rattle.context_vector.specs.Vectors.{HasRoomFor, IsLastMember, lowered, lower_count, lower_entry, up_to, SitesBelow, NamesBelow};
+ghost use Rattle.context_vector.specs.Vectors.{HasRoomFor, IsLastMember, lowered, lower_count, lower_entry, up_to, SitesBelow, NamesBelow, of_counts, of_entries};
 ghost use Rattle.context_vector.specs.Refusals.{IsCause};
 ghost use Rattle.smallvec.specs.SmallVec.{HasRoomFor as Spare};
 
-use op_name::{Member, Memory, Name};
-use smallvec::SmallVec;
-
 use super::rising::{place_of_name, place_of_site};
 use super::{AddBad, Vector};
+use op_name::{Member, Memory, Name};
+use smallvec::SmallVec;
 
 impl Vector {
     /// Adds the member, which has to be the next of its site or its name. A refusal changes nothing.
@@ -25,7 +24,10 @@ impl Vector {
     {
         let (given, expected) = match m {
             Member::Original(name) => (name.number, self.count(name.site) + 1),
-            Member::Group(name, generation) => (u32::from(*generation), u32::from(self.entry(name)) + 1),
+            Member::Group(name, generation) => (
+                u32::from(*generation),
+                u32::from(self.entry(name)) + 1,
+            ),
         };
         if given != expected {
             return Err(AddBad::NotNext { expected });
@@ -76,6 +78,7 @@ impl Vector {
         ensures raised { OnOk result ((y : Member) → has self.new.set y ≡ (has self.old.set y || up_to y m.now)) }
         ensures kept { OnErr result (self.new.set ≡ self.old.set) }
     {
+        let _ = m.target();
         if self.contains(m) {
             return Ok(());
         }
@@ -91,10 +94,9 @@ impl Vector {
         ensures set { self.new.set ≡ lowered self.old.set m.now }
         ensures members { (y : Member) → has self.new.set y ≡ (has self.old.set y && not (member_eq m.now y)) }
     {
-        match m {
-            Member::Original(name) => lower_site(&mut self.counts, name),
-            Member::Group(name, generation) => lower_name(&mut self.entries, name, *generation),
-        }
+        self.known();
+        let _ = m.target();
+        self.lower(m);
     }
 
     /// Adds all members of `other`. Where memory is wanting nothing changes.
@@ -102,13 +104,10 @@ impl Vector {
         ensures joined { OnOk result ((y : Member) → has self.new.set y ≡ (has self.old.set y || has other.now.set y)) }
         ensures kept { OnErr result (self.new.set ≡ self.old.set) }
     {
+        other.known();
         let mut union = self.try_clone()?;
-        for &(site, number) in other.counts.as_slice() {
-            union.raise(&Member::Original(Name { site, number }))?;
-        }
-        for &(name, generation) in other.entries.as_slice() {
-            union.raise(&Member::Group(name, generation))?;
-        }
+        union.raise_sites(other.counts())?;
+        union.raise_names(other.named())?;
         *self = union;
         Ok(())
     }
@@ -122,10 +121,9 @@ impl Vector {
         ensures pushed { OnOk result (self.new.set ≡ record self.old.set { counts = self.old.set.counts ++ (site, count) ∷ [] }) }
         ensures kept { OnErr result (self.new.set ≡ self.old.set) }
     {
-        match self.counts.push((site, count)) {
-            Ok(()) => Ok(()),
-            Err(_) => Err(Memory),
-        }
+        self.counts.reserve(1)?;
+        self.counts.push_reserved((site, count));
+        Ok(())
     }
 
     /// Appends an undone name with its greatest generation to a vector that is being read in the order of
@@ -137,10 +135,31 @@ impl Vector {
         ensures kept { OnErr result (self.new.set ≡ self.old.set) }
     {
         name.known();
-        match self.entries.push((name, generation)) {
-            Ok(()) => Ok(()),
-            Err(_) => Err(Memory),
+        self.entries.reserve(1)?;
+        self.entries.push_reserved((name, generation));
+        Ok(())
+    }
+
+    // Adds all originals that the counts tell.
+    fn raise_sites(&mut self, counts: &[(u16, u32)]) -> Result<(), Memory>
+        requires { AreCounts 0 counts.now }
+        ensures { OnOk result ((y : Member) → has self.new.set y ≡ (has self.old.set y || has (of_counts counts.now) y)) }
+    {
+        for &(site, number) in counts {
+            self.raise(&Member::Original(Name { site, number }))?;
         }
+        Ok(())
+    }
+
+    // Adds all groups that the entries tell.
+    fn raise_names(&mut self, entries: &[(Name, u16)]) -> Result<(), Memory>
+        requires { AreEntries entries.now }
+        ensures { OnOk result ((y : Member) → has self.new.set y ≡ (has self.old.set y || has (of_entries entries.now) y)) }
+    {
+        for &(name, generation) in entries {
+            self.raise(&Member::Group(name, generation))?;
+        }
+        Ok(())
     }
 
     // Makes the member the last of its site or its name.
@@ -150,22 +169,39 @@ impl Vector {
         ensures { self.new.set ≡ raised self.old.set m.now }
     {
         match m {
-            Member::Original(name) => put_site(&mut self.counts, name),
-            Member::Group(name, generation) => put_name(&mut self.entries, name, *generation),
+            Member::Original(name) => put_site(&mut self.counts, name.site, name.number),
+            Member::Group(name, generation) => {
+                name.known();
+                put_name(&mut self.entries, name, *generation);
+            }
+        }
+    }
+
+    // Makes the member below this one the last of its site or its name.
+    fn lower(&mut self, m: &Member)
+        requires member { IsMember m.now }
+        requires last { IsLastMember self.old.set m.now }
+        ensures { self.new.set ≡ lowered self.old.set m.now }
+    {
+        match m {
+            Member::Original(name) => lower_site(&mut self.counts, name.site, name.number),
+            Member::Group(name, generation) => {
+                name.known();
+                lower_name(&mut self.entries, name, *generation);
+            }
         }
     }
 }
 
-// Makes the name's number the count of its site.
-fn put_site(counts: &mut SmallVec<(u16, u32), 4>, name: &Name)
+// Makes the number the count of the site.
+fn put_site(counts: &mut SmallVec<(u16, u32), 4>, site: u16, number: u32)
     requires rising { AreCounts 0 counts.old.items }
-    requires room { count_in counts.old.items name.now.site ≡ 0 → Spare counts.old 1 }
-    ensures { counts.new.items ≡ put_count name.now.site name.now.number counts.old.items }
+    requires room { count_in counts.old.items site ≡ 0 → Spare counts.old 1 }
+    ensures { counts.new.items ≡ put_count site number counts.old.items }
 {
-    let pair = (name.site, name.number);
-    match place_of_site(counts.as_slice(), name.site) {
-        Ok(at) => counts.as_mut_slice()[at] = pair,
-        Err(at) => match counts.insert(at, pair) {
+    match place_of_site(counts.as_slice(), site) {
+        Ok(at) => counts.as_mut_slice()[at] = (site, number),
+        Err(at) => match counts.insert(at, (site, number)) {
             Ok(()) => {}
             Err(_) => unreachable!(),
         },
@@ -188,18 +224,18 @@ fn put_name(entries: &mut Vec<(Name, u16)>, name: &Name, generation: u16)
     }
 }
 
-// Takes one from the count of the name's site, which is the name's number.
-fn lower_site(counts: &mut SmallVec<(u16, u32), 4>, name: &Name)
+// Takes one from the count of the site, which is the number.
+fn lower_site(counts: &mut SmallVec<(u16, u32), 4>, site: u16, number: u32)
     requires rising { AreCounts 0 counts.old.items }
-    requires last { name.now.number ≡ count_in counts.old.items name.now.site }
-    ensures { counts.new.items ≡ lower_count name.now.site name.now.number counts.old.items }
+    requires least { 1 ≤ number }
+    requires last { number ≡ count_in counts.old.items site }
+    ensures { counts.new.items ≡ lower_count site number counts.old.items }
 {
-    name.known();
-    match place_of_site(counts.as_slice(), name.site) {
-        Ok(at) if name.number == 1 => {
+    match place_of_site(counts.as_slice(), site) {
+        Ok(at) if number == 1 => {
             counts.remove(at);
         }
-        Ok(at) => counts.as_mut_slice()[at] = (name.site, name.number - 1),
+        Ok(at) => counts.as_mut_slice()[at] = (site, number - 1),
         Err(_) => unreachable!(),
     }
 }

@@ -1,1 +1,31 @@
-//! Equality, hash and text of vectors: those of the set alone, whatever room the lists have.
+//! Equality and hash of vectors: those of the set alone, whatever room the lists have.
+
+ghost use Rattle.context_vector.specs.Equality.{vector_eq, vector_per, vector_equiv, vector_input, vector_alike};
+
+use super::Vector;
+use std::hash::{Hash, Hasher};
+
+impl PartialEq for Vector {
+    ghost eq = { vector_eq };
+
+    ghost laws = { vector_per };
+
+    fn eq(&self, other: &Vector) -> bool {
+        self.counts() == other.counts() && self.named() == other.named()
+    }
+}
+
+impl Eq for Vector {
+    ghost laws = { vector_equiv };
+}
+
+impl Hash for Vector {
+    ghost hash_input = { vector_input };
+
+    ghost respects_eq = { vector_alike };
+
+    fn hash<H: Hasher>(&self, state: &mut H) {
+        self.counts().hash(state);
+        self.named().hash(state);
+    }
+}

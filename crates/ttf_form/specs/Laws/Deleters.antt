@@ -179,10 +179,10 @@ best_raise d g ((e, h) ∷ es) = by (best_raise d g es) (compared d e)
         ∙ ap (λ (t : Bool). max (if t then suc g else 0) (best d ((e, h) ∷ es))) (name_self d)
     by rest (same s) =
         subst (λ (x : NameData). best d (raise_in d g ((x, h) ∷ es)) ≡ max (suc g) (best d ((x, h) ∷ es))) s
-            (ap (best d) (raise_at d g h es)
-            ∙ ap (λ (t : Bool). max (if t then suc (max h g) else 0) (best d es)) (name_self d)
-            ∙ two_best g h (best d es)
-            ∙ sym (ap (λ (t : Bool). max (suc g) (max (if t then suc h else 0) (best d es))) (name_self d)))
+        (ap (best d) (raise_at d g h es)
+        ∙ ap (λ (t : Bool). max (if t then suc (max h g) else 0) (best d es)) (name_self d)
+        ∙ two_best g h (best d es)
+        ∙ sym (ap (λ (t : Bool). max (suc g) (max (if t then suc h else 0) (best d es))) (name_self d)))
     by rest (more l) =
         ap (best d) (raise_on d g e h es l)
         ∙ ap (λ (k : ℕ). max (if name_eq d e then suc h else 0) k) rest
@@ -200,9 +200,9 @@ best_raise_other c d g ((e, h) ∷ es) ne = by (best_raise_other c d g es ne) (c
         ∙ none_best (best c ((e, h) ∷ es))
     by rest (same s) =
         subst (λ (x : NameData). best c (raise_in d g ((x, h) ∷ es)) ≡ best c ((x, h) ∷ es)) s
-            (ap (best c) (raise_at d g h es)
-            ∙ ap (λ (t : Bool). max (if t then suc (max h g) else 0) (best c es)) ne
-            ∙ sym (ap (λ (t : Bool). max (if t then suc h else 0) (best c es)) ne))
+        (ap (best c) (raise_at d g h es)
+        ∙ ap (λ (t : Bool). max (if t then suc (max h g) else 0) (best c es)) ne
+        ∙ sym (ap (λ (t : Bool). max (if t then suc h else 0) (best c es)) ne))
     by rest (more l) =
         ap (best c) (raise_on d g e h es l)
         ∙ ap (λ (k : ℕ). max (if name_eq c e then suc h else 0) k) rest
@@ -223,7 +223,7 @@ raise_before n d g ((e, h) ∷ es) b l = by (compared d e)
     by (less k) = subst (λ (xs : List (NameData × ℕ)). IsBefore n xs) (sym (raise_front d g e h es k)) l
     by (same s) =
         subst (λ (x : NameData). IsBefore n (raise_in d g ((x, h) ∷ es))) s
-            (subst (λ (xs : List (NameData × ℕ)). IsBefore n xs) (sym (raise_at d g h es)) l)
+        (subst (λ (xs : List (NameData × ℕ)). IsBefore n xs) (sym (raise_at d g h es)) l)
     by (more k) = subst (λ (xs : List (NameData × ℕ)). IsBefore n xs) (sym (raise_on d g e h es k)) b
 
 -- the deleters stay sorted
@@ -236,7 +236,7 @@ raise_rising d g ((e, h) ∷ es) r = by (raise_rising d g es r.1) (compared d e)
     by rest (less k) q = subst IsRising (sym (raise_front d g e h es k)) (k, q)
     by rest (same s) q =
         subst (λ (x : NameData). IsRising ((x, h) ∷ es) → IsRising (raise_in d g ((x, h) ∷ es))) s
-            (λ p. subst IsRising (sym (raise_at d g h es)) p)
-            q
+        (λ p. subst IsRising (sym (raise_at d g h es)) p)
+        q
     by rest (more k) q =
         subst IsRising (sym (raise_on d g e h es k)) (raise_before e d g es q.0 k, rest)

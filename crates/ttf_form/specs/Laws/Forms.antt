@@ -94,8 +94,8 @@ pub ins_moved : (a b : Ins) → a.site ≢ b.site
     → IsMoved a.place b.place (ins_extent b) (nat_lt b.name.site a.name.site) (place_of (form_over (Insert a) (Insert b)))
 ins_moved a b h =
     subst (λ (left : Bool). IsMoved a.place b.place (ins_extent b) left (place_of (form_over (Insert a) (Insert b))))
-        (λ i. nat_lt (b.own i) (a.own i))
-        (over_moved a.place a.site b.place b.site (ins_extent b) h)
+    (λ i. nat_lt (b.own i) (a.own i))
+    (over_moved a.place a.site b.place b.site (ins_extent b) h)
 
 pub cover_moved : (c : Cover) (b : Ins) → IsMoved c.place b.place (ins_extent b) true (place_of (form_over (Covered c) (Insert b)))
 cover_moved c b = cover_place_moved c.place b.place (ins_extent b)

@@ -82,11 +82,12 @@ over_moved p s q r n ne =
       less = λ h. over_more p s q r n h;
       more = λ h. over_less p s q r n h;
       tie_left = λ e h. over_tie_behind p s q r n e (greater_behind s r h);
-      tie_right = λ e h. over_tie_front p s q r n e (other_front s r ne h)
+      tie_right = λ e h. over_tie_front p s q r n e (other_front s r ne h);
     }
   where
     greater_behind : (s r : ℕ) → nat_lt r s ≡ true → nat_lt s r ≡ false
     greater_behind s r h = grind (arith, nat_tests)
+
     other_front : (s r : ℕ) → s ≢ r → nat_lt r s ≡ false → nat_lt s r ≡ true
     other_front s r ne h = grind (arith, nat_tests)
 
@@ -96,7 +97,7 @@ cover_place_moved p q n =
       less = λ h. cover_more p q n (omega arith);
       more = λ h. cover_less p q n h;
       tie_left = λ e h. cover_more p q n (omega arith);
-      tie_right = λ e h. cc
+      tie_right = λ e h. cc;
     }
 
 rises : (b c : Bool) (p n m : ℕ) → (if b then (if c then p else p + n) else (if c then p else p + n) + m) ≡ (if c then (if b then p else p + m) else (if b then p else p + m) + n)

@@ -1,4 +1,4 @@
-use Rattle.std.proofs.Common.{ℕ, rules}
+use Rattle.std.proofs.Common.{rules}
 use Rattle.std.proofs.lemmas.List.Sorted.{answers_always}
 use Rattle.op_name.specs.NameData.{name_eq, name_lt, name_cmp}
 use Rattle.op_name.proofs.Orders.{name_order}

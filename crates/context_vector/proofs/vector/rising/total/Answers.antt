@@ -1,5 +1,4 @@
-use Rattle.std.proofs.Common.{ℕ, arith, drop}
-use Rattle.op_name.specs.Contexts.{sum_of_counts}
+use Rattle.std.proofs.Common.{arith}
 use Rattle.context_vector.proofs.Counts.{sum_drop, sum_drop_all, sum_at_most}
 use Rattle.context_vector.proofs.vector.rising.total.Goals as goal
 

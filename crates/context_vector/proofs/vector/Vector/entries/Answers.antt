@@ -1,0 +1,9 @@
+use Rattle.std.proofs.Common.{arith}
+use Rattle.context_vector.proofs.Entries.{length_at_most}
+use Rattle.context_vector.proofs.vector.Vector.entries.Goals as goal
+
+pub overflow_cast-result : goal.overflow_cast-result
+overflow_cast-result c = record { fits = rw c.named.ensures (omega (arith, length_at_most c.args.self.now.set.entries c.known.ensures.entries)) }
+
+pub returns-clause-range : goal.returns-clause-range
+returns-clause-range c = rw c.named.ensures (omega (arith, length_at_most c.args.self.now.set.entries c.known.ensures.entries))

@@ -1,0 +1,54 @@
+use Rattle.std.proofs.Common.{◌≡◌, Some, None, refl, sym, ◌∙◌}
+use mathlib.Core.Bool.{false≢true}
+use Rattle.op_name.specs.Contexts.{count_in, entry_in}
+use Rattle.context_vector.specs.Shortfalls.{first_short}
+use Rattle.context_vector.proofs.Sets.{short_original, short_group, none_missing, missing_not_within}
+use Rattle.context_vector.proofs.vector.Vector.first_missing.Goals as goal
+
+short_site : (c : goal.In-Some) → first_short (count_in c.args.self.now.set.counts) c.args.other.now.set.counts ≡ Some (c.in-Some.site, c.in-Some.number)
+short_site c =
+    let walked = rw (c.counts.ensures, c.counts-2.ensures) at c.first_short_site-original.ensures in
+    sym walked ∙ c.in-Some.is
+
+pub invariant_of-result : goal.invariant_of-result
+invariant_of-result c =
+    let found = short_original c.args.self.now.set c.args.other.now.set c.known-2.ensures (c.in-Some.site, c.in-Some.number) (short_site c) in found.1
+
+pub returns-in-Some-clause-first : goal.returns-in-Some-clause-first
+returns-in-Some-clause-first c =
+    let found = short_original c.args.self.now.set c.args.other.now.set c.known-2.ensures (c.in-Some.site, c.in-Some.number) (short_site c) in found.0
+
+pub returns-in-Some-clause-none : goal.returns-in-Some-clause-none
+returns-in-Some-clause-none c =
+    let found = short_original c.args.self.now.set c.args.other.now.set c.known-2.ensures (c.in-Some.site, c.in-Some.number) (short_site c) in
+    (λ e. absurd (false≢true (sym e)), λ within. absurd (missing_not_within c.args.self.now.set c.args.other.now.set _ found.0 within))
+
+no_site : (c : goal.In-Some-group) → first_short (count_in c.args.self.now.set.counts) c.args.other.now.set.counts ≡ None
+no_site c =
+    let walked = rw (c.counts.ensures, c.counts-2.ensures) at c.first_short_site-original.ensures in
+    sym walked ∙ c.in_default.is
+
+short_name : (c : goal.In-Some-group) → first_short (entry_in c.args.self.now.set.entries) c.args.other.now.set.entries ≡ Some c.in-Some-group.group
+short_name c =
+    let walked = rw (c.named.ensures, c.named-2.ensures) at c.first_short_name-group.ensures in
+    sym walked ∙ c.in-Some-group.is
+
+pub returns-in-Some-group-clause-first : goal.returns-in-Some-group-clause-first
+returns-in-Some-group-clause-first c =
+    let found = short_group c.args.self.now.set c.args.other.now.set c.known-2.ensures (no_site c) c.in-Some-group.group (short_name c) in found.0
+
+pub returns-in-Some-group-clause-none : goal.returns-in-Some-group-clause-none
+returns-in-Some-group-clause-none c =
+    let found = short_group c.args.self.now.set c.args.other.now.set c.known-2.ensures (no_site c) c.in-Some-group.group (short_name c) in
+    (λ e. absurd (false≢true (sym e)), λ within. absurd (missing_not_within c.args.self.now.set c.args.other.now.set _ found.0 within))
+
+pub returns-in-Some-group-clause-range : goal.returns-in-Some-group-clause-range
+returns-in-Some-group-clause-range c =
+    let found = short_group c.args.self.now.set c.args.other.now.set c.known-2.ensures (no_site c) c.in-Some-group.group (short_name c) in found.1
+
+pub returns-clause-none : goal.returns-clause-none
+returns-clause-none c =
+    let sites = rw (c.counts.ensures, c.counts-2.ensures) at c.first_short_site-original.ensures in
+    let names = rw (c.named.ensures, c.named-2.ensures) at c.first_short_name-group.ensures in
+    let within = none_missing c.args.self.now.set c.args.other.now.set (sym sites ∙ c.in_default.is) (sym names ∙ c.in_default-group.is) in
+    (λ e. within, λ h. refl)

@@ -1,0 +1,4 @@
+-- Lemmas on the words of the contracts.
+pub mod Counts
+pub mod Written
+pub mod Read

@@ -1,0 +1,194 @@
+-- Readers of fields: each reads what is spelled so, and nothing else.
+use Rattle.std.proofs.Common.{◌≡◌, ℕ, zero, suc, ◌<◌, ◌^◌, Bool, true, false, ◌&&◌, not, nat_lt, ◌==◌, ◌≢◌, List, [], ◌∷◌, ◌++◌, length, get_or, Option, Some, None, Result, Ok, Err, refl, sym, ap, ◌∙◌, arith, inl, inr, decimal, MatchOption, option_map, option_and_then, Bor, OkIff, eq-eqb, ne_eqb, encode_utf8_all, chars, subst, IsUtf8, if◌then◌else◌, lt-ltb, ltb-true, eqb-true}
+use Rattle.std.proofs.lemmas.Str.Pattern.{IsSplitOnceResult, split_parts}
+use Rattle.std.proofs.lemmas.Str.Parse.{numerals_by_value, tells_all_ascii_digits, parse_plain, not_in_digits, IsNumeralModel}
+use Rattle.std.proofs.lemmas.Bool.{and_parts, cases_Bool}
+use Rattle.std.proofs.lemmas.Bool.Decides.{nat_tests}
+use Rattle.std.proofs.lemmas.Fmt.{decimal-digits_value, digits_value-decimal, digits_decimal, first_decimal, decimal_digit}
+use Rattle.std.proofs.lemmas.Str.{chars-encodes, encodes-chars, scalars-chars, length-le-encodes}
+use Rattle.std.specs.Str.{all_ascii_digits, is_utf8, all_scalars}
+use Rattle.std.specs.Char.{is_ascii_digit}
+use Rattle.std.specs.Int.{IsInRange}
+use Rattle.std.proofs.lemmas.Str.{is_utf8-from_IsUtf8, IsUtf8-from_is_utf8}
+use Rattle.std.specs.Str.Parse.{ParsesUnsigned, digits_value}
+use Rattle.std.specs.Result.{result_ok}
+use Rattle.script_text.specs.Fields.{cut, number_of, text_of, starts_numeral, is_numeral, IsNumber, IsCharacters, IsPair, pair_by}
+
+-- the first field has no c
+abbrev pub Lacks : ℕ → List ℕ → Type 0
+Lacks c a = (i : ℕ) → i < length a → get_or a i 0 ≢ c
+
+pub cut-append : (c : ℕ) (a bs : List ℕ) → Lacks c a → cut c (a ++ c ∷ bs) ≡ Some (a, bs)
+unfolding cut
+cut-append c [] bs lacks = rw (eq-eqb c c refl) refl
+cut-append c (x ∷ a) bs lacks = rw (ne_eqb x c (lacks 0 (omega arith)), cut-append c a bs (λ i h. lacks (suc i) (omega arith))) refl
+
+pub cut-lacks : (c : ℕ) (a : List ℕ) → Lacks c a → cut c a ≡ None
+unfolding cut
+cut-lacks c [] lacks = refl
+cut-lacks c (x ∷ a) lacks = rw (ne_eqb x c (lacks 0 (omega arith)), cut-lacks c a (λ i h. lacks (suc i) (omega arith))) refl
+
+-- what `split_once` answers is the cut
+pub cut_by_parts : (c : ℕ) (bs : List ℕ) (r : Option (Bor (List ℕ) × Bor (List ℕ))) → IsSplitOnceResult c bs r → c < 128
+    → MatchOption r (cut c bs ≡ None) (λ p. cut c bs ≡ Some (p.0.now, p.1.now))
+cut_by_parts c bs r h ascii = by r (split_parts c bs r h ascii)
+  where
+    by : (r : Option (Bor (List ℕ) × Bor (List ℕ)))
+        → MatchOption r ((i : ℕ) → i < length bs → get_or bs i 0 ≢ c) (λ x. (bs ≡ x.0.now ++ (c ∷ x.1.now)) × ((i : ℕ) → i < length x.0.now → get_or x.0.now i 0 ≢ c))
+        → MatchOption r (cut c bs ≡ None) (λ p. cut c bs ≡ Some (p.0.now, p.1.now))
+    by None lacks = cut-lacks c bs lacks
+    by (Some x) parts = ap (cut c) parts.0 ∙ cut-append c x.0.now x.1.now parts.1
+
+abbrev own : IsNumeralModel (λ ds. all_ascii_digits ds ≡ true) (digits_value 10)
+own = numerals_by_value _ tells_all_ascii_digits
+
+-- what the first digit of a numeral tells
+record Starts (bs : List ℕ) : Type 0 where
+  pub nonempty : 0 < length bs
+  pub no_plus : get_or bs 0 0 ≢ 43
+  pub alone : get_or bs 0 0 ≡ 48 → length bs ≡ 1
+
+starts : (bs : List ℕ) → starts_numeral bs ≡ true → Starts bs
+starts [] s = cc
+starts (d ∷ ds) s = record {
+  nonempty = omega arith;
+  no_plus = λ e. grind (arith, nat_tests);
+  alone = λ e. grind (arith, nat_tests);
+}
+
+some_if : {A : Type 0} (t : Bool) (x y : A) → (if t then Some x else None) ≡ Some y → (t ≡ true) × (x ≡ y)
+some_if true x y e = (refl, (cc))
+some_if false x y e = cc
+
+pub not_true : (t : Bool) → (t ≡ true → ⊥) → t ≡ false
+not_true t never = elim (cases_Bool t) [ inl e ↦ absurd (never e) | inr e ↦ e ]
+
+no_if : {A : Type 0} (t : Bool) (x : A) → (t ≡ true → ⊥) → (if t then Some x else None) ≡ None
+no_if t x never = rw (not_true t never) refl
+
+-- what `parse` answers where a digit comes first is the number
+pub number_parsed : {E : Type 0} (bs : List ℕ) (r : Result ℕ E) → ParsesUnsigned 32 10 bs r → starts_numeral bs ≡ true → result_ok r ≡ number_of bs
+unfolding number_of
+number_parsed bs r h s = by r (parse_plain own 32 bs r h (starts bs s).no_plus)
+  where
+    by : {E : Type 0} (r : Result ℕ E) → OkIff r ((all_ascii_digits bs ≡ true) × (0 < length bs) × (digits_value 10 bs < 2 ^ 32)) (digits_value 10 bs)
+        → result_ok r ≡ number_of bs
+    by (Ok n) h = rw (s, h.0.0, lt-ltb _ _ h.0.2, h.1) refl
+    by (Err e) h = rw (no_if _ _ (λ t. let p = and_parts _ _ t in h ((and_parts _ _ p.0).1, (starts bs s).nonempty, ltb-true _ _ p.1))) refl
+
+pub number_no : (bs : List ℕ) → starts_numeral bs ≡ false → number_of bs ≡ None
+unfolding number_of
+number_no bs s = rw s refl
+
+-- a reader of fields reads what is spelled so, and nothing else
+pub record Reads {X : Type 0} (read : List ℕ → Option X) (Is : List ℕ → X → Type 0) : Type 0 where
+  pub from : (bs : List ℕ) (x : X) → read bs ≡ Some x → Is bs x
+  pub to : (bs : List ℕ) (x : X) → Is bs x → read bs ≡ Some x
+
+numeral_is : (bs : List ℕ) → is_numeral bs ≡ true → digits_value 10 bs < 2 ^ 32 → bs ≡ decimal (digits_value 10 bs)
+numeral_is bs t small =
+    let p = and_parts (starts_numeral bs) (all_ascii_digits bs) t in
+    let first = starts bs p.0 in
+    sym (decimal-digits_value own bs p.1 first.nonempty first.alone (omega arith))
+
+digits_start : (ds : List ℕ) → 48 < get_or ds 0 0 → all_ascii_digits ds ≡ true → starts_numeral ds ≡ true
+digits_start [] more all = absurd (omega arith)
+digits_start (d ∷ ds) more all = let first = (and_parts (is_ascii_digit d) (all_ascii_digits ds) all).0 in grind (arith, nat_tests)
+
+decimal_starts : (n : ℕ) → n < 2 ^ 32 → starts_numeral (decimal n) ≡ true
+decimal_starts zero small = rw (decimal_digit 0 (omega arith)) refl
+decimal_starts (suc n) small =
+    digits_start (decimal (suc n)) (first_decimal (suc n) (omega arith) (omega arith)) (digits_decimal own (suc n) (omega arith))
+
+decimal_value : (n : ℕ) → n < 2 ^ 32 → number_of (decimal n) ≡ Some n
+unfolding number_of
+decimal_value n small =
+    let wide : n < 2 ^ 64 = omega arith in
+    let value : digits_value 10 (decimal n) ≡ n = digits_value-decimal own n wide in
+    let digits : all_ascii_digits (decimal n) ≡ true = digits_decimal own n wide in
+    let below : nat_lt n (2 ^ 32) ≡ true = lt-ltb n (2 ^ 32) small in
+    rw (decimal_starts n small, digits, value, below) refl
+
+pub number_reads : Reads number_of IsNumber
+unfolding number_of
+number_reads = record {
+  from = λ bs n e.
+      let p = some_if (is_numeral bs && nat_lt (digits_value 10 bs) (2 ^ 32)) (digits_value 10 bs) n e in
+      let t = and_parts (is_numeral bs) (nat_lt (digits_value 10 bs) (2 ^ 32)) p.0 in
+      let small : digits_value 10 bs < 2 ^ 32 = ltb-true _ _ t.1 in
+      (numeral_is bs t.0 small ∙ ap decimal p.1, subst (λ k. k < 2 ^ 32) p.1 small);
+  to = λ bs n h. ap number_of h.0 ∙ decimal_value n h.1;
+}
+
+pub text_some : (bs : List ℕ) → IsUtf8 bs → (length bs == 0) ≡ false → text_of bs ≡ Some (chars bs)
+unfolding text_of
+text_some bs u e = rw (e, is_utf8-from_IsUtf8 bs u) refl
+
+pub text_none : (bs : List ℕ) → (length bs == 0) ≡ true → text_of bs ≡ None
+unfolding text_of
+text_none bs e = rw e refl
+
+some_characters : (bs cs : List ℕ) → bs ≡ encode_utf8_all cs → 0 < length bs → 0 < length cs
+some_characters bs [] e more = let none : length bs ≡ 0 = ap length e in omega arith
+some_characters bs (c ∷ cs) e more = omega arith
+
+pub text_reads : Reads text_of IsCharacters
+unfolding text_of
+text_reads = record {
+  from = λ bs cs e.
+      let p = some_if (not (length bs == 0) && is_utf8 bs) (chars bs) cs e in
+      let t = and_parts (not (length bs == 0)) (is_utf8 bs) p.0 in
+      let u : IsUtf8 bs = IsUtf8-from_is_utf8 bs t.1 in
+      let more : 0 < length bs = grind (arith, nat_tests) in
+      let spelled : bs ≡ encode_utf8_all cs = sym (encodes-chars bs u) ∙ ap encode_utf8_all p.1 in
+      (spelled, some_characters bs cs spelled more, ap all_scalars (sym p.1) ∙ scalars-chars bs u);
+  to = λ bs cs h.
+      let more : 0 < length bs = omega (arith, length-le-encodes cs, ap length h.0) in
+      text_some bs (cs, (h.2, sym h.0)) (ne_eqb (length bs) 0 (λ e. absurd (omega arith))) ∙ ap Some (ap chars h.0 ∙ chars-encodes cs h.2);
+}
+
+-- two fields
+and_then_some : {A B : Type 0} (o : Option A) (f : A → Option B) (y : B) → option_and_then f o ≡ Some y → (x : A) × (o ≡ Some x) × (f x ≡ Some y)
+and_then_some None f y e = cc
+and_then_some (Some x) f y e = (x, refl, e)
+
+some_is : {A : Type 0} (x y : A) → Some x ≡ Some y → x ≡ y
+some_is x y e = cc
+
+pub cut_some : (c : ℕ) (bs : List ℕ) (p : List ℕ × List ℕ) → cut c bs ≡ Some p → bs ≡ p.0 ++ c ∷ p.1
+unfolding cut
+cut_some c [] p e = cc
+cut_some c (x ∷ bs) p e = by (x == c) refl (cut c bs) (cut_some c bs) e
+  where
+    by : (t : Bool) → (x == c) ≡ t → (r : Option (List ℕ × List ℕ)) → ((q : List ℕ × List ℕ) → r ≡ Some q → bs ≡ q.0 ++ c ∷ q.1)
+        → (if t then Some ([], bs) else option_map (λ q. (x ∷ q.0, q.1)) r) ≡ Some p → x ∷ bs ≡ p.0 ++ c ∷ p.1
+    by true t r rest e = ap (λ y. y ∷ bs) (eqb-true x c t) ∙ ap (λ (q : List ℕ × List ℕ). q.0 ++ c ∷ q.1) (some_is ([], bs) p e)
+    by false t None rest e = cc
+    by false t (Some q) rest e = ap (λ y. x ∷ y) (rest q refl) ∙ ap (λ (q : List ℕ × List ℕ). q.0 ++ c ∷ q.1) (some_is (x ∷ q.0, q.1) p e)
+
+pub pair_reads : {A B : Type 0} (c : ℕ) (first : List ℕ → Option A) (First : List ℕ → A → Type 0) (second : List ℕ → Option B) (Second : List ℕ → B → Type 0)
+    → Reads first First → Reads second Second → ((bs : List ℕ) (x : A) → First bs x → Lacks c bs)
+    → Reads (pair_by c first second) (IsPair c First Second)
+pair_reads {A = A} {B = B} c first First second Second f s lacks = record {
+  from = λ bs x e.
+      let p = and_then_some (cut c bs) _ x e in
+      let a = and_then_some (first p.0.0) _ x p.2 in
+      let b = and_then_some (second p.0.1) _ x a.2 in
+      let same : (a.0, b.0) ≡ x = some_is (a.0, b.0) x b.2 in (
+        p.0.0,
+        p.0.1,
+        cut_some c bs p.0 p.1,
+        subst (First p.0.0) (ap (λ (q : A × B). q.0) same) (f.from p.0.0 a.0 a.1),
+        subst (Second p.0.1) (ap (λ (q : A × B). q.1) same) (s.from p.0.1 b.0 b.1),
+      );
+  to = λ bs x h.
+      let found : cut c (h.0 ++ c ∷ h.1) ≡ Some (h.0, h.1) = cut-append c h.0 h.1 (lacks h.0 x.0 h.3) in
+      ap (pair_by c first second) h.2 ∙ rw (found, f.to h.0 x.0 h.3, s.to h.1 x.1 h.4) refl;
+}
+
+-- a number is spelled by digits alone
+pub number_lacks : (c : ℕ) → ¬ (IsInRange 48 57 c) → (bs : List ℕ) (n : ℕ) → IsNumber bs n → Lacks c bs
+number_lacks c other bs n h = subst (Lacks c) (sym h.0) (not_in_digits own (decimal n) c (digits_decimal own n (omega arith)) other)
+
+pub blank_no_digit : ¬ (IsInRange 48 57 32)
+blank_no_digit h = omega (arith, h)
