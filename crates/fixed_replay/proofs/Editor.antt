@@ -89,20 +89,12 @@ insert_owner b own_names x a i base = elim (member_cases x (Original a.name)) [
   inl e ↦ e
   | inr ne ↦ absurd ((subst (λ (f : Form). LacksName (added_by f) a.name) base (own_names x a.name i ne)).0 refl) ]
 
--- what a form inserts: one insertion or none
-abbrev pub inserted_by : Form → ℕ → (NameData → Bool) → List Insertion
-inserted_by (Insert a) rank sees = record { name = a.name; place = a.place; rank = rank; sees = sees } ∷ []
-inserted_by (Covered c) rank sees = []
-
+-- the name of the insert that a form is
 abbrev pub named_by : Form → List NameData
 named_by (Insert a) = a.name ∷ []
 named_by (Covered c) = []
 
--- the insertions of the members of a list, in its order, with a rank for each name
-abbrev pub insertions_of : Family Form → (NameData → ℕ) → List Member → List Insertion
-insertions_of b rank [] = []
-insertions_of b rank (x ∷ xs) = inserted_by (b.form x) (rank (target_of x)) (λ n. b.context x (Original n)) ++ insertions_of b rank xs
-
+-- the names of the inserts of a list
 abbrev pub names_of : Family Form → List Member → List NameData
 names_of b [] = []
 names_of b (x ∷ xs) = named_by (b.form x) ++ names_of b xs

@@ -25,7 +25,8 @@ use Rattle.fixed_replay.specs.Families.{HasRanks, HasGroups, generation_of, is_s
 use Rattle.fixed_replay.proofs.Elements.{true_or_false, not_both, in-append, append-in_left, append-in_right}
 use Rattle.fixed_replay.proofs.Sorting.{AreComparable, in-sort_by, sort_by-in, sort_by-sorted, sorted_once}
 use Rattle.fixed_replay.proofs.SameText.{earlier_asym, earlier_trans}
-use Rattle.fixed_replay.proofs.Editor.{form_inclusion, form_table, setting_of, insert_owner, inserted_by, insertions_of}
+use Rattle.fixed_replay.specs.Insertions.{inserted_by, insertions_of}
+use Rattle.fixed_replay.proofs.Editor.{form_inclusion, form_table, setting_of, insert_owner}
 use Rattle.fixed_replay.proofs.Walk.{replay_along}
 
 first_trans : (a b c : ℕ) (p q r : Bool) → (p ≡ true → q ≡ true → r ≡ true) → (nat_lt a b || ((a == b) && p)) ≡ true → (nat_lt b c || ((b == c) && q)) ≡ true → (nat_lt a c || ((a == c) && r)) ≡ true

@@ -16,4 +16,8 @@ pub mod CoverStays
 pub mod Marks
 pub mod Marking
 pub mod DeleterLists
+pub mod HistoryFamilies
 pub mod Reading
+pub mod ValidFamilies
+pub mod Headline
+pub mod BaseFormsHold

@@ -35,7 +35,8 @@ use Rattle.transform_rec.proofs.Parts.{part_state, one_more}
 use Rattle.fixed_replay.specs.Originals.{AreToldApart}
 use Rattle.fixed_replay.specs.Families.{HasGroups}
 use Rattle.fixed_replay.specs.Replayed.{IsReplayed}
-use Rattle.fixed_replay.specs.HistoryFamilies.{IsInsertForm, IsCoverForm, IsFamilyOf}
+use Rattle.fixed_replay.specs.BaseForms.{IsInsertForm, IsCoverForm, AreBaseForms}
+use Rattle.fixed_replay.proofs.HistoryFamilies.{IsFamilyOf}
 use Rattle.fixed_replay.proofs.Elements.{true_or_false, not_both, same_bool, filter_same, map_same, any_in, in_any}
 use Rattle.fixed_replay.proofs.SameText.{IsPut, in-replay_of, character_at}
 use Rattle.fixed_replay.proofs.Editor.{form_inclusion, form_table, setting_of}
@@ -137,6 +138,9 @@ module _ (b : Family Form) (known : IsFamily form_inclusion b) (own_names : HasO
   listed_of : (o : OpData) → IsIn o h → IsIn (member_of o) b.members
   listed_of o i = subst (λ (ms : List Member). IsIn (member_of o) ms) (sym family.members) (member_listed o h i)
 
+  group_listed : (t : NameData) (g : ℕ) → IsIn (Group t g) b.members → IsIn (Group t g) (members_in h)
+  group_listed t g i = subst (λ (ms : List Member). IsIn (Group t g) ms) family.members i
+
   apart_members : AreApart (members_in h)
   apart_members = subst (λ (ms : List Member). AreApart ms) family.members known.causal.distinct
 
@@ -159,7 +163,7 @@ module _ (b : Family Form) (known : IsFamily form_inclusion b) (own_names : HasO
 
     delete_hits : (n : NameData) (p : ℕ) (k : ContextData) (c : Cell) → IsIn (deleting n p k) h → hits_in b S (Original n) c ≡ hits h (deleting n p k) c
     delete_hits n p k c i =
-      let d = family.deletes n p k i in
+      let d = family.forms.deletes n p k i in
       let place : place_of (b.form (Original n)) ≡ p = ap place_of d.is ∙ d.place in
       let part : filter (keep (b.context (Original n))) S ≡ filter (λ (e : Cell). has k (Original e.0)) (replay_of h) =
         filter_same (keep (b.context (Original n))) (λ (e : Cell). has k (Original e.0)) S (λ e j. family.contexts (deleting n p k) n i refl (Original e.0)) ∙ ap (filter (λ (e : Cell). has k (Original e.0))) is_replay in
@@ -172,7 +176,7 @@ module _ (b : Family Form) (known : IsFamily form_inclusion b) (own_names : HasO
     -- a group of a delete hits what the delete hits
     delete_group_hits : (n t : NameData) (p g q : ℕ) (k : ContextData) (d : Cover) (c : Cell) → IsIn (deleting t q k) h → b.form (Original t) ≡ Covered d → IsIn (Group t g) b.members → hits_in b S (Group t g) c ≡ hits_in b S (Original t) c
     delete_group_hits n t p g q k d c j base i =
-      let f = family.delete_groups t g d i base in
+      let f = family.forms.delete_groups t g d (group_listed t g i) base in
       let place : place_of (b.form (Group t g)) ≡ place_of (b.form (Original t)) = ap place_of f.is ∙ (f.place ∙ ap place_of (sym base)) in
       let same : (e : Cell) → IsIn e S → keep (b.context (Group t g)) e ≡ keep (b.context (Original t)) e = λ e l.
         same_bool (keep (b.context (Group t g)) e) (keep (b.context (Original t)) e)
@@ -188,9 +192,9 @@ module _ (b : Family Form) (known : IsFamily form_inclusion b) (own_names : HasO
     insert_group_hits : (t : NameData) (g p ch : ℕ) (k : ContextData) (c : Cell) → IsIn (inserting t p ch k) h → IsIn (Group t g) b.members → IsIn c S → hits_in b S (Group t g) c ≡ name_eq t c.0
     insert_group_hits t g p ch k c j i l =
       let y : Member = Original t in
-      let f = family.inserts t p ch k j in
+      let f = family.forms.inserts t p ch k j in
       let a = f.ins in
-      let cover = family.insert_groups t g a i f.is in
+      let cover = family.forms.insert_groups t g a (group_listed t g i) f.is in
       let listed = listed_of (inserting t p ch k) j in
       let needs = b.context y in
       let P = filter (keep needs) S in
@@ -236,20 +240,20 @@ module _ (b : Family Form) (known : IsFamily form_inclusion b) (own_names : HasO
     -- ---- generations
 
     mark_generation : (o : OpData) → IsIn o h → (c : Cell) → IsIn c S → (d : CellData) → (mark_of o c d).generation ≡ max (generation_at o c.0) d.generation
-    mark_generation (inserting n p ch k) i c l d = let f = family.inserts n p ch k i in ap (λ (x : Form). (mark_by x (hits_in b S (Original n) c) d).generation) f.is ∙ omega arith
-    mark_generation (deleting n p k) i c l d = by_generation p n 0 (b.form (Original n)) (hits_in b S (Original n) c) d (family.deletes n p k i) ∙ omega arith
+    mark_generation (inserting n p ch k) i c l d = let f = family.forms.inserts n p ch k i in ap (λ (x : Form). (mark_by x (hits_in b S (Original n) c) d).generation) f.is ∙ omega arith
+    mark_generation (deleting n p k) i c l d = by_generation p n 0 (b.form (Original n)) (hits_in b S (Original n) c) d (family.forms.deletes n p k i) ∙ omega arith
     mark_generation (undoing a t g k) i c l d = elim (target_is t g (listed_of (undoing a t g k) i)) [
       inl r ↦
-        let f = family.inserts t r.0 r.1 r.2 r.3 in
+        let f = family.forms.inserts t r.0 r.1 r.2 r.3 in
         let listed = listed_of (undoing a t g k) i in
-        own_generation f.ins.place g (b.form (Group t g)) (hits_in b S (Group t g) c) d (family.insert_groups t g f.ins listed f.is)
+        own_generation f.ins.place g (b.form (Group t g)) (hits_in b S (Group t g) c) d (family.forms.insert_groups t g f.ins (group_listed t g listed) f.is)
           ∙ ap (λ (x : Bool). max (if x then g else 0) d.generation) (insert_group_hits t g r.0 r.1 r.2 c r.3 listed l)
       | inr r ↦
-        let f = family.deletes t r.0 r.1 r.2 in
+        let f = family.forms.deletes t r.0 r.1 r.2 in
         let listed = listed_of (undoing a t g k) i in
         let put = put_by c l in
         let other : name_eq t c.0 ≡ false = not_delete c.0 t put.place put.character r.0 put.context r.1 put.there r.2 in
-        by_generation f.cover.place t g (b.form (Group t g)) (hits_in b S (Group t g) c) d (family.delete_groups t g f.cover listed f.is)
+        by_generation f.cover.place t g (b.form (Group t g)) (hits_in b S (Group t g) c) d (family.forms.delete_groups t g f.cover (group_listed t g listed) f.is)
           ∙ (rw other (omega arith)) ]
 
     bare_generation : (c : Cell) (f : Form) → (bare_at c f).generation ≡ 0
@@ -295,26 +299,26 @@ module _ (b : Family Form) (known : IsFamily form_inclusion b) (own_names : HasO
     max_one x g r false e = omega arith
 
     mark_best : (o : OpData) → IsIn o h → (c : Cell) (d : NameData) → Deletes d c → (e : CellData) → max 1 (best d (mark_of o c e).deleters) ≡ max (suc (generation_at o d)) (max 1 (best d e.deleters))
-    mark_best (inserting n p ch k) i c d del e = let f = family.inserts n p ch k i in ap (λ (x : Form). max 1 (best d (mark_by x (hits_in b S (Original n) c) e).deleters)) f.is ∙ omega arith
+    mark_best (inserting n p ch k) i c d del e = let f = family.forms.inserts n p ch k i in ap (λ (x : Form). max 1 (best d (mark_by x (hits_in b S (Original n) c) e).deleters)) f.is ∙ omega arith
     mark_best (deleting n p k) i c d del e =
-      let f = family.deletes n p k i in
+      let f = family.forms.deletes n p k i in
       let hit : name_eq n d ≡ true → hits_in b S (Original n) c ≡ true = λ q. subst (λ (m : NameData). hits_in b S (Original m) c ≡ true) (sym (name_tells n d q)) del.hit in
       let r : best d (mark_of (deleting n p k) c e).deleters ≡ max (if name_eq n d then suc 0 else 0) (best d e.deleters) =
         ap (best d) (by_deleters p n 0 (b.form (Original n)) (hits_in b S (Original n) c) e f) ∙ raise_best d n 0 (hits_in b S (Original n) c) e.deleters hit in
       max_one (best d (mark_of (deleting n p k) c e).deleters) 0 (best d e.deleters) (name_eq n d) r ∙ ap (λ (x : ℕ). max (suc x) (max 1 (best d e.deleters))) (zero_either (name_eq n d))
     mark_best (undoing a t g k) i c d del e = elim (target_is t g (listed_of (undoing a t g k) i)) [
       inl r ↦
-        let f = family.inserts t r.0 r.1 r.2 r.3 in
+        let f = family.forms.inserts t r.0 r.1 r.2 r.3 in
         let listed = listed_of (undoing a t g k) i in
         let other : name_eq t d ≡ false = false_from_ne_true (name_eq t d) (λ q. both_ways (name_eq d t) (not_delete t d r.0 r.1 del.place r.2 del.context r.3 del.there) (subst (λ (m : NameData). name_eq d m ≡ true) (sym (name_tells t d q)) (name_self d))) in
-        ap (λ (es : List Entry). max 1 (best d es)) (own_deleters f.ins.place g (b.form (Group t g)) (hits_in b S (Group t g) c) e (family.insert_groups t g f.ins listed f.is)) ∙ (rw other (omega arith))
+        ap (λ (es : List Entry). max 1 (best d es)) (own_deleters f.ins.place g (b.form (Group t g)) (hits_in b S (Group t g) c) e (family.forms.insert_groups t g f.ins (group_listed t g listed) f.is)) ∙ (rw other (omega arith))
       | inr r ↦
-        let f = family.deletes t r.0 r.1 r.2 in
+        let f = family.forms.deletes t r.0 r.1 r.2 in
         let listed = listed_of (undoing a t g k) i in
         let same = delete_group_hits d t r.0 g r.0 r.1 f.cover c r.2 f.is listed in
         let hit : name_eq t d ≡ true → hits_in b S (Group t g) c ≡ true = λ q. same ∙ subst (λ (m : NameData). hits_in b S (Original m) c ≡ true) (sym (name_tells t d q)) del.hit in
         let raised : best d (mark_of (undoing a t g k) c e).deleters ≡ max (if name_eq t d then suc g else 0) (best d e.deleters) =
-          ap (best d) (by_deleters f.cover.place t g (b.form (Group t g)) (hits_in b S (Group t g) c) e (family.delete_groups t g f.cover listed f.is)) ∙ raise_best d t g (hits_in b S (Group t g) c) e.deleters hit in
+          ap (best d) (by_deleters f.cover.place t g (b.form (Group t g)) (hits_in b S (Group t g) c) e (family.forms.delete_groups t g f.cover (group_listed t g listed) f.is)) ∙ raise_best d t g (hits_in b S (Group t g) c) e.deleters hit in
         max_one (best d (mark_of (undoing a t g k) c e).deleters) g (best d e.deleters) (name_eq t d) raised ]
 
     suc_max : (x y : ℕ) → max (suc x) (suc y) ≡ suc (max x y)
@@ -340,7 +344,7 @@ module _ (b : Family Form) (known : IsFamily form_inclusion b) (own_names : HasO
     best_some : (os : List OpData) → ((o : OpData) → IsIn o os → IsIn o h) → (c : Cell) (d : NameData) (del : Deletes d c) → IsIn (deleting d del.place del.context) os → 1 ≤ best d (marks c os).deleters
     best_some [] all c d del i = absurd i
     best_some (o ∷ os) all c d del (inl q) =
-      let f = family.deletes d del.place del.context del.there in
+      let f = family.forms.deletes d del.place del.context del.there in
       let first : (mark_of (deleting d del.place del.context) c (marks c os)).deleters ≡ raise_in d 0 (marks c os).deleters =
         by_deleters del.place d 0 (b.form (Original d)) (hits_in b S (Original d) c) (marks c os) f ∙ ap (λ (x : Bool). if x then raise_in d 0 (marks c os).deleters else (marks c os).deleters) del.hit in
       let r : best d (mark_of (deleting d del.place del.context) c (marks c os)).deleters ≡ max 1 (best d (marks c os).deleters) = ap (best d) first ∙ best_raise d 0 (marks c os).deleters in
@@ -359,21 +363,21 @@ module _ (b : Family Form) (known : IsFamily form_inclusion b) (own_names : HasO
 
     -- each deleter of the cell is a delete that hits it
     mark_entries : (o : OpData) → IsIn o h → (c : Cell) (e : CellData) → ((x : Entry) → IsIn x e.deleters → Deletes x.0 c) → (x : Entry) → IsIn x (mark_of o c e).deleters → Deletes x.0 c
-    mark_entries (inserting n p ch k) i c e old x j = let f = family.inserts n p ch k i in old x (subst (λ (g : Form). IsIn x (mark_by g (hits_in b S (Original n) c) e).deleters) f.is j)
+    mark_entries (inserting n p ch k) i c e old x j = let f = family.forms.inserts n p ch k i in old x (subst (λ (g : Form). IsIn x (mark_by g (hits_in b S (Original n) c) e).deleters) f.is j)
     mark_entries (deleting n p k) i c e old x j =
       raised_entries n 0 c e old (hits_in b S (Original n) c) x (λ q. record { place = p; context = k; there = i; hit = q })
-        (subst (λ (es : List Entry). IsIn x es) (by_deleters p n 0 (b.form (Original n)) (hits_in b S (Original n) c) e (family.deletes n p k i)) j)
+        (subst (λ (es : List Entry). IsIn x es) (by_deleters p n 0 (b.form (Original n)) (hits_in b S (Original n) c) e (family.forms.deletes n p k i)) j)
     mark_entries (undoing a t g k) i c e old x j = elim (target_is t g (listed_of (undoing a t g k) i)) [
       inl r ↦
-        let f = family.inserts t r.0 r.1 r.2 r.3 in
+        let f = family.forms.inserts t r.0 r.1 r.2 r.3 in
         let listed = listed_of (undoing a t g k) i in
-        old x (subst (λ (es : List Entry). IsIn x es) (own_deleters f.ins.place g (b.form (Group t g)) (hits_in b S (Group t g) c) e (family.insert_groups t g f.ins listed f.is)) j)
+        old x (subst (λ (es : List Entry). IsIn x es) (own_deleters f.ins.place g (b.form (Group t g)) (hits_in b S (Group t g) c) e (family.forms.insert_groups t g f.ins (group_listed t g listed) f.is)) j)
       | inr r ↦
-        let f = family.deletes t r.0 r.1 r.2 in
+        let f = family.forms.deletes t r.0 r.1 r.2 in
         let listed = listed_of (undoing a t g k) i in
         let same = delete_group_hits t t r.0 g r.0 r.1 f.cover c r.2 f.is listed in
         raised_entries t g c e old (hits_in b S (Group t g) c) x (λ q. record { place = r.0; context = r.1; there = r.2; hit = sym same ∙ q })
-          (subst (λ (es : List Entry). IsIn x es) (by_deleters f.cover.place t g (b.form (Group t g)) (hits_in b S (Group t g) c) e (family.delete_groups t g f.cover listed f.is)) j) ]
+          (subst (λ (es : List Entry). IsIn x es) (by_deleters f.cover.place t g (b.form (Group t g)) (hits_in b S (Group t g) c) e (family.forms.delete_groups t g f.cover (group_listed t g listed) f.is)) j) ]
 
     entries_are : (os : List OpData) → ((o : OpData) → IsIn o os → IsIn o h) → (c : Cell) → (x : Entry) → IsIn x (marks c os).deleters → Deletes x.0 c
     entries_are [] all c x j = absurd (subst (λ (es : List Entry). IsIn x es) (bare_deleters c (b.form (Original c.0))) j)
@@ -433,14 +437,14 @@ module _ (b : Family Form) (known : IsFamily form_inclusion b) (own_names : HasO
     key_is : (c : Cell) → IsIn c S → cell_key (marks c h) ≡ c
     key_is c i =
       let put = put_by c i in
-      let f = family.inserts c.0 put.place put.character put.context put.there in
+      let f = family.forms.inserts c.0 put.place put.character put.context put.there in
       let zero_is = offset_zero (run w [] fs) c i in
       marks_key (members_in h) c ∙ (ap (λ (x : Form). cell_key (bare_at c x)) f.is ∙ (λ j. (f.name j, sym zero_is j)))
 
     char_is : AreToldApart h → (c : Cell) → IsIn c S → (marks c h).ch ≡ character_in h c
     char_is told c i =
       let put = put_by c i in
-      let f = family.inserts c.0 put.place put.character put.context put.there in
+      let f = family.forms.inserts c.0 put.place put.character put.context put.there in
       marks_char (members_in h) c ∙ (ap (λ (x : Form). (bare_at c x).ch) f.is ∙ (f.char ∙ sym (character_at h told c.0 put.place put.character put.context c.1 put.there)))
 
     -- ---- the state

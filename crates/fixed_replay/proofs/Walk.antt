@@ -33,7 +33,8 @@ use Rattle.transform_rec.proofs.Parts.{rest_run, part_state, before_cell}
 use Rattle.fixed_replay.proofs.Elements.{true_or_false, not_both}
 use Rattle.fixed_replay.proofs.Stretches.{Stretch, start, walk_step, narrow_none, whole_gap}
 use Rattle.fixed_replay.proofs.Narrowing.{narrowed-append, narrowed_unseen}
-use Rattle.fixed_replay.proofs.Editor.{form_inclusion, form_table, setting_of, IsInsertOf, derived_insert, derived_cover, insert_owner, inserted_by, named_by, insertions_of, names_of, names-append, names_filter}
+use Rattle.fixed_replay.specs.Insertions.{inserted_by, insertions_of}
+use Rattle.fixed_replay.proofs.Editor.{form_inclusion, form_table, setting_of, IsInsertOf, derived_insert, derived_cover, insert_owner, named_by, names_of, names-append, names_filter}
 
 within_none : (x : Cell → Bool) (xs ys zs : List Cell) → count x (xs ++ (ys ++ zs)) ≡ 0 → count x ys ≡ 0
 within_none x xs ys zs h = let p = count-append x xs (ys ++ zs) in let q = count-append x ys zs in omega arith

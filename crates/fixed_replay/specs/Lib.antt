@@ -1,4 +1,6 @@
 pub mod Originals
 pub mod Families
-pub mod HistoryFamilies
+pub mod BaseForms
+pub mod Insertions
 pub mod Replayed
+pub mod Laws

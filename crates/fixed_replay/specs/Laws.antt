@@ -1,0 +1,56 @@
+-- The laws of the fixed replay.
+use Rattle.std.specs.Prelude.{◌≡◌, ℕ, Bool, true, List, [], map, filter, encode_utf8_all}
+use Rattle.op_name.specs.NameData.{NameData}
+use Rattle.op_name.specs.declared.member.Member.{Member}
+use Rattle.op_name.specs.Operations.{OpData}
+use Rattle.op_name.specs.Histories.{members_in, Same, IsValid}
+use Rattle.op_name.specs.Replays.{replay, shown, text_of}
+use Rattle.ttf_form.specs.declared.form.Form.{Form}
+use Rattle.ttf_form.specs.Forms.{form_over}
+use Rattle.ttf_form.specs.Cells.{CellData, cell_key, cells_of, applied, cell_shown}
+use Rattle.transform_rec.specs.Sets.{none}
+use Rattle.transform_rec.specs.Executing.{AreFormsFrom, executed}
+use Rattle.transform_rec.specs.Histories.{family_in}
+use Rattle.fixed_replay.specs.Originals.{AreToldApart}
+use Rattle.fixed_replay.specs.BaseForms.{AreBaseForms, base_form}
+use Rattle.fixed_replay.specs.Insertions.{insertions_of}
+use Rattle.fixed_replay.specs.Replayed.{IsReplayed}
+
+-- the forms of a valid history, executed in its order from no cell, give its fixed replay
+abbrev pub ExecutedIsReplayed : Type 0
+ExecutedIsReplayed =
+    (h : List OpData) (form : Member → Form) (fs : List Form)
+    → IsValid h
+    → AreBaseForms h form
+    → AreFormsFrom form_over (family_in h form) none (members_in h) fs
+    → IsReplayed h (executed applied [] fs)
+
+-- along any list of members of a valid history that may be executed in its order, the replay of the inserts in that very
+-- order gives the cells of the executed forms, whatever ranks they have
+abbrev pub ReplayAlongAnyList : Type 0
+ReplayAlongAnyList =
+    (h : List OpData) (form : Member → Form) (rank : NameData → ℕ) (ms : List Member) (fs : List Form)
+    → IsValid h
+    → AreBaseForms h form
+    → AreFormsFrom form_over (family_in h form) none ms fs
+    → replay [] [] (insertions_of (family_in h form) rank ms) ≡ cells_of (executed applied [] fs)
+
+-- the base forms that the operations of a valid history say
+abbrev pub OperationsSayBaseForms : Type 0
+OperationsSayBaseForms = (h : List OpData) → IsValid h → AreBaseForms h (base_form h)
+
+-- the shown cells of a fixed replay are those of the history, and so is their text
+abbrev pub ReplayShowsTheText : Type 0
+ReplayShowsTheText =
+    (h : List OpData) (cs : List CellData)
+    → IsReplayed h cs
+    → (map cell_key (filter cell_shown cs) ≡ shown h)
+    × (encode_utf8_all (map (λ d. d.ch) (filter cell_shown cs)) ≡ text_of h)
+
+-- originals of a valid history differ in their names, and in rank or site
+abbrev pub OriginalsAreToldApart : Type 0
+OriginalsAreToldApart = (h : List OpData) → IsValid h → AreToldApart h
+
+-- two lists of operations with the same originals, each at the same generation, have the same text
+abbrev pub SameOperationsSameText : Type 0
+SameOperationsSameText = (h k : List OpData) → AreToldApart h → AreToldApart k → Same h k → text_of h ≡ text_of k
