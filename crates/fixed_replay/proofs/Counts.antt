@@ -1,5 +1,5 @@
 -- Counts: how many elements of a list pass a test, and how many of them stand before each element that passes another.
-use Rattle.std.proofs.Common.{◌≡◌, ℕ, ◌+◌, ◌<◌, ◌≤◌, ◌≢◌, Bool, true, false, ◌||◌, List, [], ◌∷◌, ◌++◌, length, filter, if◌then◌else◌, inl, inr, refl, subst, arith, zero-add}
+use Rattle.std.proofs.Common.{◌≡◌, ℕ, ◌+◌, ◌<◌, ◌≤◌, ◌≢◌, Bool, true, false, List, [], ◌∷◌, ◌++◌, length, filter, if◌then◌else◌, inl, inr, refl, subst, arith, zero-add}
 use Rattle.std.specs.List.{list_any}
 use Rattle.transform_rec.specs.Lists.{IsIn, count, either, EachAt}
 use Rattle.fixed_replay.proofs.Elements.{true_or_false, not_both}

@@ -1,12 +1,11 @@
 -- Deleters of a cell: an entry of a sorted list is its name with the greatest generation of that name.
-use Rattle.std.proofs.Common.{◌≡◌, ◌≢◌, ℕ, zero, suc, ◌+◌, ◌<◌, ◌≤◌, max, Bool, true, false, if◌then◌else◌, List, [], ◌∷◌, ◌⊎◌, inl, inr, refl, ap, sym, ◌∙◌, subst, arith}
-use Rattle.std.proofs.lemmas.Bool.{both_ways}
+use Rattle.std.proofs.Common.{◌≡◌, ℕ, suc, ◌≤◌, max, Bool, true, false, if◌then◌else◌, List, [], ◌∷◌, ◌⊎◌, inl, inr, refl, ap, sym, subst, arith}
 use Rattle.op_name.specs.NameData.{NameData, name_eq, name_lt}
 use Rattle.op_name.specs.Contexts.{IsBefore}
 use Rattle.ttf_form.specs.Cells.{raise_in, best, IsRising}
 use Rattle.ttf_form.specs.Laws.Deleters.{best_raise, best_raise_other, name_self, name_same, name_less_trans, name_less_other}
 use Rattle.transform_rec.specs.Lists.{IsIn}
-use Rattle.fixed_replay.proofs.Elements.{true_or_false, not_both}
+use Rattle.fixed_replay.proofs.Elements.{true_or_false}
 
 abbrev pub Entry : Type 0
 Entry = NameData × ℕ
@@ -32,23 +31,24 @@ in-raise d g x (e ∷ es) i = raised_cases d g e x es (in-raise d g x es) (name_
 before_best : (n d : NameData) (es : List Entry) → IsRising es → IsBefore d es → (n ≡ d) ⊎ (name_lt n d ≡ true) → best n es ≡ 0
 before_best n d [] r l e = refl
 before_best n d (x ∷ es) r l e =
-  let less : name_lt n x.0 ≡ true = elim e [ inl p ↦ subst (λ (m : NameData). name_lt m x.0 ≡ true) (sym p) l | inr k ↦ name_less_trans n d x.0 k l ] in
-  let ih = before_best n x.0 es r.1 r.0 (inr less) in
-  rw (name_less_other n x.0 less, ih) refl
+    let less : name_lt n x.0 ≡ true = elim e [ inl p ↦ subst (λ (m : NameData). name_lt m x.0 ≡ true) (sym p) l | inr k ↦ name_less_trans n d x.0 k l ] in
+    let ih = before_best n x.0 es r.1 r.0 (inr less) in
+    rw (name_less_other n x.0 less, ih) refl
 
 -- each entry of a sorted list is the best of its name
 pub entry_best : (x : Entry) (es : List Entry) → IsRising es → IsIn x es → best x.0 es ≡ suc x.1
 entry_best x [] r i = absurd i
 entry_best x (e ∷ es) r (inl p) =
-  let none = before_best e.0 e.0 es r.1 r.0 (inl refl) in
-  let first : best e.0 (e ∷ es) ≡ suc e.1 = rw (name_self e.0, none) (omega arith) in
-  subst (λ (y : Entry). best y.0 (e ∷ es) ≡ suc y.1) (sym p) first
+    let none = before_best e.0 e.0 es r.1 r.0 (inl refl) in
+    let first : best e.0 (e ∷ es) ≡ suc e.1 = rw (name_self e.0, none) (omega arith) in
+    subst (λ (y : Entry). best y.0 (e ∷ es) ≡ suc y.1) (sym p) first
 entry_best x (e ∷ es) r (inr i) =
-  let ih = entry_best x es r.1 i in
-  let other : name_eq x.0 e.0 ≡ false = elim (true_or_false (name_eq x.0 e.0)) [
-    inl k ↦ let none = before_best x.0 e.0 es r.1 r.0 (inl (name_same x.0 e.0 k)) in absurd (omega arith)
-    | inr k ↦ k ] in
-  rw (other, ih) (omega arith)
+    let ih = entry_best x es r.1 i in
+    let other : name_eq x.0 e.0 ≡ false = elim (true_or_false (name_eq x.0 e.0)) [
+      | inl k ↦ let none = before_best x.0 e.0 es r.1 r.0 (inl (name_same x.0 e.0 k)) in absurd (omega arith)
+      | inr k ↦ k
+    ] in
+    rw (other, ih) (omega arith)
 
 max_is : (a b c : ℕ) → max a b ≡ c → (a ≡ c) ⊎ (b ≡ c)
 max_is a b c h = grind arith
@@ -57,15 +57,19 @@ max_is a b c h = grind arith
 pub best_entry : (d : NameData) (g : ℕ) (es : List Entry) → best d es ≡ suc g → IsIn (d, g) es
 best_entry d g [] h = absurd (omega arith)
 best_entry d g (e ∷ es) h = elim (true_or_false (name_eq d e.0)) [
-  inl k ↦ elim (max_is (suc e.1) (best d es) (suc g) (rw k at h)) [
-    inl p ↦ inl (let a : d ≡ e.0 = name_same d e.0 k in let q : g ≡ e.1 = omega arith in λ i. (a i, q i))
-    | inr p ↦ inr (best_entry d g es p) ]
+  | inl k ↦ elim (max_is (suc e.1) (best d es) (suc g) (rw k at h)) [
+    | inl p ↦ inl (let a : d ≡ e.0 = name_same d e.0 k in let q : g ≡ e.1 = omega arith in λ i. (a i, q i))
+    | inr p ↦ inr (best_entry d g es p)
+  ]
   | inr k ↦ elim (max_is 0 (best d es) (suc g) (rw k at h)) [
-    inl p ↦ absurd (omega arith)
-    | inr p ↦ inr (best_entry d g es p) ] ]
+    | inl p ↦ absurd (omega arith)
+    | inr p ↦ inr (best_entry d g es p)
+  ]
+]
 
 -- a raise lowers no best
 pub best_more : (d n : NameData) (g : ℕ) (es : List Entry) → best d es ≤ best d (raise_in n g es)
 best_more d n g es = elim (true_or_false (name_eq d n)) [
-  inl k ↦ let s : d ≡ n = name_same d n k in let e : best d (raise_in n g es) ≡ max (suc g) (best d es) = subst (λ (m : NameData). best d (raise_in m g es) ≡ max (suc g) (best d es)) s (best_raise d g es) in omega arith
-  | inr k ↦ let e = best_raise_other d n g es k in omega arith ]
+  | inl k ↦ let s : d ≡ n = name_same d n k in let e : best d (raise_in n g es) ≡ max (suc g) (best d es) = subst (λ (m : NameData). best d (raise_in m g es) ≡ max (suc g) (best d es)) s (best_raise d g es) in omega arith
+  | inr k ↦ let e = best_raise_other d n g es k in omega arith
+]

@@ -1,10 +1,8 @@
 -- The forms of the editor as a table, and what the members of a family insert.
-use Rattle.std.proofs.Common.{◌≡◌, ◌≢◌, ℕ, ◌+◌, ◌≤◌, Bool, true, false, List, [], ◌∷◌, ◌++◌, length, take, drop, filter, not, ◌⊎◌, inl, inr, refl, ap, sym, ◌∙◌, subst, append_assoc, arith}
-use Rattle.op_name.specs.NameData.{NameData, name_eq}
+use Rattle.std.proofs.Common.{◌≡◌, Bool, true, false, List, [], ◌∷◌, ◌++◌, filter, not, inl, inr, refl, ap, sym, ◌∙◌, subst, append_assoc}
+use Rattle.op_name.specs.NameData.{NameData}
 use Rattle.op_name.specs.declared.member.Member.{Member}
-use Rattle.op_name.specs.declared.member.Member.TheVariants.{Original, Group}
-use Rattle.op_name.specs.Members.{member_eq, target_of}
-use Rattle.op_name.specs.Replays.{Insertion, Cell, cells_from}
+use Rattle.op_name.specs.declared.member.Member.TheVariants.{Original}
 use Rattle.ttf_form.specs.declared.ins.Ins.{Ins}
 use Rattle.ttf_form.specs.declared.cover.Cover.{Cover}
 use Rattle.ttf_form.specs.declared.form.Form.{Form}
@@ -14,7 +12,7 @@ use Rattle.ttf_form.specs.Cells.{CellData, bare_cells, cells_of, FitsCells, appl
 use Rattle.ttf_form.specs.Laws.Forms.{form_tp2, form_apart_sym, form_apart_over, form_extent_over, form_bound_place, form_bound_over, form_added_length, form_added_over}
 use Rattle.ttf_form.specs.Laws.Cells.{form_tp1, form_kept}
 use Rattle.transform_rec.specs.Lists.{IsIn}
-use Rattle.transform_rec.specs.Family.{Family, IsSound}
+use Rattle.transform_rec.specs.Family.{Family}
 use Rattle.transform_rec.specs.Derived.{Derived, Inclusion, IsInclusion, IsFamily}
 use Rattle.transform_rec.specs.Derived.Derived.{at_base, by_step}
 use Rattle.transform_rec.specs.Executing.{Table, IsTable, HasOwnNames, Setting, LacksName}
@@ -37,7 +35,7 @@ form_is_table = record {
   tp1 = form_tp1;
   kept_at = form_kept;
   added_length = form_added_length;
-  added_over = form_added_over
+  added_over = form_added_over;
 }
 
 -- what the editor's theory rests on, for one family
@@ -62,7 +60,6 @@ insert_over a (Insert c) (Insert d) i = let e : c ≡ i.ins = ins_once c i.ins i
   where
     ins_once : (x y : Ins) → Insert x ≡ Insert y → x ≡ y
     ins_once x y e = cc
-
 insert_over a (Insert c) (Covered d) i = i
 insert_over a (Covered c) k i = absurd (let e = i.is in (cc))
 
@@ -70,8 +67,8 @@ cover_over : (c : Cover) (f k : Form) → IsCoverOf c f → IsCoverOf c (form_ov
 cover_over c (Insert d) k i = absurd (let e = i.is in (cc))
 cover_over c (Covered d) (Insert a) i = record { cover = _; is = refl; mark = let e : d ≡ i.cover = cover_once d i.cover i.is in ap (λ (x : Cover). x.mark) e ∙ i.mark }
   where
-  cover_once : (x y : Cover) → Covered x ≡ Covered y → x ≡ y
-  cover_once x y e = cc
+    cover_once : (x y : Cover) → Covered x ≡ Covered y → x ≡ y
+    cover_once x y e = cc
 cover_over c (Covered d) (Covered a) i = i
 
 -- the forms of a member are of the kind of its base form
@@ -86,8 +83,9 @@ derived_cover b c m C f base (by_step D x g k i ne l s dg dk e) = subst (λ (h :
 -- an insert is of the member of its name
 pub insert_owner : (b : Family Form) → HasOwnNames form_table b → (x : Member) (a : Ins) → IsIn x b.members → b.form x ≡ Insert a → x ≡ Original a.name
 insert_owner b own_names x a i base = elim (member_cases x (Original a.name)) [
-  inl e ↦ e
-  | inr ne ↦ absurd ((subst (λ (f : Form). LacksName (added_by f) a.name) base (own_names x a.name i ne)).0 refl) ]
+  | inl e ↦ e
+  | inr ne ↦ absurd ((subst (λ (f : Form). LacksName (added_by f) a.name) base (own_names x a.name i ne)).0 refl)
+]
 
 -- the name of the insert that a form is
 abbrev pub named_by : Form → List NameData
@@ -105,10 +103,11 @@ names-append b (x ∷ xs) ys = ap (λ (ns : List NameData). named_by (b.form x) 
 
 -- names that pass a test are those of the members that pass
 names_kept : (b : Family Form) (sees : NameData → Bool) (D : Member → Bool) (x : Member) (xs : List Member) (f : Form) → b.form x ≡ f → ((a : Ins) → f ≡ Insert a → D x ≡ sees a.name) → filter (λ n. not (sees n)) (names_of b xs) ≡ names_of b (filter (λ z. not (D z)) xs)
-  → filter (λ n. not (sees n)) (named_by f ++ names_of b xs) ≡ names_of b (filter (λ z. not (D z)) (x ∷ xs))
+    → filter (λ n. not (sees n)) (named_by f ++ names_of b xs) ≡ names_of b (filter (λ z. not (D z)) (x ∷ xs))
 names_kept b sees D x xs (Insert a) e h ih = elim (true_or_false (D x)) [
-  inl k ↦ let l : sees a.name ≡ true = sym (h a refl) ∙ k in rw (l, k) ih
-  | inr k ↦ let l : sees a.name ≡ false = sym (h a refl) ∙ k in rw (l, k, e, ih) refl ]
+  | inl k ↦ let l : sees a.name ≡ true = sym (h a refl) ∙ k in rw (l, k) ih
+  | inr k ↦ let l : sees a.name ≡ false = sym (h a refl) ∙ k in rw (l, k, e, ih) refl
+]
 names_kept b sees D x xs (Covered c) e h ih = elim (true_or_false (D x)) [ inl k ↦ rw k ih | inr k ↦ rw (k, e) ih ]
 
 pub names_filter : (b : Family Form) → HasOwnNames form_table b → (D : Member → Bool) (xs : List Member) → ((z : Member) → IsIn z xs → IsIn z b.members) → filter (λ n. not (D (Original n))) (names_of b xs) ≡ names_of b (filter (λ z. not (D z)) xs)

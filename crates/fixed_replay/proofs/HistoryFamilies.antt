@@ -1,8 +1,7 @@
 -- Families of histories: the members of a history with the base forms of its operations.
-use Rattle.std.specs.Prelude.{◌≡◌, ℕ, List}
+use Rattle.std.specs.Prelude.{◌≡◌, List}
 use Rattle.op_name.specs.NameData.{NameData}
-use Rattle.op_name.specs.declared.member.Member.{Member}
-use Rattle.op_name.specs.declared.member.Member.TheVariants.{Original, Group}
+use Rattle.op_name.specs.declared.member.Member.TheVariants.{Original}
 use Rattle.op_name.specs.Contexts.{has}
 use Rattle.op_name.specs.Operations.{OpData, member_of, context_of}
 use Rattle.op_name.specs.Histories.{members_in}

@@ -1,39 +1,23 @@
 -- Marks: after execution each cell has the marks of all the covers that hit it.
-use Rattle.std.proofs.Common.{◌≡◌, ◌≢◌, ℕ, zero, suc, ◌+◌, ◌<◌, ◌≤◌, Bool, true, false, not, ◌&&◌, ◌==◌, if◌then◌else◌, List, [], ◌∷◌, ◌++◌, length, filter, map, take, drop, ◌⊎◌, inl, inr, refl, ap, ap₂, sym, ◌∙◌, subst, subst₂, arith, take-append-drop}
-use Rattle.std.proofs.lemmas.Bool.{both_ways, and_parts, and_from, false_from_ne_true}
+use Rattle.std.proofs.Common.{◌≡◌, ℕ, zero, suc, ◌+◌, Bool, true, false, ◌&&◌, ◌==◌, if◌then◌else◌, List, [], ◌∷◌, ◌++◌, length, filter, inl, inr, refl, ap, ap₂, sym, ◌∙◌, subst, arith}
+use Rattle.std.proofs.lemmas.Bool.{and_parts, and_from}
 use Rattle.std.proofs.lemmas.Bool.Decides.{nat_tests}
-use Rattle.op_name.specs.NameData.{NameData, name_eq}
+use Rattle.op_name.specs.NameData.{name_eq}
 use Rattle.op_name.specs.declared.member.Member.{Member}
-use Rattle.op_name.specs.declared.member.Member.TheVariants.{Original, Group}
-use Rattle.op_name.specs.Members.{member_eq}
+use Rattle.op_name.specs.declared.member.Member.TheVariants.{Original}
 use Rattle.op_name.specs.Replays.{Cell, stands_at}
-use Rattle.ttf_form.specs.declared.ins.Ins.{Ins}
-use Rattle.ttf_form.specs.declared.cover.Cover.{Cover}
-use Rattle.ttf_form.specs.declared.cover.Mark.{Mark}
 use Rattle.ttf_form.specs.declared.form.Form.{Form}
 use Rattle.ttf_form.specs.declared.form.Form.TheVariants.{Ins as Insert, Cover as Covered}
-use Rattle.ttf_form.specs.Forms.{ins_extent, place_of, extent_of, IsBoundedForm, form_over, added_by}
-use Rattle.ttf_form.specs.Cells.{CellData, marked, bare_cells, put_in, change_at, cell_key, cells_of, applied}
-use Rattle.ttf_form.specs.Laws.Lists.{change_behind, map-put}
+use Rattle.ttf_form.specs.Forms.{place_of}
+use Rattle.ttf_form.specs.Cells.{CellData, marked}
 use Rattle.ttf_form.specs.Laws.Cells.{marks_two}
-use Rattle.transform_rec.specs.Sets.{none, IsSubset, SameSet, plus, plus_all}
+use Rattle.transform_rec.specs.Sets.{plus}
 use Rattle.transform_rec.specs.Lists.{IsIn, AreApart, count}
-use Rattle.transform_rec.specs.Family.{Family, IsClosed, IsSound}
-use Rattle.transform_rec.specs.Derived.{Derived, IsFamily, weight}
-use Rattle.transform_rec.specs.Derived.Derived.{at_base, by_step}
-use Rattle.transform_rec.specs.Executing.{Setting, deriving_of, HasOwnNames, keep, own}
+use Rattle.transform_rec.specs.Family.{Family}
+use Rattle.transform_rec.specs.Executing.{keep}
 use Rattle.transform_rec.proofs.Members.{name_tells, name_self}
-use Rattle.transform_rec.proofs.Lists.{in_left, in_right, filter_in, filter_keeps, filter-append, length-count}
-use Rattle.transform_rec.proofs.Sets.{plus_here, plus_other, all_in, all_cases}
-use Rattle.transform_rec.proofs.Families.{none_closed, base_sound}
-use Rattle.transform_rec.proofs.Forms.{derived_sound}
-use Rattle.transform_rec.proofs.Executing.{IsForm, Run, Forms, run, At, state_after, forms_run, run_listed, run_closed}
-use Rattle.transform_rec.proofs.Parts.{part_state, one_more, before_cell}
-use Rattle.fixed_replay.proofs.Elements.{true_or_false, not_both, filter_same, map_same}
-use Rattle.fixed_replay.proofs.Counts.{count-append}
-use Rattle.fixed_replay.proofs.Splits.{IsSplit, Split, split}
-use Rattle.fixed_replay.proofs.Editor.{form_inclusion, form_table, setting_of, IsInsertOf, IsCoverOf, derived_insert, derived_cover, insert_owner}
-use Rattle.fixed_replay.proofs.CoverStays.{IsCoverAt, cover_stays}
+use Rattle.transform_rec.proofs.Sets.{plus_here, plus_other}
+use Rattle.fixed_replay.proofs.Elements.{true_or_false, not_both}
 
 -- ---- cells by their places
 
@@ -55,10 +39,10 @@ equal_self a = grind (arith, nat_tests)
 
 pub same_cell_tells : (d c : Cell) → same_cell d c ≡ true → d ≡ c
 same_cell_tells d c h =
-  let r = and_parts (name_eq d.0 c.0) (d.1 == c.1) h in
-  let p = name_tells d.0 c.0 r.0 in
-  let q = equal_numbers d.1 c.1 r.1 in
-  λ i. (p i, q i)
+    let r = and_parts (name_eq d.0 c.0) (d.1 == c.1) h in
+    let p = name_tells d.0 c.0 r.0 in
+    let q = equal_numbers d.1 c.1 r.1 in
+    λ i. (p i, q i)
 
 pub same_cell_self : (c : Cell) → same_cell c c ≡ true
 same_cell_self c = and_from (name_eq c.0 c.0) (c.1 == c.1) (name_self c.0) (equal_self c.1)
@@ -115,21 +99,21 @@ module _ (b : Family Form) (S : List Cell) where
   pub marks_plus : (C : Member → Bool) (x : Member) (c : Cell) (ms : List Member) → C x ≡ false → IsIn x ms → AreApart ms → marks_of b S (plus C x) c ms ≡ mark_by (b.form x) (hits_in b S x c) (marks_of b S C c ms)
   marks_plus C x c [] l i a = absurd i
   marks_plus C x c (m ∷ ms) l (inl e) a =
-    let here : plus C x m ≡ true = subst (λ (z : Member). plus C x z ≡ true) e (plus_here C x) in
-    let out : C m ≡ false = subst (λ (z : Member). C z ≡ false) e l in
-    let rest : marks_of b S (plus C x) c ms ≡ marks_of b S C c ms = marks_same (plus C x) C c ms (λ z i. plus_other C x z (λ (p : x ≡ z). a.0 z i (sym e ∙ p))) in
-    let left : marks_of b S (plus C x) c (m ∷ ms) ≡ mark_by (b.form m) (hits_in b S m c) (marks_of b S C c ms) = ap₂ (λ (p : Bool) (d : CellData). mark_by (b.form m) (p && hits_in b S m c) d) here rest in
-    let right : marks_of b S C c (m ∷ ms) ≡ marks_of b S C c ms = ap (λ (p : Bool). mark_by (b.form m) (p && hits_in b S m c) (marks_of b S C c ms)) out ∙ mark_none (b.form m) (marks_of b S C c ms) in
-    left ∙ (ap (λ (z : Member). mark_by (b.form z) (hits_in b S z c) (marks_of b S C c ms)) (sym e) ∙ ap (mark_by (b.form x) (hits_in b S x c)) (sym right))
+      let here : plus C x m ≡ true = subst (λ (z : Member). plus C x z ≡ true) e (plus_here C x) in
+      let out : C m ≡ false = subst (λ (z : Member). C z ≡ false) e l in
+      let rest : marks_of b S (plus C x) c ms ≡ marks_of b S C c ms = marks_same (plus C x) C c ms (λ z i. plus_other C x z (λ (p : x ≡ z). a.0 z i (sym e ∙ p))) in
+      let left : marks_of b S (plus C x) c (m ∷ ms) ≡ mark_by (b.form m) (hits_in b S m c) (marks_of b S C c ms) = ap₂ (λ (p : Bool) (d : CellData). mark_by (b.form m) (p && hits_in b S m c) d) here rest in
+      let right : marks_of b S C c (m ∷ ms) ≡ marks_of b S C c ms = ap (λ (p : Bool). mark_by (b.form m) (p && hits_in b S m c) (marks_of b S C c ms)) out ∙ mark_none (b.form m) (marks_of b S C c ms) in
+      left ∙ (ap (λ (z : Member). mark_by (b.form z) (hits_in b S z c) (marks_of b S C c ms)) (sym e) ∙ ap (mark_by (b.form x) (hits_in b S x c)) (sym right))
   marks_plus C x c (m ∷ ms) l (inr i) a =
-    let other : plus C x m ≡ C m = plus_other C x m (λ (p : x ≡ m). a.0 x i (sym p)) in
-    let ih = marks_plus C x c ms l i a.1 in
-    ap₂ (λ (p : Bool) (d : CellData). mark_by (b.form m) (p && hits_in b S m c) d) other ih
+      let other : plus C x m ≡ C m = plus_other C x m (λ (p : x ≡ m). a.0 x i (sym p)) in
+      let ih = marks_plus C x c ms l i a.1 in
+      ap₂ (λ (p : Bool) (d : CellData). mark_by (b.form m) (p && hits_in b S m c) d) other ih
       ∙ mark_two (b.form m) (b.form x) (C m && hits_in b S m c) (hits_in b S x c) (marks_of b S C c ms)
 
   -- a cell that no cover of C hits is as its insert made it
   pub marks_none : (C : Member → Bool) (c : Cell) (ms : List Member) → ((z : Member) → C z ≡ true → hits_in b S z c ≡ false) → marks_of b S C c ms ≡ bare_at c (b.form (Original c.0))
   marks_none C c [] h = refl
   marks_none C c (m ∷ ms) h =
-    let off : (C m && hits_in b S m c) ≡ false = elim (true_or_false (C m)) [ inl k ↦ rw (k, h m k) refl | inr k ↦ rw k refl ] in
-    ap (λ (p : Bool). mark_by (b.form m) p (marks_of b S C c ms)) off ∙ (mark_none (b.form m) (marks_of b S C c ms) ∙ marks_none C c ms h)
+      let off : (C m && hits_in b S m c) ≡ false = elim (true_or_false (C m)) [ inl k ↦ rw (k, h m k) refl | inr k ↦ rw k refl ] in
+      ap (λ (p : Bool). mark_by (b.form m) p (marks_of b S C c ms)) off ∙ (mark_none (b.form m) (marks_of b S C c ms) ∙ marks_none C c ms h)

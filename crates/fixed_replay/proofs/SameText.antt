@@ -96,7 +96,7 @@ module _ (h k : List OpData) (told_h : AreToldApart h) (told_k : AreToldApart k)
   same_elements : SameElements (fixed_order h) (fixed_order k)
   same_elements = record {
     forth = λ z i. sort_by-in is_earlier z (insertions_in k) (moved h k forth z (in-sort_by is_earlier z (insertions_in h) i));
-    back = λ z i. sort_by-in is_earlier z (insertions_in h) (moved k h back z (in-sort_by is_earlier z (insertions_in k) i))
+    back = λ z i. sort_by-in is_earlier z (insertions_in h) (moved k h back z (in-sort_by is_earlier z (insertions_in k) i));
   }
 
   pub same_order : fixed_order h ≡ fixed_order k

@@ -1,44 +1,43 @@
 -- A valid history is a family of the editor: unrelated base forms are apart, each is bounded by its base context, and its
 -- cells have its own name.
-use Rattle.std.proofs.Common.{◌≡◌, ◌≢◌, ℕ, zero, suc, ◌+◌, ◌<◌, ◌≤◌, Bool, true, false, ◌&&◌, ◌||◌, if◌then◌else◌, List, [], ◌∷◌, ◌++◌, ◌⊎◌, inl, inr, refl, ap, ap₂, sym, ◌∙◌, subst, subst₂, arith}
-use Rattle.std.proofs.lemmas.Bool.{both_ways, and_parts, and_from, false_from_ne_true}
-use Rattle.op_name.specs.NameData.{NameData, name_eq}
+use Rattle.std.proofs.Common.{◌≡◌, ◌≢◌, ℕ, ◌+◌, ◌<◌, ◌≤◌, Bool, true, false, ◌&&◌, if◌then◌else◌, List, [], ◌∷◌, ◌++◌, ◌⊎◌, inl, inr, refl, ap, ap₂, sym, ◌∙◌, subst, subst₂, arith}
+use Rattle.std.proofs.lemmas.Bool.{both_ways, false_from_ne_true}
+use Rattle.op_name.specs.NameData.{NameData}
 use Rattle.op_name.specs.declared.member.Member.{Member}
 use Rattle.op_name.specs.declared.member.Member.TheVariants.{Original, Group}
-use Rattle.op_name.specs.Members.{member_eq, target_of}
+use Rattle.op_name.specs.Members.{target_of}
 use Rattle.op_name.specs.Contexts.{ContextData, has, rank_of}
-use Rattle.op_name.specs.Operations.{OpData, inserting, deleting, undoing, member_of, context_of, is_original, is_insert}
-use Rattle.op_name.specs.Histories.{members_in, is_known, inserts_in, HasPlace, IsNext, IsValid}
-use Rattle.op_name.specs.Replays.{Insertion, insertions_in, fixed_order, is_earlier, sort_by}
+use Rattle.op_name.specs.Operations.{OpData, inserting, deleting, undoing, member_of, context_of, is_insert}
+use Rattle.op_name.specs.Histories.{members_in, is_known, inserts_in, IsValid}
+use Rattle.op_name.specs.Replays.{Insertion, insertions_in, fixed_order, is_earlier}
 use Rattle.context_diff.specs.Bases.{original_context, base_has}
 use Rattle.context_diff.proofs.Complete.{IsComplete, complete}
 use Rattle.context_diff.proofs.Histories.{context_is, group_facts, related}
-use Rattle.context_diff.proofs.Closed.{base_group, in_original, in_group, in_group_below, below_original, group_has_target, base_listed, base_closed, base_stray, base_itself}
+use Rattle.context_diff.proofs.Closed.{base_group, in_original, group_has_target, base_listed, base_closed, base_stray, base_itself}
 use Rattle.ttf_form.specs.declared.ins.Ins.{Ins}
-use Rattle.ttf_form.specs.declared.cover.Cover.{Cover}
 use Rattle.ttf_form.specs.declared.form.Form.{Form}
 use Rattle.ttf_form.specs.declared.form.Form.TheVariants.{Ins as Insert, Cover as Covered}
-use Rattle.ttf_form.specs.Forms.{place_of, extent_of, IsBoundedForm, ApartForms, added_by}
+use Rattle.ttf_form.specs.Forms.{extent_of, IsBoundedForm, ApartForms, added_by}
 use Rattle.ttf_form.specs.Families.{IsIn, sum_where}
-use Rattle.transform_rec.specs.Sets.{IsSubset, SameSet, plus}
-use Rattle.transform_rec.specs.Lists.{SameElements, IsRising}
-use Rattle.transform_rec.specs.Family.{Family, IsCausalFamily}
+use Rattle.transform_rec.specs.Sets.{IsSubset, plus}
+use Rattle.transform_rec.specs.Lists.{SameElements}
+use Rattle.transform_rec.specs.Family.{Family}
 use Rattle.transform_rec.specs.Derived.{IsFamily, weight}
 use Rattle.transform_rec.specs.Executing.{HasOwnNames, LacksName}
 use Rattle.transform_rec.specs.Histories.{family_in}
 use Rattle.transform_rec.proofs.Histories.{known_in, in_known, history_causal}
 use Rattle.transform_rec.proofs.Sets.{plus_within, sum_plus}
 use Rattle.fixed_replay.specs.Families.{HasRanks, HasGroups}
-use Rattle.fixed_replay.specs.BaseForms.{IsInsertForm, IsCoverForm, AreBaseForms}
-use Rattle.fixed_replay.proofs.Elements.{true_or_false, not_both, same_bool, in_contains, append-in_left}
+use Rattle.fixed_replay.specs.BaseForms.{AreBaseForms}
+use Rattle.fixed_replay.proofs.Elements.{true_or_false, in_contains, append-in_left}
 use Rattle.fixed_replay.proofs.HistoryFamilies.{IsFamilyOf}
 use Rattle.fixed_replay.proofs.ValidHistories.{is_known-in, placed_in, original_is}
 use Rattle.fixed_replay.proofs.ValidOriginals.{rank_grows, told}
-use Rattle.fixed_replay.specs.Insertions.{inserted_by, insertions_of}
+use Rattle.fixed_replay.specs.Insertions.{insertions_of}
 use Rattle.fixed_replay.proofs.Editor.{form_inclusion, form_table}
 use Rattle.fixed_replay.proofs.Sorting.{in-sort_by, sort_by-in}
-use Rattle.fixed_replay.proofs.SameText.{IsRead, in-insertions, insertions-in, insertion}
-use Rattle.fixed_replay.proofs.FixedList.{IsInserted, in-insertions_of, insertions_of-in}
+use Rattle.fixed_replay.proofs.SameText.{in-insertions, insertions-in, insertion}
+use Rattle.fixed_replay.proofs.FixedList.{in-insertions_of, insertions_of-in}
 use Rattle.fixed_replay.proofs.Reading.{member_listed, listed_member}
 
 -- ---- sums over sets of members
@@ -79,18 +78,18 @@ module _ (h : List OpData) (v : IsValid h) (form : Member → Form) (forms : Are
 
   of_original : (n : NameData) (a : Ins) → form (Original n) ≡ Insert a → (o : OpData) → IsIn o h → member_of o ≡ Original n → IsInsertOp (Original n) a
   of_original n a base (inserting m p ch c) i e =
-    let s : m ≡ n = (cc) in
-    let there : IsIn (inserting n p ch c) h = subst (λ (x : NameData). IsIn (inserting x p ch c) h) s i in
-    let f = forms.inserts n p ch c there in
-    let q : Insert f.ins ≡ Insert a = sym f.is ∙ base in
-    let r : f.ins ≡ a = (cc) in
-    record { name = n; place = p; character = ch; context = c; there = there; is = refl; named = ap (λ (x : Ins). x.name) (sym r) ∙ f.name; placed = ap (λ (x : Ins). x.place) (sym r) ∙ f.place }
+      let s : m ≡ n = (cc) in
+      let there : IsIn (inserting n p ch c) h = subst (λ (x : NameData). IsIn (inserting x p ch c) h) s i in
+      let f = forms.inserts n p ch c there in
+      let q : Insert f.ins ≡ Insert a = sym f.is ∙ base in
+      let r : f.ins ≡ a = (cc) in
+      record { name = n; place = p; character = ch; context = c; there = there; is = refl; named = ap (λ (x : Ins). x.name) (sym r) ∙ f.name; placed = ap (λ (x : Ins). x.place) (sym r) ∙ f.place }
   of_original n a base (deleting m p c) i e =
-    let s : m ≡ n = (cc) in
-    let there : IsIn (deleting n p c) h = subst (λ (x : NameData). IsIn (deleting x p c) h) s i in
-    let f = forms.deletes n p c there in
-    let q : Covered f.cover ≡ Insert a = sym f.is ∙ base in
-    absurd (cc)
+      let s : m ≡ n = (cc) in
+      let there : IsIn (deleting n p c) h = subst (λ (x : NameData). IsIn (deleting x p c) h) s i in
+      let f = forms.deletes n p c there in
+      let q : Covered f.cover ≡ Insert a = sym f.is ∙ base in
+      absurd (cc)
   of_original n a base (undoing s m g c) i e = absurd (cc)
 
   no_insert_group : (t : NameData) (g : ℕ) (a : Ins) → IsIn (Group t g) (members_in h) → (f : Form) → form (Original t) ≡ f → form (Group t g) ≡ Insert a → ⊥
@@ -114,16 +113,17 @@ module _ (h : List OpData) (v : IsValid h) (form : Member → Form) (forms : Are
 
   apart_by : (m x : Member) → IsIn m (members_in h) → IsIn x (members_in h) → m ≢ x → base_has h m x ≡ false → base_has h x m ≡ false → (f g : Form) → form m ≡ f → form x ≡ g → ApartForms f g
   apart_by m x i j ne l k (Insert a) (Insert d) e q =
-    let r = insert_op m a i e in
-    let s = insert_op x d j q in
-    λ sites.
+      let r = insert_op m a i e in
+      let s = insert_op x d j q in
+      λ sites.
       let same : r.name.site ≡ s.name.site = ap (λ (n : NameData). n.site) (sym r.named) ∙ (sym a.own ∙ (sites ∙ (d.own ∙ ap (λ (n : NameData). n.site) s.named))) in
       let other : r.name ≢ s.name = λ (n : r.name ≡ s.name). ne (r.is ∙ (ap Original n ∙ sym s.is)) in
       let known_m : is_known h (Original r.name) ≡ true = subst (λ (z : Member). is_known h z ≡ true) r.is (listed_known m i) in
       let known_x : is_known h (Original s.name) ≡ true = subst (λ (z : Member). is_known h z ≡ true) s.is (listed_known x j) in
       elim (related h complete_h r.name s.name known_m known_x other same) [
-        inl seen ↦ both_ways (base_has h m x) l (subst₂ (λ (y z : Member). base_has h y z ≡ true) (sym r.is) (sym s.is) (in_original h r.name (Original s.name) known_m seen))
-        | inr seen ↦ both_ways (base_has h x m) k (subst₂ (λ (y z : Member). base_has h y z ≡ true) (sym s.is) (sym r.is) (in_original h s.name (Original r.name) known_x seen)) ]
+        | inl seen ↦ both_ways (base_has h m x) l (subst₂ (λ (y z : Member). base_has h y z ≡ true) (sym r.is) (sym s.is) (in_original h r.name (Original s.name) known_m seen))
+        | inr seen ↦ both_ways (base_has h x m) k (subst₂ (λ (y z : Member). base_has h y z ≡ true) (sym s.is) (sym r.is) (in_original h s.name (Original r.name) known_x seen))
+      ]
   apart_by m x i j ne l k (Insert a) (Covered d) e q = tt
   apart_by m x i j ne l k (Covered c) g e q = tt
 
@@ -131,9 +131,9 @@ module _ (h : List OpData) (v : IsValid h) (form : Member → Form) (forms : Are
 
   pub context_of_original : (o : OpData) (n : NameData) → IsIn o h → member_of o ≡ Original n → (y : Member) → base_has h (Original n) y ≡ has (context_of o) y
   context_of_original o n i e y =
-    let known : is_known h (Original n) ≡ true = subst (λ (m : Member). is_known h m ≡ true) e (is_known-in o h i) in
-    let same = context_is h complete_h o n (in_contains o h i) e known in
-    ap₂ (λ (p : Bool) (c : ContextData). p && has c y) known same
+      let known : is_known h (Original n) ≡ true = subst (λ (m : Member). is_known h m ≡ true) e (is_known-in o h i) in
+      let same = context_is h complete_h o n (in_contains o h i) e known in
+      ap₂ (λ (p : Bool) (c : ContextData). p && has c y) known same
 
   -- ---- bounds
 
@@ -141,43 +141,44 @@ module _ (h : List OpData) (v : IsValid h) (form : Member → Form) (forms : Are
   inserts_weigh : (os : List OpData) (c : ContextData) (D : Member → Bool) → ((o : OpData) → IsIn o os → IsIn o h) → ((y : Member) → has c y ≡ true → D y ≡ true) → inserts_in os c ≤ sum_where D (λ x. extent_of (form x)) (members_in os)
   inserts_weigh [] c D all within = omega arith
   inserts_weigh (o ∷ os) c D all within =
-    let ih = inserts_weigh os c D (λ p i. all p (inr i)) within in
-    let here = weigh o (all o (inl refl)) in
-    omega arith
+      let ih = inserts_weigh os c D (λ p i. all p (inr i)) within in
+      let here = weigh o (all o (inl refl)) in
+      omega arith
     where
-    weigh : (p : OpData) → IsIn p h → (if is_insert p && has c (member_of p) then 1 else 0) ≤ (if D (member_of p) then extent_of (form (member_of p)) else 0)
-    weigh (inserting n p ch k) i = elim (true_or_false (has c (Original n))) [
-      inl q ↦ let f = forms.inserts n p ch k i in let one : extent_of (form (Original n)) ≡ 1 = ap extent_of f.is in rw (q, within (Original n) q, one) (omega arith)
-      | inr q ↦ rw q (omega arith) ]
-    weigh (deleting n p k) i = omega arith
-    weigh (undoing a t g k) i = omega arith
+      weigh : (p : OpData) → IsIn p h → (if is_insert p && has c (member_of p) then 1 else 0) ≤ (if D (member_of p) then extent_of (form (member_of p)) else 0)
+      weigh (inserting n p ch k) i = elim (true_or_false (has c (Original n))) [
+        | inl q ↦ let f = forms.inserts n p ch k i in let one : extent_of (form (Original n)) ≡ 1 = ap extent_of f.is in rw (q, within (Original n) q, one) (omega arith)
+        | inr q ↦ rw q (omega arith)
+      ]
+      weigh (deleting n p k) i = omega arith
+      weigh (undoing a t g k) i = omega arith
 
   abbrev weight_of : (Member → Bool) → ℕ
   weight_of D = weight form_inclusion b D
 
   placed_weight : (o : OpData) (i : IsIn o h) (D : Member → Bool) → ((y : Member) → has (context_of o) y ≡ true → D y ≡ true) → inserts_in (placed_in h v o i).before (context_of o) ≤ weight_of D
   placed_weight o i D within =
-    let a = placed_in h v o i in
-    let f = λ (x : Member). extent_of (form x) in
-    let in_h : (p : OpData) → IsIn p a.before → IsIn p h = λ p j. subst (λ (l : List OpData). IsIn p l) (sym a.whole) (append-in_left p a.before (o ∷ a.behind) j) in
-    let one = inserts_weigh a.before (context_of o) D in_h within in
-    let two = sum_behind D f (members_in a.before) (members_in (o ∷ a.behind)) in
-    let all : sum_where D f (members_in h) ≡ sum_where D f (members_in a.before ++ members_in (o ∷ a.behind)) = ap (λ (l : List OpData). sum_where D f (members_in l)) a.whole ∙ ap (sum_where D f) (members-append a.before (o ∷ a.behind)) in
-    omega arith
+      let a = placed_in h v o i in
+      let f = λ (x : Member). extent_of (form x) in
+      let in_h : (p : OpData) → IsIn p a.before → IsIn p h = λ p j. subst (λ (l : List OpData). IsIn p l) (sym a.whole) (append-in_left p a.before (o ∷ a.behind) j) in
+      let one = inserts_weigh a.before (context_of o) D in_h within in
+      let two = sum_behind D f (members_in a.before) (members_in (o ∷ a.behind)) in
+      let all : sum_where D f (members_in h) ≡ sum_where D f (members_in a.before ++ members_in (o ∷ a.behind)) = ap (λ (l : List OpData). sum_where D f (members_in l)) a.whole ∙ ap (sum_where D f) (members-append a.before (o ∷ a.behind)) in
+      omega arith
 
   insert_place : (n : NameData) (p ch : ℕ) (c : ContextData) → IsIn (inserting n p ch c) h → p ≤ weight_of (base_has h (Original n))
   insert_place n p ch c i =
-    let o = inserting n p ch c in
-    let w = placed_weight o i (base_has h (Original n)) (λ y e. context_of_original o n i refl y ∙ e) in
-    let q : p ≤ inserts_in (placed_in h v o i).before c = (placed_in h v o i).next.placed in
-    omega arith
+      let o = inserting n p ch c in
+      let w = placed_weight o i (base_has h (Original n)) (λ y e. context_of_original o n i refl y ∙ e) in
+      let q : p ≤ inserts_in (placed_in h v o i).before c = (placed_in h v o i).next.placed in
+      omega arith
 
   delete_place : (n : NameData) (p : ℕ) (c : ContextData) → IsIn (deleting n p c) h → p < weight_of (base_has h (Original n))
   delete_place n p c i =
-    let o = deleting n p c in
-    let w = placed_weight o i (base_has h (Original n)) (λ y e. context_of_original o n i refl y ∙ e) in
-    let q : p < inserts_in (placed_in h v o i).before c = (placed_in h v o i).next.placed in
-    omega arith
+      let o = deleting n p c in
+      let w = placed_weight o i (base_has h (Original n)) (λ y e. context_of_original o n i refl y ∙ e) in
+      let q : p < inserts_in (placed_in h v o i).before c = (placed_in h v o i).next.placed in
+      omega arith
 
   group_wider : (t : NameData) (g : ℕ) → IsIn (Group t g) (members_in h) → IsSubset (base_has h (Original t)) (base_has h (Group t g))
   group_wider t g i y e = base_closed h complete_h (Group t g) (Original t) y (group_has_target h t g (listed_known (Group t g) i)) e
@@ -185,58 +186,58 @@ module _ (h : List OpData) (v : IsValid h) (form : Member → Form) (forms : Are
   -- the base context of a group of an insert weighs more than that of the insert
   group_heavier : (t : NameData) (g : ℕ) (a : Ins) → IsIn (Group t g) (members_in h) → form (Original t) ≡ Insert a → weight_of (base_has h (Original t)) + 1 ≤ weight_of (base_has h (Group t g))
   group_heavier t g a i e =
-    let f = λ (x : Member). extent_of (form x) in
-    let target = group_has_target h t g (listed_known (Group t g) i) in
-    let listed : IsIn (Original t) (members_in h) = known_in h (Original t) (base_listed h complete_h (Group t g) (Original t) target) in
-    let lacks : base_has h (Original t) (Original t) ≡ false = false_from_ne_true (base_has h (Original t) (Original t)) (λ q. base_itself h complete_h (Original t) q) in
-    let more = sum_plus (base_has h (Original t)) (Original t) f (members_in h) (history_causal h form v).distinct listed lacks in
-    let one : f (Original t) ≡ 1 = ap extent_of e in
-    let wide = sum_within (plus (base_has h (Original t)) (Original t)) (base_has h (Group t g)) f (members_in h) (plus_within (base_has h (Original t)) (base_has h (Group t g)) (Original t) (group_wider t g i) target) in
-    omega arith
+      let f = λ (x : Member). extent_of (form x) in
+      let target = group_has_target h t g (listed_known (Group t g) i) in
+      let listed : IsIn (Original t) (members_in h) = known_in h (Original t) (base_listed h complete_h (Group t g) (Original t) target) in
+      let lacks : base_has h (Original t) (Original t) ≡ false = false_from_ne_true (base_has h (Original t) (Original t)) (λ q. base_itself h complete_h (Original t) q) in
+      let more = sum_plus (base_has h (Original t)) (Original t) f (members_in h) (history_causal h form v).distinct listed lacks in
+      let one : f (Original t) ≡ 1 = ap extent_of e in
+      let wide = sum_within (plus (base_has h (Original t)) (Original t)) (base_has h (Group t g)) f (members_in h) (plus_within (base_has h (Original t)) (base_has h (Group t g)) (Original t) (group_wider t g i) target) in
+      omega arith
 
   bounded_original : (n : NameData) (o : OpData) → IsIn o h → member_of o ≡ Original n → IsBoundedForm (form (Original n)) (weight_of (base_has h (Original n)))
   bounded_original n (inserting m p ch c) i e =
-    let s : m ≡ n = (cc) in
-    let there : IsIn (inserting n p ch c) h = subst (λ (x : NameData). IsIn (inserting x p ch c) h) s i in
-    let f = forms.inserts n p ch c there in
-    let q = insert_place n p ch c there in
-    let place = f.place in
-    subst (λ (x : Form). IsBoundedForm x (weight_of (base_has h (Original n)))) (sym f.is) (omega arith)
+      let s : m ≡ n = (cc) in
+      let there : IsIn (inserting n p ch c) h = subst (λ (x : NameData). IsIn (inserting x p ch c) h) s i in
+      let f = forms.inserts n p ch c there in
+      let q = insert_place n p ch c there in
+      let place = f.place in
+      subst (λ (x : Form). IsBoundedForm x (weight_of (base_has h (Original n)))) (sym f.is) (omega arith)
   bounded_original n (deleting m p c) i e =
-    let s : m ≡ n = (cc) in
-    let there : IsIn (deleting n p c) h = subst (λ (x : NameData). IsIn (deleting x p c) h) s i in
-    let f = forms.deletes n p c there in
-    let q = delete_place n p c there in
-    let place = f.place in
-    subst (λ (x : Form). IsBoundedForm x (weight_of (base_has h (Original n)))) (sym f.is) (omega arith)
+      let s : m ≡ n = (cc) in
+      let there : IsIn (deleting n p c) h = subst (λ (x : NameData). IsIn (deleting x p c) h) s i in
+      let f = forms.deletes n p c there in
+      let q = delete_place n p c there in
+      let place = f.place in
+      subst (λ (x : Form). IsBoundedForm x (weight_of (base_has h (Original n)))) (sym f.is) (omega arith)
   bounded_original n (undoing s m g c) i e = absurd (cc)
 
   bounded_group : (t : NameData) (g : ℕ) → IsIn (Group t g) (members_in h) → IsBoundedForm (form (Original t)) (weight_of (base_has h (Original t))) → (f : Form) → form (Original t) ≡ f → IsBoundedForm (form (Group t g)) (weight_of (base_has h (Group t g)))
   bounded_group t g i low (Insert a) e =
-    let f = forms.insert_groups t g a i e in
-    let more = group_heavier t g a i e in
-    let place = f.place in
-    let bound : a.place ≤ weight_of (base_has h (Original t)) = subst (λ (x : Form). IsBoundedForm x (weight_of (base_has h (Original t)))) e low in
-    subst (λ (x : Form). IsBoundedForm x (weight_of (base_has h (Group t g)))) (sym f.is) (omega arith)
+      let f = forms.insert_groups t g a i e in
+      let more = group_heavier t g a i e in
+      let place = f.place in
+      let bound : a.place ≤ weight_of (base_has h (Original t)) = subst (λ (x : Form). IsBoundedForm x (weight_of (base_has h (Original t)))) e low in
+      subst (λ (x : Form). IsBoundedForm x (weight_of (base_has h (Group t g)))) (sym f.is) (omega arith)
   bounded_group t g i low (Covered d) e =
-    let f = forms.delete_groups t g d i e in
-    let wide = sum_within (base_has h (Original t)) (base_has h (Group t g)) (λ (x : Member). extent_of (form x)) (members_in h) (group_wider t g i) in
-    let place = f.place in
-    let bound : d.place < weight_of (base_has h (Original t)) = subst (λ (x : Form). IsBoundedForm x (weight_of (base_has h (Original t)))) e low in
-    subst (λ (x : Form). IsBoundedForm x (weight_of (base_has h (Group t g)))) (sym f.is) (omega arith)
+      let f = forms.delete_groups t g d i e in
+      let wide = sum_within (base_has h (Original t)) (base_has h (Group t g)) (λ (x : Member). extent_of (form x)) (members_in h) (group_wider t g i) in
+      let place = f.place in
+      let bound : d.place < weight_of (base_has h (Original t)) = subst (λ (x : Form). IsBoundedForm x (weight_of (base_has h (Original t)))) e low in
+      subst (λ (x : Form). IsBoundedForm x (weight_of (base_has h (Group t g)))) (sym f.is) (omega arith)
 
   bounded : (m : Member) → IsIn m (members_in h) → IsBoundedForm (form m) (weight_of (base_has h m))
   bounded (Original n) i = let r = listed_member (Original n) h i in bounded_original n r.0 r.1 r.2
   bounded (Group t g) i =
-    let target = group_has_target h t g (listed_known (Group t g) i) in
-    let r = listed_member (Original t) h (known_in h (Original t) (base_listed h complete_h (Group t g) (Original t) target)) in
-    bounded_group t g i (bounded_original t r.0 r.1 r.2) (form (Original t)) refl
+      let target = group_has_target h t g (listed_known (Group t g) i) in
+      let r = listed_member (Original t) h (known_in h (Original t) (base_listed h complete_h (Group t g) (Original t) target)) in
+      bounded_group t g i (bounded_original t r.0 r.1 r.2) (form (Original t)) refl
 
   pub valid_family : IsFamily form_inclusion b
   valid_family = record {
     causal = history_causal h form v;
     apart = λ m x i j ne l k. apart_by m x i j ne l k (form m) (form x) refl refl;
-    bounded = bounded
+    bounded = bounded;
   }
 
   -- ---- ranks and groups
@@ -250,16 +251,16 @@ module _ (h : List OpData) (v : IsValid h) (form : Member → Form) (forms : Are
   pub valid_ranks : HasRanks b rank_in
   valid_ranks = record {
     grows = λ n m i e.
-      let p = listed_member (Original n) h i in
-      let o = listed_member (Original m) h (known_in h (Original m) (base_listed h complete_h (Original n) (Original m) e)) in
-      let less = rank_grows h v o.0 p.0 m n o.1 p.1 o.2 p.2 (sym (context_of_original p.0 n p.1 p.2 (Original m)) ∙ e) in
-      let r = rank_is o.0 m o.1 o.2 in let s = rank_is p.0 n p.1 p.2 in omega arith;
+        let p = listed_member (Original n) h i in
+        let o = listed_member (Original m) h (known_in h (Original m) (base_listed h complete_h (Original n) (Original m) e)) in
+        let less = rank_grows h v o.0 p.0 m n o.1 p.1 o.2 p.2 (sym (context_of_original p.0 n p.1 p.2 (Original m)) ∙ e) in
+        let r = rank_is o.0 m o.1 o.2 in let s = rank_is p.0 n p.1 p.2 in omega arith;
     apart = λ n m i j ne r.
-      let o = listed_member (Original n) h i in
-      let p = listed_member (Original m) h j in
-      let t = told h v o.0 p.0 o.1 p.1 (λ (e : member_of o.0 ≡ member_of p.0). let q : Original n ≡ Original m = sym o.2 ∙ (e ∙ p.2) in ne (ap target_of q)) in
-      λ sites. t.keys (original_is o.0 n o.2) (original_is p.0 m p.2) (sym (rank_is o.0 n o.1 o.2) ∙ (r ∙ rank_is p.0 m p.1 p.2))
-        (ap (λ (x : Member). (target_of x).site) o.2 ∙ (sites ∙ ap (λ (x : Member). (target_of x).site) (sym p.2)))
+        let o = listed_member (Original n) h i in
+        let p = listed_member (Original m) h j in
+        let t = told h v o.0 p.0 o.1 p.1 (λ (e : member_of o.0 ≡ member_of p.0). let q : Original n ≡ Original m = sym o.2 ∙ (e ∙ p.2) in ne (ap target_of q)) in
+        λ sites. t.keys (original_is o.0 n o.2) (original_is p.0 m p.2) (sym (rank_is o.0 n o.1 o.2) ∙ (r ∙ rank_is p.0 m p.1 p.2))
+        (ap (λ (x : Member). (target_of x).site) o.2 ∙ (sites ∙ ap (λ (x : Member). (target_of x).site) (sym p.2)));
   }
 
   pub valid_groups : HasGroups b
@@ -267,13 +268,13 @@ module _ (h : List OpData) (v : IsValid h) (form : Member → Form) (forms : Are
     stray = λ x t g i e. base_stray h complete_h x t g e;
     target = λ t g i. group_has_target h t g (listed_known (Group t g) i);
     positive = λ t g i. (group_facts h complete_h t g (listed_known (Group t g) i)).generation;
-    before = λ t g y i e. cases_of t g y i (base_group h t g y e).cases
+    before = λ t g y i e. cases_of t g y i (base_group h t g y e).cases;
   }
     where
-    cases_of : (t : NameData) (g : ℕ) (y : Member) → IsIn (Group t g) (members_in h) → (has (original_context h t) y ≡ true) ⊎ ((y ≡ Original t) ⊎ ((k : ℕ) × (y ≡ Group t k) × (1 ≤ k) × (k < g))) → (base_has h (Original t) y ≡ true) ⊎ ((y ≡ Original t) ⊎ ((k : ℕ) × (y ≡ Group t k) × (k < g)))
-    cases_of t g y i (inl seen) = inl (in_original h t y (group_facts h complete_h t g (listed_known (Group t g) i)).target seen)
-    cases_of t g y i (inr (inl e)) = inr (inl e)
-    cases_of t g y i (inr (inr k)) = inr (inr (k.0, k.1, k.3))
+      cases_of : (t : NameData) (g : ℕ) (y : Member) → IsIn (Group t g) (members_in h) → (has (original_context h t) y ≡ true) ⊎ ((y ≡ Original t) ⊎ ((k : ℕ) × (y ≡ Group t k) × (1 ≤ k) × (k < g))) → (base_has h (Original t) y ≡ true) ⊎ ((y ≡ Original t) ⊎ ((k : ℕ) × (y ≡ Group t k) × (k < g)))
+      cases_of t g y i (inl seen) = inl (in_original h t y (group_facts h complete_h t g (listed_known (Group t g) i)).target seen)
+      cases_of t g y i (inr (inl e)) = inr (inl e)
+      cases_of t g y i (inr (inr k)) = inr (inr (k.0, k.1, k.3))
 
   pub valid_is_family : IsFamilyOf h b
   valid_is_family = record { members = refl; contexts = λ o n i e y. context_of_original o n i e y; forms = forms }
@@ -286,20 +287,20 @@ module _ (h : List OpData) (v : IsValid h) (form : Member → Form) (forms : Are
 
   put_is : (n : NameData) (p ch : ℕ) (c : ContextData) (a : Ins) → IsIn (inserting n p ch c) h → a.name ≡ n → a.place ≡ p → put_of (Original n) a ≡ insertion n p c
   put_is n p ch c a i name place =
-    let r = rank_is (inserting n p ch c) n i refl in
-    λ j. record { name = name j; place = place j; rank = r j; sees = λ m. context_of_original (inserting n p ch c) n i refl (Original m) j }
+      let r = rank_is (inserting n p ch c) n i refl in
+      λ j. record { name = name j; place = place j; rank = r j; sees = λ m. context_of_original (inserting n p ch c) n i refl (Original m) j }
 
   pub same_inserts : SameElements (fixed_order h) (insertions_of b rank_in (members_in h))
   same_inserts = record {
     forth = λ z i.
-      let r = in-insertions z h (in-sort_by is_earlier z (insertions_in h) i) in
-      let o = inserting r.name r.place r.character r.context in
-      let f = forms.inserts r.name r.place r.character r.context r.there in
-      let there = insertions_of-in b rank_in (members_in h) (Original r.name) f.ins (member_listed o h r.there) f.is in
-      subst (λ (x : Insertion). IsIn x (insertions_of b rank_in (members_in h))) (put_is r.name r.place r.character r.context f.ins r.there f.name f.place ∙ sym r.is) there;
+        let r = in-insertions z h (in-sort_by is_earlier z (insertions_in h) i) in
+        let o = inserting r.name r.place r.character r.context in
+        let f = forms.inserts r.name r.place r.character r.context r.there in
+        let there = insertions_of-in b rank_in (members_in h) (Original r.name) f.ins (member_listed o h r.there) f.is in
+        subst (λ (x : Insertion). IsIn x (insertions_of b rank_in (members_in h))) (put_is r.name r.place r.character r.context f.ins r.there f.name f.place ∙ sym r.is) there;
     back = λ z i.
-      let r = in-insertions_of b rank_in (members_in h) z i in
-      let o = insert_op r.member r.ins r.there r.form in
-      let same : z ≡ insertion o.name o.place o.context = r.is ∙ (ap (λ (m : Member). put_of m r.ins) o.is ∙ put_is o.name o.place o.character o.context r.ins o.there o.named o.placed) in
-      subst (λ (x : Insertion). IsIn x (fixed_order h)) (sym same) (sort_by-in is_earlier (insertion o.name o.place o.context) (insertions_in h) (insertions-in o.name o.place o.character o.context h o.there))
+        let r = in-insertions_of b rank_in (members_in h) z i in
+        let o = insert_op r.member r.ins r.there r.form in
+        let same : z ≡ insertion o.name o.place o.context = r.is ∙ (ap (λ (m : Member). put_of m r.ins) o.is ∙ put_is o.name o.place o.character o.context r.ins o.there o.named o.placed) in
+        subst (λ (x : Insertion). IsIn x (fixed_order h)) (sym same) (sort_by-in is_earlier (insertion o.name o.place o.context) (insertions_in h) (insertions-in o.name o.place o.character o.context h o.there));
   }

@@ -1,5 +1,5 @@
 -- The laws of the fixed replay.
-use Rattle.std.specs.Prelude.{◌≡◌, ℕ, Bool, true, List, [], map, filter, encode_utf8_all}
+use Rattle.std.specs.Prelude.{◌≡◌, ℕ, List, [], map, filter, encode_utf8_all}
 use Rattle.op_name.specs.NameData.{NameData}
 use Rattle.op_name.specs.declared.member.Member.{Member}
 use Rattle.op_name.specs.Operations.{OpData}

@@ -1,5 +1,5 @@
 -- Cells that are the fixed replay of a history.
-use Rattle.std.specs.Prelude.{◌≡◌, ℕ, List}
+use Rattle.std.specs.Prelude.{◌≡◌, List}
 use Rattle.op_name.specs.Operations.{OpData}
 use Rattle.op_name.specs.Histories.{generation_in}
 use Rattle.op_name.specs.Replays.{replay_of, is_shown, character_in}

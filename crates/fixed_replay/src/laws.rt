@@ -7,37 +7,31 @@ ghost use Rattle.fixed_replay.specs.Laws.{ExecutedIsReplayed, ReplayAlongAnyList
 /// the history.
 pub fn executed_is_replayed()
     ensures { ExecutedIsReplayed }
-{
-}
+{}
 
 /// Along any causal list of members of a valid history, the replay of the inserts in that very order gives
 /// the cells of the executed forms.
 pub fn replay_along_any_list()
     ensures { ReplayAlongAnyList }
-{
-}
+{}
 
 /// The base forms that the operations of a valid history say are its base forms.
 pub fn operations_say_base_forms()
     ensures { OperationsSayBaseForms }
-{
-}
+{}
 
 /// The shown cells of a fixed replay are the shown cells of the history, and give its text.
 pub fn replay_shows_the_text()
     ensures { ReplayShowsTheText }
-{
-}
+{}
 
 /// Two originals of a valid history differ in their names, and in rank or site.
 pub fn originals_are_told_apart()
     ensures { OriginalsAreToldApart }
-{
-}
+{}
 
 /// Two lists of operations with the same originals, each at the same generation, have the same text, if
 /// their originals differ in their names, and in rank or site.
 pub fn same_operations_same_text()
     ensures { SameOperationsSameText }
-{
-}
+{}

@@ -8,4 +8,7 @@
 
 mod laws;
 
-pub use laws::{executed_is_replayed, operations_say_base_forms, originals_are_told_apart, replay_along_any_list, replay_shows_the_text, same_operations_same_text};
+pub use laws::{
+    executed_is_replayed, operations_say_base_forms, originals_are_told_apart,
+    replay_along_any_list, replay_shows_the_text, same_operations_same_text,
+};
