@@ -1,5 +1,5 @@
 -- Reading the marks: a cell's generation is that of its insert in the history, and it is shown as the history says.
-use Rattle.std.proofs.Common.{◌≡◌, ℕ, suc, ◌≤◌, max, Bool, true, false, not, ◌&&◌, ◌==◌, if◌then◌else◌, List, [], ◌∷◌, ◌++◌, length, filter, map, take, drop, ◌⊎◌, inl, inr, refl, ap, ap₂, sym, ◌∙◌, subst, arith, length-take-le}
+use Rattle.std.proofs.Common.{◌≡◌, ◌↔◌, ℕ, suc, ◌≤◌, max, Bool, true, false, not, ◌&&◌, ◌==◌, if◌then◌else◌, List, [], ◌∷◌, ◌++◌, length, filter, map, take, drop, ◌⊎◌, inl, inr, refl, ap, ap₂, sym, ◌∙◌, subst, arith, length-take-le}
 use Rattle.std.proofs.lemmas.Bool.{both_ways, and_parts, and_from, false_from_ne_true}
 use Rattle.std.specs.List.{list_any}
 use Rattle.op_name.specs.NameData.{NameData, name_eq}
@@ -32,7 +32,7 @@ use Rattle.transform_rec.proofs.Executing.{Forms, run, At, state_after}
 use Rattle.transform_rec.proofs.Parts.{part_state, one_more}
 use Rattle.fixed_replay.specs.Originals.{AreToldApart}
 use Rattle.fixed_replay.specs.Families.{HasGroups}
-use Rattle.fixed_replay.specs.Replayed.{IsReplayed}
+use Rattle.fixed_replay.specs.Replayed.{IsDeleter, IsReplayed}
 use Rattle.fixed_replay.specs.BaseForms.{IsCoverForm}
 use Rattle.fixed_replay.proofs.HistoryFamilies.{IsFamilyOf}
 use Rattle.fixed_replay.proofs.Elements.{true_or_false, not_both, same_bool, filter_same, map_same, any_in, in_any}
@@ -404,6 +404,20 @@ module _ (b : Family Form) (known : IsFamily form_inclusion b) (own_names : HasO
         let some = best_some h all_h c d del del.there in
         omega arith
 
+    -- a deleter is a delete that hits the cell, at its generation
+    entry_delete : (c : Cell) (n : NameData) (g : ℕ) → IsIn (n, g) (marks c h).deleters → IsDeleter h c n × (g ≡ generation_in h n)
+    entry_delete c n g i =
+      let del = entries_are h all_h c (n, g) i in
+      let one = entry_best (n, g) (marks c h).deleters (marks_rising (members_in h) c) i in
+      let two = best_of_delete c n del in
+      let same : g ≡ generation_in h n = omega arith in
+      (record { place = del.place; context = del.context; there = del.there; hit = sym (delete_hits n del.place del.context c del.there) ∙ del.hit }, same)
+
+    delete_entry : (c : Cell) (n : NameData) (g : ℕ) → IsDeleter h c n → g ≡ generation_in h n → IsIn (n, g) (marks c h).deleters
+    delete_entry c n g r e =
+      let del : Deletes n c = record { place = r.place; context = r.context; there = r.there; hit = delete_hits n r.place r.context c r.there ∙ r.hit } in
+      best_entry n g (marks c h).deleters (best_of_delete c n del ∙ ap suc (sym e))
+
     -- a deleter in force is a delete in force that hits the cell
     covered_is : (c : Cell) → list_any (λ (e : Entry). is_even e.1) (marks c h).deleters ≡ list_any (covers h c) h
     covered_is c = same_bool (list_any (λ (e : Entry). is_even e.1) (marks c h).deleters) (list_any (covers h c) h) to from
@@ -411,21 +425,16 @@ module _ (b : Family Form) (known : IsFamily form_inclusion b) (own_names : HasO
         to : list_any (λ (e : Entry). is_even e.1) (marks c h).deleters ≡ true → list_any (covers h c) h ≡ true
         to q =
             let r = any_in (λ (e : Entry). is_even e.1) (marks c h).deleters q in
-            let x = r.0 in
-            let del = entries_are h all_h c x r.1 in
-            let one = entry_best x (marks c h).deleters (marks_rising (members_in h) c) r.1 in
-            let two = best_of_delete c x.0 del in
-            let same : x.1 ≡ generation_in h x.0 = omega arith in
-            let force : in_force h x.0 ≡ true = subst (λ (g : ℕ). is_even g ≡ true) same r.2 in
-            let hit : hits h (deleting x.0 del.place del.context) c ≡ true = sym (delete_hits x.0 del.place del.context c del.there) ∙ del.hit in
-            in_any (covers h c) (deleting x.0 del.place del.context) h del.there (and_from (in_force h x.0) (hits h (deleting x.0 del.place del.context) c) force hit)
+            let n = r.0.0 in
+            let del = entry_delete c n r.0.1 r.1 in
+            let force : in_force h n ≡ true = subst (λ (g : ℕ). is_even g ≡ true) del.1 r.2 in
+            in_any (covers h c) (deleting n del.0.place del.0.context) h del.0.there (and_from (in_force h n) (hits h (deleting n del.0.place del.0.context) c) force del.0.hit)
 
         of_op : (o : OpData) → IsIn o h → covers h c o ≡ true → list_any (λ (e : Entry). is_even e.1) (marks c h).deleters ≡ true
         of_op (inserting n p ch k) i q = not_both q refl
         of_op (deleting n p k) i q =
             let r = and_parts (in_force h n) (hits h (deleting n p k) c) q in
-            let del : Deletes n c = record { place = p; context = k; there = i; hit = delete_hits n p k c i ∙ r.1 } in
-            in_any (λ (e : Entry). is_even e.1) (n, generation_in h n) (marks c h).deleters (best_entry n (generation_in h n) (marks c h).deleters (best_of_delete c n del)) r.0
+            in_any (λ (e : Entry). is_even e.1) (n, generation_in h n) (marks c h).deleters (delete_entry c n (generation_in h n) (record { place = p; context = k; there = i; hit = r.1 }) refl) r.0
         of_op (undoing a t g k) i q = not_both q refl
 
         from : list_any (covers h c) h ≡ true → list_any (λ (e : Entry). is_even e.1) (marks c h).deleters ≡ true
@@ -476,8 +485,15 @@ module _ (b : Family Form) (known : IsFamily form_inclusion b) (own_names : HasO
       cells = is_replay;
       characters = λ d i. let r = in_state d i in ap (λ (x : CellData). x.ch) r.2 ∙ (char_is told r.0 r.1 ∙ ap (character_in h) (sym (key_of d r.0 r.1 r.2)));
       generations = λ d i. let r = in_state d i in ap (λ (x : CellData). x.generation) r.2 ∙ (generation_is h all_h r.0 r.1 ∙ ap (λ (c : Cell). generation_in h c.0) (sym (key_of d r.0 r.1 r.2)));
+      deleters = λ d i n g. let r = in_state d i in deleters_by d r.0 r.2 (key_of d r.0 r.1 r.2) n g;
+      once = λ d i. let r = in_state d i in subst (λ (x : CellData). IsRising x.deleters) (sym r.2) (marks_rising (members_in h) r.0);
       shown = λ d i. let r = in_state d i in ap cell_shown r.2 ∙ (shown_is r.0 r.1 ∙ ap (is_shown h) (sym (key_of d r.0 r.1 r.2)));
     }
       where
         key_of : (d : CellData) (c : Cell) → IsIn c S → d ≡ marks c h → cell_key d ≡ c
         key_of d c i e = ap cell_key e ∙ key_is c i
+
+        deleters_by : (d : CellData) (c : Cell) → d ≡ marks c h → cell_key d ≡ c → (n : NameData) (g : ℕ) → IsIn (n, g) d.deleters ↔ (IsDeleter h (cell_key d) n × (g ≡ generation_in h n))
+        deleters_by d c e k n g =
+          ( λ i. let r = entry_delete c n g (subst (λ (x : CellData). IsIn (n, g) x.deleters) e i) in (subst (λ (x : Cell). IsDeleter h x n) (sym k) r.0, r.1)
+          , λ r. subst (λ (x : CellData). IsIn (n, g) x.deleters) (sym e) (delete_entry c n g (subst (λ (x : Cell). IsDeleter h x n) k r.0) r.1) )
