@@ -1,16 +1,9 @@
 -- Counts: how many elements of a list pass a test, and how many of them stand before each element that passes another.
-use Rattle.std.proofs.Common.{◌≡◌, ℕ, ◌+◌, ◌<◌, ◌≤◌, ◌≢◌, Bool, true, false, List, [], ◌∷◌, ◌++◌, length, filter, if◌then◌else◌, inl, inr, refl, subst, arith, zero-add}
+use Rattle.std.proofs.Common.{◌≡◌, ℕ, ◌+◌, ◌<◌, ◌≤◌, ◌≢◌, Bool, true, false, List, [], ◌∷◌, ◌++◌, length, if◌then◌else◌, inl, inr, refl, subst, arith, zero-add}
+use Rattle.std.proofs.lemmas.Bool.{cases_Bool}
 use Rattle.std.specs.List.{list_any}
 use Rattle.transform_rec.specs.Lists.{IsIn, count, either, EachAt}
-use Rattle.fixed_replay.proofs.Elements.{true_or_false, not_both}
-
-pub count-append : {K : Type 0} (p : K → Bool) (xs ys : List K) → count p (xs ++ ys) ≡ count p xs + count p ys
-count-append p [] ys = omega arith
-count-append p (x ∷ xs) ys = let ih = count-append p xs ys in omega arith
-
-pub count-filter : {K : Type 0} (p : K → Bool) (xs : List K) → length (filter p xs) ≡ count p xs
-count-filter p [] = refl
-count-filter p (x ∷ xs) = elim (true_or_false (p x)) [ inl h ↦ rw (h, count-filter p xs) (omega arith) | inr h ↦ rw (h, count-filter p xs) (omega arith) ]
+use Rattle.fixed_replay.proofs.Elements.{not_both}
 
 -- no element passes both tests
 abbrev pub AreDisjoint : {K : Type 0} → (K → Bool) → (K → Bool) → Type 0
@@ -20,7 +13,7 @@ pub count-either : {K : Type 0} (p q : K → Bool) → AreDisjoint p q → (xs :
 count-either p q d [] = refl
 count-either p q d (x ∷ xs) =
     let ih = count-either p q d xs in
-    elim (true_or_false (p x)) [ inl h ↦ rw (h, d x h, ih) (omega arith) | inr h ↦ rw (h, ih) (omega arith) ]
+    elim (cases_Bool (p x)) [ inl h ↦ rw (h, d x h, ih) (omega arith) | inr h ↦ rw (h, ih) (omega arith) ]
 
 pub each-append : {K : Type 0} (p x : K → Bool) (q k : ℕ) (xs ys : List K) → EachAt p x q k (xs ++ ys) → EachAt p x q k xs × EachAt p x q (count p xs + k) ys
 each-append p x q k [] ys e = (tt, rw zero-add e)
@@ -33,14 +26,14 @@ pub each-late : {K : Type 0} (p x : K → Bool) (q k : ℕ) (cs : List K) → q 
 each-late p x q k [] h e = refl
 each-late p x q k (c ∷ cs) h e =
     let ih = each-late p x q ((if p c then 1 else 0) + k) cs (omega arith) e.1 in
-    elim (true_or_false (x c)) [ inl t ↦ let b : k ≡ q = e.0 t in absurd (omega arith) | inr f ↦ rw (f, ih) refl ]
+    elim (cases_Bool (x c)) [ inl t ↦ let b : k ≡ q = e.0 t in absurd (omega arith) | inr f ↦ rw (f, ih) refl ]
 
 -- none of p stands here, and the number in front is another
 pub each-between : {K : Type 0} (p x : K → Bool) (q k : ℕ) (cs : List K) → count p cs ≡ 0 → k ≢ q → EachAt p x q k cs → count x cs ≡ 0
 each-between p x q k [] h ne e = refl
 each-between p x q k (c ∷ cs) h ne e =
     let ih = each-between p x q ((if p c then 1 else 0) + k) cs (omega arith) (λ (j : (if p c then 1 else 0) + k ≡ q). ne (omega arith)) e.1 in
-    elim (true_or_false (x c)) [ inl t ↦ absurd (ne (e.0 t)) | inr f ↦ rw (f, ih) refl ]
+    elim (cases_Bool (x c)) [ inl t ↦ absurd (ne (e.0 t)) | inr f ↦ rw (f, ih) refl ]
 
 -- the list is empty or its first element passes
 abbrev pub BeginsIn : {K : Type 0} → (K → Bool) → List K → Type 0
@@ -64,7 +57,7 @@ each-early p x d q k (c ∷ []) ends le e = rw (d c ends) refl
 each-early p x d q k (c ∷ (c' ∷ cs)) ends le e =
     let pos = ends-count p c' cs ends in
     let ih = each-early p x d q ((if p c then 1 else 0) + k) (c' ∷ cs) ends (omega arith) e.1 in
-    elim (true_or_false (x c)) [ inl t ↦ let b : k ≡ q = e.0 t in absurd (omega arith) | inr f ↦ rw (f, ih) refl ]
+    elim (cases_Bool (x c)) [ inl t ↦ let b : k ≡ q = e.0 t in absurd (omega arith) | inr f ↦ rw (f, ih) refl ]
 
 -- the list begins in p, with enough of p in front
 pub begins-late : {K : Type 0} (p x : K → Bool) → AreDisjoint p x → (q k : ℕ) (cs : List K) → BeginsIn p cs → q ≤ k → EachAt p x q k cs → count x cs ≡ 0
@@ -105,11 +98,11 @@ count_all p (x ∷ xs) a = rw (a x (inl refl), count_all p xs (λ c i. a c (inr 
 -- without one that passes, a test of the list fails
 pub any_count : {K : Type 0} (p : K → Bool) (xs : List K) → count p xs ≡ 0 → list_any p xs ≡ false
 any_count p [] h = refl
-any_count p (x ∷ xs) h = elim (true_or_false (p x)) [ inl k ↦ let e : 1 + count p xs ≡ 0 = rw k at h in absurd (omega arith) | inr k ↦ let e : 0 + count p xs ≡ 0 = rw k at h in rw (k, any_count p xs (omega arith)) refl ]
+any_count p (x ∷ xs) h = elim (cases_Bool (p x)) [ inl k ↦ let e : 1 + count p xs ≡ 0 = rw k at h in absurd (omega arith) | inr k ↦ let e : 0 + count p xs ≡ 0 = rw k at h in rw (k, any_count p xs (omega arith)) refl ]
 
 pub count_any : {K : Type 0} (p : K → Bool) (xs : List K) → list_any p xs ≡ false → count p xs ≡ 0
 count_any p [] h = refl
-count_any p (x ∷ xs) h = elim (true_or_false (p x)) [ inl k ↦ not_both {b = true} refl (rw k at h) | inr k ↦ rw (k, count_any p xs (rw k at h)) refl ]
+count_any p (x ∷ xs) h = elim (cases_Bool (p x)) [ inl k ↦ not_both {b = true} refl (rw k at h) | inr k ↦ rw (k, count_any p xs (rw k at h)) refl ]
 
 -- a list with no element that passes
 pub count_none : {K : Type 0} (p : K → Bool) (xs : List K) → ((c : K) → IsIn c xs → p c ≡ false) → count p xs ≡ 0

@@ -1,6 +1,6 @@
 -- A cover stays on its cell: in each state it is applied to the same one.
 use Rattle.std.proofs.Common.{◌≡◌, ◌≢◌, ℕ, Bool, true, false, not, List, [], ◌∷◌, filter, inl, inr, refl, sym, subst, subst₂, arith}
-use Rattle.std.proofs.lemmas.Bool.{both_ways}
+use Rattle.std.proofs.lemmas.Bool.{both_ways, cases_Bool}
 use Rattle.op_name.specs.declared.member.Member.{Member}
 use Rattle.op_name.specs.declared.member.Member.TheVariants.{Original}
 use Rattle.op_name.specs.Replays.{Cell}
@@ -26,7 +26,7 @@ use Rattle.transform_rec.proofs.Forms.{derived_sound, form_step, exists}
 use Rattle.transform_rec.proofs.Uniqueness.{derived_once}
 use Rattle.transform_rec.proofs.Executing.{IsForm, Run, Forms, run, At, forms_run}
 use Rattle.transform_rec.proofs.Parts.{rest_run, part_run, before_cell}
-use Rattle.fixed_replay.proofs.Elements.{true_or_false, not_both}
+use Rattle.fixed_replay.proofs.Elements.{not_both}
 use Rattle.fixed_replay.proofs.Splits.{IsSplit, split_moves}
 use Rattle.fixed_replay.proofs.Editor.{form_inclusion, form_table, setting_of}
 
@@ -116,7 +116,7 @@ module _ (b : Family Form) (known : IsFamily form_inclusion b) (own_names : HasO
           let along = walk_along rest needs (b.form m) rest_is_run in_rest begun in
           let set : SameSet (plus_all needs rest) D = same_from (plus_all needs rest) D
           (λ z e. elim (all_cases rest needs z e) [ inl h ↦ sound.covers z h | inr i ↦ (filter_in D z L (filter_in (λ (y : Member). not (needs y)) z part i).0).1 ])
-          (λ z e. elim (true_or_false (needs z)) [ inl h ↦ all_keeps rest needs z h | inr h ↦ all_in rest needs z (in_filter (λ (y : Member). not (needs y)) z part (in_filter D z L (in_list z e) e) (rw h refl)) ]) in
+          (λ z e. elim (cases_Bool (needs z)) [ inl h ↦ all_keeps rest needs z h | inr h ↦ all_in rest needs z (in_filter (λ (y : Member). not (needs y)) z part (in_filter D z L (in_list z e) e) (rw h refl)) ]) in
           let end : Covers D along.0 = subst (λ (C : Member → Bool). Covers C along.0) (same_set (plus_all needs rest) D set) along.1 in
           let once : along.0 ≡ f = derived_once (deriving_of w) m D along.0 f end.form form in
           (end.here, subst (λ (g : Form). IsCoverAt mark (count (keep D) before) g) once end.place)

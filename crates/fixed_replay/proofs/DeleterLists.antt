@@ -1,11 +1,11 @@
 -- Deleters of a cell: an entry of a sorted list is its name with the greatest generation of that name.
 use Rattle.std.proofs.Common.{◌≡◌, ℕ, suc, ◌≤◌, max, Bool, true, false, if◌then◌else◌, List, [], ◌∷◌, ◌⊎◌, inl, inr, refl, ap, sym, subst, arith}
+use Rattle.std.proofs.lemmas.Bool.{cases_Bool}
 use Rattle.op_name.specs.NameData.{NameData, name_eq, name_lt}
 use Rattle.op_name.specs.Contexts.{IsBefore}
 use Rattle.ttf_form.specs.Cells.{raise_in, best, IsRising}
 use Rattle.ttf_form.specs.Laws.Deleters.{best_raise, best_raise_other, name_self, name_same, name_less_trans, name_less_other}
 use Rattle.transform_rec.specs.Lists.{IsIn}
-use Rattle.fixed_replay.proofs.Elements.{true_or_false}
 
 abbrev pub Entry : Type 0
 Entry = NameData × ℕ
@@ -44,7 +44,7 @@ entry_best x (e ∷ es) r (inl p) =
     subst (λ (y : Entry). best y.0 (e ∷ es) ≡ suc y.1) (sym p) first
 entry_best x (e ∷ es) r (inr i) =
     let ih = entry_best x es r.1 i in
-    let other : name_eq x.0 e.0 ≡ false = elim (true_or_false (name_eq x.0 e.0)) [
+    let other : name_eq x.0 e.0 ≡ false = elim (cases_Bool (name_eq x.0 e.0)) [
       | inl k ↦ let none = before_best x.0 e.0 es r.1 r.0 (inl (name_same x.0 e.0 k)) in absurd (omega arith)
       | inr k ↦ k
     ] in
@@ -56,7 +56,7 @@ max_is a b c h = grind arith
 -- the best of a name is an entry
 pub best_entry : (d : NameData) (g : ℕ) (es : List Entry) → best d es ≡ suc g → IsIn (d, g) es
 best_entry d g [] h = absurd (omega arith)
-best_entry d g (e ∷ es) h = elim (true_or_false (name_eq d e.0)) [
+best_entry d g (e ∷ es) h = elim (cases_Bool (name_eq d e.0)) [
   | inl k ↦ elim (max_is (suc e.1) (best d es) (suc g) (rw k at h)) [
     | inl p ↦ inl (let a : d ≡ e.0 = name_same d e.0 k in let q : g ≡ e.1 = omega arith in λ i. (a i, q i))
     | inr p ↦ inr (best_entry d g es p)
@@ -69,7 +69,7 @@ best_entry d g (e ∷ es) h = elim (true_or_false (name_eq d e.0)) [
 
 -- a raise lowers no best
 pub best_more : (d n : NameData) (g : ℕ) (es : List Entry) → best d es ≤ best d (raise_in n g es)
-best_more d n g es = elim (true_or_false (name_eq d n)) [
+best_more d n g es = elim (cases_Bool (name_eq d n)) [
   | inl k ↦ let s : d ≡ n = name_same d n k in let e : best d (raise_in n g es) ≡ max (suc g) (best d es) = subst (λ (m : NameData). best d (raise_in m g es) ≡ max (suc g) (best d es)) s (best_raise d g es) in omega arith
   | inr k ↦ let e = best_raise_other d n g es k in omega arith
 ]

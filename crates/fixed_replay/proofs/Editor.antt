@@ -1,5 +1,6 @@
 -- The forms of the editor as a table, and what the members of a family insert.
 use Rattle.std.proofs.Common.{◌≡◌, Bool, true, false, List, [], ◌∷◌, ◌++◌, filter, not, inl, inr, refl, ap, sym, ◌∙◌, subst, append_assoc}
+use Rattle.std.proofs.lemmas.Bool.{cases_Bool}
 use Rattle.op_name.specs.NameData.{NameData}
 use Rattle.op_name.specs.declared.member.Member.{Member}
 use Rattle.op_name.specs.declared.member.Member.TheVariants.{Original}
@@ -17,7 +18,6 @@ use Rattle.transform_rec.specs.Derived.{Derived, Inclusion, IsInclusion, IsFamil
 use Rattle.transform_rec.specs.Derived.Derived.{at_base, by_step}
 use Rattle.transform_rec.specs.Executing.{Table, IsTable, HasOwnNames, Setting, LacksName}
 use Rattle.transform_rec.proofs.Members.{member_cases}
-use Rattle.fixed_replay.proofs.Elements.{true_or_false}
 
 abbrev pub form_inclusion : Inclusion Form
 form_inclusion = record { Apart = ApartForms; IsBounded = IsBoundedForm; over = form_over; place = place_of; extent = extent_of }
@@ -104,11 +104,11 @@ names-append b (x ∷ xs) ys = ap (λ (ns : List NameData). named_by (b.form x) 
 -- names that pass a test are those of the members that pass
 names_kept : (b : Family Form) (sees : NameData → Bool) (D : Member → Bool) (x : Member) (xs : List Member) (f : Form) → b.form x ≡ f → ((a : Ins) → f ≡ Insert a → D x ≡ sees a.name) → filter (λ n. not (sees n)) (names_of b xs) ≡ names_of b (filter (λ z. not (D z)) xs)
     → filter (λ n. not (sees n)) (named_by f ++ names_of b xs) ≡ names_of b (filter (λ z. not (D z)) (x ∷ xs))
-names_kept b sees D x xs (Insert a) e h ih = elim (true_or_false (D x)) [
+names_kept b sees D x xs (Insert a) e h ih = elim (cases_Bool (D x)) [
   | inl k ↦ let l : sees a.name ≡ true = sym (h a refl) ∙ k in rw (l, k) ih
   | inr k ↦ let l : sees a.name ≡ false = sym (h a refl) ∙ k in rw (l, k, e, ih) refl
 ]
-names_kept b sees D x xs (Covered c) e h ih = elim (true_or_false (D x)) [ inl k ↦ rw k ih | inr k ↦ rw (k, e) ih ]
+names_kept b sees D x xs (Covered c) e h ih = elim (cases_Bool (D x)) [ inl k ↦ rw k ih | inr k ↦ rw (k, e) ih ]
 
 pub names_filter : (b : Family Form) → HasOwnNames form_table b → (D : Member → Bool) (xs : List Member) → ((z : Member) → IsIn z xs → IsIn z b.members) → filter (λ n. not (D (Original n))) (names_of b xs) ≡ names_of b (filter (λ z. not (D z)) xs)
 names_filter b own D [] l = refl

@@ -1,6 +1,7 @@
 -- The fixed list: all members of a family sorted by rank, site and generation. It is causal, and its inserts are in their
 -- fixed order.
 use Rattle.std.proofs.Common.{◌≡◌, ◌≢◌, ℕ, ◌<◌, Bool, true, false, nat_lt, ◌||◌, ◌&&◌, ◌==◌, List, [], ◌∷◌, ◌++◌, ◌⊎◌, inl, inr, refl, ap, sym, ◌∙◌, subst, subst₂, arith}
+use Rattle.transform_rec.proofs.Lists.{in_left, in_right}
 use Rattle.std.proofs.lemmas.Bool.Decides.{nat_tests}
 use Rattle.op_name.specs.NameData.{NameData}
 use Rattle.op_name.specs.declared.member.Member.{Member}
@@ -21,7 +22,7 @@ use Rattle.transform_rec.proofs.Executing.{Forms, run, At, run_forms}
 use Rattle.transform_rec.proofs.Order.{any_order}
 use Rattle.transform_rec.proofs.CausalOrders.{sorted_run}
 use Rattle.fixed_replay.specs.Families.{HasRanks, HasGroups, generation_of, is_sooner}
-use Rattle.fixed_replay.proofs.Elements.{not_both, append-in_left, append-in_right}
+use Rattle.fixed_replay.proofs.Elements.{not_both}
 use Rattle.fixed_replay.proofs.Sorting.{AreComparable, in-sort_by, sort_by-in, sort_by-sorted, sorted_once}
 use Rattle.fixed_replay.proofs.SameText.{earlier_asym, earlier_trans}
 use Rattle.fixed_replay.specs.Insertions.{inserted_by, insertions_of}
@@ -141,8 +142,8 @@ in-insertions_of b rank (x ∷ xs) i j = inserted_first b rank x xs i (b.form x)
 
 pub insertions_of-in : (b : Family Form) (rank : NameData → ℕ) (xs : List Member) (x : Member) (a : Ins) → IsIn x xs → b.form x ≡ Insert a → IsIn (record { name = a.name; place = a.place; rank = rank (target_of x); sees = λ n. b.context x (Original n) }) (insertions_of b rank xs)
 insertions_of-in b rank [] x a i e = absurd i
-insertions_of-in b rank (y ∷ ys) x a (inl p) e = append-in_left _ (inserted_by (b.form y) (rank (target_of y)) (λ n. b.context y (Original n))) (insertions_of b rank ys) (subst (λ (z : Member). IsIn (record { name = a.name; place = a.place; rank = rank (target_of x); sees = λ n. b.context x (Original n) }) (inserted_by (b.form z) (rank (target_of z)) (λ n. b.context z (Original n)))) p (rw e (inl refl)))
-insertions_of-in b rank (y ∷ ys) x a (inr i) e = append-in_right _ (inserted_by (b.form y) (rank (target_of y)) (λ n. b.context y (Original n))) (insertions_of b rank ys) (insertions_of-in b rank ys x a i e)
+insertions_of-in b rank (y ∷ ys) x a (inl p) e = in_left _ (inserted_by (b.form y) (rank (target_of y)) (λ n. b.context y (Original n))) (insertions_of b rank ys) (subst (λ (z : Member). IsIn (record { name = a.name; place = a.place; rank = rank (target_of x); sees = λ n. b.context x (Original n) }) (inserted_by (b.form z) (rank (target_of z)) (λ n. b.context z (Original n)))) p (rw e (inl refl)))
+insertions_of-in b rank (y ∷ ys) x a (inr i) e = in_right _ (inserted_by (b.form y) (rank (target_of y)) (λ n. b.context y (Original n))) (insertions_of b rank ys) (insertions_of-in b rank ys x a i e)
 
 module _ (b : Family Form) (known : IsFamily form_inclusion b) (own_names : HasOwnNames form_table b) (rank : NameData → ℕ) (ranks : HasRanks b rank) (groups : HasGroups b) where
   abbrev w : Setting Form (List CellData)

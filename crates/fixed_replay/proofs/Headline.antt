@@ -1,5 +1,6 @@
 -- The forms of a valid history, executed in its order, give its fixed replay, shown as the history says.
 use Rattle.std.proofs.Common.{◌≡◌, ℕ, true, false, List, [], ◌∷◌, map, filter, encode_utf8_all, inl, inr, refl, ap, sym, ◌∙◌}
+use Rattle.std.proofs.lemmas.Bool.{cases_Bool}
 use Rattle.op_name.specs.NameData.{NameData}
 use Rattle.op_name.specs.declared.member.Member.{Member}
 use Rattle.op_name.specs.Operations.{OpData}
@@ -17,14 +18,13 @@ use Rattle.fixed_replay.specs.BaseForms.{AreBaseForms}
 use Rattle.fixed_replay.specs.Replayed.{IsReplayed}
 use Rattle.fixed_replay.specs.Insertions.{insertions_of}
 use Rattle.fixed_replay.proofs.Walk.{replay_along}
-use Rattle.fixed_replay.proofs.Elements.{true_or_false}
 use Rattle.fixed_replay.proofs.Editor.{setting_of}
 use Rattle.fixed_replay.proofs.Sorting.{sort_by-sorted}
 use Rattle.fixed_replay.proofs.SameText.{earlier_asym, earlier_trans, insertions_comparable}
-use Rattle.fixed_replay.proofs.ValidOriginals.{told_apart}
+use Rattle.fixed_replay.proofs.ValidOriginals.{rank_in, told_apart}
 use Rattle.fixed_replay.proofs.FixedList.{fixed_cells}
 use Rattle.fixed_replay.proofs.Reading.{replayed}
-use Rattle.fixed_replay.proofs.ValidFamilies.{valid_family, valid_own_names, valid_ranks, valid_groups, valid_is_family, rank_in, same_inserts}
+use Rattle.fixed_replay.proofs.ValidFamilies.{valid_family, valid_own_names, valid_ranks, valid_groups, valid_is_family, same_inserts}
 
 pub executed_replayed : (h : List OpData) → IsValid h → (form : Member → Form) → AreBaseForms h form → (fs : List Form) → AreFormsFrom form_over (family_in h form) none (members_in h) fs → IsReplayed h (executed applied [] fs)
 executed_replayed h v form forms fs df =
@@ -34,7 +34,7 @@ executed_replayed h v form forms fs df =
     let w = setting_of b known own in
     let st : At w none [] = empty_state w [] refl in
     let rising = sort_by-sorted is_earlier earlier_asym earlier_trans (insertions_in h) (insertions_comparable h (told_apart h v)) in
-    let cells = fixed_cells b known own (rank_in h v form forms) (valid_ranks h v form forms) (valid_groups h v form forms) (fixed_order h) rising (same_inserts h v form forms) fs st df in
+    let cells = fixed_cells b known own (rank_in h v) (valid_ranks h v form forms) (valid_groups h v form forms) (fixed_order h) rising (same_inserts h v form forms) fs st df in
     replayed b known own (valid_groups h v form forms) h (valid_is_family h v form forms) fs st df (sym cells) (told_apart h v)
 
 -- the replay along any causal list
@@ -53,7 +53,7 @@ shown_part h all [] r i = refl
 shown_part h all (d ∷ ds) r i =
     let ih = shown_part h all ds r (λ e j. i e (inr j)) in
     let same = r.shown d (i d (inl refl)) in
-    elim (true_or_false (cell_shown d)) [
+    elim (cases_Bool (cell_shown d)) [
       | inl k ↦ let l : is_shown h (cell_key d) ≡ true = sym same ∙ k in rw (k, l, ih) refl
       | inr k ↦ let l : is_shown h (cell_key d) ≡ false = sym same ∙ k in rw (k, l, ih) refl
     ]
@@ -66,7 +66,7 @@ characters_part h all [] r i = refl
 characters_part h all (d ∷ ds) r i =
     let ih = characters_part h all ds r (λ e j. i e (inr j)) in
     let same = r.characters d (i d (inl refl)) in
-    elim (true_or_false (cell_shown d)) [ inl k ↦ rw (k, same, ih) refl | inr k ↦ rw (k, ih) refl ]
+    elim (cases_Bool (cell_shown d)) [ inl k ↦ rw (k, same, ih) refl | inr k ↦ rw (k, ih) refl ]
 
 pub replayed_characters : (h : List OpData) (cs : List CellData) → IsReplayed h cs → map (λ (d : CellData). d.ch) (filter cell_shown cs) ≡ characters_of h
 replayed_characters h cs r = characters_part h cs cs r (λ d i. i) ∙ ap (map (character_in h)) (replayed_shown h cs r)

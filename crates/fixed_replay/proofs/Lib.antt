@@ -3,9 +3,8 @@ pub mod Counts
 pub mod Stretches
 pub mod Narrowing
 pub mod Sorting
-pub mod Names
+pub mod Operations
 pub mod SameText
-pub mod ValidHistories
 pub mod Ranks
 pub mod ValidOriginals
 pub mod Editor
@@ -18,6 +17,6 @@ pub mod Marking
 pub mod DeleterLists
 pub mod HistoryFamilies
 pub mod Reading
+pub mod BaseFormsHold
 pub mod ValidFamilies
 pub mod Headline
-pub mod BaseFormsHold

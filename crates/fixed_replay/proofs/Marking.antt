@@ -20,14 +20,13 @@ use Rattle.transform_rec.specs.Derived.{IsFamily, weight}
 use Rattle.transform_rec.specs.Derived.Derived.{at_base}
 use Rattle.transform_rec.specs.Executing.{Setting, deriving_of, HasOwnNames, keep, own}
 use Rattle.transform_rec.proofs.Members.{name_self}
-use Rattle.transform_rec.proofs.Lists.{filter_in, filter_keeps, filter-append, length-count}
+use Rattle.transform_rec.proofs.Lists.{filter_in, filter_keeps, filter-append, length-count, in_right, count-append}
 use Rattle.transform_rec.proofs.Sets.{plus_cases, all_in, all_cases}
 use Rattle.transform_rec.proofs.Families.{none_closed, base_sound}
 use Rattle.transform_rec.proofs.Forms.{derived_sound}
 use Rattle.transform_rec.proofs.Executing.{IsForm, Forms, run, At, state_after, forms_run, run_listed, run_closed}
 use Rattle.transform_rec.proofs.Parts.{part_state, one_more, before_cell}
-use Rattle.fixed_replay.proofs.Elements.{not_both, map_same, append-in_right}
-use Rattle.fixed_replay.proofs.Counts.{count-append}
+use Rattle.fixed_replay.proofs.Elements.{not_both, map_same}
 use Rattle.fixed_replay.proofs.Splits.{IsSplit, Split, split}
 use Rattle.fixed_replay.proofs.Editor.{form_inclusion, form_table, setting_of, derived_insert, insert_owner}
 use Rattle.fixed_replay.proofs.CoverStays.{cover_stays}
@@ -82,7 +81,7 @@ module _ (b : Family Form) (known : IsFamily form_inclusion b) (own_names : HasO
     pub once : (before : List Cell) (c : Cell) (behind : List Cell) → S ≡ before ++ (c ∷ behind) → (count (own (Original c.0)) before ≡ 0) × (count (own (Original c.0)) behind ≡ 0)
     once before c behind whole =
         let y : Member = Original c.0 in
-        let i = owner_in c (subst (λ (cs : List Cell). IsIn c cs) (sym whole) (append-in_right c before (c ∷ behind) (inl refl))) in
+        let i = owner_in c (subst (λ (cs : List Cell). IsIn c cs) (sym whole) (in_right c before (c ∷ behind) (inl refl))) in
         let listed = run_listed w L none y (forms_run w L none fs df) i in
         let cells = before_cell w (b.context y) y (b.form y) L [] fs st df (base_within y i) i (at_base listed (λ z. refl) refl) in
         let few = extent_one (b.form y) in

@@ -1,6 +1,6 @@
 -- Marks: after execution each cell has the marks of all the covers that hit it.
 use Rattle.std.proofs.Common.{◌≡◌, ℕ, zero, suc, ◌+◌, Bool, true, false, ◌&&◌, ◌==◌, if◌then◌else◌, List, [], ◌∷◌, ◌++◌, length, filter, inl, inr, refl, ap, ap₂, sym, ◌∙◌, subst, arith}
-use Rattle.std.proofs.lemmas.Bool.{and_parts, and_from}
+use Rattle.std.proofs.lemmas.Bool.{and_parts, and_from, cases_Bool}
 use Rattle.std.proofs.lemmas.Bool.Decides.{nat_tests}
 use Rattle.op_name.specs.NameData.{name_eq}
 use Rattle.op_name.specs.declared.member.Member.{Member}
@@ -17,7 +17,7 @@ use Rattle.transform_rec.specs.Family.{Family}
 use Rattle.transform_rec.specs.Executing.{keep}
 use Rattle.transform_rec.proofs.Members.{name_tells, name_self}
 use Rattle.transform_rec.proofs.Sets.{plus_here, plus_other}
-use Rattle.fixed_replay.proofs.Elements.{true_or_false, not_both}
+use Rattle.fixed_replay.proofs.Elements.{not_both}
 
 -- ---- cells by their places
 
@@ -55,8 +55,8 @@ stands_in (suc n) (d ∷ ds) c h = inr (stands_in n ds c h)
 
 pub count_zero : {K : Type 0} (p : K → Bool) (xs : List K) (x : K) → count p xs ≡ 0 → IsIn x xs → p x ≡ false
 count_zero p [] x h i = absurd i
-count_zero p (y ∷ ys) x h (inl e) = elim (true_or_false (p y)) [ inl k ↦ let u : 1 + count p ys ≡ 0 = rw k at h in absurd (omega arith) | inr k ↦ ap p e ∙ k ]
-count_zero p (y ∷ ys) x h (inr i) = elim (true_or_false (p y)) [ inl k ↦ let u : 1 + count p ys ≡ 0 = rw k at h in absurd (omega arith) | inr k ↦ let u : 0 + count p ys ≡ 0 = rw k at h in count_zero p ys x (omega arith) i ]
+count_zero p (y ∷ ys) x h (inl e) = elim (cases_Bool (p y)) [ inl k ↦ let u : 1 + count p ys ≡ 0 = rw k at h in absurd (omega arith) | inr k ↦ ap p e ∙ k ]
+count_zero p (y ∷ ys) x h (inr i) = elim (cases_Bool (p y)) [ inl k ↦ let u : 1 + count p ys ≡ 0 = rw k at h in absurd (omega arith) | inr k ↦ let u : 0 + count p ys ≡ 0 = rw k at h in count_zero p ys x (omega arith) i ]
 
 -- ---- marks of covers
 
@@ -115,5 +115,5 @@ module _ (b : Family Form) (S : List Cell) where
   pub marks_none : (C : Member → Bool) (c : Cell) (ms : List Member) → ((z : Member) → C z ≡ true → hits_in b S z c ≡ false) → marks_of b S C c ms ≡ bare_at c (b.form (Original c.0))
   marks_none C c [] h = refl
   marks_none C c (m ∷ ms) h =
-      let off : (C m && hits_in b S m c) ≡ false = elim (true_or_false (C m)) [ inl k ↦ rw (k, h m k) refl | inr k ↦ rw k refl ] in
+      let off : (C m && hits_in b S m c) ≡ false = elim (cases_Bool (C m)) [ inl k ↦ rw (k, h m k) refl | inr k ↦ rw k refl ] in
       ap (λ (p : Bool). mark_by (b.form m) p (marks_of b S C c ms)) off ∙ (mark_none (b.form m) (marks_of b S C c ms) ∙ marks_none C c ms h)

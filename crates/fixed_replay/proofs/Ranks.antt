@@ -1,11 +1,15 @@
 -- Ranks: the number of originals in a context grows with the context.
-use Rattle.std.proofs.Common.{◌≡◌, ◌≢◌, ℕ, zero, suc, ◌+◌, ◌<◌, ◌≤◌, true, false, ◌==◌, List, [], ◌∷◌, inl, inr, refl, sym, subst, arith}
+use Rattle.std.proofs.Common.{◌⊎◌, ◌≡◌, ◌≢◌, ℕ, zero, suc, ◌+◌, ◌<◌, ◌≤◌, true, false, ◌==◌, List, [], ◌∷◌, inl, inr, refl, sym, subst, arith, eq-or-lt_of_le}
+use Rattle.std.proofs.lemmas.Bool.{cases_Bool}
 use Rattle.std.proofs.lemmas.Bool.Decides.{nat_tests}
 use Rattle.op_name.specs.declared.member.Member.TheVariants.{Original}
 use Rattle.op_name.specs.NameData.{NameData}
 use Rattle.op_name.specs.Contexts.{ContextData, AreCounts, IsContext, Within, has, count_in, count_of, rank_of, sum_of_counts}
-use Rattle.fixed_replay.proofs.Elements.{true_or_false, not_both}
-use Rattle.fixed_replay.proofs.ValidHistories.{equal_or_less, has_from, from_has}
+use Rattle.fixed_replay.proofs.Elements.{not_both}
+use Rattle.context_diff.proofs.Contexts.{has_number, has_original}
+
+equal_or_less : (a b : ℕ) → a ≤ b → (a ≡ b) ⊎ (a < b)
+equal_or_less a b h = eq-or-lt_of_le h
 
 -- the counts of k sites from the lowest on
 counts_from : ℕ → ℕ → List (ℕ × ℕ) → ℕ
@@ -48,7 +52,7 @@ sum-counts_from : (low k : ℕ) (ps : List (ℕ × ℕ)) → AreCounts low ps �
 unfolding counts_from
 sum-counts_from low k [] a e = sym (counts_nil low k)
 sum-counts_from low zero (p ∷ ps) a e = let b : low ≤ p.0 = a.0 in let c : p.0 < 64 = a.1 in absurd (omega arith)
-sum-counts_from low (suc k) (p ∷ ps) a e = elim (true_or_false (p.0 == low)) [
+sum-counts_from low (suc k) (p ∷ ps) a e = elim (cases_Bool (p.0 == low)) [
   | inl h ↦
       let same : p.0 ≡ low = from_eqb p.0 low h in
       let ih = sum-counts_from (suc low) k ps (subst (λ (x : ℕ). AreCounts x ps) (omega arith) a.4) (omega arith) in
@@ -82,7 +86,7 @@ pub within_count : (c d : ContextData) → Within c d → (s : ℕ) → count_of
 within_count c d w s = elim (equal_or_less 0 (count_of c s) (omega arith)) [
   | inl e ↦ omega arith
   | inr e ↦ let n : NameData = record { site = s; number = count_of c s } in
-      let b = from_has d n (w (Original n) (has_from c n e (omega arith))) in b.1
+      let b = has_number d n (w (Original n) (has_original c n e (omega arith))) in b.1
 ]
 
 count_site : (low : ℕ) (ps : List (ℕ × ℕ)) → AreCounts low ps → (s : ℕ) → 64 ≤ s → count_in ps s ≡ 0
@@ -100,10 +104,10 @@ pub rank_less : (c d : ContextData) → IsContext c → IsContext d → Within c
 rank_less c d f g w n there missing =
     let a = sum-counts_from 0 64 c.counts f.counts refl in
     let b = sum-counts_from 0 64 d.counts g.counts refl in
-    let t = from_has d n there in
+    let t = has_number d n there in
     let low : 1 ≤ n.number = t.0 in
     let up : n.number ≤ count_of d n.site = t.1 in
-    let more : count_of c n.site < count_of d n.site = less_count n.number (count_of c n.site) (count_of d n.site) low up (λ k. not_both (has_from c n low k) missing) in
+    let more : count_of c n.site < count_of d n.site = less_count n.number (count_of c n.site) (count_of d n.site) low up (λ k. not_both (has_original c n low k) missing) in
     let site : n.site < 64 = below_all (count_of d n.site) n.site (count_site 0 d.counts g.counts n.site) (omega arith) in
     let m = counts_more 0 64 c.counts d.counts (within_count c d w) n.site (omega arith) site more in
     omega arith

@@ -1,6 +1,6 @@
 -- Reading the marks: a cell's generation is that of its insert in the history, and it is shown as the history says.
 use Rattle.std.proofs.Common.{◌≡◌, ◌↔◌, ℕ, suc, ◌≤◌, max, Bool, true, false, not, ◌&&◌, ◌==◌, if◌then◌else◌, List, [], ◌∷◌, ◌++◌, length, filter, map, take, drop, ◌⊎◌, inl, inr, refl, ap, ap₂, sym, ◌∙◌, subst, arith, length-take-le}
-use Rattle.std.proofs.lemmas.Bool.{both_ways, and_parts, and_from, false_from_ne_true}
+use Rattle.std.proofs.lemmas.Bool.{both_ways, and_parts, and_from, false_from_ne_true, cases_Bool}
 use Rattle.std.specs.List.{list_any}
 use Rattle.op_name.specs.NameData.{NameData, name_eq}
 use Rattle.op_name.specs.declared.member.Member.{Member}
@@ -25,7 +25,7 @@ use Rattle.transform_rec.specs.Derived.{IsFamily, weight}
 use Rattle.transform_rec.specs.Derived.Derived.{at_base}
 use Rattle.transform_rec.specs.Executing.{Setting, HasOwnNames, keep}
 use Rattle.transform_rec.proofs.Members.{name_tells, name_self}
-use Rattle.transform_rec.proofs.Lists.{filter_all}
+use Rattle.transform_rec.proofs.Lists.{filter_all, filter_same}
 use Rattle.transform_rec.proofs.Sets.{plus_here, plus_keeps, plus_cases, all_in}
 use Rattle.transform_rec.proofs.Families.{base_sound}
 use Rattle.transform_rec.proofs.Executing.{Forms, run, At, state_after}
@@ -35,32 +35,13 @@ use Rattle.fixed_replay.specs.Families.{HasGroups}
 use Rattle.fixed_replay.specs.Replayed.{IsDeleter, IsReplayed}
 use Rattle.fixed_replay.specs.BaseForms.{IsCoverForm}
 use Rattle.fixed_replay.proofs.HistoryFamilies.{IsFamilyOf}
-use Rattle.fixed_replay.proofs.Elements.{true_or_false, not_both, same_bool, filter_same, map_same, any_in, in_any}
+use Rattle.fixed_replay.proofs.Elements.{not_both, same_bool, map_same, any_in, in_any}
+use Rattle.fixed_replay.proofs.Operations.{member_listed, listed_member, one_operation}
 use Rattle.fixed_replay.proofs.SameText.{IsPut, in-replay_of, character_at}
 use Rattle.fixed_replay.proofs.Editor.{form_inclusion, form_table, setting_of}
 use Rattle.fixed_replay.proofs.Marks.{stands_behind, mark_by, bare_at, hits_in, marks_of, marks_same}
 use Rattle.fixed_replay.proofs.Marking.{state_marks}
 use Rattle.fixed_replay.proofs.DeleterLists.{Entry, in-raise, entry_best, best_entry, best_more}
-
--- ---- members of a history
-
-pub member_listed : (o : OpData) (h : List OpData) → IsIn o h → IsIn (member_of o) (members_in h)
-member_listed o [] i = absurd i
-member_listed o (p ∷ ps) (inl e) = inl (ap member_of e)
-member_listed o (p ∷ ps) (inr i) = inr (member_listed o ps i)
-
-pub listed_member : (m : Member) (h : List OpData) → IsIn m (members_in h) → (o : OpData) × IsIn o h × (member_of o ≡ m)
-listed_member m [] i = absurd i
-listed_member m (p ∷ ps) (inl e) = (p, inl refl, sym e)
-listed_member m (p ∷ ps) (inr i) = let r = listed_member m ps i in (r.0, inr r.1, r.2)
-
--- where no member stands twice, a member is one operation
-pub one_operation : (h : List OpData) → AreApart (members_in h) → (o p : OpData) → IsIn o h → IsIn p h → member_of o ≡ member_of p → o ≡ p
-one_operation [] a o p i j e = absurd i
-one_operation (q ∷ qs) a o p (inl k) (inl l) e = k ∙ sym l
-one_operation (q ∷ qs) a o p (inl k) (inr j) e = absurd (a.0 (member_of p) (member_listed p qs j) (ap member_of (sym k) ∙ e))
-one_operation (q ∷ qs) a o p (inr i) (inl l) e = absurd (a.0 (member_of o) (member_listed o qs i) (ap member_of (sym l) ∙ sym e))
-one_operation (q ∷ qs) a o p (inr i) (inr j) e = one_operation qs a.1 o p i j e
 
 offset_zero : (s : List CellData) (c : Cell) → IsIn c (cells_of s) → c.1 ≡ 0
 offset_zero [] c i = absurd i
@@ -279,7 +260,7 @@ module _ (b : Family Form) (known : IsFamily form_inclusion b) (own_names : HasO
 
     -- the best of d after a raise of n, if it happens
     raise_best : (d n : NameData) (g : ℕ) (hit : Bool) (es : List Entry) → (name_eq n d ≡ true → hit ≡ true) → best d (if hit then raise_in n g es else es) ≡ max (if name_eq n d then suc g else 0) (best d es)
-    raise_best d n g hit es f = elim (true_or_false (name_eq n d)) [
+    raise_best d n g hit es f = elim (cases_Bool (name_eq n d)) [
       | inl k ↦ let s : n ≡ d = name_tells n d k in let e : best d (raise_in n g es) ≡ max (suc g) (best d es) = subst (λ (m : NameData). best d (raise_in m g es) ≡ max (suc g) (best d es)) (sym s) (best_raise d g es) in rw (f k, k) e
       | inr k ↦ rw k (by_hit hit k)
     ]
@@ -407,16 +388,16 @@ module _ (b : Family Form) (known : IsFamily form_inclusion b) (own_names : HasO
     -- a deleter is a delete that hits the cell, at its generation
     entry_delete : (c : Cell) (n : NameData) (g : ℕ) → IsIn (n, g) (marks c h).deleters → IsDeleter h c n × (g ≡ generation_in h n)
     entry_delete c n g i =
-      let del = entries_are h all_h c (n, g) i in
-      let one = entry_best (n, g) (marks c h).deleters (marks_rising (members_in h) c) i in
-      let two = best_of_delete c n del in
-      let same : g ≡ generation_in h n = omega arith in
-      (record { place = del.place; context = del.context; there = del.there; hit = sym (delete_hits n del.place del.context c del.there) ∙ del.hit }, same)
+        let del = entries_are h all_h c (n, g) i in
+        let one = entry_best (n, g) (marks c h).deleters (marks_rising (members_in h) c) i in
+        let two = best_of_delete c n del in
+        let same : g ≡ generation_in h n = omega arith in
+        (record { place = del.place; context = del.context; there = del.there; hit = sym (delete_hits n del.place del.context c del.there) ∙ del.hit }, same)
 
     delete_entry : (c : Cell) (n : NameData) (g : ℕ) → IsDeleter h c n → g ≡ generation_in h n → IsIn (n, g) (marks c h).deleters
     delete_entry c n g r e =
-      let del : Deletes n c = record { place = r.place; context = r.context; there = r.there; hit = delete_hits n r.place r.context c r.there ∙ r.hit } in
-      best_entry n g (marks c h).deleters (best_of_delete c n del ∙ ap suc (sym e))
+        let del : Deletes n c = record { place = r.place; context = r.context; there = r.there; hit = delete_hits n r.place r.context c r.there ∙ r.hit } in
+        best_entry n g (marks c h).deleters (best_of_delete c n del ∙ ap suc (sym e))
 
     -- a deleter in force is a delete in force that hits the cell
     covered_is : (c : Cell) → list_any (λ (e : Entry). is_even e.1) (marks c h).deleters ≡ list_any (covers h c) h
@@ -494,6 +475,7 @@ module _ (b : Family Form) (known : IsFamily form_inclusion b) (own_names : HasO
         key_of d c i e = ap cell_key e ∙ key_is c i
 
         deleters_by : (d : CellData) (c : Cell) → d ≡ marks c h → cell_key d ≡ c → (n : NameData) (g : ℕ) → IsIn (n, g) d.deleters ↔ (IsDeleter h (cell_key d) n × (g ≡ generation_in h n))
-        deleters_by d c e k n g =
-          ( λ i. let r = entry_delete c n g (subst (λ (x : CellData). IsIn (n, g) x.deleters) e i) in (subst (λ (x : Cell). IsDeleter h x n) (sym k) r.0, r.1)
-          , λ r. subst (λ (x : CellData). IsIn (n, g) x.deleters) (sym e) (delete_entry c n g (subst (λ (x : Cell). IsDeleter h x n) k r.0) r.1) )
+        deleters_by d c e k n g = (
+          λ i. let r = entry_delete c n g (subst (λ (x : CellData). IsIn (n, g) x.deleters) e i) in (subst (λ (x : Cell). IsDeleter h x n) (sym k) r.0, r.1),
+          λ r. subst (λ (x : CellData). IsIn (n, g) x.deleters) (sym e) (delete_entry c n g (subst (λ (x : Cell). IsDeleter h x n) k r.0) r.1),
+        )

@@ -1,22 +1,22 @@
 -- Two histories with the same originals, each at the same generation, have the same text.
 use Rattle.std.proofs.Common.{◌≡◌, ◌≢◌, ℕ, Bool, true, false, not, ◌&&◌, List, [], ◌∷◌, map, filter, encode_utf8_all, ◌⊎◌, inl, inr, refl, ap, ap₂, sym, ◌∙◌, subst, arith}
-use Rattle.std.proofs.lemmas.Bool.{or_left, or_right}
+use Rattle.transform_rec.proofs.Lists.{filter_same, filter_in}
+use Rattle.std.proofs.lemmas.Bool.{cases_Bool}
 use Rattle.std.proofs.lemmas.Bool.Decides.{nat_tests}
 use Rattle.std.specs.List.{list_any}
-use Rattle.op_name.specs.declared.member.Member.{Member}
 use Rattle.op_name.specs.declared.member.Member.TheVariants.{Original}
 use Rattle.op_name.specs.NameData.{NameData, name_eq}
-use Rattle.op_name.specs.Members.{member_eq}
 use Rattle.op_name.specs.Contexts.{ContextData, has, rank_of}
 use Rattle.op_name.specs.Operations.{OpData, inserting, deleting, undoing, member_of, is_original}
-use Rattle.op_name.specs.Histories.{is_known, in_force, is_even, Same}
+use Rattle.op_name.specs.Histories.{in_force, is_even, Same}
 use Rattle.op_name.specs.Replays.{Insertion, Cell, cells_from, insertions_in, is_earlier, fixed_order, replay, replay_of, stands_at, hits, covers, is_shown, shown, character_in, characters_of, text_of}
 use Rattle.fixed_replay.specs.Originals.{AreTold, AreToldFrom, AreToldApart}
 use Rattle.transform_rec.specs.Lists.{IsIn, SameElements}
-use Rattle.fixed_replay.proofs.Elements.{true_or_false, same_bool, contains_in, in_contains, any_in, in_any, filter_same, map_same, in-filter}
+use Rattle.fixed_replay.proofs.Elements.{same_bool, contains_in, in_contains, any_in, in_any, map_same}
 use Rattle.fixed_replay.proofs.Sorting.{AreComparable, in-sort_by, sort_by-in, sort_by-sorted, sorted_once}
 use Rattle.fixed_replay.proofs.Narrowing.{in-replay}
-use Rattle.fixed_replay.proofs.Names.{name_tells, name_self, member_self}
+use Rattle.transform_rec.proofs.Members.{name_tells, name_self}
+use Rattle.fixed_replay.proofs.Operations.{known_as}
 
 -- what is told from all is told from each
 pub told_from : (o : OpData) (os : List OpData) → AreToldFrom o os → (p : OpData) → IsIn p os → AreTold o p
@@ -108,14 +108,6 @@ module _ (h k : List OpData) (told_h : AreToldApart h) (told_k : AreToldApart k)
   pub same_replay : replay_of h ≡ replay_of k
   same_replay = ap (replay [] []) same_order
 
--- an original of the list is known by its name
-pub in_known : (o : OpData) (n : NameData) (h : List OpData) → IsIn o h → member_of o ≡ Original n → is_known h (Original n) ≡ true
-in_known o n [] i e = absurd i
-in_known o n (p ∷ ps) (inl q) e =
-    let s : member_of p ≡ Original n = ap member_of (sym q) ∙ e in
-    or_left (member_eq (member_of p) (Original n)) (is_known ps (Original n)) (subst (λ (m : Member). member_eq m (Original n) ≡ true) (sym s) (member_self (Original n)))
-in_known o n (p ∷ ps) (inr i) e = or_right (member_eq (member_of p) (Original n)) (is_known ps (Original n)) (in_known o n ps i e)
-
 -- a cell of the replay is of an insert
 pub record IsPut (h : List OpData) (c : Cell) : Type 0 where
   pub place : ℕ
@@ -145,7 +137,7 @@ character_at (inserting n' p' ch' ctx' ∷ os) t n p ch ctx offset (inl e) =
     let b : ch' ≡ ch = (cc) in
     let eq : name_eq n' n ≡ true = subst (λ (m : NameData). name_eq n' m ≡ true) a (name_self n') in
     rw eq b
-character_at (inserting n' p' ch' ctx' ∷ os) t n p ch ctx offset (inr i) = elim (true_or_false (name_eq n' n)) [
+character_at (inserting n' p' ch' ctx' ∷ os) t n p ch ctx offset (inr i) = elim (cases_Bool (name_eq n' n)) [
   | inl eq ↦ absurd ((told_from (inserting n' p' ch' ctx') os t.0 (inserting n p ch ctx) i).names refl refl (ap Original (name_tells n' n eq)))
   | inr eq ↦ rw eq (character_at os t.1 n p ch ctx offset i)
 ]
@@ -158,7 +150,7 @@ character_at (undoing s n' g ctx' ∷ os) t n p ch ctx offset (inr i) = characte
 
 module _ (h k : List OpData) (told_h : AreToldApart h) (told_k : AreToldApart k) (same : Same h k) where
   same_force : (o : OpData) (n : NameData) → IsIn o h → member_of o ≡ Original n → in_force h n ≡ in_force k n
-  same_force o n i e = ap is_even (same.generations n (in_known o n h i e))
+  same_force o n i e = ap is_even (same.generations n (known_as o (Original n) h i e))
 
   same_hits : (n : NameData) (p : ℕ) (ctx : ContextData) (c : Cell) → hits h (deleting n p ctx) c ≡ hits k (deleting n p ctx) c
   same_hits n p ctx c = ap (λ (cs : List Cell). stands_at p (filter (λ d. has ctx (Original d.0)) cs) c) (same_replay h k told_h told_k same)
@@ -197,7 +189,7 @@ module _ (h k : List OpData) (told_h : AreToldApart h) (told_k : AreToldApart k)
 
   same_character : (c : Cell) → IsIn c (shown h) → character_in h c ≡ character_in k c
   same_character c i =
-      let r = in-replay_of h c (in-filter (is_shown h) c (replay_of h) i).0 in
+      let r = in-replay_of h c (filter_in (is_shown h) c (replay_of h) i).0 in
       character_at h told_h c.0 r.place r.character r.context c.1 r.there
       ∙ sym (character_at k told_k c.0 r.place r.character r.context c.1 (forth h k told_h told_k same (inserting c.0 r.place r.character r.context) refl r.there))
 

@@ -1,8 +1,9 @@
 -- Sorting by insertion: the same elements in order, and one list of given elements in a strict order.
 use Rattle.std.proofs.Common.{◌≡◌, Bool, true, false, List, [], ◌∷◌, ◌⊎◌, inl, inr, refl, ap, sym, ◌∙◌, subst}
+use Rattle.std.proofs.lemmas.Bool.{cases_Bool}
 use Rattle.op_name.specs.Replays.{put_by, sort_by}
 use Rattle.transform_rec.specs.Lists.{IsIn, SameElements, IsRising}
-use Rattle.fixed_replay.proofs.Elements.{true_or_false, not_both, IsPairwise}
+use Rattle.fixed_replay.proofs.Elements.{not_both, IsPairwise}
 
 -- a strict order of the elements of a list: of two at different places one is less
 abbrev pub AreComparable : {A : Type 0} → (A → A → Bool) → List A → Type 0
@@ -16,18 +17,18 @@ pub in-put_by : {A : Type 0} (less : A → A → Bool) (z x : A) (ys : List A) �
 unfolding put_by
 in-put_by less z x [] (inl e) = inl e
 in-put_by less z x [] (inr i) = absurd i
-in-put_by less z x (y ∷ ys) i = elim (true_or_false (less x y)) [ inl h ↦ rw h at i | inr h ↦ passed less z x y ys (in-put_by less z x ys) (rw h at i) ]
+in-put_by less z x (y ∷ ys) i = elim (cases_Bool (less x y)) [ inl h ↦ rw h at i | inr h ↦ passed less z x y ys (in-put_by less z x ys) (rw h at i) ]
 
 pub put_by-new : {A : Type 0} (less : A → A → Bool) (x : A) (ys : List A) → IsIn x (put_by less x ys)
 unfolding put_by
 put_by-new less x [] = inl refl
-put_by-new less x (y ∷ ys) = elim (true_or_false (less x y)) [ inl h ↦ rw h (inl refl) | inr h ↦ rw h (inr (put_by-new less x ys)) ]
+put_by-new less x (y ∷ ys) = elim (cases_Bool (less x y)) [ inl h ↦ rw h (inl refl) | inr h ↦ rw h (inr (put_by-new less x ys)) ]
 
 pub put_by-old : {A : Type 0} (less : A → A → Bool) (z x : A) (ys : List A) → IsIn z ys → IsIn z (put_by less x ys)
 unfolding put_by
 put_by-old less z x [] i = absurd i
-put_by-old less z x (y ∷ ys) (inl e) = elim (true_or_false (less x y)) [ inl h ↦ rw h (inr (inl e)) | inr h ↦ rw h (inl e) ]
-put_by-old less z x (y ∷ ys) (inr i) = elim (true_or_false (less x y)) [ inl h ↦ rw h (inr (inr i)) | inr h ↦ rw h (inr (put_by-old less z x ys i)) ]
+put_by-old less z x (y ∷ ys) (inl e) = elim (cases_Bool (less x y)) [ inl h ↦ rw h (inr (inl e)) | inr h ↦ rw h (inl e) ]
+put_by-old less z x (y ∷ ys) (inr i) = elim (cases_Bool (less x y)) [ inl h ↦ rw h (inr (inr i)) | inr h ↦ rw h (inr (put_by-old less z x ys i)) ]
 
 pub in-sort_by : {A : Type 0} (less : A → A → Bool) (z : A) (xs : List A) → IsIn z (sort_by less xs) → IsIn z xs
 unfolding sort_by
@@ -44,7 +45,7 @@ module _ {A : Type 0} (less : A → A → Bool) (asym : (x y : A) → less x y �
   pub put_by-sorted : (x : A) (ys : List A) → ((z : A) → IsIn z ys → (less x z ≡ true) ⊎ (less z x ≡ true)) → IsRising less ys → IsRising less (put_by less x ys)
   unfolding put_by
   put_by-sorted x [] c s = (λ z i. absurd i, tt)
-  put_by-sorted x (y ∷ ys) c s = elim (true_or_false (less x y)) [
+  put_by-sorted x (y ∷ ys) c s = elim (cases_Bool (less x y)) [
     | inl h ↦ rw h (before h, s)
     | inr h ↦ rw h (behind h, put_by-sorted x ys (λ z i. c z (inr i)) s.1)
   ]

@@ -1,9 +1,10 @@
 -- Splits of a list at the element that stands behind so many that pass a test.
 use Rattle.std.proofs.Common.{◌≡◌, ℕ, zero, suc, ◌+◌, ◌<◌, Bool, true, List, [], ◌∷◌, ◌++◌, inl, inr, refl, ap, ◌∙◌, subst, arith, if◌then◌else◌}
+use Rattle.std.proofs.lemmas.Bool.{cases_Bool}
+use Rattle.transform_rec.proofs.Lists.{count-append}
 use Rattle.ttf_form.specs.Places.{IsMoved}
 use Rattle.transform_rec.specs.Lists.{count, either, EachAt}
-use Rattle.fixed_replay.proofs.Elements.{true_or_false}
-use Rattle.fixed_replay.proofs.Counts.{count-append, count-either, AreDisjoint, each-append, begins-late}
+use Rattle.fixed_replay.proofs.Counts.{count-either, AreDisjoint, each-append, begins-late}
 use Rattle.fixed_replay.proofs.Stretches.{three}
 
 -- c passes, and n that pass stand before it
@@ -23,11 +24,11 @@ more_split {K} p n m x xs e s = record { before = x ∷ s.before; it = s.it; beh
 
 pub split : {K : Type 0} (p : K → Bool) (n : ℕ) (S : List K) → n < count p S → Split p n S
 split p n [] h = absurd (omega arith)
-split p zero (x ∷ xs) h = elim (true_or_false (p x)) [
+split p zero (x ∷ xs) h = elim (cases_Bool (p x)) [
   | inl k ↦ record { before = []; it = x; behind = xs; is = record { whole = refl; passes = k; at = refl } }
   | inr k ↦ let l : 0 < 0 + count p xs = rw k at h in more_split p 0 0 x xs (rw k refl) (split p zero xs (omega arith))
 ]
-split p (suc n) (x ∷ xs) h = elim (true_or_false (p x)) [
+split p (suc n) (x ∷ xs) h = elim (cases_Bool (p x)) [
   | inl k ↦ let l : suc n < 1 + count p xs = rw k at h in more_split p (suc n) n x xs (rw k (omega arith)) (split p n xs (omega arith))
   | inr k ↦ let l : suc n < 0 + count p xs = rw k at h in more_split p (suc n) (suc n) x xs (rw k (omega arith)) (split p (suc n) xs (omega arith))
 ]
@@ -37,7 +38,7 @@ each-few : {K : Type 0} (p x : K → Bool) (q k : ℕ) (cs : List K) → count p
 each-few p x q k [] h e = refl
 each-few p x q k (c ∷ cs) h e =
     let ih = each-few p x q ((if p c then 1 else 0) + k) cs (omega arith) e.1 in
-    elim (true_or_false (x c)) [ inl t ↦ let b : k ≡ q = e.0 t in absurd (omega arith) | inr f ↦ rw (f, ih) refl ]
+    elim (cases_Bool (x c)) [ inl t ↦ let b : k ≡ q = e.0 t in absurd (omega arith) | inr f ↦ rw (f, ih) refl ]
 
 -- what stands before c when the cells of x come in: all of them, if their place is at most that of c, and none otherwise
 pub split_moves : {K : Type 0} (p x : K → Bool) → AreDisjoint p x → (S before : List K) (c : K) (behind : List K) → S ≡ before ++ (c ∷ behind) → p c ≡ true → (q : ℕ) → EachAt p x q 0 S → (n' : ℕ) → IsMoved (count p before) q (count x S) true n' → count (either p x) before ≡ n'

@@ -1,39 +1,41 @@
 -- Stretches: what a gap is among cells, where it starts, and how one more insert narrows it.
 use Rattle.std.proofs.Common.{◌≡◌, ℕ, zero, suc, ◌+◌, ◌<◌, ◌≤◌, Bool, true, false, ◌||◌, List, [], ◌∷◌, ◌++◌, length, take, drop, if◌then◌else◌, ◌⊎◌, inl, inr, refl, ap, sym, ◌∙◌, subst, arith, append_assoc, append-nil}
+use Rattle.std.proofs.lemmas.Bool.{cases_Bool}
+use Rattle.transform_rec.proofs.Lists.{in_left, in_right, count-append}
 use Rattle.std.specs.List.{list_any}
 use Rattle.std.proofs.Math.Seq.{take-append_seam, drop-append_seam}
 use Rattle.ttf_form.specs.Places.{IsMoved}
 use Rattle.op_name.specs.Gaps.{Gap, until, onward, through, beyond, gap, narrow}
 use Rattle.transform_rec.specs.Lists.{IsIn, count, either, EachAt}
-use Rattle.fixed_replay.proofs.Elements.{true_or_false, not_both, append-in_left, append-in_right}
-use Rattle.fixed_replay.proofs.Counts.{count-append, count-either, any_count, count_any, count_all, AreDisjoint, each-append, each-late, each-between, each-early, begins-late, BeginsIn, EndsIn, ends-more, ends-append, ends-cons, begins-more, begins-append}
+use Rattle.fixed_replay.proofs.Elements.{not_both}
+use Rattle.fixed_replay.proofs.Counts.{count-either, any_count, count_any, count_all, AreDisjoint, each-append, each-late, each-between, each-early, begins-late, BeginsIn, EndsIn, ends-more, ends-append, ends-cons, begins-more, begins-append}
 
 -- the four parts of a list
 
 pub until-onward : {K : Type 0} (p : K → Bool) (xs : List K) → until p xs ++ onward p xs ≡ xs
 unfolding until onward
 until-onward p [] = refl
-until-onward {K} p (x ∷ xs) = elim (true_or_false (p x)) [ inl h ↦ rw h refl | inr h ↦ rw h (ap (λ (ys : List K). x ∷ ys) (until-onward p xs)) ]
+until-onward {K} p (x ∷ xs) = elim (cases_Bool (p x)) [ inl h ↦ rw h refl | inr h ↦ rw h (ap (λ (ys : List K). x ∷ ys) (until-onward p xs)) ]
 
 pub until_none : {K : Type 0} (p : K → Bool) (xs : List K) → count p (until p xs) ≡ 0
 unfolding until
 until_none p [] = refl
-until_none p (x ∷ xs) = elim (true_or_false (p x)) [ inl h ↦ rw h refl | inr h ↦ rw (h, h, until_none p xs) refl ]
+until_none p (x ∷ xs) = elim (cases_Bool (p x)) [ inl h ↦ rw h refl | inr h ↦ rw (h, h, until_none p xs) refl ]
 
 pub onward_begins : {K : Type 0} (p : K → Bool) (xs : List K) → BeginsIn p (onward p xs)
 unfolding onward
 onward_begins p [] = tt
-onward_begins p (x ∷ xs) = elim (true_or_false (p x)) [ inl h ↦ rw h h | inr h ↦ rw h (onward_begins p xs) ]
+onward_begins p (x ∷ xs) = elim (cases_Bool (p x)) [ inl h ↦ rw h h | inr h ↦ rw h (onward_begins p xs) ]
 
 pub through-beyond : {K : Type 0} (p : K → Bool) (xs : List K) → through p xs ++ beyond p xs ≡ xs
 unfolding through beyond
 through-beyond p [] = refl
-through-beyond {K} p (x ∷ xs) = elim (true_or_false (p x || list_any p xs)) [ inl h ↦ rw h (ap (λ (ys : List K). x ∷ ys) (through-beyond p xs)) | inr h ↦ rw h refl ]
+through-beyond {K} p (x ∷ xs) = elim (cases_Bool (p x || list_any p xs)) [ inl h ↦ rw h (ap (λ (ys : List K). x ∷ ys) (through-beyond p xs)) | inr h ↦ rw h refl ]
 
 pub beyond_none : {K : Type 0} (p : K → Bool) (xs : List K) → count p (beyond p xs) ≡ 0
 unfolding beyond
 beyond_none p [] = refl
-beyond_none p (x ∷ xs) = elim (true_or_false (p x || list_any p xs)) [ inl h ↦ rw h (beyond_none p xs) | inr h ↦ rw h (count_any p (x ∷ xs) h) ]
+beyond_none p (x ∷ xs) = elim (cases_Bool (p x || list_any p xs)) [ inl h ↦ rw h (beyond_none p xs) | inr h ↦ rw h (count_any p (x ∷ xs) h) ]
 
 through_some : {K : Type 0} (p : K → Bool) (xs : List K) → list_any p xs ≡ true → through p xs ≡ [] → ⊥
 unfolding through
@@ -41,24 +43,24 @@ through_some p [] h e = not_both h refl
 through_some {K} p (y ∷ ys) h e = let k : (p y || list_any p ys) ≡ true = h in let u : y ∷ through p ys ≡ [] = rw k at e in cc
 
 ends_through : {K : Type 0} (p : K → Bool) (x : K) (xs : List K) → (p x || list_any p xs) ≡ true → through p xs ≡ [] → p x ≡ true
-ends_through p x xs h e = elim (true_or_false (p x)) [ inl k ↦ k | inr k ↦ absurd (through_some p xs (rw k at h) e) ]
+ends_through p x xs h e = elim (cases_Bool (p x)) [ inl k ↦ k | inr k ↦ absurd (through_some p xs (rw k at h) e) ]
 
 pub through_ends : {K : Type 0} (p : K → Bool) (xs : List K) → EndsIn p (through p xs)
 unfolding through
 through_ends p [] = tt
-through_ends p (x ∷ xs) = elim (true_or_false (p x || list_any p xs)) [ inl h ↦ rw h (ends-cons p x (through p xs) (through_ends p xs) (ends_through p x xs h)) | inr h ↦ rw h tt ]
+through_ends p (x ∷ xs) = elim (cases_Bool (p x || list_any p xs)) [ inl h ↦ rw h (ends-cons p x (through p xs) (through_ends p xs) (ends_through p x xs h)) | inr h ↦ rw h tt ]
 
 -- without an element that passes
 
 pub until_all : {K : Type 0} (p : K → Bool) (xs : List K) → count p xs ≡ 0 → until p xs ≡ xs
 unfolding until
 until_all p [] h = refl
-until_all {K} p (x ∷ xs) h = elim (true_or_false (p x)) [ inl k ↦ let e : 1 + count p xs ≡ 0 = rw k at h in absurd (omega arith) | inr k ↦ let e : 0 + count p xs ≡ 0 = rw k at h in rw k (ap (λ (ys : List K). x ∷ ys) (until_all p xs (omega arith))) ]
+until_all {K} p (x ∷ xs) h = elim (cases_Bool (p x)) [ inl k ↦ let e : 1 + count p xs ≡ 0 = rw k at h in absurd (omega arith) | inr k ↦ let e : 0 + count p xs ≡ 0 = rw k at h in rw k (ap (λ (ys : List K). x ∷ ys) (until_all p xs (omega arith))) ]
 
 pub onward_nothing : {K : Type 0} (p : K → Bool) (xs : List K) → count p xs ≡ 0 → onward p xs ≡ []
 unfolding onward
 onward_nothing p [] h = refl
-onward_nothing p (x ∷ xs) h = elim (true_or_false (p x)) [ inl k ↦ let e : 1 + count p xs ≡ 0 = rw k at h in absurd (omega arith) | inr k ↦ let e : 0 + count p xs ≡ 0 = rw k at h in rw k (onward_nothing p xs (omega arith)) ]
+onward_nothing p (x ∷ xs) h = elim (cases_Bool (p x)) [ inl k ↦ let e : 1 + count p xs ≡ 0 = rw k at h in absurd (omega arith) | inr k ↦ let e : 0 + count p xs ≡ 0 = rw k at h in rw k (onward_nothing p xs (omega arith)) ]
 
 pub through_nothing : {K : Type 0} (p : K → Bool) (xs : List K) → count p xs ≡ 0 → through p xs ≡ []
 unfolding through
@@ -98,10 +100,10 @@ pub record Stretch {K : Type 0} (S : List K) (p : K → Bool) (n : ℕ) (g : Gap
   pub begins : BeginsIn p g.behind
 
 grown_count : {K : Type 0} (p : K → Bool) (n : ℕ) (c : K) (cs : List K) → count p cs ≡ (if p c then n else suc n) → count p (c ∷ cs) ≡ suc n
-grown_count p n c cs h = elim (true_or_false (p c)) [ inl k ↦ let e : count p cs ≡ n = rw k at h in rw k (omega arith) | inr k ↦ let e : count p cs ≡ suc n = rw k at h in rw k (omega arith) ]
+grown_count p n c cs h = elim (cases_Bool (p c)) [ inl k ↦ let e : count p cs ≡ n = rw k at h in rw k (omega arith) | inr k ↦ let e : count p cs ≡ suc n = rw k at h in rw k (omega arith) ]
 
 grown_end : {K : Type 0} (p : K → Bool) (n : ℕ) (c : K) (cs : List K) → count p cs ≡ (if p c then n else suc n) → cs ≡ [] → p c ≡ true
-grown_end p n c cs h e = elim (true_or_false (p c)) [ inl k ↦ k | inr k ↦ let u : count p cs ≡ suc n = rw k at h in let v : count p cs ≡ 0 = ap (count p) e in absurd (omega arith) ]
+grown_end p n c cs h e = elim (cases_Bool (p c)) [ inl k ↦ k | inr k ↦ let u : count p cs ≡ suc n = rw k at h in let v : count p cs ≡ 0 = ap (count p) e in absurd (omega arith) ]
 
 grown : {K : Type 0} (p : K → Bool) (n : ℕ) (c : K) (cs : List K) (g : Gap K) → Stretch cs p (if p c then n else suc n) g → Stretch (c ∷ cs) p (suc n) (record g { before = c ∷ g.before })
 grown {K} p n c cs g s = record {
@@ -113,7 +115,7 @@ grown {K} p n c cs g s = record {
 }
 
 fewer : {K : Type 0} (p : K → Bool) (n : ℕ) (c : K) (cs : List K) → suc n ≤ count p (c ∷ cs) → (if p c then n else suc n) ≤ count p cs
-fewer p n c cs h = elim (true_or_false (p c)) [ inl k ↦ let e : suc n ≤ 1 + count p cs = rw k at h in rw k (omega arith) | inr k ↦ let e : suc n ≤ 0 + count p cs = rw k at h in rw k (omega arith) ]
+fewer p n c cs h = elim (cases_Bool (p c)) [ inl k ↦ let e : suc n ≤ 1 + count p cs = rw k at h in rw k (omega arith) | inr k ↦ let e : suc n ≤ 0 + count p cs = rw k at h in rw k (omega arith) ]
 
 pub start : {K : Type 0} (p : K → Bool) (n : ℕ) (S : List K) → n ≤ count p S → Stretch S p n (gap p n S)
 unfolding gap
@@ -128,7 +130,7 @@ three (suc n) zero = inl (omega arith)
 three (suc n) (suc q) = elim (three n q) [ inl h ↦ inl (omega arith) | inr h ↦ elim h [ inl k ↦ inr (inl (omega arith)) | inr k ↦ inr (inr (ap suc k)) ] ]
 
 either_right : {K : Type 0} (p x : K → Bool) (c : K) → x c ≡ true → either p x c ≡ true
-either_right p x c h = elim (true_or_false (p c)) [ inl k ↦ rw k refl | inr k ↦ rw (k, h) refl ]
+either_right p x c h = elim (cases_Bool (p c)) [ inl k ↦ rw k refl | inr k ↦ rw (k, h) refl ]
 
 module _ {K : Type 0} (S : List K) (p x : K → Bool) (disjoint : AreDisjoint p x) (q : ℕ) (each : EachAt p x q 0 S) (n : ℕ) (g : Gap K) (s : Stretch S p n g) where
   -- the cells of x in the three lists
@@ -231,8 +233,8 @@ seam xs new ys n h = rw (← h, take-append_seam xs ys, drop-append_seam xs ys) 
 pub whole_gap : {K : Type 0} (S new : List K) (p : K → Bool) (n : ℕ) (g : Gap K) → Stretch S p n g → ((c : K) → IsIn c S → p c ≡ true) → g.before ++ (g.between ++ (new ++ g.behind)) ≡ take n S ++ (new ++ drop n S)
 whole_gap {K} S new p n g s all =
     let in_whole = λ (c : K) (i : IsIn c (whole_of g)). all c (subst (λ (xs : List K). IsIn c xs) (sym s.whole) i) in
-    let before = count_all p g.before (λ c i. in_whole c (append-in_left c g.before (g.between ++ g.behind) i)) in
-    let between = count_all p g.between (λ c i. in_whole c (append-in_right c g.before (g.between ++ g.behind) (append-in_left c g.between g.behind i))) in
+    let before = count_all p g.before (λ c i. in_whole c (in_left c g.before (g.between ++ g.behind) i)) in
+    let between = count_all p g.between (λ c i. in_whole c (in_right c g.before (g.between ++ g.behind) (in_left c g.between g.behind i))) in
     let free = s.free in
     let none : g.between ≡ [] = no_length g.between (omega arith) in
     let at = s.at in

@@ -1,19 +1,21 @@
 -- A valid history is a family of the editor: unrelated base forms are apart, each is bounded by its base context, and its
 -- cells have its own name.
 use Rattle.std.proofs.Common.{◌≡◌, ◌≢◌, ℕ, ◌+◌, ◌<◌, ◌≤◌, Bool, true, false, ◌&&◌, if◌then◌else◌, List, [], ◌∷◌, ◌++◌, ◌⊎◌, inl, inr, refl, ap, ap₂, sym, ◌∙◌, subst, subst₂, arith}
-use Rattle.std.proofs.lemmas.Bool.{both_ways, false_from_ne_true}
+use Rattle.transform_rec.proofs.Lists.{in_left, around}
+use Rattle.std.proofs.lemmas.Bool.{both_ways, false_from_ne_true, cases_Bool}
 use Rattle.op_name.specs.NameData.{NameData}
 use Rattle.op_name.specs.declared.member.Member.{Member}
 use Rattle.op_name.specs.declared.member.Member.TheVariants.{Original, Group}
 use Rattle.op_name.specs.Members.{target_of}
-use Rattle.op_name.specs.Contexts.{ContextData, has, rank_of}
+use Rattle.op_name.specs.Contexts.{ContextData, has}
 use Rattle.op_name.specs.Operations.{OpData, inserting, deleting, undoing, member_of, context_of, is_insert}
-use Rattle.op_name.specs.Histories.{members_in, is_known, inserts_in, IsValid}
+use Rattle.op_name.specs.Histories.{members_in, is_known, inserts_in, IsValid, IsNext}
 use Rattle.op_name.specs.Replays.{Insertion, insertions_in, fixed_order, is_earlier}
 use Rattle.context_diff.specs.Bases.{original_context, base_has}
+use Rattle.context_diff.proofs.Valid.{valid_before}
 use Rattle.context_diff.proofs.Complete.{IsComplete, complete}
 use Rattle.context_diff.proofs.Histories.{context_is, group_facts, related}
-use Rattle.context_diff.proofs.Closed.{base_group, in_original, group_has_target, base_listed, base_closed, base_stray, base_itself}
+use Rattle.context_diff.proofs.Closed.{base_original, base_group, in_original, group_has_target, base_listed, base_closed, base_stray, base_itself}
 use Rattle.ttf_form.specs.declared.ins.Ins.{Ins}
 use Rattle.ttf_form.specs.declared.form.Form.{Form}
 use Rattle.ttf_form.specs.declared.form.Form.TheVariants.{Ins as Insert, Cover as Covered}
@@ -29,22 +31,33 @@ use Rattle.transform_rec.proofs.Histories.{known_in, in_known, history_causal}
 use Rattle.transform_rec.proofs.Sets.{plus_within, sum_plus}
 use Rattle.fixed_replay.specs.Families.{HasRanks, HasGroups}
 use Rattle.fixed_replay.specs.BaseForms.{AreBaseForms}
-use Rattle.fixed_replay.proofs.Elements.{true_or_false, in_contains, append-in_left}
+use Rattle.fixed_replay.proofs.Elements.{in_contains}
 use Rattle.fixed_replay.proofs.HistoryFamilies.{IsFamilyOf}
-use Rattle.fixed_replay.proofs.ValidHistories.{is_known-in, placed_in, original_is}
-use Rattle.fixed_replay.proofs.ValidOriginals.{rank_grows, told}
+use Rattle.fixed_replay.proofs.ValidOriginals.{rank_in, rank_is, rank_grows, ranks_apart}
 use Rattle.fixed_replay.specs.Insertions.{insertions_of}
 use Rattle.fixed_replay.proofs.Editor.{form_inclusion, form_table}
 use Rattle.fixed_replay.proofs.Sorting.{in-sort_by, sort_by-in}
 use Rattle.fixed_replay.proofs.SameText.{in-insertions, insertions-in, insertion}
 use Rattle.fixed_replay.proofs.FixedList.{in-insertions_of, insertions_of-in}
-use Rattle.fixed_replay.proofs.Reading.{member_listed, listed_member}
+use Rattle.fixed_replay.proofs.Operations.{member_listed, listed_member, known_as}
+
+-- an operation of a valid history, with what stands before and behind it
+record IsPlacedIn (h : List OpData) (o : OpData) : Type 0 where
+  before : List OpData
+  behind : List OpData
+  whole : h ≡ before ++ (o ∷ behind)
+  next : IsNext before o
+
+placed_in : (h : List OpData) → IsValid h → (o : OpData) → IsIn o h → IsPlacedIn h o
+placed_in h v o i =
+    let a = around o h i in
+    record { before = a.before; behind = a.behind; whole = a.whole; next = (valid_before a.before o a.behind (subst IsValid a.whole v)).1 }
 
 -- ---- sums over sets of members
 
 sum_within : (C D : Member → Bool) (f : Member → ℕ) (xs : List Member) → IsSubset C D → sum_where C f xs ≤ sum_where D f xs
 sum_within C D f [] h = omega arith
-sum_within C D f (x ∷ xs) h = let ih = sum_within C D f xs h in elim (true_or_false (C x)) [ inl k ↦ rw (k, h x k) (omega arith) | inr k ↦ rw k (omega arith) ]
+sum_within C D f (x ∷ xs) h = let ih = sum_within C D f xs h in elim (cases_Bool (C x)) [ inl k ↦ rw (k, h x k) (omega arith) | inr k ↦ rw k (omega arith) ]
 
 sum_behind : (C : Member → Bool) (f : Member → ℕ) (xs ys : List Member) → sum_where C f xs ≤ sum_where C f (xs ++ ys)
 sum_behind C f [] ys = omega arith
@@ -131,7 +144,7 @@ module _ (h : List OpData) (v : IsValid h) (form : Member → Form) (forms : Are
 
   pub context_of_original : (o : OpData) (n : NameData) → IsIn o h → member_of o ≡ Original n → (y : Member) → base_has h (Original n) y ≡ has (context_of o) y
   context_of_original o n i e y =
-      let known : is_known h (Original n) ≡ true = subst (λ (m : Member). is_known h m ≡ true) e (is_known-in o h i) in
+      let known : is_known h (Original n) ≡ true = known_as o (Original n) h i e in
       let same = context_is h complete_h o n (in_contains o h i) e known in
       ap₂ (λ (p : Bool) (c : ContextData). p && has c y) known same
 
@@ -146,7 +159,7 @@ module _ (h : List OpData) (v : IsValid h) (form : Member → Form) (forms : Are
       omega arith
     where
       weigh : (p : OpData) → IsIn p h → (if is_insert p && has c (member_of p) then 1 else 0) ≤ (if D (member_of p) then extent_of (form (member_of p)) else 0)
-      weigh (inserting n p ch k) i = elim (true_or_false (has c (Original n))) [
+      weigh (inserting n p ch k) i = elim (cases_Bool (has c (Original n))) [
         | inl q ↦ let f = forms.inserts n p ch k i in let one : extent_of (form (Original n)) ≡ 1 = ap extent_of f.is in rw (q, within (Original n) q, one) (omega arith)
         | inr q ↦ rw q (omega arith)
       ]
@@ -160,7 +173,7 @@ module _ (h : List OpData) (v : IsValid h) (form : Member → Form) (forms : Are
   placed_weight o i D within =
       let a = placed_in h v o i in
       let f = λ (x : Member). extent_of (form x) in
-      let in_h : (p : OpData) → IsIn p a.before → IsIn p h = λ p j. subst (λ (l : List OpData). IsIn p l) (sym a.whole) (append-in_left p a.before (o ∷ a.behind) j) in
+      let in_h : (p : OpData) → IsIn p a.before → IsIn p h = λ p j. subst (λ (l : List OpData). IsIn p l) (sym a.whole) (in_left p a.before (o ∷ a.behind) j) in
       let one = inserts_weigh a.before (context_of o) D in_h within in
       let two = sum_behind D f (members_in a.before) (members_in (o ∷ a.behind)) in
       let all : sum_where D f (members_in h) ≡ sum_where D f (members_in a.before ++ members_in (o ∷ a.behind)) = ap (λ (l : List OpData). sum_where D f (members_in l)) a.whole ∙ ap (sum_where D f) (members-append a.before (o ∷ a.behind)) in
@@ -242,25 +255,12 @@ module _ (h : List OpData) (v : IsValid h) (form : Member → Form) (forms : Are
 
   -- ---- ranks and groups
 
-  abbrev pub rank_in : NameData → ℕ
-  rank_in n = rank_of (original_context h n)
-
-  rank_is : (o : OpData) (n : NameData) → IsIn o h → member_of o ≡ Original n → rank_in n ≡ rank_of (context_of o)
-  rank_is o n i e = ap rank_of (context_is h complete_h o n (in_contains o h i) e (subst (λ (m : Member). is_known h m ≡ true) e (is_known-in o h i)))
-
-  pub valid_ranks : HasRanks b rank_in
+  pub valid_ranks : HasRanks b (rank_in h v)
   valid_ranks = record {
     grows = λ n m i e.
-        let p = listed_member (Original n) h i in
-        let o = listed_member (Original m) h (known_in h (Original m) (base_listed h complete_h (Original n) (Original m) e)) in
-        let less = rank_grows h v o.0 p.0 m n o.1 p.1 o.2 p.2 (sym (context_of_original p.0 n p.1 p.2 (Original m)) ∙ e) in
-        let r = rank_is o.0 m o.1 o.2 in let s = rank_is p.0 n p.1 p.2 in omega arith;
-    apart = λ n m i j ne r.
-        let o = listed_member (Original n) h i in
-        let p = listed_member (Original m) h j in
-        let t = told h v o.0 p.0 o.1 p.1 (λ (e : member_of o.0 ≡ member_of p.0). let q : Original n ≡ Original m = sym o.2 ∙ (e ∙ p.2) in ne (ap target_of q)) in
-        λ sites. t.keys (original_is o.0 n o.2) (original_is p.0 m p.2) (sym (rank_is o.0 n o.1 o.2) ∙ (r ∙ rank_is p.0 m p.1 p.2))
-        (ap (λ (x : Member). (target_of x).site) o.2 ∙ (sites ∙ ap (λ (x : Member). (target_of x).site) (sym p.2)));
+        let known = listed_known (Original n) i in
+        rank_grows h v m n (base_listed h complete_h (Original n) (Original m) e) known (base_original h n (Original m) e).1;
+    apart = λ n m i j ne r. ranks_apart h v n m (listed_known (Original n) i) (listed_known (Original m) j) ne r;
   }
 
   pub valid_groups : HasGroups b
@@ -283,23 +283,23 @@ module _ (h : List OpData) (v : IsValid h) (form : Member → Form) (forms : Are
 
   -- what a member with an insert as its form puts
   abbrev put_of : Member → Ins → Insertion
-  put_of m a = record { name = a.name; place = a.place; rank = rank_in (target_of m); sees = λ (n : NameData). base_has h m (Original n) }
+  put_of m a = record { name = a.name; place = a.place; rank = rank_in h v (target_of m); sees = λ (n : NameData). base_has h m (Original n) }
 
   put_is : (n : NameData) (p ch : ℕ) (c : ContextData) (a : Ins) → IsIn (inserting n p ch c) h → a.name ≡ n → a.place ≡ p → put_of (Original n) a ≡ insertion n p c
   put_is n p ch c a i name place =
-      let r = rank_is (inserting n p ch c) n i refl in
+      let r = rank_is h v (inserting n p ch c) n i refl in
       λ j. record { name = name j; place = place j; rank = r j; sees = λ m. context_of_original (inserting n p ch c) n i refl (Original m) j }
 
-  pub same_inserts : SameElements (fixed_order h) (insertions_of b rank_in (members_in h))
+  pub same_inserts : SameElements (fixed_order h) (insertions_of b (rank_in h v) (members_in h))
   same_inserts = record {
     forth = λ z i.
         let r = in-insertions z h (in-sort_by is_earlier z (insertions_in h) i) in
         let o = inserting r.name r.place r.character r.context in
         let f = forms.inserts r.name r.place r.character r.context r.there in
-        let there = insertions_of-in b rank_in (members_in h) (Original r.name) f.ins (member_listed o h r.there) f.is in
-        subst (λ (x : Insertion). IsIn x (insertions_of b rank_in (members_in h))) (put_is r.name r.place r.character r.context f.ins r.there f.name f.place ∙ sym r.is) there;
+        let there = insertions_of-in b (rank_in h v) (members_in h) (Original r.name) f.ins (member_listed o h r.there) f.is in
+        subst (λ (x : Insertion). IsIn x (insertions_of b (rank_in h v) (members_in h))) (put_is r.name r.place r.character r.context f.ins r.there f.name f.place ∙ sym r.is) there;
     back = λ z i.
-        let r = in-insertions_of b rank_in (members_in h) z i in
+        let r = in-insertions_of b (rank_in h v) (members_in h) z i in
         let o = insert_op r.member r.ins r.there r.form in
         let same : z ≡ insertion o.name o.place o.context = r.is ∙ (ap (λ (m : Member). put_of m r.ins) o.is ∙ put_is o.name o.place o.character o.context r.ins o.there o.named o.placed) in
         subst (λ (x : Insertion). IsIn x (fixed_order h)) (sym same) (sort_by-in is_earlier (insertion o.name o.place o.context) (insertions_in h) (insertions-in o.name o.place o.character o.context h o.there));

@@ -1,65 +1,78 @@
 -- In a valid history a cause has a smaller rank than its effect, and each two originals can be told apart.
-use Rattle.std.proofs.Common.{◌≡◌, ◌≢◌, ◌<◌, true, List, [], ◌∷◌, ◌++◌, inl, inr, refl, ap, sym, ◌∙◌, arith}
+use Rattle.std.proofs.Common.{◌≡◌, ◌≢◌, ℕ, ◌<◌, true, false, List, [], ◌∷◌, inl, inr, refl, ap, sym, ◌∙◌, arith}
+use Rattle.std.proofs.lemmas.Bool.{false_from_ne_true}
 use Rattle.op_name.specs.declared.member.Member.{Member}
 use Rattle.op_name.specs.declared.member.Member.TheVariants.{Original}
 use Rattle.op_name.specs.NameData.{NameData}
 use Rattle.op_name.specs.Members.{target_of}
 use Rattle.op_name.specs.Contexts.{has, rank_of}
-use Rattle.op_name.specs.Operations.{OpData, inserting, deleting, undoing, member_of, context_of, is_original}
-use Rattle.op_name.specs.Histories.{IsValidAfter, IsValid, Same}
-use Rattle.op_name.specs.Replays.{text_of}
+use Rattle.op_name.specs.Operations.{OpData, member_of, context_of}
+use Rattle.op_name.specs.Histories.{members_in, is_known, IsValid}
+use Rattle.context_diff.specs.Bases.{original_context}
+use Rattle.context_diff.proofs.Complete.{IsComplete, complete}
+use Rattle.context_diff.proofs.Histories.{original_facts, context_is, own_alone, related}
+use Rattle.context_diff.proofs.Closed.{IsClosedContext, holds_original}
+use Rattle.ttf_form.specs.Families.{IsIn}
+use Rattle.transform_rec.specs.Lists.{AreApart}
+use Rattle.transform_rec.proofs.Histories.{history_causal}
 use Rattle.fixed_replay.specs.Originals.{AreTold, AreToldFrom, AreToldApart, site_of}
-use Rattle.transform_rec.specs.Lists.{IsIn}
-use Rattle.fixed_replay.proofs.Elements.{append-in_right}
-use Rattle.fixed_replay.proofs.Stretches.{three}
-use Rattle.fixed_replay.proofs.Names.{same_name}
-use Rattle.fixed_replay.proofs.ValidHistories.{new_behind, placed_in, context_in_range, seen_within, not_itself, sees_own}
+use Rattle.fixed_replay.proofs.Elements.{in_contains}
+use Rattle.fixed_replay.proofs.Operations.{member_listed, known_as, original_name}
 use Rattle.fixed_replay.proofs.Ranks.{rank_less}
-use Rattle.fixed_replay.proofs.SameText.{same_text}
-
-pub original_name : (o : OpData) → is_original o ≡ true → (n : NameData) × (member_of o ≡ Original n)
-original_name (inserting n p ch c) e = (n, refl)
-original_name (deleting n p c) e = (n, refl)
-original_name (undoing s n g c) e = absurd (cc)
 
 module _ (h : List OpData) (v : IsValid h) where
+  complete_h : IsComplete h
+  complete_h = complete h v
+
+  -- the rank of an original
+  abbrev pub rank_in : NameData → ℕ
+  rank_in n = rank_of (original_context h n)
+
+  pub rank_is : (o : OpData) (n : NameData) → IsIn o h → member_of o ≡ Original n → rank_in n ≡ rank_of (context_of o)
+  rank_is o n i e = ap rank_of (context_is h complete_h o n (in_contains o h i) e (known_as o (Original n) h i e))
+
+  not_itself : (n : NameData) → is_known h (Original n) ≡ true → has (original_context h n) (Original n) ≡ false
+  not_itself n known = false_from_ne_true (has (original_context h n) (Original n)) (λ e. let less = own_alone h complete_h n known n refl e in omega arith)
+
+  closed_original : (n : NameData) → is_known h (Original n) ≡ true → IsClosedContext h (original_context h n)
+  closed_original n known = let f = original_facts h complete_h n known in record { ready = f.ready; stray = f.stray; closed = f.closed }
+
   -- what an original sees has a smaller rank
-  pub rank_grows : (o p : OpData) (n m : NameData) → IsIn o h → IsIn p h → member_of o ≡ Original n → member_of p ≡ Original m → has (context_of p) (Original n) ≡ true → rank_of (context_of o) < rank_of (context_of p)
-  rank_grows o p n m i j e d sees =
-      rank_less (context_of o) (context_of p) (context_in_range o (placed_in h v o i).next.formed) (context_in_range p (placed_in h v p j).next.formed)
-      (seen_within h v o p n m i j e d sees) n sees (not_itself h v o n i e)
+  pub rank_grows : (n m : NameData) → is_known h (Original n) ≡ true → is_known h (Original m) ≡ true → has (original_context h m) (Original n) ≡ true → rank_in n < rank_in m
+  rank_grows n m known_n known_m sees =
+      rank_less (original_context h n) (original_context h m) (original_facts h complete_h n known_n).form (original_facts h complete_h m known_m).form
+      (holds_original h complete_h (original_context h m) (closed_original m known_m) n sees) n sees (not_itself n known_n)
 
-  site_is : (o : OpData) (n : NameData) → member_of o ≡ Original n → site_of o ≡ n.site
-  site_is o n e = ap (λ (m : Member). (target_of m).site) e
+  -- two originals of one rank have different sites
+  pub ranks_apart : (n m : NameData) → is_known h (Original n) ≡ true → is_known h (Original m) ≡ true → n ≢ m → rank_in n ≡ rank_in m → n.site ≢ m.site
+  ranks_apart n m known_n known_m ne ranks sites = elim (related h complete_h n m known_n known_m ne sites) [
+    | inl seen ↦ let less = rank_grows m n known_m known_n seen in omega arith
+    | inr seen ↦ let less = rank_grows n m known_n known_m seen in omega arith
+  ]
 
-  pub told : (o p : OpData) → IsIn o h → IsIn p h → member_of o ≢ member_of p → AreTold o p
+  told : (o p : OpData) → IsIn o h → IsIn p h → member_of o ≢ member_of p → AreTold o p
   told o p i j ne = record { names = λ a b. ne; keys = λ a b ranks sites. differ (original_name o a) (original_name p b) ranks sites }
     where
+      site_is : (q : OpData) (n : NameData) → member_of q ≡ Original n → site_of q ≡ n.site
+      site_is q n e = ap (λ (m : Member). (target_of m).site) e
+
       differ : (n : NameData) × (member_of o ≡ Original n) → (m : NameData) × (member_of p ≡ Original m) → rank_of (context_of o) ≡ rank_of (context_of p) → site_of o ≡ site_of p → ⊥
       differ n m ranks sites =
-          let s : n.0.site ≡ m.0.site = sym (site_is o n.0 n.1) ∙ sites ∙ site_is p m.0 m.1 in
-          elim (three n.0.number m.0.number) [
-            | inl k ↦ let r = rank_grows p o m.0 n.0 j i m.1 n.1 (sees_own h v p o m.0 n.0 j i m.1 n.1 (sym s) k) in omega arith
-            | inr k ↦ elim k [
-              | inl l ↦ let r = rank_grows o p n.0 m.0 i j n.1 m.1 (sees_own h v o p n.0 m.0 i j n.1 m.1 s l) in omega arith
-              | inr l ↦ ne (n.1 ∙ ap Original (same_name n.0 m.0 s l) ∙ sym m.1)
-            ]
-          ]
+          ranks_apart n.0 m.0 (known_as o (Original n.0) h i n.1) (known_as p (Original m.0) h j m.1) (λ (e : n.0 ≡ m.0). ne (n.1 ∙ (ap Original e ∙ sym m.1)))
+          (rank_is o n.0 i n.1 ∙ (ranks ∙ sym (rank_is p m.0 j m.1)))
+          (sym (site_is o n.0 n.1) ∙ (sites ∙ site_is p m.0 m.1))
 
-  told_behind : (before : List OpData) (o : OpData) (os : List OpData) → IsIn o h → ((p : OpData) → IsIn p os → IsIn p h) → ((p : OpData) → IsIn p os → member_of o ≢ member_of p) → AreToldFrom o os
-  told_behind before o [] i f ne = tt
-  told_behind before o (p ∷ ps) i f ne = (told o p i (f p (inl refl)) (ne p (inl refl)), told_behind before o ps i (λ q j. f q (inr j)) (λ q j. ne q (inr j)))
+  told_behind : (o : OpData) (os : List OpData) → IsIn o h → ((p : OpData) → IsIn p os → IsIn p h × (member_of o ≢ member_of p)) → AreToldFrom o os
+  told_behind o [] i f = tt
+  told_behind o (p ∷ ps) i f = let r = f p (inl refl) in (told o p i r.0 r.1, told_behind o ps i (λ q j. f q (inr j)))
 
-  told_part : (before os : List OpData) → IsValidAfter before os → ((p : OpData) → IsIn p os → IsIn p h) → AreToldApart os
-  told_part before [] w f = tt
-  told_part before (o ∷ os) w f = (
-    told_behind before o os (f o (inl refl)) (λ p j. f p (inr j)) (λ p j. new_behind (before ++ (o ∷ [])) os w.1 o p (append-in_right o before (o ∷ []) (inl refl)) j),
-    told_part (before ++ (o ∷ [])) os w.1 (λ p j. f p (inr j)),
+  told_part : (os : List OpData) → ((p : OpData) → IsIn p os → IsIn p h) → AreApart (members_in os) → AreToldApart os
+  told_part [] f a = tt
+  told_part (o ∷ os) f a = (
+    told_behind o os (f o (inl refl)) (λ p j. (f p (inr j), a.0 (member_of p) (member_listed p os j))),
+    told_part os (λ p j. f p (inr j)) a.1,
   )
 
+  -- each two originals can be told apart
   pub told_apart : AreToldApart h
-  told_apart = told_part [] h v (λ p j. j)
-
--- two valid histories with the same originals, each at the same generation, have the same text
-pub valid_same_text : (h k : List OpData) → IsValid h → IsValid k → Same h k → text_of h ≡ text_of k
-valid_same_text h k v w s = same_text h k (told_apart h v) (told_apart k w) s
+  told_apart = told_part h (λ p j. j) (history_causal {F = Member} h (λ m. m) v).distinct

@@ -1,6 +1,6 @@
 -- The walk: the place of an insert among the cells of earlier ones is found by narrowing its gap, one insert after the other.
 use Rattle.std.proofs.Common.{◌≡◌, ◌≢◌, ℕ, ◌≤◌, Bool, true, false, nat_lt, not, List, [], ◌∷◌, ◌++◌, length, take, drop, filter, inl, inr, refl, ap, ap₂, sym, ◌∙◌, subst, subst₂, arith, append-nil, take-append-drop}
-use Rattle.std.proofs.lemmas.Bool.{both_ways, not-true}
+use Rattle.std.proofs.lemmas.Bool.{both_ways, not-true, cases_Bool}
 use Rattle.op_name.specs.NameData.{NameData}
 use Rattle.op_name.specs.declared.member.Member.{Member}
 use Rattle.op_name.specs.declared.member.Member.TheVariants.{Original}
@@ -30,7 +30,7 @@ use Rattle.transform_rec.proofs.Forms.{derived_sound, forms_apart, form_step, ex
 use Rattle.transform_rec.proofs.Uniqueness.{derived_once}
 use Rattle.transform_rec.proofs.Executing.{IsForm, Run, Forms, run, At, state_after, forms_run, run_listed, run_append, forms-append}
 use Rattle.transform_rec.proofs.Parts.{rest_run, part_state, before_cell}
-use Rattle.fixed_replay.proofs.Elements.{true_or_false, not_both}
+use Rattle.fixed_replay.proofs.Elements.{not_both}
 use Rattle.fixed_replay.proofs.Stretches.{Stretch, start, walk_step, narrow_none, whole_gap}
 use Rattle.fixed_replay.proofs.Narrowing.{narrowed-append, narrowed_unseen}
 use Rattle.fixed_replay.specs.Insertions.{inserted_by, insertions_of}
@@ -162,7 +162,7 @@ module _ (b : Family Form) (known : IsFamily form_inclusion b) (own_names : HasO
       end_set : SameSet (plus_all (b.context o) rest) (plus_all none L)
       end_set = same_from (plus_all (b.context o) rest) (plus_all none L)
           (λ z e. elim (all_cases rest (b.context o) z e) [ inl h ↦ needs z h | inr i ↦ all_in L none z (rest_unseen z i).0 ])
-          (λ z e. elim (true_or_false (b.context o z)) [ inl h ↦ all_keeps rest (b.context o) z h | inr h ↦ all_in rest (b.context o) z (in_filter (λ (y : Member). not (b.context o y)) z L (in_list z e) (rw h refl)) ])
+          (λ z e. elim (cases_Bool (b.context o z)) [ inl h ↦ all_keeps rest (b.context o) z h | inr h ↦ all_in rest (b.context o) z (in_filter (λ (y : Member). not (b.context o y)) z L (in_list z e) (rw h refl)) ])
 
       arrived : (h : Form) × Reached (plus_all none L) h (gap_of insertion (names_of b L) S)
       arrived =
