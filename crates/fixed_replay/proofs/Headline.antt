@@ -1,5 +1,5 @@
 -- The forms of a valid history, executed in its order, give its fixed replay, shown as the history says.
-use Rattle.std.proofs.Common.{◌≡◌, ℕ, true, false, List, [], ◌∷◌, map, filter, encode_utf8_all, inl, inr, refl, ap, sym, ◌∙◌}
+use Rattle.std.proofs.Common.{◌≡◌, ℕ, true, false, List, [], ◌∷◌, map, filter, encode_utf8_all, inl, inr, refl, ap, sym, subst, ◌∙◌}
 use Rattle.std.proofs.lemmas.Bool.{cases_Bool}
 use Rattle.op_name.specs.NameData.{NameData}
 use Rattle.op_name.specs.declared.member.Member.{Member}
@@ -13,7 +13,10 @@ use Rattle.ttf_form.specs.Families.{IsIn}
 use Rattle.transform_rec.specs.Sets.{none}
 use Rattle.transform_rec.specs.Executing.{AreFormsFrom, executed}
 use Rattle.transform_rec.specs.Histories.{family_in}
-use Rattle.transform_rec.proofs.Executing.{At, empty_state}
+use Rattle.transform_rec.proofs.Executing.{run_forms, At, empty_state}
+use Rattle.transform_rec.specs.Lists.{SameElements}
+use Rattle.transform_rec.proofs.Order.{any_order}
+use Rattle.transform_rec.proofs.CausalOrders.{book_run}
 use Rattle.fixed_replay.specs.BaseForms.{AreBaseForms}
 use Rattle.fixed_replay.specs.Replayed.{IsReplayed}
 use Rattle.fixed_replay.specs.Insertions.{insertions_of}
@@ -36,6 +39,23 @@ executed_replayed h v form forms fs df =
     let rising = sort_by-sorted is_earlier earlier_asym earlier_trans (insertions_in h) (insertions_comparable h (told_apart h v)) in
     let cells = fixed_cells b known own (rank_in h v) (valid_ranks h v form forms) (valid_groups h v form forms) (fixed_order h) rising (same_inserts h v form forms) fs st df in
     replayed b known own (valid_groups h v form forms) h (valid_is_family h v form forms) fs st df (sym cells) (told_apart h v)
+
+pub history_forms : (h : List OpData) → IsValid h → (form : Member → Form) → AreBaseForms h form → (fs : List Form) × AreFormsFrom form_over (family_in h form) none (members_in h) fs
+history_forms h v form forms =
+    let b = family_in h form in
+    let known = valid_family h v form forms in
+    run_forms (setting_of b known (valid_own_names h v form forms)) (members_in h) none (book_run b known.causal)
+
+-- whatever causal order the members are executed in
+pub any_order_replayed : (h : List OpData) → IsValid h → (form : Member → Form) → AreBaseForms h form → (ms : List Member) (fs : List Form) → SameElements ms (members_in h) → AreFormsFrom form_over (family_in h form) none ms fs → IsReplayed h (executed applied [] fs)
+any_order_replayed h v form forms ms fs same df =
+    let b = family_in h form in
+    let known = valid_family h v form forms in
+    let own = valid_own_names h v form forms in
+    let w = setting_of b known own in
+    let gs = history_forms h v form forms in
+    let one = any_order w ms (members_in h) none [] fs gs.0 (empty_state w [] refl) same df gs.1 in
+    subst (λ (cs : List CellData). IsReplayed h cs) (sym one) (executed_replayed h v form forms gs.0 gs.1)
 
 -- the replay along any causal list
 pub any_list_replayed : (h : List OpData) (form : Member → Form) (rank : NameData → ℕ) (ms : List Member) (fs : List Form) → IsValid h → AreBaseForms h form → AreFormsFrom form_over (family_in h form) none ms fs → replay [] [] (insertions_of (family_in h form) rank ms) ≡ cells_of (executed applied [] fs)

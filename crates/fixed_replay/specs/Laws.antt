@@ -9,6 +9,7 @@ use Rattle.ttf_form.specs.declared.form.Form.{Form}
 use Rattle.ttf_form.specs.Forms.{form_over}
 use Rattle.ttf_form.specs.Cells.{CellData, cell_key, cells_of, applied, cell_shown}
 use Rattle.transform_rec.specs.Sets.{none}
+use Rattle.transform_rec.specs.Lists.{SameElements}
 use Rattle.transform_rec.specs.Executing.{AreFormsFrom, executed}
 use Rattle.transform_rec.specs.Histories.{family_in}
 use Rattle.fixed_replay.specs.Originals.{AreToldApart}
@@ -24,6 +25,24 @@ ExecutedIsReplayed =
     → AreBaseForms h form
     → AreFormsFrom form_over (family_in h form) none (members_in h) fs
     → IsReplayed h (executed applied [] fs)
+
+-- and so do they in any other order in which all members may be executed
+abbrev pub AnyOrderIsReplayed : Type 0
+AnyOrderIsReplayed =
+    (h : List OpData) (form : Member → Form) (ms : List Member) (fs : List Form)
+    → IsValid h
+    → AreBaseForms h form
+    → SameElements ms (members_in h)
+    → AreFormsFrom form_over (family_in h form) none ms fs
+    → IsReplayed h (executed applied [] fs)
+
+-- there are such forms
+abbrev pub HistoriesHaveForms : Type 0
+HistoriesHaveForms =
+    (h : List OpData) (form : Member → Form)
+    → IsValid h
+    → AreBaseForms h form
+    → (fs : List Form) × AreFormsFrom form_over (family_in h form) none (members_in h) fs
 
 -- along any list of members of a valid history that may be executed in its order, the replay of the inserts in that very
 -- order gives the cells of the executed forms, whatever ranks they have

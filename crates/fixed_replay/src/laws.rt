@@ -1,12 +1,23 @@
 //! Laws of the fixed replay: each says what its definitions give, and does nothing.
 
-ghost use Rattle.fixed_replay.specs.Laws.{ExecutedIsReplayed, ReplayAlongAnyList, OperationsSayBaseForms, ReplayShowsTheText, OriginalsAreToldApart, SameOperationsSameText};
+ghost use Rattle.fixed_replay.specs.Laws.{ExecutedIsReplayed, AnyOrderIsReplayed, HistoriesHaveForms, ReplayAlongAnyList, OperationsSayBaseForms, ReplayShowsTheText, OriginalsAreToldApart, SameOperationsSameText};
 
 /// The forms of a valid history, executed in the order of its operations, give the cells of its fixed
 /// replay, each with the character and the generation of its insert, and shown exactly if it is shown in
 /// the history.
 pub fn executed_is_replayed()
     ensures { ExecutedIsReplayed }
+{}
+
+/// In any other order in which all members of a valid history may be executed, each behind its causes, their
+/// forms give the same.
+pub fn any_order_is_replayed()
+    ensures { AnyOrderIsReplayed }
+{}
+
+/// Each valid history has its forms.
+pub fn histories_have_forms()
+    ensures { HistoriesHaveForms }
 {}
 
 /// Along any causal list of members of a valid history, the replay of the inserts in that very order gives

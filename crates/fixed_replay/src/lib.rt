@@ -9,6 +9,10 @@
 mod laws;
 
 pub use laws::{
-    executed_is_replayed, operations_say_base_forms, originals_are_told_apart,
-    replay_along_any_list, replay_shows_the_text, same_operations_same_text,
+    any_order_is_replayed, executed_is_replayed, histories_have_forms, operations_say_base_forms,
+    originals_are_told_apart, replay_along_any_list, replay_shows_the_text,
+    same_operations_same_text,
 };
+
+#[cfg(test)]
+mod tests;
