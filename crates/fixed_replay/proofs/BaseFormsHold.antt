@@ -15,7 +15,7 @@ use Rattle.transform_rec.proofs.Members.{member_tells, member_self}
 use Rattle.fixed_replay.specs.BaseForms.{AreBaseForms, form_of, original_form, group_form, base_form}
 use Rattle.fixed_replay.proofs.Operations.{member_listed}
 
-form_at : (h : List OpData) → AreApart (members_in h) → (o : OpData) (n : NameData) → IsIn o h → member_of o ≡ Original n → original_form h n ≡ form_of o
+pub form_at : (h : List OpData) → AreApart (members_in h) → (o : OpData) (n : NameData) → IsIn o h → member_of o ≡ Original n → original_form h n ≡ form_of o
 form_at [] a o n i e = absurd i
 form_at (p ∷ ps) a o n (inl q) e =
     let same : member_eq (member_of p) (Original n) ≡ true = subst (λ (m : Member). member_eq m (Original n) ≡ true) (sym e ∙ ap member_of q) (member_self (Original n)) in

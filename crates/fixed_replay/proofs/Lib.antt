@@ -20,3 +20,4 @@ pub mod Reading
 pub mod BaseFormsHold
 pub mod ValidFamilies
 pub mod Headline
+pub mod Growth

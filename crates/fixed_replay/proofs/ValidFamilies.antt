@@ -63,7 +63,7 @@ sum_behind : (C : Member → Bool) (f : Member → ℕ) (xs ys : List Member) �
 sum_behind C f [] ys = omega arith
 sum_behind C f (x ∷ xs) ys = let ih = sum_behind C f xs ys in omega arith
 
-members-append : (h k : List OpData) → members_in (h ++ k) ≡ members_in h ++ members_in k
+pub members-append : (h k : List OpData) → members_in (h ++ k) ≡ members_in h ++ members_in k
 members-append [] k = refl
 members-append (o ∷ os) k = ap (λ (ms : List Member). member_of o ∷ ms) (members-append os k)
 

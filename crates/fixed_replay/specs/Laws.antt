@@ -1,14 +1,15 @@
 -- The laws of the fixed replay.
-use Rattle.std.specs.Prelude.{◌≡◌, ℕ, List, [], map, filter, encode_utf8_all}
+use Rattle.std.specs.Prelude.{◌≡◌, ℕ, true, List, [], ◌∷◌, ◌++◌, map, filter, encode_utf8_all}
 use Rattle.op_name.specs.NameData.{NameData}
 use Rattle.op_name.specs.declared.member.Member.{Member}
-use Rattle.op_name.specs.Operations.{OpData}
-use Rattle.op_name.specs.Histories.{members_in, Same, IsValid}
+use Rattle.op_name.specs.Operations.{OpData, member_of}
+use Rattle.op_name.specs.Histories.{members_in, is_known, Same, IsValid}
 use Rattle.op_name.specs.Replays.{replay, shown, text_of}
 use Rattle.ttf_form.specs.declared.form.Form.{Form}
 use Rattle.ttf_form.specs.Forms.{form_over}
 use Rattle.ttf_form.specs.Cells.{CellData, cell_key, cells_of, applied, cell_shown}
 use Rattle.transform_rec.specs.Sets.{none}
+use Rattle.transform_rec.specs.Derived.{Derived}
 use Rattle.transform_rec.specs.Lists.{SameElements}
 use Rattle.transform_rec.specs.Executing.{AreFormsFrom, executed}
 use Rattle.transform_rec.specs.Histories.{family_in}
@@ -43,6 +44,21 @@ HistoriesHaveForms =
     → IsValid h
     → AreBaseForms h form
     → (fs : List Form) × AreFormsFrom form_over (family_in h form) none (members_in h) fs
+
+-- when a history grows by an operation, the forms that it had are forms of the longer one as well, followed by a form of the
+-- new operation at the members that were known
+abbrev pub FormsStay : Type 0
+FormsStay =
+    (h : List OpData) (o : OpData) (form longer : Member → Form) (fs : List Form) (f : Form)
+    → IsValid (h ++ o ∷ [])
+    → ((m : Member) → is_known h m ≡ true → form m ≡ longer m)
+    → AreFormsFrom form_over (family_in h form) none (members_in h) fs
+    → Derived form_over (family_in (h ++ o ∷ []) longer) (member_of o) (is_known h) f
+    → AreFormsFrom form_over (family_in (h ++ o ∷ []) longer) none (members_in (h ++ o ∷ [])) (fs ++ f ∷ [])
+
+-- base forms stay when a history grows
+abbrev pub BaseFormsStay : Type 0
+BaseFormsStay = (h k : List OpData) → IsValid (h ++ k) → (m : Member) → is_known h m ≡ true → base_form h m ≡ base_form (h ++ k) m
 
 -- along any list of members of a valid history that may be executed in its order, the replay of the inserts in that very
 -- order gives the cells of the executed forms, whatever ranks they have

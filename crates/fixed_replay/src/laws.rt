@@ -1,6 +1,6 @@
 //! Laws of the fixed replay: each says what its definitions give, and does nothing.
 
-ghost use Rattle.fixed_replay.specs.Laws.{ExecutedIsReplayed, AnyOrderIsReplayed, HistoriesHaveForms, ReplayAlongAnyList, OperationsSayBaseForms, ReplayShowsTheText, OriginalsAreToldApart, SameOperationsSameText};
+ghost use Rattle.fixed_replay.specs.Laws.{ExecutedIsReplayed, AnyOrderIsReplayed, HistoriesHaveForms, FormsStay, BaseFormsStay, ReplayAlongAnyList, OperationsSayBaseForms, ReplayShowsTheText, OriginalsAreToldApart, SameOperationsSameText};
 
 /// The forms of a valid history, executed in the order of its operations, give the cells of its fixed
 /// replay, each with the character and the generation of its insert, and shown exactly if it is shown in
@@ -18,6 +18,17 @@ pub fn any_order_is_replayed()
 /// Each valid history has its forms.
 pub fn histories_have_forms()
     ensures { HistoriesHaveForms }
+{}
+
+/// When a history grows by an operation, its forms are those that it had, followed by a form of the new
+/// operation at the members that were known.
+pub fn forms_stay()
+    ensures { FormsStay }
+{}
+
+/// The base form of a member of a history stays when the history grows.
+pub fn base_forms_stay()
+    ensures { BaseFormsStay }
 {}
 
 /// Along any causal list of members of a valid history, the replay of the inserts in that very order gives
