@@ -19,5 +19,5 @@ pub mod HistoryFamilies
 pub mod Reading
 pub mod BaseFormsHold
 pub mod ValidFamilies
-pub mod Headline
+pub mod ExecutedForms
 pub mod Growth

@@ -1,4 +1,4 @@
-use Rattle.fixed_replay.proofs.Headline.{any_order_replayed}
+use Rattle.fixed_replay.proofs.ExecutedForms.{any_order_replayed}
 use Rattle.fixed_replay.proofs.laws.any_order_is_replayed.Goals as goal
 
 pub returns : goal.returns

@@ -1,4 +1,4 @@
-use Rattle.fixed_replay.proofs.Headline.{executed_replayed}
+use Rattle.fixed_replay.proofs.ExecutedForms.{executed_replayed}
 use Rattle.fixed_replay.proofs.laws.executed_is_replayed.Goals as goal
 
 pub returns : goal.returns

@@ -1,4 +1,4 @@
-use Rattle.fixed_replay.proofs.Headline.{history_forms}
+use Rattle.fixed_replay.proofs.ExecutedForms.{history_forms}
 use Rattle.fixed_replay.proofs.laws.histories_have_forms.Goals as goal
 
 pub returns : goal.returns

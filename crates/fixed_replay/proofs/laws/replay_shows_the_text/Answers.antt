@@ -1,4 +1,4 @@
-use Rattle.fixed_replay.proofs.Headline.{replayed_shown, replayed_text}
+use Rattle.fixed_replay.proofs.ExecutedForms.{replayed_shown, replayed_text}
 use Rattle.fixed_replay.proofs.laws.replay_shows_the_text.Goals as goal
 
 pub returns : goal.returns
