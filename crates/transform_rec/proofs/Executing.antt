@@ -14,8 +14,7 @@ use Rattle.ttf_form.specs.Names.{LacksName, NewNames}
 use Rattle.transform_rec.specs.Executing.{Setting, deriving_of, IsCausalFrom, AreFormsFrom, executed, own, IsStateAt}
 use Rattle.transform_rec.proofs.Members.{member_cases, member_self}
 use Rattle.transform_rec.proofs.Lists.{in_cases, in_take, in_drop, length-put, sum_none}
-use Rattle.transform_rec.proofs.Sets.{same_set, plus_here, plus_keeps, plus_parts}
-use Rattle.transform_rec.proofs.Families.{closed_plus}
+use Rattle.transform_rec.proofs.Sets.{same_set, plus_here, plus_keeps}
 use Rattle.transform_rec.proofs.Forms.{derived_sound, derived_bounded, weight_plus, list_forms}
 use Rattle.transform_rec.proofs.CausalLists.{causal_moves, causal-append, causal_parts, causal_out, causal_listed, causal_apart, causal_closed}
 use Rattle.transform_rec.proofs.Uniqueness.{derived_once}

@@ -20,12 +20,12 @@ derived_moves over b c h m C f (by_step D x g k i ne l s dg dk e) = by_step D x 
 -- a derivation at C of m names m and members of C alone: it holds of any family that has these as the first has them
 pub derived_among : {F : Type 0} (over : F → F → F) (b c : Family F) (m : Member) (C : Member → Bool) (f : F) → ((x : Member) → (x ≡ m) ⊎ (C x ≡ true) → IsIn x b.members → IsIn x c.members × (SameSet (b.context x) (c.context x) × (b.form x ≡ c.form x))) → Derived over b m C f → Derived over c m C f
 derived_among over b c m C f h (at_base i s e) =
-  let r = h m (inl refl) i in
-  at_base r.0 (λ z. s z ∙ r.1.0 z) (e ∙ r.1.1)
+    let r = h m (inl refl) i in
+    at_base r.0 (λ z. s z ∙ r.1.0 z) (e ∙ r.1.1)
 derived_among over b c m C f h (by_step D x g k i ne l s dg dk e) =
-  let wider : (z : Member) → D z ≡ true → C z ≡ true = λ z d. s z ∙ plus_keeps D x z d in
-  let there : C x ≡ true = s x ∙ plus_here D x in
-  by_step D x g k (h x (inr there) i).0 ne l s
+    let wider : (z : Member) → D z ≡ true → C z ≡ true = λ z d. s z ∙ plus_keeps D x z d in
+    let there : C x ≡ true = s x ∙ plus_here D x in
+    by_step D x g k (h x (inr there) i).0 ne l s
     (derived_among over b c m D g (λ z u. h z (elim u [ inl p ↦ inl p | inr d ↦ inr (wider z d) ])) dg)
     (derived_among over b c x D k (λ z u. h z (elim u [ inl p ↦ inr (subst (λ (y : Member). C y ≡ true) (sym p) there) | inr d ↦ inr (wider z d) ])) dk)
     e

@@ -11,3 +11,6 @@ pub mod Order
 pub mod Parts
 pub mod CausalOrders
 pub mod LawsHold
+pub mod Histories
+pub mod Transformations
+pub mod SameHistories

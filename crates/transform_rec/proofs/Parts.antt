@@ -1,21 +1,21 @@
 -- The cells of a closed part are, in order, what the members of the part alone give.
-use Rattle.std.proofs.Common.{◌≡◌, ◌≢◌, ℕ, ◌+◌, ◌≤◌, Bool, true, false, not, List, [], ◌∷◌, ◌++◌, length, take, drop, filter, ◌⊎◌, inl, inr, refl, sym, ap, subst, ◌∙◌, arith, take-append-drop, length-take-le}
-use Rattle.std.proofs.lemmas.Bool.{cases_Bool, both_ways, and_parts, and_from, and_left, not-true, not_from_false, not_from_true, false_from_ne_true}
+use Rattle.std.proofs.Common.{◌≡◌, ℕ, ◌+◌, ◌≤◌, Bool, true, false, not, List, [], ◌∷◌, ◌++◌, length, take, drop, filter, ◌⊎◌, inl, inr, refl, sym, ap, subst, ◌∙◌, arith, take-append-drop, length-take-le}
+use Rattle.std.proofs.lemmas.Bool.{cases_Bool, both_ways, not-true, not_from_false}
 use Rattle.op_name.specs.NameData.{NameData}
 use Rattle.op_name.specs.declared.member.Member.{Member}
 use Rattle.op_name.specs.declared.member.Member.TheVariants.{Original}
 use Rattle.transform_rec.specs.Sets.{none, IsSubset, SameSet, plus, meet, plus_all}
 use Rattle.ttf_form.specs.Families.{IsIn}
 use Rattle.transform_rec.specs.Lists.{SameElements, count, EachAt}
-use Rattle.transform_rec.specs.Family.{IsClosed, IsSound}
+use Rattle.transform_rec.specs.Family.{IsClosed}
 use Rattle.transform_rec.specs.Derived.{weight}
 use Rattle.transform_rec.specs.Executing.{Setting, deriving_of, keep, own}
 use Rattle.transform_rec.proofs.Members.{member_apart}
-use Rattle.transform_rec.proofs.Lists.{in_left, in_right, in_cases, in_filter, filter_in, filter_keeps, filter_drops, filter_all, filter_put, before_each, count_own}
-use Rattle.transform_rec.proofs.Sets.{same_set, same_from, plus_here, plus_keeps, plus_cases, plus_parts, plus_within, plus_both, all_keeps, all_in, all_cases}
-use Rattle.transform_rec.proofs.Families.{closed_meet, closed_plus, sound_moves}
+use Rattle.transform_rec.proofs.Lists.{in_left, in_right, in_cases, in_filter, filter_in, filter_all, filter_put, before_each, count_own}
+use Rattle.transform_rec.proofs.Sets.{same_set, same_from, plus_here, plus_keeps, plus_cases, all_keeps, all_in, all_cases}
+use Rattle.transform_rec.proofs.Families.{closed_plus}
 use Rattle.transform_rec.proofs.Forms.{derived_sound, derived_bounded, form_moves}
-use Rattle.transform_rec.proofs.Executing.{IsForm, Run, Forms, run, At, added_own, added_owner, addable_fits, state_more, state_after, run_forms, forms_run, forms-append, run_append, run_out, run_closed}
+use Rattle.transform_rec.proofs.Executing.{IsForm, Run, Forms, run, At, added_own, added_owner, addable_fits, state_more, state_after, run_forms, forms_run, forms-append, run_append, run_closed}
 use Rattle.transform_rec.proofs.CausalLists.{causal_filter, causal_part, causal_rest}
 use Rattle.transform_rec.proofs.Order.{any_order}
 

@@ -139,8 +139,8 @@ sum_plus C x f (y ∷ ys) a (inr i) l =
 pub sum_within : (C D : Member → Bool) (f : Member → ℕ) (xs : List Member) → IsSubset C D → sum_where C f xs ≤ sum_where D f xs
 sum_within C D f [] h = omega arith
 sum_within C D f (x ∷ xs) h =
-  let ih = sum_within C D f xs h in
-  elim (cases_Bool (C x)) [ inl c ↦ let d = h x c in rw (c, d) (omega arith) | inr c ↦ rw c (omega arith) ]
+    let ih = sum_within C D f xs h in
+    elim (cases_Bool (C x)) [ inl c ↦ let d = h x c in rw (c, d) (omega arith) | inr c ↦ rw c (omega arith) ]
 
 pub all_same : (xs : List Member) (C D : Member → Bool) → SameSet C D → SameSet (plus_all C xs) (plus_all D xs)
 all_same xs C D h = subst (λ (E : Member → Bool). SameSet (plus_all C xs) (plus_all E xs)) (same_set C D h) (λ z. refl)

@@ -1,16 +1,16 @@
 -- A derived form on its way from the base context to a greater set: what is known before each member of the difference is
 -- included.
-use Rattle.std.proofs.Common.{◌≡◌, ◌≢◌, ℕ, suc, ◌+◌, ◌≤◌, Bool, true, false, not, ◌&&◌, List, [], ◌∷◌, ◌++◌, filter, ◌⊎◌, inl, inr, refl, sym, ap, subst, ◌∙◌, arith}
-use Rattle.std.proofs.lemmas.Bool.{cases_Bool, both_ways, and_parts, and_from, not_from_false, not-true}
+use Rattle.std.proofs.Common.{◌≡◌, ◌≢◌, suc, ◌+◌, ◌≤◌, Bool, true, false, not, ◌&&◌, List, [], ◌∷◌, filter, inl, inr, refl, sym, ap, subst, ◌∙◌, arith}
+use Rattle.std.proofs.lemmas.Bool.{cases_Bool, both_ways, and_parts, and_from, not_from_false}
 use Rattle.op_name.specs.declared.member.Member.{Member}
-use Rattle.ttf_form.specs.Families.{IsIn, total_by}
+use Rattle.ttf_form.specs.Families.{total_by}
 use Rattle.transform_rec.specs.Sets.{none, IsSubset, SameSet, plus, plus_all}
-use Rattle.transform_rec.specs.Family.{Family, IsCausalFamily, IsClosed, IsSound, size}
+use Rattle.transform_rec.specs.Family.{Family, IsClosed, IsSound, size}
 use Rattle.transform_rec.specs.Derived.{Derived, IsOnlyFormAt, Deriving}
-use Rattle.transform_rec.specs.Derived.Derived.{at_base, by_step}
+use Rattle.transform_rec.specs.Derived.Derived.{at_base}
 use Rattle.transform_rec.specs.Executing.{IsCausalFrom}
 use Rattle.transform_rec.proofs.Lists.{in_filter, filter_in}
-use Rattle.transform_rec.proofs.Sets.{same_from, plus_here, plus_same, all_keeps, all_in, all_cases, sum_within, all_same}
+use Rattle.transform_rec.proofs.Sets.{same_from, all_keeps, all_in, all_cases, sum_within, all_same}
 use Rattle.transform_rec.proofs.Families.{base_sound, size_plus}
 use Rattle.transform_rec.proofs.Forms.{form_moves, form_step, derived_room}
 use Rattle.transform_rec.proofs.Uniqueness.{only_form}
@@ -35,23 +35,23 @@ module _ {F : Type 0} (d : Deriving F) where
   -- a difference of closed sets, in the family's order, may be added one member after the other
   pub difference_run : (C T : Member → Bool) → IsClosed d.family C → IsClosed d.family T → IsSubset C T → IsCausalFrom d.family C (difference_in d.family.members C T)
   difference_run C T c t h =
-    let part = causal_part d.family T t.closed d.family.members none (λ z e. absurd (both_ways false refl e)) (book_run d.family d.known.causal) in
-    let rest = causal_rest d.family C (filter T d.family.members) none C c (λ z e. absurd (both_ways false refl e)) (λ z i e. e) (λ z i e. e) part in
-    subst (λ (l : List Member). IsCausalFrom d.family C l) (filter_twice T C d.family.members) rest
+      let part = causal_part d.family T t.closed d.family.members none (λ z e. absurd (both_ways false refl e)) (book_run d.family d.known.causal) in
+      let rest = causal_rest d.family C (filter T d.family.members) none C c (λ z e. absurd (both_ways false refl e)) (λ z i e. e) (λ z i e. e) part in
+      subst (λ (l : List Member). IsCausalFrom d.family C l) (filter_twice T C d.family.members) rest
 
   pub difference_whole : (C T : Member → Bool) → IsClosed d.family T → IsSubset C T → SameSet (plus_all C (difference_in d.family.members C T)) T
   difference_whole C T t h =
-    same_from (plus_all C (difference_in d.family.members C T)) T
+      same_from (plus_all C (difference_in d.family.members C T)) T
       (λ z e. elim (all_cases (difference_in d.family.members C T) C z e) [ inl a ↦ h z a | inr i ↦ (and_parts (T z) (not (C z)) (filter_in (λ y. T y && not (C y)) z d.family.members i).1).0 ])
       (λ z e. elim (cases_Bool (C z)) [ inl a ↦ all_keeps (difference_in d.family.members C T) C z a | inr a ↦ all_in (difference_in d.family.members C T) C z (in_filter (λ y. T y && not (C y)) z d.family.members (t.listed z e) (and_from (T z) (not (C z)) e (not_from_false (C z) a))) ])
 
   -- at first the form is the base form
   pub way_first : (m : Member) (T C : Member → Bool) → IsSound d.family m T → SameSet C (d.family.context m) → IsOnWay d.inclusion.over d.family m T C (d.family.form m) (difference_in d.family.members C T)
   way_first m T C s h =
-    let base = base_sound d.family d.known.causal m s.listed in
-    let c : IsClosed d.family C = record { listed = λ x e. base.set.listed x (sym (h x) ∙ e); closed = λ x e z k. h z ∙ base.set.closed x (sym (h x) ∙ e) z k } in
-    let within : IsSubset C T = λ (z : Member) (e : C z ≡ true). s.covers z (sym (h z) ∙ e) in
-    record { derived = at_base s.listed h refl; path = difference_run C T c s.set within; whole = difference_whole C T s.set within }
+      let base = base_sound d.family d.known.causal m s.listed in
+      let c : IsClosed d.family C = record { listed = λ x e. base.set.listed x (sym (h x) ∙ e); closed = λ x e z k. h z ∙ base.set.closed x (sym (h x) ∙ e) z k } in
+      let within : IsSubset C T = λ (z : Member) (e : C z ≡ true). s.covers z (sym (h z) ∙ e) in
+      record { derived = at_base s.listed h refl; path = difference_run C T c s.set within; whole = difference_whole C T s.set within }
 
   -- the next member may be added, and is another than m
   pub way_sound : (m x : Member) (T C : Member → Bool) (f : F) (rest : List Member) → IsOnWay d.inclusion.over d.family m T C f (x ∷ rest) → IsSound d.family x C
@@ -59,16 +59,16 @@ module _ {F : Type 0} (d : Deriving F) where
 
   pub way_other : (m x : Member) (T C : Member → Bool) (f : F) (rest : List Member) → T m ≡ false → IsOnWay d.inclusion.over d.family m T C f (x ∷ rest) → m ≢ x
   way_other m x T C f rest l w e =
-    both_ways (T m) l (sym (w.whole m) ∙ all_in (x ∷ rest) C m (inl e))
+      both_ways (T m) l (sym (w.whole m) ∙ all_in (x ∷ rest) C m (inl e))
 
   -- it is at a smaller set
   pub way_falls : (m x : Member) (T C : Member → Bool) (f : F) (rest : List Member) → IsOnWay d.inclusion.over d.family m T C f (x ∷ rest) → suc (size d.family C) ≤ size d.family T
   way_falls m x T C f rest w =
-    let s = w.path.0 in
-    let more = size_plus d.family d.known.causal x C s.listed s.lacks in
-    let within : IsSubset (plus C x) T = λ (z : Member) (e : plus C x z ≡ true). sym (w.whole z) ∙ all_keeps rest (plus C x) z e in
-    let less = sum_within (plus C x) T (λ y. 1) d.family.members within in
-    omega arith
+      let s = w.path.0 in
+      let more = size_plus d.family d.known.causal x C s.listed s.lacks in
+      let within : IsSubset (plus C x) T = λ (z : Member) (e : plus C x z ≡ true). sym (w.whole z) ∙ all_keeps rest (plus C x) z e in
+      let less = sum_within (plus C x) T (λ y. 1) d.family.members within in
+      omega arith
 
   -- and its form can be included
   pub way_room : (m x : Member) (T C : Member → Bool) (f k : F) (rest : List Member) → IsOnWay d.inclusion.over d.family m T C f (x ∷ rest) → Derived d.inclusion.over d.family x C k → d.inclusion.place f + d.inclusion.extent k ≤ total_by (λ y. d.inclusion.extent (d.family.form y)) d.family.members
@@ -78,7 +78,7 @@ module _ {F : Type 0} (d : Deriving F) where
   way_next m x T C E f k rest l h w dk = record {
     derived = form_moves d m (plus C x) E (d.inclusion.over f k) (λ z. sym (h z)) (form_step d m x C f k w.path.0 (way_other m x T C f rest l w) w.derived dk);
     path = causal_moves d.family (plus C x) E rest (λ z. sym (h z)) w.path.1;
-    whole = λ z. all_same rest E (plus C x) h z ∙ w.whole z
+    whole = λ z. all_same rest E (plus C x) h z ∙ w.whole z;
   }
 
   -- at last it is the only form of m at T

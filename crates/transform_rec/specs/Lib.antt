@@ -4,4 +4,5 @@ pub mod Family
 pub mod Derived
 pub mod Executing
 pub mod Laws
+pub mod Histories
 pub mod TwoInserts

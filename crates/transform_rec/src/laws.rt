@@ -8,11 +8,12 @@ ghost use Rattle.transform_rec.specs.Family.{IsCausalFamily};
 ghost use Rattle.transform_rec.specs.Derived.{IsInclusion, IsFamily};
 ghost use Rattle.transform_rec.specs.Executing.{HasOwnNames, IsTable};
 ghost use Rattle.transform_rec.specs.Laws.{table_of, inclusion_of, family_of, OneForm, CausalListsHaveForms, AddableFormFits, Swap, ToTheFront, OrderIndependence, Restriction, OneMoreMember};
+ghost use Rattle.transform_rec.specs.Histories.{SameOperationsSameForm};
 
 use ttf_form::{Applies, Bases, Include};
 
 /// What derived forms rest on, from the laws of the traits.
-fn derives<F: Include, B: Bases<F>>(bases: &B)
+pub(crate) fn derives<F: Include, B: Bases<F>>(bases: &B)
     requires causal { IsCausalFamily (family_of ⟦<B as Bases<F>>⟧ bases.now) }
     ensures inclusion { IsInclusion (inclusion_of ⟦<F as Include>⟧) }
     ensures family { IsFamily (inclusion_of ⟦<F as Include>⟧) (family_of ⟦<B as Bases<F>>⟧ bases.now) }
@@ -36,6 +37,12 @@ pub fn one_form<F: Include, B: Bases<F>>(bases: &B)
 {
     derives::<F, B>(bases);
 }
+
+/// The only form of a member over one valid history is the only one over every valid history with the same operations, in
+/// whatever order and with whatever authors and contexts of undos, if the base forms agree.
+pub fn same_operations_same_form<F: Include>()
+    ensures { SameOperationsSameForm F.over }
+{}
 
 /// The list of the bases is causal from the empty set, and each causal list has its derived forms.
 pub fn causal_lists_have_forms<F: Include, B: Bases<F>>(bases: &B)

@@ -5,11 +5,13 @@
 //! Executed in any causal order these forms give one state.
 #![tactic(auto)]
 
+mod derivation;
 mod laws;
 
+pub use derivation::transform;
 pub use laws::{
     addable_form_fits, causal_lists_have_forms, one_form, one_more_member, order_independence,
-    restriction, swap, to_the_front,
+    restriction, same_operations_same_form, swap, to_the_front,
 };
 
 #[cfg(test)]

@@ -1,0 +1,18 @@
+//! The laws of the fixed replay.
+//!
+//! A history of inserts, deletes and undos has one fixed replay: its inserts in the order of rank and
+//! site, each put into its open stretch. This crate has no value of its own: it shows that whatever order
+//! a site executes its operations in, as long as causes come first, the cells are those of that replay,
+//! and that two histories of the same operations show the same text.
+#![tactic(auto)]
+
+mod laws;
+
+pub use laws::{
+    any_order_is_replayed, base_forms_stay, executed_is_replayed, forms_stay, histories_have_forms,
+    operations_say_base_forms, originals_are_told_apart, replay_along_any_list,
+    replay_shows_the_text, same_operations_same_text,
+};
+
+#[cfg(test)]
+mod tests;
