@@ -27,11 +27,11 @@ with_original h w t known (Original x) =
     let c = original_context h t in
     elim (cases_Bool (x.site == t.site)) [
       | inl same ↦
-        let is : x.site ≡ t.site = grind (arith, nat_tests) in
-        let counts : count_of c x.site ≡ count_of c t.site = ap (count_of c) is in
-        let number : 1 ≤ t.number = facts.number in
-        let own : count_of c t.site + 1 ≡ t.number = facts.own in
-        grind (arith, nat_tests)
+          let is : x.site ≡ t.site = grind (arith, nat_tests) in
+          let counts : count_of c x.site ≡ count_of c t.site = ap (count_of c) is in
+          let number : 1 ≤ t.number = facts.number in
+          let own : count_of c t.site + 1 ≡ t.number = facts.own in
+          grind (arith, nat_tests)
       | inr other ↦ grind (arith, nat_tests)
     ]
 with_original h w t known (Group x g) = grind (arith, nat_tests)
@@ -49,19 +49,19 @@ pub first_group : (h : List OpData) → IsComplete h → (t : NameData) (g : ℕ
 first_group h w t g known low b c d is raised_has y =
     let facts = group_facts h w t g known in
     raised_has y
-        ∙ (ap (λ (x : ContextData). has x y || up_to y (Original t)) is
-        ∙ (with_original h w t facts.target y
-        ∙ (ap (λ x. has (original_context h t) y || x) (below_one t g facts.generation low y)
-        ∙ sym (ap (λ x. x && (has (original_context h t) y || is_below t g y)) known))))
+    ∙ (ap (λ (x : ContextData). has x y || up_to y (Original t)) is
+    ∙ (with_original h w t facts.target y
+    ∙ (ap (λ x. has (original_context h t) y || x) (below_one t g facts.generation low y)
+    ∙ sym (ap (λ x. x && (has (original_context h t) y || is_below t g y)) known))))
 
 pub later_group : (h : List OpData) → IsComplete h → (t : NameData) (g : ℕ) → is_known h (Group t g) ≡ true → 1 < g → (b c d : ContextData) → b ≡ original_context h t → ((y : Member) → has c y ≡ (has b y || up_to y (Original t))) → ((y : Member) → has d y ≡ (has c y || up_to y (Group t (g - 1))))
     → (y : Member) → has d y ≡ base_has h (Group t g) y
 later_group h w t g known more b c d is raised_has again y =
     let facts = group_facts h w t g known in
     again y
-        ∙ (ap (λ x. x || up_to y (Group t (g - 1))) (raised_has y ∙ (ap (λ (x : ContextData). has x y || up_to y (Original t)) is ∙ with_original h w t facts.target y))
-        ∙ (with_groups t g more (has (original_context h t) y) y
-        ∙ sym (ap (λ x. x && (has (original_context h t) y || is_below t g y)) known)))
+    ∙ (ap (λ x. x || up_to y (Group t (g - 1))) (raised_has y ∙ (ap (λ (x : ContextData). has x y || up_to y (Original t)) is ∙ with_original h w t facts.target y))
+    ∙ (with_groups t g more (has (original_context h t) y) y
+    ∙ sym (ap (λ x. x && (has (original_context h t) y || is_below t g y)) known)))
 
 -- a member of a history names a site and a number in their ranges
 name_range : (o : OpData) → IsWellFormed o → (n : NameData) → member_of o ≡ Original n → IsName n.site n.number

@@ -216,11 +216,11 @@ between_step h v t s low high step ps p at less apart are =
     let next : (low + step) + 1 ≡ suc (low + step) = omega arith in
     let far : suc (low + step) ≡ low + (step + 1) = omega arith in
     let same : (y : Member) → ((t y || is_between s low (low + step) y) || member_eq m y) ≡ (t y || is_between s low (low + (step + 1)) y) = λ y.
-        and_or (t y) (is_between s low (low + step) y) (member_eq m y) (is_between s low (low + (step + 1)) y)
-            (ap (λ k. is_between s low (low + step) y || member_eq (Original (record { site = s; number = k })) y) next
-                ∙ (sym (between_more s low (low + step) (omega arith) y) ∙ ap (λ k. is_between s low k y) far)) in
+    and_or (t y) (is_between s low (low + step) y) (member_eq m y) (is_between s low (low + (step + 1)) y)
+    (ap (λ k. is_between s low (low + step) y || member_eq (Original (record { site = s; number = k })) y) next
+    ∙ (sym (between_more s low (low + step) (omega arith) y) ∙ ap (λ k. is_between s low k y) far)) in
     places_same (members_in h) (λ y. (t y || is_between s low (low + step) y) || member_eq m y) (λ y. t y || is_between s low (low + (step + 1)) y) (ps ++ p ∷ []) same
-        (place_more h v (λ y. t y || is_between s low (low + step) y) ps p m at fresh are)
+    (place_more h v (λ y. t y || is_between s low (low + step) y) ps p m at fresh are)
 
 -- all numbers
 pub between_end : (ms : List Member) (t : Member → Bool) (s low high step : ℕ) (ps : List ℕ) → high - low ≤ step → step ≤ high - low → ArePlacesOf ms (λ y. t y || is_between s low (low + step) y) ps → ArePlacesOf ms (λ y. t y || is_between s low high y) ps
@@ -250,11 +250,11 @@ groups_step h v t n low high step ps p at less apart are =
     let next : (low + step) + 1 ≡ suc (low + step) = omega arith in
     let far : suc (low + step) ≡ low + (step + 1) = omega arith in
     let same : (y : Member) → ((t y || is_group_between n low (low + step) y) || member_eq m y) ≡ (t y || is_group_between n low (low + (step + 1)) y) = λ y.
-        and_or (t y) (is_group_between n low (low + step) y) (member_eq m y) (is_group_between n low (low + (step + 1)) y)
-            (ap (λ k. is_group_between n low (low + step) y || member_eq (Group n k) y) next
-                ∙ (sym (group_between_more n low (low + step) (omega arith) y) ∙ ap (λ k. is_group_between n low k y) far)) in
+    and_or (t y) (is_group_between n low (low + step) y) (member_eq m y) (is_group_between n low (low + (step + 1)) y)
+    (ap (λ k. is_group_between n low (low + step) y || member_eq (Group n k) y) next
+    ∙ (sym (group_between_more n low (low + step) (omega arith) y) ∙ ap (λ k. is_group_between n low k y) far)) in
     places_same (members_in h) (λ y. (t y || is_group_between n low (low + step) y) || member_eq m y) (λ y. t y || is_group_between n low (low + (step + 1)) y) (ps ++ p ∷ []) same
-        (place_more h v (λ y. t y || is_group_between n low (low + step) y) ps p m at fresh are)
+    (place_more h v (λ y. t y || is_group_between n low (low + step) y) ps p m at fresh are)
 
 pub groups_end : (ms : List Member) (t : Member → Bool) (n : NameData) (low high step : ℕ) (ps : List ℕ) → high - low ≤ step → step ≤ high - low → ArePlacesOf ms (λ y. t y || is_group_between n low (low + step) y) ps → ArePlacesOf ms (λ y. t y || is_group_between n low high y) ps
 groups_end ms t n low high step ps most least are =

@@ -73,7 +73,10 @@ fn add_numbers(
 {
     book.known();
     for step in 0..high.saturating_sub(low) {
-        let m = Member::Original(Name { site, number: low + step + 1 });
+        let m = Member::Original(Name {
+            site,
+            number: low + step + 1,
+        });
         if let Some(place) = book.place_of(&m) {
             add_place(places, place)?;
         }

@@ -19,7 +19,7 @@ pub const UNDO_ENTRIES: u32 = 16_384;
 ///
 /// A place counts the cells, from 0, that the inserts of the context put (TTF 2006: deleted cells count,
 /// since cells never go). Two operations are equal where all their parts are, and contexts as sets.
-#[derive(Drop)]
+#[derive(Drop, PartialEq, Eq, Hash)]
 pub enum Op {
     /// Puts a character before the cell at `place`, or behind the last one.
     Insert {

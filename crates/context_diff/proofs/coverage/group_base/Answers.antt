@@ -27,11 +27,11 @@ members c =
     let t : NameData = c.args.name.now in
     elim c.if-generation-gt1.branch [
       | then-generation-gt1+in_ok-raise-2 v ↦
-        subst (λ (b : VectorData). (y : Member) → has b.set y ≡ base_has h (Group t c.args.generation) y) (sym v.base-is)
-            (later_group h w t c.args.generation c.requires v.if-generation-gt1.true c.in_ok-base.base.set c.raise.new.self.set v.raise-then-generation-gt1.new.self.set (c.in_ok-base.ensures) (c.in_ok-raise.ensures).raised (v.in_ok-raise-2.ensures).raised)
+          subst (λ (b : VectorData). (y : Member) → has b.set y ≡ base_has h (Group t c.args.generation) y) (sym v.base-is)
+          (later_group h w t c.args.generation c.requires v.if-generation-gt1.true c.in_ok-base.base.set c.raise.new.self.set v.raise-then-generation-gt1.new.self.set (c.in_ok-base.ensures) (c.in_ok-raise.ensures).raised (v.in_ok-raise-2.ensures).raised)
       | else-generation-gt1 v ↦
-        subst (λ (b : VectorData). (y : Member) → has b.set y ≡ base_has h (Group t c.args.generation) y) (sym v.base-is)
-            (first_group h w t c.args.generation c.requires v.if-generation-gt1.false c.in_ok-base.base.set c.raise.new.self.set c.raise.new.self.set (c.in_ok-base.ensures) (c.in_ok-raise.ensures).raised)
+          subst (λ (b : VectorData). (y : Member) → has b.set y ≡ base_has h (Group t c.args.generation) y) (sym v.base-is)
+          (first_group h w t c.args.generation c.requires v.if-generation-gt1.false c.in_ok-base.base.set c.raise.new.self.set c.raise.new.self.set (c.in_ok-base.ensures) (c.in_ok-raise.ensures).raised)
     ]
 
 pub returns-clause-members : goal.returns-clause-members

@@ -23,13 +23,13 @@ loop-step-preserved c t apart first =
     let step = c.loop-step.step in
     elim c.match-place_of.branch [
       | in-Some+in_ok-add_place w ↦
-        let at : slice_get (members_in h) w.in-Some.place ≡ Some (Group s ((low + step) + 1)) = (w.in-Some.ensures).place in
-        let items : c.match-place_of.places.items ≡ c.loop-step.places.items ++ w.in-Some.place ∷ [] = (λ i. (w.places-is i).items) ∙ (w.in_ok-add_place.ensures) in
-        subst (λ (ps : List ℕ). ArePlacesOf (members_in h) (λ y. t y || is_group_between s low (low + (step + 1)) y) ps) (sym items)
-            (groups_step h c.known.ensures.valid t s low c.args.high step c.loop-step.places.items w.in-Some.place at (omega (arith, c.saturating_sub-step-end.ensures)) apart (c.loop-step.invariant t apart first))
+          let at : slice_get (members_in h) w.in-Some.place ≡ Some (Group s ((low + step) + 1)) = (w.in-Some.ensures).place in
+          let items : c.match-place_of.places.items ≡ c.loop-step.places.items ++ w.in-Some.place ∷ [] = (λ i. (w.places-is i).items) ∙ (w.in_ok-add_place.ensures) in
+          subst (λ (ps : List ℕ). ArePlacesOf (members_in h) (λ y. t y || is_group_between s low (low + (step + 1)) y) ps) (sym items)
+          (groups_step h c.known.ensures.valid t s low c.args.high step c.loop-step.places.items w.in-Some.place at (omega (arith, c.saturating_sub-step-end.ensures)) apart (c.loop-step.invariant t apart first))
       | in_default w ↦
-        let there : is_known h (Group s ((low + step) + 1)) ≡ true = c.requires ((low + step) + 1) (omega arith) (omega (arith, c.saturating_sub-step-end.ensures)) in
-        absurd (false≢true (sym ((w.in_default.ensures).none.0 refl) ∙ there))
+          let there : is_known h (Group s ((low + step) + 1)) ≡ true = c.requires ((low + step) + 1) (omega arith) (omega (arith, c.saturating_sub-step-end.ensures)) in
+          absurd (false≢true (sym ((w.in_default.ensures).none.0 refl) ∙ there))
     ]
 
 pub returns : goal.returns

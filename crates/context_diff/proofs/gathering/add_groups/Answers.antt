@@ -31,22 +31,22 @@ loop-i-preserved c =
     let i = c.loop-i.i in
     elim c.match-entry_at.branch [
       | in-Some+in_ok-add_generations w ↦
-        let p : NameData × ℕ = w.in-Some.entry in
-        let at : slice_get to.entries i ≡ Some p = sym c.entry_at.ensures ∙ w.in-Some.is in
-        let are = c.known-2.ensures.entries in
-        let entry : w.entry.result ≡ entry_of from p.0 = w.entry.ensures in
-        let fresh : (y : Member) → is_group_between p.0 w.entry.result p.1 y ≡ true → is_missing from (first_names to i) y ≡ false = λ y e.
-            name_is_new from to are i p at y (ap (λ k. is_group_between p.0 k p.1 y) (sym entry) ∙ e) in
-        let added : ArePlacesOf (members_in h) (λ y. is_missing from (first_names to i) y || is_group_between p.0 w.entry.result p.1 y) w.add_generations.new.places.items =
-            (w.in_ok-add_generations.ensures) (is_missing from (first_names to i)) fresh c.loop-i.invariant in
-        let items : c.match-entry_at.places.items ≡ w.add_generations.new.places.items = λ j. (w.places-is j).items in
-        let same : (y : Member) → (is_missing from (first_names to i) y || is_group_between p.0 w.entry.result p.1 y) ≡ is_missing from (first_names to (i + 1)) y = λ y.
-            ap (λ k. is_missing from (first_names to i) y || is_group_between p.0 k p.1 y) entry
-                ∙ (sym (names_more from to are i p at y) ∙ ap (λ k. is_missing from (first_names to k) y) (sym (add-one i))) in
-        subst (λ (ps : List ℕ). ArePlacesOf (members_in h) (is_missing from (first_names to (i + 1))) ps) (sym items)
-            (places_same (members_in h) (λ y. is_missing from (first_names to i) y || is_group_between p.0 w.entry.result p.1 y) (is_missing from (first_names to (i + 1))) w.add_generations.new.places.items same added)
+          let p : NameData × ℕ = w.in-Some.entry in
+          let at : slice_get to.entries i ≡ Some p = sym c.entry_at.ensures ∙ w.in-Some.is in
+          let are = c.known-2.ensures.entries in
+          let entry : w.entry.result ≡ entry_of from p.0 = w.entry.ensures in
+          let fresh : (y : Member) → is_group_between p.0 w.entry.result p.1 y ≡ true → is_missing from (first_names to i) y ≡ false = λ y e.
+          name_is_new from to are i p at y (ap (λ k. is_group_between p.0 k p.1 y) (sym entry) ∙ e) in
+          let added : ArePlacesOf (members_in h) (λ y. is_missing from (first_names to i) y || is_group_between p.0 w.entry.result p.1 y) w.add_generations.new.places.items =
+          (w.in_ok-add_generations.ensures) (is_missing from (first_names to i)) fresh c.loop-i.invariant in
+          let items : c.match-entry_at.places.items ≡ w.add_generations.new.places.items = λ j. (w.places-is j).items in
+          let same : (y : Member) → (is_missing from (first_names to i) y || is_group_between p.0 w.entry.result p.1 y) ≡ is_missing from (first_names to (i + 1)) y = λ y.
+          ap (λ k. is_missing from (first_names to i) y || is_group_between p.0 k p.1 y) entry
+          ∙ (sym (names_more from to are i p at y) ∙ ap (λ k. is_missing from (first_names to k) y) (sym (add-one i))) in
+          subst (λ (ps : List ℕ). ArePlacesOf (members_in h) (is_missing from (first_names to (i + 1))) ps) (sym items)
+          (places_same (members_in h) (λ y. is_missing from (first_names to i) y || is_group_between p.0 w.entry.result p.1 y) (is_missing from (first_names to (i + 1))) w.add_generations.new.places.items same added)
       | in_default w ↦
-        absurd (not_past to.entries i (omega (arith, c.entries-i-end.ensures.entries)) (sym c.entry_at.ensures ∙ w.in_default.is))
+          absurd (not_past to.entries i (omega (arith, c.entries-i-end.ensures.entries)) (sym c.entry_at.ensures ∙ w.in_default.is))
     ]
 
 pub returns : goal.returns
@@ -54,4 +54,4 @@ returns c =
     let from = c.args.from.now.set in
     let to = c.args.to.now.set in
     places_same (members_in c.args.book.now.ops) (is_missing from (first_names to c.loop-i.i)) (is_missing from to) c.loop-i.places.items
-        (names_all from to c.loop-i.i (omega (arith, c.entries-i-end.ensures.entries))) c.loop-i.invariant
+    (names_all from to c.loop-i.i (omega (arith, c.entries-i-end.ensures.entries))) c.loop-i.invariant

@@ -20,7 +20,7 @@ loop-i-init c =
     let from = c.args.from.now.set in
     let to = c.args.to.now.set in
     subst (λ (ps : List ℕ). ArePlacesOf (members_in c.args.book.now.ops) (is_missing from (first_sites to 0)) ps) (sym c.requires.empty)
-        (places_nothing (members_in c.args.book.now.ops) (is_missing from (first_sites to 0)) (no_sites_missing from to))
+    (places_nothing (members_in c.args.book.now.ops) (is_missing from (first_sites to 0)) (no_sites_missing from to))
 
 pub add_numbers-requires-clause-site : goal.add_numbers-requires-clause-site
 add_numbers-requires-clause-site c =
@@ -51,22 +51,22 @@ loop-i-preserved c =
     let i = c.loop-i.i in
     elim c.match-site_at.branch [
       | in-Some+in_ok-add_numbers w ↦
-        let p : ℕ × ℕ = w.in-Some.counted in
-        let at : slice_get to.counts i ≡ Some p = sym c.site_at.ensures ∙ w.in-Some.is in
-        let are = c.known-2.ensures.counts in
-        let count : w.count.result ≡ count_of from p.0 = w.count.ensures.count in
-        let fresh : (y : Member) → is_between p.0 w.count.result p.1 y ≡ true → is_missing from (first_sites to i) y ≡ false = λ y e.
-            site_is_new from to are i p at y (ap (λ k. is_between p.0 k p.1 y) (sym count) ∙ e) in
-        let added : ArePlacesOf (members_in h) (λ y. is_missing from (first_sites to i) y || is_between p.0 w.count.result p.1 y) w.add_numbers.new.places.items =
-            (w.in_ok-add_numbers.ensures) (is_missing from (first_sites to i)) fresh c.loop-i.invariant in
-        let items : c.match-site_at.places.items ≡ w.add_numbers.new.places.items = λ j. (w.places-is j).items in
-        let same : (y : Member) → (is_missing from (first_sites to i) y || is_between p.0 w.count.result p.1 y) ≡ is_missing from (first_sites to (i + 1)) y = λ y.
-            ap (λ k. is_missing from (first_sites to i) y || is_between p.0 k p.1 y) count
-                ∙ (sym (sites_more from to are i p at y) ∙ ap (λ k. is_missing from (first_sites to k) y) (sym (add-one i))) in
-        subst (λ (ps : List ℕ). ArePlacesOf (members_in h) (is_missing from (first_sites to (i + 1))) ps) (sym items)
-            (places_same (members_in h) (λ y. is_missing from (first_sites to i) y || is_between p.0 w.count.result p.1 y) (is_missing from (first_sites to (i + 1))) w.add_numbers.new.places.items same added)
+          let p : ℕ × ℕ = w.in-Some.counted in
+          let at : slice_get to.counts i ≡ Some p = sym c.site_at.ensures ∙ w.in-Some.is in
+          let are = c.known-2.ensures.counts in
+          let count : w.count.result ≡ count_of from p.0 = w.count.ensures.count in
+          let fresh : (y : Member) → is_between p.0 w.count.result p.1 y ≡ true → is_missing from (first_sites to i) y ≡ false = λ y e.
+          site_is_new from to are i p at y (ap (λ k. is_between p.0 k p.1 y) (sym count) ∙ e) in
+          let added : ArePlacesOf (members_in h) (λ y. is_missing from (first_sites to i) y || is_between p.0 w.count.result p.1 y) w.add_numbers.new.places.items =
+          (w.in_ok-add_numbers.ensures) (is_missing from (first_sites to i)) fresh c.loop-i.invariant in
+          let items : c.match-site_at.places.items ≡ w.add_numbers.new.places.items = λ j. (w.places-is j).items in
+          let same : (y : Member) → (is_missing from (first_sites to i) y || is_between p.0 w.count.result p.1 y) ≡ is_missing from (first_sites to (i + 1)) y = λ y.
+          ap (λ k. is_missing from (first_sites to i) y || is_between p.0 k p.1 y) count
+          ∙ (sym (sites_more from to are i p at y) ∙ ap (λ k. is_missing from (first_sites to k) y) (sym (add-one i))) in
+          subst (λ (ps : List ℕ). ArePlacesOf (members_in h) (is_missing from (first_sites to (i + 1))) ps) (sym items)
+          (places_same (members_in h) (λ y. is_missing from (first_sites to i) y || is_between p.0 w.count.result p.1 y) (is_missing from (first_sites to (i + 1))) w.add_numbers.new.places.items same added)
       | in_default w ↦
-        absurd (not_past to.counts i (omega (arith, c.sites-i-end.ensures.sites)) (sym c.site_at.ensures ∙ w.in_default.is))
+          absurd (not_past to.counts i (omega (arith, c.sites-i-end.ensures.sites)) (sym c.site_at.ensures ∙ w.in_default.is))
     ]
 
 pub returns : goal.returns
@@ -74,4 +74,4 @@ returns c =
     let from = c.args.from.now.set in
     let to = c.args.to.now.set in
     places_same (members_in c.args.book.now.ops) (is_missing from (first_sites to c.loop-i.i)) (is_missing from (first_names to 0)) c.loop-i.places.items
-        (sites_all from to c.loop-i.i (omega (arith, c.sites-i-end.ensures.sites))) c.loop-i.invariant
+    (sites_all from to c.loop-i.i (omega (arith, c.sites-i-end.ensures.sites))) c.loop-i.invariant

@@ -20,8 +20,8 @@ use Rattle.context_diff.proofs.gathering.difference.Goals.{in-Some, in_default}
 more : (old out : List Member) (ms : List Member) (ps : List ℕ) (i : ℕ) (m : Member) → i < length ps → out ≡ old ++ members_at ms (take i ps) → slice_get ms (get_or ps i 0) ≡ Some m → out ++ m ∷ [] ≡ old ++ members_at ms (take (i + 1) ps)
 more old out ms ps i m less was at =
     ap (λ xs. xs ++ m ∷ []) was
-        ∙ (append_assoc old (members_at ms (take i ps)) (m ∷ [])
-        ∙ ap (λ xs. old ++ xs) (ap (λ ys. members_at ms (take i ps) ++ ys) (sym (members_at_some ms (get_or ps i 0) m at)) ∙ sym (members_at_more ms ps i less)))
+    ∙ (append_assoc old (members_at ms (take i ps)) (m ∷ [])
+    ∙ ap (λ xs. old ++ xs) (ap (λ ys. members_at ms (take i ps) ++ ys) (sym (members_at_some ms (get_or ps i 0) m at)) ∙ sym (members_at_more ms ps i less)))
 
 no_more : (old out : List Member) (ms : List Member) (ps : List ℕ) (i : ℕ) → i < length ps → out ≡ old ++ members_at ms (take i ps) → slice_get ms (get_or ps i 0) ≡ None → out ≡ old ++ members_at ms (take (i + 1) ps)
 no_more old out ms ps i less was at =
@@ -34,17 +34,17 @@ loop-place-preserved c =
     let i = c.loop-place.place-index in
     elim c.match-member_at.branch [
       | in-Some w ↦
-        let at : slice_get ms (get_or ps i 0) ≡ Some w.in-Some.m = sym c.member_at.ensures ∙ w.in-Some.is in
-        let items : c.match-member_at.out.items ≡ c.loop-place.out.items ++ w.in-Some.m ∷ [] = (λ j. (w.out-is j).items) ∙ w.push_reserved.ensures.items in
-        let size : vec_len c.match-member_at.out ≡ vec_len c.loop-place.out + 1 = (λ j. vec_len (w.out-is j)) ∙ w.push_reserved.ensures.len in
-        let room : vec_capacity c.match-member_at.out ≡ vec_capacity c.loop-place.out = (λ j. vec_capacity (w.out-is j)) ∙ w.push_reserved.ensures.capacity in
-        (items ∙ more c.reserve.new.self.items c.loop-place.out.items ms ps i w.in-Some.m c.loop-place-test.true c.loop-place.invariant.0 at, omega (arith, c.loop-place.invariant.1, c.loop-place-test.true))
+          let at : slice_get ms (get_or ps i 0) ≡ Some w.in-Some.m = sym c.member_at.ensures ∙ w.in-Some.is in
+          let items : c.match-member_at.out.items ≡ c.loop-place.out.items ++ w.in-Some.m ∷ [] = (λ j. (w.out-is j).items) ∙ w.push_reserved.ensures.items in
+          let size : vec_len c.match-member_at.out ≡ vec_len c.loop-place.out + 1 = (λ j. vec_len (w.out-is j)) ∙ w.push_reserved.ensures.len in
+          let room : vec_capacity c.match-member_at.out ≡ vec_capacity c.loop-place.out = (λ j. vec_capacity (w.out-is j)) ∙ w.push_reserved.ensures.capacity in
+          (items ∙ more c.reserve.new.self.items c.loop-place.out.items ms ps i w.in-Some.m c.loop-place-test.true c.loop-place.invariant.0 at, omega (arith, c.loop-place.invariant.1, c.loop-place-test.true))
       | in_default w ↦
-        let at : slice_get ms (get_or ps i 0) ≡ None = sym c.member_at.ensures ∙ w.in_default.is in
-        let items : c.match-member_at.out.items ≡ c.loop-place.out.items = λ j. (w.out-is j).items in
-        let size : vec_len c.match-member_at.out ≡ vec_len c.loop-place.out = λ j. vec_len (w.out-is j) in
-        let room : vec_capacity c.match-member_at.out ≡ vec_capacity c.loop-place.out = λ j. vec_capacity (w.out-is j) in
-        (items ∙ no_more c.reserve.new.self.items c.loop-place.out.items ms ps i c.loop-place-test.true c.loop-place.invariant.0 at, omega (arith, c.loop-place.invariant.1, c.loop-place-test.true))
+          let at : slice_get ms (get_or ps i 0) ≡ None = sym c.member_at.ensures ∙ w.in_default.is in
+          let items : c.match-member_at.out.items ≡ c.loop-place.out.items = λ j. (w.out-is j).items in
+          let size : vec_len c.match-member_at.out ≡ vec_len c.loop-place.out = λ j. vec_len (w.out-is j) in
+          let room : vec_capacity c.match-member_at.out ≡ vec_capacity c.loop-place.out = λ j. vec_capacity (w.out-is j) in
+          (items ∙ no_more c.reserve.new.self.items c.loop-place.out.items ms ps i c.loop-place-test.true c.loop-place.invariant.0 at, omega (arith, c.loop-place.invariant.1, c.loop-place-test.true))
     ]
 
 pub returns-clause-appended : goal.returns-clause-appended
