@@ -4,7 +4,7 @@ use Rattle.cotpad.specs.declared.status.Status.{Status}
 use Rattle.cotpad.specs.declared.status.Status.TheVariants.{Done, Refused}
 
 -- the words of the one command
-abbrev pub IsReplay : List String → Type 0
+abbrev pub IsReplay : {A : Type 0} → List (String A) → Type 0
 IsReplay words = map string_bytes words ≡ codes "replay" ∷ []
 
 -- a report was written whole

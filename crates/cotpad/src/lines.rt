@@ -1,6 +1,6 @@
 //! Lines: where a line of a script ends, and the report lines that no other crate prints.
 
-ghost use Rattle.std.specs.Prelude.{◌≡◌, ◌++◌, ◌∷◌, [], ℕ, List, ◌<◌, length, IfSome, IfNone};
+ghost use Rattle.std.specs.Prelude.{◌≡◌, ◌++◌, ◌∷◌, [], ℕ, List, ◌<◌, length, IfSome, IfNone, ◌==◌, position};
 ghost use Rattle.cotpad.specs.Causes.{Gains};
 ghost use Rattle.cotpad.specs.Lines.{no_place, no_number, not_built, text_lines};
 ghost use Rattle.cotpad.specs.Reports.{lines_of};
@@ -15,10 +15,17 @@ pub(crate) fn split_line(bytes: &[u8]) -> Option<(&[u8], &[u8])>
     ensures shorter { IfSome result (λ p. length p.1.now < length bytes.now) }
     ensures last { IfNone result (lines_of bytes.now ≡ bytes.now ∷ []) }
 {
-    let end = bytes.iter().position(|b| *b == b'\n')?;
+    let end = line_end(bytes)?;
     let (line, rest) = bytes.split_at(end);
     let (_, behind) = rest.split_at(1);
     Some((line, behind))
+}
+
+// Where the first line feed stands.
+fn line_end(bytes: &[u8]) -> Option<usize>
+    ensures { result ≡ position (λ b. b == 10) bytes.now }
+{
+    bytes.iter().position(|b| *b == b'\n')
 }
 
 /// Appends that a place is past the text.

@@ -63,6 +63,7 @@ fn replay_lines(alloc: Global, bytes: &[u8], out: &mut Vec<u8>) -> Result<bool, 
 
 // Each line that ends with a line feed, until one is refused. Answers what stands behind the last of
 // them, or None for a refused script. `tail` is whatever else may follow.
+#[tactic(auto, using(crate::proofs::Steps::line_taken, crate::proofs::Steps::line_refused))]
 fn do_lines<'a>(
     alloc: Global,
     session: &mut Session,

@@ -1,11 +1,11 @@
 //! The site of a session.
 
-ghost use Rattle.std.specs.Prelude.{◌≡◌, ℕ, List, [], ◌∷◌, ◌+◌, ◌<◌, ◌≤◌, length, map, IfOk, string_bytes, OnOk};
-ghost use Rattle.op_name.specs.NameData.{IsName};
-ghost use Rattle.tombstone_text.specs.Letters.{Letter, LacksName};
+ghost use Rattle.std.specs.Prelude.{◌≡◌, ℕ, List, [], ◌∷◌, ◌+◌, ◌<◌, ◌≤◌, length, IfOk, string_bytes, OnOk, true, false};
+ghost use Rattle.tombstone_text.specs.Letters.{Letter};
 ghost use Rattle.script_text.specs.Report.{inserted_text};
 ghost use Rattle.cotpad.specs.Causes.{Gains};
-ghost use Rattle.cotpad.specs.Letters.{AreNumbered, with_letter, letters_after, letters_lines, letters_text};
+ghost use Rattle.cotpad.specs.Letters.{AreNumbered, name_after, with_letter, letters_after, letters_lines, letters_text};
+ghost use Rattle.cotpad.specs.Reports.{preceded};
 
 use crate::lines::{number_line, place_line, shown_lines};
 use op_name::{Memory, Name};
@@ -13,6 +13,9 @@ use script_text::inserted_line;
 use std::alloc::Global;
 use std::marker::Model;
 use tombstone_text::Cells;
+
+/// The greatest number that a site gives.
+const NUMBERS: u32 = 1_000_000;
 
 /// The one site of a session, seen as its cells. The numbers of their names are those that the site has
 /// given so far, from 1.
@@ -53,35 +56,73 @@ impl Site {
     {
         let mut place = visible;
         for ch in text {
-            let len = self.cells.len();
-            if len < place {
-                return place_line(alloc, place, len, out);
+            if !self.insert_one(alloc, place, *ch, out)? {
+                return Ok(());
             }
-            let Ok(name) = Name::new(0, len.saturating_add(1)) else {
-                return number_line(out);
-            };
-            self.put(alloc, place, name, *ch, out)?;
             place += 1;
         }
         Ok(())
     }
 
+    // Inserts one character, or reports why not. Answers whether the text goes on; `rest` is what follows.
+    #[tactic(
+        auto,
+        using(
+            crate::proofs::Steps::letter_put,
+            crate::proofs::Steps::place_past,
+            crate::proofs::Steps::number_full
+        )
+    )]
+    fn insert_one(
+        &mut self,
+        alloc: Global,
+        place: u32,
+        ch: char,
+        out: &mut Vec<u8>,
+    ) -> Result<bool, Memory>
+        ensures goes_on { IfOk result (λ b. b ≡ true → (rest : List ℕ) →
+            preceded out.old.items (letters_after place (ch ∷ rest) self.old)
+                ≡ preceded out.new.items (letters_after (place + 1) rest self.new)) }
+        ensures ends { IfOk result (λ b. b ≡ false → (rest : List ℕ) →
+            preceded out.old.items (letters_after place (ch ∷ rest) self.old)
+                ≡ record { written = out.new.items; after = self.new }) }
+        ensures room { IfOk result (λ b. b ≡ true → place < 1000000) }
+    {
+        let len = self.cells.len();
+        if len < place {
+            place_line(alloc, place, len, out)?;
+            return Ok(false);
+        }
+        if len >= NUMBERS {
+            number_line(out)?;
+            return Ok(false);
+        }
+        self.put(alloc, place, ch, out)?;
+        Ok(true)
+    }
+
     // Puts one cell under the next name, and appends the report line of it.
+    #[tactic(
+        auto,
+        using(crate::proofs::Steps::numbered_lacks, crate::proofs::Steps::numbered_with)
+    )]
     fn put(
         &mut self,
         alloc: Global,
         place: u32,
-        name: Name,
         ch: char,
         out: &mut Vec<u8>,
     ) -> Result<(), Memory>
         requires place { place ≤ length self.old }
-        requires site { name.site ≡ 0 }
-        requires number { name.number ≡ length self.old + 1 }
-        ensures written { Gains result out.old.items out.new.items (inserted_text (length self.old) name) }
+        requires number { length self.old < 1000000 }
+        ensures written { Gains result out.old.items out.new.items (inserted_text (length self.old) (name_after self.old)) }
         ensures after { OnOk result (self.new ≡ with_letter self.old place ch) }
     {
         let message = self.cells.len();
+        let name = Name {
+            site: 0,
+            number: message + 1,
+        };
         self.cells.put(place, name, ch)?;
         inserted_line(alloc, message, name, out)
     }
@@ -96,6 +137,7 @@ impl Site {
 }
 
 /// The characters of the cells as one text.
+#[tactic(auto, using(crate::proofs::Steps::text_step))]
 fn text_of(alloc: Global, cells: &Cells) -> Result<String, Memory>
     ensures { IfOk result (λ text. string_bytes text ≡ letters_text cells.now) }
 {
