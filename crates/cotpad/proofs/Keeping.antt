@@ -98,9 +98,9 @@ characters_before h v ch (c ∷ cs) a =
     and_false false = refl
 
 character_new : (n : ℕ) (h : List OpData) (v ch : ℕ) (k : ℕ) → AreTyped n h → n + length h ≤ k → character_in (h ++ typed_after k v ch ∷ []) (own_name (suc k), 0) ≡ ch
-character_new n [] v ch k a le = let e : (k == k) ≡ true = grind (arith, nat_tests) in rw e refl
+character_new n [] v ch k a le = let e : (suc k == suc k) ≡ true = grind (arith, nat_tests) in rw e refl
 character_new n (o ∷ h) v ch k a le =
-    let ne : (n == k) ≡ false = (let l : suc (n + length h) ≤ k = omega arith in grind (arith, nat_tests)) in
+    let ne : (suc n == suc k) ≡ false = (let l : suc n ≤ k = omega arith in grind (arith, nat_tests)) in
     rw (a.0.is, ne) (character_new (suc n) h v ch k a.1 (omega arith))
 
 pub keeps_with : (h : List OpData) (cells : List Letter) (v ch : ℕ) → Keeps h cells → v ≤ length cells → Keeps (after_insert h v ch) (with_letter cells v ch)

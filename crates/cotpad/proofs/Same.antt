@@ -25,20 +25,55 @@ record SameEdit (e : Edited (List OpData)) (f : Edited (List Letter)) : Type 0 w
 within_text : (v n : ℕ) → nat_lt n v ≡ false → v ≤ n
 within_text v n e = grind (arith, nat_tests)
 
-same_text : (v : ℕ) (chs : List ℕ) (h : List OpData) (cells : List Letter) → Keeps h cells → SameEdit (after_text v chs h) (letters_after v chs cells)
+same_by : (e x : Edited (List OpData)) (f y : Edited (List Letter)) → e ≡ x → f ≡ y → SameEdit x y → SameEdit e f
+same_by e x f y p q s =
+    let P : Edited (List OpData) → Type 0 = λ a. SameEdit a f in
+    let Q : Edited (List Letter) → Type 0 = λ b. SameEdit x b in
+    subst P (sym p) (subst Q (sym q) s)
+
+history_past : (v ch : ℕ) (chs : List ℕ) (h : List OpData) → nat_lt (length (shown h)) v ≡ true → after_text v (ch ∷ chs) h ≡ record { written = no_place v (length (shown h)); after = h }
+unfolding after_text
+history_past v ch chs h e = rw e refl
+
+history_full : (v ch : ℕ) (chs : List ℕ) (h : List OpData) → nat_lt (length (shown h)) v ≡ false → nat_le 1000000 (made_in h) ≡ true → after_text v (ch ∷ chs) h ≡ record { written = no_number; after = h }
+unfolding after_text
+history_full v ch chs h e f = rw (e, f) refl
+
+history_put : (v ch : ℕ) (chs : List ℕ) (h : List OpData) → nat_lt (length (shown h)) v ≡ false → nat_le 1000000 (made_in h) ≡ false → after_text v (ch ∷ chs) h ≡ preceded (inserted_text (length h) (next_name h)) (after_text (v + 1) chs (after_insert h v ch))
+unfolding after_text
+history_put v ch chs h e f = rw (e, f) refl
+
+letters_past : (v ch : ℕ) (chs : List ℕ) (cells : List Letter) → nat_lt (length cells) v ≡ true → letters_after v (ch ∷ chs) cells ≡ record { written = no_place v (length cells); after = cells }
+unfolding letters_after
+letters_past v ch chs cells e = rw e refl
+
+letters_full : (v ch : ℕ) (chs : List ℕ) (cells : List Letter) → nat_lt (length cells) v ≡ false → nat_le 1000000 (length cells) ≡ true → letters_after v (ch ∷ chs) cells ≡ record { written = no_number; after = cells }
+unfolding letters_after
+letters_full v ch chs cells e f = rw (e, f) refl
+
+letters_one : (v ch : ℕ) (chs : List ℕ) (cells : List Letter) → nat_lt (length cells) v ≡ false → nat_le 1000000 (length cells) ≡ false → letters_after v (ch ∷ chs) cells ≡ preceded (inserted_text (length cells) (name_after cells)) (letters_after (v + 1) chs (with_letter cells v ch))
+unfolding letters_after
+letters_one v ch chs cells e f = rw (e, f) refl
+
+same_none : (v : ℕ) (h : List OpData) (cells : List Letter) → Keeps h cells → SameEdit (after_text v [] h) (letters_after v [] cells)
 unfolding after_text letters_after
-same_text v [] h cells k = record { written = refl; keeps = k }
+same_none v h cells k = record { written = refl; keeps = k }
+
+same_text : (v : ℕ) (chs : List ℕ) (h : List OpData) (cells : List Letter) → Keeps h cells → SameEdit (after_text v chs h) (letters_after v chs cells)
+same_text v [] h cells k = same_none v h cells k
 same_text v (ch ∷ chs) h cells k =
     let visible : length (shown h) ≡ length cells = keeps_visible h cells k in
     let made : made_in h ≡ length cells = keeps_made h cells k in
     elim (cases_Bool (nat_lt (length cells) v)) [
-    | inl e ↦ rw (visible, e) (record { written = refl; keeps = k })
+    | inl e ↦ same_by _ _ _ _ (history_past v ch chs h (ap (λ n. nat_lt n v) visible ∙ e)) (letters_past v ch chs cells e)
+        (record { written = ap (λ n. no_place v n) visible; keeps = k })
     | inr e ↦ elim (cases_Bool (nat_le 1000000 (length cells))) [
-      | inl f ↦ rw (visible, e, made, f) (record { written = refl; keeps = k })
+      | inl f ↦ same_by _ _ _ _ (history_full v ch chs h (ap (λ n. nat_lt n v) visible ∙ e) (ap (λ n. nat_le 1000000 n) made ∙ f)) (letters_full v ch chs cells e f)
+          (record { written = refl; keeps = k })
       | inr f ↦
-          let rest = same_text (v + 1) chs (after_insert h v ch) (with_letter cells v ch) (keeps_with h cells v ch k (within_text v (length cells) e)) in
-          let line : inserted_text (length h) (next_name h) ≡ inserted_text (length cells) (name_after cells) = (λ i. inserted_text (sym k.letters i) (keeps_name h cells k i)) in
-          rw (visible, e, made, f) (record { written = (λ i. line i ++ rest.written i); keeps = rest.keeps })
+          let rest : SameEdit (after_text (v + 1) chs (after_insert h v ch)) (letters_after (v + 1) chs (with_letter cells v ch)) = same_text (v + 1) chs (after_insert h v ch) (with_letter cells v ch) (keeps_with h cells v ch k (within_text v (length cells) e)) in
+          same_by _ _ _ _ (history_put v ch chs h (ap (λ n. nat_lt n v) visible ∙ e) (ap (λ n. nat_le 1000000 n) made ∙ f)) (letters_one v ch chs cells e f)
+            (record { written = (λ i. inserted_text (sym k.letters i) (keeps_name h cells k i) ++ rest.written i); keeps = rest.keeps })
       ]
     ]
 
@@ -109,3 +144,9 @@ script_report_is bytes le = let e : nat_lt limit (length bytes) ≡ false = shor
   where
   short : (n : ℕ) → n ≤ limit → nat_lt limit n ≡ false
   short n le = grind (arith, nat_tests)
+
+pub report_past : (bytes : List ℕ) → limit < length bytes → script_report bytes ≡ record { written = not_built 1; refused = true }
+report_past bytes l = let e : nat_lt limit (length bytes) ≡ true = long (length bytes) l in rw e refl
+  where
+  long : (n : ℕ) → limit < n → nat_lt limit n ≡ true
+  long n l = grind (arith, nat_tests)

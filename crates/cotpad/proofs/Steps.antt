@@ -127,3 +127,13 @@ report_written out new end r is = sym (ap (λ (x : Report). x.written) is)
 
 pub report_refused : (out new : List ℕ) (end : Bool) (r : Report) → behind out r ≡ record { written = new; refused = end } → end ≡ r.refused
 report_refused out new end r is = sym (ap (λ (x : Report). x.refused) is)
+
+-- the same of a line that is refused
+pub line_stops : (out new : List ℕ) (n : ℕ) (site : Option (List Letter)) (line : List ℕ)
+    → new ≡ out ++ (letters_after_line n site (line_of line)).written → (letters_after_line n site (line_of line)).next ≡ None
+    → behind out (letters_report n site (line ∷ [])) ≡ record { written = new; refused = true }
+line_stops out new n site line e t = line_refused out new n site line [] e t
+
+-- bytes that nothing follows
+pub at_end : (f g : List ℕ → Report) (bytes rest : List ℕ) → ((tail : List ℕ) → f (bytes ++ tail) ≡ g (rest ++ tail)) → f bytes ≡ g rest
+at_end f g bytes rest h = ap f (sym (append-nil bytes)) ∙ (h [] ∙ ap g (append-nil rest))

@@ -31,8 +31,8 @@ pub(crate) fn replay(
     out: &mut Vec<u8>,
 ) -> Result<bool, Memory>
     requires { length bytes.now ≤ limit }
-    ensures written { taken ≡ Taken.End → Gains result out.old.items out.new.items (script_report bytes.now).written }
-    ensures refused { taken ≡ Taken.End → IfOk result (λ r. r ≡ (script_report bytes.now).refused) }
+    ensures report { taken ≡ Taken.End → IfOk result (λ r.
+        behind out.old.items (script_report bytes.now) ≡ record { written = out.new.items; refused = r }) }
     ensures past { taken ≡ Taken.Past → Gains result out.old.items out.new.items (not_built 1) }
     ensures past_refused { taken ≡ Taken.Past → IfOk result (λ r. r ≡ true) }
 {
@@ -46,17 +46,18 @@ pub(crate) fn replay(
 }
 
 // All lines of a script, over what the program keeps.
+
 fn replay_lines(alloc: Global, bytes: &[u8], out: &mut Vec<u8>) -> Result<bool, Memory>
     requires { length bytes.now ≤ limit }
-    ensures written { Gains result out.old.items out.new.items (letters_report 1 None (lines_of bytes.now)).written }
-    ensures refused { IfOk result (λ r. r ≡ (letters_report 1 None (lines_of bytes.now)).refused) }
+    ensures { IfOk result (λ r.
+        behind out.old.items (letters_report 1 None (lines_of bytes.now)) ≡ record { written = out.new.items; refused = r }) }
 {
     let mut session = Session {
         number: 1,
         site: None,
     };
     match do_lines(alloc, &mut session, bytes, out)? {
-        Some(rest) => session.do_line(alloc, rest, out),
+        Some(rest) => session.do_last(alloc, rest, out),
         None => Ok(true),
     }
 }
@@ -91,6 +92,19 @@ fn do_lines<'a>(
 }
 
 impl Session {
+    // The last line, which no line feed ends. Answers whether it is refused.
+    #[tactic(auto, using(crate::proofs::Steps::line_last, crate::proofs::Steps::line_stops))]
+    fn do_last(&mut self, alloc: Global, bytes: &[u8], out: &mut Vec<u8>) -> Result<bool, Memory>
+        ensures { IfOk result (λ r.
+            behind out.old.items (letters_report self.old.number self.old.site (bytes.now ∷ []))
+                ≡ record { written = out.new.items; refused = r }) }
+    {
+        if self.do_line(alloc, bytes, out)? {
+            return Ok(true);
+        }
+        Ok(false)
+    }
+
     // One line, without its line feed. Answers whether it is refused.
     fn do_line(&mut self, alloc: Global, bytes: &[u8], out: &mut Vec<u8>) -> Result<bool, Memory>
         ensures written { Gains result out.old.items out.new.items

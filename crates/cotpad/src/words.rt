@@ -1,6 +1,6 @@
 //! The words that the program was called with.
 
-ghost use Rattle.std.specs.Prelude.{◌↔◌, IsTrue};
+ghost use Rattle.std.specs.Prelude.{◌≡◌, ◌↔◌, IsTrue, codes};
 ghost use Rattle.cotpad.specs.Statuses.{IsReplay};
 
 use op_name::Memory;
@@ -16,9 +16,15 @@ pub(crate) fn is_replay(words: &[String]) -> bool
     ensures { IsTrue result ↔ IsReplay words.now }
 {
     match words {
-        [word] => word.as_str() == "replay",
+        [word] => is_name_of_replay(word.as_str()),
         _ => false,
     }
+}
+
+fn is_name_of_replay(word: &str) -> bool
+    ensures { IsTrue result ↔ (word.now ≡ codes "replay") }
+{
+    word == "replay"
 }
 
 /// The words behind the program's name. A word that isn't UTF-8 is handed on as an empty word.
