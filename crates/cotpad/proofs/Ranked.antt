@@ -1,11 +1,11 @@
 -- The replay of inserts whose ranks rise and each of which sees those before it.
-use Rattle.std.proofs.Common.{◌≡◌, ℕ, zero, suc, ◌+◌, ◌≤◌, ◌<◌, Bool, true, false, List, [], ◌∷◌, ◌++◌, refl, ap, sym, ◌∙◌, arith, length, take, drop, map, append_assoc}
-use Rattle.std.specs.Prelude.{if◌then◌else◌, nat_lt, ◌||◌, ◌&&◌, ◌==◌}
+use Rattle.std.proofs.Common.{◌≡◌, ℕ, suc, ◌≤◌, true, List, [], ◌∷◌, ◌++◌, refl, ap, sym, ◌∙◌, arith, length, take, drop, map, append_assoc}
+use Rattle.std.specs.Prelude.{nat_lt}
 use Rattle.std.proofs.lemmas.List.{append-nil}
 use Rattle.std.proofs.lemmas.Bool.{lt-ltb}
 use Rattle.op_name.specs.NameData.{NameData}
 use Rattle.op_name.specs.Gaps.{Gap, gap}
-use Rattle.op_name.specs.Replays.{Insertion, Cell, is_earlier, put_by, sort_by, narrowed, narrowed_by, gap_of, put, replay, cells_from}
+use Rattle.op_name.specs.Replays.{Insertion, Cell, is_earlier, put_by, sort_by, narrowed, put, replay, cells_from}
 use Rattle.cotpad.proofs.AllPass.{AllPass, gap_all}
 
 -- ranks that rise one by one

@@ -1,9 +1,8 @@
 -- A script has one report, whether its session is followed by histories or by cells.
-use Rattle.std.proofs.Common.{◌≡◌, ℕ, zero, suc, ◌+◌, ◌≤◌, ◌<◌, Bool, true, false, Option, None, Some, List, [], ◌∷◌, ◌++◌, ◌⊎◌, inl, inr, refl, ap, sym, subst, ◌∙◌, arith, length}
-use Rattle.std.specs.Prelude.{nat_lt, nat_le, if◌then◌else◌}
+use Rattle.std.proofs.Common.{◌≡◌, ℕ, ◌+◌, ◌≤◌, ◌<◌, true, false, Option, None, Some, List, [], ◌∷◌, ◌++◌, inl, inr, refl, ap, sym, subst, ◌∙◌, arith, length}
+use Rattle.std.specs.Prelude.{nat_lt, nat_le}
 use Rattle.std.proofs.lemmas.Bool.{cases_Bool}
 use Rattle.std.proofs.lemmas.Bool.Decides.{nat_tests}
-use Rattle.op_name.specs.NameData.{NameData}
 use Rattle.op_name.specs.Operations.{OpData}
 use Rattle.op_name.specs.Replays.{shown}
 use Rattle.tombstone_text.specs.Letters.{Letter}
@@ -12,7 +11,7 @@ use Rattle.script_text.specs.declared.first_lines.FirstLine.TheVariants.{Blank, 
 use Rattle.script_text.specs.FirstLines.{line_of}
 use Rattle.script_text.specs.Report.{inserted_text}
 use Rattle.cotpad.specs.Lines.{no_place, no_number, not_built}
-use Rattle.cotpad.specs.Reports.{Report, Outcome, Edited, taken, refused_by, preceded, behind, going_on, followed, lines_of}
+use Rattle.cotpad.specs.Reports.{Report, Outcome, Edited, preceded, behind, going_on, lines_of}
 use Rattle.cotpad.specs.Sessions.{Session, made_in, next_name, after_insert, after_text, after_line, on_site, before_sites, report_from, script_report, limit}
 use Rattle.cotpad.specs.Letters.{name_after, with_letter, letters_after, letters_after_line, letters_on_site, letters_before_sites, letters_report}
 use Rattle.cotpad.proofs.Keeping.{Keeps, keeps_none, keeps_made, keeps_visible, keeps_name, keeps_shown, keeps_with}
@@ -65,14 +64,14 @@ same_text v (ch ∷ chs) h cells k =
     let visible : length (shown h) ≡ length cells = keeps_visible h cells k in
     let made : made_in h ≡ length cells = keeps_made h cells k in
     elim (cases_Bool (nat_lt (length cells) v)) [
-    | inl e ↦ same_by _ _ _ _ (history_past v ch chs h (ap (λ n. nat_lt n v) visible ∙ e)) (letters_past v ch chs cells e)
-        (record { written = ap (λ n. no_place v n) visible; keeps = k })
-    | inr e ↦ elim (cases_Bool (nat_le 1000000 (length cells))) [
-      | inl f ↦ same_by _ _ _ _ (history_full v ch chs h (ap (λ n. nat_lt n v) visible ∙ e) (ap (λ n. nat_le 1000000 n) made ∙ f)) (letters_full v ch chs cells e f)
-          (record { written = refl; keeps = k })
-      | inr f ↦
-          let rest : SameEdit (after_text (v + 1) chs (after_insert h v ch)) (letters_after (v + 1) chs (with_letter cells v ch)) = same_text (v + 1) chs (after_insert h v ch) (with_letter cells v ch) (keeps_with h cells v ch k (within_text v (length cells) e)) in
-          same_by _ _ _ _ (history_put v ch chs h (ap (λ n. nat_lt n v) visible ∙ e) (ap (λ n. nat_le 1000000 n) made ∙ f)) (letters_one v ch chs cells e f)
+      | inl e ↦ same_by _ _ _ _ (history_past v ch chs h (ap (λ n. nat_lt n v) visible ∙ e)) (letters_past v ch chs cells e)
+          (record { written = ap (λ n. no_place v n) visible; keeps = k })
+      | inr e ↦ elim (cases_Bool (nat_le 1000000 (length cells))) [
+        | inl f ↦ same_by _ _ _ _ (history_full v ch chs h (ap (λ n. nat_lt n v) visible ∙ e) (ap (λ n. nat_le 1000000 n) made ∙ f)) (letters_full v ch chs cells e f)
+            (record { written = refl; keeps = k })
+        | inr f ↦
+            let rest : SameEdit (after_text (v + 1) chs (after_insert h v ch)) (letters_after (v + 1) chs (with_letter cells v ch)) = same_text (v + 1) chs (after_insert h v ch) (with_letter cells v ch) (keeps_with h cells v ch k (within_text v (length cells) e)) in
+            same_by _ _ _ _ (history_put v ch chs h (ap (λ n. nat_lt n v) visible ∙ e) (ap (λ n. nat_le 1000000 n) made ∙ f)) (letters_one v ch chs cells e f)
             (record { written = (λ i. inserted_text (sym k.letters i) (keeps_name h cells k i) ++ rest.written i); keeps = rest.keeps })
       ]
     ]
@@ -142,11 +141,11 @@ same_report bytes = same_lines 1 None None (lines_of bytes) tt
 pub script_report_is : (bytes : List ℕ) → length bytes ≤ limit → script_report bytes ≡ letters_report 1 None (lines_of bytes)
 script_report_is bytes le = let e : nat_lt limit (length bytes) ≡ false = short (length bytes) le in rw e (same_report bytes)
   where
-  short : (n : ℕ) → n ≤ limit → nat_lt limit n ≡ false
-  short n le = grind (arith, nat_tests)
+    short : (n : ℕ) → n ≤ limit → nat_lt limit n ≡ false
+    short n le = grind (arith, nat_tests)
 
 pub report_past : (bytes : List ℕ) → limit < length bytes → script_report bytes ≡ record { written = not_built 1; refused = true }
 report_past bytes l = let e : nat_lt limit (length bytes) ≡ true = long (length bytes) l in rw e refl
   where
-  long : (n : ℕ) → limit < n → nat_lt limit n ≡ true
-  long n l = grind (arith, nat_tests)
+    long : (n : ℕ) → limit < n → nat_lt limit n ≡ true
+    long n l = grind (arith, nat_tests)

@@ -1,6 +1,6 @@
 -- Lines of bytes, at a line feed that is found.
-use Rattle.std.proofs.Common.{◌≡◌, ℕ, zero, suc, ◌+◌, ◌≤◌, ◌<◌, Bool, true, false, Option, None, Some, List, [], ◌∷◌, ◌++◌, ◌⊎◌, inl, inr, refl, ap, sym, subst, ◌∙◌, arith, length, take, drop, add-one}
-use Rattle.std.specs.Prelude.{nat_lt, ◌==◌, position, cond}
+use Rattle.std.proofs.Common.{◌≡◌, ℕ, suc, ◌+◌, ◌≤◌, ◌<◌, Bool, None, Some, List, [], ◌∷◌, ◌++◌, inl, inr, refl, ap, ◌∙◌, arith, length, take, drop}
+use Rattle.std.specs.Prelude.{nat_lt, ◌==◌, position}
 use Rattle.std.specs.List.{slice_split, onto_first, position_or_len}
 use Rattle.std.proofs.lemmas.Bool.{cases_Bool, ltb-true}
 use Rattle.std.proofs.lemmas.Bool.Decides.{nat_tests}

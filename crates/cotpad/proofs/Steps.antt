@@ -1,6 +1,6 @@
 -- Steps over what the program keeps: one character of a text, one line of a script.
-use Rattle.std.proofs.Common.{◌≡◌, ℕ, zero, suc, ◌+◌, ◌≤◌, ◌<◌, Bool, true, false, Option, None, Some, List, [], ◌∷◌, ◌++◌, refl, ap, sym, subst, ◌∙◌, arith, length, take, drop, map, append_assoc, add-one}
-use Rattle.std.specs.Prelude.{nat_lt, nat_le, ◌==◌, ◌&&◌, insert, encode_utf8, encode_utf8_all, slice_get, if◌then◌else◌}
+use Rattle.std.proofs.Common.{◌≡◌, ℕ, zero, suc, ◌+◌, ◌≤◌, ◌<◌, Bool, true, false, Option, None, Some, List, [], ◌∷◌, ◌++◌, refl, ap, sym, ◌∙◌, arith, length, take, drop, append_assoc, add-one}
+use Rattle.std.specs.Prelude.{nat_lt, nat_le, ◌==◌, ◌&&◌, insert, encode_utf8, slice_get, Result, Ok, Err, IfOk}
 use Rattle.std.proofs.lemmas.Bool.{lt-ltb, le-leb}
 use Rattle.std.proofs.lemmas.Bool.Decides.{nat_tests}
 use Rattle.std.proofs.lemmas.List.{append-nil}
@@ -9,16 +9,16 @@ use Rattle.tombstone_text.specs.Letters.{Letter, LacksName}
 use Rattle.script_text.specs.FirstLines.{line_of}
 use Rattle.script_text.specs.Report.{inserted_text}
 use Rattle.cotpad.specs.Lines.{no_place, no_number}
-use Rattle.cotpad.specs.Reports.{Report, Outcome, Edited, preceded, behind, followed}
+use Rattle.cotpad.specs.Reports.{Report, Edited, preceded, behind}
 use Rattle.cotpad.specs.Letters.{AreNumbered, name_after, with_letter, letters_text, letters_after, letters_after_line, letters_report}
 use Rattle.cotpad.proofs.AllPass.{length_insert}
 
 name_differs : (n : ℕ) (c m : NameData) → c.number ≤ n → m.number ≡ n + 1 → name_eq c m ≡ false
 name_differs n c m le e = let ne : (c.number == m.number) ≡ false = grind (arith, nat_tests) in rw ne (and_false (c.site == m.site))
   where
-  and_false : (b : Bool) → (b && false) ≡ false
-  and_false true = refl
-  and_false false = refl
+    and_false : (b : Bool) → (b && false) ≡ false
+    and_false true = refl
+    and_false false = refl
 
 lacks : (n : ℕ) (m : NameData) (cs : List Letter) → m.number ≡ n + 1 → AreNumbered n cs → LacksName m cs
 lacks n m [] e a = tt
@@ -75,14 +75,16 @@ no_letters place cells out = λ i. record { written = append-nil out i; after = 
 pub text_step : (cs : List Letter) (i : ℕ) (c : Letter) → slice_get cs i ≡ Some c → letters_text (take (i + 1) cs) ≡ letters_text (take i cs) ++ encode_utf8 c.ch
 text_step cs i c e = rw (add-one i) (step cs i c e)
   where
-  some_once : (a b : Letter) → Some a ≡ Some b → a ≡ b
-  some_once a b e = cc
-  none_some : (b : Letter) → None ≡ Some b → ⊥
-  none_some b e = cc
-  step : (cs : List Letter) (i : ℕ) (c : Letter) → slice_get cs i ≡ Some c → letters_text (take (suc i) cs) ≡ letters_text (take i cs) ++ encode_utf8 c.ch
-  step [] i c e = absurd (none_some c e)
-  step (d ∷ cs) zero c e = let s : d ≡ c = some_once d c e in ap (λ (x : Letter). encode_utf8 x.ch ++ []) s ∙ append-nil (encode_utf8 c.ch)
-  step (d ∷ cs) (suc i) c e = ap (λ xs. encode_utf8 d.ch ++ xs) (step cs i c e) ∙ sym (append_assoc (encode_utf8 d.ch) (letters_text (take i cs)) (encode_utf8 c.ch))
+    some_once : (a b : Letter) → Some a ≡ Some b → a ≡ b
+    some_once a b e = cc
+
+    none_some : (b : Letter) → None ≡ Some b → ⊥
+    none_some b e = cc
+
+    step : (cs : List Letter) (i : ℕ) (c : Letter) → slice_get cs i ≡ Some c → letters_text (take (suc i) cs) ≡ letters_text (take i cs) ++ encode_utf8 c.ch
+    step [] i c e = absurd (none_some c e)
+    step (d ∷ cs) zero c e = let s : d ≡ c = some_once d c e in ap (λ (x : Letter). encode_utf8 x.ch ++ []) s ∙ append-nil (encode_utf8 c.ch)
+    step (d ∷ cs) (suc i) c e = ap (λ xs. encode_utf8 d.ch ++ xs) (step cs i c e) ∙ sym (append_assoc (encode_utf8 d.ch) (letters_text (take i cs)) (encode_utf8 c.ch))
 
 -- a line that is taken: what it writes stands before what the rest writes
 pub line_taken : (out new : List ℕ) (n : ℕ) (site now : Option (List Letter)) (line : List ℕ) (lines : List (List ℕ))
@@ -108,11 +110,11 @@ line_last out new n site now line e t = rw t (λ i. record { written = (ap (λ x
 pub text_done : (place k : ℕ) (text : List ℕ) (cells : List Letter) (out : List ℕ) → length text ≤ k → preceded out (letters_after place (drop k text) cells) ≡ record { written = out; after = cells }
 text_done place k text cells out le = ap (λ t. preceded out (letters_after place t cells)) (drop_past k text le) ∙ no_letters place cells out
   where
-  drop_past : (k : ℕ) (text : List ℕ) → length text ≤ k → drop k text ≡ []
-  drop_past zero [] le = refl
-  drop_past (suc k) [] le = refl
-  drop_past zero (c ∷ cs) le = absurd (omega arith)
-  drop_past (suc k) (c ∷ cs) le = drop_past k cs (omega arith)
+    drop_past : (k : ℕ) (text : List ℕ) → length text ≤ k → drop k text ≡ []
+    drop_past zero [] le = refl
+    drop_past (suc k) [] le = refl
+    drop_past zero (c ∷ cs) le = absurd (omega arith)
+    drop_past (suc k) (c ∷ cs) le = drop_past k cs (omega arith)
 
 -- what an equation of edits says of what is written, and of what is there then
 pub edit_written : (out new : List ℕ) (now : List Letter) (e : Edited (List Letter)) → preceded out e ≡ record { written = new; after = now } → new ≡ out ++ e.written
@@ -137,3 +139,16 @@ line_stops out new n site line e t = line_refused out new n site line [] e t
 -- bytes that nothing follows
 pub at_end : (f g : List ℕ → Report) (bytes rest : List ℕ) → ((tail : List ℕ) → f (bytes ++ tail) ≡ g (rest ++ tail)) → f bytes ≡ g rest
 at_end f g bytes rest h = ap f (sym (append-nil bytes)) ∙ (h [] ∙ ap g (append-nil rest))
+
+pub past_cells : (cs : List Letter) (i : ℕ) → slice_get cs i ≡ None → length cs ≤ i
+past_cells [] i e = omega arith
+past_cells (d ∷ cs) zero e = absurd (some_none d e)
+  where
+    some_none : (b : Letter) → Some b ≡ None → ⊥
+    some_none b e = cc
+past_cells (d ∷ cs) (suc i) e = let l = past_cells cs i e in omega arith
+
+-- an answer about one report, taken along to an equal one
+pub ok_along : {E : Type 0} (r : Result Bool E) (x y : Report) (w : Bool → Report) → x ≡ y → IfOk r (λ b. y ≡ w b) → IfOk r (λ b. x ≡ w b)
+ok_along (Ok b) x y w e h = e ∙ h
+ok_along (Err m) x y w e h = h

@@ -1,16 +1,16 @@
 -- Histories of one site that only inserts: each insert is made after all those before it.
-use Rattle.std.proofs.Common.{◌≡◌, ℕ, zero, suc, ◌+◌, ◌≤◌, ◌<◌, Bool, true, false, List, [], ◌∷◌, ◌++◌, refl, ap, sym, subst, ◌∙◌, arith, length, take, drop, map, filter, not, max}
-use Rattle.std.specs.Prelude.{if◌then◌else◌, nat_lt, nat_le, ◌||◌, ◌&&◌, ◌==◌}
+use Rattle.std.proofs.Common.{◌≡◌, ℕ, suc, ◌+◌, ◌≤◌, true, false, List, [], ◌∷◌, ◌++◌, refl, ap, sym, subst, ◌∙◌, arith, length, take, drop, map}
+use Rattle.std.specs.Prelude.{if◌then◌else◌}
 use Rattle.std.specs.List.{list_any}
 use Rattle.op_name.specs.NameData.{NameData, name_eq}
 use Rattle.op_name.specs.declared.member.Member.TheVariants.{Original}
-use Rattle.op_name.specs.Contexts.{ContextData, has, count_of, rank_of, raised, empty}
+use Rattle.op_name.specs.Contexts.{ContextData, has, rank_of, raised}
 use Rattle.op_name.specs.Operations.{OpData, inserting, deleting, undoing, member_of}
-use Rattle.op_name.specs.Histories.{generation_at, generation_in, in_force, context_after, context_of_all}
-use Rattle.op_name.specs.Replays.{Insertion, Cell, insertions_in, is_earlier, sort_by, fixed_order, replay, replay_of, covers, is_shown, shown, character_in, put}
+use Rattle.op_name.specs.Histories.{generation_in, context_after}
+use Rattle.op_name.specs.Replays.{Insertion, Cell, insertions_in, fixed_order, replay, replay_of, covers, is_shown, shown, character_in, put}
 use Rattle.cotpad.proofs.AllPass.{AllPass, filter_all, each_passes}
 use Rattle.cotpad.proofs.Ranked.{RanksFrom, ranks_are_sorted, replay_more, put_all}
-use Rattle.cotpad.proofs.OwnContexts.{own_context, own_name, own_rank, own_raised, IsOwn, own_has}
+use Rattle.cotpad.proofs.OwnContexts.{own_context, own_name, own_rank, own_raised, own_has}
 
 -- the insert that follows n others
 abbrev pub typed_after : ℕ → ℕ → ℕ → OpData

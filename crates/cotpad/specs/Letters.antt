@@ -1,5 +1,5 @@
 -- The same sessions over what the program keeps: the cells of the site alone.
-use Rattle.std.specs.Prelude.{◌≡◌, ℕ, ◌+◌, ◌≤◌, Bool, true, false, List, [], ◌∷◌, ◌++◌, length, map, insert, nat_lt, nat_le, encode_utf8_all, Option, Some, None, if◌then◌else◌}
+use Rattle.std.specs.Prelude.{ℕ, ◌+◌, ◌≤◌, false, List, [], ◌∷◌, length, map, insert, nat_lt, nat_le, encode_utf8_all, Option, Some, None, if◌then◌else◌}
 use Rattle.op_name.specs.NameData.{NameData}
 use Rattle.tombstone_text.specs.Letters.{Letter}
 use Rattle.script_text.specs.declared.first_lines.FirstLine.{FirstLine}
@@ -7,8 +7,7 @@ use Rattle.script_text.specs.declared.first_lines.FirstLine.TheVariants.{Blank, 
 use Rattle.script_text.specs.FirstLines.{line_of}
 use Rattle.script_text.specs.Report.{inserted_text}
 use Rattle.cotpad.specs.Lines.{no_place, no_number, not_built, text_lines}
-use Rattle.cotpad.specs.Reports.{Report, Outcome, Edited, taken, refused_by, preceded, followed, lines_of}
-use Rattle.cotpad.specs.Sessions.{limit}
+use Rattle.cotpad.specs.Reports.{Report, Outcome, Edited, taken, refused_by, preceded, followed}
 
 -- the cells are named by the first numbers of the site
 abbrev pub AreNumbered : ℕ → List Letter → Type 0

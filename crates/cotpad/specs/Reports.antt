@@ -1,5 +1,5 @@
 -- Reports: what a script makes the program write, and how the lines of a script follow one another.
-use Rattle.std.specs.Prelude.{ℕ, Bool, true, false, List, [], ◌++◌, ◌==◌, Option, Some, None}
+use Rattle.std.specs.Prelude.{ℕ, Bool, true, List, [], ◌++◌, ◌==◌, Option, Some, None}
 use Rattle.std.specs.List.{slice_split}
 
 -- what is written, and whether the script was refused

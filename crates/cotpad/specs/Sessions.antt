@@ -1,5 +1,5 @@
 -- Sessions of one site: what each line of a script does to the history of the site, and the report of a script.
-use Rattle.std.specs.Prelude.{ℕ, ◌+◌, Bool, true, false, List, [], ◌∷◌, ◌++◌, length, nat_lt, nat_le, Option, Some, None, codes, if◌then◌else◌}
+use Rattle.std.specs.Prelude.{ℕ, ◌+◌, true, false, List, [], ◌∷◌, ◌++◌, length, nat_lt, nat_le, Option, Some, None, if◌then◌else◌}
 use Rattle.op_name.specs.NameData.{NameData}
 use Rattle.op_name.specs.Contexts.{count_of}
 use Rattle.op_name.specs.Operations.{OpData, inserting}

@@ -74,10 +74,10 @@ fn do_lines<'a>(
     requires { session.old.number + length bytes.now < 2 ^ 64 }
     ensures goes_on { IfOk result (λ r. IfSome r (λ rest. (tail : List ℕ) →
         behind out.old.items (letters_report session.old.number session.old.site (lines_of (bytes.now ++ tail)))
-            ≡ behind out.new.items (letters_report session.new.number session.new.site (lines_of (rest.now ++ tail))))) }
+        ≡ behind out.new.items (letters_report session.new.number session.new.site (lines_of (rest.now ++ tail))))) }
     ensures refused { IfOk result (λ r. IfNone r ((tail : List ℕ) →
         behind out.old.items (letters_report session.old.number session.old.site (lines_of (bytes.now ++ tail)))
-            ≡ record { written = out.new.items; refused = true })) }
+        ≡ record { written = out.new.items; refused = true })) }
     ensures last { IfOk result (λ r. IfSome r (λ rest. lines_of rest.now ≡ rest.now ∷ [])) }
 {
     let mut rest = bytes;
@@ -97,7 +97,7 @@ impl Session {
     fn do_last(&mut self, alloc: Global, bytes: &[u8], out: &mut Vec<u8>) -> Result<bool, Memory>
         ensures { IfOk result (λ r.
             behind out.old.items (letters_report self.old.number self.old.site (bytes.now ∷ []))
-                ≡ record { written = out.new.items; refused = r }) }
+            ≡ record { written = out.new.items; refused = r }) }
     {
         if self.do_line(alloc, bytes, out)? {
             return Ok(true);
@@ -111,7 +111,7 @@ impl Session {
             (letters_after_line self.old.number self.old.site (line_of bytes.now)).written }
         ensures next { IfOk result (λ refused.
             (letters_after_line self.old.number self.old.site (line_of bytes.now)).next
-                ≡ (if refused then None else Some self.new.site)) }
+            ≡ (if refused then None else Some self.new.site)) }
         ensures number { self.new.number ≡ self.old.number }
     {
         let number = self.number;

@@ -37,7 +37,7 @@ pub fn run<S: Source, K: Sink, W: Wire>(
     // What is written is the report of the script, and the status says whether it is refused.
     ensures report { IsReported result → IfSome (S.left source.old) (λ bytes.
         (result ≡ status_of (script_report bytes).refused)
-            × Appends (K.held sink.old) (K.held sink.new) (script_report bytes).written) }
+        × Appends (K.held sink.old) (K.held sink.new) (script_report bytes).written) }
     ensures read_to_end { result ≡ Status.Done → IsAtEnd (S.left source.new) }
 
     // Wrong words.
@@ -54,7 +54,7 @@ pub fn run<S: Source, K: Sink, W: Wire>(
         WritesFront (K.held sink.old) (K.held sink.new) words_line }
     ensures write_fault_front { result ≡ Status.WriteFault → IsReplay words.now →
         IfSome (S.left source.old) (λ bytes.
-            WritesFront (K.held sink.old) (K.held sink.new) (script_report bytes).written) }
+        WritesFront (K.held sink.old) (K.held sink.new) (script_report bytes).written) }
     ensures memory { result ≡ Status.Memory → IsReplay words.now × (sink.new ≡ sink.old) }
 
     // The wire plays no part.

@@ -65,14 +65,7 @@ impl Site {
     }
 
     // Inserts one character, or reports why not. Answers whether the text goes on; `rest` is what follows.
-    #[tactic(
-        auto,
-        using(
-            crate::proofs::Steps::letter_put,
-            crate::proofs::Steps::place_past,
-            crate::proofs::Steps::number_full
-        )
-    )]
+    #[tactic(auto, using(crate::proofs::Steps::letter_put, crate::proofs::Steps::place_past, crate::proofs::Steps::number_full))]
     fn insert_one(
         &mut self,
         alloc: Global,
@@ -82,10 +75,10 @@ impl Site {
     ) -> Result<bool, Memory>
         ensures goes_on { IfOk result (λ b. b ≡ true → (rest : List ℕ) →
             preceded out.old.items (letters_after place (ch ∷ rest) self.old)
-                ≡ preceded out.new.items (letters_after (place + 1) rest self.new)) }
+            ≡ preceded out.new.items (letters_after (place + 1) rest self.new)) }
         ensures ends { IfOk result (λ b. b ≡ false → (rest : List ℕ) →
             preceded out.old.items (letters_after place (ch ∷ rest) self.old)
-                ≡ record { written = out.new.items; after = self.new }) }
+            ≡ record { written = out.new.items; after = self.new }) }
         ensures room { IfOk result (λ b. b ≡ true → place < 1000000) }
     {
         let len = self.cells.len();
@@ -102,17 +95,8 @@ impl Site {
     }
 
     // Puts one cell under the next name, and appends the report line of it.
-    #[tactic(
-        auto,
-        using(crate::proofs::Steps::numbered_lacks, crate::proofs::Steps::numbered_with)
-    )]
-    fn put(
-        &mut self,
-        alloc: Global,
-        place: u32,
-        ch: char,
-        out: &mut Vec<u8>,
-    ) -> Result<(), Memory>
+    #[tactic(auto, using(crate::proofs::Steps::numbered_lacks, crate::proofs::Steps::numbered_with))]
+    fn put(&mut self, alloc: Global, place: u32, ch: char, out: &mut Vec<u8>) -> Result<(), Memory>
         requires place { place ≤ length self.old }
         requires number { length self.old < 1000000 }
         ensures written { Gains result out.old.items out.new.items (inserted_text (length self.old) (name_after self.old)) }
