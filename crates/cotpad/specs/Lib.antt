@@ -1,0 +1,7 @@
+-- The words of the crate's contracts.
+pub mod Causes
+pub mod Lines
+pub mod Reports
+pub mod Sessions
+pub mod Letters
+pub mod Statuses

@@ -1,0 +1,16 @@
+-- How a call of the program ends.
+use Rattle.std.specs.Prelude.{◌≡◌, Bool, true, false, List, [], ◌∷◌, codes, map, string_bytes, String, ◌⊎◌}
+use Rattle.cotpad.specs.declared.status.Status.{Status}
+use Rattle.cotpad.specs.declared.status.Status.TheVariants.{Done, Refused}
+
+-- the words of the one command
+abbrev pub IsReplay : {A : Type 0} → List (String A) → Type 0
+IsReplay words = map string_bytes words ≡ codes "replay" ∷ []
+
+-- a report was written whole
+abbrev pub IsReported : Status → Type 0
+IsReported status = (status ≡ Done) ⊎ (status ≡ Refused)
+
+abbrev pub status_of : Bool → Status
+status_of false = Done
+status_of true = Refused

@@ -1,0 +1,93 @@
+//! The whole program, over any source, sink and wire.
+
+ghost use Rattle.std.specs.Prelude.{◌≡◌, ◌⊎◌, IfSome};
+ghost use Rattle.std.specs.Io.KnownBytes.{Appends, IsAtEnd};
+ghost use Rattle.outside_io.specs.Faults.{Rose};
+ghost use Rattle.outside_io.specs.Writing.{WritesFront};
+ghost use Rattle.outside_io.specs.Reading.{LosesFront};
+ghost use Rattle.cotpad.specs.Lines.{words_line};
+ghost use Rattle.cotpad.specs.Sessions.{script_report};
+ghost use Rattle.cotpad.specs.Statuses.{IsReplay, IsReported, status_of};
+
+use crate::replay::replay;
+use crate::status::Status;
+use crate::words::is_replay;
+use op_name::Memory;
+use outside_io::{Failed, ReadBad, Sink, Source, Wire, read_whole, write_whole};
+use std::alloc::Global;
+
+/// Does what the words say, which are those behind the program's name: `replay` reads a script from the
+/// source and writes the report of its session to the sink. Any other words write `cotpad: words`, and
+/// nothing is read.
+///
+/// A script is lines, each ended by a line feed, which the last one may lack. Lines that are empty or start
+/// with `#` do nothing. The first other one is `sites 1`, and each further one is `ins 0 V TEXT`, which
+/// inserts each character of the text at visible places V, V+1 and so on (they count shown characters), or
+/// `show 0`, which shows the text. Any other line is refused, as is an input of more than 67,108,864 bytes.
+///
+/// What was read is gone from the source on each answer but Words. ReadFault and WriteFault come only where
+/// the count of the source or the sink rose.
+pub fn run<S: Source, K: Sink, W: Wire>(
+    alloc: Global,
+    words: &[String],
+    source: &mut S,
+    sink: &mut K,
+    wire: &mut W,
+) -> Status
+    // What is written is the report of the script, and the status says whether it is refused.
+    ensures report { IsReported result → IfSome (S.left source.old) (λ bytes.
+        (result ≡ status_of (script_report bytes).refused)
+        × Appends (K.held sink.old) (K.held sink.new) (script_report bytes).written) }
+    ensures read_to_end { result ≡ Status.Done → IsAtEnd (S.left source.new) }
+
+    // Wrong words.
+    ensures words { result ≡ Status.Words →
+        (IsReplay words.now → ⊥) × Appends (K.held sink.old) (K.held sink.new) words_line }
+    ensures other_words { (IsReplay words.now → ⊥) → (result ≡ Status.Words) ⊎ (result ≡ Status.WriteFault) }
+    ensures unread { (IsReplay words.now → ⊥) → source.new ≡ source.old }
+
+    // Faults, and what they leave.
+    ensures read_fault { result ≡ Status.ReadFault →
+        Rose (S.faults source.old) (S.faults source.new) × (sink.new ≡ sink.old) }
+    ensures write_fault { result ≡ Status.WriteFault → Rose (K.faults sink.old) (K.faults sink.new) }
+    ensures write_fault_words { result ≡ Status.WriteFault → (IsReplay words.now → ⊥) →
+        WritesFront (K.held sink.old) (K.held sink.new) words_line }
+    ensures write_fault_front { result ≡ Status.WriteFault → IsReplay words.now →
+        IfSome (S.left source.old) (λ bytes.
+        WritesFront (K.held sink.old) (K.held sink.new) (script_report bytes).written) }
+    ensures memory { result ≡ Status.Memory → IsReplay words.now × (sink.new ≡ sink.old) }
+
+    // The wire plays no part.
+    ensures wire { wire.new ≡ wire.old }
+    ensures no_link { result ≡ Status.LinkFault → ⊥ }
+    ensures no_peer { result ≡ Status.PeerRefused → ⊥ }
+
+    // Without a fault the report is written, unless memory is wanting.
+    ensures complete { IsReplay words.now
+        → (Rose (S.faults source.old) (S.faults source.new) → ⊥)
+        → (Rose (K.faults sink.old) (K.faults sink.new) → ⊥)
+        → IsReported result ⊎ (result ≡ Status.Memory) }
+{
+    if !is_replay(words) {
+        return match write_whole(sink, b"cotpad: words\n") {
+            Ok(()) => Status::Words,
+            Err(Failed) => Status::WriteFault,
+        };
+    }
+    let mut input = Vec::new(alloc);
+    let taken = match read_whole(source, &mut input) {
+        Ok(taken) => taken,
+        Err(ReadBad::Fault) => return Status::ReadFault,
+        Err(ReadBad::Memory) => return Status::Memory,
+    };
+    let mut out = Vec::new(alloc);
+    let refused = match replay(alloc, taken, &input, &mut out) {
+        Ok(refused) => refused,
+        Err(Memory) => return Status::Memory,
+    };
+    match write_whole(sink, &out) {
+        Ok(()) if refused => Status::Refused,
+        Ok(()) => Status::Done,
+        Err(Failed) => Status::WriteFault,
+    }
+}

@@ -1,0 +1,1 @@
+//! The program, over a source and a sink in memory.
