@@ -7,9 +7,9 @@ use Rattle.op_name.specs.declared.member.Member.{Member}
 use Rattle.op_name.specs.declared.member.Member.TheVariants.{Original, Group}
 use Rattle.op_name.specs.NameData.{NameData, IsName, name_eq}
 use Rattle.op_name.specs.Members.{member_eq, IsMember}
-use Rattle.op_name.specs.Contexts.{ContextData, IsContext, has, count_of, entry_of, raised}
-use Rattle.op_name.specs.Operations.{OpData, inserting, deleting, undoing, member_of, IsWellFormed}
-use Rattle.op_name.specs.Histories.{is_known, context_of_all}
+use Rattle.context_vector.specs.Contexts.{ContextData, IsContext, has, count_of, entry_of, raised}
+use Rattle.context_diff.specs.Operations.{OpData, inserting, deleting, undoing, member_of, IsWellFormed}
+use Rattle.context_diff.specs.Histories.{is_known, context_of_all}
 use Rattle.context_vector.specs.Vectors.{up_to}
 use Rattle.context_vector.proofs.Members.{raised_is_context}
 use Rattle.context_vector.proofs.Sets.{same_context}

@@ -7,9 +7,9 @@ use Rattle.op_name.specs.declared.member.Member.{Member}
 use Rattle.op_name.specs.declared.member.Member.TheVariants.{Original, Group}
 use Rattle.op_name.specs.NameData.{NameData, name_eq}
 use Rattle.op_name.specs.Members.{member_eq}
-use Rattle.op_name.specs.Contexts.{ContextData, has, count_of, entry_of, raised, put_entry, entry_in}
-use Rattle.op_name.specs.Operations.{OpData}
-use Rattle.op_name.specs.Histories.{is_known}
+use Rattle.context_vector.specs.Contexts.{ContextData, has, count_of, entry_of, raised, put_entry, entry_in}
+use Rattle.context_diff.specs.Operations.{OpData}
+use Rattle.context_diff.specs.Histories.{is_known}
 use Rattle.context_diff.specs.Bases.{original_context, is_below, is_before, base_has, base_context_of}
 use Rattle.context_diff.proofs.Names.{name_same}
 use Rattle.context_diff.proofs.Raising.{has_raised, entry_put, has_group}

@@ -9,9 +9,9 @@ use Rattle.op_name.specs.NameData.{NameData}
 use Rattle.op_name.specs.declared.member.Member.{Member}
 use Rattle.op_name.specs.declared.member.Member.TheVariants.{Original, Group}
 use Rattle.op_name.specs.Members.{member_eq, IsMember}
-use Rattle.op_name.specs.Contexts.{ContextData, Within, AreCounts, count_in, entry_in, raised, count_of, entry_of, has, IsNextMember}
-use Rattle.op_name.specs.Operations.{OpData, inserting, deleting, undoing, member_of, is_insert, IsWellFormed}
-use Rattle.op_name.specs.Histories.{is_known, members_in, context_of_all, inserts_in, LacksNothing, IsNext, IsValid}
+use Rattle.context_vector.specs.Contexts.{ContextData, Within, AreCounts, count_in, entry_in, raised, count_of, entry_of, has, IsNextMember}
+use Rattle.context_diff.specs.Operations.{OpData, inserting, deleting, undoing, member_of, is_insert, IsWellFormed}
+use Rattle.context_diff.specs.Histories.{is_known, members_in, context_of_all, inserts_in, LacksNothing, IsNext, IsValid}
 use Rattle.op_name.specs.contracts.member.MemberPartialEq.TheImpl.{eq-value}
 use Rattle.context_diff.specs.Ops.{data_of}
 use Rattle.context_diff.specs.Books.{kept_op, kept_inserts}

@@ -7,9 +7,9 @@ use Rattle.op_name.specs.declared.member.Member.{Member}
 use Rattle.op_name.specs.declared.member.Member.TheVariants.{Original, Group}
 use Rattle.op_name.specs.NameData.{NameData}
 use Rattle.op_name.specs.Members.{member_eq}
-use Rattle.op_name.specs.Contexts.{ContextData, Within, has, count_of, entry_of, empty, raised, IsNextMember}
-use Rattle.op_name.specs.Operations.{OpData, inserting, deleting, undoing, member_of, context_of, is_original, IsWellFormed}
-use Rattle.op_name.specs.Histories.{is_known, context_after, context_of_all, LacksNothing, IsClosed, IsNext, IsValid}
+use Rattle.context_vector.specs.Contexts.{ContextData, Within, has, count_of, entry_of, empty, raised, IsNextMember}
+use Rattle.context_diff.specs.Operations.{OpData, inserting, deleting, undoing, member_of, context_of, is_original, IsWellFormed}
+use Rattle.context_diff.specs.Histories.{is_known, context_after, context_of_all, LacksNothing, IsClosed, IsNext, IsValid}
 use Rattle.context_diff.proofs.Raising.{has_raised, has_original, has_number, has_group, has_generation, empty_has_none}
 use Rattle.context_diff.proofs.Known.{known_on, known_push, known_member, contains_none}
 use Rattle.context_diff.proofs.Valid.{by_pushes}

@@ -4,9 +4,9 @@ use Rattle.std.specs.Prelude.{Contains, Option, Some, None, slice_get}
 use Rattle.std.proofs.lemmas.Bool.{cases_lt}
 use Rattle.op_name.specs.NameData.{NameData}
 use Rattle.op_name.specs.declared.member.Member.TheVariants.{Original}
-use Rattle.op_name.specs.Contexts.{ContextData, Within, AreCounts, has, count_of, count_in}
-use Rattle.op_name.specs.Operations.{OpData, member_of, context_of}
-use Rattle.op_name.specs.Histories.{is_known, LacksNothing, CoversSite, IsClosed}
+use Rattle.context_vector.specs.Contexts.{ContextData, Within, AreCounts, has, count_of, count_in}
+use Rattle.context_diff.specs.Operations.{OpData, member_of, context_of}
+use Rattle.context_diff.specs.Histories.{is_known, LacksNothing, CoversSite, IsClosed}
 use Rattle.context_diff.specs.Bases.{original_context}
 use Rattle.context_diff.proofs.Raising.{has_original}
 use Rattle.context_diff.proofs.Known.{known_member, original_holder}

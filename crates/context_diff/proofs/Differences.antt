@@ -4,8 +4,8 @@ use Rattle.std.specs.Prelude.{◌||◌, ◌&&◌}
 use Rattle.std.proofs.lemmas.Bool.{false≢true, and_parts, and_from, or_cases, false_from_ne_true, not_from_false, not-true, cases_Bool}
 use Rattle.op_name.specs.declared.member.Member.{Member}
 use Rattle.op_name.specs.Members.{member_eq}
-use Rattle.op_name.specs.Operations.{OpData, member_of}
-use Rattle.op_name.specs.Histories.{is_known, IsValid}
+use Rattle.context_diff.specs.Operations.{OpData, member_of}
+use Rattle.context_diff.specs.Histories.{is_known, IsValid}
 use Rattle.context_diff.specs.Bases.{base_has}
 use Rattle.context_diff.specs.Differences.{IsClosedSet, KeepsStraySet, without, IsLastBetween, LastMayBeTakenOut, TwoMayBeTakenOut}
 use Rattle.context_diff.proofs.Names.{member_same, member_itself, member_apart, member_differs}

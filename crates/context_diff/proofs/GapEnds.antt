@@ -3,7 +3,7 @@ use Rattle.std.proofs.Common.{◌≡◌, ℕ, zero, suc, ◌+◌, ◌-◌, ◌<�
 use Rattle.std.specs.Prelude.{◌||◌, if◌then◌else◌}
 use Rattle.std.specs.List.{list_any}
 use Rattle.std.proofs.lemmas.Bool.{cases_Bool}
-use Rattle.op_name.specs.Gaps.{Gap, until, onward, through, beyond, gap, narrow}
+use Rattle.context_diff.specs.Gaps.{Gap, until, onward, through, beyond, gap, narrow}
 use Rattle.context_diff.specs.GapEnds.{up_to_nth, before_first, up_to_last, gap_between}
 
 same_gap : {K : Type 0} (g h : Gap K) → g.before ≡ h.before → g.between ≡ h.between → g.behind ≡ h.behind → g ≡ h

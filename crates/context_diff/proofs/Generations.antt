@@ -4,9 +4,9 @@ use Rattle.std.specs.Prelude.{if◌then◌else◌}
 use Rattle.std.proofs.lemmas.Bool.{cases_Bool}
 use Rattle.op_name.specs.declared.member.Member.{Member}
 use Rattle.op_name.specs.NameData.{NameData, name_eq}
-use Rattle.op_name.specs.Contexts.{ContextData, entry_of, entry_in, raised, IsNextMember}
-use Rattle.op_name.specs.Operations.{OpData, inserting, deleting, undoing, member_of}
-use Rattle.op_name.specs.Histories.{context_of_all, generation_at, generation_in, IsNext, IsValid}
+use Rattle.context_vector.specs.Contexts.{ContextData, entry_of, entry_in, raised, IsNextMember}
+use Rattle.context_diff.specs.Operations.{OpData, inserting, deleting, undoing, member_of}
+use Rattle.context_diff.specs.Histories.{context_of_all, generation_at, generation_in, IsNext, IsValid}
 use Rattle.context_diff.proofs.Names.{name_same}
 use Rattle.context_diff.proofs.Raising.{entry_put}
 use Rattle.context_diff.proofs.Valid.{by_pushes}

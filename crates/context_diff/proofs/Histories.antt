@@ -6,9 +6,9 @@ use Rattle.std.proofs.lemmas.Bool.{false≢true, cases_lt}
 use Rattle.op_name.specs.declared.member.Member.{Member}
 use Rattle.op_name.specs.declared.member.Member.TheVariants.{Original, Group}
 use Rattle.op_name.specs.NameData.{NameData}
-use Rattle.op_name.specs.Contexts.{ContextData, Within, IsContext, KeepsStray, has, count_of, entry_of}
-use Rattle.op_name.specs.Operations.{OpData, inserting, deleting, undoing, member_of, context_of, is_original, IsWellFormed}
-use Rattle.op_name.specs.Histories.{is_known, context_of_all, LacksNothing, IsClosed}
+use Rattle.context_vector.specs.Contexts.{ContextData, Within, IsContext, KeepsStray, has, count_of, entry_of}
+use Rattle.context_diff.specs.Operations.{OpData, inserting, deleting, undoing, member_of, context_of, is_original, IsWellFormed}
+use Rattle.context_diff.specs.Histories.{is_known, context_of_all, LacksNothing, IsClosed}
 use Rattle.context_diff.specs.Bases.{original_context}
 use Rattle.context_diff.proofs.Raising.{has_original, has_number, has_group, has_generation}
 use Rattle.context_diff.proofs.Known.{holder, original_holder}

@@ -6,9 +6,9 @@ use Rattle.std.proofs.lemmas.Bool.{or_parts, false≢true, cases_Bool, and_parts
 use Rattle.op_name.specs.declared.member.Member.{Member}
 use Rattle.op_name.specs.declared.member.Member.TheVariants.{Original, Group}
 use Rattle.op_name.specs.NameData.{NameData, name_eq}
-use Rattle.op_name.specs.Contexts.{ContextData, has, count_of, count_in, AreCounts}
-use Rattle.op_name.specs.Operations.{OpData, inserting, deleting, undoing, member_of, is_insert, IsWellFormed}
-use Rattle.op_name.specs.Histories.{is_known, inserts_in, IsNext, context_of_all, LacksNothing}
+use Rattle.context_vector.specs.Contexts.{ContextData, has, count_of, count_in, AreCounts}
+use Rattle.context_diff.specs.Operations.{OpData, inserting, deleting, undoing, member_of, is_insert, IsWellFormed}
+use Rattle.context_diff.specs.Histories.{is_known, inserts_in, IsNext, context_of_all, LacksNothing}
 use Rattle.context_diff.specs.Counting.{is_insert_of, inserts_of, inserts_listed}
 use Rattle.context_diff.specs.Kept.{inserts_up_to}
 use Rattle.context_diff.proofs.Known.{contains_here, contains_later, known_member}

@@ -6,9 +6,9 @@ use Rattle.std.proofs.lemmas.Bool.{cases_Bool, false≢true, or_from, or_right}
 use Rattle.op_name.specs.declared.member.Member.{Member}
 use Rattle.op_name.specs.declared.member.Member.TheVariants.{Original, Group}
 use Rattle.op_name.specs.Members.{member_eq}
-use Rattle.op_name.specs.Contexts.{ContextData, raised, count_of, has}
-use Rattle.op_name.specs.Operations.{OpData, member_of, is_insert}
-use Rattle.op_name.specs.Histories.{is_known, members_in, IsValid, IsNext, context_of_all}
+use Rattle.context_vector.specs.Contexts.{ContextData, raised, count_of, has}
+use Rattle.context_diff.specs.Operations.{OpData, member_of, is_insert}
+use Rattle.context_diff.specs.Histories.{is_known, members_in, IsValid, IsNext, context_of_all}
 use Rattle.context_diff.specs.Kept.{ops_in, AreKept, IsBook, inserts_up_to}
 use Rattle.context_diff.proofs.Names.{member_same, member_itself}
 use Rattle.context_diff.proofs.Known.{contains_here, contains_later, known_on, known_push}

@@ -22,3 +22,5 @@ pub mod Derived
 pub mod Members
 pub mod BaseSteps
 pub mod Books
+pub mod WorkedCases
+pub mod ValidCases

@@ -6,7 +6,7 @@ use Rattle.std.proofs.lemmas.Bool.{cases_Bool, cases_lt, false≢true, eqb-true}
 use Rattle.op_name.specs.NameData.{NameData, IsName, name_eq, name_lt}
 use Rattle.op_name.specs.declared.member.Member.{Member}
 use Rattle.op_name.specs.declared.member.Member.TheVariants.{Original, Group}
-use Rattle.op_name.specs.Contexts.{ContextData, AreCounts, AreEntries, IsBefore, count_in, entry_in, KeepsStray, has}
+use Rattle.context_vector.specs.Contexts.{ContextData, AreCounts, AreEntries, IsBefore, count_in, entry_in, KeepsStray, has}
 use Rattle.op_name.proofs.Orders.{name_order}
 use Rattle.context_diff.proofs.Names.{name_same, name_itself}
 use Rattle.context_diff.proofs.Raising.{has_generation, has_group}

@@ -6,9 +6,9 @@ use Rattle.op_name.specs.NameData.{NameData, IsName}
 use Rattle.op_name.specs.declared.member.Member.{Member}
 use Rattle.op_name.specs.declared.member.Member.TheVariants.{Original, Group}
 use Rattle.op_name.specs.Members.{member_eq, IsMember, target_of}
-use Rattle.op_name.specs.Contexts.{ContextData, IsContext, raised, has, empty}
-use Rattle.op_name.specs.Operations.{OpData, inserting, deleting, undoing, member_of, IsWellFormed}
-use Rattle.op_name.specs.Histories.{is_known, context_of_all, IsNext, IsValid}
+use Rattle.context_vector.specs.Contexts.{ContextData, IsContext, raised, has, empty}
+use Rattle.context_diff.specs.Operations.{OpData, inserting, deleting, undoing, member_of, IsWellFormed}
+use Rattle.context_diff.specs.Histories.{is_known, context_of_all, IsNext, IsValid}
 use Rattle.context_vector.proofs.Members.{raised_is_context}
 use Rattle.context_vector.proofs.Sets.{same_context}
 use Rattle.context_diff.proofs.Names.{member_same, member_itself}

@@ -6,9 +6,9 @@ use Rattle.op_name.specs.declared.member.Member.{Member}
 use Rattle.op_name.specs.declared.member.Member.TheVariants.{Original, Group}
 use Rattle.op_name.specs.NameData.{NameData}
 use Rattle.op_name.specs.Members.{member_eq}
-use Rattle.op_name.specs.Contexts.{ContextData, has, entry_of}
-use Rattle.op_name.specs.Operations.{OpData, inserting, deleting, undoing, member_of, context_of}
-use Rattle.op_name.specs.Histories.{is_known, IsNext, IsValid, IsValidAfter}
+use Rattle.context_vector.specs.Contexts.{ContextData, has, entry_of}
+use Rattle.context_diff.specs.Operations.{OpData, inserting, deleting, undoing, member_of, context_of}
+use Rattle.context_diff.specs.Histories.{is_known, IsNext, IsValid, IsValidAfter}
 use Rattle.context_diff.specs.Bases.{original_context, is_below, is_before, base_has}
 use Rattle.context_diff.proofs.Names.{member_same, member_itself}
 use Rattle.context_diff.proofs.Raising.{has_group}

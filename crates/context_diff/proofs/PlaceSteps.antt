@@ -7,9 +7,9 @@ use Rattle.op_name.specs.NameData.{NameData, name_eq}
 use Rattle.op_name.specs.declared.member.Member.{Member}
 use Rattle.op_name.specs.declared.member.Member.TheVariants.{Original, Group}
 use Rattle.op_name.specs.Members.{member_eq}
-use Rattle.op_name.specs.Contexts.{ContextData, AreCounts, AreEntries, IsContext, count_in, entry_in, count_of, entry_of, has}
-use Rattle.op_name.specs.Operations.{OpData, member_of}
-use Rattle.op_name.specs.Histories.{is_known, members_in, IsValid, IsValidAfter}
+use Rattle.context_vector.specs.Contexts.{ContextData, AreCounts, AreEntries, IsContext, count_in, entry_in, count_of, entry_of, has}
+use Rattle.context_diff.specs.Operations.{OpData, member_of}
+use Rattle.context_diff.specs.Histories.{is_known, members_in, IsValid, IsValidAfter}
 use Rattle.context_diff.specs.Places.{times, passes_at, ArePlacesOf, is_between, is_group_between, is_missing, first_sites, first_names}
 use Rattle.context_diff.proofs.Names.{member_same, member_itself, member_apart, name_same, name_itself}
 use Rattle.context_diff.proofs.Known.{known_on}

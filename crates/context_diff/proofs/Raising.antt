@@ -5,7 +5,7 @@ use Rattle.std.proofs.Common.{◌≡◌, false, arith}
 use Rattle.std.proofs.lemmas.Bool.Decides.{nat_tests}
 use Rattle.op_name.specs.declared.member.Member.{Member}
 use Rattle.op_name.specs.declared.member.Member.TheVariants.{Original, Group}
-use Rattle.op_name.specs.Contexts.{has, empty}
+use Rattle.context_vector.specs.Contexts.{has, empty}
 
 pub empty_has_none : (m : Member) → has empty m ≡ false
 empty_has_none (Original n) = grind (arith, nat_tests)

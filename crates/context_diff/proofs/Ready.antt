@@ -4,9 +4,9 @@ use Rattle.std.specs.Prelude.{◌||◌, ◌&&◌, filter, if◌then◌else◌}
 use Rattle.std.proofs.lemmas.Bool.{false≢true, and_parts, and_from, or_cases, or_left, or_right, false_from_ne_true, not_from_false, not-true, cases_Bool}
 use Rattle.op_name.specs.declared.member.Member.{Member}
 use Rattle.op_name.specs.Members.{member_eq}
-use Rattle.op_name.specs.Contexts.{has}
-use Rattle.op_name.specs.Operations.{OpData, member_of}
-use Rattle.op_name.specs.Histories.{is_known, members_in, IsValid}
+use Rattle.context_vector.specs.Contexts.{has}
+use Rattle.context_diff.specs.Operations.{OpData, member_of}
+use Rattle.context_diff.specs.Histories.{is_known, members_in, IsValid}
 use Rattle.context_diff.specs.Bases.{base_has}
 use Rattle.context_diff.specs.Differences.{IsClosedSet, AreReady, DifferenceIsReady, difference_of}
 use Rattle.context_diff.proofs.Names.{member_same, member_itself}

@@ -6,11 +6,11 @@ use Rattle.std.proofs.lemmas.Bool.Decides.{nat_tests}
 use Rattle.std.proofs.lemmas.Bool.{cases_Bool, false≢true}
 use Rattle.op_name.specs.NameData.{NameData, name_eq}
 use Rattle.op_name.specs.declared.member.Member.TheVariants.{Original}
-use Rattle.op_name.specs.Contexts.{ContextData, has}
-use Rattle.op_name.specs.Operations.{OpData, inserting, deleting, undoing}
-use Rattle.op_name.specs.Gaps.{Gap}
-use Rattle.op_name.specs.Replays.{Insertion, Cell, insertions_in, put_by, sort_by, is_earlier, cells_from, put, gap_of, stands_at, character_in}
-use Rattle.op_name.specs.Histories.{generation_at, generation_in}
+use Rattle.context_vector.specs.Contexts.{ContextData, has}
+use Rattle.context_diff.specs.Operations.{OpData, inserting, deleting, undoing}
+use Rattle.context_diff.specs.Gaps.{Gap}
+use Rattle.context_diff.specs.Replays.{Insertion, Cell, insertions_in, put_by, sort_by, is_earlier, cells_from, put, gap_of, stands_at, character_in}
+use Rattle.context_diff.specs.Histories.{generation_at, generation_in}
 use Rattle.context_diff.specs.GapEnds.{before_first, gap_between}
 use Rattle.context_diff.proofs.GapEnds.{take_more}
 

@@ -1,7 +1,7 @@
 -- Valid histories grow and shrink at their end, and what holds after each step holds of all of them.
 use Rattle.std.proofs.Common.{◌≡◌, List, [], ◌∷◌, ◌++◌, refl, ap, sym, subst, ◌∙◌, append_assoc, append-nil}
-use Rattle.op_name.specs.Operations.{OpData}
-use Rattle.op_name.specs.Histories.{IsNext, IsValid, IsValidAfter}
+use Rattle.context_diff.specs.Operations.{OpData}
+use Rattle.context_diff.specs.Histories.{IsNext, IsValid, IsValidAfter}
 
 -- the operation behind the first part, taken into it
 pub shifted : (b : List OpData) (o : OpData) (os : List OpData) → (b ++ o ∷ []) ++ os ≡ b ++ (o ∷ os)

@@ -4,9 +4,9 @@ use Rattle.op_name.specs.declared.member.Member.{Member}
 use Rattle.op_name.specs.declared.member.Member.TheVariants.{Original, Group}
 use Rattle.op_name.specs.NameData.{NameData, name_eq}
 use Rattle.op_name.specs.Members.{member_eq}
-use Rattle.op_name.specs.Contexts.{ContextData, has, empty, raised}
-use Rattle.op_name.specs.Operations.{OpData, member_of, context_of}
-use Rattle.op_name.specs.Histories.{is_known}
+use Rattle.context_vector.specs.Contexts.{ContextData, has, empty, raised}
+use Rattle.context_diff.specs.Operations.{OpData, member_of, context_of}
+use Rattle.context_diff.specs.Histories.{is_known}
 
 -- the context of the operation of the history that is this original, empty if there is none
 abbrev pub original_context : List OpData → NameData → ContextData

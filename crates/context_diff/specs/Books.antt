@@ -1,8 +1,8 @@
 -- Books as contracts see them: a valid history beside its members and the room that is left.
 use Rattle.std.specs.Prelude.{◌≡◌, ℕ, ◌+◌, ◌<◌, ◌≤◌, Bool, List, length}
-use Rattle.op_name.specs.Operations.{OpData, member_of}
-use Rattle.op_name.specs.Contexts.{ContextData}
-use Rattle.op_name.specs.Histories.{CoversSite}
+use Rattle.context_diff.specs.Operations.{OpData, member_of}
+use Rattle.context_vector.specs.Contexts.{ContextData}
+use Rattle.context_diff.specs.Histories.{CoversSite}
 use Rattle.context_vector.specs.Vectors.{VectorData, HasRoomFor}
 use Rattle.context_diff.specs.Ops.{data_of}
 use Rattle.context_diff.specs.declared.book.Kept.{Kept}

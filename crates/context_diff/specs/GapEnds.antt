@@ -1,7 +1,7 @@
 -- Gaps as two ends: how many cells stand before the gap, and how many before or in it.
 use Rattle.std.specs.Prelude.{ℕ, zero, suc, ◌+◌, ◌-◌, Bool, List, [], ◌∷◌, ◌||◌, take, drop, if◌then◌else◌}
 use Rattle.std.specs.List.{list_any}
-use Rattle.op_name.specs.Gaps.{Gap}
+use Rattle.context_diff.specs.Gaps.{Gap}
 
 -- how many cells stand up to and with the n-th one that passes; all where fewer pass
 abbrev pub up_to_nth : {K : Type 0} → (K → Bool) → ℕ → List K → ℕ

@@ -1,3 +1,7 @@
+pub mod Operations
+pub mod Histories
+pub mod Gaps
+pub mod Replays
 pub mod Books
 pub mod Ops
 pub mod GapEnds

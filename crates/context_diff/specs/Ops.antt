@@ -1,7 +1,7 @@
 -- Operations as the code has them: what contracts see of one, and the rules that it may break.
 use Rattle.std.specs.Prelude.{ℕ}
-use Rattle.op_name.specs.Operations.{OpData, inserting, deleting, undoing, context_of, IsInRange, KeepsOwn, KeepsTarget}
-use Rattle.op_name.specs.Contexts.{KeepsStray}
+use Rattle.context_diff.specs.Operations.{OpData, inserting, deleting, undoing, context_of, IsInRange, KeepsOwn, KeepsTarget}
+use Rattle.context_vector.specs.Contexts.{KeepsStray}
 use Rattle.context_diff.specs.declared.op.Op.{Op}
 use Rattle.context_diff.specs.declared.op.Op.TheVariants.{Insert, Delete, Undo}
 use Rattle.context_diff.specs.declared.op.OpFault.{OpFault}

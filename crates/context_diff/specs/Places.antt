@@ -3,7 +3,7 @@ use Rattle.std.specs.Prelude.{◌≡◌, ℕ, zero, suc, ◌+◌, Bool, true, fa
 use Rattle.op_name.specs.declared.member.Member.{Member}
 use Rattle.op_name.specs.declared.member.Member.TheVariants.{Original, Group}
 use Rattle.op_name.specs.NameData.{NameData, name_eq}
-use Rattle.op_name.specs.Contexts.{ContextData, has}
+use Rattle.context_vector.specs.Contexts.{ContextData, has}
 
 -- how often a number stands in a list
 abbrev pub times : ℕ → List ℕ → ℕ

@@ -4,9 +4,9 @@ ghost use Rattle.std.specs.Prelude.{◌≡◌, ◌↔◌, ◌+◌, ◌-◌, ◌<
 ghost use Rattle.std.specs.Option.{option_to_list};
 ghost use Rattle.op_name.specs.declared.member.Member.TheVariants.{Original};
 ghost use Rattle.op_name.specs.Members.{IsMember};
-ghost use Rattle.op_name.specs.Contexts.{Within};
-ghost use Rattle.op_name.specs.Operations.{member_of};
-ghost use Rattle.op_name.specs.Histories.{is_known, members_in, inserts_in, context_of_all, IsNext, IsValid};
+ghost use Rattle.context_vector.specs.Contexts.{Within};
+ghost use Rattle.context_diff.specs.Operations.{member_of};
+ghost use Rattle.context_diff.specs.Histories.{is_known, members_in, inserts_in, context_of_all, IsNext, IsValid};
 ghost use Rattle.context_diff.specs.Ops.{data_of};
 ghost use Rattle.context_diff.specs.Books.{HasRoom, kept_inserts};
 ghost use Rattle.context_diff.specs.Kept.{inserts_up_to};

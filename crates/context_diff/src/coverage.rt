@@ -3,8 +3,8 @@
 ghost use Rattle.std.specs.Prelude.{◌≡◌, ◌↔◌, ◌++◌, true, false, IsNone, IsTrue, OnOk, OnErr, IfOk, IfSome};
 ghost use Rattle.op_name.specs.declared.member.Member.{Member};
 ghost use Rattle.op_name.specs.declared.member.Member.TheVariants.{Original, Group};
-ghost use Rattle.op_name.specs.Contexts.{Within, has};
-ghost use Rattle.op_name.specs.Histories.{is_known, IsClosed};
+ghost use Rattle.context_vector.specs.Contexts.{Within, has};
+ghost use Rattle.context_diff.specs.Histories.{is_known, IsClosed};
 ghost use Rattle.context_diff.specs.Bases.{base_has, base_context_of, original_context};
 ghost use Rattle.context_diff.specs.Books.{IsFirstOpenSite};
 ghost use Rattle.context_diff.specs.Differences.{difference_of};

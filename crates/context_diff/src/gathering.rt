@@ -3,8 +3,8 @@
 ghost use Rattle.std.specs.Prelude.{◌≡◌, ◌++◌, ◌∷◌, [], ◌<◌, ◌≤◌, ◌||◌, true, false, Bool, ℕ, OnOk, OnErr};
 ghost use Rattle.op_name.specs.declared.member.Member.{Member};
 ghost use Rattle.op_name.specs.declared.member.Member.TheVariants.{Original, Group};
-ghost use Rattle.op_name.specs.Contexts.{Within};
-ghost use Rattle.op_name.specs.Histories.{is_known, members_in};
+ghost use Rattle.context_vector.specs.Contexts.{Within};
+ghost use Rattle.context_diff.specs.Histories.{is_known, members_in};
 ghost use Rattle.context_diff.specs.Places.{ArePlacesOf, is_between, is_group_between, is_missing, first_names};
 ghost use Rattle.context_diff.specs.Differences.{difference_of};
 

@@ -2,8 +2,8 @@
 
 ghost use Rattle.std.specs.Prelude.{◌≡◌, ◌↔◌, ◌≤◌, IsNone, IsTrue, IfOk, IfSome, length};
 ghost use Rattle.op_name.specs.Members.{IsMember};
-ghost use Rattle.op_name.specs.Contexts.{IsContext, KeepsStray};
-ghost use Rattle.op_name.specs.Operations.{member_of, context_of, is_insert, IsWellFormed, IsInRange, KeepsOwn, KeepsTarget};
+ghost use Rattle.context_vector.specs.Contexts.{IsContext, KeepsStray};
+ghost use Rattle.context_diff.specs.Operations.{member_of, context_of, is_insert, IsWellFormed, IsInRange, KeepsOwn, KeepsTarget};
 ghost use Rattle.context_diff.specs.Ops.{data_of, IsFirstBroken};
 
 use context_vector::Vector;

@@ -1,7 +1,7 @@
 //! Tests: the order of a difference, the rules that an operation may break, and each call once.
 
 ghost use Rattle.std.specs.Prelude.{IsTrue};
-ghost use Rattle.op_name.specs.Histories.{IsNext};
+ghost use Rattle.context_diff.specs.Histories.{IsNext};
 ghost use Rattle.context_diff.specs.Ops.{data_of};
 
 use super::*;

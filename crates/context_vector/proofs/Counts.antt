@@ -3,7 +3,7 @@ use Rattle.std.proofs.Common.{◌≡◌, ℕ, zero, suc, ◌+◌, ◌-◌, ◌*�
 use Rattle.std.specs.Prelude.{◌==◌, nat_lt, nat_le}
 use Rattle.std.proofs.lemmas.Bool.{cases_order, eq-eqb, ne_eqb, lt-ltb}
 use Rattle.std.proofs.lemmas.Bool.Decides.{nat_tests}
-use Rattle.op_name.specs.Contexts.{count_in, sum_of_counts, put_count, AreCounts}
+use Rattle.context_vector.specs.Contexts.{count_in, sum_of_counts, put_count, AreCounts}
 use Rattle.op_name.proofs.Orders.{number_order}
 use Rattle.context_vector.specs.Vectors.{without_site, lower_count, SitesBelow}
 use Rattle.context_vector.proofs.Keyed.{value_at, put_at, take_out, AllAfter, IsRising, gap_value, gap_put, put_is_set, take_out_is_remove}

@@ -3,7 +3,7 @@ use Rattle.std.proofs.Common.{◌≡◌, ℕ, ◌+◌, ◌-◌, ◌*◌, ◌<◌
 use Rattle.std.proofs.lemmas.Bool.{cases_order, eq-eqb, ne_eqb}
 use Rattle.std.proofs.lemmas.Bool.Decides.{nat_tests}
 use Rattle.op_name.specs.NameData.{NameData, IsName, name_eq, name_lt}
-use Rattle.op_name.specs.Contexts.{entry_in, put_entry, IsBefore, AreEntries}
+use Rattle.context_vector.specs.Contexts.{entry_in, put_entry, IsBefore, AreEntries}
 use Rattle.op_name.proofs.Orders.{name_order, name_transitive, cases_by_order}
 use Rattle.context_vector.specs.Vectors.{without_name, lower_entry, NamesBelow}
 use Rattle.context_vector.proofs.Keyed.{value_at, put_at, take_out, AllAfter, IsRising, gap_value, gap_put, put_is_set, take_out_is_remove}

@@ -7,7 +7,7 @@ use Rattle.op_name.specs.declared.member.Member.{Member}
 use Rattle.op_name.specs.declared.member.Member.TheVariants.{Original, Group}
 use Rattle.op_name.specs.NameData.{NameData, IsName, name_eq, name_lt}
 use Rattle.op_name.specs.Members.{IsMember, target_of, member_eq}
-use Rattle.op_name.specs.Contexts.{ContextData, count_in, entry_in, count_of, entry_of, has, put_count, put_entry, AreCounts, AreEntries, IsContext, raised, IsNextMember}
+use Rattle.context_vector.specs.Contexts.{ContextData, count_in, entry_in, count_of, entry_of, has, put_count, put_entry, AreCounts, AreEntries, IsContext, raised, IsNextMember}
 use Rattle.op_name.proofs.Orders.{number_order, name_order, name_same}
 use Rattle.context_vector.specs.Vectors.{without_site, without_name, lower_count, lower_entry, lowered, IsLastMember, up_to}
 use Rattle.context_vector.proofs.Keyed.{value_at, value_put, value_take_out}

@@ -8,7 +8,7 @@ use Rattle.op_name.specs.declared.member.Member.{Member}
 use Rattle.op_name.specs.declared.member.Member.TheVariants.{Original, Group}
 use Rattle.op_name.specs.NameData.{NameData, IsName, name_eq, name_lt}
 use Rattle.op_name.specs.Members.{member_lt}
-use Rattle.op_name.specs.Contexts.{ContextData, empty, count_in, entry_in, count_of, entry_of, has, raised, put_count, Within, sum_of_counts, rank_of, AreCounts, IsContext}
+use Rattle.context_vector.specs.Contexts.{ContextData, empty, count_in, entry_in, count_of, entry_of, has, raised, put_count, Within, sum_of_counts, rank_of, AreCounts, IsContext}
 use Rattle.op_name.proofs.Orders.{number_order, name_order, cases_by_order}
 use Rattle.context_vector.specs.Vectors.{IsFirstMissing}
 use Rattle.context_vector.specs.Shortfalls.{first_short}

@@ -7,7 +7,7 @@ use Rattle.std.specs.Hash as fed
 use Rattle.std.specs.Hash.{HashWrites}
 use lib.Pointwise.{pointwise, pointwise_decides}
 use Rattle.op_name.specs.NameData.{NameData, name_eq}
-use Rattle.op_name.specs.Contexts.{ContextData}
+use Rattle.context_vector.specs.Contexts.{ContextData}
 use Rattle.op_name.proofs.Orders.{name_same, name_itself, number_order}
 use Rattle.context_vector.specs.Vectors.{VectorData}
 

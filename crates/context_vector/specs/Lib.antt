@@ -1,3 +1,4 @@
+pub mod Contexts
 pub mod Vectors
 pub mod Equality
 pub mod Places

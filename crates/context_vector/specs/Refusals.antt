@@ -1,7 +1,7 @@
 -- Why a member was not added.
 use Rattle.std.specs.Prelude.{◌≡◌}
 use Rattle.op_name.specs.declared.member.Member.{Member}
-use Rattle.op_name.specs.Contexts.{ContextData, IsNextMember}
+use Rattle.context_vector.specs.Contexts.{ContextData, IsNextMember}
 use Rattle.context_vector.specs.Vectors.{next_of}
 use Rattle.context_vector.specs.declared.vector.AddBad.{AddBad}
 use Rattle.context_vector.specs.declared.vector.AddBad.TheVariants.{NotNext, Memory}

@@ -4,7 +4,7 @@ use Rattle.op_name.specs.declared.member.Member.{Member}
 use Rattle.op_name.specs.declared.member.Member.TheVariants.{Original, Group}
 use Rattle.op_name.specs.NameData.{NameData, name_eq, name_lt}
 use Rattle.op_name.specs.Members.{member_lt}
-use Rattle.op_name.specs.Contexts.{ContextData, count_of, entry_of, has, put_count, put_entry}
+use Rattle.context_vector.specs.Contexts.{ContextData, count_of, entry_of, has, put_count, put_entry}
 
 -- the spare places of the two lists
 pub record Room : Type 0 where

@@ -2,7 +2,7 @@
 
 ghost use Rattle.std.specs.Prelude.{◌≡◌, ◌≤◌, ◌↔◌, IsTrue, IsNone, IfOk, IfSome, length, slice_get};
 ghost use Rattle.op_name.specs.Members.{IsMember};
-ghost use Rattle.op_name.specs.Contexts.{empty, count_of, entry_of, has, Within, rank_of, IsContext};
+ghost use Rattle.context_vector.specs.Contexts.{empty, count_of, entry_of, has, Within, rank_of, IsContext};
 ghost use Rattle.context_vector.specs.Vectors.{IsFirstMissing};
 
 use op_name::{Member, Memory, Name};
@@ -28,7 +28,7 @@ pub struct Vector {
 
 impl Model for Vector {
     ghost use Rattle.std.specs.Prelude.{◌-◌, length, vec_len, vec_capacity};
-    ghost use Rattle.op_name.specs.Contexts.{IsContext};
+    ghost use Rattle.context_vector.specs.Contexts.{IsContext};
     ghost use Rattle.context_vector.specs.Vectors.{VectorData};
 
     ghost Value = { VectorData };

@@ -1,7 +1,7 @@
 -- Lists of which each element passes a test: what gaps and filters are there.
 use Rattle.std.proofs.Common.{◌≡◌, ℕ, zero, suc, ◌≤◌, Bool, true, List, [], ◌∷◌, ◌++◌, refl, ap, arith, length, take, drop, map, filter}
 use Rattle.std.specs.Prelude.{insert}
-use Rattle.op_name.specs.Gaps.{Gap, until, onward, gap}
+use Rattle.context_diff.specs.Gaps.{Gap, until, onward, gap}
 
 abbrev pub AllPass : {K : Type 0} → (K → Bool) → List K → Type 0
 AllPass p [] = Unit {0}

@@ -5,11 +5,11 @@ use Rattle.std.proofs.lemmas.List.{length-map}
 use Rattle.std.proofs.lemmas.Bool.Decides.{nat_tests}
 use Rattle.op_name.specs.NameData.{NameData, name_eq}
 use Rattle.op_name.specs.declared.member.Member.TheVariants.{Original}
-use Rattle.op_name.specs.Contexts.{has, count_of}
-use Rattle.op_name.specs.Operations.{OpData, inserting}
-use Rattle.op_name.specs.Histories.{context_of_all}
-use Rattle.op_name.specs.Gaps.{Gap}
-use Rattle.op_name.specs.Replays.{Cell, sort_by, replay, replay_of, is_shown, shown, character_in, characters_of}
+use Rattle.context_vector.specs.Contexts.{has, count_of}
+use Rattle.context_diff.specs.Operations.{OpData, inserting}
+use Rattle.context_diff.specs.Histories.{context_of_all}
+use Rattle.context_diff.specs.Gaps.{Gap}
+use Rattle.context_diff.specs.Replays.{Cell, sort_by, replay, replay_of, is_shown, shown, character_in, characters_of}
 use Rattle.tombstone_text.specs.Letters.{Letter}
 use Rattle.cotpad.specs.Lines.{text_lines}
 use Rattle.cotpad.specs.Sessions.{made_in, next_name, place_behind, insert_at, after_insert, show_lines}

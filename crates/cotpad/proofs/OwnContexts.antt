@@ -4,7 +4,7 @@ use Rattle.std.specs.Prelude.{nat_le}
 use Rattle.std.proofs.lemmas.Bool.{le-leb}
 use Rattle.op_name.specs.NameData.{NameData}
 use Rattle.op_name.specs.declared.member.Member.TheVariants.{Original}
-use Rattle.op_name.specs.Contexts.{ContextData, has, count_of, rank_of, raised}
+use Rattle.context_vector.specs.Contexts.{ContextData, has, count_of, rank_of, raised}
 
 abbrev pub own_counts : ℕ → List (ℕ × ℕ)
 own_counts zero = []

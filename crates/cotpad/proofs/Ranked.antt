@@ -4,8 +4,8 @@ use Rattle.std.specs.Prelude.{nat_lt}
 use Rattle.std.proofs.lemmas.List.{append-nil}
 use Rattle.std.proofs.lemmas.Bool.{lt-ltb}
 use Rattle.op_name.specs.NameData.{NameData}
-use Rattle.op_name.specs.Gaps.{Gap, gap}
-use Rattle.op_name.specs.Replays.{Insertion, Cell, is_earlier, put_by, sort_by, narrowed, put, replay, cells_from}
+use Rattle.context_diff.specs.Gaps.{Gap, gap}
+use Rattle.context_diff.specs.Replays.{Insertion, Cell, is_earlier, put_by, sort_by, narrowed, put, replay, cells_from}
 use Rattle.cotpad.proofs.AllPass.{AllPass, gap_all}
 
 -- ranks that rise one by one

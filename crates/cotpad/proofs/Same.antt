@@ -3,8 +3,8 @@ use Rattle.std.proofs.Common.{◌≡◌, ℕ, ◌+◌, ◌≤◌, ◌<◌, true,
 use Rattle.std.specs.Prelude.{nat_lt, nat_le}
 use Rattle.std.proofs.lemmas.Bool.{cases_Bool}
 use Rattle.std.proofs.lemmas.Bool.Decides.{nat_tests}
-use Rattle.op_name.specs.Operations.{OpData}
-use Rattle.op_name.specs.Replays.{shown}
+use Rattle.context_diff.specs.Operations.{OpData}
+use Rattle.context_diff.specs.Replays.{shown}
 use Rattle.tombstone_text.specs.Letters.{Letter}
 use Rattle.script_text.specs.declared.first_lines.FirstLine.{FirstLine}
 use Rattle.script_text.specs.declared.first_lines.FirstLine.TheVariants.{Blank, Sites, Ins, Show, Other}

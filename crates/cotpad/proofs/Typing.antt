@@ -4,10 +4,10 @@ use Rattle.std.specs.Prelude.{if◌then◌else◌}
 use Rattle.std.specs.List.{list_any}
 use Rattle.op_name.specs.NameData.{NameData, name_eq}
 use Rattle.op_name.specs.declared.member.Member.TheVariants.{Original}
-use Rattle.op_name.specs.Contexts.{ContextData, has, rank_of, raised}
-use Rattle.op_name.specs.Operations.{OpData, inserting, deleting, undoing, member_of}
-use Rattle.op_name.specs.Histories.{generation_in, context_after}
-use Rattle.op_name.specs.Replays.{Insertion, Cell, insertions_in, fixed_order, replay, replay_of, covers, is_shown, shown, character_in, put}
+use Rattle.context_vector.specs.Contexts.{ContextData, has, rank_of, raised}
+use Rattle.context_diff.specs.Operations.{OpData, inserting, deleting, undoing, member_of}
+use Rattle.context_diff.specs.Histories.{generation_in, context_after}
+use Rattle.context_diff.specs.Replays.{Insertion, Cell, insertions_in, fixed_order, replay, replay_of, covers, is_shown, shown, character_in, put}
 use Rattle.cotpad.proofs.AllPass.{AllPass, filter_all, each_passes}
 use Rattle.cotpad.proofs.Ranked.{RanksFrom, ranks_are_sorted, replay_more, put_all}
 use Rattle.cotpad.proofs.OwnContexts.{own_context, own_name, own_rank, own_raised, own_has}

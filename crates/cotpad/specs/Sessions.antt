@@ -1,11 +1,11 @@
 -- Sessions of one site: what each line of a script does to the history of the site, and the report of a script.
 use Rattle.std.specs.Prelude.{ℕ, ◌+◌, true, false, List, [], ◌∷◌, ◌++◌, length, nat_lt, nat_le, Option, Some, None, if◌then◌else◌}
 use Rattle.op_name.specs.NameData.{NameData}
-use Rattle.op_name.specs.Contexts.{count_of}
-use Rattle.op_name.specs.Operations.{OpData, inserting}
-use Rattle.op_name.specs.Histories.{context_of_all}
-use Rattle.op_name.specs.Gaps.{gap}
-use Rattle.op_name.specs.Replays.{replay_of, is_shown, shown, characters_of, text_of}
+use Rattle.context_vector.specs.Contexts.{count_of}
+use Rattle.context_diff.specs.Operations.{OpData, inserting}
+use Rattle.context_diff.specs.Histories.{context_of_all}
+use Rattle.context_diff.specs.Gaps.{gap}
+use Rattle.context_diff.specs.Replays.{replay_of, is_shown, shown, characters_of, text_of}
 use Rattle.script_text.specs.declared.first_lines.FirstLine.{FirstLine}
 use Rattle.script_text.specs.declared.first_lines.FirstLine.TheVariants.{Blank, Sites, Ins, Show, Other}
 use Rattle.script_text.specs.FirstLines.{line_of}

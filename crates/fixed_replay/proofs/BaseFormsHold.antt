@@ -5,8 +5,8 @@ use Rattle.op_name.specs.NameData.{NameData}
 use Rattle.op_name.specs.declared.member.Member.{Member}
 use Rattle.op_name.specs.declared.member.Member.TheVariants.{Original}
 use Rattle.op_name.specs.Members.{member_eq}
-use Rattle.op_name.specs.Operations.{OpData, inserting, deleting, member_of}
-use Rattle.op_name.specs.Histories.{members_in, IsValid}
+use Rattle.context_diff.specs.Operations.{OpData, inserting, deleting, member_of}
+use Rattle.context_diff.specs.Histories.{members_in, IsValid}
 use Rattle.ttf_form.specs.declared.form.Form.{Form}
 use Rattle.ttf_form.specs.Families.{IsIn}
 use Rattle.transform_rec.specs.Lists.{AreApart}

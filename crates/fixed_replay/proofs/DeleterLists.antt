@@ -2,7 +2,7 @@
 use Rattle.std.proofs.Common.{◌≡◌, ℕ, suc, ◌≤◌, max, Bool, true, false, if◌then◌else◌, List, [], ◌∷◌, ◌⊎◌, inl, inr, refl, ap, sym, subst, arith}
 use Rattle.std.proofs.lemmas.Bool.{cases_Bool}
 use Rattle.op_name.specs.NameData.{NameData, name_eq, name_lt}
-use Rattle.op_name.specs.Contexts.{IsBefore}
+use Rattle.context_vector.specs.Contexts.{IsBefore}
 use Rattle.ttf_form.specs.Cells.{raise_in, best, IsRising}
 use Rattle.ttf_form.specs.Laws.Deleters.{best_raise, best_raise_other, name_self, name_same, name_less_trans, name_less_other}
 use Rattle.transform_rec.specs.Lists.{IsIn}

@@ -3,9 +3,9 @@ use Rattle.std.proofs.Common.{◌≡◌, ℕ, true, false, List, [], ◌∷◌, 
 use Rattle.std.proofs.lemmas.Bool.{cases_Bool}
 use Rattle.op_name.specs.NameData.{NameData}
 use Rattle.op_name.specs.declared.member.Member.{Member}
-use Rattle.op_name.specs.Operations.{OpData}
-use Rattle.op_name.specs.Histories.{members_in, IsValid}
-use Rattle.op_name.specs.Replays.{fixed_order, insertions_in, is_earlier, replay, is_shown, shown, character_in, characters_of, text_of}
+use Rattle.context_diff.specs.Operations.{OpData}
+use Rattle.context_diff.specs.Histories.{members_in, IsValid}
+use Rattle.context_diff.specs.Replays.{fixed_order, insertions_in, is_earlier, replay, is_shown, shown, character_in, characters_of, text_of}
 use Rattle.ttf_form.specs.declared.form.Form.{Form}
 use Rattle.ttf_form.specs.Forms.{form_over}
 use Rattle.ttf_form.specs.Cells.{CellData, cell_key, cells_of, applied, cell_shown}

@@ -7,7 +7,7 @@ use Rattle.op_name.specs.NameData.{NameData}
 use Rattle.op_name.specs.declared.member.Member.{Member}
 use Rattle.op_name.specs.declared.member.Member.TheVariants.{Original, Group}
 use Rattle.op_name.specs.Members.{target_of}
-use Rattle.op_name.specs.Replays.{Insertion, is_earlier, sort_by, replay}
+use Rattle.context_diff.specs.Replays.{Insertion, is_earlier, sort_by, replay}
 use Rattle.ttf_form.specs.declared.ins.Ins.{Ins}
 use Rattle.ttf_form.specs.declared.form.Form.{Form}
 use Rattle.ttf_form.specs.declared.form.Form.TheVariants.{Ins as Insert, Cover as Covered}

@@ -2,9 +2,9 @@
 use Rattle.std.specs.Prelude.{◌≡◌, List}
 use Rattle.op_name.specs.NameData.{NameData}
 use Rattle.op_name.specs.declared.member.Member.TheVariants.{Original}
-use Rattle.op_name.specs.Contexts.{has}
-use Rattle.op_name.specs.Operations.{OpData, member_of, context_of}
-use Rattle.op_name.specs.Histories.{members_in}
+use Rattle.context_vector.specs.Contexts.{has}
+use Rattle.context_diff.specs.Operations.{OpData, member_of, context_of}
+use Rattle.context_diff.specs.Histories.{members_in}
 use Rattle.ttf_form.specs.declared.form.Form.{Form}
 use Rattle.ttf_form.specs.Families.{IsIn}
 use Rattle.transform_rec.specs.Sets.{SameSet}

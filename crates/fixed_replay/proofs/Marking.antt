@@ -4,7 +4,7 @@ use Rattle.std.proofs.lemmas.Bool.{both_ways, false_from_ne_true}
 use Rattle.op_name.specs.NameData.{name_eq}
 use Rattle.op_name.specs.declared.member.Member.{Member}
 use Rattle.op_name.specs.declared.member.Member.TheVariants.{Original}
-use Rattle.op_name.specs.Replays.{Cell, stands_at}
+use Rattle.context_diff.specs.Replays.{Cell, stands_at}
 use Rattle.ttf_form.specs.declared.ins.Ins.{Ins}
 use Rattle.ttf_form.specs.declared.cover.Cover.{Cover}
 use Rattle.ttf_form.specs.declared.cover.Mark.{Mark}

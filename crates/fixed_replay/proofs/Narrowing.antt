@@ -3,8 +3,8 @@ use Rattle.std.proofs.Common.{◌≡◌, true, false, List, [], ◌∷◌, ◌++
 use Rattle.std.proofs.lemmas.Bool.{cases_Bool}
 use Rattle.transform_rec.proofs.Lists.{in_cases, in_left, in_right}
 use Rattle.op_name.specs.NameData.{NameData}
-use Rattle.op_name.specs.Gaps.{Gap, gap}
-use Rattle.op_name.specs.Replays.{Insertion, Cell, cells_from, narrowed_by, narrowed, gap_of, put, replay}
+use Rattle.context_diff.specs.Gaps.{Gap, gap}
+use Rattle.context_diff.specs.Replays.{Insertion, Cell, cells_from, narrowed_by, narrowed, gap_of, put, replay}
 use Rattle.transform_rec.specs.Lists.{IsIn}
 use Rattle.fixed_replay.proofs.Stretches.{whole_of, gap_whole, narrow_whole}
 

@@ -3,8 +3,8 @@ use Rattle.std.proofs.Common.{◌≡◌, true, List, [], ◌∷◌, inl, inr, re
 use Rattle.op_name.specs.NameData.{NameData}
 use Rattle.op_name.specs.declared.member.Member.{Member}
 use Rattle.op_name.specs.declared.member.Member.TheVariants.{Original}
-use Rattle.op_name.specs.Operations.{OpData, inserting, deleting, undoing, member_of, is_original}
-use Rattle.op_name.specs.Histories.{members_in, is_known}
+use Rattle.context_diff.specs.Operations.{OpData, inserting, deleting, undoing, member_of, is_original}
+use Rattle.context_diff.specs.Histories.{members_in, is_known}
 use Rattle.ttf_form.specs.Families.{IsIn}
 use Rattle.transform_rec.specs.Lists.{AreApart}
 use Rattle.transform_rec.proofs.Histories.{in_known}

@@ -4,7 +4,7 @@ use Rattle.std.proofs.lemmas.Bool.{cases_Bool}
 use Rattle.std.proofs.lemmas.Bool.Decides.{nat_tests}
 use Rattle.op_name.specs.declared.member.Member.TheVariants.{Original}
 use Rattle.op_name.specs.NameData.{NameData}
-use Rattle.op_name.specs.Contexts.{ContextData, AreCounts, IsContext, Within, has, count_in, count_of, rank_of, sum_of_counts}
+use Rattle.context_vector.specs.Contexts.{ContextData, AreCounts, IsContext, Within, has, count_in, count_of, rank_of, sum_of_counts}
 use Rattle.fixed_replay.proofs.Elements.{not_both}
 use Rattle.context_diff.proofs.Raising.{has_number, has_original}
 

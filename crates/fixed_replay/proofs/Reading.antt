@@ -5,10 +5,10 @@ use Rattle.std.specs.List.{list_any}
 use Rattle.op_name.specs.NameData.{NameData, name_eq}
 use Rattle.op_name.specs.declared.member.Member.{Member}
 use Rattle.op_name.specs.declared.member.Member.TheVariants.{Original, Group}
-use Rattle.op_name.specs.Contexts.{ContextData, has}
-use Rattle.op_name.specs.Operations.{OpData, inserting, deleting, undoing, member_of}
-use Rattle.op_name.specs.Histories.{members_in, generation_at, generation_in, in_force}
-use Rattle.op_name.specs.Replays.{Cell, stands_at, replay_of, hits, covers, is_shown, character_in}
+use Rattle.context_vector.specs.Contexts.{ContextData, has}
+use Rattle.context_diff.specs.Operations.{OpData, inserting, deleting, undoing, member_of}
+use Rattle.context_diff.specs.Histories.{members_in, generation_at, generation_in, in_force}
+use Rattle.context_diff.specs.Replays.{Cell, stands_at, replay_of, hits, covers, is_shown, character_in}
 use Rattle.ttf_form.specs.declared.cover.Cover.{Cover}
 use Rattle.ttf_form.specs.declared.cover.Mark.{Mark}
 use Rattle.ttf_form.specs.declared.cover.Mark.TheVariants.{Own, By}

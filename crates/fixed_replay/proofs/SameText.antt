@@ -6,10 +6,10 @@ use Rattle.std.proofs.lemmas.Bool.Decides.{nat_tests}
 use Rattle.std.specs.List.{list_any}
 use Rattle.op_name.specs.declared.member.Member.TheVariants.{Original}
 use Rattle.op_name.specs.NameData.{NameData, name_eq}
-use Rattle.op_name.specs.Contexts.{ContextData, has, rank_of}
-use Rattle.op_name.specs.Operations.{OpData, inserting, deleting, undoing, member_of, is_original}
-use Rattle.op_name.specs.Histories.{in_force, is_even, Same}
-use Rattle.op_name.specs.Replays.{Insertion, Cell, cells_from, insertions_in, is_earlier, fixed_order, replay, replay_of, stands_at, hits, covers, is_shown, shown, character_in, characters_of, text_of}
+use Rattle.context_vector.specs.Contexts.{ContextData, has, rank_of}
+use Rattle.context_diff.specs.Operations.{OpData, inserting, deleting, undoing, member_of, is_original}
+use Rattle.context_diff.specs.Histories.{in_force, is_even, Same}
+use Rattle.context_diff.specs.Replays.{Insertion, Cell, cells_from, insertions_in, is_earlier, fixed_order, replay, replay_of, stands_at, hits, covers, is_shown, shown, character_in, characters_of, text_of}
 use Rattle.fixed_replay.specs.Originals.{AreTold, AreToldFrom, AreToldApart}
 use Rattle.transform_rec.specs.Lists.{IsIn, SameElements}
 use Rattle.fixed_replay.proofs.Elements.{same_bool, contains_in, in_contains, any_in, in_any, map_same}

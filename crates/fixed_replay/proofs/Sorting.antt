@@ -1,7 +1,7 @@
 -- Sorting by insertion: the same elements in order, and one list of given elements in a strict order.
 use Rattle.std.proofs.Common.{◌≡◌, Bool, true, false, List, [], ◌∷◌, ◌⊎◌, inl, inr, refl, ap, sym, ◌∙◌, subst}
 use Rattle.std.proofs.lemmas.Bool.{cases_Bool}
-use Rattle.op_name.specs.Replays.{put_by, sort_by}
+use Rattle.context_diff.specs.Replays.{put_by, sort_by}
 use Rattle.transform_rec.specs.Lists.{IsIn, SameElements, IsRising}
 use Rattle.fixed_replay.proofs.Elements.{not_both, IsPairwise}
 

@@ -5,7 +5,7 @@ use Rattle.transform_rec.proofs.Lists.{in_left, in_right, count-append}
 use Rattle.std.specs.List.{list_any}
 use Rattle.std.proofs.Math.Seq.{take-append_seam, drop-append_seam}
 use Rattle.ttf_form.specs.Places.{IsMoved}
-use Rattle.op_name.specs.Gaps.{Gap, until, onward, through, beyond, gap, narrow}
+use Rattle.context_diff.specs.Gaps.{Gap, until, onward, through, beyond, gap, narrow}
 use Rattle.transform_rec.specs.Lists.{IsIn, count, either, EachAt}
 use Rattle.fixed_replay.proofs.Elements.{not_both}
 use Rattle.fixed_replay.proofs.Counts.{count-either, any_count, count_any, count_all, AreDisjoint, each-append, each-late, each-between, each-early, begins-late, BeginsIn, EndsIn, ends-more, ends-append, ends-cons, begins-more, begins-append}

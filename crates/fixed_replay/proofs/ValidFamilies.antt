@@ -7,10 +7,10 @@ use Rattle.op_name.specs.NameData.{NameData}
 use Rattle.op_name.specs.declared.member.Member.{Member}
 use Rattle.op_name.specs.declared.member.Member.TheVariants.{Original, Group}
 use Rattle.op_name.specs.Members.{target_of}
-use Rattle.op_name.specs.Contexts.{ContextData, has}
-use Rattle.op_name.specs.Operations.{OpData, inserting, deleting, undoing, member_of, context_of, is_insert}
-use Rattle.op_name.specs.Histories.{members_in, is_known, inserts_in, IsValid, IsNext}
-use Rattle.op_name.specs.Replays.{Insertion, insertions_in, fixed_order, is_earlier}
+use Rattle.context_vector.specs.Contexts.{ContextData, has}
+use Rattle.context_diff.specs.Operations.{OpData, inserting, deleting, undoing, member_of, context_of, is_insert}
+use Rattle.context_diff.specs.Histories.{members_in, is_known, inserts_in, IsValid, IsNext}
+use Rattle.context_diff.specs.Replays.{Insertion, insertions_in, fixed_order, is_earlier}
 use Rattle.context_diff.specs.Bases.{original_context, base_has}
 use Rattle.context_diff.proofs.Valid.{valid_before}
 use Rattle.context_diff.proofs.Complete.{IsComplete, complete}

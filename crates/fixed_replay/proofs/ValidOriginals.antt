@@ -5,9 +5,9 @@ use Rattle.op_name.specs.declared.member.Member.{Member}
 use Rattle.op_name.specs.declared.member.Member.TheVariants.{Original}
 use Rattle.op_name.specs.NameData.{NameData}
 use Rattle.op_name.specs.Members.{target_of}
-use Rattle.op_name.specs.Contexts.{has, rank_of}
-use Rattle.op_name.specs.Operations.{OpData, member_of, context_of}
-use Rattle.op_name.specs.Histories.{members_in, is_known, IsValid}
+use Rattle.context_vector.specs.Contexts.{has, rank_of}
+use Rattle.context_diff.specs.Operations.{OpData, member_of, context_of}
+use Rattle.context_diff.specs.Histories.{members_in, is_known, IsValid}
 use Rattle.context_diff.specs.Bases.{original_context}
 use Rattle.context_diff.proofs.Complete.{IsComplete, complete}
 use Rattle.context_diff.proofs.Histories.{original_facts, context_is, own_alone, related}

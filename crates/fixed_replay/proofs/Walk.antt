@@ -5,8 +5,8 @@ use Rattle.op_name.specs.NameData.{NameData}
 use Rattle.op_name.specs.declared.member.Member.{Member}
 use Rattle.op_name.specs.declared.member.Member.TheVariants.{Original}
 use Rattle.op_name.specs.Members.{target_of}
-use Rattle.op_name.specs.Gaps.{Gap, gap, narrow}
-use Rattle.op_name.specs.Replays.{Insertion, Cell, cells_from, of_name, narrowed_by, narrowed, gap_of, put, replay}
+use Rattle.context_diff.specs.Gaps.{Gap, gap, narrow}
+use Rattle.context_diff.specs.Replays.{Insertion, Cell, cells_from, of_name, narrowed_by, narrowed, gap_of, put, replay}
 use Rattle.ttf_form.specs.declared.ins.Ins.{Ins}
 use Rattle.ttf_form.specs.declared.cover.Cover.{Cover}
 use Rattle.ttf_form.specs.declared.form.Form.{Form}

@@ -4,9 +4,9 @@ use Rattle.op_name.specs.NameData.{NameData}
 use Rattle.op_name.specs.declared.member.Member.{Member}
 use Rattle.op_name.specs.declared.member.Member.TheVariants.{Original, Group}
 use Rattle.op_name.specs.Members.{member_eq}
-use Rattle.op_name.specs.Contexts.{ContextData}
-use Rattle.op_name.specs.Operations.{OpData, inserting, deleting, undoing, member_of}
-use Rattle.op_name.specs.Histories.{members_in}
+use Rattle.context_vector.specs.Contexts.{ContextData}
+use Rattle.context_diff.specs.Operations.{OpData, inserting, deleting, undoing, member_of}
+use Rattle.context_diff.specs.Histories.{members_in}
 use Rattle.ttf_form.specs.declared.ins.Ins.{Ins}
 use Rattle.ttf_form.specs.declared.cover.Cover.{Cover}
 use Rattle.ttf_form.specs.declared.cover.Mark.{Mark}

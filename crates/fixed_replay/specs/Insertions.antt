@@ -4,7 +4,7 @@ use Rattle.op_name.specs.NameData.{NameData}
 use Rattle.op_name.specs.declared.member.Member.{Member}
 use Rattle.op_name.specs.declared.member.Member.TheVariants.{Original}
 use Rattle.op_name.specs.Members.{target_of}
-use Rattle.op_name.specs.Replays.{Insertion}
+use Rattle.context_diff.specs.Replays.{Insertion}
 use Rattle.ttf_form.specs.declared.form.Form.{Form}
 use Rattle.ttf_form.specs.declared.form.Form.TheVariants.{Ins as Insert, Cover as Covered}
 use Rattle.transform_rec.specs.Family.{Family}

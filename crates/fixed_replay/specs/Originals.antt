@@ -1,8 +1,8 @@
 -- Originals that can be told apart: by their names, and by rank and site, by which they are ordered.
 use Rattle.std.specs.Prelude.{◌≡◌, ◌≢◌, ℕ, true, List, [], ◌∷◌}
 use Rattle.op_name.specs.Members.{target_of}
-use Rattle.op_name.specs.Contexts.{rank_of}
-use Rattle.op_name.specs.Operations.{OpData, member_of, context_of, is_original}
+use Rattle.context_vector.specs.Contexts.{rank_of}
+use Rattle.context_diff.specs.Operations.{OpData, member_of, context_of, is_original}
 
 abbrev pub site_of : OpData → ℕ
 site_of o = (target_of (member_of o)).site

@@ -1,10 +1,10 @@
 -- Cells that are the fixed replay of a history.
 use Rattle.std.specs.Prelude.{◌≡◌, ◌↔◌, ℕ, true, List}
 use Rattle.op_name.specs.NameData.{NameData}
-use Rattle.op_name.specs.Contexts.{ContextData}
-use Rattle.op_name.specs.Operations.{OpData, deleting}
-use Rattle.op_name.specs.Histories.{generation_in}
-use Rattle.op_name.specs.Replays.{Cell, replay_of, hits, is_shown, character_in}
+use Rattle.context_vector.specs.Contexts.{ContextData}
+use Rattle.context_diff.specs.Operations.{OpData, deleting}
+use Rattle.context_diff.specs.Histories.{generation_in}
+use Rattle.context_diff.specs.Replays.{Cell, replay_of, hits, is_shown, character_in}
 use Rattle.ttf_form.specs.Cells.{CellData, IsRising, cell_key, cells_of, cell_shown}
 use Rattle.ttf_form.specs.Families.{IsIn}
 

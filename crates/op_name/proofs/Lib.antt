@@ -1,3 +1,1 @@
-pub mod WorkedCases
-pub mod ValidCases
 pub mod Orders

@@ -1,8 +1,3 @@
 pub mod Order
 pub mod NameData
 pub mod Members
-pub mod Contexts
-pub mod Operations
-pub mod Histories
-pub mod Gaps
-pub mod Replays

@@ -4,12 +4,12 @@ use Rattle.op_name.specs.declared.member.Member.{Member}
 use Rattle.op_name.specs.declared.member.Member.TheVariants.{Original, Group}
 use Rattle.op_name.specs.NameData.{NameData, name_eq, name_lt}
 
--- the original that a member is, or is an undo group of
+-- the original that a member is, or whose undo group it is
 abbrev pub target_of : Member → NameData
 target_of (Original n) = n
 target_of (Group n g) = n
 
--- the generation of a group is at least 1
+-- the generation of a group is at least 1 (the type keeps it below 65,536, and names in their ranges)
 abbrev pub IsMember : Member → Type 0
 IsMember (Original n) = Unit {0}
 IsMember (Group n g) = 1 ≤ g

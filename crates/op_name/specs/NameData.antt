@@ -1,5 +1,5 @@
 -- Names as contracts see them, their ranges and their order.
-use Rattle.std.specs.Prelude.{ℕ, ◌<◌, ◌≤◌, Bool, ◌&&◌, ◌||◌, ◌==◌, nat_lt}
+use Rattle.std.specs.Prelude.{◌≡◌, ℕ, ◌<◌, ◌≤◌, Bool, true, List, [], ◌∷◌, ◌&&◌, ◌||◌, ◌==◌, nat_lt}
 use Rattle.std.specs.declared.cmp.Ordering.{Ordering}
 use Rattle.std.specs.Ordering.{ordering_then, nat_cmp}
 
@@ -21,3 +21,8 @@ name_lt n m = nat_lt n.site m.site || ((n.site == m.site) && nat_lt n.number m.n
 
 abbrev pub name_cmp : NameData → NameData → Ordering
 name_cmp n m = ordering_then (nat_cmp n.site m.site) (nat_cmp n.number m.number)
+
+-- the name is before the first of the list
+abbrev pub IsBefore : NameData → List (NameData × ℕ) → Type 0
+IsBefore n [] = Unit {0}
+IsBefore n (e ∷ es) = name_lt n e.0 ≡ true

@@ -2,7 +2,7 @@
 use Rattle.std.specs.Prelude.{ℕ, List, [], ◌∷◌, ◌++◌, length, map, decimal, codes}
 use Rattle.std.specs.List.{join_with_byte}
 use Rattle.op_name.specs.NameData.{NameData}
-use Rattle.op_name.specs.Contexts.{ContextData}
+use Rattle.context_vector.specs.Contexts.{ContextData}
 use Rattle.script_text.specs.Names.{name_text, group_text}
 use Rattle.script_text.specs.declared.refusal.Refusal.{Refusal}
 use Rattle.script_text.specs.declared.refusal.Refusal.TheVariants.{Limit, Long, Utf8, Form, NoSites, Twice, NoSite, NoMessage}

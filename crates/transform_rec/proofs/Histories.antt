@@ -5,9 +5,9 @@ use Rattle.op_name.specs.NameData.{NameData}
 use Rattle.op_name.specs.declared.member.Member.{Member}
 use Rattle.op_name.specs.declared.member.Member.TheVariants.{Original, Group}
 use Rattle.op_name.specs.Members.{member_eq, IsMember}
-use Rattle.op_name.specs.Contexts.{ContextData, has, count_of, entry_of, IsNextMember}
-use Rattle.op_name.specs.Operations.{OpData, member_of}
-use Rattle.op_name.specs.Histories.{members_in, is_known, IsValid}
+use Rattle.context_vector.specs.Contexts.{ContextData, has, count_of, entry_of, IsNextMember}
+use Rattle.context_diff.specs.Operations.{OpData, member_of}
+use Rattle.context_diff.specs.Histories.{members_in, is_known, IsValid}
 use Rattle.context_diff.specs.Bases.{original_context, base_has}
 use Rattle.context_diff.specs.Differences.{IsClosedSet}
 use Rattle.context_diff.proofs.Raising.{has_number, has_original, has_generation, has_group}

@@ -4,9 +4,9 @@ use Rattle.std.proofs.lemmas.Bool.{cases_Bool}
 use Rattle.op_name.specs.NameData.{NameData}
 use Rattle.op_name.specs.declared.member.Member.{Member}
 use Rattle.op_name.specs.declared.member.Member.TheVariants.{Original, Group}
-use Rattle.op_name.specs.Contexts.{ContextData, has}
-use Rattle.op_name.specs.Operations.{OpData, inserting, deleting, undoing, member_of, is_original}
-use Rattle.op_name.specs.Histories.{is_known, generation_in, context_of_all, IsValid, Same}
+use Rattle.context_vector.specs.Contexts.{ContextData, has}
+use Rattle.context_diff.specs.Operations.{OpData, inserting, deleting, undoing, member_of, is_original}
+use Rattle.context_diff.specs.Histories.{is_known, generation_in, context_of_all, IsValid, Same}
 use Rattle.context_diff.specs.Bases.{original_context, is_before, is_below, base_has}
 use Rattle.context_diff.proofs.Raising.{has_generation, has_group}
 use Rattle.context_diff.proofs.Known.{known_member, original_holder}

@@ -4,9 +4,9 @@ use Rattle.std.proofs.Common.{◌≡◌, ℕ, suc, ◌+◌, ◌<◌, ◌≤◌, 
 use Rattle.std.proofs.lemmas.List.{drop_more, drop_all}
 use Rattle.op_name.specs.declared.member.Member.{Member}
 use Rattle.op_name.specs.Members.{IsMember}
-use Rattle.op_name.specs.Contexts.{ContextData, has, raised, IsNextMember, Within}
-use Rattle.op_name.specs.Operations.{OpData}
-use Rattle.op_name.specs.Histories.{members_in, is_known, context_of_all, IsValid}
+use Rattle.context_vector.specs.Contexts.{ContextData, has, raised, IsNextMember, Within}
+use Rattle.context_diff.specs.Operations.{OpData}
+use Rattle.context_diff.specs.Histories.{members_in, is_known, context_of_all, IsValid}
 use Rattle.context_diff.specs.Bases.{base_has, base_context_of}
 use Rattle.context_diff.specs.Differences.{difference_of}
 use Rattle.context_diff.proofs.Complete.{complete}

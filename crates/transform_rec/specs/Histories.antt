@@ -1,9 +1,9 @@
 -- Histories as families, and where a member may be added to a context.
 use Rattle.std.specs.Prelude.{◌≡◌, Bool, true, false, List}
 use Rattle.op_name.specs.declared.member.Member.{Member}
-use Rattle.op_name.specs.Contexts.{ContextData, has, KeepsStray}
-use Rattle.op_name.specs.Operations.{OpData}
-use Rattle.op_name.specs.Histories.{members_in, is_known, LacksNothing, IsClosed, IsValid, Same}
+use Rattle.context_vector.specs.Contexts.{ContextData, has, KeepsStray}
+use Rattle.context_diff.specs.Operations.{OpData}
+use Rattle.context_diff.specs.Histories.{members_in, is_known, LacksNothing, IsClosed, IsValid, Same}
 use Rattle.context_diff.specs.Bases.{base_has}
 use Rattle.transform_rec.specs.Family.{Family}
 use Rattle.transform_rec.specs.Derived.{IsOnlyFormAt}

@@ -2,8 +2,8 @@
 
 ghost use Rattle.std.specs.Prelude.{◌≡◌, ℕ, IfOk};
 ghost use Rattle.op_name.specs.declared.member.Member.{Member};
-ghost use Rattle.op_name.specs.Contexts.{has};
-ghost use Rattle.op_name.specs.Histories.{members_in};
+ghost use Rattle.context_vector.specs.Contexts.{has};
+ghost use Rattle.context_diff.specs.Histories.{members_in};
 ghost use Rattle.context_diff.specs.Bases.{base_has};
 ghost use Rattle.transform_rec.specs.Derived.{IsOnlyFormAt};
 ghost use Rattle.transform_rec.specs.Histories.{family_in, MayBeAddedTo};

@@ -3,7 +3,7 @@
 ghost use Rattle.std.specs.Prelude.{◌≡◌, ◌∷◌, [], ◌++◌, ◌<◌, ◌≤◌, ◌||◌, ◌&&◌, not, vec_len, vec_capacity, OnOk, OnErr, IfErr};
 ghost use Rattle.op_name.specs.declared.member.Member.{Member};
 ghost use Rattle.op_name.specs.Members.{IsMember, member_eq};
-ghost use Rattle.op_name.specs.Contexts.{has, raised, IsNextMember, count_in, entry_in, put_count, put_entry, AreCounts, AreEntries};
+ghost use Rattle.context_vector.specs.Contexts.{has, raised, IsNextMember, count_in, entry_in, put_count, put_entry, AreCounts, AreEntries};
 ghost use Rattle.context_vector.specs.Vectors.{HasRoomFor, IsLastMember, lowered, lower_count, lower_entry, up_to, SitesBelow, NamesBelow, of_counts, of_entries};
 ghost use Rattle.context_vector.specs.Refusals.{IsCause};
 ghost use Rattle.smallvec.specs.SmallVec.{HasRoomFor as Spare};

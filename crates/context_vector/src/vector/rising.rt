@@ -1,7 +1,7 @@
 //! Lists whose keys rise: searches in them and comparisons of two of them.
 
 ghost use Rattle.std.specs.Prelude.{◌≡◌, ◌≤◌, nat_lt, IfOk, IfErr};
-ghost use Rattle.op_name.specs.Contexts.{count_in, entry_in, sum_of_counts, AreCounts, AreEntries};
+ghost use Rattle.context_vector.specs.Contexts.{count_in, entry_in, sum_of_counts, AreCounts, AreEntries};
 ghost use Rattle.op_name.specs.NameData.{name_lt};
 ghost use Rattle.context_vector.specs.Shortfalls.{first_short};
 ghost use Rattle.context_vector.specs.Places.{IsPlace, IsGap};

@@ -3,7 +3,7 @@ use Rattle.std.proofs.Common.{◌≡◌, ℕ, suc, max, ◌++◌, Bool, true, fa
 use Rattle.std.proofs.Math.Nat.{max_comm}
 use Rattle.std.proofs.lemmas.Bool.Decides.{nat_tests}
 use Rattle.op_name.specs.NameData.{NameData, name_eq, name_lt}
-use Rattle.op_name.specs.Contexts.{IsBefore}
+use Rattle.op_name.specs.NameData.{IsBefore}
 use Rattle.ttf_form.specs.Cells.{raise_in, best, IsRising, AreBelow}
 
 pub name_self : (n : NameData) → name_eq n n ≡ true

@@ -4,9 +4,9 @@ use Rattle.std.proofs.lemmas.Bool.{false≢true, true≢false}
 use Rattle.op_name.specs.NameData.{NameData}
 use Rattle.op_name.specs.declared.member.Member.{Member}
 use Rattle.op_name.specs.declared.member.Member.TheVariants.{Original, Group}
-use Rattle.op_name.specs.Contexts.{ContextData, Within, has}
-use Rattle.op_name.specs.Operations.{OpData, member_of, context_of}
-use Rattle.op_name.specs.Histories.{is_known, IsClosed, LacksNothing}
+use Rattle.context_vector.specs.Contexts.{ContextData, Within, has}
+use Rattle.context_diff.specs.Operations.{OpData, member_of, context_of}
+use Rattle.context_diff.specs.Histories.{is_known, IsClosed, LacksNothing}
 use Rattle.context_diff.specs.Ops.{data_of}
 use Rattle.context_diff.specs.Bases.{original_context}
 use Rattle.context_diff.proofs.Complete.{complete}

@@ -1,6 +1,6 @@
 use Rattle.std.proofs.Common.{◌≡◌, ℕ, ◌<◌}
 use Rattle.std.specs.Prelude.{Some, slice_get}
-use Rattle.op_name.specs.Contexts.{Within}
+use Rattle.context_vector.specs.Contexts.{Within}
 use Rattle.context_diff.specs.Bases.{original_context}
 use Rattle.context_diff.proofs.coverage.closed.Given as goal
 

@@ -4,9 +4,9 @@ use Rattle.std.proofs.lemmas.Bool.{false≢true, true≢false}
 use Rattle.op_name.specs.NameData.{NameData}
 use Rattle.op_name.specs.declared.member.Member.{Member}
 use Rattle.op_name.specs.declared.member.Member.TheVariants.{Original, Group}
-use Rattle.op_name.specs.Contexts.{ContextData, Within, has, count_of, entry_of}
-use Rattle.op_name.specs.Operations.{OpData, member_of, context_of}
-use Rattle.op_name.specs.Histories.{is_known, members_in, LacksNothing}
+use Rattle.context_vector.specs.Contexts.{ContextData, Within, has, count_of, entry_of}
+use Rattle.context_diff.specs.Operations.{OpData, member_of, context_of}
+use Rattle.context_diff.specs.Histories.{is_known, members_in, LacksNothing}
 use Rattle.context_diff.specs.Places.{ArePlacesOf, is_between, is_group_between, is_missing, first_sites, first_names, members_at}
 use Rattle.context_diff.proofs.Listings.{count_at, entry_at}
 use Rattle.context_diff.proofs.Raising.{has_original, has_group}

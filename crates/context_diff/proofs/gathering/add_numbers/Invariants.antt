@@ -1,6 +1,6 @@
 use Rattle.std.proofs.Common.{◌≡◌, ℕ, ◌+◌, Bool, true, false, ◌||◌}
 use Rattle.op_name.specs.declared.member.Member.{Member}
-use Rattle.op_name.specs.Histories.{members_in}
+use Rattle.context_diff.specs.Histories.{members_in}
 use Rattle.context_diff.specs.Places.{ArePlacesOf, is_between}
 use Rattle.context_diff.proofs.gathering.add_numbers.Given as goal
 

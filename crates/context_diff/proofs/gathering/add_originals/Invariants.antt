@@ -1,4 +1,4 @@
-use Rattle.op_name.specs.Histories.{members_in}
+use Rattle.context_diff.specs.Histories.{members_in}
 use Rattle.context_diff.specs.Places.{ArePlacesOf, is_missing, first_sites}
 use Rattle.context_diff.proofs.gathering.add_originals.Given as goal
 

@@ -1,5 +1,5 @@
 use Rattle.std.proofs.Common.{◌≡◌, ◌++◌, ◌+◌, ◌-◌, ◌≤◌, length, take, vec_len, vec_capacity}
-use Rattle.op_name.specs.Histories.{members_in}
+use Rattle.context_diff.specs.Histories.{members_in}
 use Rattle.context_diff.specs.Places.{members_at}
 use Rattle.context_diff.proofs.gathering.difference.Given as goal
 

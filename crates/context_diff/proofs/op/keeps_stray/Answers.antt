@@ -3,7 +3,7 @@ use Rattle.std.specs.Prelude.{Some, slice_get}
 use Rattle.std.proofs.lemmas.Bool.{false≢true}
 use Rattle.op_name.specs.NameData.{NameData}
 use Rattle.op_name.specs.declared.member.Member.TheVariants.{Original}
-use Rattle.op_name.specs.Contexts.{has}
+use Rattle.context_vector.specs.Contexts.{has}
 use Rattle.context_diff.proofs.Listings.{stray_kept, stray_broken}
 use Rattle.context_diff.proofs.op.keeps_stray.Goals as goal
 

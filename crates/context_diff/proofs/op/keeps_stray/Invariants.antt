@@ -2,7 +2,7 @@ use Rattle.std.proofs.Common.{◌≡◌, ℕ, ◌<◌, true}
 use Rattle.std.specs.Prelude.{Some, slice_get}
 use Rattle.op_name.specs.NameData.{NameData}
 use Rattle.op_name.specs.declared.member.Member.TheVariants.{Original}
-use Rattle.op_name.specs.Contexts.{has}
+use Rattle.context_vector.specs.Contexts.{has}
 use Rattle.context_diff.proofs.op.keeps_stray.Given as goal
 
 -- the originals of the entries so far are there

@@ -1,6 +1,6 @@
 use Rattle.std.proofs.Common.{ℕ, suc, ◌≡◌, ◌≤◌, List, sym, subst, arith, rules}
 use Rattle.op_name.specs.declared.member.Member.{Member}
-use Rattle.op_name.specs.Contexts.{has}
+use Rattle.context_vector.specs.Contexts.{has}
 use Rattle.ttf_form.specs.Families.{IsIn}
 use Rattle.transform_rec.specs.Family.{size}
 use Rattle.transform_rec.specs.Histories.{family_in}

@@ -1,5 +1,5 @@
 use Rattle.std.proofs.Common.{drop}
-use Rattle.op_name.specs.Contexts.{has}
+use Rattle.context_vector.specs.Contexts.{has}
 use Rattle.transform_rec.specs.Family.{size}
 use Rattle.transform_rec.specs.Histories.{family_in}
 use Rattle.transform_rec.proofs.Turns.{IsOnWay}

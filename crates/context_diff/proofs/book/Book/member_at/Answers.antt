@@ -3,8 +3,8 @@ use Rattle.std.specs.Prelude.{Contains, Option, Some, None, slice_get, option_ma
 use Rattle.op_name.specs.declared.member.Member.{Member}
 use Rattle.op_name.specs.declared.member.Member.TheVariants.{Original, Group}
 use Rattle.op_name.specs.Members.{member_eq, IsMember}
-use Rattle.op_name.specs.Operations.{OpData, member_of}
-use Rattle.op_name.specs.Histories.{is_known, members_in, context_of_all}
+use Rattle.context_diff.specs.Operations.{OpData, member_of}
+use Rattle.context_diff.specs.Histories.{is_known, members_in, context_of_all}
 use Rattle.context_diff.specs.Ops.{data_of}
 use Rattle.context_diff.specs.Books.{BookData, HasRoom, kept_op, kept_inserts}
 use Rattle.context_diff.specs.Kept.{ops_in, AreKept, IsBook, inserts_up_to}

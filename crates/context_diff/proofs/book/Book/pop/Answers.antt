@@ -3,8 +3,8 @@ use Rattle.std.specs.Prelude.{Contains, Option, Some, None, slice_get, option_ma
 use Rattle.op_name.specs.declared.member.Member.{Member}
 use Rattle.op_name.specs.declared.member.Member.TheVariants.{Original, Group}
 use Rattle.op_name.specs.Members.{member_eq, IsMember}
-use Rattle.op_name.specs.Operations.{OpData, member_of}
-use Rattle.op_name.specs.Histories.{is_known, members_in, context_of_all}
+use Rattle.context_diff.specs.Operations.{OpData, member_of}
+use Rattle.context_diff.specs.Histories.{is_known, members_in, context_of_all}
 use Rattle.context_diff.specs.Ops.{data_of}
 use Rattle.context_diff.specs.Books.{BookData, HasRoom, kept_op, kept_inserts}
 use Rattle.context_diff.specs.Kept.{ops_in, AreKept, IsBook, inserts_up_to}
@@ -12,7 +12,7 @@ use Rattle.context_diff.proofs.Kept.{ops_length, kept_at}
 use Rattle.std.specs.Option.{option_to_list}
 use Rattle.std.proofs.lemmas.Bool.{true≢false}
 use Rattle.std.proofs.Common.{length-append}
-use Rattle.op_name.specs.Contexts.{ContextData}
+use Rattle.context_vector.specs.Contexts.{ContextData}
 use Rattle.context_diff.specs.declared.book.Kept.{Kept}
 use Rattle.context_diff.proofs.Kept.{ops_push, book_pop, kept_last}
 use Rattle.context_diff.proofs.Books.{pop_member, pop_last}

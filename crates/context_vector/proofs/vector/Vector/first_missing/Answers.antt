@@ -1,6 +1,6 @@
 use Rattle.std.proofs.Common.{◌≡◌, Some, None, refl, sym, ◌∙◌}
 use mathlib.Core.Bool.{false≢true}
-use Rattle.op_name.specs.Contexts.{count_in, entry_in}
+use Rattle.context_vector.specs.Contexts.{count_in, entry_in}
 use Rattle.context_vector.specs.Shortfalls.{first_short}
 use Rattle.context_vector.proofs.Sets.{short_original, short_group, none_missing, missing_not_within}
 use Rattle.context_vector.proofs.vector.Vector.first_missing.Goals as goal

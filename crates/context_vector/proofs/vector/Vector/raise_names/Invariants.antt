@@ -1,7 +1,7 @@
 use Rattle.std.proofs.Common.{◌≡◌, drop}
 use Rattle.std.specs.Prelude.{◌||◌}
 use Rattle.op_name.specs.declared.member.Member.{Member}
-use Rattle.op_name.specs.Contexts.{has}
+use Rattle.context_vector.specs.Contexts.{has}
 use Rattle.context_vector.specs.Vectors.{of_entries}
 use Rattle.context_vector.proofs.vector.Vector.raise_names.Given as goal
 

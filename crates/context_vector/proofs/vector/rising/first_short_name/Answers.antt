@@ -1,5 +1,5 @@
 use Rattle.std.proofs.Common.{sym, ◌∙◌, refl, arith}
-use Rattle.op_name.specs.Contexts.{entry_in}
+use Rattle.context_vector.specs.Contexts.{entry_in}
 use Rattle.context_vector.proofs.Shortfalls.{short_at, short_past, short_end}
 use Rattle.context_vector.proofs.vector.rising.first_short_name.Goals as goal
 

@@ -1,5 +1,5 @@
 use Rattle.std.proofs.Common.{◌≡◌, drop}
-use Rattle.op_name.specs.Contexts.{entry_in}
+use Rattle.context_vector.specs.Contexts.{entry_in}
 use Rattle.context_vector.specs.Shortfalls.{first_short}
 use Rattle.context_vector.proofs.vector.rising.first_short_name.Given as goal
 

@@ -1,6 +1,6 @@
 use Rattle.std.proofs.Common.{sym, ◌∙◌, get_or, refl, arith}
 use Rattle.std.proofs.lemmas.List.{get_or_default}
-use Rattle.op_name.specs.Contexts.{count_in}
+use Rattle.context_vector.specs.Contexts.{count_in}
 use Rattle.context_vector.proofs.Shortfalls.{short_at, short_past, short_end}
 use Rattle.context_vector.proofs.vector.rising.first_short_site.Goals as goal
 

@@ -1,5 +1,5 @@
 use Rattle.std.proofs.Common.{◌≡◌, drop}
-use Rattle.op_name.specs.Contexts.{count_in}
+use Rattle.context_vector.specs.Contexts.{count_in}
 use Rattle.context_vector.specs.Shortfalls.{first_short}
 use Rattle.context_vector.proofs.vector.rising.first_short_site.Given as goal
 

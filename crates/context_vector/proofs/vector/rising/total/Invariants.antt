@@ -1,5 +1,5 @@
 use Rattle.std.proofs.Common.{◌≡◌, ◌+◌, drop}
-use Rattle.op_name.specs.Contexts.{sum_of_counts}
+use Rattle.context_vector.specs.Contexts.{sum_of_counts}
 use Rattle.context_vector.proofs.vector.rising.total.Given as goal
 
 -- what is added up and what is left make the whole sum

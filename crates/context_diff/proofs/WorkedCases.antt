@@ -1,11 +1,11 @@
 -- Small sessions written out as histories, and what the definitions say of them. Characters are given by their codes.
 use Rattle.std.proofs.Common.{◌≡◌, ℕ, true, false, List, [], ◌∷◌, refl}
 use Rattle.op_name.specs.NameData.{NameData}
-use Rattle.op_name.specs.Contexts.{ContextData}
-use Rattle.op_name.specs.Operations.{OpData, inserting, deleting, undoing}
-use Rattle.op_name.specs.Histories.{generation_in, in_force, context_of_all}
-use Rattle.op_name.specs.Gaps.{until, onward, through, beyond, gap}
-use Rattle.op_name.specs.Replays.{Cell, put_by, sort_by, narrowed, replay, stands_at, replay_of, hits, characters_of, text_of}
+use Rattle.context_vector.specs.Contexts.{ContextData}
+use Rattle.context_diff.specs.Operations.{OpData, inserting, deleting, undoing}
+use Rattle.context_diff.specs.Histories.{generation_in, in_force, context_of_all}
+use Rattle.context_diff.specs.Gaps.{until, onward, through, beyond, gap}
+use Rattle.context_diff.specs.Replays.{Cell, put_by, sort_by, narrowed, replay, stands_at, replay_of, hits, characters_of, text_of}
 
 abbrev pub name : ℕ → ℕ → NameData
 name site number = record { site = site; number = number }

@@ -3,10 +3,10 @@ use Rattle.std.specs.Prelude.{◌≡◌, ℕ, zero, suc, Bool, true, false, List
 use Rattle.std.specs.List.{list_any}
 use Rattle.op_name.specs.declared.member.Member.TheVariants.{Original}
 use Rattle.op_name.specs.NameData.{NameData, name_eq}
-use Rattle.op_name.specs.Contexts.{has, rank_of}
-use Rattle.op_name.specs.Operations.{OpData, inserting, deleting, undoing}
-use Rattle.op_name.specs.Histories.{in_force}
-use Rattle.op_name.specs.Gaps.{Gap, gap, narrow}
+use Rattle.context_vector.specs.Contexts.{has, rank_of}
+use Rattle.context_diff.specs.Operations.{OpData, inserting, deleting, undoing}
+use Rattle.context_diff.specs.Histories.{in_force}
+use Rattle.context_diff.specs.Gaps.{Gap, gap, narrow}
 
 -- what the replay reads of an insert: its name, its place, its rank (the number of originals in its context) and which
 -- originals its context holds
@@ -27,7 +27,7 @@ insertions_in (inserting n p ch c ∷ os) = record { name = n; place = p; rank =
 insertions_in (deleting n p c ∷ os) = insertions_in os
 insertions_in (undoing a t g c ∷ os) = insertions_in os
 
--- by rank, then by site: a cause has a smaller rank than its effect
+-- by rank, then by site; in a valid history no two inserts are alike in both, and a cause has the smaller rank
 abbrev pub is_earlier : Insertion → Insertion → Bool
 is_earlier o p = nat_lt o.rank p.rank || ((o.rank == p.rank) && nat_lt o.name.site p.name.site)
 
@@ -78,7 +78,11 @@ replay earlier cells (o ∷ os) = replay (earlier ++ o.name ∷ []) (put o earli
 abbrev pub replay_of : List OpData → List Cell
 replay_of h = replay [] [] (fixed_order h)
 
--- whether the cell stands at this place of a list
+-- Seen: the cells of a list whose inserts these are, in the order of the list
+abbrev pub seen : (NameData → Bool) → List Cell → List Cell
+seen sees cells = filter (λ d. sees d.0) cells
+
+-- whether the cell stands at this place of a list; none stands past the end
 unfoldable pub stands_at : ℕ → List Cell → Cell → Bool
 stands_at n [] c = false
 stands_at zero (d ∷ ds) c = name_eq d.0 c.0 && (d.1 == c.1)
@@ -87,7 +91,7 @@ stands_at (suc n) (d ∷ ds) c = stands_at n ds c
 -- Hit: the cell stands at the delete's place among those cells of the replay that the delete's context holds
 abbrev pub hits : List OpData → OpData → Cell → Bool
 hits h (inserting n p ch k) c = false
-hits h (deleting n p k) c = stands_at p (filter (λ d. has k (Original d.0)) (replay_of h)) c
+hits h (deleting n p k) c = stands_at p (seen (λ m. has k (Original m)) (replay_of h)) c
 hits h (undoing a t g k) c = false
 
 -- the operation is a delete that is in force and hits the cell

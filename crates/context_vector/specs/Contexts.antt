@@ -4,6 +4,7 @@ use Rattle.std.specs.Prelude.{◌≡◌, ℕ, ◌+◌, ◌<◌, ◌≤◌, Bool,
 use Rattle.op_name.specs.declared.member.Member.{Member}
 use Rattle.op_name.specs.declared.member.Member.TheVariants.{Original, Group}
 use Rattle.op_name.specs.NameData.{NameData, IsName, name_eq, name_lt}
+pub use Rattle.op_name.specs.NameData.{IsBefore}
 
 -- a site with its count, sites rising; an undone name with its greatest generation, names rising
 pub record ContextData : Type 0 where
@@ -43,7 +44,7 @@ abbrev pub sum_of_counts : List (ℕ × ℕ) → ℕ
 sum_of_counts [] = 0
 sum_of_counts (p ∷ ps) = p.1 + sum_of_counts ps
 
--- the number of originals in a context
+-- the number of originals in a context: it has the first ones of each of its sites
 abbrev pub rank_of : ContextData → ℕ
 rank_of c = sum_of_counts c.counts
 
@@ -51,11 +52,6 @@ rank_of c = sum_of_counts c.counts
 abbrev pub AreCounts : ℕ → List (ℕ × ℕ) → Type 0
 AreCounts low [] = Unit {0}
 AreCounts low (p ∷ ps) = (low ≤ p.0) × (p.0 < 64) × (1 ≤ p.1) × (p.1 ≤ 1000000) × AreCounts (p.0 + 1) ps
-
--- the name is before the first of the list
-abbrev pub IsBefore : NameData → List (NameData × ℕ) → Type 0
-IsBefore n [] = Unit {0}
-IsBefore n (e ∷ es) = name_lt n e.0 ≡ true
 
 -- names in range, rising, each with a generation of 1 to 65,535
 abbrev pub AreEntries : List (NameData × ℕ) → Type 0
@@ -80,7 +76,7 @@ abbrev pub put_entry : NameData → ℕ → List (NameData × ℕ) → List (Nam
 put_entry n g [] = (n, g) ∷ []
 put_entry n g (e ∷ es) = if name_eq e.0 n then (n, g) ∷ es else if name_lt n e.0 then (n, g) ∷ (e ∷ es) else e ∷ put_entry n g es
 
--- the context with this member as the last of its site or its name
+-- the context with its next member of a site or a name, which then is the last one there (number or generation at least 1)
 abbrev pub raised : ContextData → Member → ContextData
 raised c (Original n) = record c { counts = put_count n.site n.number c.counts }
 raised c (Group n g) = record c { entries = put_entry n g c.entries }

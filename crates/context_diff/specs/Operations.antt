@@ -4,10 +4,11 @@ use Rattle.std.specs.Char.{IsScalar}
 use Rattle.op_name.specs.declared.member.Member.{Member}
 use Rattle.op_name.specs.declared.member.Member.TheVariants.{Original, Group}
 use Rattle.op_name.specs.NameData.{NameData, IsName}
-use Rattle.op_name.specs.Contexts.{ContextData, IsContext, KeepsStray, has, count_of, entry_of}
+use Rattle.context_vector.specs.Contexts.{ContextData, IsContext, KeepsStray, has, count_of, entry_of}
 
--- an insert has a name, a place, a character and a context; a delete has no character; an undo has its author, the
--- original that it is of, a generation (odd: undo, even: redo) and a context
+-- an insert has a name, a place, a character (its code) and a context; a delete has no character; an undo has its author,
+-- the original that it is of, a generation (odd: undo, even: redo) and a context. A place counts all cells, shown or hidden,
+-- of the inserts that the context has
 pub data OpData : Type 0 where
   inserting : NameData → ℕ → ℕ → ContextData → OpData
   deleting : NameData → ℕ → ContextData → OpData

@@ -4,8 +4,8 @@ use Rattle.op_name.specs.declared.member.Member.{Member}
 use Rattle.op_name.specs.declared.member.Member.TheVariants.{Original, Group}
 use Rattle.op_name.specs.NameData.{NameData, name_eq}
 use Rattle.op_name.specs.Members.{member_eq, member_lt}
-use Rattle.op_name.specs.Contexts.{ContextData, Within, has, count_of, empty, raised}
-use Rattle.op_name.specs.Operations.{OpData, inserting, deleting, undoing, member_of, context_of, is_original, is_insert, IsWellFormed}
+use Rattle.context_vector.specs.Contexts.{ContextData, Within, has, count_of, empty, raised}
+use Rattle.context_diff.specs.Operations.{OpData, inserting, deleting, undoing, member_of, context_of, is_original, is_insert, IsWellFormed}
 
 -- the members of a history, in its order
 abbrev pub members_in : List OpData → List Member
@@ -27,7 +27,7 @@ abbrev pub generation_in : List OpData → NameData → ℕ
 generation_in [] t = 0
 generation_in (o ∷ os) t = max (generation_at o t) (generation_in os t)
 
--- a generation at which an original is in force: not undone, or redone
+-- whether an original whose greatest generation this is is in force: not undone, or redone
 abbrev pub is_even : ℕ → Bool
 is_even g = g % 2 == 0
 
@@ -58,12 +58,12 @@ pub record LacksFirst (h : List OpData) (c : ContextData) (m : Member) : Type 0 
   pub missing : is_known h m ≡ false
   pub first : (x : Member) → has c x ≡ true → is_known h x ≡ false → member_lt x m ≡ false
 
--- all that the last original of the site that the context names was made after is in the context as well
+-- the context of the last original of this site that c has lies within c
 abbrev pub CoversSite : List OpData → ContextData → ℕ → Type 0
 CoversSite h c s =
     (o : OpData) (n : NameData) → Contains h o → member_of o ≡ Original n → n.site ≡ s → n.number ≡ count_of c s → Within (context_of o) c
 
--- a context that covers each of its sites
+-- closed: so it is for each site
 abbrev pub IsClosed : List OpData → ContextData → Type 0
 IsClosed h c = (s : ℕ) → CoversSite h c s
 

@@ -6,10 +6,10 @@ use Rattle.std.proofs.lemmas.Bool.Decides.{nat_tests}
 use Rattle.op_name.specs.declared.member.Member.{Member}
 use Rattle.op_name.specs.declared.member.Member.TheVariants.{Original, Group}
 use Rattle.op_name.specs.Members.{member_lt}
-use Rattle.op_name.specs.Contexts.{ContextData, KeepsStray, Within, has}
-use Rattle.op_name.specs.Operations.{OpData, inserting, deleting, undoing, context_of}
-use Rattle.op_name.specs.Histories.{IsValid, LacksNothing, LacksFirst, IsClosed, CoversSite, HasPlace, is_known}
-use Rattle.op_name.proofs.WorkedCases.{name, after, after_undos, abc, tie, typed, word_typed_backwards_reversed, undone_and_redone, both_deletes_undone}
+use Rattle.context_vector.specs.Contexts.{ContextData, KeepsStray, Within, has}
+use Rattle.context_diff.specs.Operations.{OpData, inserting, deleting, undoing, context_of}
+use Rattle.context_diff.specs.Histories.{IsValid, LacksNothing, LacksFirst, IsClosed, CoversSite, HasPlace, is_known}
+use Rattle.context_diff.proofs.WorkedCases.{name, after, after_undos, abc, tie, typed, word_typed_backwards_reversed, undone_and_redone, both_deletes_undone}
 
 -- a context without undo entries names no group
 no_stray : (counts : List (ℕ × ℕ)) → KeepsStray (after counts)
