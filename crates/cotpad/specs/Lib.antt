@@ -1,5 +1,5 @@
 -- The words of the crate's contracts.
-pub mod Causes
+pub mod Growing
 pub mod Lines
 pub mod Reports
 pub mod Sessions

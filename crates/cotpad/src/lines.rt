@@ -1,7 +1,7 @@
 //! Lines: where a line of a script ends, and the report lines that no other crate prints.
 
 ghost use Rattle.std.specs.Prelude.{◌≡◌, ◌++◌, ◌∷◌, [], ℕ, List, ◌<◌, length, IfSome, IfNone, ◌==◌, position};
-ghost use Rattle.cotpad.specs.Causes.{Gains};
+ghost use Rattle.cotpad.specs.Growing.{Gains};
 ghost use Rattle.cotpad.specs.Lines.{no_place, no_number, not_built, text_lines};
 ghost use Rattle.cotpad.specs.Reports.{lines_of};
 

@@ -2,7 +2,7 @@
 
 ghost use Rattle.std.specs.Prelude.{◌≡◌, ◌++◌, ◌∷◌, [], ◌+◌, ◌<◌, ◌≤◌, ◌^◌, ℕ, List, true, false, Some, None, length, IfOk, IfSome, IfNone, if◌then◌else◌};
 ghost use Rattle.script_text.specs.FirstLines.{line_of};
-ghost use Rattle.cotpad.specs.Causes.{Gains};
+ghost use Rattle.cotpad.specs.Growing.{Gains};
 ghost use Rattle.cotpad.specs.Letters.{letters_on_site, letters_after_line, letters_report};
 ghost use Rattle.cotpad.specs.Lines.{not_built};
 ghost use Rattle.cotpad.specs.Reports.{behind, lines_of};
@@ -46,7 +46,6 @@ pub(crate) fn replay(
 }
 
 // All lines of a script, over what the program keeps.
-
 fn replay_lines(alloc: Global, bytes: &[u8], out: &mut Vec<u8>) -> Result<bool, Memory>
     requires { length bytes.now ≤ limit }
     ensures { IfOk result (λ r.

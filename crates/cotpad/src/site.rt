@@ -3,7 +3,7 @@
 ghost use Rattle.std.specs.Prelude.{◌≡◌, ℕ, List, [], ◌∷◌, ◌+◌, ◌<◌, ◌≤◌, length, IfOk, string_bytes, OnOk, true, false};
 ghost use Rattle.tombstone_text.specs.Letters.{Letter};
 ghost use Rattle.script_text.specs.Report.{inserted_text};
-ghost use Rattle.cotpad.specs.Causes.{Gains};
+ghost use Rattle.cotpad.specs.Growing.{Gains};
 ghost use Rattle.cotpad.specs.Letters.{AreNumbered, name_after, with_letter, letters_after, letters_lines, letters_text};
 ghost use Rattle.cotpad.specs.Reports.{preceded};
 
