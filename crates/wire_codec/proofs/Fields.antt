@@ -1,0 +1,197 @@
+-- The fields of operations, both ways.
+use Rattle.std.proofs.Common.{◌≡◌, ℕ, ◌+◌, ◌<◌, ◌≤◌, ◌^◌, ltb, leb, eqb, Bool, true, false, cond, ◌&&◌, List, [], ◌∷◌, ◌++◌, length, Ok, Err, refl, sym, ap, subst, ◌∙◌, append_assoc, arith, inl, inr, ◌⊎◌}
+use Rattle.std.specs.Int.{w8, w16, w32, to_be_bytes}
+use Rattle.std.specs.Char.{IsScalar}
+use Rattle.std.proofs.lemmas.Bool.{ltb-true, lt-ltb, le-leb, leb-true, eqb-true, eq-eqb, ne_eqb, cases_eq}
+use Rattle.std.proofs.Math.Utf8.{scalar, scalar_fits}
+use Rattle.op_name.specs.NameData.{NameData, IsName}
+use Rattle.wire_codec.specs.declared.cause.Cause.TheVariants.{Range, Kind, Char}
+use Rattle.wire_codec.specs.declared.head.Head.{Head}
+use Rattle.wire_codec.specs.declared.head.Head.TheVariants.{Insert, Delete, Undo}
+use Rattle.wire_codec.specs.Spelling.{site_width, site_bytes, name_bytes, kind_of, field_bytes, head_bytes}
+use Rattle.wire_codec.specs.Reading.{LeftData, Found, ◌>>=◌, number, tested, bounded, last_site, last_number, last_place, kind_at, site_at, number_at, place_at, char_at, generation_at, name_at, insert_at, delete_at, undo_at, fields_at, head_at}
+use Rattle.wire_codec.proofs.TwoWays.{Reads, bind, mapped, in_words, tested_reads}
+use Rattle.wire_codec.proofs.Numbers.{wide8, wide16, wide32, number_reads, bounded_reads}
+
+abbrev pub IsSite : ℕ → Type 0
+IsSite s = (0 ≤ s) × (s ≤ last_site)
+
+abbrev pub IsPlace : ℕ → Type 0
+IsPlace p = (0 ≤ p) × (p ≤ last_place)
+
+abbrev pub IsGeneration : ℕ → Type 0
+IsGeneration g = (1 ≤ g) × (g ≤ 65535)
+
+abbrev pub IsNamed : NameData → Type 0
+IsNamed n = IsName n.site n.number
+
+-- the ranges of the fields before a context
+abbrev pub IsHead : Head → Type 0
+IsHead (Insert n p ch) = IsNamed n × (IsPlace p × IsScalar ch)
+IsHead (Delete n p) = IsNamed n × IsPlace p
+IsHead (Undo a t g) = IsSite a × (IsNamed t × IsGeneration g)
+
+pub site_reads : Reads site_at site_bytes IsSite
+site_reads = bounded_reads site_width (2 ^ 8) wide8 0 last_site Range (omega arith)
+
+pub place_reads : Reads place_at (to_be_bytes w32) IsPlace
+place_reads = bounded_reads w32 (2 ^ 32) wide32 0 last_place Range (omega arith)
+
+char_reads : Reads char_at (to_be_bytes w32) IsScalar
+char_reads =
+    in_words char_at (to_be_bytes w32) (to_be_bytes w32) (λ c. (c < 2 ^ 32) × (scalar c ≡ true)) IsScalar
+    (tested_reads scalar Char (number w32) (to_be_bytes w32) (λ c. c < 2 ^ 32) (number_reads w32 (2 ^ 32) wide32))
+    (λ c h. h.1) (λ c h. (scalar_fits c h, h)) (λ c h. refl)
+
+generation_reads : Reads generation_at (to_be_bytes w16) IsGeneration
+generation_reads =
+    in_words generation_at (to_be_bytes w16) (to_be_bytes w16) (λ g. (g < 2 ^ 16) × (ltb 0 g ≡ true)) IsGeneration
+    (tested_reads (λ g. ltb 0 g) Range (number w16) (to_be_bytes w16) (λ g. g < 2 ^ 16) (number_reads w16 (2 ^ 16) wide16))
+    (λ g h. let above = ltb-true 0 g h.1 in (omega arith, omega arith))
+    (λ g h. (omega arith, lt-ltb 0 g (omega arith)))
+    (λ g h. refl)
+
+pub name_reads : Reads name_at name_bytes IsNamed
+unfolding name_at
+name_reads =
+    in_words name_at name_bytes name_bytes (λ n. IsSite n.site × (((1 ≤ n.number) × (n.number ≤ last_number)) × (n ≡ n))) IsNamed
+    (bind site_at (λ s m. ◌>>=◌ {B = NameData × LeftData} (number_at m) (λ k. Ok (record { site = s; number = k.0 }, k.1))) site_bytes (λ n. to_be_bytes w32 n.number) IsSite
+    (λ s n. ((1 ≤ n.number) × (n.number ≤ last_number)) × (record { site = s; number = n.number } ≡ n)) (λ n. n.site)
+    site_reads
+    (λ s h. mapped number_at (to_be_bytes w32) (λ k. (1 ≤ k) × (k ≤ last_number)) (λ k. record { site = s; number = k }) (λ n. n.number)
+    (bounded_reads w32 (2 ^ 32) wide32 1 last_number Range (omega arith)) (λ k. refl))
+    (λ s n h. ap (λ (y : NameData). y.site) (sym h.1)))
+    (λ n h. (omega (arith, h.0), h.1.0.0, h.1.0.1))
+    (λ n h. ((omega arith, omega (arith, h.0)), ((h.1, h.2), refl)))
+    (λ n h. refl)
+
+-- ---- heads
+
+abbrev name_in : Head → NameData
+name_in (Insert n p ch) = n
+name_in (Delete n p) = n
+name_in (Undo a t g) = t
+
+abbrev place_in : Head → ℕ
+place_in (Insert n p ch) = p
+place_in (Delete n p) = p
+place_in (Undo a t g) = 0
+
+abbrev char_in : Head → ℕ
+char_in (Insert n p ch) = ch
+char_in (Delete n p) = 0
+char_in (Undo a t g) = 0
+
+abbrev author_in : Head → ℕ
+author_in (Insert n p ch) = 0
+author_in (Delete n p) = 0
+author_in (Undo a t g) = a
+
+abbrev generation_in : Head → ℕ
+generation_in (Insert n p ch) = 0
+generation_in (Delete n p) = 0
+generation_in (Undo a t g) = g
+
+-- a head of a kind
+abbrev OfKind : ℕ → Head → Type 0
+OfKind kind h = IsHead h × (kind_of h ≡ kind)
+
+abbrev InsertParts : Head → Type 0
+InsertParts h = IsNamed (name_in h) × (IsPlace (place_in h) × (IsScalar (char_in h) × (Insert (name_in h) (place_in h) (char_in h) ≡ h)))
+
+insert_of : (h : Head) → OfKind 1 h → InsertParts h
+insert_of (Insert n p ch) f = (f.0.0, (f.0.1.0, (f.0.1.1, refl)))
+insert_of (Delete n p) f = absurd (let no = f.1 in omega arith)
+insert_of (Undo a t g) f = absurd (let no = f.1 in omega arith)
+
+insert_reads : Reads insert_at field_bytes (OfKind 1)
+unfolding insert_at
+insert_reads =
+    in_words insert_at (λ h. name_bytes (name_in h) ++ (to_be_bytes w32 (place_in h) ++ to_be_bytes w32 (char_in h))) field_bytes InsertParts (OfKind 1)
+    (bind {X = Head} name_at (λ n m. place_at m >>= λ p. ◌>>=◌ {B = Head × LeftData} (char_at p.1) (λ c. Ok (Insert n p.0 c.0, c.1)))
+    name_bytes (λ h. to_be_bytes w32 (place_in h) ++ to_be_bytes w32 (char_in h)) IsNamed
+    (λ n h. IsPlace (place_in h) × (IsScalar (char_in h) × (Insert n (place_in h) (char_in h) ≡ h))) name_in
+    name_reads
+    (λ n _. bind {X = Head} place_at (λ p m. ◌>>=◌ {B = Head × LeftData} (char_at m) (λ c. Ok (Insert n p c.0, c.1)))
+    (to_be_bytes w32) (λ h. to_be_bytes w32 (char_in h)) IsPlace
+    (λ p h. IsScalar (char_in h) × (Insert n p (char_in h) ≡ h)) place_in
+    place_reads
+    (λ p _. mapped char_at (to_be_bytes w32) IsScalar (λ c. Insert n p c) char_in char_reads (λ c. refl))
+    (λ p h e. ap place_in (sym e.1)))
+    (λ n h e. ap name_in (sym e.1.1)))
+    (λ h f. subst (OfKind 1) f.1.1.1 ((f.0, (f.1.0, f.1.1.0)), refl))
+    insert_of
+    (λ h f. ap field_bytes f.1.1.1)
+
+abbrev DeleteParts : Head → Type 0
+DeleteParts h = IsNamed (name_in h) × (IsPlace (place_in h) × (Delete (name_in h) (place_in h) ≡ h))
+
+delete_of : (h : Head) → OfKind 2 h → DeleteParts h
+delete_of (Insert n p ch) f = absurd (let no = f.1 in omega arith)
+delete_of (Delete n p) f = (f.0.0, (f.0.1, refl))
+delete_of (Undo a t g) f = absurd (let no = f.1 in omega arith)
+
+delete_reads : Reads delete_at field_bytes (OfKind 2)
+unfolding delete_at
+delete_reads =
+    in_words delete_at (λ h. name_bytes (name_in h) ++ to_be_bytes w32 (place_in h)) field_bytes DeleteParts (OfKind 2)
+    (bind {X = Head} name_at (λ n m. ◌>>=◌ {B = Head × LeftData} (place_at m) (λ p. Ok (Delete n p.0, p.1)))
+    name_bytes (λ h. to_be_bytes w32 (place_in h)) IsNamed
+    (λ n h. IsPlace (place_in h) × (Delete n (place_in h) ≡ h)) name_in
+    name_reads
+    (λ n _. mapped place_at (to_be_bytes w32) IsPlace (λ p. Delete n p) place_in place_reads (λ p. refl))
+    (λ n h e. ap name_in (sym e.1)))
+    (λ h f. subst (OfKind 2) f.1.1 ((f.0, f.1.0), refl))
+    delete_of
+    (λ h f. ap field_bytes f.1.1)
+
+abbrev UndoParts : Head → Type 0
+UndoParts h = IsSite (author_in h) × (IsNamed (name_in h) × (IsGeneration (generation_in h) × (Undo (author_in h) (name_in h) (generation_in h) ≡ h)))
+
+undo_of : (h : Head) → OfKind 3 h → UndoParts h
+undo_of (Insert n p ch) f = absurd (let no = f.1 in omega arith)
+undo_of (Delete n p) f = absurd (let no = f.1 in omega arith)
+undo_of (Undo a t g) f = (f.0.0, (f.0.1.0, (f.0.1.1, refl)))
+
+undo_reads : Reads undo_at field_bytes (OfKind 3)
+unfolding undo_at
+undo_reads =
+    in_words undo_at (λ h. site_bytes (author_in h) ++ (name_bytes (name_in h) ++ to_be_bytes w16 (generation_in h))) field_bytes UndoParts (OfKind 3)
+    (bind {X = Head} site_at (λ a m. name_at m >>= λ t. ◌>>=◌ {B = Head × LeftData} (generation_at t.1) (λ g. Ok (Undo a t.0 g.0, g.1)))
+    site_bytes (λ h. name_bytes (name_in h) ++ to_be_bytes w16 (generation_in h)) IsSite
+    (λ a h. IsNamed (name_in h) × (IsGeneration (generation_in h) × (Undo a (name_in h) (generation_in h) ≡ h))) author_in
+    site_reads
+    (λ a _. bind {X = Head} name_at (λ t m. ◌>>=◌ {B = Head × LeftData} (generation_at m) (λ g. Ok (Undo a t g.0, g.1)))
+    name_bytes (λ h. to_be_bytes w16 (generation_in h)) IsNamed
+    (λ t h. IsGeneration (generation_in h) × (Undo a t (generation_in h) ≡ h)) name_in
+    name_reads
+    (λ t _. mapped generation_at (to_be_bytes w16) IsGeneration (λ g. Undo a t g) generation_in generation_reads (λ g. refl))
+    (λ t h e. ap name_in (sym e.1)))
+    (λ a h e. ap author_in (sym e.1.1)))
+    (λ h f. subst (OfKind 3) f.1.1.1 ((f.0, (f.1.0, f.1.1.0)), refl))
+    undo_of
+    (λ h f. ap field_bytes f.1.1.1)
+
+fields_reads : (kind : ℕ) → (1 ≤ kind) × (kind ≤ 3) → Reads (fields_at kind) field_bytes (OfKind kind)
+fields_reads kind h =
+    let Law : ℕ → Type 0 = λ k. Reads (fields_at k) field_bytes (OfKind k) in
+    elim (cases_eq kind 1) [
+      | inl one ↦ subst Law (sym one) insert_reads
+      | inr not_one ↦ elim (cases_eq kind 2) [
+        | inl two ↦ subst Law (sym two) delete_reads
+        | inr not_two ↦ let three : kind ≡ 3 = omega (arith, h.0, h.1, not_one, not_two) in subst Law (sym three) undo_reads
+      ]
+    ]
+
+kind_is : (h : Head) → (1 ≤ kind_of h) × (kind_of h ≤ 3)
+kind_is (Insert n p ch) = (omega arith, omega arith)
+kind_is (Delete n p) = (omega arith, omega arith)
+kind_is (Undo a t g) = (omega arith, omega arith)
+
+pub head_reads : Reads head_at head_bytes IsHead
+unfolding head_at head_bytes
+head_reads =
+    in_words head_at head_bytes head_bytes (λ h. ((1 ≤ kind_of h) × (kind_of h ≤ 3)) × OfKind (kind_of h) h) IsHead
+    (bind kind_at (λ k m. fields_at k m) (to_be_bytes w8) field_bytes (λ k. (1 ≤ k) × (k ≤ 3)) OfKind kind_of
+    (bounded_reads w8 (2 ^ 8) wide8 1 3 Kind (omega arith)) fields_reads (λ k h f. f.1))
+    (λ h f. f.1.0) (λ h f. (kind_is h, (f, refl))) (λ h f. refl)

@@ -1,0 +1,15 @@
+pub mod Steps
+pub mod TwoWays
+pub mod Numbers
+pub mod Lists
+pub mod Fields
+pub mod Contexts
+pub mod WellFormed
+pub mod Sizes
+pub mod Judgement
+pub mod Elements
+pub mod Loops
+pub mod Pushes
+pub mod Fronts
+pub mod Streaming
+pub mod Growth

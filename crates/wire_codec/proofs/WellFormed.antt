@@ -1,0 +1,126 @@
+-- The rules behind the reading are the rules of well-formed operations.
+use Rattle.std.proofs.Common.{◌≡◌, ℕ, suc, ◌+◌, ◌*◌, ◌-◌, ◌<◌, ◌≤◌, ltb, leb, eqb, Bool, true, false, cond, ◌&&◌, ◌||◌, List, [], ◌∷◌, ◌++◌, length, Result, Ok, Err, refl, sym, ap, subst, ◌∙◌, arith, inl, inr, ◌⊎◌}
+use Rattle.std.specs.List.{flat_map}
+use Rattle.std.proofs.lemmas.Bool.{le-leb, leb-true, eqb-true, eq-eqb, and_parts, and_from}
+use Rattle.op_name.specs.declared.member.Member.TheVariants.{Original, Group}
+use Rattle.op_name.specs.NameData.{NameData, name_eq}
+use Rattle.context_vector.specs.Contexts.{ContextData, AreEntries, KeepsStray, has, count_of, entry_of, entry_in}
+use Rattle.context_diff.specs.Operations.{OpData, inserting, deleting, undoing, context_of, KeepsOwn, KeepsTarget}
+use Rattle.wire_codec.specs.declared.fault.Fault.{Fault}
+use Rattle.wire_codec.specs.declared.cause.Cause.TheVariants.{Stray}
+use Rattle.wire_codec.specs.Reading.{◌>>=◌, want}
+use Rattle.wire_codec.specs.Judging.{entry_len, is_own, has_target, stray_from}
+use Rattle.wire_codec.proofs.Steps.{want_ok, want_err}
+
+pub own_from : (o : OpData) → is_own o ≡ true → KeepsOwn o
+own_from (inserting n p ch c) h = eqb-true _ _ h
+own_from (deleting n p c) h = eqb-true _ _ h
+own_from (undoing a t g c) h = tt
+
+pub own_to : (o : OpData) → KeepsOwn o → is_own o ≡ true
+own_to (inserting n p ch c) h = eq-eqb _ _ h
+own_to (deleting n p c) h = eq-eqb _ _ h
+own_to (undoing a t g c) h = refl
+
+pub target_from : (o : OpData) → has_target o ≡ true → KeepsTarget o
+target_from (inserting n p ch c) h = tt
+target_from (deleting n p c) h = tt
+target_from (undoing a t g c) h = let parts = and_parts (has c (Original t)) (eqb (entry_of c t + 1) g) h in (parts.0, eqb-true _ _ parts.1)
+
+pub target_to : (o : OpData) → KeepsTarget o → has_target o ≡ true
+target_to (inserting n p ch c) h = refl
+target_to (deleting n p c) h = refl
+target_to (undoing a t g c) h = and_from (has c (Original t)) (eqb (entry_of c t + 1) g) h.0 (eq-eqb _ _ h.1)
+
+-- ---- undo entries
+
+-- each undone name is an original of the context
+abbrev pub AreOriginals : ContextData → List (NameData × ℕ) → Type 0
+AreOriginals c [] = Unit {0}
+AreOriginals c (e ∷ es) = (has c (Original e.0) ≡ true) × AreOriginals c es
+
+same_name : (n m : NameData) → name_eq n m ≡ true → n ≡ m
+same_name n m h =
+    let parts = and_parts (eqb n.site m.site) (eqb n.number m.number) h in
+    let site : n.site ≡ m.site = eqb-true _ _ parts.0 in
+    let number : n.number ≡ m.number = eqb-true _ _ parts.1 in
+    ap (λ (s : ℕ). record { site = s; number = n.number }) site ∙ ap (λ (k : ℕ). record { site = m.site; number = k }) number
+
+name_eq-same : (n : NameData) → name_eq n n ≡ true
+name_eq-same n = and_from (eqb n.site n.site) (eqb n.number n.number) (eq-eqb _ _ refl) (eq-eqb _ _ refl)
+
+-- an entry that is found further back is found
+found_later : (b : Bool) (g k : ℕ) → 1 ≤ g → 1 ≤ k → 1 ≤ cond b g k
+found_later true g k hg hk = hg
+found_later false g k hg hk = hk
+
+found_first : (b : Bool) (g k : ℕ) → b ≡ true → 1 ≤ g → 1 ≤ cond b g k
+found_first true g k e h = h
+found_first false g k e h = absurd cc
+
+originals_from : (c : ContextData) (es : List (NameData × ℕ)) → AreEntries es → ((n : NameData) → 1 ≤ entry_in es n → has c (Original n) ≡ true) → AreOriginals c es
+originals_from c [] are h = tt
+originals_from c (e ∷ es) are h = (
+  h e.0 (found_first (name_eq e.0 e.0) e.1 (entry_in es e.0) (name_eq-same e.0) are.1),
+  originals_from c es are.4 (λ n found. h n (found_later (name_eq e.0 n) e.1 (entry_in es n) are.1 found)),
+)
+
+originals_at : (c : ContextData) (m n : NameData) (b : Bool) (g k : ℕ) → name_eq m n ≡ b → has c (Original m) ≡ true → (1 ≤ k → has c (Original n) ≡ true) → 1 ≤ cond b g k → has c (Original n) ≡ true
+originals_at c m n true g k same is later found = subst (λ (x : NameData). has c (Original x) ≡ true) (same_name m n same) is
+originals_at c m n false g k same is later found = later found
+
+originals_to : (c : ContextData) (es : List (NameData × ℕ)) → AreOriginals c es → (n : NameData) → 1 ≤ entry_in es n → has c (Original n) ≡ true
+originals_to c [] are n found = absurd (omega arith)
+originals_to c (e ∷ es) are n found = originals_at c e.0 n (name_eq e.0 n) e.1 (entry_in es n) refl are.0 (originals_to c es are.1 n) found
+
+pub stray_keeps : (c : ContextData) → AreOriginals c c.entries → KeepsStray c
+stray_keeps c are n g h =
+    let parts = and_parts (leb 1 g) (leb g (entry_of c n)) h in
+    let some = leb-true 1 g parts.0 in
+    let most = leb-true g (entry_of c n) parts.1 in
+    originals_to c c.entries are n (omega (arith, some, most))
+
+pub keeps_stray : (c : ContextData) → AreEntries c.entries → KeepsStray c → AreOriginals c c.entries
+keeps_stray c entries keeps =
+    originals_from c c.entries entries (λ n found. keeps n (entry_of c n) (and_from (leb 1 (entry_of c n)) (leb (entry_of c n) (entry_of c n)) (le-leb _ _ found) (le-leb _ _ (omega arith))))
+
+pub stray_ok : (c : ContextData) (at : ℕ) (es : List (NameData × ℕ)) → stray_from c at es ≡ Ok tt → AreOriginals c es
+unfolding stray_from
+stray_ok c at [] h = tt
+stray_ok c at (e ∷ es) h =
+    let w = want_ok (has c (Original e.0)) Stray at (λ _. stray_from c (at + entry_len) es) tt h in
+    (w.0, stray_ok c (at + entry_len) es w.1)
+
+pub stray_again : (c : ContextData) (at : ℕ) (es : List (NameData × ℕ)) → AreOriginals c es → stray_from c at es ≡ Ok tt
+unfolding stray_from
+stray_again c at [] h = refl
+stray_again c at (e ∷ es) h = rw (h.0) (stray_again c (at + entry_len) es h.1)
+
+pub stray_faults : (c : ContextData) (at : ℕ) (es : List (NameData × ℕ)) (f : Fault) → stray_from c at es ≡ Err f → f.offset ≤ at + entry_len * length es
+unfolding stray_from
+stray_faults c at [] f h = absurd (let no = h in cc)
+stray_faults c at (e ∷ es) f h =
+    elim (want_err (has c (Original e.0)) Stray at (λ _. stray_from c (at + entry_len) es) f h) [
+      | inl here ↦ omega (arith, here)
+      | inr later ↦ omega (arith, stray_faults c (at + entry_len) es f later)
+    ]
+
+-- one step over undo entries
+module _ (c : ContextData) (at : ℕ) (before after : List (NameData × ℕ)) (total : Result (Unit {0}) Fault) (so_far : stray_from c at before ≡ total) where
+  pub stray_passes : (e : NameData × ℕ) → before ≡ e ∷ after → want (has c (Original e.0)) Stray at ≡ Ok tt → stray_from c (at + entry_len) after ≡ total
+  unfolding stray_from
+  stray_passes e is known =
+      let step : stray_from c at before ≡ stray_from c (at + entry_len) after = rw (is, known) refl in
+      sym step ∙ so_far
+
+  pub stray_stops : (e : NameData × ℕ) (f : Fault) → before ≡ e ∷ after → want (has c (Original e.0)) Stray at ≡ Err f → total ≡ Err f
+  unfolding stray_from
+  stray_stops e f is unknown =
+      let step : stray_from c at before ≡ Err f = rw (is, unknown) refl in
+      sym so_far ∙ step
+
+  pub stray_over : before ≡ [] → total ≡ Ok tt
+  unfolding stray_from
+  stray_over is =
+      let step : stray_from c at before ≡ Ok tt = rw is refl in
+      sym so_far ∙ step

@@ -1,0 +1,10 @@
+use Rattle.std.proofs.Common.{sym, ap, ◌∙◌, arith}
+use Rattle.wire_codec.specs.Answers.{scan_of, SaysOf}
+use Rattle.wire_codec.proofs.Fronts.{scan_says, judged_only}
+use Rattle.wire_codec.proofs.front.scan.Goals as goal
+
+pub returns-clause-says : goal.returns-clause-says
+returns-clause-says c = rw (c.scanned.ensures) (scan_says c.args.bytes.now (λ i. omega (arith, c.type_inv.bytes i)))
+
+pub returns-clause-only : goal.returns-clause-only
+returns-clause-only c = λ o rest well e. c.scanned.ensures ∙ ap scan_of (judged_only c.args.bytes.now o rest well e)

@@ -1,0 +1,104 @@
+//! Reading names, and the fields before a context.
+
+ghost use Rattle.std.specs.Prelude.{◌≡◌, ◌≤◌, IfOk};
+ghost use Rattle.wire_codec.specs.Reading.{after, site_at, number_at, place_at, char_at, generation_at, name_at, insert_at, delete_at, undo_at, fields_at, head_at};
+
+use crate::cause::Cause;
+use crate::fault::Fault;
+use crate::head::Head;
+use crate::left::{Left, check};
+use op_name::Name;
+
+const LAST_SITE: u8 = 63;
+
+pub(crate) const LAST_NUMBER: u32 = 1_000_000;
+
+const LAST_PLACE: u32 = 64_000_000;
+
+pub(crate) fn site(left: &mut Left) -> Result<u16, Fault>
+    ensures read { after result left.new ≡ site_at left.old }
+    ensures within { IfOk result (λ s. s ≤ 63) }
+{
+    let site = left.bounded8(0, LAST_SITE, Cause::Range)?;
+    Ok(u16::from(site))
+}
+
+#[tactic(auto, unfolding(crate::specs::Reading::name_at))]
+pub(crate) fn name(left: &mut Left) -> Result<Name, Fault>
+    ensures { after result left.new ≡ name_at left.old }
+{
+    let site = site(left)?;
+    let number = left.bounded32(1, LAST_NUMBER, Cause::Range)?;
+    Ok(Name { site, number })
+}
+
+fn place(left: &mut Left) -> Result<u32, Fault>
+    ensures { after result left.new ≡ place_at left.old }
+{
+    left.bounded32(0, LAST_PLACE, Cause::Range)
+}
+
+fn character(left: &mut Left) -> Result<char, Fault>
+    ensures { after result left.new ≡ char_at left.old }
+{
+    let offset = left.at();
+    let code = left.number32()?;
+    match char::from_u32(code) {
+        Some(ch) => Ok(ch),
+        None => Err(Fault {
+            cause: Cause::Char,
+            offset,
+        }),
+    }
+}
+
+fn generation(left: &mut Left) -> Result<u16, Fault>
+    ensures { after result left.new ≡ generation_at left.old }
+{
+    let start = left.at();
+    let generation = left.number16()?;
+    check(generation > 0, Cause::Range, start)?;
+    Ok(generation)
+}
+
+#[tactic(auto, unfolding(crate::specs::Reading::insert_at))]
+fn insert(left: &mut Left) -> Result<Head, Fault>
+    ensures { after result left.new ≡ insert_at left.old }
+{
+    let name = name(left)?;
+    let place = place(left)?;
+    let ch = character(left)?;
+    Ok(Head::Insert(name, place, ch))
+}
+
+#[tactic(auto, unfolding(crate::specs::Reading::delete_at))]
+fn delete(left: &mut Left) -> Result<Head, Fault>
+    ensures { after result left.new ≡ delete_at left.old }
+{
+    let name = name(left)?;
+    let place = place(left)?;
+    Ok(Head::Delete(name, place))
+}
+
+#[tactic(auto, unfolding(crate::specs::Reading::undo_at))]
+fn undo(left: &mut Left) -> Result<Head, Fault>
+    ensures { after result left.new ≡ undo_at left.old }
+{
+    let author = site(left)?;
+    let target = name(left)?;
+    let generation = generation(left)?;
+    Ok(Head::Undo(author, target, generation))
+}
+
+/// The fields before the context.
+#[tactic(auto, unfolding(crate::specs::Reading::head_at))]
+pub(crate) fn head(left: &mut Left) -> Result<Head, Fault>
+    ensures { after result left.new ≡ head_at left.old }
+{
+    let kind = left.bounded8(1, 3, Cause::Kind)?;
+    match kind {
+        1 => insert(left),
+        2 => delete(left),
+        _ => undo(left),
+    }
+}

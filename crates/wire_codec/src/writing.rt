@@ -1,0 +1,221 @@
+//! Operations to bytes.
+
+ghost use Rattle.std.specs.Prelude.{◌≡◌, ◌+◌, ◌*◌, ◌≤◌, ◌<◌, ◌++◌, length, Some, OnOk, OnErr, slice_get};
+ghost use Rattle.std.specs.List.{flat_map};
+ghost use Rattle.std.specs.Int.{w32, to_be_bytes};
+ghost use Rattle.context_diff.specs.Operations.{IsWellFormed, context_of};
+ghost use Rattle.context_diff.specs.Ops.{data_of};
+ghost use Rattle.wire_codec.specs.declared.head.Head.TheVariants.{Insert, Delete, Undo};
+ghost use Rattle.wire_codec.specs.Spelling.{head_of, site_bytes, name_bytes, count_bytes, entry_bytes, counts_bytes, entries_bytes, head_bytes, body_bytes, frame};
+ghost use Rattle.wire_codec.specs.Reading.{most_entries};
+ghost use Rattle.wire_codec.specs.Judging.{count_len, entry_len};
+ghost use Rattle.wire_codec.specs.Writing.{HasRoom, Puts, HasAuthor, head_len};
+
+use crate::head::Head;
+use context_diff::Op;
+use context_vector::Vector;
+use op_name::{Memory, Name};
+
+// Puts bytes for which there is room.
+fn put(out: &mut Vec<u8>, bytes: &[u8])
+    requires { HasRoom out.old (length bytes.now) }
+    ensures { Puts out.old out.new bytes.now }
+{
+    match out.extend_from_slice(bytes) {
+        Ok(()) => {}
+        Err(_) => unreachable!(),
+    }
+}
+
+fn put_site(out: &mut Vec<u8>, site: u16)
+    requires room { HasRoom out.old 1 }
+    requires site { site < 64 }
+    ensures { Puts out.old out.new (site_bytes site) }
+{
+    put(out, &(site as u8).to_be_bytes());
+}
+
+fn put_name(out: &mut Vec<u8>, name: &Name)
+    requires { HasRoom out.old 5 }
+    ensures { Puts out.old out.new (name_bytes name.now) }
+{
+    name.known();
+    put_site(out, name.site);
+    put(out, &name.number.to_be_bytes());
+}
+
+// The operation without its context.
+fn head_of(op: &Op) -> Head
+    ensures { result ≡ head_of (data_of op.now) }
+{
+    match op {
+        Op::Insert {
+            name,
+            place,
+            ch,
+            ..
+        } => Head::Insert(*name, *place, *ch),
+        Op::Delete { name, place, .. } => Head::Delete(*name, *place),
+        Op::Undo {
+            author,
+            target,
+            generation,
+            ..
+        } => Head::Undo(*author, *target, *generation),
+    }
+}
+
+fn head_len(head: Head) -> u32
+    ensures value { result ≡ head_len head }
+    ensures bound { result ≤ 14 }
+{
+    match head {
+        Head::Insert(_, _, _) => 14,
+        Head::Delete(_, _) => 10,
+        Head::Undo(_, _, _) => 9,
+    }
+}
+
+fn put_character(out: &mut Vec<u8>, ch: char)
+    requires { HasRoom out.old 4 }
+    ensures { Puts out.old out.new (to_be_bytes w32 ch) }
+{
+    put(out, &u32::from(ch).to_be_bytes());
+}
+
+#[tactic(auto, unfolding(crate::specs::Spelling::head_bytes))]
+fn put_insert(out: &mut Vec<u8>, name: &Name, place: u32, ch: char)
+    requires { HasRoom out.old 14 }
+    ensures { Puts out.old out.new (head_bytes (Insert name.now place ch)) }
+{
+    put(out, &[1]);
+    put_name(out, name);
+    put(out, &place.to_be_bytes());
+    put_character(out, ch);
+}
+
+#[tactic(auto, unfolding(crate::specs::Spelling::head_bytes))]
+fn put_delete(out: &mut Vec<u8>, name: &Name, place: u32)
+    requires { HasRoom out.old 10 }
+    ensures { Puts out.old out.new (head_bytes (Delete name.now place)) }
+{
+    put(out, &[2]);
+    put_name(out, name);
+    put(out, &place.to_be_bytes());
+}
+
+#[tactic(auto, unfolding(crate::specs::Spelling::head_bytes))]
+fn put_undo(out: &mut Vec<u8>, author: u16, target: &Name, generation: u16)
+    requires room { HasRoom out.old 9 }
+    requires author { author < 64 }
+    ensures { Puts out.old out.new (head_bytes (Undo author target.now generation)) }
+{
+    put(out, &[3]);
+    put_site(out, author);
+    put_name(out, target);
+    put(out, &generation.to_be_bytes());
+}
+
+fn put_head(out: &mut Vec<u8>, head: Head)
+    requires room { HasRoom out.old (head_len head) }
+    requires author { HasAuthor head }
+    ensures { Puts out.old out.new (head_bytes head) }
+{
+    match head {
+        Head::Insert(name, place, ch) => put_insert(out, &name, place, ch),
+        Head::Delete(name, place) => put_delete(out, &name, place),
+        Head::Undo(author, target, generation) => put_undo(out, author, &target, generation),
+    }
+}
+
+fn put_count(out: &mut Vec<u8>, site: u16, count: u32)
+    requires room { HasRoom out.old 5 }
+    requires site { site < 64 }
+    ensures { Puts out.old out.new (count_bytes (site, count)) }
+{
+    put_site(out, site);
+    put(out, &count.to_be_bytes());
+}
+
+fn put_entry(out: &mut Vec<u8>, entry: &(Name, u16))
+    requires { HasRoom out.old 7 }
+    ensures { Puts out.old out.new (entry_bytes entry.now) }
+{
+    put_name(out, &entry.0);
+    put(out, &entry.1.to_be_bytes());
+}
+
+fn nth_entry(context: &Vector, i: u32) -> (Name, u16)
+    requires { i < length context.now.set.entries }
+    ensures { slice_get context.now.set.entries i ≡ Some result }
+{
+    match context.entry_at(i) {
+        Some(entry) => entry,
+        None => unreachable!(),
+    }
+}
+
+fn put_each_count(out: &mut Vec<u8>, context: &Vector)
+    requires { HasRoom out.old (count_len * length context.now.set.counts) }
+    ensures { Puts out.old out.new (flat_map count_bytes context.now.set.counts) }
+{
+    context.known();
+    for i in 0..context.sites() {
+        let Some((site, count)) = context.site_at(i) else {
+            unreachable!();
+        };
+        put_count(out, site, count);
+    }
+}
+
+fn put_each_entry(out: &mut Vec<u8>, context: &Vector)
+    requires { HasRoom out.old (entry_len * length context.now.set.entries) }
+    ensures { Puts out.old out.new (flat_map entry_bytes context.now.set.entries) }
+{
+    for i in 0..context.entries() {
+        put_entry(out, &nth_entry(context, i));
+    }
+}
+
+fn put_counts(out: &mut Vec<u8>, context: &Vector)
+    requires { HasRoom out.old (1 + count_len * length context.now.set.counts) }
+    ensures { Puts out.old out.new (counts_bytes context.now.set.counts) }
+{
+    put(out, &(context.sites() as u8).to_be_bytes());
+    put_each_count(out, context);
+}
+
+fn put_entries(out: &mut Vec<u8>, context: &Vector)
+    requires room { HasRoom out.old (2 + entry_len * length context.now.set.entries) }
+    requires few { length context.now.set.entries ≤ most_entries }
+    ensures { Puts out.old out.new (entries_bytes context.now.set.entries) }
+{
+    put(out, &(context.entries() as u16).to_be_bytes());
+    put_each_entry(out, context);
+}
+
+#[tactic(auto, using(crate::proofs::Sizes::body_size))]
+fn body_len(op: &Op) -> u32
+    ensures value { result ≡ length (body_bytes (data_of op.now)) }
+    ensures parts { result ≡ head_len (head_of (data_of op.now)) + (3 + count_len * length (context_of (data_of op.now)).counts + entry_len * length (context_of (data_of op.now)).entries) }
+{
+    let context = op.context();
+    head_len(head_of(op)) + 3 + 5 * context.sites() + 7 * context.entries()
+}
+
+/// Appends the one frame of the operation.
+///
+/// On `Memory` nothing is appended: room for the whole frame is made first.
+pub fn encode(op: &Op, out: &mut Vec<u8>) -> Result<(), Memory>
+    requires { IsWellFormed (data_of op.now) }
+    ensures ok { OnOk result (out.new.items ≡ out.old.items ++ frame (data_of op.now)) }
+    ensures err { OnErr result (out.new.items ≡ out.old.items) }
+{
+    let body = body_len(op);
+    out.reserve(4 + body as usize)?;
+    put(out, &body.to_be_bytes());
+    put_head(out, head_of(op));
+    put_counts(out, op.context());
+    put_entries(out, op.context());
+    Ok(())
+}
