@@ -1,16 +1,16 @@
 -- Contexts and whole operations, both ways, and that what fits is what is well formed.
-use Rattle.std.proofs.Common.{◌≡◌, ℕ, suc, ◌+◌, ◌<◌, ◌≤◌, ◌^◌, ltb, leb, eqb, Bool, true, false, cond, ◌&&◌, ◌||◌, List, [], ◌∷◌, ◌++◌, length, Option, Some, None, Ok, Err, refl, sym, ap, subst, ◌∙◌, append_assoc, arith, inl, inr, ◌⊎◌}
+use Rattle.std.proofs.Common.{◌≡◌, ℕ, ◌+◌, ◌<◌, ◌≤◌, ◌^◌, ltb, leb, true, List, [], ◌∷◌, length, Option, Some, None, Ok, refl, sym, ap, ◌∙◌, arith}
 use Rattle.std.specs.List.{flat_map}
 use Rattle.std.specs.Int.{w8, w16, w32, to_be_bytes}
-use Rattle.std.proofs.lemmas.Bool.{ltb-true, lt-ltb, le-leb, leb-true, eqb-true, eq-eqb, cases_lt, or_left, or_right, and_from}
-use Rattle.op_name.specs.NameData.{NameData, IsName}
+use Rattle.std.proofs.lemmas.Bool.{ltb-true, lt-ltb, le-leb, leb-true}
+use Rattle.op_name.specs.NameData.{NameData}
 use Rattle.context_vector.specs.Contexts.{ContextData, IsContext, AreCounts, AreEntries, IsBefore}
 use Rattle.context_diff.specs.Operations.{OpData, inserting, deleting, undoing, context_of, IsInRange}
 use Rattle.wire_codec.specs.declared.cause.Cause.TheVariants.{Range, Order, Zero}
 use Rattle.wire_codec.specs.declared.head.Head.{Head}
 use Rattle.wire_codec.specs.declared.head.Head.TheVariants.{Insert, Delete, Undo}
 use Rattle.wire_codec.specs.Spelling.{head_of, op_of, site_bytes, name_bytes, head_bytes, count_bytes, entry_bytes, counts_bytes, entries_bytes, context_bytes, body_bytes}
-use Rattle.wire_codec.specs.Reading.{LeftData, Found, ◌>>=◌, number, tested, bounded, last_number, most_counts, most_entries, site_at, name_at, head_at, many, count_at, site_after, entry_at, is_above, name_of, counts_at, entries_at, context_at, op_at}
+use Rattle.wire_codec.specs.Reading.{LeftData, ◌>>=◌, number, tested, bounded, last_number, most_counts, most_entries, site_at, name_at, head_at, many, count_at, site_after, entry_at, is_above, name_of, counts_at, entries_at, context_at, op_at}
 use Rattle.wire_codec.proofs.TwoWays.{Reads, bind, mapped, in_words, tested_reads}
 use Rattle.wire_codec.proofs.Numbers.{wide8, wide16, wide32, number_reads, bounded_reads}
 use Rattle.wire_codec.proofs.Lists.{Follow, many_reads}

@@ -1,15 +1,15 @@
 -- The fields of operations, both ways.
-use Rattle.std.proofs.Common.{◌≡◌, ℕ, ◌+◌, ◌<◌, ◌≤◌, ◌^◌, ltb, leb, eqb, Bool, true, false, cond, ◌&&◌, List, [], ◌∷◌, ◌++◌, length, Ok, Err, refl, sym, ap, subst, ◌∙◌, append_assoc, arith, inl, inr, ◌⊎◌}
+use Rattle.std.proofs.Common.{◌≡◌, ℕ, ◌<◌, ◌≤◌, ◌^◌, ltb, true, ◌++◌, Ok, refl, sym, ap, subst, arith, inl, inr}
 use Rattle.std.specs.Int.{w8, w16, w32, to_be_bytes}
 use Rattle.std.specs.Char.{IsScalar}
-use Rattle.std.proofs.lemmas.Bool.{ltb-true, lt-ltb, le-leb, leb-true, eqb-true, eq-eqb, ne_eqb, cases_eq}
+use Rattle.std.proofs.lemmas.Bool.{ltb-true, lt-ltb, cases_eq}
 use Rattle.std.proofs.Math.Utf8.{scalar, scalar_fits}
 use Rattle.op_name.specs.NameData.{NameData, IsName}
 use Rattle.wire_codec.specs.declared.cause.Cause.TheVariants.{Range, Kind, Char}
 use Rattle.wire_codec.specs.declared.head.Head.{Head}
 use Rattle.wire_codec.specs.declared.head.Head.TheVariants.{Insert, Delete, Undo}
 use Rattle.wire_codec.specs.Spelling.{site_width, site_bytes, name_bytes, kind_of, field_bytes, head_bytes}
-use Rattle.wire_codec.specs.Reading.{LeftData, Found, ◌>>=◌, number, tested, bounded, last_site, last_number, last_place, kind_at, site_at, number_at, place_at, char_at, generation_at, name_at, insert_at, delete_at, undo_at, fields_at, head_at}
+use Rattle.wire_codec.specs.Reading.{LeftData, ◌>>=◌, number, last_site, last_number, last_place, kind_at, site_at, number_at, place_at, char_at, generation_at, name_at, insert_at, delete_at, undo_at, fields_at, head_at}
 use Rattle.wire_codec.proofs.TwoWays.{Reads, bind, mapped, in_words, tested_reads}
 use Rattle.wire_codec.proofs.Numbers.{wide8, wide16, wide32, number_reads, bounded_reads}
 

@@ -1,20 +1,20 @@
 -- The judgement is the frames: what is judged good begins with a frame of a well-formed operation, and each such frame
 -- is judged so.
-use Rattle.std.proofs.Common.{◌≡◌, ℕ, suc, ◌+◌, ◌*◌, ◌-◌, ◌<◌, ◌≤◌, ◌^◌, ltb, leb, eqb, Bool, true, false, cond, List, [], ◌∷◌, ◌++◌, length, take, drop, Result, Ok, Err, refl, sym, ap, subst, ◌∙◌, append_assoc, arith, inl, inr, ◌⊎◌}
-use Rattle.std.specs.Int.{w32, to_be_bytes, from_be_bytes}
+use Rattle.std.proofs.Common.{◌≡◌, ℕ, ◌+◌, ◌<◌, ◌≤◌, ltb, eqb, Bool, true, false, cond, List, [], ◌++◌, length, take, drop, Result, Ok, Err, refl, sym, ap, subst, ◌∙◌, append_assoc, arith, inl, inr, ◌⊎◌}
+use Rattle.std.specs.Int.{w32, to_be_bytes}
 use Rattle.std.proofs.lemmas.Bool.{ltb-true, ltb-false, le-ltb, eqb-true, cond-false}
 use Rattle.std.proofs.lemmas.List.{append-nil, nil_from_length, length-append, length-take, length-drop, take-append-drop, take_at, drop_at, append_cancel_left}
 use Rattle.std.proofs.lemmas.Nat.{be_bytes_4, from_be_bytes-to_be_bytes_4}
-use Rattle.context_diff.specs.Operations.{OpData, context_of, IsInRange, IsWellFormed}
+use Rattle.context_diff.specs.Operations.{OpData, context_of, IsWellFormed}
 use Rattle.wire_codec.specs.declared.cause.Cause.TheVariants.{TooLong, Length, Own, Target}
 use Rattle.wire_codec.specs.declared.fault.Fault.{Fault}
 use Rattle.wire_codec.specs.declared.fault.Refused.{Refused}
 use Rattle.wire_codec.specs.declared.fault.Refused.TheVariants.{More, Bad}
 use Rattle.wire_codec.specs.Spelling.{body_bytes, frame}
-use Rattle.wire_codec.specs.Reading.{LeftData, left_at, fault, ◌>>=◌, want, op_at}
-use Rattle.wire_codec.specs.Judging.{longest, own_at, entry_len, is_own, has_target, stray_from, entries_begin, body_at, length_of, judged, judge, IsFrame}
+use Rattle.wire_codec.specs.Reading.{LeftData, left_at, fault, op_at}
+use Rattle.wire_codec.specs.Judging.{longest, own_at, is_own, has_target, stray_from, entries_begin, body_at, length_of, judged, judge, IsFrame}
 use Rattle.wire_codec.proofs.Steps.{IsBytes, IsBytes-take, IsBytes-drop, bind_ok, bind_err, want_ok, want_err}
-use Rattle.wire_codec.proofs.TwoWays.{Takes, Takes-ends}
+use Rattle.wire_codec.proofs.TwoWays.{Takes-ends}
 use Rattle.wire_codec.proofs.Contexts.{context_in_range, op_reads}
 use Rattle.wire_codec.proofs.WellFormed.{own_from, own_to, target_from, target_to, stray_keeps, keeps_stray, stray_ok, stray_again, stray_faults}
 use Rattle.wire_codec.proofs.Sizes.{body_short, body_long}

@@ -1,18 +1,18 @@
 -- How many bytes the parts of frames have.
-use Rattle.std.proofs.Common.{◌≡◌, ℕ, suc, ◌+◌, ◌*◌, ◌-◌, ◌<◌, ◌≤◌, List, [], ◌∷◌, ◌++◌, length, refl, sym, ap, subst, ◌∙◌, arith}
+use Rattle.std.proofs.Common.{◌≡◌, ℕ, ◌+◌, ◌*◌, ◌≤◌, List, [], ◌∷◌, ◌++◌, length, refl, ap, arith}
 use Rattle.std.specs.List.{flat_map}
-use Rattle.std.specs.Int.{w8, w16, w32, to_be_bytes}
+use Rattle.std.specs.Int.{w32, to_be_bytes}
 use Rattle.std.proofs.lemmas.List.{length-append}
 use Rattle.std.proofs.lemmas.List.Concat.{flat_map-cons}
 use Rattle.op_name.specs.NameData.{NameData}
 use Rattle.context_vector.specs.Contexts.{ContextData}
-use Rattle.context_diff.specs.Operations.{OpData, inserting, deleting, undoing, context_of, IsInRange}
+use Rattle.context_diff.specs.Operations.{OpData, context_of, IsInRange}
 use Rattle.wire_codec.specs.declared.head.Head.{Head}
 use Rattle.wire_codec.specs.declared.head.Head.TheVariants.{Insert, Delete, Undo}
-use Rattle.wire_codec.specs.Spelling.{head_of, head_bytes, field_bytes, count_bytes, entry_bytes, counts_bytes, entries_bytes, context_bytes, body_bytes, frame}
+use Rattle.wire_codec.specs.Spelling.{head_of, head_bytes, count_bytes, entry_bytes, counts_bytes, entries_bytes, context_bytes, body_bytes, frame}
 use Rattle.wire_codec.specs.Writing.{head_len}
 use Rattle.wire_codec.specs.Judging.{longest, count_len, entry_len}
-use Rattle.wire_codec.proofs.Contexts.{FitsContext, counts_few, context_in_range}
+use Rattle.wire_codec.proofs.Contexts.{counts_few, context_in_range}
 
 pub length-counts : (ps : List (ℕ × ℕ)) → length (flat_map count_bytes ps) ≡ count_len * length ps
 length-counts [] = refl

@@ -1,10 +1,10 @@
 -- Readers with spellings: what is read is spelled so, and what is spelled so is read. Readers are put together from
 -- readers, and their laws with them.
-use Rattle.std.proofs.Common.{◌≡◌, ℕ, ◌+◌, ◌<◌, ◌≤◌, ◌^◌, Bool, true, false, cond, List, [], ◌∷◌, ◌++◌, length, get_or, take, drop, Result, Ok, Err, refl, sym, ap, subst, ◌∙◌, append_assoc, arith, inl, inr, ◌⊎◌}
-use Rattle.std.proofs.lemmas.List.{length-append, append-nil}
+use Rattle.std.proofs.Common.{◌≡◌, ℕ, ◌+◌, ◌≤◌, Bool, true, List, [], ◌++◌, length, Ok, Err, refl, sym, ap, subst, ◌∙◌, append_assoc, arith, inl, inr}
+use Rattle.std.proofs.lemmas.List.{length-append}
 use Rattle.wire_codec.specs.declared.cause.Cause.{Cause}
 use Rattle.wire_codec.specs.declared.fault.Fault.{Fault}
-use Rattle.wire_codec.specs.Reading.{LeftData, left_at, fault, Found, ◌>>=◌, want, tested}
+use Rattle.wire_codec.specs.Reading.{LeftData, left_at, Found, ◌>>=◌, want, tested}
 use Rattle.wire_codec.proofs.Steps.{IsBytes, ok_is, bind_ok, bind_err, want_ok, want_err}
 
 -- what a reader took from the front

@@ -1,14 +1,13 @@
 -- The rules behind the reading are the rules of well-formed operations.
-use Rattle.std.proofs.Common.{◌≡◌, ℕ, suc, ◌+◌, ◌*◌, ◌-◌, ◌<◌, ◌≤◌, ltb, leb, eqb, Bool, true, false, cond, ◌&&◌, ◌||◌, List, [], ◌∷◌, ◌++◌, length, Result, Ok, Err, refl, sym, ap, subst, ◌∙◌, arith, inl, inr, ◌⊎◌}
-use Rattle.std.specs.List.{flat_map}
+use Rattle.std.proofs.Common.{◌≡◌, ℕ, ◌+◌, ◌*◌, ◌≤◌, leb, eqb, Bool, true, false, cond, List, [], ◌∷◌, length, Result, Ok, Err, refl, sym, ap, subst, ◌∙◌, arith, inl, inr}
 use Rattle.std.proofs.lemmas.Bool.{le-leb, leb-true, eqb-true, eq-eqb, and_parts, and_from}
-use Rattle.op_name.specs.declared.member.Member.TheVariants.{Original, Group}
+use Rattle.op_name.specs.declared.member.Member.TheVariants.{Original}
 use Rattle.op_name.specs.NameData.{NameData, name_eq}
-use Rattle.context_vector.specs.Contexts.{ContextData, AreEntries, KeepsStray, has, count_of, entry_of, entry_in}
-use Rattle.context_diff.specs.Operations.{OpData, inserting, deleting, undoing, context_of, KeepsOwn, KeepsTarget}
+use Rattle.context_vector.specs.Contexts.{ContextData, AreEntries, KeepsStray, has, entry_of, entry_in}
+use Rattle.context_diff.specs.Operations.{OpData, inserting, deleting, undoing, KeepsOwn, KeepsTarget}
 use Rattle.wire_codec.specs.declared.fault.Fault.{Fault}
 use Rattle.wire_codec.specs.declared.cause.Cause.TheVariants.{Stray}
-use Rattle.wire_codec.specs.Reading.{◌>>=◌, want}
+use Rattle.wire_codec.specs.Reading.{want}
 use Rattle.wire_codec.specs.Judging.{entry_len, is_own, has_target, stray_from}
 use Rattle.wire_codec.proofs.Steps.{want_ok, want_err}
 

@@ -1,6 +1,6 @@
 -- The answers as the code gives them.
-use Rattle.std.specs.Prelude.{◌≡◌, ℕ, ◌+◌, ◌<◌, ◌≤◌, List, ◌++◌, length, Result, Ok, Err}
-use Rattle.context_diff.specs.Operations.{OpData, IsWellFormed}
+use Rattle.std.specs.Prelude.{ℕ, ◌<◌, ◌≤◌, List, length, Result, Ok, Err}
+use Rattle.context_diff.specs.Operations.{OpData}
 use Rattle.context_diff.specs.Ops.{data_of}
 use Rattle.wire_codec.specs.declared.answers.Scan.{Scan}
 use Rattle.wire_codec.specs.declared.answers.Scan.TheVariants as scanned
@@ -8,7 +8,6 @@ use Rattle.wire_codec.specs.declared.answers.Decoded.{Decoded}
 use Rattle.wire_codec.specs.declared.answers.Decoded.TheVariants as decoded
 use Rattle.wire_codec.specs.declared.fault.Refused.{Refused}
 use Rattle.wire_codec.specs.declared.fault.Refused.TheVariants.{More, Bad}
-use Rattle.wire_codec.specs.Spelling.{frame}
 use Rattle.wire_codec.specs.Reading.{fault}
 use Rattle.wire_codec.specs.Judging.{IsFrame}
 

@@ -1,19 +1,16 @@
 -- What bytes begin with: the rules in the order in which they are tried.
-use Rattle.std.specs.Prelude.{◌≡◌, ℕ, ◌+◌, ◌-◌, ◌*◌, ◌<◌, ◌≤◌, Bool, true, false, ◌&&◌, ◌==◌, List, [], ◌∷◌, ◌++◌, length, take, drop, Result, Ok, Err, nat_lt, nat_le, if◌then◌else◌}
+use Rattle.std.specs.Prelude.{◌≡◌, ℕ, ◌+◌, ◌-◌, ◌*◌, Bool, true, ◌&&◌, ◌==◌, List, [], ◌∷◌, ◌++◌, length, take, drop, Result, Ok, Err, nat_lt, if◌then◌else◌}
 use Rattle.std.specs.Int.{w32, from_be_bytes}
 use Rattle.op_name.specs.declared.member.Member.TheVariants.{Original}
 use Rattle.op_name.specs.NameData.{NameData}
 use Rattle.context_vector.specs.Contexts.{ContextData, has, count_of, entry_of}
 use Rattle.context_diff.specs.Operations.{OpData, inserting, deleting, undoing, context_of, IsWellFormed}
-use Rattle.wire_codec.specs.declared.cause.Cause.{Cause}
 use Rattle.wire_codec.specs.declared.cause.Cause.TheVariants.{TooLong, Length, Own, Target, Stray}
 use Rattle.wire_codec.specs.declared.fault.Fault.{Fault}
 use Rattle.wire_codec.specs.declared.fault.Refused.{Refused}
 use Rattle.wire_codec.specs.declared.fault.Refused.TheVariants.{More, Bad}
-use Rattle.wire_codec.specs.declared.head.Head.{Head}
-use Rattle.wire_codec.specs.declared.head.Head.TheVariants.{Insert, Delete, Undo}
 use Rattle.wire_codec.specs.Spelling.{frame}
-use Rattle.wire_codec.specs.Reading.{LeftData, left_at, fault, Found, ◌>>=◌, want, op_at}
+use Rattle.wire_codec.specs.Reading.{LeftData, left_at, fault, ◌>>=◌, want, op_at}
 
 -- the bytes of the longest body: an insert with 64 sites and 16,384 undone names
 abbrev pub longest : ℕ

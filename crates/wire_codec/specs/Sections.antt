@@ -1,5 +1,5 @@
 -- Elements of one size, side by side in bytes.
-use Rattle.std.specs.Prelude.{◌≡◌, ℕ, zero, suc, List, [], ◌∷◌, take, drop, length}
+use Rattle.std.specs.Prelude.{ℕ, zero, suc, List, [], ◌∷◌, take, drop}
 use Rattle.std.specs.Int.{w16, w32, from_be_bytes}
 use Rattle.op_name.specs.NameData.{NameData}
 use Rattle.wire_codec.specs.Spelling.{site_width}

@@ -1,6 +1,5 @@
 -- Streams of frames: the bytes fed, cut into frames from the front.
 use Rattle.std.specs.Prelude.{◌≡◌, ℕ, ◌+◌, List, [], ◌∷◌, ◌++◌, length, Option, Some, None, Result, Ok, Err}
-use Rattle.std.specs.List.{flat_map}
 use Rattle.context_diff.specs.Operations.{OpData, IsWellFormed}
 use Rattle.context_diff.specs.declared.op.Op.{Op}
 use Rattle.context_diff.specs.Ops.{data_of}

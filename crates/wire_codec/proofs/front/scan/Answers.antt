@@ -1,5 +1,5 @@
-use Rattle.std.proofs.Common.{sym, ap, ◌∙◌, arith}
-use Rattle.wire_codec.specs.Answers.{scan_of, SaysOf}
+use Rattle.std.proofs.Common.{ap, ◌∙◌, arith}
+use Rattle.wire_codec.specs.Answers.{scan_of}
 use Rattle.wire_codec.proofs.Fronts.{scan_says, judged_only}
 use Rattle.wire_codec.proofs.front.scan.Goals as goal
 

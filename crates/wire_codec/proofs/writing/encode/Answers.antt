@@ -1,4 +1,4 @@
-use Rattle.std.proofs.Common.{◌≡◌, ℕ, ◌+◌, ◌*◌, List, ◌++◌, length, refl, sym, ap, ◌∙◌, arith}
+use Rattle.std.proofs.Common.{◌≡◌, ℕ, List, ◌++◌, length, refl, ap, ◌∙◌, arith}
 use Rattle.std.specs.Int.{w32, to_be_bytes}
 use Rattle.context_vector.specs.Contexts.{ContextData}
 use Rattle.context_diff.specs.Operations.{context_of}
