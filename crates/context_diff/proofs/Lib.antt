@@ -24,3 +24,4 @@ pub mod BaseSteps
 pub mod Books
 pub mod WorkedCases
 pub mod ValidCases
+pub mod Next

@@ -1,7 +1,7 @@
 //! Tests: the order of a difference, the rules that an operation may break, and each call once.
 
-ghost use Rattle.std.specs.Prelude.{IsTrue};
-ghost use Rattle.context_diff.specs.Histories.{IsNext};
+ghost use Rattle.std.specs.Prelude.{◌≡◌, IsTrue, true};
+ghost use Rattle.context_diff.specs.Histories.{is_known, IsNext};
 ghost use Rattle.context_diff.specs.Ops.{data_of};
 
 use super::*;
@@ -15,20 +15,6 @@ fn known(alloc: Global, counts: &[(u16, u32)]) -> Result<Vector, Fail> {
     let mut set = Vector::new(alloc);
     for (site, number) in counts {
         set.raise(&Member::Original(Name::new(*site, *number)?))?;
-    }
-    Ok(set)
-}
-
-/// The set with the first originals of these sites, and the groups of one of them up to a generation.
-fn undone(
-    alloc: Global,
-    counts: &[(u16, u32)],
-    name: Name,
-    generation: u16,
-) -> Result<Vector, Fail> {
-    let mut set = known(alloc, counts)?;
-    if generation > 0 {
-        set.raise(&Member::Group(name, generation))?;
     }
     Ok(set)
 }
@@ -60,6 +46,14 @@ fn is_next(book: &Book, op: &Op) -> bool
             && *place < book.inserts_in(context),
         Op::Undo { .. } => true,
     }
+}
+
+/// Whether the book has the member.
+fn holds(book: &Book, m: &Member) -> bool
+    ensures { IsTrue result → is_known book.now.ops m.now ≡ true }
+{
+    book.known();
+    book.have().contains(m)
 }
 
 /// Appends the operation where it is next; answers whether it was.
@@ -118,96 +112,130 @@ fn a_difference_goes_in_the_order_of_integration(rt: HostRuntime) -> Result<(), 
     Ok(())
 }
 
+/// An insert 0.1 at this place, after so many originals of site 0, with an undo entry of 0.2.
+fn odd_insert(alloc: Global, place: u32, count: u32, entry: u16) -> Result<Op, Fail> {
+    let mut context = Vector::new(alloc);
+    if count > 0 {
+        context.raise(&Member::Original(Name::new(0, count)?))?;
+    }
+    Ok(insert(
+        Name::new(0, 1)?,
+        place,
+        'a',
+        with_entry(context, Name::new(0, 2)?, entry)?,
+    ))
+}
+
+/// An undo of 0.1, after so many originals of site 0, with undo entries of 0.1 and 0.2.
+fn odd_undo(
+    alloc: Global,
+    author: u16,
+    generation: u16,
+    count: u32,
+    own: u16,
+    entry: u16,
+) -> Result<Op, Fail> {
+    let target = Name::new(0, 1)?;
+    let mut context = Vector::new(alloc);
+    if count > 0 {
+        context.raise(&Member::Original(Name::new(0, count)?))?;
+    }
+    let context = with_entry(with_entry(context, target, own)?, Name::new(0, 2)?, entry)?;
+    Ok(Op::Undo {
+        author,
+        target,
+        generation,
+        context,
+    })
+}
+
+/// The set with the groups of the name up to a generation, 0 for none.
+fn with_entry(mut set: Vector, name: Name, generation: u16) -> Result<Vector, Fail> {
+    if generation > 0 {
+        set.raise(&Member::Group(name, generation))?;
+    }
+    Ok(set)
+}
+
 #[test]
-fn a_fault_is_the_first_rule_that_is_broken(rt: HostRuntime) -> Result<(), Fail> {
-    let alloc = rt.alloc();
-    let first = Name::new(0, 1)?;
-    let second = Name::new(0, 2)?;
-    let inserts = [
-        ("well formed", 0, known(alloc, &[])?, None),
+fn a_fault_of_an_insert_is_the_first_rule_that_it_breaks(rt: HostRuntime) -> Result<(), Fail> {
+    for (why, place, count, entry, fault) in [
+        ("well formed", 0, 0, 0, None),
         (
             "a place past all cells",
             64_000_001,
-            known(alloc, &[])?,
-            Some(OpFault::Range),
-        ),
-        (
-            "it knows itself",
             0,
-            known(alloc, &[(0, 1)])?,
-            Some(OpFault::Own),
-        ),
-        (
-            "place and own",
-            64_000_001,
-            known(alloc, &[(0, 1)])?,
+            0,
             Some(OpFault::Range),
         ),
+        ("it knows itself", 0, 1, 0, Some(OpFault::Own)),
+        ("place and own", 64_000_001, 1, 0, Some(OpFault::Range)),
         (
             "an entry without its original",
             0,
-            undone(alloc, &[], second, 1)?,
+            0,
+            1,
             Some(OpFault::Stray),
         ),
-    ];
-    for (why, place, context, fault) in inserts {
-        let op = insert(first, place, 'a', context);
-        assert_eq!(rt; op.fault(), fault, "{why}");
+    ] {
+        assert_eq!(rt;
+            odd_insert(rt.alloc(), place, count, entry)?.fault(),
+            fault,
+            "{why}"
+        );
     }
-    let undos = [
-        ("well formed", 63, 1, known(alloc, &[(0, 1)])?, None),
+    Ok(())
+}
+
+#[test]
+fn a_fault_of_an_undo_is_the_first_rule_that_it_breaks(rt: HostRuntime) -> Result<(), Fail> {
+    for (why, author, generation, count, own, entry, fault) in [
+        ("well formed", 63, 1, 1, 0, 0, None),
         (
             "an author past the sites",
             64,
             1,
-            known(alloc, &[(0, 1)])?,
-            Some(OpFault::Range),
-        ),
-        (
-            "generation 0",
+            1,
             0,
             0,
-            known(alloc, &[(0, 1)])?,
             Some(OpFault::Range),
         ),
+        ("generation 0", 0, 0, 1, 0, 0, Some(OpFault::Range)),
         (
             "its target is unknown",
             0,
             1,
-            known(alloc, &[])?,
+            0,
+            0,
+            0,
             Some(OpFault::Target),
         ),
         (
             "a generation is skipped",
             0,
             2,
-            known(alloc, &[(0, 1)])?,
+            1,
+            0,
+            0,
             Some(OpFault::Target),
         ),
-        ("a redo", 0, 2, undone(alloc, &[(0, 1)], first, 1)?, None),
+        ("a redo", 0, 2, 1, 1, 0, None),
         (
             "another entry is stray",
             0,
             1,
-            undone(alloc, &[(0, 1)], second, 1)?,
+            1,
+            0,
+            1,
             Some(OpFault::Stray),
         ),
-    ];
-    for (why, author, generation, context, fault) in undos {
-        let op = Op::Undo {
-            author,
-            target: first,
-            generation,
-            context,
-        };
-        assert_eq!(rt; op.fault(), fault, "{why}");
+    ] {
+        assert_eq!(rt;
+            odd_undo(rt.alloc(), author, generation, count, own, entry)?.fault(),
+            fault,
+            "{why}"
+        );
     }
-    let late = Op::Delete {
-        name: second,
-        place: 0,
-        context: known(alloc, &[])?,
-    };
-    assert_eq!(rt; late.fault(), Some(OpFault::Own));
     Ok(())
 }
 
@@ -276,7 +304,7 @@ fn contexts_are_judged_within_the_book(rt: HostRuntime) -> Result<(), Fail> {
             author: 1,
             target: first,
             generation,
-            context: undone(alloc, &[(0, 1)], first, generation - 1)?,
+            context: with_entry(known(alloc, &[(0, 1)])?, first, generation - 1)?,
         };
         assert!(rt; take_in(&mut book, undo)?);
     }
@@ -291,10 +319,10 @@ fn contexts_are_judged_within_the_book(rt: HostRuntime) -> Result<(), Fail> {
     assert_eq!(rt; book.inserts_in(&whole), 2);
 
     let group = Member::Group(first, 2);
-    assert!(rt; book.have().contains(&group));
-    assert!(rt; base_context(&book, &group)? == undone(alloc, &[(0, 1)], first, 1)?);
+    assert!(rt; holds(&book, &group));
+    assert!(rt; base_context(&book, &group)? == with_entry(known(alloc, &[(0, 1)])?, first, 1)?);
     let original = Member::Original(Name::new(1, 1)?);
-    assert!(rt; book.have().contains(&original));
+    assert!(rt; holds(&book, &original));
     assert!(rt; base_context(&book, &original)? == known(alloc, &[(0, 1)])?);
     Ok(())
 }
