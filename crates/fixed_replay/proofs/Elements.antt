@@ -1,8 +1,9 @@
 -- Elements of lists: which there are, in joined and filtered lists, and lists without repeats.
-use Rattle.std.proofs.Common.{◌≡◌, ℕ, zero, suc, ◌<◌, Bool, true, false, List, [], ◌∷◌, length, map, inl, inr, refl, ap, sym, ◌∙◌, arith, slice_index_or, Contains}
+use Rattle.std.proofs.Common.{◌≡◌, Bool, true, false, List, [], ◌∷◌, map, inl, inr, refl, ap, sym, ◌∙◌}
 use Rattle.std.proofs.lemmas.Bool.{cases_Bool}
 use Rattle.std.specs.List.{list_any}
 use Rattle.transform_rec.specs.Lists.{IsIn}
+pub use Rattle.undo_group.specs.Laws.Members.{in_contains, contains_in}
 
 pub not_both : {b : Bool} {P : Type 0} → b ≡ true → b ≡ false → P
 not_both h k = absurd (cc)
@@ -31,17 +32,3 @@ in_any p x (y ∷ ys) (inr i) h = elim (cases_Bool (p y)) [ inl k ↦ rw k refl 
 abbrev pub IsPairwise : {K : Type 0} → (K → K → Type 0) → List K → Type 0
 IsPairwise R [] = Unit {0}
 IsPairwise {K} R (x ∷ xs) = ((z : K) → IsIn z xs → R x z) × IsPairwise R xs
-
--- the library's word for an element, by an index, says the same
-contains_at : {K : Type 0} (x : K) (xs : List K) (k : ℕ) → k < length xs → slice_index_or xs k x ≡ x → IsIn x xs
-contains_at x [] k h e = absurd (omega arith)
-contains_at x (y ∷ ys) zero h e = inl (sym e)
-contains_at x (y ∷ ys) (suc k) h e = inr (contains_at x ys k (omega arith) e)
-
-pub contains_in : {K : Type 0} (x : K) (xs : List K) → Contains xs x → IsIn x xs
-contains_in x xs c = contains_at x xs c.0 c.1 c.2
-
-pub in_contains : {K : Type 0} (x : K) (xs : List K) → IsIn x xs → Contains xs x
-in_contains x [] i = absurd i
-in_contains x (y ∷ ys) (inl e) = (0, omega arith, sym e)
-in_contains x (y ∷ ys) (inr i) = let c = in_contains x ys i in (suc c.0, omega arith, c.2)

@@ -17,7 +17,7 @@ use Rattle.transform_rec.proofs.Executing.{run_forms, At, empty_state}
 use Rattle.transform_rec.specs.Lists.{SameElements}
 use Rattle.transform_rec.proofs.Order.{any_order}
 use Rattle.transform_rec.proofs.CausalOrders.{book_run}
-use Rattle.fixed_replay.specs.BaseForms.{AreBaseForms}
+use Rattle.undo_group.specs.BaseForms.{AreBaseForms}
 use Rattle.fixed_replay.specs.Replayed.{IsReplayed}
 use Rattle.fixed_replay.specs.Insertions.{insertions_of}
 use Rattle.fixed_replay.proofs.Walk.{replay_along}

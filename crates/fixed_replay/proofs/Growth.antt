@@ -19,11 +19,11 @@ use Rattle.transform_rec.specs.Histories.{family_in}
 use Rattle.transform_rec.proofs.Lists.{in_left}
 use Rattle.transform_rec.proofs.Sets.{same_set, same_from, all_in, all_cases}
 use Rattle.transform_rec.proofs.Forms.{derived_moves}
-use Rattle.transform_rec.proofs.Histories.{known_in, in_known, history_causal}
-use Rattle.fixed_replay.specs.BaseForms.{original_form, group_form, base_form}
+use Rattle.transform_rec.proofs.Histories.{known_in, in_known}
+use Rattle.undo_group.specs.BaseForms.{original_form, group_form, base_form}
 use Rattle.fixed_replay.proofs.Elements.{not_both}
 use Rattle.fixed_replay.proofs.Operations.{listed_member}
-use Rattle.fixed_replay.proofs.BaseFormsHold.{form_at}
+use Rattle.undo_group.specs.Laws.Forms.{form_at}
 use Rattle.fixed_replay.proofs.ValidFamilies.{members-append}
 
 -- the members of a history as a set
@@ -67,9 +67,7 @@ forms_grow {F} over h o form form' v agree fs f df d =
 original_on : (h k : List OpData) → IsValid (h ++ k) → (n : NameData) → is_known h (Original n) ≡ true → original_form h n ≡ original_form (h ++ k) n
 original_on h k v n known =
     let r = listed_member (Original n) h (known_in h (Original n) known) in
-    let small = (history_causal h (base_form h) (valid_parts h k v).0).distinct in
-    let large = (history_causal (h ++ k) (base_form h) v).distinct in
-    form_at h small r.0 n r.1 r.2 ∙ sym (form_at (h ++ k) large r.0 n (in_left r.0 h k r.1) r.2)
+    form_at h (valid_parts h k v).0 r.0 n r.1 r.2 ∙ sym (form_at (h ++ k) v r.0 n (in_left r.0 h k r.1) r.2)
 
 pub base_form_on : (h k : List OpData) → IsValid (h ++ k) → (m : Member) → is_known h m ≡ true → base_form h m ≡ base_form (h ++ k) m
 base_form_on h k v (Original n) known = original_on h k v n known

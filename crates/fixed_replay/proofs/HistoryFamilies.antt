@@ -9,7 +9,7 @@ use Rattle.ttf_form.specs.declared.form.Form.{Form}
 use Rattle.ttf_form.specs.Families.{IsIn}
 use Rattle.transform_rec.specs.Sets.{SameSet}
 use Rattle.transform_rec.specs.Family.{Family}
-use Rattle.fixed_replay.specs.BaseForms.{AreBaseForms}
+use Rattle.undo_group.specs.BaseForms.{AreBaseForms}
 
 -- the family has the members of the history in its order and their base forms; an original's base context is the context of
 -- its operation

@@ -17,7 +17,6 @@ pub mod Marking
 pub mod DeleterLists
 pub mod HistoryFamilies
 pub mod Reading
-pub mod BaseFormsHold
 pub mod ValidFamilies
 pub mod ExecutedForms
 pub mod Growth

@@ -33,7 +33,7 @@ use Rattle.transform_rec.proofs.Parts.{part_state, one_more}
 use Rattle.fixed_replay.specs.Originals.{AreToldApart}
 use Rattle.fixed_replay.specs.Families.{HasGroups}
 use Rattle.fixed_replay.specs.Replayed.{IsDeleter, IsReplayed}
-use Rattle.fixed_replay.specs.BaseForms.{IsCoverForm}
+use Rattle.undo_group.specs.BaseForms.{IsCoverForm}
 use Rattle.fixed_replay.proofs.HistoryFamilies.{IsFamilyOf}
 use Rattle.fixed_replay.proofs.Elements.{not_both, same_bool, map_same, any_in, in_any}
 use Rattle.fixed_replay.proofs.Operations.{member_listed, listed_member, one_operation}

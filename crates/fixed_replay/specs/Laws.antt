@@ -14,7 +14,7 @@ use Rattle.transform_rec.specs.Lists.{SameElements}
 use Rattle.transform_rec.specs.Executing.{AreFormsFrom, executed}
 use Rattle.transform_rec.specs.Histories.{family_in}
 use Rattle.fixed_replay.specs.Originals.{AreToldApart}
-use Rattle.fixed_replay.specs.BaseForms.{AreBaseForms, base_form}
+use Rattle.undo_group.specs.BaseForms.{AreBaseForms, base_form}
 use Rattle.fixed_replay.specs.Insertions.{insertions_of}
 use Rattle.fixed_replay.specs.Replayed.{IsReplayed}
 

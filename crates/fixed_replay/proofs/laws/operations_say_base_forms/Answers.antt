@@ -1,4 +1,4 @@
-use Rattle.fixed_replay.proofs.BaseFormsHold.{base_forms_hold}
+use Rattle.undo_group.specs.Laws.Forms.{base_forms_hold}
 use Rattle.fixed_replay.proofs.laws.operations_say_base_forms.Goals as goal
 
 pub returns : goal.returns

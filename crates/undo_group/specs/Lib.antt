@@ -1,0 +1,3 @@
+pub mod BaseForms
+pub mod Bounds
+pub mod Laws

@@ -1,0 +1,129 @@
+//! The family of the editor over a book.
+
+ghost use Rattle.std.specs.Prelude.{◌≡◌, true, List};
+ghost use Rattle.op_name.specs.declared.member.Member.TheVariants.{Original};
+ghost use Rattle.context_diff.specs.Operations.{member_of};
+ghost use Rattle.context_diff.specs.Histories.{is_known};
+ghost use Rattle.context_diff.specs.Ops.{data_of};
+ghost use Rattle.undo_group.specs.BaseForms.{form_of, original_form, group_form};
+
+use context_diff::{Book, Op};
+use op_name::{Member, Name};
+use ttf_form::{Bases, Cover, Form, Ins, Mark};
+
+/// The members of a book, each with its base form: what it does to the cells of its own base context.
+///
+/// The base form of an insert or a delete is what the operation says. An undo group marks the cell of its
+/// original at its generation: the cell of an insert itself, or the cell of a delete among its deleters.
+#[derive(Drop)]
+pub struct TextBases<'a> {
+    book: &'a Book,
+}
+
+impl<'a> TextBases<'a> {
+    /// The family of this book. It takes no memory.
+    pub fn new(book: &'a Book) -> TextBases<'a>
+        ensures { result.book.now ≡ book.now }
+    {
+        TextBases { book }
+    }
+
+    // What the insert or delete of this name does; the book has it.
+    fn original_form(&self, name: &Name) -> Form
+        requires { is_known self.now.book.now.ops (Original name.now) ≡ true }
+        ensures { result ≡ original_form self.now.book.now.ops name.now }
+    {
+        self.book.known();
+        match self.book.original(name) {
+            Some(op) => form_of(op, name),
+            None => unreachable!(),
+        }
+    }
+}
+
+impl Bases<Form> for TextBases<'_> {
+    ghost use Rattle.context_diff.specs.Histories.{members_in};
+    ghost use Rattle.context_diff.specs.Bases.{base_has};
+    ghost use Rattle.undo_group.specs.BaseForms.{base_form};
+    ghost use Rattle.undo_group.specs.Bounds.{IsShortHistory};
+    ghost use Rattle.undo_group.specs.Laws.Texts.{base_forms_apart, base_forms_bounded, base_forms_total};
+
+    ghost members = { λ s. members_in s.book.now.ops };
+
+    ghost base_form = { λ s. base_form s.book.now.ops };
+
+    ghost base_context = { λ s. base_has s.book.now.ops };
+
+    ghost IsKnown = { λ s. IsShortHistory s.book.now.ops };
+
+    ghost apart = { λ s. base_forms_apart s.book.now.ops };
+
+    ghost bounded = { λ s. base_forms_bounded s.book.now.ops };
+
+    ghost total = { λ s. base_forms_total s.book.now.ops };
+
+    /// What the operation of an original says; of a group a mark on the cell of its original.
+    fn base(&self, m: &Member) -> Form {
+        self.book.known();
+        match m {
+            Member::Original(name) => self.original_form(name),
+            Member::Group(target, generation) => raised(
+                self.original_form(target),
+                *target,
+                *generation,
+            ),
+        }
+    }
+
+    /// The book is a valid history, with fewer than 4,294,967,296 operations.
+    fn known(&self) {
+        self.book.known();
+    }
+}
+
+// What an insert or a delete of this name does to the cells of its context.
+fn form_of(op: &Op, name: &Name) -> Form
+    requires { member_of (data_of op.now) ≡ Original name.now }
+    ensures { result ≡ form_of (data_of op.now) }
+{
+    match op {
+        Op::Insert {
+            name,
+            place,
+            ch,
+            ..
+        } => Form::Ins(Ins {
+            place: *place,
+            site: name.site,
+            ch: *ch,
+            name: *name,
+        }),
+        Op::Delete { name, place, .. } => Form::Cover(Cover {
+            place: *place,
+            mark: Mark::By {
+                name: *name,
+                generation: 0,
+            },
+        }),
+        Op::Undo { .. } => unreachable!(),
+    }
+}
+
+// The base form of the group of this original, whose base form is given, at a generation.
+fn raised(form: Form, target: Name, generation: u16) -> Form
+    ensures { result ≡ group_form form target generation }
+{
+    match form {
+        Form::Ins(ins) => Form::Cover(Cover {
+            place: ins.place,
+            mark: Mark::Own { generation },
+        }),
+        Form::Cover(cover) => Form::Cover(Cover {
+            place: cover.place,
+            mark: Mark::By {
+                name: target,
+                generation,
+            },
+        }),
+    }
+}
