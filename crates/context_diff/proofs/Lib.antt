@@ -25,3 +25,4 @@ pub mod Books
 pub mod WorkedCases
 pub mod ValidCases
 pub mod Next
+pub mod Equal

@@ -1,5 +1,7 @@
 -- Operations as the code has them: what contracts see of one, and the rules that it may break.
-use Rattle.std.specs.Prelude.{ℕ}
+use Rattle.std.specs.Prelude.{ℕ, Bool, false, ◌==◌, ◌&&◌}
+use Rattle.op_name.specs.NameData.{name_eq}
+use Rattle.context_vector.specs.Equality.{context_eq}
 use Rattle.context_diff.specs.Operations.{OpData, inserting, deleting, undoing, context_of, IsInRange, KeepsOwn, KeepsTarget}
 use Rattle.context_vector.specs.Contexts.{KeepsStray}
 use Rattle.context_diff.specs.declared.op.Op.{Op}
@@ -19,3 +21,15 @@ IsFirstBroken o Range = ¬ IsInRange o
 IsFirstBroken o Own = IsInRange o × (¬ KeepsOwn o)
 IsFirstBroken o Target = IsInRange o × KeepsOwn o × (¬ KeepsTarget o)
 IsFirstBroken o Stray = IsInRange o × KeepsOwn o × KeepsTarget o × (¬ KeepsStray (context_of o))
+
+-- the two are of one kind, and all their parts are equal, contexts as sets
+abbrev pub op_eq : OpData → OpData → Bool
+op_eq (inserting n p ch c) (inserting m q dh d) = name_eq n m && ((p == q) && ((ch == dh) && context_eq c d))
+op_eq (inserting n p ch c) (deleting m q d) = false
+op_eq (inserting n p ch c) (undoing a t g d) = false
+op_eq (deleting n p c) (inserting m q dh d) = false
+op_eq (deleting n p c) (deleting m q d) = name_eq n m && ((p == q) && context_eq c d)
+op_eq (deleting n p c) (undoing a t g d) = false
+op_eq (undoing a t g c) (inserting m q dh d) = false
+op_eq (undoing a t g c) (deleting m q d) = false
+op_eq (undoing a t g c) (undoing b u h d) = (a == b) && (name_eq t u && ((g == h) && context_eq c d))

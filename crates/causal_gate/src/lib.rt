@@ -1,0 +1,12 @@
+//! Operations that wait.
+//!
+//! A `Pool` *is* a list of operations in the order in which they arrived, no two of them equal: those of a
+//! site that came before their contexts. It finds the first of them that waits for nothing any more.
+#![tactic(auto)]
+
+mod pool;
+
+pub use pool::Pool;
+
+#[cfg(test)]
+mod tests;

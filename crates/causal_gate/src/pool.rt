@@ -1,0 +1,191 @@
+//! The pool: operations in the order of their arrival, and the calls that look for one of them.
+
+ghost use Rattle.std.specs.Prelude.{◌≡◌, ◌↔◌, ◌<◌, ◌++◌, ◌∷◌, [], Some, true, false, Contains, IsNone, IsTrue, IfOk, IfSome, OnErr, if◌then◌else◌, length, option_map, remove, slice_get};
+ghost use Rattle.op_name.specs.declared.member.Member.TheVariants.{Original};
+ghost use Rattle.op_name.specs.Members.{IsMember, member_eq};
+ghost use Rattle.context_vector.specs.Contexts.{Within, has};
+ghost use Rattle.context_diff.specs.Operations.{member_of};
+ghost use Rattle.context_diff.specs.Histories.{is_known};
+ghost use Rattle.context_vector.specs.Vectors.{IsFirstMissing};
+ghost use Rattle.context_diff.specs.Ops.{data_of};
+ghost use Rattle.causal_gate.specs.Waiting.{IsReady, IsFirstReady, NoneReady, IsPool, NamesAgree, context_at};
+
+use context_diff::Op;
+use context_vector::Vector;
+use indexmap::IndexSet;
+use op_name::{Member, Memory, Name};
+use std::alloc::Global;
+use std::marker::Model;
+
+/// The greatest number of operations that a pool holds.
+const OPS: usize = 4_294_967_295;
+
+/// Operations that wait for members of their contexts, in the order of their arrival.
+///
+/// No two of them are equal, no two inserts or deletes among them have one name, and they are fewer than
+/// 4,294,967,296. What waits is few, so the calls that look for an operation by its name or by what it lacks
+/// go through the list.
+#[derive(Drop)]
+pub struct Pool {
+    ops: IndexSet<Op>,
+}
+
+impl Model for Pool {
+    ghost use Rattle.std.specs.Prelude.{List, map};
+    ghost use Rattle.context_diff.specs.Operations.{OpData};
+    ghost use Rattle.context_diff.specs.Ops.{data_of};
+    ghost use Rattle.causal_gate.specs.Waiting.{IsPool};
+
+    ghost Value = { List OpData };
+
+    ghost view = { λ p. map data_of p.ops.keys };
+
+    ghost invariant = { λ p. IsPool (map data_of p.ops.keys) };
+}
+
+impl Pool {
+    /// The pool in which nothing waits. It takes no memory.
+    pub fn new(alloc: Global) -> Pool
+        ensures { result ≡ [] }
+    {
+        Pool {
+            ops: IndexSet::new(alloc),
+        }
+    }
+
+    /// Nothing but what the type keeps: no two operations are equal, no two originals have one name, and
+    /// they are fewer than 4,294,967,296.
+    pub fn known(&self)
+        ensures { IsPool self.now }
+    {
+        let _ = &self.ops;
+    }
+
+    /// The number of operations that wait.
+    pub fn len(&self) -> u32
+        ensures { result ≡ length self.now }
+    {
+        self.ops.len() as u32
+    }
+
+    /// The i-th operation, from 0, in the order of arrival; None exactly past the end.
+    pub fn get(&self, i: u32) -> Option<&Op>
+        ensures { option_map (λ o. data_of o.now) result ≡ slice_get self.now i }
+    {
+        self.ops.get_index(i as usize)
+    }
+
+    /// The waiting insert or delete of this name; None exactly where none has it. It goes through the list.
+    pub fn named(&self, name: &Name) -> Option<&Op>
+        ensures none { IsNone result ↔ (is_known self.now (Original name.now) ≡ false) }
+        ensures there { IfSome result (λ o. Contains self.now (data_of o.now)) }
+        ensures named { IfSome result (λ o. member_of (data_of o.now) ≡ Original name.now) }
+    {
+        for i in 0..self.len() {
+            if let Some(op) = self.get(i) {
+                if is_named(op, name) {
+                    return Some(op);
+                }
+            }
+        }
+        None
+    }
+
+    /// Puts a copy of the operation last, and answers true. `Ok(false)` exactly where an equal operation waits
+    /// already; then, and where memory is wanting, nothing changes. A waiting insert or delete of the
+    /// operation's name is the operation itself.
+    pub fn hold(&mut self, op: &Op) -> Result<bool, Memory>
+        requires { NamesAgree self.old (data_of op.now) }
+        ensures new { IfOk result (λ added. (added ≡ false) ↔ Contains self.old (data_of op.now)) }
+        ensures ops { IfOk result (λ added. self.new ≡ (if added then self.old ++ data_of op.now ∷ [] else self.old)) }
+        ensures err { OnErr result (self.new ≡ self.old) }
+    {
+        if self.ops.contains(op) {
+            return Ok(false);
+        }
+        if self.ops.len() >= OPS {
+            return Err(Memory);
+        }
+        self.ops.reserve(1)?;
+        let copy = op.try_clone()?;
+        match self.ops.insert(copy) {
+            Ok(_) => Ok(true),
+            Err(_) => unreachable!(),
+        }
+    }
+
+    /// The least place whose operation is ready: it is in `have`, or `have` covers its context. None exactly
+    /// where none is ready. It goes through the list.
+    pub fn first_ready(&self, have: &Vector) -> Option<u32>
+        ensures first { IfSome result (IsFirstReady have.now.set self.now) }
+        ensures none { IsNone result ↔ NoneReady have.now.set self.now }
+    {
+        for i in 0..self.len() {
+            if let Some(op) = self.get(i) {
+                if is_ready(op, have) {
+                    return Some(i);
+                }
+            }
+        }
+        None
+    }
+
+    /// Takes the i-th operation out; the others stay in their order. It takes no memory.
+    pub fn take(&mut self, i: u32) -> Op
+        requires { i < length self.old }
+        ensures taken { slice_get self.old i ≡ Some (data_of result) }
+        ensures others { self.new ≡ remove self.old i }
+    {
+        match self.ops.shift_remove_index(i as usize) {
+            Some(op) => op,
+            None => unreachable!(),
+        }
+    }
+
+    /// The first member of the i-th operation's context that `have` lacks, in the order of members; None
+    /// exactly where `have` covers the context.
+    pub fn waiting(&self, have: &Vector, i: u32) -> Option<Member>
+        requires { i < length self.now }
+        ensures first { IfSome result (IsFirstMissing have.now.set (context_at self.now i)) }
+        ensures none { IsNone result ↔ Within (context_at self.now i) have.now.set }
+        ensures range { IfSome result IsMember }
+    {
+        match self.get(i) {
+            Some(op) => have.first_missing(op.context()),
+            None => unreachable!(),
+        }
+    }
+}
+
+// Whether the operation is the insert or delete of this name.
+fn is_named(op: &Op, name: &Name) -> bool
+    ensures { result ≡ member_eq (member_of (data_of op.now)) (Original name.now) }
+{
+    match op {
+        Op::Insert { name: own, .. } | Op::Delete { name: own, .. } => own == name,
+        Op::Undo { .. } => false,
+    }
+}
+
+// Whether the operation is in `have`, or `have` covers its context.
+fn is_ready(op: &Op, have: &Vector) -> bool
+    ensures { IsTrue result ↔ IsReady have.now.set (data_of op.now) }
+{
+    is_there(op, have) || have.covers(op.context())
+}
+
+// Whether the member that the operation is is in `have`.
+fn is_there(op: &Op, have: &Vector) -> bool
+    ensures { result ≡ has have.now.set (member_of (data_of op.now)) }
+{
+    match op {
+        Op::Insert { name, .. } | Op::Delete { name, .. } => have.contains(&Member::Original(
+            *name,
+        )),
+        Op::Undo {
+            target,
+            generation,
+            ..
+        } => have.contains(&Member::Group(*target, *generation)),
+    }
+}
