@@ -1,0 +1,83 @@
+-- The cells of a document, the rule of applying a form to them, and which of them are shown.
+use Rattle.std.specs.Prelude.{◌≡◌, ℕ, zero, suc, ◌%◌, Bool, true, not, ◌&&◌, ◌==◌, max, List, [], ◌∷◌, ◌++◌, map, take, drop, length, if◌then◌else◌}
+use Rattle.std.specs.List.{list_any}
+use Rattle.op_name.specs.NameData.{NameData, name_eq, name_lt}
+use Rattle.op_name.specs.Contexts.{IsBefore}
+use Rattle.ttf_form.specs.declared.ins.Ins.{Ins}
+use Rattle.ttf_form.specs.declared.cover.Mark.{Mark}
+use Rattle.ttf_form.specs.declared.cover.Mark.TheVariants.{Own, By}
+use Rattle.ttf_form.specs.declared.form.Form.{Form}
+use Rattle.ttf_form.specs.declared.form.Form.TheVariants.{Ins as Insert, Cover as Covered}
+use Rattle.ttf_form.specs.Forms.{IsBoundedForm, added_by}
+use Rattle.ttf_form.specs.Names.{NewNames}
+
+-- a character by the name of its insert, with the generation of that insert and the deletes that hit it, each with
+-- its generation, sorted by name
+pub record CellData : Type 0 where
+  pub name : NameData
+  pub ch : ℕ
+  pub generation : ℕ
+  pub deleters : List (NameData × ℕ)
+
+-- the deleters with d among them, at g or above
+unfoldable pub raise_in : NameData → ℕ → List (NameData × ℕ) → List (NameData × ℕ)
+raise_in d g [] = (d, g) ∷ []
+raise_in d g (e ∷ es) =
+    if name_lt d e.0 then (d, g) ∷ (e ∷ es) else if name_eq d e.0 then (d, max e.1 g) ∷ es else e ∷ raise_in d g es
+
+-- one more than the greatest generation that d has among the deleters, 0 if it is none of them
+abbrev pub best : NameData → List (NameData × ℕ) → ℕ
+best d [] = 0
+best d (e ∷ es) = max (if name_eq d e.0 then suc e.1 else 0) (best d es)
+
+-- sorted by name, each name once
+abbrev pub IsRising : List (NameData × ℕ) → Type 0
+IsRising [] = Unit {0}
+IsRising (e ∷ es) = IsBefore e.0 es × IsRising es
+
+-- all names of the list are less than d
+abbrev pub AreBelow : List (NameData × ℕ) → NameData → Type 0
+AreBelow [] d = Unit {0}
+AreBelow (e ∷ es) d = (name_lt e.0 d ≡ true) × AreBelow es d
+
+-- a cell under a mark
+abbrev pub marked : Mark → CellData → CellData
+marked (Own g) c = record c { generation = max c.generation g }
+marked (By d g) c = record c { deleters = raise_in d g c.deleters }
+
+-- the cells of an insert before any mark
+abbrev pub bare_cells : Ins → List CellData
+bare_cells a = record { name = a.name; ch = a.ch; generation = 0; deleters = [] } ∷ []
+
+-- the list with these new elements at a place
+abbrev pub put_in : {A : Type 0} → ℕ → List A → List A → List A
+put_in k new xs = take k xs ++ (new ++ drop k xs)
+
+-- the list with the element at a place changed
+abbrev pub change_at : {A : Type 0} → ℕ → (A → A) → List A → List A
+change_at k f [] = []
+change_at zero f (x ∷ xs) = f x ∷ xs
+change_at (suc k) f (x ∷ xs) = x ∷ change_at k f xs
+
+-- the rule of applying: an insert puts its new cells at its place, a cover marks the cell at its place
+abbrev pub applied : List CellData → Form → List CellData
+applied cs (Insert a) = put_in a.place (bare_cells a) cs
+applied cs (Covered c) = change_at c.place (marked c.mark) cs
+
+-- the cells by name and offset
+abbrev pub cell_key : CellData → NameData × ℕ
+cell_key c = (c.name, 0)
+
+abbrev pub cells_of : List CellData → List (NameData × ℕ)
+cells_of cs = map cell_key cs
+
+-- a form may be applied: its place is within the cells, and it adds no name that is there
+abbrev pub FitsCells : List CellData → Form → Type 0
+FitsCells cs a = IsBoundedForm a (length (cells_of cs)) × NewNames (cells_of cs) (added_by a)
+
+abbrev pub is_even : ℕ → Bool
+is_even g = (g % 2) == 0
+
+-- shown: its insert is in force, and none of its deleters is
+abbrev pub cell_shown : CellData → Bool
+cell_shown c = is_even c.generation && not (list_any (λ e. is_even e.1) c.deleters)

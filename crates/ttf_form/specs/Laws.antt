@@ -1,0 +1,5 @@
+pub mod Lists
+pub mod Places
+pub mod Deleters
+pub mod Forms
+pub mod Cells
