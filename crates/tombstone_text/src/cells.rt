@@ -73,6 +73,13 @@ impl Cells {
         self.shown
     }
 
+    /// Nothing but what the type keeps: there are at most 4,294,967,295 cells.
+    pub fn known(&self)
+        ensures { length self.now.cells < 2 ^ 32 }
+    {
+        let _ = &self.shown;
+    }
+
     /// The cell at place `i`; None exactly past the end.
     pub fn cell(&self, i: u32) -> Option<&Cell>
         ensures { option_map (λ c. c.now) result ≡ slice_get self.now.cells i }
