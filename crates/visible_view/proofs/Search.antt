@@ -58,6 +58,7 @@ one_back cs v place next before after b i lt step tells less = by b tells less
   where
     here : next < length cs
     here = let w = i.within in omega arith
+
     by : (t : Bool) → TellsShown cs next t → after + cond t 1 0 ≡ before → IsBehind cs v next after
     by true tell e =
         let count = i.count ∙ ap (λ k. shown_before cs k) step ∙ before_next cs next true here tell in

@@ -49,7 +49,11 @@ fn push_cell(cell: &Cell, out: &mut Vec<u8>) -> Result<(), Memory>
     ensures ok { OnOk result (out.new.items ≡ out.old.items ++ shown_text (cell.now ∷ [])) }
     ensures err { OnErr result (out.new.items ≡ out.old.items) }
 {
-    if cell.shown() { push_char(cell.ch(), out) } else { Ok(()) }
+    if cell.shown() {
+        push_char(cell.ch(), out)
+    } else {
+        Ok(())
+    }
 }
 
 /// Appends the bytes of a character.

@@ -8,7 +8,7 @@ loop-before-preserved-then-is_shown c =
     let some : c.args.v < c.loop-before.before = c.loop-before-test.true in
     let one = has_one c.args.cells.now.cells c.args.v c.loop-before.place c.loop-before.before i some in
     one_back c.args.cells.now.cells c.args.v c.loop-before.place (c.loop-before.place - 1) c.loop-before.before (c.loop-before.before - 1) true i some (omega arith)
-        (λ d lt. c.is_shown.ensures d lt ∙ c.if-is_shown.true) (omega arith)
+    (λ d lt. c.is_shown.ensures d lt ∙ c.if-is_shown.true) (omega arith)
 
 pub loop-before-preserved : goal.loop-before-preserved
 loop-before-preserved c =
@@ -16,4 +16,4 @@ loop-before-preserved c =
     let some : c.args.v < c.loop-before.before = c.loop-before-test.true in
     let one = has_one c.args.cells.now.cells c.args.v c.loop-before.place c.loop-before.before i some in
     one_back c.args.cells.now.cells c.args.v c.loop-before.place (c.loop-before.place - 1) c.loop-before.before c.loop-before.before false i some (omega arith)
-        (λ d lt. c.is_shown.ensures d lt ∙ c.if-is_shown.false) (omega arith)
+    (λ d lt. c.is_shown.ensures d lt ∙ c.if-is_shown.false) (omega arith)

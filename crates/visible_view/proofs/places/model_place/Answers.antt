@@ -10,7 +10,7 @@ returns-in-Some-clause-place c =
 pub returns-in-Some-clause-within : goal.returns-in-Some-clause-within
 returns-in-Some-clause-within c =
     let there : c.in-Some.place < length c.args.cells.now.cells =
-        place_within c.args.cells.now.cells (c.args.v - 1) c.in-Some.place (sym c.cell_of_visible.ensures.place ∙ c.in-Some.is) in
+    place_within c.args.cells.now.cells (c.args.v - 1) c.in-Some.place (sym c.cell_of_visible.ensures.place ∙ c.in-Some.is) in
     omega arith
 
 pub returns-in-None-clause-place : goal.returns-in-None-clause-place

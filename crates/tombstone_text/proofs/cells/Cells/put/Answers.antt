@@ -21,8 +21,7 @@ invariant_of-self c =
     let short : length (insert xs k c.bare-cell.result) < 4294967296 = omega arith in
     let is_shown : cond (cell_shown c.bare-cell.result) 1 0 ≡ 1 = ap (λ (x : CellData). cond (cell_shown x) 1 0) c.bare-cell.ensures in
     let count : length (filter cell_shown (insert xs k c.bare-cell.result)) ≡ c.self.inside.shown + 1 =
-        length-filter-insert cell_shown xs k c.bare-cell.result ∙ ap (λ n. length (filter cell_shown xs) + n) is_shown ∙ ap (λ n. n + 1) (sym c.self.invariant.1) in
-    (
+    length-filter-insert cell_shown xs k c.bare-cell.result ∙ ap (λ n. length (filter cell_shown xs) + n) is_shown ∙ ap (λ n. n + 1) (sym c.self.invariant.1) in (
       subst (λ (s : List CellData). length s < 4294967296) (sym put) short,
       sym (ap (λ (s : List CellData). length (filter cell_shown s)) put ∙ count),
       c.self.invariant.2,
