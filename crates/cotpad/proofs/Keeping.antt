@@ -10,10 +10,10 @@ use Rattle.context_diff.specs.Operations.{OpData, inserting}
 use Rattle.context_diff.specs.Histories.{context_of_all}
 use Rattle.context_diff.specs.Gaps.{Gap}
 use Rattle.context_diff.specs.Replays.{Cell, sort_by, replay, replay_of, is_shown, shown, character_in, characters_of}
-use Rattle.tombstone_text.specs.Letters.{Letter}
+use Rattle.ttf_form.specs.Cells.{CellData}
 use Rattle.cotpad.specs.Lines.{text_lines}
 use Rattle.cotpad.specs.Sessions.{made_in, next_name, place_behind, insert_at, after_insert, show_lines}
-use Rattle.cotpad.specs.Letters.{name_after, with_letter, letters_text, letters_lines}
+use Rattle.cotpad.specs.CellSessions.{name_after, next_cell, with_cell, cells_text, cells_lines}
 use Rattle.cotpad.proofs.AllPass.{AllPass, gap_all, map_insert, length_insert, length_more}
 use Rattle.cotpad.proofs.OwnContexts.{own_context, own_name, own_count, IsOwn, own_has}
 use Rattle.cotpad.proofs.Typing.{AreTyped, typed_after, typed_more, context_typed, all_shown, shown_all, replay_typed, character_before}
@@ -37,39 +37,39 @@ own_put n (suc k) [] c i a = (i, tt)
 own_put n (suc k) (d ∷ cs) c i a = (a.0, own_put n k cs c i a.1)
 
 -- the cells are those of the replay, with their characters
-pub record Keeps (h : List OpData) (cells : List Letter) : Type 0 where
+pub record Keeps (h : List OpData) (cells : List CellData) : Type 0 where
   pub typed : AreTyped 0 h
   pub own : AreOwn (length h) (replay_of h)
   pub size : length (replay_of h) ≡ length h
-  pub letters : length cells ≡ length h
+  pub held : length cells ≡ length h
   pub characters : map (character_in h) (replay_of h) ≡ map (λ c. c.ch) cells
 
 pub keeps_none : Keeps [] []
 unfolding sort_by replay
-keeps_none = record { typed = tt; own = tt; size = refl; letters = refl; characters = refl }
+keeps_none = record { typed = tt; own = tt; size = refl; held = refl; characters = refl }
 
-pub keeps_made : (h : List OpData) (cells : List Letter) → Keeps h cells → made_in h ≡ length cells
+pub keeps_made : (h : List OpData) (cells : List CellData) → Keeps h cells → made_in h ≡ length cells
 keeps_made h cells k =
     let e : context_of_all h ≡ own_context (length h) = context_typed 0 h k.typed ∙ ap own_context (let z : 0 + length h ≡ length h = omega arith in z) in
-    ap (λ c. count_of c 0) e ∙ (own_count (length h) ∙ sym k.letters)
+    ap (λ c. count_of c 0) e ∙ (own_count (length h) ∙ sym k.held)
 
-pub keeps_visible : (h : List OpData) (cells : List Letter) → Keeps h cells → length (shown h) ≡ length cells
-keeps_visible h cells k = ap (λ (cs : List Cell). length cs) (shown_all h k.typed) ∙ (k.size ∙ sym k.letters)
+pub keeps_visible : (h : List OpData) (cells : List CellData) → Keeps h cells → length (shown h) ≡ length cells
+keeps_visible h cells k = ap (λ (cs : List Cell). length cs) (shown_all h k.typed) ∙ (k.size ∙ sym k.held)
 
-pub keeps_name : (h : List OpData) (cells : List Letter) → Keeps h cells → next_name h ≡ name_after cells
+pub keeps_name : (h : List OpData) (cells : List CellData) → Keeps h cells → next_name h ≡ name_after cells
 keeps_name h cells k = ap (λ n. own_name (n + 1)) (keeps_made h cells k)
 
-keeps_characters : (h : List OpData) (cells : List Letter) → Keeps h cells → characters_of h ≡ map (λ c. c.ch) cells
+keeps_characters : (h : List OpData) (cells : List CellData) → Keeps h cells → characters_of h ≡ map (λ c. c.ch) cells
 keeps_characters h cells k = ap (λ (cs : List Cell). map (character_in h) cs) (shown_all h k.typed) ∙ k.characters
 
-pub keeps_shown : (h : List OpData) (cells : List Letter) → Keeps h cells → show_lines h ≡ letters_lines cells
+pub keeps_shown : (h : List OpData) (cells : List CellData) → Keeps h cells → show_lines h ≡ cells_lines cells
 keeps_shown h cells k =
     ap (λ (cs : List ℕ). text_lines (length cs) (length (encode_utf8_all cs)) (encode_utf8_all cs)) (keeps_characters h cells k)
-    ∙ ap (λ n. text_lines n (length (letters_text cells)) (letters_text cells)) (length-map cells (λ c. c.ch))
+    ∙ ap (λ n. text_lines n (length (cells_text cells)) (cells_text cells)) (length-map cells (λ c. c.ch))
 
-keeps_place : (h : List OpData) (cells : List Letter) (v : ℕ) → Keeps h cells → v ≤ length cells → place_behind h v ≡ v
+keeps_place : (h : List OpData) (cells : List CellData) (v : ℕ) → Keeps h cells → v ≤ length cells → place_behind h v ≡ v
 keeps_place h cells v k le =
-    let within : v ≤ length (replay_of h) = omega (arith, k.size, k.letters) in
+    let within : v ≤ length (replay_of h) = omega (arith, k.size, k.held) in
     ap (λ (g : Gap Cell). length g.before) (gap_all (is_shown h) v (replay_of h) (all_shown h (replay_of h) k.typed) within) ∙ length_front v (replay_of h) within
   where
     length_front : (n : ℕ) (cs : List Cell) → n ≤ length cs → length (take n cs) ≡ n
@@ -78,10 +78,10 @@ keeps_place h cells v k le =
     length_front (suc n) (c ∷ cs) le = ap (λ m. suc m) (length_front n cs (omega arith))
 
 -- the insert that the definition makes is the one that follows the others
-keeps_insert : (h : List OpData) (cells : List Letter) (v ch : ℕ) → Keeps h cells → v ≤ length cells → insert_at h v ch ≡ typed_after (length h) v ch
+keeps_insert : (h : List OpData) (cells : List CellData) (v ch : ℕ) → Keeps h cells → v ≤ length cells → insert_at h v ch ≡ typed_after (length h) v ch
 keeps_insert h cells v ch k le =
     let c : context_of_all h ≡ own_context (length h) = context_typed 0 h k.typed ∙ ap own_context (let z : 0 + length h ≡ length h = omega arith in z) in
-    let n : made_in h + 1 ≡ suc (length h) = add-one (made_in h) ∙ ap (λ m. suc m) (keeps_made h cells k ∙ k.letters) in
+    let n : made_in h + 1 ≡ suc (length h) = add-one (made_in h) ∙ ap (λ m. suc m) (keeps_made h cells k ∙ k.held) in
     λ i. inserting (own_name (n i)) (keeps_place h cells v k le i) ch (c i)
 
 characters_before : (h : List OpData) (v ch : ℕ) (cs : List Cell) → AreOwn (length h) cs → map (character_in (h ++ typed_after (length h) v ch ∷ [])) cs ≡ map (character_in h) cs
@@ -103,14 +103,14 @@ character_new n (o ∷ h) v ch k a le =
     let ne : (suc n == suc k) ≡ false = (let l : suc n ≤ k = omega arith in grind (arith, nat_tests)) in
     rw (a.0.is, ne) (character_new (suc n) h v ch k a.1 (omega arith))
 
-pub keeps_with : (h : List OpData) (cells : List Letter) (v ch : ℕ) → Keeps h cells → v ≤ length cells → Keeps (after_insert h v ch) (with_letter cells v ch)
+pub keeps_with : (h : List OpData) (cells : List CellData) (v ch : ℕ) → Keeps h cells → v ≤ length cells → Keeps (after_insert h v ch) (with_cell cells v ch)
 keeps_with h cells v ch k le =
-    let P : OpData → Type 0 = λ o. Keeps (h ++ o ∷ []) (with_letter cells v ch) in
+    let P : OpData → Type 0 = λ o. Keeps (h ++ o ∷ []) (with_cell cells v ch) in
     subst P (sym (keeps_insert h cells v ch k le)) (keeps_typed h cells v ch k le)
   where
-    keeps_typed : (h : List OpData) (cells : List Letter) (v ch : ℕ) → Keeps h cells → v ≤ length cells → Keeps (h ++ typed_after (length h) v ch ∷ []) (with_letter cells v ch)
+    keeps_typed : (h : List OpData) (cells : List CellData) (v ch : ℕ) → Keeps h cells → v ≤ length cells → Keeps (h ++ typed_after (length h) v ch ∷ []) (with_cell cells v ch)
     keeps_typed h cells v ch k le =
-        let within : v ≤ length (replay_of h) = omega (arith, k.size, k.letters) in
+        let within : v ≤ length (replay_of h) = omega (arith, k.size, k.held) in
         let o = typed_after (length h) v ch in
         let c : Cell = (own_name (suc (length h)), 0) in
         let r : replay_of (h ++ o ∷ []) ≡ take v (replay_of h) ++ (c ∷ drop v (replay_of h)) = replay_typed h v ch k.typed (own_pass (length h) (replay_of h) k.own) within in
@@ -120,11 +120,11 @@ keeps_with h cells v ch k le =
           typed = typed_more 0 h o k.typed (let e : length h ≡ 0 + length h = omega arith in record { place = v; ch = ch; is = ap (λ n. typed_after n v ch) e });
           own = rw (l, r) (own_put (suc (length h)) v (replay_of h) c (record { site = refl; low = omega arith; high = omega arith }) (own_more (length h) (replay_of h) k.own));
           size = ap (λ (cs : List Cell). length cs) r ∙ (length_insert v (replay_of h) c ∙ (ap (λ n. suc n) k.size ∙ sym l));
-          letters = length_insert v cells (record { name = name_after cells; ch = ch }) ∙ (ap (λ n. suc n) k.letters ∙ sym l);
+          held = length_insert v cells (next_cell cells ch) ∙ (ap (λ n. suc n) k.held ∙ sym l);
           characters =
               ap (λ (cs : List Cell). map (character_in (h ++ o ∷ [])) cs) r
               ∙ (map_insert (character_in (h ++ o ∷ [])) v (replay_of h) c
-              ∙ (let m : map (character_in (h ++ o ∷ [])) (replay_of h) ≡ map (λ (x : Letter). x.ch) cells = characters_before h v ch (replay_of h) k.own ∙ k.characters in
+              ∙ (let m : map (character_in (h ++ o ∷ [])) (replay_of h) ≡ map (λ (x : CellData). x.ch) cells = characters_before h v ch (replay_of h) k.own ∙ k.characters in
               (λ i. take v (m i) ++ (new i ∷ drop v (m i)))
-              ∙ sym (map_insert (λ (x : Letter). x.ch) v cells (record { name = name_after cells; ch = ch }))));
+              ∙ sym (map_insert (λ (x : CellData). x.ch) v cells (next_cell cells ch))));
         }

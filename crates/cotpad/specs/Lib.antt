@@ -3,5 +3,5 @@ pub mod Growing
 pub mod Lines
 pub mod Reports
 pub mod Sessions
-pub mod Letters
+pub mod CellSessions
 pub mod Statuses

@@ -59,11 +59,11 @@ pub(crate) fn refused_line(alloc: Global, number: u64, out: &mut Vec<u8>) -> Res
     Ok(())
 }
 
-/// Appends a text of so many characters.
+/// Appends a text of so many characters, in UTF-8.
 pub(crate) fn shown_lines(
     alloc: Global,
     characters: u32,
-    text: &str,
+    text: &[u8],
     out: &mut Vec<u8>,
 ) -> Result<(), Memory>
     ensures { Gains result out.old.items out.new.items (text_lines characters (length text.now) text.now) }
@@ -71,7 +71,7 @@ pub(crate) fn shown_lines(
     let bytes = text.len();
     let head = format!(in alloc; "text {characters} {bytes}\n")?;
     out.extend_from_slice(head.as_bytes())?;
-    out.extend_from_slice(text.as_bytes())?;
+    out.extend_from_slice(text)?;
     out.extend_from_slice(b"\n")?;
     Ok(())
 }

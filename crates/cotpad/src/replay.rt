@@ -3,7 +3,7 @@
 ghost use Rattle.std.specs.Prelude.{◌≡◌, ◌++◌, ◌∷◌, [], ◌+◌, ◌<◌, ◌≤◌, ◌^◌, ℕ, List, true, false, Some, None, length, IfOk, IfSome, IfNone, if◌then◌else◌};
 ghost use Rattle.script_text.specs.FirstLines.{line_of};
 ghost use Rattle.cotpad.specs.Growing.{Gains};
-ghost use Rattle.cotpad.specs.Letters.{letters_on_site, letters_after_line, letters_report};
+ghost use Rattle.cotpad.specs.CellSessions.{cells_on_site, cells_after_line, cells_report};
 ghost use Rattle.cotpad.specs.Lines.{not_built};
 ghost use Rattle.cotpad.specs.Reports.{behind, lines_of};
 ghost use Rattle.cotpad.specs.Sessions.{script_report, limit};
@@ -49,7 +49,7 @@ pub(crate) fn replay(
 fn replay_lines(alloc: Global, bytes: &[u8], out: &mut Vec<u8>) -> Result<bool, Memory>
     requires { length bytes.now ≤ limit }
     ensures { IfOk result (λ r.
-        behind out.old.items (letters_report 1 None (lines_of bytes.now)) ≡ record { written = out.new.items; refused = r }) }
+        behind out.old.items (cells_report 1 None (lines_of bytes.now)) ≡ record { written = out.new.items; refused = r }) }
 {
     let mut session = Session {
         number: 1,
@@ -72,10 +72,10 @@ fn do_lines<'a>(
 ) -> Result<Option<&'a [u8]>, Memory>
     requires { session.old.number + length bytes.now < 2 ^ 64 }
     ensures goes_on { IfOk result (λ r. IfSome r (λ rest. (tail : List ℕ) →
-        behind out.old.items (letters_report session.old.number session.old.site (lines_of (bytes.now ++ tail)))
-        ≡ behind out.new.items (letters_report session.new.number session.new.site (lines_of (rest.now ++ tail))))) }
+        behind out.old.items (cells_report session.old.number session.old.site (lines_of (bytes.now ++ tail)))
+        ≡ behind out.new.items (cells_report session.new.number session.new.site (lines_of (rest.now ++ tail))))) }
     ensures refused { IfOk result (λ r. IfNone r ((tail : List ℕ) →
-        behind out.old.items (letters_report session.old.number session.old.site (lines_of (bytes.now ++ tail)))
+        behind out.old.items (cells_report session.old.number session.old.site (lines_of (bytes.now ++ tail)))
         ≡ record { written = out.new.items; refused = true })) }
     ensures last { IfOk result (λ r. IfSome r (λ rest. lines_of rest.now ≡ rest.now ∷ [])) }
 {
@@ -95,7 +95,7 @@ impl Session {
     #[tactic(auto, using(crate::proofs::Steps::line_last, crate::proofs::Steps::line_stops))]
     fn do_last(&mut self, alloc: Global, bytes: &[u8], out: &mut Vec<u8>) -> Result<bool, Memory>
         ensures { IfOk result (λ r.
-            behind out.old.items (letters_report self.old.number self.old.site (bytes.now ∷ []))
+            behind out.old.items (cells_report self.old.number self.old.site (bytes.now ∷ []))
             ≡ record { written = out.new.items; refused = r }) }
     {
         if self.do_line(alloc, bytes, out)? {
@@ -107,9 +107,9 @@ impl Session {
     // One line, without its line feed. Answers whether it is refused.
     fn do_line(&mut self, alloc: Global, bytes: &[u8], out: &mut Vec<u8>) -> Result<bool, Memory>
         ensures written { Gains result out.old.items out.new.items
-            (letters_after_line self.old.number self.old.site (line_of bytes.now)).written }
+            (cells_after_line self.old.number self.old.site (line_of bytes.now)).written }
         ensures next { IfOk result (λ refused.
-            (letters_after_line self.old.number self.old.site (line_of bytes.now)).next
+            (cells_after_line self.old.number self.old.site (line_of bytes.now)).next
             ≡ (if refused then None else Some self.new.site)) }
         ensures number { self.new.number ≡ self.old.number }
     {
@@ -140,8 +140,8 @@ fn on_site(
     line: &FirstLine,
     out: &mut Vec<u8>,
 ) -> Result<bool, Memory>
-    ensures written { Gains result out.old.items out.new.items (letters_on_site number site.old line.now).written }
-    ensures next { IfOk result (λ refused. (letters_on_site number site.old line.now).next
+    ensures written { Gains result out.old.items out.new.items (cells_on_site number site.old line.now).written }
+    ensures next { IfOk result (λ refused. (cells_on_site number site.old line.now).next
         ≡ (if refused then None else Some (Some site.new))) }
 {
     match line {

@@ -1,11 +1,16 @@
-//! The cells of a text: the characters that inserts put, in the order in which they stand.
+//! The cells of a text: the characters that inserts put, in the order in which they stand, shown or hidden.
 //!
-//! A `Cells` is a list of cells, each with the name of its insert and its character.
+//! A `Cells` is a list of cells. Each has the name of its insert, its character, and the marks that covers
+//! left on it. Forms are applied to it: an insert adds a cell, a cover marks one, and no cell ever goes, so
+//! that places keep their meaning. A hidden cell is a tombstone.
 #![tactic(auto)]
 
+mod cell;
 mod cells;
+mod deleters;
 
-pub use cells::{Cell, Cells};
+pub use cell::Cell;
+pub use cells::Cells;
 
 #[cfg(test)]
 mod tests;

@@ -1,26 +1,189 @@
-ghost use Rattle.std.specs.Prelude.{◌≡◌, IfOk};
+//! Forms applied one after the other, and what the cells are then.
 
 use crate::{Cell, Cells};
 use op_name::Name;
+use std::alloc::Global;
 use std::test::Fail;
+use ttf_form::{Cover, Form, Ins, Mark};
 
-fn name(number: u32) -> Result<Name, Fail>
-    ensures { IfOk result (λ n. n.number ≡ number) }
-{
-    Ok(Name::new(0, number)?)
+/// One form of a row of the table.
+#[derive(Drop)]
+enum Step {
+    /// An insert at a place.
+    Put(u32, char),
+    /// The delete of a site, or an undo (odd) or redo (even) of it, on the cell at a place.
+    Del(u32, u16, u16),
+    /// An undo (odd) or redo (even) of the insert of the cell at a place.
+    Own(u32, u16),
+}
+
+/// The form of a step, by the name of its insert or of its delete.
+fn form_of(step: &Step, put: Name, del: Name) -> Form {
+    let site = put.site;
+    match step {
+        Step::Put(place, ch) => Form::Ins(Ins {
+            place: *place,
+            site,
+            ch: *ch,
+            name: put,
+        }),
+        Step::Del(place, _, generation) => Form::Cover(Cover {
+            place: *place,
+            mark: Mark::By {
+                name: del,
+                generation: *generation,
+            },
+        }),
+        Step::Own(place, generation) => Form::Cover(Cover {
+            place: *place,
+            mark: Mark::Own {
+                generation: *generation,
+            },
+        }),
+    }
+}
+
+/// Applies a form that fits.
+fn execute(cells: &mut Cells, form: &Form) -> Result<(), Fail> {
+    let fits = match form {
+        Form::Ins(ins) => ins.place <= cells.len() && cells.place_of(&ins.name).is_none(),
+        Form::Cover(cover) => cover.place < cells.len(),
+    };
+    if !fits {
+        return Err(Fail::new("the form doesn't fit"));
+    }
+    cells.reserve(form)?;
+    cells.apply(form);
+    Ok(())
+}
+
+fn take_step(cells: &mut Cells, step: &Step) -> Result<(), Fail> {
+    let site = match step {
+        Step::Del(_, site, _) => *site,
+        _ => 0,
+    };
+    let put = Name::new(0, cells.len().saturating_add(1))?;
+    let del = Name::new(site, 9)?;
+    execute(cells, &form_of(step, put, del))
+}
+
+fn cells_of(alloc: Global, steps: &[Step]) -> Result<Cells, Fail> {
+    let mut cells = Cells::new(alloc);
+    for step in steps {
+        take_step(&mut cells, step)?;
+    }
+    Ok(cells)
+}
+
+/// The characters of the cells, each hidden one in brackets.
+fn seen(alloc: Global, steps: &[Step]) -> Result<String, Fail> {
+    let cells = cells_of(alloc, steps)?;
+    let mut seen = String::new(alloc);
+    for place in 0..cells.len() {
+        if let Some(cell) = cells.cell(place) {
+            if !cell.shown() {
+                seen.push('(')?;
+            }
+            seen.push(cell.ch())?;
+            if !cell.shown() {
+                seen.push(')')?;
+            }
+        }
+    }
+    Ok(seen)
+}
+
+use Step::{Del, Own, Put};
+
+#[test]
+fn covers_and_inserts_in_order(rt: HostRuntime) -> Result<(), Fail> {
+    let rows: [(&str, &[Step], &str); 10] = [
+        (
+            "inserts stand where they are put",
+            &[Put(0, 'c'), Put(0, 'a'), Put(1, 'b')],
+            "abc",
+        ),
+        (
+            "a deleted cell stays, hidden",
+            &[Put(0, 'a'), Put(1, 'b'), Del(0, 0, 0)],
+            "(a)b",
+        ),
+        (
+            "places count the hidden cell",
+            &[Put(0, 'a'), Del(0, 0, 0), Put(1, 'x'), Del(1, 1, 0)],
+            "(a)(x)",
+        ),
+        (
+            "one of two deletes undone",
+            &[Put(0, 'b'), Del(0, 0, 0), Del(0, 1, 0), Del(0, 0, 1)],
+            "(b)",
+        ),
+        (
+            "both deletes undone",
+            &[
+                Put(0, 'b'),
+                Del(0, 0, 0),
+                Del(0, 1, 0),
+                Del(0, 0, 1),
+                Del(0, 1, 1),
+            ],
+            "b",
+        ),
+        (
+            "insert undone, then its delete",
+            &[Put(0, 'b'), Del(0, 0, 0), Own(0, 1), Del(0, 0, 1)],
+            "(b)",
+        ),
+        (
+            "insert undone and redone",
+            &[Put(0, 'b'), Own(0, 1), Own(0, 2)],
+            "b",
+        ),
+        (
+            "an undo that comes after its redo",
+            &[Put(0, 'b'), Own(0, 2), Own(0, 1)],
+            "b",
+        ),
+        (
+            "a delete redone",
+            &[Put(0, 'b'), Del(0, 5, 0), Del(0, 5, 1), Del(0, 5, 2)],
+            "(b)",
+        ),
+        (
+            "a delete that comes after its undo",
+            &[Put(0, 'b'), Del(0, 5, 1), Del(0, 5, 0)],
+            "b",
+        ),
+    ];
+    for (why, steps, wanted) in rows {
+        assert_eq!(rt; seen(rt.alloc(), steps)?.as_str(), wanted, "{why}");
+    }
+    Ok(())
 }
 
 #[test]
-fn cells_stand_where_they_are_put(rt: HostRuntime) -> Result<(), Fail> {
-    let mut cells = Cells::new(rt.alloc());
-    assert_eq!(rt; cells.len(), 0);
-    cells.put(0, name(1)?, 'c')?;
-    cells.put(0, name(2)?, 'a')?;
-    cells.put(1, name(3)?, 'b')?;
-    assert_eq!(rt; cells.len(), 3);
-    assert_eq!(rt; cells.cell(0).map(Cell::ch), Some('a'));
-    assert_eq!(rt; cells.cell(1).map(Cell::ch), Some('b'));
-    assert_eq!(rt; cells.cell(2).map(Cell::name), Some(name(1)?));
-    assert_eq!(rt; cells.cell(3).map(Cell::ch), None);
+fn a_cell_tells_its_marks(rt: HostRuntime) -> Result<(), Fail> {
+    let steps = [
+        Put(0, 'a'),
+        Del(0, 5, 3),
+        Del(0, 2, 0),
+        Own(0, 6),
+        Del(0, 5, 4),
+    ];
+    let cells = cells_of(rt.alloc(), &steps)?;
+    cells.known();
+    assert_eq!(rt; cells.shown_len(), 0);
+    assert_eq!(rt; cells.place_of(&Name::new(0, 1)?), Some(0));
+    assert_eq!(rt; cells.place_of(&Name::new(0, 2)?), None);
+    assert_eq!(rt; cells.cell(0).map(Cell::name), Some(Name::new(0, 1)?));
+    assert_eq!(rt; cells.cell(0).map(Cell::generation), Some(6));
+    assert!(rt; cells.cell(1).is_none());
+    let Some(cell) = cells.cell(0) else {
+        return Err(Fail::new("no such cell"))
+    };
+    assert_eq!(rt;
+        cell.deleters(),
+        [(Name::new(2, 9)?, 0), (Name::new(5, 9)?, 4)].as_slice()
+    );
     Ok(())
 }

@@ -1,0 +1,4 @@
+pub mod Shown
+pub mod Entries
+pub mod Positions
+pub mod Named

@@ -1,0 +1,28 @@
+-- A text as contracts see it: its cells, and the room that its lists have to spare.
+use Rattle.std.specs.Prelude.{ℕ, ◌<◌, ◌≤◌, List, length, slice_get, IfSome}
+use Rattle.ttf_form.specs.Cells.{CellData}
+use Rattle.ttf_form.specs.declared.cover.Mark.{Mark}
+use Rattle.ttf_form.specs.declared.cover.Mark.TheVariants.{Own, By}
+use Rattle.ttf_form.specs.declared.form.Form.{Form}
+use Rattle.ttf_form.specs.declared.form.Form.TheVariants.{Ins as Insert, Cover as Covered}
+
+-- spare places in the list of cells, and places for the deleters of one cell
+pub record Room : Type 0 where
+  pub places : ℕ
+  pub deleters : ℕ
+
+-- the cells in the order in which they stand, shown or hidden, and the room beside them
+pub record CellsData : Type 0 where
+  pub cells : List CellData
+  pub room : Room
+
+-- a mark takes room only where it may add a deleter: a place for it beside those that the cell has
+abbrev pub HasRoomOn : Mark → CellData → ℕ → Type 0
+HasRoomOn (Own g) c places = Unit {0}
+HasRoomOn (By d g) c places = length c.deleters < places
+
+-- there is room to apply the form: a place for the cell that an insert adds, below the greatest number of cells, or one
+-- for the deleter that a cover may add
+abbrev pub HasRoomFor : CellsData → Form → Type 0
+HasRoomFor t (Insert a) = (1 ≤ t.room.places) × (length t.cells < 4294967295)
+HasRoomFor t (Covered c) = IfSome (slice_get t.cells c.place) (λ d. HasRoomOn c.mark d t.room.deleters)
