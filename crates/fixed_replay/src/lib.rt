@@ -15,4 +15,6 @@ pub use laws::{
 };
 
 #[cfg(test)]
+mod form_tests;
+#[cfg(test)]
 mod tests;
