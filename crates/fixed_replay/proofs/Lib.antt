@@ -20,3 +20,6 @@ pub mod Reading
 pub mod ValidFamilies
 pub mod ExecutedForms
 pub mod Growth
+pub mod Searches
+pub mod Stepwise
+pub mod Standing

@@ -3,3 +3,4 @@ pub mod Families
 pub mod Insertions
 pub mod Replayed
 pub mod Laws
+pub mod PlainCells

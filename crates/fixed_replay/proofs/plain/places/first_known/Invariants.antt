@@ -1,0 +1,8 @@
+use Rattle.std.proofs.Common.{◌≡◌, ◌+◌, drop}
+use Rattle.context_diff.specs.GapEnds.{before_first}
+use Rattle.fixed_replay.specs.PlainCells.{knows}
+use Rattle.fixed_replay.proofs.plain.places.first_known.Given as goal
+
+-- none of the cells so far is known
+abbrev pub invariant-loop-i : goal.invariant-loop-i
+invariant-loop-i l = before_first (knows l.inserted) l.cells ≡ l.i + before_first (knows l.inserted) (drop l.i l.cells)

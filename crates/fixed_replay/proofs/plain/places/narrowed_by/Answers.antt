@@ -1,0 +1,19 @@
+use Rattle.std.proofs.Common.{◌≡◌, ℕ, ◌+◌, true, false, map, ap, sym, ◌∙◌}
+use Rattle.context_diff.specs.GapEnds.{gap_between}
+use Rattle.fixed_replay.specs.PlainCells.{insertion_of, cell_of}
+use Rattle.fixed_replay.proofs.Stepwise.{narrowed_left, narrowed_right}
+use Rattle.fixed_replay.proofs.plain.places.narrowed_by.Goals as goal
+
+pub returns-then-is_behind-clause-stretch : goal.returns-then-is_behind-clause-stretch
+returns-then-is_behind-clause-stretch c =
+    let names = c.args.cells.now in
+    narrowed_left (insertion_of c.args.inserted.now) c.args.other.now names c.args.stretch.left c.args.stretch.right c.requires.rising c.requires.within
+    (sym c.knows.ensures ∙ c.if-knows.false) (sym c.is_behind.ensures ∙ c.if-is_behind.true)
+    ∙ ap (λ n. gap_between (map cell_of names) (c.args.stretch.left + n) c.args.stretch.right) (sym c.behind_last.ensures.place)
+
+pub returns-else-is_behind-clause-stretch : goal.returns-else-is_behind-clause-stretch
+returns-else-is_behind-clause-stretch c =
+    let names = c.args.cells.now in
+    narrowed_right (insertion_of c.args.inserted.now) c.args.other.now names c.args.stretch.left c.args.stretch.right c.requires.rising c.requires.within
+    (sym c.knows.ensures ∙ c.if-knows.false) (sym c.is_behind.ensures ∙ c.if-is_behind.false)
+    ∙ ap (λ n. gap_between (map cell_of names) c.args.stretch.left (c.args.stretch.left + n)) (sym c.before_name.ensures.place)
