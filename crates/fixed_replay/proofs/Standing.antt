@@ -1,11 +1,11 @@
 -- What the cells from a place on say: hits, and the characters that are shown.
-use Rattle.std.proofs.Common.{◌≡◌, ℕ, zero, suc, ◌+◌, ◌-◌, ◌<◌, ◌≤◌, Bool, true, false, ◌⊎◌, inl, inr, List, [], ◌∷◌, ◌++◌, refl, ap, sym, ◌∙◌, arith, length, map, take, drop, get_or, append_assoc}
-use Rattle.std.specs.Prelude.{◌||◌, ◌&&◌, ◌==◌, filter, encode_utf8, encode_utf8_all, if◌then◌else◌}
+use Rattle.std.proofs.Common.{◌≡◌, ℕ, zero, suc, ◌+◌, ◌-◌, ◌<◌, ◌≤◌, Bool, true, false, inl, inr, List, [], ◌∷◌, ◌++◌, refl, ap, sym, ◌∙◌, arith, length, map, drop, get_or, append_assoc}
+use Rattle.std.specs.Prelude.{◌&&◌, encode_utf8, encode_utf8_all}
 use Rattle.std.proofs.lemmas.List.{at_drop_all, append-nil}
 use Rattle.std.proofs.lemmas.Bool.{cases_Bool}
 use Rattle.op_name.specs.NameData.{NameData, name_eq}
 use Rattle.context_diff.specs.Operations.{OpData}
-use Rattle.context_diff.specs.Replays.{Cell, stands_at, seen, is_shown, character_in}
+use Rattle.context_diff.specs.Replays.{stands_at, seen, is_shown}
 use Rattle.fixed_replay.specs.PlainCells.{cell_of, characters_among}
 use Rattle.fixed_replay.proofs.Searches.{at_place}
 

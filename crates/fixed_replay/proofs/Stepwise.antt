@@ -1,6 +1,6 @@
 -- The fixed order and the replay, one insert at a time.
-use Rattle.std.proofs.Common.{◌≡◌, ℕ, zero, suc, ◌+◌, ◌-◌, ◌<◌, ◌≤◌, Bool, true, false, List, [], ◌∷◌, ◌++◌, refl, ap, sym, subst, ◌∙◌, arith, length, map, take, drop, get_or, length-take, length-drop}
-use Rattle.std.specs.Prelude.{nat_lt, if◌then◌else◌}
+use Rattle.std.proofs.Common.{◌≡◌, ℕ, ◌+◌, ◌-◌, ◌<◌, ◌≤◌, Bool, true, false, List, [], ◌∷◌, ◌++◌, ap, sym, subst, ◌∙◌, arith, length, map, take, drop, get_or, length-take, length-drop}
+use Rattle.std.specs.Prelude.{nat_lt}
 use Rattle.std.proofs.lemmas.List.{length-map, take-map, drop-map, map_more, take_rest, at_drop_all}
 use Rattle.op_name.specs.NameData.{NameData, name_eq}
 use Rattle.context_vector.specs.Contexts.{ContextData}
@@ -9,7 +9,7 @@ use Rattle.context_diff.specs.Ops.{data_of}
 use Rattle.context_diff.specs.declared.op.Op.{Op}
 use Rattle.context_diff.specs.Gaps.{Gap, gap}
 use Rattle.context_diff.specs.GapEnds.{up_to_nth, before_first, up_to_last, gap_between}
-use Rattle.context_diff.specs.Replays.{Insertion, Cell, is_earlier, put_by, sort_by, fixed_order, cells_from, of_name, narrowed_by, narrowed, gap_of, put, replay}
+use Rattle.context_diff.specs.Replays.{Insertion, Cell, is_earlier, put_by, sort_by, fixed_order, of_name, narrowed_by, narrowed, gap_of, put, replay}
 use Rattle.context_diff.proofs.GapEnds.{gap_ends, narrow_left, narrow_right}
 use Rattle.context_diff.proofs.Replaying.{map_insert, put_is_insert, put_at_end}
 use Rattle.fixed_replay.specs.PlainCells.{InsertData, insertion_of, comes_before, knows, cell_of, name_of}

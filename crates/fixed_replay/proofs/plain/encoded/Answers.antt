@@ -1,4 +1,4 @@
-use Rattle.std.proofs.Common.{◌≡◌, sym, ◌∙◌}
+use Rattle.std.proofs.Common.{sym, ◌∙◌}
 use Rattle.std.specs.Prelude.{string_bytes}
 use Rattle.fixed_replay.proofs.Standing.{bytes_more, bytes_end}
 use Rattle.fixed_replay.proofs.plain.encoded.Goals as goal

@@ -1,4 +1,4 @@
-use Rattle.std.proofs.Common.{◌≡◌, ℕ, ◌+◌, ◌<◌, ◌≤◌, true, false, drop, ap, sym, ◌∙◌, arith}
+use Rattle.std.proofs.Common.{◌+◌, drop, ap, sym, ◌∙◌, arith}
 use Rattle.op_name.specs.NameData.{name_eq}
 use Rattle.fixed_replay.proofs.Searches.{last_from, last_start, last_at, last_past, last_end}
 use Rattle.fixed_replay.proofs.plain.places.behind_last.Goals as goal

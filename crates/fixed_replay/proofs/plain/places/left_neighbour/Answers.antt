@@ -1,4 +1,4 @@
-use Rattle.std.proofs.Common.{◌≡◌, ℕ, suc, ◌+◌, ◌-◌, ◌<◌, true, false, drop, ap, sym, ◌∙◌, arith}
+use Rattle.std.proofs.Common.{◌≡◌, ◌+◌, ◌-◌, ◌<◌, drop, ap, sym, ◌∙◌, arith}
 use Rattle.context_diff.specs.GapEnds.{up_to_nth}
 use Rattle.fixed_replay.specs.PlainCells.{knows}
 use Rattle.fixed_replay.proofs.Searches.{nth_seen, nth_past}

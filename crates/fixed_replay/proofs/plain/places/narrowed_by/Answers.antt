@@ -1,4 +1,4 @@
-use Rattle.std.proofs.Common.{◌≡◌, ℕ, ◌+◌, true, false, map, ap, sym, ◌∙◌}
+use Rattle.std.proofs.Common.{◌+◌, map, ap, sym, ◌∙◌}
 use Rattle.context_diff.specs.GapEnds.{gap_between}
 use Rattle.fixed_replay.specs.PlainCells.{insertion_of, cell_of}
 use Rattle.fixed_replay.proofs.Stepwise.{narrowed_left, narrowed_right}

@@ -1,4 +1,4 @@
-use Rattle.std.proofs.Common.{◌≡◌, ℕ, ◌+◌, ◌≤◌, map, drop, ap, sym, ◌∙◌, arith}
+use Rattle.std.proofs.Common.{◌+◌, map, drop, ap, sym, ◌∙◌, arith}
 use Rattle.context_diff.specs.GapEnds.{gap_between}
 use Rattle.context_diff.specs.Replays.{narrowed, narrowed_by}
 use Rattle.fixed_replay.specs.PlainCells.{insertion_of, cell_of, name_of}
