@@ -3,7 +3,8 @@
 //! A history of inserts, deletes and undos has one fixed replay: its inserts in the order of rank and
 //! site, each put into its open stretch. This crate has no value of its own: it shows that whatever order
 //! a site executes its operations in, as long as causes come first, the cells are those of that replay,
-//! and that two histories of the same operations show the same text.
+//! and that two histories of the same operations show the same text. `plain_text` computes that text from
+//! the operations, in the words of the definition.
 #![tactic(auto)]
 
 mod laws;
