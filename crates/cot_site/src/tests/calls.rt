@@ -1,0 +1,46 @@
+//! Calls that read a site, and the greatest generation.
+
+use super::steps::{Edit, Named, Why, done, refuses};
+use crate::Site;
+use std::test::Fail;
+
+#[test]
+fn what_a_site_has(rt: HostRuntime) -> Result<(), Fail> {
+    let mut site = Site::new(rt.alloc(), 0)?;
+    site.insert(0, 'a')?;
+    site.known();
+    assert_eq!(rt; site.number(), 0);
+    assert_eq!(rt; site.visible_len(), 1);
+    assert_eq!(rt; site.book().len(), 1);
+    assert_eq!(rt; site.vector().count(0), 1);
+    assert_eq!(rt; site.pool().len(), 0);
+    Ok(())
+}
+
+/// Undoes and redoes an original in turn; answers whether each was done.
+fn turned(site: &mut Site, of: Named, turns: u32) -> bool {
+    for turn in 0..turns {
+        let edit = if turn % 2 == 0 {
+            Edit::Undo(of)
+        } else {
+            Edit::Redo(of)
+        };
+        if !done(site, &edit) {
+            return false;
+        }
+    }
+    true
+}
+
+#[test]
+fn an_insert_is_undone_and_redone_up_to_the_last_generation(rt: HostRuntime) -> Result<(), Fail> {
+    let a = (0, 1);
+    let mut site = Site::new(rt.alloc(), 0)?;
+    assert!(rt; done(&mut site, &Edit::Insert(0, 'a')));
+    assert!(rt; turned(&mut site, a, 65_535));
+    assert!(rt; refuses(&mut site, &Edit::Redo(a), &Why::GenerationFull));
+    assert!(rt; refuses(&mut site, &Edit::Undo(a), &Why::NotInForce(65_535)));
+    assert_eq!(rt; site.book().len(), 65_536);
+    assert_eq!(rt; site.visible_len(), 0);
+    Ok(())
+}
