@@ -3,7 +3,6 @@
 ghost use Rattle.std.specs.Prelude.{◌≡◌, ◌↔◌, ◌+◌, ◌-◌, ◌<◌, ◌≤◌, ◌++◌, ◌∷◌, [], true, false, Contains, IsNone, OnOk, IfSome, length, option_map, slice_get};
 ghost use Rattle.std.specs.Option.{option_to_list};
 ghost use Rattle.op_name.specs.declared.member.Member.TheVariants.{Original};
-ghost use Rattle.op_name.specs.Members.{IsMember};
 ghost use Rattle.context_vector.specs.Contexts.{Within};
 ghost use Rattle.context_diff.specs.Operations.{member_of};
 ghost use Rattle.context_diff.specs.Histories.{is_known, members_in, inserts_in, context_of_all, IsNext, IsValid};
@@ -109,7 +108,6 @@ impl Book {
 
     /// Makes room for the operation; no operation comes or goes. A book that is full answers Memory.
     pub fn reserve(&mut self, op: &Op) -> Result<(), Memory>
-        requires { IsMember (member_of (data_of op.now)) }
         ensures ops { self.new.ops ≡ self.old.ops }
         ensures have { self.new.have.set ≡ self.old.have.set }
         ensures room { OnOk result (HasRoom self.new (data_of op.now)) }
@@ -118,7 +116,7 @@ impl Book {
             return Err(Memory);
         }
         self.kept.reserve(1)?;
-        self.have.reserve(&op.member())
+        self.have.reserve(&op.as_member())
     }
 
     /// Appends the operation, which is next after those of the book, in the room that was made for it. It

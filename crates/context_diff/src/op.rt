@@ -63,6 +63,13 @@ impl Op {
         ensures member { result ≡ member_of (data_of self.now) }
         ensures range { IsMember result }
     {
+        self.as_member()
+    }
+
+    // The same of an undo at any generation, also at 0, at which no member is.
+    pub(crate) fn as_member(&self) -> Member
+        ensures { result ≡ member_of (data_of self.now) }
+    {
         match self {
             Op::Insert { name, .. } | Op::Delete { name, .. } => Member::Original(*name),
             Op::Undo {

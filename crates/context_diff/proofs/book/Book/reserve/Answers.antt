@@ -25,4 +25,4 @@ returns-clause-room c =
     let es = c.reserve.new.self.entries in
     let size : length (ops_in kept_op es) ≡ length es = ops_length kept_op kept_inserts es in
     let same : length es ≡ length c.self.inside.kept.entries = ap length c.reserve.ensures.entries in
-    roomy _ (data_of c.args.op.now) c.member.result c.reserve-2.result (c.in_ok-reserve.ensures).ok (omega (arith, c.len.ensures.len)) c.member.ensures.member c.reserve-2.ensures.room
+    roomy _ (data_of c.args.op.now) c.as_member.result c.reserve-2.result (c.in_ok-reserve.ensures).ok (omega (arith, c.len.ensures.len)) c.as_member.ensures c.reserve-2.ensures.room
