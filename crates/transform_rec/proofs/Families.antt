@@ -111,22 +111,32 @@ module _ {F : Type 0} (b : Family F) where
             minus_from C x z (s.set.closed y p.0 z k) apart;
       }
 
+  -- m may be added to what is left of C without the last member of the difference, and so may that member
+  pub mine_without : (c : IsCausalFamily b) (m : Member) (C : Member → Bool) → IsSound b m C → (l : LastOf (λ y. C y && not (b.context m y)) b.members) → IsSound b m (minus C l.it)
+  mine_without c m C s l =
+      let x = l.it in
+      let out : b.context m x ≡ false = not-true (b.context m x) (and_parts (C x) (not (b.context m x)) l.passes).1 in
+      record { listed = s.listed; covers = λ z h. minus_from C x z (s.covers z h) (λ e. both_ways (b.context m z) (subst (λ (y : Member). b.context m y ≡ false) e out) h); set = free_at c m C s l; lacks = minus_lacks C x m s.lacks }
+
+  pub its_without : (c : IsCausalFamily b) (m : Member) (C : Member → Bool) → IsSound b m C → (l : LastOf (λ y. C y && not (b.context m y)) b.members) → IsSound b l.it (minus C l.it)
+  its_without c m C s l =
+      let x = l.it in
+      let there = (and_parts (C x) (not (b.context m x)) l.passes).0 in
+      let i = s.set.listed x there in
+      record { listed = i; covers = λ z h. minus_from C x z (s.set.closed x there z h) (λ e. both_ways (b.context x x) (causal_self b.context b.members x c.causal i) (subst (λ (y : Member). b.context x y ≡ true) (sym e) h)); set = free_at c m C s l; lacks = minus_here C x }
+
   free_by : (c : IsCausalFamily b) (m : Member) (C : Member → Bool) → IsSound b m C → ((z : Member) → IsIn z b.members → (C z && not (b.context m z)) ≡ false) ⊎ LastOf (λ y. C y && not (b.context m y)) b.members → SameSet C (b.context m) ⊎ Free m C
   free_by c m C s (inl n) =
       inl (same_from C (b.context m) (λ z h. elim (cases_Bool (b.context m z)) [ inl e ↦ e | inr e ↦ absurd (both_ways (C z && not (b.context m z)) (n z (s.set.listed z h)) (and_from (C z) (not (b.context m z)) h (not_from_false (b.context m z) e))) ]) s.covers)
   free_by c m C s (inr l) =
-      let x = l.it in
-      let r = and_parts (C x) (not (b.context m x)) l.passes in
-      let out : b.context m x ≡ false = not-true (b.context m x) r.1 in
-      let i = s.set.listed x r.0 in
-      let set = free_at c m C s l in
+      let there = (and_parts (C l.it) (not (b.context m l.it)) l.passes).0 in
       inr (record {
-        it = x;
-        other = λ e. both_ways (C m) s.lacks (subst (λ (y : Member). C y ≡ true) (sym e) r.0);
-        out = minus_here C x;
-        whole = minus_plus C x r.0;
-        mine = record { listed = s.listed; covers = λ z h. minus_from C x z (s.covers z h) (λ e. both_ways (b.context m z) (subst (λ (y : Member). b.context m y ≡ false) e out) h); set = set; lacks = minus_lacks C x m s.lacks };
-        its = record { listed = i; covers = λ z h. minus_from C x z (s.set.closed x r.0 z h) (λ e. both_ways (b.context x x) (causal_self b.context b.members x c.causal i) (subst (λ (y : Member). b.context x y ≡ true) (sym e) h)); set = set; lacks = minus_here C x };
+        it = l.it;
+        other = λ e. both_ways (C m) s.lacks (subst (λ (y : Member). C y ≡ true) (sym e) there);
+        out = minus_here C l.it;
+        whole = minus_plus C l.it there;
+        mine = mine_without c m C s l;
+        its = its_without c m C s l;
       })
 
   -- a set that m may be added to is m's base context, or has a member that may be taken out

@@ -93,7 +93,7 @@ zero_or_more : (n : ℕ) → (n ≡ 0) ⊎ (1 ≤ n)
 zero_or_more zero = inl refl
 zero_or_more (suc n) = inr (omega arith)
 
-at_most_or_more : (a b : ℕ) → (a ≤ b) ⊎ (b < a)
+pub at_most_or_more : (a b : ℕ) → (a ≤ b) ⊎ (b < a)
 at_most_or_more a b = elim (cases_lt b a) [ inl h ↦ inr h | inr h ↦ inl h ]
 
 -- the groups of a name below one that may be added are there

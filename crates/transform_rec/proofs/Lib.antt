@@ -14,3 +14,8 @@ pub mod LawsHold
 pub mod Histories
 pub mod Transformations
 pub mod SameHistories
+pub mod Backwards
+pub mod Chains
+pub mod Keeping
+pub mod Steps
+pub mod WorkLists

@@ -20,7 +20,8 @@ use Rattle.transform_rec.specs.Derived.{IsOnlyFormAt, Inclusion, IsInclusion, Is
 use Rattle.transform_rec.specs.Laws.{family_of}
 use Rattle.transform_rec.specs.Histories.{family_in, MayBeAddedTo}
 use Rattle.transform_rec.proofs.Histories.{history_causal, added_sound, sound_added, known_generation, added_next}
-use Rattle.transform_rec.proofs.Turns.{IsOnWay, way_first, way_falls, way_room, way_next, way_last}
+use Rattle.transform_rec.specs.Ways.{IsOnWay}
+use Rattle.transform_rec.proofs.Turns.{Inertness, way_first, way_falls, way_room, way_next, way_pass, way_last}
 
 -- what is appended to a list without elements
 pub from_nothing : {A : Type 0} (xs ys zs new : List A) → xs ≡ ys → ys ≡ zs ++ new → zs ≡ [] → xs ≡ new
@@ -92,11 +93,17 @@ module _ {F : Type 0} (o : OverHistory F) where
       let all : total_by (λ y. o.inclusion.extent (o.form y)) (members_in o.history) ≤ 4294967295 = subst (λ (l : List Member). total_by (λ y. o.inclusion.extent (o.form y)) l ≤ 4294967295) e total in
       omega arith
 
-  pub way_on : (m x : Member) (to c d : ContextData) (f k g : F) (rest : List Member) → MayBeAddedTo o.history to m → OnWay m to c f (x ∷ rest) → IsOnlyFormAt o.inclusion.over (family_in o.history o.form) x (has c) k → d ≡ raised c x → g ≡ o.inclusion.over f k → OnWay m to d g rest
-  way_on m x to c d f k g rest a w only e p =
+  pub way_on : (m x : Member) (to c d : ContextData) (f k g : F) (rest : List Member) → OnWay m to c f (x ∷ rest) → IsOnlyFormAt o.inclusion.over (family_in o.history o.form) x (has c) k → d ≡ raised c x → g ≡ o.inclusion.over f k → OnWay m to d g rest
+  way_on m x to c d f k g rest w only e p =
       let next = added_next o.history o.valid c x (way_added m x to c f rest w) in
       let same : SameSet (has d) (plus (has c) x) = λ (y : Member). ap (λ (b : ContextData). has b y) e ∙ has_raised c x next y in
-      subst (λ (h : F). OnWay m to d h rest) (sym p) (way_next deriving_over m x (has to) (has c) (has d) f k rest a.lacks same w only.0)
+      subst (λ (h : F). OnWay m to d h rest) (sym p) (way_next deriving_over m x (has to) (has c) (has d) f k rest same w only.0)
+
+  pub way_skip : (IsInert : F → Type 0) → Inertness o.inclusion.over IsInert → (m x : Member) (to c d : ContextData) (f : F) (rest : List Member) → IsInert (o.form x) → OnWay m to c f (x ∷ rest) → d ≡ raised c x → OnWay m to d f rest
+  way_skip IsInert n m x to c d f rest inert w e =
+      let next = added_next o.history o.valid c x (way_added m x to c f rest w) in
+      let same : SameSet (has d) (plus (has c) x) = λ (y : Member). ap (λ (b : ContextData). has b y) e ∙ has_raised c x next y in
+      way_pass deriving_over IsInert n m x (has to) (has c) (has d) f rest inert same w
 
   pub way_end : (m : Member) (to c : ContextData) (f : F) (xs : List Member) (n : ℕ) → length xs ≤ n → OnWay m to c f (drop n xs) → IsOnlyFormAt o.inclusion.over (family_in o.history o.form) m (has to) f
   way_end m to c f xs n past w = way_last deriving_over m (has to) (has c) f (subst (λ (l : List Member). OnWay m to c f l) (drop_all n xs past) w)

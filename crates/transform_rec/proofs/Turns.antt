@@ -7,21 +7,16 @@ use Rattle.ttf_form.specs.Families.{total_by}
 use Rattle.transform_rec.specs.Sets.{none, IsSubset, SameSet, plus, plus_all}
 use Rattle.transform_rec.specs.Family.{Family, IsClosed, IsSound, size}
 use Rattle.transform_rec.specs.Derived.{Derived, IsOnlyFormAt, Deriving}
-use Rattle.transform_rec.specs.Derived.Derived.{at_base}
+use Rattle.transform_rec.specs.Derived.Derived.{at_base, by_step}
 use Rattle.transform_rec.specs.Executing.{IsCausalFrom}
+use Rattle.transform_rec.specs.Ways.{IsOnWay}
 use Rattle.transform_rec.proofs.Lists.{in_filter, filter_in}
 use Rattle.transform_rec.proofs.Sets.{same_from, all_keeps, all_in, all_cases, sum_within, all_same}
 use Rattle.transform_rec.proofs.Families.{base_sound, size_plus}
-use Rattle.transform_rec.proofs.Forms.{form_moves, form_step, derived_room}
+use Rattle.transform_rec.proofs.Forms.{form_moves, form_step, derived_room, exists}
 use Rattle.transform_rec.proofs.Uniqueness.{only_form}
 use Rattle.transform_rec.proofs.CausalLists.{causal_moves, causal_part, causal_rest}
 use Rattle.transform_rec.proofs.CausalOrders.{book_run}
-
--- f is a derived form of m at C, and the rest may be added to C one after the other, which gives T
-pub record IsOnWay {F : Type 0} (over : F → F → F) (b : Family F) (m : Member) (T C : Member → Bool) (f : F) (rest : List Member) : Type 0 where
-  pub derived : Derived over b m C f
-  pub path : IsCausalFrom b C rest
-  pub whole : SameSet (plus_all C rest) T
 
 -- the members of T that C lacks, in the family's order
 abbrev pub difference_in : List Member → (Member → Bool) → (Member → Bool) → List Member
@@ -30,6 +25,15 @@ difference_in ms C T = filter (λ y. T y && not (C y)) ms
 filter_twice : (p q : Member → Bool) (xs : List Member) → filter (λ z. not (q z)) (filter p xs) ≡ filter (λ z. p z && not (q z)) xs
 filter_twice p q [] = refl
 filter_twice p q (x ∷ xs) = let ih = filter_twice p q xs in elim (cases_Bool (p x)) [ inl h ↦ elim (cases_Bool (q x)) [ inl k ↦ rw (h, k) ih | inr k ↦ rw (h, k) (ap (λ ys. x ∷ ys) ih) ] | inr h ↦ rw h ih ]
+
+-- inert forms change no form, and stay inert when others are included in them
+pub record Inertness {F : Type 0} (over : F → F → F) (IsInert : F → Type 0) : Type 0 where
+  pub law : (a b : F) → IsInert b → over a b ≡ a
+  pub kept : (a b : F) → IsInert a → IsInert (over a b)
+
+derived_inert : {F : Type 0} (over : F → F → F) (IsInert : F → Type 0) (b : Family F) → Inertness over IsInert → (m : Member) (C : Member → Bool) (f : F) → IsInert (b.form m) → Derived over b m C f → IsInert f
+derived_inert over IsInert b n m C f h (at_base i s e) = subst IsInert (sym e) h
+derived_inert over IsInert b n m C f h (by_step D x g k i ne l s dg dk e) = subst IsInert (sym e) (n.kept g k (derived_inert over IsInert b n m D g h dg))
 
 module _ {F : Type 0} (d : Deriving F) where
   -- a difference of closed sets, in the family's order, may be added one member after the other
@@ -51,15 +55,15 @@ module _ {F : Type 0} (d : Deriving F) where
       let base = base_sound d.family d.known.causal m s.listed in
       let c : IsClosed d.family C = record { listed = λ x e. base.set.listed x (sym (h x) ∙ e); closed = λ x e z k. h z ∙ base.set.closed x (sym (h x) ∙ e) z k } in
       let within : IsSubset C T = λ (z : Member) (e : C z ≡ true). s.covers z (sym (h z) ∙ e) in
-      record { derived = at_base s.listed h refl; path = difference_run C T c s.set within; whole = difference_whole C T s.set within }
+      record { derived = at_base s.listed h refl; path = difference_run C T c s.set within; whole = difference_whole C T s.set within; lacks = s.lacks }
 
   -- the next member may be added, and is another than m
   pub way_sound : (m x : Member) (T C : Member → Bool) (f : F) (rest : List Member) → IsOnWay d.inclusion.over d.family m T C f (x ∷ rest) → IsSound d.family x C
   way_sound m x T C f rest w = w.path.0
 
-  pub way_other : (m x : Member) (T C : Member → Bool) (f : F) (rest : List Member) → T m ≡ false → IsOnWay d.inclusion.over d.family m T C f (x ∷ rest) → m ≢ x
-  way_other m x T C f rest l w e =
-      both_ways (T m) l (sym (w.whole m) ∙ all_in (x ∷ rest) C m (inl e))
+  pub way_other : (m x : Member) (T C : Member → Bool) (f : F) (rest : List Member) → IsOnWay d.inclusion.over d.family m T C f (x ∷ rest) → m ≢ x
+  way_other m x T C f rest w e =
+      both_ways (T m) w.lacks (sym (w.whole m) ∙ all_in (x ∷ rest) C m (inl e))
 
   -- it is at a smaller set
   pub way_falls : (m x : Member) (T C : Member → Bool) (f : F) (rest : List Member) → IsOnWay d.inclusion.over d.family m T C f (x ∷ rest) → suc (size d.family C) ≤ size d.family T
@@ -74,12 +78,20 @@ module _ {F : Type 0} (d : Deriving F) where
   pub way_room : (m x : Member) (T C : Member → Bool) (f k : F) (rest : List Member) → IsOnWay d.inclusion.over d.family m T C f (x ∷ rest) → Derived d.inclusion.over d.family x C k → d.inclusion.place f + d.inclusion.extent k ≤ total_by (λ y. d.inclusion.extent (d.family.form y)) d.family.members
   way_room m x T C f k rest w dk = derived_room d m x C f k w.derived dk
 
-  pub way_next : (m x : Member) (T C E : Member → Bool) (f k : F) (rest : List Member) → T m ≡ false → SameSet E (plus C x) → IsOnWay d.inclusion.over d.family m T C f (x ∷ rest) → Derived d.inclusion.over d.family x C k → IsOnWay d.inclusion.over d.family m T E (d.inclusion.over f k) rest
-  way_next m x T C E f k rest l h w dk = record {
-    derived = form_moves d m (plus C x) E (d.inclusion.over f k) (λ z. sym (h z)) (form_step d m x C f k w.path.0 (way_other m x T C f rest l w) w.derived dk);
+  pub way_next : (m x : Member) (T C E : Member → Bool) (f k : F) (rest : List Member) → SameSet E (plus C x) → IsOnWay d.inclusion.over d.family m T C f (x ∷ rest) → Derived d.inclusion.over d.family x C k → IsOnWay d.inclusion.over d.family m T E (d.inclusion.over f k) rest
+  way_next m x T C E f k rest h w dk = record {
+    derived = form_moves d m (plus C x) E (d.inclusion.over f k) (λ z. sym (h z)) (form_step d m x C f k w.path.0 (way_other m x T C f rest w) w.derived dk);
     path = causal_moves d.family (plus C x) E rest (λ z. sym (h z)) w.path.1;
     whole = λ z. all_same rest E (plus C x) h z ∙ w.whole z;
+    lacks = w.lacks;
   }
+
+  -- an inert member may be added without its form
+  pub way_pass : (IsInert : F → Type 0) → Inertness d.inclusion.over IsInert → (m x : Member) (T C E : Member → Bool) (f : F) (rest : List Member) → IsInert (d.family.form x) → SameSet E (plus C x) → IsOnWay d.inclusion.over d.family m T C f (x ∷ rest) → IsOnWay d.inclusion.over d.family m T E f rest
+  way_pass IsInert n m x T C E f rest inert h w =
+      let k = exists d x C w.path.0 in
+      let same : d.inclusion.over f k.0 ≡ f = n.law f k.0 (derived_inert d.inclusion.over IsInert d.family n x C k.0 inert k.1) in
+      subst (λ (g : F). IsOnWay d.inclusion.over d.family m T E g rest) same (way_next m x T C E f k.0 rest h w k.1)
 
   -- at last it is the only form of m at T
   pub way_last : (m : Member) (T C : Member → Bool) (f : F) → IsOnWay d.inclusion.over d.family m T C f [] → IsOnlyFormAt d.inclusion.over d.family m T f

@@ -12,6 +12,10 @@ use Rattle.transform_rec.specs.Derived.{IsOnlyFormAt}
 abbrev pub family_in : {F : Type 0} → List OpData → (Member → F) → Family F
 family_in h form = record { members = members_in h; context = base_has h; form = form }
 
+-- the members of a history with their base contexts, and no forms
+abbrev pub members_alone : List OpData → Family (Unit {0})
+members_alone h = family_in h (λ x. tt)
+
 -- the member is one of the history, and the context is a closed one within the history that holds the member's base context
 -- and lacks the member
 pub record MayBeAddedTo (h : List OpData) (c : ContextData) (m : Member) : Type 0 where

@@ -5,4 +5,6 @@ pub mod Derived
 pub mod Executing
 pub mod Laws
 pub mod Histories
+pub mod Ways
+pub mod Entries
 pub mod TwoInserts

@@ -17,8 +17,8 @@ use ttf_form::{Bases, Include};
 
 /// The form of the member m of the book at the context `to`: its base form, after the inclusion of each
 /// member of `to` that its base context lacks, in the book's order, each of them in its own form at the
-/// context that is reached (COT 2009). There is exactly one form that inclusion between equal contexts
-/// derives.
+/// context that is reached (COT 2009); an inert member changes no form and is added without its own. There is
+/// exactly one form that inclusion between equal contexts derives.
 ///
 /// The bases list the members of the book, with their base contexts. The context `to` is closed and within
 /// the book, has the original of each of its undo groups, holds m's base context and lacks m. Memory may be
@@ -43,8 +43,10 @@ pub fn transform<F: Include, B: Bases<F>>(
     let mut rest = Vec::new(alloc);
     difference(book, &context, to, &mut rest)?;
     for x in &rest {
-        let other = transform(alloc, book, bases, x, &context)?;
-        form = form.include(&other);
+        if !bases.base(x).inert() {
+            let other = transform(alloc, book, bases, x, &context)?;
+            form = form.include(&other);
+        }
         context.reserve(x)?;
         context.add_reserved(x);
     }

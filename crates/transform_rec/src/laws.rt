@@ -9,6 +9,7 @@ ghost use Rattle.transform_rec.specs.Derived.{IsInclusion, IsFamily};
 ghost use Rattle.transform_rec.specs.Executing.{HasOwnNames, IsTable};
 ghost use Rattle.transform_rec.specs.Laws.{table_of, inclusion_of, family_of, OneForm, CausalListsHaveForms, AddableFormFits, Swap, ToTheFront, OrderIndependence, Restriction, OneMoreMember};
 ghost use Rattle.transform_rec.specs.Histories.{SameOperationsSameForm};
+ghost use Rattle.transform_rec.specs.Entries.{NoEntriesAreForms, NextOperationKeepsForms};
 
 use ttf_form::{Applies, Bases, Include};
 
@@ -42,6 +43,17 @@ pub fn one_form<F: Include, B: Bases<F>>(bases: &B)
 /// whatever order and with whatever authors and contexts of undos, if the base forms agree.
 pub fn same_operations_same_form<F: Include>()
     ensures { SameOperationsSameForm F.over }
+{}
+
+/// No entries are forms of their keys, whatever the members.
+pub fn no_entries_are_forms<F: Include>()
+    ensures { NoEntriesAreForms F.over }
+{}
+
+/// Entries of a cache that are the forms of their keys over a history are so over the history with its next
+/// operation, if the base forms of its members stay.
+pub fn next_operation_keeps_forms<F: Include>()
+    ensures { NextOperationKeepsForms F.over }
 {}
 
 /// The list of the bases is causal from the empty set, and each causal list has its derived forms.

@@ -53,7 +53,7 @@ pub loop-x-preserved : goal.loop-x-preserved
 loop-x-preserved g t c =
     let o = over_history g.B.Bases c.args.bases.now c.args.book.now.ops c.requires.members c.requires.contexts c.derives.ensures.inclusion c.derives.ensures.family c.known.ensures.valid in
     let way = way_at o c.args.m.now c.x-item.result c.args.to.now.set c.loop-x.context.set c.loop-x.form c.deref-x-items.result.now c.loop-x.x-index (omega arith) c.x-item.is c.loop-x.invariant in
-    way_on o c.args.m.now c.x-item.result c.args.to.now.set c.loop-x.context.set c.add_reserved.new.self.set c.loop-x.form c.in_ok-other.other c.include-form.result _ c.requires.added way c.in_ok-other.ensures (search (rules, c.add_reserved.ensures, c.reserve.ensures.same)) c.include-form.ensures
+    way_on o c.args.m.now c.x-item.result c.args.to.now.set c.loop-x.context.set c.add_reserved.new.self.set c.loop-x.form c.in_ok-other.other c.include-form.result _ way c.in_ok-other.ensures (search (rules, c.add_reserved.ensures, c.reserve.ensures.same)) c.include-form.ensures
 
 pub returns : goal.returns
 returns g t c =

@@ -1,0 +1,184 @@
+//! Pairs of a member and a target, each with what is computed of it so far.
+
+ghost use Rattle.std.specs.Prelude.{◌≡◌, ◌<◌, ◌&&◌, not, Some, [], Contains, reverse, IfOk, IfSome, IsNone, OnOk, length, slice_get};
+ghost use Rattle.op_name.specs.declared.member.Member.{Member};
+ghost use Rattle.op_name.specs.Members.{IsMember};
+ghost use Rattle.context_vector.specs.Contexts.{has, raised, IsNextMember};
+ghost use Rattle.context_vector.specs.Vectors.{IsLastMember};
+ghost use Rattle.context_vector.specs.Equality.{context_eq};
+ghost use Rattle.context_diff.specs.Histories.{members_in};
+ghost use Rattle.context_diff.specs.Bases.{base_has};
+ghost use Rattle.form_cache.specs.Keys.{KeyData};
+ghost use Rattle.transform_rec.specs.Sets.{SameSet, minus};
+ghost use Rattle.transform_rec.specs.Histories.{family_in, members_alone, MayBeAddedTo};
+ghost use Rattle.transform_rec.specs.Ways.{IsWayBack, IsPending};
+ghost use Rattle.transform_rec.specs.Entries.{AreForms};
+
+use crate::laws::derives;
+use context_diff::{Book, base_context};
+use context_vector::Vector;
+use form_cache::{Cache, Key};
+use op_name::{Member, Memory};
+use std::alloc::Global;
+use ttf_form::{Bases, Include};
+
+/// The form of a member on its way to a greater context: the member with the context that is reached, its
+/// form there, and the members that are still to be added, the next one last. With these the context is the
+/// target.
+#[derive(Drop)]
+pub struct Pending<F> {
+    pub at: Key,
+    pub form: F,
+    pub rest: Vec<Member>,
+}
+
+/// The way of the key's member to the key's context: from the greatest part of the difference to the member's
+/// base context, in the book's order, at which the cache has its form, or from its base form.
+pub fn start<F: Include + Copy, B: Bases<F>>(
+    alloc: Global,
+    book: &Book,
+    bases: &B,
+    cache: &mut Cache<F>,
+    at: Key,
+) -> Result<Pending<F>, Memory>
+    requires members { B.members bases.now ≡ members_in book.now.ops }
+    requires contexts { (x y : Member) → B.base_context bases.now x y ≡ base_has book.now.ops x y }
+    requires added { MayBeAddedTo book.now.ops at.context at.member }
+    requires known { AreForms F.over (family_in book.now.ops (B.base_form bases.now)) cache.old.entries }
+    ensures member { IfOk result (λ p. p.at.member ≡ at.member) }
+    ensures way { IfOk result (λ p. IsPending F.over (family_in book.now.ops (B.base_form bases.now)) (has at.context) p) }
+    ensures known { AreForms F.over (family_in book.now.ops (B.base_form bases.now)) cache.new.entries }
+{
+    book.known();
+    let mut at = at;
+    let own = own_context(book, &at)?;
+    let mut rest = Vec::new(alloc);
+    match go_back(book, cache, &mut at, &own, &mut rest)? {
+        Some(form) => Ok(Pending { at, form, rest }),
+        None => {
+            let form = base_of(book, bases, &at);
+            Ok(Pending { at, form, rest })
+        }
+    }
+}
+
+// The base context of the key's member.
+fn own_context(book: &Book, at: &Key) -> Result<Vector, Memory>
+    requires { MayBeAddedTo book.now.ops at.now.context at.now.member }
+    ensures { IfOk result (λ v. (y : Member) → has v.set y ≡ base_has book.now.ops at.now.member y) }
+{
+    base_context(book, &at.member)
+}
+
+// The base form of the key's member.
+fn base_of<F: Include, B: Bases<F>>(book: &Book, bases: &B, at: &Key) -> F
+    requires members { B.members bases.now ≡ members_in book.now.ops }
+    requires added { MayBeAddedTo book.now.ops at.now.context at.now.member }
+    ensures { result ≡ B.base_form bases.now at.now.member }
+{
+    bases.base(&at.member)
+}
+
+// Takes the members that the base context lacks out of the key's context, the last one in the book first, until
+// the cache has the form of the key, or none is left.
+fn go_back<F: Copy>(
+    book: &Book,
+    cache: &mut Cache<F>,
+    at: &mut Key,
+    own: &Vector,
+    rest: &mut Vec<Member>,
+) -> Result<Option<F>, Memory>
+    requires added { MayBeAddedTo book.now.ops at.old.context at.old.member }
+    requires own { (y : Member) → has own.now.set y ≡ base_has book.now.ops at.old.member y }
+    requires empty { rest.old.items ≡ [] }
+    ensures member { at.new.member ≡ at.old.member }
+    ensures found { IfOk result (λ o. IfSome o (λ f. Contains cache.old.entries (at.new, f))) }
+    ensures base { IfOk result (λ o. IsNone o → SameSet (has at.new.context) (base_has book.now.ops at.old.member)) }
+    ensures way { OnOk result (IsWayBack (members_alone book.now.ops) at.old.member (has at.old.context) (has at.new.context) (reverse rest.new.items)) }
+    ensures entries { (e : KeyData × F) → Contains cache.new.entries e → Contains cache.old.entries e }
+{
+    book.known();
+    let mut i = book.len();
+    while i > 0 {
+        if is_at(at, own) {
+            return Ok(None);
+        }
+        i -= 1;
+        let x = member_at(book, i);
+        if is_between(own, at, &x) {
+            drop_member(at, &x);
+            rest.reserve(1)?;
+            rest.push_reserved(x);
+            if let Some(form) = cache.get(at) {
+                return Ok(Some(form));
+            }
+        }
+    }
+    Ok(None)
+}
+
+// The member at this place of the book.
+fn member_at(book: &Book, i: u32) -> Member
+    requires { i < length book.now.ops }
+    ensures place { slice_get (members_in book.now.ops) i ≡ Some result }
+    ensures range { IsMember result }
+{
+    book.known();
+    match book.op(i) {
+        Some(op) => op.member(),
+        None => unreachable!(),
+    }
+}
+
+// Whether the key's context is this one.
+fn is_at(at: &Key, own: &Vector) -> bool
+    ensures { result ≡ context_eq at.now.context own.now.set }
+{
+    at.context == *own
+}
+
+// Whether the key's context has the member, and the other one lacks it.
+fn is_between(own: &Vector, at: &Key, x: &Member) -> bool
+    ensures { result ≡ (has at.now.context x.now && not (has own.now.set x.now)) }
+{
+    at.context.contains(x) && !own.contains(x)
+}
+
+// Takes the member, the last one of its site or its name, out of the key's context.
+fn drop_member(at: &mut Key, x: &Member)
+    requires member { IsMember x.now }
+    requires last { IsLastMember at.old.context x.now }
+    ensures member { at.new.member ≡ at.old.member }
+    ensures context { SameSet (has at.new.context) (minus (has at.old.context) x.now) }
+{
+    at.context.drop_last(x);
+}
+
+/// Adds the member, the next one of its site or its name, to the key's context.
+pub fn add_member(at: &mut Key, x: &Member) -> Result<(), Memory>
+    requires member { IsMember x.now }
+    requires next { IsNextMember at.old.context x.now }
+    ensures { OnOk result (at.new ≡ record { member = at.old.member; context = raised at.old.context x.now }) }
+{
+    at.context.reserve(x)?;
+    at.context.add_reserved(x);
+    Ok(())
+}
+
+/// The key's member.
+pub fn member_in(at: &Key) -> Member
+    ensures { result ≡ at.now.member }
+{
+    at.member
+}
+
+/// The key of another member at the same context.
+pub fn key_beside(at: &Key, x: &Member) -> Result<Key, Memory>
+    ensures { IfOk result (λ k. k ≡ record { member = x.now; context = at.now.context }) }
+{
+    let context = at.context.try_clone()?;
+    Ok(Key {
+        member: *x,
+        context,
+    })
+}

@@ -1,0 +1,215 @@
+//! The form of a member at a greater context, by a list of pairs that wait for one another and a cache of forms.
+
+ghost use Rattle.std.specs.Prelude.{◌≡◌, ℕ, Bool, IfOk, IfSome, IsNone, IsTrue, OnOk};
+ghost use Rattle.op_name.specs.declared.member.Member.{Member};
+ghost use Rattle.context_vector.specs.Contexts.{has};
+ghost use Rattle.context_diff.specs.Histories.{members_in};
+ghost use Rattle.context_diff.specs.Bases.{base_has};
+ghost use Rattle.transform_rec.specs.Derived.{Derived, IsOnlyFormAt};
+ghost use Rattle.transform_rec.specs.Histories.{family_in, MayBeAddedTo};
+ghost use Rattle.transform_rec.specs.Ways.{IsWaiting, IsPending, IsStep, IsBegun};
+ghost use Rattle.transform_rec.specs.Entries.{AreForms};
+
+use crate::laws::derives;
+use crate::pending::{Pending, add_member, key_beside, member_in, start};
+use context_diff::Book;
+use context_vector::Vector;
+use form_cache::{Cache, Key};
+use op_name::{Member, Memory};
+use std::alloc::Global;
+use ttf_form::{Bases, Include};
+
+/// What `transform` answers, with the forms of a cache at hand: the one form of the member m of the book at the
+/// context `to`. The conditions are those of `transform`, and that each entry of the cache is the form of its
+/// key over this book. After either answer each entry still is.
+///
+/// It keeps a list of pairs of a member and a target, each waiting for the next one, whose target is a proper
+/// part of its own. Before a pair is put on the list the cache is asked for its form, and then for that of its
+/// member at the greatest part of the target, in the book's order. A pair's finished form is kept, and so is,
+/// where the form of x is included in that of m, the form of x after the inclusion of m's: an operation that
+/// was made after m asks for it.
+pub fn transform_with<F: Include + Copy, B: Bases<F>>(
+    alloc: Global,
+    book: &Book,
+    bases: &B,
+    cache: &mut Cache<F>,
+    m: &Member,
+    to: &Vector,
+) -> Result<F, Memory>
+    requires members { B.members bases.now ≡ members_in book.now.ops }
+    requires contexts { (x y : Member) → B.base_context bases.now x y ≡ base_has book.now.ops x y }
+    requires added { MayBeAddedTo book.now.ops to.now.set m.now }
+    requires known { AreForms F.over (family_in book.now.ops (B.base_form bases.now)) cache.old.entries }
+    ensures form { IfOk result (IsOnlyFormAt F.over (family_in book.now.ops (B.base_form bases.now)) m.now (has to.now.set)) }
+    ensures known { AreForms F.over (family_in book.now.ops (B.base_form bases.now)) cache.new.entries }
+{
+    book.known();
+    bases.known();
+    derives::<F, B>(bases);
+    let key = Key {
+        member: *m,
+        context: to.try_clone()?,
+    };
+    if let Some(form) = cache.get(&key) {
+        return Ok(form);
+    }
+    let mut current = start(alloc, book, bases, cache, key)?;
+    let mut waiting: Vec<Pending<F>> = Vec::new(alloc);
+    loop {
+        match current.rest.pop() {
+            Some(x) => match advance(alloc, book, bases, cache, &mut current, &x)? {
+                Some(inner) => {
+                    waiting.reserve(1)?;
+                    waiting.push_reserved(current);
+                    current = inner;
+                }
+                None => {}
+            },
+            None => match waiting.pop() {
+                Some(outer) => {
+                    let Pending { at, form, rest: _rest } = current;
+                    let mut outer = outer;
+                    hand(book, bases, cache, &mut outer, at, form)?;
+                    current = outer;
+                }
+                None => {
+                    let Pending { at, form, rest: _rest } = current;
+                    cache.keep(at, form);
+                    return Ok(form);
+                }
+            },
+        }
+    }
+}
+
+// Adds x, the next member of the pair's rest, which was taken from it: at once where x is inert or the cache has its
+// form at the pair's context; else it answers the pair of x and that context, for which this one is to wait.
+fn advance<F: Include + Copy, B: Bases<F>>(
+    alloc: Global,
+    book: &Book,
+    bases: &B,
+    cache: &mut Cache<F>,
+    pair: &mut Pending<F>,
+    x: &Member,
+) -> Result<Option<Pending<F>>, Memory>
+    requires members { B.members bases.now ≡ members_in book.now.ops }
+    requires contexts { (x y : Member) → B.base_context bases.now x y ≡ base_has book.now.ops x y }
+    requires known { AreForms F.over (family_in book.now.ops (B.base_form bases.now)) cache.old.entries }
+    requires waits { (T : Member → Bool) × IsWaiting F.over (family_in book.now.ops (B.base_form bases.now)) T x.now pair.old }
+    ensures added { IfOk result (λ o. IsNone o → IsStep F.over (family_in book.now.ops (B.base_form bases.now)) x.now pair.old pair.new) }
+    ensures same { IfOk result (λ o. IfSome o (λ _. pair.new ≡ pair.old)) }
+    ensures begun { IfOk result (λ o. IfSome o (IsBegun F.over (family_in book.now.ops (B.base_form bases.now)) x.now pair.new)) }
+    ensures known { AreForms F.over (family_in book.now.ops (B.base_form bases.now)) cache.new.entries }
+{
+    book.known();
+    bases.known();
+    derives::<F, B>(bases);
+    if is_inert(book, bases, pair, x) {
+        pass(book, bases, pair, x)?;
+        return Ok(None);
+    }
+    let key = key_beside(&pair.at, x)?;
+    match cache.get(&key) {
+        Some(other) => {
+            take_in(book, bases, cache, pair, key, other)?;
+            Ok(None)
+        }
+        None => {
+            let inner = start(alloc, book, bases, cache, key)?;
+            Ok(Some(inner))
+        }
+    }
+}
+
+// Whether x, which the pair waits for, is inert.
+fn is_inert<F: Include + Copy, B: Bases<F>>(
+    book: &Book,
+    bases: &B,
+    pair: &Pending<F>,
+    x: &Member,
+) -> bool
+    requires members { B.members bases.now ≡ members_in book.now.ops }
+    requires waits { (T : Member → Bool) × IsWaiting F.over (family_in book.now.ops (B.base_form bases.now)) T x.now pair.now }
+    ensures { IsTrue result → F.IsInert (B.base_form bases.now x.now) }
+{
+    bases.base(x).inert()
+}
+
+// Adds an inert member to the pair's context: its form changes no form.
+fn pass<F: Include + Copy, B: Bases<F>>(
+    book: &Book,
+    bases: &B,
+    pair: &mut Pending<F>,
+    x: &Member,
+) -> Result<(), Memory>
+    requires members { B.members bases.now ≡ members_in book.now.ops }
+    requires contexts { (x y : Member) → B.base_context bases.now x y ≡ base_has book.now.ops x y }
+    requires waits { (T : Member → Bool) × IsWaiting F.over (family_in book.now.ops (B.base_form bases.now)) T x.now pair.old }
+    requires inert { F.IsInert (B.base_form bases.now x.now) }
+    ensures { OnOk result (IsStep F.over (family_in book.now.ops (B.base_form bases.now)) x.now pair.old pair.new) }
+{
+    book.known();
+    bases.known();
+    derives::<F, B>(bases);
+    add_member(&mut pair.at, x)?;
+    Ok(())
+}
+
+// Hands the finished form of a key to the pair that waits for it, and keeps it.
+fn hand<F: Include + Copy, B: Bases<F>>(
+    book: &Book,
+    bases: &B,
+    cache: &mut Cache<F>,
+    outer: &mut Pending<F>,
+    at: Key,
+    form: F,
+) -> Result<(), Memory>
+    requires members { B.members bases.now ≡ members_in book.now.ops }
+    requires contexts { (x y : Member) → B.base_context bases.now x y ≡ base_has book.now.ops x y }
+    requires known { AreForms F.over (family_in book.now.ops (B.base_form bases.now)) cache.old.entries }
+    requires waits { (T : Member → Bool) × IsWaiting F.over (family_in book.now.ops (B.base_form bases.now)) T at.member outer.old }
+    requires form { IsOnlyFormAt F.over (family_in book.now.ops (B.base_form bases.now)) at.member (has outer.old.at.context) form }
+    ensures added { OnOk result (IsStep F.over (family_in book.now.ops (B.base_form bases.now)) at.member outer.old outer.new) }
+    ensures known { AreForms F.over (family_in book.now.ops (B.base_form bases.now)) cache.new.entries }
+{
+    let x = member_in(&at);
+    let key = key_beside(&outer.at, &x)?;
+    let copy = key_beside(&outer.at, &x)?;
+    cache.keep(copy, form);
+    take_in(book, bases, cache, outer, key, form)?;
+    Ok(())
+}
+
+// Includes the form of the key, a member at the pair's context, in the pair's form, and adds the member. It keeps the
+// other form of the two after the inclusion of the pair's.
+fn take_in<F: Include + Copy, B: Bases<F>>(
+    book: &Book,
+    bases: &B,
+    cache: &mut Cache<F>,
+    pair: &mut Pending<F>,
+    key: Key,
+    other: F,
+) -> Result<(), Memory>
+    requires members { B.members bases.now ≡ members_in book.now.ops }
+    requires contexts { (x y : Member) → B.base_context bases.now x y ≡ base_has book.now.ops x y }
+    requires known { AreForms F.over (family_in book.now.ops (B.base_form bases.now)) cache.old.entries }
+    requires waits { (T : Member → Bool) × IsWaiting F.over (family_in book.now.ops (B.base_form bases.now)) T key.member pair.old }
+    requires here { key.context ≡ pair.old.at.context }
+    requires form { Derived F.over (family_in book.now.ops (B.base_form bases.now)) key.member (has key.context) other }
+    ensures added { OnOk result (IsStep F.over (family_in book.now.ops (B.base_form bases.now)) key.member pair.old pair.new) }
+    ensures known { AreForms F.over (family_in book.now.ops (B.base_form bases.now)) cache.new.entries }
+{
+    book.known();
+    bases.known();
+    derives::<F, B>(bases);
+    let x = member_in(&key);
+    let m = member_in(&pair.at);
+    let turned = other.include(&pair.form);
+    let taken = pair.form.include(&other);
+    let mut key = key;
+    add_member(&mut key, &m)?;
+    cache.keep(key, turned);
+    add_member(&mut pair.at, &x)?;
+    pair.form = taken;
+    Ok(())
+}
