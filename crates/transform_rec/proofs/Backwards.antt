@@ -102,12 +102,12 @@ number_last h v c n there s =
     let high = range.1 in
     let next : NameData = record { site = n.site; number = n.number + 1 } in
     let later : n.number < count_of c n.site → ⊥ = λ (less : n.number < count_of c n.site).
-        let in_c = has_original c next (omega arith) (omega arith) in
-        let other : Original n ≢ Original next = λ (e : Original n ≡ Original next). let same : n.number ≡ n.number + 1 = ap (λ (m : Member). (target_of m).number) e in absurd (omega arith) in
-        let in_d = minus_from (has c) (Original n) (Original next) in_c other in
-        let known = s.known (Original next) in_d in
-        let base = in_original h next (Original n) known (own_earlier h (complete h v) next known n refl low (omega arith)) in
-        both_ways (minus (has c) (Original n) (Original n)) (minus_here (has c) (Original n)) (s.closed (Original next) (Original n) in_d base) in
+    let in_c = has_original c next (omega arith) (omega arith) in
+    let other : Original n ≢ Original next = λ (e : Original n ≡ Original next). let same : n.number ≡ n.number + 1 = ap (λ (m : Member). (target_of m).number) e in absurd (omega arith) in
+    let in_d = minus_from (has c) (Original n) (Original next) in_c other in
+    let known = s.known (Original next) in_d in
+    let base = in_original h next (Original n) known (own_earlier h (complete h v) next known n refl low (omega arith)) in
+    both_ways (minus (has c) (Original n) (Original n)) (minus_here (has c) (Original n)) (s.closed (Original next) (Original n) in_d base) in
     elim (at_most_or_more (count_of c n.site) n.number) [ inl most ↦ omega arith | inr less ↦ absurd (later less) ]
 
 generation_last : (h : List OpData) → IsValid h → (c : ContextData) (t : NameData) (g : ℕ) → has c (Group t g) ≡ true → IsClosedSet h (minus (has c) (Group t g)) → g ≡ entry_of c t
@@ -116,12 +116,12 @@ generation_last h v c t g there s =
     let low = range.0 in
     let high = range.1 in
     let later : g < entry_of c t → ⊥ = λ (less : g < entry_of c t).
-        let in_c = has_group c t (g + 1) (omega arith) (omega arith) in
-        let other : Group t g ≢ Group t (g + 1) = λ (e : Group t g ≡ Group t (g + 1)). let same : g ≡ g + 1 = cc in absurd (omega arith) in
-        let in_d = minus_from (has c) (Group t g) (Group t (g + 1)) in_c other in
-        let known = s.known (Group t (g + 1)) in_d in
-        let base = in_group_below h t (g + 1) (Group t g) known (below_group t (g + 1) g low (omega arith)) in
-        both_ways (minus (has c) (Group t g) (Group t g)) (minus_here (has c) (Group t g)) (s.closed (Group t (g + 1)) (Group t g) in_d base) in
+    let in_c = has_group c t (g + 1) (omega arith) (omega arith) in
+    let other : Group t g ≢ Group t (g + 1) = λ (e : Group t g ≡ Group t (g + 1)). let same : g ≡ g + 1 = cc in absurd (omega arith) in
+    let in_d = minus_from (has c) (Group t g) (Group t (g + 1)) in_c other in
+    let known = s.known (Group t (g + 1)) in_d in
+    let base = in_group_below h t (g + 1) (Group t g) known (below_group t (g + 1) g low (omega arith)) in
+    both_ways (minus (has c) (Group t g) (Group t g)) (minus_here (has c) (Group t g)) (s.closed (Group t (g + 1)) (Group t g) in_d base) in
     elim (at_most_or_more (entry_of c t) g) [ inl most ↦ omega arith | inr less ↦ absurd (later less) ]
 
 pub taken_last : (h : List OpData) → IsValid h → (c : ContextData) (x : Member) → has c x ≡ true → IsClosedSet h (minus (has c) x) → IsLastMember c x
@@ -237,7 +237,7 @@ module _ {F : Type 0} (h : List OpData) (v : IsValid h) (from : KeyData) (old : 
   walk_past at stack i j new own x e here is t w =
       let near = w.near in
       let seen : has at.context x ≡ true → base_has h from.member x ≡ true = λ (there : has at.context x ≡ true).
-          elim (cases_Bool (has own x)) [ inl k ↦ sym (is x) ∙ k | inr k ↦ absurd (both_ways (has at.context x && not (has own x)) t (and_from (has at.context x) (not (has own x)) there (not_from_false (has own x) k))) ] in
+      elim (cases_Bool (has own x)) [ inl k ↦ sym (is x) ∙ k | inr k ↦ absurd (both_ways (has at.context x && not (has own x)) t (and_from (has at.context x) (not (has own x)) there (not_from_false (has own x) k))) ] in
       record { near = omega arith; member = w.member; back = w.back; late = late_stays h v from.member x (has at.context) i j e here seen w.late; entries = w.entries }
 
   pub walk_all : (at : KeyData) (stack : List Member) (i : ℕ) (new : List (KeyData × F)) → i ≡ 0 → Walk at stack i new → SameSet (has at.context) (base_has h from.member)

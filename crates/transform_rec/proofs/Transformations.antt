@@ -99,11 +99,11 @@ module _ {F : Type 0} (o : OverHistory F) where
       let same : SameSet (has d) (plus (has c) x) = λ (y : Member). ap (λ (b : ContextData). has b y) e ∙ has_raised c x next y in
       subst (λ (h : F). OnWay m to d h rest) (sym p) (way_next deriving_over m x (has to) (has c) (has d) f k rest same w only.0)
 
-  pub way_skip : (IsInert : F → Type 0) → Inertness o.inclusion.over IsInert → (m x : Member) (to c d : ContextData) (f : F) (rest : List Member) → IsInert (o.form x) → OnWay m to c f (x ∷ rest) → d ≡ raised c x → OnWay m to d f rest
-  way_skip IsInert n m x to c d f rest inert w e =
+  pub way_skip : (IsInert : F → Type 0) → Inertness o.inclusion.over IsInert → (m x : Member) (to c d : ContextData) (f g : F) (rest : List Member) → IsInert (o.form x) → OnWay m to c f (x ∷ rest) → d ≡ raised c x → g ≡ f → OnWay m to d g rest
+  way_skip IsInert n m x to c d f g rest inert w e p =
       let next = added_next o.history o.valid c x (way_added m x to c f rest w) in
       let same : SameSet (has d) (plus (has c) x) = λ (y : Member). ap (λ (b : ContextData). has b y) e ∙ has_raised c x next y in
-      way_pass deriving_over IsInert n m x (has to) (has c) (has d) f rest inert same w
+      subst (λ (h : F). OnWay m to d h rest) (sym p) (way_pass deriving_over IsInert n m x (has to) (has c) (has d) f rest inert same w)
 
   pub way_end : (m : Member) (to c : ContextData) (f : F) (xs : List Member) (n : ℕ) → length xs ≤ n → OnWay m to c f (drop n xs) → IsOnlyFormAt o.inclusion.over (family_in o.history o.form) m (has to) f
   way_end m to c f xs n past w = way_last deriving_over m (has to) (has c) f (subst (λ (l : List Member). OnWay m to c f l) (drop_all n xs past) w)

@@ -67,13 +67,21 @@ pub fn transform_with<F: Include + Copy, B: Bases<F>>(
             },
             None => match waiting.pop() {
                 Some(outer) => {
-                    let Pending { at, form, rest: _rest } = current;
+                    let Pending {
+                        at,
+                        form,
+                        rest: _rest,
+                    } = current;
                     let mut outer = outer;
                     hand(book, bases, cache, &mut outer, at, form)?;
                     current = outer;
                 }
                 None => {
-                    let Pending { at, form, rest: _rest } = current;
+                    let Pending {
+                        at,
+                        form,
+                        rest: _rest,
+                    } = current;
                     cache.keep(at, form);
                     return Ok(form);
                 }

@@ -1,11 +1,12 @@
-use Rattle.std.proofs.Common.{ℕ, suc, ◌≡◌, ◌≤◌, List, sym, subst, arith, rules}
+use Rattle.std.proofs.Common.{ℕ, suc, ◌≡◌, ◌≤◌, List, sym, subst, ◌∙◌, arith, rules}
 use Rattle.op_name.specs.declared.member.Member.{Member}
-use Rattle.context_vector.specs.Contexts.{has}
+use Rattle.context_vector.specs.Contexts.{has, raised}
 use Rattle.ttf_form.specs.Families.{IsIn}
 use Rattle.transform_rec.specs.Family.{size}
 use Rattle.transform_rec.specs.Histories.{family_in}
 use Rattle.transform_rec.proofs.Histories.{known_in}
-use Rattle.transform_rec.proofs.Transformations.{from_nothing, bases_causal, over_history, within_all, way_start, way_at, way_added, way_member, way_following, way_less, way_fits, way_on, way_end}
+use Rattle.transform_rec.proofs.Transformations.{from_nothing, bases_causal, over_history, within_all, way_start, way_at, way_added, way_member, way_following, way_less, way_fits, way_on, way_skip, way_end}
+use Rattle.transform_rec.proofs.derivation.+transform.Goals.{then-not-inert+in_ok-other, else-not-inert}
 use Rattle.transform_rec.proofs.derivation.+transform.Goals as goal
 
 pub derives-requires : goal.derives-requires
@@ -53,7 +54,12 @@ pub loop-x-preserved : goal.loop-x-preserved
 loop-x-preserved g t c =
     let o = over_history g.B.Bases c.args.bases.now c.args.book.now.ops c.requires.members c.requires.contexts c.derives.ensures.inclusion c.derives.ensures.family c.known.ensures.valid in
     let way = way_at o c.args.m.now c.x-item.result c.args.to.now.set c.loop-x.context.set c.loop-x.form c.deref-x-items.result.now c.loop-x.x-index (omega arith) c.x-item.is c.loop-x.invariant in
-    way_on o c.args.m.now c.x-item.result c.args.to.now.set c.loop-x.context.set c.add_reserved.new.self.set c.loop-x.form c.in_ok-other.other c.include-form.result _ way c.in_ok-other.ensures (search (rules, c.add_reserved.ensures, c.reserve.ensures.same)) c.include-form.ensures
+    let more : c.add_reserved.new.self.set ≡ raised c.loop-x.context.set c.x-item.result = search (rules, c.add_reserved.ensures, c.reserve.ensures.same) in
+    elim c.if-not-inert.branch [
+      | then-not-inert+in_ok-other w ↦ way_on o c.args.m.now c.x-item.result c.args.to.now.set c.loop-x.context.set c.add_reserved.new.self.set c.loop-x.form w.in_ok-other.other c.if-not-inert.form _ way w.in_ok-other.ensures more (w.form-is ∙ w.include-form.ensures)
+      | else-not-inert w ↦ let inert : g.F.Include.IsInert (g.B.Bases.base_form c.args.bases.now c.x-item.result) = subst g.F.Include.IsInert c.base.ensures (c.inert.ensures.0 w.if-not-inert.false) in
+          way_skip o g.F.Include.IsInert (record { law = g.met.F.Include.inert_law; kept = g.met.F.Include.inert_over }) c.args.m.now c.x-item.result c.args.to.now.set c.loop-x.context.set c.add_reserved.new.self.set c.loop-x.form c.if-not-inert.form _ inert way more w.form-is
+    ]
 
 pub returns : goal.returns
 returns g t c =

@@ -10,7 +10,7 @@ abbrev pub invariant-loop-x : goal.invariant-loop-x
 invariant-loop-x g l = record {
   chain : IsChain g.F.Include.over (family_in l.book.ops (g.B.Bases.base_form l.bases)) (λ S. IsPending g.F.Include.over (family_in l.book.ops (g.B.Bases.base_form l.bases)) S l.current) (has l.to.set) l.waiting.items l.current.at.member;
   root : first g.F.Include.over (family_in l.book.ops (g.B.Bases.base_form l.bases)) l.waiting.items l.current.at.member ≡ l.m;
-  known : AreForms g.F.Include.over (family_in l.book.ops (g.B.Bases.base_form l.bases)) l.cache.entries
+  known : AreForms g.F.Include.over (family_in l.book.ops (g.B.Bases.base_form l.bases)) l.cache.entries;
 }
 
 -- the greatest work that is left to the pairs
