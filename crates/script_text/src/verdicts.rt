@@ -1,7 +1,8 @@
 //! The words of verdicts on operations that others made.
 
 ghost use Rattle.std.specs.Prelude.{◌≡◌, IfOk, string_bytes};
-ghost use Rattle.script_text.specs.Verdicts.{verdict_text, forged_text, Repeat, Waits, NotClosed, PlaceOut, Integrated};
+ghost use Rattle.cot_site.specs.declared.verdict.Verdict.TheVariants.{Repeat, Waits, NotClosed, PlaceOut, Integrated};
+ghost use Rattle.script_text.specs.Verdicts.{verdict_text, forged_text};
 
 use crate::members::{member_text, name_text};
 use op_name::{Member, Memory, Name};

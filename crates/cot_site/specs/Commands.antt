@@ -1,0 +1,100 @@
+-- Local commands: which operation a site makes, or why it makes none.
+use Rattle.std.specs.Prelude.{◌≡◌, ◌⊎◌, ℕ, suc, ◌+◌, ◌<◌, ◌≤◌, Bool, true, false, List, [], ◌∷◌, Option, Some, None, Result, Ok, Err, IsOk, ◌==◌, nat_lt, if◌then◌else◌, length, map, slice_get}
+use Rattle.op_name.specs.declared.member.Member.TheVariants.{Original}
+use Rattle.op_name.specs.NameData.{NameData}
+use Rattle.context_vector.specs.Contexts.{ContextData, count_of}
+use Rattle.context_diff.specs.Operations.{OpData, inserting, deleting, undoing}
+use Rattle.context_diff.specs.Histories.{is_known, is_even, generation_in, context_of_all}
+use Rattle.context_diff.specs.Replays.{Cell, replay_of, is_shown, shown}
+use Rattle.context_vector.specs.Vectors.{VectorData}
+use Rattle.context_diff.specs.declared.op.Op.{Op}
+use Rattle.context_diff.specs.Ops.{data_of}
+use Rattle.cot_site.specs.declared.local.Local.{Local}
+use Rattle.cot_site.specs.declared.local.Local.TheVariants.{PlaceOut, Unknown, NotInForce, InForce, GenerationFull, NumberFull, ContextFull, Memory}
+use Rattle.cot_site.specs.States.{State}
+
+-- the places of the cells that pass, where the first cell of the list stands at n
+abbrev pub places_from : (Cell → Bool) → ℕ → List Cell → List ℕ
+places_from p n [] = []
+places_from p n (c ∷ cs) = if p c then n ∷ places_from p (suc n) cs else places_from p (suc n) cs
+
+-- where the shown cells of a history stand among all cells of its replay
+abbrev pub shown_places_of : List OpData → List ℕ
+shown_places_of h = places_from (is_shown h) 0 (replay_of h)
+
+-- the place of the v-th shown cell, counted from 0
+abbrev pub place_of_shown : List OpData → ℕ → Option ℕ
+place_of_shown h v = slice_get (shown_places_of h) v
+
+-- the place for a character behind v shown ones: the front, or the place behind the shown cell before it
+abbrev pub place_behind : List OpData → ℕ → Option ℕ
+place_behind h v = slice_get (0 ∷ map suc (shown_places_of h)) v
+
+-- how many originals the site has made
+abbrev pub count_made : State → ℕ
+count_made s = count_of (context_of_all s.history) s.number
+
+-- the name of the site's next original
+abbrev pub next_name : State → NameData
+next_name s = record { site = s.number; number = count_made s + 1 }
+
+-- the operation, if its context has no more undo entries than an operation carries
+abbrev pub in_context : ContextData → OpData → Result OpData Local
+in_context c o = if nat_lt 16384 (length c.entries) then Err (ContextFull (length c.entries)) else Ok o
+
+-- the original, if the site has a number for it
+abbrev pub numbered : State → OpData → Result OpData Local
+numbered s o = if nat_lt (count_made s) 1000000 then in_context (context_of_all s.history) o else Err NumberFull
+
+-- the insert of a character behind v shown ones
+abbrev pub local_insert : State → ℕ → ℕ → Result OpData Local
+local_insert s v ch = elim (place_behind s.history v) [
+  | None ↦ Err (PlaceOut v (length (shown s.history)))
+  | Some p ↦ numbered s (inserting (next_name s) p ch (context_of_all s.history))
+]
+
+-- the delete of the v-th shown character, counted from 0
+abbrev pub local_delete : State → ℕ → Result OpData Local
+local_delete s v = elim (place_of_shown s.history v) [
+  | None ↦ Err (PlaceOut v (length (shown s.history)))
+  | Some p ↦ numbered s (deleting (next_name s) p (context_of_all s.history))
+]
+
+-- the undo or redo of an original at the generation after its own
+abbrev pub turned : State → NameData → Result OpData Local
+turned s t = in_context (context_of_all s.history) (undoing s.number t (generation_in s.history t + 1) (context_of_all s.history))
+
+-- the undo of an original in force
+abbrev pub local_undo : State → NameData → Result OpData Local
+local_undo s t =
+    if is_known s.history (Original t)
+    then (if is_even (generation_in s.history t) then turned s t else Err (NotInForce (generation_in s.history t)))
+    else Err (Unknown t)
+
+-- the redo of an original that isn't in force
+abbrev pub local_redo : State → NameData → Result OpData Local
+local_redo s t =
+    if is_known s.history (Original t)
+    then (if is_even (generation_in s.history t) then Err (InForce (generation_in s.history t)) else if generation_in s.history t == 65535 then Err GenerationFull else turned s t)
+    else Err (Unknown t)
+
+-- the answer is that of the definition, or memory was wanting where the definition has an operation
+abbrev pub IsAnswer : Result OpData Local → Result Op Local → Type 0
+IsAnswer r (Ok o) = r ≡ Ok (data_of o)
+IsAnswer r (Err Memory) = IsOk r
+IsAnswer r (Err e) = r ≡ Err e
+
+-- the next name of the site, unless its numbers are used up
+abbrev pub IsNumber : State → Result NameData Local → Type 0
+IsNumber s (Ok n) = (n ≡ next_name s) × (count_made s < 1000000)
+IsNumber s (Err e) = (e ≡ NumberFull) × (1000000 ≤ count_made s)
+
+-- the context, unless it has more undo entries than an operation carries, or memory was wanting
+abbrev pub IsContextAnswer : ContextData → Result VectorData Local → Type 0
+IsContextAnswer c (Ok v) = (v.set ≡ c) × (length c.entries ≤ 16384)
+IsContextAnswer c (Err e) = ((e ≡ ContextFull (length c.entries)) × (16384 < length c.entries)) ⊎ ((e ≡ Memory) × (length c.entries ≤ 16384))
+
+-- the generation of an original, unless the history hasn't the original
+abbrev pub IsGeneration : State → NameData → Result ℕ Local → Type 0
+IsGeneration s t (Ok g) = (g ≡ generation_in s.history t) × (is_known s.history (Original t) ≡ true)
+IsGeneration s t (Err e) = (e ≡ Unknown t) × (is_known s.history (Original t) ≡ false)

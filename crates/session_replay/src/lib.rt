@@ -1,0 +1,5 @@
+//! Sessions.
+#![tactic(auto)]
+
+mod session;
+pub use session::StepBad;
