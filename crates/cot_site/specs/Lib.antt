@@ -1,3 +1,5 @@
 pub mod Verdicts
 pub mod States
 pub mod Commands
+pub mod Sites
+pub mod Laws

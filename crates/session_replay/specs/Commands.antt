@@ -1,5 +1,5 @@
 -- What each line of a script does to a session.
-use Rattle.std.specs.Prelude.{ℕ, ◌+◌, zero, suc, false, List, [], ◌∷◌, length, drop, codes, slice_get, nat_lt, Result, Ok, Err, Option, Some, None, if◌then◌else◌}
+use Rattle.std.specs.Prelude.{ℕ, ◌+◌, zero, suc, false, List, [], ◌∷◌, length, drop, codes, slice_get, nat_lt, nat_le, Result, Ok, Err, Option, Some, None, if◌then◌else◌}
 use Rattle.op_name.specs.NameData.{NameData}
 use Rattle.context_diff.specs.Operations.{OpData}
 use Rattle.context_diff.specs.Histories.{context_of_all}
@@ -96,10 +96,10 @@ started_line (Raw i bytes) d = at_known i d (Ok (framed (length bytes) i bytes d
 started_line (Show i) d = at_known i d (Ok (told (show_text i d) d))
 started_line (State i) d = at_known i d (Ok (told (have_text i d) d))
 
--- a line before the sites are made
+-- a line before the sites are made, of which there are 64 at most
 abbrev pub first_line : Line → Result (List (Step SessionData)) StepBad
 first_line Blank = Ok []
-first_line (Sites n) = Ok (told [] (record { sites = new_sites 0 n; messages = [] }))
+first_line (Sites n) = if nat_le n 64 then Ok (told [] (record { sites = new_sites 0 n; messages = [] })) else Err NoSite
 first_line (Ins i v text) = Err NoSites
 first_line (Nl i v) = Err NoSites
 first_line (Del i v) = Err NoSites

@@ -2,3 +2,5 @@ pub mod Steps
 pub mod Sessions
 pub mod Commands
 pub mod Scripts
+pub mod Answers
+pub mod Laws

@@ -66,12 +66,13 @@ is_silent many (NotClosed s) = false
 is_silent many (PlaceOut p k) = false
 is_silent many Integrated = false
 
-abbrev pub delivery_text : Bool → OpData → Verdict → State → List ℕ
-delivery_text many o v s = if is_silent many v then [] else verdict_line_text Give s.number (member_of o) v
+-- what a delivery with this verdict writes, at the site of this number
+abbrev pub told_verdict : Bool → OpData → Verdict → ℕ → List ℕ
+told_verdict many o v site = if is_silent many v then [] else verdict_line_text Give site (member_of o) v
 
 -- a delivery
 abbrev pub taking_in : Bool → OpData → State → List (Step State)
-taking_in many o s = settling (delivery_text many o (judged s o) s) (delivered s o)
+taking_in many o s = settling (told_verdict many o (judged s o) s.number) (delivered s o)
 
 -- ---- the same in a session
 

@@ -1,0 +1,10 @@
+pub mod Lacking
+pub mod Covers
+pub mod Cases
+pub mod Verdicts
+pub mod Releases
+pub mod LocalOps
+pub mod Executions
+pub mod Views
+pub mod Findings
+pub mod Waiting

@@ -1,0 +1,50 @@
+-- The laws of verdicts, releases and local commands.
+use Rattle.std.specs.Prelude.{◌≡◌, ◌↔◌, ℕ, ◌<◌, false, List, Contains, Result, Ok, Option, Some}
+use Rattle.op_name.specs.declared.member.Member.{Member}
+use Rattle.op_name.specs.declared.member.Member.TheVariants.{Original}
+use Rattle.op_name.specs.NameData.{NameData}
+use Rattle.context_diff.specs.Operations.{OpData, member_of, IsWellFormed}
+use Rattle.context_diff.specs.Histories.{IsNext, IsValid}
+use Rattle.cot_site.specs.declared.verdict.Verdict.{Verdict}
+use Rattle.cot_site.specs.declared.verdict.Verdict.TheVariants.{Waits, Integrated}
+use Rattle.cot_site.specs.Verdicts.{verdict_of, IsVerdict, HasOther}
+use Rattle.cot_site.specs.States.{State, Released, judged, released, is_ready, IsSettled}
+use Rattle.cot_site.specs.Commands.{local_insert, local_delete, local_undo, local_redo}
+use Rattle.std.specs.Char.{IsScalar}
+
+-- a well-formed operation has exactly one verdict over a valid history, and it comes exactly where its words hold
+abbrev pub VerdictsAreExact : Type 0
+VerdictsAreExact =
+    (h w : List OpData) (o : OpData) (v : Verdict) → IsValid h → IsWellFormed o → IsVerdict h w o v ↔ (v ≡ verdict_of h w o)
+
+-- an operation is integrated exactly where it may come next, and no other of its name waits
+abbrev pub IntegratedOperationsAreNext : Type 0
+IntegratedOperationsAreNext =
+    (h w : List OpData) (o : OpData)
+    → IsValid h
+    → IsWellFormed o
+    → (verdict_of h w o ≡ Integrated) ↔ (IsNext h o × ((n : NameData) → member_of o ≡ Original n → ¬ HasOther w o n))
+
+-- a released operation doesn't wait again
+abbrev pub ReleasesNeverWait : Type 0
+ReleasesNeverWait =
+    (s : State) (r : Released) (m : Member)
+    → IsValid s.history
+    → ((o : OpData) → Contains s.waiting o → IsWellFormed o)
+    → released s ≡ Some r
+    → ¬ (r.verdict ≡ Waits m)
+
+-- a state is settled exactly where no waiting operation is ready
+abbrev pub SettledStatesHaveNoneReady : Type 0
+SettledStatesHaveNoneReady = (s : State) → IsSettled s ↔ ((o : OpData) → Contains s.waiting o → is_ready s.history o ≡ false)
+
+-- what a site makes may come next in its history
+abbrev pub LocalOperationsAreNext : Type 0
+LocalOperationsAreNext =
+    (s : State) (o : OpData)
+    → IsValid s.history
+    → s.number < 64
+    → ((v ch : ℕ) → IsScalar ch → local_insert s v ch ≡ Ok o → IsNext s.history o)
+    × ((v : ℕ) → local_delete s v ≡ Ok o → IsNext s.history o)
+    × ((t : NameData) → local_undo s t ≡ Ok o → IsNext s.history o)
+    × ((t : NameData) → local_redo s t ≡ Ok o → IsNext s.history o)

@@ -1,0 +1,64 @@
+-- A site as contracts see it: its state, and the forms in which its history was executed.
+use Rattle.std.specs.Prelude.{◌≡◌, ℕ, Bool, List, [], ◌∷◌, ◌++◌, Contains, Option, Some, None, length, take}
+use Rattle.op_name.specs.declared.member.Member.{Member}
+use Rattle.context_diff.specs.Operations.{OpData, IsWellFormed}
+use Rattle.context_diff.specs.Histories.{members_in}
+use Rattle.ttf_form.specs.declared.form.Form.{Form}
+use Rattle.ttf_form.specs.Forms.{form_over}
+use Rattle.ttf_form.specs.Cells.{CellData, applied}
+use Rattle.transform_rec.specs.Sets.{none}
+use Rattle.transform_rec.specs.Derived.{Derived}
+use Rattle.transform_rec.specs.Executing.{AreFormsFrom, executed}
+use Rattle.transform_rec.specs.Histories.{family_in}
+use Rattle.undo_group.specs.BaseForms.{base_form}
+use Rattle.context_diff.specs.declared.op.Op.{Op}
+use Rattle.context_diff.specs.Ops.{data_of}
+use Rattle.cot_site.specs.declared.verdict.Verdict.{Verdict}
+use Rattle.cot_site.specs.States.{State, Released}
+
+-- each operation's form is a derived form of it at the members before it (COT 2009: an operation is executed in its form at
+-- the state that the site has reached)
+abbrev pub AreExecuted : List OpData → List Form → Type 0
+AreExecuted h fs = AreFormsFrom form_over (family_in h (base_form h)) none (members_in h) fs
+
+-- the forms of a history, and the cells that they give one after the other
+pub record IsExecuted (h : List OpData) (fs : List Form) (cs : List CellData) : Type 0 where
+  pub forms : AreExecuted h fs
+  pub cells : cs ≡ executed applied [] fs
+
+-- one more form of a member at a set, appended and applied to the cells
+pub record IsStep (h : List OpData) (m : Member) (to : Member → Bool) (old new : List Form) (before after : List CellData) : Type 0 where
+  pub form : Form
+  pub derived : Derived form_over (family_in h (base_form h)) m to form
+  pub appended : new ≡ old ++ form ∷ []
+  pub cells : after ≡ applied before form
+
+-- an executed history
+pub record ReplicaData : Type 0 where
+  pub history : List OpData
+  pub forms : List Form
+
+-- a state, with the form of each operation of its history
+pub record SiteData : Type 0 where
+  pub number : ℕ
+  pub history : List OpData
+  pub waiting : List OpData
+  pub forms : List Form
+
+abbrev pub state_of : SiteData → State
+state_of s = record { number = s.number; history = s.history; waiting = s.waiting }
+
+-- the old forms are the first of the new ones
+abbrev pub KeepsForms : List Form → List Form → Type 0
+KeepsForms old new = take (length old) new ≡ old
+
+-- the answer tells the released operation with its verdict, or that there is none
+abbrev pub IsRelease : Option Released → Option (Op × Verdict) → Type 0
+IsRelease None None = Unit {0}
+IsRelease None (Some p) = ⊥
+IsRelease (Some r) None = ⊥
+IsRelease (Some r) (Some p) = (r.op ≡ data_of p.0) × (r.verdict ≡ p.1)
+
+-- all are well formed
+abbrev pub AllFormed : List OpData → Type 0
+AllFormed w = (o : OpData) → Contains w o → IsWellFormed o

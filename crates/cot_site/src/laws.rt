@@ -1,0 +1,28 @@
+//! Laws of verdicts, releases and local commands: each says what its definitions give, and does nothing.
+
+ghost use Rattle.cot_site.specs.Laws.{VerdictsAreExact, IntegratedOperationsAreNext, ReleasesNeverWait, SettledStatesHaveNoneReady, LocalOperationsAreNext};
+
+/// A well-formed operation has exactly one verdict over a valid history, the one whose words hold.
+pub fn verdicts_are_exact()
+    ensures { VerdictsAreExact }
+{}
+
+/// An operation is integrated exactly where it may come next in the history, and no other of its name waits.
+pub fn integrated_operations_are_next()
+    ensures { IntegratedOperationsAreNext }
+{}
+
+/// A released operation doesn't wait again.
+pub fn releases_never_wait()
+    ensures { ReleasesNeverWait }
+{}
+
+/// A state is settled exactly where no waiting operation is ready.
+pub fn settled_states_have_none_ready()
+    ensures { SettledStatesHaveNoneReady }
+{}
+
+/// What a site makes may come next in its history.
+pub fn local_operations_are_next()
+    ensures { LocalOperationsAreNext }
+{}
