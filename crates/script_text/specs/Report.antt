@@ -1,17 +1,13 @@
 -- The lines of a report.
 use Rattle.std.specs.Prelude.{ℕ, List, [], ◌∷◌, ◌++◌, length, map, decimal, codes, if◌then◌else◌}
 use Rattle.std.specs.List.{join_with_byte}
-use Rattle.op_name.specs.NameData.{NameData}
 use Rattle.context_vector.specs.Contexts.{ContextData}
 use Rattle.context_diff.specs.Operations.{OpData, inserting, deleting, undoing}
 use Rattle.context_diff.specs.Histories.{is_even}
 use Rattle.script_text.specs.Names.{name_text, group_text}
+pub use Rattle.script_text.specs.Inserted.{inserted_text}
 use Rattle.script_text.specs.declared.refusal.Refusal.{Refusal}
 use Rattle.script_text.specs.declared.refusal.Refusal.TheVariants.{Limit, Long, Utf8, Form, NoSites, Twice, NoSite, NoMessage}
-
--- `op M insert S.N` and a line feed
-abbrev pub inserted_text : ℕ → NameData → List ℕ
-inserted_text message name = codes "op " ++ (decimal message ++ (codes " insert " ++ (decimal name.site ++ (codes "." ++ (decimal name.number ++ codes "\n")))))
 
 -- what a local operation does, in words: an undo at an even generation is a redo
 abbrev pub turn_word : ℕ → List ℕ

@@ -1,0 +1,49 @@
+use Rattle.std.proofs.Common.{◌≡◌, ◌∙◌, sym, ap, subst, List, [], ◌∷◌, ◌++◌}
+use Rattle.context_diff.specs.Operations.{OpData}
+use Rattle.context_diff.specs.Histories.{IsNext}
+use Rattle.context_vector.specs.Vectors.{VectorData}
+use Rattle.context_diff.specs.Ops.{data_of}
+use Rattle.cot_site.specs.Sites.{ReplicaData}
+use Rattle.cot_site.proofs.Executions.{added_at, fits_at, step_at, executed_same, popped}
+use Rattle.cot_site.proofs.replica.Replica.integrate.Goals as goal
+
+pub invariant_of-self-in_err-reserve-2 : goal.invariant_of-self-in_err-reserve-2
+invariant_of-self-in_err-reserve-2 c =
+    let cs = c.self.inside.cells.cells in
+    executed_same c.self.inside.book.ops c.reserve-2.new.self.ops c.self.inside.forms.items c.reserve.new.self.items cs cs c.self.invariant c.reserve-2.ensures.ops c.reserve.ensures.items (λ i. cs)
+
+pub execute-requires-clause-added : goal.execute-requires-clause-added
+execute-requires-clause-added c =
+    let h = c.self.inside.book.ops in
+    let o = data_of c.args.op in
+    let next = subst (λ (r : ReplicaData). IsNext r.history o) (sym c.self.view_is) c.requires in
+    let grown : c.push.new.self.ops ≡ h ++ o ∷ [] = c.push.ensures ∙ ap (λ (l : List OpData). l ++ o ∷ []) c.reserve-2.ensures.ops in
+    let before = c.in_ok-before.ensures ∙ (ap (λ (v : VectorData). v.set) c.have.ensures ∙ c.known.ensures.have) in
+    added_at h o c.push.new.self.ops c.in_ok-before.before.set c.member-member.result c.known.ensures.valid next grown before c.member-member.ensures.member
+
+pub execute-requires-clause-fits : goal.execute-requires-clause-fits
+execute-requires-clause-fits c =
+    let h = c.self.inside.book.ops in
+    let o = data_of c.args.op in
+    let next = subst (λ (r : ReplicaData). IsNext r.history o) (sym c.self.view_is) c.requires in
+    let grown : c.push.new.self.ops ≡ h ++ o ∷ [] = c.push.ensures ∙ ap (λ (l : List OpData). l ++ o ∷ []) c.reserve-2.ensures.ops in
+    let before = c.in_ok-before.ensures ∙ (ap (λ (v : VectorData). v.set) c.have.ensures ∙ c.known.ensures.have) in
+    fits_at h o c.push.new.self.ops c.in_ok-before.before.set c.member-member.result c.self.inside.forms.items c.self.inside.cells.cells c.known.ensures.valid next grown before c.member-member.ensures.member c.self.invariant
+
+pub invariant_of-self-in-Ok : goal.invariant_of-self-in-Ok
+invariant_of-self-in-Ok c =
+    let h = c.self.inside.book.ops in
+    let o = data_of c.args.op in
+    let next = subst (λ (r : ReplicaData). IsNext r.history o) (sym c.self.view_is) c.requires in
+    let grown : c.push.new.self.ops ≡ h ++ o ∷ [] = c.push.ensures ∙ ap (λ (l : List OpData). l ++ o ∷ []) c.reserve-2.ensures.ops in
+    let before = c.in_ok-before.ensures ∙ (ap (λ (v : VectorData). v.set) c.have.ensures ∙ c.known.ensures.have) in
+    step_at h o c.push.new.self.ops c.in_ok-before.before.set c.member-member.result c.self.inside.forms.items c.reserve.new.self.items c.execute.new.forms.items c.self.inside.cells.cells c.execute.new.cells.cells c.known.ensures.valid next grown before c.member-member.ensures.member c.self.invariant c.reserve.ensures.items c.in-Ok.ensures.step
+
+pub invariant_of-self-in-Err : goal.invariant_of-self-in-Err
+invariant_of-self-in-Err c =
+    let h = c.self.inside.book.ops in
+    let o = data_of c.args.op in
+    let grown : c.push.new.self.ops ≡ h ++ o ∷ [] = c.push.ensures ∙ ap (λ (l : List OpData). l ++ o ∷ []) c.reserve-2.ensures.ops in
+    executed_same h c.pop.new.self.ops c.self.inside.forms.items c.execute.new.forms.items c.self.inside.cells.cells c.execute.new.cells.cells c.self.invariant
+    (popped h c.pop.new.self.ops c.push.new.self.ops o c.pop.result grown c.pop.ensures.none c.pop.ensures.ops)
+    (c.in-Err.ensures.forms ∙ c.reserve.ensures.items) c.in-Err.ensures.cells

@@ -1,0 +1,15 @@
+use Rattle.std.proofs.Common.{◌≡◌, ◌∙◌, sym, ap, ℕ, suc, List, ◌∷◌, map}
+use Rattle.std.specs.Prelude.{slice_get}
+use Rattle.cot_site.specs.Sites.{ReplicaData}
+use Rattle.cot_site.specs.Commands.{place_behind}
+use Rattle.cot_site.proofs.Executions.{cells_replayed}
+use Rattle.cot_site.proofs.Views.{places_are}
+use Rattle.cot_site.proofs.replica.Replica.place_behind.Goals as goal
+
+pub returns : goal.returns
+returns c =
+    let h = c.self.inside.book.ops in
+    let cs = c.self.inside.cells.cells in
+    let v = c.args.v in
+    c.model_place.ensures.place
+    ∙ (ap (λ (ps : List ℕ). slice_get (0 ∷ map suc ps) v) (places_are h cs (cells_replayed h c.self.inside.forms.items cs c.known.ensures.valid c.self.invariant)) ∙ ap (λ (r : ReplicaData). place_behind r.history v) c.self.view_is)

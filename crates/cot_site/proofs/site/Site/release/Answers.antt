@@ -1,0 +1,20 @@
+use Rattle.std.proofs.Common.{◌∙◌, sym}
+use Rattle.std.proofs.lemmas.Bool.{true≢false}
+use Rattle.context_diff.specs.Ops.{data_of}
+use Rattle.cot_site.specs.States.{without_waiting}
+use Rattle.cot_site.specs.Sites.{state_of}
+use Rattle.cot_site.proofs.Waiting.{ready_integrated, ready_quiet}
+use Rattle.cot_site.proofs.site.Site.release.Goals as goal
+
+pub integrate-requires : goal.integrate-requires
+integrate-requires c =
+    ready_integrated c.args.self.now.history c.args.self.now.waiting c.args.place (data_of c.in_ok-copy.copy) c.verdict_at-verdict.result c.known.ensures.history c.known.ensures.waiting c.in_ok-copy.ensures c.verdict_at-verdict.ensures (c.is_integrated.ensures.0 c.if-is_integrated.true)
+
+pub returns-clause-effect : goal.returns-clause-effect
+returns-clause-effect c =
+    let s = c.args.self.now in
+    let v = c.verdict_at-verdict.result in
+    let o = data_of c.take-2.result in
+    let at = c.take-2.ensures.op in
+    c.take-2.ensures.state
+    ∙ sym (ready_quiet s.history s.waiting c.args.place o o v (without_waiting (state_of s) c.args.place) c.known.ensures.history c.known.ensures.waiting at (c.requires.ready o at) (c.verdict_at-verdict.ensures o at) (λ e. true≢false (sym (c.is_integrated.ensures.1 e) ∙ c.if-is_integrated.false)))

@@ -1,0 +1,214 @@
+//! The integrated operations of a site, with what they made of the text.
+
+ghost use Rattle.std.specs.Prelude.{◌≡◌, ◌<◌, ◌++◌, ◌∷◌, [], OnOk, OnErr, IfOk, length, option_map, slice_get, vec_len, vec_capacity};
+ghost use Rattle.context_vector.specs.Contexts.{has};
+ghost use Rattle.context_diff.specs.Histories.{context_of_all, IsNext, IsValid};
+ghost use Rattle.context_diff.specs.Replays.{shown, text_of};
+ghost use Rattle.context_diff.specs.Ops.{data_of};
+ghost use Rattle.ttf_form.specs.Forms.{form_over};
+ghost use Rattle.tombstone_text.specs.Rooms.{HasRoomFor};
+ghost use Rattle.ttf_form.specs.Cells.{FitsCells};
+ghost use Rattle.ttf_form.specs.declared.form.Form.{Form};
+ghost use Rattle.transform_rec.specs.Derived.{Derived};
+ghost use Rattle.transform_rec.specs.Histories.{family_in, MayBeAddedTo};
+ghost use Rattle.undo_group.specs.BaseForms.{base_form};
+ghost use Rattle.cot_site.specs.Commands.{place_of_shown, place_behind};
+ghost use Rattle.cot_site.specs.Sites.{AreExecuted, KeepsForms, IsStep};
+
+use context_diff::{Book, Op};
+use context_vector::Vector;
+use op_name::{Member, Memory};
+use std::alloc::Global;
+use std::marker::Model;
+use tombstone_text::Cells;
+use transform_rec::transform;
+use ttf_form::{Cover, Form};
+use undo_group::TextBases;
+use visible_view::{cell_of_visible, model_place, visible_len, write_text};
+
+/// A valid history, the form in which each of its operations was executed, and the cells that these forms
+/// gave.
+#[derive(Drop)]
+pub struct Replica {
+    book: Book,
+    forms: Vec<Form>,
+    cells: Cells,
+}
+
+impl Model for Replica {
+    ghost use Rattle.cot_site.specs.Sites.{ReplicaData, IsExecuted};
+
+    ghost Value = { ReplicaData };
+
+    ghost view = { λ r. record { history = r.book.ops; forms = r.forms.items } };
+
+    ghost invariant = { λ r. IsExecuted r.book.ops r.forms.items r.cells.cells };
+}
+
+impl Replica {
+    /// Nothing is integrated.
+    pub fn new(alloc: Global) -> Replica
+        ensures history { result.history ≡ [] }
+        ensures forms { result.forms ≡ [] }
+    {
+        Replica {
+            book: Book::new(alloc),
+            forms: Vec::new(alloc),
+            cells: Cells::new(alloc),
+        }
+    }
+
+    /// Nothing but what the type keeps: the history is valid, and each form is a form of its operation at the
+    /// members before it.
+    pub fn known(&self)
+        ensures valid { IsValid self.now.history }
+        ensures forms { AreExecuted self.now.history self.now.forms }
+    {
+        self.book.known();
+    }
+
+    /// The integrated operations.
+    pub fn book(&self) -> &Book
+        ensures { result.now.ops ≡ self.now.history }
+    {
+        &self.book
+    }
+
+    /// The members of the history.
+    pub fn vector(&self) -> &Vector
+        ensures { result.now.set ≡ context_of_all self.now.history }
+    {
+        self.book.known();
+        self.book.have()
+    }
+
+    /// The form in which the i-th operation was executed; None exactly past the end.
+    pub fn executed(&self, i: u32) -> Option<&Form>
+        ensures { option_map (λ f. f.now) result ≡ slice_get self.now.forms i }
+    {
+        self.forms.get(i as usize)
+    }
+
+    /// The number of shown characters.
+    pub fn visible_len(&self) -> u32
+        ensures { result ≡ length (shown self.now.history) }
+    {
+        self.book.known();
+        visible_len(&self.cells)
+    }
+
+    /// The place of the v-th shown character, from 0; None exactly where there are no more than v.
+    pub fn place_of_shown(&self, v: u32) -> Option<u32>
+        ensures { result ≡ place_of_shown self.now.history v }
+    {
+        self.book.known();
+        cell_of_visible(&self.cells, v)
+    }
+
+    /// The place for a character behind v shown ones; None exactly where there are fewer than v.
+    pub fn place_behind(&self, v: u32) -> Option<u32>
+        ensures { result ≡ place_behind self.now.history v }
+    {
+        self.book.known();
+        model_place(&self.cells, v)
+    }
+
+    /// Appends the shown text in UTF-8; after want of memory `out` is as it was.
+    pub fn text(&self, out: &mut Vec<u8>) -> Result<(), Memory>
+        ensures ok { OnOk result (out.new.items ≡ out.old.items ++ text_of self.now.history) }
+        ensures err { OnErr result (out.new.items ≡ out.old.items) }
+    {
+        self.book.known();
+        write_text(&self.cells, out)
+    }
+
+    /// Appends the operation, which is next, and executes its form at the members that were integrated before
+    /// it. After want of memory nothing is changed.
+    pub fn integrate(&mut self, op: Op) -> Result<(), Memory>
+        requires { IsNext self.old.history (data_of op) }
+        ensures history { OnOk result (self.new.history ≡ self.old.history ++ data_of op ∷ []) }
+        ensures forms { OnOk result (KeepsForms self.old.forms self.new.forms) }
+        ensures err { OnErr result (self.new ≡ self.old) }
+    {
+        self.book.known();
+        let before = self.book.have().try_clone()?;
+        let member = op.member();
+        self.forms.reserve(1)?;
+        self.book.reserve(&op)?;
+        self.book.push(op);
+        let alloc = *self.forms.allocator();
+        match execute(
+            alloc,
+            &self.book,
+            &mut self.forms,
+            &mut self.cells,
+            &member,
+            &before,
+        ) {
+            Ok(()) => Ok(()),
+            Err(want) => {
+                self.book.pop();
+                Err(want)
+            }
+        }
+    }
+}
+
+// Executes the form of a member of the book at `to`, and appends it to the forms, which have a spare place. After
+// want of memory the forms and the cells are as they were.
+fn execute(
+    alloc: Global,
+    book: &Book,
+    forms: &mut Vec<Form>,
+    cells: &mut Cells,
+    member: &Member,
+    to: &Vector,
+) -> Result<(), Memory>
+    requires room { vec_len forms.old < vec_capacity forms.old }
+    requires added { MayBeAddedTo book.now.ops to.now.set member.now }
+    requires fits { (f : Form) → Derived form_over (family_in book.now.ops (base_form book.now.ops)) member.now (has to.now.set) f → FitsCells cells.old.cells f }
+    ensures step { OnOk result (IsStep book.now.ops member.now (has to.now.set) forms.old.items forms.new.items cells.old.cells cells.new.cells) }
+    ensures forms { OnErr result (forms.new.items ≡ forms.old.items) }
+    ensures cells { OnErr result (cells.new.cells ≡ cells.old.cells) }
+{
+    match form_with_room(alloc, book, cells, member, to) {
+        Ok(form) => {
+            cells.apply(&form);
+            append(forms, &form);
+            Ok(())
+        }
+        Err(want) => Err(want),
+    }
+}
+
+// Appends a copy of the form, for which there is a spare place.
+fn append(forms: &mut Vec<Form>, form: &Form)
+    requires { vec_len forms.old < vec_capacity forms.old }
+    ensures { forms.new.items ≡ forms.old.items ++ form.now ∷ [] }
+{
+    match form {
+        Form::Ins(ins) => forms.push_reserved(Form::Ins(*ins)),
+        Form::Cover(cover) => forms.push_reserved(Form::Cover(Cover {
+            place: cover.place,
+            mark: cover.mark,
+        })),
+    }
+}
+
+// The form of a member of the book at `to`, with room among the cells to apply it. The cells stay as they are.
+fn form_with_room(
+    alloc: Global,
+    book: &Book,
+    cells: &mut Cells,
+    member: &Member,
+    to: &Vector,
+) -> Result<Form, Memory>
+    requires { MayBeAddedTo book.now.ops to.now.set member.now }
+    ensures form { IfOk result (Derived form_over (family_in book.now.ops (base_form book.now.ops)) member.now (has to.now.set)) }
+    ensures room { IfOk result (HasRoomFor cells.new) }
+    ensures cells { cells.new.cells ≡ cells.old.cells }
+{
+    let form = transform(alloc, book, &TextBases::new(book), member, to)?;
+    cells.reserve(&form)?;
+    Ok(form)
+}

@@ -1,0 +1,131 @@
+//! The site: its parts, what contracts see of it, and the calls that only read.
+
+ghost use Rattle.std.specs.Prelude.{◌≡◌, ◌<◌, ◌++◌, [], OnOk, OnErr, IfOk, length, option_map, slice_get};
+ghost use Rattle.context_diff.specs.Operations.{IsWellFormed};
+ghost use Rattle.context_diff.specs.Histories.{context_of_all, IsValid};
+ghost use Rattle.context_diff.specs.Replays.{shown, text_of};
+ghost use Rattle.context_diff.specs.Ops.{data_of};
+ghost use Rattle.cot_site.specs.Verdicts.{verdict_of};
+ghost use Rattle.cot_site.specs.Sites.{AreExecuted, AllFormed};
+
+use crate::judging::verdict_on;
+use crate::replica::Replica;
+use crate::verdict::Verdict;
+use causal_gate::Pool;
+use context_diff::{Book, Op};
+use context_vector::Vector;
+use op_name::Memory;
+use std::alloc::Global;
+use std::marker::Model;
+use ttf_form::Form;
+
+mod deliveries;
+mod edits;
+
+/// One participant's copy of a group text: its number, below `SITES`, the valid history of the operations that
+/// it has integrated, and the operations that wait for members of their contexts, in the order of arrival.
+///
+/// Its text is the one of its history, whatever order the operations came in.
+#[derive(Drop)]
+pub struct Site {
+    number: u16,
+    replica: Replica,
+    pool: Pool,
+}
+
+impl Model for Site {
+    ghost use Rattle.std.specs.Prelude.{◌<◌};
+    ghost use Rattle.cot_site.specs.Sites.{SiteData, AllFormed};
+
+    ghost Value = { SiteData };
+
+    ghost view = { λ s. record { number = s.number; history = s.replica.history; waiting = s.pool; forms = s.replica.forms } };
+
+    ghost invariant = { λ s. (s.number < 64) × AllFormed s.pool };
+}
+
+impl Site {
+    /// The site of this number, with nothing integrated and nothing waiting.
+    pub fn new(alloc: Global, site: u16) -> Result<Site, Memory>
+        requires { site < 64 }
+        ensures { IfOk result (λ s. s ≡ record { number = site; history = []; waiting = []; forms = [] }) }
+    {
+        Ok(Site {
+            number: site,
+            replica: Replica::new(alloc),
+            pool: Pool::new(alloc),
+        })
+    }
+
+    /// Nothing but what the type keeps: the history is valid, all that waits is well formed, and each form is
+    /// a form of its operation at the members that were integrated before it.
+    pub fn known(&self)
+        ensures number { self.now.number < 64 }
+        ensures history { IsValid self.now.history }
+        ensures waiting { AllFormed self.now.waiting }
+        ensures forms { AreExecuted self.now.history self.now.forms }
+    {
+        self.replica.known();
+    }
+
+    /// The number of the site.
+    pub fn number(&self) -> u16
+        ensures { result ≡ self.now.number }
+    {
+        self.number
+    }
+
+    /// The integrated operations, in the order of integration.
+    pub fn book(&self) -> &Book
+        ensures { result.now.ops ≡ self.now.history }
+    {
+        self.replica.book()
+    }
+
+    /// The members of the integrated operations: what a local operation's context is.
+    pub fn vector(&self) -> &Vector
+        ensures { result.now.set ≡ context_of_all self.now.history }
+    {
+        self.replica.vector()
+    }
+
+    /// The operations that wait, in the order of arrival.
+    pub fn pool(&self) -> &Pool
+        ensures { result.now ≡ self.now.waiting }
+    {
+        &self.pool
+    }
+
+    /// The form in which the i-th integrated operation was executed; None exactly past the end.
+    pub fn executed(&self, i: u32) -> Option<&Form>
+        ensures { option_map (λ f. f.now) result ≡ slice_get self.now.forms i }
+    {
+        self.replica.executed(i)
+    }
+
+    /// The number of shown characters.
+    pub fn visible_len(&self) -> u32
+        ensures { result ≡ length (shown self.now.history) }
+    {
+        self.replica.visible_len()
+    }
+
+    /// Appends the shown text in UTF-8: the characters, in the order of the one fixed replay of the inserts of
+    /// the history, whose insert is in force and which no delete in force hits. After want of memory `out` is
+    /// as it was.
+    pub fn text(&self, out: &mut Vec<u8>) -> Result<(), Memory>
+        ensures ok { OnOk result (out.new.items ≡ out.old.items ++ text_of self.now.history) }
+        ensures err { OnErr result (out.new.items ≡ out.old.items) }
+    {
+        self.replica.text(out)
+    }
+
+    /// The verdict that a delivery of the operation, which is well formed, would get. It takes no memory and
+    /// changes nothing.
+    pub fn check(&self, op: &Op) -> Verdict
+        requires { IsWellFormed (data_of op.now) }
+        ensures { result ≡ verdict_of self.now.history self.now.waiting (data_of op.now) }
+    {
+        verdict_on(self.replica.book(), &self.pool, op)
+    }
+}

@@ -1,0 +1,209 @@
+//! Local commands: what the user of a site does.
+
+ghost use Rattle.std.specs.Prelude.{◌≡◌, ◌<◌, true, Err, IfOk, OnOk, OnErr, length};
+ghost use Rattle.context_diff.specs.Histories.{IsNext, context_of_all, is_known, generation_in};
+ghost use Rattle.context_diff.specs.Replays.{shown};
+ghost use Rattle.op_name.specs.declared.member.Member.TheVariants.{Original};
+ghost use Rattle.context_diff.specs.Ops.{data_of};
+ghost use Rattle.cot_site.specs.States.{with_last};
+ghost use Rattle.cot_site.specs.Commands.{place_behind, place_of_shown, local_insert, local_delete, local_undo, local_redo, turned, next_name, IsAnswer, IsNumber, IsContextAnswer, IsGeneration};
+ghost use Rattle.cot_site.specs.Sites.{KeepsForms, state_of};
+
+use crate::local::Local;
+use crate::site::Site;
+use context_diff::Op;
+use context_vector::Vector;
+use op_name::{Member, Name};
+use undo_group::generation;
+
+/// The greatest number that a site gives to one of its originals.
+const NUMBERS: u32 = 1_000_000;
+
+/// The greatest number of undo entries that the context of an operation has.
+const UNDO_ENTRIES: u32 = 16_384;
+
+impl Site {
+    /// Inserts a character behind `v` shown ones: makes the operation with the site's next number and all
+    /// members of the history as context, integrates it, and answers a copy. Refused by PlaceOut, NumberFull,
+    /// ContextFull or Memory; then nothing is changed.
+    pub fn insert(&mut self, v: u32, ch: char) -> Result<Op, Local>
+        ensures answer { IsAnswer (local_insert (state_of self.old) v ch) result }
+        ensures made { IfOk result (λ o. state_of self.new ≡ with_last (state_of self.old) (data_of o)) }
+        ensures forms { OnOk result (KeepsForms self.old.forms self.new.forms) }
+        ensures err { OnErr result (self.new ≡ self.old) }
+    {
+        self.known();
+        let Some(place) = self.place_behind(v) else {
+            return Err(self.place_out(v));
+        };
+        let name = self.next_name()?;
+        let context = self.context()?;
+        self.make(Op::Insert {
+            name,
+            place,
+            ch,
+            context,
+        })
+    }
+
+    /// Deletes the `v`-th shown character, from 0: makes the operation with the site's next number and all
+    /// members of the history as context, integrates it, and answers a copy. Refused by PlaceOut, NumberFull,
+    /// ContextFull or Memory; then nothing is changed.
+    pub fn delete(&mut self, v: u32) -> Result<Op, Local>
+        ensures answer { IsAnswer (local_delete (state_of self.old) v) result }
+        ensures made { IfOk result (λ o. state_of self.new ≡ with_last (state_of self.old) (data_of o)) }
+        ensures forms { OnOk result (KeepsForms self.old.forms self.new.forms) }
+        ensures err { OnErr result (self.new ≡ self.old) }
+    {
+        self.known();
+        let Some(place) = self.place_of_shown(v) else {
+            return Err(self.place_out(v));
+        };
+        let name = self.next_name()?;
+        let context = self.context()?;
+        self.make(Op::Delete {
+            name,
+            place,
+            context,
+        })
+    }
+
+    /// Undoes the insert or delete of this name, whoever made it: makes the undo at the generation after the
+    /// original's, integrates it, and answers a copy. Refused by Unknown, NotInForce, ContextFull or Memory;
+    /// then nothing is changed.
+    pub fn undo(&mut self, name: Name) -> Result<Op, Local>
+        ensures answer { IsAnswer (local_undo (state_of self.old) name) result }
+        ensures made { IfOk result (λ o. state_of self.new ≡ with_last (state_of self.old) (data_of o)) }
+        ensures forms { OnOk result (KeepsForms self.old.forms self.new.forms) }
+        ensures err { OnErr result (self.new ≡ self.old) }
+    {
+        let generation = self.generation_of(name)?;
+        if generation % 2 == 1 {
+            return Err(Local::NotInForce { generation });
+        }
+        self.turn(name, generation)
+    }
+
+    /// Redoes the insert or delete of this name, whoever undid it: makes the redo at the generation after the
+    /// original's, integrates it, and answers a copy. Refused by Unknown, InForce, GenerationFull, ContextFull
+    /// or Memory; then nothing is changed.
+    pub fn redo(&mut self, name: Name) -> Result<Op, Local>
+        ensures answer { IsAnswer (local_redo (state_of self.old) name) result }
+        ensures made { IfOk result (λ o. state_of self.new ≡ with_last (state_of self.old) (data_of o)) }
+        ensures forms { OnOk result (KeepsForms self.old.forms self.new.forms) }
+        ensures err { OnErr result (self.new ≡ self.old) }
+    {
+        let generation = self.generation_of(name)?;
+        if generation % 2 == 0 {
+            return Err(Local::InForce { generation });
+        }
+        if generation == u16::MAX {
+            return Err(Local::GenerationFull);
+        }
+        self.turn(name, generation)
+    }
+
+    // The place for a character behind `v` shown ones, if there are so many.
+    fn place_behind(&self, v: u32) -> Option<u32>
+        ensures { result ≡ place_behind self.now.history v }
+    {
+        self.replica.place_behind(v)
+    }
+
+    // The place of the `v`-th shown character, if there is one.
+    fn place_of_shown(&self, v: u32) -> Option<u32>
+        ensures { result ≡ place_of_shown self.now.history v }
+    {
+        self.replica.place_of_shown(v)
+    }
+
+    // The refusal of a place that no shown character has.
+    fn place_out(&self, v: u32) -> Local
+        ensures { result ≡ Local.PlaceOut v (length (shown self.now.history)) }
+    {
+        Local::PlaceOut {
+            place: v,
+            visible: self.visible_len(),
+        }
+    }
+
+    // The name of the site's next original.
+    fn next_name(&self) -> Result<Name, Local>
+        ensures { IsNumber (state_of self.now) result }
+    {
+        let count = self.vector().count(self.number);
+        if count < NUMBERS {
+            Ok(Name {
+                site: self.number,
+                number: count + 1,
+            })
+        } else {
+            Err(Local::NumberFull)
+        }
+    }
+
+    // The members of the history, as the context of an operation.
+    fn context(&self) -> Result<Vector, Local>
+        ensures { IsContextAnswer (context_of_all self.now.history) result }
+    {
+        let have = self.vector();
+        let entries = have.entries();
+        if entries > UNDO_ENTRIES {
+            return Err(Local::ContextFull { entries });
+        }
+        match have.try_clone() {
+            Ok(context) => Ok(context),
+            Err(_) => Err(Local::Memory),
+        }
+    }
+
+    // The generation that the original of this name has reached.
+    fn generation_of(&self, name: Name) -> Result<u16, Local>
+        ensures { IsGeneration (state_of self.now) name result }
+    {
+        self.known();
+        match self.book().original(&name) {
+            Some(_) => Ok(generation(self.vector(), &name)),
+            None => Err(Local::Unknown { name }),
+        }
+    }
+
+    // The undo or redo of the original at the generation after its own, which is below the greatest one.
+    fn turn(&mut self, name: Name, generation: u16) -> Result<Op, Local>
+        requires known { is_known self.old.history (Original name) ≡ true }
+        requires generation { generation ≡ generation_in self.old.history name }
+        requires below { generation < 65535 }
+        ensures answer { IsAnswer (turned (state_of self.old) name) result }
+        ensures made { IfOk result (λ o. state_of self.new ≡ with_last (state_of self.old) (data_of o)) }
+        ensures forms { OnOk result (KeepsForms self.old.forms self.new.forms) }
+        ensures err { OnErr result (self.new ≡ self.old) }
+    {
+        self.known();
+        let context = self.context()?;
+        self.make(Op::Undo {
+            author: self.number(),
+            target: name,
+            generation: generation + 1,
+            context,
+        })
+    }
+
+    // Integrates an operation of the site's own, which is next, and answers a copy.
+    fn make(&mut self, op: Op) -> Result<Op, Local>
+        requires { IsNext self.old.history (data_of op) }
+        ensures op { IfOk result (λ o. data_of o ≡ data_of op) }
+        ensures memory { OnErr result (result ≡ Err Local.Memory) }
+        ensures made { OnOk result (state_of self.new ≡ with_last (state_of self.old) (data_of op)) }
+        ensures forms { OnOk result (KeepsForms self.old.forms self.new.forms) }
+        ensures err { OnErr result (self.new ≡ self.old) }
+    {
+        let copy = match op.try_clone() {
+            Ok(copy) => copy,
+            Err(_) => return Err(Local::Memory),
+        };
+        match self.integrate(op) {
+            Ok(()) => Ok(copy),
+            Err(_) => Err(Local::Memory),
+        }
+    }
+}
