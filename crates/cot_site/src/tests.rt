@@ -38,6 +38,44 @@ fn give(site: &mut Site, messages: &[Op], numbers: &[usize]) -> Result<(), Fail>
     Ok(())
 }
 
+/// One of the orders of so many messages, all different for numbers below the factorial of their count.
+fn order(alloc: Global, count: usize, number: usize) -> Result<Vec<usize>, Fail> {
+    let mut rest = Vec::new(alloc);
+    for message in 0..count {
+        rest.push(message)?;
+    }
+    let mut order = Vec::new(alloc);
+    let mut code = number;
+    for _ in 0..count {
+        let left = rest.len();
+        if left > 0 {
+            order.push(rest.remove(code % left))?;
+            code /= left;
+        }
+    }
+    Ok(order)
+}
+
+/// How many of these orders of the messages leave a new site with nothing waiting and with this text.
+fn orders_that_show(
+    alloc: Global,
+    messages: &[Op],
+    orders: usize,
+    text: &str,
+) -> Result<usize, Fail> {
+    let mut good = 0usize;
+    for number in 0..orders {
+        let order = order(alloc, messages.len(), number)?;
+        let mut site = Site::new(alloc, 63)?;
+        give(&mut site, messages, order.as_slice())?;
+        let text_is = shown(alloc, &site)?.as_slice() == text.as_bytes();
+        if text_is && site.pool().len() == 0 {
+            good = good.wrapping_add(1);
+        }
+    }
+    Ok(good)
+}
+
 /// Delivers an operation that is well formed.
 fn deliver(site: &mut Site, op: &Op) -> Result<Verdict, Fail> {
     if op.fault().is_some() {

@@ -1,6 +1,6 @@
 //! What is shown after a session.
 
-use super::{give, name, shown, typed, verdict};
+use super::{give, name, orders_that_show, shown, typed, verdict};
 use crate::{Local, Site, Verdict};
 use context_diff::Op;
 use std::alloc::Global;
@@ -38,22 +38,21 @@ fn characters_of_one_to_four_bytes(rt: HostRuntime) -> Result<(), Fail> {
 #[test]
 fn concurrent_edits_in_each_order_show_the_same(rt: HostRuntime) -> Result<(), Fail> {
     let alloc = rt.alloc();
-    let orders: [[usize; 3]; 6] = [[3, 4, 5], [3, 5, 4], [4, 3, 5], [4, 5, 3], [5, 3, 4], [5, 4, 3]];
-    for order in &orders {
-        let mut messages = Vec::new(alloc);
-        let [mut first, mut second, mut third, mut fourth] = writers_of_abc(alloc, &mut messages)?;
-        messages.push(first.delete(1)?)?;
-        messages.push(second.insert(2, 'x')?)?;
-        messages.push(third.insert(1, 'y')?)?;
-        give(&mut fourth, messages.as_slice(), order)?;
-        assert_eq!(rt; shown(alloc, &fourth)?.as_slice(), "ayxc".as_bytes());
-        give(&mut first, messages.as_slice(), order)?;
-        assert_eq!(rt; shown(alloc, &first)?.as_slice(), "ayxc".as_bytes());
-        give(&mut second, messages.as_slice(), order)?;
-        give(&mut third, messages.as_slice(), order)?;
-        assert_eq!(rt; shown(alloc, &second)?.as_slice(), "ayxc".as_bytes());
-        assert_eq!(rt; shown(alloc, &third)?.as_slice(), "ayxc".as_bytes());
-    }
+    let mut messages = Vec::new(alloc);
+    let [mut first, mut second, mut third, _] = writers_of_abc(alloc, &mut messages)?;
+    messages.push(first.delete(1)?)?;
+    messages.push(second.insert(2, 'x')?)?;
+    messages.push(third.insert(1, 'y')?)?;
+    give(&mut first, messages.as_slice(), &[4, 5])?;
+    give(&mut second, messages.as_slice(), &[3, 5])?;
+    give(&mut third, messages.as_slice(), &[4, 3])?;
+    assert_eq!(rt; shown(alloc, &first)?.as_slice(), "ayxc".as_bytes());
+    assert_eq!(rt; shown(alloc, &second)?.as_slice(), "ayxc".as_bytes());
+    assert_eq!(rt; shown(alloc, &third)?.as_slice(), "ayxc".as_bytes());
+    assert_eq!(rt;
+        orders_that_show(alloc, messages.as_slice(), 720, "ayxc")?,
+        720
+    );
     Ok(())
 }
 
@@ -72,6 +71,7 @@ fn at_one_place_the_smaller_site_stands_in_front(rt: HostRuntime) -> Result<(), 
     assert_eq!(rt; shown(alloc, &first)?.as_slice(), "pq".as_bytes());
     assert_eq!(rt; shown(alloc, &second)?.as_slice(), "pq".as_bytes());
     assert_eq!(rt; shown(alloc, &third)?.as_slice(), "pq".as_bytes());
+    assert_eq!(rt; orders_that_show(alloc, messages.as_slice(), 2, "pq")?, 2);
     Ok(())
 }
 
@@ -88,6 +88,10 @@ fn words_typed_at_one_place_at_once(rt: HostRuntime) -> Result<(), Fail> {
     messages.push(fourth.insert(0, 'n')?)?;
     give(&mut first, messages.as_slice(), &[0, 1, 2, 3])?;
     assert_eq!(rt; shown(alloc, &first)?.as_slice(), "mxyn".as_bytes());
+    assert_eq!(rt;
+        orders_that_show(alloc, messages.as_slice(), 24, "mxyn")?,
+        24
+    );
     Ok(())
 }
 
@@ -114,9 +118,19 @@ fn a_word_typed_backwards_among_others(rt: HostRuntime) -> Result<(), Fail> {
     messages.push(fourth.insert(0, 'n')?)?;
     give(&mut first, messages.as_slice(), &[0, 1, 2, 3])?;
     assert_eq!(rt; shown(alloc, &first)?.as_slice(), "myxn".as_bytes());
-    for (i, place) in [(0, Some(0)), (1, Some(0)), (2, Some(0)), (3, Some(3)), (4, None)] {
+    for (i, place) in [
+        (0, Some(0)),
+        (1, Some(0)),
+        (2, Some(0)),
+        (3, Some(3)),
+        (4, None),
+    ] {
         assert_eq!(rt; executed_place(&first, i), place, "at {i}");
     }
+    assert_eq!(rt;
+        orders_that_show(alloc, messages.as_slice(), 24, "myxn")?,
+        24
+    );
     Ok(())
 }
 
@@ -128,12 +142,25 @@ fn two_undos_of_one_generation_are_one(rt: HostRuntime) -> Result<(), Fail> {
     let b = name(0, 2);
     messages.push(first.undo(b)?)?;
     messages.push(second.undo(b)?)?;
-    assert_eq!(rt; verdict(&mut second, messages.as_slice(), 3)?, Verdict::Repeat);
-    assert_eq!(rt; verdict(&mut first, messages.as_slice(), 4)?, Verdict::Repeat);
+    assert_eq!(rt;
+        verdict(&mut second, messages.as_slice(), 3)?,
+        Verdict::Repeat
+    );
+    assert_eq!(rt;
+        verdict(&mut first, messages.as_slice(), 4)?,
+        Verdict::Repeat
+    );
     assert_eq!(rt; shown(alloc, &first)?.as_slice(), "ac".as_bytes());
     messages.push(second.redo(b)?)?;
-    assert_eq!(rt; verdict(&mut first, messages.as_slice(), 5)?, Verdict::Integrated);
+    assert_eq!(rt;
+        verdict(&mut first, messages.as_slice(), 5)?,
+        Verdict::Integrated
+    );
     assert_eq!(rt; shown(alloc, &first)?.as_slice(), "abc".as_bytes());
+    assert_eq!(rt;
+        orders_that_show(alloc, messages.as_slice(), 720, "abc")?,
+        720
+    );
     Ok(())
 }
 
@@ -146,11 +173,24 @@ fn an_undo_that_comes_after_a_redo_changes_nothing(rt: HostRuntime) -> Result<()
     messages.push(first.undo(b)?)?;
     messages.push(first.redo(b)?)?;
     messages.push(second.undo(b)?)?;
-    assert_eq!(rt; verdict(&mut second, messages.as_slice(), 3)?, Verdict::Repeat);
-    assert_eq!(rt; verdict(&mut second, messages.as_slice(), 4)?, Verdict::Integrated);
-    assert_eq!(rt; verdict(&mut first, messages.as_slice(), 5)?, Verdict::Repeat);
+    assert_eq!(rt;
+        verdict(&mut second, messages.as_slice(), 3)?,
+        Verdict::Repeat
+    );
+    assert_eq!(rt;
+        verdict(&mut second, messages.as_slice(), 4)?,
+        Verdict::Integrated
+    );
+    assert_eq!(rt;
+        verdict(&mut first, messages.as_slice(), 5)?,
+        Verdict::Repeat
+    );
     assert_eq!(rt; shown(alloc, &first)?.as_slice(), "abc".as_bytes());
     assert_eq!(rt; shown(alloc, &second)?.as_slice(), "abc".as_bytes());
+    assert_eq!(rt;
+        orders_that_show(alloc, messages.as_slice(), 720, "abc")?,
+        720
+    );
     Ok(())
 }
 
@@ -162,10 +202,14 @@ fn a_character_is_shown_once_both_deletes_of_it_are_undone(rt: HostRuntime) -> R
     messages.push(first.delete(1)?)?;
     messages.push(second.delete(1)?)?;
     give(&mut first, messages.as_slice(), &[4])?;
-    first.undo(name(0, 4))?;
+    messages.push(first.undo(name(0, 4))?)?;
     assert_eq!(rt; shown(alloc, &first)?.as_slice(), "ac".as_bytes());
-    first.undo(name(1, 1))?;
+    messages.push(first.undo(name(1, 1))?)?;
     assert_eq!(rt; shown(alloc, &first)?.as_slice(), "abc".as_bytes());
+    assert_eq!(rt;
+        orders_that_show(alloc, messages.as_slice(), 5040, "abc")?,
+        5040
+    );
     Ok(())
 }
 
@@ -174,10 +218,14 @@ fn the_undo_of_a_delete_shows_no_undone_insert(rt: HostRuntime) -> Result<(), Fa
     let alloc = rt.alloc();
     let mut messages = Vec::new(alloc);
     let [mut first, _, _, _] = writers_of_abc(alloc, &mut messages)?;
-    first.delete(1)?;
-    first.undo(name(0, 2))?;
-    first.undo(name(0, 4))?;
+    messages.push(first.delete(1)?)?;
+    messages.push(first.undo(name(0, 2))?)?;
+    messages.push(first.undo(name(0, 4))?)?;
     assert_eq!(rt; shown(alloc, &first)?.as_slice(), "ac".as_bytes());
+    assert_eq!(rt;
+        orders_that_show(alloc, messages.as_slice(), 720, "ac")?,
+        720
+    );
     Ok(())
 }
 
@@ -189,11 +237,29 @@ fn refusals_of_local_commands(rt: HostRuntime) -> Result<(), Fail> {
     site.insert(0, 'a')?;
     assert_eq!(rt; site.redo(a).err(), Some(Local::InForce { generation: 0 }));
     site.undo(a)?;
-    assert_eq!(rt; site.undo(a).err(), Some(Local::NotInForce { generation: 1 }));
+    assert_eq!(rt;
+        site.undo(a).err(),
+        Some(Local::NotInForce { generation: 1 })
+    );
     site.redo(a)?;
-    assert_eq!(rt; site.undo(name(0, 9)).err(), Some(Local::Unknown { name: name(0, 9) }));
-    assert_eq!(rt; site.delete(5).err(), Some(Local::PlaceOut { place: 5, visible: 1 }));
-    assert_eq!(rt; site.insert(2, 'b').err(), Some(Local::PlaceOut { place: 2, visible: 1 }));
+    assert_eq!(rt;
+        site.undo(name(0, 9)).err(),
+        Some(Local::Unknown { name: name(0, 9) })
+    );
+    assert_eq!(rt;
+        site.delete(5).err(),
+        Some(Local::PlaceOut {
+            place: 5,
+            visible: 1
+        })
+    );
+    assert_eq!(rt;
+        site.insert(2, 'b').err(),
+        Some(Local::PlaceOut {
+            place: 2,
+            visible: 1
+        })
+    );
     assert_eq!(rt; site.book().len(), 3);
     assert_eq!(rt; shown(alloc, &site)?.as_slice(), "a".as_bytes());
     Ok(())
@@ -206,15 +272,25 @@ fn two_people_write_notes(rt: HostRuntime) -> Result<(), Fail> {
     let mut first = Site::new(alloc, 0)?;
     let mut second = Site::new(alloc, 1)?;
     typed(&mut first, 0, "Agenda: budget", &mut messages)?;
-    give(&mut second, messages.as_slice(), &[0, 1, 2, 3, 4, 5, 6, 7, 8, 9, 10, 11, 12, 13])?;
+    give(
+        &mut second,
+        messages.as_slice(),
+        &[0, 1, 2, 3, 4, 5, 6, 7, 8, 9, 10, 11, 12, 13],
+    )?;
     let mut staff = Vec::new(alloc);
     let mut draft = Vec::new(alloc);
     typed(&mut second, 14, ", staff", &mut staff)?;
     typed(&mut first, 8, "draft ", &mut draft)?;
     give(&mut first, staff.as_slice(), &[0, 1, 2, 3, 4, 5, 6])?;
     give(&mut second, draft.as_slice(), &[0, 1, 2, 3, 4, 5])?;
-    assert_eq!(rt; shown(alloc, &first)?.as_slice(), "Agenda: draft budget, staff".as_bytes());
-    assert_eq!(rt; shown(alloc, &second)?.as_slice(), "Agenda: draft budget, staff".as_bytes());
+    assert_eq!(rt;
+        shown(alloc, &first)?.as_slice(),
+        "Agenda: draft budget, staff".as_bytes()
+    );
+    assert_eq!(rt;
+        shown(alloc, &second)?.as_slice(),
+        "Agenda: draft budget, staff".as_bytes()
+    );
     Ok(())
 }
 
@@ -231,7 +307,10 @@ fn an_insert_is_undone_and_redone_up_to_the_last_generation(rt: HostRuntime) -> 
         }
     }
     assert_eq!(rt; site.redo(a).err(), Some(Local::GenerationFull));
-    assert_eq!(rt; site.undo(a).err(), Some(Local::NotInForce { generation: 65_535 }));
+    assert_eq!(rt;
+        site.undo(a).err(),
+        Some(Local::NotInForce { generation: 65_535 })
+    );
     assert_eq!(rt; site.book().len(), 65_536);
     assert_eq!(rt; shown(rt.alloc(), &site)?.as_slice(), "".as_bytes());
     Ok(())

@@ -8,7 +8,13 @@ use std::alloc::Global;
 use std::test::Fail;
 
 /// An insert by a site, its number among the site's originals, its place and its context.
-fn insert(alloc: Global, by: (u16, u32), place: u32, ch: char, counts: &[(u16, u32)]) -> Result<Op, Fail> {
+fn insert(
+    alloc: Global,
+    by: (u16, u32),
+    place: u32,
+    ch: char,
+    counts: &[(u16, u32)],
+) -> Result<Op, Fail> {
     Ok(Op::Insert {
         name: op_name::Name::new(by.0, by.1)?,
         place,
@@ -32,7 +38,10 @@ fn early_operations_wait_for_the_first_that_is_missing(rt: HostRuntime) -> Resul
     assert_eq!(rt; verdict(&mut second, messages.as_slice(), 1)?, a);
     assert_eq!(rt; second.pool().len(), 2);
     assert_eq!(rt; second.release_next()?.is_none(), true);
-    assert_eq!(rt; verdict(&mut second, messages.as_slice(), 0)?, Verdict::Integrated);
+    assert_eq!(rt;
+        verdict(&mut second, messages.as_slice(), 0)?,
+        Verdict::Integrated
+    );
     for number in [2, 3] {
         let released = second.release_next()?;
         let (op, given) = match released {
@@ -61,16 +70,28 @@ fn undos_wait_for_their_targets_and_for_undos_before_them(rt: HostRuntime) -> Re
         missing: Member::Original(a),
     };
     assert_eq!(rt; verdict(&mut second, messages.as_slice(), 1)?, target);
-    assert_eq!(rt; verdict(&mut second, messages.as_slice(), 0)?, Verdict::Integrated);
+    assert_eq!(rt;
+        verdict(&mut second, messages.as_slice(), 0)?,
+        Verdict::Integrated
+    );
     settle(&mut second)?;
-    assert_eq!(rt; verdict(&mut second, messages.as_slice(), 2)?, Verdict::Integrated);
+    assert_eq!(rt;
+        verdict(&mut second, messages.as_slice(), 2)?,
+        Verdict::Integrated
+    );
     let mut third = Site::new(alloc, 2)?;
     let undo = Verdict::Waits {
         missing: Member::Group(a, 1),
     };
-    assert_eq!(rt; verdict(&mut third, messages.as_slice(), 0)?, Verdict::Integrated);
+    assert_eq!(rt;
+        verdict(&mut third, messages.as_slice(), 0)?,
+        Verdict::Integrated
+    );
     assert_eq!(rt; verdict(&mut third, messages.as_slice(), 2)?, undo);
-    assert_eq!(rt; verdict(&mut third, messages.as_slice(), 1)?, Verdict::Integrated);
+    assert_eq!(rt;
+        verdict(&mut third, messages.as_slice(), 1)?,
+        Verdict::Integrated
+    );
     settle(&mut third)?;
     assert_eq!(rt; third.pool().len(), 0);
     assert_eq!(rt; third.vector().entry(&a), 2);
@@ -86,7 +107,10 @@ fn repeats_and_other_content_of_a_known_name(rt: HostRuntime) -> Result<(), Fail
     let b = insert(alloc, (0, 1), 0, 'b', &[])?;
     assert_eq!(rt; deliver(&mut site, &a)?, Verdict::Integrated);
     assert_eq!(rt; deliver(&mut site, &a)?, Verdict::Repeat);
-    assert_eq!(rt; deliver(&mut site, &b)?, Verdict::Forged { name: name(0, 1) });
+    assert_eq!(rt;
+        deliver(&mut site, &b)?,
+        Verdict::Forged { name: name(0, 1) }
+    );
     assert_eq!(rt; site.book().len(), 1);
     assert_eq!(rt; site.pool().len(), 0);
     Ok(())
@@ -102,7 +126,10 @@ fn other_content_of_a_name_that_waits(rt: HostRuntime) -> Result<(), Fail> {
         missing: Member::Original(name(2, 1)),
     };
     assert_eq!(rt; deliver(&mut site, &early)?, missing);
-    assert_eq!(rt; deliver(&mut site, &other)?, Verdict::Forged { name: name(1, 1) });
+    assert_eq!(rt;
+        deliver(&mut site, &other)?,
+        Verdict::Forged { name: name(1, 1) }
+    );
     assert_eq!(rt; site.pool().len(), 1);
     assert_eq!(rt; site.book().len(), 0);
     Ok(())
@@ -113,8 +140,14 @@ fn a_place_behind_the_cells_of_the_context(rt: HostRuntime) -> Result<(), Fail> 
     let alloc = rt.alloc();
     let mut site = Site::new(alloc, 0)?;
     let behind = insert(alloc, (0, 1), 1, 'a', &[])?;
-    assert_eq!(rt; deliver(&mut site, &behind)?, Verdict::PlaceOut { place: 1, cells: 0 });
-    assert_eq!(rt; site.check(&behind), Verdict::PlaceOut { place: 1, cells: 0 });
+    assert_eq!(rt;
+        deliver(&mut site, &behind)?,
+        Verdict::PlaceOut { place: 1, cells: 0 }
+    );
+    assert_eq!(rt;
+        site.check(&behind),
+        Verdict::PlaceOut { place: 1, cells: 0 }
+    );
     assert_eq!(rt; site.book().len(), 0);
     Ok(())
 }
@@ -129,8 +162,14 @@ fn a_context_without_what_its_last_original_was_made_after(rt: HostRuntime) -> R
     messages.push(first.insert(0, 'a')?)?;
     verdict(&mut second, messages.as_slice(), 0)?;
     messages.push(second.insert(1, 'b')?)?;
-    assert_eq!(rt; verdict(&mut third, messages.as_slice(), 0)?, Verdict::Integrated);
-    assert_eq!(rt; verdict(&mut third, messages.as_slice(), 1)?, Verdict::Integrated);
+    assert_eq!(rt;
+        verdict(&mut third, messages.as_slice(), 0)?,
+        Verdict::Integrated
+    );
+    assert_eq!(rt;
+        verdict(&mut third, messages.as_slice(), 1)?,
+        Verdict::Integrated
+    );
     let open = insert(alloc, (2, 1), 0, 'c', &[(1, 1)])?;
     assert_eq!(rt; deliver(&mut third, &open)?, Verdict::NotClosed { site: 1 });
     assert_eq!(rt; shown(alloc, &third)?.as_slice(), "ab".as_bytes());

@@ -1,4 +1,4 @@
-use Rattle.std.proofs.Common.{◌≡◌, ◌∙◌, sym, ap, ℕ, List}
+use Rattle.std.proofs.Common.{◌∙◌, ap, ℕ, List}
 use Rattle.std.specs.Prelude.{slice_get}
 use Rattle.cot_site.specs.Sites.{ReplicaData}
 use Rattle.cot_site.specs.Commands.{place_of_shown}

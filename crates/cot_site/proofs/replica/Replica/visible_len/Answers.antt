@@ -1,4 +1,4 @@
-use Rattle.std.proofs.Common.{◌≡◌, ◌∙◌, length, sym, ap}
+use Rattle.std.proofs.Common.{◌∙◌, length, ap}
 use Rattle.context_diff.specs.Replays.{shown}
 use Rattle.cot_site.specs.Sites.{ReplicaData}
 use Rattle.cot_site.proofs.Executions.{cells_replayed}

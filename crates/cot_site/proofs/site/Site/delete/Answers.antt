@@ -1,19 +1,20 @@
-use Rattle.std.proofs.Common.{◌≡◌, ◌∙◌, sym, subst, Result, Ok, Err}
+use Rattle.std.proofs.Common.{◌∙◌, sym, subst, Result, Err}
 use Rattle.context_diff.specs.Operations.{OpData, deleting}
 use Rattle.context_diff.specs.Histories.{context_of_all}
 use Rattle.cot_site.specs.declared.local.Local.{Local}
 use Rattle.cot_site.specs.Commands.{next_name, IsAnswer}
 use Rattle.cot_site.specs.Sites.{state_of}
 use Rattle.cot_site.proofs.LocalOps.{delete_ready}
-use Rattle.cot_site.proofs.Made.{delete_at, numbered_refused, delete_made, make_answer}
+use Rattle.cot_site.proofs.Made.{delete_at, numbered_refused, delete_made, make_answer, handed_on}
 use Rattle.cot_site.proofs.site.Site.delete.Goals as goal
 
 pub returns-in_err-context-clause-answer : goal.returns-in_err-context-clause-answer
 returns-in_err-context-clause-answer c =
     let s = state_of c.args.self.now in
+    let e = c.in_err-context.field-0.0 in
     let at = sym c.place_of_shown.ensures ∙ c.in-Some.is in
-    subst (λ (r : Result OpData Local). IsAnswer r (Err c.in_err-context.error)) (sym (delete_at s c.args.v c.in-Some.place at))
-    (numbered_refused s (deleting (next_name s) c.in-Some.place (context_of_all s.history)) c.in_err-context.error c.in_ok-name.ensures.1 c.in_err-context.ensures)
+    let refused = numbered_refused s (deleting (next_name s) c.in-Some.place (context_of_all s.history)) e c.in_ok-name.ensures.1 c.in_err-context.ensures in
+    handed_on _ c.from_residual-in_err-context.result e c.from_residual-in_err-context.ensures.1 (subst (λ (r : Result OpData Local). IsAnswer r (Err e)) (sym (delete_at s c.args.v c.in-Some.place at)) refused)
 
 pub make-requires : goal.make-requires
 make-requires c =

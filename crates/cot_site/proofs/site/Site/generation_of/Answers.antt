@@ -1,5 +1,4 @@
-use Rattle.std.proofs.Common.{◌≡◌, ◌∙◌, sym, ap, List, true}
-use Rattle.std.proofs.lemmas.Bool.{true_from_ne_false, true≢false}
+use Rattle.std.proofs.Common.{◌∙◌, sym, ap, List}
 use Rattle.op_name.specs.declared.member.Member.TheVariants.{Original}
 use Rattle.context_diff.specs.Operations.{OpData}
 use Rattle.context_diff.specs.Histories.{is_known}
