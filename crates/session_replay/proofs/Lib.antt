@@ -1,3 +1,2 @@
 pub mod Steps
--- pub mod Lifting
--- pub mod Releasing
+pub mod Releasing
