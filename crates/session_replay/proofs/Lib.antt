@@ -1,2 +1,4 @@
 pub mod Steps
 pub mod Releasing
+pub mod Splits
+pub mod Endings

@@ -2,5 +2,6 @@ pub mod Steps
 pub mod Sessions
 pub mod Commands
 pub mod Scripts
+pub mod Endings
 pub mod Answers
 pub mod Laws

@@ -1,9 +1,12 @@
 //! Words for causes.
 
-ghost use Rattle.std.specs.Prelude.{◌≡◌};
+ghost use Rattle.std.specs.Prelude.{◌≡◌, ℕ, List, Err, IfOk};
+ghost use Rattle.script_text.specs.Answers.{Answers};
 ghost use Rattle.session_replay.specs.Commands.{cause_word};
+ghost use Rattle.session_replay.specs.Scripts.{Whole, line_read, refusal_of};
 
 use crate::session::StepBad;
+use op_name::Memory;
 use script_text::{LineBad, Refusal};
 use wire_codec::Cause;
 
@@ -25,23 +28,28 @@ pub(crate) fn word_of(cause: Cause) -> &'static str
     }
 }
 
-/// Why a script ends at a line that can't be read; None for want of memory.
-pub(crate) fn reading_refused(why: LineBad) -> Option<Refusal> {
+/// Why a script ends at a line whose bytes can't be read.
+pub(crate) fn reading_refused(why: LineBad) -> Result<Refusal, Memory>
+    ensures { IfOk result (λ cause. (bytes : List ℕ) → Answers bytes (Err why) → line_read (Whole bytes) ≡ Err cause) }
+{
     match why {
-        LineBad::Long => Some(Refusal::Long),
-        LineBad::Utf8 => Some(Refusal::Utf8),
-        LineBad::Form => Some(Refusal::Form),
-        LineBad::Memory => None,
+        LineBad::Long => Ok(Refusal::Long),
+        LineBad::Utf8 => Ok(Refusal::Utf8),
+        LineBad::Form => Ok(Refusal::Form),
+        LineBad::Memory => Err(Memory),
     }
 }
 
-/// Why a script ends at a line that a session refuses; None for want of memory.
-pub(crate) fn step_refused(why: StepBad) -> Option<Refusal> {
+/// Why a script ends at a line that a session refuses.
+pub(crate) fn step_refused(why: StepBad) -> Result<Refusal, Memory>
+    ensures cause { IfOk result (λ cause. cause ≡ refusal_of why) }
+    ensures memory { IfOk result (λ cause. why ≡ StepBad.Memory → ⊥) }
+{
     match why {
-        StepBad::NoSites => Some(Refusal::NoSites),
-        StepBad::Twice => Some(Refusal::Twice),
-        StepBad::NoSite => Some(Refusal::NoSite),
-        StepBad::NoMessage => Some(Refusal::NoMessage),
-        StepBad::Memory => None,
+        StepBad::NoSites => Ok(Refusal::NoSites),
+        StepBad::Twice => Ok(Refusal::Twice),
+        StepBad::NoSite => Ok(Refusal::NoSite),
+        StepBad::NoMessage => Ok(Refusal::NoMessage),
+        StepBad::Memory => Err(Memory),
     }
 }
