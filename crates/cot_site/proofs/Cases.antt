@@ -1,20 +1,19 @@
 -- The tests of a verdict decide what they are named for.
-use Rattle.std.proofs.Common.{◌≡◌, ℕ, ◌<◌, ◌≤◌, Bool, true, false, ◌⊎◌, inl, inr, List, [], ◌∷◌, refl, ap, sym, subst, ◌∙◌, arith}
-use Rattle.std.specs.Prelude.{Option, Some, None, Contains, not, ◌&&◌, ◌||◌, nat_le, nat_lt}
+use Rattle.std.proofs.Common.{◌≡◌, ℕ, ◌≤◌, Bool, true, false, ◌⊎◌, inl, inr, List, [], ◌∷◌, refl, ap, sym, subst, ◌∙◌, arith}
+use Rattle.std.specs.Prelude.{Contains, not, ◌||◌, nat_le}
 use Rattle.std.specs.List.{list_any}
 use Rattle.std.specs.Bool.{Decides}
 use Rattle.std.proofs.lemmas.Bool.{cases_Bool, or_cases, or_left, or_right, and_parts, and_from, true≢false, false≢true, not_from_false, false_from_ne_true}
 use Rattle.std.proofs.lemmas.Bool.Decides.{nat_tests}
 use Rattle.op_name.specs.NameData.{NameData}
-use Rattle.op_name.specs.declared.member.Member.{Member}
-use Rattle.op_name.specs.declared.member.Member.TheVariants.{Original, Group}
+use Rattle.op_name.specs.declared.member.Member.TheVariants.{Original}
 use Rattle.op_name.specs.Members.{member_eq}
-use Rattle.context_diff.specs.Operations.{OpData, inserting, deleting, undoing, member_of, context_of, is_original, IsWellFormed}
-use Rattle.context_diff.specs.Histories.{is_known, generation_in, context_of_all, inserts_in, HasPlace}
+use Rattle.context_diff.specs.Operations.{OpData, inserting, deleting, undoing, member_of, is_original}
+use Rattle.context_diff.specs.Histories.{generation_in}
 use Rattle.op_name.proofs.Orders.{member_same, member_itself}
 use Rattle.context_diff.specs.Ops.{op_eq}
 use Rattle.context_diff.proofs.Equal.{op_eq_decides}
-use Rattle.context_diff.proofs.Known.{contains_cases, contains_here, contains_later, contains_none, holder, known_member}
+use Rattle.context_diff.proofs.Known.{contains_cases, contains_here, contains_later, contains_none}
 use Rattle.cot_site.specs.Verdicts.{is_repeat, is_other, is_forged, IsRepeat, HasOther, IsForgery}
 
 -- ---- tests on the elements of a list

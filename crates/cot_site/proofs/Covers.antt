@@ -1,23 +1,23 @@
 -- The first site whose last original isn't covered.
-use Rattle.std.proofs.Common.{◌≡◌, ℕ, zero, suc, ◌+◌, ◌<◌, ◌≤◌, Bool, true, false, ◌⊎◌, inl, inr, List, [], ◌∷◌, length, refl, ap, sym, subst, ◌∙◌, arith}
+use Rattle.std.proofs.Common.{◌≡◌, ℕ, suc, ◌+◌, ◌<◌, true, ◌⊎◌, inl, inr, List, [], ◌∷◌, length, refl, ap, sym, subst, ◌∙◌, arith}
 use Rattle.std.specs.Prelude.{Option, Some, None, slice_get}
 use Rattle.std.specs.Option.{is_none}
 use Rattle.std.specs.Bool.{Decides}
-use Rattle.std.proofs.lemmas.Bool.{cases_Bool, cases_order, cases_lt, cond-true, cond-false, true≢false, false≢true, false_from_ne_true}
+use Rattle.std.proofs.lemmas.Bool.{cases_Bool, cases_lt, cond-true, cond-false, false≢true}
 use Rattle.std.proofs.lemmas.Option.{none-some}
 use Rattle.op_name.specs.NameData.{NameData}
 use Rattle.op_name.specs.declared.member.Member.{Member}
 use Rattle.op_name.specs.declared.member.Member.TheVariants.{Original}
-use Rattle.context_vector.specs.Contexts.{ContextData, IsContext, AreCounts, Within}
+use Rattle.context_vector.specs.Contexts.{ContextData, AreCounts, Within}
 use Rattle.context_diff.specs.Operations.{OpData}
-use Rattle.context_diff.specs.Histories.{is_known, LacksNothing, IsClosed, CoversSite}
+use Rattle.context_diff.specs.Histories.{is_known, LacksNothing, IsClosed}
 use Rattle.context_diff.specs.Bases.{original_context}
 use Rattle.context_diff.specs.Books.{IsFirstOpenSite}
 use Rattle.context_diff.proofs.Complete.{IsComplete}
 use Rattle.context_diff.proofs.Histories.{original_facts}
 use Rattle.context_diff.proofs.Covering.{named_known, all_covered, covered_below, not_covered}
 use Rattle.cot_site.specs.Verdicts.{first_lacked, is_covered, first_uncovered}
-use Rattle.cot_site.proofs.Lacking.{Answer, lacking, answer_none, none_within}
+use Rattle.cot_site.proofs.Lacking.{lacking, answer_none, none_within}
 
 none_true : (r : Option Member) → is_none r ≡ true → r ≡ None
 none_true None e = refl

@@ -1,11 +1,11 @@
 -- Executing one more operation: its form may be derived, fits the cells, and gives the forms and cells of the longer history.
-use Rattle.std.proofs.Common.{◌≡◌, ℕ, Bool, true, false, inl, inr, List, [], ◌∷◌, ◌++◌, length, take, refl, ap, sym, subst, ◌∙◌, ◌↔◌, IsNone, arith, length-append}
+use Rattle.std.proofs.Common.{◌≡◌, Bool, true, false, inl, inr, List, [], ◌∷◌, ◌++◌, length, refl, ap, sym, subst, ◌∙◌, ◌↔◌, IsNone, arith, length-append}
 use Rattle.std.specs.Prelude.{Option, Some, None, option_map}
 use Rattle.std.specs.Option.{option_to_list}
 use Rattle.context_diff.specs.declared.op.Op.{Op}
 use Rattle.context_diff.specs.Ops.{data_of}
 use Rattle.std.specs.Prelude.{◌||◌}
-use Rattle.std.proofs.lemmas.Bool.{cases_Bool, or_cases, true≢false, false≢true}
+use Rattle.std.proofs.lemmas.Bool.{or_cases}
 use Rattle.op_name.specs.declared.member.Member.{Member}
 use Rattle.op_name.specs.Members.{member_eq}
 use Rattle.context_vector.specs.Contexts.{ContextData, has}
@@ -22,7 +22,7 @@ use Rattle.ttf_form.specs.Forms.{form_over}
 use Rattle.ttf_form.specs.Cells.{CellData, applied, FitsCells}
 use Rattle.transform_rec.specs.Sets.{none, plus_all}
 use Rattle.transform_rec.specs.Derived.{Derived}
-use Rattle.transform_rec.specs.Executing.{AreFormsFrom, executed}
+use Rattle.transform_rec.specs.Executing.{executed}
 use Rattle.transform_rec.specs.Histories.{family_in, MayBeAddedTo}
 use Rattle.transform_rec.proofs.Sets.{same_set}
 use Rattle.transform_rec.proofs.Executing.{At, empty_state, state_after, addable_fits}
@@ -33,7 +33,7 @@ use Rattle.fixed_replay.proofs.Editor.{setting_of}
 use Rattle.fixed_replay.proofs.ExecutedForms.{executed_replayed}
 use Rattle.fixed_replay.proofs.Growth.{known_set, forms_on, forms_grow, holds_more, base_form_on}
 use Rattle.fixed_replay.proofs.ValidFamilies.{valid_family, valid_own_names}
-use Rattle.cot_site.specs.Sites.{AreExecuted, IsExecuted, IsStep, KeepsForms}
+use Rattle.cot_site.specs.Sites.{AreExecuted, IsExecuted, IsStep}
 use Rattle.cot_site.proofs.LocalOps.{all_ready, all_closed, all_stray}
 
 -- the cells of executed forms are the fixed replay of the history
@@ -58,8 +58,10 @@ next_added h o valid next =
     or_last : (a b : Bool) → b ≡ true → (a || b) ≡ true
     or_last true b e = refl
     or_last false b e = e
+
     known_last : (is_known h (member_of o) || member_eq (member_of o) (member_of o)) ≡ true
     known_last = or_last (is_known h (member_of o)) (member_eq (member_of o) (member_of o)) (member_itself (member_of o))
+
     old : (y : Member) → is_known (h ++ o ∷ []) y ≡ true → (member_of o ≡ y → ⊥) → is_known h y ≡ true
     old y known other =
         elim (or_cases (is_known h y) (member_eq (member_of o) y) (sym (known_push h o y) ∙ known)) [
@@ -106,15 +108,6 @@ pub more_fits : (h : List OpData) (o : OpData) (fs : List Form) (cs : List CellD
     → FitsCells cs f
 more_fits h o fs cs f valid is d = subst (λ (x : List CellData). FitsCells x f) (sym is.cells) (form_fits h o valid fs is.forms f d)
 
--- all forms stay as the first ones
-pub keeps-append : (old new : List Form) → KeepsForms old (old ++ new)
-keeps-append [] new = refl
-keeps-append (f ∷ fs) new = ap (λ (xs : List Form). f ∷ xs) (keeps-append fs new)
-
-pub keeps_itself : (fs : List Form) → KeepsForms fs fs
-keeps_itself [] = refl
-keeps_itself (f ∷ fs) = ap (λ (xs : List Form). f ∷ xs) (keeps_itself fs)
-
 -- the history before its last operation
 pub same_before : (h k : List OpData) (o p : OpData) → h ++ o ∷ [] ≡ k ++ p ∷ [] → h ≡ k
 same_before [] [] o p e = refl
@@ -152,10 +145,6 @@ step_at h o k to m fs gs ns cs ds valid next grown is member ex same step =
     let forms : fs ++ step.form ∷ [] ≡ ns = ap (λ (xs : List Form). xs ++ step.form ∷ []) (sym same) ∙ sym step.appended in
     subst (λ (l : List OpData). IsExecuted l ns ds) (sym grown)
     (subst (λ (xs : List Form). IsExecuted (h ++ o ∷ []) xs ds) forms (subst (λ (x : List CellData). IsExecuted (h ++ o ∷ []) (fs ++ step.form ∷ []) x) (sym step.cells) more))
-
-pub step_keeps : (k : List OpData) (m : Member) (to : Member → Bool) (fs gs ns : List Form) (cs ds : List CellData) → gs ≡ fs → IsStep k m to gs ns cs ds → KeepsForms fs ns
-step_keeps k m to fs gs ns cs ds same step =
-    subst (λ (xs : List Form). KeepsForms fs xs) (ap (λ (xs : List Form). xs ++ step.form ∷ []) (sym same) ∙ sym step.appended) (keeps-append fs (step.form ∷ []))
 
 pub executed_same : (h k : List OpData) (fs gs : List Form) (cs ds : List CellData) → IsExecuted h fs cs → k ≡ h → gs ≡ fs → ds ≡ cs → IsExecuted k gs ds
 executed_same h k fs gs cs ds ex a b d = subst (λ (l : List OpData). IsExecuted l gs ds) (sym a) (subst (λ (xs : List Form). IsExecuted h xs ds) (sym b) (subst (λ (x : List CellData). IsExecuted h fs x) (sym d) ex))

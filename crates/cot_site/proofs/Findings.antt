@@ -1,8 +1,8 @@
 -- What a book and a pool find by a name, as tests over their lists.
-use Rattle.std.proofs.Common.{◌≡◌, ◌↔◌, ℕ, Bool, true, false, ◌⊎◌, inl, inr, List, [], ◌∷◌, refl, ap, sym, subst, ◌∙◌, IsNone, IfSome, IfNone}
+use Rattle.std.proofs.Common.{◌≡◌, ◌↔◌, ℕ, true, false, inl, inr, List, refl, ap, sym, subst, ◌∙◌, IsNone, IfSome, IfNone}
 use Rattle.std.specs.Prelude.{Option, Some, None, Contains, not}
 use Rattle.std.specs.List.{list_any}
-use Rattle.std.proofs.lemmas.Bool.{cases_Bool, true≢false, false≢true, false_from_ne_true}
+use Rattle.std.proofs.lemmas.Bool.{cases_Bool, true≢false, false_from_ne_true}
 use Rattle.op_name.specs.NameData.{NameData}
 use Rattle.op_name.specs.declared.member.Member.TheVariants.{Original}
 use Rattle.context_vector.specs.Contexts.{ContextData, IsContext, Within, has}
@@ -10,7 +10,7 @@ use Rattle.context_diff.specs.Operations.{OpData, member_of, context_of, IsWellF
 use Rattle.context_diff.specs.Histories.{is_known, context_of_all, LacksNothing, IsClosed, IsValid}
 use Rattle.context_diff.specs.Ops.{op_eq}
 use Rattle.context_diff.specs.Books.{IsFirstOpenSite}
-use Rattle.context_diff.proofs.Complete.{IsComplete, complete}
+use Rattle.context_diff.proofs.Complete.{complete}
 use Rattle.context_diff.proofs.Equal.{op_eq_decides}
 use Rattle.context_diff.proofs.Known.{known_member}
 use Rattle.cot_site.specs.Verdicts.{is_other, lacked, first_uncovered}

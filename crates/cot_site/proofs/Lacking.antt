@@ -1,16 +1,16 @@
 -- The first member that is lacked.
-use Rattle.std.proofs.Common.{◌≡◌, ℕ, Bool, true, false, ◌⊎◌, inl, inr, List, refl, ap, sym, subst, ◌∙◌}
+use Rattle.std.proofs.Common.{◌≡◌, ℕ, true, ◌⊎◌, inl, inr, List, refl, ap, sym, subst, ◌∙◌}
 use Rattle.std.specs.Prelude.{Option, Some, None, option_map}
-use Rattle.std.specs.Option.{option_or, is_none}
+use Rattle.std.specs.Option.{option_or}
 use Rattle.std.proofs.lemmas.Bool.{cases_Bool, true≢false}
 use Rattle.std.proofs.lemmas.Option.{none-some}
 use Rattle.op_name.specs.NameData.{NameData}
 use Rattle.op_name.specs.declared.member.Member.{Member}
 use Rattle.op_name.specs.declared.member.Member.TheVariants.{Original, Group}
 use Rattle.op_name.specs.Members.{IsMember, member_eq, member_lt}
-use Rattle.context_vector.specs.Contexts.{ContextData, IsContext, Within, has, count_in, entry_in}
+use Rattle.context_vector.specs.Contexts.{ContextData, IsContext, Within, count_in, entry_in}
 use Rattle.context_diff.specs.Operations.{OpData}
-use Rattle.context_diff.specs.Histories.{is_known, context_of_all, LacksNothing, LacksFirst}
+use Rattle.context_diff.specs.Histories.{context_of_all, LacksNothing, LacksFirst}
 use Rattle.op_name.proofs.Orders.{member_same, member_total}
 use Rattle.context_vector.specs.Shortfalls.{first_short}
 use Rattle.context_vector.specs.Vectors.{IsFirstMissing}

@@ -8,3 +8,5 @@ pub mod Executions
 pub mod Views
 pub mod Findings
 pub mod Waiting
+pub mod Made
+pub mod WorkedCases

@@ -1,15 +1,14 @@
 -- What a site makes may come next in its history.
-use Rattle.std.proofs.Common.{◌≡◌, ◌≢◌, ℕ, zero, suc, ◌+◌, ◌<◌, ◌≤◌, Bool, true, false, ◌⊎◌, inl, inr, List, [], ◌∷◌, ◌++◌, length, map, Result, Ok, Err, refl, ap, sym, subst, ◌∙◌, arith, length-append}
-use Rattle.std.specs.Prelude.{Option, Some, None, Contains, slice_get, ◌&&◌, ◌==◌, nat_lt, if◌then◌else◌}
+use Rattle.std.proofs.Common.{◌≡◌, ◌≢◌, ℕ, zero, suc, ◌+◌, ◌<◌, ◌≤◌, Bool, true, false, inl, inr, List, [], ◌∷◌, ◌++◌, length, map, Result, Ok, Err, refl, ap, sym, subst, ◌∙◌, arith, length-append}
+use Rattle.std.specs.Prelude.{Option, Some, None, Contains, slice_get, ◌&&◌, ◌==◌, if◌then◌else◌}
 use Rattle.std.specs.Char.{IsScalar}
-use Rattle.std.proofs.lemmas.Bool.{cases_Bool, cases_lt, cases_order, true≢false, false≢true, false_from_ne_true, lt-ltb, le-ltb, eq-eqb}
+use Rattle.std.proofs.lemmas.Bool.{cases_Bool, cases_lt, true≢false, false≢true, false_from_ne_true, lt-ltb, le-ltb, eq-eqb}
 use Rattle.op_name.specs.NameData.{NameData, IsName}
-use Rattle.op_name.specs.declared.member.Member.{Member}
 use Rattle.op_name.specs.declared.member.Member.TheVariants.{Original, Group}
-use Rattle.context_vector.specs.Contexts.{ContextData, IsContext, KeepsStray, has, count_of, entry_of, rank_of, raised, IsNextMember}
-use Rattle.context_diff.specs.Operations.{OpData, inserting, deleting, undoing, member_of, context_of, is_original, is_insert, IsWellFormed}
+use Rattle.context_vector.specs.Contexts.{ContextData, IsContext, KeepsStray, has, rank_of, raised, IsNextMember}
+use Rattle.context_diff.specs.Operations.{OpData, inserting, deleting, undoing, member_of, IsWellFormed}
 use Rattle.context_diff.specs.Histories.{is_known, is_even, generation_in, context_of_all, inserts_in, LacksNothing, IsClosed, IsNext, IsValid}
-use Rattle.context_diff.specs.Replays.{Insertion, Cell, insertions_in, is_earlier, put_by, sort_by, cells_from, gap_of, put, replay, replay_of, is_shown, shown}
+use Rattle.context_diff.specs.Replays.{Insertion, Cell, insertions_in, is_earlier, put_by, sort_by, gap_of, put, replay, replay_of, is_shown, shown}
 use Rattle.context_vector.proofs.Counts.{sum_at_most}
 use Rattle.context_vector.proofs.Entries.{entry_at_most}
 use Rattle.context_vector.proofs.Sets.{rank_raised}
@@ -20,7 +19,6 @@ use Rattle.context_diff.proofs.Known.{contains_here, contains_later, holder, kno
 use Rattle.context_diff.proofs.Members.{all_is_context}
 use Rattle.context_diff.proofs.Raising.{has_number, has_generation}
 use Rattle.context_diff.proofs.Valid.{by_pushes}
-use Rattle.fixed_replay.proofs.Stretches.{whole_of}
 use Rattle.fixed_replay.proofs.Narrowing.{gap_of_whole}
 use Rattle.cot_site.specs.declared.local.Local.{Local}
 use Rattle.cot_site.specs.declared.local.Local.TheVariants.{PlaceOut, Unknown, NotInForce, InForce, GenerationFull, NumberFull, ContextFull}
@@ -138,6 +136,9 @@ behind_within h (suc v) p e = let found = behind_some (shown_places_of h) v p e 
 
 -- ---- what a made operation has passed
 
+pub in_context_made : (c : ContextData) (o : OpData) → length c.entries ≤ 16384 → in_context c o ≡ Ok o
+in_context_made c o few = ap (λ (b : Bool). if b then Err (ContextFull (length c.entries)) else Ok o) (le-ltb 16384 (length c.entries) few)
+
 ok_same : (a b : OpData) → ◌≡◌ {A = Result OpData Local} (Ok a) (Ok b) → a ≡ b
 ok_same a b e = cc
 
@@ -148,7 +149,7 @@ pub in_context_ok : (c : ContextData) (o p : OpData) → in_context c o ≡ Ok p
 in_context_ok c o p e =
     elim (cases_lt 16384 (length c.entries)) [
       | inl more ↦ absurd (err_ok (ContextFull (length c.entries)) p (sym (ap (λ (b : Bool). if b then Err (ContextFull (length c.entries)) else Ok o) (lt-ltb 16384 (length c.entries) more)) ∙ e))
-      | inr few ↦ (ok_same o p (sym (ap (λ (b : Bool). if b then Err (ContextFull (length c.entries)) else Ok o) (le-ltb 16384 (length c.entries) few)) ∙ e), few)
+      | inr few ↦ (ok_same o p (sym (in_context_made c o few) ∙ e), few)
     ]
 
 pub numbered_ok : (s : State) (o p : OpData) → numbered s o ≡ Ok p → (count_made s < 1000000) × (o ≡ p) × (length (context_of_all s.history).entries ≤ 16384)
@@ -214,9 +215,9 @@ module _ (s : State) (valid : IsValid s.history) (site : s.number < 64) where
       let made = in_context_ok (context_of_all s.history) (undoing s.number t (generation_in s.history t + 1) (context_of_all s.history)) o e in
       let held = holder s.history (Original t) known in
       let new : is_known s.history (Group t (generation_in s.history t + 1)) ≡ false =
-            false_from_ne_true (is_known s.history (Group t (generation_in s.history t + 1))) (λ k.
-            let there = has_generation (context_of_all s.history) t (generation_in s.history t + 1) (w.holds (Group t (generation_in s.history t + 1)) ∙ k) in
-            omega (arith, there.1, generation_is s.history valid t)) in
+      false_from_ne_true (is_known s.history (Group t (generation_in s.history t + 1))) (λ k.
+      let there = has_generation (context_of_all s.history) t (generation_in s.history t + 1) (w.holds (Group t (generation_in s.history t + 1)) ∙ k) in
+      omega (arith, there.1, generation_is s.history valid t)) in
       subst (IsNext s.history) made.0 (record {
         formed = record {
           in_range = (site, name_range held.op t (w.formed held.op held.there) held.is, omega arith, most, all_is_context s.history valid, made.1);
@@ -259,7 +260,7 @@ module _ (s : State) (valid : IsValid s.history) (site : s.number < 64) where
         | inr isnt ↦ absurd (err_ok (Unknown t) o (sym (ap (λ (b : Bool). if b then (if is_even (generation_in s.history t) then turned s t else Err (NotInForce (generation_in s.history t))) else Err (Unknown t)) isnt) ∙ e))
         | inl known ↦
             let f : (if is_even (generation_in s.history t) then turned s t else Err (NotInForce (generation_in s.history t))) ≡ Ok o =
-                  sym (ap (λ (b : Bool). if b then (if is_even (generation_in s.history t) then turned s t else Err (NotInForce (generation_in s.history t))) else Err (Unknown t)) known) ∙ e in
+            sym (ap (λ (b : Bool). if b then (if is_even (generation_in s.history t) then turned s t else Err (NotInForce (generation_in s.history t))) else Err (Unknown t)) known) ∙ e in
             elim (cases_Bool (is_even (generation_in s.history t))) [
               | inr odd ↦ absurd (err_ok (NotInForce (generation_in s.history t)) o (sym (ap (λ (b : Bool). if b then turned s t else Err (NotInForce (generation_in s.history t))) odd) ∙ f))
               | inl even ↦
@@ -308,11 +309,8 @@ delete_ready s valid site n p v k name free context few at =
     subst (λ (m : NameData). IsNext s.history (deleting m p k)) (sym name)
     (subst (λ (c : ContextData). IsNext s.history (deleting (next_name s) p c)) (sym context) (delete_next s valid site p free few (shown_within s.history v p at)))
 
-pub turn_ready : (s : State) → IsValid s.history → s.number < 64 → (t : NameData) (g : ℕ) (k : ContextData) → is_known s.history (Original t) ≡ true → g ≡ generation_in s.history t → g < 65535 → k ≡ context_of_all s.history → length (context_of_all s.history).entries ≤ 16384 → IsNext s.history (undoing s.number t (g + 1) k)
-turn_ready s valid site t g k known generation below context few =
-    subst (λ (m : ℕ). IsNext s.history (undoing s.number t (m + 1) k)) (sym generation)
-    (subst (λ (c : ContextData). IsNext s.history (undoing s.number t (generation_in s.history t + 1) c)) (sym context)
-    (turned_next s valid site t known (omega (arith, below, generation)) (undoing s.number t (generation_in s.history t + 1) (context_of_all s.history)) (in_context_few (context_of_all s.history) (undoing s.number t (generation_in s.history t + 1) (context_of_all s.history)) few)))
-  where
-    in_context_few : (c : ContextData) (o : OpData) → length c.entries ≤ 16384 → in_context c o ≡ Ok o
-    in_context_few c o le = ap (λ (b : Bool). if b then Err (ContextFull (length c.entries)) else Ok o) (le-ltb 16384 (length c.entries) le)
+pub turn_ready : (s : State) → IsValid s.history → s.number < 64 → (a : ℕ) (t : NameData) (g : ℕ) (k : ContextData) → a ≡ s.number → is_known s.history (Original t) ≡ true → g ≡ generation_in s.history t → g < 65535 → k ≡ context_of_all s.history → length (context_of_all s.history).entries ≤ 16384 → IsNext s.history (undoing a t (g + 1) k)
+turn_ready s valid site a t g k author known generation below context few =
+    let o : OpData = undoing s.number t (generation_in s.history t + 1) (context_of_all s.history) in
+    let next : IsNext s.history o = turned_next s valid site t known (omega (arith, below, generation)) o (in_context_made (context_of_all s.history) o few) in
+    subst (λ (x : OpData). IsNext s.history x) (λ i. undoing (sym author i) t (sym generation i + 1) (sym context i)) next

@@ -1,15 +1,14 @@
 -- Releases: the first ready operation, and the verdict that it gets.
-use Rattle.std.proofs.Common.{◌≡◌, ◌↔◌, ℕ, zero, suc, ◌<◌, ◌≤◌, Bool, true, false, ◌⊎◌, inl, inr, List, [], ◌∷◌, length, refl, ap, sym, subst, ◌∙◌, arith}
+use Rattle.std.proofs.Common.{◌≡◌, ◌↔◌, ℕ, zero, suc, ◌<◌, true, false, ◌⊎◌, inl, inr, List, [], ◌∷◌, refl, ap, sym, subst, ◌∙◌, arith}
 use Rattle.std.specs.Prelude.{Option, Some, None, Contains, slice_get, option_map, remove}
 use Rattle.std.specs.Option.{is_none}
-use Rattle.std.proofs.lemmas.Bool.{cases_Bool, or_cases, or_parts, cond-true, cond-false, true≢false, false≢true}
+use Rattle.std.proofs.lemmas.Bool.{cases_Bool, or_cases, cond-true, cond-false, true≢false, false≢true}
 use Rattle.std.proofs.lemmas.Option.{none-some}
 use Rattle.op_name.specs.declared.member.Member.{Member}
 use Rattle.context_diff.specs.Operations.{OpData, member_of, context_of, IsWellFormed}
 use Rattle.context_diff.specs.Histories.{is_known, IsValid}
 use Rattle.context_diff.proofs.Complete.{complete}
 use Rattle.context_diff.proofs.Known.{contains_cases, contains_here, contains_later, contains_none}
-use Rattle.cot_site.specs.declared.verdict.Verdict.{Verdict}
 use Rattle.cot_site.specs.declared.verdict.Verdict.TheVariants.{Waits}
 use Rattle.cot_site.specs.Verdicts.{lacked, verdict_of, IsVerdict}
 use Rattle.cot_site.specs.States.{State, is_ready, first_ready, without_waiting, Released, delivered_again, released_at, released, IsSettled}
@@ -29,13 +28,17 @@ FirstAnswer h w r = ((i : ℕ) × (r ≡ Some i) × IsFirstAt h w i) ⊎ ((r ≡
 
 later_answer : (h : List OpData) (o : OpData) (os : List OpData) → is_ready h o ≡ false → (r : Option ℕ) → FirstAnswer h os r → FirstAnswer h (o ∷ os) (option_map suc r)
 later_answer h o os isnt r (inl (i, is, found)) =
-    inl (suc i, ap (option_map suc) is, record {
-      op = found.op;
-      at = found.at;
-      there = contains_later o os found.op found.there;
-      ready = found.ready;
-      first = first;
-    })
+    inl (
+      suc i,
+      ap (option_map suc) is,
+      record {
+        op = found.op;
+        at = found.at;
+        there = contains_later o os found.op found.there;
+        ready = found.ready;
+        first = first;
+      },
+    )
   where
     first : (j : ℕ) (p : OpData) → j < suc i → slice_get (o ∷ os) j ≡ Some p → is_ready h p ≡ false
     first zero p less e = let same : o ≡ p = cc in subst (λ x. is_ready h x ≡ false) same isnt
@@ -58,9 +61,11 @@ settled_none s = (forth (first_answer s.history s.waiting), back (first_answer s
   where
     r : Option ℕ
     r = first_ready s.history s.waiting
+
     forth : FirstAnswer s.history s.waiting (first_ready s.history s.waiting) → IsSettled s → (o : OpData) → Contains s.waiting o → is_ready s.history o ≡ false
     forth (inl (i, is, found)) e = absurd (none-some i (sym e ∙ is))
     forth (inr (is, none)) e = none
+
     back : FirstAnswer s.history s.waiting (first_ready s.history s.waiting) → ((o : OpData) → Contains s.waiting o → is_ready s.history o ≡ false) → IsSettled s
     back (inl (i, is, found)) none = absurd (true≢false (sym found.ready ∙ none found.op found.there))
     back (inr (is, _)) none = is

@@ -1,5 +1,5 @@
 -- The verdict that is computed is the one whose words hold.
-use Rattle.std.proofs.Common.{◌≡◌, ◌↔◌, ℕ, ◌<◌, ◌≤◌, Bool, true, false, ◌⊎◌, inl, inr, List, refl, ap, sym, subst, ◌∙◌, arith}
+use Rattle.std.proofs.Common.{◌≡◌, ◌↔◌, ℕ, ◌≤◌, Bool, true, false, ◌⊎◌, inl, inr, List, refl, ap, sym, subst, ◌∙◌, arith}
 use Rattle.std.specs.Prelude.{Option, Some, None, Contains, nat_le, nat_lt, if◌then◌else◌}
 use Rattle.std.specs.Bool.{Decides}
 use Rattle.std.proofs.lemmas.Bool.{cases_Bool, true≢false, false≢true, false_from_ne_true}
@@ -7,11 +7,11 @@ use Rattle.std.proofs.lemmas.Bool.Decides.{nat_tests}
 use Rattle.op_name.specs.NameData.{NameData}
 use Rattle.op_name.specs.declared.member.Member.{Member}
 use Rattle.op_name.specs.declared.member.Member.TheVariants.{Original, Group}
-use Rattle.op_name.specs.Members.{target_of, member_eq}
-use Rattle.context_vector.specs.Contexts.{ContextData, IsContext, has, entry_of}
+use Rattle.op_name.specs.Members.{target_of}
+use Rattle.context_vector.specs.Contexts.{IsContext}
 use Rattle.context_diff.specs.Operations.{OpData, inserting, deleting, undoing, member_of, context_of, is_original, IsWellFormed}
-use Rattle.context_diff.specs.Histories.{is_known, generation_in, context_of_all, inserts_in, LacksNothing, LacksFirst, IsClosed, HasPlace, IsNext, IsValid}
-use Rattle.context_diff.proofs.Complete.{IsComplete, complete}
+use Rattle.context_diff.specs.Histories.{is_known, generation_in, context_of_all, inserts_in, LacksNothing, HasPlace, IsNext, IsValid}
+use Rattle.context_diff.proofs.Complete.{complete}
 use Rattle.context_diff.proofs.Known.{holder, known_member}
 use Rattle.context_diff.proofs.Generations.{generation_is}
 use Rattle.context_diff.proofs.Raising.{has_group, has_generation}
@@ -19,10 +19,10 @@ use Rattle.context_diff.specs.Ops.{op_eq}
 use Rattle.context_diff.proofs.Equal.{op_eq_decides}
 use Rattle.cot_site.specs.declared.verdict.Verdict.{Verdict}
 use Rattle.cot_site.specs.declared.verdict.Verdict.TheVariants.{Repeat, Forged, Waits, NotClosed, PlaceOut, Integrated}
-use Rattle.cot_site.specs.Verdicts.{is_repeat, is_forged, lacked, first_uncovered, placed_verdict, ready_verdict, waiting_verdict, verdict_of, IsRepeat, HasOther, IsForgery, IsNew, place_in, IsVerdict}
+use Rattle.cot_site.specs.Verdicts.{is_repeat, is_forged, lacked, first_uncovered, placed_verdict, ready_verdict, waiting_verdict, verdict_of, IsRepeat, HasOther, IsNew, place_in, IsVerdict}
 use Rattle.cot_site.proofs.Lacking.{nothing_lacked, lacked_none, first_lacked_is, lacked_some}
-use Rattle.cot_site.proofs.Covers.{SiteAnswer, uncovered, site_none, site_some, none_closed, some_open}
-use Rattle.cot_site.proofs.Cases.{repeat_decides, forged_decides, not_forged, forged_not, original_named, named_original}
+use Rattle.cot_site.proofs.Covers.{SiteAnswer, uncovered, none_closed, some_open}
+use Rattle.cot_site.proofs.Cases.{repeat_decides, forged_decides, not_forged, forged_not, original_named}
 
 -- ---- how the verdict computes
 
@@ -113,15 +113,15 @@ module _ (h w : List OpData) (valid : IsValid h) (o : OpData) (formed : IsWellFo
             let fine = ready_fine h o (λ original. absurd (true≢false (sym original ∙ undo))) (undo_fits h o undo) in
             subst (IsVerdict h w o) (sym fine) (new, ready, (λ original. absurd (true≢false (sym original ∙ undo))), (fits_decides h o).0 (undo_fits h o undo))
         | inl original ↦ elim (sites ready) [
-            | inl (s, is, first) ↦ subst (IsVerdict h w o) (sym (ready_open h o s original is)) (new, ready, original, first)
-            | inr (is, closed) ↦ elim (cases_Bool (fits h o)) [
-                | inl so ↦ subst (IsVerdict h w o) (sym (ready_fine h o (λ _. is) so)) (new, ready, (λ _. closed), (fits_decides h o).0 so)
-                | inr isnt ↦
-                    let at = place_of_original o original in
-                    let out : ¬ HasPlace h o = λ has_place. true≢false (sym ((fits_decides h o).1 has_place) ∙ isnt) in
-                    subst (IsVerdict h w o) (sym (ready_out h o at.0 is isnt at.1)) (new, ready, closed, out, at.1, refl)
-              ]
+          | inl (s, is, first) ↦ subst (IsVerdict h w o) (sym (ready_open h o s original is)) (new, ready, original, first)
+          | inr (is, closed) ↦ elim (cases_Bool (fits h o)) [
+            | inl so ↦ subst (IsVerdict h w o) (sym (ready_fine h o (λ _. is) so)) (new, ready, (λ _. closed), (fits_decides h o).0 so)
+            | inr isnt ↦
+                let at = place_of_original o original in
+                let out : ¬ HasPlace h o = λ has_place. true≢false (sym ((fits_decides h o).1 has_place) ∙ isnt) in
+                subst (IsVerdict h w o) (sym (ready_out h o at.0 is isnt at.1)) (new, ready, closed, out, at.1, refl)
           ]
+        ]
       ]
 
   lacked_holds : IsNew h w o → is_repeat h o ≡ false → is_forged h w o ≡ false → (r : Option Member) → lacked h (context_of o) ≡ r → IsVerdict h w o (verdict_of h w o)
@@ -242,9 +242,9 @@ integrated_alone h w o valid formed e n name other =
 pub next_integrated : (h w : List OpData) (o : OpData) → IsValid h → IsWellFormed o → IsNext h o → ((n : NameData) → member_of o ≡ Original n → ¬ HasOther w o n) → verdict_of h w o ≡ Integrated
 next_integrated h w o valid formed next alone =
     let new : IsNew h w o = record {
-          no_repeat = unknown_no_repeat h valid o formed next.new;
-          no_forgery = λ n forgery. no_other n forgery.name forgery.known;
-        } in
+      no_repeat = unknown_no_repeat h valid o formed next.new;
+      no_forgery = λ n forgery. no_other n forgery.name forgery.known;
+    } in
     sym (verdict_only h w valid o formed Integrated (new, next.ready, next.closed, next.placed))
   where
     no_other : (n : NameData) → member_of o ≡ Original n → HasOther h o n ⊎ HasOther w o n → ⊥

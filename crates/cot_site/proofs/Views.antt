@@ -1,11 +1,11 @@
 -- What is shown of the cells of a history is what the history shows.
-use Rattle.std.proofs.Common.{◌≡◌, ℕ, zero, suc, ◌+◌, Bool, true, false, inl, inr, List, [], ◌∷◌, ◌++◌, length, map, refl, ap, sym, subst, ◌∙◌}
-use Rattle.std.specs.Prelude.{filter, if◌then◌else◌, slice_get}
+use Rattle.std.proofs.Common.{◌≡◌, ℕ, suc, Bool, inl, inr, List, [], ◌∷◌, length, map, refl, ap, sym, ◌∙◌}
+use Rattle.std.specs.Prelude.{filter, if◌then◌else◌}
 use Rattle.context_diff.specs.Operations.{OpData}
-use Rattle.context_diff.specs.Replays.{Cell, replay_of, is_shown, shown, text_of}
-use Rattle.ttf_form.specs.Cells.{CellData, cell_key, cell_shown, cells_of}
+use Rattle.context_diff.specs.Replays.{Cell, is_shown, shown, text_of}
+use Rattle.ttf_form.specs.Cells.{CellData, cell_key, cell_shown}
 use Rattle.ttf_form.specs.Families.{IsIn}
-use Rattle.visible_view.specs.View.{shown_cells, shown_places_from, shown_places, places_behind, shown_text}
+use Rattle.visible_view.specs.View.{shown_cells, shown_places_from, shown_places, shown_text}
 use Rattle.fixed_replay.specs.Replayed.{IsReplayed}
 use Rattle.fixed_replay.proofs.ExecutedForms.{replayed_shown, replayed_text}
 use Rattle.cot_site.specs.Commands.{places_from, shown_places_of}

@@ -1,5 +1,5 @@
 -- What waits: without one of its operations, with one more, and what a pool finds ready in it.
-use Rattle.std.proofs.Common.{◌≡◌, ◌↔◌, ℕ, zero, suc, ◌<◌, ◌≤◌, Bool, true, false, ◌⊎◌, inl, inr, List, [], ◌∷◌, ◌++◌, refl, ap, sym, subst, ◌∙◌, arith, IsNone, IfSome, length}
+use Rattle.std.proofs.Common.{◌≡◌, ◌↔◌, ℕ, zero, suc, ◌<◌, Bool, true, false, inl, inr, List, [], ◌∷◌, ◌++◌, refl, ap, sym, subst, ◌∙◌, arith, IsNone, IfSome, length, Result, Ok, Err, IfOk}
 use Rattle.std.specs.Prelude.{Option, Some, None, Contains, not, ◌&&◌, ◌||◌, slice_get, remove, option_map, if◌then◌else◌}
 use Rattle.std.specs.List.{list_any}
 use Rattle.std.specs.Option.{is_none}
@@ -7,26 +7,26 @@ use Rattle.std.specs.Bool.{Decides}
 use Rattle.std.proofs.lemmas.Bool.{cases_Bool, cases_lt, or_cases, or_left, or_right, and_right, true≢false, false≢true, false_from_ne_true}
 use Rattle.std.proofs.lemmas.List.Elements.{Contains-push_cases}
 use Rattle.std.proofs.lemmas.Option.{none-some, slice_get_within}
-use Rattle.op_name.specs.NameData.{NameData}
+use Rattle.op_name.specs.declared.memory.Memory.{Memory}
 use Rattle.op_name.specs.declared.member.Member.{Member}
-use Rattle.op_name.specs.declared.member.Member.TheVariants.{Original}
 use Rattle.op_name.specs.Members.{member_eq, target_of}
-use Rattle.context_vector.specs.Contexts.{ContextData, Within, has}
+use Rattle.context_vector.specs.Contexts.{ContextData}
 use Rattle.context_diff.specs.Operations.{OpData, member_of, context_of, is_original, IsWellFormed}
-use Rattle.context_diff.specs.Histories.{is_known, context_of_all, IsValid}
-use Rattle.context_diff.specs.Ops.{op_eq}
+use Rattle.context_diff.specs.Histories.{is_known, context_of_all, IsNext, IsValid}
+use Rattle.context_diff.specs.declared.op.Op.{Op}
+use Rattle.context_diff.specs.Ops.{data_of, op_eq}
 use Rattle.context_diff.proofs.Complete.{complete}
 use Rattle.context_diff.proofs.Equal.{op_eq_decides}
 use Rattle.context_diff.proofs.Known.{contains_cases, contains_here, contains_later, contains_none}
 use Rattle.causal_gate.specs.Waiting.{IsReady, IsFirstReady, NoneReady, NamesAgree}
 use Rattle.cot_site.specs.declared.verdict.Verdict.{Verdict}
 use Rattle.cot_site.specs.declared.verdict.Verdict.TheVariants.{Repeat, Forged, Waits, NotClosed, PlaceOut, Integrated}
-use Rattle.cot_site.specs.Verdicts.{is_repeat, is_other, is_forged, lacked, verdict_of, ready_verdict, IsVerdict, HasOther}
+use Rattle.cot_site.specs.Verdicts.{is_repeat, is_other, lacked, verdict_of, ready_verdict, IsVerdict}
 use Rattle.cot_site.specs.States.{State, held, after_verdict, is_ready, first_ready, without_waiting, delivered_again, released_at, released}
 use Rattle.cot_site.specs.Sites.{AllFormed}
 use Rattle.cot_site.proofs.Lacking.{nothing_lacked, lacked_none}
 use Rattle.cot_site.proofs.Cases.{same_any}
-use Rattle.cot_site.proofs.Verdicts.{pick, formed_context, verdict_holds}
+use Rattle.cot_site.proofs.Verdicts.{pick, formed_context, verdict_holds, integrated_next}
 use Rattle.cot_site.proofs.Releases.{IsFirstAt, FirstAnswer, first_answer, ready_not_waits}
 
 -- ---- without one of them
@@ -211,6 +211,20 @@ pub held_all : (w : List OpData) (o : OpData) (added : Bool) (v : List OpData) �
 held_all w o true v all formed is = subst AllFormed (sym is) (held_formed w o all formed)
 held_all w o false v all formed is = subst AllFormed (sym is) all
 
--- two that stand at one place are one
-pub one_at : (w : List OpData) (i : ℕ) (o p : OpData) → slice_get w i ≡ Some o → slice_get w i ≡ Some p → o ≡ p
-one_at w i o p a b = let same : Some o ≡ Some p = sym a ∙ b in cc
+-- what stands at a place, as a copy of it
+pub copied : (w : List OpData) (i : ℕ) (p : OpData) (r : Result Op Memory) → slice_get w i ≡ Some p → IfOk r (λ o. data_of o ≡ p) → IfOk r (λ o. slice_get w i ≡ Some (data_of o))
+copied w i p (Ok o) at same = at ∙ ap (λ x. Some x) (sym same)
+copied w i p (Err e) at same = tt
+
+-- one that waits and gets the verdict of an integrated one may come next
+pub ready_integrated : (h w : List OpData) (i : ℕ) (o : OpData) (v : Verdict) → IsValid h → AllFormed w → slice_get w i ≡ Some o → ((p : OpData) → slice_get w i ≡ Some p → v ≡ verdict_of h (remove w i) p) → v ≡ Integrated → IsNext h o
+ready_integrated h w i o v valid all at is integrated = integrated_next h (remove w i) o valid (formed_at w i o all at) (sym (is o at) ∙ integrated)
+
+-- ---- the first one that is ready, as a release finds it
+
+module _ (s : State) (valid : IsValid s.history) (all : AllFormed s.waiting) (have : ContextData) (w : List OpData) (is_have : have ≡ context_of_all s.history) (is_waiting : w ≡ s.waiting) (r : Option ℕ) (none : IsNone r ↔ NoneReady have w) (first : IfSome r (IsFirstReady have w)) where
+  pub found_first : r ≡ first_ready s.history s.waiting
+  found_first =
+      let whole : IsNone r ↔ NoneReady (context_of_all s.history) s.waiting = subst (λ (c : ContextData). IsNone r ↔ NoneReady c s.waiting) is_have (subst (λ (os : List OpData). IsNone r ↔ NoneReady have os) is_waiting none) in
+      let least : IfSome r (IsFirstReady (context_of_all s.history) s.waiting) = subst (λ (c : ContextData). IfSome r (IsFirstReady c s.waiting)) is_have (subst (λ (os : List OpData). IfSome r (IsFirstReady have os)) is_waiting first) in
+      ready_found s.history valid s.waiting all r whole least

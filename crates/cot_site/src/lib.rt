@@ -1,8 +1,15 @@
-//! One site of a group text: definitions and laws; a stand-in.
+//! One site of a group text.
+//!
+//! A `Site` *is* its number, a valid history of integrated operations, and a list of operations that wait for
+//! members of their contexts. It answers each delivered operation with exactly one verdict, makes local
+//! operations, and shows the one text of its history.
 #![tactic(auto)]
 
+mod judging;
 mod laws;
 mod local;
+mod replica;
+mod site;
 mod verdict;
 
 pub use laws::{
@@ -10,4 +17,8 @@ pub use laws::{
     settled_states_have_none_ready, verdicts_are_exact,
 };
 pub use local::Local;
+pub use site::Site;
 pub use verdict::Verdict;
+
+#[cfg(test)]
+mod tests;
