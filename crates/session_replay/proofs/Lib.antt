@@ -2,3 +2,8 @@ pub mod Steps
 pub mod Releasing
 pub mod Splits
 pub mod Endings
+pub mod Every
+pub mod States
+pub mod Sound
+pub mod LineLaws
+pub mod ScriptLaws

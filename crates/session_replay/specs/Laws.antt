@@ -7,6 +7,7 @@ use Rattle.context_diff.specs.Replays.{text_of}
 use Rattle.cot_site.specs.States.{State, IsSettled}
 use Rattle.cot_site.specs.Sites.{AllFormed}
 use Rattle.script_text.specs.declared.lines.Line.{Line}
+use Rattle.script_text.specs.Lines.{IsInRange}
 use Rattle.session_replay.specs.declared.session.StepBad.{StepBad}
 use Rattle.session_replay.specs.Steps.{Step, last_of, IsReached}
 use Rattle.session_replay.specs.Sessions.{SessionData, site_at, made, given}
@@ -30,11 +31,11 @@ pub record WaitsFor (h : List OpData) (o : OpData) : Type 0 where
   pub first : LacksFirst h (context_of o) missing
   pub new : is_known h (member_of o) ≡ false
 
--- each step of a line leaves a sound session
+-- each step of a line, whose parts are in range, leaves a sound session
 abbrev pub SessionsStaySound : Type 0
 SessionsStaySound =
     (d reached : SessionData) (line : Line) (es : List (Step SessionData))
-    → IsSound d → line_steps line d ≡ Ok es → IsReached d es reached → IsSound reached
+    → IsSound d → IsInRange line → line_steps line d ≡ Ok es → IsReached d es reached → IsSound reached
 
 -- after a local operation with its releases, no operation is ready
 abbrev pub LocalOperationsSettle : Type 0
@@ -52,7 +53,7 @@ DeliveriesSettle =
 abbrev pub LinesSettle : Type 0
 LinesSettle =
     (d : SessionData) (line : Line) (es : List (Step SessionData))
-    → IsSound d → AreSettled d → line_steps line d ≡ Ok es → AreSettled (last_of d es)
+    → IsSound d → AreSettled d → IsInRange line → line_steps line d ≡ Ok es → AreSettled (last_of d es)
 
 -- each session that a script comes by is sound and settled
 abbrev pub ScriptsSettle : Type 0
