@@ -3,4 +3,5 @@ pub mod Sessions
 pub mod Commands
 pub mod Scripts
 pub mod Answers
+pub mod Doing
 pub mod Laws

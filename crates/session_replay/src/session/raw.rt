@@ -1,48 +1,42 @@
 //! Deliveries of frames.
 
+ghost use Rattle.std.specs.Prelude.{◌<◌, length};
+ghost use Rattle.session_replay.specs.Steps.{AreDone};
+ghost use Rattle.session_replay.specs.Commands.{framed};
+
 use crate::causes::word_of;
-use crate::releases::take_in;
 use crate::session::Session;
-use cot_site::Site;
 use op_name::Memory;
 use script_text::{raw_bad_line, raw_more_line};
-use std::alloc::Global;
 use wire_codec::{Decoded, decode};
 
 impl Session {
-    // Delivers frame after frame of the bytes to the site. The first bytes that begin with no frame are told, and
-    // end it.
+    // Delivers frame after frame of the bytes to the site of this number. The first bytes that begin with no frame
+    // are told, and end it.
     pub(super) fn give_frames(
         &mut self,
-        at: usize,
+        site: u16,
         bytes: &[u8],
         out: &mut Vec<u8>,
-    ) -> Result<(), Memory> {
+    ) -> Result<(), Memory>
+        requires { site < length self.old.sites }
+        ensures { AreDone result (framed (length bytes.now) site bytes.now self.old) self.old self.new out.old.items out.new.items }
+    {
         let alloc = *self.messages.allocator();
-        take_in_frames(alloc, at as u16, bytes, &mut self.sites[at], out)
-    }
-}
-
-// Delivers frame after frame of the bytes to the site of this number.
-fn take_in_frames(
-    alloc: Global,
-    number: u16,
-    bytes: &[u8],
-    site: &mut Site,
-    out: &mut Vec<u8>,
-) -> Result<(), Memory> {
-    let mut rest = bytes;
-    while !rest.is_empty() {
-        match decode(alloc, rest)? {
-            Decoded::Got { op, used } => {
-                take_in(alloc, false, &op, site, out)?;
-                rest = &rest[used as usize..];
-            }
-            Decoded::More { at_least } => return raw_more_line(alloc, number, at_least, out),
-            Decoded::Bad { cause, offset } => {
-                return raw_bad_line(alloc, number, word_of(cause), offset, out);
+        let mut rest = bytes;
+        while !rest.is_empty() {
+            match decode(alloc, rest) {
+                Ok(Decoded::Got { op, used }) => {
+                    self.deliver(site as usize, &op, out)?;
+                    rest = &rest[used as usize..];
+                }
+                Ok(Decoded::More { at_least }) => return raw_more_line(alloc, site, at_least, out),
+                Ok(Decoded::Bad { cause, offset }) => {
+                    return raw_bad_line(alloc, site, word_of(cause), offset, out);
+                }
+                Err(want) => return Err(want),
             }
         }
+        Ok(())
     }
-    Ok(())
 }
