@@ -1,2 +1,4 @@
 pub mod Steps
 pub mod Releasing
+pub mod Lifting
+pub mod Commanding

@@ -175,3 +175,16 @@ stopped (Ok t) e is es s now old new h = absurd (ok-err is)
     ok-err : Ok t ≡ Err e → ⊥
     ok-err p = cc
 stopped (Err d) e is es s now old new h = h
+
+-- ---- the same ending in another answer
+
+pub ended_well : {T E U F S : Type 0} (r : Result T E) (q : Result U F) (t : T) (u : U) (es : List (Step S)) (s now : S) (old new : List ℕ) → r ≡ Ok t → q ≡ Ok u → AreDone r es s now old new → AreDone q es s now old new
+ended_well r q t u es s now old new is also h =
+    subst (λ x. AreDone x es s now old new) (sym also) (subst (λ x. AreDone x es s now old new) is h)
+
+pub ended_short : {T E U F S : Type 0} (r : Result T E) (q : Result U F) (e : E) (f : F) (es : List (Step S)) (s now : S) (old new : List ℕ) → r ≡ Err e → q ≡ Err f → AreDone r es s now old new → AreDone q es s now old new
+ended_short r q e f es s now old new is also h =
+    subst (λ x. AreDone x es s now old new) (sym also) (subst (λ x. AreDone x es s now old new) is h)
+
+pub all_done : {T E S : Type 0} (q : Result T E) (u : T) (es : List (Step S)) (s now : S) (old new : List ℕ) → q ≡ Ok u → (now ≡ last_of s es) × (new ≡ old ++ written_by es) → AreDone q es s now old new
+all_done q u es s now old new is h = subst (λ x. AreDone x es s now old new) (sym is) h
