@@ -124,6 +124,12 @@ along_part whole first old left es fs now next new more a split state written = 
     written ∙ ap (λ xs. xs ++ written_by es) a.written ∙ append_assoc old (written_by a.done) (written_by es) ∙ ap (λ xs. old ++ xs) (sym (written_append a.done es));
 }
 
+-- the same, where what is left is given by the state
+pub along_next : {S : Type 0} (whole : List (Step S)) (first : S) (old : List ℕ) (left es : List (Step S)) (rest : S → List (Step S)) (now next : S) (new more : List ℕ)
+    → IsAlong whole first old left now new → left ≡ es ++ rest (last_of now es) → next ≡ last_of now es → more ≡ new ++ written_by es → IsAlong whole first old (rest next) next more
+along_next whole first old left es rest now next new more a split state written =
+    along_part whole first old left es (rest next) now next new more a (split ∙ ap (λ x. es ++ rest x) (sym state)) state written
+
 -- nothing is left
 pub along_end : {S : Type 0} (whole : List (Step S)) (first : S) (old : List ℕ) (left : List (Step S)) (now : S) (new : List ℕ)
     → IsAlong whole first old left now new → left ≡ [] → (now ≡ last_of first whole) × (new ≡ old ++ written_by whole)

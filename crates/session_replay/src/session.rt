@@ -187,9 +187,9 @@ impl Session {
         }
     }
 
-    // Makes the sites.
+    // Makes the sites; no message is there.
     fn start(&mut self, count: u16) -> Result<(), StepBad>
-        ensures steps { IsDone (line_steps (Sites count) self.old) result self.old self.new }
+        ensures { IsDone (line_steps (Sites count) self.old) result self.old self.new }
     {
         if self.is_started() {
             return Err(StepBad::Twice);
@@ -200,6 +200,7 @@ impl Session {
         match new_sites(*self.sites.allocator(), count) {
             Ok(sites) => {
                 self.sites = sites;
+                self.messages.clear();
                 Ok(())
             }
             Err(_) => Err(StepBad::Memory),

@@ -34,20 +34,21 @@ pub(super) enum Command {
 }
 
 impl Session {
-    // Inserts each character of a text at the site, at shown places `place`, `place + 1` and so on, until one is
+    // Inserts each character of a text at the site, at shown places `from`, `from + 1` and so on, until one is
     // refused.
     pub(super) fn type_text(
         &mut self,
         at: usize,
-        place: u32,
+        from: u32,
         text: &[char],
         out: &mut Vec<u8>,
     ) -> Result<(), Memory>
         requires { at < length self.old.sites }
-        ensures { AreDone result (typed at place text.now self.old) self.old self.new out.old.items out.new.items }
+        ensures { AreDone result (typed at from text.now self.old) self.old self.new out.old.items out.new.items }
     {
-        let mut place = place;
+        let mut place = from;
         for ch in text {
+            self.sites[at].known();
             if !self.command(at, Command::Insert { place, ch: *ch }, out)? {
                 return Ok(());
             }
