@@ -184,15 +184,16 @@ framed_enough n m i [] d few less = both n m
     both k l = none k ∙ sym (none l)
 framed_enough zero m i (b ∷ bs) d few less = absurd (omega (arith, few))
 framed_enough (suc n) zero i (b ∷ bs) d few less = absurd (omega (arith, less))
-framed_enough (suc n) (suc m) i (b ∷ bs) d few less = from (judge (b ∷ bs)) refl
+framed_enough (suc n) (suc m) i (b ∷ bs) d few less = from (λ xs e k l. framed_enough n m i xs e k l) (judge (b ∷ bs)) refl
   where
-    from : (r : Result (OpData × ℕ) Refused) → judge (b ∷ bs) ≡ r → framed_on (framed n i) i (b ∷ bs) r d ≡ framed_on (framed m i) i (b ∷ bs) r d
-    from (Err (More least)) is = refl
-    from (Err (Bad f)) is = refl
-    from (Ok p) is =
+    from : ((xs : List ℕ) (e : SessionData) → length xs ≤ n → length xs ≤ m → framed n i xs e ≡ framed m i xs e)
+        → (r : Result (OpData × ℕ) Refused) → judge (b ∷ bs) ≡ r → framed_on (framed n i) i (b ∷ bs) r d ≡ framed_on (framed m i) i (b ∷ bs) r d
+    from again (Err (More least)) is = refl
+    from again (Err (Bad f)) is = refl
+    from again (Ok p) is =
         let some = used_some (b ∷ bs) p is in
         let left : length (drop p.1 (b ∷ bs)) ≤ length bs = omega (arith, some, length-drop p.1 (b ∷ bs)) in
-        ap (λ es. given false i p.0 d ++ es) (framed_enough n m i (drop p.1 (b ∷ bs)) (last_of d (given false i p.0 d)) (omega (arith, left, few)) (omega (arith, left, less)))
+        ap (λ es. given false i p.0 d ++ es) (again (drop p.1 (b ∷ bs)) (last_of d (given false i p.0 d)) (omega (arith, left, few)) (omega (arith, left, less)))
 
 framed_is : (i : ℕ) (bytes : List ℕ) (d : SessionData) → 0 < length bytes → (n : ℕ) × (length bytes ≡ suc n) × (framed (length bytes) i bytes d ≡ framed_on (framed n i) i bytes (judge bytes) d)
 unfolding framed
