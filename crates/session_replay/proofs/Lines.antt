@@ -36,3 +36,9 @@ sites_made steps n d now is at = subst (λ r. IsDone {T = Unit {0}} r (Ok tt) d 
 
 pub sites_short : (steps : Result (List (Step SessionData)) StepBad) (es : List (Step SessionData)) (d : SessionData) → steps ≡ Ok es → IsDone {T = Unit {0}} steps (Err Memory) d d
 sites_short steps es d is = subst (λ r. IsDone {T = Unit {0}} r (Err Memory) d d) (sym is) (refl, none_reached d es)
+
+-- ---- answers of lines
+
+pub line_from_done : {T U E : Type 0} (r : Result T E) (u : U) (es : List (Step SessionData)) (d now : SessionData) (old new : List ℕ) → AreDone r es d now old new → IsLineDone (Ok es) (as_step r) d now old new
+line_from_done (Ok t) u es d now old new h = h
+line_from_done (Err e) u es d now old new h = (refl, h)

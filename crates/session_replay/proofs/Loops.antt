@@ -4,7 +4,7 @@ use Rattle.std.specs.Prelude.{Option, Some, None, Result, Ok, Err, slice_get, na
 use Rattle.std.specs.Result.{is_ok}
 use Rattle.std.proofs.Math.Seq.{drop-cons}
 use Rattle.std.proofs.lemmas.List.{length-map}
-use Rattle.std.proofs.lemmas.Option.{slice_get_within, slice_get-get_or}
+use Rattle.std.proofs.lemmas.Option.{slice_get_within, slice_get-get_or, none-some}
 use Rattle.std.proofs.lemmas.Bool.{true≢false, false≢true, cases_Bool}
 use Rattle.context_diff.specs.Operations.{OpData, inserting}
 use Rattle.context_diff.specs.Histories.{IsValid, context_of_all}
@@ -21,6 +21,7 @@ use Rattle.wire_codec.specs.declared.fault.Refused.{Refused}
 use Rattle.wire_codec.specs.declared.fault.Refused.TheVariants.{More, Bad}
 use Rattle.session_replay.specs.Steps.{Step, last_of}
 use Rattle.session_replay.specs.Sessions.{SessionData, site_at, given, given_all, synced, new_site, new_sites}
+use Rattle.session_replay.specs.Doing.{frame_bytes}
 use Rattle.session_replay.specs.Commands.{commanded, typed, typed_on, framed, framed_on, told, cause_word}
 
 -- the line of bytes that begin with no frame
@@ -166,7 +167,7 @@ used_of false true c x y z used r p e = absurd cc
 used_of false false true x y z used r p e = absurd cc
 used_of false false false x y z used r p e = omega (arith, judged_used (4 + used) r p e)
 
--- a frame has bytes
+-- what is judged to be a frame has bytes
 used_some : (bytes : List ℕ) (p : OpData × ℕ) → judge bytes ≡ Ok p → 0 < p.1
 unfolding judge
 used_some bytes p e = used_of (nat_lt (length bytes) 4) (nat_lt longest (length_of bytes)) (nat_lt (length bytes) (4 + length_of bytes)) _ _ _ (length_of bytes) _ p e
@@ -200,23 +201,86 @@ unfolding framed
 framed_is i [] d some = absurd (omega (arith, some))
 framed_is i (b ∷ bs) d some = (length bs, refl, refl)
 
+no_fuel : (i : ℕ) (bytes : List ℕ) (d : SessionData) → framed 0 i bytes d ≡ []
+unfolding framed
+no_fuel i [] d = refl
+no_fuel i (b ∷ bs) d = refl
+
+one_is : (i : ℕ) (bytes : List ℕ) (d : SessionData) → 0 < length bytes → framed 1 i bytes d ≡ framed_on (framed 0 i) i bytes (judge bytes) d
+unfolding framed
+one_is i [] d some = absurd (omega (arith, some))
+one_is i (b ∷ bs) d some = refl
+
+-- the first frame
+pub one_frame : (i : ℕ) (bytes : List ℕ) (d : SessionData) (o : OpData) (used : ℕ) → 0 < length bytes → Ok (o, used) ≡ judge bytes → framed 1 i bytes d ≡ given false i o d
+one_frame i bytes d o used some is =
+    one_is i bytes d some
+    ∙ ap (λ r. framed_on (framed 0 i) i bytes r d) (sym is)
+    ∙ ap (λ es. given false i o d ++ es) (no_fuel i (drop used bytes) (last_of d (given false i o d)))
+    ∙ append-nil (given false i o d)
+
+-- no frame
+pub one_refused : (i : ℕ) (bytes : List ℕ) (d : SessionData) (r : Refused) → 0 < length bytes → Err r ≡ judge bytes → framed 1 i bytes d ≡ told (refused_frame i r) d
+one_refused i bytes d (More least) some is = one_is i bytes d some ∙ ap (λ r. framed_on (framed 0 i) i bytes r d) (sym is)
+one_refused i bytes d (Bad f) some is = one_is i bytes d some ∙ ap (λ r. framed_on (framed 0 i) i bytes r d) (sym is)
+
 -- the first frame, and those behind it
-pub framed_more : (i : ℕ) (bytes : List ℕ) (d : SessionData) (o : OpData) (used : ℕ) → 0 < length bytes → Ok (o, used) ≡ judge bytes
-    → framed (length bytes) i bytes d ≡ given false i o d ++ framed (length (drop used bytes)) i (drop used bytes) (last_of d (given false i o d))
-framed_more i bytes d o used some is =
-    let first = framed_is i bytes d some in
-    let n = first.0 in
-    let begun = used_some bytes (o, used) (sym is) in
-    let left : length (drop used bytes) ≤ n = omega (arith, begun, first.1, length-drop used bytes) in
-    let later = last_of d (given false i o d) in
-    first.2 ∙ ap (λ r. framed_on (framed n i) i bytes r d) (sym is) ∙ ap (λ es. given false i o d ++ es) (framed_enough n (length (drop used bytes)) i (drop used bytes) later left (omega arith))
+pub frames_on : (i : ℕ) (bytes : List ℕ) (d now : SessionData) (used : ℕ) → 0 < length bytes → Some used ≡ frame_bytes (judge bytes) → now ≡ last_of d (framed 1 i bytes d)
+    → framed (length bytes) i bytes d ≡ framed 1 i bytes d ++ framed (length (drop used bytes)) i (drop used bytes) now
+frames_on i bytes d now used some is at = from (judge bytes) refl
+  where
+    from : (r : Result (OpData × ℕ) Refused) → judge bytes ≡ r → framed (length bytes) i bytes d ≡ framed 1 i bytes d ++ framed (length (drop used bytes)) i (drop used bytes) now
+    from (Err r) e = absurd (none-some used (sym (is ∙ ap frame_bytes e)))
+    from (Ok p) e =
+        let both : Some used ≡ Some p.1 = is ∙ ap frame_bytes e in
+        let same : used ≡ p.1 = cc in
+        let pair : Ok (p.0, used) ≡ judge bytes = ap (λ n. Ok (p.0, n)) same ∙ sym e in
+        let one = one_frame i bytes d p.0 used some pair in
+        let first = framed_is i bytes d some in
+        let n = first.0 in
+        let begun = used_some bytes p e in
+        let left : length (drop used bytes) ≤ n = omega (arith, begun, same, first.1, length-drop used bytes) in
+        let later : last_of d (given false i p.0 d) ≡ now = ap (last_of d) (sym one) ∙ sym at in
+        first.2
+        ∙ ap (λ r. framed_on (framed n i) i bytes r d) (sym pair)
+        ∙ ap (λ es. given false i p.0 d ++ es) (framed_enough n (length (drop used bytes)) i (drop used bytes) (last_of d (given false i p.0 d)) left (omega arith))
+        ∙ ap (λ x. given false i p.0 d ++ framed (length (drop used bytes)) i (drop used bytes) x) later
+        ∙ ap (λ es. es ++ framed (length (drop used bytes)) i (drop used bytes) now) (sym one)
 
-pub framed_told : (i : ℕ) (bytes : List ℕ) (d : SessionData) (r : Refused) → 0 < length bytes → Err r ≡ judge bytes → framed (length bytes) i bytes d ≡ told (refused_frame i r) d
-framed_told i bytes d (More least) some is = let first = framed_is i bytes d some in first.2 ∙ ap (λ r. framed_on (framed first.0 i) i bytes r d) (sym is)
-framed_told i bytes d (Bad f) some is = let first = framed_is i bytes d some in first.2 ∙ ap (λ r. framed_on (framed first.0 i) i bytes r d) (sym is)
+-- nothing follows bytes that begin with no frame
+pub frames_end : (i : ℕ) (bytes : List ℕ) (d : SessionData) → 0 < length bytes → None ≡ frame_bytes (judge bytes) → framed (length bytes) i bytes d ≡ framed 1 i bytes d ++ []
+frames_end i bytes d some is = from (judge bytes) refl
+  where
+    from : (r : Result (OpData × ℕ) Refused) → judge bytes ≡ r → framed (length bytes) i bytes d ≡ framed 1 i bytes d ++ []
+    from (Ok p) e = absurd (none-some p.1 (is ∙ ap frame_bytes e))
+    from (Err (More least)) e =
+        let first = framed_is i bytes d some in
+        first.2 ∙ ap (λ r. framed_on (framed first.0 i) i bytes r d) e ∙ sym (append-nil _ ∙ one_refused i bytes d (More least) some (sym e))
+    from (Err (Bad f)) e =
+        let first = framed_is i bytes d some in
+        first.2 ∙ ap (λ r. framed_on (framed first.0 i) i bytes r d) e ∙ sym (append-nil _ ∙ one_refused i bytes d (Bad f) some (sym e))
 
-pub frame_some : (bytes : List ℕ) (o : OpData) (used : ℕ) → Ok (o, used) ≡ judge bytes → 0 < used
-frame_some bytes o used is = used_some bytes (o, used) (sym is)
+-- the first frame is the first part
+pub frames_part : (i : ℕ) (bytes : List ℕ) (d : SessionData) → 0 < length bytes → (left : List (Step SessionData)) × (framed (length bytes) i bytes d ≡ framed 1 i bytes d ++ left)
+frames_part i bytes d some = from (frame_bytes (judge bytes)) refl
+  where
+    from : (r : Option ℕ) → frame_bytes (judge bytes) ≡ r → (left : List (Step SessionData)) × (framed (length bytes) i bytes d ≡ framed 1 i bytes d ++ left)
+    from None e = ([], frames_end i bytes d some (sym e))
+    from (Some used) e = (
+      framed (length (drop used bytes)) i (drop used bytes) (last_of d (framed 1 i bytes d)),
+      frames_on i bytes d (last_of d (framed 1 i bytes d)) used some (sym e) refl,
+    )
+
+-- a frame has bytes
+pub frame_begun : (bytes : List ℕ) (used : ℕ) → Some used ≡ frame_bytes (judge bytes) → 0 < used
+frame_begun bytes used is = from (judge bytes) refl
+  where
+    from : (r : Result (OpData × ℕ) Refused) → judge bytes ≡ r → 0 < used
+    from (Err r) e = absurd (none-some used (sym (is ∙ ap frame_bytes e)))
+    from (Ok p) e =
+        let both : Some used ≡ Some p.1 = is ∙ ap frame_bytes e in
+        let same : used ≡ p.1 = cc in
+        omega (arith, used_some bytes p e)
 
 pub framed_none : (i : ℕ) (bytes : List ℕ) (d : SessionData) → length bytes ≡ 0 → framed (length bytes) i bytes d ≡ []
 unfolding framed

@@ -194,3 +194,12 @@ ended_short r q e f es s now old new is also h =
 
 pub all_done : {T E S : Type 0} (q : Result T E) (u : T) (es : List (Step S)) (s now : S) (old new : List ℕ) → q ≡ Ok u → (now ≡ last_of s es) × (new ≡ old ++ written_by es) → AreDone q es s now old new
 all_done q u es s now old new is h = subst (λ x. AreDone x es s now old new) (sym is) h
+
+-- ---- one line that is told, and the same steps in another form
+
+pub told_done : {S : Type 0} (s now : S) (w old new : List ℕ) → now ≡ s → new ≡ old ++ w → (now ≡ last_of s (record { written = w; after = s } ∷ [])) × (new ≡ old ++ written_by (record { written = w; after = s } ∷ []))
+unfolding last_of written_by
+told_done s now w old new same written = (same, written ∙ ap (λ xs. old ++ xs) (sym (append-nil w)))
+
+pub well_in : {S : Type 0} (es fs : List (Step S)) (s now : S) (old new : List ℕ) → es ≡ fs → (now ≡ last_of s fs) × (new ≡ old ++ written_by fs) → (now ≡ last_of s es) × (new ≡ old ++ written_by es)
+well_in es fs s now old new same h = (h.0 ∙ ap (last_of s) (sym same), h.1 ∙ ap (λ xs. old ++ written_by xs) (sym same))

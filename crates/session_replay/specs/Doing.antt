@@ -6,6 +6,7 @@ use Rattle.cot_site.specs.Commands.{local_insert, local_delete, local_undo, loca
 use Rattle.cot_site.specs.declared.local.Local.{Local}
 use Rattle.script_text.specs.declared.lines.Line.{Line}
 use Rattle.script_text.specs.declared.lines.Line.TheVariants as line
+use Rattle.wire_codec.specs.declared.fault.Refused.{Refused}
 use Rattle.session_replay.specs.declared.session.StepBad.{StepBad}
 use Rattle.session_replay.specs.declared.session.StepBad.TheVariants.{Memory}
 use Rattle.session_replay.specs.declared.session.commands.Command.{Command}
@@ -48,3 +49,8 @@ IsLineDone (Err why) (Err cause) d now old new = (cause ≡ why) × (now ≡ d) 
 abbrev pub as_step : {T E : Type 0} → Result T E → Result T StepBad
 as_step (Ok t) = Ok t
 as_step (Err e) = Err Memory
+
+-- how many bytes the frame has that bytes begin with, if they begin with one
+abbrev pub frame_bytes : Result (OpData × ℕ) Refused → Option ℕ
+frame_bytes (Ok p) = Some p.1
+frame_bytes (Err r) = None
