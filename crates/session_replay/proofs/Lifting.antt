@@ -150,9 +150,9 @@ made_done result d sites messages i op x y z n old new seen within is last numbe
     let up = made_here result d i o (state_of z) old new here in
     let twice : set (set sites i y) i z ≡ set sites i z = set_twice sites i y z in
     let whole : session_at d.sites (d.messages ++ o ∷ []) i (state_of z) ≡ session_of (set (set sites i y) i z) (messages ++ op ∷ []) =
-      ap (λ (e : SessionData). session_at e.sites (e.messages ++ o ∷ []) i (state_of z)) (sym seen)
-      ∙ ap (λ (xs : List State). record { sites = xs; messages = map data_of messages ++ o ∷ [] }) (sym (map-set state_of sites i z) ∙ ap (map state_of) (sym twice))
-      ∙ ap (λ (ms : List OpData). record { sites = map state_of (set (set sites i y) i z); messages = ms }) (sym (map-append data_of messages (op ∷ [])))
+    ap (λ (e : SessionData). session_at e.sites (e.messages ++ o ∷ []) i (state_of z)) (sym seen)
+    ∙ ap (λ (xs : List State). record { sites = xs; messages = map data_of messages ++ o ∷ [] }) (sym (map-set state_of sites i z) ∙ ap (map state_of) (sym twice))
+    ∙ ap (λ (ms : List OpData). record { sites = map state_of (set (set sites i y) i z); messages = ms }) (sym (map-append data_of messages (op ∷ [])))
     in
     subst (λ e. AreDone result (made i o d) d e old new) whole up
 

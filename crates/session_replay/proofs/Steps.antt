@@ -121,7 +121,7 @@ along_part whole first old left es fs now next new more a split state written = 
   parts = a.parts ∙ ap (λ xs. a.done ++ xs) split ∙ sym (append_assoc a.done es fs);
   state = state ∙ ap (λ x. last_of x es) a.state ∙ sym (last_append first a.done es);
   written =
-    written ∙ ap (λ xs. xs ++ written_by es) a.written ∙ append_assoc old (written_by a.done) (written_by es) ∙ ap (λ xs. old ++ xs) (sym (written_append a.done es));
+      written ∙ ap (λ xs. xs ++ written_by es) a.written ∙ append_assoc old (written_by a.done) (written_by es) ∙ ap (λ xs. old ++ xs) (sym (written_append a.done es));
 }
 
 -- the same, where what is left is given by the state

@@ -135,7 +135,14 @@ impl Session {
         match line {
             Line::Ins { place, text, .. } => done(self.type_text(at, *place, text.as_slice(), out)),
             Line::Nl { place, .. } => {
-                self.do_command(at, Command::Insert { place: *place, ch: '\n' }, out)
+                self.do_command(
+                    at,
+                    Command::Insert {
+                        place: *place,
+                        ch: '\n',
+                    },
+                    out,
+                )
             }
             Line::Del { place, .. } => self.do_command(at, Command::Delete { place: *place }, out),
             Line::Undo { name, .. } => self.do_command(at, Command::Undo { name: *name }, out),
@@ -150,12 +157,7 @@ impl Session {
     }
 
     // A command at the site.
-    fn do_command(
-        &mut self,
-        at: usize,
-        command: Command,
-        out: &mut Vec<u8>,
-    ) -> Result<(), StepBad>
+    fn do_command(&mut self, at: usize, command: Command, out: &mut Vec<u8>) -> Result<(), StepBad>
         requires { at < length self.old.sites }
         ensures { IsLineDone (Ok (commanded at (local_of command (site_at self.old at)) self.old)) result self.old self.new out.old.items out.new.items }
     {

@@ -15,12 +15,7 @@ use op_name::Memory;
 
 impl Session {
     // Delivers the message of this number to the site.
-    pub(super) fn give(
-        &mut self,
-        at: usize,
-        message: u32,
-        out: &mut Vec<u8>,
-    ) -> Result<(), StepBad>
+    pub(super) fn give(&mut self, at: usize, message: u32, out: &mut Vec<u8>) -> Result<(), StepBad>
         requires { at < length self.old.sites }
         ensures { IsLineDone (given_message at (slice_get self.old.messages message) self.old) result self.old self.new out.old.items out.new.items }
     {
@@ -72,16 +67,17 @@ impl Session {
         ensures messages { self.new.messages ≡ self.old.messages }
     {
         let alloc = *self.messages.allocator();
-        take_in(alloc, many, &self.messages[message], &mut self.sites[at], out)
+        take_in(
+            alloc,
+            many,
+            &self.messages[message],
+            &mut self.sites[at],
+            out,
+        )
     }
 
     // Delivers an operation, which is well formed, to the site.
-    pub(super) fn deliver(
-        &mut self,
-        at: usize,
-        op: &Op,
-        out: &mut Vec<u8>,
-    ) -> Result<(), Memory>
+    pub(super) fn deliver(&mut self, at: usize, op: &Op, out: &mut Vec<u8>) -> Result<(), Memory>
         requires site { at < length self.old.sites }
         requires formed { IsWellFormed (data_of op.now) }
         ensures done { AreDone result (given false at (data_of op.now) self.old) self.old self.new out.old.items out.new.items }

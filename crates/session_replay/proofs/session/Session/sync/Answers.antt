@@ -13,10 +13,10 @@ loop-at-init c =
     let out = c.args.out.now.items in
     let all : length d.sites ≡ length d.sites - 0 = omega arith in
     record {
-  along = subst (λ n. IsAlong (synced 0 (length d.sites) d) d out (synced 0 n d) d out) all (along_first _ _ _);
-  sites = refl;
-  end = omega (arith, c.len-at-end.ensures, c.self.inside.sites.ok.0, ap (λ (e : SessionData). length e.sites) c.self.view_is, length-map c.self.inside.sites.items state_of);
-}
+      along = subst (λ n. IsAlong (synced 0 (length d.sites) d) d out (synced 0 n d) d out) all (along_first _ _ _);
+      sites = refl;
+      end = omega (arith, c.len-at-end.ensures, c.self.inside.sites.ok.0, ap (λ (e : SessionData). length e.sites) c.self.view_is, length-map c.self.inside.sites.items state_of);
+    }
 
 pub returns-in_err-give_all : goal.returns-in_err-give_all
 returns-in_err-give_all c =
