@@ -121,8 +121,14 @@ along_part whole first old left es fs now next new more a split state written = 
   parts = a.parts ∙ ap (λ xs. a.done ++ xs) split ∙ sym (append_assoc a.done es fs);
   state = state ∙ ap (λ x. last_of x es) a.state ∙ sym (last_append first a.done es);
   written =
-    written ∙ ap (λ xs. xs ++ written_by es) a.written ∙ append_assoc old (written_by a.done) (written_by es) ∙ ap (λ xs. old ++ xs) (sym (written_append a.done es));
+      written ∙ ap (λ xs. xs ++ written_by es) a.written ∙ append_assoc old (written_by a.done) (written_by es) ∙ ap (λ xs. old ++ xs) (sym (written_append a.done es));
 }
+
+-- the same, where what is left is given by the state
+pub along_next : {S : Type 0} (whole : List (Step S)) (first : S) (old : List ℕ) (left es : List (Step S)) (rest : S → List (Step S)) (now next : S) (new more : List ℕ)
+    → IsAlong whole first old left now new → left ≡ es ++ rest (last_of now es) → next ≡ last_of now es → more ≡ new ++ written_by es → IsAlong whole first old (rest next) next more
+along_next whole first old left es rest now next new more a split state written =
+    along_part whole first old left es (rest next) now next new more a (split ∙ ap (λ x. es ++ rest x) (sym state)) state written
 
 -- nothing is left
 pub along_end : {S : Type 0} (whole : List (Step S)) (first : S) (old : List ℕ) (left : List (Step S)) (now : S) (new : List ℕ)
@@ -175,3 +181,25 @@ stopped (Ok t) e is es s now old new h = absurd (ok-err is)
     ok-err : Ok t ≡ Err e → ⊥
     ok-err p = cc
 stopped (Err d) e is es s now old new h = h
+
+-- ---- the same ending in another answer
+
+pub ended_well : {T E U F S : Type 0} (r : Result T E) (q : Result U F) (t : T) (u : U) (es : List (Step S)) (s now : S) (old new : List ℕ) → r ≡ Ok t → q ≡ Ok u → AreDone r es s now old new → AreDone q es s now old new
+ended_well r q t u es s now old new is also h =
+    subst (λ x. AreDone x es s now old new) (sym also) (subst (λ x. AreDone x es s now old new) is h)
+
+pub ended_short : {T E U F S : Type 0} (r : Result T E) (q : Result U F) (e : E) (f : F) (es : List (Step S)) (s now : S) (old new : List ℕ) → r ≡ Err e → q ≡ Err f → AreDone r es s now old new → AreDone q es s now old new
+ended_short r q e f es s now old new is also h =
+    subst (λ x. AreDone x es s now old new) (sym also) (subst (λ x. AreDone x es s now old new) is h)
+
+pub all_done : {T E S : Type 0} (q : Result T E) (u : T) (es : List (Step S)) (s now : S) (old new : List ℕ) → q ≡ Ok u → (now ≡ last_of s es) × (new ≡ old ++ written_by es) → AreDone q es s now old new
+all_done q u es s now old new is h = subst (λ x. AreDone x es s now old new) (sym is) h
+
+-- ---- one line that is told, and the same steps in another form
+
+pub told_done : {S : Type 0} (s now : S) (w old new : List ℕ) → now ≡ s → new ≡ old ++ w → (now ≡ last_of s (record { written = w; after = s } ∷ [])) × (new ≡ old ++ written_by (record { written = w; after = s } ∷ []))
+unfolding last_of written_by
+told_done s now w old new same written = (same, written ∙ ap (λ xs. old ++ xs) (sym (append-nil w)))
+
+pub well_in : {S : Type 0} (es fs : List (Step S)) (s now : S) (old new : List ℕ) → es ≡ fs → (now ≡ last_of s fs) × (new ≡ old ++ written_by fs) → (now ≡ last_of s es) × (new ≡ old ++ written_by es)
+well_in es fs s now old new same h = (h.0 ∙ ap (last_of s) (sym same), h.1 ∙ ap (λ xs. old ++ written_by xs) (sym same))

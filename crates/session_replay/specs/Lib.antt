@@ -4,4 +4,5 @@ pub mod Commands
 pub mod Scripts
 pub mod Endings
 pub mod Answers
+pub mod Doing
 pub mod Laws

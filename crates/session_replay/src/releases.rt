@@ -16,11 +16,7 @@ use script_text::{Event, op_line, verdict_line};
 use std::alloc::Global;
 
 /// Releases until nothing is ready, and appends the line of each release.
-pub(crate) fn release_all(
-    alloc: Global,
-    site: &mut Site,
-    out: &mut Vec<u8>,
-) -> Result<(), Memory>
+pub(crate) fn release_all(alloc: Global, site: &mut Site, out: &mut Vec<u8>) -> Result<(), Memory>
     ensures { AreDone result (all_releases (state_of site.old)) (state_of site.old) (state_of site.new) out.old.items out.new.items }
 {
     loop {

@@ -1,11 +1,14 @@
 //! Sessions: sites and messages, changed line by line.
 
-ghost use Rattle.std.specs.Prelude.{◌≡◌, ◌++◌, ◌<◌, OnOk, OnErr, IfOk, length};
+ghost use Rattle.std.specs.Prelude.{◌≡◌, ◌++◌, ◌<◌, ◌≤◌, OnOk, OnErr, IfOk, length, map, nat_lt};
+ghost use Rattle.cot_site.specs.Sites.{state_of};
 ghost use Rattle.session_replay.specs.Answers.{IsDone, lines_of_steps, IsPlace};
-ghost use Rattle.session_replay.specs.Commands.{line_steps};
-ghost use Rattle.session_replay.specs.Laws.{IsSound};
-ghost use Rattle.session_replay.specs.Sessions.{unstarted};
+ghost use Rattle.session_replay.specs.Commands.{line_steps, commanded};
+ghost use Rattle.session_replay.specs.Doing.{IsLineDone, as_step, local_of, site_of};
+ghost use Rattle.session_replay.specs.Sessions.{unstarted, new_sites, site_at};
+ghost use Rattle.script_text.specs.declared.lines.Line.TheVariants.{Sites};
 
+use crate::session::commands::Command;
 use context_diff::Op;
 use cot_site::Site;
 use op_name::{Memory, SITES};
@@ -92,57 +95,82 @@ impl Session {
     }
 
     // The line, but a refused one may leave some of its report behind what `out` held.
-    fn do_line(&mut self, line: &Line, out: &mut Vec<u8>) -> Result<(), StepBad> {
+    fn do_line(&mut self, line: &Line, out: &mut Vec<u8>) -> Result<(), StepBad>
+        ensures { IsLineDone (line_steps line.now self.old) result self.old self.new out.old.items out.new.items }
+    {
+        match site_of(line) {
+            Some(site) => match self.place_of(site) {
+                Ok(_) => self.do_there(site, line, out),
+                Err(why) => Err(why),
+            },
+            None => self.do_alone(line, out),
+        }
+    }
+
+    // A line that speaks of no one site.
+    fn do_alone(&mut self, line: &Line, out: &mut Vec<u8>) -> Result<(), StepBad>
+        requires { site_of line.now ≡ None }
+        ensures { IsLineDone (line_steps line.now self.old) result self.old self.new out.old.items out.new.items }
+    {
         match line {
             Line::Blank => Ok(()),
             Line::Sites { count } => self.start(*count),
-            Line::Sync => self.sync_started(out),
-            Line::Ins { site, place, text } => {
-                let at = self.place_of(*site)?;
-                Ok(self.type_text(at, *place, text.as_slice(), out)?)
+            Line::Sync => {
+                if !self.is_started() {
+                    return Err(StepBad::NoSites);
+                }
+                done(self.sync(out))
             }
-            Line::Nl { site, place } => {
-                let at = self.place_of(*site)?;
-                self.insert(at, *place, '\n', out)?;
-                Ok(())
+            _ => unreachable!(),
+        }
+    }
+
+    // A line that speaks of the site of this number, which is there.
+    fn do_there(&mut self, site: u16, line: &Line, out: &mut Vec<u8>) -> Result<(), StepBad>
+        requires site { site_of line.now ≡ Some site }
+        requires there { site < length self.old.sites }
+        ensures { IsLineDone (line_steps line.now self.old) result self.old self.new out.old.items out.new.items }
+    {
+        let at = site as usize;
+        match line {
+            Line::Ins { place, text, .. } => done(self.type_text(at, *place, text.as_slice(), out)),
+            Line::Nl { place, .. } => {
+                self.do_command(
+                    at,
+                    Command::Insert {
+                        place: *place,
+                        ch: '\n',
+                    },
+                    out,
+                )
             }
-            Line::Del { site, place } => {
-                let at = self.place_of(*site)?;
-                Ok(self.delete(at, *place, out)?)
-            }
-            Line::Undo { site, name } => {
-                let at = self.place_of(*site)?;
-                Ok(self.undo(at, *name, out)?)
-            }
-            Line::Redo { site, name } => {
-                let at = self.place_of(*site)?;
-                Ok(self.redo(at, *name, out)?)
-            }
-            Line::Give { site, message } => {
-                let at = self.place_of(*site)?;
-                self.give(at, *message, out)
-            }
-            Line::All { site } => {
-                let at = self.place_of(*site)?;
-                Ok(self.give_all(at, out)?)
-            }
-            Line::Raw { site, bytes } => {
-                let at = self.place_of(*site)?;
-                Ok(self.give_frames(at, bytes.as_slice(), out)?)
-            }
-            Line::Show { site } => {
-                let at = self.place_of(*site)?;
-                Ok(self.show(at, out)?)
-            }
-            Line::State { site } => {
-                let at = self.place_of(*site)?;
-                Ok(self.show_state(at, out)?)
-            }
+            Line::Del { place, .. } => self.do_command(at, Command::Delete { place: *place }, out),
+            Line::Undo { name, .. } => self.do_command(at, Command::Undo { name: *name }, out),
+            Line::Redo { name, .. } => self.do_command(at, Command::Redo { name: *name }, out),
+            Line::Give { message, .. } => self.give(at, *message, out),
+            Line::All { .. } => done(self.give_all(at, out)),
+            Line::Raw { bytes, .. } => done(self.give_frames(site, bytes.as_slice(), out)),
+            Line::Show { .. } => done(self.show(at, out)),
+            Line::State { .. } => done(self.show_state(site, out)),
+            _ => unreachable!(),
+        }
+    }
+
+    // A command at the site.
+    fn do_command(&mut self, at: usize, command: Command, out: &mut Vec<u8>) -> Result<(), StepBad>
+        requires { at < length self.old.sites }
+        ensures { IsLineDone (Ok (commanded at (local_of command (site_at self.old at)) self.old)) result self.old self.new out.old.items out.new.items }
+    {
+        match self.command(at, command, out) {
+            Ok(_) => Ok(()),
+            Err(_) => Err(StepBad::Memory),
         }
     }
 
     // Whether sites were made.
-    fn is_started(&self) -> bool {
+    fn is_started(&self) -> bool
+        ensures { result ≡ nat_lt 0 (length self.now.sites) }
+    {
         !self.sites.is_empty()
     }
 
@@ -161,27 +189,71 @@ impl Session {
         }
     }
 
-    // Makes the sites.
-    fn start(&mut self, count: u16) -> Result<(), StepBad> {
+    // Makes the sites; no message is there.
+    fn start(&mut self, count: u16) -> Result<(), StepBad>
+        ensures { IsDone (line_steps (Sites count) self.old) result self.old self.new }
+    {
         if self.is_started() {
             return Err(StepBad::Twice);
         }
         if count > SITES {
             return Err(StepBad::NoSite);
         }
-        self.sites = new_sites(*self.sites.allocator(), count)?;
-        Ok(())
+        match new_sites(*self.sites.allocator(), count) {
+            Ok(sites) => {
+                self.sites = sites;
+                self.messages.clear();
+                Ok(())
+            }
+            Err(_) => Err(StepBad::Memory),
+        }
     }
 }
 
 // The sites of the numbers below `count`, which is at most `SITES`.
-fn new_sites(alloc: Global, count: u16) -> Result<Vec<Site>, Memory> {
+fn new_sites(alloc: Global, count: u16) -> Result<Vec<Site>, Memory>
+    requires { count ≤ 64 }
+    ensures { IfOk result (λ sites. map state_of sites.items ≡ new_sites 0 count) }
+{
     let mut sites = Vec::new(alloc);
     for number in 0..count {
-        let site = Site::new(alloc, number)?;
-        if sites.push(site).is_err() {
-            return Err(Memory);
+        match Site::new(alloc, number) {
+            Ok(site) => {
+                if sites.push(site).is_err() {
+                    return Err(Memory);
+                }
+            }
+            Err(want) => return Err(want),
         }
     }
     Ok(sites)
+}
+
+// Whether steps of a line were done.
+fn done(ending: Result<(), Memory>) -> Result<(), StepBad>
+    ensures { result ≡ as_step ending }
+{
+    match ending {
+        Ok(()) => Ok(()),
+        Err(_) => Err(StepBad::Memory),
+    }
+}
+
+// The number of the site that the line speaks of.
+fn site_of(line: &Line) -> Option<u16>
+    ensures { result ≡ site_of line.now }
+{
+    match line {
+        Line::Blank | Line::Sites { .. } | Line::Sync => None,
+        Line::Ins { site, .. }
+        | Line::Nl { site, .. }
+        | Line::Del { site, .. }
+        | Line::Undo { site, .. }
+        | Line::Redo { site, .. }
+        | Line::Give { site, .. }
+        | Line::All { site }
+        | Line::Raw { site, .. }
+        | Line::Show { site }
+        | Line::State { site } => Some(*site),
+    }
 }

@@ -52,8 +52,8 @@ returns-clause-done c =
     let now = state_of c.release_next.new.self in
     let f = freed_is s now c.in-Some.freed (subst (IsRelease (released s)) c.in-Some.is c.in_ok-freed.ensures.answer) c.in_ok-freed.ensures.effect in
     let line =
-      ap (λ n. verdict_line_text Free n c.member.result c.in-Some.freed.1) c.number-site.ensures
-      ∙ ap (λ m. verdict_line_text Free now.number m c.in-Some.freed.1) c.member.ensures.member
+    ap (λ n. verdict_line_text Free n c.member.result c.in-Some.freed.1) c.number-site.ensures
+    ∙ ap (λ m. verdict_line_text Free now.number m c.in-Some.freed.1) c.member.ensures.member
     in (
       c.in_ok-freed.ensures.effect ∙ sym (one_after s),
       c.in_ok-verdict_line.ensures.ok ∙ ap (λ w. c.args.out.now.items ++ w) (line ∙ sym (freed_written s now c.in-Some.freed f)),
