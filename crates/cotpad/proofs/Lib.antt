@@ -1,9 +1,1 @@
-pub mod AllPass
-pub mod Ranked
-pub mod OwnContexts
-pub mod Typing
-pub mod Shown
-pub mod Steps
-pub mod Splits
-pub mod Keeping
-pub mod Same
+pub mod Reporting

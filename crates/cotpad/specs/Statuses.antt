@@ -1,11 +1,15 @@
 -- How a call of the program ends.
-use Rattle.std.specs.Prelude.{◌≡◌, Bool, true, false, List, [], ◌∷◌, codes, map, string_bytes, String, ◌⊎◌}
+use Rattle.std.specs.Prelude.{◌≡◌, ℕ, Bool, true, false, List, [], ◌∷◌, codes, map, string_bytes, String, ◌⊎◌}
 use Rattle.cotpad.specs.declared.status.Status.{Status}
 use Rattle.cotpad.specs.declared.status.Status.TheVariants.{Done, Refused}
 
 -- the words of the one command
 abbrev pub IsReplay : {A : Type 0} → List (String A) → Type 0
 IsReplay words = map string_bytes words ≡ codes "replay" ∷ []
+
+-- `cotpad: words` and a line feed
+abbrev pub words_line : List ℕ
+words_line = codes "cotpad: words\n"
 
 -- a report was written whole
 abbrev pub IsReported : Status → Type 0

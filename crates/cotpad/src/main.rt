@@ -1,13 +1,12 @@
 //! The program: a script comes in, and the report of its session goes out.
 //!
 //! `run` is the whole program over any source, sink and wire; what it writes for `replay` is the report of
-//! the script, as the definitions of sessions say it, in which each `show` prints the text of the history.
+//! the script, as the definitions of sessions say it, in which each `show` prints the text of a site's history.
 #![tactic(auto)]
 
-mod lines;
-mod replay;
+mod laws;
+mod report;
 mod run;
-mod site;
 mod status;
 mod words;
 

@@ -1,15 +1,19 @@
 //! The whole program, over any source, sink and wire.
 
-ghost use Rattle.std.specs.Prelude.{◌≡◌, ◌⊎◌, IfSome};
+ghost use Rattle.std.specs.Prelude.{◌≡◌, ◌⊎◌, List, IfSome};
 ghost use Rattle.std.specs.Io.KnownBytes.{Appends, IsAtEnd};
 ghost use Rattle.outside_io.specs.Faults.{Rose};
 ghost use Rattle.outside_io.specs.Writing.{WritesFront};
 ghost use Rattle.outside_io.specs.Reading.{LosesFront};
-ghost use Rattle.cotpad.specs.Lines.{words_line};
-ghost use Rattle.cotpad.specs.Sessions.{script_report};
-ghost use Rattle.cotpad.specs.Statuses.{IsReplay, IsReported, status_of};
+ghost use Rattle.context_diff.specs.Operations.{OpData};
+ghost use Rattle.context_diff.specs.Histories.{IsValid, Same};
+ghost use Rattle.context_diff.specs.Replays.{text_of};
+ghost use Rattle.session_replay.specs.Laws.{ScriptsSettle, SitesConverge, WaitingIsNamed};
+ghost use Rattle.session_replay.specs.Scripts.{script_report};
+ghost use Rattle.cotpad.specs.Statuses.{IsReplay, IsReported, status_of, words_line};
 
-use crate::replay::replay;
+use crate::laws::laws_hold;
+use crate::report::report;
 use crate::status::Status;
 use crate::words::is_replay;
 use op_name::Memory;
@@ -21,9 +25,10 @@ use std::alloc::Global;
 /// nothing is read.
 ///
 /// A script is lines, each ended by a line feed, which the last one may lack. Lines that are empty or start
-/// with `#` do nothing. The first other one is `sites 1`, and each further one is `ins 0 V TEXT`, which
-/// inserts each character of the text at visible places V, V+1 and so on (they count shown characters), or
-/// `show 0`, which shows the text. Any other line is refused, as is an input of more than 67,108,864 bytes.
+/// with `#` do nothing. `sites N` comes first and makes N sites; then characters are inserted, deleted, undone
+/// and redone at a site, each operation becomes a message, messages and frames are delivered, and texts and
+/// states are shown. Any other line is refused, as is the line at which a script of more than 67,108,864 bytes
+/// passes these, and the script ends there.
 ///
 /// What was read is gone from the source on each answer but Words. ReadFault and WriteFault come only where
 /// the count of the source or the sink rose.
@@ -39,6 +44,14 @@ pub fn run<S: Source, K: Sink, W: Wire>(
         (result ≡ status_of (script_report bytes).refused)
         × Appends (K.held sink.old) (K.held sink.new) (script_report bytes).written) }
     ensures read_to_end { result ≡ Status.Done → IsAtEnd (S.left source.new) }
+
+    // What a shown text rests on. Histories of the same operations, in whatever order they came, show the same
+    // text; so do two sites of sessions. Whatever waits behind a line of a script waits for a named member, and
+    // nothing that is ready is left waiting.
+    ensures same { (h k : List OpData) → IsValid h → IsValid k → Same h k → text_of h ≡ text_of k }
+    ensures sites { SitesConverge }
+    ensures waits { WaitingIsNamed }
+    ensures settled { ScriptsSettle }
 
     // Wrong words.
     ensures words { result ≡ Status.Words →
@@ -68,6 +81,7 @@ pub fn run<S: Source, K: Sink, W: Wire>(
         → (Rose (K.faults sink.old) (K.faults sink.new) → ⊥)
         → IsReported result ⊎ (result ≡ Status.Memory) }
 {
+    laws_hold();
     if !is_replay(words) {
         return match write_whole(sink, b"cotpad: words\n") {
             Ok(()) => Status::Words,
@@ -81,7 +95,7 @@ pub fn run<S: Source, K: Sink, W: Wire>(
         Err(ReadBad::Memory) => return Status::Memory,
     };
     let mut out = Vec::new(alloc);
-    let refused = match replay(alloc, taken, &input, &mut out) {
+    let refused = match report(alloc, taken, &input, &mut out) {
         Ok(refused) => refused,
         Err(Memory) => return Status::Memory,
     };

@@ -39,31 +39,13 @@ fn called(
 
 #[test]
 fn a_script_is_reported_line_by_line(rt: HostRuntime) -> Result<(), Fail> {
-    let cases: [(&str, &str, Status, &str); 12] = [
+    let cases: [(&str, &str, Status, &str); 8] = [
         ("nothing at all", "", Status::Done, ""),
-        (
-            "an empty text",
-            "sites 1\nshow 0\n",
-            Status::Done,
-            "text 0 0\n\n",
-        ),
-        (
-            "characters of one, two and four bytes",
-            "sites 1\nins 0 0 a\u{e9}\u{1f600}\nshow 0\n",
-            Status::Done,
-            "op 0 insert 0.1\nop 1 insert 0.2\nop 2 insert 0.3\ntext 3 7\na\u{e9}\u{1f600}\n",
-        ),
         (
             "a last line without its line feed",
             "sites 1\nins 0 0 a\nshow 0",
             Status::Done,
             "op 0 insert 0.1\ntext 1 1\na\n",
-        ),
-        (
-            "a character before another, and one between them",
-            "sites 1\nins 0 0 c\nins 0 0 a\nins 0 1 b\nshow 0\n",
-            Status::Done,
-            "op 0 insert 0.1\nop 1 insert 0.2\nop 2 insert 0.3\ntext 3 3\nabc\n",
         ),
         (
             "comments and empty lines do nothing",
@@ -78,34 +60,28 @@ fn a_script_is_reported_line_by_line(rt: HostRuntime) -> Result<(), Fail> {
             "no place 1 0\nop 0 insert 0.1\n",
         ),
         (
+            "two sites that are brought together",
+            "sites 2\nins 0 0 a\ngive 1 0\nshow 1\n",
+            Status::Done,
+            "op 0 insert 0.1\ngive 1 integrated 0.1\ntext 1 1\na\n",
+        ),
+        (
             "a command before `sites`",
             "show 0\n",
             Status::Refused,
-            "refused 1 notbuilt\n",
+            "refused 1 nosites\n",
         ),
         (
-            "a line of a later form",
-            "sites 1\ngive 0 0\n",
-            Status::Refused,
-            "refused 2 notbuilt\n",
-        ),
-        (
-            "a second `sites`",
+            "a second `sites`, on a line that is counted with comments",
             "# counted\nsites 1\nins 0 0 a\nsites 1\nshow 0\n",
             Status::Refused,
-            "op 0 insert 0.1\nrefused 4 notbuilt\n",
-        ),
-        (
-            "two sites",
-            "sites 2\n",
-            Status::Refused,
-            "refused 1 notbuilt\n",
+            "op 0 insert 0.1\nrefused 4 twice\n",
         ),
         (
             "a carriage return is part of its line",
             "sites 1\r\n",
             Status::Refused,
-            "refused 1 notbuilt\n",
+            "refused 1 form\n",
         ),
     ];
     for (why, script, status, report) in cases {
@@ -167,7 +143,7 @@ fn a_line_is_refused_that_is_too_long_or_no_text(rt: HostRuntime) -> Result<(), 
     assert_eq!(rt; ended, Status::Refused);
     assert_eq!(rt;
         held.as_slice(),
-        b"op 0 insert 0.1\nrefused 3 notbuilt\n".as_slice()
+        b"op 0 insert 0.1\nrefused 3 long\n".as_slice()
     );
 
     let no_text = b"sites 1\nins 0 0 a\nins 0 0 \xe9\nshow 0\n";
@@ -175,7 +151,26 @@ fn a_line_is_refused_that_is_too_long_or_no_text(rt: HostRuntime) -> Result<(), 
     assert_eq!(rt; ended, Status::Refused);
     assert_eq!(rt;
         held.as_slice(),
-        b"op 0 insert 0.1\nrefused 3 notbuilt\n".as_slice()
+        b"op 0 insert 0.1\nrefused 3 utf8\n".as_slice()
+    );
+    Ok(())
+}
+
+/// A script whose last line, a comment, goes on to so many bytes in all.
+fn filled(alloc: Global, len: usize) -> Result<Vec<u8>, Fail> {
+    let mut script = b"sites 1\nins 0 0 a\n".to_vec(alloc)?;
+    script.resize(len, b'#')?;
+    Ok(script)
+}
+
+#[test]
+fn the_line_that_passes_the_limit_is_refused_for_that_alone(rt: HostRuntime) -> Result<(), Fail> {
+    let script = filled(rt.alloc(), 67_108_865)?;
+    let (ended, held) = called(rt.alloc(), "replay", &script, u32::MAX, &[], &[])?;
+    assert_eq!(rt; ended, Status::Refused);
+    assert_eq!(rt;
+        held.as_slice(),
+        b"op 0 insert 0.1\nrefused 3 limit\n".as_slice()
     );
     Ok(())
 }

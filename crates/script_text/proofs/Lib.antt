@@ -1,3 +1,4 @@
 pub mod FieldLaws
 pub mod FirstLineLaws
 pub mod LineLaws
+pub mod Listings

@@ -4,5 +4,6 @@ pub mod FirstLines
 pub mod Lines
 pub mod Rows
 pub mod Answers
+pub mod Inserted
 pub mod Report
 pub mod Verdicts

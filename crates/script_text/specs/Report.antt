@@ -1,36 +1,30 @@
 -- The lines of a report.
-use Rattle.std.specs.Prelude.{ℕ, List, [], ◌∷◌, ◌++◌, length, map, decimal, codes}
+use Rattle.std.specs.Prelude.{ℕ, List, [], ◌∷◌, ◌++◌, length, map, decimal, codes, if◌then◌else◌}
 use Rattle.std.specs.List.{join_with_byte}
-use Rattle.op_name.specs.NameData.{NameData}
 use Rattle.context_vector.specs.Contexts.{ContextData}
+use Rattle.context_diff.specs.Operations.{OpData, inserting, deleting, undoing}
+use Rattle.context_diff.specs.Histories.{is_even}
 use Rattle.script_text.specs.Names.{name_text, group_text}
+pub use Rattle.script_text.specs.Inserted.{inserted_text}
 use Rattle.script_text.specs.declared.refusal.Refusal.{Refusal}
 use Rattle.script_text.specs.declared.refusal.Refusal.TheVariants.{Limit, Long, Utf8, Form, NoSites, Twice, NoSite, NoMessage}
 
--- `op M insert S.N` and a line feed
-abbrev pub inserted_text : ℕ → NameData → List ℕ
-inserted_text message name = codes "op " ++ (decimal message ++ (codes " insert " ++ (decimal name.site ++ (codes "." ++ (decimal name.number ++ codes "\n")))))
+-- what a local operation does, in words: an undo at an even generation is a redo
+abbrev pub turn_word : ℕ → List ℕ
+turn_word g = if is_even g then codes "redo " else codes "undo "
 
--- what a local operation does
-pub data Made : Type 0 where
-  Insert : NameData → Made
-  Delete : NameData → Made
-  Undo : NameData → ℕ → Made
-  Redo : NameData → ℕ → Made
-
-abbrev pub made_text : Made → List ℕ
-made_text (Insert name) = codes "insert " ++ name_text name
-made_text (Delete name) = codes "delete " ++ name_text name
-made_text (Undo name g) = codes "undo " ++ group_text name g
-made_text (Redo name g) = codes "redo " ++ group_text name g
+abbrev pub made_words : OpData → List ℕ
+made_words (inserting n p ch c) = codes "insert " ++ name_text n
+made_words (deleting n p c) = codes "delete " ++ name_text n
+made_words (undoing a t g c) = turn_word g ++ group_text t g
 
 -- `op M WORDS` and a line feed
 abbrev pub op_words_text : ℕ → List ℕ → List ℕ
 op_words_text message words = codes "op " ++ (decimal message ++ (codes " " ++ (words ++ codes "\n")))
 
 -- the report line of a local operation that became a message
-abbrev pub op_text : ℕ → Made → List ℕ
-op_text message made = op_words_text message (made_text made)
+abbrev pub op_text : ℕ → OpData → List ℕ
+op_text message o = op_words_text message (made_words o)
 
 -- a frame of `raw` that is bad, with the word of the cause, or too short
 abbrev pub raw_bad_text : ℕ → List ℕ → ℕ → List ℕ

@@ -1,9 +1,11 @@
 //! What happens at a site to an operation that others made.
 
 ghost use Rattle.std.specs.Prelude.{◌≡◌, ◌++◌, OnOk, OnErr};
-ghost use Rattle.script_text.specs.Verdicts.{event_text};
+ghost use Rattle.script_text.specs.Verdicts.{verdict_line_text};
 
-use op_name::Memory;
+use crate::verdicts::verdict_words;
+use cot_site::Verdict;
+use op_name::{Member, Memory};
 use std::alloc::Global;
 
 /// How an operation came to its verdict: delivered, or released after it had waited.
@@ -26,18 +28,23 @@ impl Event {
     }
 }
 
-/// Appends `give S WORDS` or `free S WORDS` and a line feed; a refused call leaves `out` as it was.
-pub(crate) fn event_line(
+/// Appends the report line of a verdict on the operation of this member at a site: `give S VERDICT` or
+/// `free S VERDICT`, and a line feed.
+///
+/// A refused call leaves `out` as it was.
+pub fn verdict_line(
     alloc: Global,
     event: Event,
     site: u16,
-    words: &str,
+    member: Member,
+    verdict: Verdict,
     out: &mut Vec<u8>,
 ) -> Result<(), Memory>
-    ensures ok { OnOk result (out.new.items ≡ out.old.items ++ event_text event site words.now) }
+    ensures ok { OnOk result (out.new.items ≡ out.old.items ++ verdict_line_text event site member verdict) }
     ensures err { OnErr result (out.new.items ≡ out.old.items) }
 {
     let word = event.word();
+    let words = verdict_words(alloc, member, verdict)?;
     let line = format!(in alloc; "{word} {site} {words}\n")?;
     out.extend_from_slice(line.as_bytes())?;
     Ok(())

@@ -1,7 +1,7 @@
-//! The report line of a local insert.
+//! The report line of a local insert, until a session reports each operation.
 
 ghost use Rattle.std.specs.Prelude.{◌≡◌, ◌++◌, OnOk, OnErr};
-ghost use Rattle.script_text.specs.Report.{inserted_text};
+ghost use Rattle.script_text.specs.Inserted.{inserted_text};
 
 use op_name::{Memory, Name};
 use std::alloc::Global;

@@ -18,17 +18,21 @@ mod reasons;
 mod refusal;
 mod rows;
 mod shown;
+mod states;
 mod verdicts;
 
 pub use chars::Chars;
-pub use event::Event;
+pub use event::{Event, verdict_line};
 pub use first_lines::{FirstLine, first_line};
 pub use inserted::inserted_line;
 pub use lines::{LONGEST, Line, LineBad, each_line_has_a_spelling, parse_line};
+pub use made::op_line;
 pub use octets::Octets;
 pub use raw::{raw_bad_line, raw_more_line};
+pub use reasons::local_line;
 pub use refusal::{Refusal, refused_line};
 pub use shown::shown_lines;
+pub use states::state_line;
 
 #[cfg(test)]
 mod tests;

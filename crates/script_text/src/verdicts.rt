@@ -1,62 +1,37 @@
 //! The words of verdicts on operations that others made.
 
 ghost use Rattle.std.specs.Prelude.{◌≡◌, IfOk, string_bytes};
-ghost use Rattle.script_text.specs.Verdicts.{verdict_text, forged_text, Repeat, Waits, NotClosed, PlaceOut, Integrated};
+ghost use Rattle.script_text.specs.Verdicts.{verdict_text};
 
 use crate::members::{member_text, name_text};
-use op_name::{Member, Memory, Name};
+use cot_site::Verdict;
+use op_name::{Member, Memory};
 use std::alloc::Global;
 
-/// `repeat MEMBER`
-pub(crate) fn repeat_words(alloc: Global, member: Member) -> Result<String, Memory>
-    ensures { IfOk result (λ words. string_bytes words ≡ verdict_text member Repeat) }
-{
-    let member = member_text(alloc, member)?;
-    Ok(format!(in alloc; "repeat {member}")?)
-}
-
-/// `forged NAME`; the name is that of the operation.
-pub(crate) fn forged_words(alloc: Global, name: Name) -> Result<String, Memory>
-    ensures { IfOk result (λ words. string_bytes words ≡ forged_text name) }
-{
-    let name = name_text(alloc, name)?;
-    Ok(format!(in alloc; "forged {name}")?)
-}
-
-/// `waits MEMBER MISSING`
-pub(crate) fn waits_words(alloc: Global, member: Member, missing: Member) -> Result<String, Memory>
-    ensures { IfOk result (λ words. string_bytes words ≡ verdict_text member (Waits missing)) }
-{
-    let member = member_text(alloc, member)?;
-    let missing = member_text(alloc, missing)?;
-    Ok(format!(in alloc; "waits {member} {missing}")?)
-}
-
-/// `notclosed MEMBER SITE`
-pub(crate) fn not_closed_words(alloc: Global, member: Member, site: u16) -> Result<String, Memory>
-    ensures { IfOk result (λ words. string_bytes words ≡ verdict_text member (NotClosed site)) }
-{
-    let member = member_text(alloc, member)?;
-    Ok(format!(in alloc; "notclosed {member} {site}")?)
-}
-
-/// `placeout MEMBER PLACE CELLS`
-pub(crate) fn place_out_words(
+/// The verdict and the operation's member, with what the verdict names; a forged operation is told by its name.
+pub(crate) fn verdict_words(
     alloc: Global,
     member: Member,
-    place: u32,
-    cells: u32,
+    verdict: Verdict,
 ) -> Result<String, Memory>
-    ensures { IfOk result (λ words. string_bytes words ≡ verdict_text member (PlaceOut place cells)) }
+    ensures { IfOk result (λ words. string_bytes words ≡ verdict_text member verdict) }
 {
     let member = member_text(alloc, member)?;
-    Ok(format!(in alloc; "placeout {member} {place} {cells}")?)
-}
-
-/// `integrated MEMBER`
-pub(crate) fn integrated_words(alloc: Global, member: Member) -> Result<String, Memory>
-    ensures { IfOk result (λ words. string_bytes words ≡ verdict_text member Integrated) }
-{
-    let member = member_text(alloc, member)?;
-    Ok(format!(in alloc; "integrated {member}")?)
+    let words = match verdict {
+        Verdict::Repeat => format!(in alloc; "repeat {member}")?,
+        Verdict::Forged { name } => {
+            let name = name_text(alloc, name)?;
+            format!(in alloc; "forged {name}")?
+        }
+        Verdict::Waits { missing } => {
+            let missing = member_text(alloc, missing)?;
+            format!(in alloc; "waits {member} {missing}")?
+        }
+        Verdict::NotClosed { site } => format!(in alloc; "notclosed {member} {site}")?,
+        Verdict::PlaceOut { place, cells } => format!(in alloc;
+            "placeout {member} {place} {cells}"
+        )?,
+        Verdict::Integrated => format!(in alloc; "integrated {member}")?,
+    };
+    Ok(words)
 }

@@ -1,16 +1,19 @@
-//! Report lines that need no operation.
+//! Report lines.
 
-use crate::event::{Event, event_line};
-use crate::made::made_line;
-use crate::members::member_text;
+ghost use Rattle.std.specs.Prelude.{IfOk};
+ghost use Rattle.op_name.specs.Members.{IsMember};
+
+use crate::event::{Event, verdict_line};
+use crate::made::op_line;
 use crate::raw::{raw_bad_line, raw_more_line};
-use crate::reasons::no_line;
+use crate::reasons::local_line;
 use crate::refusal::{Refusal, refused_line};
 use crate::shown::shown_lines;
-use crate::verdicts::{
-    forged_words, integrated_words, not_closed_words, place_out_words, repeat_words, waits_words,
-};
-use op_name::{Member, Memory, Name, NameBad};
+use crate::states::state_line;
+use context_diff::Op;
+use context_vector::Vector;
+use cot_site::{Local, Verdict};
+use op_name::{Member, Memory, Name};
 use std::alloc::Global;
 
 #[test]
@@ -42,8 +45,19 @@ fn shown_texts(rt: HostRuntime) -> Result<(), Memory> {
     Ok(())
 }
 
-fn member(generation: u16) -> Result<Member, NameBad> {
-    let name = Name::new(63, 1_000_000)?;
+/// A name of a test; parts out of range are no name.
+fn name(site: u16, number: u32) -> Result<Name, Memory> {
+    match Name::new(site, number) {
+        Ok(name) => Ok(name),
+        Err(_) => Err(Memory),
+    }
+}
+
+/// A member of a test: at generation 0 the original itself.
+fn member(site: u16, number: u32, generation: u16) -> Result<Member, Memory>
+    ensures { IfOk result IsMember }
+{
+    let name = name(site, number)?;
     Ok(if generation == 0 {
         Member::Original(name)
     } else {
@@ -51,68 +65,223 @@ fn member(generation: u16) -> Result<Member, NameBad> {
     })
 }
 
-fn text(alloc: Global, generation: u16) -> Result<String, Memory> {
-    let Ok(member) = member(generation) else {
-        return Err(Memory);
-    };
-    member_text(alloc, member)
-}
-
 #[test]
-fn members_and_events(rt: HostRuntime) -> Result<(), Memory> {
-    assert!(rt; text(rt.alloc(), 0)?.as_str() == "63.1000000");
-    let group = text(rt.alloc(), 65_535)?;
-    assert!(rt; group.as_str() == "63.1000000/65535");
-    let mut out = Vec::new(rt.alloc());
-    event_line(rt.alloc(), Event::Give, 0, "repeat 1.1", &mut out)?;
-    event_line(rt.alloc(), Event::Free, 63, group.as_str(), &mut out)?;
-    assert!(rt; out.as_slice() == b"give 0 repeat 1.1\nfree 63 63.1000000/65535\n".as_slice());
+fn op_lines(rt: HostRuntime) -> Result<(), Memory> {
+    let alloc = rt.alloc();
+    let cases: [(u32, Op, &str); 6] = [
+        (
+            0,
+            Op::Insert {
+                name: name(0, 1)?,
+                place: 0,
+                ch: 'a',
+                context: Vector::new(alloc),
+            },
+            "op 0 insert 0.1\n",
+        ),
+        (
+            4_294_967_295,
+            Op::Delete {
+                name: name(63, 1_000_000)?,
+                place: 0,
+                context: Vector::new(alloc),
+            },
+            "op 4294967295 delete 63.1000000\n",
+        ),
+        (3, turn(alloc, name(0, 2)?, 1), "op 3 undo 0.2/1\n"),
+        (5, turn(alloc, name(0, 2)?, 2), "op 5 redo 0.2/2\n"),
+        (9, turn(alloc, name(1, 1)?, 65_534), "op 9 redo 1.1/65534\n"),
+        (9, turn(alloc, name(1, 1)?, 65_535), "op 9 undo 1.1/65535\n"),
+    ];
+    for (message, op, wanted) in cases.iter() {
+        let mut out = Vec::new(alloc);
+        op_line(alloc, *message, op, &mut out)?;
+        assert!(rt; out.as_slice() == wanted.as_bytes(), "{wanted}");
+    }
     Ok(())
 }
 
+/// An undo or a redo by site 0; its line tells neither its author nor its context.
+fn turn(alloc: Global, target: Name, generation: u16) -> Op {
+    Op::Undo {
+        author: 0,
+        target,
+        generation,
+        context: Vector::new(alloc),
+    }
+}
+
 #[test]
-fn verdicts_in_words(rt: HostRuntime) -> Result<(), Memory> {
-    let (Ok(name), Ok(original), Ok(group)) = (Name::new(2, 1), member(0), member(3)) else {
-        assert!(rt; false, "names in range");
-        return Ok(());
-    };
+fn verdict_lines(rt: HostRuntime) -> Result<(), Memory> {
     let alloc = rt.alloc();
-    let cases: [(String, &str); 6] = [
-        (repeat_words(alloc, group)?, "repeat 63.1000000/3"),
-        (forged_words(alloc, name)?, "forged 2.1"),
+    let cases: [(Event, u16, Member, Verdict, &str); 12] = [
         (
-            waits_words(alloc, Member::Original(name), group)?,
-            "waits 2.1 63.1000000/3",
+            Event::Give,
+            1,
+            member(0, 2, 1)?,
+            Verdict::Repeat,
+            "give 1 repeat 0.2/1\n",
         ),
         (
-            not_closed_words(alloc, original, 7)?,
-            "notclosed 63.1000000 7",
+            Event::Give,
+            0,
+            member(0, 1, 0)?,
+            Verdict::Repeat,
+            "give 0 repeat 0.1\n",
         ),
         (
-            place_out_words(alloc, original, 4_294_967_295, 0)?,
-            "placeout 63.1000000 4294967295 0",
+            Event::Give,
+            0,
+            member(0, 2, 2)?,
+            Verdict::Integrated,
+            "give 0 integrated 0.2/2\n",
         ),
         (
-            integrated_words(alloc, Member::Original(name))?,
-            "integrated 2.1",
+            Event::Free,
+            1,
+            member(0, 2, 0)?,
+            Verdict::Integrated,
+            "free 1 integrated 0.2\n",
+        ),
+        (
+            Event::Free,
+            1,
+            member(0, 1, 1)?,
+            Verdict::Integrated,
+            "free 1 integrated 0.1/1\n",
+        ),
+        (
+            Event::Give,
+            1,
+            member(0, 3, 0)?,
+            Verdict::Waits {
+                missing: member(0, 1, 0)?,
+            },
+            "give 1 waits 0.3 0.1\n",
+        ),
+        (
+            Event::Give,
+            1,
+            member(0, 1, 1)?,
+            Verdict::Waits {
+                missing: member(0, 1, 0)?,
+            },
+            "give 1 waits 0.1/1 0.1\n",
+        ),
+        (
+            Event::Give,
+            1,
+            member(0, 1, 2)?,
+            Verdict::Waits {
+                missing: member(0, 1, 1)?,
+            },
+            "give 1 waits 0.1/2 0.1/1\n",
+        ),
+        (
+            Event::Give,
+            0,
+            member(0, 1, 0)?,
+            Verdict::Forged { name: name(0, 1)? },
+            "give 0 forged 0.1\n",
+        ),
+        (
+            Event::Give,
+            0,
+            member(0, 1, 0)?,
+            Verdict::PlaceOut { place: 1, cells: 0 },
+            "give 0 placeout 0.1 1 0\n",
+        ),
+        (
+            Event::Give,
+            2,
+            member(2, 1, 0)?,
+            Verdict::NotClosed { site: 1 },
+            "give 2 notclosed 2.1 1\n",
+        ),
+        (
+            Event::Free,
+            63,
+            member(63, 1_000_000, 65_535)?,
+            Verdict::Repeat,
+            "free 63 repeat 63.1000000/65535\n",
         ),
     ];
-    for (words, wanted) in cases.iter() {
-        assert!(rt; words.as_str() == *wanted, "{wanted}");
+    for (event, site, member, verdict, wanted) in cases {
+        let mut out = Vec::new(alloc);
+        verdict_line(alloc, event, site, member, verdict, &mut out)?;
+        assert!(rt; out.as_slice() == wanted.as_bytes(), "{wanted}");
     }
     Ok(())
 }
 
 #[test]
-fn lines_of_words(rt: HostRuntime) -> Result<(), Memory> {
+fn local_lines(rt: HostRuntime) -> Result<(), Memory> {
+    let alloc = rt.alloc();
+    let mut out = Vec::new(alloc);
+    local_line(alloc, Local::InForce { generation: 0 }, &mut out)?;
+    local_line(alloc, Local::NotInForce { generation: 1 }, &mut out)?;
+    local_line(alloc, Local::Unknown { name: name(0, 9)? }, &mut out)?;
+    local_line(
+        alloc,
+        Local::PlaceOut {
+            place: 5,
+            visible: 1,
+        },
+        &mut out,
+    )?;
+    local_line(alloc, Local::GenerationFull, &mut out)?;
+    local_line(alloc, Local::NumberFull, &mut out)?;
+    local_line(alloc, Local::ContextFull { entries: 16_385 }, &mut out)?;
+    let wanted =
+        "no inforce 0\nno notinforce 1\nno unknown 0.9\nno place 5 1\nno generationfull\nno numberfull\nno contextfull 16385\n";
+    assert!(rt; out.as_slice() == wanted.as_bytes());
+    Ok(())
+}
+
+/// The vector that these members make, each told by its site, its number and its generation (0: an original).
+fn vector(alloc: Global, members: &[(u16, u32, u16)]) -> Result<Vector, Memory> {
+    let mut have = Vector::new(alloc);
+    for &(site, number, generation) in members {
+        let member = member(site, number, generation)?;
+        if have.add(&member).is_err() {
+            return Err(Memory);
+        }
+    }
+    Ok(have)
+}
+
+#[test]
+fn state_lines(rt: HostRuntime) -> Result<(), Memory> {
+    let alloc = rt.alloc();
+    let turned = [(0, 1, 0), (0, 1, 1), (0, 1, 2)];
+    let several = [
+        (2, 1, 0),
+        (0, 1, 0),
+        (0, 2, 0),
+        (2, 1, 1),
+        (0, 2, 1),
+        (0, 1, 1),
+    ];
+    let mut out = Vec::new(alloc);
+    state_line(alloc, 1, &Vector::new(alloc), 2, &mut out)?;
+    state_line(alloc, 1, &vector(alloc, &turned)?, 0, &mut out)?;
+    state_line(alloc, 63, &vector(alloc, &several)?, 7, &mut out)?;
+    let wanted =
+        "state 1 have - groups - waiting 2\nstate 1 have 0:1 groups 0.1/2 waiting 0\nstate 63 have 0:2,2:1 groups 0.1/1,0.2/1,2.1/1 waiting 7\n";
+    assert!(rt; out.as_slice() == wanted.as_bytes());
+    Ok(())
+}
+
+#[test]
+fn raw_lines(rt: HostRuntime) -> Result<(), Memory> {
     let mut out = Vec::new(rt.alloc());
-    made_line(rt.alloc(), 3, "undo 0.1/1", &mut out)?;
-    no_line(rt.alloc(), "place 2 1", &mut out)?;
-    raw_bad_line(rt.alloc(), 1, "kind", 4, &mut out)?;
-    raw_more_line(rt.alloc(), 63, 115_029, &mut out)?;
+    raw_bad_line(rt.alloc(), 0, "char", 14, &mut out)?;
+    raw_more_line(rt.alloc(), 0, 21, &mut out)?;
+    raw_bad_line(rt.alloc(), 0, "own", 6, &mut out)?;
+    raw_bad_line(rt.alloc(), 0, "toolong", 0, &mut out)?;
     assert!(rt;
         out.as_slice()
-            == b"op 3 undo 0.1/1\nno place 2 1\nraw 1 bad kind 4\nraw 63 more 115029\n".as_slice()
+            == "raw 0 bad char 14\nraw 0 more 21\nraw 0 bad own 6\nraw 0 bad toolong 0\n".as_bytes()
     );
     Ok(())
 }

@@ -1,0 +1,82 @@
+-- A local command in memory: what it made, or why it made nothing.
+use Rattle.std.proofs.Common.{◌≡◌, ◌≢◌, ℕ, zero, suc, ◌<◌, List, [], ◌∷◌, ◌++◌, refl, sym, ap, subst, ◌∙◌, length, map, set, append-nil, arith}
+use Rattle.std.specs.Prelude.{Result, Ok, Err, slice_index_or}
+use Rattle.std.proofs.lemmas.List.{length-map, get_or-set_same, set-get_or}
+use Rattle.context_diff.specs.Operations.{OpData}
+use Rattle.context_diff.specs.Histories.{IsValid}
+use Rattle.context_diff.specs.declared.op.Op.{Op}
+use Rattle.context_diff.specs.Ops.{data_of}
+use Rattle.cot_site.specs.States.{with_last}
+use Rattle.cot_site.specs.Sites.{SiteData, state_of, AllFormed}
+use Rattle.cot_site.specs.Commands.{IsAnswer}
+use Rattle.cot_site.specs.declared.local.Local.{Local}
+use Rattle.cot_site.specs.declared.local.Local.TheVariants as local
+use Rattle.script_text.specs.Report.{op_text}
+use Rattle.script_text.specs.Verdicts.{local_text}
+use Rattle.session_replay.specs.declared.session.commands.Command.{Command}
+use Rattle.session_replay.specs.Steps.{Step, last_of, written_by, AreDone}
+use Rattle.session_replay.specs.Sessions.{SessionData, site_at, settling, made}
+use Rattle.session_replay.specs.Commands.{commanded, told}
+use Rattle.session_replay.specs.Doing.{local_of}
+use Rattle.session_replay.proofs.Lifting.{session_of, state_at, made_done, made_formed}
+
+-- what stands where it was written
+pub read_back : (sites : List SiteData) (i : ℕ) (x y : SiteData) → i < length sites → x ≡ slice_index_or (set sites i y) i x → x ≡ y
+read_back sites i x y within is = is ∙ get_or-set_same sites i y x within
+
+pub site_within : (sites : List SiteData) (messages : List Op) (d : SessionData) (i : ℕ) → session_of sites messages ≡ d → i < length d.sites → i < length sites
+site_within sites messages d i seen within = omega (arith, ap (λ (e : SessionData). length e.sites) seen, length-map sites state_of)
+
+pub site_is : (sites : List SiteData) (messages : List Op) (d : SessionData) (i : ℕ) (x : SiteData) → session_of sites messages ≡ d → i < length d.sites → x ≡ slice_index_or sites i x → state_of x ≡ site_at d i
+site_is sites messages d i x seen within is = state_at sites messages i x (site_within sites messages d i seen within) is ∙ ap (λ e. site_at e i) seen
+
+-- the operation is the next message
+pub command_made : {T E : Type 0} (result : Result T E) (d : SessionData) (sites : List SiteData) (messages now : List Op) (i : ℕ) (command : Command) (op : Op) (x y w z : SiteData) (n : ℕ) (old new : List ℕ)
+    → session_of sites messages ≡ d → i < length d.sites → x ≡ slice_index_or sites i x
+    → local_of command (state_of x) ≡ Ok (data_of op) → state_of y ≡ with_last (state_of x) (data_of op) → w ≡ slice_index_or (set sites i y) i w
+    → n ≡ length messages → now ≡ messages ++ op ∷ []
+    → AreDone result (settling (op_text n (data_of op)) (state_of w)) (state_of w) (state_of z) old new
+    → AreDone result (commanded i (local_of command (site_at d i)) d) d (session_of (set (set sites i y) i z) now) old new
+command_made result d sites messages now i command op x y w z n old new seen within is answer last again number pushed h =
+    let same : w ≡ y = read_back sites i w y (site_within sites messages d i seen within) again in
+    let here : AreDone result (settling (op_text n (data_of op)) (state_of y)) (state_of y) (state_of z) old new = subst (λ s. AreDone result (settling (op_text n (data_of op)) (state_of s)) (state_of s) (state_of z) old new) same h in
+    let up = made_done result d sites messages i op x y z n old new seen within is last number here in
+    let all : local_of command (site_at d i) ≡ Ok (data_of op) = ap (local_of command) (sym (site_is sites messages d i x seen within is)) ∙ answer in
+    let there : AreDone result (made i (data_of op) d) d (session_of (set (set sites i y) i z) now) old new = subst (λ ms. AreDone result (made i (data_of op) d) d (session_of (set (set sites i y) i z) ms) old new) (sym pushed) up in
+    subst (λ r. AreDone result (commanded i r d) d (session_of (set (set sites i y) i z) now) old new) (sym all) there
+
+-- all messages stay well formed
+pub command_formed : (sites : List SiteData) (messages now : List Op) (d : SessionData) (i : ℕ) (op : Op) (x y w : SiteData)
+    → session_of sites messages ≡ d → i < length d.sites → AllFormed (map data_of messages) → now ≡ messages ++ op ∷ []
+    → state_of y ≡ with_last (state_of x) (data_of op) → w ≡ slice_index_or (set sites i y) i w → IsValid w.history → AllFormed (map data_of now)
+command_formed sites messages now d i op x y w seen within formed pushed last again valid =
+    let same : w ≡ y = read_back sites i w y (site_within sites messages d i seen within) again in
+    made_formed messages now op x y formed pushed last (subst (λ (s : SiteData). IsValid s.history) same valid)
+
+-- a refused command left the session as it was
+pub refused_same : (sites : List SiteData) (messages now : List Op) (d : SessionData) (i : ℕ) (x y : SiteData) → session_of sites messages ≡ d → x ≡ slice_index_or sites i x → y ≡ x → now ≡ messages → session_of (set sites i y) now ≡ d
+refused_same sites messages now d i x y seen is same kept =
+    ap (λ s. session_of (set sites i s) now) (same ∙ is) ∙ ap (λ ss. session_of ss now) (set-get_or sites i x) ∙ ap (session_of sites) kept ∙ seen
+
+refusal_is : (r : Result OpData Local) (why : Local) → IsAnswer r (Err why) → why ≢ local.Memory → r ≡ Err why
+refusal_is r (local.PlaceOut p v) h other = h
+refusal_is r (local.Unknown n) h other = h
+refusal_is r (local.NotInForce g) h other = h
+refusal_is r (local.InForce g) h other = h
+refusal_is r local.GenerationFull h other = h
+refusal_is r local.NumberFull h other = h
+refusal_is r (local.ContextFull n) h other = h
+refusal_is r local.Memory h other = absurd (other refl)
+
+pub command_refused : (d : SessionData) (sites : List SiteData) (messages : List Op) (i : ℕ) (command : Command) (why : Local) (x : SiteData)
+    → session_of sites messages ≡ d → i < length d.sites → x ≡ slice_index_or sites i x → IsAnswer (local_of command (state_of x)) (Err why) → why ≢ local.Memory
+    → local_of command (site_at d i) ≡ Err why
+command_refused d sites messages i command why x seen within is answer other =
+    ap (local_of command) (sym (site_is sites messages d i x seen within is)) ∙ refusal_is (local_of command (state_of x)) why answer other
+
+pub command_told : (d now : SessionData) (i : ℕ) (r : Result OpData Local) (why : Local) (old new : List ℕ) → r ≡ Err why → now ≡ d → new ≡ old ++ local_text why → (now ≡ last_of d (commanded i r d)) × (new ≡ old ++ written_by (commanded i r d))
+unfolding last_of written_by
+command_told d now i r why old new is same written = (
+  same ∙ sym (ap (λ q. last_of d (commanded i q d)) is),
+  written ∙ ap (λ w. old ++ w) (sym (append-nil (local_text why))) ∙ ap (λ q. old ++ written_by (commanded i q d)) (sym is),
+)

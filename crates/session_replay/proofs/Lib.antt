@@ -1,0 +1,13 @@
+pub mod Steps
+pub mod Releasing
+pub mod Splits
+pub mod Endings
+pub mod Every
+pub mod States
+pub mod Sound
+pub mod LineLaws
+pub mod ScriptLaws
+pub mod Lifting
+pub mod Commanding
+pub mod Loops
+pub mod Lines

@@ -1,0 +1,176 @@
+-- Steps at one site as steps of the session.
+use Rattle.std.proofs.Common.{◌≡◌, ℕ, zero, suc, ◌<◌, List, [], ◌∷◌, ◌++◌, refl, sym, ap, subst, ◌∙◌, length, map, get_or, set, arith}
+use Rattle.std.specs.Prelude.{Bool, Result, Ok, Err, Some, slice_get, slice_index_or}
+use Rattle.std.proofs.lemmas.List.{map-append, map-set, length-map, set-get_or}
+use Rattle.context_diff.specs.Operations.{OpData, IsWellFormed}
+use Rattle.context_diff.specs.Histories.{IsValid}
+use Rattle.context_diff.specs.declared.op.Op.{Op}
+use Rattle.context_diff.specs.Ops.{data_of}
+use Rattle.context_diff.proofs.Valid.{valid_pop}
+use Rattle.cot_site.specs.States.{State, with_last}
+use Rattle.cot_site.specs.Sites.{SiteData, state_of, AllFormed}
+use Rattle.cot_site.proofs.Waiting.{held_formed, formed_at}
+use Rattle.script_text.specs.Report.{op_text}
+use Rattle.session_replay.specs.Steps.{Step, last_of, written_by, IsReached, IsFront, AreDone}
+use Rattle.session_replay.specs.Sessions.{SessionData, site_at, new_site, at_site, taking_in, settling, given, made}
+use Rattle.session_replay.proofs.Steps.{reached_again}
+
+-- the session with this state of the site of number i
+abbrev pub session_at : List State → List OpData → ℕ → State → SessionData
+session_at ss ms i s = record { sites = set ss i s; messages = ms }
+
+pub last_at : (ss : List State) (ms : List OpData) (i : ℕ) (s : State) (es : List (Step State)) → last_of (session_at ss ms i s) (at_site ss ms i es) ≡ session_at ss ms i (last_of s es)
+unfolding last_of
+last_at ss ms i s [] = refl
+last_at ss ms i s (e ∷ es) = last_at ss ms i e.after es
+
+pub written_at : (ss : List State) (ms : List OpData) (i : ℕ) (es : List (Step State)) → written_by (at_site ss ms i es) ≡ written_by es
+unfolding written_by
+written_at ss ms i [] = refl
+written_at ss ms i (e ∷ es) = ap (λ w. e.written ++ w) (written_at ss ms i es)
+
+reached_lift : (ss : List State) (ms : List OpData) (i : ℕ) (es : List (Step State)) (s now : State) → IsReached s es now → IsReached (session_at ss ms i s) (at_site ss ms i es) (session_at ss ms i now)
+reached_lift ss ms i es s now h = record {
+  done = at_site ss ms i h.done;
+  left = at_site ss ms i h.left;
+  parts = ap (at_site ss ms i) h.parts ∙ map-append (λ e. record { written = e.written; after = record { sites = set ss i e.after; messages = ms } }) h.done h.left;
+  state = ap (session_at ss ms i) h.state ∙ sym (last_at ss ms i s h.done);
+}
+
+-- so much of the steps at the site is so much of the session's
+lifted : {T E : Type 0} (result : Result T E) (ss : List State) (ms : List OpData) (i : ℕ) (es : List (Step State)) (s now : State) (old new : List ℕ)
+    → AreDone result es s now old new → AreDone result (at_site ss ms i es) (session_at ss ms i s) (session_at ss ms i now) old new
+lifted (Ok t) ss ms i es s now old new h = (
+  ap (session_at ss ms i) h.0 ∙ sym (last_at ss ms i s es),
+  h.1 ∙ ap (λ w. old ++ w) (sym (written_at ss ms i es)),
+)
+lifted (Err e) ss ms i es s now old new h = (reached_lift ss ms i es s now h.0, h.1)
+
+-- ---- sites in memory
+
+-- the session that these sites and messages are
+abbrev pub session_of : List SiteData → List Op → SessionData
+session_of sites messages = record { sites = map state_of sites; messages = map data_of messages }
+
+-- the state of the site at a place
+state_in : (sites : List SiteData) (i : ℕ) (x : SiteData) (none : State) → i < length sites → x ≡ slice_index_or sites i x → state_of x ≡ slice_index_or (map state_of sites) i none
+state_in [] i x none within is = absurd (omega (arith, within))
+state_in (y ∷ ys) zero x none within is = ap state_of is
+state_in (y ∷ ys) (suc i) x none within is = state_in ys i x none (omega arith) is
+
+pub state_at : (sites : List SiteData) (messages : List Op) (i : ℕ) (x : SiteData) → i < length sites → x ≡ slice_index_or sites i x → state_of x ≡ site_at (session_of sites messages) i
+state_at sites messages i x within is = state_in sites i x (new_site i) within is
+
+-- the sites as they are, with the state of one written in again
+same_session : (sites : List SiteData) (messages : List Op) (i : ℕ) (s : State) → s ≡ site_at (session_of sites messages) i → session_at (map state_of sites) (map data_of messages) i s ≡ session_of sites messages
+same_session sites messages i s is =
+    ap (λ (xs : List State). record { sites = xs; messages = map data_of messages }) (ap (λ x. set (map state_of sites) i x) is ∙ set-get_or (map state_of sites) i (new_site i))
+
+written_back : (sites : List SiteData) (messages : List Op) (i : ℕ) (y : SiteData) → session_at (map state_of sites) (map data_of messages) i (state_of y) ≡ session_of (set sites i y) messages
+written_back sites messages i y = ap (λ (xs : List State). record { sites = xs; messages = map data_of messages }) (sym (map-set state_of sites i y))
+
+given_here : {T E : Type 0} (result : Result T E) (sites : List SiteData) (messages : List Op) (i : ℕ) (many : Bool) (o : OpData) (x y : SiteData) (old new : List ℕ)
+    → i < length sites → x ≡ slice_index_or sites i x
+    → AreDone result (taking_in many o (state_of x)) (state_of x) (state_of y) old new
+    → AreDone result (given many i o (session_of sites messages)) (session_of sites messages) (session_of (set sites i y) messages) old new
+given_here result sites messages i many o x y old new within is h =
+    let ss = map state_of sites in
+    let ms = map data_of messages in
+    let at : state_of x ≡ site_at (session_of sites messages) i = state_at sites messages i x within is in
+    let here : AreDone result (taking_in many o (site_at (session_of sites messages) i)) (site_at (session_of sites messages) i) (state_of y) old new = subst (λ s. AreDone result (taking_in many o s) s (state_of y) old new) at h in
+    let up = lifted result ss ms i (taking_in many o (site_at (session_of sites messages) i)) (site_at (session_of sites messages) i) (state_of y) old new here in
+    subst (λ d. AreDone result (given many i o (session_of sites messages)) (session_of sites messages) d old new) (written_back sites messages i y)
+    (subst (λ d. AreDone result (given many i o (session_of sites messages)) d (session_at ss ms i (state_of y)) old new) (same_session sites messages i (site_at (session_of sites messages) i) refl) up)
+
+-- a delivery to a site in memory
+pub given_done : {T E : Type 0} (result : Result T E) (d : SessionData) (sites : List SiteData) (messages : List Op) (i : ℕ) (many : Bool) (o : OpData) (x y : SiteData) (old new : List ℕ)
+    → session_of sites messages ≡ d → i < length d.sites → x ≡ slice_index_or sites i x
+    → AreDone result (taking_in many o (state_of x)) (state_of x) (state_of y) old new
+    → AreDone result (given many i o d) d (session_of (set sites i y) messages) old new
+given_done result d sites messages i many o x y old new seen within is h =
+    let there : i < length sites = omega (arith, ap (λ (e : SessionData). length e.sites) seen, length-map sites state_of) in
+    subst (λ e. AreDone result (given many i o e) e (session_of (set sites i y) messages) old new) seen (given_here result sites messages i many o x y old new there is h)
+
+-- ---- messages in memory
+
+message_at : (messages : List Op) (n : ℕ) (m : Op) → n < length messages → m ≡ slice_index_or messages n m → slice_get (map data_of messages) n ≡ Some (data_of m)
+message_at [] n m within is = absurd (omega (arith, within))
+message_at (x ∷ xs) zero m within is = ap (λ (p : Op). Some (data_of p)) (sym is)
+message_at (x ∷ xs) (suc n) m within is = message_at xs n m (omega arith) is
+
+pub message_is : (sites : List SiteData) (messages : List Op) (d : SessionData) (n : ℕ) (m : Op) (o : OpData)
+    → session_of sites messages ≡ d → n < length d.messages → m ≡ slice_index_or messages n m → slice_get d.messages n ≡ Some o → data_of m ≡ o
+message_is sites messages d n m o seen within is at =
+    let there : n < length messages = omega (arith, ap (λ (e : SessionData). length e.messages) seen, length-map messages data_of) in
+    let both : Some (data_of m) ≡ Some o = sym (message_at messages n m there is) ∙ ap (λ (e : SessionData). slice_get e.messages n) seen ∙ at in
+    cc
+
+pub message_formed : (sites : List SiteData) (messages : List Op) (d : SessionData) (n : ℕ) (m : Op)
+    → AllFormed (map data_of messages) → session_of sites messages ≡ d → n < length d.messages → m ≡ slice_index_or messages n m → IsWellFormed (data_of m)
+message_formed sites messages d n m formed seen within is =
+    let there : n < length messages = omega (arith, ap (λ (e : SessionData). length e.messages) seen, length-map messages data_of) in
+    formed_at (map data_of messages) n (data_of m) formed (message_at messages n m there is)
+
+-- ---- a local operation
+
+-- steps whose first leaves the site as it is: they may start from any session
+from_any : {T E : Type 0} (result : Result T E) (d e : SessionData) (first : Step SessionData) (es : List (Step SessionData)) (now : SessionData) (old new : List ℕ)
+    → first.after ≡ e → AreDone result (first ∷ es) e now old new → AreDone result (first ∷ es) d now old new
+unfolding last_of
+from_any (Ok t) d e first es now old new same h = h
+from_any (Err x) d e first es now old new same h = (reached_again e d now first es same h.0, h.1)
+
+made_here : {T E : Type 0} (result : Result T E) (d : SessionData) (i : ℕ) (o : OpData) (now : State) (old new : List ℕ)
+    → AreDone result (settling (op_text (length d.messages) o) (with_last (site_at d i) o)) (with_last (site_at d i) o) now old new
+    → AreDone result (made i o d) d (session_at d.sites (d.messages ++ o ∷ []) i now) old new
+made_here result d i o now old new h =
+    let s = with_last (site_at d i) o in
+    let ms = d.messages ++ o ∷ [] in
+    let up = lifted result d.sites ms i (settling (op_text (length d.messages) o) s) s now old new h in
+    from_any result d (session_at d.sites ms i s) _ _ (session_at d.sites ms i now) old new refl up
+
+set_twice : {X : Type 0} (xs : List X) (i : ℕ) (x y : X) → set (set xs i x) i y ≡ set xs i y
+set_twice [] zero x y = refl
+set_twice [] (suc i) x y = refl
+set_twice (z ∷ zs) zero x y = refl
+set_twice (z ∷ zs) (suc i) x y = ap (λ ys. z ∷ ys) (set_twice zs i x y)
+
+-- a site that made an operation, and then told it and released, in memory
+pub made_done : {T E : Type 0} (result : Result T E) (d : SessionData) (sites : List SiteData) (messages : List Op) (i : ℕ) (op : Op) (x y z : SiteData) (n : ℕ) (old new : List ℕ)
+    → session_of sites messages ≡ d → i < length d.sites → x ≡ slice_index_or sites i x → state_of y ≡ with_last (state_of x) (data_of op) → n ≡ length messages
+    → AreDone result (settling (op_text n (data_of op)) (state_of y)) (state_of y) (state_of z) old new
+    → AreDone result (made i (data_of op) d) d (session_of (set (set sites i y) i z) (messages ++ op ∷ [])) old new
+made_done result d sites messages i op x y z n old new seen within is last number h =
+    let o = data_of op in
+    let there : i < length sites = omega (arith, ap (λ (e : SessionData). length e.sites) seen, length-map sites state_of) in
+    let at : state_of x ≡ site_at d i = state_at sites messages i x there is ∙ ap (λ e. site_at e i) seen in
+    let from : state_of y ≡ with_last (site_at d i) o = last ∙ ap (λ s. with_last s o) at in
+    let count : n ≡ length d.messages = number ∙ sym (length-map messages data_of) ∙ ap (λ (e : SessionData). length e.messages) seen in
+    let here : AreDone result (settling (op_text (length d.messages) o) (with_last (site_at d i) o)) (with_last (site_at d i) o) (state_of z) old new = subst (λ s. AreDone result (settling (op_text (length d.messages) o) s) s (state_of z) old new) from (subst (λ k. AreDone result (settling (op_text k o) (state_of y)) (state_of y) (state_of z) old new) count h) in
+    let up = made_here result d i o (state_of z) old new here in
+    let twice : set (set sites i y) i z ≡ set sites i z = set_twice sites i y z in
+    let whole : session_at d.sites (d.messages ++ o ∷ []) i (state_of z) ≡ session_of (set (set sites i y) i z) (messages ++ op ∷ []) =
+    ap (λ (e : SessionData). session_at e.sites (e.messages ++ o ∷ []) i (state_of z)) (sym seen)
+    ∙ ap (λ (xs : List State). record { sites = xs; messages = map data_of messages ++ o ∷ [] }) (sym (map-set state_of sites i z) ∙ ap (map state_of) (sym twice))
+    ∙ ap (λ (ms : List OpData). record { sites = map state_of (set (set sites i y) i z); messages = ms }) (sym (map-append data_of messages (op ∷ [])))
+    in
+    subst (λ e. AreDone result (made i o d) d e old new) whole up
+
+pub made_formed : (messages now : List Op) (op : Op) (x y : SiteData) → AllFormed (map data_of messages) → now ≡ messages ++ op ∷ [] → state_of y ≡ with_last (state_of x) (data_of op) → IsValid y.history → AllFormed (map data_of now)
+made_formed messages now op x y formed is last valid =
+    let history : y.history ≡ x.history ++ data_of op ∷ [] = ap (λ (s : State). s.history) last in
+    let next = valid_pop x.history (data_of op) (subst IsValid history valid) in
+    subst AllFormed (sym (ap (map data_of) is ∙ map-append data_of messages (op ∷ []))) (held_formed (map data_of messages) (data_of op) formed next.1.formed)
+
+-- a delivery of the message of a number to a site in memory
+pub given_message_done : {T E : Type 0} (result : Result T E) (d : SessionData) (sites : List SiteData) (messages : List Op) (i n : ℕ) (many : Bool) (m : Op) (o : OpData) (x y : SiteData) (old new : List ℕ)
+    → session_of sites messages ≡ d → i < length d.sites → n < length d.messages → x ≡ slice_index_or sites i x → m ≡ slice_index_or messages n m → slice_get d.messages n ≡ Some o
+    → AreDone result (taking_in many (data_of m) (state_of x)) (state_of x) (state_of y) old new
+    → AreDone result (given many i o d) d (session_of (set sites i y) messages) old new
+given_message_done result d sites messages i n many m o x y old new seen within below is named at h =
+    subst (λ (p : OpData). AreDone result (given many i p d) d (session_of (set sites i y) messages) old new) (message_is sites messages d n m o seen below named at)
+    (given_done result d sites messages i many (data_of m) x y old new seen within is h)
+
+-- the session with its messages, held elsewhere
+pub same_messages : (sites : List SiteData) (now messages : List Op) → now ≡ messages → session_of sites now ≡ session_of sites messages
+same_messages sites now messages same = ap (session_of sites) same

@@ -1,0 +1,288 @@
+-- Steps of a line that go over a text, over messages, or over sites: the first part and the rest.
+use Rattle.std.proofs.Common.{◌≡◌, ℕ, zero, suc, ◌+◌, ◌-◌, ◌<◌, ◌≤◌, inl, inr, if◌then◌else◌, Bool, true, false, List, [], ◌∷◌, ◌++◌, refl, sym, ap, subst, ◌∙◌, length, map, drop, get_or, append-nil, length-drop, arith}
+use Rattle.std.specs.Prelude.{Option, Some, None, Result, Ok, Err, slice_get, nat_lt}
+use Rattle.std.specs.Result.{is_ok}
+use Rattle.std.proofs.Math.Seq.{drop-cons}
+use Rattle.std.proofs.lemmas.List.{length-map}
+use Rattle.std.proofs.lemmas.Option.{slice_get_within, slice_get-get_or, none-some}
+use Rattle.std.proofs.lemmas.Bool.{true≢false, false≢true, cases_Bool}
+use Rattle.context_diff.specs.Operations.{OpData, inserting}
+use Rattle.context_diff.specs.Histories.{IsValid, context_of_all}
+use Rattle.context_diff.specs.Replays.{Cell, replay_of, is_shown, shown}
+use Rattle.cot_site.specs.States.{State}
+use Rattle.cot_site.specs.Commands.{local_insert, place_behind, places_from, shown_places_of, numbered, next_name}
+use Rattle.cot_site.specs.declared.local.Local.{Local}
+use Rattle.cot_site.specs.declared.local.Local.TheVariants.{PlaceOut}
+use Rattle.cot_site.proofs.LocalOps.{few_cells}
+use Rattle.script_text.specs.Report.{raw_bad_text, raw_more_text}
+use Rattle.wire_codec.specs.Judging.{judge, judged, longest, length_of}
+use Rattle.wire_codec.specs.declared.fault.Fault.{Fault}
+use Rattle.wire_codec.specs.declared.fault.Refused.{Refused}
+use Rattle.wire_codec.specs.declared.fault.Refused.TheVariants.{More, Bad}
+use Rattle.session_replay.specs.Steps.{Step, last_of}
+use Rattle.session_replay.specs.Sessions.{SessionData, site_at, given, given_all, synced, new_site, new_sites}
+use Rattle.session_replay.specs.Doing.{frame_bytes}
+use Rattle.session_replay.specs.Commands.{commanded, typed, typed_on, framed, framed_on, told, cause_word}
+
+-- the line of bytes that begin with no frame
+abbrev pub refused_frame : ℕ → Refused → List ℕ
+refused_frame i (More least) = raw_more_text i least
+refused_frame i (Bad f) = raw_bad_text i (cause_word f.cause) f.offset
+
+-- ---- a text
+
+typed_any : (i v : ℕ) (chs : List ℕ) (d : SessionData) (r : Result OpData Local) → (left : List (Step SessionData)) × (typed_on (typed i (v + 1) chs) i r d ≡ commanded i r d ++ left)
+typed_any i v chs d (Ok o) = (typed i (v + 1) chs (last_of d (commanded i (Ok o) d)), refl)
+typed_any i v chs d (Err why) = ([], sym (append-nil (commanded i (Err why) d)))
+
+typed_next : (i v : ℕ) (chs : List ℕ) (d now : SessionData) (r : Result OpData Local) → is_ok r ≡ true → now ≡ last_of d (commanded i r d) → typed_on (typed i (v + 1) chs) i r d ≡ commanded i r d ++ typed i (v + 1) chs now
+typed_next i v chs d now (Ok o) ok at = ap (λ x. commanded i (Ok o) d ++ typed i (v + 1) chs x) (sym at)
+typed_next i v chs d now (Err why) ok at = absurd (false≢true ok)
+
+typed_end : (i v : ℕ) (chs : List ℕ) (d : SessionData) (r : Result OpData Local) → is_ok r ≡ false → typed_on (typed i (v + 1) chs) i r d ≡ commanded i r d ++ []
+typed_end i v chs d (Ok o) not_ok = absurd (true≢false not_ok)
+typed_end i v chs d (Err why) not_ok = sym (append-nil (commanded i (Err why) d))
+
+typed_at : (i v k : ℕ) (text : List ℕ) (d : SessionData) (ch : ℕ) → k < length text → ch ≡ get_or text k ch → typed i v (drop k text) d ≡ typed_on (typed i (v + 1) (drop (k + 1) text)) i (local_insert (site_at d i) v ch) d
+unfolding typed
+typed_at i v k text d ch within is =
+    let cut : drop k text ≡ ch ∷ drop (k + 1) text = drop-cons text k ch within ∙ ap (λ c. c ∷ drop (suc k) text) (sym is) ∙ ap (λ n. ch ∷ drop n text) (next_is k) in
+    ap (λ cs. typed i v cs d) cut
+  where
+    next_is : (n : ℕ) → suc n ≡ n + 1
+    next_is n = omega arith
+
+-- the first character of the rest and, if it was inserted, what is left then
+pub typed_more : (i v k : ℕ) (text : List ℕ) (d now : SessionData) (ch : ℕ) → k < length text → ch ≡ get_or text k ch → true ≡ is_ok (local_insert (site_at d i) v ch) → now ≡ last_of d (commanded i (local_insert (site_at d i) v ch) d)
+    → typed i v (drop k text) d ≡ commanded i (local_insert (site_at d i) v ch) d ++ typed i (v + 1) (drop (k + 1) text) now
+typed_more i v k text d now ch within is ok at =
+    typed_at i v k text d ch within is ∙ typed_next i v (drop (k + 1) text) d now (local_insert (site_at d i) v ch) (sym ok) at
+
+pub typed_last : (i v k : ℕ) (text : List ℕ) (d : SessionData) (ch : ℕ) → k < length text → ch ≡ get_or text k ch → false ≡ is_ok (local_insert (site_at d i) v ch)
+    → typed i v (drop k text) d ≡ commanded i (local_insert (site_at d i) v ch) d ++ []
+typed_last i v k text d ch within is not_ok =
+    typed_at i v k text d ch within is ∙ typed_end i v (drop (k + 1) text) d (local_insert (site_at d i) v ch) (sym not_ok)
+
+pub typed_part : (i v k : ℕ) (text : List ℕ) (d : SessionData) (ch : ℕ) → k < length text → ch ≡ get_or text k ch
+    → (left : List (Step SessionData)) × (typed i v (drop k text) d ≡ commanded i (local_insert (site_at d i) v ch) d ++ left)
+typed_part i v k text d ch within is =
+    let any = typed_any i v (drop (k + 1) text) d (local_insert (site_at d i) v ch) in
+    (any.0, typed_at i v k text d ch within is ∙ any.1)
+
+places_few : (test : Cell → Bool) (n : ℕ) (cs : List Cell) → length (places_from test n cs) ≤ length cs
+places_few test n [] = omega arith
+places_few test n (c ∷ cs) = elim (cases_Bool (test c)) [
+  | inl so ↦
+      subst (λ (b : Bool). length (if b then n ∷ places_from test (suc n) cs else places_from test (suc n) cs) ≤ suc (length cs)) (sym so) (omega (arith, places_few test (suc n) cs))
+  | inr isnt ↦
+      subst (λ (b : Bool). length (if b then n ∷ places_from test (suc n) cs else places_from test (suc n) cs) ≤ suc (length cs)) (sym isnt) (omega (arith, places_few test (suc n) cs))
+]
+
+-- a character was inserted behind at most 64,000,000 others
+pub place_small : (s : State) (v ch : ℕ) → IsValid s.history → true ≡ is_ok (local_insert s v ch) → v ≤ 64000000
+place_small s v ch valid ok = from (place_behind s.history v) refl ok
+  where
+    from : (r : Option ℕ) → place_behind s.history v ≡ r → true ≡ is_ok (elim r as (λ _. Result OpData Local) [ None ↦ Err (PlaceOut v (length (shown s.history))) | Some p ↦ numbered s (inserting (next_name s) p ch (context_of_all s.history)) ]) → v ≤ 64000000
+    from None at ok = absurd (true≢false ok)
+    from (Some p) at ok =
+        let places = shown_places_of s.history in
+        let within : v < suc (length (map suc places)) = slice_get_within (0 ∷ map suc places) v p at in
+        omega (arith, within, length-map places suc, places_few (is_shown s.history) 0 (replay_of s.history), few_cells s.history valid)
+
+-- ---- messages
+
+-- the message of a number and those behind it
+pub given_more : (i k : ℕ) (os : List OpData) (d : SessionData) (o : OpData) → slice_get os k ≡ Some o → given_all i (drop k os) d ≡ given true i o d ++ given_all i (drop (k + 1) os) (last_of d (given true i o d))
+unfolding given_all
+given_more i k os d o at =
+    let within : k < length os = slice_get_within os k o at in
+    let both : Some (get_or os k o) ≡ Some o = sym (slice_get-get_or os k o within) ∙ at in
+    let here : get_or os k o ≡ o = cc in
+    let next : suc k ≡ k + 1 = omega arith in
+    let cut : drop k os ≡ o ∷ drop (k + 1) os = drop-cons os k o within ∙ ap (λ p. p ∷ drop (suc k) os) here ∙ ap (λ n. o ∷ drop n os) next in
+    ap (λ ps. given_all i ps d) cut
+
+drop_past : {X : Type 0} (xs : List X) (n : ℕ) → length xs ≤ n → drop n xs ≡ []
+drop_past [] zero le = refl
+drop_past [] (suc n) le = refl
+drop_past (x ∷ xs) zero le = absurd (omega (arith, le))
+drop_past (x ∷ xs) (suc n) le = drop_past xs n (omega (arith, le))
+
+pub typed_none : (i v : ℕ) (text : List ℕ) (d : SessionData) (k : ℕ) → length text ≤ k → typed i v (drop k text) d ≡ []
+unfolding typed
+typed_none i v text d k past = ap (λ cs. typed i v cs d) (drop_past text k past)
+
+pub given_none : (i : ℕ) (os : List OpData) (d : SessionData) (k : ℕ) → length os ≤ k → given_all i (drop k os) d ≡ []
+unfolding given_all
+given_none i os d k past = ap (λ ps. given_all i ps d) (drop_past os k past)
+
+-- the message of a number
+pub message_there : (os : List OpData) (k : ℕ) → k < length os → (o : OpData) × (slice_get os k ≡ Some o)
+message_there [] k within = absurd (omega (arith, within))
+message_there (p ∷ ps) zero within = (p, refl)
+message_there (p ∷ ps) (suc k) within = message_there ps k (omega (arith, within))
+
+-- ---- sites
+
+-- the site of a number and those behind it
+pub synced_more : (i n : ℕ) (d : SessionData) → i < n → synced i (n - i) d ≡ given_all i d.messages d ++ synced (i + 1) (n - (i + 1)) (last_of d (given_all i d.messages d))
+unfolding synced
+synced_more i n d within =
+    let count : n - i ≡ suc (n - (i + 1)) = omega (arith, within) in
+    let next : suc i ≡ i + 1 = omega arith in
+    ap (λ k. synced i k d) count ∙ ap (λ k. given_all i d.messages d ++ synced k (n - (i + 1)) (last_of d (given_all i d.messages d))) next
+
+pub synced_none : (i n : ℕ) (d : SessionData) → n ≤ i → synced i (n - i) d ≡ []
+unfolding synced
+synced_none i n d past =
+    let none : n - i ≡ 0 = omega (arith, past) in
+    ap (λ k. synced i k d) none
+
+sites_push : (i n : ℕ) → new_sites i (suc n) ≡ new_sites i n ++ new_site (i + n) ∷ []
+unfolding new_sites
+sites_push i zero = let same : i ≡ i + 0 = omega arith in ap (λ k. new_site k ∷ []) same
+sites_push i (suc n) = let same : suc i + n ≡ i + suc n = omega arith in ap (λ xs. new_site i ∷ xs) (sites_push (suc i) n ∙ ap (λ k. new_sites (suc i) n ++ new_site k ∷ []) same)
+
+-- one more site
+pub sites_more : (n : ℕ) → new_sites 0 (n + 1) ≡ new_sites 0 n ++ new_site n ∷ []
+sites_more n =
+    let next : n + 1 ≡ suc n = omega arith in
+    let same : 0 + n ≡ n = omega arith in
+    ap (new_sites 0) next ∙ sites_push 0 n ∙ ap (λ k. new_sites 0 n ++ new_site k ∷ []) same
+
+pub sites_none : new_sites 0 0 ≡ []
+unfolding new_sites
+sites_none = refl
+
+-- ---- frames
+
+judged_used : (used : ℕ) (r : Result OpData Fault) (p : OpData × ℕ) → judged used r ≡ Ok p → used ≡ p.1
+judged_used used (Ok o) p e = let same : (o, used) ≡ p = cc in ap (λ (q : OpData × ℕ). q.1) same
+judged_used used (Err f) p e = absurd cc
+
+used_of : (a b c : Bool) (x y z : Refused) (used : ℕ) (r : Result OpData Fault) (p : OpData × ℕ)
+    → ◌≡◌ {A = Result (OpData × ℕ) Refused} (if a then Err x else if b then Err y else if c then Err z else judged (4 + used) r) (Ok p) → 0 < p.1
+used_of true b c x y z used r p e = absurd cc
+used_of false true c x y z used r p e = absurd cc
+used_of false false true x y z used r p e = absurd cc
+used_of false false false x y z used r p e = omega (arith, judged_used (4 + used) r p e)
+
+-- what is judged to be a frame has bytes
+used_some : (bytes : List ℕ) (p : OpData × ℕ) → judge bytes ≡ Ok p → 0 < p.1
+unfolding judge
+used_some bytes p e = used_of (nat_lt (length bytes) 4) (nat_lt longest (length_of bytes)) (nat_lt (length bytes) (4 + length_of bytes)) _ _ _ (length_of bytes) _ p e
+
+-- as many frames as bytes are enough
+framed_enough : (n m i : ℕ) (bytes : List ℕ) (d : SessionData) → length bytes ≤ n → length bytes ≤ m → framed n i bytes d ≡ framed m i bytes d
+unfolding framed
+framed_enough n m i [] d few less = both n m
+  where
+    none : (k : ℕ) → framed k i [] d ≡ []
+    none zero = refl
+    none (suc k) = refl
+
+    both : (k l : ℕ) → framed k i [] d ≡ framed l i [] d
+    both k l = none k ∙ sym (none l)
+framed_enough zero m i (b ∷ bs) d few less = absurd (omega (arith, few))
+framed_enough (suc n) zero i (b ∷ bs) d few less = absurd (omega (arith, less))
+framed_enough (suc n) (suc m) i (b ∷ bs) d few less = from (λ xs e k l. framed_enough n m i xs e k l) (judge (b ∷ bs)) refl
+  where
+    from : ((xs : List ℕ) (e : SessionData) → length xs ≤ n → length xs ≤ m → framed n i xs e ≡ framed m i xs e)
+        → (r : Result (OpData × ℕ) Refused) → judge (b ∷ bs) ≡ r → framed_on (framed n i) i (b ∷ bs) r d ≡ framed_on (framed m i) i (b ∷ bs) r d
+    from again (Err (More least)) is = refl
+    from again (Err (Bad f)) is = refl
+    from again (Ok p) is =
+        let some = used_some (b ∷ bs) p is in
+        let left : length (drop p.1 (b ∷ bs)) ≤ length bs = omega (arith, some, length-drop p.1 (b ∷ bs)) in
+        ap (λ es. given false i p.0 d ++ es) (again (drop p.1 (b ∷ bs)) (last_of d (given false i p.0 d)) (omega (arith, left, few)) (omega (arith, left, less)))
+
+framed_is : (i : ℕ) (bytes : List ℕ) (d : SessionData) → 0 < length bytes → (n : ℕ) × (length bytes ≡ suc n) × (framed (length bytes) i bytes d ≡ framed_on (framed n i) i bytes (judge bytes) d)
+unfolding framed
+framed_is i [] d some = absurd (omega (arith, some))
+framed_is i (b ∷ bs) d some = (length bs, refl, refl)
+
+no_fuel : (i : ℕ) (bytes : List ℕ) (d : SessionData) → framed 0 i bytes d ≡ []
+unfolding framed
+no_fuel i [] d = refl
+no_fuel i (b ∷ bs) d = refl
+
+one_is : (i : ℕ) (bytes : List ℕ) (d : SessionData) → 0 < length bytes → framed 1 i bytes d ≡ framed_on (framed 0 i) i bytes (judge bytes) d
+unfolding framed
+one_is i [] d some = absurd (omega (arith, some))
+one_is i (b ∷ bs) d some = refl
+
+-- the first frame
+pub one_frame : (i : ℕ) (bytes : List ℕ) (d : SessionData) (o : OpData) (used : ℕ) → 0 < length bytes → Ok (o, used) ≡ judge bytes → framed 1 i bytes d ≡ given false i o d
+one_frame i bytes d o used some is =
+    one_is i bytes d some
+    ∙ ap (λ r. framed_on (framed 0 i) i bytes r d) (sym is)
+    ∙ ap (λ es. given false i o d ++ es) (no_fuel i (drop used bytes) (last_of d (given false i o d)))
+    ∙ append-nil (given false i o d)
+
+-- no frame
+pub one_refused : (i : ℕ) (bytes : List ℕ) (d : SessionData) (r : Refused) → 0 < length bytes → Err r ≡ judge bytes → framed 1 i bytes d ≡ told (refused_frame i r) d
+one_refused i bytes d (More least) some is = one_is i bytes d some ∙ ap (λ r. framed_on (framed 0 i) i bytes r d) (sym is)
+one_refused i bytes d (Bad f) some is = one_is i bytes d some ∙ ap (λ r. framed_on (framed 0 i) i bytes r d) (sym is)
+
+-- the first frame, and those behind it
+pub frames_on : (i : ℕ) (bytes : List ℕ) (d now : SessionData) (used : ℕ) → 0 < length bytes → Some used ≡ frame_bytes (judge bytes) → now ≡ last_of d (framed 1 i bytes d)
+    → framed (length bytes) i bytes d ≡ framed 1 i bytes d ++ framed (length (drop used bytes)) i (drop used bytes) now
+frames_on i bytes d now used some is at = from (judge bytes) refl
+  where
+    from : (r : Result (OpData × ℕ) Refused) → judge bytes ≡ r → framed (length bytes) i bytes d ≡ framed 1 i bytes d ++ framed (length (drop used bytes)) i (drop used bytes) now
+    from (Err r) e = absurd (none-some used (sym (is ∙ ap frame_bytes e)))
+    from (Ok p) e =
+        let both : Some used ≡ Some p.1 = is ∙ ap frame_bytes e in
+        let same : used ≡ p.1 = cc in
+        let pair : Ok (p.0, used) ≡ judge bytes = ap (λ n. Ok (p.0, n)) same ∙ sym e in
+        let one = one_frame i bytes d p.0 used some pair in
+        let first = framed_is i bytes d some in
+        let n = first.0 in
+        let begun = used_some bytes p e in
+        let left : length (drop used bytes) ≤ n = omega (arith, begun, same, first.1, length-drop used bytes) in
+        let later : last_of d (given false i p.0 d) ≡ now = ap (last_of d) (sym one) ∙ sym at in
+        first.2
+        ∙ ap (λ r. framed_on (framed n i) i bytes r d) (sym pair)
+        ∙ ap (λ es. given false i p.0 d ++ es) (framed_enough n (length (drop used bytes)) i (drop used bytes) (last_of d (given false i p.0 d)) left (omega arith))
+        ∙ ap (λ x. given false i p.0 d ++ framed (length (drop used bytes)) i (drop used bytes) x) later
+        ∙ ap (λ es. es ++ framed (length (drop used bytes)) i (drop used bytes) now) (sym one)
+
+-- nothing follows bytes that begin with no frame
+pub frames_end : (i : ℕ) (bytes : List ℕ) (d : SessionData) → 0 < length bytes → None ≡ frame_bytes (judge bytes) → framed (length bytes) i bytes d ≡ framed 1 i bytes d ++ []
+frames_end i bytes d some is = from (judge bytes) refl
+  where
+    from : (r : Result (OpData × ℕ) Refused) → judge bytes ≡ r → framed (length bytes) i bytes d ≡ framed 1 i bytes d ++ []
+    from (Ok p) e = absurd (none-some p.1 (is ∙ ap frame_bytes e))
+    from (Err (More least)) e =
+        let first = framed_is i bytes d some in
+        first.2 ∙ ap (λ r. framed_on (framed first.0 i) i bytes r d) e ∙ sym (append-nil _ ∙ one_refused i bytes d (More least) some (sym e))
+    from (Err (Bad f)) e =
+        let first = framed_is i bytes d some in
+        first.2 ∙ ap (λ r. framed_on (framed first.0 i) i bytes r d) e ∙ sym (append-nil _ ∙ one_refused i bytes d (Bad f) some (sym e))
+
+-- the first frame is the first part
+pub frames_part : (i : ℕ) (bytes : List ℕ) (d : SessionData) → 0 < length bytes → (left : List (Step SessionData)) × (framed (length bytes) i bytes d ≡ framed 1 i bytes d ++ left)
+frames_part i bytes d some = from (frame_bytes (judge bytes)) refl
+  where
+    from : (r : Option ℕ) → frame_bytes (judge bytes) ≡ r → (left : List (Step SessionData)) × (framed (length bytes) i bytes d ≡ framed 1 i bytes d ++ left)
+    from None e = ([], frames_end i bytes d some (sym e))
+    from (Some used) e = (
+      framed (length (drop used bytes)) i (drop used bytes) (last_of d (framed 1 i bytes d)),
+      frames_on i bytes d (last_of d (framed 1 i bytes d)) used some (sym e) refl,
+    )
+
+-- a frame has bytes
+pub frame_begun : (bytes : List ℕ) (used : ℕ) → Some used ≡ frame_bytes (judge bytes) → 0 < used
+frame_begun bytes used is = from (judge bytes) refl
+  where
+    from : (r : Result (OpData × ℕ) Refused) → judge bytes ≡ r → 0 < used
+    from (Err r) e = absurd (none-some used (sym (is ∙ ap frame_bytes e)))
+    from (Ok p) e =
+        let both : Some used ≡ Some p.1 = is ∙ ap frame_bytes e in
+        let same : used ≡ p.1 = cc in
+        omega (arith, used_some bytes p e)
+
+pub framed_none : (i : ℕ) (bytes : List ℕ) (d : SessionData) → length bytes ≡ 0 → framed (length bytes) i bytes d ≡ []
+unfolding framed
+framed_none i [] d none = refl
+framed_none i (b ∷ bs) d none = absurd (omega (arith, none))

@@ -1,0 +1,26 @@
+use Rattle.std.proofs.Common.{◌∙◌, ◌++◌, ap, refl}
+use Rattle.std.proofs.lemmas.Result.{err_from_is_err_and}
+use Rattle.context_diff.specs.Ops.{data_of}
+use Rattle.cot_site.specs.Sites.{state_of}
+use Rattle.cot_site.specs.States.{judged}
+use Rattle.session_replay.specs.Sessions.{told_verdict}
+use Rattle.session_replay.proofs.Steps.{done_nothing, first_done, stopped}
+use Rattle.session_replay.proofs.Releasing.{settled, delivered_number}
+use Rattle.session_replay.proofs.releases.take_in.Goals as goal
+
+pub returns-in-Err : goal.returns-in-Err
+returns-in-Err c = done_nothing _ _ _ _ _ (ap state_of c.in-Err.ensures.err) refl
+
+pub returns-in_err-tell_verdict-in-Ok : goal.returns-in_err-tell_verdict-in-Ok
+returns-in_err-tell_verdict-in-Ok c =
+    let p = err_from_is_err_and c.from_residual.result c.from_residual.ensures.1 in
+    stopped c.from_residual.result p.0 p.1 _ _ _ _ _ (first_done _ _ (state_of c.args.site.now) _ _ _ c.in-Ok.ensures.effect c.in_err-tell_verdict-in-Ok.ensures.err)
+
+pub returns-in_ok-tell_verdict-in-Ok : goal.returns-in_ok-tell_verdict-in-Ok
+returns-in_ok-tell_verdict-in-Ok c =
+    let s = state_of c.args.site.now in
+    let o = data_of c.args.op.now in
+    let old = c.args.out.now.items in
+    let number = c.number.ensures ∙ ap (λ x. x.number) c.in-Ok.ensures.effect ∙ delivered_number s o in
+    let told = ap (λ v. told_verdict c.args.many o v c.number.result) c.in-Ok.ensures.verdict ∙ ap (λ n. told_verdict c.args.many o (judged s o) n) number in
+    settled c.release_all.result _ s _ _ _ old _ _ c.in-Ok.ensures.effect (c.in_ok-tell_verdict-in-Ok.ensures.ok ∙ ap (λ w. old ++ w) told) c.release_all.ensures

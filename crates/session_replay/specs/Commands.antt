@@ -1,0 +1,117 @@
+-- What each line of a script does to a session.
+use Rattle.std.specs.Prelude.{ℕ, ◌+◌, zero, suc, false, List, [], ◌∷◌, length, drop, codes, slice_get, nat_lt, nat_le, Result, Ok, Err, Option, Some, None, if◌then◌else◌}
+use Rattle.op_name.specs.NameData.{NameData}
+use Rattle.context_diff.specs.Operations.{OpData}
+use Rattle.context_diff.specs.Histories.{context_of_all}
+use Rattle.context_diff.specs.Replays.{characters_of, text_of}
+use Rattle.cot_site.specs.Commands.{local_insert, local_delete, local_undo, local_redo}
+use Rattle.cot_site.specs.declared.local.Local.{Local}
+use Rattle.wire_codec.specs.Judging.{judge}
+use Rattle.wire_codec.specs.declared.fault.Refused.{Refused}
+use Rattle.wire_codec.specs.declared.fault.Refused.TheVariants.{More, Bad}
+use Rattle.wire_codec.specs.declared.cause.Cause.{Cause}
+use Rattle.wire_codec.specs.declared.cause.Cause.TheVariants as cause
+use Rattle.script_text.specs.Report.{shown_text, state_text, raw_bad_text, raw_more_text}
+use Rattle.script_text.specs.Verdicts.{local_text}
+use Rattle.script_text.specs.declared.lines.Line.{Line}
+use Rattle.script_text.specs.declared.lines.Line.TheVariants.{Blank, Sites, Ins, Nl, Del, Undo, Redo, Give, All, Sync, Raw, Show, State}
+use Rattle.session_replay.specs.declared.session.StepBad.{StepBad}
+use Rattle.session_replay.specs.declared.session.StepBad.TheVariants.{NoSites, Twice, NoSite, NoMessage}
+use Rattle.session_replay.specs.Steps.{Step, last_of, and_then}
+use Rattle.session_replay.specs.Sessions.{SessionData, site_at, new_sites, made, given, given_all, synced}
+
+-- one line is written, and nothing changes
+abbrev pub told : List ℕ → SessionData → List (Step SessionData)
+told written d = record { written = written; after = d } ∷ []
+
+-- a local command at the site, whose operation or refusal is this
+abbrev pub commanded : ℕ → Result OpData Local → SessionData → List (Step SessionData)
+commanded i (Ok o) d = made i o d
+commanded i (Err why) d = told (local_text why) d
+
+-- an insert that belongs to a line: what follows it, unless it is refused
+abbrev pub typed_on : (SessionData → List (Step SessionData)) → ℕ → Result OpData Local → SessionData → List (Step SessionData)
+typed_on next i (Ok o) d = and_then d (made i o d) next
+typed_on next i (Err why) d = told (local_text why) d
+
+-- characters at visible places v, v + 1 and so on, until one is refused
+unfoldable pub typed : ℕ → ℕ → List ℕ → SessionData → List (Step SessionData)
+typed i v [] d = []
+typed i v (ch ∷ chs) d = typed_on (typed i (v + 1) chs) i (local_insert (site_at d i) v ch) d
+
+-- the word of a cause of bad bytes
+abbrev pub cause_word : Cause → List ℕ
+cause_word cause.TooLong = codes "toolong"
+cause_word cause.Kind = codes "kind"
+cause_word cause.Range = codes "range"
+cause_word cause.Char = codes "char"
+cause_word cause.Order = codes "order"
+cause_word cause.Zero = codes "zero"
+cause_word cause.Length = codes "length"
+cause_word cause.Own = codes "own"
+cause_word cause.Target = codes "target"
+cause_word cause.Stray = codes "stray"
+
+-- what bytes of `raw` begin with: a frame is delivered, and what follows it goes on; bytes that begin with none are told
+abbrev pub framed_on : (List ℕ → SessionData → List (Step SessionData)) → ℕ → List ℕ → Result (OpData × ℕ) Refused → SessionData → List (Step SessionData)
+framed_on next i bytes (Ok p) d = and_then d (given false i p.0 d) (next (drop p.1 bytes))
+framed_on next i bytes (Err (More least)) d = told (raw_more_text i least) d
+framed_on next i bytes (Err (Bad f)) d = told (raw_bad_text i (cause_word f.cause) f.offset) d
+
+-- bytes of `raw`, of which each frame has one at least: at most n frames
+unfoldable pub framed : ℕ → ℕ → List ℕ → SessionData → List (Step SessionData)
+framed n i [] d = []
+framed zero i (b ∷ bytes) d = []
+framed (suc n) i (b ∷ bytes) d = framed_on (framed n i) i (b ∷ bytes) (judge (b ∷ bytes)) d
+
+-- the lines of a shown text, and of a site's state
+abbrev pub show_text : ℕ → SessionData → List ℕ
+show_text i d = let h = (site_at d i).history in shown_text (length (characters_of h)) (text_of h)
+
+abbrev pub have_text : ℕ → SessionData → List ℕ
+have_text i d = let s = site_at d i in state_text i (context_of_all s.history) (length s.waiting)
+
+-- the message of a number, if it was made, to the site
+abbrev pub given_message : ℕ → Option OpData → SessionData → Result (List (Step SessionData)) StepBad
+given_message i None d = Err NoMessage
+given_message i (Some o) d = Ok (given false i o d)
+
+-- steps at a site, if there is the site
+abbrev pub at_known : ℕ → SessionData → Result (List (Step SessionData)) StepBad → Result (List (Step SessionData)) StepBad
+at_known i d steps = if nat_lt i (length d.sites) then steps else Err NoSite
+
+-- a line of a started session
+abbrev pub started_line : Line → SessionData → Result (List (Step SessionData)) StepBad
+started_line Blank d = Ok []
+started_line (Sites n) d = Err Twice
+started_line (Ins i v text) d = at_known i d (Ok (typed i v text d))
+started_line (Nl i v) d = at_known i d (Ok (commanded i (local_insert (site_at d i) v 10) d))
+started_line (Del i v) d = at_known i d (Ok (commanded i (local_delete (site_at d i) v) d))
+started_line (Undo i t) d = at_known i d (Ok (commanded i (local_undo (site_at d i) t) d))
+started_line (Redo i t) d = at_known i d (Ok (commanded i (local_redo (site_at d i) t) d))
+started_line (Give i m) d = at_known i d (given_message i (slice_get d.messages m) d)
+started_line (All i) d = at_known i d (Ok (given_all i d.messages d))
+started_line Sync d = Ok (synced 0 (length d.sites) d)
+started_line (Raw i bytes) d = at_known i d (Ok (framed (length bytes) i bytes d))
+started_line (Show i) d = at_known i d (Ok (told (show_text i d) d))
+started_line (State i) d = at_known i d (Ok (told (have_text i d) d))
+
+-- a line before the sites are made, of which there are 64 at most
+abbrev pub first_line : Line → Result (List (Step SessionData)) StepBad
+first_line Blank = Ok []
+first_line (Sites n) = if nat_le n 64 then Ok (told [] (record { sites = new_sites 0 n; messages = [] })) else Err NoSite
+first_line (Ins i v text) = Err NoSites
+first_line (Nl i v) = Err NoSites
+first_line (Del i v) = Err NoSites
+first_line (Undo i t) = Err NoSites
+first_line (Redo i t) = Err NoSites
+first_line (Give i m) = Err NoSites
+first_line (All i) = Err NoSites
+first_line Sync = Err NoSites
+first_line (Raw i bytes) = Err NoSites
+first_line (Show i) = Err NoSites
+first_line (State i) = Err NoSites
+
+-- the steps of a line, or why it is refused
+abbrev pub line_steps : Line → SessionData → Result (List (Step SessionData)) StepBad
+line_steps line d = if nat_lt 0 (length d.sites) then started_line line d else first_line line

@@ -1,0 +1,73 @@
+-- The laws of sessions.
+use Rattle.std.specs.Prelude.{◌≡◌, ℕ, ◌<◌, false, Bool, List, [], Contains, Result, Ok, length}
+use Rattle.op_name.specs.declared.member.Member.{Member}
+use Rattle.context_diff.specs.Operations.{OpData, member_of, context_of, IsWellFormed}
+use Rattle.context_diff.specs.Histories.{is_known, IsValid, IsNext, LacksFirst, Same}
+use Rattle.context_diff.specs.Replays.{text_of}
+use Rattle.cot_site.specs.States.{State, IsSettled}
+use Rattle.cot_site.specs.Sites.{AllFormed}
+use Rattle.script_text.specs.declared.lines.Line.{Line}
+use Rattle.script_text.specs.Lines.{IsInRange}
+use Rattle.session_replay.specs.declared.session.StepBad.{StepBad}
+use Rattle.session_replay.specs.Steps.{Step, last_of, IsReached}
+use Rattle.session_replay.specs.Sessions.{SessionData, site_at, made, given}
+use Rattle.session_replay.specs.Commands.{line_steps}
+use Rattle.session_replay.specs.Scripts.{sessions_of}
+
+-- each history is valid, and all that waits and all messages are well formed
+pub record IsSound (d : SessionData) : Type 0 where
+  pub numbers : (s : State) → Contains d.sites s → s.number < 64
+  pub histories : (s : State) → Contains d.sites s → IsValid s.history
+  pub waiting : (s : State) → Contains d.sites s → AllFormed s.waiting
+  pub messages : AllFormed d.messages
+
+-- no site has an operation that is ready
+abbrev pub AreSettled : SessionData → Type 0
+AreSettled d = (s : State) → Contains d.sites s → IsSettled s
+
+-- the operation waits for a member of its context, the first in the order of members that the history lacks
+pub record WaitsFor (h : List OpData) (o : OpData) : Type 0 where
+  pub missing : Member
+  pub first : LacksFirst h (context_of o) missing
+  pub new : is_known h (member_of o) ≡ false
+
+-- each step of a line, whose parts are in range, leaves a sound session
+abbrev pub SessionsStaySound : Type 0
+SessionsStaySound =
+    (d reached : SessionData) (line : Line) (es : List (Step SessionData))
+    → IsSound d → IsInRange line → line_steps line d ≡ Ok es → IsReached d es reached → IsSound reached
+
+-- after a local operation with its releases, no operation is ready
+abbrev pub LocalOperationsSettle : Type 0
+LocalOperationsSettle =
+    (d : SessionData) (i : ℕ) (o : OpData)
+    → IsSound d → AreSettled d → i < length d.sites → IsNext (site_at d i).history o → AreSettled (last_of d (made i o d))
+
+-- after a delivery with its releases, no operation is ready
+abbrev pub DeliveriesSettle : Type 0
+DeliveriesSettle =
+    (d : SessionData) (many : Bool) (i : ℕ) (o : OpData)
+    → IsSound d → AreSettled d → i < length d.sites → IsWellFormed o → AreSettled (last_of d (given many i o d))
+
+-- after a whole line, no operation is ready
+abbrev pub LinesSettle : Type 0
+LinesSettle =
+    (d : SessionData) (line : Line) (es : List (Step SessionData))
+    → IsSound d → AreSettled d → IsInRange line → line_steps line d ≡ Ok es → AreSettled (last_of d es)
+
+-- each session that a script comes by is sound and settled
+abbrev pub ScriptsSettle : Type 0
+ScriptsSettle = (bytes : List ℕ) (d : SessionData) → Contains (sessions_of bytes) d → IsSound d × AreSettled d
+
+-- whatever waits in a session that a script comes by, waits for a named member of its context
+abbrev pub WaitingIsNamed : Type 0
+WaitingIsNamed =
+    (bytes : List ℕ) (d : SessionData) (s : State) (o : OpData)
+    → Contains (sessions_of bytes) d → Contains d.sites s → Contains s.waiting o → WaitsFor s.history o
+
+-- two sites of sessions, the same or others, that have the same operations show the same text
+abbrev pub SitesConverge : Type 0
+SitesConverge =
+    (bytes others : List ℕ) (d e : SessionData) (s t : State)
+    → Contains (sessions_of bytes) d → Contains (sessions_of others) e → Contains d.sites s → Contains e.sites t
+    → Same s.history t.history → text_of s.history ≡ text_of t.history
