@@ -29,9 +29,10 @@ use Rattle.session_replay.specs.Steps.{Step, last_of}
 use Rattle.session_replay.specs.Sessions.{SessionData, unstarted, new_site, new_sites}
 use Rattle.session_replay.specs.Commands.{told, started_line, first_line, line_steps}
 use Rattle.session_replay.specs.Scripts.{Piece, Whole, Past, line_read, read_form, refusal_of, steps_or, steps_of_read, piece_steps, pieces_of, sessions_on, sessions_from, sessions_of}
-use Rattle.session_replay.specs.Laws.{IsSound, AreSettled, WaitsFor}
+use Rattle.session_replay.specs.Events.{Opening}
+use Rattle.session_replay.specs.Laws.{IsSound, AreSettled, Settles, WaitsFor}
 use Rattle.session_replay.proofs.Every.{Every, every_last, every_map}
-use Rattle.session_replay.proofs.Sound.{Good, Kept}
+use Rattle.session_replay.proofs.Sound.{Good, Kept, Eventful, eventless, one_event}
 use Rattle.session_replay.proofs.LineLaws.{good_line}
 
 -- ---- the first sites
@@ -80,9 +81,10 @@ unstarted_sound = record {
 pub record Lasting (d : SessionData) (es : List (Step SessionData)) : Type 0 where
   pub all : Every IsSound es
   pub settles : AreSettled d → AreSettled (last_of d es)
+  pub events : Eventful d es
 
 from_good : (d : SessionData) (es : List (Step SessionData)) → Good d es → Lasting d es
-from_good d es good = record { all = every_map (Kept (length d.sites)) IsSound (λ s kept. kept.sound) es good.all; settles = good.settles }
+from_good d es good = record { all = every_map (Kept (length d.sites)) IsSound (λ s kept. kept.sound) es good.all; settles = good.settles; events = good.events }
 
 ok_steps : (es fs : List (Step SessionData)) → ◌≡◌ {A = Result (List (Step SessionData)) StepBad} (Ok es) (Ok fs) → es ≡ fs
 ok_steps es fs e = cc
@@ -92,11 +94,15 @@ err_steps why fs e = cc
 
 nothing_lasts : (d : SessionData) → Lasting d []
 unfolding last_of
-nothing_lasts d = record { all = tt; settles = λ s. s }
+nothing_lasts d = record { all = tt; settles = λ s. s; events = eventless d }
 
 opening_lasts : (n : ℕ) (d : SessionData) → n ≤ 64 → Lasting d (told [] (opened n))
 unfolding last_of
-opening_lasts n d few = record { all = (opened_sound n few, tt); settles = λ s. opened_settled n few }
+opening_lasts n d few = record {
+  all = (opened_sound n few, tt);
+  settles = λ s. opened_settled n few;
+  events = one_event d (Opening n) (opened_sound n few) (λ s. opened_settled n few);
+}
 
 first_lasts : (l : Line) (d : SessionData) (es : List (Step SessionData)) → first_line l ≡ Ok es → Lasting d es
 first_lasts line.Blank d es is = subst (Lasting d) (ok_steps [] es is) (nothing_lasts d)
@@ -125,6 +131,14 @@ line_lasts l d es sound range is =
       | inl started ↦ from_good d es (good_line l d es sound range (sym (ap (λ (b : Bool). if b then started_line l d else first_line l) started) ∙ is))
       | inr not ↦ first_lasts l d es (sym (ap (λ (b : Bool). if b then started_line l d else first_line l) not) ∙ is)
     ]
+
+-- the events of what lasts settle
+pub lasting_settles : (d : SessionData) (es : List (Step SessionData)) → AreSettled d → Lasting d es → Settles d es
+lasting_settles d es settled lasting = record {
+  events = lasting.events.events;
+  parts = lasting.events.parts;
+  settled = λ r at. (lasting.events.sound r at, lasting.events.settled settled r at);
+}
 
 -- ---- lines as they are read
 
@@ -190,6 +204,11 @@ piece_rests p d es rests is =
     let reads = piece_reads p d es is in
     let lasts = line_lasts reads.line d es rests.0 reads.range reads.steps in
     (every_last IsSound d es rests.0 lasts.all, lasts.settles rests.1)
+
+pub piece_settles : (p : Piece) (d : SessionData) (es : List (Step SessionData)) → Rests d → piece_steps p d ≡ Ok es → Settles d es
+piece_settles p d es rests is =
+    let reads = piece_reads p d es is in
+    lasting_settles d es rests.1 (line_lasts reads.line d es rests.0 reads.range reads.steps)
 
 sessions_rest_on : (next : SessionData → List SessionData) (r : Result (List (Step SessionData)) Refusal) (d x : SessionData) → ((es : List (Step SessionData)) → r ≡ Ok es → Rests (last_of d es) × (Contains (next (last_of d es)) x → Rests x)) → Contains (sessions_on next r d) x → Rests x
 sessions_rest_on next (Err why) d x rest at = absurd (contains_none x at)

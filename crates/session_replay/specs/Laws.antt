@@ -12,7 +12,8 @@ use Rattle.session_replay.specs.declared.session.StepBad.{StepBad}
 use Rattle.session_replay.specs.Steps.{Step, last_of, IsReached}
 use Rattle.session_replay.specs.Sessions.{SessionData, site_at, made, given}
 use Rattle.session_replay.specs.Commands.{line_steps}
-use Rattle.session_replay.specs.Scripts.{sessions_of}
+use Rattle.session_replay.specs.Events.{Event, all_steps, rests}
+use Rattle.session_replay.specs.Scripts.{Piece, piece_steps, sessions_of}
 
 -- each history is valid, and all that waits and all messages are well formed
 pub record IsSound (d : SessionData) : Type 0 where
@@ -49,21 +50,35 @@ DeliveriesSettle =
     (d : SessionData) (many : Bool) (i : ℕ) (o : OpData)
     → IsSound d → AreSettled d → i < length d.sites → IsWellFormed o → AreSettled (last_of d (given many i o d))
 
+-- the steps of a line as events with their releases: the session behind each of them is sound, and no operation is ready there
+pub record Settles (d : SessionData) (es : List (Step SessionData)) : Type 0 where
+  pub events : List Event
+  pub parts : es ≡ all_steps events d
+  pub settled : (r : SessionData) → Contains (rests events d) r → IsSound r × AreSettled r
+
+-- each line is a list of events, and after each event with its releases no operation is ready
+abbrev pub EventsSettle : Type 0
+EventsSettle =
+    (d : SessionData) (line : Line) (es : List (Step SessionData))
+    → IsSound d → AreSettled d → IsInRange line → line_steps line d ≡ Ok es → Settles d es
+
 -- after a whole line, no operation is ready
 abbrev pub LinesSettle : Type 0
 LinesSettle =
     (d : SessionData) (line : Line) (es : List (Step SessionData))
     → IsSound d → AreSettled d → IsInRange line → line_steps line d ≡ Ok es → AreSettled (last_of d es)
 
--- each session that a script comes by is sound and settled
+-- each session that a script comes by is sound and settled, and so is each session behind an event of its next line
 abbrev pub ScriptsSettle : Type 0
-ScriptsSettle = (bytes : List ℕ) (d : SessionData) → Contains (sessions_of bytes) d → IsSound d × AreSettled d
+ScriptsSettle =
+    (bytes : List ℕ) (d : SessionData) → Contains (sessions_of bytes) d
+    → IsSound d × AreSettled d × ((p : Piece) (es : List (Step SessionData)) → piece_steps p d ≡ Ok es → Settles d es)
 
--- whatever waits in a session that a script comes by, waits for a named member of its context
+-- in a sound session where no operation is ready, whatever waits waits for a named member of its context
 abbrev pub WaitingIsNamed : Type 0
 WaitingIsNamed =
-    (bytes : List ℕ) (d : SessionData) (s : State) (o : OpData)
-    → Contains (sessions_of bytes) d → Contains d.sites s → Contains s.waiting o → WaitsFor s.history o
+    (d : SessionData) (s : State) (o : OpData)
+    → IsSound d → AreSettled d → Contains d.sites s → Contains s.waiting o → WaitsFor s.history o
 
 -- two sites of sessions, the same or others, that have the same operations show the same text
 abbrev pub SitesConverge : Type 0

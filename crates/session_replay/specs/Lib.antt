@@ -1,6 +1,7 @@
 pub mod Steps
 pub mod Sessions
 pub mod Commands
+pub mod Events
 pub mod Scripts
 pub mod Endings
 pub mod Answers

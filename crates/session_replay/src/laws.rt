@@ -1,6 +1,6 @@
 //! The laws of sessions: each says what its definitions give, and does nothing.
 
-ghost use Rattle.session_replay.specs.Laws.{SessionsStaySound, LocalOperationsSettle, DeliveriesSettle, LinesSettle, ScriptsSettle, WaitingIsNamed, SitesConverge};
+ghost use Rattle.session_replay.specs.Laws.{SessionsStaySound, LocalOperationsSettle, DeliveriesSettle, EventsSettle, LinesSettle, ScriptsSettle, WaitingIsNamed, SitesConverge};
 
 /// Each step of a line leaves a sound session: histories are valid, and what waits and all messages are well
 /// formed.
@@ -18,17 +18,24 @@ pub fn deliveries_settle()
     ensures { DeliveriesSettle }
 {}
 
+/// Each line is a list of events, each with its releases, and behind each of them the session is sound and no
+/// operation of any site is ready.
+pub fn events_settle()
+    ensures { EventsSettle }
+{}
+
 /// After a whole line, no operation of any site is ready.
 pub fn lines_settle()
     ensures { LinesSettle }
 {}
 
-/// Each session that a script comes by is sound and settled.
+/// Each session that a script comes by is sound and settled, and so is each session behind an event of its next
+/// line.
 pub fn scripts_settle()
     ensures { ScriptsSettle }
 {}
 
-/// Whatever waits in a session that a script comes by, waits for a named member of its context.
+/// In a sound session where no operation is ready, whatever waits waits for a named member of its context.
 pub fn waiting_is_named()
     ensures { WaitingIsNamed }
 {}

@@ -12,7 +12,7 @@ mod script;
 mod session;
 
 pub use laws::{
-    deliveries_settle, lines_settle, local_operations_settle, scripts_settle,
+    deliveries_settle, events_settle, lines_settle, local_operations_settle, scripts_settle,
     sessions_stay_sound, sites_converge, waiting_is_named,
 };
 pub use script::{replay, replay_past};
