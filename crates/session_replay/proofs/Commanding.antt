@@ -1,5 +1,5 @@
 -- A local command in memory: what it made, or why it made nothing.
-use Rattle.std.proofs.Common.{◌≡◌, ◌≢◌, ℕ, zero, suc, ◌<◌, List, [], ◌∷◌, ◌++◌, refl, sym, ap, subst, ◌∙◌, length, map, set, append-nil, arith}
+use Rattle.std.proofs.Common.{◌≡◌, ◌≢◌, ℕ, ◌<◌, List, [], ◌∷◌, ◌++◌, refl, sym, ap, subst, ◌∙◌, length, map, set, append-nil, arith}
 use Rattle.std.specs.Prelude.{Result, Ok, Err, slice_index_or}
 use Rattle.std.proofs.lemmas.List.{length-map, get_or-set_same, set-get_or}
 use Rattle.context_diff.specs.Operations.{OpData}
@@ -14,9 +14,9 @@ use Rattle.cot_site.specs.declared.local.Local.TheVariants as local
 use Rattle.script_text.specs.Report.{op_text}
 use Rattle.script_text.specs.Verdicts.{local_text}
 use Rattle.session_replay.specs.declared.session.commands.Command.{Command}
-use Rattle.session_replay.specs.Steps.{Step, last_of, written_by, AreDone}
+use Rattle.session_replay.specs.Steps.{last_of, written_by, AreDone}
 use Rattle.session_replay.specs.Sessions.{SessionData, site_at, settling, made}
-use Rattle.session_replay.specs.Commands.{commanded, told}
+use Rattle.session_replay.specs.Commands.{commanded}
 use Rattle.session_replay.specs.Doing.{local_of}
 use Rattle.session_replay.proofs.Lifting.{session_of, state_at, made_done, made_formed}
 

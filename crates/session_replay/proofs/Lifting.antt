@@ -1,5 +1,5 @@
 -- Steps at one site as steps of the session.
-use Rattle.std.proofs.Common.{◌≡◌, ℕ, zero, suc, ◌<◌, List, [], ◌∷◌, ◌++◌, refl, sym, ap, subst, ◌∙◌, length, map, get_or, set, arith}
+use Rattle.std.proofs.Common.{◌≡◌, ℕ, zero, suc, ◌<◌, List, [], ◌∷◌, ◌++◌, refl, sym, ap, subst, ◌∙◌, length, map, set, arith}
 use Rattle.std.specs.Prelude.{Bool, Result, Ok, Err, Some, slice_get, slice_index_or}
 use Rattle.std.proofs.lemmas.List.{map-append, map-set, length-map, set-get_or}
 use Rattle.context_diff.specs.Operations.{OpData, IsWellFormed}
@@ -11,7 +11,7 @@ use Rattle.cot_site.specs.States.{State, with_last}
 use Rattle.cot_site.specs.Sites.{SiteData, state_of, AllFormed}
 use Rattle.cot_site.proofs.Waiting.{held_formed, formed_at}
 use Rattle.script_text.specs.Report.{op_text}
-use Rattle.session_replay.specs.Steps.{Step, last_of, written_by, IsReached, IsFront, AreDone}
+use Rattle.session_replay.specs.Steps.{Step, last_of, written_by, IsReached, AreDone}
 use Rattle.session_replay.specs.Sessions.{SessionData, site_at, new_site, at_site, taking_in, settling, given, made}
 use Rattle.session_replay.proofs.Steps.{reached_again}
 

@@ -1,6 +1,6 @@
 -- Lines that make the sites.
-use Rattle.std.proofs.Common.{◌≡◌, ℕ, ◌<◌, ◌≤◌, Bool, true, false, List, [], ◌∷◌, ◌++◌, refl, sym, ap, subst, ◌∙◌, length, append-nil, arith}
-use Rattle.std.specs.Prelude.{Option, Some, None, Result, Ok, Err, OnOk, OnErr, nat_lt, nat_le, if◌then◌else◌}
+use Rattle.std.proofs.Common.{◌≡◌, ℕ, ◌<◌, Bool, true, false, List, [], ◌++◌, refl, sym, ap, subst, ◌∙◌, length, append-nil, arith}
+use Rattle.std.specs.Prelude.{Some, Result, Ok, Err, OnOk, OnErr, nat_lt, nat_le, if◌then◌else◌}
 use Rattle.std.specs.Result.{is_err, is_ok}
 use Rattle.std.proofs.lemmas.Bool.{true≢false, lt-ltb}
 use Rattle.cot_site.specs.Commands.{local_insert}
@@ -8,7 +8,7 @@ use Rattle.script_text.specs.declared.lines.Line.{Line}
 use Rattle.script_text.specs.declared.lines.Line.TheVariants.{Blank, Sites, Nl, Show, State}
 use Rattle.session_replay.specs.declared.session.StepBad.{StepBad}
 use Rattle.session_replay.specs.declared.session.StepBad.TheVariants.{NoSite, Twice, Memory}
-use Rattle.session_replay.specs.Steps.{Step, last_of, written_by, IsReached, IsFront, AreDone}
+use Rattle.session_replay.specs.Steps.{Step, last_of, written_by, AreDone}
 use Rattle.session_replay.specs.Sessions.{SessionData, site_at, new_sites}
 use Rattle.session_replay.specs.Commands.{line_steps, first_line, started_line, at_known, commanded, show_text, have_text, told}
 use Rattle.session_replay.specs.Answers.{IsDone}

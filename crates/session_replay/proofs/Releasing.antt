@@ -1,10 +1,10 @@
 -- Releases one after the other: each takes one operation out of the waiting ones, so that all are done after so many.
-use Rattle.std.proofs.Common.{◌≡◌, ℕ, zero, suc, ◌+◌, ◌<◌, inl, inr, List, [], ◌∷◌, ◌++◌, refl, sym, ap, subst, ◌∙◌, length, append-nil, arith}
-use Rattle.std.specs.Prelude.{Result, Option, Some, None, slice_get, option_map, remove}
+use Rattle.std.proofs.Common.{◌≡◌, ℕ, zero, suc, ◌<◌, inl, inr, List, [], ◌∷◌, ◌++◌, refl, sym, ap, subst, ◌∙◌, length, append-nil, arith}
+use Rattle.std.specs.Prelude.{Result, Option, Some, None, option_map, remove}
 use Rattle.std.proofs.lemmas.List.Edits.{length-remove}
 use Rattle.std.proofs.lemmas.Option.{none-some}
 use Rattle.op_name.specs.declared.member.Member.{Member}
-use Rattle.context_diff.specs.Operations.{OpData, member_of, context_of, IsWellFormed}
+use Rattle.context_diff.specs.Operations.{OpData, member_of, IsWellFormed}
 use Rattle.context_diff.specs.Histories.{IsValid}
 use Rattle.context_diff.specs.declared.op.Op.{Op}
 use Rattle.context_diff.specs.Ops.{data_of}

@@ -21,9 +21,6 @@ pub none_reached : {S : Type 0} (s : S) (es : List (Step S)) → IsReached s es 
 unfolding last_of
 none_reached s es = record { done = []; left = es; parts = refl; state = refl }
 
-pub all_reached : {S : Type 0} (s : S) (es : List (Step S)) → IsReached s es (last_of s es)
-all_reached s es = record { done = es; left = []; parts = sym (append-nil es); state = refl }
-
 -- the first few of the first part are the first few of all
 pub reached_before : {S : Type 0} (s r : S) (es fs : List (Step S)) → IsReached s es r → IsReached s (es ++ fs) r
 reached_before s r es fs h = record {
@@ -74,11 +71,6 @@ done_nothing es s now old new same kept = (
   record { done = []; left = es; parts = refl; state = same },
   record { more = []; parts = kept ∙ sym (append-nil old) },
 )
-
--- no step is to be done
-pub done_none : {S : Type 0} (s now : S) (old new : List ℕ) → now ≡ s → new ≡ old → (now ≡ last_of s []) × (new ≡ old ++ written_by {S = S} [])
-unfolding last_of written_by
-done_none s now old new same kept = (same, kept ∙ sym (append-nil old))
 
 -- all of the first part was done, and then so much of the second
 pub done_then : {T E S : Type 0} (result : Result T E) (es fs : List (Step S)) (s mid now : S) (old half new : List ℕ)
@@ -144,14 +136,6 @@ along_short whole first old left now last new final a h = (
   subst (λ xs. IsReached first xs last) (sym a.parts) (reached_behind first last a.done left (reached_same now (last_of first a.done) last left a.state h.0)),
   front_on old new final (record { more = written_by a.done; parts = a.written }) h.1,
 )
-
--- and then so much of what was left
-pub along_done : {T E S : Type 0} (result : Result T E) (whole : List (Step S)) (first : S) (old : List ℕ) (left : List (Step S)) (now last : S) (new final : List ℕ)
-    → IsAlong whole first old left now new → AreDone result left now last new final → AreDone result whole first last old final
-along_done (Ok t) whole first old left now last new final a h =
-    let b = along_part whole first old left left [] now last new final a (sym (append-nil left)) h.0 h.1 in
-    along_end whole first old [] last final b refl
-along_done (Err e) whole first old left now last new final a h = along_short whole first old left now last new final a h
 
 pub reached_at : {S : Type 0} (s now : S) (es : List (Step S)) → now ≡ last_of s es → IsReached s es now
 reached_at s now es at = record { done = es; left = []; parts = sym (append-nil es); state = at }

@@ -1,5 +1,5 @@
 -- Steps: what happens one after the other, each with what is written for it and what it leaves behind.
-use Rattle.std.specs.Prelude.{◌≡◌, ℕ, List, [], ◌∷◌, ◌++◌, map, Result, Ok, Err}
+use Rattle.std.specs.Prelude.{◌≡◌, ℕ, List, [], ◌∷◌, ◌++◌, Result, Ok, Err}
 
 -- one thing that happened: what is written for it, and the state behind it
 pub record Step (S : Type 0) : Type 0 where

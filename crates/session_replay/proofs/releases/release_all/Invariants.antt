@@ -1,4 +1,4 @@
-use Rattle.std.proofs.Common.{ℕ, length}
+use Rattle.std.proofs.Common.{length}
 use Rattle.cot_site.specs.Sites.{state_of}
 use Rattle.session_replay.specs.Sessions.{all_releases}
 use Rattle.session_replay.proofs.Steps.{IsAlong}

@@ -1,11 +1,7 @@
-use Rattle.std.proofs.Common.{◌≡◌, ◌∙◌, ◌++◌, ap, sym, subst, refl}
-use Rattle.std.specs.Prelude.{Option, Some, None}
+use Rattle.std.proofs.Common.{◌∙◌, ◌++◌, ap, sym, subst, refl}
 use Rattle.std.proofs.lemmas.Result.{err_from_is_err_and}
 use Rattle.context_diff.specs.Ops.{data_of}
-use Rattle.context_diff.specs.Operations.{member_of}
-use Rattle.context_diff.specs.declared.op.Op.{Op}
 use Rattle.context_diff.proofs.Members.{formed_member}
-use Rattle.cot_site.specs.declared.verdict.Verdict.{Verdict}
 use Rattle.cot_site.specs.States.{released}
 use Rattle.cot_site.specs.Sites.{state_of, IsRelease}
 use Rattle.script_text.specs.declared.event.Event.TheVariants.{Free}

@@ -1,8 +1,7 @@
-use Rattle.std.proofs.Common.{◌≡◌, ◌∙◌, ◌∷◌, ◌++◌, [], ap, sym, map}
+use Rattle.std.proofs.Common.{◌∙◌, ◌∷◌, ◌++◌, [], ap, sym, map}
 use Rattle.std.proofs.lemmas.List.{map-append}
 use Rattle.std.proofs.lemmas.Bool.{cond-true}
 use Rattle.cot_site.specs.Sites.{state_of}
-use Rattle.cot_site.specs.States.{State}
 use Rattle.session_replay.specs.Sessions.{new_sites}
 use Rattle.session_replay.proofs.Lines.{went_well}
 use Rattle.session_replay.proofs.Loops.{sites_more, sites_none}

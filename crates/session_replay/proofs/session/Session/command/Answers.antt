@@ -1,14 +1,8 @@
-use Rattle.std.proofs.Common.{◌≡◌, ◌∙◌, ◌<◌, true, false, List, [], ◌∷◌, ◌++◌, ap, sym, subst, refl, map, length, arith}
-use Rattle.std.specs.Prelude.{Ok, Err, Result}
+use Rattle.std.proofs.Common.{◌∙◌, List, [], ◌∷◌, ◌++◌, ap, sym, subst, refl, map, length, arith}
 use Rattle.std.proofs.lemmas.Result.{err_from_is_err_and}
-use Rattle.context_diff.specs.Operations.{OpData}
 use Rattle.context_diff.specs.Ops.{data_of}
 use Rattle.context_diff.specs.declared.op.Op.{Op}
 use Rattle.cot_site.specs.Sites.{AllFormed}
-use Rattle.session_replay.specs.Steps.{AreDone}
-use Rattle.session_replay.specs.Sessions.{site_at, SessionData}
-use Rattle.session_replay.specs.Commands.{commanded}
-use Rattle.session_replay.specs.Doing.{local_of}
 use Rattle.session_replay.proofs.Steps.{stopped, done_nothing, ended_well, ended_short, all_done}
 use Rattle.session_replay.proofs.Lifting.{same_messages}
 use Rattle.session_replay.proofs.Commanding.{command_made, command_formed, refused_same, command_refused, command_told}

@@ -1,4 +1,4 @@
-use Rattle.std.proofs.Common.{◌≡◌, ℕ, length}
+use Rattle.std.proofs.Common.{◌≡◌, length}
 use Rattle.session_replay.specs.Commands.{framed}
 use Rattle.session_replay.proofs.Steps.{IsAlong}
 use Rattle.session_replay.proofs.session.Session.give_frames.Given as goal

@@ -1,9 +1,8 @@
-use Rattle.std.proofs.Common.{◌≡◌, ◌∙◌, true, false, ap, sym, map, length, List}
+use Rattle.std.proofs.Common.{◌∙◌, ap, sym, map, List}
 use Rattle.std.proofs.lemmas.Bool.{le-leb}
 use Rattle.context_diff.specs.declared.op.Op.{Op}
-use Rattle.std.specs.Prelude.{nat_lt, nat_le}
 use Rattle.context_diff.specs.Ops.{data_of}
-use Rattle.session_replay.specs.Sessions.{SessionData, new_sites}
+use Rattle.session_replay.specs.Sessions.{new_sites}
 use Rattle.session_replay.proofs.Lines.{sites_steps, sites_made, sites_short}
 use Rattle.session_replay.proofs.session.Session.start.Goals as goal
 

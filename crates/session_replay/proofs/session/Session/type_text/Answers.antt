@@ -1,4 +1,4 @@
-use Rattle.std.proofs.Common.{◌≡◌, ◌∙◌, ◌≤◌, ap, sym, subst, refl, arith}
+use Rattle.std.proofs.Common.{◌∙◌, ◌≤◌, sym, subst, refl, arith}
 use Rattle.std.proofs.lemmas.Result.{err_from_is_err_and}
 use Rattle.context_diff.specs.Histories.{IsValid}
 use Rattle.cot_site.specs.States.{State}
