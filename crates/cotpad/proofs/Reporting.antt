@@ -46,6 +46,6 @@ pub of_status : (held now left : Option (List ℕ)) (status : Status) (piece new
     → IfSome left (λ all. (status ≡ status_of (script_report all).refused) × Appends held now (script_report all).written)
 of_status held now None status piece new refused is same told appended = tt
 of_status held now (Some all) status piece new refused is same told appended = (
-    sym is ∙ ap (λ (r : Report). status_of r.refused) (sym told),
-    subst (λ xs. Appends held now xs) (same ∙ ap (λ (r : Report). r.written) (sym told)) appended,
+  sym is ∙ ap (λ (r : Report). status_of r.refused) (sym told),
+  subst (λ xs. Appends held now xs) (same ∙ ap (λ (r : Report). r.written) (sym told)) appended,
 )

@@ -42,12 +42,7 @@ fn texts_converge(rt: HostRuntime) -> Result<(), Fail> {
         &rt,
         rt.alloc(),
         &[
-            (
-                "an empty text",
-                "sites 1; show 0",
-                false,
-                "text 0 0\n\n",
-            ),
+            ("an empty text", "sites 1; show 0", false, "text 0 0\n\n"),
             (
                 "characters of one, two and four bytes",
                 "sites 1; ins 0 0 a\u{e9}\u{1f600}; show 0",
@@ -222,9 +217,39 @@ fn refused_lines_end_a_script(rt: HostRuntime) -> Result<(), Fail> {
         &[
             ("no sites yet", "show 0", true, "refused 1 nosites\n"),
             ("too many sites", "sites 65", true, "refused 1 form\n"),
-            ("a site that isn't there", "sites 1; show 1", true, "refused 2 nosite\n"),
-            ("a message that isn't there", "sites 1; give 0 0", true, "refused 2 nomessage\n"),
+            (
+                "a site that isn't there",
+                "sites 1; show 1",
+                true,
+                "refused 2 nosite\n",
+            ),
+            (
+                "a message that isn't there",
+                "sites 1; give 0 0",
+                true,
+                "refused 2 nomessage\n",
+            ),
             ("sites twice", "sites 1; sites 1", true, "refused 2 twice\n"),
         ],
     )
+}
+
+#[test]
+fn three_messages_in_each_order_show_one_text(rt: HostRuntime) -> Result<(), Fail> {
+    let made = "sites 4; ins 0 0 abc; sync; del 0 1; ins 1 2 x; ins 2 1 y; ";
+    let orders = [
+        "give 3 3; give 3 4; give 3 5; show 3",
+        "give 3 3; give 3 5; give 3 4; show 3",
+        "give 3 4; give 3 3; give 3 5; show 3",
+        "give 3 4; give 3 5; give 3 3; show 3",
+        "give 3 5; give 3 3; give 3 4; show 3",
+        "give 3 5; give 3 4; give 3 3; show 3",
+    ];
+    for order in orders {
+        let mut script = String::from_str(rt.alloc(), made)?;
+        script.push_str(order)?;
+        let report = report_of(rt.alloc(), script.as_str())?;
+        assert!(rt; report.0.ends_with(b"text 4 4\nayxc\n"), "{order}");
+    }
+    Ok(())
 }

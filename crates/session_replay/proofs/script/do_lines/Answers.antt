@@ -9,7 +9,7 @@ pub returns-then-branch-clause-refused : goal.returns-then-branch-clause-refused
 returns-then-branch-clause-refused c = λ last tail.
     let now = report_from c.do_line.new.progress.number (ended last (lines_of (c.in-Some.behind.now ++ tail))) c.do_line.new.progress.session in
     let before = line_before c.loop-line.out.items c.do_line.new.out.items c.loop-line.progress.number c.do_line.new.progress.number c.loop-line.progress.session c.do_line.new.progress.session
-        c.in_ok-do_line.field-0 c.in-Some.line.now c.loop-line.rest.now c.in-Some.behind.now tail last (c.in-Some.ensures.found tail) c.in_ok-do_line.ensures.report in
+    c.in_ok-do_line.field-0 c.in-Some.line.now c.loop-line.rest.now c.in-Some.behind.now tail last (c.in-Some.ensures.found tail) c.in_ok-do_line.ensures.report in
     c.loop-line.invariant.goes_on last tail ∙ before ∙ ap (λ (b : Bool). followed b c.do_line.new.out.items now) c.if-branch.true
 
 pub loop-line-preserved : goal.loop-line-preserved
@@ -18,7 +18,7 @@ loop-line-preserved c = record {
   goes_on = λ last tail.
       let now = report_from c.do_line.new.progress.number (ended last (lines_of (c.in-Some.behind.now ++ tail))) c.do_line.new.progress.session in
       let before = line_before c.loop-line.out.items c.do_line.new.out.items c.loop-line.progress.number c.do_line.new.progress.number c.loop-line.progress.session c.do_line.new.progress.session
-          c.in_ok-do_line.field-0 c.in-Some.line.now c.loop-line.rest.now c.in-Some.behind.now tail last (c.in-Some.ensures.found tail) c.in_ok-do_line.ensures.report in
+      c.in_ok-do_line.field-0 c.in-Some.line.now c.loop-line.rest.now c.in-Some.behind.now tail last (c.in-Some.ensures.found tail) c.in_ok-do_line.ensures.report in
       c.loop-line.invariant.goes_on last tail ∙ before ∙ ap (λ (b : Bool). followed b c.do_line.new.out.items now) c.if-branch.false;
   front = front_on _ _ _ c.loop-line.invariant.front c.do_line.ensures.front;
 }

@@ -10,8 +10,8 @@ returns-in-Some-clause-report c =
     let first = c.new-progress.result in
     let now = c.do_lines.new.progress in
     let on : (last : List ℕ → Piece) → (tail : List ℕ) →
-        behind c.args.out.now.items (report_from first.number (ended last (lines_of (c.args.bytes.now ++ tail))) first.session)
-        ≡ behind c.do_lines.new.out.items (report_from now.number (ended last (lines_of (c.in-Some.field-0.now ++ tail))) now.session) = rw c.in-Some.is at c.in_ok-do_lines.ensures.goes_on in
+    behind c.args.out.now.items (report_from first.number (ended last (lines_of (c.args.bytes.now ++ tail))) first.session)
+    ≡ behind c.do_lines.new.out.items (report_from now.number (ended last (lines_of (c.in-Some.field-0.now ++ tail))) now.session) = rw c.in-Some.is at c.in_ok-do_lines.ensures.goes_on in
     let one : lines_of c.in-Some.field-0.now ≡ c.in-Some.field-0.now ∷ [] = rw c.in-Some.is at c.in_ok-do_lines.ensures.last in
     let all = from_start c.args.out.now.items c.do_lines.new.out.items first.number now.number first.session now.session last c.args.bytes.now c.in-Some.field-0.now c.new-progress.ensures.session c.new-progress.ensures.number (on last) one in
     limit_along c.refused_line.result _ _ _ _ _ all c.refused_line.ensures.ok
@@ -21,6 +21,6 @@ returns-clause-report c =
     let last : List ℕ → Piece = λ line. Past in
     let first = c.new-progress.result in
     let stop : (last : List ℕ → Piece) → (tail : List ℕ) →
-        behind c.args.out.now.items (report_from first.number (ended last (lines_of (c.args.bytes.now ++ tail))) first.session)
-        ≡ record { written = c.do_lines.new.out.items; refused = true } = rw c.in-None.is at c.in_ok-do_lines.ensures.refused in
+    behind c.args.out.now.items (report_from first.number (ended last (lines_of (c.args.bytes.now ++ tail))) first.session)
+    ≡ record { written = c.do_lines.new.out.items; refused = true } = rw c.in-None.is at c.in_ok-do_lines.ensures.refused in
     from_start_refused c.args.out.now.items c.do_lines.new.out.items first.number first.session last c.args.bytes.now c.new-progress.ensures.session c.new-progress.ensures.number (stop last)
