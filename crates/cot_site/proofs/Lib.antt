@@ -10,3 +10,4 @@ pub mod Findings
 pub mod Waiting
 pub mod Made
 pub mod WorkedCases
+pub mod Cached

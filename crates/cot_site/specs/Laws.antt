@@ -1,5 +1,5 @@
 -- The laws of verdicts, releases and local commands.
-use Rattle.std.specs.Prelude.{◌≡◌, ◌↔◌, ℕ, ◌<◌, false, List, Contains, Result, Ok, Option, Some}
+use Rattle.std.specs.Prelude.{◌≡◌, ◌↔◌, ℕ, ◌<◌, false, List, Contains, Ok, Some}
 use Rattle.op_name.specs.declared.member.Member.{Member}
 use Rattle.op_name.specs.declared.member.Member.TheVariants.{Original}
 use Rattle.op_name.specs.NameData.{NameData}
@@ -8,7 +8,7 @@ use Rattle.context_diff.specs.Histories.{IsNext, IsValid}
 use Rattle.cot_site.specs.declared.verdict.Verdict.{Verdict}
 use Rattle.cot_site.specs.declared.verdict.Verdict.TheVariants.{Waits, Integrated}
 use Rattle.cot_site.specs.Verdicts.{verdict_of, IsVerdict, HasOther}
-use Rattle.cot_site.specs.States.{State, Released, judged, released, is_ready, IsSettled}
+use Rattle.cot_site.specs.States.{State, Released, released, is_ready, IsSettled}
 use Rattle.cot_site.specs.Commands.{local_insert, local_delete, local_undo, local_redo}
 use Rattle.std.specs.Char.{IsScalar}
 

@@ -1,4 +1,4 @@
--- A site as contracts see it: its state, and the forms in which its history was executed.
+-- A site as contracts see it: its state, the forms in which its history was executed, and the entries of its cache.
 use Rattle.std.specs.Prelude.{◌≡◌, ℕ, Bool, List, [], ◌∷◌, ◌++◌, Contains, Option, Some, None, length, take}
 use Rattle.op_name.specs.declared.member.Member.{Member}
 use Rattle.context_diff.specs.Operations.{OpData, IsWellFormed}
@@ -6,8 +6,11 @@ use Rattle.context_diff.specs.Histories.{members_in}
 use Rattle.ttf_form.specs.declared.form.Form.{Form}
 use Rattle.ttf_form.specs.Forms.{form_over}
 use Rattle.ttf_form.specs.Cells.{CellData, applied}
+use Rattle.context_vector.specs.Contexts.{has}
+use Rattle.form_cache.specs.Keys.{KeyData}
 use Rattle.transform_rec.specs.Sets.{none}
-use Rattle.transform_rec.specs.Derived.{Derived}
+use Rattle.transform_rec.specs.Derived.{Derived, IsOnlyFormAt}
+use Rattle.transform_rec.specs.Entries.{AreForms}
 use Rattle.transform_rec.specs.Executing.{AreFormsFrom, executed}
 use Rattle.transform_rec.specs.Histories.{family_in}
 use Rattle.undo_group.specs.BaseForms.{base_form}
@@ -33,20 +36,38 @@ pub record IsStep (h : List OpData) (m : Member) (to : Member → Bool) (old new
   pub appended : new ≡ old ++ form ∷ []
   pub cells : after ≡ applied before form
 
--- an executed history
+-- over this history, f is the only derived form of the key's member at the key's context
+abbrev pub IsFormOf : List OpData → KeyData → Form → Type 0
+IsFormOf h k f = IsOnlyFormAt form_over (family_in h (base_form h)) k.member (has k.context) f
+
+-- over this history, each entry is the form of its key
+abbrev pub AreCached : List OpData → List (KeyData × Form) → Type 0
+AreCached h es = AreForms form_over (family_in h (base_form h)) es
+
+-- an executed history, with the entries of a cache
 pub record ReplicaData : Type 0 where
   pub history : List OpData
   pub forms : List Form
+  pub entries : List (KeyData × Form)
 
--- a state, with the form of each operation of its history
+-- a state, with the form of each operation of its history, and the entries of the cache, which are no part of the state
 pub record SiteData : Type 0 where
   pub number : ℕ
   pub history : List OpData
   pub waiting : List OpData
   pub forms : List Form
+  pub entries : List (KeyData × Form)
 
 abbrev pub state_of : SiteData → State
 state_of s = record { number = s.number; history = s.history; waiting = s.waiting }
+
+-- the history and its forms are as before; the cache may have lost entries
+abbrev pub IsExecutedAsBefore : ReplicaData → ReplicaData → Type 0
+IsExecutedAsBefore old new = (new.history ≡ old.history) × (new.forms ≡ old.forms)
+
+-- the state and the executed forms are as before; the cache may have lost entries
+abbrev pub IsAsBefore : SiteData → SiteData → Type 0
+IsAsBefore old new = (state_of new ≡ state_of old) × (new.forms ≡ old.forms)
 
 -- the old forms are the first of the new ones
 abbrev pub KeepsForms : List Form → List Form → Type 0

@@ -1,6 +1,6 @@
 -- Verdicts on delivered operations: the first case that holds (COT 2009: an operation is causally ready once its context is
 -- integrated).
-use Rattle.std.specs.Prelude.{◌≡◌, ◌⊎◌, ℕ, ◌≤◌, Bool, true, false, List, [], ◌∷◌, Option, Some, None, Contains, ◌&&◌, ◌||◌, not, nat_le, nat_lt, if◌then◌else◌, option_map}
+use Rattle.std.specs.Prelude.{◌≡◌, ◌⊎◌, ℕ, ◌≤◌, Bool, true, List, [], ◌∷◌, Option, Some, None, Contains, ◌&&◌, ◌||◌, not, nat_le, nat_lt, if◌then◌else◌, option_map}
 use Rattle.std.specs.List.{list_any}
 use Rattle.std.specs.Option.{option_or, is_none}
 use Rattle.op_name.specs.declared.member.Member.{Member}

@@ -1,68 +1,76 @@
 //! The integrated operations of a site, with what they made of the text.
 
-ghost use Rattle.std.specs.Prelude.{◌≡◌, ◌<◌, ◌++◌, ◌∷◌, [], OnOk, OnErr, IfOk, length, option_map, slice_get, vec_len, vec_capacity};
+ghost use Rattle.std.specs.Prelude.{◌≡◌, ◌<◌, ◌++◌, ◌∷◌, [], OnOk, OnErr, IfOk, IfSome, length, option_map, slice_get, vec_len, vec_capacity};
 ghost use Rattle.context_vector.specs.Contexts.{has};
 ghost use Rattle.context_diff.specs.Histories.{context_of_all, IsNext, IsValid};
 ghost use Rattle.context_diff.specs.Replays.{shown, text_of};
 ghost use Rattle.context_diff.specs.Ops.{data_of};
 ghost use Rattle.ttf_form.specs.Forms.{form_over};
 ghost use Rattle.tombstone_text.specs.Rooms.{HasRoomFor};
+ghost use Rattle.form_cache.specs.Entries.{form_at, used};
 ghost use Rattle.ttf_form.specs.Cells.{FitsCells};
 ghost use Rattle.ttf_form.specs.declared.form.Form.{Form};
 ghost use Rattle.transform_rec.specs.Derived.{Derived};
 ghost use Rattle.transform_rec.specs.Histories.{family_in, MayBeAddedTo};
 ghost use Rattle.undo_group.specs.BaseForms.{base_form};
 ghost use Rattle.cot_site.specs.Commands.{place_of_shown, place_behind};
-ghost use Rattle.cot_site.specs.Sites.{AreExecuted, KeepsForms, IsStep};
+ghost use Rattle.cot_site.specs.Sites.{AreExecuted, AreCached, IsFormOf, IsExecutedAsBefore, KeepsForms, IsStep};
 
 use context_diff::{Book, Op};
 use context_vector::Vector;
+use form_cache::{Cache, Key};
 use op_name::{Member, Memory};
 use std::alloc::Global;
 use std::marker::Model;
 use tombstone_text::Cells;
-use transform_rec::transform;
+use transform_rec::transform_with;
 use ttf_form::{Cover, Form};
 use undo_group::TextBases;
 use visible_view::{cell_of_visible, model_place, visible_len, write_text};
 
-/// A valid history, the form in which each of its operations was executed, and the cells that these forms
-/// gave.
+/// The greatest number of forms in the cache.
+const CACHED_FORMS: u32 = 16_384;
+
+/// A valid history, the form in which each of its operations was executed, the cells that these forms gave,
+/// and forms that were computed on the way.
 #[derive(Drop)]
 pub struct Replica {
     book: Book,
     forms: Vec<Form>,
     cells: Cells,
+    cache: Cache<Form>,
 }
 
 impl Model for Replica {
-    ghost use Rattle.cot_site.specs.Sites.{ReplicaData, IsExecuted};
+    ghost use Rattle.cot_site.specs.Sites.{ReplicaData, IsExecuted, AreCached};
 
     ghost Value = { ReplicaData };
 
-    ghost view = { λ r. record { history = r.book.ops; forms = r.forms.items } };
+    ghost view = { λ r. record { history = r.book.ops; forms = r.forms.items; entries = r.cache.entries } };
 
-    ghost invariant = { λ r. IsExecuted r.book.ops r.forms.items r.cells.cells };
+    ghost invariant = { λ r. IsExecuted r.book.ops r.forms.items r.cells.cells × AreCached r.book.ops r.cache.entries };
 }
 
 impl Replica {
-    /// Nothing is integrated.
-    pub fn new(alloc: Global) -> Replica
-        ensures history { result.history ≡ [] }
-        ensures forms { result.forms ≡ [] }
+    /// Nothing is integrated, and no form is in the cache.
+    pub fn new(alloc: Global) -> Result<Replica, Memory>
+        ensures { IfOk result (λ r. r ≡ record { history = []; forms = []; entries = [] }) }
     {
-        Replica {
+        let cache = Cache::new(alloc, CACHED_FORMS)?;
+        Ok(Replica {
             book: Book::new(alloc),
             forms: Vec::new(alloc),
             cells: Cells::new(alloc),
-        }
+            cache,
+        })
     }
 
-    /// Nothing but what the type keeps: the history is valid, and each form is a form of its operation at the
-    /// members before it.
+    /// Nothing but what the type keeps: the history is valid, each form is a form of its operation at the
+    /// members before it, and each entry of the cache is the form of its key.
     pub fn known(&self)
         ensures valid { IsValid self.now.history }
         ensures forms { AreExecuted self.now.history self.now.forms }
+        ensures entries { AreCached self.now.history self.now.entries }
     {
         self.book.known();
     }
@@ -87,6 +95,17 @@ impl Replica {
         ensures { option_map (λ f. f.now) result ≡ slice_get self.now.forms i }
     {
         self.forms.get(i as usize)
+    }
+
+    /// The form in the cache of the key's member at the key's context; None exactly where the cache has no
+    /// entry of the key. It takes no memory.
+    pub fn cached(&mut self, key: &Key) -> Option<Form>
+        ensures form { result ≡ form_at self.old.entries key.now }
+        ensures derived { IfSome result (IsFormOf self.old.history key.now) }
+        ensures entries { self.new.entries ≡ used self.old.entries key.now }
+        ensures before { IsExecutedAsBefore self.old self.new }
+    {
+        self.cache.get(key)
     }
 
     /// The number of shown characters.
@@ -123,12 +142,12 @@ impl Replica {
     }
 
     /// Appends the operation, which is next, and executes its form at the members that were integrated before
-    /// it. After want of memory nothing is changed.
+    /// it. After want of memory the history, the forms and the cells are as before.
     pub fn integrate(&mut self, op: Op) -> Result<(), Memory>
         requires { IsNext self.old.history (data_of op) }
         ensures history { OnOk result (self.new.history ≡ self.old.history ++ data_of op ∷ []) }
         ensures forms { OnOk result (KeepsForms self.old.forms self.new.forms) }
-        ensures err { OnErr result (self.new ≡ self.old) }
+        ensures err { OnErr result (IsExecutedAsBefore self.old self.new) }
     {
         self.book.known();
         let before = self.book.have().try_clone()?;
@@ -136,10 +155,9 @@ impl Replica {
         self.forms.reserve(1)?;
         self.book.reserve(&op)?;
         self.book.push(op);
-        let alloc = *self.forms.allocator();
         match execute(
-            alloc,
             &self.book,
+            &mut self.cache,
             &mut self.forms,
             &mut self.cells,
             &member,
@@ -147,6 +165,8 @@ impl Replica {
         ) {
             Ok(()) => Ok(()),
             Err(want) => {
+                // An entry of the cache may be at a context with the operation.
+                self.cache.clear();
                 self.book.pop();
                 Err(want)
             }
@@ -155,10 +175,10 @@ impl Replica {
 }
 
 // Executes the form of a member of the book at `to`, and appends it to the forms, which have a spare place. After
-// want of memory the forms and the cells are as they were.
+// want of memory the forms and the cells are as they were. Each entry of the cache stays the form of its key.
 fn execute(
-    alloc: Global,
     book: &Book,
+    cache: &mut Cache<Form>,
     forms: &mut Vec<Form>,
     cells: &mut Cells,
     member: &Member,
@@ -166,12 +186,15 @@ fn execute(
 ) -> Result<(), Memory>
     requires room { vec_len forms.old < vec_capacity forms.old }
     requires added { MayBeAddedTo book.now.ops to.now.set member.now }
+    requires cached { AreCached book.now.ops cache.old.entries }
     requires fits { (f : Form) → Derived form_over (family_in book.now.ops (base_form book.now.ops)) member.now (has to.now.set) f → FitsCells cells.old.cells f }
     ensures step { OnOk result (IsStep book.now.ops member.now (has to.now.set) forms.old.items forms.new.items cells.old.cells cells.new.cells) }
     ensures forms { OnErr result (forms.new.items ≡ forms.old.items) }
     ensures cells { OnErr result (cells.new.cells ≡ cells.old.cells) }
+    ensures cached { AreCached book.now.ops cache.new.entries }
 {
-    match form_with_room(alloc, book, cells, member, to) {
+    let alloc = *forms.allocator();
+    match form_with_room(alloc, book, cache, cells, member, to) {
         Ok(form) => {
             cells.apply(&form);
             append(forms, &form);
@@ -199,16 +222,19 @@ fn append(forms: &mut Vec<Form>, form: &Form)
 fn form_with_room(
     alloc: Global,
     book: &Book,
+    cache: &mut Cache<Form>,
     cells: &mut Cells,
     member: &Member,
     to: &Vector,
 ) -> Result<Form, Memory>
-    requires { MayBeAddedTo book.now.ops to.now.set member.now }
+    requires added { MayBeAddedTo book.now.ops to.now.set member.now }
+    requires cached { AreCached book.now.ops cache.old.entries }
     ensures form { IfOk result (Derived form_over (family_in book.now.ops (base_form book.now.ops)) member.now (has to.now.set)) }
     ensures room { IfOk result (HasRoomFor cells.new) }
     ensures cells { cells.new.cells ≡ cells.old.cells }
+    ensures cached { AreCached book.now.ops cache.new.entries }
 {
-    let form = transform(alloc, book, &TextBases::new(book), member, to)?;
+    let form = transform_with(alloc, book, &TextBases::new(book), cache, member, to)?;
     cells.reserve(&form)?;
     Ok(form)
 }

@@ -1,12 +1,13 @@
 //! The site: its parts, what contracts see of it, and the calls that only read.
 
-ghost use Rattle.std.specs.Prelude.{◌≡◌, ◌<◌, ◌++◌, [], OnOk, OnErr, IfOk, length, option_map, slice_get};
+ghost use Rattle.std.specs.Prelude.{◌≡◌, ◌<◌, ◌++◌, [], OnOk, OnErr, IfOk, IfSome, length, option_map, slice_get};
 ghost use Rattle.context_diff.specs.Operations.{IsWellFormed};
 ghost use Rattle.context_diff.specs.Histories.{context_of_all, IsValid};
 ghost use Rattle.context_diff.specs.Replays.{shown, text_of};
 ghost use Rattle.context_diff.specs.Ops.{data_of};
 ghost use Rattle.cot_site.specs.Verdicts.{verdict_of};
-ghost use Rattle.cot_site.specs.Sites.{AreExecuted, AllFormed};
+ghost use Rattle.form_cache.specs.Entries.{form_at, used};
+ghost use Rattle.cot_site.specs.Sites.{AreExecuted, AreCached, AllFormed, IsFormOf, IsAsBefore};
 
 use crate::judging::verdict_on;
 use crate::replica::Replica;
@@ -14,6 +15,7 @@ use crate::verdict::Verdict;
 use causal_gate::Pool;
 use context_diff::{Book, Op};
 use context_vector::Vector;
+use form_cache::Key;
 use op_name::Memory;
 use std::alloc::Global;
 use std::marker::Model;
@@ -25,7 +27,8 @@ mod edits;
 /// One participant's copy of a group text: its number, below `SITES`, the valid history of the operations that
 /// it has integrated, and the operations that wait for members of their contexts, in the order of arrival.
 ///
-/// Its text is the one of its history, whatever order the operations came in.
+/// Its text is the one of its history, whatever order the operations came in. It keeps forms that it computed in a
+/// cache, which changes no answer and no text.
 #[derive(Drop)]
 pub struct Site {
     number: u16,
@@ -39,31 +42,34 @@ impl Model for Site {
 
     ghost Value = { SiteData };
 
-    ghost view = { λ s. record { number = s.number; history = s.replica.history; waiting = s.pool; forms = s.replica.forms } };
+    ghost view = { λ s. record { number = s.number; history = s.replica.history; waiting = s.pool; forms = s.replica.forms; entries = s.replica.entries } };
 
     ghost invariant = { λ s. (s.number < 64) × AllFormed s.pool };
 }
 
 impl Site {
-    /// The site of this number, with nothing integrated and nothing waiting.
+    /// The site of this number, with nothing integrated, nothing waiting and no form in its cache.
     pub fn new(alloc: Global, site: u16) -> Result<Site, Memory>
         requires { site < 64 }
-        ensures { IfOk result (λ s. s ≡ record { number = site; history = []; waiting = []; forms = [] }) }
+        ensures { IfOk result (λ s. s ≡ record { number = site; history = []; waiting = []; forms = []; entries = [] }) }
     {
+        let replica = Replica::new(alloc)?;
         Ok(Site {
             number: site,
-            replica: Replica::new(alloc),
+            replica,
             pool: Pool::new(alloc),
         })
     }
 
-    /// Nothing but what the type keeps: the history is valid, all that waits is well formed, and each form is
-    /// a form of its operation at the members that were integrated before it.
+    /// Nothing but what the type keeps: the history is valid, all that waits is well formed, each form is a
+    /// form of its operation at the members that were integrated before it, and each entry of the cache is the
+    /// form of its key.
     pub fn known(&self)
         ensures number { self.now.number < 64 }
         ensures history { IsValid self.now.history }
         ensures waiting { AllFormed self.now.waiting }
         ensures forms { AreExecuted self.now.history self.now.forms }
+        ensures entries { AreCached self.now.history self.now.entries }
     {
         self.replica.known();
     }
@@ -101,6 +107,18 @@ impl Site {
         ensures { option_map (λ f. f.now) result ≡ slice_get self.now.forms i }
     {
         self.replica.executed(i)
+    }
+
+    /// The form that the site's cache has of the key's member at the key's context: the only one that inclusion
+    /// derives. None exactly where the cache has no entry of the key. It takes no memory, and changes nothing
+    /// but the order of the entries: the one of the key goes first.
+    pub fn cached(&mut self, key: &Key) -> Option<Form>
+        ensures form { result ≡ form_at self.old.entries key.now }
+        ensures derived { IfSome result (IsFormOf self.old.history key.now) }
+        ensures entries { self.new.entries ≡ used self.old.entries key.now }
+        ensures before { IsAsBefore self.old self.new }
+    {
+        self.replica.cached(key)
     }
 
     /// The number of shown characters.

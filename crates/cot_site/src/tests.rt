@@ -1,6 +1,9 @@
 //! Sessions of a few sites: what they answer and show.
 
 mod calls;
+mod forms;
+mod laws;
+mod odd;
 mod orders;
 mod sessions;
 mod steps;

@@ -7,7 +7,7 @@ ghost use Rattle.context_diff.specs.Ops.{data_of};
 ghost use Rattle.causal_gate.specs.Waiting.{NamesAgree};
 ghost use Rattle.cot_site.specs.declared.verdict.Verdict.TheVariants.{Integrated};
 ghost use Rattle.cot_site.specs.States.{delivered, judged, released, with_last, with_held, is_ready, first_ready, after_release, after_verdict, without_waiting, IsSettled};
-ghost use Rattle.cot_site.specs.Sites.{KeepsForms, state_of, IsRelease};
+ghost use Rattle.cot_site.specs.Sites.{KeepsForms, IsAsBefore, state_of, IsRelease};
 
 use crate::site::Site;
 use crate::verdict::Verdict;
@@ -17,13 +17,14 @@ use op_name::Memory;
 impl Site {
     /// Delivers an operation, which is well formed: answers its verdict, and does what the verdict says. An
     /// integrated operation is the last of the history, and its form is executed; one that waits is held,
-    /// unless an equal one waits already; any other changes nothing. After want of memory nothing is changed.
+    /// unless an equal one waits already; any other changes nothing. After want of memory the state and the
+    /// forms are as before; the cache may have lost entries.
     pub fn deliver(&mut self, op: &Op) -> Result<Verdict, Memory>
         requires { IsWellFormed (data_of op.now) }
         ensures verdict { IfOk result (λ v. v ≡ judged (state_of self.old) (data_of op.now)) }
         ensures effect { OnOk result (state_of self.new ≡ delivered (state_of self.old) (data_of op.now)) }
         ensures forms { OnOk result (KeepsForms self.old.forms self.new.forms) }
-        ensures err { OnErr result (self.new ≡ self.old) }
+        ensures err { OnErr result (IsAsBefore self.old self.new) }
     {
         self.known();
         let verdict = self.check(op);
@@ -49,7 +50,7 @@ impl Site {
         requires { IsNext self.old.history (data_of op) }
         ensures state { OnOk result (state_of self.new ≡ with_last (state_of self.old) (data_of op)) }
         ensures forms { OnOk result (KeepsForms self.old.forms self.new.forms) }
-        ensures err { OnErr result (self.new ≡ self.old) }
+        ensures err { OnErr result (IsAsBefore self.old self.new) }
     {
         self.replica.integrate(op)
     }
@@ -61,7 +62,7 @@ impl Site {
         requires names { NamesAgree self.old.waiting (data_of op.now) }
         ensures state { OnOk result (state_of self.new ≡ with_held (state_of self.old) (data_of op.now)) }
         ensures forms { OnOk result (self.new.forms ≡ self.old.forms) }
-        ensures err { OnErr result (self.new ≡ self.old) }
+        ensures err { OnErr result (IsAsBefore self.old self.new) }
     {
         self.pool.hold(op)?;
         Ok(())
@@ -69,13 +70,13 @@ impl Site {
 
     /// Takes out the first waiting operation that is ready, and gives it its verdict over the history and the
     /// others, with its effect. `Ok(None)` exactly where none is ready: then the site is settled. After want of
-    /// memory nothing is changed.
+    /// memory the state and the forms are as before; the cache may have lost entries.
     pub fn release_next(&mut self) -> Result<Option<(Op, Verdict)>, Memory>
         ensures answer { IfOk result (IsRelease (released (state_of self.old))) }
         ensures effect { IfOk result (λ r. state_of self.new ≡ after_release (state_of self.old) (released (state_of self.old))) }
         ensures settled { IfOk result (λ r. IsNone r ↔ IsSettled (state_of self.old)) }
         ensures forms { OnOk result (KeepsForms self.old.forms self.new.forms) }
-        ensures err { OnErr result (self.new ≡ self.old) }
+        ensures err { OnErr result (IsAsBefore self.old self.new) }
     {
         let Some(place) = self.first_ready() else {
             return Ok(None);
@@ -100,7 +101,7 @@ impl Site {
         ensures verdict { IfOk result (λ p. p.1 ≡ judged (without_waiting (state_of self.old) place) (data_of p.0)) }
         ensures effect { IfOk result (λ p. state_of self.new ≡ after_verdict p.1 (data_of p.0) (without_waiting (state_of self.old) place)) }
         ensures forms { OnOk result (KeepsForms self.old.forms self.new.forms) }
-        ensures err { OnErr result (self.new ≡ self.old) }
+        ensures err { OnErr result (IsAsBefore self.old self.new) }
     {
         self.known();
         let verdict = self.verdict_at(place);

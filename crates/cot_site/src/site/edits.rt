@@ -1,13 +1,13 @@
 //! Local commands: what the user of a site does.
 
-ghost use Rattle.std.specs.Prelude.{◌≡◌, ◌<◌, true, Err, IfOk, OnOk, OnErr, length};
+ghost use Rattle.std.specs.Prelude.{◌≡◌, ◌≢◌, ◌<◌, true, Err, IfOk, OnOk, OnErr, length};
 ghost use Rattle.context_diff.specs.Histories.{IsNext, context_of_all, is_known, generation_in};
 ghost use Rattle.context_diff.specs.Replays.{shown};
 ghost use Rattle.op_name.specs.declared.member.Member.TheVariants.{Original};
 ghost use Rattle.context_diff.specs.Ops.{data_of};
 ghost use Rattle.cot_site.specs.States.{with_last};
 ghost use Rattle.cot_site.specs.Commands.{place_behind, place_of_shown, local_insert, local_delete, local_undo, local_redo, turned, next_name, IsAnswer, IsNumber, IsContextAnswer, IsGeneration};
-ghost use Rattle.cot_site.specs.Sites.{KeepsForms, state_of};
+ghost use Rattle.cot_site.specs.Sites.{KeepsForms, IsAsBefore, state_of};
 
 use crate::local::Local;
 use crate::site::Site;
@@ -25,12 +25,13 @@ const UNDO_ENTRIES: u32 = 16_384;
 impl Site {
     /// Inserts a character behind `v` shown ones: makes the operation with the site's next number and all
     /// members of the history as context, integrates it, and answers a copy. Refused by PlaceOut, NumberFull,
-    /// ContextFull or Memory; then nothing is changed.
+    /// ContextFull or Memory; then nothing is changed, but that after Memory the cache may have lost entries.
     pub fn insert(&mut self, v: u32, ch: char) -> Result<Op, Local>
         ensures answer { IsAnswer (local_insert (state_of self.old) v ch) result }
         ensures made { IfOk result (λ o. state_of self.new ≡ with_last (state_of self.old) (data_of o)) }
         ensures forms { OnOk result (KeepsForms self.old.forms self.new.forms) }
-        ensures err { OnErr result (self.new ≡ self.old) }
+        ensures err { OnErr result (IsAsBefore self.old self.new) }
+        ensures refused { OnErr result (result ≢ Err Local.Memory → self.new ≡ self.old) }
     {
         self.known();
         let Some(place) = self.place_behind(v) else {
@@ -48,12 +49,13 @@ impl Site {
 
     /// Deletes the `v`-th shown character, from 0: makes the operation with the site's next number and all
     /// members of the history as context, integrates it, and answers a copy. Refused by PlaceOut, NumberFull,
-    /// ContextFull or Memory; then nothing is changed.
+    /// ContextFull or Memory; then nothing is changed, but that after Memory the cache may have lost entries.
     pub fn delete(&mut self, v: u32) -> Result<Op, Local>
         ensures answer { IsAnswer (local_delete (state_of self.old) v) result }
         ensures made { IfOk result (λ o. state_of self.new ≡ with_last (state_of self.old) (data_of o)) }
         ensures forms { OnOk result (KeepsForms self.old.forms self.new.forms) }
-        ensures err { OnErr result (self.new ≡ self.old) }
+        ensures err { OnErr result (IsAsBefore self.old self.new) }
+        ensures refused { OnErr result (result ≢ Err Local.Memory → self.new ≡ self.old) }
     {
         self.known();
         let Some(place) = self.place_of_shown(v) else {
@@ -70,12 +72,13 @@ impl Site {
 
     /// Undoes the insert or delete of this name, whoever made it: makes the undo at the generation after the
     /// original's, integrates it, and answers a copy. Refused by Unknown, NotInForce, ContextFull or Memory;
-    /// then nothing is changed.
+    /// then nothing is changed, but that after Memory the cache may have lost entries.
     pub fn undo(&mut self, name: Name) -> Result<Op, Local>
         ensures answer { IsAnswer (local_undo (state_of self.old) name) result }
         ensures made { IfOk result (λ o. state_of self.new ≡ with_last (state_of self.old) (data_of o)) }
         ensures forms { OnOk result (KeepsForms self.old.forms self.new.forms) }
-        ensures err { OnErr result (self.new ≡ self.old) }
+        ensures err { OnErr result (IsAsBefore self.old self.new) }
+        ensures refused { OnErr result (result ≢ Err Local.Memory → self.new ≡ self.old) }
     {
         let generation = self.generation_of(name)?;
         if generation % 2 == 1 {
@@ -86,12 +89,13 @@ impl Site {
 
     /// Redoes the insert or delete of this name, whoever undid it: makes the redo at the generation after the
     /// original's, integrates it, and answers a copy. Refused by Unknown, InForce, GenerationFull, ContextFull
-    /// or Memory; then nothing is changed.
+    /// or Memory; then nothing is changed, but that after Memory the cache may have lost entries.
     pub fn redo(&mut self, name: Name) -> Result<Op, Local>
         ensures answer { IsAnswer (local_redo (state_of self.old) name) result }
         ensures made { IfOk result (λ o. state_of self.new ≡ with_last (state_of self.old) (data_of o)) }
         ensures forms { OnOk result (KeepsForms self.old.forms self.new.forms) }
-        ensures err { OnErr result (self.new ≡ self.old) }
+        ensures err { OnErr result (IsAsBefore self.old self.new) }
+        ensures refused { OnErr result (result ≢ Err Local.Memory → self.new ≡ self.old) }
     {
         let generation = self.generation_of(name)?;
         if generation % 2 == 0 {
@@ -176,7 +180,8 @@ impl Site {
         ensures answer { IsAnswer (turned (state_of self.old) name) result }
         ensures made { IfOk result (λ o. state_of self.new ≡ with_last (state_of self.old) (data_of o)) }
         ensures forms { OnOk result (KeepsForms self.old.forms self.new.forms) }
-        ensures err { OnErr result (self.new ≡ self.old) }
+        ensures err { OnErr result (IsAsBefore self.old self.new) }
+        ensures refused { OnErr result (result ≢ Err Local.Memory → self.new ≡ self.old) }
     {
         self.known();
         let context = self.context()?;
@@ -195,7 +200,7 @@ impl Site {
         ensures memory { OnErr result (result ≡ Err Local.Memory) }
         ensures made { OnOk result (state_of self.new ≡ with_last (state_of self.old) (data_of op)) }
         ensures forms { OnOk result (KeepsForms self.old.forms self.new.forms) }
-        ensures err { OnErr result (self.new ≡ self.old) }
+        ensures err { OnErr result (IsAsBefore self.old self.new) }
     {
         let copy = match op.try_clone() {
             Ok(copy) => copy,

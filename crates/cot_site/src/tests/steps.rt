@@ -163,7 +163,7 @@ pub(super) fn refuses(site: &mut Site, edit: &Edit, why: &Why) -> bool {
 }
 
 /// The context of the last originals of some sites.
-fn context(alloc: Global, last: &[Named]) -> Result<Vector, Fail> {
+pub(super) fn context(alloc: Global, last: &[Named]) -> Result<Vector, Fail> {
     let mut context = Vector::new(alloc);
     for of in last {
         context.raise(&Member::Original(Name::new(of.0, of.1)?))?;

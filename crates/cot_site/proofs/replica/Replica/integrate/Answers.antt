@@ -5,12 +5,16 @@ use Rattle.context_vector.specs.Vectors.{VectorData}
 use Rattle.context_diff.specs.Ops.{data_of}
 use Rattle.cot_site.specs.Sites.{ReplicaData}
 use Rattle.cot_site.proofs.Executions.{added_at, fits_at, step_at, executed_same, popped}
+use Rattle.cot_site.proofs.Cached.{cached_same, cached_more, cached_none}
 use Rattle.cot_site.proofs.replica.Replica.integrate.Goals as goal
 
 pub invariant_of-self-in_err-reserve-2 : goal.invariant_of-self-in_err-reserve-2
 invariant_of-self-in_err-reserve-2 c =
     let cs = c.self.inside.cells.cells in
-    executed_same c.self.inside.book.ops c.reserve-2.new.self.ops c.self.inside.forms.items c.reserve.new.self.items cs cs c.self.invariant c.reserve-2.ensures.ops c.reserve.ensures.items (λ i. cs)
+    let es = c.self.inside.cache.entries in (
+      executed_same c.self.inside.book.ops c.reserve-2.new.self.ops c.self.inside.forms.items c.reserve.new.self.items cs cs c.self.invariant.0 c.reserve-2.ensures.ops c.reserve.ensures.items (λ i. cs),
+      cached_same c.self.inside.book.ops c.reserve-2.new.self.ops es es c.self.invariant.1 c.reserve-2.ensures.ops (λ i. es),
+    )
 
 pub execute-requires-clause-added : goal.execute-requires-clause-added
 execute-requires-clause-added c =
@@ -28,7 +32,15 @@ execute-requires-clause-fits c =
     let next = subst (λ (r : ReplicaData). IsNext r.history o) (sym c.self.view_is) c.requires in
     let grown : c.push.new.self.ops ≡ h ++ o ∷ [] = c.push.ensures ∙ ap (λ (l : List OpData). l ++ o ∷ []) c.reserve-2.ensures.ops in
     let before = c.in_ok-before.ensures ∙ (ap (λ (v : VectorData). v.set) c.have.ensures ∙ c.known.ensures.have) in
-    fits_at h o c.push.new.self.ops c.in_ok-before.before.set c.member-member.result c.self.inside.forms.items c.self.inside.cells.cells c.known.ensures.valid next grown before c.member-member.ensures.member c.self.invariant
+    fits_at h o c.push.new.self.ops c.in_ok-before.before.set c.member-member.result c.self.inside.forms.items c.self.inside.cells.cells c.known.ensures.valid next grown before c.member-member.ensures.member c.self.invariant.0
+
+pub execute-requires-clause-cached : goal.execute-requires-clause-cached
+execute-requires-clause-cached c =
+    let h = c.self.inside.book.ops in
+    let o = data_of c.args.op in
+    let next = subst (λ (r : ReplicaData). IsNext r.history o) (sym c.self.view_is) c.requires in
+    let grown : c.push.new.self.ops ≡ h ++ o ∷ [] = c.push.ensures ∙ ap (λ (l : List OpData). l ++ o ∷ []) c.reserve-2.ensures.ops in
+    cached_more h o c.push.new.self.ops c.self.inside.cache.entries c.known.ensures.valid next grown c.self.invariant.1
 
 pub invariant_of-self-in-Ok : goal.invariant_of-self-in-Ok
 invariant_of-self-in-Ok c =
@@ -37,13 +49,14 @@ invariant_of-self-in-Ok c =
     let next = subst (λ (r : ReplicaData). IsNext r.history o) (sym c.self.view_is) c.requires in
     let grown : c.push.new.self.ops ≡ h ++ o ∷ [] = c.push.ensures ∙ ap (λ (l : List OpData). l ++ o ∷ []) c.reserve-2.ensures.ops in
     let before = c.in_ok-before.ensures ∙ (ap (λ (v : VectorData). v.set) c.have.ensures ∙ c.known.ensures.have) in
-    step_at h o c.push.new.self.ops c.in_ok-before.before.set c.member-member.result c.self.inside.forms.items c.reserve.new.self.items c.execute.new.forms.items c.self.inside.cells.cells c.execute.new.cells.cells c.known.ensures.valid next grown before c.member-member.ensures.member c.self.invariant c.reserve.ensures.items c.in-Ok.ensures.step
+    (step_at h o c.push.new.self.ops c.in_ok-before.before.set c.member-member.result c.self.inside.forms.items c.reserve.new.self.items c.execute.new.forms.items c.self.inside.cells.cells c.execute.new.cells.cells c.known.ensures.valid next grown before c.member-member.ensures.member c.self.invariant.0 c.reserve.ensures.items c.in-Ok.ensures.step, c.in-Ok.ensures.cached)
 
 pub invariant_of-self-in-Err : goal.invariant_of-self-in-Err
 invariant_of-self-in-Err c =
     let h = c.self.inside.book.ops in
     let o = data_of c.args.op in
     let grown : c.push.new.self.ops ≡ h ++ o ∷ [] = c.push.ensures ∙ ap (λ (l : List OpData). l ++ o ∷ []) c.reserve-2.ensures.ops in
-    executed_same h c.pop.new.self.ops c.self.inside.forms.items c.execute.new.forms.items c.self.inside.cells.cells c.execute.new.cells.cells c.self.invariant
+    (executed_same h c.pop.new.self.ops c.self.inside.forms.items c.execute.new.forms.items c.self.inside.cells.cells c.execute.new.cells.cells c.self.invariant.0
     (popped h c.pop.new.self.ops c.push.new.self.ops o c.pop.result grown c.pop.ensures.none c.pop.ensures.ops)
-    (c.in-Err.ensures.forms ∙ c.reserve.ensures.items) c.in-Err.ensures.cells
+    (c.in-Err.ensures.forms ∙ c.reserve.ensures.items) c.in-Err.ensures.cells,
+    cached_none c.pop.new.self.ops c.clear.new.self.entries c.clear.ensures.entries)

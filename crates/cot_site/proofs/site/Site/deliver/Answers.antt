@@ -1,4 +1,4 @@
-use Rattle.std.proofs.Common.{◌≡◌, ◌∙◌, sym, subst}
+use Rattle.std.proofs.Common.{◌∙◌, sym, subst}
 use Rattle.context_diff.specs.Operations.{OpData}
 use Rattle.context_diff.specs.Histories.{IsNext}
 use Rattle.context_diff.specs.Ops.{data_of}

@@ -1,0 +1,15 @@
+//! Each law once, as a caller has it.
+
+use crate::{
+    integrated_operations_are_next, local_operations_are_next, releases_never_wait,
+    settled_states_have_none_ready, verdicts_are_exact,
+};
+
+#[test]
+fn laws() {
+    verdicts_are_exact();
+    integrated_operations_are_next();
+    releases_never_wait();
+    settled_states_have_none_ready();
+    local_operations_are_next();
+}
