@@ -1,5 +1,5 @@
 -- What is in the entries after each call.
-use Rattle.std.proofs.Common.{◌≡◌, true, ◌⊎◌, List, Contains, Option, Some, inl, inr, sym, ap, subst, ◌∙◌}
+use Rattle.std.proofs.Common.{◌≡◌, ◌⊎◌, List, Contains, Some, inl, inr, sym, subst}
 use Rattle.lru.specs.LruCache.{lru_cache}
 use Rattle.lru.proofs.CallerLemmas.{Contains-lookup, Contains-promoted, Contains-put_entries}
 use Rattle.form_cache.specs.Keys.{KeyData, key_eq, key_eq_decides}

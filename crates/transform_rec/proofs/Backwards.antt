@@ -1,6 +1,6 @@
 -- The way back from a set towards a member's base context: the last member of the difference, in the order of the family, is
 -- taken out first.
-use Rattle.std.proofs.Common.{◌≡◌, ◌≢◌, ℕ, suc, ◌+◌, ◌<◌, ◌≤◌, Bool, true, false, not, ◌&&◌, List, [], ◌∷◌, ◌++◌, length, take, drop, reverse, ◌⊎◌, inl, inr, refl, sym, ap, subst, ◌∙◌, arith}
+use Rattle.std.proofs.Common.{◌≡◌, ◌≢◌, ℕ, ◌+◌, ◌<◌, ◌≤◌, Bool, true, false, not, ◌&&◌, List, [], ◌∷◌, ◌++◌, length, take, drop, reverse, inl, inr, refl, sym, ap, subst, ◌∙◌, arith}
 use Rattle.std.specs.Prelude.{Some, slice_get, option_map, Contains}
 use Rattle.std.proofs.lemmas.Bool.{cases_Bool, both_ways, and_parts, and_from, not-true, not_from_false, false_from_ne_true}
 use Rattle.std.proofs.lemmas.List.{drop_more, drop_all, take-append-drop, reverse-append, length-map}
@@ -13,7 +13,7 @@ use Rattle.context_vector.specs.Contexts.{ContextData, has, count_of, entry_of}
 use Rattle.context_vector.specs.Vectors.{IsLastMember}
 use Rattle.context_vector.specs.Equality.{context_eq, context_eq_decides}
 use Rattle.context_diff.specs.Operations.{OpData, member_of}
-use Rattle.context_diff.specs.Histories.{members_in, is_known, IsValid}
+use Rattle.context_diff.specs.Histories.{members_in, IsValid}
 use Rattle.context_diff.specs.Bases.{base_has}
 use Rattle.context_diff.specs.Differences.{IsClosedSet}
 use Rattle.context_diff.proofs.Raising.{has_number, has_original, has_generation, has_group}
@@ -22,7 +22,7 @@ use Rattle.context_diff.proofs.Histories.{own_earlier}
 use Rattle.context_diff.proofs.ClosedSets.{in_original, in_group_below, below_group}
 use Rattle.ttf_form.specs.Families.{IsIn}
 use Rattle.form_cache.specs.Keys.{KeyData}
-use Rattle.transform_rec.specs.Sets.{SameSet, plus, minus, plus_all}
+use Rattle.transform_rec.specs.Sets.{SameSet, plus, minus}
 use Rattle.transform_rec.specs.Family.{Family, IsCausalFamily, IsSound}
 use Rattle.transform_rec.specs.Derived.Derived.{at_base}
 use Rattle.transform_rec.specs.Executing.{IsCausalFrom}
@@ -30,7 +30,7 @@ use Rattle.transform_rec.specs.Histories.{family_in, members_alone, MayBeAddedTo
 use Rattle.transform_rec.specs.Ways.{IsOnWay, IsWayBack}
 use Rattle.transform_rec.specs.Entries.{AreForms}
 use Rattle.transform_rec.proofs.Lists.{LastOf, in_middle}
-use Rattle.transform_rec.proofs.Sets.{same_from, plus_same, minus_parts, minus_from, minus_here, minus_plus, all_same}
+use Rattle.transform_rec.proofs.Sets.{plus_same, minus_parts, minus_from, minus_here, minus_plus, all_same}
 use Rattle.transform_rec.proofs.Families.{sound_moves, mine_without, its_without}
 use Rattle.transform_rec.proofs.CausalLists.{causal_moves}
 use Rattle.transform_rec.proofs.Histories.{history_causal, added_sound, sound_added, closed_is_set, at_most_or_more, known_generation, in_known}
@@ -173,10 +173,6 @@ module _ (h : List OpData) (v : IsValid h) (m : Member) where
       let s = its_own (members_alone h) alone m x (has c) (take j (members_in h)) (drop (j + 1) (members_in h)) (parts_at (members_in h) j x at) there out (late_at (has c) i j e late) w.sound in
       taken_last h v c x there (closed_is_set h (λ y. tt) (minus (has c) x) s.set)
 
-  -- where the way back has gone through the whole history, the base context is reached
-  pub back_all : (T C : Member → Bool) (stack : List Member) → IsLateFrom C 0 → Back T C stack → SameSet C (base_has h m)
-  back_all T C stack late w = same_from C (base_has h m) (λ z there. late z there (w.sound.set.listed z there)) w.sound.covers
-
 -- ---- the walk of the code
 
 -- at a place of the history: what was taken out so far, last one last, and the entries, of which none is new
@@ -239,9 +235,6 @@ module _ {F : Type 0} (h : List OpData) (v : IsValid h) (from : KeyData) (old : 
       let seen : has at.context x ≡ true → base_has h from.member x ≡ true = λ (there : has at.context x ≡ true).
       elim (cases_Bool (has own x)) [ inl k ↦ sym (is x) ∙ k | inr k ↦ absurd (both_ways (has at.context x && not (has own x)) t (and_from (has at.context x) (not (has own x)) there (not_from_false (has own x) k))) ] in
       record { near = omega arith; member = w.member; back = w.back; late = late_stays h v from.member x (has at.context) i j e here seen w.late; entries = w.entries }
-
-  pub walk_all : (at : KeyData) (stack : List Member) (i : ℕ) (new : List (KeyData × F)) → i ≡ 0 → Walk at stack i new → SameSet (has at.context) (base_has h from.member)
-  walk_all at stack i new e w = back_all h v from.member (has from.context) (has at.context) stack (subst (λ (k : ℕ). IsLateFrom h v from.member (has at.context) k) e w.late) w.back
 
 -- ---- forms at the end of the walk
 

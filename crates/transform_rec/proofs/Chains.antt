@@ -4,7 +4,7 @@ use Rattle.std.proofs.lemmas.List.{reverse-append, length-append, length-reverse
 use Rattle.op_name.specs.declared.member.Member.{Member}
 use Rattle.context_vector.specs.Contexts.{has}
 use Rattle.form_cache.specs.Keys.{KeyData}
-use Rattle.transform_rec.specs.Sets.{SameSet, plus, plus_all}
+use Rattle.transform_rec.specs.Sets.{plus, plus_all}
 use Rattle.transform_rec.specs.Family.{Family, IsCausalFamily, size}
 use Rattle.transform_rec.specs.Executing.{IsCausalFrom}
 use Rattle.transform_rec.specs.declared.pending.Pending.{Pending}

@@ -1,5 +1,5 @@
 -- Entries of a cache that are forms stay so: when one is used, when a form is put among them, and when the history grows.
-use Rattle.std.proofs.Common.{◌≡◌, Bool, true, List, [], ◌∷◌, ◌++◌, Contains, ◌⊎◌, inl, inr, refl, sym, ap, subst, ◌∙◌}
+use Rattle.std.proofs.Common.{◌≡◌, Bool, true, List, [], ◌∷◌, ◌++◌, Contains, ◌⊎◌, inl, inr, sym, subst, ◌∙◌}
 use Rattle.std.specs.Prelude.{Some}
 use Rattle.std.proofs.lemmas.List.{map-append}
 use Rattle.op_name.specs.declared.member.Member.{Member}
@@ -14,7 +14,6 @@ use Rattle.form_cache.specs.Keys.{KeyData}
 use Rattle.form_cache.specs.Entries.{CacheData, form_at, used, with_form}
 use Rattle.form_cache.proofs.Entries.{found_entry, used_entry, put_entry}
 use Rattle.ttf_form.specs.Families.{IsIn}
-use Rattle.transform_rec.specs.Sets.{SameSet}
 use Rattle.transform_rec.specs.Family.{Family, IsCausalFamily}
 use Rattle.transform_rec.specs.Derived.{Derived, IsOnlyFormAt, Holds}
 use Rattle.transform_rec.specs.Derived.Derived.{at_base, by_step}

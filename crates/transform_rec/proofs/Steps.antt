@@ -1,15 +1,13 @@
 -- What the steps of the work list need and give, over a history.
-use Rattle.std.proofs.Common.{◌≡◌, ◌≢◌, ℕ, ◌+◌, ◌≤◌, Bool, true, false, List, [], ◌∷◌, length, reverse, refl, sym, ap, subst, ◌∙◌, arith}
-use Rattle.std.proofs.lemmas.Bool.{both_ways}
+use Rattle.std.proofs.Common.{◌≡◌, ◌≢◌, ℕ, ◌+◌, ◌≤◌, Bool, List, [], reverse, sym, ap, subst, ◌∙◌, arith}
 use Rattle.op_name.specs.declared.member.Member.{Member}
 use Rattle.op_name.specs.Members.{IsMember}
 use Rattle.context_vector.specs.Contexts.{ContextData, has, raised, IsNextMember}
-use Rattle.context_diff.specs.Operations.{OpData}
 use Rattle.context_diff.specs.Histories.{members_in}
 use Rattle.context_diff.proofs.Raising.{has_raised}
 use Rattle.form_cache.specs.Keys.{KeyData}
-use Rattle.ttf_form.specs.Families.{IsIn, total_by}
-use Rattle.transform_rec.specs.Sets.{SameSet, plus, plus_all}
+use Rattle.ttf_form.specs.Families.{total_by}
+use Rattle.transform_rec.specs.Sets.{SameSet, plus}
 use Rattle.transform_rec.specs.Family.{Family}
 use Rattle.transform_rec.specs.Derived.{Derived, IsOnlyFormAt, Deriving}
 use Rattle.transform_rec.specs.Histories.{family_in, MayBeAddedTo}

@@ -6,7 +6,6 @@ use Rattle.form_cache.specs.Keys.{KeyData}
 use Rattle.transform_rec.specs.Family.{Family}
 use Rattle.transform_rec.specs.Derived.{IsOnlyFormAt}
 use Rattle.transform_rec.specs.Histories.{family_in}
-use Rattle.transform_rec.specs.Sets.{SameSet}
 use Rattle.transform_rec.specs.declared.pending.Pending.{Pending}
 use Rattle.transform_rec.specs.Ways.{IsPending, IsWaiting, IsStep, IsBegun, IsChain, first}
 use Rattle.transform_rec.proofs.Sets.{same_set}

@@ -1,5 +1,5 @@
 -- Forms on their way from the base context of their member to a greater set, and the list of those that wait for one another.
-use Rattle.std.specs.Prelude.{◌≡◌, ℕ, Bool, true, false, List, [], ◌∷◌, reverse}
+use Rattle.std.specs.Prelude.{◌≡◌, Bool, true, false, List, [], ◌∷◌, reverse}
 use Rattle.op_name.specs.declared.member.Member.{Member}
 use Rattle.context_vector.specs.Contexts.{has}
 use Rattle.transform_rec.specs.Sets.{IsSubset, SameSet, plus, plus_all}

@@ -1,9 +1,7 @@
-use Rattle.std.proofs.Common.{◌≡◌, ℕ, ◌+◌, ◌≤◌, List, ◌∷◌, [], ◌++◌, Contains, sym, ap, subst, ◌∙◌, arith}
-use Rattle.std.specs.Prelude.{Some}
+use Rattle.std.proofs.Common.{◌≡◌, List, ◌∷◌, [], ◌++◌, Contains, sym, ap, subst, ◌∙◌, arith}
 use Rattle.op_name.specs.declared.member.Member.{Member}
-use Rattle.form_cache.specs.Keys.{KeyData}
 use Rattle.form_cache.proofs.Entries.{found_entry, used_entry}
-use Rattle.transform_rec.proofs.Backwards.{walk_first, walk_own, walk_last, walk_taken, walk_past, walk_all}
+use Rattle.transform_rec.proofs.Backwards.{walk_first, walk_own, walk_last, walk_taken, walk_past}
 use Rattle.transform_rec.proofs.pending.go_back.Goals as goal
 
 pub loop-i-init : goal.loop-i-init

@@ -1,8 +1,3 @@
-use Rattle.std.proofs.Common.{◌≡◌, ℕ, ◌≤◌, List, length, Contains}
-use Rattle.context_vector.specs.Contexts.{has}
-use Rattle.context_diff.specs.Histories.{members_in}
-use Rattle.context_diff.specs.Bases.{base_has}
-use Rattle.form_cache.specs.Keys.{KeyData}
 use Rattle.transform_rec.proofs.Backwards.{IsWalk}
 use Rattle.transform_rec.proofs.pending.go_back.Given as goal
 

@@ -1,6 +1,5 @@
 use Rattle.std.proofs.Common.{◌≡◌, sym, ap, ◌∙◌, Bor}
 use Rattle.std.specs.Prelude.{Some, None, slice_get, option_map}
-use Rattle.context_diff.specs.Operations.{OpData, member_of}
 use Rattle.context_diff.specs.declared.op.Op.{Op}
 use Rattle.context_diff.specs.Ops.{data_of}
 use Rattle.context_diff.proofs.Books.{not_past}

@@ -1,4 +1,4 @@
-use Rattle.std.proofs.Common.{◌≡◌, sym, subst, ◌∙◌}
+use Rattle.std.proofs.Common.{sym, subst, ◌∙◌}
 use Rattle.form_cache.specs.Keys.{KeyData}
 use Rattle.transform_rec.specs.Histories.{family_in, MayBeAddedTo}
 use Rattle.transform_rec.proofs.Transformations.{bases_causal, over_history}

@@ -1,9 +1,7 @@
-use Rattle.std.proofs.Common.{◌≡◌, Bool, refl, sym, subst, ◌∙◌, ap}
+use Rattle.std.proofs.Common.{refl, sym, subst}
 use Rattle.op_name.specs.declared.member.Member.{Member}
 use Rattle.op_name.specs.Members.{IsMember}
-use Rattle.context_vector.specs.Contexts.{ContextData, has, IsNextMember, raised}
-use Rattle.form_cache.specs.Keys.{KeyData}
-use Rattle.transform_rec.specs.Derived.{Derived}
+use Rattle.context_vector.specs.Contexts.{IsNextMember}
 use Rattle.transform_rec.specs.Histories.{family_in}
 use Rattle.transform_rec.proofs.Transformations.{bases_causal, over_history}
 use Rattle.transform_rec.proofs.Keeping.{forms_kept}

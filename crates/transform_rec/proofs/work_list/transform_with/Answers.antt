@@ -1,7 +1,5 @@
-use Rattle.std.proofs.Common.{◌≡◌, vec_len, List, [], ◌∷◌, ◌++◌, refl, sym, ap, subst, ◌∙◌}
-use Rattle.op_name.specs.declared.member.Member.{Member}
+use Rattle.std.proofs.Common.{vec_len, [], ◌∷◌, ◌++◌, refl, sym, ap, subst, ◌∙◌}
 use Rattle.context_vector.specs.Contexts.{ContextData, has}
-use Rattle.form_cache.specs.Keys.{KeyData}
 use Rattle.transform_rec.specs.Derived.{IsOnlyFormAt}
 use Rattle.transform_rec.specs.Histories.{family_in}
 use Rattle.transform_rec.proofs.Transformations.{bases_causal, over_history}
