@@ -15,3 +15,6 @@ pub use coverage::{base_context, closed};
 pub use gathering::difference;
 pub use laws::{difference_is_ready, last_may_be_taken_out, two_may_be_taken_out};
 pub use op::{Op, OpFault};
+
+#[cfg(test)]
+mod tests;
