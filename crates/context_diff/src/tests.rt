@@ -5,6 +5,7 @@ ghost use Rattle.context_vector.specs.Contexts.{Within, has};
 ghost use Rattle.context_diff.specs.Operations.{member_of, context_of, IsWellFormed};
 ghost use Rattle.context_diff.specs.Histories.{is_known, HasPlace, IsNext};
 ghost use Rattle.context_diff.specs.Ops.{data_of};
+ghost use Rattle.context_diff.specs.Differences.{LastMayBeTakenOut, TwoMayBeTakenOut, DifferenceIsReady};
 
 use super::*;
 use context_vector::Vector;
@@ -49,7 +50,7 @@ fn is_ready(book: &Book, op: &Op) -> bool
     if op.fault().is_some() {
         return false;
     }
-    !book.have().contains(&op.as_member()) && book.have().covers(op.context())
+    !book.have().contains(&op.member()) && book.have().covers(op.context())
 }
 
 /// Whether the operation's place is one of its context, whose members the book has.
@@ -143,6 +144,15 @@ fn three_sites(alloc: Global) -> Result<Book, Fail> {
     Ok(book)
 }
 
+/// The members that the second context of a book of `three_sites` has and the first lacks.
+fn between(alloc: Global, from: &[(u16, u32)], to: &[(u16, u32)]) -> Result<Vec<Member>, Fail> {
+    let book = three_sites(alloc)?;
+    let from = known(alloc, from)?;
+    let to = known(alloc, to)?;
+    let found = lacking(alloc, &book, &from, &to)?;
+    Ok(found)
+}
+
 /// The originals of these sites and numbers.
 fn originals(names: [(u16, u32); 2]) -> Result<[Member; 2], Fail> {
     let first = Name::new(names[0].0, names[0].1)?;
@@ -152,23 +162,33 @@ fn originals(names: [(u16, u32); 2]) -> Result<[Member; 2], Fail> {
 
 #[test]
 fn a_difference_goes_in_the_order_of_integration(rt: HostRuntime) -> Result<(), Fail> {
-    let alloc = rt.alloc();
-    let book = three_sites(alloc)?;
-    for (why, seen, to, members) in [
-        ("from nothing", 0, [(2, 2), (1, 0)], [(2, 1), (2, 2)]),
-        (
-            "site 1 came behind site 2",
-            1,
-            [(2, 2), (1, 1)],
-            [(2, 2), (1, 1)],
-        ),
+    for (why, seen, other, members) in [
+        ("from nothing", 0, 0, [(2, 1), (2, 2)]),
+        ("site 1 came behind site 2", 1, 1, [(2, 2), (1, 1)]),
     ] {
-        let from = known(alloc, &[(2, seen)])?;
-        let to = known(alloc, &to)?;
-        let found = lacking(alloc, &book, &from, &to)?;
+        let found = between(rt.alloc(), &[(2, seen)], &[(2, 2), (1, other)])?;
         let members = originals(members)?;
         assert_eq!(rt; found.as_slice(), members.as_slice(), "{why}");
     }
+    Ok(())
+}
+
+/// What the laws of differences say, for whoever calls them.
+fn laws_of_differences()
+    ensures last { LastMayBeTakenOut }
+    ensures two { TwoMayBeTakenOut }
+    ensures ready { DifferenceIsReady }
+{
+    last_may_be_taken_out();
+    two_may_be_taken_out();
+    difference_is_ready();
+}
+
+#[test]
+fn a_difference_of_equal_contexts_is_empty(rt: HostRuntime) -> Result<(), Fail> {
+    laws_of_differences();
+    let found = between(rt.alloc(), &[(2, 1)], &[(2, 1)])?;
+    assert!(rt; found.is_empty());
     Ok(())
 }
 
@@ -333,16 +353,20 @@ fn undone(alloc: Global) -> Result<Book, Fail> {
     Ok(book)
 }
 
+/// Whether the last operation, which is taken out, is the undo or redo after so many before it.
+fn takes_back(alloc: Global, book: &mut Book, before: u16) -> Result<bool, Fail> {
+    let last = turned(alloc, before)?;
+    Ok(book.pop() == Some(last))
+}
+
 #[test]
 fn a_book_gives_the_last_one_back(rt: HostRuntime) -> Result<(), Fail> {
-    let alloc = rt.alloc();
-    let mut book = undone(alloc)?;
-    let redo = turned(alloc, 1)?;
-    assert!(rt; book.pop() == Some(redo));
-    assert_eq!(rt; book.len(), 4);
-    let undo = turned(alloc, 0)?;
-    assert!(rt; book.pop() == Some(undo));
-    assert!(rt; Book::new(alloc).pop().is_none());
+    let mut book = undone(rt.alloc())?;
+    for (before, left) in [(1, 4), (0, 3)] {
+        assert!(rt; takes_back(rt.alloc(), &mut book, before)?);
+        assert_eq!(rt; book.len(), left);
+    }
+    assert!(rt; Book::new(rt.alloc()).pop().is_none());
     Ok(())
 }
 
@@ -351,31 +375,50 @@ fn a_copy_is_equal(rt: HostRuntime) -> Result<(), Fail> {
     let redo = turned(rt.alloc(), 1)?;
     let copy = redo.try_clone()?;
     assert!(rt; copy == redo);
+    assert!(rt; !copy.is_insert());
     Ok(())
+}
+
+/// The first open site of this context of a book of `undone`, and the number of its inserts.
+fn judged(alloc: Global, ours: u32, theirs: u32) -> Result<(Option<u16>, u32), Fail> {
+    let book = undone(alloc)?;
+    let context = known(alloc, &[(0, ours), (1, theirs)])?;
+    Ok((open_site(&book, &context), inserts(&book, &context)))
 }
 
 #[test]
 fn a_context_is_judged_within_the_book(rt: HostRuntime) -> Result<(), Fail> {
-    let alloc = rt.alloc();
-    let book = undone(alloc)?;
-    assert_eq!(rt; book.len(), 5);
     for (why, ours, theirs, open, count) in [
         ("nothing", 0, 0, None, 0),
         ("site 1 wrote after the first of site 0", 0, 1, Some(1), 1),
         ("both inserts", 1, 1, None, 2),
         ("a delete is no insert", 2, 1, None, 2),
     ] {
-        let context = known(alloc, &[(0, ours), (1, theirs)])?;
-        assert_eq!(rt; open_site(&book, &context), open, "{why}");
-        assert_eq!(rt; inserts(&book, &context), count, "{why}");
+        let seen = judged(rt.alloc(), ours, theirs)?;
+        assert_eq!(rt; seen.0, open, "{why}");
+        assert_eq!(rt; seen.1, count, "{why}");
     }
     Ok(())
 }
 
+/// Whether, in a book of `undone`, the member's base context is so many originals of site 0 with the groups
+/// of the first up to a generation.
+fn has_base(alloc: Global, m: Member, count: u32, generation: u16) -> Result<bool, Fail> {
+    let book = undone(alloc)?;
+    let wanted = with_entry(known(alloc, &[(0, count)])?, Name::new(0, 1)?, generation)?;
+    let found = base(&book, &m)?;
+    Ok(found == Some(wanted))
+}
+
+/// Whether a book of `undone` lacks the member.
+fn lacks(alloc: Global, m: Member) -> Result<bool, Fail> {
+    let book = undone(alloc)?;
+    let found = base(&book, &m)?;
+    Ok(found.is_none())
+}
+
 #[test]
 fn a_base_context_is_what_a_member_was_made_after(rt: HostRuntime) -> Result<(), Fail> {
-    let alloc = rt.alloc();
-    let book = undone(alloc)?;
     let first = Name::new(0, 1)?;
     let behind = Member::Original(Name::new(1, 1)?);
     for (why, member, count, generation) in [
@@ -383,9 +426,8 @@ fn a_base_context_is_what_a_member_was_made_after(rt: HostRuntime) -> Result<(),
         ("an undo", Member::Group(first, 1), 1, 0),
         ("a redo", Member::Group(first, 2), 1, 1),
     ] {
-        let known = with_entry(known(alloc, &[(0, count)])?, first, generation)?;
-        assert!(rt; base(&book, &member)? == Some(known), "{why}");
+        assert!(rt; has_base(rt.alloc(), member, count, generation)?, "{why}");
     }
-    assert!(rt; base(&book, &Member::Group(first, 3))?.is_none());
+    assert!(rt; lacks(rt.alloc(), Member::Group(first, 3))?);
     Ok(())
 }
