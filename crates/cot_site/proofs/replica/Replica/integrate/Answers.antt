@@ -55,8 +55,9 @@ pub invariant_of-self-in-Err : goal.invariant_of-self-in-Err
 invariant_of-self-in-Err c =
     let h = c.self.inside.book.ops in
     let o = data_of c.args.op in
-    let grown : c.push.new.self.ops ≡ h ++ o ∷ [] = c.push.ensures ∙ ap (λ (l : List OpData). l ++ o ∷ []) c.reserve-2.ensures.ops in
-    (executed_same h c.pop.new.self.ops c.self.inside.forms.items c.execute.new.forms.items c.self.inside.cells.cells c.execute.new.cells.cells c.self.invariant.0
-    (popped h c.pop.new.self.ops c.push.new.self.ops o c.pop.result grown c.pop.ensures.none c.pop.ensures.ops)
-    (c.in-Err.ensures.forms ∙ c.reserve.ensures.items) c.in-Err.ensures.cells,
-    cached_none c.pop.new.self.ops c.clear.new.self.entries c.clear.ensures.entries)
+    let grown : c.push.new.self.ops ≡ h ++ o ∷ [] = c.push.ensures ∙ ap (λ (l : List OpData). l ++ o ∷ []) c.reserve-2.ensures.ops in (
+      executed_same h c.pop.new.self.ops c.self.inside.forms.items c.execute.new.forms.items c.self.inside.cells.cells c.execute.new.cells.cells c.self.invariant.0
+          (popped h c.pop.new.self.ops c.push.new.self.ops o c.pop.result grown c.pop.ensures.none c.pop.ensures.ops)
+          (c.in-Err.ensures.forms ∙ c.reserve.ensures.items) c.in-Err.ensures.cells,
+      cached_none c.pop.new.self.ops c.clear.new.self.entries c.clear.ensures.entries,
+    )
