@@ -156,25 +156,6 @@ fn a_line_is_refused_that_is_too_long_or_no_text(rt: HostRuntime) -> Result<(), 
     Ok(())
 }
 
-/// A script whose last line, a comment, goes on to so many bytes in all.
-fn filled(alloc: Global, len: usize) -> Result<Vec<u8>, Fail> {
-    let mut script = b"sites 1\nins 0 0 a\n".to_vec(alloc)?;
-    script.resize(len, b'#')?;
-    Ok(script)
-}
-
-#[test]
-fn the_line_that_passes_the_limit_is_refused_for_that_alone(rt: HostRuntime) -> Result<(), Fail> {
-    let script = filled(rt.alloc(), 67_108_865)?;
-    let (ended, held) = called(rt.alloc(), "replay", &script, u32::MAX, &[], &[])?;
-    assert_eq!(rt; ended, Status::Refused);
-    assert_eq!(rt;
-        held.as_slice(),
-        b"op 0 insert 0.1\nrefused 3 limit\n".as_slice()
-    );
-    Ok(())
-}
-
 #[test]
 fn exit_statuses_are_in_order(rt: HostRuntime) {
     let statuses = [
