@@ -1,23 +1,21 @@
 -- Base contexts as they are gathered: an original's context, raised by the original and by the group before.
-use Rattle.std.proofs.Common.{◌≡◌, ℕ, ◌+◌, ◌-◌, ◌<◌, ◌≤◌, Bool, true, false, ◌⊎◌, inl, inr, List, [], ◌∷◌, refl, ap, sym, subst, ◌∙◌, arith}
-use Rattle.std.specs.Prelude.{◌&&◌, ◌||◌, ◌==◌, nat_le, nat_lt, if◌then◌else◌}
+use Rattle.std.proofs.Common.{◌≡◌, ℕ, ◌+◌, ◌-◌, ◌<◌, ◌≤◌, Bool, true, inl, inr, List, ap, sym, subst, ◌∙◌, arith}
+use Rattle.std.specs.Prelude.{◌&&◌, ◌||◌, ◌==◌}
 use Rattle.std.proofs.lemmas.Bool.Decides.{nat_tests}
-use Rattle.std.proofs.lemmas.Bool.{cases_Bool, cases_lt, false≢true, or_left, true_from_ne_false, lt-ltb, le-ltb}
+use Rattle.std.proofs.lemmas.Bool.{cases_Bool, cases_lt, lt-ltb, le-ltb}
 use Rattle.op_name.specs.declared.member.Member.{Member}
 use Rattle.op_name.specs.declared.member.Member.TheVariants.{Original, Group}
-use Rattle.op_name.specs.NameData.{NameData, IsName, name_eq}
-use Rattle.op_name.specs.Members.{member_eq, IsMember}
-use Rattle.context_vector.specs.Contexts.{ContextData, IsContext, has, count_of, entry_of, raised}
+use Rattle.op_name.specs.NameData.{NameData, IsName}
+use Rattle.context_vector.specs.Contexts.{ContextData, IsContext, has, count_of, raised}
 use Rattle.context_diff.specs.Operations.{OpData, inserting, deleting, undoing, member_of, IsWellFormed}
-use Rattle.context_diff.specs.Histories.{is_known, context_of_all}
+use Rattle.context_diff.specs.Histories.{is_known}
 use Rattle.context_vector.specs.Vectors.{up_to}
 use Rattle.context_vector.proofs.Members.{raised_is_context}
 use Rattle.context_vector.proofs.Sets.{same_context}
-use Rattle.context_diff.specs.Bases.{original_context, is_below, is_before, base_has, base_context_of}
-use Rattle.context_diff.proofs.Raising.{has_original, has_generation}
+use Rattle.context_diff.specs.Bases.{original_context, is_below, base_has, base_context_of}
 use Rattle.context_diff.proofs.Known.{holder}
 use Rattle.context_diff.proofs.Complete.{IsComplete}
-use Rattle.context_diff.proofs.Histories.{original_facts, group_facts, own_earlier}
+use Rattle.context_diff.proofs.Histories.{original_facts, group_facts}
 use Rattle.context_diff.proofs.BaseValues.{base_value}
 
 -- up to an original: it and the earlier ones of its site, which it knew

@@ -1,16 +1,15 @@
 -- The base context of a member as a context has what it has as a test.
-use Rattle.std.proofs.Common.{◌≡◌, ℕ, ◌+◌, ◌-◌, ◌<◌, ◌≤◌, Bool, true, false, ◌⊎◌, inl, inr, List, [], ◌∷◌, refl, ap, sym, subst, ◌∙◌, arith}
-use Rattle.std.specs.Prelude.{◌&&◌, ◌||◌, ◌==◌, nat_le, nat_lt, if◌then◌else◌}
+use Rattle.std.proofs.Common.{◌≡◌, ℕ, ◌+◌, ◌-◌, true, inl, inr, List, refl, ap, sym, ◌∙◌, arith}
+use Rattle.std.specs.Prelude.{◌&&◌, ◌||◌, nat_lt, if◌then◌else◌}
 use Rattle.std.proofs.lemmas.Bool.Decides.{nat_tests}
-use Rattle.std.proofs.lemmas.Bool.{cases_Bool, false≢true, cases_lt, false_from_ne_true}
+use Rattle.std.proofs.lemmas.Bool.{cases_Bool, cases_lt}
 use Rattle.op_name.specs.declared.member.Member.{Member}
 use Rattle.op_name.specs.declared.member.Member.TheVariants.{Original, Group}
 use Rattle.op_name.specs.NameData.{NameData, name_eq}
-use Rattle.op_name.specs.Members.{member_eq}
-use Rattle.context_vector.specs.Contexts.{ContextData, has, count_of, entry_of, raised, put_entry, entry_in}
+use Rattle.context_vector.specs.Contexts.{ContextData, has, count_of, entry_of, raised}
 use Rattle.context_diff.specs.Operations.{OpData}
 use Rattle.context_diff.specs.Histories.{is_known}
-use Rattle.context_diff.specs.Bases.{original_context, is_below, is_before, base_has, base_context_of}
+use Rattle.context_diff.specs.Bases.{original_context, is_below, base_has, base_context_of}
 use Rattle.context_diff.proofs.Names.{name_same}
 use Rattle.context_diff.proofs.Raising.{has_raised, entry_put, has_group}
 use Rattle.context_diff.proofs.Complete.{IsComplete}

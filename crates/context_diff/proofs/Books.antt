@@ -1,15 +1,14 @@
 -- What the calls of a book answer.
-use Rattle.std.proofs.Common.{◌≡◌, ◌↔◌, ℕ, zero, suc, ◌+◌, ◌-◌, ◌<◌, ◌≤◌, Bool, true, false, ◌⊎◌, inl, inr, List, [], ◌∷◌, ◌++◌, refl, ap, sym, subst, ◌∙◌, arith, length, length-append, take, take_all, map, IsNone, IfSome, Bor}
-use Rattle.std.specs.Prelude.{◌==◌, if◌then◌else◌, Contains, Option, Some, None, slice_get, option_map, option_copied}
+use Rattle.std.proofs.Common.{◌≡◌, ◌↔◌, ℕ, zero, suc, ◌+◌, ◌-◌, ◌<◌, ◌≤◌, Bool, true, false, inl, inr, List, [], ◌∷◌, ◌++◌, refl, ap, sym, subst, ◌∙◌, arith, length, take, take_all, IsNone, IfSome, Bor}
+use Rattle.std.specs.Prelude.{if◌then◌else◌, Contains, Option, Some, None, slice_get, option_map, option_copied}
 use Rattle.std.specs.Map.{lookup, lookup_key}
 use Rattle.indexmap.specs.IndexMap.{insert_entry}
-use Rattle.std.specs.Option.{option_to_list}
-use Rattle.std.proofs.lemmas.Bool.{false≢true, true≢false, cases_Bool, cases_lt, or_parts}
+use Rattle.std.proofs.lemmas.Bool.{false≢true, true≢false, cases_Bool, or_parts}
 use Rattle.op_name.specs.NameData.{NameData}
 use Rattle.op_name.specs.declared.member.Member.{Member}
 use Rattle.op_name.specs.declared.member.Member.TheVariants.{Original, Group}
 use Rattle.op_name.specs.Members.{member_eq, IsMember}
-use Rattle.context_vector.specs.Contexts.{ContextData, Within, AreCounts, count_in, entry_in, raised, count_of, entry_of, has, IsNextMember}
+use Rattle.context_vector.specs.Contexts.{ContextData, Within, AreCounts, count_in, entry_in, raised, count_of, has}
 use Rattle.context_diff.specs.Operations.{OpData, inserting, deleting, undoing, member_of, is_insert, IsWellFormed}
 use Rattle.context_diff.specs.Histories.{is_known, members_in, context_of_all, inserts_in, LacksNothing, IsNext, IsValid}
 use Rattle.op_name.specs.contracts.member.MemberPartialEq.TheImpl.{eq-value}
@@ -25,8 +24,8 @@ use Rattle.context_diff.proofs.Raising.{count_put, entry_put, has_original}
 use Rattle.std.proofs.lemmas.Bool.{eq-eqb}
 use Rattle.context_diff.proofs.Known.{known_member}
 use Rattle.context_diff.proofs.Derived.{derived_eq}
-use Rattle.context_diff.proofs.Complete.{IsComplete, complete, next_member}
-use Rattle.context_diff.proofs.Kept.{Found, found_none, found_some, kept_at, kept_last, book_pop, ops_push, ops_length}
+use Rattle.context_diff.proofs.Complete.{complete, next_member}
+use Rattle.context_diff.proofs.Kept.{found_none, found_some, kept_at, kept_last, book_pop}
 
 -- what a look-up by a member answers
 pub record FindAnswer (es : List (Member × Kept)) (m : Member) (r : Option (Bor Kept)) : Type 0 where

@@ -1,22 +1,20 @@
 -- Base contexts of a valid history: each is closed and holds only earlier members; and closed contexts are the closed sets.
-use Rattle.std.proofs.Common.{◌≡◌, ℕ, zero, suc, ◌+◌, ◌-◌, ◌<◌, ◌≤◌, Bool, true, false, ◌⊎◌, inl, inr, List, [], ◌∷◌, ◌++◌, refl, ap, sym, subst, ◌∙◌, arith, ◌≢◌}
-use Rattle.std.specs.Prelude.{Contains, ◌&&◌, ◌||◌, nat_le, nat_lt}
-use Rattle.std.proofs.lemmas.Bool.{false≢true, cases_lt, and_parts, and_from, or_cases, or_left, or_right, leb-true, ltb-true, le-leb, lt-ltb, and_left, or_from, le-ltb}
+use Rattle.std.proofs.Common.{◌≡◌, ℕ, ◌-◌, ◌<◌, ◌≤◌, Bool, true, ◌⊎◌, inl, inr, List, refl, ap, sym, subst, ◌∙◌, arith}
+use Rattle.std.specs.Prelude.{◌&&◌, ◌||◌, nat_le, nat_lt}
+use Rattle.std.proofs.lemmas.Bool.{cases_lt, and_parts, and_from, or_cases, or_left, or_right, leb-true, ltb-true, le-leb, lt-ltb}
 use Rattle.op_name.specs.declared.member.Member.{Member}
 use Rattle.op_name.specs.declared.member.Member.TheVariants.{Original, Group}
 use Rattle.op_name.specs.NameData.{NameData, name_eq}
-use Rattle.op_name.specs.Members.{member_eq}
-use Rattle.context_vector.specs.Contexts.{ContextData, Within, KeepsStray, has, count_of, entry_of}
-use Rattle.context_diff.specs.Operations.{OpData, inserting, deleting, undoing, member_of, context_of, is_original, IsWellFormed}
-use Rattle.context_diff.specs.Histories.{is_known, LacksNothing, IsClosed, IsNext, IsValid}
+use Rattle.context_vector.specs.Contexts.{ContextData, Within, KeepsStray, has, count_of}
+use Rattle.context_diff.specs.Operations.{OpData}
+use Rattle.context_diff.specs.Histories.{is_known, LacksNothing, IsClosed}
 use Rattle.context_diff.specs.Bases.{original_context, is_below, is_before, base_has}
 use Rattle.context_diff.specs.Differences.{IsClosedSet, KeepsStraySet}
-use Rattle.context_diff.proofs.Names.{name_same, name_itself, member_same, member_itself}
+use Rattle.context_diff.proofs.Names.{name_same, name_itself}
 use Rattle.context_diff.proofs.Raising.{has_original, has_number, has_group, has_generation}
-use Rattle.context_diff.proofs.Known.{known_on, known_append, known_behind, known_member, original_holder, context_on, context_behind}
-use Rattle.context_diff.proofs.Valid.{valid_before}
-use Rattle.context_diff.proofs.Complete.{IsComplete, complete}
-use Rattle.context_diff.proofs.Histories.{IsContextOf, original_facts, context_is, IsGroupOf, group_facts, own_alone, holds_last, context_chain, same_name}
+use Rattle.context_diff.proofs.Known.{known_member}
+use Rattle.context_diff.proofs.Complete.{IsComplete}
+use Rattle.context_diff.proofs.Histories.{original_facts, context_is, group_facts, own_alone, holds_last, context_chain, same_name}
 
 -- what a base context holds: of an original what it knew, of a group what its original knew, that original, and the groups before
 pub base_original : (h : List OpData) (n : NameData) (y : Member) → base_has h (Original n) y ≡ true → (is_known h (Original n) ≡ true) × (has (original_context h n) y ≡ true)

@@ -1,5 +1,5 @@
 -- What each valid history keeps from push to push.
-use Rattle.std.proofs.Common.{◌≡◌, ℕ, ◌+◌, ◌<◌, ◌≤◌, Bool, true, false, ◌⊎◌, inl, inr, List, [], ◌∷◌, ◌++◌, refl, ap, sym, subst, ◌∙◌, arith}
+use Rattle.std.proofs.Common.{◌≡◌, ℕ, ◌+◌, ◌≤◌, true, false, inl, inr, List, [], ◌∷◌, ◌++◌, refl, ap, sym, subst, ◌∙◌, arith}
 use Rattle.std.specs.Prelude.{Contains, ◌||◌}
 use Rattle.std.proofs.lemmas.Bool.{false≢true, cases_lt}
 use Rattle.std.proofs.lemmas.List.Elements.{Contains-push_cases}
@@ -7,7 +7,7 @@ use Rattle.op_name.specs.declared.member.Member.{Member}
 use Rattle.op_name.specs.declared.member.Member.TheVariants.{Original, Group}
 use Rattle.op_name.specs.NameData.{NameData}
 use Rattle.op_name.specs.Members.{member_eq}
-use Rattle.context_vector.specs.Contexts.{ContextData, Within, has, count_of, entry_of, empty, raised, IsNextMember}
+use Rattle.context_vector.specs.Contexts.{ContextData, has, count_of, entry_of, empty, raised, IsNextMember}
 use Rattle.context_diff.specs.Operations.{OpData, inserting, deleting, undoing, member_of, context_of, is_original, IsWellFormed}
 use Rattle.context_diff.specs.Histories.{is_known, context_after, context_of_all, LacksNothing, IsClosed, IsNext, IsValid}
 use Rattle.context_diff.proofs.Raising.{has_raised, has_original, has_number, has_group, has_generation, empty_has_none}

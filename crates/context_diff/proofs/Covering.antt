@@ -1,11 +1,10 @@
 -- When a context covers its sites: a walk over the sites that it names decides it.
-use Rattle.std.proofs.Common.{◌≡◌, ℕ, ◌<◌, ◌≤◌, Bool, true, false, ◌⊎◌, inl, inr, List, refl, ap, sym, subst, ◌∙◌, arith, length}
-use Rattle.std.specs.Prelude.{Contains, Option, Some, None, slice_get}
-use Rattle.std.proofs.lemmas.Bool.{cases_lt}
+use Rattle.std.proofs.Common.{◌≡◌, ℕ, ◌<◌, ◌≤◌, true, List, refl, ap, sym, subst, ◌∙◌, arith, length}
+use Rattle.std.specs.Prelude.{Some, slice_get}
 use Rattle.op_name.specs.NameData.{NameData}
 use Rattle.op_name.specs.declared.member.Member.TheVariants.{Original}
-use Rattle.context_vector.specs.Contexts.{ContextData, Within, AreCounts, has, count_of, count_in}
-use Rattle.context_diff.specs.Operations.{OpData, member_of, context_of}
+use Rattle.context_vector.specs.Contexts.{ContextData, Within, AreCounts, count_of}
+use Rattle.context_diff.specs.Operations.{OpData}
 use Rattle.context_diff.specs.Histories.{is_known, LacksNothing, CoversSite, IsClosed}
 use Rattle.context_diff.specs.Bases.{original_context}
 use Rattle.context_diff.proofs.Raising.{has_original}

@@ -1,5 +1,5 @@
 -- The derived equality of members is the one of contracts.
-use Rattle.std.proofs.Common.{◌≡◌, rules, Bool}
+use Rattle.std.proofs.Common.{◌≡◌, rules}
 use Rattle.op_name.specs.declared.member.Member.{Member}
 use Rattle.op_name.specs.declared.member.Member.TheVariants.{Original, Group}
 use Rattle.op_name.specs.Members.{member_eq}

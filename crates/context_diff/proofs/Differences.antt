@@ -1,14 +1,13 @@
 -- The two laws of differences.
-use Rattle.std.proofs.Common.{◌≡◌, ℕ, Bool, true, false, ◌⊎◌, inl, inr, List, [], ◌∷◌, ◌++◌, refl, ap, sym, subst, ◌∙◌, ◌≢◌, not}
-use Rattle.std.specs.Prelude.{◌||◌, ◌&&◌}
+use Rattle.std.proofs.Common.{◌≡◌, Bool, true, false, inl, inr, List, ◌∷◌, ◌++◌, ap, sym, subst, ◌∙◌, ◌≢◌, not}
 use Rattle.std.proofs.lemmas.Bool.{false≢true, and_parts, and_from, or_cases, false_from_ne_true, not_from_false, not-true, cases_Bool}
 use Rattle.op_name.specs.declared.member.Member.{Member}
 use Rattle.op_name.specs.Members.{member_eq}
 use Rattle.context_diff.specs.Operations.{OpData, member_of}
-use Rattle.context_diff.specs.Histories.{is_known, IsValid}
+use Rattle.context_diff.specs.Histories.{is_known}
 use Rattle.context_diff.specs.Bases.{base_has}
-use Rattle.context_diff.specs.Differences.{IsClosedSet, KeepsStraySet, without, IsLastBetween, LastMayBeTakenOut, TwoMayBeTakenOut}
-use Rattle.context_diff.proofs.Names.{member_same, member_itself, member_apart, member_differs}
+use Rattle.context_diff.specs.Differences.{IsClosedSet, without, LastMayBeTakenOut, TwoMayBeTakenOut}
+use Rattle.context_diff.proofs.Names.{member_same, member_itself, member_apart}
 use Rattle.context_diff.proofs.Known.{known_cases}
 use Rattle.context_diff.proofs.Valid.{valid_before}
 use Rattle.context_diff.proofs.Complete.{complete}

@@ -1,8 +1,8 @@
 -- Equality of operations: the test decides it, and it is the derived one.
-use Rattle.std.proofs.Common.{◌≡◌, ℕ, Bool, true, false, ◌&&◌, ◌==◌, refl, sym, ap, subst, rules}
+use Rattle.std.proofs.Common.{◌≡◌, ℕ, Bool, true, ◌&&◌, ◌==◌, refl, sym, subst, rules}
 use Rattle.std.specs.Bool.{Decides}
 use Rattle.std.specs.Cmp.{first_so, second_so}
-use Rattle.op_name.specs.NameData.{NameData, name_eq}
+use Rattle.op_name.specs.NameData.{name_eq}
 use Rattle.context_vector.specs.Contexts.{ContextData}
 use Rattle.context_diff.specs.Operations.{OpData, inserting, deleting, undoing}
 use Rattle.op_name.proofs.Orders.{name_same, name_itself, number_order}

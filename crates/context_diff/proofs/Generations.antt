@@ -1,12 +1,10 @@
 -- The generation of an original in a valid history is its entry in the context of all members.
-use Rattle.std.proofs.Common.{◌≡◌, ℕ, ◌+◌, ◌≤◌, max, Bool, true, false, ◌⊎◌, inl, inr, List, [], ◌∷◌, ◌++◌, refl, ap, sym, subst, ◌∙◌, arith}
-use Rattle.std.specs.Prelude.{if◌then◌else◌}
+use Rattle.std.proofs.Common.{◌≡◌, max, inl, inr, List, [], ◌∷◌, ◌++◌, refl, ap, sym, ◌∙◌, arith}
 use Rattle.std.proofs.lemmas.Bool.{cases_Bool}
-use Rattle.op_name.specs.declared.member.Member.{Member}
 use Rattle.op_name.specs.NameData.{NameData, name_eq}
-use Rattle.context_vector.specs.Contexts.{ContextData, entry_of, entry_in, raised, IsNextMember}
+use Rattle.context_vector.specs.Contexts.{ContextData, entry_of, raised, IsNextMember}
 use Rattle.context_diff.specs.Operations.{OpData, inserting, deleting, undoing, member_of}
-use Rattle.context_diff.specs.Histories.{context_of_all, generation_at, generation_in, IsNext, IsValid}
+use Rattle.context_diff.specs.Histories.{context_of_all, generation_at, generation_in, IsValid}
 use Rattle.context_diff.proofs.Names.{name_same}
 use Rattle.context_diff.proofs.Raising.{entry_put}
 use Rattle.context_diff.proofs.Valid.{by_pushes}

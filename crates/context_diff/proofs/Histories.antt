@@ -1,12 +1,11 @@
 -- What a valid history gives: its originals know the earlier ones of their sites, contexts of one site lie in one another, and
 -- the groups of an original stand behind it without gaps.
-use Rattle.std.proofs.Common.{◌≡◌, ℕ, zero, suc, ◌+◌, ◌<◌, ◌≤◌, Bool, true, false, ◌⊎◌, inl, inr, List, [], ◌∷◌, ◌++◌, refl, ap, sym, subst, ◌∙◌, arith, ◌≢◌}
+use Rattle.std.proofs.Common.{◌≡◌, ℕ, zero, suc, ◌+◌, ◌<◌, ◌≤◌, true, ◌⊎◌, inl, inr, List, refl, ap, sym, subst, ◌∙◌, arith, ◌≢◌}
 use Rattle.std.specs.Prelude.{Contains}
-use Rattle.std.proofs.lemmas.Bool.{false≢true, cases_lt}
-use Rattle.op_name.specs.declared.member.Member.{Member}
+use Rattle.std.proofs.lemmas.Bool.{cases_lt}
 use Rattle.op_name.specs.declared.member.Member.TheVariants.{Original, Group}
 use Rattle.op_name.specs.NameData.{NameData}
-use Rattle.context_vector.specs.Contexts.{ContextData, Within, IsContext, KeepsStray, has, count_of, entry_of}
+use Rattle.context_vector.specs.Contexts.{ContextData, Within, IsContext, KeepsStray, has, count_of}
 use Rattle.context_diff.specs.Operations.{OpData, inserting, deleting, undoing, member_of, context_of, is_original, IsWellFormed}
 use Rattle.context_diff.specs.Histories.{is_known, context_of_all, LacksNothing, IsClosed}
 use Rattle.context_diff.specs.Bases.{original_context}

@@ -1,21 +1,19 @@
 -- Inserts of a context, counted site by site.
-use Rattle.std.proofs.Common.{◌≡◌, ℕ, zero, suc, ◌+◌, ◌<◌, ◌≤◌, Bool, true, false, ◌⊎◌, inl, inr, List, [], ◌∷◌, ◌++◌, refl, ap, sym, subst, ◌∙◌, arith, length}
-use Rattle.std.specs.Prelude.{Contains, ◌==◌, ◌&&◌, nat_le, nat_lt, if◌then◌else◌}
+use Rattle.std.proofs.Common.{◌≡◌, ℕ, ◌+◌, ◌<◌, ◌≤◌, true, false, inl, inr, List, [], ◌∷◌, ◌++◌, refl, ap, sym, ◌∙◌, arith, length}
+use Rattle.std.specs.Prelude.{Contains, ◌==◌, ◌&&◌, nat_le, if◌then◌else◌}
 use Rattle.std.proofs.lemmas.Bool.Decides.{nat_tests}
-use Rattle.std.proofs.lemmas.Bool.{or_parts, false≢true, cases_Bool, and_parts, and_from, cases_lt, eqb-true, leb-true, false_from_ne_true, le-leb}
+use Rattle.std.proofs.lemmas.Bool.{or_parts, false≢true, cases_Bool, eqb-true}
 use Rattle.op_name.specs.declared.member.Member.{Member}
 use Rattle.op_name.specs.declared.member.Member.TheVariants.{Original, Group}
 use Rattle.op_name.specs.NameData.{NameData, name_eq}
 use Rattle.context_vector.specs.Contexts.{ContextData, has, count_of, count_in, AreCounts}
 use Rattle.context_diff.specs.Operations.{OpData, inserting, deleting, undoing, member_of, is_insert, IsWellFormed}
-use Rattle.context_diff.specs.Histories.{is_known, inserts_in, IsNext, context_of_all, LacksNothing}
+use Rattle.context_diff.specs.Histories.{is_known, inserts_in, IsNext, context_of_all}
 use Rattle.context_diff.specs.Counting.{is_insert_of, inserts_of, inserts_listed}
 use Rattle.context_diff.specs.Kept.{inserts_up_to}
-use Rattle.context_diff.proofs.Known.{contains_here, contains_later, known_member}
-use Rattle.context_diff.proofs.Names.{member_itself}
-use Rattle.context_diff.proofs.Raising.{has_number, has_original}
+use Rattle.context_diff.proofs.Known.{contains_here, contains_later}
+use Rattle.context_diff.proofs.Raising.{has_number}
 use Rattle.context_diff.proofs.Complete.{IsComplete, next_member}
-use Rattle.context_diff.proofs.Histories.{same_name}
 
 -- the names of the operations of a list are in their ranges
 AreFormed : List OpData → Type 0

@@ -1,19 +1,18 @@
 -- Entries of a book: what a look-up finds, and what a push and a pop do.
-use Rattle.std.proofs.Common.{◌≡◌, ℕ, zero, suc, ◌+◌, ◌<◌, ◌≤◌, Bool, true, false, ◌⊎◌, inl, inr, List, [], ◌∷◌, ◌++◌, refl, ap, sym, subst, ◌∙◌, ◌||◌, arith, length, length-append, cond, map}
-use Rattle.std.specs.Prelude.{Contains, Option, Some, None, slice_get, if◌then◌else◌}
+use Rattle.std.proofs.Common.{◌≡◌, ℕ, zero, suc, ◌+◌, ◌<◌, Bool, true, false, inl, inr, List, [], ◌∷◌, ◌++◌, refl, ap, sym, subst, ◌∙◌, ◌||◌, arith, length, length-append, cond}
+use Rattle.std.specs.Prelude.{Contains, Some, None, slice_get}
 use Rattle.std.specs.Map.{lookup}
 use Rattle.std.proofs.lemmas.Bool.{cases_Bool, false≢true, or_from, or_right}
 use Rattle.op_name.specs.declared.member.Member.{Member}
-use Rattle.op_name.specs.declared.member.Member.TheVariants.{Original, Group}
 use Rattle.op_name.specs.Members.{member_eq}
-use Rattle.context_vector.specs.Contexts.{ContextData, raised, count_of, has}
-use Rattle.context_diff.specs.Operations.{OpData, member_of, is_insert}
+use Rattle.context_vector.specs.Contexts.{ContextData, raised}
+use Rattle.context_diff.specs.Operations.{OpData, member_of}
 use Rattle.context_diff.specs.Histories.{is_known, members_in, IsValid, IsNext, context_of_all}
 use Rattle.context_diff.specs.Kept.{ops_in, AreKept, IsBook, inserts_up_to}
 use Rattle.context_diff.proofs.Names.{member_same, member_itself}
-use Rattle.context_diff.proofs.Known.{contains_here, contains_later, known_on, known_push}
+use Rattle.context_diff.proofs.Known.{contains_here, contains_later}
 use Rattle.context_diff.proofs.Valid.{valid_push, valid_pop}
-use Rattle.context_diff.proofs.Complete.{IsComplete, complete, context_push}
+use Rattle.context_diff.proofs.Complete.{complete, context_push}
 use Rattle.context_diff.proofs.Inserts.{up_to_on}
 
 module _ {X : Type 0} (op : X → OpData) (noted : X → ℕ) where

@@ -1,13 +1,12 @@
 -- Which members a history has, and which operation is the member.
-use Rattle.std.proofs.Common.{◌≡◌, ℕ, suc, Bool, true, false, ◌⊎◌, inl, inr, List, [], ◌∷◌, ◌++◌, refl, ap, sym, subst, ◌∙◌, arith}
-use Rattle.std.specs.Prelude.{Contains, ◌||◌, ◌&&◌, if◌then◌else◌}
-use Rattle.std.proofs.lemmas.Bool.{and_parts, or_cases, or_left, or_right, cases_Bool, false≢true}
+use Rattle.std.proofs.Common.{◌≡◌, Bool, true, false, ◌⊎◌, inl, inr, List, [], ◌∷◌, ◌++◌, refl, ap, sym, ◌∙◌, arith}
+use Rattle.std.specs.Prelude.{Contains, ◌||◌, if◌then◌else◌}
+use Rattle.std.proofs.lemmas.Bool.{or_cases, or_left, or_right, cases_Bool, false≢true}
 use Rattle.std.proofs.lemmas.List.Elements.{Contains-append_left, Contains-append_right, Contains-append_cases, Contains-push, Contains-push_cases}
 use Rattle.op_name.specs.declared.member.Member.{Member}
-use Rattle.op_name.specs.declared.member.Member.TheVariants.{Original, Group}
-use Rattle.op_name.specs.NameData.{NameData, name_eq}
+use Rattle.op_name.specs.declared.member.Member.TheVariants.{Original}
+use Rattle.op_name.specs.NameData.{NameData}
 use Rattle.op_name.specs.Members.{member_eq}
-use Rattle.context_vector.specs.Contexts.{ContextData}
 use Rattle.context_diff.specs.Operations.{OpData, member_of, context_of}
 use Rattle.context_diff.specs.Histories.{is_known}
 use Rattle.context_diff.specs.Bases.{original_context}

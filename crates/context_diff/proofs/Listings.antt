@@ -1,11 +1,10 @@
 -- The listing of a context: sites with their counts, names with their generations, each once and rising.
-use Rattle.std.proofs.Common.{◌≡◌, ℕ, zero, suc, ◌+◌, ◌<◌, ◌≤◌, Bool, true, false, ◌⊎◌, inl, inr, List, [], ◌∷◌, ◌++◌, refl, ap, sym, subst, ◌∙◌, arith, length, take}
-use Rattle.std.specs.Prelude.{◌==◌, ◌&&◌, ◌||◌, nat_le, nat_lt, Option, Some, None, slice_get, if◌then◌else◌}
+use Rattle.std.proofs.Common.{◌≡◌, ℕ, zero, suc, ◌+◌, ◌<◌, ◌≤◌, true, false, inl, inr, List, [], ◌∷◌, refl, ap, sym, subst, ◌∙◌, arith, length, take}
+use Rattle.std.specs.Prelude.{◌==◌, Some, None, slice_get, if◌then◌else◌}
 use Rattle.std.proofs.lemmas.Bool.Decides.{nat_tests}
-use Rattle.std.proofs.lemmas.Bool.{cases_Bool, cases_lt, false≢true, eqb-true}
+use Rattle.std.proofs.lemmas.Bool.{cases_Bool, false≢true, eqb-true}
 use Rattle.op_name.specs.NameData.{NameData, IsName, name_eq, name_lt}
-use Rattle.op_name.specs.declared.member.Member.{Member}
-use Rattle.op_name.specs.declared.member.Member.TheVariants.{Original, Group}
+use Rattle.op_name.specs.declared.member.Member.TheVariants.{Original}
 use Rattle.context_vector.specs.Contexts.{ContextData, AreCounts, AreEntries, IsBefore, count_in, entry_in, KeepsStray, has}
 use Rattle.op_name.proofs.Orders.{name_order}
 use Rattle.context_diff.proofs.Names.{name_same, name_itself}

@@ -1,17 +1,15 @@
 -- The members of a valid history are a context.
-use Rattle.std.proofs.Common.{◌≡◌, ℕ, ◌≤◌, ◌+◌, Bool, true, false, ◌⊎◌, inl, inr, List, [], ◌∷◌, ◌++◌, refl, ap, sym, subst, ◌∙◌, arith, not}
+use Rattle.std.proofs.Common.{◌≡◌, Bool, true, false, List, refl, ap, sym, subst, ◌∙◌, not}
 use Rattle.std.specs.Prelude.{◌&&◌, ◌||◌}
-use Rattle.std.proofs.lemmas.Bool.{cases_Bool, false≢true}
-use Rattle.op_name.specs.NameData.{NameData, IsName}
 use Rattle.op_name.specs.declared.member.Member.{Member}
 use Rattle.op_name.specs.declared.member.Member.TheVariants.{Original, Group}
-use Rattle.op_name.specs.Members.{member_eq, IsMember, target_of}
-use Rattle.context_vector.specs.Contexts.{ContextData, IsContext, raised, has, empty}
+use Rattle.op_name.specs.Members.{member_eq, IsMember}
+use Rattle.context_vector.specs.Contexts.{ContextData, IsContext, raised, has}
 use Rattle.context_diff.specs.Operations.{OpData, inserting, deleting, undoing, member_of, IsWellFormed}
 use Rattle.context_diff.specs.Histories.{is_known, context_of_all, IsNext, IsValid}
 use Rattle.context_vector.proofs.Members.{raised_is_context}
 use Rattle.context_vector.proofs.Sets.{same_context}
-use Rattle.context_diff.proofs.Names.{member_same, member_itself}
+use Rattle.context_diff.proofs.Names.{member_same}
 use Rattle.context_diff.proofs.Raising.{has_raised}
 use Rattle.context_diff.proofs.Valid.{by_pushes}
 use Rattle.context_diff.proofs.Complete.{complete, next_member, context_push}

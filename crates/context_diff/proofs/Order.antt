@@ -1,22 +1,22 @@
 -- The order of a valid history: each member stands once, and behind its base context.
-use Rattle.std.proofs.Common.{◌≡◌, ℕ, ◌+◌, ◌<◌, ◌≤◌, Bool, true, false, ◌⊎◌, inl, inr, List, [], ◌∷◌, ◌++◌, refl, ap, sym, subst, ◌∙◌, arith}
+use Rattle.std.proofs.Common.{◌≡◌, ℕ, true, false, inl, inr, List, [], ◌∷◌, ◌++◌, refl, ap, sym, ◌∙◌, arith}
 use Rattle.std.specs.Prelude.{◌||◌, ◌&&◌}
-use Rattle.std.proofs.lemmas.Bool.{or_right, false≢true, cases_Bool, or_from, or_cases, or_parts, false_from_ne_true}
+use Rattle.std.proofs.lemmas.Bool.{or_right, false≢true, or_from, false_from_ne_true}
 use Rattle.op_name.specs.declared.member.Member.{Member}
 use Rattle.op_name.specs.declared.member.Member.TheVariants.{Original, Group}
 use Rattle.op_name.specs.NameData.{NameData}
 use Rattle.op_name.specs.Members.{member_eq}
-use Rattle.context_vector.specs.Contexts.{ContextData, has, entry_of}
-use Rattle.context_diff.specs.Operations.{OpData, inserting, deleting, undoing, member_of, context_of}
+use Rattle.context_vector.specs.Contexts.{ContextData, has}
+use Rattle.context_diff.specs.Operations.{OpData, inserting, deleting, undoing, member_of}
 use Rattle.context_diff.specs.Histories.{is_known, IsNext, IsValid, IsValidAfter}
-use Rattle.context_diff.specs.Bases.{original_context, is_below, is_before, base_has}
+use Rattle.context_diff.specs.Bases.{original_context, is_below, base_has}
 use Rattle.context_diff.proofs.Names.{member_same, member_itself}
 use Rattle.context_diff.proofs.Raising.{has_group}
-use Rattle.context_diff.proofs.Known.{known_push, known_on, known_append, known_cases, context_on, context_behind, context_here}
+use Rattle.context_diff.proofs.Known.{known_push, known_on, context_on, context_behind, context_here}
 use Rattle.context_diff.proofs.Valid.{valid_before, valid_parts}
 use Rattle.context_diff.proofs.Complete.{IsComplete, complete}
 use Rattle.context_diff.proofs.Histories.{original_facts, group_facts}
-use Rattle.context_diff.proofs.ClosedSets.{base_original, base_group, base_known, base_listed, InGroupBase}
+use Rattle.context_diff.proofs.ClosedSets.{base_original, base_group, base_listed, InGroupBase}
 
 -- a member that is there comes no second time
 pub later_new_after : (b os : List OpData) (m : Member) → is_known b m ≡ true → IsValidAfter b os → is_known os m ≡ false

@@ -1,18 +1,17 @@
 -- How the places of a difference are gathered: number by number, site by site, and name by name.
-use Rattle.std.proofs.Common.{◌≡◌, ℕ, zero, suc, ◌+◌, ◌-◌, ◌<◌, ◌≤◌, Bool, true, false, ◌⊎◌, inl, inr, List, [], ◌∷◌, ◌++◌, refl, ap, sym, subst, ◌∙◌, arith, length, take, take_all, not}
+use Rattle.std.proofs.Common.{◌≡◌, ℕ, zero, suc, ◌+◌, ◌-◌, ◌<◌, ◌≤◌, Bool, true, false, inl, inr, List, [], ◌∷◌, ◌++◌, refl, ap, sym, ◌∙◌, arith, length, take, take_all}
 use Rattle.std.specs.Prelude.{◌==◌, ◌&&◌, ◌||◌, nat_le, nat_lt, Option, Some, None, slice_get, if◌then◌else◌}
 use Rattle.std.proofs.lemmas.Bool.Decides.{nat_tests}
-use Rattle.std.proofs.lemmas.Bool.{cases_Bool, cases_lt, false≢true, eqb-true, or_right, and_parts}
+use Rattle.std.proofs.lemmas.Bool.{cases_Bool, false≢true, eqb-true, or_right, and_parts}
 use Rattle.op_name.specs.NameData.{NameData, name_eq}
 use Rattle.op_name.specs.declared.member.Member.{Member}
 use Rattle.op_name.specs.declared.member.Member.TheVariants.{Original, Group}
 use Rattle.op_name.specs.Members.{member_eq}
-use Rattle.context_vector.specs.Contexts.{ContextData, AreCounts, AreEntries, IsContext, count_in, entry_in, count_of, entry_of, has}
+use Rattle.context_vector.specs.Contexts.{ContextData, AreCounts, AreEntries, count_in, entry_in, count_of, entry_of}
 use Rattle.context_diff.specs.Operations.{OpData, member_of}
 use Rattle.context_diff.specs.Histories.{is_known, members_in, IsValid, IsValidAfter}
 use Rattle.context_diff.specs.Places.{times, passes_at, ArePlacesOf, is_between, is_group_between, is_missing, first_sites, first_names}
-use Rattle.context_diff.proofs.Names.{member_same, member_itself, member_apart, name_same, name_itself}
-use Rattle.context_diff.proofs.Known.{known_on}
+use Rattle.context_diff.proofs.Names.{member_same, member_itself, name_same, name_itself}
 use Rattle.context_diff.proofs.Order.{known_end, later_new_after}
 use Rattle.context_diff.proofs.Listings.{count_before, count_more, entry_before, entry_more}
 

@@ -1,16 +1,16 @@
 -- A difference in the history's order: each member comes behind its base context.
-use Rattle.std.proofs.Common.{◌≡◌, ℕ, Bool, true, false, ◌⊎◌, inl, inr, List, [], ◌∷◌, ◌++◌, refl, ap, sym, subst, ◌∙◌, not, map, append-nil, append_assoc}
+use Rattle.std.proofs.Common.{◌≡◌, Bool, true, inl, inr, List, [], ◌∷◌, ◌++◌, ap, sym, subst, ◌∙◌, not}
 use Rattle.std.specs.Prelude.{◌||◌, ◌&&◌, filter, if◌then◌else◌}
-use Rattle.std.proofs.lemmas.Bool.{false≢true, and_parts, and_from, or_cases, or_left, or_right, false_from_ne_true, not_from_false, not-true, cases_Bool}
+use Rattle.std.proofs.lemmas.Bool.{false≢true, and_parts, and_from, or_cases, or_left, or_right, not_from_false, cases_Bool}
 use Rattle.op_name.specs.declared.member.Member.{Member}
 use Rattle.op_name.specs.Members.{member_eq}
 use Rattle.context_vector.specs.Contexts.{has}
 use Rattle.context_diff.specs.Operations.{OpData, member_of}
 use Rattle.context_diff.specs.Histories.{is_known, members_in, IsValid}
 use Rattle.context_diff.specs.Bases.{base_has}
-use Rattle.context_diff.specs.Differences.{IsClosedSet, AreReady, DifferenceIsReady, difference_of}
-use Rattle.context_diff.proofs.Names.{member_same, member_itself}
-use Rattle.context_diff.proofs.Known.{known_push, known_cases, known_behind}
+use Rattle.context_diff.specs.Differences.{IsClosedSet, AreReady, DifferenceIsReady}
+use Rattle.context_diff.proofs.Names.{member_same}
+use Rattle.context_diff.proofs.Known.{known_push}
 use Rattle.context_diff.proofs.Valid.{shifted}
 use Rattle.context_diff.proofs.Order.{earlier}
 

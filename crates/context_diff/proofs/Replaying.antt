@@ -1,16 +1,11 @@
 -- The replay by places: where an insert goes in the fixed order, and where its cell goes among the cells.
-use Rattle.std.proofs.Common.{◌≡◌, ℕ, zero, suc, ◌+◌, ◌-◌, ◌<◌, ◌≤◌, Bool, true, false, ◌⊎◌, inl, inr, List, [], ◌∷◌, ◌++◌, refl, ap, sym, subst, ◌∙◌, arith, length, map, take, drop, get_or, append_assoc, max, not}
-use Rattle.std.specs.Prelude.{◌==◌, ◌||◌, ◌&&◌, nat_lt, filter, if◌then◌else◌}
-use Rattle.std.specs.List.{list_any}
-use Rattle.std.proofs.lemmas.Bool.Decides.{nat_tests}
-use Rattle.std.proofs.lemmas.Bool.{cases_Bool, false≢true}
-use Rattle.op_name.specs.NameData.{NameData, name_eq}
-use Rattle.op_name.specs.declared.member.Member.TheVariants.{Original}
-use Rattle.context_vector.specs.Contexts.{ContextData, has}
-use Rattle.context_diff.specs.Operations.{OpData, inserting, deleting, undoing}
+use Rattle.std.proofs.Common.{◌≡◌, ℕ, zero, suc, ◌+◌, ◌-◌, ◌≤◌, Bool, inl, inr, List, [], ◌∷◌, ◌++◌, refl, ap, sym, ◌∙◌, arith, map, take, drop, append_assoc}
+use Rattle.std.proofs.lemmas.Bool.{cases_Bool}
+use Rattle.op_name.specs.NameData.{NameData}
+use Rattle.context_vector.specs.Contexts.{ContextData}
+use Rattle.context_diff.specs.Operations.{OpData, inserting}
 use Rattle.context_diff.specs.Gaps.{Gap}
-use Rattle.context_diff.specs.Replays.{Insertion, Cell, insertions_in, put_by, sort_by, is_earlier, cells_from, put, gap_of, stands_at, character_in}
-use Rattle.context_diff.specs.Histories.{generation_at, generation_in}
+use Rattle.context_diff.specs.Replays.{Insertion, Cell, insertions_in, put_by, sort_by, is_earlier, cells_from, put, gap_of}
 use Rattle.context_diff.specs.GapEnds.{before_first, gap_between}
 use Rattle.context_diff.proofs.GapEnds.{take_more}
 

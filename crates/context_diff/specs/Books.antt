@@ -1,5 +1,5 @@
 -- Books as contracts see them: a valid history beside its members and the room that is left.
-use Rattle.std.specs.Prelude.{◌≡◌, ℕ, ◌+◌, ◌<◌, ◌≤◌, Bool, List, length}
+use Rattle.std.specs.Prelude.{ℕ, ◌+◌, ◌<◌, List, length}
 use Rattle.context_diff.specs.Operations.{OpData, member_of}
 use Rattle.context_vector.specs.Contexts.{ContextData}
 use Rattle.context_diff.specs.Histories.{CoversSite}

@@ -1,7 +1,5 @@
 -- How inserts are counted site by site.
-use Rattle.std.specs.Prelude.{ℕ, ◌+◌, Bool, false, List, [], ◌∷◌, ◌==◌, ◌&&◌, nat_le, nat_lt, if◌then◌else◌}
-use Rattle.op_name.specs.NameData.{NameData}
-use Rattle.context_vector.specs.Contexts.{ContextData, count_of}
+use Rattle.std.specs.Prelude.{ℕ, ◌+◌, Bool, false, List, [], ◌∷◌, ◌==◌, ◌&&◌, nat_le, if◌then◌else◌}
 use Rattle.context_diff.specs.Operations.{OpData, inserting, deleting, undoing}
 
 -- an insert of the site, at most the k-th original of it

@@ -1,5 +1,5 @@
 -- Gaps as two ends: how many cells stand before the gap, and how many before or in it.
-use Rattle.std.specs.Prelude.{ℕ, zero, suc, ◌+◌, ◌-◌, Bool, List, [], ◌∷◌, ◌||◌, take, drop, if◌then◌else◌}
+use Rattle.std.specs.Prelude.{ℕ, zero, suc, ◌-◌, Bool, List, [], ◌∷◌, ◌||◌, take, drop, if◌then◌else◌}
 use Rattle.std.specs.List.{list_any}
 use Rattle.context_diff.specs.Gaps.{Gap}
 

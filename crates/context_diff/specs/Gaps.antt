@@ -1,5 +1,5 @@
 -- The open stretch in which a place is searched, as three lists. A deleted cell stays and counts (tombstones, TTF 2006).
-use Rattle.std.specs.Prelude.{◌≡◌, ℕ, zero, suc, Bool, true, false, List, [], ◌∷◌, ◌++◌, ◌||◌, if◌then◌else◌}
+use Rattle.std.specs.Prelude.{ℕ, zero, suc, Bool, List, [], ◌∷◌, ◌++◌, ◌||◌, if◌then◌else◌}
 use Rattle.std.specs.List.{list_any}
 
 -- the cells up to and with the left neighbour; those strictly between the neighbours; those from the right neighbour on.

@@ -1,7 +1,7 @@
 -- Histories: lists of operations in the order in which a site integrated them, and which operation may come next.
 use Rattle.std.specs.Prelude.{◌≡◌, ℕ, ◌+◌, ◌<◌, ◌≤◌, ◌%◌, Bool, true, false, List, [], ◌∷◌, ◌++◌, ◌&&◌, ◌||◌, ◌==◌, Contains, ◌↔◌, map, max, if◌then◌else◌}
 use Rattle.op_name.specs.declared.member.Member.{Member}
-use Rattle.op_name.specs.declared.member.Member.TheVariants.{Original, Group}
+use Rattle.op_name.specs.declared.member.Member.TheVariants.{Original}
 use Rattle.op_name.specs.NameData.{NameData, name_eq}
 use Rattle.op_name.specs.Members.{member_eq, member_lt}
 use Rattle.context_vector.specs.Contexts.{ContextData, Within, has, count_of, empty, raised}

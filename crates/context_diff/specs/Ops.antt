@@ -1,5 +1,5 @@
 -- Operations as the code has them: what contracts see of one, and the rules that it may break.
-use Rattle.std.specs.Prelude.{ℕ, Bool, false, ◌==◌, ◌&&◌}
+use Rattle.std.specs.Prelude.{Bool, false, ◌==◌, ◌&&◌}
 use Rattle.op_name.specs.NameData.{name_eq}
 use Rattle.context_vector.specs.Equality.{context_eq}
 use Rattle.context_diff.specs.Operations.{OpData, inserting, deleting, undoing, context_of, IsInRange, KeepsOwn, KeepsTarget}

@@ -1,5 +1,5 @@
 -- The fixed replay of the inserts of a history, and the text that is shown.
-use Rattle.std.specs.Prelude.{◌≡◌, ℕ, zero, suc, Bool, true, false, List, [], ◌∷◌, ◌++◌, ◌&&◌, ◌||◌, ◌==◌, not, nat_lt, filter, map, encode_utf8_all, length, if◌then◌else◌}
+use Rattle.std.specs.Prelude.{ℕ, zero, suc, Bool, false, List, [], ◌∷◌, ◌++◌, ◌&&◌, ◌||◌, ◌==◌, not, nat_lt, filter, map, encode_utf8_all, if◌then◌else◌}
 use Rattle.std.specs.List.{list_any}
 use Rattle.op_name.specs.declared.member.Member.TheVariants.{Original}
 use Rattle.op_name.specs.NameData.{NameData, name_eq}

@@ -1,18 +1,12 @@
-use Rattle.std.proofs.Common.{◌≡◌, ◌↔◌, ℕ, zero, suc, ◌+◌, ◌-◌, ◌<◌, ◌≤◌, Bool, true, false, ◌⊎◌, inl, inr, List, [], ◌∷◌, ◌++◌, refl, ap, sym, subst, ◌∙◌, arith, length, take, IsTrue, IsNone, IfSome, OnOk, Bor}
-use Rattle.std.specs.Prelude.{Contains, Option, Some, None, slice_get}
+use Rattle.std.proofs.Common.{◌≡◌, refl, sym, ◌∙◌, arith}
+use Rattle.std.specs.Prelude.{Some, slice_get}
 use Rattle.std.proofs.lemmas.Bool.{false≢true, true≢false}
-use Rattle.op_name.specs.NameData.{NameData}
-use Rattle.op_name.specs.declared.member.Member.{Member}
-use Rattle.op_name.specs.declared.member.Member.TheVariants.{Original, Group}
-use Rattle.context_vector.specs.Contexts.{ContextData, Within, has}
-use Rattle.context_diff.specs.Operations.{OpData, member_of, context_of}
-use Rattle.context_diff.specs.Histories.{is_known, IsClosed, LacksNothing}
-use Rattle.context_diff.specs.Ops.{data_of}
+use Rattle.context_vector.specs.Contexts.{Within}
 use Rattle.context_diff.specs.Bases.{original_context}
 use Rattle.context_diff.proofs.Complete.{complete}
 use Rattle.context_diff.proofs.Listings.{count_at}
 use Rattle.context_diff.proofs.Covering.{named_known, all_covered, covered_below, not_covered}
-use Rattle.context_diff.proofs.Books.{covered_ready, not_past}
+use Rattle.context_diff.proofs.Books.{covered_ready}
 use Rattle.context_diff.proofs.coverage.closed.Goals as goal
 
 pub invariant_of-covers_context : goal.invariant_of-covers_context

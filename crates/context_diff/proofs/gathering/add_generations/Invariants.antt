@@ -1,4 +1,4 @@
-use Rattle.std.proofs.Common.{◌≡◌, ℕ, ◌+◌, Bool, true, false, ◌||◌}
+use Rattle.std.proofs.Common.{◌≡◌, ◌+◌, Bool, true, false, ◌||◌}
 use Rattle.op_name.specs.declared.member.Member.{Member}
 use Rattle.context_diff.specs.Histories.{members_in}
 use Rattle.context_diff.specs.Places.{ArePlacesOf, is_group_between}

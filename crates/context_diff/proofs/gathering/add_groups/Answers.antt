@@ -1,15 +1,13 @@
-use Rattle.std.proofs.Common.{◌≡◌, ◌↔◌, ℕ, zero, suc, ◌+◌, ◌-◌, ◌<◌, ◌≤◌, Bool, true, false, ◌||◌, ◌⊎◌, inl, inr, List, [], ◌∷◌, ◌++◌, refl, ap, sym, subst, ◌∙◌, arith, length, take, take_all, add-one, IsTrue, IsNone, IfSome, OnOk, Bor}
-use Rattle.std.specs.Prelude.{Contains, Option, Some, None, slice_get}
-use Rattle.std.proofs.lemmas.Bool.{false≢true, true≢false}
+use Rattle.std.proofs.Common.{◌≡◌, ℕ, ◌+◌, true, false, ◌||◌, List, ap, sym, subst, ◌∙◌, arith, add-one}
+use Rattle.std.specs.Prelude.{Some, slice_get}
 use Rattle.op_name.specs.NameData.{NameData}
 use Rattle.op_name.specs.declared.member.Member.{Member}
-use Rattle.op_name.specs.declared.member.Member.TheVariants.{Original, Group}
-use Rattle.context_vector.specs.Contexts.{ContextData, Within, has, count_of, entry_of}
-use Rattle.context_diff.specs.Operations.{OpData, member_of, context_of}
-use Rattle.context_diff.specs.Histories.{is_known, members_in, LacksNothing}
-use Rattle.context_diff.specs.Places.{ArePlacesOf, is_between, is_group_between, is_missing, first_sites, first_names, members_at}
-use Rattle.context_diff.proofs.Listings.{count_at, entry_at}
-use Rattle.context_diff.proofs.Raising.{has_original, has_group}
+use Rattle.op_name.specs.declared.member.Member.TheVariants.{Group}
+use Rattle.context_vector.specs.Contexts.{entry_of}
+use Rattle.context_diff.specs.Histories.{members_in}
+use Rattle.context_diff.specs.Places.{ArePlacesOf, is_group_between, is_missing, first_names}
+use Rattle.context_diff.proofs.Listings.{entry_at}
+use Rattle.context_diff.proofs.Raising.{has_group}
 use Rattle.context_diff.proofs.Books.{covered_ready, not_past}
 use Rattle.context_diff.proofs.PlaceSteps.{places_same, names_more, name_is_new, names_all}
 use Rattle.context_diff.proofs.gathering.add_groups.Goals as goal

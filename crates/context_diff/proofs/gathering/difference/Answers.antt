@@ -1,17 +1,8 @@
-use Rattle.std.proofs.Common.{◌≡◌, ◌↔◌, ℕ, zero, suc, ◌+◌, ◌-◌, ◌<◌, ◌≤◌, Bool, true, false, ◌||◌, ◌⊎◌, inl, inr, List, [], ◌∷◌, ◌++◌, refl, ap, sym, subst, ◌∙◌, arith, length, take, take_all, get_or, append_assoc, append-nil, vec_len, vec_capacity, add-one, IsTrue, IsNone, IfSome, OnOk, Bor}
-use Rattle.std.specs.Prelude.{Contains, Option, Some, None, slice_get}
-use Rattle.std.proofs.lemmas.Bool.{false≢true, true≢false}
-use Rattle.op_name.specs.NameData.{NameData}
+use Rattle.std.proofs.Common.{◌≡◌, ℕ, ◌+◌, ◌<◌, List, [], ◌∷◌, ◌++◌, ap, sym, ◌∙◌, arith, length, take, take_all, get_or, append_assoc, append-nil, vec_len, vec_capacity}
+use Rattle.std.specs.Prelude.{Some, None, slice_get}
 use Rattle.op_name.specs.declared.member.Member.{Member}
-use Rattle.op_name.specs.declared.member.Member.TheVariants.{Original, Group}
-use Rattle.context_vector.specs.Contexts.{ContextData, Within, has, count_of, entry_of}
-use Rattle.context_diff.specs.Operations.{OpData, member_of, context_of}
-use Rattle.context_diff.specs.Histories.{is_known, members_in, LacksNothing}
-use Rattle.context_diff.specs.Places.{ArePlacesOf, is_between, is_group_between, is_missing, first_sites, first_names, members_at}
-use Rattle.context_diff.proofs.Listings.{count_at, entry_at}
-use Rattle.context_diff.proofs.Raising.{has_original, has_group}
-use Rattle.context_diff.proofs.Books.{covered_ready, not_past}
-use Rattle.context_diff.specs.Differences.{difference_of}
+use Rattle.context_diff.specs.Histories.{members_in}
+use Rattle.context_diff.specs.Places.{is_missing, members_at}
 use Rattle.context_diff.proofs.Places.{members_of_places, members_at_more, members_at_some, members_at_none}
 use Rattle.context_diff.proofs.gathering.difference.Goals as goal
 use Rattle.context_diff.proofs.gathering.difference.Goals.{in-Some, in_default}

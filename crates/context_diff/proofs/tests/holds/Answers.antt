@@ -1,6 +1,5 @@
-use Rattle.std.proofs.Common.{◌≡◌, true, sym, ap, ◌∙◌}
+use Rattle.std.proofs.Common.{sym, ◌∙◌}
 use Rattle.context_vector.specs.Contexts.{has}
-use Rattle.context_vector.specs.Vectors.{VectorData}
 use Rattle.context_diff.proofs.Next.{have_known}
 use Rattle.context_diff.proofs.tests.holds.Goals as goal
 

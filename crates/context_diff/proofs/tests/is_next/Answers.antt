@@ -1,4 +1,4 @@
-use Rattle.std.proofs.Common.{◌≡◌, ap, subst, ◌∙◌, not}
+use Rattle.std.proofs.Common.{ap, subst, ◌∙◌, not}
 use Rattle.context_vector.specs.Contexts.{ContextData}
 use Rattle.context_diff.specs.Histories.{IsClosed}
 use Rattle.context_diff.specs.Ops.{data_of}

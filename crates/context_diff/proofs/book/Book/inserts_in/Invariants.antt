@@ -1,4 +1,4 @@
-use Rattle.std.proofs.Common.{◌≡◌, ℕ, take}
+use Rattle.std.proofs.Common.{◌≡◌, take}
 use Rattle.context_diff.specs.Counting.{inserts_listed}
 use Rattle.context_diff.proofs.book.Book.inserts_in.Given as goal
 

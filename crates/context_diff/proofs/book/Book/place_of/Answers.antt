@@ -1,15 +1,9 @@
-use Rattle.std.proofs.Common.{◌≡◌, ◌↔◌, ℕ, zero, suc, ◌+◌, ◌<◌, ◌≤◌, Bool, true, false, ◌⊎◌, inl, inr, List, [], ◌∷◌, ◌++◌, refl, ap, sym, subst, ◌∙◌, arith, length, take, IsTrue, IsNone, IfSome, OnOk, Bor}
-use Rattle.std.specs.Prelude.{Contains, Option, Some, None, slice_get, option_map, option_copied}
-use Rattle.op_name.specs.declared.member.Member.{Member}
-use Rattle.op_name.specs.declared.member.Member.TheVariants.{Original, Group}
-use Rattle.op_name.specs.Members.{member_eq, IsMember}
-use Rattle.context_diff.specs.Operations.{OpData, member_of}
-use Rattle.context_diff.specs.Histories.{is_known, members_in, context_of_all}
-use Rattle.context_diff.specs.Ops.{data_of}
-use Rattle.context_diff.specs.Books.{BookData, HasRoom, kept_op, kept_inserts}
-use Rattle.context_diff.specs.Kept.{ops_in, AreKept, IsBook, inserts_up_to}
-use Rattle.context_diff.proofs.Kept.{ops_length, kept_at}
-use Rattle.context_diff.proofs.Books.{entry_read, entry_past, place_read, place_missing}
+use Rattle.std.proofs.Common.{◌≡◌, false, List, refl, ap, sym, subst, ◌∙◌}
+use Rattle.std.specs.Prelude.{Some, slice_get}
+use Rattle.context_diff.specs.Operations.{OpData}
+use Rattle.context_diff.specs.Histories.{is_known, members_in}
+use Rattle.context_diff.specs.Books.{BookData}
+use Rattle.context_diff.proofs.Books.{place_read, place_missing}
 use Rattle.std.proofs.lemmas.Bool.{false≢true, true≢false}
 use Rattle.context_diff.proofs.PlaceSteps.{known_at}
 use Rattle.context_diff.proofs.book.Book.place_of.Goals as goal

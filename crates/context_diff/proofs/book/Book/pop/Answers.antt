@@ -1,14 +1,9 @@
-use Rattle.std.proofs.Common.{◌≡◌, ◌↔◌, ℕ, zero, suc, ◌+◌, ◌<◌, ◌≤◌, Bool, true, false, ◌⊎◌, inl, inr, List, [], ◌∷◌, ◌++◌, refl, ap, sym, subst, ◌∙◌, arith, length, take, IsTrue, IsNone, IfSome, OnOk, Bor}
-use Rattle.std.specs.Prelude.{Contains, Option, Some, None, slice_get, option_map, option_copied}
+use Rattle.std.proofs.Common.{◌≡◌, ◌+◌, List, [], ◌∷◌, ◌++◌, ap, sym, subst, ◌∙◌, arith, length}
+use Rattle.std.specs.Prelude.{Option, Some}
 use Rattle.op_name.specs.declared.member.Member.{Member}
-use Rattle.op_name.specs.declared.member.Member.TheVariants.{Original, Group}
-use Rattle.op_name.specs.Members.{member_eq, IsMember}
-use Rattle.context_diff.specs.Operations.{OpData, member_of}
-use Rattle.context_diff.specs.Histories.{is_known, members_in, context_of_all}
-use Rattle.context_diff.specs.Ops.{data_of}
-use Rattle.context_diff.specs.Books.{BookData, HasRoom, kept_op, kept_inserts}
-use Rattle.context_diff.specs.Kept.{ops_in, AreKept, IsBook, inserts_up_to}
-use Rattle.context_diff.proofs.Kept.{ops_length, kept_at}
+use Rattle.context_diff.specs.Books.{BookData, kept_op, kept_inserts}
+use Rattle.context_diff.specs.Kept.{ops_in, IsBook}
+use Rattle.context_diff.proofs.Kept.{ops_length}
 use Rattle.std.specs.Option.{option_to_list}
 use Rattle.std.proofs.lemmas.Bool.{true≢false}
 use Rattle.std.proofs.Common.{length-append}
