@@ -1,4 +1,3 @@
 pub mod FieldLaws
-pub mod FirstLineLaws
 pub mod LineLaws
 pub mod Listings

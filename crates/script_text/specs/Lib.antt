@@ -1,9 +1,7 @@
 pub mod Names
 pub mod Fields
-pub mod FirstLines
 pub mod Lines
 pub mod Rows
 pub mod Answers
-pub mod Inserted
 pub mod Report
 pub mod Verdicts

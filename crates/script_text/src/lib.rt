@@ -7,8 +7,6 @@
 mod chars;
 mod event;
 mod field;
-mod first_lines;
-mod inserted;
 mod lines;
 mod made;
 mod members;
@@ -23,8 +21,6 @@ mod verdicts;
 
 pub use chars::Chars;
 pub use event::{Event, verdict_line};
-pub use first_lines::{FirstLine, first_line};
-pub use inserted::inserted_line;
 pub use lines::{LONGEST, Line, LineBad, each_line_has_a_spelling, parse_line};
 pub use made::op_line;
 pub use octets::Octets;

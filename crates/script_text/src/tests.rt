@@ -1,3 +1,2 @@
-mod first_lines;
 mod lines;
 mod report;
