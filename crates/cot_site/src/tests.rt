@@ -3,6 +3,7 @@
 mod calls;
 mod forms;
 mod laws;
+mod memory;
 mod odd;
 mod orders;
 mod sessions;

@@ -208,10 +208,17 @@ fn in_order(alloc: Global, made: &[Made], numbers: &[usize]) -> Result<Vec<Op>, 
     Ok(ops)
 }
 
+fn integrates(site: &mut Site, op: &Op) -> Result<bool, Fail> {
+    match deliver(site, op) {
+        Ok(verdict) => Ok(verdict == Verdict::Integrated),
+        Err(why) => Err(why),
+    }
+}
+
 /// Whether the site integrates each operation at its delivery.
 fn integrates_all(site: &mut Site, ops: &[Op]) -> Result<bool, Fail> {
     for op in ops {
-        if deliver(site, op)? != Verdict::Integrated {
+        if !integrates(site, op)? {
             return Ok(false);
         }
     }

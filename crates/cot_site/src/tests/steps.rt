@@ -92,7 +92,7 @@ fn why_of(cause: &Local) -> Why {
     }
 }
 
-fn answer_of(verdict: &Verdict) -> Answer {
+pub(super) fn answer_of(verdict: &Verdict) -> Answer {
     match verdict {
         Verdict::Repeat => Answer::Repeat,
         Verdict::Forged { name } => Answer::Forged(parts(name)),
@@ -120,7 +120,7 @@ fn redo(site: &mut Site, of: Named) -> Result<Op, Why> {
     }
 }
 
-fn edited(site: &mut Site, edit: &Edit) -> Result<Op, Why> {
+pub(super) fn edited(site: &mut Site, edit: &Edit) -> Result<Op, Why> {
     match edit {
         Edit::Insert(v, ch) => site.insert(*v, *ch).map_err(|cause| why_of(&cause)),
         Edit::Delete(v) => site.delete(*v).map_err(|cause| why_of(&cause)),
