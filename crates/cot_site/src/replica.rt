@@ -1,7 +1,8 @@
 //! The integrated operations of a site, with what they made of the text.
 
-ghost use Rattle.std.specs.Prelude.{◌≡◌, ◌<◌, ◌++◌, ◌∷◌, [], OnOk, OnErr, IfOk, IfSome, length, option_map, slice_get, vec_len, vec_capacity};
+ghost use Rattle.std.specs.Prelude.{◌≡◌, ◌<◌, ◌++◌, ◌∷◌, List, [], OnOk, OnErr, IfOk, IfSome, length, option_map, slice_get, vec_len, vec_capacity};
 ghost use Rattle.context_vector.specs.Contexts.{has};
+ghost use Rattle.context_diff.specs.Operations.{OpData};
 ghost use Rattle.context_diff.specs.Histories.{context_of_all, IsNext, IsValid};
 ghost use Rattle.context_diff.specs.Replays.{shown, text_of};
 ghost use Rattle.context_diff.specs.Ops.{data_of};
@@ -165,13 +166,20 @@ impl Replica {
         ) {
             Ok(()) => Ok(()),
             Err(want) => {
-                // An entry of the cache may be at a context with the operation.
-                self.cache.clear();
-                self.book.pop();
+                take_back(&mut self.book, &mut self.cache);
                 Err(want)
             }
         }
     }
+}
+
+// Takes the last operation out, and with it all forms of the cache: their members or contexts may have it.
+fn take_back(book: &mut Book, cache: &mut Cache<Form>)
+    ensures ops { (h : List OpData) (o : OpData) → book.old.ops ≡ h ++ o ∷ [] → book.new.ops ≡ h }
+    ensures entries { cache.new.entries ≡ [] }
+{
+    cache.clear();
+    book.pop();
 }
 
 // Executes the form of a member of the book at `to`, and appends it to the forms, which have a spare place. After

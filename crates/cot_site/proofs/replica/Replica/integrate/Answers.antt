@@ -4,7 +4,7 @@ use Rattle.context_diff.specs.Histories.{IsNext}
 use Rattle.context_vector.specs.Vectors.{VectorData}
 use Rattle.context_diff.specs.Ops.{data_of}
 use Rattle.cot_site.specs.Sites.{ReplicaData}
-use Rattle.cot_site.proofs.Executions.{added_at, fits_at, step_at, executed_same, popped}
+use Rattle.cot_site.proofs.Executions.{added_at, fits_at, step_at, executed_same}
 use Rattle.cot_site.proofs.Cached.{cached_same, cached_more, cached_none}
 use Rattle.cot_site.proofs.replica.Replica.integrate.Goals as goal
 
@@ -55,9 +55,9 @@ pub invariant_of-self-in-Err : goal.invariant_of-self-in-Err
 invariant_of-self-in-Err c =
     let h = c.self.inside.book.ops in
     let o = data_of c.args.op in
-    let grown : c.push.new.self.ops ≡ h ++ o ∷ [] = c.push.ensures ∙ ap (λ (l : List OpData). l ++ o ∷ []) c.reserve-2.ensures.ops in (
-      executed_same h c.pop.new.self.ops c.self.inside.forms.items c.execute.new.forms.items c.self.inside.cells.cells c.execute.new.cells.cells c.self.invariant.0
-          (popped h c.pop.new.self.ops c.push.new.self.ops o c.pop.result grown c.pop.ensures.none c.pop.ensures.ops)
+    let grown : c.push.new.self.ops ≡ h ++ o ∷ [] = c.push.ensures ∙ ap (λ (l : List OpData). l ++ o ∷ []) c.reserve-2.ensures.ops in
+    let back = c.take_back.new.book.ops in (
+      executed_same h back c.self.inside.forms.items c.execute.new.forms.items c.self.inside.cells.cells c.execute.new.cells.cells c.self.invariant.0 (c.take_back.ensures.ops h o grown)
           (c.in-Err.ensures.forms ∙ c.reserve.ensures.items) c.in-Err.ensures.cells,
-      cached_none c.pop.new.self.ops c.clear.new.self.entries c.clear.ensures.entries,
+      cached_none back c.take_back.new.cache.entries c.take_back.ensures.entries,
     )
