@@ -160,19 +160,6 @@ fn originals(names: [(u16, u32); 2]) -> Result<[Member; 2], Fail> {
     Ok([Member::Original(first), Member::Original(second)])
 }
 
-#[test]
-fn a_difference_goes_in_the_order_of_integration(rt: HostRuntime) -> Result<(), Fail> {
-    for (why, seen, other, members) in [
-        ("from nothing", 0, 0, [(2, 1), (2, 2)]),
-        ("site 1 came behind site 2", 1, 1, [(2, 2), (1, 1)]),
-    ] {
-        let found = between(rt.alloc(), &[(2, seen)], &[(2, 2), (1, other)])?;
-        let members = originals(members)?;
-        assert_eq!(rt; found.as_slice(), members.as_slice(), "{why}");
-    }
-    Ok(())
-}
-
 /// What the laws of differences say, for whoever calls them.
 fn laws_of_differences()
     ensures last { LastMayBeTakenOut }
@@ -185,10 +172,23 @@ fn laws_of_differences()
 }
 
 #[test]
-fn a_difference_of_equal_contexts_is_empty(rt: HostRuntime) -> Result<(), Fail> {
+fn a_difference_goes_in_the_order_of_integration(rt: HostRuntime) -> Result<(), Fail> {
     laws_of_differences();
-    let found = between(rt.alloc(), &[(2, 1)], &[(2, 1)])?;
-    assert!(rt; found.is_empty());
+    for (why, seen, third, other, members) in [
+        ("from nothing", 0, 0, 0, [(2, 1), (2, 2)]),
+        ("site 1 came behind site 2", 1, 0, 1, [(2, 2), (1, 1)]),
+        (
+            "only the first context has site 3",
+            1,
+            1,
+            1,
+            [(2, 2), (1, 1)],
+        ),
+    ] {
+        let found = between(rt.alloc(), &[(2, seen), (3, third)], &[(2, 2), (1, other)])?;
+        let members = originals(members)?;
+        assert_eq!(rt; found.as_slice(), members.as_slice(), "{why}");
+    }
     Ok(())
 }
 
