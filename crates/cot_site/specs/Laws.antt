@@ -1,5 +1,5 @@
 -- The laws of verdicts, releases and local commands.
-use Rattle.std.specs.Prelude.{◌≡◌, ◌↔◌, ℕ, ◌<◌, false, List, Contains, Ok, Some}
+use Rattle.std.specs.Prelude.{◌≡◌, ◌↔◌, ℕ, ◌<◌, false, List, [], Contains, Ok, Some, length}
 use Rattle.op_name.specs.declared.member.Member.{Member}
 use Rattle.op_name.specs.declared.member.Member.TheVariants.{Original}
 use Rattle.op_name.specs.NameData.{NameData}
@@ -9,7 +9,13 @@ use Rattle.cot_site.specs.declared.verdict.Verdict.{Verdict}
 use Rattle.cot_site.specs.declared.verdict.Verdict.TheVariants.{Waits, Integrated}
 use Rattle.cot_site.specs.Verdicts.{verdict_of, IsVerdict, HasOther}
 use Rattle.cot_site.specs.States.{State, Released, released, is_ready, IsSettled}
-use Rattle.cot_site.specs.Commands.{local_insert, local_delete, local_undo, local_redo}
+use Rattle.context_diff.specs.Replays.{shown, text_of}
+use Rattle.ttf_form.specs.declared.form.Form.{Form}
+use Rattle.ttf_form.specs.Cells.{applied}
+use Rattle.transform_rec.specs.Executing.{executed}
+use Rattle.visible_view.specs.View.{shown_cells, shown_places, shown_text}
+use Rattle.cot_site.specs.Sites.{AreExecuted}
+use Rattle.cot_site.specs.Commands.{local_insert, local_delete, local_undo, local_redo, shown_places_of}
 use Rattle.std.specs.Char.{IsScalar}
 
 -- a well-formed operation has exactly one verdict over a valid history, and it comes exactly where its words hold
@@ -48,3 +54,14 @@ LocalOperationsAreNext =
     × ((v : ℕ) → local_delete s v ≡ Ok o → IsNext s.history o)
     × ((t : NameData) → local_undo s t ≡ Ok o → IsNext s.history o)
     × ((t : NameData) → local_redo s t ≡ Ok o → IsNext s.history o)
+
+-- what the executed forms of a valid history show is what the history shows: the text, where the shown characters stand, and
+-- how many there are
+abbrev pub ExecutedFormsShowTheHistory : Type 0
+ExecutedFormsShowTheHistory =
+    (h : List OpData) (fs : List Form)
+    → IsValid h
+    → AreExecuted h fs
+    → (shown_text (executed applied [] fs) ≡ text_of h)
+    × (shown_places (executed applied [] fs) ≡ shown_places_of h)
+    × (length (shown_cells (executed applied [] fs)) ≡ length (shown h))

@@ -13,8 +13,8 @@ mod site;
 mod verdict;
 
 pub use laws::{
-    integrated_operations_are_next, local_operations_are_next, releases_never_wait,
-    settled_states_have_none_ready, verdicts_are_exact,
+    executed_forms_show_the_history, integrated_operations_are_next, local_operations_are_next,
+    releases_never_wait, settled_states_have_none_ready, verdicts_are_exact,
 };
 pub use local::Local;
 pub use site::Site;

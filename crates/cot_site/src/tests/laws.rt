@@ -1,8 +1,8 @@
 //! Each law once, as a caller has it.
 
 use crate::{
-    integrated_operations_are_next, local_operations_are_next, releases_never_wait,
-    settled_states_have_none_ready, verdicts_are_exact,
+    executed_forms_show_the_history, integrated_operations_are_next, local_operations_are_next,
+    releases_never_wait, settled_states_have_none_ready, verdicts_are_exact,
 };
 
 #[test]
@@ -12,4 +12,5 @@ fn laws() {
     releases_never_wait();
     settled_states_have_none_ready();
     local_operations_are_next();
+    executed_forms_show_the_history();
 }
