@@ -1,5 +1,5 @@
 -- Entries of the cache stay the forms of their keys: over one more operation, and where nothing but their order changes.
-use Rattle.std.proofs.Common.{◌≡◌, ◌∙◌, sym, subst, refl, List, [], ◌∷◌, ◌++◌, IfSome}
+use Rattle.std.proofs.Common.{◌≡◌, sym, subst, List, [], ◌∷◌, ◌++◌, IfSome}
 use Rattle.std.specs.Prelude.{Option, Some, None}
 use Rattle.context_diff.specs.Operations.{OpData}
 use Rattle.context_diff.specs.Histories.{IsNext, IsValid}

@@ -1,8 +1,6 @@
-use Rattle.std.proofs.Common.{List, sym, subst}
+use Rattle.std.proofs.Common.{sym, subst}
 use Rattle.context_vector.specs.Contexts.{has}
-use Rattle.ttf_form.specs.declared.form.Form.{Form}
 use Rattle.ttf_form.specs.Forms.{form_over}
-use Rattle.form_cache.specs.Keys.{KeyData}
 use Rattle.transform_rec.specs.Derived.{Derived}
 use Rattle.transform_rec.specs.Entries.{AreForms}
 use Rattle.transform_rec.specs.Histories.{family_in}
