@@ -1,6 +1,6 @@
 //! Forms in a site's cache.
 
-use super::deliver;
+use super::give;
 use super::steps::{Named, context};
 use crate::Site;
 use context_diff::Op;
@@ -8,7 +8,7 @@ use form_cache::Key;
 use op_name::{Member, Name};
 use std::alloc::Global;
 use std::test::Fail;
-use ttf_form::{Form, Ins};
+use ttf_form::Form;
 
 /// What a new site is given, and what its cache answers then.
 struct Row {
@@ -68,28 +68,31 @@ fn messages(alloc: Global) -> Result<[Op; 4], Fail> {
     ])
 }
 
+/// What a row asks for.
+fn key(alloc: Global, row: &Row) -> Result<Key, Fail> {
+    let of = row.asked.0;
+    Ok(Key {
+        member: Member::Original(Name::new(of.0, of.1)?),
+        context: context(alloc, row.asked.1)?,
+    })
+}
+
+/// Whether a cache has found the form of an insert of this character at this place, or nothing where nothing is
+/// wanted.
+fn is_found(found: &Option<Form>, wanted: &Option<(u32, char)>) -> bool {
+    match (found, wanted) {
+        (Some(Form::Ins(ins)), Some(put)) => ins.place == put.0 && ins.ch == put.1,
+        (None, None) => true,
+        _ => false,
+    }
+}
+
 /// Whether a new site that was given the messages of a row answers as the row says.
 fn answers(alloc: Global, messages: &[Op], row: &Row) -> Result<bool, Fail> {
     let mut site = Site::new(alloc, 0)?;
-    for number in row.given {
-        if let Some(op) = messages.get(*number) {
-            deliver(&mut site, op)?;
-        }
-    }
-    let name = Name::new(row.asked.0.0, row.asked.0.1)?;
-    let key = Key {
-        member: Member::Original(name),
-        context: context(alloc, row.asked.1)?,
-    };
-    let wanted = row.form.map(|form| {
-        Form::Ins(Ins {
-            place: form.0,
-            site: name.site,
-            ch: form.1,
-            name,
-        })
-    });
-    Ok(site.cached(&key) == wanted)
+    give(&mut site, messages, row.given)?;
+    let key = key(alloc, row)?;
+    Ok(is_found(&site.cached(&key), &row.form))
 }
 
 #[test]
