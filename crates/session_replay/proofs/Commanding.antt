@@ -1,12 +1,12 @@
 -- A local command in memory: what it made, or why it made nothing.
 use Rattle.std.proofs.Common.{◌≡◌, ◌≢◌, ℕ, ◌<◌, List, [], ◌∷◌, ◌++◌, refl, sym, ap, subst, ◌∙◌, length, map, set, append-nil, arith}
 use Rattle.std.specs.Prelude.{Result, Ok, Err, slice_index_or}
-use Rattle.std.proofs.lemmas.List.{length-map, get_or-set_same, set-get_or}
+use Rattle.std.proofs.lemmas.List.{length-map, map-set, get_or-set_same, set-get_or}
 use Rattle.context_diff.specs.Operations.{OpData}
 use Rattle.context_diff.specs.Histories.{IsValid}
 use Rattle.context_diff.specs.declared.op.Op.{Op}
 use Rattle.context_diff.specs.Ops.{data_of}
-use Rattle.cot_site.specs.States.{with_last}
+use Rattle.cot_site.specs.States.{State, with_last}
 use Rattle.cot_site.specs.Sites.{SiteData, state_of, AllFormed}
 use Rattle.cot_site.specs.Commands.{IsAnswer}
 use Rattle.cot_site.specs.declared.local.Local.{Local}
@@ -54,9 +54,10 @@ command_formed sites messages now d i op x y w seen within formed pushed last ag
     made_formed messages now op x y formed pushed last (subst (λ (s : SiteData). IsValid s.history) same valid)
 
 -- a refused command left the session as it was
-pub refused_same : (sites : List SiteData) (messages now : List Op) (d : SessionData) (i : ℕ) (x y : SiteData) → session_of sites messages ≡ d → x ≡ slice_index_or sites i x → y ≡ x → now ≡ messages → session_of (set sites i y) now ≡ d
+pub refused_same : (sites : List SiteData) (messages now : List Op) (d : SessionData) (i : ℕ) (x y : SiteData) → session_of sites messages ≡ d → x ≡ slice_index_or sites i x → state_of y ≡ state_of x → now ≡ messages → session_of (set sites i y) now ≡ d
 refused_same sites messages now d i x y seen is same kept =
-    ap (λ s. session_of (set sites i s) now) (same ∙ is) ∙ ap (λ ss. session_of ss now) (set-get_or sites i x) ∙ ap (session_of sites) kept ∙ seen
+    let states : map state_of (set sites i y) ≡ map state_of sites = map-set state_of sites i y ∙ ap (λ s. set (map state_of sites) i s) same ∙ sym (map-set state_of sites i x) ∙ ap (λ s. map state_of (set sites i s)) is ∙ ap (map state_of) (set-get_or sites i x) in
+    ap (λ (xs : List State). record { sites = xs; messages = map data_of now }) states ∙ ap (session_of sites) kept ∙ seen
 
 refusal_is : (r : Result OpData Local) (why : Local) → IsAnswer r (Err why) → why ≢ local.Memory → r ≡ Err why
 refusal_is r (local.PlaceOut p v) h other = h

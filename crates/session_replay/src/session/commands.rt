@@ -94,7 +94,7 @@ impl Session {
 fn make(site: &mut Site, command: Command) -> Result<Op, Local>
     ensures answer { IsAnswer (local_of command (state_of site.old)) result }
     ensures made { IfOk result (λ o. state_of site.new ≡ with_last (state_of site.old) (data_of o)) }
-    ensures err { OnErr result (site.new ≡ site.old) }
+    ensures err { OnErr result (state_of site.new ≡ state_of site.old) }
 {
     match command {
         Command::Insert { place, ch } => site.insert(place, ch),

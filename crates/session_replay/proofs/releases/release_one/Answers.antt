@@ -15,7 +15,7 @@ pub returns-in_err-freed-clause-done : goal.returns-in_err-freed-clause-done
 returns-in_err-freed-clause-done c =
     let s = state_of c.args.site.now in
     let p = err_from_is_err_and c.from_residual.result c.from_residual.ensures.1 in
-    stopped c.from_residual.result p.0 p.1 (releases 1 s) s _ _ _ (done_nothing (releases 1 s) s _ _ _ (ap state_of c.in_err-freed.ensures.err) refl)
+    stopped c.from_residual.result p.0 p.1 (releases 1 s) s _ _ _ (done_nothing (releases 1 s) s _ _ _ c.in_err-freed.ensures.err.0 refl)
 
 pub returns-in_default-clause-done : goal.returns-in_default-clause-done
 returns-in_default-clause-done c =

@@ -9,7 +9,7 @@ use Rattle.session_replay.proofs.Releasing.{settled, delivered_number}
 use Rattle.session_replay.proofs.releases.take_in.Goals as goal
 
 pub returns-in-Err : goal.returns-in-Err
-returns-in-Err c = done_nothing _ _ _ _ _ (ap state_of c.in-Err.ensures.err) refl
+returns-in-Err c = done_nothing _ _ _ _ _ c.in-Err.ensures.err.0 refl
 
 pub returns-in_err-tell_verdict-in-Ok : goal.returns-in_err-tell_verdict-in-Ok
 returns-in_err-tell_verdict-in-Ok c =
