@@ -10,7 +10,7 @@ trap 'rm -rf "$made"' EXIT
 # time of one replay: label, script
 replay() {
     start=$(date +%s.%N)
-    bin/cotpad replay < "$2" > "$made/report"
+    bin/cotpad replay < "$2" > "$made/report" || { echo "$1: status $?"; return; }
     end=$(date +%s.%N)
     awk -v a="$start" -v b="$end" -v what="$1" 'BEGIN { printf "%-60s %8.2f s\n", what, b - a }'
     tail -n 1 "$made/report" | cut -c 1-40 > "$made/last"
@@ -20,7 +20,7 @@ replay() {
 text() { awk -v n="$1" 'BEGIN { for (i = 0; i < n; i++) printf "%c", 97 + i % 26 }'; }
 
 comments() {
-    awk 'BEGIN { for (i = 0; i < 1048576; i++) print "# a comment of a script, which is sixty-three characters long..." }' > "$made/comments"
+    awk 'BEGIN { for (i = 0; i < 1048576; i++) print "# a comment of a script, which is sixty-three characters long.." }' > "$made/comments"
     replay "64 MiB of comment lines" "$made/comments"
     start=$(date +%s.%N); wc -l < "$made/comments" > /dev/null; end=$(date +%s.%N)
     awk -v a="$start" -v b="$end" 'BEGIN { printf "%-60s %8.2f s\n", "the same by wc -l", b - a }'
