@@ -1,5 +1,5 @@
 -- What is in the entries after each call.
-use Rattle.std.proofs.Common.{◌≡◌, ◌⊎◌, List, Contains, Some, inl, inr, sym, subst}
+use Rattle.std.proofs.Common.{◌≡◌, ◌⊎◌, List, Contains, Option, Some, None, IfSome, inl, inr, sym, subst}
 use Rattle.lru.specs.LruCache.{lru_cache}
 use Rattle.lru.proofs.CallerLemmas.{Contains-lookup, Contains-promoted, Contains-put_entries}
 use Rattle.form_cache.specs.Keys.{KeyData, key_eq, key_eq_decides}
@@ -12,6 +12,11 @@ module _ {F : Type 0} where
       let r = Contains-lookup (key_eq k) es f h in
       let same : k ≡ r.0 = (key_eq_decides k r.0).0 r.2 in
       subst (λ (j : KeyData). Contains es (j, f)) (sym same) r.1
+
+  -- what is found for a key, if anything is, is in an entry of that key
+  pub found_if : (es : List (KeyData × F)) (k : KeyData) (r : Option F) → r ≡ form_at es k → IfSome r (λ f. Contains es (k, f))
+  found_if es k None e = tt
+  found_if es k (Some f) e = found_entry es k f (sym e)
 
   -- using an entry adds none
   pub used_entry : (es : List (KeyData × F)) (k : KeyData) (e : KeyData × F) → Contains (used es k) e → Contains es e

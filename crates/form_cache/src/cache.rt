@@ -48,6 +48,14 @@ impl<F: Copy> Cache<F> {
         self.forms.get(key).copied()
     }
 
+    /// The form that is kept under the key; None exactly where the entries lack the key. It takes no memory, and
+    /// leaves the entries in their order: whoever asks only once more for each form keeps none of them for it.
+    pub fn peek(&self, key: &Key) -> Option<F>
+        ensures { result ≡ form_at self.now.entries key.now }
+    {
+        self.forms.peek(key).copied()
+    }
+
     /// Puts the form first, under its key; the last entry of a full cache goes where the key is new. Where memory
     /// is wanting what was given is dropped; a key that is there never wants memory.
     pub fn keep(&mut self, key: Key, form: F)

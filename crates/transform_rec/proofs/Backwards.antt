@@ -175,19 +175,18 @@ module _ (h : List OpData) (v : IsValid h) (m : Member) where
 
 -- ---- the walk of the code
 
--- at a place of the history: what was taken out so far, last one last, and the entries, of which none is new
-pub record IsWalk {F : Type 0} (h : List OpData) (from at : KeyData) (stack : List Member) (i : ℕ) (old new : List (KeyData × F)) : Type 0 where
+-- at a place of the history: what was taken out so far, last one last
+pub record IsWalk (h : List OpData) (from at : KeyData) (stack : List Member) (i : ℕ) : Type 0 where
   pub near : i ≤ length (members_in h)
   pub member : at.member ≡ from.member
   pub back : IsWayBack (members_alone h) from.member (has from.context) (has at.context) (reverse stack)
   pub late : (y : Member) → has at.context y ≡ true → IsIn y (drop i (members_in h)) → base_has h from.member y ≡ true
-  pub entries : (e : KeyData × F) → Contains new e → Contains old e
 
-module _ {F : Type 0} (h : List OpData) (v : IsValid h) (from : KeyData) (old : List (KeyData × F)) where
-  abbrev pub Walk : KeyData → List Member → ℕ → List (KeyData × F) → Type 0
-  Walk at stack i new = IsWalk h from at stack i old new
+module _ (h : List OpData) (v : IsValid h) (from : KeyData) where
+  abbrev pub Walk : KeyData → List Member → ℕ → Type 0
+  Walk at stack i = IsWalk h from at stack i
 
-  pub walk_first : (stack : List Member) (i : ℕ) → MayBeAddedTo h from.context from.member → stack ≡ [] → i ≡ length h → Walk from stack i old
+  pub walk_first : (stack : List Member) (i : ℕ) → MayBeAddedTo h from.context from.member → stack ≡ [] → i ≡ length h → Walk from stack i
   walk_first stack i a e long =
       let same : length (members_in h) ≡ length h = length-map h member_of in
       record {
@@ -195,15 +194,14 @@ module _ {F : Type 0} (h : List OpData) (v : IsValid h) (from : KeyData) (old : 
         member = refl;
         back = subst (λ (s : List Member). Back h v from.member (has from.context) (has from.context) s) (sym e) (back_first h v from.member from.context a);
         late = late_end h v from.member (has from.context) i (omega arith);
-        entries = λ e i. i;
       }
 
   -- the base context, as it is kept for the walk
   abbrev pub IsOwn : ContextData → Type 0
   IsOwn own = (y : Member) → has own y ≡ base_has h from.member y
 
-  pub walk_own : (at : KeyData) (stack : List Member) (i : ℕ) (new : List (KeyData × F)) (own : ContextData) → IsOwn own → context_eq at.context own ≡ true → SameSet (has at.context) (base_has h from.member)
-  walk_own at stack i new own is e y = ap (λ (c : ContextData). has c y) ((context_eq_decides at.context own).0 e) ∙ is y
+  pub walk_own : (at : KeyData) (own : ContextData) → IsOwn own → context_eq at.context own ≡ true → SameSet (has at.context) (base_has h from.member)
+  walk_own at own is e y = ap (λ (c : ContextData). has c y) ((context_eq_decides at.context own).0 e) ∙ is y
 
   -- what the test of the walk says of a member
   between : (at : KeyData) (own : ContextData) (x : Member) → IsOwn own → (has at.context x && not (has own x)) ≡ true → (has at.context x ≡ true) × (base_has h from.member x ≡ false)
@@ -211,14 +209,14 @@ module _ {F : Type 0} (h : List OpData) (v : IsValid h) (from : KeyData) (old : 
       let p = and_parts (has at.context x) (not (has own x)) e in
       (p.0, sym (is x) ∙ not-true (has own x) p.1)
 
-  pub walk_last : (at : KeyData) (stack : List Member) (i j : ℕ) (new : List (KeyData × F)) (own : ContextData) (x : Member) → j + 1 ≡ i → slice_get (members_in h) j ≡ Some x → IsOwn own → (has at.context x && not (has own x)) ≡ true → Walk at stack i new → IsLastMember at.context x
-  walk_last at stack i j new own x e here is t w =
+  pub walk_last : (at : KeyData) (stack : List Member) (i j : ℕ) (own : ContextData) (x : Member) → j + 1 ≡ i → slice_get (members_in h) j ≡ Some x → IsOwn own → (has at.context x && not (has own x)) ≡ true → Walk at stack i → IsLastMember at.context x
+  walk_last at stack i j own x e here is t w =
       let p = between at own x is t in
       back_last h v from.member x (has from.context) at.context i j stack e here p.0 p.1 w.late w.back
 
-  pub walk_taken : (at to : KeyData) (stack more : List Member) (i j : ℕ) (new newer : List (KeyData × F)) (own : ContextData) (x : Member) → j + 1 ≡ i → slice_get (members_in h) j ≡ Some x → IsOwn own → (has at.context x && not (has own x)) ≡ true → SameSet (has to.context) (minus (has at.context) x) → to.member ≡ at.member → more ≡ stack ++ (x ∷ [])
-      → ((e : KeyData × F) → Contains newer e → Contains new e) → Walk at stack i new → Walk to more j newer
-  walk_taken at to stack more i j new newer own x e here is t same member long few w =
+  pub walk_taken : (at to : KeyData) (stack more : List Member) (i j : ℕ) (own : ContextData) (x : Member) → j + 1 ≡ i → slice_get (members_in h) j ≡ Some x → IsOwn own → (has at.context x && not (has own x)) ≡ true → SameSet (has to.context) (minus (has at.context) x) → to.member ≡ at.member → more ≡ stack ++ (x ∷ [])
+      → Walk at stack i → Walk to more j
+  walk_taken at to stack more i j own x e here is t same member long w =
       let p = between at own x is t in
       let near = w.near in
       record {
@@ -226,15 +224,14 @@ module _ {F : Type 0} (h : List OpData) (v : IsValid h) (from : KeyData) (old : 
         member = member ∙ w.member;
         back = subst (λ (s : List Member). Back h v from.member (has from.context) (has to.context) s) (sym long) (back_taken h v from.member x (has from.context) (has at.context) (has to.context) i j stack e here p.0 p.1 same w.late w.back);
         late = late_taken h v from.member x (has at.context) (has to.context) i j e here same w.late;
-        entries = λ k n. w.entries k (few k n);
       }
 
-  pub walk_past : (at : KeyData) (stack : List Member) (i j : ℕ) (new : List (KeyData × F)) (own : ContextData) (x : Member) → j + 1 ≡ i → slice_get (members_in h) j ≡ Some x → IsOwn own → (has at.context x && not (has own x)) ≡ false → Walk at stack i new → Walk at stack j new
-  walk_past at stack i j new own x e here is t w =
+  pub walk_past : (at : KeyData) (stack : List Member) (i j : ℕ) (own : ContextData) (x : Member) → j + 1 ≡ i → slice_get (members_in h) j ≡ Some x → IsOwn own → (has at.context x && not (has own x)) ≡ false → Walk at stack i → Walk at stack j
+  walk_past at stack i j own x e here is t w =
       let near = w.near in
       let seen : has at.context x ≡ true → base_has h from.member x ≡ true = λ (there : has at.context x ≡ true).
       elim (cases_Bool (has own x)) [ inl k ↦ sym (is x) ∙ k | inr k ↦ absurd (both_ways (has at.context x && not (has own x)) t (and_from (has at.context x) (not (has own x)) there (not_from_false (has own x) k))) ] in
-      record { near = omega arith; member = w.member; back = w.back; late = late_stays h v from.member x (has at.context) i j e here seen w.late; entries = w.entries }
+      record { near = omega arith; member = w.member; back = w.back; late = late_stays h v from.member x (has at.context) i j e here seen w.late }
 
 -- ---- forms at the end of the walk
 

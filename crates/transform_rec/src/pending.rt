@@ -33,21 +33,21 @@ pub struct Pending<F> {
 }
 
 /// The way of the key's member to the key's context: from the greatest part of the difference to the member's
-/// base context, in the book's order, at which the cache has its form, or from its base form.
+/// base context, in the book's order, at which the cache has its form, or from its base form. For the last
+/// member of the book the cache isn't asked: no form of it was wanted before.
 pub fn start<F: Include + Copy, B: Bases<F>>(
     alloc: Global,
     book: &Book,
     bases: &B,
-    cache: &mut Cache<F>,
+    cache: &Cache<F>,
     at: Key,
 ) -> Result<Pending<F>, Memory>
     requires members { B.members bases.now ≡ members_in book.now.ops }
     requires contexts { (x y : Member) → B.base_context bases.now x y ≡ base_has book.now.ops x y }
     requires added { MayBeAddedTo book.now.ops at.context at.member }
-    requires known { AreForms F.over (family_in book.now.ops (B.base_form bases.now)) cache.old.entries }
+    requires known { AreForms F.over (family_in book.now.ops (B.base_form bases.now)) cache.now.entries }
     ensures member { IfOk result (λ p. p.at.member ≡ at.member) }
     ensures way { IfOk result (λ p. IsPending F.over (family_in book.now.ops (B.base_form bases.now)) (has at.context) p) }
-    ensures known { AreForms F.over (family_in book.now.ops (B.base_form bases.now)) cache.new.entries }
 {
     book.known();
     let mut at = at;
@@ -83,7 +83,7 @@ fn base_of<F: Include, B: Bases<F>>(book: &Book, bases: &B, at: &Key) -> F
 // the cache has the form of the key, or none is left.
 fn go_back<F: Copy>(
     book: &Book,
-    cache: &mut Cache<F>,
+    cache: &Cache<F>,
     at: &mut Key,
     own: &Vector,
     rest: &mut Vec<Member>,
@@ -92,12 +92,12 @@ fn go_back<F: Copy>(
     requires own { (y : Member) → has own.now.set y ≡ base_has book.now.ops at.old.member y }
     requires empty { rest.old.items ≡ [] }
     ensures member { at.new.member ≡ at.old.member }
-    ensures found { IfOk result (λ o. IfSome o (λ f. Contains cache.old.entries (at.new, f))) }
+    ensures found { IfOk result (λ o. IfSome o (λ f. Contains cache.now.entries (at.new, f))) }
     ensures base { IfOk result (λ o. IsNone o → SameSet (has at.new.context) (base_has book.now.ops at.old.member)) }
     ensures way { OnOk result (IsWayBack (members_alone book.now.ops) at.old.member (has at.old.context) (has at.new.context) (reverse rest.new.items)) }
-    ensures entries { (e : KeyData × F) → Contains cache.new.entries e → Contains cache.old.entries e }
 {
     book.known();
+    let asks = !is_last(book, &at.member);
     let mut i = book.len();
     while i > 0 {
         if is_at(at, own) {
@@ -109,12 +109,27 @@ fn go_back<F: Copy>(
             drop_member(at, &x);
             rest.reserve(1)?;
             rest.push_reserved(x);
-            if let Some(form) = cache.get(at) {
+            if let Some(form) = asked(cache, asks, at) {
                 return Ok(Some(form));
             }
         }
     }
     Ok(None)
+}
+
+// The cache's form of the key, if it is to be asked.
+fn asked<F: Copy>(cache: &Cache<F>, asks: bool, at: &Key) -> Option<F>
+    ensures { IfSome result (λ f. Contains cache.now.entries (at.now, f)) }
+{
+    if asks { cache.peek(at) } else { None }
+}
+
+// Whether the member is the last one of the book.
+fn is_last(book: &Book, m: &Member) -> bool {
+    match book.len().checked_sub(1) {
+        Some(i) => member_at(book, i) == *m,
+        None => false,
+    }
 }
 
 // The member at this place of the book.
@@ -141,7 +156,7 @@ fn is_at(at: &Key, own: &Vector) -> bool
 fn is_between(own: &Vector, at: &Key, x: &Member) -> bool
     ensures { result ≡ (has at.now.context x.now && not (has own.now.set x.now)) }
 {
-    at.context.contains(x) && !own.contains(x)
+    !own.contains(x) && at.context.contains(x)
 }
 
 // Takes the member, the last one of its site or its name, out of the key's context.

@@ -50,7 +50,7 @@ pub fn transform_with<F: Include + Copy, B: Bases<F>>(
         member: *m,
         context: to.try_clone()?,
     };
-    if let Some(form) = cache.get(&key) {
+    if let Some(form) = cache.peek(&key) {
         return Ok(form);
     }
     let mut current = start(alloc, book, bases, cache, key)?;
@@ -117,7 +117,7 @@ fn advance<F: Include + Copy, B: Bases<F>>(
         return Ok(None);
     }
     let key = key_beside(&pair.at, x)?;
-    match cache.get(&key) {
+    match cache.peek(&key) {
         Some(other) => {
             take_in(book, bases, cache, pair, key, other)?;
             Ok(None)

@@ -9,19 +9,13 @@ use Rattle.transform_rec.proofs.work_list.advance.Goals as goal
 pub derives-requires : goal.derives-requires
 derives-requires g c = record { causal = bases_causal g.B.Bases c.args.bases.now c.args.book.now.ops c.requires.members c.requires.contexts c.known.ensures.valid }
 
-pub take_in-requires-clause-known : goal.take_in-requires-clause-known
-take_in-requires-clause-known g c = forms_used g.F.Include.over (family_in c.args.book.now.ops (g.B.Bases.base_form c.args.bases.now)) c.args.cache.now.entries c.get.new.self.entries c.in_ok-key.key c.requires.known c.get.ensures.entries
-
 pub take_in-requires-clause-form : goal.take_in-requires-clause-form
-take_in-requires-clause-form g c = (found_form g.F.Include.over (family_in c.args.book.now.ops (g.B.Bases.base_form c.args.bases.now)) c.args.cache.now.entries c.in_ok-key.key c.in-Some.other c.requires.known (sym c.get.ensures.form ∙ c.in-Some.is)).0
+take_in-requires-clause-form g c = (found_form g.F.Include.over (family_in c.args.book.now.ops (g.B.Bases.base_form c.args.bases.now)) c.args.cache.now.entries c.in_ok-key.key c.in-Some.other c.requires.known (sym c.peek.ensures ∙ c.in-Some.is)).0
 
 pub start-requires-clause-added : goal.start-requires-clause-added
 start-requires-clause-added g c =
     let o = over_history g.B.Bases c.args.bases.now c.args.book.now.ops c.requires.members c.requires.contexts c.derives.ensures.inclusion c.derives.ensures.family c.known.ensures.valid in
     subst (λ (k : KeyData). MayBeAddedTo c.args.book.now.ops k.context k.member) (sym c.in_ok-key.ensures) (its_added o c.requires.waits.0 c.args.x.now c.args.pair.now c.requires.waits.1)
-
-pub start-requires-clause-known : goal.start-requires-clause-known
-start-requires-clause-known g c = forms_used g.F.Include.over (family_in c.args.book.now.ops (g.B.Bases.base_form c.args.bases.now)) c.args.cache.now.entries c.get.new.self.entries c.in_ok-key.key c.requires.known c.get.ensures.entries
 
 pub returns-in_ok-inner-in-None-clause-begun : goal.returns-in_ok-inner-in-None-clause-begun
 returns-in_ok-inner-in-None-clause-begun g c =

@@ -12,13 +12,7 @@ derives-requires g c = record { causal = bases_causal g.B.Bases c.args.bases.now
 
 pub returns-in-Some-clause-form : goal.returns-in-Some-clause-form
 returns-in-Some-clause-form g c =
-    subst (λ (d : ContextData). IsOnlyFormAt g.F.Include.over (family_in c.args.book.now.ops (g.B.Bases.base_form c.args.bases.now)) c.args.m.now (has d) c.in-Some.form) c.in_ok-try_clone.ensures (found_form g.F.Include.over (family_in c.args.book.now.ops (g.B.Bases.base_form c.args.bases.now)) c.args.cache.now.entries (record { member = c.args.m.now; context = c.in_ok-try_clone.field-0.set }) c.in-Some.form c.requires.known (sym c.get.ensures.form ∙ c.in-Some.is))
-
-pub returns-in-Some-clause-known : goal.returns-in-Some-clause-known
-returns-in-Some-clause-known g c = forms_used g.F.Include.over (family_in c.args.book.now.ops (g.B.Bases.base_form c.args.bases.now)) c.args.cache.now.entries c.get.new.self.entries _ c.requires.known c.get.ensures.entries
-
-pub start-requires-clause-known : goal.start-requires-clause-known
-start-requires-clause-known g c = forms_used g.F.Include.over (family_in c.args.book.now.ops (g.B.Bases.base_form c.args.bases.now)) c.args.cache.now.entries c.get.new.self.entries _ c.requires.known c.get.ensures.entries
+    subst (λ (d : ContextData). IsOnlyFormAt g.F.Include.over (family_in c.args.book.now.ops (g.B.Bases.base_form c.args.bases.now)) c.args.m.now (has d) c.in-Some.form) c.in_ok-try_clone.ensures (found_form g.F.Include.over (family_in c.args.book.now.ops (g.B.Bases.base_form c.args.bases.now)) c.args.cache.now.entries (record { member = c.args.m.now; context = c.in_ok-try_clone.field-0.set }) c.in-Some.form c.requires.known (sym c.peek.ensures ∙ c.in-Some.is))
 
 pub advance-requires-clause-waits : goal.advance-requires-clause-waits
 advance-requires-clause-waits g c =
