@@ -90,8 +90,8 @@ pub fn transform_with<F: Include + Copy, B: Bases<F>>(
     }
 }
 
-// Adds x, the next member of the pair's rest, which was taken from it: at once where x is inert or the cache has its
-// form at the pair's context; else it answers the pair of x and that context, for which this one is to wait.
+// Adds x, the next member of the pair's rest, which was taken from it: at once where the cache has its form at the
+// pair's context or x is inert; else it answers the pair of x and that context, for which this one is to wait.
 fn advance<F: Include + Copy, B: Bases<F>>(
     alloc: Global,
     book: &Book,
@@ -112,21 +112,17 @@ fn advance<F: Include + Copy, B: Bases<F>>(
     book.known();
     bases.known();
     derives::<F, B>(bases);
+    let key = key_beside(&pair.at, x)?;
+    if let Some(other) = cache.peek(&key) {
+        take_in(book, bases, cache, pair, key, other)?;
+        return Ok(None);
+    }
     if is_inert(book, bases, pair, x) {
         pass(book, bases, pair, x)?;
         return Ok(None);
     }
-    let key = key_beside(&pair.at, x)?;
-    match cache.peek(&key) {
-        Some(other) => {
-            take_in(book, bases, cache, pair, key, other)?;
-            Ok(None)
-        }
-        None => {
-            let inner = start(alloc, book, bases, cache, key)?;
-            Ok(Some(inner))
-        }
-    }
+    let inner = start(alloc, book, bases, cache, key)?;
+    Ok(Some(inner))
 }
 
 // Whether x, which the pair waits for, is inert.

@@ -17,7 +17,7 @@ start-requires-clause-added g c =
     let o = over_history g.B.Bases c.args.bases.now c.args.book.now.ops c.requires.members c.requires.contexts c.derives.ensures.inclusion c.derives.ensures.family c.known.ensures.valid in
     subst (λ (k : KeyData). MayBeAddedTo c.args.book.now.ops k.context k.member) (sym c.in_ok-key.ensures) (its_added o c.requires.waits.0 c.args.x.now c.args.pair.now c.requires.waits.1)
 
-pub returns-in_ok-inner-in-None-clause-begun : goal.returns-in_ok-inner-in-None-clause-begun
-returns-in_ok-inner-in-None-clause-begun g c =
+pub returns-clause-begun : goal.returns-clause-begun
+returns-clause-begun g c =
     let o = over_history g.B.Bases c.args.bases.now c.args.book.now.ops c.requires.members c.requires.contexts c.derives.ensures.inclusion c.derives.ensures.family c.known.ensures.valid in
-    begun o c.args.x.now c.args.pair.now c.in_ok-inner-in-None.inner c.in_ok-key.key c.in_ok-key.ensures c.in_ok-inner-in-None.ensures.member c.in_ok-inner-in-None.ensures.way
+    begun o c.args.x.now c.args.pair.now c.in_ok-inner.inner c.in_ok-key.key c.in_ok-key.ensures c.in_ok-inner.ensures.member c.in_ok-inner.ensures.way
