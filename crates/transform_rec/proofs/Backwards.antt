@@ -27,7 +27,7 @@ use Rattle.transform_rec.specs.Family.{Family, IsCausalFamily, IsSound}
 use Rattle.transform_rec.specs.Derived.Derived.{at_base}
 use Rattle.transform_rec.specs.Executing.{IsCausalFrom}
 use Rattle.transform_rec.specs.Histories.{family_in, members_alone, MayBeAddedTo}
-use Rattle.transform_rec.specs.Ways.{IsOnWay, IsWayBack}
+use Rattle.transform_rec.specs.Ways.{IsOnWay, IsWalk, IsWayBack}
 use Rattle.transform_rec.specs.Entries.{AreForms}
 use Rattle.transform_rec.proofs.Lists.{LastOf, in_middle}
 use Rattle.transform_rec.proofs.Sets.{plus_same, minus_parts, minus_from, minus_here, minus_plus, all_same}
@@ -173,14 +173,7 @@ module _ (h : List OpData) (v : IsValid h) (m : Member) where
       let s = its_own (members_alone h) alone m x (has c) (take j (members_in h)) (drop (j + 1) (members_in h)) (parts_at (members_in h) j x at) there out (late_at (has c) i j e late) w.sound in
       taken_last h v c x there (closed_is_set h (λ y. tt) (minus (has c) x) s.set)
 
--- ---- the walk of the code
-
--- at a place of the history: what was taken out so far, last one last
-pub record IsWalk (h : List OpData) (from at : KeyData) (stack : List Member) (i : ℕ) : Type 0 where
-  pub near : i ≤ length (members_in h)
-  pub member : at.member ≡ from.member
-  pub back : IsWayBack (members_alone h) from.member (has from.context) (has at.context) (reverse stack)
-  pub late : (y : Member) → has at.context y ≡ true → IsIn y (drop i (members_in h)) → base_has h from.member y ≡ true
+-- ---- the walk
 
 module _ (h : List OpData) (v : IsValid h) (from : KeyData) where
   abbrev pub Walk : KeyData → List Member → ℕ → Type 0

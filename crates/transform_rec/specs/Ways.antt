@@ -1,11 +1,17 @@
 -- Forms on their way from the base context of their member to a greater set, and the list of those that wait for one another.
-use Rattle.std.specs.Prelude.{◌≡◌, Bool, true, false, List, [], ◌∷◌, reverse}
+use Rattle.std.specs.Prelude.{◌≡◌, ℕ, ◌≤◌, Bool, true, false, List, [], ◌∷◌, length, drop, reverse}
 use Rattle.op_name.specs.declared.member.Member.{Member}
 use Rattle.context_vector.specs.Contexts.{has}
+use Rattle.context_diff.specs.Operations.{OpData}
+use Rattle.context_diff.specs.Histories.{members_in}
+use Rattle.context_diff.specs.Bases.{base_has}
+use Rattle.ttf_form.specs.Families.{IsIn}
+use Rattle.form_cache.specs.Keys.{KeyData}
 use Rattle.transform_rec.specs.Sets.{IsSubset, SameSet, plus, plus_all}
 use Rattle.transform_rec.specs.Family.{Family, IsSound}
 use Rattle.transform_rec.specs.Derived.{Derived}
 use Rattle.transform_rec.specs.Executing.{IsCausalFrom}
+use Rattle.transform_rec.specs.Histories.{members_alone}
 use Rattle.transform_rec.specs.declared.pending.Pending.{Pending}
 
 -- f is a derived form of m at C, and the rest may be added to C one after the other, which gives T, a set without m
@@ -20,6 +26,14 @@ pub record IsWayBack {F : Type 0} (b : Family F) (m : Member) (T C : Member → 
   pub sound : IsSound b m C
   pub path : IsCausalFrom b C rest
   pub whole : SameSet (plus_all C rest) T
+
+-- a walk back through a history that has come to its place i: the stack, last one last, was taken out of the context at which
+-- it began, and what is left of that from this place on is in the base context of the member
+pub record IsWalk (h : List OpData) (from at : KeyData) (stack : List Member) (i : ℕ) : Type 0 where
+  pub near : i ≤ length (members_in h)
+  pub member : at.member ≡ from.member
+  pub back : IsWayBack (members_alone h) from.member (has from.context) (has at.context) (reverse stack)
+  pub late : (y : Member) → has at.context y ≡ true → IsIn y (drop i (members_in h)) → base_has h from.member y ≡ true
 
 -- each member of C is one of D, and D has one that C lacks
 pub record IsProperSubset (C D : Member → Bool) : Type 0 where

@@ -1,6 +1,6 @@
 //! Pairs of a member and a target, each with what is computed of it so far.
 
-ghost use Rattle.std.specs.Prelude.{◌≡◌, ◌<◌, ◌&&◌, not, Some, [], Contains, reverse, IfOk, IfSome, IsNone, OnOk, length, slice_get};
+ghost use Rattle.std.specs.Prelude.{◌≡◌, ◌+◌, ◌<◌, ◌&&◌, not, Some, [], Contains, reverse, IfOk, IfSome, IsNone, OnOk, length, slice_get};
 ghost use Rattle.op_name.specs.declared.member.Member.{Member};
 ghost use Rattle.op_name.specs.Members.{IsMember};
 ghost use Rattle.context_vector.specs.Contexts.{has, raised, IsNextMember};
@@ -11,7 +11,7 @@ ghost use Rattle.context_diff.specs.Bases.{base_has};
 ghost use Rattle.form_cache.specs.Keys.{KeyData};
 ghost use Rattle.transform_rec.specs.Sets.{SameSet, minus};
 ghost use Rattle.transform_rec.specs.Histories.{family_in, members_alone, MayBeAddedTo};
-ghost use Rattle.transform_rec.specs.Ways.{IsWayBack, IsPending};
+ghost use Rattle.transform_rec.specs.Ways.{IsWalk, IsWayBack, IsPending};
 ghost use Rattle.transform_rec.specs.Entries.{AreForms};
 
 use crate::laws::derives;
@@ -97,24 +97,49 @@ fn go_back<F: Copy>(
     ensures way { OnOk result (IsWayBack (members_alone book.now.ops) at.old.member (has at.old.context) (has at.new.context) (reverse rest.new.items)) }
 {
     book.known();
+    if is_at(at, own) {
+        return Ok(None);
+    }
     let asks = !is_last(book, &at.member);
     let mut i = book.len();
     while i > 0 {
-        if is_at(at, own) {
-            return Ok(None);
-        }
         i -= 1;
-        let x = member_at(book, i);
-        if is_between(own, at, &x) {
-            drop_member(at, &x);
-            rest.reserve(1)?;
-            rest.push_reserved(x);
+        if take_out(book, own, at, rest, i)? {
             if let Some(form) = asked(cache, asks, at) {
                 return Ok(Some(form));
+            }
+            if is_at(at, own) {
+                return Ok(None);
             }
         }
     }
     Ok(None)
+}
+
+// Takes the member at this place of the book out of the key's context, if the context has it and the base context lacks
+// it. Answers whether it did. All that stands behind this place was looked at before.
+fn take_out(
+    book: &Book,
+    own: &Vector,
+    at: &mut Key,
+    rest: &mut Vec<Member>,
+    i: u32,
+) -> Result<bool, Memory>
+    requires place { i < length book.now.ops }
+    requires own { (y : Member) → has own.now.set y ≡ base_has book.now.ops at.old.member y }
+    requires walk { (from : KeyData) × IsWalk book.now.ops from at.old rest.old.items (i + 1) }
+    ensures member { at.new.member ≡ at.old.member }
+    ensures walk { OnOk result ((from : KeyData) → IsWalk book.now.ops from at.old rest.old.items (i + 1) → IsWalk book.now.ops from at.new rest.new.items i) }
+{
+    book.known();
+    let x = member_at(book, i);
+    if is_between(own, at, &x) {
+        drop_member(at, &x);
+        rest.reserve(1)?;
+        rest.push_reserved(x);
+        return Ok(true);
+    }
+    Ok(false)
 }
 
 // The cache's form of the key, if it is to be asked.
