@@ -89,6 +89,14 @@ impl Book {
         }
     }
 
+    /// The member that the i-th operation is, from 0, in the order of integration; None exactly past the end.
+    /// It doesn't look at the operation.
+    pub fn member(&self, i: u32) -> Option<Member>
+        ensures { result ≡ slice_get (members_in self.now.ops) i }
+    {
+        self.member_at(i as usize)
+    }
+
     /// The insert or delete of this name; None exactly where the book has none.
     pub fn original(&self, name: &Name) -> Option<&Op>
         ensures none { IsNone result ↔ (is_known self.now.ops (Original name.now) ≡ false) }

@@ -253,8 +253,5 @@ back_added h v at m T rest e w = subst (λ (x : Member). MayBeAddedTo h at.conte
 in_at : (xs : List Member) (i : ℕ) (x : Member) → slice_get xs i ≡ Some x → IsIn x xs
 in_at xs i x e = subst (λ (l : List Member). IsIn x l) (sym (parts_at xs i x e)) (in_middle x (take i xs) (drop (i + 1) xs))
 
-pub member_there : (h : List OpData) (i : ℕ) (o : OpData) → slice_get h i ≡ Some o → slice_get (members_in h) i ≡ Some (member_of o)
-member_there h i o e = slice_get-map member_of h i ∙ ap (option_map member_of) e
-
-pub generation_at : (h : List OpData) → IsValid h → (i : ℕ) (o : OpData) → slice_get h i ≡ Some o → IsMember (member_of o)
-generation_at h v i o e = known_generation h v (member_of o) (in_known h (member_of o) (in_at (members_in h) i (member_of o) (member_there h i o e)))
+pub generation_at : (h : List OpData) → IsValid h → (i : ℕ) (x : Member) → slice_get (members_in h) i ≡ Some x → IsMember x
+generation_at h v i x e = known_generation h v x (in_known h x (in_at (members_in h) i x e))

@@ -164,8 +164,8 @@ fn member_at(book: &Book, i: u32) -> Member
     ensures range { IsMember result }
 {
     book.known();
-    match book.op(i) {
-        Some(op) => op.member(),
+    match book.member(i) {
+        Some(x) => x,
         None => unreachable!(),
     }
 }

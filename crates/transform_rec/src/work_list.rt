@@ -65,29 +65,31 @@ pub fn transform_with<F: Include + Copy, B: Bases<F>>(
                 }
                 None => {}
             },
-            None => match waiting.pop() {
-                Some(outer) => {
-                    let Pending {
-                        at,
-                        form,
-                        rest: _rest,
-                    } = current;
-                    let mut outer = outer;
-                    hand(book, bases, cache, &mut outer, at, form)?;
-                    current = outer;
+            None => {
+                let (at, form) = finished(current);
+                match waiting.pop() {
+                    Some(outer) => current = handed(book, bases, cache, outer, at, form)?,
+                    None => {
+                        cache.keep(at, form);
+                        return Ok(form);
+                    }
                 }
-                None => {
-                    let Pending {
-                        at,
-                        form,
-                        rest: _rest,
-                    } = current;
-                    cache.keep(at, form);
-                    return Ok(form);
-                }
-            },
+            }
         }
     }
+}
+
+// What a pair has come to: its member with the context that is reached, and the form there.
+fn finished<F: Copy>(pair: Pending<F>) -> (Key, F)
+    ensures key { result.0 ≡ pair.at }
+    ensures form { result.1 ≡ pair.form }
+{
+    let Pending {
+        at,
+        form,
+        rest: _rest,
+    } = pair;
+    (at, form)
 }
 
 // Adds x, the next member of the pair's rest, which was taken from it: at once where the cache has its form at the
@@ -159,29 +161,30 @@ fn pass<F: Include + Copy, B: Bases<F>>(
     Ok(())
 }
 
-// Hands the finished form of a key to the pair that waits for it, and keeps it.
-fn hand<F: Include + Copy, B: Bases<F>>(
+// The pair that waited for the finished form of a key, once it was handed the form, which is kept.
+fn handed<F: Include + Copy, B: Bases<F>>(
     book: &Book,
     bases: &B,
     cache: &mut Cache<F>,
-    outer: &mut Pending<F>,
+    outer: Pending<F>,
     at: Key,
     form: F,
-) -> Result<(), Memory>
+) -> Result<Pending<F>, Memory>
     requires members { B.members bases.now ≡ members_in book.now.ops }
     requires contexts { (x y : Member) → B.base_context bases.now x y ≡ base_has book.now.ops x y }
     requires known { AreForms F.over (family_in book.now.ops (B.base_form bases.now)) cache.old.entries }
-    requires waits { (T : Member → Bool) × IsWaiting F.over (family_in book.now.ops (B.base_form bases.now)) T at.member outer.old }
-    requires form { IsOnlyFormAt F.over (family_in book.now.ops (B.base_form bases.now)) at.member (has outer.old.at.context) form }
-    ensures added { OnOk result (IsStep F.over (family_in book.now.ops (B.base_form bases.now)) at.member outer.old outer.new) }
+    requires waits { (T : Member → Bool) × IsWaiting F.over (family_in book.now.ops (B.base_form bases.now)) T at.member outer }
+    requires form { IsOnlyFormAt F.over (family_in book.now.ops (B.base_form bases.now)) at.member (has outer.at.context) form }
+    ensures added { IfOk result (IsStep F.over (family_in book.now.ops (B.base_form bases.now)) at.member outer) }
     ensures known { AreForms F.over (family_in book.now.ops (B.base_form bases.now)) cache.new.entries }
 {
+    let mut outer = outer;
     let x = member_in(&at);
     let key = key_beside(&outer.at, &x)?;
     let copy = key_beside(&outer.at, &x)?;
     cache.keep(copy, form);
-    take_in(book, bases, cache, outer, key, form)?;
-    Ok(())
+    take_in(book, bases, cache, &mut outer, key, form)?;
+    Ok(outer)
 }
 
 // Includes the form of the key, a member at the pair's context, in the pair's form, and adds the member. It keeps the

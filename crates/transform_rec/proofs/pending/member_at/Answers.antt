@@ -1,22 +1,16 @@
-use Rattle.std.proofs.Common.{◌≡◌, sym, ap, ◌∙◌, Bor}
-use Rattle.std.specs.Prelude.{Some, None, slice_get, option_map}
-use Rattle.context_diff.specs.declared.op.Op.{Op}
-use Rattle.context_diff.specs.Ops.{data_of}
+use Rattle.std.proofs.Common.{◌≡◌, ◌<◌, sym, subst, ◌∙◌}
+use Rattle.std.specs.Prelude.{ℕ, None, slice_get, length}
+use Rattle.std.proofs.lemmas.List.{length-map}
+use Rattle.context_diff.specs.Operations.{member_of}
+use Rattle.context_diff.specs.Histories.{members_in}
 use Rattle.context_diff.proofs.Books.{not_past}
-use Rattle.transform_rec.proofs.Backwards.{generation_at, member_there}
+use Rattle.transform_rec.proofs.Backwards.{generation_at}
 use Rattle.transform_rec.proofs.pending.member_at.Goals as goal
-
-pub member-requires : goal.member-requires
-member-requires c =
-    let read : slice_get c.args.book.now.ops c.args.i ≡ Some (data_of c.in-Some.op.now) = sym c.op.ensures ∙ ap (option_map (λ (o : Bor Op). data_of o.now)) c.in-Some.is in
-    generation_at c.args.book.now.ops c.known.ensures.valid c.args.i (data_of c.in-Some.op.now) read
 
 pub unreachable-requires : goal.unreachable-requires
 unreachable-requires c =
-    let read : slice_get c.args.book.now.ops c.args.i ≡ None = sym c.op.ensures ∙ ap (option_map (λ (o : Bor Op). data_of o.now)) c.in-None.is in
-    not_past c.args.book.now.ops c.args.i c.requires read
+    let within : c.args.i < length (members_in c.args.book.now.ops) = subst (λ (n : ℕ). c.args.i < n) (sym (length-map c.args.book.now.ops member_of)) c.requires in
+    not_past (members_in c.args.book.now.ops) c.args.i within (sym c.member.ensures ∙ c.in-None.is)
 
-pub returns-clause-place : goal.returns-clause-place
-returns-clause-place c =
-    let read : slice_get c.args.book.now.ops c.args.i ≡ Some (data_of c.in-Some.op.now) = sym c.op.ensures ∙ ap (option_map (λ (o : Bor Op). data_of o.now)) c.in-Some.is in
-    member_there c.args.book.now.ops c.args.i (data_of c.in-Some.op.now) read ∙ ap Some (sym c.member.ensures.member)
+pub returns-clause-range : goal.returns-clause-range
+returns-clause-range c = generation_at c.args.book.now.ops c.known.ensures.valid c.args.i c.in-Some.x (sym c.member.ensures ∙ c.in-Some.is)

@@ -41,38 +41,39 @@ loop-x-preserved-in-None-2 g c =
     let r = turn_added o c.args.m.now (has c.args.to.now.set) c.loop-x.waiting.items c.in-Some-pop.x c.loop-x.current (record { at = c.loop-x.current.at; form = c.loop-x.current.form; rest = c.pop.new.self }) c.advance.new.pair (record { chain = c.loop-x.invariant.chain; root = c.loop-x.invariant.root }) (record { key = refl; form = refl; rest = c.in-Some-pop.ensures.items }) ((rw c.in-None-2.is at c.in_ok-inner-in-Some-pop.ensures.added) refl) in
     record { chain = r.0.chain; root = r.0.root; known = c.advance.ensures.known }
 
-pub hand-requires-clause-waits : goal.hand-requires-clause-waits
-hand-requires-clause-waits g c =
+pub handed-requires-clause-waits : goal.handed-requires-clause-waits
+handed-requires-clause-waits g c =
     let o = over_history g.B.Bases c.args.bases.now c.args.book.now.ops c.requires.members c.requires.contexts c.derives.ensures.inclusion c.derives.ensures.family c.known.ensures.valid in
-    turn_handed o c.args.m.now (has c.args.to.now.set) c.pop-in-None.new.self.items c.loop-x.waiting.items c.loop-x.current c.in-Some-pop-2.outer (record { chain = c.loop-x.invariant.chain; root = c.loop-x.invariant.root }) c.in-Some-pop-2.ensures.items
+    rw c.finished-at.ensures.key (turn_handed o c.args.m.now (has c.args.to.now.set) c.pop-in-None.new.self.items c.loop-x.waiting.items c.loop-x.current c.in-Some-pop-2.outer (record { chain = c.loop-x.invariant.chain; root = c.loop-x.invariant.root }) c.in-Some-pop-2.ensures.items)
 
-pub hand-requires-clause-form : goal.hand-requires-clause-form
-hand-requires-clause-form g c =
+pub handed-requires-clause-form : goal.handed-requires-clause-form
+handed-requires-clause-form g c =
     let o = over_history g.B.Bases c.args.bases.now c.args.book.now.ops c.requires.members c.requires.contexts c.derives.ensures.inclusion c.derives.ensures.family c.known.ensures.valid in
     let none = nothing_left c.loop-x.current.rest.items c.pop.new.self.items (vec_len c.loop-x.current.rest) c.in-None.ensures.items c.in-None.ensures.rest c.in-None.ensures.cases.0 in
-    turn_form o c.args.m.now (has c.args.to.now.set) c.pop-in-None.new.self.items c.loop-x.waiting.items c.loop-x.current c.in-Some-pop-2.outer (record { chain = c.loop-x.invariant.chain; root = c.loop-x.invariant.root }) c.in-Some-pop-2.ensures.items none
+    rw c.finished-at.ensures.key (rw c.finished-at.ensures.form (turn_form o c.args.m.now (has c.args.to.now.set) c.pop-in-None.new.self.items c.loop-x.waiting.items c.loop-x.current c.in-Some-pop-2.outer (record { chain = c.loop-x.invariant.chain; root = c.loop-x.invariant.root }) c.in-Some-pop-2.ensures.items none))
 
 pub loop-x-smaller : goal.loop-x-smaller
 loop-x-smaller g c =
     let o = over_history g.B.Bases c.args.bases.now c.args.book.now.ops c.requires.members c.requires.contexts c.derives.ensures.inclusion c.derives.ensures.family c.known.ensures.valid in
-    (turn_popped o c.args.m.now (has c.args.to.now.set) c.pop-in-None.new.self.items c.loop-x.waiting.items c.loop-x.current c.in-Some-pop-2.outer c.hand.new.outer (record { chain = c.loop-x.invariant.chain; root = c.loop-x.invariant.root }) c.in-Some-pop-2.ensures.items c.in_ok-hand-in-Some-pop-2.ensures.added).1
+    (turn_popped o c.args.m.now (has c.args.to.now.set) c.pop-in-None.new.self.items c.loop-x.waiting.items c.loop-x.current c.in-Some-pop-2.outer c.in_ok-current-in-Some-pop-2.current (record { chain = c.loop-x.invariant.chain; root = c.loop-x.invariant.root }) c.in-Some-pop-2.ensures.items (rw c.finished-at.ensures.key at c.in_ok-current-in-Some-pop-2.ensures.added)).1
 
 pub loop-x-preserved : goal.loop-x-preserved
 loop-x-preserved g c =
     let o = over_history g.B.Bases c.args.bases.now c.args.book.now.ops c.requires.members c.requires.contexts c.derives.ensures.inclusion c.derives.ensures.family c.known.ensures.valid in
-    let r = turn_popped o c.args.m.now (has c.args.to.now.set) c.pop-in-None.new.self.items c.loop-x.waiting.items c.loop-x.current c.in-Some-pop-2.outer c.hand.new.outer (record { chain = c.loop-x.invariant.chain; root = c.loop-x.invariant.root }) c.in-Some-pop-2.ensures.items c.in_ok-hand-in-Some-pop-2.ensures.added in
-    record { chain = r.0.chain; root = r.0.root; known = c.hand.ensures.known }
+    let r = turn_popped o c.args.m.now (has c.args.to.now.set) c.pop-in-None.new.self.items c.loop-x.waiting.items c.loop-x.current c.in-Some-pop-2.outer c.in_ok-current-in-Some-pop-2.current (record { chain = c.loop-x.invariant.chain; root = c.loop-x.invariant.root }) c.in-Some-pop-2.ensures.items (rw c.finished-at.ensures.key at c.in_ok-current-in-Some-pop-2.ensures.added) in
+    record { chain = r.0.chain; root = r.0.root; known = c.handed.ensures.known }
 
 pub returns-in-None-pop-clause-form : goal.returns-in-None-pop-clause-form
 returns-in-None-pop-clause-form g c =
     let o = over_history g.B.Bases c.args.bases.now c.args.book.now.ops c.requires.members c.requires.contexts c.derives.ensures.inclusion c.derives.ensures.family c.known.ensures.valid in
     let none = nothing_left c.loop-x.current.rest.items c.pop.new.self.items (vec_len c.loop-x.current.rest) c.in-None.ensures.items c.in-None.ensures.rest c.in-None.ensures.cases.0 in
     let last = nothing_left c.loop-x.waiting.items c.pop-in-None.new.self.items (vec_len c.loop-x.waiting) c.in-None-pop.ensures.items c.in-None-pop.ensures.rest c.in-None-pop.ensures.cases.0 in
-    (turn_ended o c.args.m.now (has c.args.to.now.set) c.loop-x.waiting.items c.loop-x.current (record { chain = c.loop-x.invariant.chain; root = c.loop-x.invariant.root }) last none).0
+    rw c.finished-at.ensures.form (turn_ended o c.args.m.now (has c.args.to.now.set) c.loop-x.waiting.items c.loop-x.current (record { chain = c.loop-x.invariant.chain; root = c.loop-x.invariant.root }) last none).0
 
 pub returns-in-None-pop-clause-known : goal.returns-in-None-pop-clause-known
 returns-in-None-pop-clause-known g c =
     let o = over_history g.B.Bases c.args.bases.now c.args.book.now.ops c.requires.members c.requires.contexts c.derives.ensures.inclusion c.derives.ensures.family c.known.ensures.valid in
     let none = nothing_left c.loop-x.current.rest.items c.pop.new.self.items (vec_len c.loop-x.current.rest) c.in-None.ensures.items c.in-None.ensures.rest c.in-None.ensures.cases.0 in
     let last = nothing_left c.loop-x.waiting.items c.pop-in-None.new.self.items (vec_len c.loop-x.waiting) c.in-None-pop.ensures.items c.in-None-pop.ensures.rest c.in-None-pop.ensures.cases.0 in
-    forms_kept g.F.Include.over (family_in c.args.book.now.ops (g.B.Bases.base_form c.args.bases.now)) c.loop-x.cache c.keep.new.self.entries c.loop-x.current.at c.loop-x.current.form c.loop-x.invariant.known (turn_ended o c.args.m.now (has c.args.to.now.set) c.loop-x.waiting.items c.loop-x.current (record { chain = c.loop-x.invariant.chain; root = c.loop-x.invariant.root }) last none).1 c.keep.ensures.entries
+    forms_kept g.F.Include.over (family_in c.args.book.now.ops (g.B.Bases.base_form c.args.bases.now)) c.loop-x.cache c.keep.new.self.entries c.finished-at.result.0 c.finished-at.result.1 c.loop-x.invariant.known
+    (rw c.finished-at.ensures.key (rw c.finished-at.ensures.form (turn_ended o c.args.m.now (has c.args.to.now.set) c.loop-x.waiting.items c.loop-x.current (record { chain = c.loop-x.invariant.chain; root = c.loop-x.invariant.root }) last none).1)) c.keep.ensures.entries
