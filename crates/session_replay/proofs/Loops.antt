@@ -8,9 +8,10 @@ use Rattle.std.proofs.lemmas.Option.{slice_get_within, slice_get-get_or, none-so
 use Rattle.std.proofs.lemmas.Bool.{true≢false, false≢true, cases_Bool}
 use Rattle.context_diff.specs.Operations.{OpData, inserting}
 use Rattle.context_diff.specs.Histories.{IsValid, context_of_all}
-use Rattle.context_diff.specs.Replays.{Cell, replay_of, is_shown, shown}
+use Rattle.context_diff.specs.Replays.{Cell, replay_of, is_shown, characters_of}
 use Rattle.cot_site.specs.States.{State}
-use Rattle.cot_site.specs.Commands.{local_insert, place_behind, places_from, shown_places_of, numbered, next_name}
+use Rattle.cot_site.specs.Views.{places_from, shown_places_of}
+use Rattle.cot_site.specs.Commands.{local_insert, place_behind, numbered, next_name}
 use Rattle.cot_site.specs.declared.local.Local.{Local}
 use Rattle.cot_site.specs.declared.local.Local.TheVariants.{PlaceOut}
 use Rattle.cot_site.proofs.LocalOps.{few_cells}
@@ -82,7 +83,7 @@ places_few test n (c ∷ cs) = elim (cases_Bool (test c)) [
 pub place_small : (s : State) (v ch : ℕ) → IsValid s.history → true ≡ is_ok (local_insert s v ch) → v ≤ 64000000
 place_small s v ch valid ok = from (place_behind s.history v) refl ok
   where
-    from : (r : Option ℕ) → place_behind s.history v ≡ r → true ≡ is_ok (elim r as (λ _. Result OpData Local) [ None ↦ Err (PlaceOut v (length (shown s.history))) | Some p ↦ numbered s (inserting (next_name s) p ch (context_of_all s.history)) ]) → v ≤ 64000000
+    from : (r : Option ℕ) → place_behind s.history v ≡ r → true ≡ is_ok (elim r as (λ _. Result OpData Local) [ None ↦ Err (PlaceOut v (length (characters_of s.history))) | Some p ↦ numbered s (inserting (next_name s) p ch (context_of_all s.history)) ]) → v ≤ 64000000
     from None at ok = absurd (true≢false ok)
     from (Some p) at ok =
         let places = shown_places_of s.history in
