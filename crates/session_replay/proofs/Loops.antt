@@ -23,7 +23,7 @@ use Rattle.wire_codec.specs.declared.fault.Refused.TheVariants.{More, Bad}
 use Rattle.session_replay.specs.Steps.{Step, last_of}
 use Rattle.session_replay.specs.Sessions.{SessionData, site_at, given, given_all, synced, new_site, new_sites}
 use Rattle.session_replay.specs.Doing.{frame_bytes}
-use Rattle.session_replay.specs.Commands.{commanded, typed, typed_on, framed, framed_on, told, cause_word}
+use Rattle.session_replay.specs.Commands.{commanded, typed, typed_in, typed_on, framed, framed_on, told, cause_word}
 
 -- the line of bytes that begin with no frame
 abbrev pub refused_frame : ℕ → Refused → List ℕ
@@ -45,7 +45,7 @@ typed_end i v chs d (Ok o) not_ok = absurd (true≢false not_ok)
 typed_end i v chs d (Err why) not_ok = sym (append-nil (commanded i (Err why) d))
 
 typed_at : (i v k : ℕ) (text : List ℕ) (d : SessionData) (ch : ℕ) → k < length text → ch ≡ get_or text k ch → typed i v (drop k text) d ≡ typed_on (typed i (v + 1) (drop (k + 1) text)) i (local_insert (site_at d i) v ch) d
-unfolding typed
+unfolding typed_in
 typed_at i v k text d ch within is =
     let cut : drop k text ≡ ch ∷ drop (k + 1) text = drop-cons text k ch within ∙ ap (λ c. c ∷ drop (suc k) text) (sym is) ∙ ap (λ n. ch ∷ drop n text) (next_is k) in
     ap (λ cs. typed i v cs d) cut
@@ -110,7 +110,7 @@ drop_past (x ∷ xs) zero le = absurd (omega (arith, le))
 drop_past (x ∷ xs) (suc n) le = drop_past xs n (omega (arith, le))
 
 pub typed_none : (i v : ℕ) (text : List ℕ) (d : SessionData) (k : ℕ) → length text ≤ k → typed i v (drop k text) d ≡ []
-unfolding typed
+unfolding typed_in
 typed_none i v text d k past = ap (λ cs. typed i v cs d) (drop_past text k past)
 
 pub given_none : (i : ℕ) (os : List OpData) (d : SessionData) (k : ℕ) → length os ≤ k → given_all i (drop k os) d ≡ []
