@@ -8,7 +8,7 @@ use Rattle.op_name.specs.declared.member.Member.TheVariants.{Original, Group}
 use Rattle.context_vector.specs.Contexts.{ContextData, IsContext, KeepsStray, has, rank_of, raised, IsNextMember}
 use Rattle.context_diff.specs.Operations.{OpData, inserting, deleting, undoing, member_of, IsWellFormed}
 use Rattle.context_diff.specs.Histories.{is_known, is_even, generation_in, context_of_all, inserts_in, LacksNothing, IsClosed, IsNext, IsValid}
-use Rattle.context_diff.specs.Replays.{Insertion, Cell, insertions_in, is_earlier, put_by, sort_by, gap_of, put, replay, replay_of, is_shown, shown}
+use Rattle.context_diff.specs.Replays.{Insertion, Cell, insertions_in, is_earlier, put_by, sort_by, gap_of, put, replay, replay_of, is_shown, characters_of}
 use Rattle.context_vector.proofs.Counts.{sum_at_most}
 use Rattle.context_vector.proofs.Entries.{entry_at_most}
 use Rattle.context_vector.proofs.Sets.{rank_raised}
@@ -23,7 +23,8 @@ use Rattle.fixed_replay.proofs.Narrowing.{gap_of_whole}
 use Rattle.cot_site.specs.declared.local.Local.{Local}
 use Rattle.cot_site.specs.declared.local.Local.TheVariants.{PlaceOut, Unknown, NotInForce, InForce, GenerationFull, NumberFull, ContextFull}
 use Rattle.cot_site.specs.States.{State}
-use Rattle.cot_site.specs.Commands.{places_from, shown_places_of, place_of_shown, place_behind, count_made, next_name, in_context, numbered, turned, local_insert, local_delete, local_undo, local_redo}
+use Rattle.cot_site.specs.Views.{places_from, shown_places_of}
+use Rattle.cot_site.specs.Commands.{place_of_shown, place_behind, count_made, next_name, in_context, numbered, turned, local_insert, local_delete, local_undo, local_redo}
 
 -- ---- how many cells the replay has
 
@@ -239,8 +240,8 @@ module _ (s : State) (valid : IsValid s.history) (site : s.number < 64) where
   pub local_insert_next : (o : OpData) (v ch : ℕ) → IsScalar ch → local_insert s v ch ≡ Ok o → IsNext s.history o
   local_insert_next o v ch scalar e = from (place_behind s.history v) refl e
     where
-      from : (r : Option ℕ) → place_behind s.history v ≡ r → ◌≡◌ {A = Result OpData Local} (elim r [ None ↦ Err (PlaceOut v (length (shown s.history))) | Some p ↦ numbered s (inserting (next_name s) p ch (context_of_all s.history)) ]) (Ok o) → IsNext s.history o
-      from None at f = absurd (err_ok (PlaceOut v (length (shown s.history))) o f)
+      from : (r : Option ℕ) → place_behind s.history v ≡ r → ◌≡◌ {A = Result OpData Local} (elim r [ None ↦ Err (PlaceOut v (length (characters_of s.history))) | Some p ↦ numbered s (inserting (next_name s) p ch (context_of_all s.history)) ]) (Ok o) → IsNext s.history o
+      from None at f = absurd (err_ok (PlaceOut v (length (characters_of s.history))) o f)
       from (Some p) at f =
           let made = numbered_ok s (inserting (next_name s) p ch (context_of_all s.history)) o f in
           subst (IsNext s.history) made.1 (insert_next p ch scalar made.0 made.2 (behind_within s.history v p at))
@@ -248,8 +249,8 @@ module _ (s : State) (valid : IsValid s.history) (site : s.number < 64) where
   pub local_delete_next : (o : OpData) (v : ℕ) → local_delete s v ≡ Ok o → IsNext s.history o
   local_delete_next o v e = from (place_of_shown s.history v) refl e
     where
-      from : (r : Option ℕ) → place_of_shown s.history v ≡ r → ◌≡◌ {A = Result OpData Local} (elim r [ None ↦ Err (PlaceOut v (length (shown s.history))) | Some p ↦ numbered s (deleting (next_name s) p (context_of_all s.history)) ]) (Ok o) → IsNext s.history o
-      from None at f = absurd (err_ok (PlaceOut v (length (shown s.history))) o f)
+      from : (r : Option ℕ) → place_of_shown s.history v ≡ r → ◌≡◌ {A = Result OpData Local} (elim r [ None ↦ Err (PlaceOut v (length (characters_of s.history))) | Some p ↦ numbered s (deleting (next_name s) p (context_of_all s.history)) ]) (Ok o) → IsNext s.history o
+      from None at f = absurd (err_ok (PlaceOut v (length (characters_of s.history))) o f)
       from (Some p) at f =
           let made = numbered_ok s (deleting (next_name s) p (context_of_all s.history)) o f in
           subst (IsNext s.history) made.1 (delete_next p made.0 made.2 (shown_within s.history v p at))

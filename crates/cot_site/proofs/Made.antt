@@ -6,7 +6,7 @@ use Rattle.op_name.specs.NameData.{NameData}
 use Rattle.context_vector.specs.Contexts.{ContextData}
 use Rattle.context_diff.specs.Operations.{OpData, inserting, deleting, undoing}
 use Rattle.context_diff.specs.Histories.{generation_in, context_of_all}
-use Rattle.context_diff.specs.Replays.{shown}
+use Rattle.context_diff.specs.Replays.{characters_of}
 use Rattle.context_diff.specs.declared.op.Op.{Op}
 use Rattle.context_diff.specs.Ops.{data_of}
 use Rattle.cot_site.specs.declared.local.Local.{Local}
@@ -47,13 +47,13 @@ handed_on r (Err x) e is answer = subst (λ (y : Local). IsAnswer r (Err y)) (sy
 
 pub insert_at : (s : State) (v ch p : ℕ) → place_behind s.history v ≡ Some p → local_insert s v ch ≡ numbered s (inserting (next_name s) p ch (context_of_all s.history))
 insert_at s v ch p at = ap (λ (r : Option ℕ). elim r [
-  | None ↦ Err (PlaceOut v (length (shown s.history)))
+  | None ↦ Err (PlaceOut v (length (characters_of s.history)))
   | Some q ↦ numbered s (inserting (next_name s) q ch (context_of_all s.history))
 ]) at
 
 pub delete_at : (s : State) (v p : ℕ) → place_of_shown s.history v ≡ Some p → local_delete s v ≡ numbered s (deleting (next_name s) p (context_of_all s.history))
 delete_at s v p at = ap (λ (r : Option ℕ). elim r [
-  | None ↦ Err (PlaceOut v (length (shown s.history)))
+  | None ↦ Err (PlaceOut v (length (characters_of s.history)))
   | Some q ↦ numbered s (deleting (next_name s) q (context_of_all s.history))
 ]) at
 

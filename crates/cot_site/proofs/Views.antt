@@ -2,15 +2,16 @@
 use Rattle.std.proofs.Common.{◌≡◌, ℕ, suc, Bool, inl, inr, List, [], ◌∷◌, length, map, refl, ap, sym, ◌∙◌}
 use Rattle.std.specs.Prelude.{filter, if◌then◌else◌}
 use Rattle.context_diff.specs.Operations.{OpData}
-use Rattle.context_diff.specs.Replays.{Cell, is_shown, shown, text_of}
+use Rattle.context_diff.specs.Replays.{Cell, is_shown, shown, character_in, characters_of, text_of}
 use Rattle.ttf_form.specs.Cells.{CellData, cell_key, cell_shown}
 use Rattle.ttf_form.specs.Families.{IsIn}
 use Rattle.visible_view.specs.View.{shown_cells, shown_places_from, shown_places, shown_text}
 use Rattle.fixed_replay.specs.Replayed.{IsReplayed}
-use Rattle.fixed_replay.proofs.ExecutedForms.{replayed_shown, replayed_text}
-use Rattle.cot_site.specs.Commands.{places_from, shown_places_of}
+use Rattle.fixed_replay.proofs.ExecutedForms.{replayed_shown, replayed_characters, replayed_text}
+use Rattle.cot_site.specs.States.{State}
+use Rattle.cot_site.specs.Views.{places_from, shown_places_of, cells_view, history_view}
 
-length_mapped : {A B : Type 0} (f : A → B) (xs : List A) → length (map f xs) ≡ length xs
+pub length_mapped : {A B : Type 0} (f : A → B) (xs : List A) → length (map f xs) ≡ length xs
 length_mapped f [] = refl
 length_mapped f (x ∷ xs) = ap suc (length_mapped f xs)
 
@@ -30,3 +31,14 @@ places_are h cs is = same_places (is_shown h) cs 0 is.shown ∙ ap (places_from 
 
 pub text_is : (h : List OpData) (cs : List CellData) → IsReplayed h cs → shown_text cs ≡ text_of h
 text_is h cs is = replayed_text h cs is
+
+-- the cells of a state's history are seen as the history says
+pub view_is : (s : State) (cs : List CellData) → IsReplayed s.history cs → cells_view cs ≡ history_view s
+view_is s cs is =
+    let places = places_are s.history cs is in
+    let characters = replayed_characters s.history cs is in
+    λ i. record { places = places i; characters = characters i }
+
+-- as many characters are shown as cells
+pub character_count : (h : List OpData) → length (shown h) ≡ length (characters_of h)
+character_count h = sym (length_mapped (character_in h) (shown h))

@@ -1,26 +1,17 @@
 -- Local commands: which operation a site makes, or why it makes none.
-use Rattle.std.specs.Prelude.{◌≡◌, ◌⊎◌, ℕ, suc, ◌+◌, ◌<◌, ◌≤◌, Bool, true, false, List, [], ◌∷◌, Option, Some, None, Result, Ok, Err, IsOk, ◌==◌, nat_lt, if◌then◌else◌, length, map, slice_get}
+use Rattle.std.specs.Prelude.{◌≡◌, ◌⊎◌, ℕ, suc, ◌+◌, ◌<◌, ◌≤◌, true, false, List, ◌∷◌, Option, Some, None, Result, Ok, Err, IsOk, ◌==◌, nat_lt, if◌then◌else◌, length, map, slice_get}
 use Rattle.op_name.specs.declared.member.Member.TheVariants.{Original}
 use Rattle.op_name.specs.NameData.{NameData}
 use Rattle.context_vector.specs.Contexts.{ContextData, count_of}
 use Rattle.context_diff.specs.Operations.{OpData, inserting, deleting, undoing}
 use Rattle.context_diff.specs.Histories.{is_known, is_even, generation_in, context_of_all}
-use Rattle.context_diff.specs.Replays.{Cell, replay_of, is_shown, shown}
 use Rattle.context_vector.specs.Vectors.{VectorData}
 use Rattle.context_diff.specs.declared.op.Op.{Op}
 use Rattle.context_diff.specs.Ops.{data_of}
 use Rattle.cot_site.specs.declared.local.Local.{Local}
 use Rattle.cot_site.specs.declared.local.Local.TheVariants.{PlaceOut, Unknown, NotInForce, InForce, GenerationFull, NumberFull, ContextFull, Memory}
 use Rattle.cot_site.specs.States.{State}
-
--- the places of the cells that pass, where the first cell of the list stands at n
-abbrev pub places_from : (Cell → Bool) → ℕ → List Cell → List ℕ
-places_from p n [] = []
-places_from p n (c ∷ cs) = if p c then n ∷ places_from p (suc n) cs else places_from p (suc n) cs
-
--- where the shown cells of a history stand among all cells of its replay
-abbrev pub shown_places_of : List OpData → List ℕ
-shown_places_of h = places_from (is_shown h) 0 (replay_of h)
+use Rattle.cot_site.specs.Views.{View, shown_places_of, history_view}
 
 -- the place of the v-th shown cell, counted from 0
 abbrev pub place_of_shown : List OpData → ℕ → Option ℕ
@@ -46,19 +37,26 @@ in_context c o = if nat_lt 16384 (length c.entries) then Err (ContextFull (lengt
 abbrev pub numbered : State → OpData → Result OpData Local
 numbered s o = if nat_lt (count_made s) 1000000 then in_context (context_of_all s.history) o else Err NumberFull
 
--- the insert of a character behind v shown ones
-abbrev pub local_insert : State → ℕ → ℕ → Result OpData Local
-local_insert s v ch = elim (place_behind s.history v) [
-  | None ↦ Err (PlaceOut v (length (shown s.history)))
+-- the insert of a character behind v shown ones, for a site that sees its text so
+abbrev pub insert_in : View → State → ℕ → ℕ → Result OpData Local
+insert_in view s v ch = elim (slice_get (0 ∷ map suc view.places) v) [
+  | None ↦ Err (PlaceOut v (length view.characters))
   | Some p ↦ numbered s (inserting (next_name s) p ch (context_of_all s.history))
 ]
 
 -- the delete of the v-th shown character, counted from 0
-abbrev pub local_delete : State → ℕ → Result OpData Local
-local_delete s v = elim (place_of_shown s.history v) [
-  | None ↦ Err (PlaceOut v (length (shown s.history)))
+abbrev pub delete_in : View → State → ℕ → Result OpData Local
+delete_in view s v = elim (slice_get view.places v) [
+  | None ↦ Err (PlaceOut v (length view.characters))
   | Some p ↦ numbered s (deleting (next_name s) p (context_of_all s.history))
 ]
+
+-- both for a site that sees what its history shows
+abbrev pub local_insert : State → ℕ → ℕ → Result OpData Local
+local_insert s v ch = insert_in (history_view s) s v ch
+
+abbrev pub local_delete : State → ℕ → Result OpData Local
+local_delete s v = delete_in (history_view s) s v
 
 -- the undo or redo of an original at the generation after its own
 abbrev pub turned : State → NameData → Result OpData Local

@@ -15,7 +15,8 @@ use Rattle.ttf_form.specs.Cells.{applied}
 use Rattle.transform_rec.specs.Executing.{executed}
 use Rattle.visible_view.specs.View.{shown_cells, shown_places, shown_text}
 use Rattle.cot_site.specs.Sites.{AreExecuted}
-use Rattle.cot_site.specs.Commands.{local_insert, local_delete, local_undo, local_redo, shown_places_of}
+use Rattle.cot_site.specs.Views.{shown_places_of, history_view, forms_view, AreFormLists}
+use Rattle.cot_site.specs.Commands.{local_insert, local_delete, local_undo, local_redo}
 use Rattle.std.specs.Char.{IsScalar}
 
 -- a well-formed operation has exactly one verdict over a valid history, and it comes exactly where its words hold
@@ -65,3 +66,20 @@ ExecutedFormsShowTheHistory =
     → (shown_text (executed applied [] fs) ≡ text_of h)
     × (shown_places (executed applied [] fs) ≡ shown_places_of h)
     × (length (shown_cells (executed applied [] fs)) ≡ length (shown h))
+
+-- lists of forms stand beside all states
+abbrev pub FormListsAreThere : Type 0
+FormListsAreThere = (forms : State → List Form) × AreFormLists forms
+
+-- beside a valid history stands one of them: whatever derived forms its operations have, each at the members before it, are it
+abbrev pub OneListOfForms : Type 0
+OneListOfForms =
+    (forms : State → List Form) (s : State) (fs : List Form)
+    → AreFormLists forms
+    → IsValid s.history
+    → AreExecuted s.history fs
+    → fs ≡ forms s
+
+-- through it a site sees what its history shows
+abbrev pub FormListsShowTheHistories : Type 0
+FormListsShowTheHistories = (forms : State → List Form) (s : State) → AreFormLists forms → IsValid s.history → forms_view forms s ≡ history_view s

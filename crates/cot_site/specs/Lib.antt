@@ -1,5 +1,6 @@
 pub mod Verdicts
 pub mod States
-pub mod Commands
 pub mod Sites
+pub mod Views
+pub mod Commands
 pub mod Laws

@@ -1,6 +1,6 @@
 //! Laws of verdicts, releases and local commands: each says what its definitions give, and does nothing.
 
-ghost use Rattle.cot_site.specs.Laws.{VerdictsAreExact, IntegratedOperationsAreNext, ReleasesNeverWait, SettledStatesHaveNoneReady, LocalOperationsAreNext, ExecutedFormsShowTheHistory};
+ghost use Rattle.cot_site.specs.Laws.{VerdictsAreExact, IntegratedOperationsAreNext, ReleasesNeverWait, SettledStatesHaveNoneReady, LocalOperationsAreNext, ExecutedFormsShowTheHistory, FormListsAreThere, OneListOfForms, FormListsShowTheHistories};
 
 /// A well-formed operation has exactly one verdict over a valid history, the one whose words hold.
 pub fn verdicts_are_exact()
@@ -31,4 +31,22 @@ pub fn local_operations_are_next()
 /// characters, and their number. So a session can as well be read with forms in the place of histories.
 pub fn executed_forms_show_the_history()
     ensures { ExecutedFormsShowTheHistory }
+{}
+
+/// Lists of forms stand beside all states: beside a valid history one derived form of each operation, at the
+/// members before it, and the forms stay when the history grows.
+pub fn form_lists_are_there()
+    ensures { FormListsAreThere }
+{}
+
+/// Beside a valid history stands one list of forms: the derived forms that its operations have, as those in which
+/// a site executed them, are that list.
+pub fn one_list_of_forms()
+    ensures { OneListOfForms }
+{}
+
+/// With lists of forms beside the states, a site sees through its list what its history shows: the places of the
+/// shown characters, and the characters.
+pub fn form_lists_show_the_histories()
+    ensures { FormListsShowTheHistories }
 {}

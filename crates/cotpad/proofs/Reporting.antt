@@ -6,6 +6,7 @@ use Rattle.std.specs.Io.KnownBytes.{Appends}
 use Rattle.outside_io.specs.declared.reading.Taken.{Taken}
 use Rattle.outside_io.specs.declared.reading.Taken.TheVariants.{End, Past}
 use Rattle.outside_io.specs.declared.reading.ReadBad.{ReadBad}
+use Rattle.session_replay.specs.Derivation.{IsDerivedReport, DerivedReportsAreThere}
 use Rattle.session_replay.specs.Scripts.{Report, behind, script_report}
 use Rattle.cotpad.specs.declared.status.Status.{Status}
 use Rattle.cotpad.specs.Statuses.{status_of}
@@ -49,3 +50,10 @@ of_status held now (Some all) status piece new refused is same told appended = (
   sym is ∙ ap (λ (r : Report). status_of r.refused) (sym told),
   subst (λ xs. Appends held now xs) (same ∙ ap (λ (r : Report). r.written) (sym told)) appended,
 )
+
+-- what was written is also a report that is read with forms
+pub of_forms : (held now left : Option (List ℕ)) (status : Status) → DerivedReportsAreThere
+    → IfSome left (λ all. (status ≡ status_of (script_report all).refused) × Appends held now (script_report all).written)
+    → IfSome left (λ all. (r : Report) × IsDerivedReport all r × (status ≡ status_of r.refused) × Appends held now r.written)
+of_forms held now None status there told = tt
+of_forms held now (Some all) status there told = (script_report all, there all, told.0, told.1)

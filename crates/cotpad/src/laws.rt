@@ -4,9 +4,12 @@ ghost use Rattle.std.specs.Prelude.{◌≡◌, List};
 ghost use Rattle.context_diff.specs.Operations.{OpData};
 ghost use Rattle.context_diff.specs.Histories.{IsValid, Same};
 ghost use Rattle.context_diff.specs.Replays.{text_of};
+ghost use Rattle.session_replay.specs.Derivation.{DerivedReportsAreThere, OneDerivedReport};
 ghost use Rattle.session_replay.specs.Laws.{ScriptsSettle, SitesConverge, WaitingIsNamed};
 
-use session_replay::{scripts_settle, sites_converge, waiting_is_named};
+use session_replay::{
+    derived_reports_are_there, one_derived_report, scripts_settle, sites_converge, waiting_is_named,
+};
 
 /// What holds of all histories, and of the sessions of all scripts. It does nothing.
 pub(crate) fn laws_hold()
@@ -14,8 +17,12 @@ pub(crate) fn laws_hold()
     ensures sites { SitesConverge }
     ensures waits { WaitingIsNamed }
     ensures settled { ScriptsSettle }
+    ensures derived { DerivedReportsAreThere }
+    ensures one_derived { OneDerivedReport }
 {
     sites_converge();
     waiting_is_named();
     scripts_settle();
+    derived_reports_are_there();
+    one_derived_report();
 }

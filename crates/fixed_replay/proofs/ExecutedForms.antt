@@ -11,9 +11,11 @@ use Rattle.ttf_form.specs.Forms.{form_over}
 use Rattle.ttf_form.specs.Cells.{CellData, cell_key, cells_of, applied, cell_shown}
 use Rattle.ttf_form.specs.Families.{IsIn}
 use Rattle.transform_rec.specs.Sets.{none}
-use Rattle.transform_rec.specs.Executing.{AreFormsFrom, executed}
+use Rattle.transform_rec.specs.Executing.{AreFormsFrom, executed, deriving_of}
 use Rattle.transform_rec.specs.Histories.{family_in}
-use Rattle.transform_rec.proofs.Executing.{run_forms, At, empty_state}
+use Rattle.transform_rec.proofs.Computed.{computed_forms}
+use Rattle.transform_rec.proofs.Forms.{computed_list}
+use Rattle.transform_rec.proofs.Executing.{At, empty_state}
 use Rattle.transform_rec.specs.Lists.{SameElements}
 use Rattle.transform_rec.proofs.Order.{any_order}
 use Rattle.transform_rec.proofs.CausalOrders.{book_run}
@@ -40,11 +42,15 @@ executed_replayed h v form forms fs df =
     let cells = fixed_cells b known own (rank_in h v) (valid_ranks h v form forms) (valid_groups h v form forms) (fixed_order h) rising (same_inserts h v form forms) fs st df in
     replayed b known own (valid_groups h v form forms) h (valid_is_family h v form forms) fs st df (sym cells) (told_apart h v)
 
-pub history_forms : (h : List OpData) → IsValid h → (form : Member → Form) → AreBaseForms h form → (fs : List Form) × AreFormsFrom form_over (family_in h form) none (members_in h) fs
-history_forms h v form forms =
+-- the computed forms of a history are its forms
+pub computed_executed : (h : List OpData) → IsValid h → (form : Member → Form) → AreBaseForms h form → AreFormsFrom form_over (family_in h form) none (members_in h) (computed_forms form_over (family_in h form) (members_in h) none)
+computed_executed h v form forms =
     let b = family_in h form in
     let known = valid_family h v form forms in
-    run_forms (setting_of b known (valid_own_names h v form forms)) (members_in h) none (book_run b known.causal)
+    computed_list (deriving_of (setting_of b known (valid_own_names h v form forms))) (members_in h) none (book_run b known.causal)
+
+pub history_forms : (h : List OpData) → IsValid h → (form : Member → Form) → AreBaseForms h form → (fs : List Form) × AreFormsFrom form_over (family_in h form) none (members_in h) fs
+history_forms h v form forms = (computed_forms form_over (family_in h form) (members_in h) none, computed_executed h v form forms)
 
 -- whatever causal order the members are executed in
 pub any_order_replayed : (h : List OpData) → IsValid h → (form : Member → Form) → AreBaseForms h form → (ms : List Member) (fs : List Form) → SameElements ms (members_in h) → AreFormsFrom form_over (family_in h form) none ms fs → IsReplayed h (executed applied [] fs)

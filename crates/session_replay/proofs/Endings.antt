@@ -15,7 +15,7 @@ use Rattle.script_text.specs.Answers.{Answers}
 use Rattle.script_text.specs.Report.{refused_text}
 use Rattle.session_replay.specs.Sessions.{SessionData, unstarted}
 use Rattle.session_replay.specs.Commands.{line_steps}
-use Rattle.session_replay.specs.Scripts.{Piece, Whole, Past, Report, behind, limit, lines_of, pieces_of, cut_off, line_read, steps_or, report_on, report_from, script_report}
+use Rattle.session_replay.specs.Scripts.{Piece, Whole, Past, Report, behind, limit, lines_of, pieces_of, cut_off, line_read, steps_or, report_on, report_from, report_from_in, script_report}
 use Rattle.session_replay.specs.Endings.{ended, followed}
 
 -- ---- the lines of a script
@@ -95,19 +95,19 @@ line_no_row bytes a = rw (le-leb (length bytes) 262144 a.0.0, is_utf8-from_IsUtf
 pub piece_refused : (piece : Piece) (cause : Refusal) (out new : List ℕ) (n : ℕ) (pieces : List Piece) (d : SessionData)
     → line_read piece ≡ Err cause → new ≡ out ++ refused_text n cause
     → behind out (report_from n (piece ∷ pieces) d) ≡ record { written = new; refused = true }
-unfolding report_from
+unfolding report_from_in
 piece_refused piece cause out new n pieces d is written = rw is (λ i. record { written = sym written i; refused = true })
 
 -- it is read, and the rest is left to its steps
 pub piece_read : (piece : Piece) (line : Line) (n : ℕ) (pieces : List Piece) (d : SessionData)
     → line_read piece ≡ Ok line
     → report_from n (piece ∷ pieces) d ≡ report_on (report_from (n + 1) pieces) n (steps_or (line_steps line d)) d
-unfolding report_from
+unfolding report_from_in
 piece_read piece line n pieces d is = rw is refl
 
 -- no line is left
 pub none_left : (out : List ℕ) (n : ℕ) (d : SessionData) → behind out (report_from n [] d) ≡ record { written = out; refused = false }
-unfolding report_from
+unfolding report_from_in
 none_left out n d = λ i. record { written = append-nil out i; refused = false }
 
 -- ---- lines one after the other

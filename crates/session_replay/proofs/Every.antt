@@ -1,5 +1,5 @@
 -- What holds of the state behind each step.
-use Rattle.std.proofs.Common.{◌≡◌, List, [], ◌∷◌, ◌++◌, refl, sym, subst}
+use Rattle.std.proofs.Common.{List, [], ◌∷◌, ◌++◌, sym, subst}
 use Rattle.session_replay.specs.Steps.{Step, last_of, IsReached}
 
 -- it holds of the state behind each of these steps

@@ -7,6 +7,7 @@ pub mod States
 pub mod Sound
 pub mod LineLaws
 pub mod ScriptLaws
+pub mod Derivation
 pub mod Lifting
 pub mod Commanding
 pub mod Loops

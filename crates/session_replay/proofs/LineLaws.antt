@@ -1,10 +1,9 @@
 -- Lines: what each does keeps sessions sound and ends settled.
 use Rattle.std.proofs.Common.{◌≡◌, ℕ, zero, suc, ◌+◌, ◌<◌, ◌≤◌, Bool, true, false, inl, inr, List, [], ◌∷◌, ◌++◌, length, Result, Ok, Err, refl, ap, sym, subst, ◌∙◌, arith}
-use Rattle.std.specs.Prelude.{Contains, Option, Some, None, slice_get, drop, nat_lt, nat_le, if◌then◌else◌, ◌&&◌, IsTrue}
+use Rattle.std.specs.Prelude.{Option, Some, None, slice_get, drop, nat_lt, if◌then◌else◌}
 use Rattle.std.specs.Char.{IsScalar}
 use Rattle.std.specs.Str.{all_scalars}
 use Rattle.std.proofs.lemmas.Bool.{cases_Bool, and_parts, ltb-true}
-use Rattle.op_name.specs.NameData.{NameData}
 use Rattle.context_diff.specs.Operations.{OpData, IsWellFormed}
 use Rattle.context_diff.specs.Histories.{IsNext}
 use Rattle.context_diff.proofs.Known.{contains_here, contains_later}
@@ -13,7 +12,7 @@ use Rattle.cot_site.specs.Commands.{local_insert, local_delete, local_undo, loca
 use Rattle.cot_site.specs.declared.local.Local.{Local}
 use Rattle.cot_site.proofs.LocalOps.{local_insert_next, local_delete_next, local_undo_next, local_redo_next}
 use Rattle.cot_site.proofs.Waiting.{formed_at}
-use Rattle.wire_codec.specs.Judging.{judge, IsFrame}
+use Rattle.wire_codec.specs.Judging.{judge}
 use Rattle.wire_codec.specs.declared.fault.Refused.{Refused}
 use Rattle.wire_codec.specs.declared.fault.Refused.TheVariants.{More, Bad}
 use Rattle.wire_codec.proofs.Steps.{IsBytes, IsBytes-drop}
@@ -24,12 +23,11 @@ use Rattle.script_text.specs.Lines.{IsInRange}
 use Rattle.script_text.specs.declared.lines.Line.{Line}
 use Rattle.script_text.specs.declared.lines.Line.TheVariants.{Blank, Sites, Ins, Nl, Del, Undo, Redo, Give, All, Sync, Raw, Show, State}
 use Rattle.session_replay.specs.declared.session.StepBad.{StepBad}
-use Rattle.session_replay.specs.declared.session.StepBad.TheVariants.{NoSites, Twice, NoSite, NoMessage}
+use Rattle.session_replay.specs.declared.session.StepBad.TheVariants.{Twice, NoSite, NoMessage}
 use Rattle.session_replay.specs.Steps.{Step, last_of}
 use Rattle.session_replay.specs.Sessions.{SessionData, site_at, made, given, given_all, synced}
-use Rattle.session_replay.specs.Commands.{told, commanded, typed, typed_on, cause_word, framed, framed_on, given_message, at_known, started_line, show_text, have_text}
+use Rattle.session_replay.specs.Commands.{told, commanded, typed, typed_in, typed_on, cause_word, framed, framed_on, given_message, at_known, started_line, show_text, have_text}
 use Rattle.session_replay.specs.Laws.{IsSound}
-use Rattle.session_replay.proofs.States.{Fine}
 use Rattle.session_replay.proofs.Sound.{Good, Kept, good_none, good_told, good_made, good_given, good_then, good_last, site_fine}
 
 -- ---- local commands
@@ -49,13 +47,13 @@ good_typed_on : (next : SessionData → List (Step SessionData)) (i : ℕ) (r : 
 good_typed_on next i (Ok o) d sound within is rest = on_last d (made i o d) next sound (good_made d i o sound within (is o refl)) rest
 good_typed_on next i (Err why) d sound within is rest = good_told (local_text why) d sound
 
-inserted_next : (d : SessionData) (i v ch : ℕ) → IsSound d → i < length d.sites → IsScalar ch → (o : OpData) → local_insert (site_at d i) v ch ≡ Ok o → IsNext (site_at d i).history o
+pub inserted_next : (d : SessionData) (i v ch : ℕ) → IsSound d → i < length d.sites → IsScalar ch → (o : OpData) → local_insert (site_at d i) v ch ≡ Ok o → IsNext (site_at d i).history o
 inserted_next d i v ch sound within scalar o is =
     let fine = site_fine d i sound within in
     local_insert_next (site_at d i) fine.valid fine.number o v ch scalar is
 
 good_typed : (chs : List ℕ) → all_scalars chs ≡ true → (n i v : ℕ) → i < n → GoodNext n (typed i v chs)
-unfolding typed
+unfolding typed_in
 good_typed [] scalars n i v within d kept = good_none d
 good_typed (ch ∷ chs) scalars n i v within d kept =
     let here : i < length d.sites = subst (λ k. i < k) (sym kept.sites) within in

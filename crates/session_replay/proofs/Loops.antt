@@ -8,9 +8,10 @@ use Rattle.std.proofs.lemmas.Option.{slice_get_within, slice_get-get_or, none-so
 use Rattle.std.proofs.lemmas.Bool.{true≢false, false≢true, cases_Bool}
 use Rattle.context_diff.specs.Operations.{OpData, inserting}
 use Rattle.context_diff.specs.Histories.{IsValid, context_of_all}
-use Rattle.context_diff.specs.Replays.{Cell, replay_of, is_shown, shown}
+use Rattle.context_diff.specs.Replays.{Cell, replay_of, is_shown, characters_of}
 use Rattle.cot_site.specs.States.{State}
-use Rattle.cot_site.specs.Commands.{local_insert, place_behind, places_from, shown_places_of, numbered, next_name}
+use Rattle.cot_site.specs.Views.{places_from, shown_places_of}
+use Rattle.cot_site.specs.Commands.{local_insert, place_behind, numbered, next_name}
 use Rattle.cot_site.specs.declared.local.Local.{Local}
 use Rattle.cot_site.specs.declared.local.Local.TheVariants.{PlaceOut}
 use Rattle.cot_site.proofs.LocalOps.{few_cells}
@@ -22,7 +23,7 @@ use Rattle.wire_codec.specs.declared.fault.Refused.TheVariants.{More, Bad}
 use Rattle.session_replay.specs.Steps.{Step, last_of}
 use Rattle.session_replay.specs.Sessions.{SessionData, site_at, given, given_all, synced, new_site, new_sites}
 use Rattle.session_replay.specs.Doing.{frame_bytes}
-use Rattle.session_replay.specs.Commands.{commanded, typed, typed_on, framed, framed_on, told, cause_word}
+use Rattle.session_replay.specs.Commands.{commanded, typed, typed_in, typed_on, framed, framed_on, told, cause_word}
 
 -- the line of bytes that begin with no frame
 abbrev pub refused_frame : ℕ → Refused → List ℕ
@@ -44,7 +45,7 @@ typed_end i v chs d (Ok o) not_ok = absurd (true≢false not_ok)
 typed_end i v chs d (Err why) not_ok = sym (append-nil (commanded i (Err why) d))
 
 typed_at : (i v k : ℕ) (text : List ℕ) (d : SessionData) (ch : ℕ) → k < length text → ch ≡ get_or text k ch → typed i v (drop k text) d ≡ typed_on (typed i (v + 1) (drop (k + 1) text)) i (local_insert (site_at d i) v ch) d
-unfolding typed
+unfolding typed_in
 typed_at i v k text d ch within is =
     let cut : drop k text ≡ ch ∷ drop (k + 1) text = drop-cons text k ch within ∙ ap (λ c. c ∷ drop (suc k) text) (sym is) ∙ ap (λ n. ch ∷ drop n text) (next_is k) in
     ap (λ cs. typed i v cs d) cut
@@ -82,7 +83,7 @@ places_few test n (c ∷ cs) = elim (cases_Bool (test c)) [
 pub place_small : (s : State) (v ch : ℕ) → IsValid s.history → true ≡ is_ok (local_insert s v ch) → v ≤ 64000000
 place_small s v ch valid ok = from (place_behind s.history v) refl ok
   where
-    from : (r : Option ℕ) → place_behind s.history v ≡ r → true ≡ is_ok (elim r as (λ _. Result OpData Local) [ None ↦ Err (PlaceOut v (length (shown s.history))) | Some p ↦ numbered s (inserting (next_name s) p ch (context_of_all s.history)) ]) → v ≤ 64000000
+    from : (r : Option ℕ) → place_behind s.history v ≡ r → true ≡ is_ok (elim r as (λ _. Result OpData Local) [ None ↦ Err (PlaceOut v (length (characters_of s.history))) | Some p ↦ numbered s (inserting (next_name s) p ch (context_of_all s.history)) ]) → v ≤ 64000000
     from None at ok = absurd (true≢false ok)
     from (Some p) at ok =
         let places = shown_places_of s.history in
@@ -109,7 +110,7 @@ drop_past (x ∷ xs) zero le = absurd (omega (arith, le))
 drop_past (x ∷ xs) (suc n) le = drop_past xs n (omega (arith, le))
 
 pub typed_none : (i v : ℕ) (text : List ℕ) (d : SessionData) (k : ℕ) → length text ≤ k → typed i v (drop k text) d ≡ []
-unfolding typed
+unfolding typed_in
 typed_none i v text d k past = ap (λ cs. typed i v cs d) (drop_past text k past)
 
 pub given_none : (i : ℕ) (os : List OpData) (d : SessionData) (k : ℕ) → length os ≤ k → given_all i (drop k os) d ≡ []

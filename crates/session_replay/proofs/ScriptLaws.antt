@@ -1,16 +1,15 @@
 -- Scripts: each session that they come by is sound and settled, and what follows for what waits and what is shown.
-use Rattle.std.proofs.Common.{◌≡◌, ◌↔◌, ℕ, zero, suc, ◌+◌, ◌<◌, ◌≤◌, Bool, true, false, inl, inr, List, [], ◌∷◌, length, Result, Ok, Err, refl, ap, sym, subst, ◌∙◌, arith}
-use Rattle.std.specs.Prelude.{Contains, Option, Some, None, nat_lt, nat_le, if◌then◌else◌, ◌||◌}
+use Rattle.std.proofs.Common.{◌≡◌, ℕ, zero, suc, ◌+◌, ◌<◌, ◌≤◌, Bool, true, false, inl, inr, List, [], ◌∷◌, length, Result, Ok, Err, refl, ap, sym, subst, ◌∙◌, arith}
+use Rattle.std.specs.Prelude.{Contains, Option, Some, None, nat_lt, nat_le, if◌then◌else◌}
 use Rattle.std.specs.Str.{is_utf8}
 use Rattle.std.specs.Option.{is_none}
-use Rattle.std.proofs.lemmas.Bool.{cases_Bool, leb-true, or_left, or_right, true≢false, false≢true, false_from_ne_true}
+use Rattle.std.proofs.lemmas.Bool.{cases_Bool, leb-true, or_left, or_right, true≢false, false_from_ne_true}
 use Rattle.op_name.specs.declared.member.Member.{Member}
 use Rattle.context_diff.specs.Operations.{OpData, member_of, context_of, IsWellFormed}
-use Rattle.context_diff.specs.Histories.{is_known, IsValid, Same}
-use Rattle.context_diff.specs.Replays.{text_of}
+use Rattle.context_diff.specs.Histories.{is_known, IsValid}
 use Rattle.context_diff.proofs.Complete.{complete}
 use Rattle.context_diff.proofs.Known.{contains_cases, contains_none}
-use Rattle.cot_site.specs.States.{State, IsSettled, is_ready}
+use Rattle.cot_site.specs.States.{State, is_ready}
 use Rattle.cot_site.specs.Verdicts.{lacked}
 use Rattle.cot_site.specs.Sites.{AllFormed}
 use Rattle.cot_site.proofs.Releases.{settled_none}
@@ -28,7 +27,7 @@ use Rattle.session_replay.specs.declared.session.StepBad.TheVariants.{NoSites, N
 use Rattle.session_replay.specs.Steps.{Step, last_of}
 use Rattle.session_replay.specs.Sessions.{SessionData, unstarted, new_site, new_sites}
 use Rattle.session_replay.specs.Commands.{told, started_line, first_line, line_steps}
-use Rattle.session_replay.specs.Scripts.{Piece, Whole, Past, line_read, read_form, refusal_of, steps_or, steps_of_read, piece_steps, pieces_of, sessions_on, sessions_from, sessions_of}
+use Rattle.session_replay.specs.Scripts.{Piece, Whole, Past, line_read, read_form, refusal_of, steps_or, steps_of_read, piece_steps, pieces_of, sessions_on, sessions_from, sessions_from_in, sessions_of}
 use Rattle.session_replay.specs.Events.{Opening}
 use Rattle.session_replay.specs.Laws.{IsSound, AreSettled, Settles, WaitsFor}
 use Rattle.session_replay.proofs.Every.{Every, every_last, every_map}
@@ -143,7 +142,7 @@ lasting_settles d es settled lasting = record {
 -- ---- lines as they are read
 
 -- a line was read, and its parts are in range
-read_range : (p : Piece) (l : Line) → line_read p ≡ Ok l → IsInRange l
+pub read_range : (p : Piece) (l : Line) → line_read p ≡ Ok l → IsInRange l
 read_range Past l is = absurd (none l is)
   where
     none : (l : Line) → ◌≡◌ {A = Result Line Refusal} (Err refusal.Limit) (Ok l) → ⊥
@@ -199,7 +198,7 @@ piece_reads p d es is = from (line_read p) refl is
 abbrev pub Rests : SessionData → Type 0
 Rests d = IsSound d × AreSettled d
 
-piece_rests : (p : Piece) (d : SessionData) (es : List (Step SessionData)) → Rests d → piece_steps p d ≡ Ok es → Rests (last_of d es)
+pub piece_rests : (p : Piece) (d : SessionData) (es : List (Step SessionData)) → Rests d → piece_steps p d ≡ Ok es → Rests (last_of d es)
 piece_rests p d es rests is =
     let reads = piece_reads p d es is in
     let lasts = line_lasts reads.line d es rests.0 reads.range reads.steps in
@@ -217,16 +216,18 @@ sessions_rest_on next (Ok es) d x rest at =
     elim (contains_cases (last_of d es) (next (last_of d es)) x at) [ inl same ↦ subst Rests same here.0 | inr later ↦ here.1 later ]
 
 sessions_rest : (pieces : List Piece) (d x : SessionData) → Rests d → Contains (sessions_from pieces d) x → Rests x
-unfolding sessions_from
+unfolding sessions_from_in
 sessions_rest [] d x rests at = absurd (contains_none x at)
 sessions_rest (p ∷ pieces) d x rests at =
     sessions_rest_on (sessions_from pieces) (piece_steps p d) d x
     (λ es is. let there = piece_rests p d es rests is in (there, sessions_rest pieces (last_of d es) x there)) at
 
+pub unstarted_rests : Rests unstarted
+unstarted_rests = (unstarted_sound, λ s there. absurd (contains_none s there))
+
 pub script_rests : (bytes : List ℕ) (d : SessionData) → Contains (sessions_of bytes) d → Rests d
 script_rests bytes d at =
-    let first : Rests unstarted = (unstarted_sound, λ s there. absurd (contains_none s there)) in
-    elim (contains_cases unstarted (sessions_from (pieces_of bytes) unstarted) d at) [ inl same ↦ subst Rests same first | inr later ↦ sessions_rest (pieces_of bytes) unstarted d first later ]
+    elim (contains_cases unstarted (sessions_from (pieces_of bytes) unstarted) d at) [ inl same ↦ subst Rests same unstarted_rests | inr later ↦ sessions_rest (pieces_of bytes) unstarted d unstarted_rests later ]
 
 -- ---- what waits
 

@@ -1,6 +1,6 @@
 -- Sound sessions: each step of a line leaves one, and a line whose events settle ends settled.
-use Rattle.std.proofs.Common.{◌≡◌, ℕ, zero, suc, ◌+◌, ◌<◌, ◌≤◌, Bool, true, false, ◌⊎◌, inl, inr, List, [], ◌∷◌, ◌++◌, length, map, refl, ap, sym, subst, ◌∙◌, append_assoc, append-nil, arith}
-use Rattle.std.specs.Prelude.{Contains, set, slice_index_or}
+use Rattle.std.proofs.Common.{◌≡◌, ℕ, zero, suc, ◌<◌, Bool, ◌⊎◌, inl, inr, List, [], ◌∷◌, ◌++◌, length, refl, ap, sym, subst, ◌∙◌, append_assoc, append-nil}
+use Rattle.std.specs.Prelude.{Contains, set}
 use Rattle.std.proofs.lemmas.List.Elements.{Contains-get_or, Contains-push_cases}
 use Rattle.std.proofs.lemmas.List.{length-set}
 use Rattle.context_diff.specs.Operations.{OpData, IsWellFormed}
@@ -9,7 +9,7 @@ use Rattle.context_diff.proofs.Known.{contains_cases, contains_here, contains_la
 use Rattle.cot_site.specs.States.{State, IsSettled, with_last, delivered, judged}
 use Rattle.cot_site.specs.Sites.{AllFormed}
 use Rattle.script_text.specs.Report.{op_text}
-use Rattle.session_replay.specs.Steps.{Step, last_of, and_then}
+use Rattle.session_replay.specs.Steps.{Step, last_of}
 use Rattle.session_replay.specs.Sessions.{SessionData, site_at, new_site, at_site, all_releases, settling, made, given, told_verdict}
 use Rattle.session_replay.specs.Commands.{told}
 use Rattle.session_replay.specs.Events.{Event, Making, Giving, Telling, steps_of, all_steps, rests}

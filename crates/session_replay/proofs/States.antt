@@ -1,6 +1,6 @@
 -- Sound states of a site stay sound with each event, and releases end settled.
-use Rattle.std.proofs.Common.{◌≡◌, ℕ, zero, suc, ◌+◌, ◌<◌, ◌≤◌, Bool, true, false, inl, inr, List, [], ◌∷◌, ◌++◌, length, refl, ap, sym, subst, ◌∙◌, arith}
-use Rattle.std.specs.Prelude.{Option, Some, None, Contains, slice_get, option_map, if◌then◌else◌}
+use Rattle.std.proofs.Common.{◌≡◌, ℕ, zero, suc, ◌<◌, ◌≤◌, inl, inr, List, [], ◌∷◌, length, refl, ap, sym, subst, ◌∙◌, arith}
+use Rattle.std.specs.Prelude.{Option, Some, None, option_map}
 use Rattle.std.specs.List.{list_any}
 use Rattle.std.proofs.lemmas.Bool.{cases_Bool, cond-true, cond-false}
 use Rattle.std.proofs.lemmas.Option.{none-some}
@@ -10,8 +10,7 @@ use Rattle.context_diff.specs.Ops.{op_eq}
 use Rattle.context_diff.proofs.Valid.{valid_push}
 use Rattle.cot_site.specs.declared.verdict.Verdict.{Verdict}
 use Rattle.cot_site.specs.declared.verdict.Verdict.TheVariants.{Repeat, Forged, Waits, NotClosed, PlaceOut, Integrated}
-use Rattle.cot_site.specs.Verdicts.{verdict_of}
-use Rattle.cot_site.specs.States.{State, Released, held, with_last, with_held, after_verdict, delivered, judged, released, released_at, delivered_again, without_waiting, first_ready, is_ready, IsSettled}
+use Rattle.cot_site.specs.States.{State, Released, held, with_last, with_held, after_verdict, delivered, judged, released, released_at, delivered_again, without_waiting, first_ready, IsSettled}
 use Rattle.cot_site.specs.Sites.{AllFormed}
 use Rattle.cot_site.proofs.Verdicts.{integrated_next}
 use Rattle.cot_site.proofs.Waiting.{removed_formed, held_formed}

@@ -1,10 +1,9 @@
 -- What the calls of a session answer.
-use Rattle.std.specs.Prelude.{◌≡◌, ℕ, List, [], ◌∷◌, ◌++◌, Option, Some, None, Result, Ok, Err, length, ◌<◌, ◌≤◌}
+use Rattle.std.specs.Prelude.{◌≡◌, ℕ, List, [], Result, Ok, Err, length, ◌<◌, ◌≤◌}
 use Rattle.session_replay.specs.declared.session.StepBad.{StepBad}
 use Rattle.session_replay.specs.declared.session.StepBad.TheVariants.{NoSites, Twice, NoSite, NoMessage, Memory}
 use Rattle.session_replay.specs.Steps.{Step, last_of, written_by, IsReached}
 use Rattle.session_replay.specs.Sessions.{SessionData}
-use Rattle.session_replay.specs.Scripts.{Report}
 
 -- the answer of a line with these steps, or with this refusal: all steps are done; or memory was wanting, and the first few are
 -- done; or the line is refused, and nothing changed

@@ -1,10 +1,11 @@
--- What each line of a script does to a session.
-use Rattle.std.specs.Prelude.{ℕ, ◌+◌, zero, suc, false, List, [], ◌∷◌, length, drop, codes, slice_get, nat_lt, nat_le, Result, Ok, Err, Option, Some, None, if◌then◌else◌}
-use Rattle.op_name.specs.NameData.{NameData}
+-- What each line of a script does to a session. What is shown may be read in more than one way: a definition that looks at it
+-- says how by its first argument, the view that a site in each state has of its text.
+use Rattle.std.specs.Prelude.{ℕ, ◌+◌, zero, suc, false, List, [], ◌∷◌, length, drop, codes, encode_utf8_all, slice_get, nat_lt, nat_le, Result, Ok, Err, Option, Some, None, if◌then◌else◌}
 use Rattle.context_diff.specs.Operations.{OpData}
 use Rattle.context_diff.specs.Histories.{context_of_all}
-use Rattle.context_diff.specs.Replays.{characters_of, text_of}
-use Rattle.cot_site.specs.Commands.{local_insert, local_delete, local_undo, local_redo}
+use Rattle.cot_site.specs.States.{State as SiteState}
+use Rattle.cot_site.specs.Views.{View, history_view}
+use Rattle.cot_site.specs.Commands.{insert_in, delete_in, local_undo, local_redo}
 use Rattle.cot_site.specs.declared.local.Local.{Local}
 use Rattle.wire_codec.specs.Judging.{judge}
 use Rattle.wire_codec.specs.declared.fault.Refused.{Refused}
@@ -17,7 +18,7 @@ use Rattle.script_text.specs.declared.lines.Line.{Line}
 use Rattle.script_text.specs.declared.lines.Line.TheVariants.{Blank, Sites, Ins, Nl, Del, Undo, Redo, Give, All, Sync, Raw, Show, State}
 use Rattle.session_replay.specs.declared.session.StepBad.{StepBad}
 use Rattle.session_replay.specs.declared.session.StepBad.TheVariants.{NoSites, Twice, NoSite, NoMessage}
-use Rattle.session_replay.specs.Steps.{Step, last_of, and_then}
+use Rattle.session_replay.specs.Steps.{Step, and_then}
 use Rattle.session_replay.specs.Sessions.{SessionData, site_at, new_sites, made, given, given_all, synced}
 
 -- one line is written, and nothing changes
@@ -35,9 +36,13 @@ typed_on next i (Ok o) d = and_then d (made i o d) next
 typed_on next i (Err why) d = told (local_text why) d
 
 -- characters at visible places v, v + 1 and so on, until one is refused
-unfoldable pub typed : ℕ → ℕ → List ℕ → SessionData → List (Step SessionData)
-typed i v [] d = []
-typed i v (ch ∷ chs) d = typed_on (typed i (v + 1) chs) i (local_insert (site_at d i) v ch) d
+unfoldable pub typed_in : (SiteState → View) → ℕ → ℕ → List ℕ → SessionData → List (Step SessionData)
+typed_in view i v [] d = []
+typed_in view i v (ch ∷ chs) d = typed_on (typed_in view i (v + 1) chs) i (insert_in (view (site_at d i)) (site_at d i) v ch) d
+
+-- the same where each site sees what its history shows
+abbrev pub typed : ℕ → ℕ → List ℕ → SessionData → List (Step SessionData)
+typed i v chs d = typed_in history_view i v chs d
 
 -- the word of a cause of bad bytes
 abbrev pub cause_word : Cause → List ℕ
@@ -64,10 +69,15 @@ framed n i [] d = []
 framed zero i (b ∷ bytes) d = []
 framed (suc n) i (b ∷ bytes) d = framed_on (framed n i) i (b ∷ bytes) (judge (b ∷ bytes)) d
 
--- the lines of a shown text, and of a site's state
-abbrev pub show_text : ℕ → SessionData → List ℕ
-show_text i d = let h = (site_at d i).history in shown_text (length (characters_of h)) (text_of h)
+-- the lines of a shown text
+abbrev pub show_text_in : (SiteState → View) → ℕ → SessionData → List ℕ
+show_text_in view i d = let shown = (view (site_at d i)).characters in shown_text (length shown) (encode_utf8_all shown)
 
+-- the same where each site sees what its history shows
+abbrev pub show_text : ℕ → SessionData → List ℕ
+show_text i d = show_text_in history_view i d
+
+-- the line of a site's state
 abbrev pub have_text : ℕ → SessionData → List ℕ
 have_text i d = let s = site_at d i in state_text i (context_of_all s.history) (length s.waiting)
 
@@ -81,20 +91,24 @@ abbrev pub at_known : ℕ → SessionData → Result (List (Step SessionData)) S
 at_known i d steps = if nat_lt i (length d.sites) then steps else Err NoSite
 
 -- a line of a started session
+abbrev pub started_line_in : (SiteState → View) → Line → SessionData → Result (List (Step SessionData)) StepBad
+started_line_in view Blank d = Ok []
+started_line_in view (Sites n) d = Err Twice
+started_line_in view (Ins i v text) d = at_known i d (Ok (typed_in view i v text d))
+started_line_in view (Nl i v) d = at_known i d (Ok (commanded i (insert_in (view (site_at d i)) (site_at d i) v 10) d))
+started_line_in view (Del i v) d = at_known i d (Ok (commanded i (delete_in (view (site_at d i)) (site_at d i) v) d))
+started_line_in view (Undo i t) d = at_known i d (Ok (commanded i (local_undo (site_at d i) t) d))
+started_line_in view (Redo i t) d = at_known i d (Ok (commanded i (local_redo (site_at d i) t) d))
+started_line_in view (Give i m) d = at_known i d (given_message i (slice_get d.messages m) d)
+started_line_in view (All i) d = at_known i d (Ok (given_all i d.messages d))
+started_line_in view Sync d = Ok (synced 0 (length d.sites) d)
+started_line_in view (Raw i bytes) d = at_known i d (Ok (framed (length bytes) i bytes d))
+started_line_in view (Show i) d = at_known i d (Ok (told (show_text_in view i d) d))
+started_line_in view (State i) d = at_known i d (Ok (told (have_text i d) d))
+
+-- the same where each site sees what its history shows
 abbrev pub started_line : Line → SessionData → Result (List (Step SessionData)) StepBad
-started_line Blank d = Ok []
-started_line (Sites n) d = Err Twice
-started_line (Ins i v text) d = at_known i d (Ok (typed i v text d))
-started_line (Nl i v) d = at_known i d (Ok (commanded i (local_insert (site_at d i) v 10) d))
-started_line (Del i v) d = at_known i d (Ok (commanded i (local_delete (site_at d i) v) d))
-started_line (Undo i t) d = at_known i d (Ok (commanded i (local_undo (site_at d i) t) d))
-started_line (Redo i t) d = at_known i d (Ok (commanded i (local_redo (site_at d i) t) d))
-started_line (Give i m) d = at_known i d (given_message i (slice_get d.messages m) d)
-started_line (All i) d = at_known i d (Ok (given_all i d.messages d))
-started_line Sync d = Ok (synced 0 (length d.sites) d)
-started_line (Raw i bytes) d = at_known i d (Ok (framed (length bytes) i bytes d))
-started_line (Show i) d = at_known i d (Ok (told (show_text i d) d))
-started_line (State i) d = at_known i d (Ok (told (have_text i d) d))
+started_line line d = started_line_in history_view line d
 
 -- a line before the sites are made, of which there are 64 at most
 abbrev pub first_line : Line → Result (List (Step SessionData)) StepBad
@@ -113,5 +127,9 @@ first_line (Show i) = Err NoSites
 first_line (State i) = Err NoSites
 
 -- the steps of a line, or why it is refused
+abbrev pub line_steps_in : (SiteState → View) → Line → SessionData → Result (List (Step SessionData)) StepBad
+line_steps_in view line d = if nat_lt 0 (length d.sites) then started_line_in view line d else first_line line
+
+-- the same where each site sees what its history shows
 abbrev pub line_steps : Line → SessionData → Result (List (Step SessionData)) StepBad
-line_steps line d = if nat_lt 0 (length d.sites) then started_line line d else first_line line
+line_steps line d = line_steps_in history_view line d

@@ -1,5 +1,5 @@
 -- Events: a line of a script as a list of what happens at its sites, each with the releases that follow.
-use Rattle.std.specs.Prelude.{◌≡◌, ℕ, Bool, List, [], ◌∷◌}
+use Rattle.std.specs.Prelude.{ℕ, Bool, List, [], ◌∷◌}
 use Rattle.context_diff.specs.Operations.{OpData}
 use Rattle.session_replay.specs.Steps.{Step, last_of, and_then}
 use Rattle.session_replay.specs.Sessions.{SessionData, new_sites, made, given}

@@ -1,5 +1,5 @@
 -- The laws of sessions.
-use Rattle.std.specs.Prelude.{◌≡◌, ℕ, ◌<◌, false, Bool, List, [], Contains, Result, Ok, length}
+use Rattle.std.specs.Prelude.{◌≡◌, ℕ, ◌<◌, false, Bool, List, Contains, Ok, length}
 use Rattle.op_name.specs.declared.member.Member.{Member}
 use Rattle.context_diff.specs.Operations.{OpData, member_of, context_of, IsWellFormed}
 use Rattle.context_diff.specs.Histories.{is_known, IsValid, IsNext, LacksFirst, Same}
@@ -8,7 +8,6 @@ use Rattle.cot_site.specs.States.{State, IsSettled}
 use Rattle.cot_site.specs.Sites.{AllFormed}
 use Rattle.script_text.specs.declared.lines.Line.{Line}
 use Rattle.script_text.specs.Lines.{IsInRange}
-use Rattle.session_replay.specs.declared.session.StepBad.{StepBad}
 use Rattle.session_replay.specs.Steps.{Step, last_of, IsReached}
 use Rattle.session_replay.specs.Sessions.{SessionData, site_at, made, given}
 use Rattle.session_replay.specs.Commands.{line_steps}

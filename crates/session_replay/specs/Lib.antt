@@ -5,5 +5,6 @@ pub mod Events
 pub mod Scripts
 pub mod Endings
 pub mod Answers
+pub mod Derivation
 pub mod Doing
 pub mod Laws

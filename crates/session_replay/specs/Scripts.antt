@@ -1,7 +1,9 @@
--- Scripts: their lines, and the report of a script.
-use Rattle.std.specs.Prelude.{◌≡◌, ℕ, ◌+◌, Bool, true, false, List, [], ◌∷◌, ◌++◌, ◌&&◌, ◌==◌, length, map, take, nat_le, Result, Ok, Err, Option, Some, None, if◌then◌else◌}
+-- Scripts: their lines, and the report of a script, by the view that a site in each state has of its text.
+use Rattle.std.specs.Prelude.{ℕ, ◌+◌, Bool, true, false, List, [], ◌∷◌, ◌++◌, ◌==◌, length, map, take, nat_le, Result, Ok, Err, Option, Some, None, if◌then◌else◌}
 use Rattle.std.specs.List.{slice_split}
 use Rattle.std.specs.Str.{is_utf8}
+use Rattle.cot_site.specs.States.{State}
+use Rattle.cot_site.specs.Views.{View, history_view}
 use Rattle.script_text.specs.declared.lines.Line.{Line}
 use Rattle.script_text.specs.declared.refusal.Refusal.{Refusal}
 use Rattle.script_text.specs.declared.refusal.Refusal.TheVariants as refusal
@@ -11,7 +13,7 @@ use Rattle.session_replay.specs.declared.session.StepBad.{StepBad}
 use Rattle.session_replay.specs.declared.session.StepBad.TheVariants.{NoSites, Twice, NoSite, NoMessage, Memory}
 use Rattle.session_replay.specs.Steps.{Step, last_of, written_by}
 use Rattle.session_replay.specs.Sessions.{SessionData, unstarted}
-use Rattle.session_replay.specs.Commands.{line_steps}
+use Rattle.session_replay.specs.Commands.{line_steps_in}
 
 -- what is written, and whether the script was refused
 pub record Report : Type 0 where
@@ -63,13 +65,22 @@ abbrev pub steps_or : Result (List (Step SessionData)) StepBad → Result (List 
 steps_or (Ok es) = Ok es
 steps_or (Err why) = Err (refusal_of why)
 
+-- the steps of what was read, or the first cause why there are none
+abbrev pub steps_of_read_in : (State → View) → Result Line Refusal → SessionData → Result (List (Step SessionData)) Refusal
+steps_of_read_in view (Err why) d = Err why
+steps_of_read_in view (Ok line) d = steps_or (line_steps_in view line d)
+
+-- the same where each site sees what its history shows
 abbrev pub steps_of_read : Result Line Refusal → SessionData → Result (List (Step SessionData)) Refusal
-steps_of_read (Err why) d = Err why
-steps_of_read (Ok line) d = steps_or (line_steps line d)
+steps_of_read r d = steps_of_read_in history_view r d
 
 -- the steps of a line of a script, or the first cause why it is refused
+abbrev pub piece_steps_in : (State → View) → Piece → SessionData → Result (List (Step SessionData)) Refusal
+piece_steps_in view p d = steps_of_read_in view (line_read p) d
+
+-- the same where each site sees what its history shows
 abbrev pub piece_steps : Piece → SessionData → Result (List (Step SessionData)) Refusal
-piece_steps p d = steps_of_read (line_read p) d
+piece_steps p d = piece_steps_in history_view p d
 
 -- bytes that stand before a report
 abbrev pub behind : List ℕ → Report → Report
@@ -81,13 +92,21 @@ report_on next number (Err why) d = record { written = refused_text number why; 
 report_on next number (Ok es) d = behind (written_by es) (next (last_of d es))
 
 -- the report of these lines, of which the first has this number
-unfoldable pub report_from : ℕ → List Piece → SessionData → Report
-report_from number [] d = record { written = []; refused = false }
-report_from number (p ∷ pieces) d = report_on (report_from (number + 1) pieces) number (piece_steps p d) d
+unfoldable pub report_from_in : (State → View) → ℕ → List Piece → SessionData → Report
+report_from_in view number [] d = record { written = []; refused = false }
+report_from_in view number (p ∷ pieces) d = report_on (report_from_in view (number + 1) pieces) number (piece_steps_in view p d) d
+
+-- the same where each site sees what its history shows
+abbrev pub report_from : ℕ → List Piece → SessionData → Report
+report_from number pieces d = report_from_in history_view number pieces d
 
 -- the report of a script
+abbrev pub script_report_in : (State → View) → List ℕ → Report
+script_report_in view bytes = report_from_in view 1 (pieces_of bytes) unstarted
+
+-- the same where each site sees what its history shows
 abbrev pub script_report : List ℕ → Report
-script_report bytes = report_from 1 (pieces_of bytes) unstarted
+script_report bytes = script_report_in history_view bytes
 
 -- the session behind a line, and those that follow; none behind a refused line
 abbrev pub sessions_on : (SessionData → List SessionData) → Result (List (Step SessionData)) Refusal → SessionData → List SessionData
@@ -95,10 +114,18 @@ sessions_on next (Err why) d = []
 sessions_on next (Ok es) d = last_of d es ∷ next (last_of d es)
 
 -- the sessions behind these lines, up to a refused one
-unfoldable pub sessions_from : List Piece → SessionData → List SessionData
-sessions_from [] d = []
-sessions_from (p ∷ pieces) d = sessions_on (sessions_from pieces) (piece_steps p d) d
+unfoldable pub sessions_from_in : (State → View) → List Piece → SessionData → List SessionData
+sessions_from_in view [] d = []
+sessions_from_in view (p ∷ pieces) d = sessions_on (sessions_from_in view pieces) (piece_steps_in view p d) d
+
+-- the same where each site sees what its history shows
+abbrev pub sessions_from : List Piece → SessionData → List SessionData
+sessions_from pieces d = sessions_from_in history_view pieces d
 
 -- the sessions that a script comes by
+abbrev pub sessions_of_in : (State → View) → List ℕ → List SessionData
+sessions_of_in view bytes = unstarted ∷ sessions_from_in view (pieces_of bytes) unstarted
+
+-- the same where each site sees what its history shows
 abbrev pub sessions_of : List ℕ → List SessionData
-sessions_of bytes = unstarted ∷ sessions_from (pieces_of bytes) unstarted
+sessions_of bytes = sessions_of_in history_view bytes

@@ -1,5 +1,5 @@
 -- Sessions: the sites that a script made, each with its state, and the messages; what an event at one site does.
-use Rattle.std.specs.Prelude.{ℕ, ◌+◌, zero, suc, Bool, true, false, List, [], ◌∷◌, ◌++◌, length, map, set, slice_index_or, Option, Some, None, if◌then◌else◌, ◌&&◌}
+use Rattle.std.specs.Prelude.{ℕ, zero, suc, Bool, true, false, List, [], ◌∷◌, ◌++◌, length, map, set, slice_index_or, Option, Some, None, if◌then◌else◌}
 use Rattle.context_diff.specs.Operations.{OpData, member_of}
 use Rattle.cot_site.specs.States.{State, Released, judged, delivered, released, with_last}
 use Rattle.cot_site.specs.declared.verdict.Verdict.{Verdict}
@@ -7,7 +7,7 @@ use Rattle.cot_site.specs.declared.verdict.Verdict.TheVariants.{Repeat, Forged, 
 use Rattle.script_text.specs.declared.event.Event.TheVariants.{Give, Free}
 use Rattle.script_text.specs.Report.{op_text}
 use Rattle.script_text.specs.Verdicts.{verdict_line_text}
-use Rattle.session_replay.specs.Steps.{Step, last_of, and_then}
+use Rattle.session_replay.specs.Steps.{Step, and_then}
 
 -- the states of the sites, in the order of their numbers, none before `sites N`; and the messages, numbered from 0
 pub record SessionData : Type 0 where

@@ -1,6 +1,7 @@
 //! The laws of sessions: each says what its definitions give, and does nothing.
 
 ghost use Rattle.session_replay.specs.Laws.{SessionsStaySound, LocalOperationsSettle, DeliveriesSettle, EventsSettle, LinesSettle, ScriptsSettle, WaitingIsNamed, SitesConverge};
+ghost use Rattle.session_replay.specs.Derivation.{DerivedReportsAreThere, OneDerivedReport, DerivedSessionsAreTheSame};
 
 /// Each step of a line leaves a sound session: histories are valid, and what waits and all messages are well
 /// formed.
@@ -43,4 +44,22 @@ pub fn waiting_is_named()
 /// Two sites, of one session or of two, that have the same operations show the same text.
 pub fn sites_converge()
     ensures { SitesConverge }
+{}
+
+/// The report of a script is that of a session that is read with forms: beside each history stands a list of
+/// derived forms, one for each operation at the members before it, and texts, visible places and refusals are
+/// read from the cells that they give.
+pub fn derived_reports_are_there()
+    ensures { DerivedReportsAreThere }
+{}
+
+/// No other report of the script can be read so, whichever derived forms stand beside the histories.
+pub fn one_derived_report()
+    ensures { OneDerivedReport }
+{}
+
+/// A session that is read with forms comes by the sessions of the script, the same states of its sites behind
+/// each line.
+pub fn derived_sessions_are_the_same()
+    ensures { DerivedSessionsAreTheSame }
 {}

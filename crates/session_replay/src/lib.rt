@@ -12,8 +12,9 @@ mod script;
 mod session;
 
 pub use laws::{
-    deliveries_settle, events_settle, lines_settle, local_operations_settle, scripts_settle,
-    sessions_stay_sound, sites_converge, waiting_is_named,
+    deliveries_settle, derived_reports_are_there, derived_sessions_are_the_same, events_settle,
+    lines_settle, local_operations_settle, one_derived_report, scripts_settle, sessions_stay_sound,
+    sites_converge, waiting_is_named,
 };
 pub use script::{replay, replay_past};
 pub use session::{Session, StepBad};

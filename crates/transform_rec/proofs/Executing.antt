@@ -120,6 +120,14 @@ module _ {F S : Type 0} (w : Setting F S) where
   forms_once (x ∷ xs) C (f ∷ fs) [] df dg = absurd dg
   forms_once (x ∷ xs) C (f ∷ fs) (g ∷ gs) df dg = ap₂ (λ h hs. h ∷ hs) (derived_once (deriving_of w) x C f g df.0 dg.0) (forms_once xs (plus C x) fs gs df.1 dg.1)
 
+  -- the forms of a longer list begin with those of its front
+  pub forms_begin : (xs ys : List Member) (C : Member → Bool) (fs gs : List F) → Forms C xs fs → Forms C (xs ++ ys) gs → take (length fs) gs ≡ fs
+  forms_begin [] ys C [] gs df dg = refl
+  forms_begin [] ys C (f ∷ fs) gs df dg = absurd df
+  forms_begin (x ∷ xs) ys C [] gs df dg = absurd df
+  forms_begin (x ∷ xs) ys C (f ∷ fs) [] df dg = absurd dg
+  forms_begin (x ∷ xs) ys C (f ∷ fs) (g ∷ gs) df dg = ap₂ (λ h hs. h ∷ hs) (derived_once (deriving_of w) x C g f dg.0 df.0) (forms_begin xs ys (plus C x) fs gs df.1 dg.1)
+
   -- a list with forms is causal
   pub forms_run : (xs : List Member) (C : Member → Bool) (fs : List F) → Forms C xs fs → Run C xs
   forms_run [] C fs df = tt

@@ -1,11 +1,11 @@
 -- Where a member may be added to a set, and which member may be taken out of one.
-use Rattle.std.proofs.Common.{◌≡◌, ◌≢◌, ◌+◌, Bool, true, false, not, ◌&&◌, List, [], ◌∷◌, ◌++◌, ◌⊎◌, inl, inr, refl, sym, subst}
+use Rattle.std.proofs.Common.{◌≡◌, ◌≢◌, ◌+◌, Bool, true, false, not, ◌&&◌, List, [], ◌∷◌, ◌++◌, inl, inr, refl, sym, subst}
 use Rattle.std.proofs.lemmas.Bool.{cases_Bool, both_ways, and_parts, and_from, not-true, not_from_false, false_from_ne_true}
 use Rattle.op_name.specs.declared.member.Member.{Member}
 use Rattle.transform_rec.specs.Sets.{none, IsSubset, SameSet, plus, minus, meet}
 use Rattle.ttf_form.specs.Families.{IsIn}
 use Rattle.transform_rec.specs.Family.{Family, IsCausal, IsCausalFamily, IsClosed, IsSound, size}
-use Rattle.transform_rec.proofs.Lists.{LastOf, last_of, in_cases}
+use Rattle.transform_rec.proofs.Lists.{LastOf, in_cases}
 use Rattle.transform_rec.proofs.Sets.{same_set, same_from, lacks_from, plus_keeps, plus_cases, plus_lacks, plus_parts, minus_parts, minus_from, minus_lacks, minus_here, minus_plus, sum_plus}
 
 -- ---- lists in causal order
@@ -83,15 +83,6 @@ module _ {F : Type 0} (b : Family F) where
     lacks = causal_self b.context b.members m c.causal i;
   }
 
-  -- a member of C outside of m's base context that may be taken out of C
-  pub record Free (m : Member) (C : Member → Bool) : Type 0 where
-    pub it : Member
-    pub other : m ≢ it
-    pub out : minus C it it ≡ false
-    pub whole : SameSet C (plus (minus C it) it)
-    pub mine : IsSound b m (minus C it)
-    pub its : IsSound b it (minus C it)
-
   -- the last member of the difference, with what is known of its place in the list
   free_at : (c : IsCausalFamily b) (m : Member) (C : Member → Bool) → IsSound b m C → (l : LastOf (λ y. C y && not (b.context m y)) b.members) → IsClosed b (minus C l.it)
   free_at c m C s l =
@@ -125,20 +116,16 @@ module _ {F : Type 0} (b : Family F) where
       let i = s.set.listed x there in
       record { listed = i; covers = λ z h. minus_from C x z (s.set.closed x there z h) (λ e. both_ways (b.context x x) (causal_self b.context b.members x c.causal i) (subst (λ (y : Member). b.context x y ≡ true) (sym e) h)); set = free_at c m C s l; lacks = minus_here C x }
 
-  free_by : (c : IsCausalFamily b) (m : Member) (C : Member → Bool) → IsSound b m C → ((z : Member) → IsIn z b.members → (C z && not (b.context m z)) ≡ false) ⊎ LastOf (λ y. C y && not (b.context m y)) b.members → SameSet C (b.context m) ⊎ Free m C
-  free_by c m C s (inl n) =
-      inl (same_from C (b.context m) (λ z h. elim (cases_Bool (b.context m z)) [ inl e ↦ e | inr e ↦ absurd (both_ways (C z && not (b.context m z)) (n z (s.set.listed z h)) (and_from (C z) (not (b.context m z)) h (not_from_false (b.context m z) e))) ]) s.covers)
-  free_by c m C s (inr l) =
-      let there = (and_parts (C l.it) (not (b.context m l.it)) l.passes).0 in
-      inr (record {
-        it = l.it;
-        other = λ e. both_ways (C m) s.lacks (subst (λ (y : Member). C y ≡ true) (sym e) there);
-        out = minus_here C l.it;
-        whole = minus_plus C l.it there;
-        mine = mine_without c m C s l;
-        its = its_without c m C s l;
-      })
+  -- a set that m may be added to and that has no member outside of m's base context is that base context
+  pub base_alone : (m : Member) (C : Member → Bool) → IsSound b m C → ((z : Member) → IsIn z b.members → (C z && not (b.context m z)) ≡ false) → SameSet C (b.context m)
+  base_alone m C s n =
+      same_from C (b.context m) (λ z h. elim (cases_Bool (b.context m z)) [ inl e ↦ e | inr e ↦ absurd (both_ways (C z && not (b.context m z)) (n z (s.set.listed z h)) (and_from (C z) (not (b.context m z)) h (not_from_false (b.context m z) e))) ]) s.covers
 
-  -- a set that m may be added to is m's base context, or has a member that may be taken out
-  pub free_last : IsCausalFamily b → (m : Member) (C : Member → Bool) → IsSound b m C → SameSet C (b.context m) ⊎ Free m C
-  free_last c m C s = free_by c m C s (last_of (λ y. C y && not (b.context m y)) b.members)
+  -- the last member of the difference is another one than m, and C is what is left without it, with it
+  pub last_other : (m : Member) (C : Member → Bool) → IsSound b m C → (l : LastOf (λ y. C y && not (b.context m y)) b.members) → m ≢ l.it
+  last_other m C s l =
+      let there = (and_parts (C l.it) (not (b.context m l.it)) l.passes).0 in
+      λ e. both_ways (C m) s.lacks (subst (λ (y : Member). C y ≡ true) (sym e) there)
+
+  pub last_whole : (m : Member) (C : Member → Bool) → (l : LastOf (λ y. C y && not (b.context m y)) b.members) → SameSet C (plus (minus C l.it) l.it)
+  last_whole m C l = minus_plus C l.it (and_parts (C l.it) (not (b.context m l.it)) l.passes).0

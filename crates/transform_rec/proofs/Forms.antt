@@ -9,8 +9,9 @@ use Rattle.transform_rec.specs.Derived.{Derived, Deriving, weight, Holds}
 use Rattle.transform_rec.specs.Derived.Derived.{at_base, by_step}
 use Rattle.transform_rec.specs.Executing.{IsCausalFrom, AreFormsFrom}
 use Rattle.transform_rec.proofs.Lists.{sum_below}
-use Rattle.transform_rec.proofs.Sets.{same_set, plus_here, plus_keeps, sum_plus}
-use Rattle.transform_rec.proofs.Families.{sound_moves, sound_plus, sound_unrelated, base_sound, free_last, Free, size_plus}
+use Rattle.transform_rec.proofs.Sets.{same_set, plus_here, plus_keeps, minus_here, sum_plus}
+use Rattle.transform_rec.proofs.Families.{sound_moves, sound_plus, sound_unrelated, base_sound, base_alone, last_other, last_whole, mine_without, its_without, size_plus}
+use Rattle.transform_rec.proofs.Computed.{Difference, difference, computed_by, computed, computed_forms}
 
 -- a derivation holds of any family that holds the members, base contexts and base forms of the first
 pub derived_moves : {F : Type 0} (over : F → F → F) (b c : Family F) → Holds b c → (m : Member) (C : Member → Bool) (f : F) → Derived over b m C f → Derived over c m C f
@@ -89,30 +90,43 @@ module _ {F : Type 0} (d : Deriving F) where
       let all = sum_below (plus D x) (λ y. d.inclusion.extent (d.family.form y)) d.family.members in
       omega arith
 
-  -- ---- each member has a form at each set that it may be added to
+  -- ---- each member has a form at each set that it may be added to: the one that is computed
 
-  exists_by : (n : ℕ) → ((m : Member) (C : Member → Bool) → suc (size d.family C) ≤ n → IsSound d.family m C → (f : F) × IsForm m C f) → (m : Member) (C : Member → Bool) → size d.family C ≤ n → IsSound d.family m C → SameSet C (d.family.context m) ⊎ Free d.family m C → (f : F) × IsForm m C f
-  exists_by n smaller m C le s (inl h) = (d.family.form m, at_base s.listed h refl)
-  exists_by n smaller m C le s (inr r) =
-      let D = minus C r.it in
-      let same : size d.family C ≡ size d.family (plus D r.it) = ap (size d.family) (same_set C (plus D r.it) r.whole) in
-      let more = size_plus d.family d.known.causal r.it D r.its.listed r.out in
+  computed_by_is : (n : ℕ) (rest : Member → (Member → Bool) → F) → ((m : Member) (C : Member → Bool) → suc (size d.family C) ≤ n → IsSound d.family m C → IsForm m C (rest m C)) → (m : Member) (C : Member → Bool) → size d.family C ≤ n → IsSound d.family m C → (r : Difference d.inclusion.over d.family m C) → IsForm m C (computed_by d.inclusion.over d.family rest m C r)
+  computed_by_is n rest smaller m C le s (inl none) = at_base s.listed (base_alone d.family m C s none) refl
+  computed_by_is n rest smaller m C le s (inr l) =
+      let x = l.it in
+      let D = minus C x in
+      let whole = last_whole d.family m C l in
+      let out = minus_here C x in
+      let its = its_without d.family d.known.causal m C s l in
+      let same : size d.family C ≡ size d.family (plus D x) = ap (size d.family) (same_set C (plus D x) whole) in
+      let more = size_plus d.family d.known.causal x D its.listed out in
       let less : suc (size d.family D) ≤ n = omega arith in
-      let g = smaller m D less r.mine in
-      let k = smaller r.it D less r.its in
-      (d.inclusion.over g.0 k.0, by_step D r.it g.0 k.0 r.its.listed r.other r.out r.whole g.1 k.1 refl)
+      by_step D x (rest m D) (rest x D) its.listed (last_other d.family m C s l) out whole
+      (smaller m D less (mine_without d.family d.known.causal m C s l)) (smaller x D less its) refl
 
-  exists_up_to : (n : ℕ) (m : Member) (C : Member → Bool) → size d.family C ≤ n → IsSound d.family m C → (f : F) × IsForm m C f
-  exists_up_to zero m C le s = exists_by zero (λ x D l r. absurd (omega arith)) m C le s (free_last d.family d.known.causal m C s)
-  exists_up_to (suc n) m C le s = exists_by (suc n) (λ x D l r. exists_up_to n x D (omega arith) r) m C le s (free_last d.family d.known.causal m C s)
+  -- a set without members is a base context
+  computed_none : (m : Member) (C : Member → Bool) → size d.family C ≤ 0 → IsSound d.family m C → Difference d.inclusion.over d.family m C → IsForm m C (d.family.form m)
+  computed_none m C le s (inl none) = computed_by_is 0 (λ x D. d.family.form x) (λ x D l r. absurd (omega arith)) m C le s (inl none)
+  computed_none m C le s (inr l) =
+      let D = minus C l.it in
+      let same : size d.family C ≡ size d.family (plus D l.it) = ap (size d.family) (same_set C (plus D l.it) (last_whole d.family m C l)) in
+      let more = size_plus d.family d.known.causal l.it D (its_without d.family d.known.causal m C s l).listed (minus_here C l.it) in
+      absurd (omega arith)
+
+  pub computed_is : (n : ℕ) (m : Member) (C : Member → Bool) → size d.family C ≤ n → IsSound d.family m C → IsForm m C (computed d.inclusion.over d.family n m C)
+  computed_is zero m C le s = computed_none m C le s (difference d.inclusion.over d.family m C)
+  computed_is (suc n) m C le s =
+      computed_by_is (suc n) (λ x D. computed d.inclusion.over d.family n x D) (λ x D l r. computed_is n x D (omega arith) r) m C le s (difference d.inclusion.over d.family m C)
 
   pub exists : (m : Member) (C : Member → Bool) → IsSound d.family m C → (f : F) × IsForm m C f
-  exists m C s = exists_up_to (size d.family C) m C (omega arith) s
+  exists m C s = (computed d.inclusion.over d.family (size d.family C) m C, computed_is (size d.family C) m C (omega arith) s)
 
   -- each causal list has its forms
+  pub computed_list : (xs : List Member) (C : Member → Bool) → IsCausalFrom d.family C xs → AreFormsFrom d.inclusion.over d.family C xs (computed_forms d.inclusion.over d.family xs C)
+  computed_list [] C r = tt
+  computed_list (x ∷ xs) C r = (computed_is (size d.family C) x C (omega arith) r.0, computed_list xs (plus C x) r.1)
+
   pub list_forms : (xs : List Member) (C : Member → Bool) → IsCausalFrom d.family C xs → (fs : List F) × AreFormsFrom d.inclusion.over d.family C xs fs
-  list_forms [] C r = ([], tt)
-  list_forms (x ∷ xs) C r =
-      let f = exists x C r.0 in
-      let fs = list_forms xs (plus C x) r.1 in
-      (f.0 ∷ fs.0, (f.1, fs.1))
+  list_forms xs C r = (computed_forms d.inclusion.over d.family xs C, computed_list xs C r)

@@ -2,6 +2,7 @@ pub mod Members
 pub mod Lists
 pub mod Sets
 pub mod Families
+pub mod Computed
 pub mod Forms
 pub mod CausalLists
 pub mod Turns

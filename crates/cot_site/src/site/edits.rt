@@ -2,7 +2,7 @@
 
 ghost use Rattle.std.specs.Prelude.{◌≡◌, ◌≢◌, ◌<◌, true, Err, IfOk, OnOk, OnErr, length};
 ghost use Rattle.context_diff.specs.Histories.{IsNext, context_of_all, is_known, generation_in};
-ghost use Rattle.context_diff.specs.Replays.{shown};
+ghost use Rattle.context_diff.specs.Replays.{characters_of};
 ghost use Rattle.op_name.specs.declared.member.Member.TheVariants.{Original};
 ghost use Rattle.context_diff.specs.Ops.{data_of};
 ghost use Rattle.cot_site.specs.States.{with_last};
@@ -123,7 +123,7 @@ impl Site {
 
     // The refusal of a place that no shown character has.
     fn place_out(&self, v: u32) -> Local
-        ensures { result ≡ Local.PlaceOut v (length (shown self.now.history)) }
+        ensures { result ≡ Local.PlaceOut v (length (characters_of self.now.history)) }
     {
         Local::PlaceOut {
             place: v,

@@ -1,7 +1,8 @@
 //! Each law once, as a caller has it.
 
 use crate::{
-    executed_forms_show_the_history, integrated_operations_are_next, local_operations_are_next,
+    executed_forms_show_the_history, form_lists_are_there, form_lists_show_the_histories,
+    integrated_operations_are_next, local_operations_are_next, one_list_of_forms,
     releases_never_wait, settled_states_have_none_ready, verdicts_are_exact,
 };
 
@@ -13,4 +14,7 @@ fn laws() {
     settled_states_have_none_ready();
     local_operations_are_next();
     executed_forms_show_the_history();
+    form_lists_are_there();
+    one_list_of_forms();
+    form_lists_show_the_histories();
 }

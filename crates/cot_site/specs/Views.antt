@@ -1,0 +1,43 @@
+-- What a site sees of its text, as its history says it and as forms beside its state show it.
+use Rattle.std.specs.Prelude.{◌≡◌, ℕ, suc, Bool, List, [], ◌∷◌, ◌++◌, map, if◌then◌else◌}
+use Rattle.context_diff.specs.Operations.{OpData}
+use Rattle.context_diff.specs.Histories.{IsValid}
+use Rattle.context_diff.specs.Replays.{Cell, replay_of, is_shown, characters_of}
+use Rattle.ttf_form.specs.declared.form.Form.{Form}
+use Rattle.ttf_form.specs.Cells.{CellData, applied}
+use Rattle.transform_rec.specs.Executing.{executed}
+use Rattle.visible_view.specs.View.{shown_cells, shown_places}
+use Rattle.cot_site.specs.States.{State}
+use Rattle.cot_site.specs.Sites.{AreExecuted, KeepsForms}
+
+-- the places of the cells that pass, where the first cell of the list stands at n
+abbrev pub places_from : (Cell → Bool) → ℕ → List Cell → List ℕ
+places_from p n [] = []
+places_from p n (c ∷ cs) = if p c then n ∷ places_from p (suc n) cs else places_from p (suc n) cs
+
+-- where the shown cells of a history stand among all cells of its replay
+abbrev pub shown_places_of : List OpData → List ℕ
+shown_places_of h = places_from (is_shown h) 0 (replay_of h)
+
+-- View: where the shown characters stand among all cells of a text, and which they are
+pub record View : Type 0 where
+  pub places : List ℕ
+  pub characters : List ℕ
+
+-- the view that the state's history gives: its shown cells among those of its fixed replay
+abbrev pub history_view : State → View
+history_view s = record { places = shown_places_of s.history; characters = characters_of s.history }
+
+-- the view that cells give: those that their marks show
+abbrev pub cells_view : List CellData → View
+cells_view cs = record { places = shown_places cs; characters = map (λ c. c.ch) (shown_cells cs) }
+
+-- the view that the forms beside the state give: that of the cells that they make, executed one after the other from no cell
+abbrev pub forms_view : (State → List Form) → State → View
+forms_view forms s = cells_view (executed applied [] (forms s))
+
+-- beside each state stands a list of forms: beside a valid history one derived form of each operation, at the members before
+-- it; and when a history grows by an operation, its forms stay
+pub record AreFormLists (forms : State → List Form) : Type 0 where
+  pub executed : (s : State) → IsValid s.history → AreExecuted s.history (forms s)
+  pub stay : (s t : State) (o : OpData) → IsValid t.history → t.history ≡ s.history ++ o ∷ [] → KeepsForms (forms s) (forms t)

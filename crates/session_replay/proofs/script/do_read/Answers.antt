@@ -1,1 +1,0 @@
-use Rattle.session_replay.proofs.script.do_read.Goals as goal
