@@ -200,6 +200,8 @@ fn a_book_finds_what_was_pushed(rt: HostRuntime) -> Result<(), Fail> {
     assert_eq!(rt; book.len(), 4);
     assert!(rt; book.op(1) == Some(&second));
     assert!(rt; book.op(4).is_none());
+    assert_eq!(rt; book.member(1), Some(Member::Original(Name::new(2, 2)?)));
+    assert!(rt; book.member(4).is_none());
     assert!(rt; book.original(&Name::new(2, 2)?) == Some(&second));
     assert!(rt; book.original(&Name::new(2, 3)?).is_none());
     // it is there already
