@@ -50,16 +50,17 @@ computed_are : (s : State) → IsValid s.history → AreExecuted s.history (comp
 computed_are s valid = computed_executed s.history valid (base_form s.history) (base_forms_hold s.history valid)
 
 pub computed_lists : AreFormLists computed_of
-computed_lists = record {
-  executed = computed_are;
-  stay = λ s t o valid grown.
-      let longer : IsValid (s.history ++ o ∷ []) = subst IsValid grown valid in
-      forms_kept s.history o (computed_of s) (computed_of t) longer (computed_are s (valid_pop s.history o longer).0)
-      (subst (λ (h : List OpData). AreExecuted h (computed_of t)) grown (computed_are t valid));
-}
+computed_lists = computed_are
+
+-- the forms beside a history stay when it grows
+pub lists_stay : (forms : State → List Form) (s t : State) (o : OpData) → AreFormLists forms → IsValid t.history → t.history ≡ s.history ++ o ∷ [] → KeepsForms (forms s) (forms t)
+lists_stay forms s t o are valid grown =
+    let longer : IsValid (s.history ++ o ∷ []) = subst IsValid grown valid in
+    forms_kept s.history o (forms s) (forms t) longer (are s (valid_pop s.history o longer).0)
+    (subst (λ (h : List OpData). AreExecuted h (forms t)) grown (are t valid))
 
 -- lists of forms beside states show what the valid histories show
 pub lists_show : (forms : State → List Form) (s : State) → AreFormLists forms → IsValid s.history → forms_view forms s ≡ history_view s
 lists_show forms s are valid =
     let fs = forms s in
-    view_is s (executed applied [] fs) (cells_replayed s.history fs (executed applied [] fs) valid (record { forms = are.executed s valid; cells = refl }))
+    view_is s (executed applied [] fs) (cells_replayed s.history fs (executed applied [] fs) valid (record { forms = are s valid; cells = refl }))

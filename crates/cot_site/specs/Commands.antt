@@ -21,7 +21,7 @@ place_of_shown h v = slice_get (shown_places_of h) v
 abbrev pub place_behind : List OpData → ℕ → Option ℕ
 place_behind h v = slice_get (0 ∷ map suc (shown_places_of h)) v
 
--- how many originals the site has made
+-- how many originals of the site the history has
 abbrev pub count_made : State → ℕ
 count_made s = count_of (context_of_all s.history) s.number
 

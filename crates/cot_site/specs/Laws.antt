@@ -1,5 +1,5 @@
 -- The laws of verdicts, releases and local commands.
-use Rattle.std.specs.Prelude.{◌≡◌, ◌↔◌, ℕ, ◌<◌, false, List, [], Contains, Ok, Some, length}
+use Rattle.std.specs.Prelude.{◌≡◌, ◌↔◌, ℕ, ◌<◌, false, List, [], ◌∷◌, ◌++◌, Contains, Ok, Some, length}
 use Rattle.op_name.specs.declared.member.Member.{Member}
 use Rattle.op_name.specs.declared.member.Member.TheVariants.{Original}
 use Rattle.op_name.specs.NameData.{NameData}
@@ -14,7 +14,7 @@ use Rattle.ttf_form.specs.declared.form.Form.{Form}
 use Rattle.ttf_form.specs.Cells.{applied}
 use Rattle.transform_rec.specs.Executing.{executed}
 use Rattle.visible_view.specs.View.{shown_cells, shown_places, shown_text}
-use Rattle.cot_site.specs.Sites.{AreExecuted}
+use Rattle.cot_site.specs.Sites.{AreExecuted, KeepsForms}
 use Rattle.cot_site.specs.Views.{shown_places_of, history_view, forms_view, AreFormLists}
 use Rattle.cot_site.specs.Commands.{local_insert, local_delete, local_undo, local_redo}
 use Rattle.std.specs.Char.{IsScalar}
@@ -71,7 +71,8 @@ ExecutedFormsShowTheHistory =
 abbrev pub FormListsAreThere : Type 0
 FormListsAreThere = (forms : State → List Form) × AreFormLists forms
 
--- beside a valid history stands one of them: whatever derived forms its operations have, each at the members before it, are it
+-- beside a valid history stands exactly one list: whatever derived forms its operations have, each at the members before it, are
+-- that list
 abbrev pub OneListOfForms : Type 0
 OneListOfForms =
     (forms : State → List Form) (s : State) (fs : List Form)
@@ -80,6 +81,15 @@ OneListOfForms =
     → AreExecuted s.history fs
     → fs ≡ forms s
 
--- through it a site sees what its history shows
+-- when a history grows by an operation, the forms that stood beside it stay
+abbrev pub FormListsStay : Type 0
+FormListsStay =
+    (forms : State → List Form) (s t : State) (o : OpData)
+    → AreFormLists forms
+    → IsValid t.history
+    → t.history ≡ s.history ++ o ∷ []
+    → KeepsForms (forms s) (forms t)
+
+-- through the list beside its state a site sees what its history shows
 abbrev pub FormListsShowTheHistories : Type 0
 FormListsShowTheHistories = (forms : State → List Form) (s : State) → AreFormLists forms → IsValid s.history → forms_view forms s ≡ history_view s

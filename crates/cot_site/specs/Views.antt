@@ -1,5 +1,5 @@
 -- What a site sees of its text, as its history says it and as forms beside its state show it.
-use Rattle.std.specs.Prelude.{◌≡◌, ℕ, suc, Bool, List, [], ◌∷◌, ◌++◌, map, if◌then◌else◌}
+use Rattle.std.specs.Prelude.{ℕ, suc, Bool, List, [], ◌∷◌, map, if◌then◌else◌}
 use Rattle.context_diff.specs.Operations.{OpData}
 use Rattle.context_diff.specs.Histories.{IsValid}
 use Rattle.context_diff.specs.Replays.{Cell, replay_of, is_shown, characters_of}
@@ -8,7 +8,7 @@ use Rattle.ttf_form.specs.Cells.{CellData, applied}
 use Rattle.transform_rec.specs.Executing.{executed}
 use Rattle.visible_view.specs.View.{shown_cells, shown_places}
 use Rattle.cot_site.specs.States.{State}
-use Rattle.cot_site.specs.Sites.{AreExecuted, KeepsForms}
+use Rattle.cot_site.specs.Sites.{AreExecuted}
 
 -- the places of the cells that pass, where the first cell of the list stands at n
 abbrev pub places_from : (Cell → Bool) → ℕ → List Cell → List ℕ
@@ -36,8 +36,6 @@ cells_view cs = record { places = shown_places cs; characters = map (λ c. c.ch)
 abbrev pub forms_view : (State → List Form) → State → View
 forms_view forms s = cells_view (executed applied [] (forms s))
 
--- beside each state stands a list of forms: beside a valid history one derived form of each operation, at the members before
--- it; and when a history grows by an operation, its forms stay
-pub record AreFormLists (forms : State → List Form) : Type 0 where
-  pub executed : (s : State) → IsValid s.history → AreExecuted s.history (forms s)
-  pub stay : (s t : State) (o : OpData) → IsValid t.history → t.history ≡ s.history ++ o ∷ [] → KeepsForms (forms s) (forms t)
+-- beside each state stands a list of forms: beside a valid history one derived form of each operation, at the members before it
+abbrev pub AreFormLists : (State → List Form) → Type 0
+AreFormLists forms = (s : State) → IsValid s.history → AreExecuted s.history (forms s)

@@ -14,7 +14,7 @@ mod verdict;
 
 pub use laws::{
     executed_forms_show_the_history, form_lists_are_there, form_lists_show_the_histories,
-    integrated_operations_are_next, local_operations_are_next, one_list_of_forms,
+    form_lists_stay, integrated_operations_are_next, local_operations_are_next, one_list_of_forms,
     releases_never_wait, settled_states_have_none_ready, verdicts_are_exact,
 };
 pub use local::Local;

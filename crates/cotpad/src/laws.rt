@@ -4,11 +4,11 @@ ghost use Rattle.std.specs.Prelude.{◌≡◌, List};
 ghost use Rattle.context_diff.specs.Operations.{OpData};
 ghost use Rattle.context_diff.specs.Histories.{IsValid, Same};
 ghost use Rattle.context_diff.specs.Replays.{text_of};
-ghost use Rattle.session_replay.specs.Derivation.{DerivedReportsAreThere, OneDerivedReport};
+ghost use Rattle.session_replay.specs.Derivation.{DerivedReportsAreThere, OneDerivedReport, DerivedSessionsAreTheSame};
 ghost use Rattle.session_replay.specs.Laws.{ScriptsSettle, SitesConverge, WaitingIsNamed};
 
 use session_replay::{
-    derived_reports_are_there, one_derived_report, scripts_settle, sites_converge, waiting_is_named,
+    derived_reports_are_there, derived_sessions_are_the_same, one_derived_report, scripts_settle, sites_converge, waiting_is_named,
 };
 
 /// What holds of all histories, and of the sessions of all scripts. It does nothing.
@@ -19,10 +19,12 @@ pub(crate) fn laws_hold()
     ensures settled { ScriptsSettle }
     ensures derived { DerivedReportsAreThere }
     ensures one_derived { OneDerivedReport }
+    ensures derived_sessions { DerivedSessionsAreTheSame }
 {
     sites_converge();
     waiting_is_named();
     scripts_settle();
     derived_reports_are_there();
     one_derived_report();
+    derived_sessions_are_the_same();
 }

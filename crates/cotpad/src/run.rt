@@ -8,7 +8,7 @@ ghost use Rattle.outside_io.specs.Reading.{LosesFront};
 ghost use Rattle.context_diff.specs.Operations.{OpData};
 ghost use Rattle.context_diff.specs.Histories.{IsValid, Same};
 ghost use Rattle.context_diff.specs.Replays.{text_of};
-ghost use Rattle.session_replay.specs.Derivation.{IsDerivedReport, OneDerivedReport};
+ghost use Rattle.session_replay.specs.Derivation.{IsDerivedReport, OneDerivedReport, DerivedSessionsAreTheSame};
 ghost use Rattle.session_replay.specs.Laws.{ScriptsSettle, SitesConverge, WaitingIsNamed};
 ghost use Rattle.session_replay.specs.Scripts.{Report, script_report};
 ghost use Rattle.cotpad.specs.Statuses.{IsReplay, IsReported, status_of, words_line};
@@ -47,12 +47,14 @@ pub fn run<S: Source, K: Sink, W: Wire>(
     ensures read_to_end { result ≡ Status.Done → IsAtEnd (S.left source.new) }
 
     // It is also the report of the session as it is read with forms: beside each history stands a list of derived
-    // forms, one for each operation at the members before it. No other report can be read so.
+    // forms, one for each operation at the members before it, and texts, visible places and the counts that refused
+    // places tell are those of the cells that they give. No other report can be read so, and no other sessions.
     ensures derived { IsReported result → IfSome (S.left source.old) (λ bytes.
         (r : Report) × IsDerivedReport bytes r
         × (result ≡ status_of r.refused)
         × Appends (K.held sink.old) (K.held sink.new) r.written) }
     ensures one_derived { OneDerivedReport }
+    ensures derived_sessions { DerivedSessionsAreTheSame }
 
     // What a shown text rests on. Histories of the same operations, in whatever order they came, show the same
     // text; so do two sites of sessions. Whatever waits behind a line of a script waits for a named member, and

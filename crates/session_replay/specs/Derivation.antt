@@ -1,13 +1,13 @@
--- A session read with forms: beside the history of each site stands a list of forms, and what is shown is what these show.
--- Verdicts, releases, undos and redos look at no cell, and are what the histories say.
+-- A session read with forms: beside the state of each site stands a list of forms, and what is shown is what these show. Verdicts,
+-- releases, undos and redos look at no cell, and are what the histories say.
 use Rattle.std.specs.Prelude.{◌≡◌, ℕ, List}
 use Rattle.ttf_form.specs.declared.form.Form.{Form}
 use Rattle.cot_site.specs.States.{State}
 use Rattle.cot_site.specs.Views.{forms_view, AreFormLists}
 use Rattle.session_replay.specs.Scripts.{Report, script_report, script_report_in, sessions_of, sessions_of_in}
 
--- the report of the script, read with lists of forms: each operation that a site integrates has a derived form at the members
--- before it, and texts, visible places and refusals are read from the cells that the forms give
+-- the report of the script, read with lists of forms: beside a valid history each operation has a derived form at the members
+-- before it, and texts, visible places, and the counts that refused places tell are those of the cells that the forms give
 pub record IsDerivedReport (bytes : List ℕ) (r : Report) : Type 0 where
   pub forms : State → List Form
   pub lists : AreFormLists forms

@@ -47,8 +47,8 @@ pub fn sites_converge()
 {}
 
 /// The report of a script is that of a session that is read with forms: beside each history stands a list of
-/// derived forms, one for each operation at the members before it, and texts, visible places and refusals are
-/// read from the cells that they give.
+/// derived forms, one for each operation at the members before it, and texts, visible places and the counts that
+/// refused places tell are read from the cells that they give.
 pub fn derived_reports_are_there()
     ensures { DerivedReportsAreThere }
 {}

@@ -7,8 +7,8 @@ use Rattle.ttf_form.specs.Families.{IsIn, sum_where}
 use Rattle.transform_rec.specs.Family.{Family, IsCausalFamily}
 
 module _ {F : Type 0} (over : F → F → F) (b : Family F) where
-  -- a form of m at C: its base form at its base context, or a form at a set that lacks x, after the inclusion of a form
-  -- of x at that same set (COT 2009)
+  -- a form of m at C: its base form at its base context; or, where C is a set with another member x more, a form at that set after
+  -- the inclusion of a form of x at that same set (COT 2009)
   pub data Derived : Member → (Member → Bool) → F → Type 0 where
     at_base : {m : Member} {C : Member → Bool} {f : F} → IsIn m b.members → SameSet C (b.context m) → f ≡ b.form m → Derived m C f
     by_step : {m : Member} {C : Member → Bool} {f : F} (D : Member → Bool) (x : Member) (g k : F) → IsIn x b.members → m ≢ x → D x ≡ false → SameSet C (plus D x) → Derived m D g → Derived x D k → f ≡ over g k → Derived m C f
