@@ -8,7 +8,8 @@ ghost use Rattle.session_replay.specs.Derivation.{DerivedReportsAreThere, OneDer
 ghost use Rattle.session_replay.specs.Laws.{ScriptsSettle, SitesConverge, WaitingIsNamed};
 
 use session_replay::{
-    derived_reports_are_there, derived_sessions_are_the_same, one_derived_report, scripts_settle, sites_converge, waiting_is_named,
+    derived_reports_are_there, derived_sessions_are_the_same, one_derived_report, scripts_settle,
+    sites_converge, waiting_is_named,
 };
 
 /// What holds of all histories, and of the sessions of all scripts. It does nothing.
