@@ -1,5 +1,6 @@
 #!/bin/sh
-# Measures bin/cotpad on made inputs, and prints seconds: how they grow is what matters. Run `make` first.
+# Measures bin/cotpad on made inputs, and prints seconds (the least of three runs) and how they grow from row to row.
+# Run `make` first, on a machine with nothing else to do.
 #   bench/measure.sh            all inputs
 #   bench/measure.sh offline    one of: comments typing offline rounds
 set -eu
@@ -7,13 +8,26 @@ cd "$(dirname "$0")/.."
 made=$(mktemp -d)
 trap 'rm -rf "$made"' EXIT
 
-# time of one replay: label, script
-replay() {
-    start=$(date +%s.%N)
-    bin/cotpad replay < "$2" > "$made/report" || { echo "$1: status $?"; return; }
-    end=$(date +%s.%N)
-    awk -v a="$start" -v b="$end" -v what="$1" 'BEGIN { printf "%-60s %8.2f s\n", what, b - a }'
-    tail -n 1 "$made/report" | cut -c 1-40 > "$made/last"
+# the least seconds of three runs of a command, whose output is thrown away
+least() {
+    for run in 1 2 3; do
+        start=$(date +%s.%N)
+        "$@" > /dev/null || { echo "$*: status $?" >&2; exit 1; }
+        end=$(date +%s.%N)
+        awk -v a="$start" -v b="$end" 'BEGIN { printf "%.3f\n", b - a }'
+    done | sort -n | head -n 1
+}
+
+# a row: what is replayed, and the script; behind it stands how the time grew from the row before, if that was of the same kind
+before=
+row() {
+    now=$(least sh -c 'bin/cotpad replay < "$1"' replay "$2")
+    awk -v what="$1" -v now="$now" -v before="$before" 'BEGIN {
+        printf "%-58s %8.3f s", what, now
+        if (before > 0) printf "  %5.1f times", now / before
+        printf "\n"
+    }'
+    before=$now
 }
 
 # a text of so many characters
@@ -21,23 +35,23 @@ text() { awk -v n="$1" 'BEGIN { for (i = 0; i < n; i++) printf "%c", 97 + i % 26
 
 comments() {
     awk 'BEGIN { for (i = 0; i < 1048576; i++) print "# a comment of a script, which is sixty-three characters long.." }' > "$made/comments"
-    replay "64 MiB of comment lines" "$made/comments"
-    start=$(date +%s.%N); wc -l < "$made/comments" > /dev/null; end=$(date +%s.%N)
-    awk -v a="$start" -v b="$end" 'BEGIN { printf "%-60s %8.2f s\n", "the same by wc -l", b - a }'
+    row "64 MiB of comment lines" "$made/comments"
+    awk -v s="$(least wc -l "$made/comments")" 'BEGIN { printf "%-58s %8.3f s\n", "the same by wc -l", s }'
 }
 
 typing() {
     { echo "sites 1"; printf "ins 0 0 "; text 200000; echo; } > "$made/line"
-    replay "one site types 200,000 characters, one line" "$made/line"
+    row "one site types 200,000 characters, one line" "$made/line"
+    before=
     awk 'BEGIN { print "sites 1"; for (i = 0; i < 200000; i++) printf "ins 0 %d x\n", i }' > "$made/lines"
-    replay "one site types 200,000 characters at the end, one a line" "$made/lines"
+    row "one site types 200,000 characters at the end, one a line" "$made/lines"
 }
 
 # two sites type k characters each while apart, and then exchange
 offline() {
-    for k in 100 300 1000 3000; do
+    for k in 111 333 1000 3000; do
         { echo "sites 2"; printf "ins 0 0 "; text "$k"; echo; printf "ins 1 0 "; text "$k"; echo; echo sync; } > "$made/offline"
-        replay "two sites type $k characters each offline, and exchange" "$made/offline"
+        row "two sites type $k characters each offline, and exchange" "$made/offline"
     done
 }
 
@@ -51,9 +65,9 @@ rounds() {
                 for (s = 0; s < 4; s++) for (i = 0; i < 8; i++) if (i % 4 != s) printf "give %d %d\n", s, m + i
             }
         }' > "$made/rounds"
-        replay "four sites, $n events, an exchange every 8" "$made/rounds"
+        row "four sites, $n events, an exchange every 8" "$made/rounds"
     done
 }
 
 if [ $# -eq 0 ]; then set -- comments typing offline rounds; fi
-for what in "$@"; do "$what"; done
+for what in "$@"; do before=; "$what"; done
