@@ -52,3 +52,15 @@ fn a_full_cache_drops_the_entry_used_least_recently(rt: HostRuntime) -> Result<(
     assert_eq!(rt; cache.get(&key(rt.alloc(), 3, 1)?), None);
     Ok(())
 }
+
+#[test]
+fn an_entry_that_was_only_looked_at_goes_as_before(rt: HostRuntime) -> Result<(), Fail> {
+    let mut cache = Cache::new(rt.alloc(), 2)?;
+    cache.keep(key(rt.alloc(), 1, 1)?, 'p');
+    cache.keep(key(rt.alloc(), 2, 1)?, 'q');
+    assert_eq!(rt; cache.peek(&key(rt.alloc(), 1, 1)?), Some('p'));
+    cache.keep(key(rt.alloc(), 3, 1)?, 'r');
+    assert_eq!(rt; cache.peek(&key(rt.alloc(), 1, 1)?), None);
+    assert_eq!(rt; cache.peek(&key(rt.alloc(), 2, 1)?), Some('q'));
+    Ok(())
+}
