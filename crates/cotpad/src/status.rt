@@ -1,6 +1,7 @@
 //! How a call of the program ends.
 
-ghost use Rattle.std.specs.Prelude.{◌≤◌};
+ghost use Rattle.std.specs.Prelude.{◌≡◌};
+ghost use Rattle.cotpad.specs.Statuses.{code};
 
 /// How a call of `run` ended. The exit status is the variant's place, from 0.
 #[derive(Clone, Copy, Debug, PartialEq, Eq)]
@@ -24,7 +25,9 @@ pub enum Status {
 }
 
 /// The exit status of the process, 0 to 7.
-pub(crate) fn code_of(status: Status) -> u8 {
+pub(crate) fn code_of(status: Status) -> u8
+    ensures { result ≡ code status }
+{
     match status {
         Status::Done => 0,
         Status::Refused => 1,

@@ -1,6 +1,6 @@
 //! The words that the program was called with.
 
-ghost use Rattle.std.specs.Prelude.{◌≡◌, ◌↔◌, IsTrue, codes};
+ghost use Rattle.std.specs.Prelude.{◌≡◌, ◌↔◌, IsTrue, [], codes, string_bytes, IsUtf8};
 ghost use Rattle.cotpad.specs.Statuses.{IsReplay};
 
 use op_name::Memory;
@@ -27,7 +27,12 @@ fn is_name_of_replay(word: &str) -> bool
     word == "replay"
 }
 
-/// The words behind the program's name. A word that isn't UTF-8 is handed on as an empty word.
+/// The words behind the program's name, in their order. A word that isn't UTF-8 is handed on as an empty word,
+/// so it is no command.
+///
+/// No clause says which words these are: of the words of a call std tells only that each one fits the buffer
+/// that it was asked for with, neither its bytes nor that a second question gets the same answer. An error is
+/// want of memory, or a word for which the greatest room was too short.
 pub(crate) fn words_of(env: &impl Env, alloc: Global) -> Result<Vec<String>, Memory> {
     let mut words = Vec::new(alloc);
     for place in 1..usize::MAX {
@@ -49,7 +54,7 @@ fn word_at(env: &impl Env, alloc: Global, place: usize) -> Result<Option<String>
         match env.arg(place, &mut bytes) {
             Ok(len) => {
                 bytes.truncate(len);
-                return word_from(alloc, bytes);
+                return Ok(Some(word_from(alloc, bytes)));
             }
             Err(FillError::NotPresent) => return Ok(None),
             Err(FillError::TooLong) => room = room.saturating_mul(2),
@@ -58,11 +63,14 @@ fn word_at(env: &impl Env, alloc: Global, place: usize) -> Result<Option<String>
     Err(Memory)
 }
 
-/// The word that the bytes spell, or an empty word.
-fn word_from(alloc: Global, bytes: Vec<u8>) -> Result<Option<String>, Memory> {
+/// The word that the bytes spell, or an empty word where they aren't UTF-8.
+fn word_from(alloc: Global, bytes: Vec<u8>) -> String
+    ensures spelled { IsUtf8 bytes.items → string_bytes result ≡ bytes.items }
+    ensures not_spelled { (IsUtf8 bytes.items → ⊥) → string_bytes result ≡ [] }
+{
     match String::from_utf8(bytes) {
-        Ok(word) => Ok(Some(word)),
-        Err(_) => Ok(Some(String::new(alloc))),
+        Ok(word) => word,
+        Err(_) => String::new(alloc),
     }
 }
 
