@@ -1,5 +1,5 @@
-use Rattle.std.proofs.Common.{◌≡◌, ◌<◌, sym, subst, ◌∙◌}
-use Rattle.std.specs.Prelude.{ℕ, None, slice_get, length}
+use Rattle.std.proofs.Common.{◌<◌, sym, subst, ◌∙◌}
+use Rattle.std.specs.Prelude.{ℕ, length}
 use Rattle.std.proofs.lemmas.List.{length-map}
 use Rattle.context_diff.specs.Operations.{member_of}
 use Rattle.context_diff.specs.Histories.{members_in}

@@ -1,9 +1,6 @@
 use Rattle.std.proofs.Common.{◌≡◌, List, ◌∷◌, [], ◌++◌, sym, ap, ◌∙◌, arith}
 use Rattle.op_name.specs.declared.member.Member.{Member}
-use Rattle.context_vector.specs.Contexts.{has}
 use Rattle.context_diff.specs.Bases.{base_has}
-use Rattle.form_cache.specs.Keys.{KeyData}
-use Rattle.transform_rec.specs.Ways.{IsWalk}
 use Rattle.transform_rec.proofs.Backwards.{walk_last, walk_taken, walk_past}
 use Rattle.transform_rec.proofs.pending.take_out.Goals as goal
 

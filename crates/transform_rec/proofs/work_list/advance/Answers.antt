@@ -2,7 +2,7 @@ use Rattle.std.proofs.Common.{sym, subst, ◌∙◌}
 use Rattle.form_cache.specs.Keys.{KeyData}
 use Rattle.transform_rec.specs.Histories.{family_in, MayBeAddedTo}
 use Rattle.transform_rec.proofs.Transformations.{bases_causal, over_history}
-use Rattle.transform_rec.proofs.Keeping.{found_form, forms_used}
+use Rattle.transform_rec.proofs.Keeping.{found_form}
 use Rattle.transform_rec.proofs.Steps.{its_added, begun}
 use Rattle.transform_rec.proofs.work_list.advance.Goals as goal
 

@@ -3,7 +3,7 @@ use Rattle.context_vector.specs.Contexts.{ContextData, has}
 use Rattle.transform_rec.specs.Derived.{IsOnlyFormAt}
 use Rattle.transform_rec.specs.Histories.{family_in}
 use Rattle.transform_rec.proofs.Transformations.{bases_causal, over_history}
-use Rattle.transform_rec.proofs.Keeping.{found_form, forms_used, forms_kept}
+use Rattle.transform_rec.proofs.Keeping.{found_form, forms_kept}
 use Rattle.transform_rec.proofs.WorkLists.{turn_waits, turn_added, turn_pushed, turn_handed, turn_form, turn_popped, turn_ended, nothing_left}
 use Rattle.transform_rec.proofs.work_list.transform_with.Goals as goal
 
