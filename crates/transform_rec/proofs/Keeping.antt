@@ -1,6 +1,6 @@
 -- Entries of a cache that are forms stay so: when one is used, when a form is put among them, and when the history grows.
 use Rattle.std.proofs.Common.{◌≡◌, Bool, true, List, [], ◌∷◌, ◌++◌, Contains, ◌⊎◌, inl, inr, sym, subst, ◌∙◌}
-use Rattle.std.specs.Prelude.{Some}
+use Rattle.std.specs.Prelude.{Option, Some, None, IfSome}
 use Rattle.std.proofs.lemmas.List.{map-append}
 use Rattle.op_name.specs.declared.member.Member.{Member}
 use Rattle.context_vector.specs.Contexts.{ContextData, has}
@@ -29,6 +29,10 @@ use Rattle.transform_rec.proofs.Histories.{in_known, history_causal}
 module _ {F : Type 0} (over : F → F → F) (b : Family F) where
   pub found_form : (es : List (KeyData × F)) (k : KeyData) (f : F) → AreForms over b es → form_at es k ≡ Some f → IsOnlyFormAt over b k.member (has k.context) f
   found_form es k f known h = known (k, f) (found_entry es k f h)
+
+  pub found_if : (es : List (KeyData × F)) (k : KeyData) (r : Option F) → AreForms over b es → r ≡ form_at es k → IfSome r (IsOnlyFormAt over b k.member (has k.context))
+  found_if es k None known e = tt
+  found_if es k (Some f) known e = found_form es k f known (sym e)
 
   pub forms_used : (es new : List (KeyData × F)) (k : KeyData) → AreForms over b es → new ≡ used es k → AreForms over b new
   forms_used es new k known h e i = known e (used_entry es k e (subst (λ (l : List (KeyData × F)). Contains l e) h i))

@@ -115,7 +115,7 @@ fn advance<F: Include + Copy, B: Bases<F>>(
     bases.known();
     derives::<F, B>(bases);
     let key = key_beside(&pair.at, x)?;
-    if let Some(other) = cache.peek(&key) {
+    if let Some(other) = form_kept(book, bases, cache, &key) {
         take_in(book, bases, cache, pair, key, other)?;
         return Ok(None);
     }
@@ -124,7 +124,23 @@ fn advance<F: Include + Copy, B: Bases<F>>(
         return Ok(None);
     }
     let inner = start(alloc, book, bases, cache, key)?;
+    // the form that it begins with, if it is a kept one, is used
+    let _ = form_kept(book, bases, cache, &inner.at);
     Ok(Some(inner))
+}
+
+// The form that the cache has of the key, whose entry becomes the most recently used.
+fn form_kept<F: Include + Copy, B: Bases<F>>(
+    book: &Book,
+    bases: &B,
+    cache: &mut Cache<F>,
+    key: &Key,
+) -> Option<F>
+    requires { AreForms F.over (family_in book.now.ops (B.base_form bases.now)) cache.old.entries }
+    ensures form { IfSome result (IsOnlyFormAt F.over (family_in book.now.ops (B.base_form bases.now)) key.now.member (has key.now.context)) }
+    ensures known { AreForms F.over (family_in book.now.ops (B.base_form bases.now)) cache.new.entries }
+{
+    cache.get(key)
 }
 
 // Whether x, which the pair waits for, is inert.
@@ -187,8 +203,8 @@ fn handed<F: Include + Copy, B: Bases<F>>(
     Ok(outer)
 }
 
-// Includes the form of the key, a member at the pair's context, in the pair's form, and adds the member. It keeps the
-// other form of the two after the inclusion of the pair's.
+// Includes the form of the key, a member at the pair's context, in the pair's form, and adds the member. It keeps what the
+// other form of the two becomes.
 fn take_in<F: Include + Copy, B: Bases<F>>(
     book: &Book,
     bases: &B,
@@ -210,13 +226,41 @@ fn take_in<F: Include + Copy, B: Bases<F>>(
     bases.known();
     derives::<F, B>(bases);
     let x = member_in(&key);
+    let taken = pair.form.include(&other);
+    keep_turned(book, bases, cache, pair, key, other)?;
+    add_member(&mut pair.at, &x)?;
+    pair.form = taken;
+    Ok(())
+}
+
+// Keeps the form of the key after the inclusion of the pair's, unless it is inert: an inert member is added without its
+// form wherever that isn't there.
+fn keep_turned<F: Include + Copy, B: Bases<F>>(
+    book: &Book,
+    bases: &B,
+    cache: &mut Cache<F>,
+    pair: &Pending<F>,
+    key: Key,
+    other: F,
+) -> Result<(), Memory>
+    requires members { B.members bases.now ≡ members_in book.now.ops }
+    requires contexts { (x y : Member) → B.base_context bases.now x y ≡ base_has book.now.ops x y }
+    requires known { AreForms F.over (family_in book.now.ops (B.base_form bases.now)) cache.old.entries }
+    requires waits { (T : Member → Bool) × IsWaiting F.over (family_in book.now.ops (B.base_form bases.now)) T key.member pair.now }
+    requires here { key.context ≡ pair.now.at.context }
+    requires form { Derived F.over (family_in book.now.ops (B.base_form bases.now)) key.member (has key.context) other }
+    ensures { AreForms F.over (family_in book.now.ops (B.base_form bases.now)) cache.new.entries }
+{
+    book.known();
+    bases.known();
+    derives::<F, B>(bases);
+    if other.inert() {
+        return Ok(());
+    }
     let m = member_in(&pair.at);
     let turned = other.include(&pair.form);
-    let taken = pair.form.include(&other);
     let mut key = key;
     add_member(&mut key, &m)?;
     cache.keep(key, turned);
-    add_member(&mut pair.at, &x)?;
-    pair.form = taken;
     Ok(())
 }

@@ -1,8 +1,7 @@
-use Rattle.std.proofs.Common.{sym, subst, ◌∙◌}
+use Rattle.std.proofs.Common.{sym, subst}
 use Rattle.form_cache.specs.Keys.{KeyData}
-use Rattle.transform_rec.specs.Histories.{family_in, MayBeAddedTo}
+use Rattle.transform_rec.specs.Histories.{MayBeAddedTo}
 use Rattle.transform_rec.proofs.Transformations.{bases_causal, over_history}
-use Rattle.transform_rec.proofs.Keeping.{found_form}
 use Rattle.transform_rec.proofs.Steps.{its_added, begun}
 use Rattle.transform_rec.proofs.work_list.advance.Goals as goal
 
@@ -10,7 +9,7 @@ pub derives-requires : goal.derives-requires
 derives-requires g c = record { causal = bases_causal g.B.Bases c.args.bases.now c.args.book.now.ops c.requires.members c.requires.contexts c.known.ensures.valid }
 
 pub take_in-requires-clause-form : goal.take_in-requires-clause-form
-take_in-requires-clause-form g c = (found_form g.F.Include.over (family_in c.args.book.now.ops (g.B.Bases.base_form c.args.bases.now)) c.args.cache.now.entries c.in_ok-key.key c.in-Some.other c.requires.known (sym c.peek.ensures ∙ c.in-Some.is)).0
+take_in-requires-clause-form g c = (rw c.in-Some.is at c.form_kept.ensures.form).0
 
 pub start-requires-clause-added : goal.start-requires-clause-added
 start-requires-clause-added g c =
