@@ -8,6 +8,7 @@ use Rattle.ttf_form.specs.Forms.{form_over}
 use Rattle.ttf_form.specs.Cells.{CellData, applied}
 use Rattle.context_vector.specs.Contexts.{has}
 use Rattle.form_cache.specs.Keys.{KeyData}
+use Rattle.form_cache.specs.Entries.{Entries}
 use Rattle.transform_rec.specs.Sets.{none}
 use Rattle.transform_rec.specs.Derived.{Derived, IsOnlyFormAt}
 use Rattle.transform_rec.specs.Entries.{AreForms}
@@ -41,14 +42,14 @@ abbrev pub IsFormOf : List OpData → KeyData → Form → Type 0
 IsFormOf h k f = IsOnlyFormAt form_over (family_in h (base_form h)) k.member (has k.context) f
 
 -- over this history, each entry is the form of its key
-abbrev pub AreCached : List OpData → List (KeyData × Form) → Type 0
+abbrev pub AreCached : List OpData → Entries Form → Type 0
 AreCached h es = AreForms form_over (family_in h (base_form h)) es
 
 -- an executed history, with the entries of a cache
 pub record ReplicaData : Type 0 where
   pub history : List OpData
   pub forms : List Form
-  pub entries : List (KeyData × Form)
+  pub entries : Entries Form
 
 -- a state, with the form of each operation of its history, and the entries of the cache, which are no part of the state
 pub record SiteData : Type 0 where
@@ -56,7 +57,7 @@ pub record SiteData : Type 0 where
   pub history : List OpData
   pub waiting : List OpData
   pub forms : List Form
-  pub entries : List (KeyData × Form)
+  pub entries : Entries Form
 
 abbrev pub state_of : SiteData → State
 state_of s = record { number = s.number; history = s.history; waiting = s.waiting }

@@ -7,7 +7,7 @@
 mod cache;
 mod key;
 
-pub use cache::Cache;
+pub use cache::{Cache, Kept};
 pub use key::Key;
 
 #[cfg(test)]

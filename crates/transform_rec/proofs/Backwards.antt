@@ -1,7 +1,7 @@
 -- The way back from a set towards a member's base context: the last member of the difference, in the order of the family, is
 -- taken out first.
 use Rattle.std.proofs.Common.{◌≡◌, ◌≢◌, ℕ, ◌+◌, ◌<◌, ◌≤◌, Bool, true, false, not, ◌&&◌, List, [], ◌∷◌, ◌++◌, length, take, drop, reverse, inl, inr, refl, sym, ap, subst, ◌∙◌, arith}
-use Rattle.std.specs.Prelude.{Some, slice_get, Contains}
+use Rattle.std.specs.Prelude.{Some, slice_get}
 use Rattle.std.proofs.lemmas.Bool.{cases_Bool, both_ways, and_parts, and_from, not-true, not_from_false, false_from_ne_true}
 use Rattle.std.proofs.lemmas.List.{drop_more, drop_all, take-append-drop, reverse-append, length-map}
 use Rattle.std.proofs.lemmas.Option.{slice_get_within, get_or_from_slice_get}
@@ -22,6 +22,7 @@ use Rattle.context_diff.proofs.Histories.{own_earlier}
 use Rattle.context_diff.proofs.ClosedSets.{in_original, in_group_below, below_group}
 use Rattle.ttf_form.specs.Families.{IsIn}
 use Rattle.form_cache.specs.Keys.{KeyData}
+use Rattle.form_cache.specs.Entries.{Entries, form_at}
 use Rattle.transform_rec.specs.Sets.{SameSet, plus, minus}
 use Rattle.transform_rec.specs.Family.{Family, IsCausalFamily, IsSound}
 use Rattle.transform_rec.specs.Derived.Derived.{at_base}
@@ -34,6 +35,7 @@ use Rattle.transform_rec.proofs.Sets.{plus_same, minus_parts, minus_from, minus_
 use Rattle.transform_rec.proofs.Families.{sound_moves, mine_without, its_without}
 use Rattle.transform_rec.proofs.CausalLists.{causal_moves}
 use Rattle.transform_rec.proofs.Histories.{history_causal, added_sound, sound_added, closed_is_set, at_most_or_more, known_generation, in_known}
+use Rattle.transform_rec.proofs.Keeping.{found_form}
 
 module _ {F : Type 0} (b : Family F) (c : IsCausalFamily b) where
   -- each member of C that stands in the list is in m's base context
@@ -229,9 +231,9 @@ module _ (h : List OpData) (v : IsValid h) (from : KeyData) where
 -- ---- forms at the end of the walk
 
 module _ {F : Type 0} (over : F → F → F) (h : List OpData) (form : Member → F) where
-  pub found_way : (es : List (KeyData × F)) (at : KeyData) (m : Member) (T : Member → Bool) (rest : List Member) (f : F) → AreForms over (family_in h form) es → Contains es (at, f) → at.member ≡ m → T m ≡ false → IsWayBack (members_alone h) m T (has at.context) rest → IsOnWay over (family_in h form) at.member T (has at.context) f rest
+  pub found_way : (es : Entries F) (at : KeyData) (m : Member) (T : Member → Bool) (rest : List Member) (f : F) → AreForms over (family_in h form) es → form_at es at ≡ Some f → at.member ≡ m → T m ≡ false → IsWayBack (members_alone h) m T (has at.context) rest → IsOnWay over (family_in h form) at.member T (has at.context) f rest
   found_way es at m T rest f known there e lacks w = record {
-    derived = (known (at, f) there).0;
+    derived = (found_form over (family_in h form) es at f known there).0;
     path = causal_alone h form rest (has at.context) w.path;
     whole = w.whole;
     lacks = subst (λ (x : Member). T x ≡ false) (sym e) lacks;

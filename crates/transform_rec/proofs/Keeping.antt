@@ -10,9 +10,10 @@ use Rattle.context_diff.proofs.Known.{contains_none}
 use Rattle.context_diff.proofs.Valid.{valid_parts}
 use Rattle.context_diff.proofs.Complete.{complete}
 use Rattle.context_diff.proofs.Order.{base_on}
+use Rattle.form_cache.specs.declared.cache.Kept.{Kept}
 use Rattle.form_cache.specs.Keys.{KeyData}
-use Rattle.form_cache.specs.Entries.{CacheData, form_at, used, with_form}
-use Rattle.form_cache.proofs.Entries.{found_entry, used_entry, put_entry}
+use Rattle.form_cache.specs.Entries.{Entries, CacheData, form_at, used, asked, with_form}
+use Rattle.form_cache.proofs.Entries.{found_entry, used_entry, asked_entry, put_entry}
 use Rattle.ttf_form.specs.Families.{IsIn}
 use Rattle.transform_rec.specs.Family.{Family, IsCausalFamily}
 use Rattle.transform_rec.specs.Derived.{Derived, IsOnlyFormAt, Holds}
@@ -27,23 +28,26 @@ use Rattle.transform_rec.proofs.Histories.{in_known, history_causal}
 -- ---- the calls of the cache
 
 module _ {F : Type 0} (over : F → F → F) (b : Family F) where
-  pub found_form : (es : List (KeyData × F)) (k : KeyData) (f : F) → AreForms over b es → form_at es k ≡ Some f → IsOnlyFormAt over b k.member (has k.context) f
-  found_form es k f known h = known (k, f) (found_entry es k f h)
+  pub found_form : (es : Entries F) (k : KeyData) (f : F) → AreForms over b es → form_at es k ≡ Some f → IsOnlyFormAt over b k.member (has k.context) f
+  found_form es k f known h = let e = found_entry es k f h in subst (IsOnlyFormAt over b k.member (has k.context)) e.2 (known (k, e.0) e.1)
 
-  pub found_if : (es : List (KeyData × F)) (k : KeyData) (r : Option F) → AreForms over b es → r ≡ form_at es k → IfSome r (IsOnlyFormAt over b k.member (has k.context))
+  pub found_if : (es : Entries F) (k : KeyData) (r : Option F) → AreForms over b es → r ≡ form_at es k → IfSome r (IsOnlyFormAt over b k.member (has k.context))
   found_if es k None known e = tt
   found_if es k (Some f) known e = found_form es k f known (sym e)
 
-  pub forms_used : (es new : List (KeyData × F)) (k : KeyData) → AreForms over b es → new ≡ used es k → AreForms over b new
-  forms_used es new k known h e i = known e (used_entry es k e (subst (λ (l : List (KeyData × F)). Contains l e) h i))
+  pub forms_used : (es new : Entries F) (k : KeyData) → AreForms over b es → new ≡ used es k → AreForms over b new
+  forms_used es new k known h e i = known e (used_entry es k e (subst (λ (l : Entries F). Contains l e) h i))
 
-  put_form : (c : CacheData F) (k : KeyData) (f : F) → AreForms over b c.entries → IsOnlyFormAt over b k.member (has k.context) f → AreForms over b (with_form c k f)
-  put_form c k f known o e i =
-      elim (put_entry c k f e i) [ inl old ↦ known e old | inr new ↦ subst (λ (p : KeyData × F). IsOnlyFormAt over b p.0.member (has p.0.context) p.1) (sym new) o ]
+  pub forms_asked : (es new : Entries F) (k : KeyData) → AreForms over b es → new ≡ asked es k → AreForms over b new
+  forms_asked es new k known h e i = known e (asked_entry es k e (subst (λ (l : Entries F). Contains l e) h i))
 
-  pub forms_kept : (c : CacheData F) (new : List (KeyData × F)) (k : KeyData) (f : F) → AreForms over b c.entries → IsOnlyFormAt over b k.member (has k.context) f → (new ≡ with_form c k f) ⊎ (new ≡ c.entries) → AreForms over b new
-  forms_kept c new k f known o (inl h) = subst (λ (l : List (KeyData × F)). AreForms over b l) (sym h) (put_form c k f known o)
-  forms_kept c new k f known o (inr h) = subst (λ (l : List (KeyData × F)). AreForms over b l) (sym h) known
+  put_form : (c : CacheData F) (k : KeyData) (f : F) (once : Bool) → AreForms over b c.entries → IsOnlyFormAt over b k.member (has k.context) f → AreForms over b (with_form c k f once)
+  put_form c k f once known o e i =
+      elim (put_entry c k f once e i) [ inl old ↦ known e old | inr new ↦ subst (λ (p : KeyData × Kept F). IsOnlyFormAt over b p.0.member (has p.0.context) p.1.form) (sym new) o ]
+
+  pub forms_kept : (c : CacheData F) (new : Entries F) (k : KeyData) (f : F) (once : Bool) → AreForms over b c.entries → IsOnlyFormAt over b k.member (has k.context) f → (new ≡ with_form c k f once) ⊎ (new ≡ c.entries) → AreForms over b new
+  forms_kept c new k f once known o (inl h) = subst (λ (l : Entries F). AreForms over b l) (sym h) (put_form c k f once known o)
+  forms_kept c new k f once known o (inr h) = subst (λ (l : Entries F). AreForms over b l) (sym h) known
 
   -- a form of a member at a set is one of the key that is made of them
   pub key_form : (k : KeyData) (x y : Member) (c : ContextData) (f : F) → k ≡ record { member = y; context = c } → y ≡ x → IsOnlyFormAt over b x (has c) f → IsOnlyFormAt over b k.member (has k.context) f
@@ -86,4 +90,4 @@ module _ {F : Type 0} (over : F → F → F) (h k : List OpData) (form other : M
   )
 
 pub next_keeps : {F : Type 0} (over : F → F → F) → NextOperationKeepsForms over
-next_keeps over h o form other es v agree known e i = grown_only over h (o ∷ []) form other v agree e.0.member (has e.0.context) e.1 (known e i)
+next_keeps over h o form other es v agree known e i = grown_only over h (o ∷ []) form other v agree e.0.member (has e.0.context) e.1.form (known e i)

@@ -1,6 +1,6 @@
 //! Pairs of a member and a target, each with what is computed of it so far.
 
-ghost use Rattle.std.specs.Prelude.{◌≡◌, ◌+◌, ◌<◌, ◌&&◌, not, Some, [], Contains, reverse, IfOk, IfSome, IsNone, OnOk, length, slice_get};
+ghost use Rattle.std.specs.Prelude.{◌≡◌, ◌+◌, ◌<◌, ◌&&◌, not, Some, [], reverse, IfOk, IfSome, IsNone, OnOk, length, slice_get};
 ghost use Rattle.op_name.specs.declared.member.Member.{Member};
 ghost use Rattle.op_name.specs.Members.{IsMember};
 ghost use Rattle.context_vector.specs.Contexts.{has, raised, IsNextMember};
@@ -9,6 +9,7 @@ ghost use Rattle.context_vector.specs.Equality.{context_eq};
 ghost use Rattle.context_diff.specs.Histories.{members_in};
 ghost use Rattle.context_diff.specs.Bases.{base_has};
 ghost use Rattle.form_cache.specs.Keys.{KeyData};
+ghost use Rattle.form_cache.specs.Entries.{form_at};
 ghost use Rattle.transform_rec.specs.Sets.{SameSet, minus};
 ghost use Rattle.transform_rec.specs.Histories.{family_in, members_alone, MayBeAddedTo};
 ghost use Rattle.transform_rec.specs.Ways.{IsWalk, IsWayBack, IsPending};
@@ -92,7 +93,7 @@ fn go_back<F: Copy>(
     requires own { (y : Member) → has own.now.set y ≡ base_has book.now.ops at.old.member y }
     requires empty { rest.old.items ≡ [] }
     ensures member { at.new.member ≡ at.old.member }
-    ensures found { IfOk result (λ o. IfSome o (λ f. Contains cache.now.entries (at.new, f))) }
+    ensures found { IfOk result (λ o. IfSome o (λ f. form_at cache.now.entries at.new ≡ Some f)) }
     ensures base { IfOk result (λ o. IsNone o → SameSet (has at.new.context) (base_has book.now.ops at.old.member)) }
     ensures way { OnOk result (IsWayBack (members_alone book.now.ops) at.old.member (has at.old.context) (has at.new.context) (reverse rest.new.items)) }
 {
@@ -144,7 +145,7 @@ fn take_out(
 
 // The cache's form of the key, if it is to be asked.
 fn asked<F: Copy>(cache: &Cache<F>, asks: bool, at: &Key) -> Option<F>
-    ensures { IfSome result (λ f. Contains cache.now.entries (at.now, f)) }
+    ensures { IfSome result (λ f. form_at cache.now.entries at.now ≡ Some f) }
 {
     if asks { cache.peek(at) } else { None }
 }

@@ -26,8 +26,8 @@ use ttf_form::{Bases, Include};
 /// It keeps a list of pairs of a member and a target, each waiting for the next one, whose target is a proper
 /// part of its own. Before a pair is put on the list the cache is asked for its form, and then for that of its
 /// member at the greatest part of the target, in the book's order. A pair's finished form is kept, and so is,
-/// where the form of x is included in that of m, the form of x after the inclusion of m's: an operation that
-/// was made after m asks for it.
+/// where the form of x is included in that of m, the form of x after the inclusion of m's, for one use: the
+/// next operation that was made after m asks for it.
 pub fn transform_with<F: Include + Copy, B: Bases<F>>(
     alloc: Global,
     book: &Book,
@@ -129,7 +129,7 @@ fn advance<F: Include + Copy, B: Bases<F>>(
     Ok(Some(inner))
 }
 
-// The form that the cache has of the key, whose entry becomes the most recently used.
+// The form that the cache has of the key. It is used with that: one that was kept for one use is the next to go.
 fn form_kept<F: Include + Copy, B: Bases<F>>(
     book: &Book,
     bases: &B,
@@ -140,7 +140,7 @@ fn form_kept<F: Include + Copy, B: Bases<F>>(
     ensures form { IfSome result (IsOnlyFormAt F.over (family_in book.now.ops (B.base_form bases.now)) key.now.member (has key.now.context)) }
     ensures known { AreForms F.over (family_in book.now.ops (B.base_form bases.now)) cache.new.entries }
 {
-    cache.get(key)
+    cache.ask(key)
 }
 
 // Whether x, which the pair waits for, is inert.
@@ -233,8 +233,8 @@ fn take_in<F: Include + Copy, B: Bases<F>>(
     Ok(())
 }
 
-// Keeps the form of the key after the inclusion of the pair's, unless it is inert: an inert member is added without its
-// form wherever that isn't there.
+// Keeps the form of the key after the inclusion of the pair's, for one use, unless it is inert: an inert member is added
+// without its form wherever that isn't there.
 fn keep_turned<F: Include + Copy, B: Bases<F>>(
     book: &Book,
     bases: &B,
@@ -261,6 +261,6 @@ fn keep_turned<F: Include + Copy, B: Bases<F>>(
     let turned = other.include(&pair.form);
     let mut key = key;
     add_member(&mut key, &m)?;
-    cache.keep(key, turned);
+    cache.keep_once(key, turned);
     Ok(())
 }

@@ -1,4 +1,4 @@
-use Rattle.std.proofs.Common.{sym, subst}
+use Rattle.std.proofs.Common.{true, sym, subst}
 use Rattle.op_name.specs.declared.member.Member.{Member}
 use Rattle.op_name.specs.Members.{IsMember}
 use Rattle.context_vector.specs.Contexts.{IsNextMember}
@@ -32,4 +32,4 @@ returns g c =
     let o = over_history g.B.Bases c.args.bases.now c.args.book.now.ops c.requires.members c.requires.contexts c.derives.ensures.inclusion c.derives.ensures.family c.known.ensures.valid in
     let dk = form_here o c.args.key c.args.pair.now c.args.other c.requires.here c.requires.form in
     let key = turned_key c.add_member.new.at c.args.key c.args.pair.now c.member_in-m.result c.in_ok-add_member.ensures c.member_in-m.ensures c.requires.here in
-    forms_kept g.F.Include.over (family_in c.args.book.now.ops (g.B.Bases.base_form c.args.bases.now)) c.args.cache.now c.keep.new.self.entries c.add_member.new.at c.include-turned.result c.requires.known (turned_form o c.requires.waits.0 c.args.key.member c.args.pair.now c.args.other c.add_member.new.at c.include-turned.result c.requires.waits.1 dk key c.include-turned.ensures) c.keep.ensures.entries
+    forms_kept g.F.Include.over (family_in c.args.book.now.ops (g.B.Bases.base_form c.args.bases.now)) c.args.cache.now c.keep_once.new.self.entries c.add_member.new.at c.include-turned.result true c.requires.known (turned_form o c.requires.waits.0 c.args.key.member c.args.pair.now c.args.other c.add_member.new.at c.include-turned.result c.requires.waits.1 dk key c.include-turned.ensures) c.keep_once.ensures.entries

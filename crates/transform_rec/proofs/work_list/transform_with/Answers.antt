@@ -1,4 +1,4 @@
-use Rattle.std.proofs.Common.{vec_len, [], ◌∷◌, ◌++◌, refl, sym, ap, subst, ◌∙◌}
+use Rattle.std.proofs.Common.{vec_len, false, [], ◌∷◌, ◌++◌, refl, sym, ap, subst, ◌∙◌}
 use Rattle.context_vector.specs.Contexts.{ContextData, has}
 use Rattle.transform_rec.specs.Derived.{IsOnlyFormAt}
 use Rattle.transform_rec.specs.Histories.{family_in}
@@ -75,5 +75,5 @@ returns-in-None-pop-clause-known g c =
     let o = over_history g.B.Bases c.args.bases.now c.args.book.now.ops c.requires.members c.requires.contexts c.derives.ensures.inclusion c.derives.ensures.family c.known.ensures.valid in
     let none = nothing_left c.loop-x.current.rest.items c.pop.new.self.items (vec_len c.loop-x.current.rest) c.in-None.ensures.items c.in-None.ensures.rest c.in-None.ensures.cases.0 in
     let last = nothing_left c.loop-x.waiting.items c.pop-in-None.new.self.items (vec_len c.loop-x.waiting) c.in-None-pop.ensures.items c.in-None-pop.ensures.rest c.in-None-pop.ensures.cases.0 in
-    forms_kept g.F.Include.over (family_in c.args.book.now.ops (g.B.Bases.base_form c.args.bases.now)) c.loop-x.cache c.keep.new.self.entries c.finished-at.result.0 c.finished-at.result.1 c.loop-x.invariant.known
+    forms_kept g.F.Include.over (family_in c.args.book.now.ops (g.B.Bases.base_form c.args.bases.now)) c.loop-x.cache c.keep.new.self.entries c.finished-at.result.0 c.finished-at.result.1 false c.loop-x.invariant.known
     (rw c.finished-at.ensures.key (rw c.finished-at.ensures.form (turn_ended o c.args.m.now (has c.args.to.now.set) c.loop-x.waiting.items c.loop-x.current (record { chain = c.loop-x.invariant.chain; root = c.loop-x.invariant.root }) last none).1)) c.keep.ensures.entries
