@@ -62,11 +62,11 @@ pub record SiteData : Type 0 where
 abbrev pub state_of : SiteData → State
 state_of s = record { number = s.number; history = s.history; waiting = s.waiting }
 
--- the history and its forms are as before; the cache may have lost entries
+-- the history and its forms are as before; of the entries of the cache nothing is said
 abbrev pub IsExecutedAsBefore : ReplicaData → ReplicaData → Type 0
 IsExecutedAsBefore old new = (new.history ≡ old.history) × (new.forms ≡ old.forms)
 
--- the state and the executed forms are as before; the cache may have lost entries
+-- the state and the executed forms are as before; of the entries of the cache nothing is said
 abbrev pub IsAsBefore : SiteData → SiteData → Type 0
 IsAsBefore old new = (state_of new ≡ state_of old) × (new.forms ≡ old.forms)
 

@@ -1,7 +1,7 @@
 //! Forms that were computed before, for the members and contexts that they are forms of.
 //!
-//! A `Cache` *is* a bounded list of entries, a key with its form each, the most recently used first. A `Key`
-//! *is* a member with a context.
+//! A `Cache` *is* a list of entries, the next to be dropped last, and a capacity. An entry is a key with its form, and
+//! whether that is kept for one use. A `Key` *is* a member with a context.
 #![tactic(auto)]
 
 mod cache;

@@ -15,7 +15,7 @@ use Rattle.transform_rec.specs.Histories.{family_in}
 abbrev pub AreForms : {F : Type 0} → (F → F → F) → Family F → Entries F → Type 0
 AreForms {F} over b es = (e : KeyData × Kept F) → Contains es e → IsOnlyFormAt over b e.0.member (has e.0.context) e.1.form
 
--- no entries are forms of every family
+-- the list without entries holds forms alone, over every family
 abbrev pub NoEntriesAreForms : {F : Type 0} → (F → F → F) → Type 0
 NoEntriesAreForms {F} over = (b : Family F) → AreForms over b []
 

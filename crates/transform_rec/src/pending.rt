@@ -35,7 +35,7 @@ pub struct Pending<F> {
 
 /// The way of the key's member to the key's context: from the greatest part of the difference to the member's
 /// base context, in the book's order, at which the cache has its form, or from its base form. For the last
-/// member of the book the cache isn't asked: no form of it was wanted before.
+/// member of the book the cache isn't looked into: a site wants no form of it before.
 pub fn start<F: Include + Copy, B: Bases<F>>(
     alloc: Global,
     book: &Book,
@@ -101,12 +101,12 @@ fn go_back<F: Copy>(
     if is_at(at, own) {
         return Ok(None);
     }
-    let asks = !is_last(book, &at.member);
+    let looks = !is_last(book, &at.member);
     let mut i = book.len();
     while i > 0 {
         i -= 1;
         if take_out(book, own, at, rest, i)? {
-            if let Some(form) = asked(cache, asks, at) {
+            if let Some(form) = seen(cache, looks, at) {
                 return Ok(Some(form));
             }
             if is_at(at, own) {
@@ -143,11 +143,11 @@ fn take_out(
     Ok(false)
 }
 
-// The cache's form of the key, if it is to be asked.
-fn asked<F: Copy>(cache: &Cache<F>, asks: bool, at: &Key) -> Option<F>
+// The cache's form of the key, if it is to be looked for.
+fn seen<F: Copy>(cache: &Cache<F>, looks: bool, at: &Key) -> Option<F>
     ensures { IfSome result (λ f. form_at cache.now.entries at.now ≡ Some f) }
 {
-    if asks { cache.peek(at) } else { None }
+    if looks { cache.peek(at) } else { None }
 }
 
 // Whether the member is the last one of the book.

@@ -24,10 +24,10 @@ use ttf_form::{Bases, Include};
 /// key over this book. After either answer each entry still is.
 ///
 /// It keeps a list of pairs of a member and a target, each waiting for the next one, whose target is a proper
-/// part of its own. Before a pair is put on the list the cache is asked for its form, and then for that of its
-/// member at the greatest part of the target, in the book's order. A pair's finished form is kept, and so is,
-/// where the form of x is included in that of m, the form of x after the inclusion of m's, for one use: the
-/// next operation that was made after m asks for it.
+/// part of its own. Before a pair is put on the list the cache is asked for its form, and then looked into for that
+/// of its member at the greatest part of the target, in the book's order, unless the member is the last one of the
+/// book. A pair's finished form is kept, and so is, where the form of x is included in that of m, the form of x
+/// after the inclusion of m's, for one use: the next operation that was made after m asks for it.
 pub fn transform_with<F: Include + Copy, B: Bases<F>>(
     alloc: Global,
     book: &Book,
@@ -129,7 +129,7 @@ fn advance<F: Include + Copy, B: Bases<F>>(
     Ok(Some(inner))
 }
 
-// The form that the cache has of the key. It is used with that: one that was kept for one use is the next to go.
+// The form that the cache has of the key. It is used with that: one that is kept for one use is the next to be dropped.
 fn form_kept<F: Include + Copy, B: Bases<F>>(
     book: &Book,
     bases: &B,
