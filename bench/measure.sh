@@ -2,7 +2,7 @@
 # Measures bin/cotpad on made inputs, and prints seconds (the least of three runs) and how they grow from row to row.
 # Run `make` first, on a machine with nothing else to do.
 #   bench/measure.sh            all inputs
-#   bench/measure.sh offline    one of: comments typing offline rounds
+#   bench/measure.sh offline    one of: comments typing offline rounds apart
 set -eu
 cd "$(dirname "$0")/.."
 made=$(mktemp -d)
@@ -69,5 +69,40 @@ rounds() {
     done
 }
 
-if [ $# -eq 0 ]; then set -- comments typing offline rounds; fi
+# four sites make n edits each while apart, and then exchange: of ten edits about seven inserts, two deletes, and an undo of
+# an operation of their own
+apart() {
+    for n in 50 100 150; do
+        awk -v n="$n" 'BEGIN {
+            print "sites 4"
+            print "ins 0 0 some words that all have, before they part"
+            print "sync"
+            own[0] = 46
+            for (s = 0; s < 4; s++) shown[s] = 46
+            x = 1
+            for (i = 0; i < n; i++) for (s = 0; s < 4; s++) {
+                x = (x * 16807) % 2147483647
+                what = int(x / 1000) % 10
+                x = (x * 16807) % 2147483647
+                where = int(x / 1000) % shown[s]
+                if (what == 0) {
+                    if (own[s] > 0) printf "undo %d %d.%d\n", s, s, 1 + int(x / 1000) % own[s]
+                    else printf "undo %d 0.%d\n", s, 1 + int(x / 1000) % 46
+                } else if (what < 3) {
+                    printf "del %d %d\n", s, where
+                    own[s]++
+                    shown[s]--
+                } else {
+                    printf "ins %d %d %c\n", s, where, 97 + x % 26
+                    own[s]++
+                    shown[s]++
+                }
+            }
+            print "sync"
+        }' > "$made/apart"
+        row "four sites make $n edits each, with undos, and exchange" "$made/apart"
+    done
+}
+
+if [ $# -eq 0 ]; then set -- comments typing offline rounds apart; fi
 for what in "$@"; do before=; "$what"; done
