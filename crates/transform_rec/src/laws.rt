@@ -45,7 +45,7 @@ pub fn same_operations_same_form<F: Include>()
     ensures { SameOperationsSameForm F.over }
 {}
 
-/// No entries are forms of their keys, whatever the members.
+/// A cache without entries holds forms alone, whatever the members.
 pub fn no_entries_are_forms<F: Include>()
     ensures { NoEntriesAreForms F.over }
 {}

@@ -6,8 +6,9 @@ ghost use Rattle.ttf_form.specs.Families.{IsIn};
 ghost use Rattle.transform_rec.specs.TwoInserts.{two_members, two_form, unseen, AreTwo, two_apart, two_bounded, two_total};
 
 use super::{
-    addable_form_fits, causal_lists_have_forms, one_form, one_more_member, order_independence,
-    restriction, swap, to_the_front,
+    addable_form_fits, causal_lists_have_forms, next_operation_keeps_forms, no_entries_are_forms,
+    one_form, one_more_member, order_independence, restriction, same_operations_same_form, swap,
+    to_the_front,
 };
 use op_name::{Member, Name};
 use ttf_form::{Bases, Form, Ins};
@@ -78,6 +79,9 @@ fn the_laws_at_the_forms_of_the_editor(rt: HostRuntime) {
     };
     bases.known();
     one_form::<Form, TwoInserts>(&bases);
+    same_operations_same_form::<Form>();
+    no_entries_are_forms::<Form>();
+    next_operation_keeps_forms::<Form>();
     causal_lists_have_forms::<Form, TwoInserts>(&bases);
     addable_form_fits::<Form, TwoInserts>(&bases);
     swap::<Form, TwoInserts>(&bases);
