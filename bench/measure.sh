@@ -69,8 +69,8 @@ rounds() {
     done
 }
 
-# four sites make n edits each while apart, and then exchange: of ten edits about seven inserts, two deletes, and an undo of
-# an operation of their own
+# four sites try n edits each while apart, and then exchange: of ten edits about seven inserts, two deletes, and an undo of an
+# operation of their own, which is refused where it is undone already or was never made
 apart() {
     for n in 50 100 150; do
         awk -v n="$n" 'BEGIN {
@@ -100,7 +100,7 @@ apart() {
             }
             print "sync"
         }' > "$made/apart"
-        row "four sites make $n edits each, with undos, and exchange" "$made/apart"
+        row "four sites try $n edits each, with undos, and exchange" "$made/apart"
     done
 }
 
