@@ -2,6 +2,7 @@
 use Rattle.std.proofs.Common.{◌≡◌, ℕ, Bool, true, false, inl, inr, refl, ap, sym, subst, ◌∙◌, arith}
 use mathlib.Core.Bool.{false≢true}
 use Rattle.std.specs.Prelude.{◌==◌, nat_lt, ◌||◌, ◌&&◌, ◌⊎◌}
+use Rattle.std.specs.Bool.{Decides}
 use Rattle.std.proofs.lemmas.Bool.Decides.{nat_tests}
 use Rattle.op_name.specs.declared.member.Member.{Member}
 use Rattle.op_name.specs.declared.member.Member.TheVariants.{Original, Group}
@@ -30,6 +31,10 @@ name_same a b e =
 
 pub name_itself : (a : NameData) → name_eq a a ≡ true
 name_itself a = grind (arith, nat_tests)
+
+-- the test of names decides equality
+pub names_decide : (a b : NameData) → Decides (name_eq a b) (a ≡ b)
+names_decide a b = (name_same a b, λ e. subst (λ x. name_eq a x ≡ true) e (name_itself a))
 
 pub name_irreflexive : (a : NameData) → name_lt a a ≡ false
 name_irreflexive a = grind (arith, nat_tests)
@@ -63,6 +68,10 @@ member_same (Group n g) (Group m h) e =
 pub member_itself : (a : Member) → member_eq a a ≡ true
 member_itself (Original n) = name_itself n
 member_itself (Group n g) = grind (arith, nat_tests)
+
+-- the test of members decides equality
+pub members_decide : (a b : Member) → Decides (member_eq a b) (a ≡ b)
+members_decide a b = (member_same a b, λ e. subst (λ x. member_eq a x ≡ true) e (member_itself a))
 
 pub member_irreflexive : (a : Member) → member_lt a a ≡ false
 member_irreflexive (Original n) = name_irreflexive n

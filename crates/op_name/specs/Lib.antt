@@ -1,3 +1,4 @@
 pub mod Order
 pub mod NameData
 pub mod Members
+pub mod Lists

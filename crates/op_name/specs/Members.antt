@@ -9,7 +9,7 @@ abbrev pub target_of : Member → NameData
 target_of (Original n) = n
 target_of (Group n g) = n
 
--- the generation of a group is at least 1 (the type keeps it below 65,536, and names in their ranges)
+-- the generation of a group is at least 1 (the type keeps it to GENERATIONS, and names in their ranges)
 abbrev pub IsMember : Member → Type 0
 IsMember (Original n) = Unit {0}
 IsMember (Group n g) = 1 ≤ g

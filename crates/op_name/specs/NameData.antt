@@ -2,15 +2,16 @@
 use Rattle.std.specs.Prelude.{◌≡◌, ℕ, ◌<◌, ◌≤◌, Bool, true, List, [], ◌∷◌, ◌&&◌, ◌||◌, ◌==◌, nat_lt}
 use Rattle.std.specs.declared.cmp.Ordering.{Ordering}
 use Rattle.std.specs.Ordering.{ordering_then, nat_cmp}
+use Rattle.op_name.specs.declared.name.TheConstants.{SITES, NUMBERS}
 
 -- a site and a number of that site
 pub record NameData : Type 0 where
   pub site : ℕ
   pub number : ℕ
 
--- the ranges of a name: 64 sites, numbers 1 to 1,000,000
+-- the ranges of a name
 abbrev pub IsName : ℕ → ℕ → Type 0
-IsName site number = (site < 64) × (1 ≤ number) × (number ≤ 1000000)
+IsName site number = (site < SITES) × (1 ≤ number) × (number ≤ NUMBERS)
 
 abbrev pub name_eq : NameData → NameData → Bool
 name_eq n m = (n.site == m.site) && (n.number == m.number)

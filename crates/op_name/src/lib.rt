@@ -9,9 +9,9 @@ mod member;
 mod memory;
 mod name;
 
-pub use member::Member;
+pub use member::{GENERATIONS, Member};
 pub use memory::Memory;
-pub use name::{Name, NameBad, SITES};
+pub use name::{NUMBERS, Name, NameBad, SITES};
 
 #[cfg(test)]
 mod tests;

@@ -1,7 +1,7 @@
 //! Names: a site and the number that the site gave.
 
 ghost use Rattle.std.specs.Prelude.{◌≡◌, ◌↔◌, IsOk, IfOk};
-ghost use Rattle.op_name.specs.NameData.{NameData, IsName};
+ghost use Rattle.op_name.specs.NameData.{NameData, IsName, name_lt};
 
 use std::marker::Model;
 
@@ -11,7 +11,7 @@ pub const SITES: u16 = 64;
 /// The greatest number that a site gives to one of its originals.
 pub const NUMBERS: u32 = 1_000_000;
 
-/// The name of an insert or a delete: its site, below `SITES`, and its number, 1 to 1,000,000, by which
+/// The name of an insert or a delete: its site, below `SITES`, and its number, 1 to `NUMBERS`, by which
 /// the site counts its originals.
 ///
 /// Names are ordered by site, then by number.
@@ -47,6 +47,13 @@ impl Name {
         } else {
             Err(NameBad)
         }
+    }
+
+    /// Whether the name is before the other: by site, then by number.
+    pub fn is_before(&self, other: &Name) -> bool
+        ensures { result ≡ name_lt self.now other.now }
+    {
+        self < other
     }
 
     /// Nothing but what the type keeps: both parts are in range.

@@ -1,5 +1,5 @@
 use super::*;
-use std::alloc::AllocError;
+use std::alloc::{AllocError, AllocFailed};
 use std::test::Fail;
 
 #[test]
@@ -14,7 +14,7 @@ fn names_are_refused_exactly_out_of_range(rt: HostRuntime) {
     for (why, site, number, accepted) in cases {
         assert_eq!(rt; Name::new(site, number).is_ok(), accepted, "{why}");
     }
-    assert_eq!(rt; SITES, 64);
+    assert_eq!(rt; (SITES, NUMBERS, GENERATIONS), (64, 1_000_000, u16::MAX));
 }
 
 #[test]
@@ -30,15 +30,17 @@ fn members_rise_by_kind_name_and_generation(rt: HostRuntime) -> Result<(), Fail>
     ];
     for pair in rising.windows(2) {
         if let [a, b] = pair {
-            assert!(rt; a < b);
-            assert!(rt; a != b);
+            assert!(rt; a < b && a.is_before(b));
+            assert!(rt; a != b && !b.is_before(a));
         }
     }
+    assert!(rt; first.is_before(&second) && !first.is_before(&first));
     assert_eq!(rt; Member::Group(second, 1).target(), second);
     Ok(())
 }
 
 #[test]
-fn a_refused_allocation_is_want_of_memory(rt: HostRuntime) {
+fn a_refused_allocation_is_out_of_memory(rt: HostRuntime) {
     assert_eq!(rt; Memory::from(AllocError), Memory);
+    assert_eq!(rt; Memory::from(AllocFailed { value: 7 }), Memory);
 }
