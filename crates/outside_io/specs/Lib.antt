@@ -1,9 +1,9 @@
 -- The words of the crate's contracts.
 pub mod Faults
-pub mod Listed
-pub mod Feed
-pub mod Store
+pub mod SourceMem
+pub mod SinkMem
 pub mod Ends
-pub mod Absent
+pub mod NoWire
 pub mod Reading
 pub mod Writing
+pub mod Code

@@ -1,13 +1,9 @@
 -- What reading takes from a source.
-use Rattle.std.specs.Prelude.{Option, ◌≡◌, ℕ, List, ◌++◌, length, drop}
+use Rattle.std.specs.Prelude.{Option, ℕ, ◌≤◌, List, length}
 use Rattle.std.specs.Io.KnownBytes.{Consumes}
 
--- known bytes lose a front
-pub record LosesFront (old new : Option (List ℕ)) : Type 0 where
+-- known bytes lose a front of at most so many bytes
+pub record LosesFront (most : ℕ) (old new : Option (List ℕ)) : Type 0 where
   pub front : List ℕ
+  pub few : length front ≤ most
   pub lost : Consumes old new front
-
--- what a list gained at its end is what a source lost at its front
-pub record Gathers (left_old left_new : Option (List ℕ)) (before now : List ℕ) : Type 0 where
-  pub front : now ≡ before ++ drop (length before) now
-  pub consumed : Consumes left_old left_new (drop (length before) now)

@@ -2,7 +2,7 @@
 
 ghost use Rattle.std.specs.Prelude.{◌≡◌, ◌↔◌, ◌+◌, min, IsTrue, Contains};
 ghost use Rattle.outside_io.specs.Faults.{last_count};
-ghost use Rattle.outside_io.specs.Listed.{CallList};
+ghost use Rattle.outside_io.specs.Code.Calls.{CallsData};
 
 use std::marker::Model;
 
@@ -15,7 +15,7 @@ pub(crate) struct Calls {
 }
 
 impl Model for Calls {
-    ghost Value = { CallList };
+    ghost Value = { CallsData };
 
     ghost view = { λ c. record { failing = c.failing.items; next = c.next } };
 }

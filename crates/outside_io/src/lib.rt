@@ -2,8 +2,8 @@
 //! peer.
 //!
 //! A source is seen as the bytes that it has left, a sink as the bytes that it holds, a wire as its two ends
-//! with the bytes sent, received and to come at each. Each of the three counts its faults, and a call fails
-//! only where that count rose. What stands in memory tells its bytes; the process's real input and output
+//! with the bytes sent, received and to come at each. Each of the three counts its faults: a call fails
+//! only where that count rose, and one that goes well leaves it. What stands in memory tells its bytes; the process's real input and output
 //! do not. `read_whole` and `write_whole` work over any of them.
 #![tactic(auto)]
 

@@ -3,7 +3,7 @@
 ghost use Rattle.std.specs.Prelude.{◌≡◌, ◌≤◌, [], Some, ◌+◌, min, false, IsErr};
 ghost use Rattle.outside_io.specs.Faults.{last_count};
 ghost use Rattle.outside_io.specs.Ends.{no_end};
-ghost use Rattle.outside_io.specs.Absent.{Absent};
+ghost use Rattle.outside_io.specs.NoWire.{NoWireData};
 
 use crate::failed::Failed;
 use crate::link::{Asked, Role};
@@ -20,7 +20,7 @@ pub struct NoWire {
 }
 
 impl Model for NoWire {
-    ghost Value = { Absent };
+    ghost Value = { NoWireData };
 
     ghost view = { λ w. record { asked = w.asked; asks = w.asks; faults = w.faults } };
 }

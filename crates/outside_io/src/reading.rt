@@ -2,9 +2,10 @@
 
 ghost use Rattle.std.specs.Prelude.{◌≡◌, ◌++◌, ◌+◌, ◌-◌, ◌<◌, ◌≤◌, Some, Ok, Err, length, take, drop, vec_len, IfOk, IfSome, OnOk, OnErr, IsErrOf};
 ghost use Rattle.std.specs.Io.{StartsWith};
-ghost use Rattle.std.specs.Io.KnownBytes.{IsAtEnd, Consumes};
+ghost use Rattle.std.specs.Io.KnownBytes.{IsAtEnd, Keeps};
 ghost use Rattle.outside_io.specs.Faults.{Rose};
-ghost use Rattle.outside_io.specs.Reading.{LosesFront, Gathers};
+ghost use Rattle.outside_io.specs.Reading.{LosesFront};
+ghost use Rattle.outside_io.specs.Code.Gathering.{Gathers};
 
 use crate::failed::Failed;
 use crate::source::Source;
@@ -30,20 +31,24 @@ pub enum Taken {
 pub enum ReadBad {
     /// A read failed.
     Fault,
-    /// Memory was wanting.
+    /// Out of memory.
     Memory,
 }
 
 /// Appends to `out` what the source has left, at most `MAX_INPUT` bytes. A refused call leaves `out` as it
-/// was; what it read is gone from the source.
+/// was; what it read, at most `MAX_INPUT + 1` bytes, is gone from the source. The count of faults rises
+/// exactly where the answer is Fault.
 pub fn read_whole<S: Source>(source: &mut S, out: &mut Vec<u8>) -> Result<Taken, ReadBad>
+    ensures limit { MAX_INPUT ≡ 67108864 }
+
     ensures end { result ≡ Ok Taken.End → IfSome (S.left source.old) (λ bytes.
         (length bytes ≤ MAX_INPUT) × (out.new.items ≡ out.old.items ++ bytes)) }
     ensures ended { result ≡ Ok Taken.End → IsAtEnd (S.left source.new) }
     ensures past { result ≡ Ok Taken.Past → IfSome (S.left source.old) (λ bytes.
         (MAX_INPUT < length bytes) × (out.new.items ≡ out.old.items ++ take MAX_INPUT bytes)) }
-    ensures rest { result ≡ Ok Taken.Past → IfSome (S.left source.old) (λ bytes.
-        S.left source.new ≡ Some (drop (MAX_INPUT + 1) bytes)) }
+    // Read to the end, or to one byte past the limit.
+    ensures rest { OnOk result (IfSome (S.left source.old) (λ bytes.
+        S.left source.new ≡ Some (drop (MAX_INPUT + 1) bytes))) }
 
     // Also of a source that doesn't tell its bytes.
     ensures front { StartsWith out.new.items out.old.items }
@@ -51,8 +56,10 @@ pub fn read_whole<S: Source>(source: &mut S, out: &mut Vec<u8>) -> Result<Taken,
     ensures full { result ≡ Ok Taken.Past → vec_len out.new ≡ vec_len out.old + MAX_INPUT }
 
     ensures kept { OnErr result (out.new.items ≡ out.old.items) }
-    ensures lost { OnErr result (LosesFront (S.left source.old) (S.left source.new)) }
+    ensures lost { OnErr result (LosesFront (MAX_INPUT + 1) (S.left source.old) (S.left source.new)) }
+
     ensures fault { IsErrOf result ReadBad.Fault → Rose (S.faults source.old) (S.faults source.new) }
+    ensures no_fault { (IsErrOf result ReadBad.Fault → ⊥) → S.faults source.new ≡ S.faults source.old }
     ensures later { S.faults source.old ≤ S.faults source.new }
 {
     let start = out.len();
@@ -67,16 +74,17 @@ pub fn read_whole<S: Source>(source: &mut S, out: &mut Vec<u8>) -> Result<Taken,
     gathered
 }
 
-// Reads to the end, or until there is a byte past the most that an input may have, which it appends too.
+// Reads to the end, or until there is a byte past `MAX_INPUT`, which it appends too.
 fn gather<S: Source>(source: &mut S, out: &mut Vec<u8>) -> Result<Taken, ReadBad>
     ensures gathers { OnOk result (Gathers (S.left source.old) (S.left source.new)
         out.old.items out.new.items) }
-    ensures lost { OnErr result (LosesFront (S.left source.old) (S.left source.new)) }
+    ensures lost { OnErr result (LosesFront (MAX_INPUT + 1) (S.left source.old) (S.left source.new)) }
     ensures front { StartsWith out.new.items out.old.items }
     ensures end { result ≡ Ok Taken.End → IsAtEnd (S.left source.new) }
     ensures few { result ≡ Ok Taken.End → vec_len out.new ≤ vec_len out.old + MAX_INPUT }
     ensures past { result ≡ Ok Taken.Past → vec_len out.new ≡ vec_len out.old + MAX_INPUT + 1 }
     ensures fault { IsErrOf result ReadBad.Fault → Rose (S.faults source.old) (S.faults source.new) }
+    ensures no_fault { (IsErrOf result ReadBad.Fault → ⊥) → S.faults source.new ≡ S.faults source.old }
     ensures later { S.faults source.old ≤ S.faults source.new }
 {
     let start = out.len();
@@ -104,10 +112,12 @@ fn read_piece<S: Source>(
     ensures amount { IfOk result (λ n. (n ≤ most) × (vec_len out.new ≡ vec_len out.old + n)) }
     ensures gathers { OnOk result (Gathers (S.left source.old) (S.left source.new)
         out.old.items out.new.items) }
-    ensures lost { OnErr result (LosesFront (S.left source.old) (S.left source.new)) }
-    ensures kept { OnErr result (out.new.items ≡ out.old.items) }
     ensures end { result ≡ Ok 0 → IsAtEnd (S.left source.new) }
+    ensures kept { OnErr result (out.new.items ≡ out.old.items) }
+    ensures unread { IsErrOf result ReadBad.Fault → Keeps (S.left source.old) (S.left source.new) }
+    ensures lost { OnErr result (LosesFront most (S.left source.old) (S.left source.new)) }
     ensures fault { IsErrOf result ReadBad.Fault → Rose (S.faults source.old) (S.faults source.new) }
+    ensures no_fault { (IsErrOf result ReadBad.Fault → ⊥) → S.faults source.new ≡ S.faults source.old }
     ensures later { S.faults source.old ≤ S.faults source.new }
 {
     let room = piece.len().min(most);

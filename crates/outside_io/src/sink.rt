@@ -6,7 +6,7 @@ ghost use Rattle.outside_io.specs.Faults.{HasCause};
 
 use crate::failed::Failed;
 
-/// Bytes that are written once, each behind those before it.
+/// Bytes that are written once, each after those before it.
 pub trait Sink {
     /// The bytes that the sink holds, or `None` where it doesn't tell them.
     ghost held: { Self → Option (List ℕ) };

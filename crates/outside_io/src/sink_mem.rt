@@ -3,7 +3,7 @@
 ghost use Rattle.std.specs.Prelude.{◌≡◌, ℕ, [], ◌+◌, ◌<◌, ◌≤◌, min, ◌++◌, Some, length, IfOk, IsErr, OnOk, OnErr, Contains, is_ok, if◌then◌else◌};
 ghost use Rattle.std.specs.Io.KnownBytes.{WriteAppends};
 ghost use Rattle.outside_io.specs.Faults.{last_count, HasCause};
-ghost use Rattle.outside_io.specs.Store.{Store};
+ghost use Rattle.outside_io.specs.SinkMem.{SinkMemData};
 
 use crate::calls::Calls;
 use crate::failed::Failed;
@@ -21,7 +21,7 @@ pub struct SinkMem {
 }
 
 impl Model for SinkMem {
-    ghost Value = { Store };
+    ghost Value = { SinkMemData };
 
     ghost view = { λ s. record {
       held = s.held.items;

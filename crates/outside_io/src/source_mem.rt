@@ -3,7 +3,7 @@
 ghost use Rattle.std.specs.Prelude.{◌≡◌, ◌↔◌, ℕ, ◌+◌, ◌≤◌, min, ◌++◌, Some, length, take, drop, IfOk, IsErr, OnErr, Contains, is_ok, if◌then◌else◌};
 ghost use Rattle.std.specs.Io.KnownBytes.{ReadConsumes};
 ghost use Rattle.outside_io.specs.Faults.{last_count, HasCause};
-ghost use Rattle.outside_io.specs.Feed.{Feed};
+ghost use Rattle.outside_io.specs.SourceMem.{SourceMemData};
 
 use crate::calls::Calls;
 use crate::failed::Failed;
@@ -22,7 +22,7 @@ pub struct SourceMem {
 }
 
 impl Model for SourceMem {
-    ghost Value = { Feed };
+    ghost Value = { SourceMemData };
 
     ghost view = { λ s. record {
       left = drop s.taken s.bytes.items;

@@ -67,7 +67,7 @@ fn a_read_that_fails_midway_leaves_the_output(rt: HostRuntime) -> Result<(), Fai
     let mut out = b"before: ".to_vec(alloc)?;
     assert_eq!(rt; read_whole(&mut source, &mut out), Err(ReadBad::Fault));
     assert_eq!(rt; out.as_slice(), b"before: ".as_slice());
-    // The next call goes on behind the first chunk.
+    // The next call goes on after the first chunk.
     assert_eq!(rt; read_whole(&mut source, &mut out), Ok(Taken::End));
     assert_eq!(rt; out.as_slice(), b"before: ix letters, or so".as_slice());
     Ok(())

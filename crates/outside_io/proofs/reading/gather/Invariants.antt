@@ -1,6 +1,6 @@
--- So far `out` gained what the source lost, and not past the byte behind the most that an input may have.
+-- So far `out` gained what the source lost, at most one byte more than an input may have.
 use Rattle.std.proofs.Common.{◌≡◌, vec_len, ◌+◌, ◌-◌, ◌≤◌}
-use Rattle.outside_io.specs.Reading.{Gathers}
+use Rattle.outside_io.specs.Code.Gathering.{Gathers}
 use Rattle.outside_io.specs.declared.reading.TheConstants.{MAX_INPUT}
 use Rattle.outside_io.proofs.reading.gather.Given as goal
 
@@ -10,7 +10,7 @@ invariant-loop-piece g l = record {
   more : vec_len l.fn.out ≤ vec_len l.out;
   few : vec_len l.out ≤ vec_len l.fn.out + MAX_INPUT + 1;
   gathers : Gathers (g.S.Source.left l.fn.source) (g.S.Source.left l.source) l.fn.out.items l.out.items;
-  later : g.S.Source.faults l.fn.source ≤ g.S.Source.faults l.source;
+  faultless : g.S.Source.faults l.source ≡ g.S.Source.faults l.fn.source;
 }
 
 abbrev pub decreases-loop-piece : goal.decreases-loop-piece

@@ -6,7 +6,7 @@ pub loop-written-preserved : goal.loop-written-preserved
 loop-written-preserved g c = record {
   within = search rules;
   appended = Appends-take _ _ _ c.args.piece.now c.loop-written.written c.in-Ok.taken c.loop-written.invariant.appended (rw (← c.split_at.ensures.back) c.in-Ok.ensures.bytes);
-  later = search rules;
+  faultless = search rules;
 }
 
 pub returns-in-Err-clause-front : goal.returns-in-Err-clause-front

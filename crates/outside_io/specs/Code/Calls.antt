@@ -2,6 +2,6 @@
 use Rattle.std.specs.Prelude.{ℕ, List}
 
 -- the numbers of the calls that fail, and the number of the next call
-pub record CallList : Type 0 where
+pub record CallsData : Type 0 where
   pub failing : List ℕ
   pub next : ℕ

@@ -2,7 +2,7 @@
 use Rattle.std.specs.Prelude.{ℕ}
 use Rattle.outside_io.specs.declared.link.Asked.{Asked}
 
-pub record Absent : Type 0 where
+pub record NoWireData : Type 0 where
   pub asked : Asked
   pub asks : ℕ
   pub faults : ℕ
