@@ -4,10 +4,11 @@ use Rattle.std.specs.Prelude.{◌==◌, nat_lt, nat_le}
 use Rattle.std.proofs.lemmas.Bool.{cases_order, eq-eqb, ne_eqb, lt-ltb}
 use Rattle.std.proofs.lemmas.Bool.Decides.{nat_tests}
 use Rattle.context_vector.specs.Contexts.{count_in, sum_of_counts, put_count, AreCounts}
-use Rattle.op_name.proofs.Orders.{number_order}
+use Rattle.op_name.specs.declared.name.TheConstants.{SITES, NUMBERS}
+use Rattle.op_name.proofs.CallerLemmas.{number_order}
 use Rattle.context_vector.specs.Vectors.{without_site, lower_count, SitesBelow}
 use Rattle.context_vector.proofs.Keyed.{value_at, put_at, take_out, AllAfter, IsRising, gap_value, gap_put, put_is_set, take_out_is_remove}
-use Rattle.context_vector.specs.Places.{IsPlace, IsGap}
+use Rattle.context_vector.specs.Code.Places.{IsPlace, IsGap}
 use Rattle.std.specs.List.{insert, remove, refill}
 use Rattle.std.proofs.Math.Seq.{take-append_seam}
 use Rattle.std.proofs.lemmas.List.{length-set}
@@ -41,7 +42,7 @@ pub counts_from : (low from : ℕ) (ps : List (ℕ × ℕ)) → low ≤ from →
 counts_from low from [] le are = tt
 counts_from low from (p ∷ ps) le are = (omega arith, are.1, are.2, are.3, are.4)
 
-pub counts_put : (low s k : ℕ) (ps : List (ℕ × ℕ)) → low ≤ s → s < 64 → 1 ≤ k → k ≤ 1000000 → AreCounts low ps → AreCounts low (put_count s k ps)
+pub counts_put : (low s k : ℕ) (ps : List (ℕ × ℕ)) → low ≤ s → s < SITES → 1 ≤ k → k ≤ NUMBERS → AreCounts low ps → AreCounts low (put_count s k ps)
 counts_put low s k [] from site least most are = (from, site, least, most, tt)
 counts_put low s k (p ∷ ps) from site least most are =
     elim (cases_order p.0 s) [
@@ -64,7 +65,7 @@ counts_without low s (p ∷ ps) are =
       | false ↦ (are.0, are.1, are.2, are.3, counts_without (p.0 + 1) s ps are.4)
     ]
 
-pub counts_lower : (s k : ℕ) (ps : List (ℕ × ℕ)) → s < 64 → 1 ≤ k → k ≤ 1000000 → AreCounts 0 ps → AreCounts 0 (lower_count s k ps)
+pub counts_lower : (s k : ℕ) (ps : List (ℕ × ℕ)) → s < SITES → 1 ≤ k → k ≤ NUMBERS → AreCounts 0 ps → AreCounts 0 (lower_count s k ps)
 counts_lower s k ps site least most are =
     elim (cases_order k 1) [
       | inl one ↦ rw (eq-eqb k 1 one) (counts_without 0 s ps are)
@@ -73,7 +74,7 @@ counts_lower s k ps site least most are =
     ]
 
 -- a pair after the last may be appended
-pub counts_push : (low s k : ℕ) (ps : List (ℕ × ℕ)) → low ≤ s → s < 64 → 1 ≤ k → k ≤ 1000000 → SitesBelow ps s → AreCounts low ps → AreCounts low (ps ++ (s, k) ∷ [])
+pub counts_push : (low s k : ℕ) (ps : List (ℕ × ℕ)) → low ≤ s → s < SITES → 1 ≤ k → k ≤ NUMBERS → SitesBelow ps s → AreCounts low ps → AreCounts low (ps ++ (s, k) ∷ [])
 counts_push low s k [] from site least most below are = (from, site, least, most, tt)
 counts_push low s k (p ∷ ps) from site least most below are =
     (are.0, are.1, are.2, are.3, counts_push (p.0 + 1) s k ps (omega (arith, below.0)) site least most below.1 are.4)
@@ -87,13 +88,13 @@ pub sites_below_push : (ps : List (ℕ × ℕ)) (s k r : ℕ) → SitesBelow ps 
 sites_below_push [] s k r below less = (less, tt)
 sites_below_push (p ∷ ps) s k r below less = (omega (arith, below.0), sites_below_push ps s k r below.1 less)
 
-pub count_at_most : (low : ℕ) (ps : List (ℕ × ℕ)) (s : ℕ) → AreCounts low ps → count_in ps s ≤ 1000000
+pub count_at_most : (low : ℕ) (ps : List (ℕ × ℕ)) (s : ℕ) → AreCounts low ps → count_in ps s ≤ NUMBERS
 count_at_most low [] s are = omega arith
 count_at_most low (p ∷ ps) s are =
-    elim (p.0 == s) as (λ t. (if t then p.1 else count_in ps s) ≤ 1000000) [ true ↦ are.3 | false ↦ count_at_most (p.0 + 1) ps s are.4 ]
+    elim (p.0 == s) as (λ t. (if t then p.1 else count_in ps s) ≤ NUMBERS) [ true ↦ are.3 | false ↦ count_at_most (p.0 + 1) ps s are.4 ]
 
 -- a site with a count is in range
-pub counted_below : (low : ℕ) (ps : List (ℕ × ℕ)) (s : ℕ) → AreCounts low ps → 1 ≤ count_in ps s → s < 64
+pub counted_below : (low : ℕ) (ps : List (ℕ × ℕ)) (s : ℕ) → AreCounts low ps → 1 ≤ count_in ps s → s < SITES
 counted_below low [] s are least = absurd (omega arith)
 counted_below low (p ∷ ps) s are least =
     elim (cases_order p.0 s) [
@@ -101,12 +102,12 @@ counted_below low (p ∷ ps) s are least =
       | inr other ↦ counted_below (p.0 + 1) ps s are.4 (rw (ne_eqb p.0 s (omega arith)) at least)
     ]
 
--- sites rise below 64, so there are at most so many, with so many originals
-pub sum_at_most : (low : ℕ) (ps : List (ℕ × ℕ)) → low ≤ 64 → AreCounts low ps → sum_of_counts ps + 1000000 * low ≤ 64000000
+-- sites rise below SITES, so there are at most so many, with so many originals
+pub sum_at_most : (low : ℕ) (ps : List (ℕ × ℕ)) → low ≤ SITES → AreCounts low ps → sum_of_counts ps + NUMBERS * low ≤ SITES * NUMBERS
 sum_at_most low [] le are = omega arith
 sum_at_most low (p ∷ ps) le are = omega (arith, are.0, are.1, are.3, sum_at_most (p.0 + 1) ps (omega arith) are.4)
 
-pub sites_at_most : (low : ℕ) (ps : List (ℕ × ℕ)) → low ≤ 64 → AreCounts low ps → length ps + low ≤ 64
+pub sites_at_most : (low : ℕ) (ps : List (ℕ × ℕ)) → low ≤ SITES → AreCounts low ps → length ps + low ≤ SITES
 sites_at_most low [] le are = omega arith
 sites_at_most low (p ∷ ps) le are = omega (arith, are.0, are.1, sites_at_most (p.0 + 1) ps (omega arith) are.4)
 

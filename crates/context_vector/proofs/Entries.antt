@@ -2,12 +2,14 @@
 use Rattle.std.proofs.Common.{◌≡◌, ℕ, ◌+◌, ◌-◌, ◌*◌, ◌<◌, ◌≤◌, ◌≢◌, set, true, false, List, [], ◌∷◌, ◌++◌, length, if◌then◌else◌, refl, sym, ap, subst, ◌∙◌, inl, inr, arith}
 use Rattle.std.proofs.lemmas.Bool.{cases_order, eq-eqb, ne_eqb}
 use Rattle.std.proofs.lemmas.Bool.Decides.{nat_tests}
+use Rattle.op_name.specs.declared.name.TheConstants.{SITES, NUMBERS}
+use Rattle.op_name.specs.declared.member.TheConstants.{GENERATIONS}
 use Rattle.op_name.specs.NameData.{NameData, IsName, name_eq, name_lt}
 use Rattle.context_vector.specs.Contexts.{entry_in, put_entry, IsBefore, AreEntries}
-use Rattle.op_name.proofs.Orders.{name_order, name_transitive, cases_by_order}
+use Rattle.op_name.proofs.CallerLemmas.{name_order, name_transitive, cases_by_order}
 use Rattle.context_vector.specs.Vectors.{without_name, lower_entry, NamesBelow}
 use Rattle.context_vector.proofs.Keyed.{value_at, put_at, take_out, AllAfter, IsRising, gap_value, gap_put, put_is_set, take_out_is_remove}
-use Rattle.context_vector.specs.Places.{IsPlace, IsGap}
+use Rattle.context_vector.specs.Code.Places.{IsPlace, IsGap}
 use Rattle.std.specs.List.{insert, remove}
 
 -- entries are pairs with keys that rise, read and written as such
@@ -41,7 +43,7 @@ before_put m n g (e ∷ es) before less =
       | false ↦ elim (name_lt n e.0) as (λ t. IsBefore m (if t then (n, g) ∷ (e ∷ es) else e ∷ put_entry n g es)) [ true ↦ less | false ↦ before ]
     ]
 
-pub entries_put : (n : NameData) (g : ℕ) (es : List (NameData × ℕ)) → IsName n.site n.number → 1 ≤ g → g ≤ 65535 → AreEntries es → AreEntries (put_entry n g es)
+pub entries_put : (n : NameData) (g : ℕ) (es : List (NameData × ℕ)) → IsName n.site n.number → 1 ≤ g → g ≤ GENERATIONS → AreEntries es → AreEntries (put_entry n g es)
 entries_put n g [] name least most are = (name, least, most, tt, tt)
 entries_put n g (e ∷ es) name least most are =
     cases_by_order name_eq name_lt name_order e.0 n _
@@ -66,7 +68,7 @@ entries_without n (e ∷ es) are =
       | false ↦ (are.0, are.1, are.2, before_without e.0 n es are.4 are.3, entries_without n es are.4)
     ]
 
-pub entries_lower : (n : NameData) (g : ℕ) (es : List (NameData × ℕ)) → IsName n.site n.number → 1 ≤ g → g ≤ 65535 → AreEntries es → AreEntries (lower_entry n g es)
+pub entries_lower : (n : NameData) (g : ℕ) (es : List (NameData × ℕ)) → IsName n.site n.number → 1 ≤ g → g ≤ GENERATIONS → AreEntries es → AreEntries (lower_entry n g es)
 entries_lower n g es name least most are =
     elim (cases_order g 1) [
       | inl one ↦ rw (eq-eqb g 1 one) (entries_without n es are)
@@ -79,7 +81,7 @@ before_push m n g [] less before = less
 before_push m n g (e ∷ es) less before = before
 
 -- an entry after the last may be appended
-pub entries_push : (n : NameData) (g : ℕ) (es : List (NameData × ℕ)) → IsName n.site n.number → 1 ≤ g → g ≤ 65535 → NamesBelow es n → AreEntries es → AreEntries (es ++ (n, g) ∷ [])
+pub entries_push : (n : NameData) (g : ℕ) (es : List (NameData × ℕ)) → IsName n.site n.number → 1 ≤ g → g ≤ GENERATIONS → NamesBelow es n → AreEntries es → AreEntries (es ++ (n, g) ∷ [])
 entries_push n g [] name least most below are = (name, least, most, tt, tt)
 entries_push n g (e ∷ es) name least most below are =
     (are.0, are.1, are.2, before_push e.0 n g es below.0 are.3, entries_push n g es name least most below.1 are.4)
@@ -94,21 +96,21 @@ names_below_push [] n g m below less = (less, tt)
 names_below_push (e ∷ es) n g m below less = (name_transitive e.0 n m below.0 less, names_below_push es n g m below.1 less)
 
 -- the generations and the names of entries are in range
-pub entry_at_most : (es : List (NameData × ℕ)) (n : NameData) → AreEntries es → entry_in es n ≤ 65535
+pub entry_at_most : (es : List (NameData × ℕ)) (n : NameData) → AreEntries es → entry_in es n ≤ GENERATIONS
 entry_at_most [] n are = omega arith
 entry_at_most (e ∷ es) n are =
-    elim (name_eq e.0 n) as (λ t. (if t then e.1 else entry_in es n) ≤ 65535) [ true ↦ are.2 | false ↦ entry_at_most es n are.4 ]
+    elim (name_eq e.0 n) as (λ t. (if t then e.1 else entry_in es n) ≤ GENERATIONS) [ true ↦ are.2 | false ↦ entry_at_most es n are.4 ]
 
 -- names in range rise with the number that their site and number make
-places_rise : (n m : NameData) → IsName n.site n.number → IsName m.site m.number → name_lt n m ≡ true → n.site * 1000000 + n.number < m.site * 1000000 + m.number
+places_rise : (n m : NameData) → IsName n.site n.number → IsName m.site m.number → name_lt n m ≡ true → n.site * NUMBERS + n.number < m.site * NUMBERS + m.number
 places_rise n m is_name is_name' less = grind (arith, nat_tests)
 
 -- names rise, so there are at most as many entries as names
-pub entries_at_most : (e : NameData × ℕ) (es : List (NameData × ℕ)) → AreEntries (e ∷ es) → length (e ∷ es) + (e.0.site * 1000000 + e.0.number) ≤ 64000001
+pub entries_at_most : (e : NameData × ℕ) (es : List (NameData × ℕ)) → AreEntries (e ∷ es) → length (e ∷ es) + (e.0.site * NUMBERS + e.0.number) ≤ SITES * NUMBERS + 1
 entries_at_most e [] are = omega (arith, are.0.0, are.0.1, are.0.2)
 entries_at_most e (f ∷ es) are = omega (arith, entries_at_most f es are.4, places_rise e.0 f.0 are.0 are.4.0 are.3)
 
-pub length_at_most : (es : List (NameData × ℕ)) → AreEntries es → length es ≤ 64000000
+pub length_at_most : (es : List (NameData × ℕ)) → AreEntries es → length es ≤ SITES * NUMBERS
 length_at_most [] are = omega arith
 length_at_most (e ∷ es) are = omega (arith, entries_at_most e es are, are.0.1)
 

@@ -4,10 +4,10 @@ use Rattle.std.specs.List.{insert, remove}
 use mathlib.Core.Bool.{false≢true}
 use Rattle.std.proofs.Common.{Some, None}
 use Rattle.std.proofs.lemmas.Bool.{cases_lt, lt-ltb, le-ltb}
-use Rattle.context_vector.specs.Places.{IsPlace, IsGap}
+use Rattle.context_vector.specs.Code.Places.{IsPlace, IsGap}
 use Rattle.context_vector.specs.Shortfalls.{first_short}
 use Rattle.op_name.specs.Order.{IsOrder}
-use Rattle.op_name.proofs.Orders.{cases_by_order}
+use Rattle.op_name.proofs.CallerLemmas.{cases_by_order}
 
 some_not_none : {X : Type 0} (x : X) (P : Type 0) → Some x ≡ None → P
 some_not_none x P e = cc

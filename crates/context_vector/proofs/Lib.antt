@@ -6,3 +6,6 @@ pub mod Entries
 pub mod Members
 pub mod Sets
 pub mod Unions
+pub mod Rooms
+pub mod Marks
+pub mod CallerLemmas

@@ -3,12 +3,14 @@ use Rattle.std.proofs.Common.{◌≡◌, ℕ, ◌+◌, ◌-◌, ◌≤◌, Bool,
 use Rattle.std.specs.Prelude.{◌==◌, ◌&&◌, ◌||◌, nat_lt, nat_le}
 use Rattle.std.proofs.lemmas.Bool.{cases_order, eq-eqb, ne_eqb}
 use Rattle.std.proofs.lemmas.Bool.Decides.{nat_tests}
+use Rattle.op_name.specs.declared.name.TheConstants.{NUMBERS}
+use Rattle.op_name.specs.declared.member.TheConstants.{GENERATIONS}
 use Rattle.op_name.specs.declared.member.Member.{Member}
 use Rattle.op_name.specs.declared.member.Member.TheVariants.{Original, Group}
 use Rattle.op_name.specs.NameData.{NameData, IsName, name_eq, name_lt}
 use Rattle.op_name.specs.Members.{IsMember, target_of, member_eq}
 use Rattle.context_vector.specs.Contexts.{ContextData, count_in, entry_in, count_of, entry_of, has, put_count, put_entry, AreCounts, AreEntries, IsContext, raised, IsNextMember}
-use Rattle.op_name.proofs.Orders.{number_order, name_order, name_same}
+use Rattle.op_name.proofs.CallerLemmas.{number_order, name_order, name_same}
 use Rattle.context_vector.specs.Vectors.{without_site, without_name, lower_count, lower_entry, lowered, IsLastMember, up_to}
 use Rattle.context_vector.proofs.Keyed.{value_at, value_put, value_take_out}
 use Rattle.context_vector.proofs.Counts.{same_site, count_is, put_count_is, without_site_is, counts_rise, counts_put, counts_lower}
@@ -92,8 +94,8 @@ size_of (Original n) = n.number
 size_of (Group n g) = g
 
 abbrev pub greatest_of : Member → ℕ
-greatest_of (Original n) = 1000000
-greatest_of (Group n g) = 65535
+greatest_of (Original n) = NUMBERS
+greatest_of (Group n g) = GENERATIONS
 
 lacks_above : (k v : ℕ) → 1 ≤ k → among v k ≡ false → v ≤ k
 lacks_above k v least lacks = grind (arith, nat_tests)

@@ -8,8 +8,8 @@ use Rattle.std.specs.Ordering.{nat_cmp, ordering_index}
 use Rattle.std.proofs.lemmas.Bool.{cases_lt, cases_order, eq-eqb, ne_eqb, lt-ltb, le-ltb}
 use Rattle.op_name.specs.Order.{IsOrder}
 use Rattle.op_name.specs.NameData.{NameData, name_eq, name_lt, name_cmp}
-use Rattle.op_name.proofs.Orders.{cases_by_order}
-use Rattle.context_vector.specs.Places.{IsPlace, IsGap}
+use Rattle.op_name.proofs.CallerLemmas.{cases_by_order}
+use Rattle.context_vector.specs.Code.Places.{IsPlace, IsGap}
 use Rattle.context_vector.proofs.Keyed.{IsRising, later_key}
 
 -- what a comparison answers in an order

@@ -1,5 +1,5 @@
 -- Contexts as sets: what a member tells of counts and generations, sets within sets, equal sets, and the number of originals.
-use Rattle.std.proofs.Common.{◌≡◌, ℕ, ◌+◌, ◌<◌, ◌≤◌, ◌≢◌, Bool, true, false, List, [], ◌∷◌, refl, sym, subst, ◌∙◌, inl, inr, Some, None, arith}
+use Rattle.std.proofs.Common.{◌≡◌, ℕ, ◌+◌, ◌<◌, ◌≤◌, ◌≢◌, Bool, true, false, List, [], ◌∷◌, refl, sym, ap, subst, ◌∙◌, inl, inr, Some, None, arith}
 use Rattle.std.specs.Prelude.{nat_le, ◌&&◌, nat_lt}
 use Rattle.std.proofs.lemmas.Bool.{cases_lt, cases_order, eq-eqb, ne_eqb, lt-ltb, le-ltb}
 use Rattle.std.proofs.lemmas.Bool.Decides.{nat_tests}
@@ -9,7 +9,7 @@ use Rattle.op_name.specs.declared.member.Member.TheVariants.{Original, Group}
 use Rattle.op_name.specs.NameData.{NameData, IsName, name_eq, name_lt}
 use Rattle.op_name.specs.Members.{member_lt}
 use Rattle.context_vector.specs.Contexts.{ContextData, empty, count_in, entry_in, count_of, entry_of, has, raised, put_count, Within, sum_of_counts, rank_of, AreCounts, IsContext}
-use Rattle.op_name.proofs.Orders.{number_order, name_order, cases_by_order}
+use Rattle.op_name.proofs.CallerLemmas.{number_order, name_order, cases_by_order}
 use Rattle.context_vector.specs.Vectors.{IsFirstMissing}
 use Rattle.context_vector.specs.Shortfalls.{first_short}
 use Rattle.context_vector.proofs.Keyed.{value_at, same_values, none_short, some_short, IsFirstShort}
@@ -250,6 +250,13 @@ none_missing c d counts entries =
     within_from d c
     (λ s. omega (arith, count_is d.counts s, none_short same_site nat_lt number_order (count_in c.counts) d.counts counts s))
     (λ n. omega (arith, entry_is d.entries n, none_short name_eq name_lt name_order (entry_in c.entries) d.entries entries n))
+
+-- a context with the same entries lacks no group
+pub no_group_missing : (c d : ContextData) → first_short (count_in c.counts) d.counts ≡ None → c.entries ≡ d.entries → Within d c
+no_group_missing c d counts same =
+    within_from d c
+    (λ s. omega (arith, count_is d.counts s, none_short same_site nat_lt number_order (count_in c.counts) d.counts counts s))
+    (λ n. let one : entry_of d n ≡ entry_of c n = ap (λ es. entry_in es n) (sym same) in omega (arith, one))
 
 -- a context that lacks a member of another doesn't cover it
 pub missing_not_within : (c d : ContextData) (m : Member) → IsFirstMissing c d m → Within d c → ⊥

@@ -7,8 +7,9 @@ use Rattle.op_name.specs.declared.member.Member.{Member}
 use Rattle.op_name.specs.declared.member.Member.TheVariants.{Original, Group}
 use Rattle.op_name.specs.NameData.{NameData, IsName, name_eq, name_lt}
 use Rattle.context_vector.specs.Contexts.{ContextData, entry_in, has, AreCounts, AreEntries}
-use Rattle.op_name.proofs.Orders.{name_order, cases_by_order}
-use Rattle.context_vector.specs.Vectors.{up_to, of_counts, of_entries}
+use Rattle.op_name.proofs.CallerLemmas.{name_order, cases_by_order}
+use Rattle.context_vector.specs.Vectors.{up_to}
+use Rattle.context_vector.specs.Code.Lists.{of_counts, of_entries}
 use Rattle.context_vector.proofs.Keyed.{value_after, AllAfter}
 use Rattle.context_vector.proofs.Entries.{entry_is, entries_after}
 use Rattle.context_vector.proofs.Members.{among}

@@ -1,6 +1,8 @@
 -- Contexts: sets of members, each closed downwards, kept as a count for each site and a greatest generation for each
 -- undone name (COT 2009: the context of an operation is the set of operations that it was made after).
 use Rattle.std.specs.Prelude.{◌≡◌, ℕ, ◌+◌, ◌<◌, ◌≤◌, Bool, true, List, [], ◌∷◌, ◌&&◌, ◌==◌, nat_le, if◌then◌else◌}
+use Rattle.op_name.specs.declared.name.TheConstants.{SITES, NUMBERS}
+use Rattle.op_name.specs.declared.member.TheConstants.{GENERATIONS}
 use Rattle.op_name.specs.declared.member.Member.{Member}
 use Rattle.op_name.specs.declared.member.Member.TheVariants.{Original, Group}
 use Rattle.op_name.specs.NameData.{NameData, IsName, name_eq, name_lt}
@@ -48,15 +50,15 @@ sum_of_counts (p ∷ ps) = p.1 + sum_of_counts ps
 abbrev pub rank_of : ContextData → ℕ
 rank_of c = sum_of_counts c.counts
 
--- sites from `low` on, rising, each below 64 with a count of 1 to 1,000,000
+-- sites from `low` on, rising, each below SITES with a count of 1 to NUMBERS
 abbrev pub AreCounts : ℕ → List (ℕ × ℕ) → Type 0
 AreCounts low [] = Unit {0}
-AreCounts low (p ∷ ps) = (low ≤ p.0) × (p.0 < 64) × (1 ≤ p.1) × (p.1 ≤ 1000000) × AreCounts (p.0 + 1) ps
+AreCounts low (p ∷ ps) = (low ≤ p.0) × (p.0 < SITES) × (1 ≤ p.1) × (p.1 ≤ NUMBERS) × AreCounts (p.0 + 1) ps
 
--- names in range, rising, each with a generation of 1 to 65,535
+-- names in range, rising, each with a generation of 1 to GENERATIONS
 abbrev pub AreEntries : List (NameData × ℕ) → Type 0
 AreEntries [] = Unit {0}
-AreEntries (e ∷ es) = IsName e.0.site e.0.number × (1 ≤ e.1) × (e.1 ≤ 65535) × IsBefore e.0 es × AreEntries es
+AreEntries (e ∷ es) = IsName e.0.site e.0.number × (1 ≤ e.1) × (e.1 ≤ GENERATIONS) × IsBefore e.0 es × AreEntries es
 
 -- the form and the ranges that every context has, so that equal sets are equal contexts
 pub record IsContext (c : ContextData) : Type 0 where

@@ -1,5 +1,5 @@
 -- Equality of contexts as a test, and what a context feeds a hasher.
-use Rattle.std.specs.Prelude.{◌≡◌, ℕ, Bool, true, ◌++◌, ◌==◌, ◌&&◌}
+use Rattle.std.specs.Prelude.{◌≡◌, ℕ, Bool, true, List, ◌++◌, ◌==◌, ◌&&◌}
 use Rattle.std.proofs.Common.{sym, ap, subst}
 use Rattle.std.specs.Bool.{Decides}
 use Rattle.std.specs.Cmp.{IsEquivalence, IsPartialEquivalence, decided, partial_equiv_from_equiv, on_equiv, on_per, first_so, second_so}
@@ -8,7 +8,8 @@ use Rattle.std.specs.Hash.{HashWrites}
 use lib.Pointwise.{pointwise, pointwise_decides}
 use Rattle.op_name.specs.NameData.{NameData, name_eq}
 use Rattle.context_vector.specs.Contexts.{ContextData}
-use Rattle.op_name.proofs.Orders.{name_same, name_itself, number_order}
+use Rattle.op_name.proofs.CallerLemmas.{name_same, name_itself, number_order}
+use Rattle.context_vector.specs.Marks.{mark_of}
 use Rattle.context_vector.specs.Vectors.{VectorData}
 
 abbrev pub count_eq : ℕ × ℕ → ℕ × ℕ → Bool
@@ -45,11 +46,14 @@ entries_decide e f = (
   λ h. subst (λ x. entry_eq e x ≡ true) h (and_holds _ _ (name_itself e.0) (number_order.itself e.1)),
 )
 
+pub list_eq_decides : (es fs : List (NameData × ℕ)) → Decides (pointwise entry_eq es fs) (es ≡ fs)
+list_eq_decides es fs = pointwise_decides entries_decide es fs
+
 -- the test decides equality of contexts
 pub context_eq_decides : (c d : ContextData) → Decides (context_eq c d) (c ≡ d)
 context_eq_decides c d =
     let by_counts = pointwise_decides counts_decide c.counts d.counts in
-    let by_entries = pointwise_decides entries_decide c.entries d.entries in (
+    let by_entries = list_eq_decides c.entries d.entries in (
       λ e.
           let counts = by_counts.0 (first_so (pointwise count_eq c.counts d.counts) (pointwise entry_eq c.entries d.entries) e) in
           let entries = by_entries.0 (second_so (pointwise count_eq c.counts d.counts) (pointwise entry_eq c.entries d.entries) e) in
@@ -63,9 +67,9 @@ vector_equiv = on_equiv (λ (v : VectorData). v.set) (decided context_eq context
 pub vector_per : IsPartialEquivalence vector_eq
 vector_per = on_per (λ (v : VectorData). v.set) (partial_equiv_from_equiv (decided context_eq context_eq_decides))
 
--- the counts, then the entries
+-- the counts, then the mark of the entries
 abbrev pub context_input : ContextData → HashWrites
-context_input c = fed.slice (λ (p : ℕ × ℕ). fed.u16 p.0 ++ fed.u32 p.1) c.counts ++ fed.slice (λ (e : NameData × ℕ). (fed.u16 e.0.site ++ fed.u32 e.0.number) ++ fed.u16 e.1) c.entries
+context_input c = fed.slice (λ (p : ℕ × ℕ). fed.u16 p.0 ++ fed.u32 p.1) c.counts ++ fed.u64 (mark_of c.entries)
 
 abbrev pub vector_input : VectorData → HashWrites
 vector_input v = context_input v.set

@@ -1,6 +1,7 @@
 pub mod Contexts
 pub mod Vectors
+pub mod AddBad
+pub mod Marks
 pub mod Equality
-pub mod Places
 pub mod Shortfalls
-pub mod Refusals
+pub mod Code

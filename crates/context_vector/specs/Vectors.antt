@@ -6,20 +6,22 @@ use Rattle.op_name.specs.NameData.{NameData, name_eq, name_lt}
 use Rattle.op_name.specs.Members.{member_lt}
 use Rattle.context_vector.specs.Contexts.{ContextData, count_of, entry_of, has, put_count, put_entry}
 
--- the spare places of the two lists
+-- the spare places of the two lists, and whether that of the entries is the vector's own, so that it may be changed in place
 pub record Room : Type 0 where
   pub counts : ℕ
   pub entries : ℕ
+  pub own : Bool
 
 -- a set of members, and room for more
 pub record VectorData : Type 0 where
   pub set : ContextData
   pub room : Room
 
--- the member can be added without memory: its site or name is there, or there is a spare place for it
+-- the member can be added or taken out without memory: its site or name is there, or there is a spare place for it, and the
+-- list in which a name is changed is the vector's own
 abbrev pub HasRoomFor : VectorData → Member → Type 0
 HasRoomFor v (Original n) = count_of v.set n.site ≡ 0 → 1 ≤ v.room.counts
-HasRoomFor v (Group n g) = entry_of v.set n ≡ 0 → 1 ≤ v.room.entries
+HasRoomFor v (Group n g) = (v.room.own ≡ true) × (entry_of v.set n ≡ 0 → 1 ≤ v.room.entries)
 
 -- the member is the last of its site or its name
 abbrev pub IsLastMember : ContextData → Member → Type 0
@@ -74,10 +76,3 @@ SitesBelow (p ∷ ps) s = (p.0 < s) × SitesBelow ps s
 abbrev pub NamesBelow : List (NameData × ℕ) → NameData → Type 0
 NamesBelow [] n = Unit {0}
 NamesBelow (e ∷ es) n = (name_lt e.0 n ≡ true) × NamesBelow es n
-
--- the originals that counts tell, and the groups that entries tell
-abbrev pub of_counts : List (ℕ × ℕ) → ContextData
-of_counts ps = record { counts = ps; entries = [] }
-
-abbrev pub of_entries : List (NameData × ℕ) → ContextData
-of_entries es = record { counts = []; entries = es }

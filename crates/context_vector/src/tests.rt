@@ -97,6 +97,58 @@ fn a_copy_without_the_last_members_is_smaller(rt: HostRuntime) -> Result<(), Fai
     Ok(())
 }
 
+/// A vector that has the group of the name at generation 1, in a shared list.
+fn undone(alloc: Global, name: Name) -> Result<Vector, Fail> {
+    let mut v = counted(alloc, name.site, name.number)?;
+    v.raise(&Member::Group(name, 1))?;
+    v.share();
+    Ok(v)
+}
+
+#[test]
+fn vectors_that_share_a_list_change_alone(rt: HostRuntime) -> Result<(), Fail> {
+    let name = Name::new(0, 2)?;
+    let mut v = undone(rt.alloc(), name)?;
+    let copy = v.try_clone()?;
+    let mut same = undone(rt.alloc(), name)?;
+    same.share_with(&v);
+    v.raise(&Member::Group(name, 2))?;
+    same.raise(&Member::Group(Name::new(0, 1)?, 1))?;
+    assert_eq!(rt;
+        (v.entry(&name), copy.entry(&name), same.entry(&name)),
+        (2, 1, 1)
+    );
+    assert_eq!(rt; (v.entries(), copy.entries(), same.entries()), (1, 1, 2));
+    Ok(())
+}
+
+#[test]
+fn out_of_memory_leaves_a_shared_list(rt: HostRuntime) -> Result<(), Fail> {
+    let name = Name::new(0, 2)?;
+    let mut v = undone(rt.alloc(), name)?;
+    let redo = Member::Group(name, 2);
+    if v.add(&redo).is_err() {
+        assert_eq!(rt; v.entry(&name), 1);
+        v.add(&redo)?;
+    }
+    assert_eq!(rt; v.entry(&name), 2);
+    Ok(())
+}
+
+#[test]
+fn a_group_is_taken_out_in_the_room_that_it_had(rt: HostRuntime) -> Result<(), Fail> {
+    let name = Name::new(0, 2)?;
+    let mut v = undone(rt.alloc(), name)?;
+    let redo = Member::Group(name, 2);
+    v.reserve(&redo)?;
+    assert_eq!(rt; v.entry(&name), 1);
+    v.add_reserved(&redo);
+    assert_eq!(rt; v.entry(&name), 2);
+    v.drop_last(&redo);
+    assert_eq!(rt; v.entry(&name), 1);
+    Ok(())
+}
+
 #[test]
 fn a_read_listing_makes_the_vector_that_was_listed(rt: HostRuntime) -> Result<(), Fail> {
     let mut v = counted(rt.alloc(), 3, 7)?;

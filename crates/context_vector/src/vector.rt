@@ -1,17 +1,20 @@
 //! The vector: its parts, what contracts see of it, and the calls that only read.
 
-ghost use Rattle.std.specs.Prelude.{◌≡◌, ◌≤◌, ◌↔◌, IsTrue, IsNone, IfOk, IfSome, length, slice_get};
+ghost use Rattle.std.specs.Prelude.{◌≡◌, ◌*◌, ◌≤◌, ◌↔◌, IsTrue, IsNone, IfOk, IfSome, length, slice_get};
 ghost use Rattle.op_name.specs.Members.{IsMember};
 ghost use Rattle.context_vector.specs.Contexts.{empty, count_of, entry_of, has, Within, rank_of, IsContext};
 ghost use Rattle.context_vector.specs.Vectors.{IsFirstMissing};
 
-use op_name::{Member, Memory, Name};
+use entries::Entries;
+use op_name::{Member, Memory, NUMBERS, Name, SITES};
 use smallvec::SmallVec;
 use std::alloc::Global;
 use std::marker::Model;
 
 mod changes;
+mod entries;
 mod equality;
+mod marks;
 mod rising;
 
 /// A set of members, closed downwards: with an original all earlier ones of its site, with an undo group all
@@ -23,11 +26,11 @@ pub struct Vector {
     /// Each site that has originals in the set with their number, sites rising.
     counts: SmallVec<(u16, u32), 4>,
     /// Each undone name with its greatest generation in the set, names rising.
-    entries: Vec<(Name, u16)>,
+    entries: Entries,
 }
 
 impl Model for Vector {
-    ghost use Rattle.std.specs.Prelude.{◌-◌, length, vec_len, vec_capacity};
+    ghost use Rattle.std.specs.Prelude.{◌-◌, length};
     ghost use Rattle.context_vector.specs.Contexts.{IsContext};
     ghost use Rattle.context_vector.specs.Vectors.{VectorData};
 
@@ -35,7 +38,7 @@ impl Model for Vector {
 
     ghost view = { λ v. record {
       set = record { counts = v.counts.items; entries = v.entries.items };
-      room = record { counts = v.counts.capacity - length v.counts.items; entries = vec_capacity v.entries - vec_len v.entries };
+      room = record { counts = v.counts.capacity - length v.counts.items; entries = v.entries.spare; own = v.entries.own };
     } };
 
     ghost invariant = { λ v. IsContext (record { counts = v.counts.items; entries = v.entries.items }) };
@@ -47,8 +50,18 @@ pub enum AddBad {
     /// The member is not the next of its site or its name; `expected` is the number or the generation of
     /// the next.
     NotNext { expected: u32 },
-    /// Memory was wanting.
+    /// Out of memory.
     Memory,
+}
+
+impl From<Memory> for AddBad {
+    ghost use Rattle.context_vector.specs.declared.vector.AddBad.TheVariants as refusals;
+
+    ghost from_gives = { λ _ e. e ≡ refusals.Memory };
+
+    fn from(_: Memory) -> AddBad {
+        AddBad::Memory
+    }
 }
 
 impl Vector {
@@ -58,17 +71,33 @@ impl Vector {
     {
         Vector {
             counts: SmallVec::new(alloc),
-            entries: Vec::new(alloc),
+            entries: Entries::new(alloc),
         }
     }
 
-    /// The same set once more.
+    /// The same set once more; a shared list of undone names isn't copied.
     pub fn try_clone(&self) -> Result<Vector, Memory>
         ensures { IfOk result (λ v. v.set ≡ self.now.set) }
     {
         let counts = SmallVec::from_slice(*self.counts.allocator(), self.counts.as_slice())?;
-        let entries = Vec::from_slice(*self.entries.allocator(), self.entries.as_slice())?;
+        let entries = self.entries.try_clone()?;
         Ok(Vector { counts, entries })
+    }
+
+    /// Lets copies share the list of undone names, so that they cost by the sites alone; no member comes or
+    /// goes. Out of memory, nothing changes.
+    pub fn share(&mut self)
+        ensures { self.new.set ≡ self.old.set }
+    {
+        self.entries.share();
+    }
+
+    /// Takes the list of undone names of `other` where that is shared and has the same names, so that it is
+    /// kept once; no member comes or goes, and no memory is taken.
+    pub fn share_with(&mut self, other: &Vector)
+        ensures { self.new.set ≡ self.old.set }
+    {
+        self.entries.share_with(&other.entries);
     }
 
     /// Nothing but what the type keeps: sites and names rise, and all numbers are in range.
@@ -81,7 +110,7 @@ impl Vector {
     /// How many originals of the site the set has: these are its first ones.
     pub fn count(&self, site: u16) -> u32
         ensures count { result ≡ count_of self.now.set site }
-        ensures range { result ≤ 1000000 }
+        ensures range { result ≤ NUMBERS }
     {
         self.known();
         rising::count_among(self.counts(), site)
@@ -130,6 +159,9 @@ impl Vector {
         if let Some((site, number)) = original {
             return Some(Member::Original(Name { site, number }));
         }
+        if self.entries == other.entries {
+            return None;
+        }
         let group = rising::first_short_name(self.named(), other.named());
         if let Some(group) = group {
             return Some(Member::Group(group.0, group.1));
@@ -140,7 +172,7 @@ impl Vector {
     /// The number of originals in the set.
     pub fn rank(&self) -> u32
         ensures rank { result ≡ rank_of self.now.set }
-        ensures range { result ≤ 64000000 }
+        ensures range { result ≤ SITES * NUMBERS }
     {
         self.known();
         rising::total(self.counts())
@@ -149,7 +181,7 @@ impl Vector {
     /// The number of undone names.
     pub fn entries(&self) -> u32
         ensures entries { result ≡ length self.now.set.entries }
-        ensures range { result ≤ 64000000 }
+        ensures range { result ≤ SITES * NUMBERS }
     {
         self.known();
         self.named().len() as u32
@@ -165,7 +197,7 @@ impl Vector {
     /// The number of sites that have originals in the set. Readers of a vector's listing use it.
     pub fn sites(&self) -> u32
         ensures sites { result ≡ length self.now.set.counts }
-        ensures range { result ≤ 64 }
+        ensures range { result ≤ SITES }
     {
         self.known();
         self.counts().len() as u32
@@ -179,15 +211,15 @@ impl Vector {
         self.counts().get(i as usize).copied()
     }
 
-    // The sites with their counts.
-    fn counts(&self) -> &[(u16, u32)]
+    /// Each site that has originals in the set with their number, sites rising.
+    pub fn counts(&self) -> &[(u16, u32)]
         ensures { result.now ≡ self.now.set.counts }
     {
         self.counts.as_slice()
     }
 
-    // The undone names with their greatest generations.
-    fn named(&self) -> &[(Name, u16)]
+    /// Each undone name with its greatest generation, in the order of names.
+    pub fn named(&self) -> &[(Name, u16)]
         ensures { result.now ≡ self.now.set.entries }
     {
         self.entries.as_slice()

@@ -1,16 +1,17 @@
 //! The calls that change a vector.
 
-ghost use Rattle.std.specs.Prelude.{◌≡◌, ◌∷◌, [], ◌++◌, ◌<◌, ◌≤◌, ◌||◌, ◌&&◌, not, vec_len, vec_capacity, OnOk, OnErr, IfErr};
+ghost use Rattle.std.specs.Prelude.{◌≡◌, ◌∷◌, [], ◌++◌, ◌<◌, ◌≤◌, ◌||◌, ◌&&◌, not, true, false, OnOk, OnErr, IfErr};
 ghost use Rattle.op_name.specs.declared.member.Member.{Member};
 ghost use Rattle.op_name.specs.Members.{IsMember, member_eq};
-ghost use Rattle.context_vector.specs.Contexts.{has, raised, IsNextMember, count_in, entry_in, put_count, put_entry, AreCounts, AreEntries};
-ghost use Rattle.context_vector.specs.Vectors.{HasRoomFor, IsLastMember, lowered, lower_count, lower_entry, up_to, SitesBelow, NamesBelow, of_counts, of_entries};
-ghost use Rattle.context_vector.specs.Refusals.{IsCause};
+ghost use Rattle.context_vector.specs.Contexts.{has, raised, Within, IsNextMember, count_in, put_count, AreCounts, AreEntries};
+ghost use Rattle.context_vector.specs.Vectors.{HasRoomFor, IsLastMember, lowered, lower_count, up_to, SitesBelow, NamesBelow};
+ghost use Rattle.context_vector.specs.Code.Lists.{of_counts, of_entries};
+ghost use Rattle.context_vector.specs.AddBad.{IsCause};
 ghost use Rattle.smallvec.specs.SmallVec.{HasRoomFor as Spare};
 
-use super::rising::{place_of_name, place_of_site};
+use super::rising::place_of_site;
 use super::{AddBad, Vector};
-use op_name::{Member, Memory, Name};
+use op_name::{Member, Memory, NUMBERS, Name, SITES};
 use smallvec::SmallVec;
 
 impl Vector {
@@ -32,19 +33,17 @@ impl Vector {
         if given != expected {
             return Err(AddBad::NotNext { expected });
         }
-        match self.reserve(m) {
-            Ok(()) => {
-                self.put(m);
-                Ok(())
-            }
-            Err(_) => Err(AddBad::Memory),
-        }
+        self.reserve(m)?;
+        self.put(m);
+        Ok(())
     }
 
-    /// Makes room for the member; no member comes or goes.
+    /// Makes room in which the member can be added, or taken out if it is the last, without memory; no
+    /// member comes or goes.
     pub fn reserve(&mut self, m: &Member) -> Result<(), Memory>
         ensures same { self.new.set ≡ self.old.set }
         ensures room { OnOk result (HasRoomFor self.new m.now) }
+        ensures memory { OnErr result (¬ HasRoomFor self.old m.now) }
     {
         match m {
             Member::Original(name) => {
@@ -54,7 +53,9 @@ impl Vector {
             }
             Member::Group(name, _) => {
                 if self.entry(name) == 0 {
-                    self.entries.reserve(1)?;
+                    self.entries.reserve()?;
+                } else {
+                    self.entries.own()?;
                 }
             }
         }
@@ -62,20 +63,22 @@ impl Vector {
     }
 
     /// Adds the member, the next of its site or its name, in the room that was made for it. It takes no
-    /// memory.
+    /// memory, and the member can be taken out again.
     pub fn add_reserved(&mut self, m: &Member)
         requires member { IsMember m.now }
         requires next { IsNextMember self.old.set m.now }
         requires room { HasRoomFor self.old m.now }
-        ensures { self.new.set ≡ raised self.old.set m.now }
+        ensures added { self.new.set ≡ raised self.old.set m.now }
+        ensures room { HasRoomFor self.new m.now }
     {
         self.put(m);
     }
 
-    /// Adds the member and all below it. Where memory is wanting nothing changes.
+    /// Adds the member and all below it. Out of memory, nothing changes.
     pub fn raise(&mut self, m: &Member) -> Result<(), Memory>
         requires { IsMember m.now }
         ensures raised { OnOk result ((y : Member) → has self.new.set y ≡ (has self.old.set y || up_to y m.now)) }
+        ensures memory { OnErr result (has self.old.set m.now ≡ false) }
         ensures kept { OnErr result (self.new.set ≡ self.old.set) }
     {
         let _ = m.target();
@@ -87,10 +90,12 @@ impl Vector {
         Ok(())
     }
 
-    /// Takes the member out, the last of its site or its name. It takes no memory.
+    /// Takes the member out, the last of its site or its name, in the room that `reserve` made or in which it
+    /// was added. It takes no memory.
     pub fn drop_last(&mut self, m: &Member)
         requires member { IsMember m.now }
         requires last { IsLastMember self.old.set m.now }
+        requires room { HasRoomFor self.old m.now }
         ensures set { self.new.set ≡ lowered self.old.set m.now }
         ensures members { (y : Member) → has self.new.set y ≡ (has self.old.set y && not (member_eq m.now y)) }
     {
@@ -99,11 +104,15 @@ impl Vector {
         self.lower(m);
     }
 
-    /// Adds all members of `other`. Where memory is wanting nothing changes.
+    /// Adds all members of `other`. Out of memory, nothing changes.
     pub fn join(&mut self, other: &Vector) -> Result<(), Memory>
         ensures joined { OnOk result ((y : Member) → has self.new.set y ≡ (has self.old.set y || has other.now.set y)) }
+        ensures memory { OnErr result (¬ Within other.now.set self.old.set) }
         ensures kept { OnErr result (self.new.set ≡ self.old.set) }
     {
+        if self.covers(other) {
+            return Ok(());
+        }
         other.known();
         let mut union = self.try_clone()?;
         union.raise_sites(other.counts())?;
@@ -115,9 +124,9 @@ impl Vector {
     /// Appends a site with its count to a vector that is being read in the order of sites.
     pub fn push_count(&mut self, site: u16, count: u32) -> Result<(), Memory>
         requires last { SitesBelow self.old.set.counts site }
-        requires site { site < 64 }
+        requires site { site < SITES }
         requires least { 1 ≤ count }
-        requires greatest { count ≤ 1000000 }
+        requires greatest { count ≤ NUMBERS }
         ensures pushed { OnOk result (self.new.set ≡ record self.old.set { counts = self.old.set.counts ++ (site, count) ∷ [] }) }
         ensures kept { OnErr result (self.new.set ≡ self.old.set) }
     {
@@ -135,8 +144,9 @@ impl Vector {
         ensures kept { OnErr result (self.new.set ≡ self.old.set) }
     {
         name.known();
-        self.entries.reserve(1)?;
-        self.entries.push_reserved((name, generation));
+        self.known();
+        self.entries.reserve()?;
+        self.entries.push(name, generation);
         Ok(())
     }
 
@@ -166,13 +176,14 @@ impl Vector {
     fn put(&mut self, m: &Member)
         requires member { IsMember m.now }
         requires room { HasRoomFor self.old m.now }
-        ensures { self.new.set ≡ raised self.old.set m.now }
+        ensures added { self.new.set ≡ raised self.old.set m.now }
+        ensures own { self.old.room.own ≡ true → self.new.room.own ≡ true }
     {
         match m {
             Member::Original(name) => put_site(&mut self.counts, name.site, name.number),
             Member::Group(name, generation) => {
                 name.known();
-                put_name(&mut self.entries, name, *generation);
+                self.entries.put(name, *generation);
             }
         }
     }
@@ -181,13 +192,14 @@ impl Vector {
     fn lower(&mut self, m: &Member)
         requires member { IsMember m.now }
         requires last { IsLastMember self.old.set m.now }
+        requires room { HasRoomFor self.old m.now }
         ensures { self.new.set ≡ lowered self.old.set m.now }
     {
         match m {
             Member::Original(name) => lower_site(&mut self.counts, name.site, name.number),
             Member::Group(name, generation) => {
                 name.known();
-                lower_name(&mut self.entries, name, *generation);
+                self.entries.lower(name, *generation);
             }
         }
     }
@@ -208,22 +220,6 @@ fn put_site(counts: &mut SmallVec<(u16, u32), 4>, site: u16, number: u32)
     }
 }
 
-// Makes the generation the greatest of the name.
-fn put_name(entries: &mut Vec<(Name, u16)>, name: &Name, generation: u16)
-    requires rising { AreEntries entries.old.items }
-    requires room { entry_in entries.old.items name.now ≡ 0 → vec_len entries.old < vec_capacity entries.old }
-    ensures { entries.new.items ≡ put_entry name.now generation entries.old.items }
-{
-    let pair = (*name, generation);
-    match place_of_name(entries.as_slice(), name) {
-        Ok(at) => entries[at] = pair,
-        Err(at) => match entries.insert(at, pair) {
-            Ok(()) => {}
-            Err(_) => unreachable!(),
-        },
-    }
-}
-
 // Takes one from the count of the site, which is the number.
 fn lower_site(counts: &mut SmallVec<(u16, u32), 4>, site: u16, number: u32)
     requires rising { AreCounts 0 counts.old.items }
@@ -236,22 +232,6 @@ fn lower_site(counts: &mut SmallVec<(u16, u32), 4>, site: u16, number: u32)
             counts.remove(at);
         }
         Ok(at) => counts.as_mut_slice()[at] = (site, number - 1),
-        Err(_) => unreachable!(),
-    }
-}
-
-// Takes one from the greatest generation of the name.
-fn lower_name(entries: &mut Vec<(Name, u16)>, name: &Name, generation: u16)
-    requires rising { AreEntries entries.old.items }
-    requires least { 1 ≤ generation }
-    requires last { generation ≡ entry_in entries.old.items name.now }
-    ensures { entries.new.items ≡ lower_entry name.now generation entries.old.items }
-{
-    match place_of_name(entries.as_slice(), name) {
-        Ok(at) if generation == 1 => {
-            entries.remove(at);
-        }
-        Ok(at) => entries[at] = (*name, generation - 1),
         Err(_) => unreachable!(),
     }
 }

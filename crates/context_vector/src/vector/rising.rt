@@ -1,12 +1,12 @@
 //! Lists whose keys rise: searches in them and comparisons of two of them.
 
-ghost use Rattle.std.specs.Prelude.{◌≡◌, ◌≤◌, nat_lt, IfOk, IfErr};
+ghost use Rattle.std.specs.Prelude.{◌≡◌, ◌*◌, ◌≤◌, nat_lt, IfOk, IfErr};
 ghost use Rattle.context_vector.specs.Contexts.{count_in, entry_in, sum_of_counts, AreCounts, AreEntries};
 ghost use Rattle.op_name.specs.NameData.{name_lt};
 ghost use Rattle.context_vector.specs.Shortfalls.{first_short};
-ghost use Rattle.context_vector.specs.Places.{IsPlace, IsGap};
+ghost use Rattle.context_vector.specs.Code.Places.{IsPlace, IsGap};
 
-use op_name::Name;
+use op_name::{NUMBERS, Name, SITES};
 
 /// Where the pair of the site stands, or where it would go.
 pub fn place_of_site(counts: &[(u16, u32)], site: u16) -> Result<usize, usize>
@@ -30,7 +30,7 @@ pub fn place_of_name(entries: &[(Name, u16)], name: &Name) -> Result<usize, usiz
 pub fn count_among(counts: &[(u16, u32)], site: u16) -> u32
     requires { AreCounts 0 counts.now }
     ensures count { result ≡ count_in counts.now site }
-    ensures range { result ≤ 1000000 }
+    ensures range { result ≤ NUMBERS }
 {
     match place_of_site(counts, site) {
         Ok(at) => counts[at].1,
@@ -83,7 +83,7 @@ pub fn first_short_name(mine: &[(Name, u16)], theirs: &[(Name, u16)]) -> Option<
 pub fn total(counts: &[(u16, u32)]) -> u32
     requires { AreCounts 0 counts.now }
     ensures total { result ≡ sum_of_counts counts.now }
-    ensures range { result ≤ 64000000 }
+    ensures range { result ≤ SITES * NUMBERS }
 {
     let mut sum = 0;
     for &(_, count) in counts {

@@ -1,8 +1,10 @@
-use Rattle.std.proofs.Common.{◌≡◌, Some, None, refl, sym, ◌∙◌}
+use Rattle.std.proofs.Common.{◌≡◌, Some, None, refl, sym, ap, ◌∙◌}
 use mathlib.Core.Bool.{false≢true}
 use Rattle.context_vector.specs.Contexts.{count_in, entry_in}
+use Rattle.context_vector.specs.Equality.{list_eq_decides}
 use Rattle.context_vector.specs.Shortfalls.{first_short}
-use Rattle.context_vector.proofs.Sets.{short_original, short_group, none_missing, missing_not_within}
+use Rattle.context_vector.specs.Vectors.{VectorData}
+use Rattle.context_vector.proofs.Sets.{short_original, short_group, none_missing, no_group_missing, missing_not_within}
 use Rattle.context_vector.proofs.vector.Vector.first_missing.Goals as goal
 
 short_site : (c : goal.In-Some) → first_short (count_in c.args.self.now.set.counts) c.args.other.now.set.counts ≡ Some (c.in-Some.site, c.in-Some.number)
@@ -32,6 +34,15 @@ short_name : (c : goal.In-Some-group) → first_short (entry_in c.args.self.now.
 short_name c =
     let walked = rw (c.named.ensures, c.named-2.ensures) at c.first_short_name-group.ensures in
     sym walked ∙ c.in-Some-group.is
+
+pub returns-then-eq-clause-none : goal.returns-then-eq-clause-none
+returns-then-eq-clause-none c =
+    let sites = rw (c.counts.ensures, c.counts-2.ensures) at c.first_short_site-original.ensures in
+    let one = (list_eq_decides c.self.inside.entries.items c.other.inside.entries.items).0 (sym c.eq.ensures ∙ c.if-eq.true) in
+    let same : c.args.self.now.set.entries ≡ c.args.other.now.set.entries =
+    sym (ap (λ (v : VectorData). v.set.entries) c.self.view_is) ∙ (one ∙ ap (λ (v : VectorData). v.set.entries) c.other.view_is) in
+    let within = no_group_missing c.args.self.now.set c.args.other.now.set (sym sites ∙ c.in_default.is) same in
+    (λ e. within, λ h. refl)
 
 pub returns-in-Some-group-clause-first : goal.returns-in-Some-group-clause-first
 returns-in-Some-group-clause-first c =

@@ -8,5 +8,5 @@ invariant_of-self-2 c =
     let below = subst (λ (v : VectorData). NamesBelow v.set.entries c.args.name) (sym c.self.view_is) c.requires.last in
     record {
       counts = c.self.invariant.counts;
-      entries = rw (c.push_reserved.ensures.items, c.reserve.ensures.items) (entries_push c.args.name c.args.generation _ c.known.ensures c.requires.least (omega arith) below c.self.invariant.entries);
+      entries = rw (c.push.ensures, c.reserve.ensures.same) (entries_push c.args.name c.args.generation _ c.known.ensures c.requires.least (omega arith) below c.self.invariant.entries);
     }

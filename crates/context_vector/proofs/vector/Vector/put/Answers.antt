@@ -15,5 +15,5 @@ invariant_of-self-in-Group c =
     let least = subst IsMember c.in-Group.is c.requires.member in
     record {
       counts = c.self.invariant.counts;
-      entries = rw c.put_name.ensures (entries_put c.in-Group.name c.in-Group.generation _ c.known.ensures least (omega arith) c.self.invariant.entries);
+      entries = rw c.put.ensures.items (entries_put c.in-Group.name c.in-Group.generation _ c.known.ensures least (omega arith) c.self.invariant.entries);
     }

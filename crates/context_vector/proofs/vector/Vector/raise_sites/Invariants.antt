@@ -2,7 +2,7 @@ use Rattle.std.proofs.Common.{◌≡◌, drop}
 use Rattle.std.specs.Prelude.{◌||◌}
 use Rattle.op_name.specs.declared.member.Member.{Member}
 use Rattle.context_vector.specs.Contexts.{has}
-use Rattle.context_vector.specs.Vectors.{of_counts}
+use Rattle.context_vector.specs.Code.Lists.{of_counts}
 use Rattle.context_vector.proofs.vector.Vector.raise_sites.Given as goal
 
 -- what is in the vector or still to come is what was in it or in the list

@@ -1,5 +1,5 @@
 use Rattle.std.proofs.Common.{subst, ◌∙◌, arith}
-use Rattle.context_vector.specs.Places.{IsPlace, IsGap}
+use Rattle.context_vector.specs.Code.Places.{IsPlace, IsGap}
 use Rattle.std.specs.Prelude.{nat_lt}
 use Rattle.context_vector.proofs.Counts.{count_in_gap, lower_at_place, remove_at_place, refilled}
 use Rattle.context_vector.proofs.vector.changes.lower_site.Goals as goal

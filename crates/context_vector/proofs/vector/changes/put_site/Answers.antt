@@ -1,6 +1,6 @@
 use Rattle.std.proofs.Common.{subst, ◌∙◌}
 use mathlib.Core.Bool.{false≢true}
-use Rattle.context_vector.specs.Places.{IsPlace, IsGap}
+use Rattle.context_vector.specs.Code.Places.{IsPlace, IsGap}
 use Rattle.std.specs.Prelude.{nat_lt}
 use Rattle.context_vector.proofs.Counts.{count_in_gap, put_in_gap, put_at_place, refilled}
 use Rattle.context_vector.proofs.vector.changes.put_site.Goals as goal

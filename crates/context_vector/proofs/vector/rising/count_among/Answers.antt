@@ -1,6 +1,6 @@
 use Rattle.std.proofs.Common.{sym, ◌∙◌, arith}
 use Rattle.std.specs.Prelude.{nat_lt}
-use Rattle.op_name.proofs.Orders.{number_order}
+use Rattle.op_name.proofs.CallerLemmas.{number_order}
 use Rattle.context_vector.proofs.Keyed.{value_is, gap_value}
 use Rattle.context_vector.proofs.Counts.{same_site, counts_rise, count_is, count_at_most}
 use Rattle.context_vector.proofs.vector.rising.count_among.Goals as goal

@@ -1,6 +1,6 @@
 use Rattle.std.proofs.Common.{sym, ◌∙◌}
 use Rattle.op_name.specs.NameData.{name_eq, name_lt}
-use Rattle.op_name.proofs.Orders.{name_order}
+use Rattle.op_name.proofs.CallerLemmas.{name_order}
 use Rattle.context_vector.proofs.Keyed.{value_is, gap_value}
 use Rattle.context_vector.proofs.Entries.{entries_rise, entry_is}
 use Rattle.context_vector.proofs.vector.rising.entry_among.Goals as goal

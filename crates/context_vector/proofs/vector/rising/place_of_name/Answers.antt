@@ -1,7 +1,7 @@
 use Rattle.std.proofs.Common.{rules}
 use Rattle.std.proofs.lemmas.List.Sorted.{answers_always}
 use Rattle.op_name.specs.NameData.{name_eq, name_lt, name_cmp}
-use Rattle.op_name.proofs.Orders.{name_order}
+use Rattle.op_name.proofs.CallerLemmas.{name_order}
 use Rattle.context_vector.proofs.Search.{searched, name_answers}
 use Rattle.context_vector.proofs.Entries.{entries_rise}
 use Rattle.context_vector.proofs.vector.rising.place_of_name.Goals as goal

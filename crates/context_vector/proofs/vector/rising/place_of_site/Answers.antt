@@ -2,7 +2,7 @@ use Rattle.std.proofs.Common.{rules}
 use Rattle.std.specs.Prelude.{nat_lt}
 use Rattle.std.specs.Ordering.{nat_cmp}
 use Rattle.std.proofs.lemmas.List.Sorted.{answers_always}
-use Rattle.op_name.proofs.Orders.{number_order}
+use Rattle.op_name.proofs.CallerLemmas.{number_order}
 use Rattle.context_vector.proofs.Search.{searched, number_answers}
 use Rattle.context_vector.proofs.Counts.{same_site, counts_rise}
 use Rattle.context_vector.proofs.vector.rising.place_of_site.Goals as goal

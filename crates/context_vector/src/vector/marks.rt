@@ -1,0 +1,36 @@
+//! Marks of lists of undone names: sums that are kept up with each change.
+
+ghost use Rattle.std.specs.Prelude.{◌≡◌, ◌<◌, ◌^◌};
+ghost use Rattle.context_vector.specs.Marks.{spread, folded, weight};
+
+use op_name::Name;
+
+/// What the name adds to a mark at the generation: nothing at 0.
+pub fn weight(name: &Name, generation: u16) -> u64
+    ensures weight { result ≡ weight name.now generation }
+    ensures range { result < 2 ^ 37 }
+{
+    if generation == 0 {
+        return 0;
+    }
+    name.known();
+    // Site, number and generation side by side: 20 bits hold a number, 16 a generation.
+    let bits = u64::from(name.site) * 68_719_476_736
+        + u64::from(name.number) * 65_536
+        + u64::from(generation);
+    spread(folded(spread(bits))) >> 27
+}
+
+// The product with 2^64 over the golden ratio: its high bits depend on all bits of x.
+fn spread(x: u64) -> u64
+    ensures { result ≡ spread x }
+{
+    x.wrapping_mul(11_400_714_819_323_198_485)
+}
+
+// The high half laid over the low one.
+fn folded(x: u64) -> u64
+    ensures { result ≡ folded x }
+{
+    x ^ (x >> 32)
+}
