@@ -10,8 +10,7 @@ use Rattle.context_vector.specs.Contexts.{ContextData, IsContext, has, count_of,
 use Rattle.context_diff.specs.Operations.{OpData, inserting, deleting, undoing, member_of, IsWellFormed}
 use Rattle.context_diff.specs.Histories.{is_known}
 use Rattle.context_vector.specs.Vectors.{up_to}
-use Rattle.context_vector.proofs.Members.{raised_is_context}
-use Rattle.context_vector.proofs.Sets.{same_context}
+use Rattle.context_vector.proofs.CallerLemmas.{raised_is_context, same_context}
 use Rattle.context_diff.specs.Bases.{original_context, is_below, base_has, base_context_of}
 use Rattle.context_diff.proofs.Known.{holder}
 use Rattle.context_diff.proofs.Complete.{IsComplete}

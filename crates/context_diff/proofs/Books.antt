@@ -14,8 +14,8 @@ use Rattle.context_diff.specs.Histories.{is_known, members_in, context_of_all, i
 use Rattle.op_name.specs.contracts.member.MemberPartialEq.TheImpl.{eq-value}
 use Rattle.context_diff.specs.Ops.{data_of}
 use Rattle.context_diff.specs.Books.{kept_op, kept_inserts}
-use Rattle.context_diff.specs.Kept.{ops_in, AreKept, IsBook, inserts_up_to}
-use Rattle.context_diff.specs.Counting.{inserts_of, inserts_listed}
+use Rattle.context_diff.specs.Code.Kept.{ops_in, AreKept, IsBook, inserts_up_to}
+use Rattle.context_diff.specs.Code.Counting.{inserts_of, inserts_listed}
 use Rattle.context_diff.proofs.Inserts.{inserts_of_new, inserts_by_site, inserts_at_most, no_inserts}
 use Rattle.context_diff.specs.declared.book.Kept.{Kept}
 use Rattle.context_vector.specs.Vectors.{IsLastMember}

@@ -9,12 +9,21 @@ use Rattle.context_vector.specs.Contexts.{ContextData, Within, KeepsStray, has, 
 use Rattle.context_diff.specs.Operations.{OpData}
 use Rattle.context_diff.specs.Histories.{is_known, LacksNothing, IsClosed}
 use Rattle.context_diff.specs.Bases.{original_context, is_below, is_before, base_has}
-use Rattle.context_diff.specs.Differences.{IsClosedSet, KeepsStraySet}
+use Rattle.context_diff.specs.ClosedContexts.{IsClosedContext}
 use Rattle.context_diff.proofs.Names.{name_same, name_itself}
 use Rattle.context_diff.proofs.Raising.{has_original, has_number, has_group, has_generation}
 use Rattle.context_diff.proofs.Known.{known_member}
 use Rattle.context_diff.proofs.Complete.{IsComplete}
 use Rattle.context_diff.proofs.Histories.{original_facts, context_is, group_facts, own_alone, holds_last, context_chain, same_name}
+
+-- a set of members of the history that holds, with each member, all that it was made after
+pub record IsClosedSet (h : List OpData) (c : Member → Bool) : Type 0 where
+  pub known : (m : Member) → c m ≡ true → is_known h m ≡ true
+  pub closed : (m y : Member) → c m ≡ true → base_has h m y ≡ true → c y ≡ true
+
+-- with each group of an original the set has the original
+abbrev pub KeepsStraySet : (Member → Bool) → Type 0
+KeepsStraySet c = (t : NameData) (g : ℕ) → c (Group t g) ≡ true → c (Original t) ≡ true
 
 -- what a base context holds: of an original what it knew, of a group what its original knew, that original, and the groups before
 pub base_original : (h : List OpData) (n : NameData) (y : Member) → base_has h (Original n) y ≡ true → (is_known h (Original n) ≡ true) × (has (original_context h n) y ≡ true)
@@ -63,12 +72,6 @@ in_group_below h t g y known below = and_from (is_known h (Group t g)) (has (ori
 -- a group knows its original
 pub group_has_target : (h : List OpData) (t : NameData) (g : ℕ) → is_known h (Group t g) ≡ true → base_has h (Group t g) (Original t) ≡ true
 group_has_target h t g known = in_group_below h t g (Original t) known (below_original t g)
-
--- a closed context, as the rules on operations say it
-pub record IsClosedContext (h : List OpData) (v : ContextData) : Type 0 where
-  pub ready : LacksNothing h v
-  pub stray : KeepsStray v
-  pub closed : IsClosed h v
 
 -- a closed context holds what each of its originals knew
 pub holds_original : (h : List OpData) → IsComplete h → (v : ContextData) → IsClosedContext h v → (n : NameData) → has v (Original n) ≡ true → Within (original_context h n) v

@@ -5,7 +5,7 @@ use Rattle.std.specs.Cmp.{first_so, second_so}
 use Rattle.op_name.specs.NameData.{name_eq}
 use Rattle.context_vector.specs.Contexts.{ContextData}
 use Rattle.context_diff.specs.Operations.{OpData, inserting, deleting, undoing}
-use Rattle.op_name.proofs.Orders.{name_same, name_itself, number_order}
+use Rattle.op_name.proofs.CallerLemmas.{name_same, name_itself, number_order}
 use Rattle.context_vector.specs.Equality.{context_eq, context_eq_decides}
 use Rattle.context_diff.specs.Ops.{data_of, op_eq}
 use Rattle.context_diff.specs.declared.op.Op.{Op}

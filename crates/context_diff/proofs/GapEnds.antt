@@ -4,7 +4,7 @@ use Rattle.std.specs.Prelude.{◌||◌, if◌then◌else◌}
 use Rattle.std.specs.List.{list_any}
 use Rattle.std.proofs.lemmas.Bool.{cases_Bool}
 use Rattle.context_diff.specs.Gaps.{Gap, until, onward, through, beyond, gap, narrow}
-use Rattle.context_diff.specs.GapEnds.{up_to_nth, before_first, up_to_last, gap_between}
+use Rattle.context_diff.specs.Code.GapEnds.{up_to_nth, before_first, up_to_last, gap_between}
 
 same_gap : {K : Type 0} (g h : Gap K) → g.before ≡ h.before → g.between ≡ h.between → g.behind ≡ h.behind → g ≡ h
 same_gap g h p q r = λ i. record { before = p i; between = q i; behind = r i }

@@ -9,8 +9,8 @@ use Rattle.op_name.specs.NameData.{NameData, name_eq}
 use Rattle.context_vector.specs.Contexts.{ContextData, has, count_of, count_in, AreCounts}
 use Rattle.context_diff.specs.Operations.{OpData, inserting, deleting, undoing, member_of, is_insert, IsWellFormed}
 use Rattle.context_diff.specs.Histories.{is_known, inserts_in, IsNext, context_of_all}
-use Rattle.context_diff.specs.Counting.{is_insert_of, inserts_of, inserts_listed}
-use Rattle.context_diff.specs.Kept.{inserts_up_to}
+use Rattle.context_diff.specs.Code.Counting.{is_insert_of, inserts_of, inserts_listed}
+use Rattle.context_diff.specs.Code.Kept.{inserts_up_to}
 use Rattle.context_diff.proofs.Known.{contains_here, contains_later}
 use Rattle.context_diff.proofs.Raising.{has_number}
 use Rattle.context_diff.proofs.Complete.{IsComplete, next_member}

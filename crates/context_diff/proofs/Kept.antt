@@ -8,7 +8,7 @@ use Rattle.op_name.specs.Members.{member_eq}
 use Rattle.context_vector.specs.Contexts.{ContextData, raised}
 use Rattle.context_diff.specs.Operations.{OpData, member_of}
 use Rattle.context_diff.specs.Histories.{is_known, members_in, IsValid, IsNext, context_of_all}
-use Rattle.context_diff.specs.Kept.{ops_in, AreKept, IsBook, inserts_up_to}
+use Rattle.context_diff.specs.Code.Kept.{ops_in, AreKept, IsBook, inserts_up_to}
 use Rattle.context_diff.proofs.Names.{member_same, member_itself}
 use Rattle.context_diff.proofs.Known.{contains_here, contains_later}
 use Rattle.context_diff.proofs.Valid.{valid_push, valid_pop}

@@ -1,5 +1,5 @@
 -- Which members a history has, and which operation is the member.
-use Rattle.std.proofs.Common.{◌≡◌, Bool, true, false, ◌⊎◌, inl, inr, List, [], ◌∷◌, ◌++◌, refl, ap, sym, ◌∙◌, arith}
+use Rattle.std.proofs.Common.{◌≡◌, Bool, true, false, ◌⊎◌, inl, inr, List, [], ◌∷◌, ◌++◌, refl, ap, sym, ◌∙◌, arith, append-nil}
 use Rattle.std.specs.Prelude.{Contains, ◌||◌, if◌then◌else◌}
 use Rattle.std.proofs.lemmas.Bool.{or_cases, or_left, or_right, cases_Bool, false≢true}
 use Rattle.std.proofs.lemmas.List.Elements.{Contains-append_left, Contains-append_right, Contains-append_cases, Contains-push, Contains-push_cases}
@@ -7,6 +7,7 @@ use Rattle.op_name.specs.declared.member.Member.{Member}
 use Rattle.op_name.specs.declared.member.Member.TheVariants.{Original}
 use Rattle.op_name.specs.NameData.{NameData}
 use Rattle.op_name.specs.Members.{member_eq}
+use Rattle.context_vector.specs.Contexts.{empty}
 use Rattle.context_diff.specs.Operations.{OpData, member_of, context_of}
 use Rattle.context_diff.specs.Histories.{is_known}
 use Rattle.context_diff.specs.Bases.{original_context}
@@ -142,3 +143,7 @@ context_behind (p ∷ ps) k n e =
           let later : is_known ps (Original n) ≡ false = sym (ap (λ b. b || is_known ps (Original n)) other) ∙ e in
           if_false (member_eq (member_of p) (Original n)) (context_of p) (original_context (ps ++ k) n) other ∙ context_behind ps k n later
     ]
+
+-- of an original that the history hasn't the context is empty
+pub context_none : (h : List OpData) (n : NameData) → is_known h (Original n) ≡ false → original_context h n ≡ empty
+context_none h n e = ap (λ (k : List OpData). original_context k n) (sym (append-nil h)) ∙ context_behind h [] n e

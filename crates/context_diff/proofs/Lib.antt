@@ -26,3 +26,5 @@ pub mod WorkedCases
 pub mod ValidCases
 pub mod Next
 pub mod Equal
+pub mod Backing
+pub mod CallerLemmas

@@ -3,19 +3,20 @@ use Rattle.std.proofs.Common.{◌≡◌, ℕ, zero, suc, ◌+◌, ◌<◌, ◌�
 use Rattle.std.specs.Prelude.{◌==◌, Some, None, slice_get, if◌then◌else◌}
 use Rattle.std.proofs.lemmas.Bool.Decides.{nat_tests}
 use Rattle.std.proofs.lemmas.Bool.{cases_Bool, false≢true, eqb-true}
+use Rattle.op_name.specs.declared.name.TheConstants.{SITES, NUMBERS}
 use Rattle.op_name.specs.NameData.{NameData, IsName, name_eq, name_lt}
 use Rattle.op_name.specs.declared.member.Member.TheVariants.{Original}
 use Rattle.context_vector.specs.Contexts.{ContextData, AreCounts, AreEntries, IsBefore, count_in, entry_in, KeepsStray, has}
-use Rattle.op_name.proofs.Orders.{name_order}
+use Rattle.op_name.proofs.CallerLemmas.{name_order}
 use Rattle.context_diff.proofs.Names.{name_same, name_itself}
 use Rattle.context_diff.proofs.Raising.{has_generation, has_group}
 
 -- what stands at a place of the counts
 pub record IsCountAt (low : ℕ) (ps : List (ℕ × ℕ)) (p : ℕ × ℕ) : Type 0 where
   pub from : low ≤ p.0
-  pub site : p.0 < 64
+  pub site : p.0 < SITES
   pub least : 1 ≤ p.1
-  pub greatest : p.1 ≤ 1000000
+  pub greatest : p.1 ≤ NUMBERS
   pub count : count_in ps p.0 ≡ p.1
 
 pub count_at : (low : ℕ) (ps : List (ℕ × ℕ)) → AreCounts low ps → (i : ℕ) (p : ℕ × ℕ) → slice_get ps i ≡ Some p → IsCountAt low ps p

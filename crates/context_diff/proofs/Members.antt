@@ -7,8 +7,7 @@ use Rattle.op_name.specs.Members.{member_eq, IsMember}
 use Rattle.context_vector.specs.Contexts.{ContextData, IsContext, raised, has}
 use Rattle.context_diff.specs.Operations.{OpData, inserting, deleting, undoing, member_of, IsWellFormed}
 use Rattle.context_diff.specs.Histories.{is_known, context_of_all, IsNext, IsValid}
-use Rattle.context_vector.proofs.Members.{raised_is_context}
-use Rattle.context_vector.proofs.Sets.{same_context}
+use Rattle.context_vector.proofs.CallerLemmas.{raised_is_context, same_context}
 use Rattle.context_diff.proofs.Names.{member_same}
 use Rattle.context_diff.proofs.Raising.{has_raised}
 use Rattle.context_diff.proofs.Valid.{by_pushes}

@@ -1,5 +1,5 @@
 -- Equality of names and members, as their tests decide it.
-pub use Rattle.op_name.proofs.Orders.{name_same, name_itself, member_same, member_itself}
+pub use Rattle.op_name.proofs.CallerLemmas.{name_same, name_itself, member_same, member_itself}
 use Rattle.std.proofs.Common.{◌≡◌, true, false, refl, ap, sym, ◌∙◌, ◌≢◌}
 use Rattle.std.proofs.lemmas.Bool.{false≢true}
 use Rattle.op_name.specs.declared.member.Member.{Member}

@@ -3,7 +3,7 @@ use Rattle.std.proofs.Common.{◌≡◌, true, false, List, ap, sym, ◌∙◌}
 use Rattle.op_name.specs.declared.member.Member.{Member}
 use Rattle.context_vector.specs.Contexts.{ContextData, Within, has}
 use Rattle.context_diff.specs.Operations.{OpData, member_of, context_of, is_original, IsWellFormed}
-use Rattle.context_diff.specs.Histories.{is_known, context_of_all, IsClosed, HasPlace, IsNext, IsValid}
+use Rattle.context_diff.specs.Histories.{is_known, context_of_all, LacksNothing, IsClosed, HasPlace, IsNext, IsValid}
 use Rattle.context_diff.proofs.Complete.{complete}
 use Rattle.context_diff.proofs.Books.{covered_ready}
 
@@ -21,3 +21,7 @@ next_from h have o valid members formed new ready closed placed = record {
 -- the members of a book are those that its history has
 pub have_known : (h : List OpData) (have : ContextData) → IsValid h → have ≡ context_of_all h → (m : Member) → has have m ≡ is_known h m
 have_known h have valid members m = ap (λ c. has c m) members ∙ (complete h valid).holds m
+
+-- members that the history has are in the book's
+pub ready_covered : (h : List OpData) (have v : ContextData) → IsValid h → have ≡ context_of_all h → LacksNothing h v → Within v have
+ready_covered h have v valid members ready m e = have_known h have valid members m ∙ ready m e

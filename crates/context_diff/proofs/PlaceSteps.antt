@@ -10,7 +10,7 @@ use Rattle.op_name.specs.Members.{member_eq}
 use Rattle.context_vector.specs.Contexts.{ContextData, AreCounts, AreEntries, count_in, entry_in, count_of, entry_of}
 use Rattle.context_diff.specs.Operations.{OpData, member_of}
 use Rattle.context_diff.specs.Histories.{is_known, members_in, IsValid, IsValidAfter}
-use Rattle.context_diff.specs.Places.{times, passes_at, ArePlacesOf, is_between, is_group_between, is_missing, first_sites, first_names}
+use Rattle.context_diff.specs.Code.Places.{times, passes_at, ArePlacesOf, is_between, is_group_between, is_missing, first_sites, first_names}
 use Rattle.context_diff.proofs.Names.{member_same, member_itself, name_same, name_itself}
 use Rattle.context_diff.proofs.Order.{known_end, later_new_after}
 use Rattle.context_diff.proofs.Listings.{count_before, count_more, entry_before, entry_more}

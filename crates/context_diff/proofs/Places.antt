@@ -10,7 +10,7 @@ use Rattle.std.proofs.lemmas.Grind.{take_at_read}
 use Rattle.std.proofs.lemmas.Bool.Decides.{nat_tests}
 use Rattle.std.proofs.lemmas.Bool.{cases_Bool, cases_order}
 use Rattle.op_name.specs.declared.member.Member.{Member}
-use Rattle.context_diff.specs.Places.{times, passes_at, ArePlacesOf, members_at}
+use Rattle.context_diff.specs.Code.Places.{times, passes_at, ArePlacesOf, members_at}
 
 -- numbers from `low` on, not falling
 IsSortedFrom : ℕ → List ℕ → Type 0

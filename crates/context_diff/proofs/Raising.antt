@@ -1,6 +1,5 @@
 -- What a context has after it was raised.
-pub use Rattle.context_vector.proofs.Members.{count_put, entry_put, has_raised}
-pub use Rattle.context_vector.proofs.Sets.{has_original, has_group, original_counted as has_number, group_entered as has_generation}
+pub use Rattle.context_vector.proofs.CallerLemmas.{count_put, entry_put, has_raised, has_original, has_group, original_counted as has_number, group_entered as has_generation}
 use Rattle.std.proofs.Common.{◌≡◌, false, arith}
 use Rattle.std.proofs.lemmas.Bool.Decides.{nat_tests}
 use Rattle.op_name.specs.declared.member.Member.{Member}

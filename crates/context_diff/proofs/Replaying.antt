@@ -6,7 +6,7 @@ use Rattle.context_vector.specs.Contexts.{ContextData}
 use Rattle.context_diff.specs.Operations.{OpData, inserting}
 use Rattle.context_diff.specs.Gaps.{Gap}
 use Rattle.context_diff.specs.Replays.{Insertion, Cell, insertions_in, put_by, sort_by, is_earlier, cells_from, put, gap_of}
-use Rattle.context_diff.specs.GapEnds.{before_first, gap_between}
+use Rattle.context_diff.specs.Code.GapEnds.{before_first, gap_between}
 use Rattle.context_diff.proofs.GapEnds.{take_more}
 
 -- an element put by an order stands before the first that it is less than

@@ -18,7 +18,7 @@ unfoldable pub onward : {K : Type 0} → (K → Bool) → List K → List K
 onward p [] = []
 onward p (c ∷ cs) = if p c then c ∷ cs else onward p cs
 
--- the part up to and with the last cell that passes, and the part behind that cell; without such a cell nothing and all
+-- the part up to and with the last cell that passes, and the part after that cell; without such a cell nothing and all
 unfoldable pub through : {K : Type 0} → (K → Bool) → List K → List K
 through p [] = []
 through p (c ∷ cs) = if p c || list_any p cs then c ∷ through p cs else []

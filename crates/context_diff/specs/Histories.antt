@@ -72,7 +72,7 @@ abbrev pub inserts_in : List OpData → ContextData → ℕ
 inserts_in [] c = 0
 inserts_in (o ∷ os) c = (if is_insert o && has c (member_of o) then 1 else 0) + inserts_in os c
 
--- a place counts the cells of the context: an insert may stand behind the last one, a delete needs a cell
+-- a place counts the cells of the context: an insert may stand after the last one, a delete needs a cell
 abbrev pub HasPlace : List OpData → OpData → Type 0
 HasPlace h (inserting n p ch c) = p ≤ inserts_in h c
 HasPlace h (deleting n p c) = p < inserts_in h c

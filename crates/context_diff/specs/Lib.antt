@@ -4,9 +4,7 @@ pub mod Gaps
 pub mod Replays
 pub mod Books
 pub mod Ops
-pub mod GapEnds
-pub mod Kept
-pub mod Places
-pub mod Counting
 pub mod Bases
+pub mod ClosedContexts
 pub mod Differences
+pub mod Code

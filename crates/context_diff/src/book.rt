@@ -7,9 +7,9 @@ ghost use Rattle.context_vector.specs.Contexts.{Within};
 ghost use Rattle.context_diff.specs.Operations.{member_of};
 ghost use Rattle.context_diff.specs.Histories.{is_known, members_in, inserts_in, context_of_all, IsNext, IsValid};
 ghost use Rattle.context_diff.specs.Ops.{data_of};
-ghost use Rattle.context_diff.specs.Books.{HasRoom, kept_inserts};
-ghost use Rattle.context_diff.specs.Kept.{inserts_up_to};
-ghost use Rattle.context_diff.specs.Counting.{inserts_of};
+ghost use Rattle.context_diff.specs.Books.{HasRoom, HasRoomToPop, kept_inserts};
+ghost use Rattle.context_diff.specs.Code.Kept.{inserts_up_to};
+ghost use Rattle.context_diff.specs.Code.Counting.{inserts_of};
 
 use crate::op::Op;
 use context_vector::Vector;
@@ -18,7 +18,7 @@ use op_name::{Member, Memory, Name};
 use std::alloc::Global;
 use std::marker::Model;
 
-/// The number of operations that a book can't reach.
+/// The greatest number of operations that a book holds.
 const OPS: usize = 4_294_967_295;
 
 // An operation of a book, with what is noted beside it.
@@ -32,8 +32,8 @@ pub struct Kept {
 /// A valid history: operations in the order in which a site integrated them, each well formed, and next
 /// after those before it.
 ///
-/// It is kept by members, so that an operation is found by its name at once. It has fewer than
-/// 4,294,967,296 operations.
+/// It is kept by members, so that an operation is found by its name at once. It has at most 4,294,967,295
+/// operations.
 #[derive(Drop)]
 pub struct Book {
     kept: IndexMap<Member, Kept>,
@@ -43,7 +43,7 @@ pub struct Book {
 impl Model for Book {
     ghost use Rattle.indexmap.specs.IndexMap.{spare};
     ghost use Rattle.context_diff.specs.Books.{BookData, kept_op, kept_inserts};
-    ghost use Rattle.context_diff.specs.Kept.{ops_in, IsBook};
+    ghost use Rattle.context_diff.specs.Code.Kept.{ops_in, IsBook};
 
     ghost Value = { BookData };
 
@@ -114,7 +114,17 @@ impl Book {
         &self.have
     }
 
-    /// Makes room for the operation; no operation comes or goes. A book that is full answers Memory.
+    /// Lets copies of the members share their list of undone names; no operation comes or goes. Out of memory,
+    /// nothing changes.
+    pub fn share(&mut self)
+        ensures ops { self.new.ops ≡ self.old.ops }
+        ensures have { self.new.have.set ≡ self.old.have.set }
+    {
+        self.have.share();
+    }
+
+    /// Makes room for the operation; no operation comes or goes. A book with 4,294,967,295 operations answers
+    /// Memory.
     pub fn reserve(&mut self, op: &Op) -> Result<(), Memory>
         ensures ops { self.new.ops ≡ self.old.ops }
         ensures have { self.new.have.set ≡ self.old.have.set }
@@ -132,7 +142,8 @@ impl Book {
     pub fn push(&mut self, op: Op)
         requires room { HasRoom self.old (data_of op) }
         requires next { IsNext self.old.ops (data_of op) }
-        ensures { self.new.ops ≡ self.old.ops ++ data_of op ∷ [] }
+        ensures ops { self.new.ops ≡ self.old.ops ++ data_of op ∷ [] }
+        ensures back { HasRoomToPop self.new }
     {
         let member = op.member();
         let inserts = self.inserts_with(&op);
@@ -143,8 +154,10 @@ impl Book {
         }
     }
 
-    /// Takes the last operation out; None exactly where the book is empty. It takes no memory.
+    /// Takes the last operation out, which was pushed since the members were last shared; None exactly where the
+    /// book is empty. It takes no memory.
     pub fn pop(&mut self) -> Option<Op>
+        requires { HasRoomToPop self.old }
         ensures none { IsNone result ↔ (length self.old.ops ≡ 0) }
         ensures ops { self.old.ops ≡ self.new.ops ++ option_to_list (option_map data_of result) }
     {
@@ -173,8 +186,8 @@ impl Book {
         total
     }
 
-    // The place of the member in the order of integration.
-    pub(crate) fn place_of(&self, m: &Member) -> Option<usize>
+    /// The place of the member in the order of integration, from 0; None exactly where the book lacks it.
+    pub fn place_of(&self, m: &Member) -> Option<usize>
         ensures none { IsNone result ↔ (is_known self.now.ops m.now ≡ false) }
         ensures place { IfSome result (λ i. slice_get (members_in self.now.ops) i ≡ Some m.now) }
     {

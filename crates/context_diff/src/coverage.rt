@@ -12,6 +12,7 @@ ghost use Rattle.context_diff.specs.Differences.{difference_of};
 use crate::book::Book;
 use context_vector::Vector;
 use op_name::{Member, Memory, Name};
+use std::alloc::Global;
 
 /// The first site of which `v` names a last original that was made after something that `v` hasn't; None
 /// exactly where `v` is closed. The book has the members of `v`.
@@ -53,26 +54,26 @@ fn covers_context(book: &Book, v: &Vector, name: &Name) -> bool
 
 /// The base context of a member of the book: of an original the members that it was made after; of a
 /// group the base context of its original, that original, and its groups at lower generations.
-pub fn base_context(book: &Book, m: &Member) -> Result<Vector, Memory>
+pub fn base_context(alloc: Global, book: &Book, m: &Member) -> Result<Vector, Memory>
     requires { is_known book.now.ops m.now ≡ true }
     ensures members { IfOk result (λ v. (y : Member) → has v.set y ≡ base_has book.now.ops m.now y) }
     ensures value { IfOk result (λ v. v.set ≡ base_context_of book.now.ops m.now) }
 {
     book.known();
     match m {
-        Member::Original(name) => original_base(book, name),
-        Member::Group(name, generation) => group_base(book, name, *generation),
+        Member::Original(name) => original_base(alloc, book, name),
+        Member::Group(name, generation) => group_base(alloc, book, name, *generation),
     }
 }
 
 // The base context of a group: that of its original, with the original and the groups before.
-fn group_base(book: &Book, name: &Name, generation: u16) -> Result<Vector, Memory>
+fn group_base(alloc: Global, book: &Book, name: &Name, generation: u16) -> Result<Vector, Memory>
     requires { is_known book.now.ops (Group name.now generation) ≡ true }
     ensures members { IfOk result (λ v. (y : Member) → has v.set y ≡ base_has book.now.ops (Group name.now generation) y) }
     ensures value { IfOk result (λ v. v.set ≡ base_context_of book.now.ops (Group name.now generation)) }
 {
     book.known();
-    let mut base = original_base(book, name)?;
+    let mut base = original_base(alloc, book, name)?;
     base.raise(&Member::Original(*name))?;
     if generation > 1 {
         base.raise(&Member::Group(*name, generation - 1))?;
@@ -81,14 +82,13 @@ fn group_base(book: &Book, name: &Name, generation: u16) -> Result<Vector, Memor
     Ok(base)
 }
 
-// What the original of this name was made after.
-fn original_base(book: &Book, name: &Name) -> Result<Vector, Memory>
-    requires { is_known book.now.ops (Original name.now) ≡ true }
+// What the original of this name was made after; nothing where the book has none.
+fn original_base(alloc: Global, book: &Book, name: &Name) -> Result<Vector, Memory>
     ensures { IfOk result (λ v. v.set ≡ original_context book.now.ops name.now) }
 {
     book.known();
     match book.original(name) {
         Some(op) => op.context().try_clone(),
-        None => unreachable!(),
+        None => Ok(Vector::new(alloc)),
     }
 }

@@ -1,11 +1,12 @@
 //! Differences of contexts in the order of a book.
 
 ghost use Rattle.std.specs.Prelude.{◌≡◌, ◌++◌, ◌∷◌, [], ◌<◌, ◌≤◌, ◌||◌, true, false, Bool, ℕ, OnOk, OnErr};
+ghost use Rattle.op_name.specs.declared.name.TheConstants.{SITES, NUMBERS};
 ghost use Rattle.op_name.specs.declared.member.Member.{Member};
 ghost use Rattle.op_name.specs.declared.member.Member.TheVariants.{Original, Group};
 ghost use Rattle.context_vector.specs.Contexts.{Within};
 ghost use Rattle.context_diff.specs.Histories.{is_known, members_in};
-ghost use Rattle.context_diff.specs.Places.{ArePlacesOf, is_between, is_group_between, is_missing, first_names};
+ghost use Rattle.context_diff.specs.Code.Places.{ArePlacesOf, is_between, is_group_between, is_missing, first_names};
 ghost use Rattle.context_diff.specs.Differences.{difference_of};
 
 use crate::book::Book;
@@ -66,8 +67,8 @@ fn add_numbers(
     high: u32,
     places: &mut Vec<usize>,
 ) -> Result<(), Memory>
-    requires site { site < 64 }
-    requires high { high ≤ 1000000 }
+    requires site { site < SITES }
+    requires high { high ≤ NUMBERS }
     requires there { (k : ℕ) → low < k → k ≤ high → is_known book.now.ops (Original (record { site = site; number = k })) ≡ true }
     ensures { OnOk result ((t : Member → Bool) → ((y : Member) → is_between site low high y ≡ true → t y ≡ false) → ArePlacesOf (members_in book.now.ops) t places.old.items → ArePlacesOf (members_in book.now.ops) (λ y. t y || is_between site low high y) places.new.items) }
 {

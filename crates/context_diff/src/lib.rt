@@ -8,13 +8,14 @@ mod book;
 mod coverage;
 mod gathering;
 mod laws;
+mod next_op;
 mod op;
 
 pub use book::Book;
 pub use coverage::{base_context, closed};
 pub use gathering::difference;
 pub use laws::{difference_is_ready, last_may_be_taken_out, two_may_be_taken_out};
-pub use op::{Op, OpFault};
+pub use op::{Op, OpFault, PLACES, UNDO_ENTRIES};
 
 #[cfg(test)]
 mod tests;

@@ -12,7 +12,7 @@ use op_name::{Member, Memory, Name, SITES};
 /// The greatest place that an operation names: a place counts cells of the text.
 pub const PLACES: u32 = 64_000_000;
 
-/// The greatest number of undo entries that the context of an operation has.
+/// The greatest number of undo entries in the context of an operation.
 pub const UNDO_ENTRIES: u32 = 16_384;
 
 /// An operation of a session: what one site did to the text, or an undo or a redo of that.
@@ -21,7 +21,7 @@ pub const UNDO_ENTRIES: u32 = 16_384;
 /// since cells never go). Two operations are equal where all their parts are, and contexts as sets.
 #[derive(Drop, PartialEq, Eq, Hash)]
 pub enum Op {
-    /// Puts a character before the cell at `place`, or behind the last one.
+    /// Puts a character before the cell at `place`, or after the last one.
     Insert {
         name: Name,
         place: u32,
@@ -87,6 +87,18 @@ impl Op {
         match self {
             Op::Insert { context, .. } | Op::Delete { context, .. } | Op::Undo { context, .. } =>
                 context,
+        }
+    }
+
+    /// Takes the list of undone names of `v` for the context where that is shared and has the same entries; the
+    /// operation stays the same, and no memory is taken.
+    pub fn share_with(&mut self, v: &Vector)
+        ensures { data_of self.new ≡ data_of self.old }
+    {
+        match self {
+            Op::Insert { context, .. } => context.share_with(v),
+            Op::Delete { context, .. } => context.share_with(v),
+            Op::Undo { context, .. } => context.share_with(v),
         }
     }
 
@@ -219,7 +231,7 @@ impl Op {
 
 // Whether the context has no more undo entries than an operation may carry.
 fn is_short(context: &Vector) -> bool
-    ensures short { IsTrue result ↔ (length context.now.set.entries ≤ 16384) }
+    ensures short { IsTrue result ↔ (length context.now.set.entries ≤ UNDO_ENTRIES) }
     ensures form { IsContext context.now.set }
 {
     context.known();

@@ -1,10 +1,7 @@
 //! Tests: the order of a difference, the rules that an operation may break, and each call once.
 
-ghost use Rattle.std.specs.Prelude.{◌≡◌, IsTrue, true, false};
-ghost use Rattle.context_vector.specs.Contexts.{Within, has};
-ghost use Rattle.context_diff.specs.Operations.{member_of, context_of, IsWellFormed};
-ghost use Rattle.context_diff.specs.Histories.{is_known, HasPlace, IsNext};
-ghost use Rattle.context_diff.specs.Ops.{data_of};
+ghost use Rattle.std.specs.Prelude.{◌≡◌, IsTrue, true};
+ghost use Rattle.context_diff.specs.Histories.{is_known};
 ghost use Rattle.context_diff.specs.Differences.{LastMayBeTakenOut, TwoMayBeTakenOut, DifferenceIsReady};
 
 use super::*;
@@ -41,45 +38,9 @@ fn insert(name: Name, place: u32, ch: char, context: Vector) -> Op {
     }
 }
 
-/// Whether the operation is well formed, new, and made after members that the book has.
-fn is_ready(book: &Book, op: &Op) -> bool
-    ensures formed { IsTrue result → IsWellFormed (data_of op.now) }
-    ensures new { IsTrue result → has book.now.have.set (member_of (data_of op.now)) ≡ false }
-    ensures covered { IsTrue result → Within (context_of (data_of op.now)) book.now.have.set }
-{
-    if op.fault().is_some() {
-        return false;
-    }
-    !book.have().contains(&op.member()) && book.have().covers(op.context())
-}
-
-/// Whether the operation's place is one of its context, whose members the book has.
-fn has_place(book: &Book, op: &Op) -> bool
-    requires { Within (context_of (data_of op.now)) book.now.have.set }
-    ensures { IsTrue result → HasPlace book.now.ops (data_of op.now) }
-{
-    let cells = book.inserts_in(op.context());
-    match op {
-        Op::Insert { place, .. } => *place <= cells,
-        Op::Delete { place, .. } => *place < cells,
-        Op::Undo { .. } => true,
-    }
-}
-
-/// Whether the operation is next after those of the book.
-fn is_next(book: &Book, op: &Op) -> bool
-    ensures { IsTrue result → IsNext book.now.ops (data_of op.now) }
-{
-    book.known();
-    if is_ready(book, op) && closed(book, op.context()).is_none() {
-        return has_place(book, op);
-    }
-    false
-}
-
 /// Appends the operation where it is next; answers whether it was.
 fn take_in(book: &mut Book, op: Op) -> Result<bool, Memory> {
-    if !is_next(book, &op) {
+    if !book.is_next(&op) {
         return Ok(false);
     }
     book.reserve(&op)?;
@@ -96,11 +57,11 @@ fn holds(book: &Book, m: &Member) -> bool
 }
 
 /// The base context of the member; None where the book lacks it.
-fn base(book: &Book, m: &Member) -> Result<Option<Vector>, Memory> {
+fn base(alloc: Global, book: &Book, m: &Member) -> Result<Option<Vector>, Memory> {
     if !holds(book, m) {
         return Ok(None);
     }
-    let base = base_context(book, m)?;
+    let base = base_context(alloc, book, m)?;
     Ok(Some(base))
 }
 
@@ -176,7 +137,7 @@ fn a_difference_goes_in_the_order_of_integration(rt: HostRuntime) -> Result<(), 
     laws_of_differences();
     for (why, seen, third, other, members) in [
         ("from nothing", 0, 0, 0, [(2, 1), (2, 2)]),
-        ("site 1 came behind site 2", 1, 0, 1, [(2, 2), (1, 1)]),
+        ("site 1 came after site 2", 1, 0, 1, [(2, 2), (1, 1)]),
         (
             "only the first context has site 3",
             1,
@@ -206,6 +167,26 @@ fn a_book_finds_what_was_pushed(rt: HostRuntime) -> Result<(), Fail> {
     assert!(rt; book.original(&Name::new(2, 3)?).is_none());
     // it is there already
     assert!(rt; !take_in(&mut book, second)?);
+    Ok(())
+}
+
+/// A book of so many inserts of site 0.
+fn long_book(alloc: Global, length: u32) -> Result<Book, Fail> {
+    let mut book = Book::new(alloc);
+    for number in 1..=length {
+        take_in(&mut book, typed(alloc, 0, number, 'a')?)?;
+    }
+    Ok(book)
+}
+
+#[test]
+fn a_book_has_no_end_at_16_bits(rt: HostRuntime) -> Result<(), Fail> {
+    let book = long_book(rt.alloc(), 65_537)?;
+    assert_eq!(rt; book.len(), 65_537);
+    assert_eq!(rt;
+        book.member(65_536),
+        Some(Member::Original(Name::new(0, 65_537)?))
+    );
     Ok(())
 }
 
@@ -309,8 +290,8 @@ fn a_fault_of_an_undo_is_the_first_rule_that_it_breaks(rt: HostRuntime) -> Resul
     Ok(())
 }
 
-/// Site 1 writes behind the first character of site 0.
-fn written_behind(alloc: Global) -> Result<Op, Fail> {
+/// Site 1 writes after the first character of site 0.
+fn written_after(alloc: Global) -> Result<Op, Fail> {
     let context = known(alloc, &[(0, 1)])?;
     Ok(insert(Name::new(1, 1)?, 1, 'b', context))
 }
@@ -339,13 +320,13 @@ fn turned(alloc: Global, before: u16) -> Result<Op, Fail> {
 fn step(alloc: Global, i: u16) -> Result<Op, Fail> {
     match i {
         0 => typed(alloc, 0, 1, 'a'),
-        1 => written_behind(alloc),
+        1 => written_after(alloc),
         2 => deleted(alloc),
         _ => turned(alloc, i.saturating_sub(3)),
     }
 }
 
-/// Site 0 writes a character and site 1 another behind it; site 0 deletes its own, not having seen that of
+/// Site 0 writes a character and site 1 another after it; site 0 deletes its own, not having seen that of
 /// site 1, which undoes and redoes the first insert.
 fn undone(alloc: Global) -> Result<Book, Fail> {
     let mut book = Book::new(alloc);
@@ -355,19 +336,27 @@ fn undone(alloc: Global) -> Result<Book, Fail> {
     Ok(book)
 }
 
-/// Whether the last operation, which is taken out, is the undo or redo after so many before it.
-fn takes_back(alloc: Global, book: &mut Book, before: u16) -> Result<bool, Fail> {
-    let last = turned(alloc, before)?;
-    Ok(book.pop() == Some(last))
+/// Whether an operation that is pushed is the one that is taken out then.
+fn comes_back(book: &mut Book, op: Op, again: &Op) -> Result<bool, Memory> {
+    if !book.is_next(&op) {
+        return Ok(false);
+    }
+    book.reserve(&op)?;
+    book.push(op);
+    match book.pop() {
+        Some(last) => Ok(last == *again),
+        None => Ok(false),
+    }
 }
 
 #[test]
 fn a_book_gives_the_last_one_back(rt: HostRuntime) -> Result<(), Fail> {
     let mut book = undone(rt.alloc())?;
-    for (before, left) in [(1, 4), (0, 3)] {
-        assert!(rt; takes_back(rt.alloc(), &mut book, before)?);
-        assert_eq!(rt; book.len(), left);
-    }
+    book.share();
+    let redone = turned(rt.alloc(), 2)?;
+    assert!(rt; comes_back(&mut book, turned(rt.alloc(), 2)?, &redone)?);
+    assert_eq!(rt; book.len(), 5);
+    assert!(rt; take_in(&mut book, redone)?);
     assert!(rt; Book::new(rt.alloc()).pop().is_none());
     Ok(())
 }
@@ -408,23 +397,23 @@ fn a_context_is_judged_within_the_book(rt: HostRuntime) -> Result<(), Fail> {
 fn has_base(alloc: Global, m: Member, count: u32, generation: u16) -> Result<bool, Fail> {
     let book = undone(alloc)?;
     let wanted = with_entry(known(alloc, &[(0, count)])?, Name::new(0, 1)?, generation)?;
-    let found = base(&book, &m)?;
+    let found = base(alloc, &book, &m)?;
     Ok(found == Some(wanted))
 }
 
 /// Whether a book of `undone` lacks the member.
 fn lacks(alloc: Global, m: Member) -> Result<bool, Fail> {
     let book = undone(alloc)?;
-    let found = base(&book, &m)?;
+    let found = base(alloc, &book, &m)?;
     Ok(found.is_none())
 }
 
 #[test]
 fn a_base_context_is_what_a_member_was_made_after(rt: HostRuntime) -> Result<(), Fail> {
     let first = Name::new(0, 1)?;
-    let behind = Member::Original(Name::new(1, 1)?);
+    let after = Member::Original(Name::new(1, 1)?);
     for (why, member, count, generation) in [
-        ("an insert behind another", behind, 1, 0),
+        ("an insert after another", after, 1, 0),
         ("an undo", Member::Group(first, 1), 1, 0),
         ("a redo", Member::Group(first, 2), 1, 1),
     ] {

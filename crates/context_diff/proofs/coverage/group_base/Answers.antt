@@ -11,9 +11,6 @@ use Rattle.context_vector.specs.Vectors.{VectorData}
 use Rattle.context_diff.proofs.coverage.group_base.Goals as goal
 use Rattle.context_diff.proofs.coverage.group_base.Goals.{then-generation-gt1+in_ok-raise-2, else-generation-gt1}
 
-pub original_base-requires : goal.original_base-requires
-original_base-requires c = (group_facts c.args.book.now.ops (complete c.args.book.now.ops c.known.ensures.valid) c.args.name.now c.args.generation c.requires).target
-
 members : (c : goal.After-known-2) → (y : Member) → has c.if-generation-gt1.base.set y ≡ base_has c.args.book.now.ops (Group c.args.name.now c.args.generation) y
 members c =
     let h = c.args.book.now.ops in

@@ -3,7 +3,7 @@ use Rattle.std.specs.Prelude.{Some, slice_get}
 use Rattle.std.proofs.lemmas.Bool.{false≢true}
 use Rattle.op_name.specs.declared.member.Member.TheVariants.{Group}
 use Rattle.context_diff.specs.Histories.{is_known, members_in}
-use Rattle.context_diff.specs.Places.{ArePlacesOf, is_group_between}
+use Rattle.context_diff.specs.Code.Places.{ArePlacesOf, is_group_between}
 use Rattle.context_diff.proofs.PlaceSteps.{groups_step, groups_end}
 use Rattle.context_diff.proofs.gathering.add_generations.Goals as goal
 use Rattle.context_diff.proofs.gathering.add_generations.Goals.{in-Some+in_ok-add_place, in_default}

@@ -5,7 +5,7 @@ use Rattle.op_name.specs.declared.member.Member.{Member}
 use Rattle.op_name.specs.declared.member.Member.TheVariants.{Group}
 use Rattle.context_vector.specs.Contexts.{entry_of}
 use Rattle.context_diff.specs.Histories.{members_in}
-use Rattle.context_diff.specs.Places.{ArePlacesOf, is_group_between, is_missing, first_names}
+use Rattle.context_diff.specs.Code.Places.{ArePlacesOf, is_group_between, is_missing, first_names}
 use Rattle.context_diff.proofs.Listings.{entry_at}
 use Rattle.context_diff.proofs.Raising.{has_group}
 use Rattle.context_diff.proofs.Books.{covered_ready, not_past}

@@ -1,5 +1,5 @@
 use Rattle.context_diff.specs.Histories.{members_in}
-use Rattle.context_diff.specs.Places.{ArePlacesOf, is_missing, first_names}
+use Rattle.context_diff.specs.Code.Places.{ArePlacesOf, is_missing, first_names}
 use Rattle.context_diff.proofs.gathering.add_groups.Given as goal
 
 -- the places so far are those of what is missing of the first ones

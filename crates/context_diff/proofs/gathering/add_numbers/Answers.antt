@@ -3,7 +3,7 @@ use Rattle.std.specs.Prelude.{Some, slice_get}
 use Rattle.std.proofs.lemmas.Bool.{false≢true}
 use Rattle.op_name.specs.declared.member.Member.TheVariants.{Original}
 use Rattle.context_diff.specs.Histories.{is_known, members_in}
-use Rattle.context_diff.specs.Places.{ArePlacesOf, is_between}
+use Rattle.context_diff.specs.Code.Places.{ArePlacesOf, is_between}
 use Rattle.context_diff.proofs.PlaceSteps.{between_step, between_end}
 use Rattle.context_diff.proofs.gathering.add_numbers.Goals as goal
 use Rattle.context_diff.proofs.gathering.add_numbers.Goals.{in-Some+in_ok-add_place, in_default}

@@ -1,7 +1,7 @@
 use Rattle.std.proofs.Common.{◌≡◌, ◌+◌, Bool, true, false, ◌||◌}
 use Rattle.op_name.specs.declared.member.Member.{Member}
 use Rattle.context_diff.specs.Histories.{members_in}
-use Rattle.context_diff.specs.Places.{ArePlacesOf, is_between}
+use Rattle.context_diff.specs.Code.Places.{ArePlacesOf, is_between}
 use Rattle.context_diff.proofs.gathering.add_numbers.Given as goal
 
 -- the places so far are those of the test, and of the members up to this step

@@ -5,7 +5,7 @@ use Rattle.op_name.specs.declared.member.Member.{Member}
 use Rattle.op_name.specs.declared.member.Member.TheVariants.{Original}
 use Rattle.context_vector.specs.Contexts.{count_of}
 use Rattle.context_diff.specs.Histories.{members_in}
-use Rattle.context_diff.specs.Places.{ArePlacesOf, is_between, is_missing, first_sites, first_names}
+use Rattle.context_diff.specs.Code.Places.{ArePlacesOf, is_between, is_missing, first_sites, first_names}
 use Rattle.context_diff.proofs.Listings.{count_at}
 use Rattle.context_diff.proofs.Raising.{has_original}
 use Rattle.context_diff.proofs.Books.{covered_ready, not_past}

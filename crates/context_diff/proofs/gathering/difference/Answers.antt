@@ -2,7 +2,7 @@ use Rattle.std.proofs.Common.{◌≡◌, ℕ, ◌+◌, ◌<◌, List, [], ◌∷
 use Rattle.std.specs.Prelude.{Some, None, slice_get}
 use Rattle.op_name.specs.declared.member.Member.{Member}
 use Rattle.context_diff.specs.Histories.{members_in}
-use Rattle.context_diff.specs.Places.{is_missing, members_at}
+use Rattle.context_diff.specs.Code.Places.{is_missing, members_at}
 use Rattle.context_diff.proofs.Places.{members_of_places, members_at_more, members_at_some, members_at_none}
 use Rattle.context_diff.proofs.gathering.difference.Goals as goal
 use Rattle.context_diff.proofs.gathering.difference.Goals.{in-Some, in_default}

@@ -1,6 +1,6 @@
 use Rattle.std.proofs.Common.{◌≡◌, ◌++◌, ◌+◌, ◌-◌, ◌≤◌, length, take, vec_len, vec_capacity}
 use Rattle.context_diff.specs.Histories.{members_in}
-use Rattle.context_diff.specs.Places.{members_at}
+use Rattle.context_diff.specs.Code.Places.{members_at}
 use Rattle.context_diff.proofs.gathering.difference.Given as goal
 
 -- the members at the places so far are appended, and there is room for those at the others

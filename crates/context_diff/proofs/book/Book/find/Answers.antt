@@ -5,7 +5,7 @@ use Rattle.context_diff.specs.Operations.{OpData, member_of}
 use Rattle.context_diff.specs.Histories.{is_known}
 use Rattle.context_diff.specs.Ops.{data_of}
 use Rattle.context_diff.specs.Books.{BookData, kept_op, kept_inserts}
-use Rattle.context_diff.specs.Kept.{ops_in, inserts_up_to}
+use Rattle.context_diff.specs.Code.Kept.{ops_in, inserts_up_to}
 use Rattle.context_diff.proofs.Books.{find_answer}
 use Rattle.context_diff.specs.declared.book.Kept.{Kept}
 use Rattle.context_diff.proofs.Books.{FindAnswer}

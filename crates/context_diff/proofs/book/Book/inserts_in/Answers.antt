@@ -1,7 +1,7 @@
 use Rattle.std.proofs.Common.{◌≡◌, suc, ◌+◌, ap, sym, ◌∙◌, arith, take}
 use Rattle.std.specs.Prelude.{Some, slice_get}
 use Rattle.std.proofs.Common.{add-one}
-use Rattle.context_diff.specs.Counting.{inserts_listed}
+use Rattle.context_diff.specs.Code.Counting.{inserts_listed}
 use Rattle.context_diff.proofs.Listings.{count_at}
 use Rattle.context_diff.proofs.Covering.{named_known}
 use Rattle.context_diff.proofs.Books.{covered_ready, listed_more, listed_bound, listed_all, not_past}

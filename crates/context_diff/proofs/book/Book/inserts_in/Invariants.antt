@@ -1,5 +1,5 @@
 use Rattle.std.proofs.Common.{◌≡◌, take}
-use Rattle.context_diff.specs.Counting.{inserts_listed}
+use Rattle.context_diff.specs.Code.Counting.{inserts_listed}
 use Rattle.context_diff.proofs.book.Book.inserts_in.Given as goal
 
 -- the inserts of the sites so far

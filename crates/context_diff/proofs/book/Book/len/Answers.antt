@@ -1,6 +1,6 @@
 use Rattle.std.proofs.Common.{◌≡◌, ap, sym, ◌∙◌, length}
 use Rattle.context_diff.specs.Books.{BookData, kept_op, kept_inserts}
-use Rattle.context_diff.specs.Kept.{ops_in}
+use Rattle.context_diff.specs.Code.Kept.{ops_in}
 use Rattle.context_diff.proofs.Kept.{ops_length}
 use Rattle.context_diff.proofs.book.Book.len.Goals as goal
 

@@ -1,8 +1,9 @@
 use Rattle.std.proofs.Common.{◌≡◌, ◌+◌, List, [], ◌∷◌, ◌++◌, ap, sym, subst, ◌∙◌, arith, length}
 use Rattle.std.specs.Prelude.{Option, Some}
 use Rattle.op_name.specs.declared.member.Member.{Member}
-use Rattle.context_diff.specs.Books.{BookData, kept_op, kept_inserts}
-use Rattle.context_diff.specs.Kept.{ops_in, IsBook}
+use Rattle.context_diff.specs.Books.{BookData, HasRoomToPop, kept_op, kept_inserts}
+use Rattle.context_vector.specs.Vectors.{HasRoomFor}
+use Rattle.context_diff.specs.Code.Kept.{ops_in, IsBook}
 use Rattle.context_diff.proofs.Kept.{ops_length}
 use Rattle.std.specs.Option.{option_to_list}
 use Rattle.std.proofs.lemmas.Bool.{true≢false}
@@ -33,6 +34,17 @@ drop_last-requires-clause-last c =
     let e : Member × Kept = (c.in_ok-member.member, c.in_ok-member.kept) in
     let book = before c.self.inside.kept.entries c.pop.new.self.entries c.self.inside.have.set c.pop.result e c.self.invariant c.pop.ensures.entries c.in_ok-member.was in
     pop_last c.pop.new.self.entries c.self.inside.have.set e book
+
+pub drop_last-requires-clause-room : goal.drop_last-requires-clause-room
+drop_last-requires-clause-room c =
+    let e : Member × Kept = (c.in_ok-member.member, c.in_ok-member.kept) in
+    let es = c.pop.new.self.entries in
+    let all = whole c.self.inside.kept.entries es c.pop.result e c.pop.ensures.entries c.in_ok-member.was in
+    let book = before c.self.inside.kept.entries es c.self.inside.have.set c.pop.result e c.self.invariant c.pop.ensures.entries c.in_ok-member.was in
+    let key = kept_last kept_op kept_inserts (ops_in kept_op (es ++ e ∷ [])) es e book.kept in
+    let roomy = subst HasRoomToPop (sym c.self.view_is) c.requires in
+    let room = roomy (ops_in kept_op es) (kept_op e.1) (ap (ops_in kept_op) all ∙ ops_push kept_op kept_inserts es e) in
+    subst (λ (m : Member). HasRoomFor c.self.inside.have m) (sym key) room
 
 pub invariant_of-self-2 : goal.invariant_of-self-2
 invariant_of-self-2 c =

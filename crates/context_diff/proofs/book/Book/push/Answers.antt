@@ -4,7 +4,7 @@ use Rattle.context_diff.specs.Operations.{OpData, member_of}
 use Rattle.context_diff.specs.Histories.{is_known, context_of_all}
 use Rattle.context_diff.specs.Ops.{data_of}
 use Rattle.context_diff.specs.Books.{BookData, kept_op, kept_inserts}
-use Rattle.context_diff.specs.Kept.{ops_in, IsBook, inserts_up_to}
+use Rattle.context_diff.specs.Code.Kept.{ops_in, IsBook, inserts_up_to}
 use Rattle.context_diff.proofs.Kept.{ops_length}
 use Rattle.context_vector.specs.Contexts.{ContextData, raised, IsNextMember}
 use Rattle.context_diff.specs.Histories.{IsNext}
@@ -15,6 +15,7 @@ use Rattle.context_diff.specs.declared.op.Op.{Op}
 use Rattle.context_diff.specs.declared.book.Kept.{Kept}
 use Rattle.context_diff.proofs.Kept.{book_push, ops_push}
 use Rattle.context_diff.proofs.Books.{absent, insert_entry-absent}
+use Rattle.context_diff.proofs.Backing.{room_to_pop}
 use Rattle.context_diff.proofs.book.Book.push.Goals as goal
 
 pub add_reserved-requires-clause-next : goal.add_reserved-requires-clause-next
@@ -52,11 +53,11 @@ invariant_of-self c =
     let size : length (ops_in kept_op es) ≡ length es = ops_length kept_op kept_inserts es in
     let size' : length (ops_in kept_op es) ≡ length h = ap length ops in
     let book = book_push kept_op kept_inserts es c.self.inside.have.set (m, k) c.self.invariant next c.member-member.ensures.member count (omega (arith, c.requires.room.short)) in
-    subst (λ (d : ContextData). IsBook kept_op kept_inserts c.insert.new.self.entries d) (sym c.add_reserved.ensures)
+    subst (λ (d : ContextData). IsBook kept_op kept_inserts c.insert.new.self.entries d) (sym c.add_reserved.ensures.added)
     (subst (λ (ds : List (Member × Kept)). IsBook kept_op kept_inserts ds (raised c.self.inside.have.set m)) (sym all) book)
 
-pub returns : goal.returns
-returns c =
+pub returns-clause-ops : goal.returns-clause-ops
+returns-clause-ops c =
     let es = c.self.inside.kept.entries in
     let h = c.args.self.now.ops in
     let ops : ops_in kept_op es ≡ h = ap (λ (b : BookData). b.ops) c.self.view_is in
@@ -64,3 +65,7 @@ returns c =
     let m = c.member-member.result in
     let all = pushed es c.insert.new.self.entries h c.self.inside.have.set c.args.op m c.inserts_with-inserts.result c.self.invariant ops c.requires.next c.member-member.ensures.member (c.in-Ok.ensures).entries in
     ap (ops_in kept_op) all ∙ (ops_push kept_op kept_inserts es (m, k) ∙ ap (λ (j : List OpData). j ++ data_of c.args.op ∷ []) ops)
+
+pub returns-clause-back : goal.returns-clause-back
+returns-clause-back c =
+    room_to_pop (ops_in kept_op c.insert.new.self.entries) c.args.self.now.ops c.add_reserved.new.self (data_of c.args.op) c.member-member.result (returns-clause-ops c) c.member-member.ensures.member c.add_reserved.ensures.room

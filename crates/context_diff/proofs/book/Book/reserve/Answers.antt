@@ -3,7 +3,7 @@ use Rattle.op_name.specs.declared.member.Member.{Member}
 use Rattle.context_diff.specs.Operations.{OpData, member_of}
 use Rattle.context_diff.specs.Ops.{data_of}
 use Rattle.context_diff.specs.Books.{BookData, HasRoom, kept_op, kept_inserts}
-use Rattle.context_diff.specs.Kept.{ops_in}
+use Rattle.context_diff.specs.Code.Kept.{ops_in}
 use Rattle.context_diff.proofs.Kept.{ops_length}
 use Rattle.std.specs.Result.{OnOk}
 use Rattle.std.specs.Prelude.{Result, Ok, Err}

@@ -5,7 +5,7 @@ use Rattle.op_name.specs.declared.member.Member.TheVariants.{Original, Group}
 use Rattle.context_vector.specs.Contexts.{ContextData}
 use Rattle.context_diff.specs.Operations.{OpData, member_of}
 use Rattle.context_diff.specs.Histories.{IsValid, context_of_all}
-use Rattle.context_diff.specs.Counting.{inserts_of}
+use Rattle.context_diff.specs.Code.Counting.{inserts_of}
 
 -- what is noted beside a member: of an original the number of inserts of its site up to it, of a group nothing
 abbrev pub inserts_up_to : List OpData → Member → ℕ

@@ -1,0 +1,5 @@
+-- Words of the code alone: no public contract reaches them.
+pub mod Kept
+pub mod Places
+pub mod Counting
+pub mod GapEnds
