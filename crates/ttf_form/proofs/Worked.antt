@@ -47,7 +47,7 @@ deleters_are_sorted : (marked (By first_delete 0) (marked (By other_delete 0) le
 unfolding raise_in
 deleters_are_sorted = refl
 
--- in front of the cell at the place, and behind the last
+-- in front of the cell at the place, and after the last
 a_put_in_front : put_in {A = ℕ} 1 (7 ∷ []) (5 ∷ (6 ∷ [])) ≡ 5 ∷ (7 ∷ (6 ∷ []))
 a_put_in_front = refl
 

@@ -25,20 +25,10 @@ raise_in d g [] = (d, g) ∷ []
 raise_in d g (e ∷ es) =
     if name_lt d e.0 then (d, g) ∷ (e ∷ es) else if name_eq d e.0 then (d, max e.1 g) ∷ es else e ∷ raise_in d g es
 
--- one more than the greatest generation that d has among the deleters, 0 if it is none of them
-abbrev pub best : NameData → List (NameData × ℕ) → ℕ
-best d [] = 0
-best d (e ∷ es) = max (if name_eq d e.0 then suc e.1 else 0) (best d es)
-
 -- sorted by name, each name once
 abbrev pub IsRising : List (NameData × ℕ) → Type 0
 IsRising [] = Unit {0}
 IsRising (e ∷ es) = IsBefore e.0 es × IsRising es
-
--- all names of the list are less than d
-abbrev pub AreBelow : List (NameData × ℕ) → NameData → Type 0
-AreBelow [] d = Unit {0}
-AreBelow (e ∷ es) d = (name_lt e.0 d ≡ true) × AreBelow es d
 
 -- a cell under a mark
 abbrev pub marked : Mark → CellData → CellData

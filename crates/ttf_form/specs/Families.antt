@@ -1,9 +1,6 @@
 -- Finite families: membership and sums over a list.
-use Rattle.std.specs.Prelude.{◌≡◌, ℕ, ◌+◌, Bool, List, [], ◌∷◌, ◌⊎◌, if◌then◌else◌}
-
-abbrev pub IsIn : {A : Type 0} → A → List A → Type 0
-IsIn x [] = ⊥
-IsIn x (y ∷ ys) = (x ≡ y) ⊎ IsIn x ys
+use Rattle.std.specs.Prelude.{ℕ, ◌+◌, Bool, List, [], ◌∷◌, if◌then◌else◌}
+pub use Rattle.op_name.specs.Lists.{IsIn}
 
 -- the sum of f over the elements that pass the test
 abbrev pub sum_where : {A : Type 0} → (A → Bool) → (A → ℕ) → List A → ℕ

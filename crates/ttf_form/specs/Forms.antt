@@ -6,7 +6,7 @@ use Rattle.ttf_form.specs.declared.cover.Cover.{Cover}
 use Rattle.ttf_form.specs.declared.form.Form.{Form}
 use Rattle.ttf_form.specs.declared.form.Form.TheVariants.{Ins as Insert, Cover as Covered}
 use Rattle.ttf_form.specs.Names.{block}
-use Rattle.ttf_form.specs.Places.{over_place, cover_place}
+use Rattle.ttf_form.specs.Places.{over_place, cover_place, back_place}
 
 -- the number of cells that an insert adds
 abbrev pub ins_extent : Ins → ℕ
@@ -20,7 +20,7 @@ abbrev pub extent_of : Form → ℕ
 extent_of (Insert a) = ins_extent a
 extent_of (Covered c) = 0
 
--- an insert may stand behind the last of n cells, a cover needs one of them
+-- an insert may stand after the last of n cells, a cover needs one of them
 abbrev pub IsBoundedForm : Form → ℕ → Type 0
 IsBoundedForm (Insert a) n = a.place ≤ n
 IsBoundedForm (Covered c) n = c.place < n
@@ -49,6 +49,21 @@ form_over (Insert a) (Insert b) = Insert (ins_over a b)
 form_over (Insert a) (Covered d) = Insert a
 form_over (Covered c) (Insert b) = Covered (cover_over c b.place (ins_extent b))
 form_over (Covered c) (Covered d) = Covered c
+
+-- an insert before the inclusion of another
+abbrev pub ins_back : Ins → Ins → Ins
+ins_back a b = record a { place = back_place a.place b.place (ins_extent b) }
+
+-- a cover before the inclusion of an insert of n cells at q
+abbrev pub cover_back : Cover → ℕ → ℕ → Cover
+cover_back c q n = record c { place = back_place c.place q n }
+
+-- the form that becomes a by the inclusion of b
+abbrev pub form_back : Form → Form → Form
+form_back (Insert a) (Insert b) = Insert (ins_back a b)
+form_back (Insert a) (Covered d) = Insert a
+form_back (Covered c) (Insert b) = Covered (cover_back c b.place (ins_extent b))
+form_back (Covered c) (Covered d) = Covered c
 
 -- the cells that a form adds
 abbrev pub added_by : Form → List (NameData × ℕ)

@@ -1,5 +1,5 @@
 -- Cells as all forms see them: a name with an offset.
-use Rattle.std.specs.Prelude.{◌≢◌, ℕ, zero, suc, List, [], ◌∷◌}
+use Rattle.std.specs.Prelude.{◌≡◌, ◌≢◌, ℕ, zero, suc, List, [], ◌∷◌, ◌++◌, take, drop}
 use Rattle.op_name.specs.NameData.{NameData}
 
 -- no cell of the list has the name
@@ -16,3 +16,8 @@ NewNames cs (a ∷ «as») = LacksName cs a.0 × NewNames cs «as»
 abbrev pub block : NameData → ℕ → ℕ → List (NameData × ℕ)
 block n first zero = []
 block n first (suc k) = (n, first) ∷ block n (suc first) k
+
+-- the new elements stand side by side somewhere among the old ones, which are all there in their order
+pub record IsPutAmong {A : Type 0} (old new whole : List A) : Type 0 where
+  pub at : ℕ
+  pub is : whole ≡ take at old ++ (new ++ drop at old)

@@ -3,6 +3,7 @@
 ghost use Rattle.std.specs.Prelude.{◌≡◌, ◌≢◌, ℕ, ◌≤◌, Bool, false, List};
 ghost use Rattle.op_name.specs.declared.member.Member.{Member};
 ghost use Rattle.ttf_form.specs.Families.{IsIn, sum_where, total_by};
+ghost use Rattle.ttf_form.specs.declared.include.TheConstants.{CELLS};
 
 use crate::include::Include;
 use op_name::Member;
@@ -12,7 +13,7 @@ use op_name::Member;
 ///
 /// The laws: the base forms of two members of which neither is in the other's base context are apart; each
 /// base form is bounded by the sum of the extents of the base forms of its base context; all extents add up
-/// to at most 4,294,967,295.
+/// to at most `CELLS`.
 pub trait Bases<F: Include> {
     ghost members: { Self → List Member };
 
@@ -35,5 +36,5 @@ pub trait Bases<F: Include> {
 
     ghost bounded: { (s : Self) (m : Member) → IsKnown s → IsIn m (members s) → F.IsBounded (base_form s m) (sum_where (base_context s m) (λ x. F.extent (base_form s x)) (members s)) };
 
-    ghost total: { (s : Self) → IsKnown s → total_by (λ x. F.extent (base_form s x)) (members s) ≤ 4294967295 };
+    ghost total: { (s : Self) → IsKnown s → total_by (λ x. F.extent (base_form s x)) (members s) ≤ CELLS };
 }

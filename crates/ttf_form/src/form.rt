@@ -46,8 +46,8 @@ impl Include for Form {
 
     ghost bound_over = { form_bound_over };
 
-    /// The rows of the table: the inclusion of a cover changes nothing, that of an insert moves each form
-    /// behind it that isn't in front of its new cell.
+    /// The rows of the table: the inclusion of a cover changes nothing, that of an insert moves each form that
+    /// isn't in front of its new cell on by one cell.
     fn include(&self, other: &Form) -> Form {
         match (self, other) {
             (Form::Ins(ins), Form::Ins(added)) => Form::Ins(ins.over_ins(added)),
@@ -65,7 +65,7 @@ impl Include for Form {
 impl Applies for Form {
     ghost use Rattle.std.specs.Prelude.{List};
     ghost use Rattle.ttf_form.specs.Cells.{CellData, cells_of, FitsCells, applied};
-    ghost use Rattle.ttf_form.specs.Laws.Forms.{form_added_length, form_added_over};
+    ghost use Rattle.ttf_form.specs.Laws.Forms.{form_added_over};
     ghost use Rattle.ttf_form.specs.Laws.Cells.{form_fits, form_fits_after, form_tp1, form_kept};
 
     ghost State = { List CellData };
@@ -85,8 +85,6 @@ impl Applies for Form {
     ghost tp1 = { form_tp1 };
 
     ghost kept = { form_kept };
-
-    ghost added_length = { form_added_length };
 
     ghost added_over = { form_added_over };
 }

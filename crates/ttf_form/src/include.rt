@@ -2,6 +2,9 @@
 
 ghost use Rattle.std.specs.Prelude.{◌≡◌, ℕ, ◌+◌, ◌≤◌, ◌↔◌, IsTrue};
 
+/// The greatest number of cells that a state may have, and so the greatest place.
+pub const CELLS: u32 = 4_294_967_295;
+
 /// Forms that can be changed by the inclusion of one another, for states of which the contracts need not
 /// know anything.
 ///
@@ -26,9 +29,9 @@ pub trait Include: Drop {
     ghost over: { Self → Self → Self };
 
     /// This form after the inclusion of `other`, which is meant for the same state. The sum of this form's
-    /// place and the other's extent must be at most 4,294,967,295.
+    /// place and the other's extent must be at most `CELLS`.
     fn include(&self, other: &Self) -> Self
-        requires { place self.now + extent other.now ≤ 4294967295 }
+        requires { place self.now + extent other.now ≤ CELLS }
         ensures { result ≡ over self.now other.now };
 
     /// Whether the inclusion of this form changes no form.

@@ -4,7 +4,7 @@ ghost use Rattle.std.specs.Prelude.{◌≡◌};
 
 use op_name::Name;
 
-/// A new cell at a place: it is put in front of the cell that stands there, or behind the last one.
+/// A new cell at a place: it is put in front of the cell that stands there, or after the last one.
 ///
 /// The place counts all cells, shown or hidden, from 0. The site is that of the name; it decides between
 /// inserts at one place: the one of the smaller site stands in front.

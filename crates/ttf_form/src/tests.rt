@@ -5,10 +5,11 @@ ghost use Rattle.std.specs.Prelude.{false, ◌∷◌};
 ghost use Rattle.std.proofs.Common.{◌∙◌, sym, lit≤, inl, inr, arith};
 ghost use Rattle.op_name.specs.declared.member.Member.{Member};
 ghost use Rattle.op_name.specs.declared.member.Member.TheVariants.{Original};
+ghost use Rattle.ttf_form.specs.declared.include.TheConstants.{CELLS};
 ghost use Rattle.ttf_form.specs.Forms.{place_of, extent_of};
 ghost use Rattle.ttf_form.specs.Families.{IsIn};
 
-use super::{Applies, Bases, Cover, Form, Include, Ins, Mark};
+use super::{Applies, Bases, Cover, Exclude, Form, Include, Ins, Mark};
 use op_name::{Member, Name};
 
 /// An insert of a site, at a place below a thousand.
@@ -45,7 +46,7 @@ fn an_insert_over_an_insert(rt: HostRuntime) {
         ("at one place the smaller site stays", 5, 1, 5, 2, 5),
         ("at one place the greater site moves", 5, 2, 5, 1, 6),
         ("site 0 stays in front of all others", 0, 0, 0, 63, 0),
-        ("site 63 moves behind all others", 0, 63, 0, 0, 1),
+        ("site 63 moves after all others", 0, 63, 0, 0, 1),
     ];
     for (why, place, site, other, other_site, wanted) in rows {
         assert!(rt; place < 1000 && site < 64 && other_site < 64);
@@ -93,7 +94,7 @@ fn forms_over_forms(rt: HostRuntime) {
             5,
         ),
         (
-            "insert over insert, behind",
+            "insert over insert, after",
             Form::Ins(ins(5, 2)),
             Form::Ins(ins(5, 1)),
             6,
@@ -111,7 +112,7 @@ fn forms_over_forms(rt: HostRuntime) {
             4,
         ),
         (
-            "cover over insert, behind",
+            "cover over insert, after",
             Form::Cover(delete_at(5)),
             Form::Ins(ins(5, 1)),
             6,
@@ -127,6 +128,7 @@ fn forms_over_forms(rt: HostRuntime) {
         assert!(rt; place(&a) < 1000);
         let moved = included(&a, &b);
         assert_eq!(rt; place(&moved), wanted, "{why}");
+        assert_eq!(rt; taken_back(&moved, &b), a, "{why}, taken back");
         assert_eq!(rt; moved.inert(), a.inert(), "{why}");
         assert_eq!(rt; a.inert(), matches!(a, Form::Cover(_)), "{why}");
     }
@@ -143,11 +145,18 @@ fn place(form: &Form) -> u32
 
 /// Inclusion through the bound; what a form adds stays.
 fn included<F: Applies>(a: &F, b: &F) -> F
-    requires { F.place a.now + F.extent b.now ≤ 4294967295 }
+    requires { F.place a.now + F.extent b.now ≤ CELLS }
     ensures over { result ≡ F.over a.now b.now }
     ensures added { F.added result ≡ F.added a.now }
 {
     a.include(b)
+}
+
+/// Taking back through the bound.
+fn taken_back<F: Exclude>(a: &F, b: &F) -> F
+    ensures { result ≡ F.back a.now b.now }
+{
+    a.exclude(b)
 }
 
 /// A family of one insert, in front of no cells.

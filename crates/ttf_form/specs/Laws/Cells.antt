@@ -1,5 +1,5 @@
 -- The laws of applying, of all forms and all lists of cells.
-use Rattle.std.proofs.Common.{◌≡◌, ◌≢◌, ◌↔◌, ℕ, zero, suc, ◌+◌, ◌<◌, ◌≤◌, Bool, true, false, nat_lt, List, [], ◌∷◌, ◌++◌, take, drop, length, refl, sym, ap, ◌∙◌, subst, arith}
+use Rattle.std.proofs.Common.{◌≡◌, ◌≢◌, ◌↔◌, ℕ, zero, suc, ◌+◌, ◌<◌, ◌≤◌, Bool, true, false, nat_lt, List, [], ◌∷◌, ◌++◌, length, refl, sym, ap, ◌∙◌, subst, arith}
 use Rattle.std.proofs.lemmas.Bool.Decides.{nat_tests}
 use Rattle.op_name.specs.NameData.{NameData}
 use Rattle.ttf_form.specs.declared.ins.Ins.{Ins}
@@ -8,7 +8,7 @@ use Rattle.ttf_form.specs.declared.cover.Mark.{Mark}
 use Rattle.ttf_form.specs.declared.cover.Mark.TheVariants.{Own, By}
 use Rattle.ttf_form.specs.declared.form.Form.{Form}
 use Rattle.ttf_form.specs.declared.form.Form.TheVariants.{Ins as Insert, Cover as Covered}
-use Rattle.ttf_form.specs.Names.{LacksName, NewNames}
+use Rattle.ttf_form.specs.Names.{LacksName, NewNames, IsPutAmong}
 use Rattle.ttf_form.specs.Places.{goes_before, over_place, cover_place}
 use Rattle.ttf_form.specs.Forms.{ins_extent, place_of, extent_of, IsBoundedForm, ApartForms, form_over, added_by}
 use Rattle.ttf_form.specs.Cells.{CellData, marked, bare_cells, put_in, change_at, applied, cell_key, cells_of, FitsCells}
@@ -42,8 +42,8 @@ pub kept_at : (s : List CellData) (a : Form) → cells_of (applied s a) ≡ put_
 kept_at s (Insert a) = map-put cell_key a.place (bare_cells a) s
 kept_at s (Covered c) = map-change cell_key (marked c.mark) (marked_key c.mark) c.place s ∙ sym (put_none c.place (cells_of s))
 
-pub form_kept : (s : List CellData) (a : Form) → FitsCells s a → cells_of (applied s a) ≡ take (place_of a) (cells_of s) ++ (added_by a ++ drop (place_of a) (cells_of s))
-form_kept s a h = kept_at s a
+pub form_kept : (a : Form) → (length (added_by a) ≡ extent_of a) × ((s : List CellData) → FitsCells s a → IsPutAmong (cells_of s) (added_by a) (cells_of (applied s a)))
+form_kept a = (form_added_length a, λ s h. record { at = place_of a; is = kept_at s a })
 
 pub length-applied : (s : List CellData) (a : Form) → place_of a ≤ length (cells_of s) → length (cells_of (applied s a)) ≡ length (cells_of s) + extent_of a
 length-applied s a h =

@@ -4,22 +4,18 @@ use Rattle.std.proofs.Math.Nat.{max_comm}
 use Rattle.std.proofs.lemmas.Bool.Decides.{nat_tests}
 use Rattle.op_name.specs.NameData.{NameData, name_eq, name_lt}
 use Rattle.op_name.specs.NameData.{IsBefore}
-use Rattle.ttf_form.specs.Cells.{raise_in, best, IsRising, AreBelow}
+pub use Rattle.op_name.proofs.CallerLemmas.{name_itself as name_self, name_same, name_transitive as name_less_trans, name_irreflexive as name_less_self}
+use Rattle.ttf_form.specs.Cells.{raise_in, IsRising}
 
-pub name_self : (n : NameData) → name_eq n n ≡ true
-name_self n = grind (arith, nat_tests)
+-- one more than the greatest generation that d has among the deleters, 0 if it is none of them
+abbrev pub best : NameData → List (NameData × ℕ) → ℕ
+best d [] = 0
+best d (e ∷ es) = max (if name_eq d e.0 then suc e.1 else 0) (best d es)
 
-pub name_same : (n m : NameData) → name_eq n m ≡ true → n ≡ m
-name_same n m h =
-    let s : n.site ≡ m.site = grind (arith, nat_tests) in
-    let k : n.number ≡ m.number = grind (arith, nat_tests) in
-    λ i. record { site = s i; number = k i }
-
-pub name_less_trans : (n m k : NameData) → name_lt n m ≡ true → name_lt m k ≡ true → name_lt n k ≡ true
-name_less_trans n m k a b = grind (arith, nat_tests)
-
-pub name_less_self : (n : NameData) → name_lt n n ≡ false
-name_less_self n = grind (arith, nat_tests)
+-- all names of the list are less than d
+abbrev pub AreBelow : List (NameData × ℕ) → NameData → Type 0
+AreBelow [] d = Unit {0}
+AreBelow (e ∷ es) d = (name_lt e.0 d ≡ true) × AreBelow es d
 
 pub name_less_asym : (n m : NameData) → name_lt n m ≡ true → name_lt m n ≡ false
 name_less_asym n m h = grind (arith, nat_tests)

@@ -5,10 +5,9 @@ use Rattle.ttf_form.specs.declared.ins.Ins.{Ins}
 use Rattle.ttf_form.specs.declared.cover.Cover.{Cover}
 use Rattle.ttf_form.specs.declared.form.Form.{Form}
 use Rattle.ttf_form.specs.declared.form.Form.TheVariants.{Ins as Insert, Cover as Covered}
-use Rattle.ttf_form.specs.Places.{IsMoved}
 use Rattle.ttf_form.specs.Names.{block}
-use Rattle.ttf_form.specs.Forms.{ins_extent, place_of, extent_of, IsBoundedForm, ApartForms, IsInertForm, form_over, added_by}
-use Rattle.ttf_form.specs.Laws.Places.{over_moved, cover_place_moved, over_two, cover_two, over_bound, cover_bound}
+use Rattle.ttf_form.specs.Forms.{ins_extent, place_of, extent_of, IsBoundedForm, ApartForms, IsInertForm, form_over, form_back, added_by}
+use Rattle.ttf_form.specs.Laws.Places.{IsMoved, over_moved, cover_place_moved, over_two, cover_two, over_bound, cover_bound, over_back, cover_place_back}
 
 -- a form brought over two others, in either order; no two of them need to be apart
 pub form_two : (o a b : Form) → form_over (form_over o a) (form_over b a) ≡ form_over (form_over o b) (form_over a b)
@@ -99,3 +98,18 @@ ins_moved a b h =
 
 pub cover_moved : (c : Cover) (b : Ins) → IsMoved c.place b.place (ins_extent b) true (place_of (form_over (Covered c) (Insert b)))
 cover_moved c b = cover_place_moved c.place b.place (ins_extent b)
+
+-- an inclusion is taken back, whether or not the forms are apart
+pub form_taken_back : (a b : Form) → form_back (form_over a b) b ≡ a
+form_taken_back (Insert a) (Insert b) = ap (λ k. Insert (record a { place = k })) (over_back a.place a.site b.place b.site (ins_extent b))
+form_taken_back (Insert a) (Covered d) = refl
+form_taken_back (Covered c) (Insert b) = ap (λ k. Covered (record c { place = k })) (cover_place_back c.place b.place (ins_extent b))
+form_taken_back (Covered c) (Covered d) = refl
+
+pub form_back_over : (a b : Form) → ApartForms a b → form_back (form_over a b) b ≡ a
+form_back_over a b h = form_taken_back a b
+
+pub form_inert_back : (a b : Form) → IsInertForm (form_over a b) → IsInertForm a
+form_inert_back (Insert a) (Insert b) h = absurd h
+form_inert_back (Insert a) (Covered b) h = absurd h
+form_inert_back (Covered a) b h = tt

@@ -3,7 +3,7 @@ use Rattle.std.proofs.Common.{◌≡◌, ℕ, zero, suc, ◌+◌, ◌<◌, ◌�
 use Rattle.std.proofs.lemmas.List.{map-append}
 use Rattle.ttf_form.specs.Cells.{put_in, change_at}
 
--- at or behind the end of what stands in front
+-- at or after the end of what stands in front
 pub put_behind : {A : Type 0} (q n : ℕ) (xs new ys : List A) → n ≡ q + length xs → put_in n new (xs ++ ys) ≡ xs ++ put_in q new ys
 put_behind q n [] new ys e = let f : n ≡ q = omega arith in ap (λ k. put_in k new ys) f
 put_behind q zero (x ∷ xs) new ys e = absurd (omega arith)
@@ -11,7 +11,7 @@ put_behind q (suc n) (x ∷ xs) new ys e =
     let f : n ≡ q + length xs = omega arith in
     ap (λ zs. x ∷ zs) (put_behind q n xs new ys f)
 
--- two puts, the place of the second at or behind that of the first
+-- two puts, the place of the second at or after that of the first
 pub put_put : {A : Type 0} (p q n : ℕ) (xs ys s : List A) → p ≤ q → q ≤ length s → n ≡ q + length xs
     → put_in n ys (put_in p xs s) ≡ put_in p xs (put_in q ys s)
 put_put zero q n xs ys s pq qs e = put_behind q n xs ys s e
@@ -43,7 +43,7 @@ change_front_put f (suc q) (suc p) xs (z ∷ s) qp qs =
     let h : q < length s = omega arith in
     ap (λ zs. z ∷ zs) (change_front_put f q p xs s g h)
 
--- a change at or behind it
+-- a change at or after it
 pub change_behind_put : {A : Type 0} (f : A → A) (q p n : ℕ) (xs s : List A) → p ≤ q → q < length s → n ≡ q + length xs
     → change_at n f (put_in p xs s) ≡ put_in p xs (change_at q f s)
 change_behind_put f q zero n xs s pq qs e = change_behind f q n xs s e

@@ -1,7 +1,14 @@
 -- Where places go: the order of two inserts is kept by the inclusion of a third.
 use Rattle.std.proofs.Common.{◌≡◌, ◌≢◌, ℕ, ◌+◌, ◌<◌, ◌≤◌, Bool, true, false, nat_lt, if◌then◌else◌, refl, sym, ap, ◌∙◌, arith}
 use Rattle.std.proofs.lemmas.Bool.Decides.{nat_tests}
-use Rattle.ttf_form.specs.Places.{IsMoved, goes_before, over_place, cover_place}
+use Rattle.ttf_form.specs.Places.{goes_before, over_place, cover_place, back_place}
+
+-- the place n of a form has become m, after so many cells came in at q, on the left of the form where they tie
+pub record IsMoved (n q extent : ℕ) (left : Bool) (m : ℕ) : Type 0 where
+  pub less : q < n → m ≡ n + extent
+  pub more : n < q → m ≡ n
+  pub tie_left : n ≡ q → left ≡ true → m ≡ n + extent
+  pub tie_right : n ≡ q → left ≡ false → m ≡ n
 
 pub over_stays : (p s q r n : ℕ) → goes_before p s q r ≡ true → over_place p s q r n ≡ p
 unfolding over_place
@@ -123,3 +130,18 @@ cover_two p q r n u t m =
     ap (λ (b : Bool). if b then cover_place p q n else cover_place p q n + m) (less_kept p u t q r n)
     ∙ rises (nat_lt p u) (nat_lt p q) p n m
     ∙ sym (ap (λ (b : Bool). if b then cover_place p u m else cover_place p u m + n) (less_kept p q r u t m))
+
+-- a place that moved is taken back to where it was
+pub over_back : (p s q r n : ℕ) → back_place (over_place p s q r n) q n ≡ p
+unfolding back_place over_place
+over_back p s q r n = grind (arith, nat_tests)
+
+pub cover_place_back : (p q n : ℕ) → back_place (cover_place p q n) q n ≡ p
+unfolding back_place cover_place
+cover_place_back p q n = grind (arith, nat_tests)
+
+-- the first of the m cells that an insert at p of the site s adds is where that insert goes, once n cells came in at q by
+-- another site
+pub cell_follows : (p s q r n m : ℕ) → s ≢ r → 1 ≤ m → cover_place p (over_place q r p s m) n ≡ over_place p s q r n
+unfolding over_place cover_place
+cell_follows p s q r n m ne some = grind (arith, nat_tests)
