@@ -4,3 +4,4 @@ pub mod Forms
 pub mod Inserts
 pub mod Places
 pub mod Texts
+pub mod Groups

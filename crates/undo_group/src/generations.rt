@@ -1,6 +1,7 @@
 //! Generations of originals in a set of members.
 
 ghost use Rattle.std.specs.Prelude.{◌≡◌, ◌+◌, ◌↔◌, List, IsNone, IfSome};
+ghost use Rattle.op_name.specs.declared.member.TheConstants.{GENERATIONS};
 ghost use Rattle.context_vector.specs.Contexts.{entry_of};
 ghost use Rattle.context_diff.specs.Operations.{OpData};
 ghost use Rattle.context_diff.specs.Histories.{is_even, in_force, generation_in, context_of_all, IsValid};
@@ -25,10 +26,10 @@ pub fn in_force(have: &Vector, name: &Name) -> bool
     generation(have, name) % 2 == 0
 }
 
-/// The generation of the next undo or redo of the name; None exactly at 65,535, the greatest generation. It
+/// The generation of the next undo or redo of the name; None exactly at `GENERATIONS`, the greatest one. It
 /// takes no memory.
 pub fn next_generation(have: &Vector, name: &Name) -> Option<u16>
-    ensures full { IsNone result ↔ (entry_of have.now.set name.now ≡ 65535) }
+    ensures full { IsNone result ↔ (entry_of have.now.set name.now ≡ GENERATIONS) }
     ensures next { IfSome result (λ g. g ≡ entry_of have.now.set name.now + 1) }
     ensures history { (h : List OpData) → IsValid h → have.now.set ≡ context_of_all h → IfSome result (λ g. g ≡ generation_in h name.now + 1) }
 {

@@ -1,12 +1,10 @@
 //! Generations at their edges, and the base forms of a small book.
 
-ghost use Rattle.std.specs.Prelude.{◌≡◌, IsTrue};
-ghost use Rattle.context_diff.specs.Histories.{IsNext};
-ghost use Rattle.context_diff.specs.Ops.{data_of};
+ghost use Rattle.std.specs.Prelude.{◌≡◌};
 ghost use Rattle.ttf_form.specs.Families.{IsIn};
 
-use super::{TextBases, generation, in_force, next_generation};
-use context_diff::{Book, Op, closed};
+use super::{TextBases, followed, generation, groups_follow, in_force, next_generation};
+use context_diff::{Book, Op};
 use context_vector::Vector;
 use op_name::{Member, Name};
 use std::alloc::Global;
@@ -47,33 +45,11 @@ fn an_original_is_in_force_at_even_generations(rt: HostRuntime) -> Result<(), Fa
     Ok(())
 }
 
-/// Whether the operation is next after those of the book.
-fn is_next(book: &Book, op: &Op) -> bool
-    ensures { IsTrue result → IsNext book.now.ops (data_of op.now) }
-{
-    book.known();
-    if op.fault().is_some() {
-        return false;
-    }
-    if book.have().contains(&op.member()) || !book.have().covers(op.context()) {
-        return false;
-    }
-    match op {
-        Op::Insert { place, context, .. } => {
-            closed(book, context).is_none() && *place <= book.inserts_in(context)
-        }
-        Op::Delete { place, context, .. } => {
-            closed(book, context).is_none() && *place < book.inserts_in(context)
-        }
-        Op::Undo { .. } => true,
-    }
-}
-
 /// The book of these operations; one that isn't next is left out.
 fn book_of(alloc: Global, ops: [Op; 6]) -> Result<Book, Fail> {
     let mut book = Book::new(alloc);
     for op in ops {
-        if is_next(&book, &op) {
+        if book.is_next(&op) {
             book.reserve(&op)?;
             book.push(op);
         }
@@ -123,7 +99,7 @@ fn undo(target: Name, generation: u16, context: Vector) -> Op {
     }
 }
 
-/// Site 0 writes a character and site 1 another behind it, which site 0 deletes; the second insert is undone
+/// Site 0 writes a character and site 1 another after it, which site 0 deletes; the second insert is undone
 /// and redone, the delete is undone.
 fn small_book(alloc: Global, a: Name, b: Name, d: Name) -> Result<Book, Fail> {
     let insert_a = Op::Insert {
@@ -158,7 +134,7 @@ fn base_forms_of_a_small_book(rt: HostRuntime) -> Result<(), Fail> {
     assert_eq!(rt; book.len(), 6);
     let rows = [
         ("an insert", Member::Original(a), ins(0, 'a', a)),
-        ("an insert behind it", Member::Original(b), ins(1, 'b', b)),
+        ("an insert after it", Member::Original(b), ins(1, 'b', b)),
         (
             "a delete",
             Member::Original(d),
@@ -196,5 +172,21 @@ fn base_forms_of_a_small_book(rt: HostRuntime) -> Result<(), Fail> {
         assert_eq!(rt; form_in(&book, &member), Some(form), "{why}");
     }
     assert_eq!(rt; form_in(&book, &Member::Group(a, 1)), None, "not undone");
+    Ok(())
+}
+
+/// The form of the undo of an insert or of a cover of an insert's cell.
+fn undone(form: Form, generation: u16) -> Form {
+    followed(Mark::Own { generation }, &form)
+}
+
+#[test]
+fn a_mark_follows_the_cell_of_a_form(rt: HostRuntime) -> Result<(), Fail> {
+    let name = Name::new(0, 1)?;
+    groups_follow();
+    let first = cover(4, Mark::Own { generation: 1 });
+    let next = cover(4, Mark::Own { generation: 2 });
+    assert_eq!(rt; undone(ins(4, 'a', name), 1), first);
+    assert_eq!(rt; undone(first, 2), next);
     Ok(())
 }

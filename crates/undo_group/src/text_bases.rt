@@ -75,7 +75,7 @@ impl Bases<Form> for TextBases<'_> {
         }
     }
 
-    /// The book is a valid history, with fewer than 4,294,967,296 operations.
+    /// The book is a valid history, of at most as many operations as there may be cells.
     fn known(&self) {
         self.book.known();
     }

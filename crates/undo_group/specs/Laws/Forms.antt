@@ -7,8 +7,7 @@ use Rattle.op_name.specs.declared.member.Member.TheVariants.{Original}
 use Rattle.op_name.specs.Members.{member_eq}
 use Rattle.context_diff.specs.Operations.{OpData, inserting, deleting, member_of}
 use Rattle.context_diff.specs.Histories.{IsValid}
-use Rattle.context_diff.proofs.Names.{member_same, member_itself}
-use Rattle.context_diff.proofs.Complete.{complete}
+use Rattle.context_diff.proofs.CallerLemmas.{member_same, member_itself, complete}
 use Rattle.ttf_form.specs.declared.form.Form.{Form}
 use Rattle.ttf_form.specs.Families.{IsIn}
 use Rattle.undo_group.specs.BaseForms.{AreBaseForms, form_of, original_form, group_form, base_form}

@@ -8,9 +8,7 @@ use Rattle.context_vector.specs.Contexts.{ContextData, has}
 use Rattle.context_diff.specs.Operations.{OpData, inserting, deleting, undoing, member_of, context_of}
 use Rattle.context_diff.specs.Histories.{members_in, is_known, IsValid}
 use Rattle.context_diff.specs.Bases.{base_has}
-use Rattle.context_diff.proofs.Complete.{IsComplete, complete}
-use Rattle.context_diff.proofs.Histories.{context_is, related}
-use Rattle.context_diff.proofs.ClosedSets.{in_original}
+use Rattle.context_diff.proofs.CallerLemmas.{IsComplete, complete, context_is, related, in_original}
 use Rattle.ttf_form.specs.declared.ins.Ins.{Ins}
 use Rattle.ttf_form.specs.declared.form.Form.{Form}
 use Rattle.ttf_form.specs.declared.form.Form.TheVariants.{Ins as Insert, Cover as Covered}

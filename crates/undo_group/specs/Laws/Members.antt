@@ -9,11 +9,7 @@ use Rattle.op_name.specs.Members.{member_eq}
 use Rattle.context_vector.specs.Contexts.{ContextData}
 use Rattle.context_diff.specs.Operations.{OpData, member_of}
 use Rattle.context_diff.specs.Histories.{members_in, is_known, inserts_in, IsNext, IsValid, IsValidAfter}
-use Rattle.context_diff.proofs.Names.{member_same, member_itself}
-use Rattle.context_diff.proofs.Known.{contains_cases, contains_here, contains_later, contains_none}
-use Rattle.context_diff.proofs.Valid.{shifted}
-use Rattle.context_diff.proofs.Complete.{complete}
-use Rattle.context_diff.proofs.Histories.{group_facts}
+use Rattle.context_diff.proofs.CallerLemmas.{member_same, member_itself, contains_cases, contains_here, contains_later, contains_none, shifted, complete, group_facts}
 use Rattle.ttf_form.specs.Families.{IsIn}
 
 -- the library's word for an element of a list says the same
@@ -24,11 +20,11 @@ in_contains x (y ∷ ys) (inr i) = contains_later y ys x (in_contains x ys i)
 
 pub contains_in : {A : Type 0} (x : A) (xs : List A) → Contains xs x → IsIn x xs
 contains_in x [] c = absurd (contains_none x c)
-contains_in x (y ∷ ys) c = elim (contains_cases y ys x c) [ inl e ↦ inl (sym e) | inr behind ↦ inr (contains_in x ys behind) ]
+contains_in x (y ∷ ys) c = elim (contains_cases y ys x c) [ inl e ↦ inl (sym e) | inr after ↦ inr (contains_in x ys after) ]
 
 pub known_in : (h : List OpData) (m : Member) → is_known h m ≡ true → IsIn m (members_in h)
 known_in [] m e = absurd (false≢true e)
-known_in (o ∷ os) m e = elim (or_cases (member_eq (member_of o) m) (is_known os m) e) [ inl same ↦ inl (sym (member_same (member_of o) m same)) | inr behind ↦ inr (known_in os m behind) ]
+known_in (o ∷ os) m e = elim (or_cases (member_eq (member_of o) m) (is_known os m) e) [ inl same ↦ inl (sym (member_same (member_of o) m same)) | inr after ↦ inr (known_in os m after) ]
 
 pub in_known : (h : List OpData) (m : Member) → IsIn m (members_in h) → is_known h m ≡ true
 in_known [] m i = absurd i
@@ -53,16 +49,16 @@ known_as o m h i e = subst (λ (x : Member). is_known h x ≡ true) e (in_known 
 pub target_known : (h : List OpData) → IsValid h → (t : NameData) (g : ℕ) → is_known h (Group t g) ≡ true → is_known h (Original t) ≡ true
 target_known h v t g known = (group_facts h (complete h v) t g known).target
 
--- an operation of a valid history, with what stands before and behind it
+-- an operation of a valid history, with what stands before and after it
 pub record IsPlacedIn (h : List OpData) (o : OpData) : Type 0 where
   pub before : List OpData
-  pub behind : List OpData
-  pub whole : h ≡ before ++ (o ∷ behind)
+  pub after : List OpData
+  pub whole : h ≡ before ++ (o ∷ after)
   pub next : IsNext before o
 
 placed_after : (b os : List OpData) → IsValidAfter b os → (o : OpData) → IsIn o os → IsPlacedIn (b ++ os) o
 placed_after b [] v o i = absurd i
-placed_after b (p ∷ ps) v o (inl e) = record { before = b; behind = ps; whole = ap (λ (q : OpData). b ++ (q ∷ ps)) (sym e); next = subst (IsNext b) (sym e) v.0 }
+placed_after b (p ∷ ps) v o (inl e) = record { before = b; after = ps; whole = ap (λ (q : OpData). b ++ (q ∷ ps)) (sym e); next = subst (IsNext b) (sym e) v.0 }
 placed_after b (p ∷ ps) v o (inr i) = subst (λ (h : List OpData). IsPlacedIn h o) (shifted b p ps) (placed_after (b ++ (p ∷ [])) ps v.1 o i)
 
 pub placed_in : (h : List OpData) → IsValid h → (o : OpData) → IsIn o h → IsPlacedIn h o

@@ -8,8 +8,7 @@ use Rattle.context_vector.specs.Contexts.{ContextData, has}
 use Rattle.context_diff.specs.Operations.{OpData, inserting, deleting, undoing, member_of, context_of, is_insert}
 use Rattle.context_diff.specs.Histories.{members_in, is_known, inserts_in, IsValid}
 use Rattle.context_diff.specs.Bases.{base_has}
-use Rattle.context_diff.proofs.Complete.{IsComplete, complete}
-use Rattle.context_diff.proofs.ClosedSets.{group_has_target, base_listed, base_closed, base_itself}
+use Rattle.context_diff.proofs.CallerLemmas.{IsComplete, complete, group_has_target, base_listed, base_closed, base_itself}
 use Rattle.ttf_form.specs.declared.ins.Ins.{Ins}
 use Rattle.ttf_form.specs.declared.form.Form.{Form}
 use Rattle.ttf_form.specs.declared.form.Form.TheVariants.{Ins as Insert, Cover as Covered}
@@ -48,8 +47,8 @@ module _ (h : List OpData) (v : IsValid h) (form : Member → Form) (forms : Are
   placed_weight o n i is =
       let a = placed_in h v o i in
       let one = inserts_weigh h (context_of o) (base_has h (Original n)) (λ p j. j) (λ y e. context_of_original h v o n i is y ∙ e) in
-      let two = inserts_behind a.before (o ∷ a.behind) (context_of o) in
-      let all : inserts_in h (context_of o) ≡ inserts_in (a.before ++ (o ∷ a.behind)) (context_of o) = ap (λ (l : List OpData). inserts_in l (context_of o)) a.whole in
+      let two = inserts_behind a.before (o ∷ a.after) (context_of o) in
+      let all : inserts_in h (context_of o) ≡ inserts_in (a.before ++ (o ∷ a.after)) (context_of o) = ap (λ (l : List OpData). inserts_in l (context_of o)) a.whole in
       omega arith
 
   insert_place : (n : NameData) (p ch : ℕ) (c : ContextData) → IsIn (inserting n p ch c) h → p ≤ weight_of (base_has h (Original n))

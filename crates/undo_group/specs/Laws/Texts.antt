@@ -4,6 +4,7 @@ use Rattle.op_name.specs.declared.member.Member.{Member}
 use Rattle.context_diff.specs.Operations.{OpData, member_of}
 use Rattle.context_diff.specs.Histories.{members_in}
 use Rattle.context_diff.specs.Bases.{base_has}
+use Rattle.ttf_form.specs.declared.include.TheConstants.{CELLS}
 use Rattle.ttf_form.specs.declared.form.Form.{Form}
 use Rattle.ttf_form.specs.declared.form.Form.TheVariants.{Ins as Insert, Cover as Covered}
 use Rattle.ttf_form.specs.Forms.{extent_of, IsBoundedForm, ApartForms}
@@ -30,7 +31,7 @@ as_many : (h : List OpData) → length (members_in h) ≡ length h
 as_many [] = refl
 as_many (o ∷ os) = let rest = as_many os in omega arith
 
-pub base_forms_total : (h : List OpData) → IsShortHistory h → total_by (λ x. extent_of (base_form h x)) (members_in h) ≤ 4294967295
+pub base_forms_total : (h : List OpData) → IsShortHistory h → total_by (λ x. extent_of (base_form h x)) (members_in h) ≤ CELLS
 base_forms_total h s =
     let low = total_short (λ (x : Member). extent_of (base_form h x)) (members_in h) (λ x. extent_low (base_form h x)) in
     let many = as_many h in
