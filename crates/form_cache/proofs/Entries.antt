@@ -59,7 +59,7 @@ module _ {F : Type 0} where
 -- ---- the entry that is put last
 
 module _ {K V : Type 0} (test : K → Bool) where
-  -- an entry behind others of which none passes is the one that is found and taken out
+  -- an entry after others of which none passes is the one that is found and taken out
   found_behind : (es : List (K × V)) (e : K × V) → lookup test es ≡ None → test e.0 ≡ true → (lookup_entry test (es ++ e ∷ []) ≡ Some e) × (remove_entry test (es ++ e ∷ []) ≡ es)
   found_behind [] e lacks passes = rw passes (refl, refl)
   found_behind (f ∷ es) e lacks passes = (elim (test f.0) as (λ y. test f.0 ≡ y → (lookup_entry test (f ∷ es ++ e ∷ []) ≡ Some e) × (remove_entry test (f ∷ es ++ e ∷ []) ≡ f ∷ es)) [

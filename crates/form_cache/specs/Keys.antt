@@ -5,7 +5,7 @@ use Rattle.std.specs.Bool.{Decides}
 use Rattle.std.specs.Cmp.{IsEquivalence, IsPartialEquivalence, decided, partial_equiv_from_equiv, first_so, second_so}
 use Rattle.op_name.specs.declared.member.Member.{Member}
 use Rattle.op_name.specs.Members.{member_eq}
-use Rattle.op_name.proofs.Orders.{member_same, member_itself}
+use Rattle.op_name.proofs.CallerLemmas.{member_same, member_itself}
 use Rattle.context_vector.specs.Contexts.{ContextData}
 use Rattle.context_vector.specs.Equality.{context_eq, context_eq_decides}
 

@@ -96,7 +96,7 @@ impl<F: Copy> Cache<F> {
     }
 
     /// Puts the form first, under its key, for more uses than one; where the key is new the last entry of a full cache
-    /// is dropped. Where memory is wanting what was given is dropped; a key that is there never wants memory.
+    /// is dropped. Out of memory it drops what was given; for a key that is there it needs none.
     pub fn keep(&mut self, key: Key, form: F)
         ensures entries { (self.new.entries ≡ with_form self.old key form false) ⊎ (self.new.entries ≡ self.old.entries) }
         ensures there { IsSome (form_at self.old.entries key) → self.new.entries ≡ with_form self.old key form false }
