@@ -15,11 +15,7 @@ use Rattle.context_vector.specs.Equality.{context_eq, context_eq_decides}
 use Rattle.context_diff.specs.Operations.{OpData, member_of}
 use Rattle.context_diff.specs.Histories.{members_in, IsValid}
 use Rattle.context_diff.specs.Bases.{base_has}
-use Rattle.context_diff.specs.Differences.{IsClosedSet}
-use Rattle.context_diff.proofs.Raising.{has_number, has_original, has_generation, has_group}
-use Rattle.context_diff.proofs.Complete.{complete}
-use Rattle.context_diff.proofs.Histories.{own_earlier}
-use Rattle.context_diff.proofs.ClosedSets.{in_original, in_group_below, below_group}
+use Rattle.context_diff.proofs.CallerLemmas.{IsClosedSet, has_number, has_original, has_generation, has_group, complete, own_earlier, in_original, in_group_below, below_group}
 use Rattle.ttf_form.specs.Families.{IsIn}
 use Rattle.form_cache.specs.Keys.{KeyData}
 use Rattle.form_cache.specs.Entries.{Entries, form_at}
@@ -28,7 +24,7 @@ use Rattle.transform_rec.specs.Family.{Family, IsCausalFamily, IsSound}
 use Rattle.transform_rec.specs.Derived.Derived.{at_base}
 use Rattle.transform_rec.specs.Executing.{IsCausalFrom}
 use Rattle.transform_rec.specs.Histories.{family_in, members_alone, MayBeAddedTo}
-use Rattle.transform_rec.specs.Ways.{IsOnWay, IsWalk, IsWayBack}
+use Rattle.transform_rec.specs.Code.Pending.{IsOnWay, IsWalk, IsWayBack}
 use Rattle.transform_rec.specs.Entries.{AreForms}
 use Rattle.transform_rec.proofs.Lists.{LastOf, in_middle}
 use Rattle.transform_rec.proofs.Sets.{plus_same, minus_parts, minus_from, minus_here, minus_plus, all_same}
@@ -40,29 +36,29 @@ use Rattle.transform_rec.proofs.Keeping.{found_form}
 module _ {F : Type 0} (b : Family F) (c : IsCausalFamily b) where
   -- each member of C that stands in the list is in m's base context
   abbrev pub IsLate : Member → (Member → Bool) → List Member → Type 0
-  IsLate m C behind = (y : Member) → C y ≡ true → IsIn y behind → b.context m y ≡ true
+  IsLate m C after = (y : Member) → C y ≡ true → IsIn y after → b.context m y ≡ true
 
   -- x, with what stands around it, as the last member of the difference
-  last_between : (m x : Member) (C : Member → Bool) (before behind : List Member) → b.members ≡ before ++ (x ∷ behind) → C x ≡ true → b.context m x ≡ false → IsLate m C behind → LastOf (λ y. C y && not (b.context m y)) b.members
-  last_between m x C before behind whole there out late = record {
+  last_between : (m x : Member) (C : Member → Bool) (before after : List Member) → b.members ≡ before ++ (x ∷ after) → C x ≡ true → b.context m x ≡ false → IsLate m C after → LastOf (λ y. C y && not (b.context m y)) b.members
+  last_between m x C before after whole there out late = record {
     it = x;
     before = before;
-    behind = behind;
+    after = after;
     whole = whole;
     passes = and_from (C x) (not (b.context m x)) there (not_from_false (b.context m x) out);
     rest = λ z i. false_from_ne_true (C z && not (b.context m z)) (λ t. let p = and_parts (C z) (not (b.context m z)) t in both_ways (b.context m z) (not-true (b.context m z) p.1) (late z p.0 i));
   }
 
-  without_x : (m x : Member) (C : Member → Bool) (before behind : List Member) → b.members ≡ before ++ (x ∷ behind) → C x ≡ true → b.context m x ≡ false → IsLate m C behind → IsSound b m C → IsSound b m (minus C x) × IsSound b x (minus C x)
+  without_x : (m x : Member) (C : Member → Bool) (before after : List Member) → b.members ≡ before ++ (x ∷ after) → C x ≡ true → b.context m x ≡ false → IsLate m C after → IsSound b m C → IsSound b m (minus C x) × IsSound b x (minus C x)
   unfolding last_between
-  without_x m x C before behind whole there out late s =
-      let l = last_between m x C before behind whole there out late in
+  without_x m x C before after whole there out late s =
+      let l = last_between m x C before after whole there out late in
       (mine_without b c m C s l, its_without b c m C s l)
 
   -- one member less
-  pub back_on : (m x : Member) (T C D : Member → Bool) (before behind rest : List Member) → b.members ≡ before ++ (x ∷ behind) → C x ≡ true → b.context m x ≡ false → IsLate m C behind → SameSet D (minus C x) → IsWayBack b m T C rest → IsWayBack b m T D (x ∷ rest)
-  back_on m x T C D before behind rest whole there out late same w =
-      let r = without_x m x C before behind whole there out late w.sound in
+  pub back_on : (m x : Member) (T C D : Member → Bool) (before after rest : List Member) → b.members ≡ before ++ (x ∷ after) → C x ≡ true → b.context m x ≡ false → IsLate m C after → SameSet D (minus C x) → IsWayBack b m T C rest → IsWayBack b m T D (x ∷ rest)
+  back_on m x T C D before after rest whole there out late same w =
+      let r = without_x m x C before after whole there out late w.sound in
       let back : SameSet (minus C x) D = λ (z : Member). sym (same z) in
       let put : SameSet C (plus D x) = λ (z : Member). minus_plus C x there z ∙ plus_same (minus C x) D x back z in
       record {
@@ -72,8 +68,8 @@ module _ {F : Type 0} (b : Family F) (c : IsCausalFamily b) where
       }
 
   -- x may be added to what is left
-  pub its_own : (m x : Member) (C : Member → Bool) (before behind : List Member) → b.members ≡ before ++ (x ∷ behind) → C x ≡ true → b.context m x ≡ false → IsLate m C behind → IsSound b m C → IsSound b x (minus C x)
-  its_own m x C before behind whole there out late s = (without_x m x C before behind whole there out late s).1
+  pub its_own : (m x : Member) (C : Member → Bool) (before after : List Member) → b.members ≡ before ++ (x ∷ after) → C x ≡ true → b.context m x ≡ false → IsLate m C after → IsSound b m C → IsSound b x (minus C x)
+  its_own m x C before after whole there out late s = (without_x m x C before after whole there out late s).1
 
 -- ---- lists by places
 
@@ -139,7 +135,7 @@ module _ (h : List OpData) (v : IsValid h) (m : Member) where
   IsLateFrom C i = (y : Member) → C y ≡ true → IsIn y (drop i (members_in h)) → base_has h m y ≡ true
 
   abbrev pub Back : (Member → Bool) → (Member → Bool) → List Member → Type 0
-  Back T C stack = IsWayBack (members_alone h) m T C (reverse stack)
+  Back T C taken = IsWayBack (members_alone h) m T C (reverse taken)
 
   pub late_end : (C : Member → Bool) (i : ℕ) → length (members_in h) ≤ i → IsLateFrom C i
   late_end C i past y there i-in = absurd (subst (λ (l : List Member). IsIn y l) (drop_all i (members_in h) past) i-in)
@@ -165,13 +161,13 @@ module _ (h : List OpData) (v : IsValid h) (m : Member) where
       (λ there. absurd (both_ways (minus C x x) (minus_here C x) (sym (same x) ∙ there)))
       (λ y there i-in. late y (minus_parts C x y (sym (same y) ∙ there)).0 i-in)
 
-  pub back_taken : (x : Member) (T C D : Member → Bool) (i j : ℕ) (stack : List Member) → j + 1 ≡ i → slice_get (members_in h) j ≡ Some x → C x ≡ true → base_has h m x ≡ false → SameSet D (minus C x) → IsLateFrom C i → Back T C stack → Back T D (stack ++ (x ∷ []))
-  back_taken x T C D i j stack e at there out same late w =
-      subst (λ (l : List Member). IsWayBack (members_alone h) m T D l) (sym (reverse-append stack (x ∷ [])))
-      (back_on (members_alone h) alone m x T C D (take j (members_in h)) (drop (j + 1) (members_in h)) (reverse stack) (parts_at (members_in h) j x at) there out (late_at C i j e late) same w)
+  pub back_taken : (x : Member) (T C D : Member → Bool) (i j : ℕ) (taken : List Member) → j + 1 ≡ i → slice_get (members_in h) j ≡ Some x → C x ≡ true → base_has h m x ≡ false → SameSet D (minus C x) → IsLateFrom C i → Back T C taken → Back T D (taken ++ (x ∷ []))
+  back_taken x T C D i j taken e at there out same late w =
+      subst (λ (l : List Member). IsWayBack (members_alone h) m T D l) (sym (reverse-append taken (x ∷ [])))
+      (back_on (members_alone h) alone m x T C D (take j (members_in h)) (drop (j + 1) (members_in h)) (reverse taken) (parts_at (members_in h) j x at) there out (late_at C i j e late) same w)
 
-  pub back_last : (x : Member) (T : Member → Bool) (c : ContextData) (i j : ℕ) (stack : List Member) → j + 1 ≡ i → slice_get (members_in h) j ≡ Some x → has c x ≡ true → base_has h m x ≡ false → IsLateFrom (has c) i → Back T (has c) stack → IsLastMember c x
-  back_last x T c i j stack e at there out late w =
+  pub back_last : (x : Member) (T : Member → Bool) (c : ContextData) (i j : ℕ) (taken : List Member) → j + 1 ≡ i → slice_get (members_in h) j ≡ Some x → has c x ≡ true → base_has h m x ≡ false → IsLateFrom (has c) i → Back T (has c) taken → IsLastMember c x
+  back_last x T c i j taken e at there out late w =
       let s = its_own (members_alone h) alone m x (has c) (take j (members_in h)) (drop (j + 1) (members_in h)) (parts_at (members_in h) j x at) there out (late_at (has c) i j e late) w.sound in
       taken_last h v c x there (closed_is_set h (λ y. tt) (minus (has c) x) s.set)
 
@@ -179,10 +175,10 @@ module _ (h : List OpData) (v : IsValid h) (m : Member) where
 
 module _ (h : List OpData) (v : IsValid h) (from : KeyData) where
   abbrev pub Walk : KeyData → List Member → ℕ → Type 0
-  Walk at stack i = IsWalk h from at stack i
+  Walk at taken i = IsWalk h from at taken i
 
-  pub walk_first : (stack : List Member) (i : ℕ) → MayBeAddedTo h from.context from.member → stack ≡ [] → i ≡ length h → Walk from stack i
-  walk_first stack i a e long =
+  pub walk_first : (taken : List Member) (i : ℕ) → MayBeAddedTo h from.context from.member → taken ≡ [] → i ≡ length h → Walk from taken i
+  walk_first taken i a e long =
       let same : length (members_in h) ≡ length h = length-map h member_of in
       record {
         near = omega arith;
@@ -204,25 +200,25 @@ module _ (h : List OpData) (v : IsValid h) (from : KeyData) where
       let p = and_parts (has at.context x) (not (has own x)) e in
       (p.0, sym (is x) ∙ not-true (has own x) p.1)
 
-  pub walk_last : (at : KeyData) (stack : List Member) (i j : ℕ) (own : ContextData) (x : Member) → j + 1 ≡ i → slice_get (members_in h) j ≡ Some x → IsOwn own → (has at.context x && not (has own x)) ≡ true → Walk at stack i → IsLastMember at.context x
-  walk_last at stack i j own x e here is t w =
+  pub walk_last : (at : KeyData) (taken : List Member) (i j : ℕ) (own : ContextData) (x : Member) → j + 1 ≡ i → slice_get (members_in h) j ≡ Some x → IsOwn own → (has at.context x && not (has own x)) ≡ true → Walk at taken i → IsLastMember at.context x
+  walk_last at taken i j own x e here is t w =
       let p = between at own x is t in
-      back_last h v from.member x (has from.context) at.context i j stack e here p.0 p.1 w.late w.back
+      back_last h v from.member x (has from.context) at.context i j taken e here p.0 p.1 w.late w.back
 
-  pub walk_taken : (at to : KeyData) (stack more : List Member) (i j : ℕ) (own : ContextData) (x : Member) → j + 1 ≡ i → slice_get (members_in h) j ≡ Some x → IsOwn own → (has at.context x && not (has own x)) ≡ true → SameSet (has to.context) (minus (has at.context) x) → to.member ≡ at.member → more ≡ stack ++ (x ∷ [])
-      → Walk at stack i → Walk to more j
-  walk_taken at to stack more i j own x e here is t same member long w =
+  pub walk_taken : (at to : KeyData) (taken more : List Member) (i j : ℕ) (own : ContextData) (x : Member) → j + 1 ≡ i → slice_get (members_in h) j ≡ Some x → IsOwn own → (has at.context x && not (has own x)) ≡ true → SameSet (has to.context) (minus (has at.context) x) → to.member ≡ at.member → more ≡ taken ++ (x ∷ [])
+      → Walk at taken i → Walk to more j
+  walk_taken at to taken more i j own x e here is t same member long w =
       let p = between at own x is t in
       let near = w.near in
       record {
         near = omega arith;
         member = member ∙ w.member;
-        back = subst (λ (s : List Member). Back h v from.member (has from.context) (has to.context) s) (sym long) (back_taken h v from.member x (has from.context) (has at.context) (has to.context) i j stack e here p.0 p.1 same w.late w.back);
+        back = subst (λ (s : List Member). Back h v from.member (has from.context) (has to.context) s) (sym long) (back_taken h v from.member x (has from.context) (has at.context) (has to.context) i j taken e here p.0 p.1 same w.late w.back);
         late = late_taken h v from.member x (has at.context) (has to.context) i j e here same w.late;
       }
 
-  pub walk_past : (at : KeyData) (stack : List Member) (i j : ℕ) (own : ContextData) (x : Member) → j + 1 ≡ i → slice_get (members_in h) j ≡ Some x → IsOwn own → (has at.context x && not (has own x)) ≡ false → Walk at stack i → Walk at stack j
-  walk_past at stack i j own x e here is t w =
+  pub walk_past : (at : KeyData) (taken : List Member) (i j : ℕ) (own : ContextData) (x : Member) → j + 1 ≡ i → slice_get (members_in h) j ≡ Some x → IsOwn own → (has at.context x && not (has own x)) ≡ false → Walk at taken i → Walk at taken j
+  walk_past at taken i j own x e here is t w =
       let near = w.near in
       let seen : has at.context x ≡ true → base_has h from.member x ≡ true = λ (there : has at.context x ≡ true).
       elim (cases_Bool (has own x)) [ inl k ↦ sym (is x) ∙ k | inr k ↦ absurd (both_ways (has at.context x && not (has own x)) t (and_from (has at.context x) (not (has own x)) there (not_from_false (has own x) k))) ] in

@@ -4,7 +4,8 @@ use Rattle.std.proofs.lemmas.Bool.{both_ways, false_from_ne_true}
 use Rattle.op_name.specs.declared.member.Member.{Member}
 use Rattle.transform_rec.specs.Sets.{none, plus}
 use Rattle.ttf_form.specs.Families.{IsIn}
-use Rattle.transform_rec.specs.Lists.{AreApart, SameElements, IsRising}
+use Rattle.transform_rec.specs.Lists.{AreApart, SameElements}
+use Rattle.transform_rec.proofs.Counting.{IsRising}
 use Rattle.transform_rec.specs.Family.{Family, IsCausal, IsCausalFamily, IsClosed, IsSound}
 use Rattle.transform_rec.specs.Executing.{IsCausalFrom}
 use Rattle.transform_rec.proofs.Sets.{plus_here, plus_keeps, plus_lacks}

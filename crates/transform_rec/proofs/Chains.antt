@@ -1,4 +1,4 @@
--- Lists of pairs that wait for one another, and the greatest work that is left to them.
+-- Stacks of pairs that wait for one another, and the greatest work that is left to them.
 use Rattle.std.proofs.Common.{◌≡◌, ℕ, zero, suc, ◌+◌, ◌<◌, ◌≤◌, Bool, List, [], ◌∷◌, ◌++◌, length, reverse, refl, sym, ap, ap₂, subst, ◌∙◌, arith}
 use Rattle.std.proofs.lemmas.List.{reverse-append, length-append, length-reverse}
 use Rattle.op_name.specs.declared.member.Member.{Member}
@@ -8,7 +8,7 @@ use Rattle.transform_rec.specs.Sets.{plus, plus_all}
 use Rattle.transform_rec.specs.Family.{Family, IsCausalFamily, size}
 use Rattle.transform_rec.specs.Executing.{IsCausalFrom}
 use Rattle.transform_rec.specs.declared.pending.Pending.{Pending}
-use Rattle.transform_rec.specs.Ways.{IsOnWay, IsPending, IsWaiting, IsStep, IsChain, first}
+use Rattle.transform_rec.specs.Code.Pending.{IsOnWay, IsPending, IsWaiting, IsStep, IsChain, first}
 use Rattle.transform_rec.proofs.Sets.{same_set}
 use Rattle.transform_rec.proofs.Families.{size_plus}
 
@@ -89,7 +89,7 @@ module _ {F : Type 0} (b : Family F) where
   unfoldable pub work : Pending F → ℕ
   work p = left (size b (has p.at.context)) (length p.rest.items)
 
-  -- of a pair that waits: the work behind the member that it waits for
+  -- of a pair that waits: the work after the member that it waits for
   unfoldable pub later_work : Pending F → ℕ
   later_work p = left (suc (size b (has p.at.context))) (length p.rest.items)
 
@@ -137,7 +137,7 @@ module _ {F : Type 0} (over : F → F → F) (b : Family F) (c : IsCausalFamily 
       let size_is = size_target (has p.at.context) q w in
       subst (λ (n : ℕ). left (size b (has q.at.context)) (length q.rest.items) < pow2 (suc n)) (sym size_is) (left_less (size b (has q.at.context)) (length q.rest.items))
 
-  -- the work falls where a member is added, where a pair is put on the list, and where one is taken from it
+  -- the work falls where a member is added, where a pair is pushed, and where one is popped
   pub falls_added : (ps : List (Pending F)) (x : Member) (T : Member → Bool) (p q r : Pending F) → q.at ≡ p.at → p.rest.items ≡ q.rest.items ++ (x ∷ []) → IsWaiting over b T x q → IsStep over b x q r → list_work b ps + work b r < list_work b ps + work b p
   falls_added ps x T p q r key rest w s =
       let was = work_waits x p q key rest in

@@ -4,6 +4,7 @@ use Rattle.std.proofs.lemmas.Bool.{both_ways}
 use Rattle.op_name.specs.NameData.{NameData}
 use Rattle.op_name.specs.declared.member.Member.{Member}
 use Rattle.op_name.specs.declared.member.Member.TheVariants.{Original}
+use Rattle.op_name.proofs.CallerLemmas.{member_itself}
 use Rattle.transform_rec.specs.Sets.{none, SameSet, plus, plus_all}
 use Rattle.ttf_form.specs.Families.{IsIn}
 use Rattle.transform_rec.specs.Lists.{AreApart}
@@ -12,7 +13,7 @@ use Rattle.transform_rec.specs.Derived.{Derived}
 use Rattle.transform_rec.specs.Derived.Derived.{at_base, by_step}
 use Rattle.ttf_form.specs.Names.{LacksName, NewNames}
 use Rattle.transform_rec.specs.Executing.{Setting, deriving_of, IsCausalFrom, AreFormsFrom, executed, own, IsStateAt}
-use Rattle.transform_rec.proofs.Members.{member_cases, member_self}
+use Rattle.transform_rec.proofs.Members.{member_cases}
 use Rattle.transform_rec.proofs.Lists.{in_cases, in_take, in_drop, length-put, sum_none}
 use Rattle.transform_rec.proofs.Sets.{same_set, plus_here, plus_keeps}
 use Rattle.transform_rec.proofs.Forms.{derived_sound, derived_bounded, weight_plus, list_forms}
@@ -64,7 +65,7 @@ module _ {F S : Type 0} (w : Setting F S) where
       elim (member_cases x (Original c.0)) [ inl e ↦ e | inr ne ↦ absurd (lacks_in (w.table.added (w.family.form x)) c.0 c (w.own_names x c.0 s.listed ne) j refl) ]
 
   pub added_own : (x : Member) (C : Member → Bool) (f : F) → IsForm x C f → (c : NameData × ℕ) → IsIn c (w.table.added f) → own x c ≡ true
-  added_own x C f df c i = subst (λ (z : Member). own z c ≡ true) (sym (added_owner x C f df c i)) (member_self (Original c.0))
+  added_own x C f df c i = subst (λ (z : Member). own z c ≡ true) (sym (added_owner x C f df c i)) (member_itself (Original c.0))
 
   -- ---- an addable form fits
 
@@ -79,8 +80,9 @@ module _ {F S : Type 0} (w : Setting F S) where
   pub state_more : (C : Member → Bool) (s : S) (x : Member) (f : F) → At C s → IsForm x C f → At (plus C x) (w.table.apply s f)
   state_more C s x f st df =
       let cs = w.table.cells s in
-      let p = w.table.inclusion.place f in
-      let whole = w.laws.kept_at s f (addable_fits C s x f st df) in
+      let put = w.laws.kept s f (addable_fits C s x f st df) in
+      let p = put.at in
+      let whole = put.is in
       let long : length (w.table.cells (w.table.apply s f)) ≡ length cs + length (w.table.added f) = ap length whole ∙ length-put p cs (w.table.added f) in
       let many = w.laws.added_length f in
       let more = weight_plus (deriving_of w) x C f df in

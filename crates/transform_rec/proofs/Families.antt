@@ -16,14 +16,14 @@ causal_self context (y ∷ ys) m c (inl e) = subst (λ (z : Member). context z z
 causal_self context (y ∷ ys) m c (inr i) = causal_self context ys m c.1 i
 
 -- a member before x doesn't have x in its context
-pub causal_before : (context : Member → Member → Bool) (before : List Member) (x : Member) (behind : List Member) (y : Member) → IsCausal context (before ++ (x ∷ behind)) → IsIn y before → context y x ≡ false
-causal_before context [] x behind y c i = absurd i
-causal_before context (w ∷ before) x behind y c (inl e) = subst (λ (z : Member). context z x ≡ false) (sym e) (c.0 x (inr (here before)))
+pub causal_before : (context : Member → Member → Bool) (before : List Member) (x : Member) (after : List Member) (y : Member) → IsCausal context (before ++ (x ∷ after)) → IsIn y before → context y x ≡ false
+causal_before context [] x after y c i = absurd i
+causal_before context (w ∷ before) x after y c (inl e) = subst (λ (z : Member). context z x ≡ false) (sym e) (c.0 x (inr (here before)))
   where
-    here : (xs : List Member) → IsIn x (xs ++ (x ∷ behind))
+    here : (xs : List Member) → IsIn x (xs ++ (x ∷ after))
     here [] = inl refl
     here (z ∷ zs) = inr (here zs)
-causal_before context (w ∷ before) x behind y c (inr i) = causal_before context before x behind y c.1 i
+causal_before context (w ∷ before) x after y c (inr i) = causal_before context before x after y c.1 i
 
 module _ {F : Type 0} (b : Family F) where
   -- ---- closed sets
@@ -98,7 +98,7 @@ module _ {F : Type 0} (b : Family F) where
             let back : b.context y x ≡ true = subst (λ (w : Member). b.context y w ≡ true) (sym e) k in
             let unseen : b.context m y ≡ false = false_from_ne_true (b.context m y) (λ t. both_ways (b.context m x) out (c.closed m y s.listed t x back)) in
             let passes : (C y && not (b.context m y)) ≡ true = and_from (C y) (not (b.context m y)) p.0 (not_from_false (b.context m y) unseen) in
-            elim (in_cases y l.before (x ∷ l.behind) (subst (λ (ys : List Member). IsIn y ys) l.whole i)) [ inl j ↦ both_ways (b.context y x) (causal_before b.context l.before x l.behind y (subst (λ (ys : List Member). IsCausal b.context ys) l.whole c.causal) j) back | inr (inl e2) ↦ p.1 (sym e2) | inr (inr j) ↦ both_ways (C y && not (b.context m y)) (l.rest y j) passes ] in
+            elim (in_cases y l.before (x ∷ l.after) (subst (λ (ys : List Member). IsIn y ys) l.whole i)) [ inl j ↦ both_ways (b.context y x) (causal_before b.context l.before x l.after y (subst (λ (ys : List Member). IsCausal b.context ys) l.whole c.causal) j) back | inr (inl e2) ↦ p.1 (sym e2) | inr (inr j) ↦ both_ways (C y && not (b.context m y)) (l.rest y j) passes ] in
             minus_from C x z (s.set.closed y p.0 z k) apart;
       }
 

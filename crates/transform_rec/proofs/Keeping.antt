@@ -6,14 +6,11 @@ use Rattle.op_name.specs.declared.member.Member.{Member}
 use Rattle.context_vector.specs.Contexts.{ContextData, has}
 use Rattle.context_diff.specs.Operations.{OpData, member_of}
 use Rattle.context_diff.specs.Histories.{members_in, is_known, IsValid}
-use Rattle.context_diff.proofs.Known.{contains_none}
-use Rattle.context_diff.proofs.Valid.{valid_parts}
-use Rattle.context_diff.proofs.Complete.{complete}
-use Rattle.context_diff.proofs.Order.{base_on}
+use Rattle.context_diff.proofs.CallerLemmas.{contains_none, valid_parts, complete, base_on}
 use Rattle.form_cache.specs.declared.cache.Kept.{Kept}
 use Rattle.form_cache.specs.Keys.{KeyData}
 use Rattle.form_cache.specs.Entries.{Entries, CacheData, form_at, used, asked, with_form}
-use Rattle.form_cache.proofs.Entries.{found_entry, used_entry, asked_entry, put_entry}
+use Rattle.form_cache.proofs.CallerLemmas.{found_entry, used_entry, asked_entry, put_entry}
 use Rattle.ttf_form.specs.Families.{IsIn}
 use Rattle.transform_rec.specs.Family.{Family, IsCausalFamily}
 use Rattle.transform_rec.specs.Derived.{Derived, IsOnlyFormAt, Holds}

@@ -1,4 +1,5 @@
 pub mod Members
+pub mod Counting
 pub mod Lists
 pub mod Sets
 pub mod Families
@@ -20,3 +21,4 @@ pub mod Chains
 pub mod Keeping
 pub mod Steps
 pub mod WorkLists
+pub mod CallerLemmas

@@ -2,7 +2,7 @@
 use Rattle.std.proofs.Common.{◌≡◌, ◌≢◌, ℕ, ◌+◌, ◌≤◌, Bool, true, false, cond, ◌||◌, List, [], ◌∷◌, ◌++◌, length, take, drop, filter, if◌then◌else◌, ◌⊎◌, inl, inr, refl, sym, ap, ap₂, subst, ◌∙◌, arith, take-append-drop, length-append}
 use Rattle.std.proofs.lemmas.Bool.{cases_Bool, both_ways, or_right, or_left}
 use Rattle.ttf_form.specs.Families.{IsIn, sum_where, total_by}
-use Rattle.transform_rec.specs.Lists.{count, either, EachAt}
+use Rattle.transform_rec.proofs.Counting.{count, either, EachAt}
 
 -- ---- what is in a list
 
@@ -39,31 +39,31 @@ in_without z x (w ∷ xs) ys (inr i) = inr (in_without z x xs ys i)
 pub in_middle : {A : Type 0} (x : A) (xs ys : List A) → IsIn x (xs ++ (x ∷ ys))
 in_middle x xs ys = in_right x xs (x ∷ ys) (inl refl)
 
--- a list as what stands before one of its elements, the element, and what stands behind it
+-- a list as what stands before one of its elements, the element, and what stands after it
 pub record Around {A : Type 0} (x : A) (xs : List A) : Type 0 where
   pub before : List A
-  pub behind : List A
-  pub whole : xs ≡ before ++ (x ∷ behind)
+  pub after : List A
+  pub whole : xs ≡ before ++ (x ∷ after)
 
 pub around : {A : Type 0} (x : A) (xs : List A) → IsIn x xs → Around x xs
 around x [] i = absurd i
-around x (y ∷ ys) (inl e) = record { before = []; behind = ys; whole = ap (λ z. z ∷ ys) (sym e) }
+around x (y ∷ ys) (inl e) = record { before = []; after = ys; whole = ap (λ z. z ∷ ys) (sym e) }
 around x (y ∷ ys) (inr i) =
     let r = around x ys i in
-    record { before = y ∷ r.before; behind = r.behind; whole = ap (λ zs. y ∷ zs) r.whole }
+    record { before = y ∷ r.before; after = r.after; whole = ap (λ zs. y ∷ zs) r.whole }
 
--- a list as what stands before the last element that passes a test, that element, and what stands behind it
+-- a list as what stands before the last element that passes a test, that element, and what stands after it
 pub record LastOf {A : Type 0} (p : A → Bool) (xs : List A) : Type 0 where
   pub it : A
   pub before : List A
-  pub behind : List A
-  pub whole : xs ≡ before ++ (it ∷ behind)
+  pub after : List A
+  pub whole : xs ≡ before ++ (it ∷ after)
   pub passes : p it ≡ true
-  pub rest : (z : A) → IsIn z behind → p z ≡ false
+  pub rest : (z : A) → IsIn z after → p z ≡ false
 
 last_by : {A : Type 0} (p : A → Bool) (x : A) (xs : List A) → ((z : A) → IsIn z xs → p z ≡ false) ⊎ LastOf p xs → (p x ≡ true) ⊎ (p x ≡ false) → ((z : A) → IsIn z (x ∷ xs) → p z ≡ false) ⊎ LastOf p (x ∷ xs)
-last_by p x xs (inr l) c = inr (record { it = l.it; before = x ∷ l.before; behind = l.behind; whole = ap (λ ys. x ∷ ys) l.whole; passes = l.passes; rest = l.rest })
-last_by p x xs (inl n) (inl e) = inr (record { it = x; before = []; behind = xs; whole = refl; passes = e; rest = n })
+last_by p x xs (inr l) c = inr (record { it = l.it; before = x ∷ l.before; after = l.after; whole = ap (λ ys. x ∷ ys) l.whole; passes = l.passes; rest = l.rest })
+last_by p x xs (inl n) (inl e) = inr (record { it = x; before = []; after = xs; whole = refl; passes = e; rest = n })
 last_by {A} p x xs (inl n) (inr e) = inl (each_cons (λ (z : A). p z ≡ false) x xs e n)
 
 pub last_of : {A : Type 0} (p : A → Bool) (xs : List A) → ((z : A) → IsIn z xs → p z ≡ false) ⊎ LastOf p xs
@@ -145,7 +145,7 @@ length-count p (x ∷ xs) = let ih = length-count p xs in elim (cases_Bool (p x)
 
 -- ---- parts
 
--- keeping some elements of the parts before and behind a place
+-- keeping some elements of the parts before and after a place
 pub filter-parts : {A : Type 0} (p : A → Bool) (n : ℕ) (xs : List A) → filter p (take n xs) ++ filter p (drop n xs) ≡ filter p xs
 filter-parts p n xs = sym (filter-append p (take n xs) (drop n xs)) ∙ ap (filter p) (take-append-drop n xs)
 

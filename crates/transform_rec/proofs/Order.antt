@@ -36,31 +36,31 @@ module _ {F S : Type 0} (w : Setting F S) where
 
   -- ---- to the front: a member whose base context is in the first set may be executed first
 
-  pub front_run : (before behind : List Member) (x : Member) (C : Member → Bool) → Run w C (before ++ (x ∷ behind)) → IsSubset (w.family.context x) C → Run w C (x ∷ (before ++ behind))
-  front_run [] behind x C r h = r
-  front_run (a ∷ before) behind x C r h =
-      let t = front_run before behind x (plus C a) r.1 (λ z i. plus_keeps C a z (h z i)) in
+  pub front_run : (before after : List Member) (x : Member) (C : Member → Bool) → Run w C (before ++ (x ∷ after)) → IsSubset (w.family.context x) C → Run w C (x ∷ (before ++ after))
+  front_run [] after x C r h = r
+  front_run (a ∷ before) after x C r h =
+      let t = front_run before after x (plus C a) r.1 (λ z i. plus_keeps C a z (h z i)) in
       let sx = sound_less w.family x a C t.0 r.0.set h in
       let ne : a ≢ x = (plus_parts C a x t.0.lacks).1 in
-      (sx, (sound_plus w.family a x C r.0 sx ne, run_moves w (plus (plus C a) x) (plus (plus C x) a) (before ++ behind) (plus_swap C a x) t.1))
+      (sx, (sound_plus w.family a x C r.0 sx ne, run_moves w (plus (plus C a) x) (plus (plus C x) a) (before ++ after) (plus_swap C a x) t.1))
 
-  pub move : (before behind : List Member) (x : Member) (C : Member → Bool) (s : S) (fs gs : List F) → At w C s → IsSubset (w.family.context x) C → Forms w C (before ++ (x ∷ behind)) fs → Forms w C (x ∷ (before ++ behind)) gs → run w s fs ≡ run w s gs
-  move [] behind x C s fs gs st h df dg = ap (run w s) (forms_once w (x ∷ behind) C fs gs df dg)
-  move (a ∷ before) behind x C s [] gs st h df dg = absurd df
-  move (a ∷ before) behind x C s (f ∷ fs) gs st h df dg =
+  pub move : (before after : List Member) (x : Member) (C : Member → Bool) (s : S) (fs gs : List F) → At w C s → IsSubset (w.family.context x) C → Forms w C (before ++ (x ∷ after)) fs → Forms w C (x ∷ (before ++ after)) gs → run w s fs ≡ run w s gs
+  move [] after x C s fs gs st h df dg = ap (run w s) (forms_once w (x ∷ after) C fs gs df dg)
+  move (a ∷ before) after x C s [] gs st h df dg = absurd df
+  move (a ∷ before) after x C s (f ∷ fs) gs st h df dg =
       let wider : IsSubset (w.family.context x) (plus C a) = λ (z : Member) (i : w.family.context x z ≡ true). plus_keeps C a z (h z i) in
-      let r = front_run before behind x (plus C a) (forms_run w (before ++ (x ∷ behind)) (plus C a) fs df.1) wider in
-      let hs = run_forms w (x ∷ (before ++ behind)) (plus C a) r in
-      let one = move before behind x (plus C a) (w.table.apply s f) fs hs.0 (state_more w C s a f st df.0) wider df.1 hs.1 in
-      let two = swap a x (before ++ behind) C s (f ∷ hs.0) gs st (df.0, hs.1) dg in
+      let r = front_run before after x (plus C a) (forms_run w (before ++ (x ∷ after)) (plus C a) fs df.1) wider in
+      let hs = run_forms w (x ∷ (before ++ after)) (plus C a) r in
+      let one = move before after x (plus C a) (w.table.apply s f) fs hs.0 (state_more w C s a f st df.0) wider df.1 hs.1 in
+      let two = swap a x (before ++ after) C s (f ∷ hs.0) gs st (df.0, hs.1) dg in
       one ∙ two
 
   -- ---- order independence
 
-  same_rest : (x : Member) (xs before behind ys : List Member) (C : Member → Bool) → SameElements (x ∷ xs) ys → ys ≡ before ++ (x ∷ behind) → Run w (plus C x) xs → Run w (plus C x) (before ++ behind) → SameElements xs (before ++ behind)
-  same_rest x xs before behind ys C e whole r q = record {
-    forth = λ z i. in_around z x before behind (plus_parts C x z (run_out w xs (plus C x) z r i)).1 (subst (λ (l : List Member). IsIn z l) whole (e.forth z (inr i)));
-    back = λ z i. elim (e.back z (subst (λ (l : List Member). IsIn z l) (sym whole) (in_without z x before behind i))) [ inl p ↦ absurd ((plus_parts C x z (run_out w (before ++ behind) (plus C x) z q i)).1 (sym p)) | inr j ↦ j ];
+  same_rest : (x : Member) (xs before after ys : List Member) (C : Member → Bool) → SameElements (x ∷ xs) ys → ys ≡ before ++ (x ∷ after) → Run w (plus C x) xs → Run w (plus C x) (before ++ after) → SameElements xs (before ++ after)
+  same_rest x xs before after ys C e whole r q = record {
+    forth = λ z i. in_around z x before after (plus_parts C x z (run_out w xs (plus C x) z r i)).1 (subst (λ (l : List Member). IsIn z l) whole (e.forth z (inr i)));
+    back = λ z i. elim (e.back z (subst (λ (l : List Member). IsIn z l) (sym whole) (in_without z x before after i))) [ inl p ↦ absurd ((plus_parts C x z (run_out w (before ++ after) (plus C x) z q i)).1 (sym p)) | inr j ↦ j ];
   }
 
   pub any_order : (xs ys : List Member) (C : Member → Bool) (s : S) (fs gs : List F) → At w C s → SameElements xs ys → Forms w C xs fs → Forms w C ys gs → run w s fs ≡ run w s gs
@@ -70,9 +70,9 @@ module _ {F S : Type 0} (w : Setting F S) where
   any_order (x ∷ xs) ys C s (f ∷ fs) gs st e df dg =
       let a = around x ys (e.forth x (inl refl)) in
       let covers = (derived_sound (deriving_of w) x C f df.0).covers in
-      let dg2 : Forms w C (a.before ++ (x ∷ a.behind)) gs = subst (λ (l : List Member). Forms w C l gs) a.whole dg in
-      let r = front_run a.before a.behind x C (forms_run w (a.before ++ (x ∷ a.behind)) C gs dg2) covers in
-      let hs = run_forms w (a.before ++ a.behind) (plus C x) r.1 in
-      let front = move a.before a.behind x C s gs (f ∷ hs.0) st covers dg2 (df.0, hs.1) in
-      let rest = any_order xs (a.before ++ a.behind) (plus C x) (w.table.apply s f) fs hs.0 (state_more w C s x f st df.0) (same_rest x xs a.before a.behind ys C e a.whole (forms_run w xs (plus C x) fs df.1) r.1) df.1 hs.1 in
+      let dg2 : Forms w C (a.before ++ (x ∷ a.after)) gs = subst (λ (l : List Member). Forms w C l gs) a.whole dg in
+      let r = front_run a.before a.after x C (forms_run w (a.before ++ (x ∷ a.after)) C gs dg2) covers in
+      let hs = run_forms w (a.before ++ a.after) (plus C x) r.1 in
+      let front = move a.before a.after x C s gs (f ∷ hs.0) st covers dg2 (df.0, hs.1) in
+      let rest = any_order xs (a.before ++ a.after) (plus C x) (w.table.apply s f) fs hs.0 (state_more w C s x f st df.0) (same_rest x xs a.before a.after ys C e a.whole (forms_run w xs (plus C x) fs df.1) r.1) df.1 hs.1 in
       rest ∙ sym front

@@ -6,10 +6,11 @@ use Rattle.op_name.specs.declared.member.Member.{Member}
 use Rattle.op_name.specs.declared.member.Member.TheVariants.{Original}
 use Rattle.transform_rec.specs.Sets.{none, IsSubset, SameSet, plus, meet, plus_all}
 use Rattle.ttf_form.specs.Families.{IsIn}
-use Rattle.transform_rec.specs.Lists.{SameElements, count, EachAt}
+use Rattle.transform_rec.specs.Lists.{SameElements}
+use Rattle.transform_rec.proofs.Counting.{count, EachAt}
 use Rattle.transform_rec.specs.Family.{IsClosed}
 use Rattle.transform_rec.specs.Derived.{weight}
-use Rattle.transform_rec.specs.Executing.{Setting, deriving_of, keep, own}
+use Rattle.transform_rec.specs.Executing.{Setting, AddsAtPlace, deriving_of, keep, own}
 use Rattle.transform_rec.proofs.Members.{member_apart}
 use Rattle.transform_rec.proofs.Lists.{in_left, in_right, in_cases, in_filter, filter_in, filter_all, filter_put, before_each, count_own}
 use Rattle.transform_rec.proofs.Sets.{same_set, same_from, plus_here, plus_keeps, plus_cases, all_keeps, all_in, all_cases}
@@ -39,9 +40,9 @@ module _ {F S : Type 0} (w : Setting F S) where
   kept_cells K [] C s (f ∷ fs) st df h = absurd df
   kept_cells K (x ∷ xs) C s [] st df h = absurd df
   kept_cells K (x ∷ xs) C s (f ∷ fs) st df h =
-      let whole = w.laws.kept_at s f (addable_fits w C s x f st df.0) in
+      let put = w.laws.kept s f (addable_fits w C s x f st df.0) in
       let foreign : (c : NameData × ℕ) → IsIn c (w.table.added f) → keep K c ≡ false = λ c i. subst (λ (y : Member). K y ≡ false) (added_owner w x C f df.0 c i) (h x (inl refl)) in
-      let one : filter (keep K) (w.table.cells (w.table.apply s f)) ≡ filter (keep K) (w.table.cells s) = ap (filter (keep K)) whole ∙ filter_put (keep K) (w.table.inclusion.place f) (w.table.cells s) (w.table.added f) foreign in
+      let one : filter (keep K) (w.table.cells (w.table.apply s f)) ≡ filter (keep K) (w.table.cells s) = ap (filter (keep K)) put.is ∙ filter_put (keep K) put.at (w.table.cells s) (w.table.added f) foreign in
       kept_cells K xs (plus C x) (w.table.apply s f) fs (state_more w C s x f st df.0) df.1 (λ z i. h z (inr i)) ∙ one
 
   sorted_same : (D : Member → Bool) (xs : List Member) → SameElements xs (filter D xs ++ filter (λ z. not (D z)) xs)
@@ -96,8 +97,8 @@ module _ {F S : Type 0} (w : Setting F S) where
       let t = state_after w (filter D xs) C s gs.0 st gs.1 in
       (run w s gs.0, subst (λ (E : Member → Bool). At w E (run w s gs.0)) (sym (same_set D (plus_all C (filter D xs)) (part_set D xs C h g))) t, restricted D xs C s fs gs.0 st h df gs.1)
 
-  pub one_more_from : (D : Member → Bool) (x : Member) (k : F) (xs : List Member) (C : Member → Bool) (s : S) (fs : List F) → At w C s → Forms w C xs fs → IsSubset C D → ((z : Member) → D z ≡ true → (C z ≡ true) ⊎ IsIn z xs) → IsIn x xs → IsForm w x D k → part (plus D x) s fs ≡ take (w.table.inclusion.place k) (part D s fs) ++ (w.table.added k ++ drop (w.table.inclusion.place k) (part D s fs))
-  one_more_from D x k xs C s fs st df h g i dk =
+  pub one_more_from : AddsAtPlace w.table → (D : Member → Bool) (x : Member) (k : F) (xs : List Member) (C : Member → Bool) (s : S) (fs : List F) → At w C s → Forms w C xs fs → IsSubset C D → ((z : Member) → D z ≡ true → (C z ≡ true) ⊎ IsIn z xs) → IsIn x xs → IsForm w x D k → part (plus D x) s fs ≡ take (w.table.inclusion.place k) (part D s fs) ++ (w.table.added k ++ drop (w.table.inclusion.place k) (part D s fs))
+  one_more_from at_place D x k xs C s fs st df h g i dk =
       let sound = derived_sound (deriving_of w) x D k dk in
       let r = forms_run w xs C fs df in
       let gs = run_forms w (filter D xs) C (part_run D sound.set.closed xs C h r) in
@@ -110,7 +111,7 @@ module _ {F S : Type 0} (w : Setting F S) where
       let ends = forms-append w (filter D xs) (x ∷ []) C gs.0 (k ∷ []) gs.1 (k_at, tt) in
       let order = any_order w (filter (plus D x) xs) (filter D xs ++ (x ∷ [])) C s hs.0 (gs.0 ++ (k ∷ [])) st (one_more_same D x xs i) hs.1 ends in
       let t = state_after w (filter D xs) C s gs.0 st gs.1 in
-      let whole = w.laws.kept_at (run w s gs.0) k (addable_fits w K (run w s gs.0) x k t k_at) in
+      let whole = at_place (run w s gs.0) k (addable_fits w K (run w s gs.0) x k t k_at) in
       part_x ∙ (ap w.table.cells (order ∙ run_append w s gs.0 (k ∷ [])) ∙ (whole ∙ ap (λ l. take (w.table.inclusion.place k) l ++ (w.table.added k ++ drop (w.table.inclusion.place k) l)) (sym part_d)))
 
   -- ---- before a cell
@@ -125,15 +126,15 @@ module _ {F S : Type 0} (w : Setting F S) where
       omega arith
 
   -- each cell of x has as many cells of D before it as the place of x's form at D, and x has as many cells as the extent of that form
-  pub before_cell_from : (D : Member → Bool) (x : Member) (k : F) (xs : List Member) (C : Member → Bool) (s : S) (fs : List F) → At w C s → Forms w C xs fs → IsSubset C D → ((z : Member) → D z ≡ true → (C z ≡ true) ⊎ IsIn z xs) → IsIn x xs → IsForm w x D k → EachAt (keep D) (own x) (w.table.inclusion.place k) 0 (w.table.cells (run w s fs)) × (count (own x) (w.table.cells (run w s fs)) ≡ w.table.inclusion.extent k)
-  before_cell_from D x k xs C s fs st df h g i dk =
+  pub before_cell_from : AddsAtPlace w.table → (D : Member → Bool) (x : Member) (k : F) (xs : List Member) (C : Member → Bool) (s : S) (fs : List F) → At w C s → Forms w C xs fs → IsSubset C D → ((z : Member) → D z ≡ true → (C z ≡ true) ⊎ IsIn z xs) → IsIn x xs → IsForm w x D k → EachAt (keep D) (own x) (w.table.inclusion.place k) 0 (w.table.cells (run w s fs)) × (count (own x) (w.table.cells (run w s fs)) ≡ w.table.inclusion.extent k)
+  before_cell_from at_place D x k xs C s fs st df h g i dk =
       let sound = derived_sound (deriving_of w) x D k dk in
       let cs = w.table.cells (run w s fs) in
       let q = w.table.inclusion.place k in
       let apart : (c : NameData × ℕ) → keep D c ≡ true → own x c ≡ false = λ c e. member_apart x (Original c.0) (λ (p : x ≡ Original c.0). both_ways (D x) sound.lacks (subst (λ (y : Member). D y ≡ true) (sym p) e)) in
       let mine : (c : NameData × ℕ) → IsIn c (w.table.added k) → own x c ≡ true = λ c j. added_own w x D k dk c j in
       let parts : filter (keep D) cs ≡ take q (part D s fs) ++ drop q (part D s fs) = sym (take-append-drop q (part D s fs)) in
-      let more = one_more_from D x k xs C s fs st df h g i dk in
+      let more = one_more_from at_place D x k xs C s fs st df h g i dk in
       let long : 0 + length (take q (part D s fs)) ≡ q = let e = length-take-le q (part D s fs) (place_within D x k xs C s fs st df h g dk) in omega arith in
       (before_each (keep D) (own x) apart q (drop q (part D s fs)) cs (take q (part D s fs)) (w.table.added k) 0 mine parts more long, count_own (keep D) (own x) apart cs (take q (part D s fs)) (w.table.added k) (drop q (part D s fs)) parts more ∙ w.laws.added_length k)
 
@@ -142,8 +143,8 @@ module _ {F S : Type 0} (w : Setting F S) where
   nothing : (D : Member → Bool) → IsSubset none D
   nothing D z e = absurd (both_ways false refl e)
 
-  pub one_more : (D : Member → Bool) (x : Member) (k : F) (xs : List Member) (s : S) (fs : List F) → At w none s → Forms w none xs fs → ((z : Member) → D z ≡ true → IsIn z xs) → IsIn x xs → IsForm w x D k → part (plus D x) s fs ≡ take (w.table.inclusion.place k) (part D s fs) ++ (w.table.added k ++ drop (w.table.inclusion.place k) (part D s fs))
-  one_more D x k xs s fs st df g i dk = one_more_from D x k xs none s fs st df (nothing D) (λ z e. inr (g z e)) i dk
+  pub one_more : AddsAtPlace w.table → (D : Member → Bool) (x : Member) (k : F) (xs : List Member) (s : S) (fs : List F) → At w none s → Forms w none xs fs → ((z : Member) → D z ≡ true → IsIn z xs) → IsIn x xs → IsForm w x D k → part (plus D x) s fs ≡ take (w.table.inclusion.place k) (part D s fs) ++ (w.table.added k ++ drop (w.table.inclusion.place k) (part D s fs))
+  one_more at_place D x k xs s fs st df g i dk = one_more_from at_place D x k xs none s fs st df (nothing D) (λ z e. inr (g z e)) i dk
 
-  pub before_cell : (D : Member → Bool) (x : Member) (k : F) (xs : List Member) (s : S) (fs : List F) → At w none s → Forms w none xs fs → ((z : Member) → D z ≡ true → IsIn z xs) → IsIn x xs → IsForm w x D k → EachAt (keep D) (own x) (w.table.inclusion.place k) 0 (w.table.cells (run w s fs)) × (count (own x) (w.table.cells (run w s fs)) ≡ w.table.inclusion.extent k)
-  before_cell D x k xs s fs st df g i dk = before_cell_from D x k xs none s fs st df (nothing D) (λ z e. inr (g z e)) i dk
+  pub before_cell : AddsAtPlace w.table → (D : Member → Bool) (x : Member) (k : F) (xs : List Member) (s : S) (fs : List F) → At w none s → Forms w none xs fs → ((z : Member) → D z ≡ true → IsIn z xs) → IsIn x xs → IsForm w x D k → EachAt (keep D) (own x) (w.table.inclusion.place k) 0 (w.table.cells (run w s fs)) × (count (own x) (w.table.cells (run w s fs)) ≡ w.table.inclusion.extent k)
+  before_cell at_place D x k xs s fs st df g i dk = before_cell_from at_place D x k xs none s fs st df (nothing D) (λ z e. inr (g z e)) i dk

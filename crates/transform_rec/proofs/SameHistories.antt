@@ -8,11 +8,7 @@ use Rattle.context_vector.specs.Contexts.{ContextData, has}
 use Rattle.context_diff.specs.Operations.{OpData, inserting, deleting, undoing, member_of, is_original}
 use Rattle.context_diff.specs.Histories.{is_known, generation_in, context_of_all, IsValid, Same}
 use Rattle.context_diff.specs.Bases.{original_context, is_before, is_below, base_has}
-use Rattle.context_diff.proofs.Raising.{has_generation, has_group}
-use Rattle.context_diff.proofs.Known.{known_member, original_holder}
-use Rattle.context_diff.proofs.Complete.{complete}
-use Rattle.context_diff.proofs.Generations.{generation_is}
-use Rattle.context_diff.proofs.Histories.{group_facts, context_is}
+use Rattle.context_diff.proofs.CallerLemmas.{has_generation, has_group, known_member, original_holder, complete, generation_is, group_facts, context_is}
 use Rattle.transform_rec.specs.Derived.{Holds}
 use Rattle.transform_rec.specs.Histories.{family_in, SameOperationsSameForm}
 use Rattle.transform_rec.proofs.Forms.{derived_moves}
@@ -57,7 +53,8 @@ known_back h k v u s (Group t g) e =
     let target = original_back h k s t (group_facts k (complete k u) t g e).target in
     group_there k h u v t g (sym (s.generations t target)) e
 
-same_bool : (a b : Bool) → (a ≡ true → b ≡ true) → (b ≡ true → a ≡ true) → a ≡ b
+-- tests that pass alike are equal
+pub same_bool : (a b : Bool) → (a ≡ true → b ≡ true) → (b ≡ true → a ≡ true) → a ≡ b
 same_bool true b f g = sym (f refl)
 same_bool false true f g = g refl
 same_bool false false f g = refl

@@ -3,10 +3,11 @@ use Rattle.std.proofs.Common.{◌≡◌, ◌≢◌, ℕ, ◌+◌, ◌≤◌, Boo
 use Rattle.std.proofs.lemmas.Bool.{cases_Bool, both_ways, or_right, or_left, or_cases, or_from, or_parts, and_parts, and_from, not-true, not_from_false, false_from_ne_true}
 use Rattle.op_name.specs.declared.member.Member.{Member}
 use Rattle.op_name.specs.Members.{member_eq}
+use Rattle.op_name.proofs.CallerLemmas.{member_itself, member_same}
 use Rattle.transform_rec.specs.Sets.{IsSubset, SameSet, plus, minus, plus_all}
 use Rattle.ttf_form.specs.Families.{IsIn, sum_where}
 use Rattle.transform_rec.specs.Lists.{AreApart}
-use Rattle.transform_rec.proofs.Members.{member_tells, member_self, member_apart, member_other}
+use Rattle.transform_rec.proofs.Members.{member_apart, member_other}
 use Rattle.transform_rec.proofs.Lists.{sum_same}
 
 pub same_set : (C D : Member → Bool) → SameSet C D → C ≡ D
@@ -27,13 +28,13 @@ lacks_from C D x h l = false_from_ne_true (C x) (λ e. both_ways (D x) l (h x e)
 -- ---- one member more
 
 pub plus_here : (C : Member → Bool) (x : Member) → plus C x x ≡ true
-plus_here C x = or_right (C x) (member_eq x x) (member_self x)
+plus_here C x = or_right (C x) (member_eq x x) (member_itself x)
 
 pub plus_keeps : (C : Member → Bool) (x : Member) → IsSubset C (plus C x)
 plus_keeps C x y h = or_left (C y) (member_eq x y) h
 
 pub plus_cases : (C : Member → Bool) (x y : Member) → plus C x y ≡ true → (C y ≡ true) ⊎ (x ≡ y)
-plus_cases C x y h = elim (or_cases (C y) (member_eq x y) h) [ inl a ↦ inl a | inr e ↦ inr (member_tells x y e) ]
+plus_cases C x y h = elim (or_cases (C y) (member_eq x y) h) [ inl a ↦ inl a | inr e ↦ inr (member_same x y e) ]
 
 pub plus_lacks : (C : Member → Bool) (x y : Member) → C y ≡ false → x ≢ y → plus C x y ≡ false
 plus_lacks C x y l ne = or_from (C y) (member_eq x y) l (member_apart x y ne)

@@ -1,18 +1,19 @@
--- What the steps of the work list need and give, over a history.
+-- What the steps of the work on the stack need and give, over a history.
 use Rattle.std.proofs.Common.{◌≡◌, ◌≢◌, ℕ, ◌+◌, ◌≤◌, Bool, List, [], reverse, sym, ap, subst, ◌∙◌, arith}
 use Rattle.op_name.specs.declared.member.Member.{Member}
 use Rattle.op_name.specs.Members.{IsMember}
 use Rattle.context_vector.specs.Contexts.{ContextData, has, raised, IsNextMember}
 use Rattle.context_diff.specs.Histories.{members_in}
-use Rattle.context_diff.proofs.Raising.{has_raised}
+use Rattle.context_diff.proofs.CallerLemmas.{has_raised}
 use Rattle.form_cache.specs.Keys.{KeyData}
 use Rattle.ttf_form.specs.Families.{total_by}
+use Rattle.ttf_form.specs.declared.include.TheConstants.{CELLS}
 use Rattle.transform_rec.specs.Sets.{SameSet, plus}
 use Rattle.transform_rec.specs.Family.{Family}
 use Rattle.transform_rec.specs.Derived.{Derived, IsOnlyFormAt, Deriving}
 use Rattle.transform_rec.specs.Histories.{family_in, MayBeAddedTo}
 use Rattle.transform_rec.specs.declared.pending.Pending.{Pending}
-use Rattle.transform_rec.specs.Ways.{IsOnWay, IsPending, IsWaiting, IsStep, IsBegun, IsProperSubset}
+use Rattle.transform_rec.specs.Code.Pending.{IsOnWay, IsPending, IsWaiting, IsStep, IsBegun, IsProperSubset}
 use Rattle.transform_rec.proofs.Sets.{plus_here, all_keeps, plus_keeps}
 use Rattle.transform_rec.proofs.Forms.{form_moves, form_step, derived_sound, derived_room}
 use Rattle.transform_rec.proofs.Uniqueness.{only_form}
@@ -66,15 +67,15 @@ module _ {F : Type 0} (o : OverHistory F) where
   form_here key p k e dk = subst (λ (c : ContextData). Derived o.inclusion.over family key.member (has c) k) e dk
 
   -- either form can be included in the other
-  within : (ms : List Member) → ms ≡ members_in o.history → total_by (λ y. o.inclusion.extent (o.form y)) ms ≤ 4294967295 → (n : ℕ) → n ≤ total_by (λ y. o.inclusion.extent (o.form y)) (members_in o.history) → n ≤ 4294967295
+  within : (ms : List Member) → ms ≡ members_in o.history → total_by (λ y. o.inclusion.extent (o.form y)) ms ≤ CELLS → (n : ℕ) → n ≤ total_by (λ y. o.inclusion.extent (o.form y)) (members_in o.history) → n ≤ CELLS
   within ms e total n less =
-      let all : total_by (λ y. o.inclusion.extent (o.form y)) (members_in o.history) ≤ 4294967295 = subst (λ (l : List Member). total_by (λ y. o.inclusion.extent (o.form y)) l ≤ 4294967295) e total in
+      let all : total_by (λ y. o.inclusion.extent (o.form y)) (members_in o.history) ≤ CELLS = subst (λ (l : List Member). total_by (λ y. o.inclusion.extent (o.form y)) l ≤ CELLS) e total in
       omega arith
 
-  pub its_room : (ms : List Member) → ms ≡ members_in o.history → total_by (λ y. o.inclusion.extent (o.form y)) ms ≤ 4294967295 → (T : Member → Bool) (x : Member) (p : Pending F) (k : F) → IsWaiting o.inclusion.over family T x p → Derived o.inclusion.over family x (has p.at.context) k → o.inclusion.place p.form + o.inclusion.extent k ≤ 4294967295
+  pub its_room : (ms : List Member) → ms ≡ members_in o.history → total_by (λ y. o.inclusion.extent (o.form y)) ms ≤ CELLS → (T : Member → Bool) (x : Member) (p : Pending F) (k : F) → IsWaiting o.inclusion.over family T x p → Derived o.inclusion.over family x (has p.at.context) k → o.inclusion.place p.form + o.inclusion.extent k ≤ CELLS
   its_room ms e total T x p k w dk = within ms e total (o.inclusion.place p.form + o.inclusion.extent k) (derived_room deriving_of p.at.member x (has p.at.context) p.form k w.derived dk)
 
-  pub own_room : (ms : List Member) → ms ≡ members_in o.history → total_by (λ y. o.inclusion.extent (o.form y)) ms ≤ 4294967295 → (T : Member → Bool) (x : Member) (p : Pending F) (k : F) → IsWaiting o.inclusion.over family T x p → Derived o.inclusion.over family x (has p.at.context) k → o.inclusion.place k + o.inclusion.extent p.form ≤ 4294967295
+  pub own_room : (ms : List Member) → ms ≡ members_in o.history → total_by (λ y. o.inclusion.extent (o.form y)) ms ≤ CELLS → (T : Member → Bool) (x : Member) (p : Pending F) (k : F) → IsWaiting o.inclusion.over family T x p → Derived o.inclusion.over family x (has p.at.context) k → o.inclusion.place k + o.inclusion.extent p.form ≤ CELLS
   own_room ms e total T x p k w dk = within ms e total (o.inclusion.place k + o.inclusion.extent p.form) (derived_room deriving_of x p.at.member (has p.at.context) k p.form dk w.derived)
 
   -- the other form of the two, after the inclusion of the pair's

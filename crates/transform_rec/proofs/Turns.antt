@@ -9,7 +9,7 @@ use Rattle.transform_rec.specs.Family.{Family, IsClosed, IsSound, size}
 use Rattle.transform_rec.specs.Derived.{Derived, IsOnlyFormAt, Deriving}
 use Rattle.transform_rec.specs.Derived.Derived.{at_base, by_step}
 use Rattle.transform_rec.specs.Executing.{IsCausalFrom}
-use Rattle.transform_rec.specs.Ways.{IsOnWay}
+use Rattle.transform_rec.specs.Code.Pending.{IsOnWay}
 use Rattle.transform_rec.proofs.Lists.{in_filter, filter_in}
 use Rattle.transform_rec.proofs.Sets.{same_from, all_keeps, all_in, all_cases, sum_within, all_same}
 use Rattle.transform_rec.proofs.Families.{base_sound, size_plus}

@@ -1,4 +1,4 @@
--- One turn of the work list: what it needs, and what it leaves.
+-- One turn of the work on the stack: what it needs, and what it leaves.
 use Rattle.std.proofs.Common.{◌≡◌, ℕ, ◌+◌, ◌-◌, ◌<◌, Bool, take, List, [], ◌∷◌, ◌++◌, refl, sym, ap, subst, ◌∙◌}
 use Rattle.op_name.specs.declared.member.Member.{Member}
 use Rattle.context_vector.specs.Contexts.{has}
@@ -7,7 +7,7 @@ use Rattle.transform_rec.specs.Family.{Family}
 use Rattle.transform_rec.specs.Derived.{IsOnlyFormAt}
 use Rattle.transform_rec.specs.Histories.{family_in}
 use Rattle.transform_rec.specs.declared.pending.Pending.{Pending}
-use Rattle.transform_rec.specs.Ways.{IsPending, IsWaiting, IsStep, IsBegun, IsChain, first}
+use Rattle.transform_rec.specs.Code.Pending.{IsPending, IsWaiting, IsStep, IsBegun, IsChain, first}
 use Rattle.transform_rec.proofs.Sets.{same_set}
 use Rattle.transform_rec.proofs.Transformations.{OverHistory}
 use Rattle.transform_rec.proofs.Chains.{popped, chain_map, chain_last, chain_push, chain_pop, first_push, work, list_work, falls_added, falls_pushed, falls_popped}
@@ -22,7 +22,7 @@ module _ {F : Type 0} (o : OverHistory F) (m : Member) (T : Member → Bool) whe
   abbrev family : Family F
   family = family_in o.history o.form
 
-  -- the list, with its last pair, which is on its way: all wait for one another, from m at T on
+  -- the stack, with its last pair, which is on its way: all wait for one another, from m at T on
   pub record IsList (ps : List (Pending F)) (p : Pending F) : Type 0 where
     pub chain : IsChain o.inclusion.over family (λ S. IsPending o.inclusion.over family S p) T ps p.at.member
     pub root : first o.inclusion.over family ps p.at.member ≡ m
@@ -57,7 +57,7 @@ module _ {F : Type 0} (o : OverHistory F) (m : Member) (T : Member → Bool) whe
       let w = turn_waits ps x p q l t in
       (moved ps x p.at.member q r s (sym (ap (λ (k : KeyData). k.member) t.key)) (waits_chain ps x p q l t) l.root, falls_added o.inclusion.over family (history_causal o.history o.form o.valid) ps x w.0 p q r t.key t.rest w.1 s)
 
-  -- a pair is put on the list
+  -- a pair is pushed
   pub turn_pushed : (ps more : List (Pending F)) (x : Member) (p q q2 r : Pending F) → IsList ps p → IsTaken x p q → q2 ≡ q → more ≡ ps ++ (q2 ∷ []) → IsBegun o.inclusion.over family x q2 r → IsList more r × Falls ps p more r
   turn_pushed ps more x p q q2 r l t same long b =
       let begun : IsBegun o.inclusion.over family x q r = subst (λ (k : Pending F). IsBegun o.inclusion.over family x k r) same b in

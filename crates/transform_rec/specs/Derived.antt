@@ -1,6 +1,6 @@
 -- Derived forms (COT 2009: an operation is brought to a greater context by including, one after the other, the
 -- operations of the difference, each of them in its form at the context that is reached).
-use Rattle.std.specs.Prelude.{◌≡◌, ◌≢◌, ℕ, ◌+◌, ◌≤◌, Bool, false}
+use Rattle.std.specs.Prelude.{◌≡◌, ◌≢◌, ℕ, ◌+◌, ◌≤◌, Bool, true, false, ◌⊎◌}
 use Rattle.op_name.specs.declared.member.Member.{Member}
 use Rattle.transform_rec.specs.Sets.{SameSet, plus}
 use Rattle.ttf_form.specs.Families.{IsIn, sum_where}
@@ -16,6 +16,14 @@ module _ {F : Type 0} (over : F → F → F) (b : Family F) where
 -- f is a derived form of m at C, and there is no other
 abbrev pub IsOnlyFormAt : {F : Type 0} → (F → F → F) → Family F → Member → (Member → Bool) → F → Type 0
 IsOnlyFormAt {F} over b m C f = Derived over b m C f × ((g : F) → Derived over b m C g → g ≡ f)
+
+-- a derivation of m at C names m and members of C alone: it holds over any family that lists those of them that the first one
+-- lists, with the same base contexts and base forms
+abbrev pub DerivationsNameMembers : {F : Type 0} → (F → F → F) → Type 0
+DerivationsNameMembers {F} over =
+    (b c : Family F) (m : Member) (C : Member → Bool) (f : F)
+    → ((x : Member) → (x ≡ m) ⊎ (C x ≡ true) → IsIn x b.members → IsIn x c.members × (SameSet (b.context x) (c.context x) × (b.form x ≡ c.form x)))
+    → Derived over b m C f → Derived over c m C f
 
 -- a type of forms with its inclusion
 pub record Inclusion (F : Type 0) : Type 1 where

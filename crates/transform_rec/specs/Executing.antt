@@ -4,7 +4,7 @@ use Rattle.op_name.specs.NameData.{NameData}
 use Rattle.op_name.specs.declared.member.Member.{Member}
 use Rattle.op_name.specs.declared.member.Member.TheVariants.{Original}
 use Rattle.op_name.specs.Members.{member_eq}
-pub use Rattle.ttf_form.specs.Names.{LacksName, NewNames}
+pub use Rattle.ttf_form.specs.Names.{LacksName, NewNames, IsPutAmong}
 use Rattle.transform_rec.specs.Sets.{plus}
 use Rattle.ttf_form.specs.Families.{IsIn}
 use Rattle.transform_rec.specs.Family.{Family, IsSound}
@@ -23,9 +23,14 @@ pub record IsTable {F S : Type 0} (t : Table F S) : Type 0 where
   pub inclusion : IsInclusion t.inclusion
   pub fits : (s : S) (a : F) → t.inclusion.IsBounded a (length (t.cells s)) → NewNames (t.cells s) (t.added a) → t.Fits s a
   pub tp1 : (s : S) (a b : F) → t.inclusion.Apart a b → t.Fits s a → t.Fits s b → t.apply (t.apply s a) (t.inclusion.over b a) ≡ t.apply (t.apply s b) (t.inclusion.over a b)
-  pub kept_at : (s : S) (a : F) → t.Fits s a → t.cells (t.apply s a) ≡ take (t.inclusion.place a) (t.cells s) ++ (t.added a ++ drop (t.inclusion.place a) (t.cells s))
+  pub kept : (s : S) (a : F) → t.Fits s a → IsPutAmong (t.cells s) (t.added a) (t.cells (t.apply s a))
   pub added_length : (a : F) → length (t.added a) ≡ t.inclusion.extent a
   pub added_over : (a b : F) → t.added (t.inclusion.over a b) ≡ t.added a
+
+-- each form puts the cells that it adds at its place
+abbrev pub AddsAtPlace : {F S : Type 0} → Table F S → Type 0
+AddsAtPlace {F} {S} t =
+    (s : S) (a : F) → t.Fits s a → t.cells (t.apply s a) ≡ take (t.inclusion.place a) (t.cells s) ++ (t.added a ++ drop (t.inclusion.place a) (t.cells s))
 
 -- an original's base form adds cells of its own name alone, and a group's base form adds none
 abbrev pub HasOwnNames : {F S : Type 0} → Table F S → Family F → Type 0

@@ -10,12 +10,12 @@ pub record Family (F : Type 0) : Type 0 where
   pub context : Member → Member → Bool
   pub form : Member → F
 
--- no member's context has the member itself or one behind it
+-- no member's context has the member itself or one after it
 abbrev pub IsCausal : (Member → Member → Bool) → List Member → Type 0
 IsCausal context [] = Unit {0}
 IsCausal context (y ∷ ys) = ((z : Member) → IsIn z (y ∷ ys) → context y z ≡ false) × IsCausal context ys
 
--- each member is listed once and behind its base context, and base contexts hold the base contexts of their members
+-- each member is listed once and after its base context, and base contexts hold the base contexts of their members
 pub record IsCausalFamily {F : Type 0} (b : Family F) : Type 0 where
   pub distinct : AreApart b.members
   pub causal : IsCausal b.context b.members

@@ -40,18 +40,18 @@ AddableFormFits {F} {S} t b =
 -- two neighbours that may each be added may change places: the list stays causal, and gives the same state
 abbrev pub Swap : {F S : Type 0} → Table F S → Family F → Type 0
 Swap {F} {S} t b =
-    (C : Member → Bool) (s : S) (before : List Member) (x y : Member) (behind : List Member) (fs : List F) → IsStateAt t b C s
-    → AreFormsFrom t.inclusion.over b C (before ++ (x ∷ (y ∷ behind))) fs → IsSound b y (plus_all C before)
-    → IsCausalFrom b C (before ++ (y ∷ (x ∷ behind)))
-    × ((gs : List F) → AreFormsFrom t.inclusion.over b C (before ++ (y ∷ (x ∷ behind))) gs → executed t.apply s fs ≡ executed t.apply s gs)
+    (C : Member → Bool) (s : S) (before : List Member) (x y : Member) (after : List Member) (fs : List F) → IsStateAt t b C s
+    → AreFormsFrom t.inclusion.over b C (before ++ (x ∷ (y ∷ after))) fs → IsSound b y (plus_all C before)
+    → IsCausalFrom b C (before ++ (y ∷ (x ∷ after)))
+    × ((gs : List F) → AreFormsFrom t.inclusion.over b C (before ++ (y ∷ (x ∷ after))) gs → executed t.apply s fs ≡ executed t.apply s gs)
 
 -- a member whose base context is in the first set may be executed before all others
 abbrev pub ToTheFront : {F S : Type 0} → Table F S → Family F → Type 0
 ToTheFront {F} {S} t b =
-    (C : Member → Bool) (s : S) (before : List Member) (x : Member) (behind : List Member) (fs : List F) → IsStateAt t b C s
-    → AreFormsFrom t.inclusion.over b C (before ++ (x ∷ behind)) fs → IsSubset (b.context x) C
-    → IsCausalFrom b C (x ∷ (before ++ behind))
-    × ((gs : List F) → AreFormsFrom t.inclusion.over b C (x ∷ (before ++ behind)) gs → executed t.apply s fs ≡ executed t.apply s gs)
+    (C : Member → Bool) (s : S) (before : List Member) (x : Member) (after : List Member) (fs : List F) → IsStateAt t b C s
+    → AreFormsFrom t.inclusion.over b C (before ++ (x ∷ after)) fs → IsSubset (b.context x) C
+    → IsCausalFrom b C (x ∷ (before ++ after))
+    × ((gs : List F) → AreFormsFrom t.inclusion.over b C (x ∷ (before ++ after)) gs → executed t.apply s fs ≡ executed t.apply s gs)
 
 -- two causal lists with the same members give the same state
 abbrev pub OrderIndependence : {F S : Type 0} → Table F S → Family F → Type 0

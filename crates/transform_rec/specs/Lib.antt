@@ -5,6 +5,5 @@ pub mod Derived
 pub mod Executing
 pub mod Laws
 pub mod Histories
-pub mod Ways
 pub mod Entries
-pub mod TwoInserts
+pub mod Code

@@ -6,7 +6,7 @@ ghost use Rattle.context_vector.specs.Contexts.{has};
 ghost use Rattle.context_diff.specs.Histories.{members_in};
 ghost use Rattle.context_diff.specs.Bases.{base_has};
 ghost use Rattle.transform_rec.specs.Derived.{IsOnlyFormAt};
-ghost use Rattle.transform_rec.specs.Histories.{family_in, MayBeAddedTo};
+ghost use Rattle.transform_rec.specs.Histories.{AreBasesOf, family_over, MayBeAddedTo};
 
 use crate::laws::derives;
 use context_diff::{Book, base_context, difference};
@@ -21,8 +21,8 @@ use ttf_form::{Bases, Include};
 /// exactly one form that inclusion between equal contexts derives.
 ///
 /// The bases list the members of the book, with their base contexts. The context `to` is closed and within
-/// the book, has the original of each of its undo groups, holds m's base context and lacks m. Memory may be
-/// wanting.
+/// the book, has the original of each of its undo groups, holds m's base context and lacks m. Memory may run
+/// out.
 pub fn transform<F: Include, B: Bases<F>>(
     alloc: Global,
     book: &Book,
@@ -30,15 +30,14 @@ pub fn transform<F: Include, B: Bases<F>>(
     m: &Member,
     to: &Vector,
 ) -> Result<F, Memory>
-    requires members { B.members bases.now ≡ members_in book.now.ops }
-    requires contexts { (x y : Member) → B.base_context bases.now x y ≡ base_has book.now.ops x y }
+    requires bases { AreBasesOf ⟦<B as Bases<F>>⟧ bases.now book.now.ops }
     requires added { MayBeAddedTo book.now.ops to.now.set m.now }
-    ensures { IfOk result (IsOnlyFormAt F.over (family_in book.now.ops (B.base_form bases.now)) m.now (has to.now.set)) }
+    ensures { IfOk result (IsOnlyFormAt F.over (family_over ⟦<B as Bases<F>>⟧ bases.now book.now.ops) m.now (has to.now.set)) }
 {
     book.known();
     bases.known();
     derives::<F, B>(bases);
-    let mut context = base_context(book, m)?;
+    let mut context = base_context(alloc, book, m)?;
     let mut form = bases.base(m);
     let mut rest = Vec::new(alloc);
     difference(book, &context, to, &mut rest)?;

@@ -5,8 +5,8 @@
 //! spoken of, the cells that a base form adds have the name of its member, those of a group none.
 
 ghost use Rattle.transform_rec.specs.Family.{IsCausalFamily};
-ghost use Rattle.transform_rec.specs.Derived.{IsInclusion, IsFamily};
-ghost use Rattle.transform_rec.specs.Executing.{HasOwnNames, IsTable};
+ghost use Rattle.transform_rec.specs.Derived.{DerivationsNameMembers, IsInclusion, IsFamily};
+ghost use Rattle.transform_rec.specs.Executing.{AddsAtPlace, HasOwnNames, IsTable};
 ghost use Rattle.transform_rec.specs.Laws.{table_of, inclusion_of, family_of, OneForm, CausalListsHaveForms, AddableFormFits, Swap, ToTheFront, OrderIndependence, Restriction, OneMoreMember};
 ghost use Rattle.transform_rec.specs.Histories.{SameOperationsSameForm};
 ghost use Rattle.transform_rec.specs.Entries.{NoEntriesAreForms, NextOperationKeepsForms};
@@ -38,6 +38,12 @@ pub fn one_form<F: Include, B: Bases<F>>(bases: &B)
 {
     derives::<F, B>(bases);
 }
+
+/// A derivation of a member at a set names that member and the members of the set alone: it holds over every family
+/// that lists these, with the base contexts and the base forms that they have.
+pub fn derivations_name_members<F: Include>()
+    ensures { DerivationsNameMembers F.over }
+{}
 
 /// The only form of a member over one valid history is the only one over every valid history with the same operations, in
 /// whatever order and with whatever authors and contexts of undos, if the base forms agree.
@@ -112,10 +118,11 @@ pub fn restriction<F: Applies, B: Bases<F>>(bases: &B)
 }
 
 /// The cells of a closed set with one member more are the cells of the set, with the cells of that member at the place
-/// of its form at the set.
+/// of its form at the set, if each form adds its cells at its place.
 pub fn one_more_member<F: Applies, B: Bases<F>>(bases: &B)
     requires causal { IsCausalFamily (family_of ⟦<B as Bases<F>>⟧ bases.now) }
     requires own_names { HasOwnNames (table_of ⟦<F as Include>⟧ F.Fits F.added F.cells F.apply) (family_of ⟦<B as Bases<F>>⟧ bases.now) }
+    requires at_place { AddsAtPlace (table_of ⟦<F as Include>⟧ F.Fits F.added F.cells F.apply) }
     ensures { OneMoreMember (table_of ⟦<F as Include>⟧ F.Fits F.added F.cells F.apply) (family_of ⟦<B as Bases<F>>⟧ bases.now) }
 {
     executes::<F, B>(bases);

@@ -12,11 +12,8 @@ mod work_list;
 
 pub use derivation::transform;
 pub use laws::{
-    addable_form_fits, causal_lists_have_forms, next_operation_keeps_forms, no_entries_are_forms,
-    one_form, one_more_member, order_independence, restriction, same_operations_same_form, swap,
-    to_the_front,
+    addable_form_fits, causal_lists_have_forms, derivations_name_members,
+    next_operation_keeps_forms, no_entries_are_forms, one_form, one_more_member,
+    order_independence, restriction, same_operations_same_form, swap, to_the_front,
 };
 pub use work_list::transform_with;
-
-#[cfg(test)]
-mod tests;

@@ -1,6 +1,6 @@
 //! Pairs of a member and a target, each with what is computed of it so far.
 
-ghost use Rattle.std.specs.Prelude.{◌≡◌, ◌+◌, ◌<◌, ◌&&◌, not, Some, [], reverse, IfOk, IfSome, IsNone, OnOk, length, slice_get};
+ghost use Rattle.std.specs.Prelude.{◌≡◌, ◌↔◌, ◌+◌, ◌-◌, ◌<◌, ◌&&◌, not, Some, None, [], reverse, if◌then◌else◌, IfOk, IfSome, IsNone, IsTrue, OnOk, length, slice_get};
 ghost use Rattle.op_name.specs.declared.member.Member.{Member};
 ghost use Rattle.op_name.specs.Members.{IsMember};
 ghost use Rattle.context_vector.specs.Contexts.{has, raised, IsNextMember};
@@ -11,8 +11,8 @@ ghost use Rattle.context_diff.specs.Bases.{base_has};
 ghost use Rattle.form_cache.specs.Keys.{KeyData};
 ghost use Rattle.form_cache.specs.Entries.{form_at};
 ghost use Rattle.transform_rec.specs.Sets.{SameSet, minus};
-ghost use Rattle.transform_rec.specs.Histories.{family_in, members_alone, MayBeAddedTo};
-ghost use Rattle.transform_rec.specs.Ways.{IsWalk, IsWayBack, IsPending};
+ghost use Rattle.transform_rec.specs.Histories.{AreBasesOf, family_over, members_alone, MayBeAddedTo};
+ghost use Rattle.transform_rec.specs.Code.Pending.{IsWalk, IsWayBack, IsPending};
 ghost use Rattle.transform_rec.specs.Entries.{AreForms};
 
 use crate::laws::derives;
@@ -43,16 +43,15 @@ pub fn start<F: Include + Copy, B: Bases<F>>(
     cache: &Cache<F>,
     at: Key,
 ) -> Result<Pending<F>, Memory>
-    requires members { B.members bases.now ≡ members_in book.now.ops }
-    requires contexts { (x y : Member) → B.base_context bases.now x y ≡ base_has book.now.ops x y }
+    requires bases { AreBasesOf ⟦<B as Bases<F>>⟧ bases.now book.now.ops }
     requires added { MayBeAddedTo book.now.ops at.context at.member }
-    requires known { AreForms F.over (family_in book.now.ops (B.base_form bases.now)) cache.now.entries }
+    requires known { AreForms F.over (family_over ⟦<B as Bases<F>>⟧ bases.now book.now.ops) cache.now.entries }
     ensures member { IfOk result (λ p. p.at.member ≡ at.member) }
-    ensures way { IfOk result (λ p. IsPending F.over (family_in book.now.ops (B.base_form bases.now)) (has at.context) p) }
+    ensures way { IfOk result (λ p. IsPending F.over (family_over ⟦<B as Bases<F>>⟧ bases.now book.now.ops) (has at.context) p) }
 {
     book.known();
     let mut at = at;
-    let own = own_context(book, &at)?;
+    let own = own_context(alloc, book, &at)?;
     let mut rest = Vec::new(alloc);
     match go_back(book, cache, &mut at, &own, &mut rest)? {
         Some(form) => Ok(Pending { at, form, rest }),
@@ -64,16 +63,16 @@ pub fn start<F: Include + Copy, B: Bases<F>>(
 }
 
 // The base context of the key's member.
-fn own_context(book: &Book, at: &Key) -> Result<Vector, Memory>
+fn own_context(alloc: Global, book: &Book, at: &Key) -> Result<Vector, Memory>
     requires { MayBeAddedTo book.now.ops at.now.context at.now.member }
     ensures { IfOk result (λ v. (y : Member) → has v.set y ≡ base_has book.now.ops at.now.member y) }
 {
-    base_context(book, &at.member)
+    base_context(alloc, book, &at.member)
 }
 
 // The base form of the key's member.
 fn base_of<F: Include, B: Bases<F>>(book: &Book, bases: &B, at: &Key) -> F
-    requires members { B.members bases.now ≡ members_in book.now.ops }
+    requires bases { AreBasesOf ⟦<B as Bases<F>>⟧ bases.now book.now.ops }
     requires added { MayBeAddedTo book.now.ops at.now.context at.now.member }
     ensures { result ≡ B.base_form bases.now at.now.member }
 {
@@ -118,7 +117,7 @@ fn go_back<F: Copy>(
 }
 
 // Takes the member at this place of the book out of the key's context, if the context has it and the base context lacks
-// it. Answers whether it did. All that stands behind this place was looked at before.
+// it. Answers whether it did. All that stands after this place was looked at before.
 fn take_out(
     book: &Book,
     own: &Vector,
@@ -135,7 +134,7 @@ fn take_out(
     book.known();
     let x = member_at(book, i);
     if is_between(own, at, &x) {
-        drop_member(at, &x);
+        drop_member(at, &x)?;
         rest.reserve(1)?;
         rest.push_reserved(x);
         return Ok(true);
@@ -145,13 +144,16 @@ fn take_out(
 
 // The cache's form of the key, if it is to be looked for.
 fn seen<F: Copy>(cache: &Cache<F>, looks: bool, at: &Key) -> Option<F>
-    ensures { IfSome result (λ f. form_at cache.now.entries at.now ≡ Some f) }
+    ensures { result ≡ (if looks then form_at cache.now.entries at.now else None) }
 {
     if looks { cache.peek(at) } else { None }
 }
 
 // Whether the member is the last one of the book.
-fn is_last(book: &Book, m: &Member) -> bool {
+fn is_last(book: &Book, m: &Member) -> bool
+    ensures { IsTrue result ↔ (slice_get (members_in book.now.ops) (length book.now.ops - 1) ≡ Some m.now) }
+{
+    book.known();
     match book.len().checked_sub(1) {
         Some(i) => member_at(book, i) == *m,
         None => false,
@@ -186,13 +188,15 @@ fn is_between(own: &Vector, at: &Key, x: &Member) -> bool
 }
 
 // Takes the member, the last one of its site or its name, out of the key's context.
-fn drop_member(at: &mut Key, x: &Member)
+fn drop_member(at: &mut Key, x: &Member) -> Result<(), Memory>
     requires member { IsMember x.now }
     requires last { IsLastMember at.old.context x.now }
     ensures member { at.new.member ≡ at.old.member }
-    ensures context { SameSet (has at.new.context) (minus (has at.old.context) x.now) }
+    ensures context { OnOk result (SameSet (has at.new.context) (minus (has at.old.context) x.now)) }
 {
+    at.context.reserve(x)?;
     at.context.drop_last(x);
+    Ok(())
 }
 
 /// Adds the member, the next one of its site or its name, to the key's context.

@@ -1,4 +1,4 @@
-//! The form of a member at a greater context, by a list of pairs that wait for one another and a cache of forms.
+//! The form of a member at a greater context, by a stack of pairs that wait for one another and a cache of forms.
 
 ghost use Rattle.std.specs.Prelude.{◌≡◌, ℕ, Bool, IfOk, IfSome, IsNone, IsTrue, OnOk};
 ghost use Rattle.op_name.specs.declared.member.Member.{Member};
@@ -6,8 +6,8 @@ ghost use Rattle.context_vector.specs.Contexts.{has};
 ghost use Rattle.context_diff.specs.Histories.{members_in};
 ghost use Rattle.context_diff.specs.Bases.{base_has};
 ghost use Rattle.transform_rec.specs.Derived.{Derived, IsOnlyFormAt};
-ghost use Rattle.transform_rec.specs.Histories.{family_in, MayBeAddedTo};
-ghost use Rattle.transform_rec.specs.Ways.{IsWaiting, IsPending, IsStep, IsBegun};
+ghost use Rattle.transform_rec.specs.Histories.{AreBasesOf, family_over, MayBeAddedTo};
+ghost use Rattle.transform_rec.specs.Code.Pending.{IsWaiting, IsPending, IsStep, IsBegun};
 ghost use Rattle.transform_rec.specs.Entries.{AreForms};
 
 use crate::laws::derives;
@@ -21,10 +21,10 @@ use ttf_form::{Bases, Include};
 
 /// What `transform` answers, with the forms of a cache at hand: the one form of the member m of the book at the
 /// context `to`. The conditions are those of `transform`, and that each entry of the cache is the form of its
-/// key over this book. After either answer each entry still is.
+/// key over this book. After either answer each entry still is, and the capacity is as before.
 ///
-/// It keeps a list of pairs of a member and a target, each waiting for the next one, whose target is a proper
-/// part of its own. Before a pair is put on the list the cache is asked for its form, and then looked into for that
+/// It keeps a stack of pairs of a member and a target, each waiting for the one above it, whose target is a proper
+/// part of its own. Before a pair is pushed the cache is asked for its form, and then looked into for that
 /// of its member at the greatest part of the target, in the book's order, unless the member is the last one of the
 /// book. A pair's finished form is kept, and so is, where the form of x is included in that of m, the form of x
 /// after the inclusion of m's, for one use: the next operation that was made after m asks for it.
@@ -36,12 +36,12 @@ pub fn transform_with<F: Include + Copy, B: Bases<F>>(
     m: &Member,
     to: &Vector,
 ) -> Result<F, Memory>
-    requires members { B.members bases.now ≡ members_in book.now.ops }
-    requires contexts { (x y : Member) → B.base_context bases.now x y ≡ base_has book.now.ops x y }
+    requires bases { AreBasesOf ⟦<B as Bases<F>>⟧ bases.now book.now.ops }
     requires added { MayBeAddedTo book.now.ops to.now.set m.now }
-    requires known { AreForms F.over (family_in book.now.ops (B.base_form bases.now)) cache.old.entries }
-    ensures form { IfOk result (IsOnlyFormAt F.over (family_in book.now.ops (B.base_form bases.now)) m.now (has to.now.set)) }
-    ensures known { AreForms F.over (family_in book.now.ops (B.base_form bases.now)) cache.new.entries }
+    requires known { AreForms F.over (family_over ⟦<B as Bases<F>>⟧ bases.now book.now.ops) cache.old.entries }
+    ensures form { IfOk result (IsOnlyFormAt F.over (family_over ⟦<B as Bases<F>>⟧ bases.now book.now.ops) m.now (has to.now.set)) }
+    ensures known { AreForms F.over (family_over ⟦<B as Bases<F>>⟧ bases.now book.now.ops) cache.new.entries }
+    ensures capacity { cache.new.capacity ≡ cache.old.capacity }
 {
     book.known();
     bases.known();
@@ -54,20 +54,20 @@ pub fn transform_with<F: Include + Copy, B: Bases<F>>(
         return Ok(form);
     }
     let mut current = start(alloc, book, bases, cache, key)?;
-    let mut waiting: Vec<Pending<F>> = Vec::new(alloc);
+    let mut stack: Vec<Pending<F>> = Vec::new(alloc);
     loop {
         match current.rest.pop() {
             Some(x) => match advance(alloc, book, bases, cache, &mut current, &x)? {
                 Some(inner) => {
-                    waiting.reserve(1)?;
-                    waiting.push_reserved(current);
+                    stack.reserve(1)?;
+                    stack.push_reserved(current);
                     current = inner;
                 }
                 None => {}
             },
             None => {
                 let (at, form) = finished(current);
-                match waiting.pop() {
+                match stack.pop() {
                     Some(outer) => current = handed(book, bases, cache, outer, at, form)?,
                     None => {
                         cache.keep(at, form);
@@ -102,14 +102,14 @@ fn advance<F: Include + Copy, B: Bases<F>>(
     pair: &mut Pending<F>,
     x: &Member,
 ) -> Result<Option<Pending<F>>, Memory>
-    requires members { B.members bases.now ≡ members_in book.now.ops }
-    requires contexts { (x y : Member) → B.base_context bases.now x y ≡ base_has book.now.ops x y }
-    requires known { AreForms F.over (family_in book.now.ops (B.base_form bases.now)) cache.old.entries }
-    requires waits { (T : Member → Bool) × IsWaiting F.over (family_in book.now.ops (B.base_form bases.now)) T x.now pair.old }
-    ensures added { IfOk result (λ o. IsNone o → IsStep F.over (family_in book.now.ops (B.base_form bases.now)) x.now pair.old pair.new) }
+    requires bases { AreBasesOf ⟦<B as Bases<F>>⟧ bases.now book.now.ops }
+    requires known { AreForms F.over (family_over ⟦<B as Bases<F>>⟧ bases.now book.now.ops) cache.old.entries }
+    requires waits { (T : Member → Bool) × IsWaiting F.over (family_over ⟦<B as Bases<F>>⟧ bases.now book.now.ops) T x.now pair.old }
+    ensures added { IfOk result (λ o. IsNone o → IsStep F.over (family_over ⟦<B as Bases<F>>⟧ bases.now book.now.ops) x.now pair.old pair.new) }
     ensures same { IfOk result (λ o. IfSome o (λ _. pair.new ≡ pair.old)) }
-    ensures begun { IfOk result (λ o. IfSome o (IsBegun F.over (family_in book.now.ops (B.base_form bases.now)) x.now pair.new)) }
-    ensures known { AreForms F.over (family_in book.now.ops (B.base_form bases.now)) cache.new.entries }
+    ensures begun { IfOk result (λ o. IfSome o (IsBegun F.over (family_over ⟦<B as Bases<F>>⟧ bases.now book.now.ops) x.now pair.new)) }
+    ensures known { AreForms F.over (family_over ⟦<B as Bases<F>>⟧ bases.now book.now.ops) cache.new.entries }
+    ensures capacity { cache.new.capacity ≡ cache.old.capacity }
 {
     book.known();
     bases.known();
@@ -136,9 +136,10 @@ fn form_kept<F: Include + Copy, B: Bases<F>>(
     cache: &mut Cache<F>,
     key: &Key,
 ) -> Option<F>
-    requires { AreForms F.over (family_in book.now.ops (B.base_form bases.now)) cache.old.entries }
-    ensures form { IfSome result (IsOnlyFormAt F.over (family_in book.now.ops (B.base_form bases.now)) key.now.member (has key.now.context)) }
-    ensures known { AreForms F.over (family_in book.now.ops (B.base_form bases.now)) cache.new.entries }
+    requires { AreForms F.over (family_over ⟦<B as Bases<F>>⟧ bases.now book.now.ops) cache.old.entries }
+    ensures form { IfSome result (IsOnlyFormAt F.over (family_over ⟦<B as Bases<F>>⟧ bases.now book.now.ops) key.now.member (has key.now.context)) }
+    ensures known { AreForms F.over (family_over ⟦<B as Bases<F>>⟧ bases.now book.now.ops) cache.new.entries }
+    ensures capacity { cache.new.capacity ≡ cache.old.capacity }
 {
     cache.ask(key)
 }
@@ -150,8 +151,8 @@ fn is_inert<F: Include + Copy, B: Bases<F>>(
     pair: &Pending<F>,
     x: &Member,
 ) -> bool
-    requires members { B.members bases.now ≡ members_in book.now.ops }
-    requires waits { (T : Member → Bool) × IsWaiting F.over (family_in book.now.ops (B.base_form bases.now)) T x.now pair.now }
+    requires bases { AreBasesOf ⟦<B as Bases<F>>⟧ bases.now book.now.ops }
+    requires waits { (T : Member → Bool) × IsWaiting F.over (family_over ⟦<B as Bases<F>>⟧ bases.now book.now.ops) T x.now pair.now }
     ensures { IsTrue result → F.IsInert (B.base_form bases.now x.now) }
 {
     bases.base(x).inert()
@@ -164,11 +165,10 @@ fn pass<F: Include + Copy, B: Bases<F>>(
     pair: &mut Pending<F>,
     x: &Member,
 ) -> Result<(), Memory>
-    requires members { B.members bases.now ≡ members_in book.now.ops }
-    requires contexts { (x y : Member) → B.base_context bases.now x y ≡ base_has book.now.ops x y }
-    requires waits { (T : Member → Bool) × IsWaiting F.over (family_in book.now.ops (B.base_form bases.now)) T x.now pair.old }
+    requires bases { AreBasesOf ⟦<B as Bases<F>>⟧ bases.now book.now.ops }
+    requires waits { (T : Member → Bool) × IsWaiting F.over (family_over ⟦<B as Bases<F>>⟧ bases.now book.now.ops) T x.now pair.old }
     requires inert { F.IsInert (B.base_form bases.now x.now) }
-    ensures { OnOk result (IsStep F.over (family_in book.now.ops (B.base_form bases.now)) x.now pair.old pair.new) }
+    ensures { OnOk result (IsStep F.over (family_over ⟦<B as Bases<F>>⟧ bases.now book.now.ops) x.now pair.old pair.new) }
 {
     book.known();
     bases.known();
@@ -186,13 +186,13 @@ fn handed<F: Include + Copy, B: Bases<F>>(
     at: Key,
     form: F,
 ) -> Result<Pending<F>, Memory>
-    requires members { B.members bases.now ≡ members_in book.now.ops }
-    requires contexts { (x y : Member) → B.base_context bases.now x y ≡ base_has book.now.ops x y }
-    requires known { AreForms F.over (family_in book.now.ops (B.base_form bases.now)) cache.old.entries }
-    requires waits { (T : Member → Bool) × IsWaiting F.over (family_in book.now.ops (B.base_form bases.now)) T at.member outer }
-    requires form { IsOnlyFormAt F.over (family_in book.now.ops (B.base_form bases.now)) at.member (has outer.at.context) form }
-    ensures added { IfOk result (IsStep F.over (family_in book.now.ops (B.base_form bases.now)) at.member outer) }
-    ensures known { AreForms F.over (family_in book.now.ops (B.base_form bases.now)) cache.new.entries }
+    requires bases { AreBasesOf ⟦<B as Bases<F>>⟧ bases.now book.now.ops }
+    requires known { AreForms F.over (family_over ⟦<B as Bases<F>>⟧ bases.now book.now.ops) cache.old.entries }
+    requires waits { (T : Member → Bool) × IsWaiting F.over (family_over ⟦<B as Bases<F>>⟧ bases.now book.now.ops) T at.member outer }
+    requires form { IsOnlyFormAt F.over (family_over ⟦<B as Bases<F>>⟧ bases.now book.now.ops) at.member (has outer.at.context) form }
+    ensures added { IfOk result (IsStep F.over (family_over ⟦<B as Bases<F>>⟧ bases.now book.now.ops) at.member outer) }
+    ensures known { AreForms F.over (family_over ⟦<B as Bases<F>>⟧ bases.now book.now.ops) cache.new.entries }
+    ensures capacity { cache.new.capacity ≡ cache.old.capacity }
 {
     let mut outer = outer;
     let x = member_in(&at);
@@ -213,14 +213,14 @@ fn take_in<F: Include + Copy, B: Bases<F>>(
     key: Key,
     other: F,
 ) -> Result<(), Memory>
-    requires members { B.members bases.now ≡ members_in book.now.ops }
-    requires contexts { (x y : Member) → B.base_context bases.now x y ≡ base_has book.now.ops x y }
-    requires known { AreForms F.over (family_in book.now.ops (B.base_form bases.now)) cache.old.entries }
-    requires waits { (T : Member → Bool) × IsWaiting F.over (family_in book.now.ops (B.base_form bases.now)) T key.member pair.old }
+    requires bases { AreBasesOf ⟦<B as Bases<F>>⟧ bases.now book.now.ops }
+    requires known { AreForms F.over (family_over ⟦<B as Bases<F>>⟧ bases.now book.now.ops) cache.old.entries }
+    requires waits { (T : Member → Bool) × IsWaiting F.over (family_over ⟦<B as Bases<F>>⟧ bases.now book.now.ops) T key.member pair.old }
     requires here { key.context ≡ pair.old.at.context }
-    requires form { Derived F.over (family_in book.now.ops (B.base_form bases.now)) key.member (has key.context) other }
-    ensures added { OnOk result (IsStep F.over (family_in book.now.ops (B.base_form bases.now)) key.member pair.old pair.new) }
-    ensures known { AreForms F.over (family_in book.now.ops (B.base_form bases.now)) cache.new.entries }
+    requires form { Derived F.over (family_over ⟦<B as Bases<F>>⟧ bases.now book.now.ops) key.member (has key.context) other }
+    ensures added { OnOk result (IsStep F.over (family_over ⟦<B as Bases<F>>⟧ bases.now book.now.ops) key.member pair.old pair.new) }
+    ensures known { AreForms F.over (family_over ⟦<B as Bases<F>>⟧ bases.now book.now.ops) cache.new.entries }
+    ensures capacity { cache.new.capacity ≡ cache.old.capacity }
 {
     book.known();
     bases.known();
@@ -243,13 +243,13 @@ fn keep_turned<F: Include + Copy, B: Bases<F>>(
     key: Key,
     other: F,
 ) -> Result<(), Memory>
-    requires members { B.members bases.now ≡ members_in book.now.ops }
-    requires contexts { (x y : Member) → B.base_context bases.now x y ≡ base_has book.now.ops x y }
-    requires known { AreForms F.over (family_in book.now.ops (B.base_form bases.now)) cache.old.entries }
-    requires waits { (T : Member → Bool) × IsWaiting F.over (family_in book.now.ops (B.base_form bases.now)) T key.member pair.now }
+    requires bases { AreBasesOf ⟦<B as Bases<F>>⟧ bases.now book.now.ops }
+    requires known { AreForms F.over (family_over ⟦<B as Bases<F>>⟧ bases.now book.now.ops) cache.old.entries }
+    requires waits { (T : Member → Bool) × IsWaiting F.over (family_over ⟦<B as Bases<F>>⟧ bases.now book.now.ops) T key.member pair.now }
     requires here { key.context ≡ pair.now.at.context }
-    requires form { Derived F.over (family_in book.now.ops (B.base_form bases.now)) key.member (has key.context) other }
-    ensures { AreForms F.over (family_in book.now.ops (B.base_form bases.now)) cache.new.entries }
+    requires form { Derived F.over (family_over ⟦<B as Bases<F>>⟧ bases.now book.now.ops) key.member (has key.context) other }
+    ensures known { AreForms F.over (family_over ⟦<B as Bases<F>>⟧ bases.now book.now.ops) cache.new.entries }
+    ensures capacity { cache.new.capacity ≡ cache.old.capacity }
 {
     book.known();
     bases.known();

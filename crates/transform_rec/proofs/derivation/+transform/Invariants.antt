@@ -2,7 +2,7 @@ use Rattle.std.proofs.Common.{drop}
 use Rattle.context_vector.specs.Contexts.{has}
 use Rattle.transform_rec.specs.Family.{size}
 use Rattle.transform_rec.specs.Histories.{family_in}
-use Rattle.transform_rec.specs.Ways.{IsOnWay}
+use Rattle.transform_rec.specs.Code.Pending.{IsOnWay}
 use Rattle.transform_rec.proofs.derivation.+transform.Given as goal
 
 -- the number of members of the context

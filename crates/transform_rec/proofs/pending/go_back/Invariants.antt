@@ -1,4 +1,4 @@
-use Rattle.transform_rec.specs.Ways.{IsWalk}
+use Rattle.transform_rec.specs.Code.Pending.{IsWalk}
 use Rattle.transform_rec.proofs.pending.go_back.Given as goal
 
 abbrev pub invariant-loop-i : goal.invariant-loop-i

@@ -3,7 +3,7 @@ use Rattle.std.specs.Prelude.{ℕ, length}
 use Rattle.std.proofs.lemmas.List.{length-map}
 use Rattle.context_diff.specs.Operations.{member_of}
 use Rattle.context_diff.specs.Histories.{members_in}
-use Rattle.context_diff.proofs.Books.{not_past}
+use Rattle.context_diff.proofs.CallerLemmas.{not_past}
 use Rattle.transform_rec.proofs.Backwards.{generation_at}
 use Rattle.transform_rec.proofs.pending.member_at.Goals as goal
 

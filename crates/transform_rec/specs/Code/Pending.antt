@@ -1,4 +1,4 @@
--- Forms on their way from the base context of their member to a greater set, and the list of those that wait for one another.
+-- Forms on their way from the base context of their member to a greater set, and the stack of those that wait for one another.
 use Rattle.std.specs.Prelude.{◌≡◌, ℕ, ◌≤◌, Bool, true, false, List, [], ◌∷◌, length, drop, reverse}
 use Rattle.op_name.specs.declared.member.Member.{Member}
 use Rattle.context_vector.specs.Contexts.{has}
@@ -27,12 +27,12 @@ pub record IsWayBack {F : Type 0} (b : Family F) (m : Member) (T C : Member → 
   pub path : IsCausalFrom b C rest
   pub whole : SameSet (plus_all C rest) T
 
--- a walk back through a history that has come to its place i: the stack, last one last, was taken out of the context at which
--- it began, and what is left of that from this place on is in the base context of the member
-pub record IsWalk (h : List OpData) (from at : KeyData) (stack : List Member) (i : ℕ) : Type 0 where
+-- a walk back through a history that has come to its place i: the members taken, the last one last, are out of the context at which it
+-- began, and what is left of that from this place on is in the base context of the member
+pub record IsWalk (h : List OpData) (from at : KeyData) (taken : List Member) (i : ℕ) : Type 0 where
   pub near : i ≤ length (members_in h)
   pub member : at.member ≡ from.member
-  pub back : IsWayBack (members_alone h) from.member (has from.context) (has at.context) (reverse stack)
+  pub back : IsWayBack (members_alone h) from.member (has from.context) (has at.context) (reverse taken)
   pub late : (y : Member) → has at.context y ≡ true → IsIn y (drop i (members_in h)) → base_has h from.member y ≡ true
 
 -- each member of C is one of D, and D has one that C lacks
@@ -64,12 +64,12 @@ module _ {F : Type 0} (over : F → F → F) (b : Family F) where
     pub way : IsPending (has p.at.context) q
     pub smaller : (T : Member → Bool) → IsWaiting T x p → IsProperSubset (has p.at.context) T
 
-  -- the member of the first pair of the list, or this one where the list is empty
+  -- the member of the first pair of the stack, or this one where it is empty
   abbrev pub first : List (Pending F) → Member → Member
   first [] m = m
   first (p ∷ ps) m = p.at.member
 
-  -- each pair of the list, on its way to its target, waits for the form of the next pair's member at its context, the last
+  -- each pair of the stack, on its way to its target, waits for the form of the next pair's member at its context, the last
   -- one for m; that context is the target of the next pair, and P holds of the last target
   abbrev pub IsChain : ((Member → Bool) → Type 0) → (Member → Bool) → List (Pending F) → Member → Type 0
   IsChain P T [] m = P T
