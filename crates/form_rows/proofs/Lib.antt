@@ -1,0 +1,15 @@
+pub mod DerivedForms
+pub mod Passing
+pub mod Alike
+pub mod Fronts
+pub mod Followers
+pub mod Leaders
+pub mod Looks
+pub mod Codes
+pub mod Cuts
+pub mod Moves
+pub mod Sources
+pub mod Prefixes
+pub mod Choices
+pub mod Growing
+pub mod Takes

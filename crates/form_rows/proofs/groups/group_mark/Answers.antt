@@ -1,0 +1,12 @@
+use Rattle.std.proofs.Common.{sym, subst}
+use Rattle.op_name.specs.declared.member.Member.TheVariants.{Group}
+use Rattle.context_diff.specs.Books.{BookData}
+use Rattle.context_diff.specs.Histories.{members_in}
+use Rattle.ttf_form.specs.Families.{IsIn}
+use Rattle.transform_rec.proofs.CallerLemmas.{known_in}
+use Rattle.form_rows.proofs.groups.group_mark.Goals as goal
+
+pub base-requires : goal.base-requires
+base-requires c =
+    subst (λ (b : BookData). IsIn (Group c.args.target.now c.args.generation) (members_in b.ops)) (sym c.new-bases.ensures)
+    (known_in c.args.book.now.ops (Group c.args.target.now c.args.generation) c.requires)

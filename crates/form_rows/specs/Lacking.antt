@@ -1,0 +1,8 @@
+-- How many inserts of a history a context lacks.
+use Rattle.std.specs.Prelude.{ℕ, ◌+◌, not, ◌&&◌, List, [], ◌∷◌, if◌then◌else◌}
+use Rattle.context_vector.specs.Contexts.{ContextData, has}
+use Rattle.context_diff.specs.Operations.{OpData, member_of, is_insert}
+
+abbrev pub lacking : List OpData → ContextData → ℕ
+lacking [] c = 0
+lacking (o ∷ os) c = (if is_insert o && not (has c (member_of o)) then 1 else 0) + lacking os c

@@ -1,0 +1,5 @@
+pub mod Kept
+pub mod Lacking
+pub mod Names
+pub mod RowSets
+pub mod Laws

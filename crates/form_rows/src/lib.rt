@@ -1,0 +1,25 @@
+//! Rows of forms: what a set of members lacks, each insert with its form after the set and those before it.
+//!
+//! A row of a set of members *is* the list of the forms of the inserts that the set lacks, in the order of a book, each
+//! at the set with the members of the book before it. A new form is brought over a row by one `pass`: each form of the
+//! row is included in it as it comes by, and it in each of these; so one pass finds the form of a member at all members
+//! of a book, and leaves the row of the set with that member. Covers are in no row, since their inclusion changes
+//! nothing.
+#![tactic(auto)]
+
+mod groups;
+mod laws;
+mod named;
+mod passes;
+mod row;
+mod rows;
+
+pub use groups::executed_group;
+pub use laws::{
+    alike_sets_have_one_row, first_members_have_rows, followers_follow, groups_follow,
+    members_move, passes_keep_rows,
+};
+pub use named::Named;
+pub use passes::{after, front, pass};
+pub use row::Row;
+pub use rows::{Rows, executed_form};

@@ -1,0 +1,189 @@
+//! The row of one set of members.
+
+ghost use Rattle.std.specs.Prelude.{◌≡◌, ◌≢◌, ◌<◌, ◌≤◌, ◌++◌, ◌∷◌, [], Bool, List, OnOk, OnErr, IfOk, length, drop};
+ghost use Rattle.op_name.specs.declared.member.Member.{Member};
+ghost use Rattle.context_vector.specs.Contexts.{has};
+ghost use Rattle.transform_rec.specs.Sets.{none, plus, plus_all};
+ghost use Rattle.transform_rec.specs.Family.{IsCausalFamily};
+ghost use Rattle.transform_rec.specs.Derived.{Derived};
+ghost use Rattle.transform_rec.specs.Laws.{family_of};
+ghost use Rattle.form_rows.specs.Names.{had_by, AreNamed};
+ghost use Rattle.form_rows.specs.RowSets.{form_after, row_after, front_of, taken_out, PassFits, TakingFits, IsAdded, IsRowAt, IsSource};
+
+use crate::laws::derives;
+use crate::named::Named;
+use crate::passes::{front, pass};
+use context_vector::Vector;
+use op_name::{Member, Memory};
+use std::alloc::Global;
+use std::marker::Model;
+use ttf_form::{Bases, Include};
+
+/// Forms of the inserts that a set of members lacks, among those that were executed up to a place: each after the set
+/// and the members before it.
+#[derive(Drop)]
+pub struct Row<F> {
+    forms: Vec<F>,
+    upto: usize,
+}
+
+impl<F> Model for Row<F> {
+    ghost use Rattle.form_rows.specs.RowSets.{RowData};
+
+    ghost Value = { RowData F };
+
+    ghost view = { λ r. record { forms = r.forms.items; upto = r.upto } };
+}
+
+impl<F: Named + Copy> Row<F> {
+    /// The row of the first `upto` members, which has looked at none after them.
+    pub fn of_first(alloc: Global, upto: usize) -> Row<F>
+        ensures { result ≡ record { forms = []; upto = upto } }
+    {
+        Row {
+            forms: Vec::new(alloc),
+            upto,
+        }
+    }
+
+    /// Looks at the forms in which the members since were executed. After out of memory the row is as it was.
+    pub fn catch_up(&mut self, executed: &[F]) -> Result<(), Memory>
+        requires { self.old.upto ≤ length executed.now }
+        ensures forms { OnOk result (IsAdded F.IsInert (drop self.old.upto executed.now) self.old.forms self.new.forms) }
+        ensures upto { OnOk result (self.new.upto ≡ length executed.now) }
+        ensures err { OnErr result (self.new ≡ self.old) }
+    {
+        add_kept(&mut self.forms, executed, self.upto)?;
+        self.upto = executed.len();
+        Ok(())
+    }
+
+    /// The number of its forms.
+    pub fn len(&self) -> usize
+        ensures { result ≡ length self.now.forms }
+    {
+        self.forms.len()
+    }
+
+    /// The form of m at all executed members, out of the row of a set whose inserts its context has. The row becomes that
+    /// of the context with m over the executed members with m. After out of memory it is lost.
+    pub fn execute<B: Bases<F>>(
+        &mut self,
+        bases: &B,
+        m: &Member,
+        context: &Vector,
+        executed: &[F],
+    ) -> Result<F, Memory>
+        requires causal { IsCausalFamily (family_of ⟦<B as Bases<F>>⟧ bases.now) }
+        requires names { AreNamed F.named F.IsInert (family_of ⟦<B as Bases<F>>⟧ bases.now) }
+        requires context { (y : Member) → has context.now.set y ≡ B.base_context bases.now m.now y }
+        requires short { length executed.now < 4294967296 }
+        requires ready { (C : Member → Bool) × ((xs : List Member) × IsSource F.over F.IsInert (family_of ⟦<B as Bases<F>>⟧ bases.now) m.now C xs executed.now self.old) }
+        ensures form { IfOk result (λ f. (C : Member → Bool) (xs : List Member) → IsSource F.over F.IsInert (family_of ⟦<B as Bases<F>>⟧ bases.now) m.now C xs executed.now self.old → Derived F.over (family_of ⟦<B as Bases<F>>⟧ bases.now) m.now (plus_all none xs) f) }
+        ensures row { OnOk result ((C : Member → Bool) (xs : List Member) → IsSource F.over F.IsInert (family_of ⟦<B as Bases<F>>⟧ bases.now) m.now C xs executed.now self.old → IsRowAt F.over F.IsInert (family_of ⟦<B as Bases<F>>⟧ bases.now) (plus (B.base_context bases.now m.now) m.now) (xs ++ m.now ∷ []) self.new) }
+    {
+        bases.known();
+        derives::<F, B>(bases);
+        self.catch_up(executed)?;
+        let form = brought_over(bases.base(m), &mut self.forms, context)?;
+        self.upto += 1;
+        Ok(form)
+    }
+}
+
+// Takes the forms of members that the context has out of the row, and brings the form over the others, and these over it.
+// After out of memory the row is as it was.
+fn brought_over<F: Named + Copy>(form: F, row: &mut Vec<F>, context: &Vector) -> Result<F, Memory>
+    requires taking { TakingFits F.over F.back F.place F.extent (had_by F.named context.now.set) [] row.old.items }
+    requires passing { PassFits F.over F.place F.extent form (taken_out F.over F.back (had_by F.named context.now.set) [] row.old.items) }
+    ensures form { IfOk result (λ f. f ≡ form_after F.over form (taken_out F.over F.back (had_by F.named context.now.set) [] row.old.items)) }
+    ensures row { OnOk result (row.new.items ≡ row_after F.over form (taken_out F.over F.back (had_by F.named context.now.set) [] row.old.items)) }
+    ensures err { OnErr result (row.new.items ≡ row.old.items) }
+{
+    take_out(row, context)?;
+    Ok(pass_through(form, row))
+}
+
+// Appends the forms from a place on that aren't inert. After out of memory `out` is as it was.
+fn add_kept<F: Include + Copy>(out: &mut Vec<F>, forms: &[F], from: usize) -> Result<(), Memory>
+    requires { from ≤ length forms.now }
+    ensures ok { OnOk result (IsAdded F.IsInert (drop from forms.now) out.old.items out.new.items) }
+    ensures err { OnErr result (out.new.items ≡ out.old.items) }
+{
+    out.reserve(forms.len() - from)?;
+    for i in from..forms.len() {
+        let form = forms[i];
+        if !form.inert() {
+            out.push_reserved(form);
+        }
+    }
+    Ok(())
+}
+
+// Moves the forms of members that the context has to the front of the row, one after the other, and takes them out. After
+// out of memory the row is as it was.
+fn take_out<F: Named + Copy>(row: &mut Vec<F>, context: &Vector) -> Result<(), Memory>
+    requires { TakingFits F.over F.back F.place F.extent (had_by F.named context.now.set) [] row.old.items }
+    ensures ok { OnOk result (row.new.items ≡ taken_out F.over F.back (had_by F.named context.now.set) [] row.old.items) }
+    ensures err { OnErr result (row.new.items ≡ row.old.items) }
+{
+    let left = left_of(*row.allocator(), row.as_slice(), context)?;
+    *row = left;
+    Ok(())
+}
+
+// What is left of a row without the forms of members that the context has.
+fn left_of<F: Named + Copy>(alloc: Global, row: &[F], context: &Vector) -> Result<Vec<F>, Memory>
+    requires { TakingFits F.over F.back F.place F.extent (had_by F.named context.now.set) [] row.now }
+    ensures { IfOk result (λ v. v.items ≡ taken_out F.over F.back (had_by F.named context.now.set) [] row.now) }
+{
+    let mut left = Vec::new(alloc);
+    for i in 0..row.len() {
+        let form = row[i];
+        if is_had(&form, context) {
+            move_to_front(form, &mut left);
+        } else {
+            append(&mut left, form)?;
+        }
+    }
+    Ok(left)
+}
+
+// Appends one form. After out of memory the list is as it was.
+fn append<F: Copy + Drop>(out: &mut Vec<F>, form: F) -> Result<(), Memory>
+    ensures ok { OnOk result (out.new.items ≡ out.old.items ++ form ∷ []) }
+    ensures err { OnErr result (out.new.items ≡ out.old.items) }
+{
+    match out.push(form) {
+        Ok(()) => Ok(()),
+        Err(_) => Err(Memory),
+    }
+}
+
+// Whether the form is one of a member of the context.
+fn is_had<F: Named>(form: &F, context: &Vector) -> bool
+    ensures { result ≡ had_by F.named context.now.set form.now }
+{
+    match form.name() {
+        Some(name) => context.contains(&Member::Original(name)),
+        None => false,
+    }
+}
+
+// Brings the form of a row's end to its front, and the row over it.
+fn move_to_front<F: Named + Copy>(form: F, row: &mut Vec<F>)
+    requires { PassFits F.over F.place F.extent (front_of F.back form row.old.items) row.old.items }
+    ensures { row.new.items ≡ row_after F.over (front_of F.back form row.old.items) row.old.items }
+{
+    let first = front(form, row.as_slice());
+    pass_through(first, row);
+}
+
+// Brings the form over the forms of a list, and these over it.
+fn pass_through<F: Include + Copy>(form: F, row: &mut Vec<F>) -> F
+    requires { PassFits F.over F.place F.extent form row.old.items }
+    ensures form { result ≡ form_after F.over form row.old.items }
+    ensures row { row.new.items ≡ row_after F.over form row.old.items }
+{
+    pass(form, row)
+}
