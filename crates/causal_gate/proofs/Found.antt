@@ -1,13 +1,12 @@
 -- What a walk over the waiting operations tells of the whole list.
-use Rattle.std.proofs.Common.{◌≡◌, ℕ, suc, ◌<◌, Bool, true, false, ◌||◌, List, [], ◌∷◌, refl, sym, ap, ◌∙◌, length, arith}
-use Rattle.std.specs.Prelude.{Contains, Some, slice_get}
+use Rattle.std.proofs.Common.{◌≡◌, ℕ, suc, ◌<◌, true, false, ◌||◌, List, [], ◌∷◌, refl, sym, ap, ◌∙◌, length, arith}
+use Rattle.std.specs.Prelude.{Some, slice_get}
 use Rattle.op_name.specs.declared.member.Member.{Member}
 use Rattle.op_name.specs.Members.{member_eq}
 use Rattle.context_vector.specs.Contexts.{ContextData}
 use Rattle.context_diff.specs.Operations.{OpData, member_of}
 use Rattle.context_diff.specs.Histories.{is_known}
-use Rattle.op_name.proofs.Orders.{member_same}
-use Rattle.context_diff.proofs.Known.{known_member}
+use Rattle.context_diff.proofs.CallerLemmas.{known_member}
 use Rattle.causal_gate.specs.Waiting.{IsReady, NoneReady}
 use Rattle.causal_gate.proofs.Places.{contains_at, stands}
 

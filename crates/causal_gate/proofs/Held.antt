@@ -1,8 +1,8 @@
 -- Whether an equal operation waits: what the look-up among the keys tells of the list.
-use Rattle.std.proofs.Common.{◌≡◌, Bool, true, false, ◌||◌, List, [], ◌∷◌, ◌++◌, if◌then◌else◌, refl, sym, ap, ◌∙◌, map}
+use Rattle.std.proofs.Common.{◌≡◌, true, false, ◌||◌, List, [], ◌∷◌, ◌++◌, if◌then◌else◌, refl, sym, ap, subst, ◌∙◌, map}
 use Rattle.std.proofs.lemmas.List.{map-append}
 use Rattle.indexmap.specs.IndexSet.{insert_key}
-use Rattle.std.specs.Prelude.{Contains}
+use Rattle.std.specs.Prelude.{Contains, Result, Ok, Err, OnErr}
 use Rattle.std.specs.List.{list_any}
 use Rattle.std.specs.Cmp.{decided}
 use Rattle.std.proofs.lemmas.Bool.{true≢false}
@@ -11,7 +11,7 @@ use Rattle.context_diff.specs.Operations.{OpData}
 use Rattle.context_diff.specs.Ops.{data_of, op_eq}
 use Rattle.context_diff.specs.declared.op.Op.{Op}
 use Rattle.context_diff.specs.contracts.op.OpPartialEq.TheImpl.{eq-value}
-use Rattle.context_diff.proofs.Equal.{op_same, op_eq_decides, derived_op}
+use Rattle.context_diff.proofs.CallerLemmas.{op_same, op_eq_decides, derived_op}
 
 seen : (o : Op) (ks : List Op) → list_any (eq-value.it o) ks ≡ list_any (op_eq (data_of o)) (map data_of ks)
 seen o [] = refl
@@ -25,6 +25,14 @@ found_there o ks found = Contains-from_any op_same (data_of o) (map data_of ks) 
 pub found_nowhere : (o : Op) (ks : List Op) → list_any (eq-value.it o) ks ≡ false → Contains (map data_of ks) (data_of o) → ⊥
 found_nowhere o ks none there =
     true≢false (sym (seen o ks ∙ list_any-from_Contains (decided op_eq op_eq_decides) (data_of o) (map data_of ks) there) ∙ none)
+
+-- so no equal operation waits
+pub not_waiting : (o : Op) (ks : List Op) (os : List OpData) → map data_of ks ≡ os → list_any (eq-value.it o) ks ≡ false → ¬ Contains os (data_of o)
+not_waiting o ks os seen_as none = λ there. found_nowhere o ks none (subst (λ (xs : List OpData). Contains xs (data_of o)) (sym seen_as) there)
+
+pub on_err : {A E P : Type 0} (r : Result A E) → P → OnErr r P
+on_err (Ok a) p = tt
+on_err (Err e) p = p
 
 -- a copy of an operation that isn't there goes last
 pub appended : (o copy : Op) (ks was now : List Op) → data_of copy ≡ data_of o → was ≡ ks → list_any (eq-value.it o) ks ≡ false → now ≡ insert_key eq-value.it was copy → map data_of now ≡ map data_of ks ++ data_of o ∷ []

@@ -2,3 +2,5 @@ pub mod Places
 pub mod Apart
 pub mod Held
 pub mod Found
+pub mod HintLists
+pub mod CallerLemmas

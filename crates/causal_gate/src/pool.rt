@@ -9,6 +9,7 @@ ghost use Rattle.context_diff.specs.Histories.{is_known};
 ghost use Rattle.context_vector.specs.Vectors.{IsFirstMissing};
 ghost use Rattle.context_diff.specs.Ops.{data_of};
 ghost use Rattle.causal_gate.specs.Waiting.{IsReady, IsFirstReady, NoneReady, IsPool, NamesAgree, context_at};
+ghost use Rattle.causal_gate.specs.Hints.{IsHint};
 
 use context_diff::Op;
 use context_vector::Vector;
@@ -22,12 +23,15 @@ const OPS: usize = 4_294_967_295;
 
 /// Operations that wait for members of their contexts, in the order of their arrival.
 ///
-/// No two of them are equal, no two inserts or deletes among them have one name, and they are fewer than
-/// 4,294,967,296. What waits is few, so the calls that look for an operation by its name or by what it lacks
-/// go through the list.
+/// No two of them are equal, no two inserts or deletes among them have one name, and there are at most
+/// 4,294,967,295.
+///
+/// Beside each stands a hint: a member of its context that was missing when the hint was set, or nothing. An
+/// operation whose hint is still missing isn't ready, so its context is not looked at again until then.
 #[derive(Drop)]
 pub struct Pool {
     ops: IndexSet<Op>,
+    hints: Vec<Option<Member>>,
 }
 
 impl Model for Pool {
@@ -35,12 +39,13 @@ impl Model for Pool {
     ghost use Rattle.context_diff.specs.Operations.{OpData};
     ghost use Rattle.context_diff.specs.Ops.{data_of};
     ghost use Rattle.causal_gate.specs.Waiting.{IsPool};
+    ghost use Rattle.causal_gate.specs.Hints.{AreHints};
 
     ghost Value = { List OpData };
 
     ghost view = { λ p. map data_of p.ops.keys };
 
-    ghost invariant = { λ p. IsPool (map data_of p.ops.keys) };
+    ghost invariant = { λ p. IsPool (map data_of p.ops.keys) × AreHints (map data_of p.ops.keys) p.hints.items };
 }
 
 impl Pool {
@@ -50,11 +55,12 @@ impl Pool {
     {
         Pool {
             ops: IndexSet::new(alloc),
+            hints: Vec::new(alloc),
         }
     }
 
     /// Nothing but what the type keeps: no two operations are equal, no two originals have one name, and
-    /// they are fewer than 4,294,967,296.
+    /// there are at most 4,294,967,295.
     pub fn known(&self)
         ensures { IsPool self.now }
     {
@@ -92,13 +98,14 @@ impl Pool {
     }
 
     /// Puts a copy of the operation last, and answers true. `Ok(false)` exactly where an equal operation waits
-    /// already; then, and where memory is wanting, nothing changes. A waiting insert or delete of the
-    /// operation's name is the operation itself.
+    /// already; then, and out of memory, nothing changes. Memory is answered only where no equal operation
+    /// waits. A waiting insert or delete of the operation's name is the operation itself.
     pub fn hold(&mut self, op: &Op) -> Result<bool, Memory>
         requires { NamesAgree self.old (data_of op.now) }
         ensures new { IfOk result (λ added. (added ≡ false) ↔ Contains self.old (data_of op.now)) }
         ensures ops { IfOk result (λ added. self.new ≡ (if added then self.old ++ data_of op.now ∷ [] else self.old)) }
         ensures err { OnErr result (self.new ≡ self.old) }
+        ensures memory { OnErr result (¬ Contains self.old (data_of op.now)) }
     {
         if self.ops.contains(op) {
             return Ok(false);
@@ -107,22 +114,37 @@ impl Pool {
             return Err(Memory);
         }
         self.ops.reserve(1)?;
+        self.hints.reserve(1)?;
         let copy = op.try_clone()?;
         match self.ops.insert(copy) {
-            Ok(_) => Ok(true),
+            Ok(_) => {
+                self.hints.push_reserved(None);
+                Ok(true)
+            }
             Err(_) => unreachable!(),
         }
     }
 
+    /// Sets the hint of each operation that has none, or whose hint is in `have`, to the first member of its
+    /// context that `have` lacks, and to nothing where it lacks none. What waits stays. It takes no memory.
+    pub fn renew(&mut self, have: &Vector)
+        ensures { self.new ≡ self.old }
+    {
+        for i in 0..self.len() {
+            self.renew_at(i, have);
+        }
+    }
+
     /// The least place whose operation is ready: it is in `have`, or `have` covers its context. None exactly
-    /// where none is ready. It goes through the list.
+    /// where none is ready. It goes through the list, and looks at a context only where the operation's hint
+    /// isn't missing.
     pub fn first_ready(&self, have: &Vector) -> Option<u32>
         ensures first { IfSome result (IsFirstReady have.now.set self.now) }
         ensures none { IsNone result ↔ NoneReady have.now.set self.now }
     {
         for i in 0..self.len() {
             if let Some(op) = self.get(i) {
-                if is_ready(op, have) {
+                if is_ready(op, self.hint_at(i), have) {
                     return Some(i);
                 }
             }
@@ -136,6 +158,7 @@ impl Pool {
         ensures taken { slice_get self.old i ≡ Some (data_of result) }
         ensures others { self.new ≡ remove self.old i }
     {
+        self.hints.remove(i as usize);
         match self.ops.shift_remove_index(i as usize) {
             Some(op) => op,
             None => unreachable!(),
@@ -155,6 +178,55 @@ impl Pool {
             None => unreachable!(),
         }
     }
+
+    // The hint of the i-th operation.
+    fn hint_at(&self, i: u32) -> Option<Member>
+        ensures { IfSome result (λ m. has (context_at self.now i) m ≡ true) }
+    {
+        match hint_in(self.hints.as_slice(), i as usize) {
+            Some(hint) => hint,
+            None => None,
+        }
+    }
+
+    // The hint that the i-th operation gets: its own, where that is still missing.
+    fn fresh_hint(&self, i: u32, have: &Vector) -> Option<Member>
+        ensures { IfSome result (λ m. has (context_at self.now i) m ≡ true) }
+    {
+        match self.get(i) {
+            Some(op) => renewed(op, self.hint_at(i), have),
+            None => None,
+        }
+    }
+
+    // Renews the hint of the i-th operation.
+    fn renew_at(&mut self, i: u32, have: &Vector)
+        requires { i < length self.old }
+        ensures { self.new ≡ self.old }
+    {
+        let hint = self.fresh_hint(i, have);
+        self.hints[i as usize] = hint;
+    }
+}
+
+// The hint at this place of a column.
+fn hint_in(hints: &[Option<Member>], i: usize) -> Option<Option<Member>>
+    ensures { result ≡ slice_get hints.now i }
+{
+    hints.get(i).copied()
+}
+
+// The hint that is still missing, or the first member of the context that `have` lacks.
+fn renewed(op: &Op, hint: Option<Member>, have: &Vector) -> Option<Member>
+    requires { IsHint (data_of op.now) hint }
+    ensures { IsHint (data_of op.now) result }
+{
+    if let Some(m) = hint {
+        if !have.contains(&m) {
+            return Some(m);
+        }
+    }
+    have.first_missing(op.context())
 }
 
 // Whether the operation is the insert or delete of this name.
@@ -167,11 +239,18 @@ fn is_named(op: &Op, name: &Name) -> bool
     }
 }
 
-// Whether the operation is in `have`, or `have` covers its context.
-fn is_ready(op: &Op, have: &Vector) -> bool
+// Whether the operation, which has this hint, is in `have`, or `have` covers its context.
+fn is_ready(op: &Op, hint: Option<Member>, have: &Vector) -> bool
+    requires { IsHint (data_of op.now) hint }
     ensures { IsTrue result ↔ IsReady have.now.set (data_of op.now) }
 {
-    is_there(op, have) || have.covers(op.context())
+    if is_there(op, have) {
+        return true;
+    }
+    match hint {
+        Some(m) if !have.contains(&m) => false,
+        _ => have.covers(op.context()),
+    }
 }
 
 // Whether the member that the operation is is in `have`.

@@ -5,7 +5,7 @@ use Rattle.op_name.specs.declared.member.Member.TheVariants.{Original}
 use Rattle.context_diff.specs.Operations.{OpData, member_of}
 use Rattle.context_diff.specs.Histories.{is_known}
 use Rattle.context_diff.specs.Ops.{data_of}
-use Rattle.context_diff.proofs.Equal.{op_same, derived_op}
+use Rattle.context_diff.proofs.CallerLemmas.{op_same, derived_op}
 use Rattle.causal_gate.proofs.Apart.{agree_unknown, agree_same}
 use Rattle.causal_gate.proofs.tests.agrees.Goals as goal
 

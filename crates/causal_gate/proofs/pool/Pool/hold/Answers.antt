@@ -1,12 +1,15 @@
-use Rattle.std.proofs.Common.{◌≡◌, ◌<◌, ◌∙◌, ◌++◌, ◌∷◌, [], List, ap, sym, subst, refl, arith, length, map}
-use Rattle.std.specs.Prelude.{Contains}
+use Rattle.std.proofs.Common.{◌≡◌, ◌∙◌, ◌++◌, ◌∷◌, [], List, ap, sym, subst, subst₂, refl, arith, length, map}
+use Rattle.std.specs.Prelude.{Contains, Option, None}
 use Rattle.std.proofs.lemmas.Bool.{true≢false}
 use Rattle.std.proofs.lemmas.List.{length-map}
+use Rattle.op_name.specs.declared.member.Member.{Member}
 use Rattle.context_diff.specs.Operations.{OpData}
 use Rattle.context_diff.specs.Ops.{data_of}
 use Rattle.causal_gate.specs.Waiting.{IsPool, NamesAgree}
+use Rattle.causal_gate.specs.Hints.{AreHints}
 use Rattle.causal_gate.proofs.Apart.{pool_push}
-use Rattle.causal_gate.proofs.Held.{found_there, found_nowhere, appended}
+use Rattle.causal_gate.proofs.Held.{found_there, found_nowhere, not_waiting, on_err, appended}
+use Rattle.causal_gate.proofs.HintLists.{hints_push}
 use Rattle.causal_gate.proofs.pool.Pool.hold.Goals as goal
 
 pub returns-then-contains-clause-new : goal.returns-then-contains-clause-new
@@ -14,8 +17,20 @@ returns-then-contains-clause-new c =
     let there = found_there c.args.op.now c.self.inside.ops.keys (sym c.contains.ensures ∙ c.if-contains.true) in
     (λ old. subst (λ (os : List OpData). Contains os (data_of c.args.op.now)) c.self.view_is there, λ here. refl)
 
-pub invariant_of-self-2 : goal.invariant_of-self-2
-invariant_of-self-2 c =
+pub returns-then-len-ge-OPS-clause-memory : goal.returns-then-len-ge-OPS-clause-memory
+returns-then-len-ge-OPS-clause-memory c = not_waiting c.args.op.now c.self.inside.ops.keys c.args.self.now c.self.view_is (sym c.contains.ensures ∙ c.if-contains.false)
+
+pub returns-in_err-reserve-clause-memory : goal.returns-in_err-reserve-clause-memory
+returns-in_err-reserve-clause-memory c = on_err c.from_residual.result (not_waiting c.args.op.now c.self.inside.ops.keys c.args.self.now c.self.view_is (sym c.contains.ensures ∙ c.if-contains.false))
+
+pub returns-in_err-reserve-2-clause-memory : goal.returns-in_err-reserve-2-clause-memory
+returns-in_err-reserve-2-clause-memory c = on_err c.from_residual-in_err-reserve-2.result (not_waiting c.args.op.now c.self.inside.ops.keys c.args.self.now c.self.view_is (sym c.contains.ensures ∙ c.if-contains.false))
+
+pub returns-in_err-copy-clause-memory : goal.returns-in_err-copy-clause-memory
+returns-in_err-copy-clause-memory c = on_err c.from_residual-in_err-copy.result (not_waiting c.args.op.now c.self.inside.ops.keys c.args.self.now c.self.view_is (sym c.contains.ensures ∙ c.if-contains.false))
+
+pub invariant_of-self-in-Ok : goal.invariant_of-self-in-Ok
+invariant_of-self-in-Ok c =
     let o = c.args.op.now in
     let keys = c.self.inside.ops.keys in
     let none = sym c.contains.ensures ∙ c.if-contains.false in
@@ -23,7 +38,10 @@ invariant_of-self-2 c =
     let agree : NamesAgree (map data_of keys) (data_of o) = subst (λ (os : List OpData). NamesAgree os (data_of o)) (sym c.self.view_is) c.requires in
     let unchanged : length c.reserve.new.self.keys ≡ length keys = ap length c.reserve.ensures.keys in
     let seen : length (map data_of keys) ≡ length keys = length-map keys data_of in
-    subst IsPool (sym put) (pool_push (map data_of keys) (data_of o) c.self.invariant (found_nowhere o keys none) agree (omega arith))
+    let hints : c.push_reserved.new.self.items ≡ c.self.inside.hints.items ++ None ∷ [] = c.push_reserved.ensures.items ∙ ap (λ (hs : List (Option Member)). hs ++ None ∷ []) c.reserve-2.ensures.items in (
+      subst IsPool (sym put) (pool_push (map data_of keys) (data_of o) c.self.invariant.0 (found_nowhere o keys none) agree (omega arith)),
+      subst₂ (λ (os : List OpData) (hs : List (Option Member)). AreHints os hs) (sym put) (sym hints) (hints_push (map data_of keys) c.self.inside.hints.items (data_of o) None c.self.invariant.1 tt),
+    )
 
 pub returns-clause-new : goal.returns-clause-new
 returns-clause-new c =

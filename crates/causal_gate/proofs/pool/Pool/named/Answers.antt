@@ -1,10 +1,9 @@
-use Rattle.std.proofs.Common.{◌≡◌, ◌∙◌, true, ap, sym, refl, arith, Bor}
+use Rattle.std.proofs.Common.{◌≡◌, ◌∙◌, ap, sym, refl, arith, Bor}
 use Rattle.std.specs.Prelude.{Some, slice_get, option_map}
 use Rattle.std.proofs.lemmas.Bool.{true≢false, false≢true}
 use Rattle.op_name.specs.declared.member.Member.TheVariants.{Original}
-use Rattle.op_name.specs.Members.{member_eq}
 use Rattle.context_diff.specs.Operations.{OpData, member_of}
-use Rattle.op_name.proofs.Orders.{member_same}
+use Rattle.op_name.proofs.CallerLemmas.{member_same}
 use Rattle.context_diff.specs.Ops.{data_of}
 use Rattle.context_diff.specs.declared.op.Op.{Op}
 use Rattle.causal_gate.proofs.Places.{contains_at}
