@@ -2,7 +2,8 @@
 use Rattle.std.proofs.Common.{◌≡◌, ℕ, ◌+◌, ◌<◌, ◌≤◌, ◌≢◌, Bool, true, false, List, [], ◌∷◌, ◌++◌, length, if◌then◌else◌, inl, inr, refl, subst, arith, zero-add}
 use Rattle.std.proofs.lemmas.Bool.{cases_Bool}
 use Rattle.std.specs.List.{list_any}
-use Rattle.transform_rec.specs.Lists.{IsIn, count, either, EachAt}
+use Rattle.transform_rec.specs.Lists.{IsIn}
+use Rattle.transform_rec.proofs.CallerLemmas.{count, either, EachAt}
 use Rattle.fixed_replay.proofs.Elements.{not_both}
 
 -- no element passes both tests

@@ -8,27 +8,20 @@ use Rattle.ttf_form.specs.declared.cover.Cover.{Cover}
 use Rattle.ttf_form.specs.declared.cover.Mark.{Mark}
 use Rattle.ttf_form.specs.declared.form.Form.{Form}
 use Rattle.ttf_form.specs.declared.form.Form.TheVariants.{Ins as Insert, Cover as Covered}
-use Rattle.ttf_form.specs.Places.{IsMoved}
+use Rattle.ttf_form.specs.Laws.Places.{IsMoved}
 use Rattle.ttf_form.specs.Forms.{place_of, extent_of, form_over}
 use Rattle.ttf_form.specs.Cells.{CellData, cells_of}
 use Rattle.ttf_form.specs.Laws.Forms.{cover_moved}
 use Rattle.transform_rec.specs.Sets.{none, SameSet, plus, plus_all}
-use Rattle.transform_rec.specs.Lists.{IsIn, count}
+use Rattle.transform_rec.specs.Lists.{IsIn}
+use Rattle.transform_rec.proofs.CallerLemmas.{count, member_apart, in_filter, filter_in, same_set, same_from, plus_cases, plus_keeps, all_in, all_cases, all_keeps, base_sound, derived_sound, form_step, exists, derived_once, IsForm, Run, Forms, run, At, forms_run, rest_run, part_run, before_cell}
 use Rattle.transform_rec.specs.Family.{Family, IsSound}
 use Rattle.transform_rec.specs.Derived.{IsFamily}
 use Rattle.transform_rec.specs.Derived.Derived.{at_base}
 use Rattle.transform_rec.specs.Executing.{Setting, deriving_of, HasOwnNames, keep, own}
-use Rattle.transform_rec.proofs.Members.{member_apart}
-use Rattle.transform_rec.proofs.Lists.{in_filter, filter_in}
-use Rattle.transform_rec.proofs.Sets.{same_set, same_from, plus_cases, plus_keeps, all_in, all_cases, all_keeps}
-use Rattle.transform_rec.proofs.Families.{base_sound}
-use Rattle.transform_rec.proofs.Forms.{derived_sound, form_step, exists}
-use Rattle.transform_rec.proofs.Uniqueness.{derived_once}
-use Rattle.transform_rec.proofs.Executing.{IsForm, Run, Forms, run, At, forms_run}
-use Rattle.transform_rec.proofs.Parts.{rest_run, part_run, before_cell}
 use Rattle.fixed_replay.proofs.Elements.{not_both}
 use Rattle.fixed_replay.proofs.Splits.{IsSplit, split_moves}
-use Rattle.fixed_replay.proofs.Editor.{form_inclusion, form_table, setting_of}
+use Rattle.fixed_replay.proofs.Editor.{form_inclusion, form_table, form_at_place, setting_of}
 
 -- a cover with this mark at this place
 pub record IsCoverAt (mark : Mark) (n : ℕ) (f : Form) : Type 0 where
@@ -69,7 +62,7 @@ module _ (b : Family Form) (known : IsFamily form_inclusion b) (own_names : HasO
 
       moved_count : (C : Member → Bool) (x : Member) (d : Cover) (k : Form) → IsForm w x C k → ((z : Member) → C z ≡ true → IsIn z L) → keep C c ≡ true → d.place ≡ count (keep C) before → IsIn x L → count (keep (plus C x)) before ≡ place_of (form_over (Covered d) k)
       moved_count C x d k dk within here place i =
-          let cells = before_cell w C x k L s fs st df within i dk in
+          let cells = before_cell w form_at_place C x k L s fs st df within i dk in
           let moved : IsMoved (count (keep C) before) (place_of k) (count (own x) S) true (place_of (form_over (Covered d) k)) = subst₂ (λ (p e : ℕ). IsMoved p (place_of k) e true (place_of (form_over (Covered d) k))) place (sym cells.1) (cover_moves d k) in
           split_moves (keep C) (own x) (disjoint C x k dk) S before c behind at.whole here (place_of k) cells.0 (place_of (form_over (Covered d) k)) moved
 

@@ -2,9 +2,10 @@
 use Rattle.std.proofs.Common.{◌≡◌, ℕ, suc, ◌≤◌, max, Bool, true, false, if◌then◌else◌, List, [], ◌∷◌, ◌⊎◌, inl, inr, refl, ap, sym, subst, arith}
 use Rattle.std.proofs.lemmas.Bool.{cases_Bool}
 use Rattle.op_name.specs.NameData.{NameData, name_eq, name_lt}
+use Rattle.op_name.proofs.CallerLemmas.{name_itself, name_same, name_transitive}
 use Rattle.context_vector.specs.Contexts.{IsBefore}
-use Rattle.ttf_form.specs.Cells.{raise_in, best, IsRising}
-use Rattle.ttf_form.specs.Laws.Deleters.{best_raise, best_raise_other, name_self, name_same, name_less_trans, name_less_other}
+use Rattle.ttf_form.specs.Cells.{raise_in, IsRising}
+use Rattle.ttf_form.specs.Laws.Deleters.{best, best_raise, best_raise_other, name_less_other}
 use Rattle.transform_rec.specs.Lists.{IsIn}
 
 abbrev pub Entry : Type 0
@@ -31,7 +32,7 @@ in-raise d g x (e ∷ es) i = raised_cases d g e x es (in-raise d g x es) (name_
 before_best : (n d : NameData) (es : List Entry) → IsRising es → IsBefore d es → (n ≡ d) ⊎ (name_lt n d ≡ true) → best n es ≡ 0
 before_best n d [] r l e = refl
 before_best n d (x ∷ es) r l e =
-    let less : name_lt n x.0 ≡ true = elim e [ inl p ↦ subst (λ (m : NameData). name_lt m x.0 ≡ true) (sym p) l | inr k ↦ name_less_trans n d x.0 k l ] in
+    let less : name_lt n x.0 ≡ true = elim e [ inl p ↦ subst (λ (m : NameData). name_lt m x.0 ≡ true) (sym p) l | inr k ↦ name_transitive n d x.0 k l ] in
     let ih = before_best n x.0 es r.1 r.0 (inr less) in
     rw (name_less_other n x.0 less, ih) refl
 
@@ -40,7 +41,7 @@ pub entry_best : (x : Entry) (es : List Entry) → IsRising es → IsIn x es →
 entry_best x [] r i = absurd i
 entry_best x (e ∷ es) r (inl p) =
     let none = before_best e.0 e.0 es r.1 r.0 (inl refl) in
-    let first : best e.0 (e ∷ es) ≡ suc e.1 = rw (name_self e.0, none) (omega arith) in
+    let first : best e.0 (e ∷ es) ≡ suc e.1 = rw (name_itself e.0, none) (omega arith) in
     subst (λ (y : Entry). best y.0 (e ∷ es) ≡ suc y.1) (sym p) first
 entry_best x (e ∷ es) r (inr i) =
     let ih = entry_best x es r.1 i in

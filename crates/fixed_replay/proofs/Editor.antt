@@ -11,13 +11,13 @@ use Rattle.ttf_form.specs.declared.form.Form.TheVariants.{Ins as Insert, Cover a
 use Rattle.ttf_form.specs.Forms.{place_of, extent_of, IsBoundedForm, ApartForms, form_over, added_by}
 use Rattle.ttf_form.specs.Cells.{CellData, bare_cells, cells_of, FitsCells, applied}
 use Rattle.ttf_form.specs.Laws.Forms.{form_tp2, form_apart_sym, form_apart_over, form_extent_over, form_bound_place, form_bound_over, form_added_length, form_added_over}
-use Rattle.ttf_form.specs.Laws.Cells.{form_tp1, form_kept}
+use Rattle.ttf_form.specs.Laws.Cells.{form_tp1, form_kept, kept_at}
 use Rattle.transform_rec.specs.Lists.{IsIn}
 use Rattle.transform_rec.specs.Family.{Family}
 use Rattle.transform_rec.specs.Derived.{Derived, Inclusion, IsInclusion, IsFamily}
 use Rattle.transform_rec.specs.Derived.Derived.{at_base, by_step}
-use Rattle.transform_rec.specs.Executing.{Table, IsTable, HasOwnNames, Setting, LacksName}
-use Rattle.transform_rec.proofs.Members.{member_cases}
+use Rattle.transform_rec.specs.Executing.{Table, IsTable, AddsAtPlace, HasOwnNames, Setting, LacksName}
+use Rattle.transform_rec.proofs.CallerLemmas.{member_cases}
 
 abbrev pub form_inclusion : Inclusion Form
 form_inclusion = record { Apart = ApartForms; IsBounded = IsBoundedForm; over = form_over; place = place_of; extent = extent_of }
@@ -33,10 +33,14 @@ form_is_table = record {
   inclusion = form_is_inclusion;
   fits = λ s a b n. (b, n);
   tp1 = form_tp1;
-  kept_at = form_kept;
+  kept = λ s a h. (form_kept a).1 s h;
   added_length = form_added_length;
   added_over = form_added_over;
 }
+
+-- each form of the editor puts its cells at its place
+pub form_at_place : AddsAtPlace form_table
+form_at_place s a h = kept_at s a
 
 -- what the editor's theory rests on, for one family
 abbrev pub setting_of : (b : Family Form) → IsFamily form_inclusion b → HasOwnNames form_table b → Setting Form (List CellData)

@@ -3,17 +3,11 @@ use Rattle.std.proofs.Common.{◌≡◌, Bool, true, false, List, [], ◌∷◌,
 use Rattle.std.proofs.lemmas.Bool.{cases_Bool}
 use Rattle.std.specs.List.{list_any}
 use Rattle.transform_rec.specs.Lists.{IsIn}
+pub use Rattle.transform_rec.proofs.CallerLemmas.{same_bool}
 pub use Rattle.undo_group.specs.Laws.Members.{in_contains, contains_in}
 
 pub not_both : {b : Bool} {P : Type 0} → b ≡ true → b ≡ false → P
 not_both h k = absurd (cc)
-
--- tests that pass alike are equal
-pub same_bool : (a b : Bool) → (a ≡ true → b ≡ true) → (b ≡ true → a ≡ true) → a ≡ b
-same_bool true true f g = refl
-same_bool true false f g = sym (f refl)
-same_bool false true f g = g refl
-same_bool false false f g = refl
 
 pub map_same : {K L : Type 0} (f g : K → L) (xs : List K) → ((x : K) → IsIn x xs → f x ≡ g x) → map f xs ≡ map g xs
 map_same f g [] h = refl
@@ -28,7 +22,7 @@ in_any p x [] i h = absurd i
 in_any p x (y ∷ ys) (inl e) h = let k : p y ≡ true = ap p (sym e) ∙ h in rw k refl
 in_any p x (y ∷ ys) (inr i) h = elim (cases_Bool (p y)) [ inl k ↦ rw k refl | inr k ↦ rw (k, in_any p x ys i h) refl ]
 
--- each element has the relation to those behind it
+-- each element has the relation to those after it
 abbrev pub IsPairwise : {K : Type 0} → (K → K → Type 0) → List K → Type 0
 IsPairwise R [] = Unit {0}
 IsPairwise {K} R (x ∷ xs) = ((z : K) → IsIn z xs → R x z) × IsPairwise R xs

@@ -13,12 +13,8 @@ use Rattle.ttf_form.specs.Families.{IsIn}
 use Rattle.transform_rec.specs.Sets.{none}
 use Rattle.transform_rec.specs.Executing.{AreFormsFrom, executed, deriving_of}
 use Rattle.transform_rec.specs.Histories.{family_in}
-use Rattle.transform_rec.proofs.Computed.{computed_forms}
-use Rattle.transform_rec.proofs.Forms.{computed_list}
-use Rattle.transform_rec.proofs.Executing.{At, empty_state}
+use Rattle.transform_rec.proofs.CallerLemmas.{computed_forms, computed_list, At, empty_state, any_order, book_run}
 use Rattle.transform_rec.specs.Lists.{SameElements}
-use Rattle.transform_rec.proofs.Order.{any_order}
-use Rattle.transform_rec.proofs.CausalOrders.{book_run}
 use Rattle.undo_group.specs.BaseForms.{AreBaseForms}
 use Rattle.fixed_replay.specs.Replayed.{IsReplayed}
 use Rattle.fixed_replay.specs.Insertions.{insertions_of}

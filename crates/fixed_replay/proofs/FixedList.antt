@@ -1,7 +1,7 @@
 -- The fixed list: all members of a family sorted by rank, site and generation. It is causal, and its inserts are in their
 -- fixed order.
 use Rattle.std.proofs.Common.{◌≡◌, ◌≢◌, ℕ, ◌<◌, Bool, true, false, nat_lt, ◌||◌, ◌&&◌, ◌==◌, List, [], ◌∷◌, ◌++◌, ◌⊎◌, inl, inr, refl, ap, sym, ◌∙◌, subst, subst₂, arith}
-use Rattle.transform_rec.proofs.Lists.{in_left, in_right}
+use Rattle.transform_rec.proofs.CallerLemmas.{in_left, in_right, IsRising, member_cases, Forms, run, At, run_forms, any_order, sorted_run}
 use Rattle.std.proofs.lemmas.Bool.Decides.{nat_tests}
 use Rattle.op_name.specs.NameData.{NameData}
 use Rattle.op_name.specs.declared.member.Member.{Member}
@@ -13,15 +13,11 @@ use Rattle.ttf_form.specs.declared.form.Form.{Form}
 use Rattle.ttf_form.specs.declared.form.Form.TheVariants.{Ins as Insert, Cover as Covered}
 use Rattle.ttf_form.specs.Cells.{CellData, cells_of}
 use Rattle.transform_rec.specs.Sets.{none}
-use Rattle.transform_rec.specs.Lists.{IsIn, AreApart, SameElements, IsRising}
+use Rattle.transform_rec.specs.Lists.{IsIn, AreApart, SameElements}
 use Rattle.transform_rec.specs.Family.{Family, IsCausalFamily}
 use Rattle.transform_rec.specs.Derived.{IsFamily}
 use Rattle.transform_rec.specs.Executing.{Setting, HasOwnNames, IsCausalFrom}
-use Rattle.transform_rec.proofs.Members.{member_cases}
-use Rattle.transform_rec.proofs.Executing.{Forms, run, At, run_forms}
-use Rattle.transform_rec.proofs.Order.{any_order}
-use Rattle.transform_rec.proofs.CausalOrders.{sorted_run}
-use Rattle.fixed_replay.specs.Families.{HasRanks, HasGroups, generation_of, is_sooner}
+use Rattle.fixed_replay.proofs.Families.{HasRanks, HasGroups, generation_of, is_sooner}
 use Rattle.fixed_replay.proofs.Elements.{not_both}
 use Rattle.fixed_replay.proofs.Sorting.{AreComparable, in-sort_by, sort_by-in, sort_by-sorted, sorted_once}
 use Rattle.fixed_replay.proofs.SameText.{earlier_asym, earlier_trans}

@@ -1,11 +1,11 @@
 pub mod Elements
+pub mod Families
 pub mod Counts
 pub mod Stretches
 pub mod Narrowing
 pub mod Sorting
 pub mod Operations
 pub mod SameText
-pub mod Ranks
 pub mod ValidOriginals
 pub mod Editor
 pub mod Walk
@@ -18,8 +18,10 @@ pub mod DeleterLists
 pub mod HistoryFamilies
 pub mod Reading
 pub mod ValidFamilies
+pub mod TextFamilies
 pub mod ExecutedForms
 pub mod Growth
 pub mod Searches
 pub mod Stepwise
 pub mod Standing
+pub mod CallerLemmas

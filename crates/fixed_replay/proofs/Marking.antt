@@ -14,21 +14,16 @@ use Rattle.ttf_form.specs.Forms.{place_of, extent_of, IsBoundedForm}
 use Rattle.ttf_form.specs.Cells.{CellData, marked, bare_cells, put_in, change_at, cells_of, applied}
 use Rattle.ttf_form.specs.Laws.Lists.{change_behind, map-put}
 use Rattle.transform_rec.specs.Sets.{none, plus, plus_all}
-use Rattle.transform_rec.specs.Lists.{IsIn, count}
+use Rattle.transform_rec.specs.Lists.{IsIn}
+use Rattle.transform_rec.proofs.CallerLemmas.{count, filter_in, filter_keeps, filter-append, length-count, in_right, count-append, plus_cases, all_in, all_cases, none_closed, base_sound, derived_sound, IsForm, Forms, run, At, state_after, forms_run, run_listed, run_closed, part_state, one_more, before_cell}
 use Rattle.transform_rec.specs.Family.{Family, IsClosed}
 use Rattle.transform_rec.specs.Derived.{IsFamily, weight}
 use Rattle.transform_rec.specs.Derived.Derived.{at_base}
 use Rattle.transform_rec.specs.Executing.{Setting, deriving_of, HasOwnNames, keep, own}
-use Rattle.transform_rec.proofs.Members.{name_self}
-use Rattle.transform_rec.proofs.Lists.{filter_in, filter_keeps, filter-append, length-count, in_right, count-append}
-use Rattle.transform_rec.proofs.Sets.{plus_cases, all_in, all_cases}
-use Rattle.transform_rec.proofs.Families.{none_closed, base_sound}
-use Rattle.transform_rec.proofs.Forms.{derived_sound}
-use Rattle.transform_rec.proofs.Executing.{IsForm, Forms, run, At, state_after, forms_run, run_listed, run_closed}
-use Rattle.transform_rec.proofs.Parts.{part_state, one_more, before_cell}
+use Rattle.op_name.proofs.CallerLemmas.{name_itself}
 use Rattle.fixed_replay.proofs.Elements.{not_both, map_same}
 use Rattle.fixed_replay.proofs.Splits.{IsSplit, Split, split}
-use Rattle.fixed_replay.proofs.Editor.{form_inclusion, form_table, setting_of, derived_insert, insert_owner}
+use Rattle.fixed_replay.proofs.Editor.{form_inclusion, form_table, form_at_place, setting_of, derived_insert, insert_owner}
 use Rattle.fixed_replay.proofs.CoverStays.{cover_stays}
 use Rattle.fixed_replay.proofs.Marks.{same_cell, same_cell_self, stands_behind, stands_in, count_zero, mark_by, bare_at, hits_in, marks_of, marks_plus, marks_none}
 
@@ -83,10 +78,10 @@ module _ (b : Family Form) (known : IsFamily form_inclusion b) (own_names : HasO
         let y : Member = Original c.0 in
         let i = owner_in c (subst (λ (cs : List Cell). IsIn c cs) (sym whole) (in_right c before (c ∷ behind) (inl refl))) in
         let listed = run_listed w L none y (forms_run w L none fs df) i in
-        let cells = before_cell w (b.context y) y (b.form y) L [] fs st df (base_within y i) i (at_base listed (λ z. refl) refl) in
+        let cells = before_cell w form_at_place (b.context y) y (b.form y) L [] fs st df (base_within y i) i (at_base listed (λ z. refl) refl) in
         let few = extent_one (b.form y) in
         let many : count (own y) S ≡ count (own y) before + count (own y) (c ∷ behind) = ap (count (own y)) whole ∙ count-append (own y) before (c ∷ behind) in
-        let one : count (own y) (c ∷ behind) ≡ 1 + count (own y) behind = ap (λ (h : Bool). (if h then 1 else 0) + count (own y) behind) (name_self c.0) in
+        let one : count (own y) (c ∷ behind) ≡ 1 + count (own y) behind = ap (λ (h : Bool). (if h then 1 else 0) + count (own y) behind) (name_itself c.0) in
         let at = cells.1 in
         (omega arith, omega arith)
 
@@ -102,7 +97,7 @@ module _ (b : Family Form) (known : IsFamily form_inclusion b) (own_names : HasO
         let form' : IsForm w x C (Insert a) = subst (λ (g : Form). IsForm w x C g) ki.is form in
         let sound = derived_sound (deriving_of w) x C f form in
         let P = filter (keep C) S in
-        let more : filter (keep (plus C x)) S ≡ put_in a.place ((a.name, 0) ∷ []) P = one_more w C x (Insert a) L [] fs st df within i form' in
+        let more : filter (keep (plus C x)) S ≡ put_in a.place ((a.name, 0) ∷ []) P = one_more w form_at_place C x (Insert a) L [] fs st df within i form' in
         let same : (c : Cell) → full (plus C x) c ≡ full C c = λ c. marks_plus b S C x c b.members sound.lacks sound.listed known.causal.distinct ∙ ap (λ (g : Form). mark_by g (hits_in b S x c) (full C c)) base in
         let owner : Original a.name ≡ x = ap Original ki.name ∙ sym (insert_owner b own_names x e sound.listed base) in
         let missed : (z : Member) → C z ≡ true → hits_in b S z (a.name, 0) ≡ false = λ z h. false_from_ne_true (hits_in b S z (a.name, 0)) (λ hit. both_ways (C x) sound.lacks (subst (λ (y : Member). C y ≡ true) owner (hit_in C sound.set z (a.name, 0) h hit))) in
@@ -149,7 +144,7 @@ module _ (b : Family Form) (known : IsFamily form_inclusion b) (own_names : HasO
         let k = stays.1.cover in
         let form' : IsForm w x C (Covered k) = subst (λ (g : Form). IsForm w x C g) stays.1.is form in
         let P = filter (keep C) S in
-        let more : filter (keep (plus C x)) S ≡ P = one_more w C x (Covered k) L [] fs st df within i form' ∙ take-append-drop k.place P in
+        let more : filter (keep (plus C x)) S ≡ P = one_more w form_at_place C x (Covered k) L [] fs st df within i form' ∙ take-append-drop k.place P in
         let A = filter (keep C) sp.before in
         let B = filter (keep C) sp.behind in
         let parts : P ≡ A ++ (c ∷ B) = parts_of (keep C) sp.before c sp.behind sp.is.whole stays.0 in

@@ -12,11 +12,11 @@ use Rattle.ttf_form.specs.Forms.{place_of}
 use Rattle.ttf_form.specs.Cells.{CellData, marked}
 use Rattle.ttf_form.specs.Laws.Cells.{marks_two}
 use Rattle.transform_rec.specs.Sets.{plus}
-use Rattle.transform_rec.specs.Lists.{IsIn, AreApart, count}
+use Rattle.transform_rec.specs.Lists.{IsIn, AreApart}
+use Rattle.transform_rec.proofs.CallerLemmas.{count, plus_here, plus_other}
 use Rattle.transform_rec.specs.Family.{Family}
 use Rattle.transform_rec.specs.Executing.{keep}
-use Rattle.transform_rec.proofs.Members.{name_tells, name_self}
-use Rattle.transform_rec.proofs.Sets.{plus_here, plus_other}
+use Rattle.op_name.proofs.CallerLemmas.{name_itself, name_same}
 use Rattle.fixed_replay.proofs.Elements.{not_both}
 
 -- ---- cells by their places
@@ -40,12 +40,12 @@ equal_self a = grind (arith, nat_tests)
 pub same_cell_tells : (d c : Cell) → same_cell d c ≡ true → d ≡ c
 same_cell_tells d c h =
     let r = and_parts (name_eq d.0 c.0) (d.1 == c.1) h in
-    let p = name_tells d.0 c.0 r.0 in
+    let p = name_same d.0 c.0 r.0 in
     let q = equal_numbers d.1 c.1 r.1 in
     λ i. (p i, q i)
 
 pub same_cell_self : (c : Cell) → same_cell c c ≡ true
-same_cell_self c = and_from (name_eq c.0 c.0) (c.1 == c.1) (name_self c.0) (equal_self c.1)
+same_cell_self c = and_from (name_eq c.0 c.0) (c.1 == c.1) (name_itself c.0) (equal_self c.1)
 
 pub stands_in : (n : ℕ) (cs : List Cell) (c : Cell) → stands_at n cs c ≡ true → IsIn c cs
 unfolding stands_at

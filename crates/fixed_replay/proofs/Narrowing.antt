@@ -1,7 +1,7 @@
 -- Narrowing: a gap narrowed by one earlier insert after the other.
 use Rattle.std.proofs.Common.{◌≡◌, true, false, List, [], ◌∷◌, ◌++◌, filter, not, ◌⊎◌, inl, inr, refl, ap, sym, ◌∙◌, subst}
 use Rattle.std.proofs.lemmas.Bool.{cases_Bool}
-use Rattle.transform_rec.proofs.Lists.{in_cases, in_left, in_right}
+use Rattle.transform_rec.proofs.CallerLemmas.{in_cases, in_left, in_right}
 use Rattle.op_name.specs.NameData.{NameData}
 use Rattle.context_diff.specs.Gaps.{Gap, gap}
 use Rattle.context_diff.specs.Replays.{Insertion, Cell, cells_from, narrowed_by, narrowed, gap_of, put, replay}

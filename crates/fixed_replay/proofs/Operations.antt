@@ -16,11 +16,6 @@ one_operation (q ∷ qs) a o p (inl k) (inr j) e = absurd (a.0 (member_of p) (me
 one_operation (q ∷ qs) a o p (inr i) (inl l) e = absurd (a.0 (member_of o) (member_listed o qs i) (ap member_of (sym l) ∙ sym e))
 one_operation (q ∷ qs) a o p (inr i) (inr j) e = one_operation qs a.1 o p i j e
 
-pub original_is : (o : OpData) (n : NameData) → member_of o ≡ Original n → is_original o ≡ true
-original_is (inserting m p ch c) n e = refl
-original_is (deleting m p c) n e = refl
-original_is (undoing s m g c) n e = absurd (cc)
-
 pub original_name : (o : OpData) → is_original o ≡ true → (n : NameData) × (member_of o ≡ Original n)
 original_name (inserting n p ch c) e = (n, refl)
 original_name (deleting n p c) e = (n, refl)

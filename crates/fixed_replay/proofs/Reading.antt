@@ -15,8 +15,8 @@ use Rattle.ttf_form.specs.declared.cover.Mark.TheVariants.{Own, By}
 use Rattle.ttf_form.specs.declared.form.Form.{Form}
 use Rattle.ttf_form.specs.declared.form.Form.TheVariants.{Ins as Insert, Cover as Covered}
 use Rattle.ttf_form.specs.Forms.{place_of, IsBoundedForm}
-use Rattle.ttf_form.specs.Cells.{CellData, marked, raise_in, best, IsRising, cell_key, cells_of, is_even, cell_shown}
-use Rattle.ttf_form.specs.Laws.Deleters.{best_raise, best_raise_other, raise_rising}
+use Rattle.ttf_form.specs.Cells.{CellData, marked, raise_in, IsRising, cell_key, cells_of, is_even, cell_shown}
+use Rattle.ttf_form.specs.Laws.Deleters.{best, best_raise, best_raise_other, raise_rising}
 use Rattle.ttf_form.specs.Laws.Cells.{marked_key, marked_char}
 use Rattle.transform_rec.specs.Sets.{none, plus, plus_all}
 use Rattle.transform_rec.specs.Lists.{IsIn, AreApart}
@@ -24,21 +24,17 @@ use Rattle.transform_rec.specs.Family.{Family}
 use Rattle.transform_rec.specs.Derived.{IsFamily, weight}
 use Rattle.transform_rec.specs.Derived.Derived.{at_base}
 use Rattle.transform_rec.specs.Executing.{Setting, HasOwnNames, keep}
-use Rattle.transform_rec.proofs.Members.{name_tells, name_self}
-use Rattle.transform_rec.proofs.Lists.{filter_all, filter_same}
-use Rattle.transform_rec.proofs.Sets.{plus_here, plus_keeps, plus_cases, all_in}
-use Rattle.transform_rec.proofs.Families.{base_sound}
-use Rattle.transform_rec.proofs.Executing.{Forms, run, At, state_after}
-use Rattle.transform_rec.proofs.Parts.{part_state, one_more}
+use Rattle.op_name.proofs.CallerLemmas.{name_itself, name_same}
+use Rattle.transform_rec.proofs.CallerLemmas.{filter_all, filter_same, plus_here, plus_keeps, plus_cases, all_in, base_sound, Forms, run, At, state_after, part_state, one_more}
 use Rattle.fixed_replay.specs.Originals.{AreToldApart}
-use Rattle.fixed_replay.specs.Families.{HasGroups}
+use Rattle.fixed_replay.proofs.Families.{HasGroups}
 use Rattle.fixed_replay.specs.Replayed.{IsDeleter, IsReplayed}
 use Rattle.undo_group.specs.BaseForms.{IsCoverForm}
 use Rattle.fixed_replay.proofs.HistoryFamilies.{IsFamilyOf}
 use Rattle.fixed_replay.proofs.Elements.{not_both, same_bool, map_same, any_in, in_any}
 use Rattle.fixed_replay.proofs.Operations.{member_listed, listed_member, one_operation}
 use Rattle.fixed_replay.proofs.SameText.{IsPut, in-replay_of, character_at}
-use Rattle.fixed_replay.proofs.Editor.{form_inclusion, form_table, setting_of}
+use Rattle.fixed_replay.proofs.Editor.{form_inclusion, form_table, form_at_place, setting_of}
 use Rattle.fixed_replay.proofs.Marks.{stands_behind, mark_by, bare_at, hits_in, marks_of, marks_same}
 use Rattle.fixed_replay.proofs.Marking.{state_marks}
 use Rattle.fixed_replay.proofs.DeleterLists.{Entry, in-raise, entry_best, best_entry, best_more}
@@ -128,7 +124,7 @@ module _ (b : Family Form) (known : IsFamily form_inclusion b) (own_names : HasO
 
   -- an insert's name is no delete's
   not_delete : (n m : NameData) (p ch q : ℕ) (c k : ContextData) → IsIn (inserting n p ch c) h → IsIn (deleting m q k) h → name_eq m n ≡ false
-  not_delete n m p ch q c k i j = false_from_ne_true (name_eq m n) (λ e. let o : inserting n p ch c ≡ deleting m q k = one_op (inserting n p ch c) (deleting m q k) i j (ap Original (sym (name_tells m n e))) in (cc))
+  not_delete n m p ch q c k i j = false_from_ne_true (name_eq m n) (λ e. let o : inserting n p ch c ≡ deleting m q k = one_op (inserting n p ch c) (deleting m q k) i j (ap Original (sym (name_same m n e))) in (cc))
 
   module _ (fs : List Form) (st : At w none []) (df : Forms w none b.members fs) (is_replay : cells_of (run w [] fs) ≡ replay_of h) where
     abbrev S : List Cell
@@ -162,7 +158,7 @@ module _ (b : Family Form) (known : IsFamily form_inclusion b) (own_names : HasO
         (λ m. elim (groups.before t g (Original e.0) i m) [
           | inl a ↦ a
           | inr a ↦ elim a [
-            | inl r ↦ let put = put_by e l in absurd (both_ways (name_eq t e.0) (not_delete e.0 t put.place put.character q put.context k put.there j) (let s : e.0 ≡ t = (cc) in subst (λ (v : NameData). name_eq t v ≡ true) (sym s) (name_self t)))
+            | inl r ↦ let put = put_by e l in absurd (both_ways (name_eq t e.0) (not_delete e.0 t put.place put.character q put.context k put.there j) (let s : e.0 ≡ t = (cc) in subst (λ (v : NameData). name_eq t v ≡ true) (sym s) (name_itself t)))
             | inr r ↦ let s = r.1 in absurd (cc)
           ]
         ])
@@ -183,7 +179,7 @@ module _ (b : Family Form) (known : IsFamily form_inclusion b) (own_names : HasO
         let part = part_state w needs b.members none [] fs (base_sound b known.causal y listed).set.closed st df (λ z e. not_both e refl) (λ z e. inr (within z e)) in
         let long : length P ≡ weight form_inclusion b needs = ap length part.2 ∙ part.1.weighs in
         let bounded : a.place ≤ weight form_inclusion b needs = subst (λ (x : Form). IsBoundedForm x (weight form_inclusion b needs)) f.is (known.bounded y listed) in
-        let more = one_more w needs y (Insert a) b.members [] fs st df within listed (at_base listed (λ z. refl) (sym f.is)) in
+        let more = one_more w form_at_place needs y (Insert a) b.members [] fs st df within listed (at_base listed (λ z. refl) (sym f.is)) in
         let same : (e : Cell) → IsIn e S → keep (b.context (Group t g)) e ≡ keep (plus needs y) e = λ e m.
         same_bool (keep (b.context (Group t g)) e) (keep (plus needs y) e)
         (λ q. elim (groups.before t g (Original e.0) i q) [
@@ -261,12 +257,12 @@ module _ (b : Family Form) (known : IsFamily form_inclusion b) (own_names : HasO
     -- the best of d after a raise of n, if it happens
     raise_best : (d n : NameData) (g : ℕ) (hit : Bool) (es : List Entry) → (name_eq n d ≡ true → hit ≡ true) → best d (if hit then raise_in n g es else es) ≡ max (if name_eq n d then suc g else 0) (best d es)
     raise_best d n g hit es f = elim (cases_Bool (name_eq n d)) [
-      | inl k ↦ let s : n ≡ d = name_tells n d k in let e : best d (raise_in n g es) ≡ max (suc g) (best d es) = subst (λ (m : NameData). best d (raise_in m g es) ≡ max (suc g) (best d es)) (sym s) (best_raise d g es) in rw (f k, k) e
+      | inl k ↦ let s : n ≡ d = name_same n d k in let e : best d (raise_in n g es) ≡ max (suc g) (best d es) = subst (λ (m : NameData). best d (raise_in m g es) ≡ max (suc g) (best d es)) (sym s) (best_raise d g es) in rw (f k, k) e
       | inr k ↦ rw k (by_hit hit k)
     ]
       where
         by_hit : (x : Bool) → name_eq n d ≡ false → best d (if x then raise_in n g es else es) ≡ max 0 (best d es)
-        by_hit true k = let other : name_eq d n ≡ false = false_from_ne_true (name_eq d n) (λ e. both_ways (name_eq n d) k (subst (λ (m : NameData). name_eq n m ≡ true) (sym (name_tells d n e)) (name_self n))) in best_raise_other d n g es other ∙ omega arith
+        by_hit true k = let other : name_eq d n ≡ false = false_from_ne_true (name_eq d n) (λ e. both_ways (name_eq n d) k (subst (λ (m : NameData). name_eq n m ≡ true) (sym (name_same d n e)) (name_itself n))) in best_raise_other d n g es other ∙ omega arith
         by_hit false k = omega arith
 
     -- d is a delete that hits the cell
@@ -288,7 +284,7 @@ module _ (b : Family Form) (known : IsFamily form_inclusion b) (own_names : HasO
     mark_best (inserting n p ch k) i c d del e = let f = family.forms.inserts n p ch k i in ap (λ (x : Form). max 1 (best d (mark_by x (hits_in b S (Original n) c) e).deleters)) f.is ∙ omega arith
     mark_best (deleting n p k) i c d del e =
         let f = family.forms.deletes n p k i in
-        let hit : name_eq n d ≡ true → hits_in b S (Original n) c ≡ true = λ q. subst (λ (m : NameData). hits_in b S (Original m) c ≡ true) (sym (name_tells n d q)) del.hit in
+        let hit : name_eq n d ≡ true → hits_in b S (Original n) c ≡ true = λ q. subst (λ (m : NameData). hits_in b S (Original m) c ≡ true) (sym (name_same n d q)) del.hit in
         let r : best d (mark_of (deleting n p k) c e).deleters ≡ max (if name_eq n d then suc 0 else 0) (best d e.deleters) =
         ap (best d) (by_deleters p n 0 (b.form (Original n)) (hits_in b S (Original n) c) e f) ∙ raise_best d n 0 (hits_in b S (Original n) c) e.deleters hit in
         max_one (best d (mark_of (deleting n p k) c e).deleters) 0 (best d e.deleters) (name_eq n d) r ∙ ap (λ (x : ℕ). max (suc x) (max 1 (best d e.deleters))) (zero_either (name_eq n d))
@@ -296,13 +292,13 @@ module _ (b : Family Form) (known : IsFamily form_inclusion b) (own_names : HasO
       | inl r ↦
           let f = family.forms.inserts t r.0 r.1 r.2 r.3 in
           let listed = listed_of (undoing a t g k) i in
-          let other : name_eq t d ≡ false = false_from_ne_true (name_eq t d) (λ q. both_ways (name_eq d t) (not_delete t d r.0 r.1 del.place r.2 del.context r.3 del.there) (subst (λ (m : NameData). name_eq d m ≡ true) (sym (name_tells t d q)) (name_self d))) in
+          let other : name_eq t d ≡ false = false_from_ne_true (name_eq t d) (λ q. both_ways (name_eq d t) (not_delete t d r.0 r.1 del.place r.2 del.context r.3 del.there) (subst (λ (m : NameData). name_eq d m ≡ true) (sym (name_same t d q)) (name_itself d))) in
           ap (λ (es : List Entry). max 1 (best d es)) (own_deleters f.ins.place g (b.form (Group t g)) (hits_in b S (Group t g) c) e (family.forms.insert_groups t g f.ins (group_listed t g listed) f.is)) ∙ (rw other (omega arith))
       | inr r ↦
           let f = family.forms.deletes t r.0 r.1 r.2 in
           let listed = listed_of (undoing a t g k) i in
           let same = delete_group_hits d t r.0 g r.0 r.1 f.cover c r.2 f.is listed in
-          let hit : name_eq t d ≡ true → hits_in b S (Group t g) c ≡ true = λ q. same ∙ subst (λ (m : NameData). hits_in b S (Original m) c ≡ true) (sym (name_tells t d q)) del.hit in
+          let hit : name_eq t d ≡ true → hits_in b S (Group t g) c ≡ true = λ q. same ∙ subst (λ (m : NameData). hits_in b S (Original m) c ≡ true) (sym (name_same t d q)) del.hit in
           let raised : best d (mark_of (undoing a t g k) c e).deleters ≡ max (if name_eq t d then suc g else 0) (best d e.deleters) =
           ap (best d) (by_deleters f.cover.place t g (b.form (Group t g)) (hits_in b S (Group t g) c) e (family.forms.delete_groups t g f.cover (group_listed t g listed) f.is)) ∙ raise_best d t g (hits_in b S (Group t g) c) e.deleters hit in
           max_one (best d (mark_of (undoing a t g k) c e).deleters) g (best d e.deleters) (name_eq t d) raised

@@ -1,6 +1,6 @@
 -- Two histories with the same originals, each at the same generation, have the same text.
 use Rattle.std.proofs.Common.{◌≡◌, ◌≢◌, ℕ, Bool, true, false, not, ◌&&◌, List, [], ◌∷◌, map, filter, encode_utf8_all, ◌⊎◌, inl, inr, refl, ap, ap₂, sym, ◌∙◌, subst, arith}
-use Rattle.transform_rec.proofs.Lists.{filter_same, filter_in}
+use Rattle.transform_rec.proofs.CallerLemmas.{filter_same, filter_in}
 use Rattle.std.proofs.lemmas.Bool.{cases_Bool}
 use Rattle.std.proofs.lemmas.Bool.Decides.{nat_tests}
 use Rattle.std.specs.List.{list_any}
@@ -15,7 +15,7 @@ use Rattle.transform_rec.specs.Lists.{IsIn, SameElements}
 use Rattle.fixed_replay.proofs.Elements.{same_bool, contains_in, in_contains, any_in, in_any, map_same}
 use Rattle.fixed_replay.proofs.Sorting.{AreComparable, in-sort_by, sort_by-in, sort_by-sorted, sorted_once}
 use Rattle.fixed_replay.proofs.Narrowing.{in-replay}
-use Rattle.transform_rec.proofs.Members.{name_tells, name_self}
+use Rattle.op_name.proofs.CallerLemmas.{name_itself, name_same}
 use Rattle.fixed_replay.proofs.Operations.{known_as}
 
 -- what is told from all is told from each
@@ -135,10 +135,10 @@ character_at [] t n p ch ctx offset i = absurd i
 character_at (inserting n' p' ch' ctx' ∷ os) t n p ch ctx offset (inl e) =
     let a : n' ≡ n = (cc) in
     let b : ch' ≡ ch = (cc) in
-    let eq : name_eq n' n ≡ true = subst (λ (m : NameData). name_eq n' m ≡ true) a (name_self n') in
+    let eq : name_eq n' n ≡ true = subst (λ (m : NameData). name_eq n' m ≡ true) a (name_itself n') in
     rw eq b
 character_at (inserting n' p' ch' ctx' ∷ os) t n p ch ctx offset (inr i) = elim (cases_Bool (name_eq n' n)) [
-  | inl eq ↦ absurd ((told_from (inserting n' p' ch' ctx') os t.0 (inserting n p ch ctx) i).names refl refl (ap Original (name_tells n' n eq)))
+  | inl eq ↦ absurd ((told_from (inserting n' p' ch' ctx') os t.0 (inserting n p ch ctx) i).names refl refl (ap Original (name_same n' n eq)))
   | inr eq ↦ rw eq (character_at os t.1 n p ch ctx offset i)
 ]
 character_at (deleting n' p' ctx' ∷ os) t n p ch ctx offset (inl e) = absurd (cc)

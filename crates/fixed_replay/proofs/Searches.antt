@@ -4,7 +4,7 @@ use Rattle.std.specs.Prelude.{◌||◌, if◌then◌else◌}
 use Rattle.std.specs.List.{list_any}
 use Rattle.std.proofs.lemmas.Bool.{cases_Bool}
 use Rattle.std.proofs.lemmas.List.{at_drop_more, at_drop_all}
-use Rattle.context_diff.specs.GapEnds.{up_to_nth, before_first, up_to_last}
+use Rattle.context_diff.specs.Code.GapEnds.{up_to_nth, before_first, up_to_last}
 
 -- what a function makes of the list from a place on, where the element there is known
 pub at_place : {X Y : Type 0} (f : List X → Y) (xs : List X) (i : ℕ) (x : X) → i < length xs → x ≡ get_or xs i x → f (drop i xs) ≡ f (x ∷ drop (i + 1) xs)

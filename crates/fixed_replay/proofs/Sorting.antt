@@ -2,7 +2,8 @@
 use Rattle.std.proofs.Common.{◌≡◌, Bool, true, false, List, [], ◌∷◌, ◌⊎◌, inl, inr, refl, ap, sym, ◌∙◌, subst}
 use Rattle.std.proofs.lemmas.Bool.{cases_Bool}
 use Rattle.context_diff.specs.Replays.{put_by, sort_by}
-use Rattle.transform_rec.specs.Lists.{IsIn, SameElements, IsRising}
+use Rattle.transform_rec.specs.Lists.{IsIn, SameElements}
+use Rattle.transform_rec.proofs.CallerLemmas.{IsRising}
 use Rattle.fixed_replay.proofs.Elements.{not_both, IsPairwise}
 
 -- a strict order of the elements of a list: of two at different places one is less

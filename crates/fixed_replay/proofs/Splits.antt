@@ -1,9 +1,8 @@
--- Splits of a list at the element that stands behind so many that pass a test.
+-- Splits of a list at the element that stands after so many that pass a test.
 use Rattle.std.proofs.Common.{◌≡◌, ℕ, zero, suc, ◌+◌, ◌<◌, Bool, true, List, [], ◌∷◌, ◌++◌, inl, inr, refl, ap, ◌∙◌, subst, arith, if◌then◌else◌}
 use Rattle.std.proofs.lemmas.Bool.{cases_Bool}
-use Rattle.transform_rec.proofs.Lists.{count-append}
-use Rattle.ttf_form.specs.Places.{IsMoved}
-use Rattle.transform_rec.specs.Lists.{count, either, EachAt}
+use Rattle.transform_rec.proofs.CallerLemmas.{count-append, count, either, EachAt}
+use Rattle.ttf_form.specs.Laws.Places.{IsMoved}
 use Rattle.fixed_replay.proofs.Counts.{count-either, AreDisjoint, each-append, begins-late}
 use Rattle.fixed_replay.proofs.Stretches.{three}
 

@@ -6,7 +6,7 @@ use Rattle.std.proofs.lemmas.Bool.{cases_Bool}
 use Rattle.op_name.specs.NameData.{NameData, name_eq}
 use Rattle.context_diff.specs.Operations.{OpData}
 use Rattle.context_diff.specs.Replays.{stands_at, seen, is_shown}
-use Rattle.fixed_replay.specs.PlainCells.{cell_of, characters_among}
+use Rattle.fixed_replay.specs.Code.PlainCells.{cell_of, characters_among}
 use Rattle.fixed_replay.proofs.Searches.{at_place}
 
 and_same : (b : Bool) → (b && true) ≡ b

@@ -8,11 +8,10 @@ use Rattle.context_diff.specs.Operations.{OpData, inserting}
 use Rattle.context_diff.specs.Ops.{data_of}
 use Rattle.context_diff.specs.declared.op.Op.{Op}
 use Rattle.context_diff.specs.Gaps.{Gap, gap}
-use Rattle.context_diff.specs.GapEnds.{up_to_nth, before_first, up_to_last, gap_between}
+use Rattle.context_diff.specs.Code.GapEnds.{up_to_nth, before_first, up_to_last, gap_between}
 use Rattle.context_diff.specs.Replays.{Insertion, Cell, is_earlier, put_by, sort_by, fixed_order, of_name, narrowed_by, narrowed, gap_of, put, replay}
-use Rattle.context_diff.proofs.GapEnds.{gap_ends, narrow_left, narrow_right}
-use Rattle.context_diff.proofs.Replaying.{map_insert, put_is_insert, put_at_end}
-use Rattle.fixed_replay.specs.PlainCells.{InsertData, insertion_of, comes_before, knows, cell_of, name_of}
+use Rattle.context_diff.proofs.CallerLemmas.{gap_ends, narrow_left, narrow_right, map_insert, put_is_insert, put_at_end}
+use Rattle.fixed_replay.specs.Code.PlainCells.{InsertData, insertion_of, comes_before, knows, cell_of, name_of}
 use Rattle.fixed_replay.proofs.Searches.{at_place, before_first_map, up_to_last_map, up_to_nth_map}
 
 -- the fixed order of no operations

@@ -1,12 +1,12 @@
 -- Stretches: what a gap is among cells, where it starts, and how one more insert narrows it.
 use Rattle.std.proofs.Common.{◌≡◌, ℕ, zero, suc, ◌+◌, ◌<◌, ◌≤◌, Bool, true, false, ◌||◌, List, [], ◌∷◌, ◌++◌, length, take, drop, if◌then◌else◌, ◌⊎◌, inl, inr, refl, ap, sym, ◌∙◌, subst, arith, append_assoc, append-nil}
 use Rattle.std.proofs.lemmas.Bool.{cases_Bool}
-use Rattle.transform_rec.proofs.Lists.{in_left, in_right, count-append}
+use Rattle.transform_rec.proofs.CallerLemmas.{in_left, in_right, count-append, count, either, EachAt}
 use Rattle.std.specs.List.{list_any}
 use Rattle.std.proofs.Math.Seq.{take-append_seam, drop-append_seam}
-use Rattle.ttf_form.specs.Places.{IsMoved}
+use Rattle.ttf_form.specs.Laws.Places.{IsMoved}
 use Rattle.context_diff.specs.Gaps.{Gap, until, onward, through, beyond, gap, narrow}
-use Rattle.transform_rec.specs.Lists.{IsIn, count, either, EachAt}
+use Rattle.transform_rec.specs.Lists.{IsIn}
 use Rattle.fixed_replay.proofs.Elements.{not_both}
 use Rattle.fixed_replay.proofs.Counts.{count-either, any_count, count_any, count_all, AreDisjoint, each-append, each-late, each-between, each-early, begins-late, BeginsIn, EndsIn, ends-more, ends-append, ends-cons, begins-more, begins-append}
 
@@ -91,7 +91,7 @@ pub narrow_none : {K : Type 0} (left : Bool) (x : K → Bool) (g : Gap K) → co
 narrow_none true x g h = rw (through_nothing x g.between h, beyond_all x g.between h, append-nil) refl
 narrow_none false x g h = rw (until_all x g.between h, onward_nothing x g.between h) refl
 
--- the gap behind n cells of p: none of p between, and one of p at each end or no cell
+-- the gap after n cells of p: none of p between, and one of p at each end or no cell
 pub record Stretch {K : Type 0} (S : List K) (p : K → Bool) (n : ℕ) (g : Gap K) : Type 0 where
   pub whole : S ≡ whole_of g
   pub at : count p g.before ≡ n
@@ -229,7 +229,7 @@ no_length (x ∷ xs) h = absurd (omega arith)
 seam : {K : Type 0} (xs new ys : List K) (n : ℕ) → length xs ≡ n → xs ++ (new ++ ys) ≡ take n (xs ++ ys) ++ (new ++ drop n (xs ++ ys))
 seam xs new ys n h = rw (← h, take-append_seam xs ys, drop-append_seam xs ys) refl
 
--- when all cells pass, the gap behind n of them is the place n
+-- when all cells pass, the gap after n of them is the place n
 pub whole_gap : {K : Type 0} (S new : List K) (p : K → Bool) (n : ℕ) (g : Gap K) → Stretch S p n g → ((c : K) → IsIn c S → p c ≡ true) → g.before ++ (g.between ++ (new ++ g.behind)) ≡ take n S ++ (new ++ drop n S)
 whole_gap {K} S new p n g s all =
     let in_whole = λ (c : K) (i : IsIn c (whole_of g)). all c (subst (λ (xs : List K). IsIn c xs) (sym s.whole) i) in

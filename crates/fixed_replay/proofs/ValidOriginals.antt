@@ -9,16 +9,15 @@ use Rattle.context_vector.specs.Contexts.{has, rank_of}
 use Rattle.context_diff.specs.Operations.{OpData, member_of, context_of}
 use Rattle.context_diff.specs.Histories.{members_in, is_known, IsValid}
 use Rattle.context_diff.specs.Bases.{original_context}
-use Rattle.context_diff.proofs.Complete.{IsComplete, complete}
-use Rattle.context_diff.proofs.Histories.{original_facts, context_is, own_alone, related}
-use Rattle.context_diff.proofs.ClosedSets.{IsClosedContext, holds_original}
+use Rattle.context_diff.proofs.CallerLemmas.{IsComplete, complete, original_facts, context_is, own_alone, related, holds_original}
+use Rattle.context_diff.specs.ClosedContexts.{IsClosedContext}
 use Rattle.ttf_form.specs.Families.{IsIn}
 use Rattle.transform_rec.specs.Lists.{AreApart}
-use Rattle.transform_rec.proofs.Histories.{history_causal}
+use Rattle.transform_rec.proofs.CallerLemmas.{history_causal}
 use Rattle.fixed_replay.specs.Originals.{AreTold, AreToldFrom, AreToldApart, site_of}
 use Rattle.fixed_replay.proofs.Elements.{in_contains}
 use Rattle.fixed_replay.proofs.Operations.{member_listed, known_as, original_name}
-use Rattle.fixed_replay.proofs.Ranks.{rank_less}
+use Rattle.context_vector.proofs.CallerLemmas.{rank_less}
 
 module _ (h : List OpData) (v : IsValid h) where
   complete_h : IsComplete h

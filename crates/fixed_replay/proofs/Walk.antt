@@ -11,30 +11,23 @@ use Rattle.ttf_form.specs.declared.ins.Ins.{Ins}
 use Rattle.ttf_form.specs.declared.cover.Cover.{Cover}
 use Rattle.ttf_form.specs.declared.form.Form.{Form}
 use Rattle.ttf_form.specs.declared.form.Form.TheVariants.{Ins as Insert, Cover as Covered}
-use Rattle.ttf_form.specs.Places.{IsMoved}
+use Rattle.ttf_form.specs.Laws.Places.{IsMoved}
 use Rattle.ttf_form.specs.Forms.{place_of, IsBoundedForm, form_over, added_by}
 use Rattle.ttf_form.specs.Cells.{CellData, cells_of, applied}
 use Rattle.ttf_form.specs.Laws.Forms.{form_over_cover, ins_moved}
 use Rattle.ttf_form.specs.Laws.Cells.{kept_at}
 use Rattle.transform_rec.specs.Sets.{none, IsSubset, SameSet, plus, plus_all}
-use Rattle.transform_rec.specs.Lists.{IsIn, count}
+use Rattle.transform_rec.specs.Lists.{IsIn}
+use Rattle.transform_rec.proofs.CallerLemmas.{count, member_apart, in_filter, filter_in, length-count, count-append, same_set, same_from, plus_cases, all_in, all_cases, all_keeps, all-append, base_sound, derived_sound, forms_apart, form_step, exists, derived_once, IsForm, Run, Forms, run, At, state_after, forms_run, run_listed, run_append, forms-append, rest_run, part_state, before_cell}
 use Rattle.transform_rec.specs.Family.{Family, IsSound}
 use Rattle.transform_rec.specs.Derived.{IsFamily, weight}
 use Rattle.transform_rec.specs.Derived.Derived.{at_base}
 use Rattle.transform_rec.specs.Executing.{Setting, deriving_of, HasOwnNames, keep, own}
-use Rattle.transform_rec.proofs.Members.{member_apart}
-use Rattle.transform_rec.proofs.Lists.{in_filter, filter_in, length-count, count-append}
-use Rattle.transform_rec.proofs.Sets.{same_set, same_from, plus_cases, all_in, all_cases, all_keeps, all-append}
-use Rattle.transform_rec.proofs.Families.{base_sound}
-use Rattle.transform_rec.proofs.Forms.{derived_sound, forms_apart, form_step, exists}
-use Rattle.transform_rec.proofs.Uniqueness.{derived_once}
-use Rattle.transform_rec.proofs.Executing.{IsForm, Run, Forms, run, At, state_after, forms_run, run_listed, run_append, forms-append}
-use Rattle.transform_rec.proofs.Parts.{rest_run, part_state, before_cell}
 use Rattle.fixed_replay.proofs.Elements.{not_both}
 use Rattle.fixed_replay.proofs.Stretches.{Stretch, start, walk_step, narrow_none, whole_gap}
 use Rattle.fixed_replay.proofs.Narrowing.{narrowed-append, narrowed_unseen}
 use Rattle.fixed_replay.specs.Insertions.{inserted_by, insertions_of}
-use Rattle.fixed_replay.proofs.Editor.{form_inclusion, form_table, setting_of, IsInsertOf, derived_insert, derived_cover, insert_owner, named_by, names_of, names-append, names_filter}
+use Rattle.fixed_replay.proofs.Editor.{form_inclusion, form_table, form_at_place, setting_of, IsInsertOf, derived_insert, derived_cover, insert_owner, named_by, names_of, names-append, names_filter}
 
 within_none : (x : Cell → Bool) (xs ys zs : List Cell) → count x (xs ++ (ys ++ zs)) ≡ 0 → count x ys ≡ 0
 within_none x xs ys zs h = let p = count-append x xs (ys ++ zs) in let q = count-append x ys zs in omega arith
@@ -78,7 +71,7 @@ module _ (b : Family Form) (known : IsFamily form_inclusion b) (own_names : HasO
       insert_step : (C : Member → Bool) (x : Member) (c d : Ins) (g : Gap Cell) (n : NameData) → c.name ≡ a.name → d.name ≡ n → x ≡ Original n → b.context o x ≡ false → Reached C (Insert c) g → IsForm w x C (Insert d) → IsIn x L
           → Stretch S (keep (plus C x)) (place_of (form_over (Insert c) (Insert d))) (narrowed_by insertion n g)
       insert_step C x c d g n name_c name_d x_is unseen r dk i =
-          let before = before_cell w C x (Insert d) L s fs st df r.within i dk in
+          let before = before_cell w form_at_place C x (Insert d) L s fs st df r.within i dk in
           let sites : c.site ≢ d.site = forms_apart (deriving_of w) o x C (Insert c) (Insert d) (not_o x i) r.form dk in
           let left = nat_lt d.name.site c.name.site in
           let moved : IsMoved c.place d.place (count (own x) S) left (place_of (form_over (Insert c) (Insert d))) = subst (λ (e : ℕ). IsMoved c.place d.place e left (place_of (form_over (Insert c) (Insert d)))) (sym before.1) (ins_moved c d sites) in
@@ -88,7 +81,7 @@ module _ (b : Family Form) (known : IsFamily form_inclusion b) (own_names : HasO
       -- a cover has no cells: gap and place stay
       cover_step : (C : Member → Bool) (x : Member) (f : Form) (d : Cover) (g : Gap Cell) → Reached C f g → IsForm w x C (Covered d) → IsIn x L → Stretch S (keep (plus C x)) (place_of (form_over f (Covered d))) g
       cover_step C x f d g r dk i =
-          let before = before_cell w C x (Covered d) L s fs st df r.within i dk in
+          let before = before_cell w form_at_place C x (Covered d) L s fs st df r.within i dk in
           let no_cell : count (own x) S ≡ 0 = before.1 in
           let place : place_of (form_over f (Covered d)) ≡ place_of f = ap place_of (form_over_cover f d) in
           let moved : IsMoved (place_of f) d.place (count (own x) S) true (place_of (form_over f (Covered d))) = record { less = λ h. omega arith; more = λ h. place; tie_left = λ h t. omega arith; tie_right = λ h t. place } in

@@ -1,6 +1,5 @@
 pub mod Originals
-pub mod Families
 pub mod Insertions
 pub mod Replayed
 pub mod Laws
-pub mod PlainCells
+pub mod Code

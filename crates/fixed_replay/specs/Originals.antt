@@ -7,7 +7,8 @@ use Rattle.context_diff.specs.Operations.{OpData, member_of, context_of, is_orig
 abbrev pub site_of : OpData → ℕ
 site_of o = (target_of (member_of o)).site
 
--- two originals have different names, and different pairs of rank and site
+-- two originals have different names, and different pairs of rank and site; names are asked to differ since a cell's character
+-- is looked up by its name: of two inserts of one name both cells would show that of the first in the list
 pub record AreTold (o p : OpData) : Type 0 where
   pub names : is_original o ≡ true → is_original p ≡ true → member_of o ≢ member_of p
   pub keys : is_original o ≡ true → is_original p ≡ true → rank_of (context_of o) ≡ rank_of (context_of p) → site_of o ≢ site_of p

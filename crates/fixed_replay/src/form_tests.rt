@@ -1,7 +1,7 @@
-//! The one form of a member at a context, over books that hold the operations in several orders.
+//! The forms of members at contexts, against forms that were worked out by hand, and the laws of such forms.
 
-ghost use Rattle.std.specs.Prelude.{◌≡◌, IsTrue, IfOk};
-ghost use Rattle.context_diff.specs.Histories.{IsNext};
+ghost use Rattle.std.specs.Prelude.{IsTrue, IfOk};
+ghost use Rattle.context_diff.specs.Operations.{context_of};
 ghost use Rattle.context_diff.specs.Ops.{data_of};
 ghost use Rattle.transform_rec.specs.Histories.{MayBeAddedTo};
 
@@ -10,12 +10,31 @@ use context_vector::Vector;
 use op_name::{Member, Memory, Name};
 use std::alloc::Global;
 use std::test::Fail;
-use transform_rec::transform;
-use ttf_form::{Form, Ins};
+use transform_rec::{
+    addable_form_fits, causal_lists_have_forms, derivations_name_members,
+    next_operation_keeps_forms, no_entries_are_forms, one_form, one_more_member,
+    order_independence, restriction, same_operations_same_form, swap, to_the_front, transform,
+};
+use ttf_form::{Bases, Cover, Form, Ins, Mark};
 use undo_group::TextBases;
 
-/// The first originals of sites 0 to 3, so many of each.
-fn knowing(alloc: Global, counts: [u32; 4]) -> Result<Vector, Fail> {
+/// A site with a number.
+type Named = (u16, u32);
+
+/// The originals of sites 0 to 3 that are known, so many of each, and the greatest generation of one that was undone;
+/// 0 where none was.
+#[derive(Clone, Copy)]
+struct Known([u32; 4], Named, u16);
+
+/// That no undo is known.
+const NONE: Named = (0, 1);
+
+fn name_of(named: Named) -> Result<Name, Fail> {
+    Ok(Name::new(named.0, named.1)?)
+}
+
+fn knowing(alloc: Global, known: Known) -> Result<Vector, Fail> {
+    let Known(counts, undone, generation) = known;
     let mut set = Vector::new(alloc);
     for (site, count) in [
         (0, counts[0]),
@@ -27,38 +46,70 @@ fn knowing(alloc: Global, counts: [u32; 4]) -> Result<Vector, Fail> {
             set.raise(&Member::Original(Name::new(site, count)?))?;
         }
     }
+    if generation > 0 {
+        set.raise(&Member::Group(name_of(undone)?, generation))?;
+    }
     Ok(set)
 }
 
-/// Whether the operation is an insert that is next after those of the book.
-fn is_next(book: &Book, op: &Op) -> bool
-    ensures { IsTrue result → IsNext book.now.ops (data_of op.now) }
-{
-    book.known();
-    if op.fault().is_some() {
-        return false;
-    }
-    if book.have().contains(&op.member()) || !book.have().covers(op.context()) {
-        return false;
-    }
-    match op {
-        Op::Insert { place, context, .. } => {
-            closed(book, context).is_none() && *place <= book.inserts_in(context)
-        }
-        _ => false,
-    }
+/// What an operation does, at a place or to a generation.
+#[derive(Clone, Copy)]
+enum Does {
+    Insert(u32, char),
+    Delete(u32),
+    Undo(u16),
 }
 
-/// Whether the member may be added to the context, of which no original is undone.
-fn may_be_added(book: &Book, m: &Member, to: &Vector) -> Result<bool, Memory>
-    ensures { IfOk result (λ added. IsTrue added → MayBeAddedTo book.now.ops to.now.set m.now) }
+/// An operation by its name, or that of its target, with what it does and what it knows.
+#[derive(Clone, Copy)]
+struct Made(Named, Does, Known);
+
+fn op_of(alloc: Global, made: Made) -> Result<Op, Fail> {
+    let Made(named, does, known) = made;
+    let name = name_of(named)?;
+    let context = knowing(alloc, known)?;
+    Ok(match does {
+        Does::Insert(place, ch) => Op::Insert {
+            name,
+            place,
+            ch,
+            context,
+        },
+        Does::Delete(place) => Op::Delete {
+            name,
+            place,
+            context,
+        },
+        Does::Undo(generation) => Op::Undo {
+            author: 3,
+            target: name,
+            generation,
+            context,
+        },
+    })
+}
+
+/// Appends the operation where it is next.
+fn take_in(alloc: Global, book: &mut Book, made: Made) -> Result<(), Fail> {
+    let op = op_of(alloc, made)?;
+    if book.is_next(&op) {
+        book.reserve(&op)?;
+        book.push(op);
+    }
+    Ok(())
+}
+
+/// Whether the member may be added to the context of this operation.
+fn may_be_added(alloc: Global, book: &Book, m: &Member, op: &Op) -> Result<bool, Memory>
+    ensures { IfOk result (λ added. IsTrue added → MayBeAddedTo book.now.ops (context_of (data_of op.now)) m.now) }
 {
     book.known();
+    let to = op.context();
     if !book.have().contains(m) || !book.have().covers(to) {
         return Ok(false);
     }
-    let base = base_context(book, m)?;
-    if closed(book, to).is_some() || to.entries() > 0 {
+    let base = base_context(alloc, book, m)?;
+    if closed(book, to).is_some() || op.fault().is_some() {
         return Ok(false);
     }
     if !to.covers(&base) || to.contains(m) {
@@ -67,91 +118,199 @@ fn may_be_added(book: &Book, m: &Member, to: &Vector) -> Result<bool, Memory>
     Ok(true)
 }
 
-/// The place and the character of an insert's form.
-fn insert_of(form: Form) -> Option<(u32, char)> {
-    match form {
-        Form::Ins(Ins { place, ch, .. }) => Some((place, ch)),
-        Form::Cover(_) => None,
+/// Whether this is the form of the member at the context of the operation, to which the member may be added.
+fn is_form(alloc: Global, book: &Book, m: &Member, op: &Op, form: &Form) -> Result<bool, Memory> {
+    if !may_be_added(alloc, book, m, op)? {
+        return Ok(false);
     }
-}
-
-/// The place and the character of an insert's form at the context, if it may be added to it.
-fn insert_at(
-    alloc: Global,
-    book: &Book,
-    m: &Member,
-    to: &Vector,
-) -> Result<Option<(u32, char)>, Memory> {
-    if !may_be_added(book, m, to)? {
-        return Ok(None);
-    }
-    let bases = TextBases::new(book);
-    match transform(alloc, book, &bases, m, to) {
-        Ok(form) => Ok(insert_of(form)),
+    match transform(alloc, book, &TextBases::new(book), m, op.context()) {
+        Ok(found) => Ok(found == *form),
         Err(Memory) => Err(Memory),
     }
 }
 
-/// One insert: site, number, place, character, and how many originals of each site it knows.
-#[derive(Clone, Copy)]
-struct Typed(u16, u32, u32, char, [u32; 4]);
+/// Whether this is the form of the member at what is known, to which the member may be added.
+fn has_form(
+    alloc: Global,
+    book: &Book,
+    m: &Member,
+    known: Known,
+    form: &Form,
+) -> Result<bool, Fail> {
+    let op = op_of(alloc, Made((63, 1), Does::Delete(0), known))?;
+    Ok(is_form(alloc, book, m, &op, form)?)
+}
 
-/// Appends the insert where it is next.
-fn take_in(alloc: Global, book: &mut Book, typed: &Typed) -> Result<(), Fail> {
-    let op = Op::Insert {
-        name: Name::new(typed.0, typed.1)?,
-        place: typed.2,
-        ch: typed.3,
-        context: knowing(alloc, typed.4)?,
-    };
-    if is_next(book, &op) {
-        book.reserve(&op)?;
-        book.push(op);
+fn ins(place: u32, ch: char, name: Name) -> Form {
+    let site = name.site;
+    Form::Ins(Ins {
+        place,
+        site,
+        ch,
+        name,
+    })
+}
+
+/// The mark of the delete of this name, at a generation.
+fn deleted(place: u32, name: Name, generation: u16) -> Form {
+    Form::Cover(Cover {
+        place,
+        mark: Mark::By { name, generation },
+    })
+}
+
+/// The mark of the insert of the cell itself, at a generation.
+fn raised(place: u32, generation: u16) -> Form {
+    Form::Cover(Cover {
+        place,
+        mark: Mark::Own { generation },
+    })
+}
+
+/// Each law of the forms of the editor over the book, as a caller has it.
+#[tactic(auto, using(crate::proofs::TextFamilies::text_causal, crate::proofs::TextFamilies::text_own_names, crate::proofs::Editor::form_at_place))]
+fn laws_hold(book: &Book) {
+    let bases = TextBases::new(book);
+    bases.known();
+    one_form::<Form, TextBases>(&bases);
+    causal_lists_have_forms::<Form, TextBases>(&bases);
+    addable_form_fits::<Form, TextBases>(&bases);
+    swap::<Form, TextBases>(&bases);
+    to_the_front::<Form, TextBases>(&bases);
+    order_independence::<Form, TextBases>(&bases);
+    restriction::<Form, TextBases>(&bases);
+    one_more_member::<Form, TextBases>(&bases);
+}
+
+/// Site 0 writes three characters. Site 1 inserts before the second one and site 2 deletes it, neither of which knows
+/// of the other; the delete is undone, and so is the second character itself, after which site 3 inserts at the end.
+const HISTORY: [Made; 8] = [
+    Made((0, 1), Does::Insert(0, 'a'), Known([0, 0, 0, 0], NONE, 0)),
+    Made((0, 2), Does::Insert(1, 'b'), Known([1, 0, 0, 0], NONE, 0)),
+    Made((0, 3), Does::Insert(2, 'c'), Known([2, 0, 0, 0], NONE, 0)),
+    Made((1, 1), Does::Insert(1, 'x'), Known([3, 0, 0, 0], NONE, 0)),
+    Made((2, 1), Does::Delete(1), Known([3, 0, 0, 0], NONE, 0)),
+    Made((2, 1), Does::Undo(1), Known([3, 0, 1, 0], NONE, 0)),
+    Made((0, 2), Does::Undo(1), Known([3, 0, 0, 0], NONE, 0)),
+    Made((3, 1), Does::Insert(3, 'y'), Known([3, 0, 0, 0], (0, 2), 1)),
+];
+
+/// The book of the first operations of the history, in this order.
+fn book_of(alloc: Global, ops: [Made; 8]) -> Result<Book, Fail> {
+    let mut book = Book::new(alloc);
+    for made in ops {
+        take_in(alloc, &mut book, made)?;
+    }
+    Ok(book)
+}
+
+#[test]
+fn forms_of_a_small_history(rt: HostRuntime) -> Result<(), Fail> {
+    let alloc = rt.alloc();
+    let book = book_of(alloc, HISTORY)?;
+    assert_eq!(rt; book.len(), 8);
+    laws_hold(&book);
+    let b = Name::new(0, 2)?;
+    let x = Name::new(1, 1)?;
+    let d = Name::new(2, 1)?;
+    let y = Name::new(3, 1)?;
+    let rows = [
+        (
+            "a delete goes on with its cell",
+            Member::Original(d),
+            Known([3, 1, 0, 0], NONE, 0),
+            deleted(2, d, 0),
+        ),
+        (
+            "an insert passes over a delete",
+            Member::Original(x),
+            Known([3, 0, 1, 0], NONE, 0),
+            ins(1, 'x', x),
+        ),
+        (
+            "an undone delete goes on with its cell",
+            Member::Group(d, 1),
+            Known([3, 1, 1, 0], NONE, 0),
+            deleted(2, d, 1),
+        ),
+        (
+            "an undone insert goes on with its cell",
+            Member::Group(b, 1),
+            Known([3, 1, 1, 0], (2, 1), 1),
+            raised(2, 1),
+        ),
+        (
+            "an insert after an undo goes on",
+            Member::Original(y),
+            Known([3, 1, 0, 0], (0, 2), 1),
+            ins(4, 'y', y),
+        ),
+        (
+            "an insert passes over an undo",
+            Member::Original(x),
+            Known([3, 0, 0, 1], (0, 2), 1),
+            ins(1, 'x', x),
+        ),
+    ];
+    for (why, member, known, form) in rows {
+        assert!(rt; has_form(alloc, &book, &member, known, &form)?, "{why}");
     }
     Ok(())
 }
 
 #[test]
-fn an_insert_goes_behind_what_stands_in_front_of_it(rt: HostRuntime) -> Result<(), Fail> {
+fn an_insert_goes_after_what_stands_in_front_of_it(rt: HostRuntime) -> Result<(), Fail> {
     let alloc = rt.alloc();
     let mut book = Book::new(alloc);
-    for typed in [
-        Typed(2, 1, 0, 'x', [0, 0, 0, 0]),
-        Typed(2, 2, 0, 'y', [0, 0, 1, 0]),
-        Typed(1, 1, 0, 'm', [0, 0, 0, 0]),
-        Typed(3, 1, 0, 'n', [0, 0, 0, 0]),
+    for made in [
+        Made((2, 1), Does::Insert(0, 'x'), Known([0, 0, 0, 0], NONE, 0)),
+        Made((2, 2), Does::Insert(0, 'y'), Known([0, 0, 1, 0], NONE, 0)),
+        Made((1, 1), Does::Insert(0, 'm'), Known([0, 0, 0, 0], NONE, 0)),
+        Made((3, 1), Does::Insert(0, 'n'), Known([0, 0, 0, 0], NONE, 0)),
     ] {
-        take_in(alloc, &mut book, &typed)?;
+        take_in(alloc, &mut book, made)?;
     }
     assert_eq!(rt; book.len(), 4);
-    let m = Member::Original(Name::new(3, 1)?);
-    let found = insert_at(alloc, &book, &m, &knowing(alloc, [0, 1, 2, 0])?)?;
-    assert_eq!(rt; found, Some((3, 'n')));
+    let n = Name::new(3, 1)?;
+    let known = Known([0, 1, 2, 0], NONE, 0);
+    assert!(rt; has_form(alloc, &book, &Member::Original(n), known, &ins(3, 'n', n))?);
     Ok(())
 }
 
 #[test]
 fn the_order_of_the_book_changes_no_form(rt: HostRuntime) -> Result<(), Fail> {
     let alloc = rt.alloc();
-    let p = Typed(1, 1, 0, 'p', [3, 0, 0, 0]);
-    let q = Typed(2, 1, 3, 'q', [3, 0, 0, 0]);
-    let r = Typed(3, 1, 2, 'r', [3, 0, 0, 0]);
+    let p = Made((1, 1), Does::Insert(0, 'p'), Known([3, 0, 0, 0], NONE, 0));
+    let q = Made((2, 1), Does::Insert(3, 'q'), Known([3, 0, 0, 0], NONE, 0));
+    let r = Made((3, 1), Does::Insert(2, 'r'), Known([3, 0, 0, 0], NONE, 0));
     for order in [[p, q, r], [r, q, p]] {
         let mut book = Book::new(alloc);
-        for typed in [
-            Typed(0, 1, 0, 'a', [0, 0, 0, 0]),
-            Typed(0, 2, 1, 'b', [1, 0, 0, 0]),
-            Typed(0, 3, 2, 'c', [2, 0, 0, 0]),
-        ] {
-            take_in(alloc, &mut book, &typed)?;
+        for made in [HISTORY[0], HISTORY[1], HISTORY[2]] {
+            take_in(alloc, &mut book, made)?;
         }
-        for typed in order {
-            take_in(alloc, &mut book, &typed)?;
+        for made in order {
+            take_in(alloc, &mut book, made)?;
         }
         assert_eq!(rt; book.len(), 6);
-        let m = Member::Original(Name::new(2, 1)?);
-        let found = insert_at(alloc, &book, &m, &knowing(alloc, [3, 1, 0, 1])?)?;
-        assert_eq!(rt; found, Some((5, 'q')));
+        let name = Name::new(2, 1)?;
+        let known = Known([3, 1, 0, 1], NONE, 0);
+        assert!(rt;
+            has_form(
+                alloc,
+                &book,
+                &Member::Original(name),
+                known,
+                &ins(5, 'q', name)
+            )?
+        );
     }
     Ok(())
+}
+
+#[test]
+fn laws_of_histories_and_caches() {
+    same_operations_same_form::<Form>();
+    derivations_name_members::<Form>();
+    no_entries_are_forms::<Form>();
+    next_operation_keeps_forms::<Form>();
 }

@@ -9,7 +9,7 @@ pub fn executed_is_replayed()
     ensures { ExecutedIsReplayed }
 {}
 
-/// In any other order in which all members of a valid history may be executed, each behind its causes, their
+/// In any other order in which all members of a valid history may be executed, each after its causes, their
 /// forms give the same.
 pub fn any_order_is_replayed()
     ensures { AnyOrderIsReplayed }
@@ -53,7 +53,8 @@ pub fn originals_are_told_apart()
 {}
 
 /// Two lists of operations with the same originals, each at the same generation, have the same text, if
-/// their originals differ in their names, and in rank or site.
+/// their originals differ in their names, and in rank or site. Names have to differ, since a cell's character is
+/// looked up by its name: where two inserts had one name, both cells would show that of the first in the list.
 pub fn same_operations_same_text()
     ensures { SameOperationsSameText }
 {}

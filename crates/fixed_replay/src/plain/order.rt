@@ -5,8 +5,8 @@ ghost use Rattle.std.specs.List.{insert};
 ghost use Rattle.context_diff.specs.Operations.{OpData};
 ghost use Rattle.context_diff.specs.Ops.{data_of};
 ghost use Rattle.context_diff.specs.Replays.{is_earlier, put_by, fixed_order};
-ghost use Rattle.context_diff.specs.GapEnds.{before_first};
-ghost use Rattle.fixed_replay.specs.PlainCells.{insertion_of, comes_before, knows};
+ghost use Rattle.context_diff.specs.Code.GapEnds.{before_first};
+ghost use Rattle.fixed_replay.specs.Code.PlainCells.{insertion_of, comes_before, knows};
 
 use context_diff::Op;
 use context_vector::Vector;
@@ -23,7 +23,7 @@ pub struct Inserted {
 }
 
 impl Model for Inserted {
-    ghost use Rattle.fixed_replay.specs.PlainCells.{InsertData};
+    ghost use Rattle.fixed_replay.specs.Code.PlainCells.{InsertData};
 
     ghost Value = { InsertData };
 
@@ -54,7 +54,7 @@ impl Inserted {
 
     /// Whether the original of this name is of a smaller site: of two that go to one place, that of the
     /// smaller site stands in front.
-    pub fn is_behind(&self, name: &Name) -> bool
+    pub fn goes_after(&self, name: &Name) -> bool
         ensures { result ≡ nat_lt name.now.site self.now.name.site }
     {
         name.site < self.name.site

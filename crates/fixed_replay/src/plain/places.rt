@@ -4,8 +4,8 @@ ghost use Rattle.std.specs.Prelude.{◌≡◌, ◌≤◌, IfOk, OnOk, [], length
 ghost use Rattle.std.specs.List.{insert};
 ghost use Rattle.op_name.specs.NameData.{name_eq};
 ghost use Rattle.context_diff.specs.Replays.{narrowed_by, gap_of, replay};
-ghost use Rattle.context_diff.specs.GapEnds.{up_to_nth, before_first, up_to_last, gap_between};
-ghost use Rattle.fixed_replay.specs.PlainCells.{insertion_of, knows, cell_of, name_of};
+ghost use Rattle.context_diff.specs.Code.GapEnds.{up_to_nth, before_first, up_to_last, gap_between};
+ghost use Rattle.fixed_replay.specs.Code.PlainCells.{insertion_of, knows, cell_of, name_of};
 
 use super::order::Inserted;
 use op_name::{Memory, Name};
@@ -102,9 +102,9 @@ fn narrowed_by(inserted: &Inserted, other: &Name, stretch: Stretch, cells: &[Nam
     }
     let Stretch { left, right } = stretch;
     let between = &cells[left..right];
-    if inserted.is_behind(other) {
+    if inserted.goes_after(other) {
         Stretch {
-            left: left + behind_last(other, between),
+            left: left + past_last(other, between),
             right,
         }
     } else {
@@ -116,17 +116,17 @@ fn narrowed_by(inserted: &Inserted, other: &Name, stretch: Stretch, cells: &[Nam
 }
 
 // How many cells stand up to and with the last of this name; none where there is none.
-fn behind_last(name: &Name, cells: &[Name]) -> usize
+fn past_last(name: &Name, cells: &[Name]) -> usize
     ensures place { result ≡ up_to_last (name_eq name.now) cells.now }
     ensures within { result ≤ length cells.now }
 {
-    let mut behind = 0;
+    let mut past = 0;
     for i in 0..cells.len() {
         if *name == cells[i] {
-            behind = i + 1;
+            past = i + 1;
         }
     }
-    behind
+    past
 }
 
 // How many cells stand before the first of this name; all where there is none.

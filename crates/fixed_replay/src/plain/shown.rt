@@ -7,7 +7,7 @@ ghost use Rattle.context_vector.specs.Contexts.{has};
 ghost use Rattle.context_diff.specs.Ops.{data_of};
 ghost use Rattle.context_diff.specs.Histories.{generation_at, generation_in, in_force};
 ghost use Rattle.context_diff.specs.Replays.{replay_of, seen, stands_at, covers, is_shown, character_in, characters_of};
-ghost use Rattle.fixed_replay.specs.PlainCells.{cell_of, characters_among};
+ghost use Rattle.fixed_replay.specs.Code.PlainCells.{cell_of, characters_among};
 
 use context_diff::Op;
 use context_vector::Vector;

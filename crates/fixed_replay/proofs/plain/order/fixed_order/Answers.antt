@@ -1,5 +1,5 @@
 use Rattle.std.proofs.Common.{map, ap, ◌∙◌}
-use Rattle.fixed_replay.specs.PlainCells.{insertion_of}
+use Rattle.fixed_replay.specs.Code.PlainCells.{insertion_of}
 use Rattle.fixed_replay.proofs.Stepwise.{order_none}
 use Rattle.fixed_replay.proofs.plain.order.fixed_order.Goals as goal
 

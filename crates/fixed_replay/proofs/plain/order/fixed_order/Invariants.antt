@@ -1,7 +1,7 @@
 use Rattle.std.proofs.Common.{◌≡◌, map, drop}
 use Rattle.context_diff.specs.Ops.{data_of}
 use Rattle.context_diff.specs.Replays.{fixed_order}
-use Rattle.fixed_replay.specs.PlainCells.{insertion_of}
+use Rattle.fixed_replay.specs.Code.PlainCells.{insertion_of}
 use Rattle.fixed_replay.proofs.plain.order.fixed_order.Given as goal
 
 -- the operations from this one on are in order

@@ -1,6 +1,6 @@
 use Rattle.std.proofs.Common.{◌≡◌, ◌+◌, drop}
-use Rattle.context_diff.specs.GapEnds.{before_first}
-use Rattle.fixed_replay.specs.PlainCells.{comes_before}
+use Rattle.context_diff.specs.Code.GapEnds.{before_first}
+use Rattle.fixed_replay.specs.Code.PlainCells.{comes_before}
 use Rattle.fixed_replay.proofs.plain.order.place_in.Given as goal
 
 -- none of those so far is later

@@ -3,7 +3,7 @@ use Rattle.std.proofs.lemmas.Result.{on_ok_weaker}
 use Rattle.context_diff.specs.Operations.{inserting}
 use Rattle.context_diff.specs.Ops.{data_of}
 use Rattle.context_diff.specs.Replays.{fixed_order}
-use Rattle.fixed_replay.specs.PlainCells.{insertion_of}
+use Rattle.fixed_replay.specs.Code.PlainCells.{insertion_of}
 use Rattle.fixed_replay.proofs.Stepwise.{order_with}
 use Rattle.fixed_replay.proofs.plain.order.put_op.Goals as goal
 

@@ -1,6 +1,6 @@
 use Rattle.std.proofs.Common.{◌≡◌, ◌+◌, drop}
 use Rattle.op_name.specs.NameData.{name_eq}
-use Rattle.context_diff.specs.GapEnds.{before_first}
+use Rattle.context_diff.specs.Code.GapEnds.{before_first}
 use Rattle.fixed_replay.proofs.plain.places.before_name.Given as goal
 
 -- none of the cells so far has the name

@@ -1,6 +1,6 @@
 use Rattle.std.proofs.Common.{◌≡◌, ◌+◌, drop}
-use Rattle.context_diff.specs.GapEnds.{before_first}
-use Rattle.fixed_replay.specs.PlainCells.{knows}
+use Rattle.context_diff.specs.Code.GapEnds.{before_first}
+use Rattle.fixed_replay.specs.Code.PlainCells.{knows}
 use Rattle.fixed_replay.proofs.plain.places.first_known.Given as goal
 
 -- none of the cells so far is known

@@ -1,6 +1,6 @@
 use Rattle.std.proofs.Common.{◌≡◌, ◌+◌, ◌-◌, ◌<◌, drop, ap, sym, ◌∙◌, arith}
-use Rattle.context_diff.specs.GapEnds.{up_to_nth}
-use Rattle.fixed_replay.specs.PlainCells.{knows}
+use Rattle.context_diff.specs.Code.GapEnds.{up_to_nth}
+use Rattle.fixed_replay.specs.Code.PlainCells.{knows}
 use Rattle.fixed_replay.proofs.Searches.{nth_seen, nth_past}
 use Rattle.fixed_replay.proofs.plain.places.left_neighbour.Goals as goal
 use Rattle.fixed_replay.proofs.plain.places.left_neighbour.Goals.{then-knows, else-knows}

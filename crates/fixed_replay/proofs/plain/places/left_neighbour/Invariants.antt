@@ -1,6 +1,6 @@
 use Rattle.std.proofs.Common.{◌≡◌, ◌+◌, drop}
-use Rattle.context_diff.specs.GapEnds.{up_to_nth}
-use Rattle.fixed_replay.specs.PlainCells.{knows}
+use Rattle.context_diff.specs.Code.GapEnds.{up_to_nth}
+use Rattle.fixed_replay.specs.Code.PlainCells.{knows}
 use Rattle.fixed_replay.proofs.plain.places.left_neighbour.Given as goal
 
 -- so many more of the cells that are left are to be passed

@@ -1,19 +1,19 @@
 use Rattle.std.proofs.Common.{◌+◌, map, ap, sym, ◌∙◌}
-use Rattle.context_diff.specs.GapEnds.{gap_between}
-use Rattle.fixed_replay.specs.PlainCells.{insertion_of, cell_of}
+use Rattle.context_diff.specs.Code.GapEnds.{gap_between}
+use Rattle.fixed_replay.specs.Code.PlainCells.{insertion_of, cell_of}
 use Rattle.fixed_replay.proofs.Stepwise.{narrowed_left, narrowed_right}
 use Rattle.fixed_replay.proofs.plain.places.narrowed_by.Goals as goal
 
-pub returns-then-is_behind-clause-stretch : goal.returns-then-is_behind-clause-stretch
-returns-then-is_behind-clause-stretch c =
+pub returns-then-goes_after-clause-stretch : goal.returns-then-goes_after-clause-stretch
+returns-then-goes_after-clause-stretch c =
     let names = c.args.cells.now in
     narrowed_left (insertion_of c.args.inserted.now) c.args.other.now names c.args.stretch.left c.args.stretch.right c.requires.rising c.requires.within
-    (sym c.knows.ensures ∙ c.if-knows.false) (sym c.is_behind.ensures ∙ c.if-is_behind.true)
-    ∙ ap (λ n. gap_between (map cell_of names) (c.args.stretch.left + n) c.args.stretch.right) (sym c.behind_last.ensures.place)
+    (sym c.knows.ensures ∙ c.if-knows.false) (sym c.goes_after.ensures ∙ c.if-goes_after.true)
+    ∙ ap (λ n. gap_between (map cell_of names) (c.args.stretch.left + n) c.args.stretch.right) (sym c.past_last.ensures.place)
 
-pub returns-else-is_behind-clause-stretch : goal.returns-else-is_behind-clause-stretch
-returns-else-is_behind-clause-stretch c =
+pub returns-else-goes_after-clause-stretch : goal.returns-else-goes_after-clause-stretch
+returns-else-goes_after-clause-stretch c =
     let names = c.args.cells.now in
     narrowed_right (insertion_of c.args.inserted.now) c.args.other.now names c.args.stretch.left c.args.stretch.right c.requires.rising c.requires.within
-    (sym c.knows.ensures ∙ c.if-knows.false) (sym c.is_behind.ensures ∙ c.if-is_behind.false)
+    (sym c.knows.ensures ∙ c.if-knows.false) (sym c.goes_after.ensures ∙ c.if-goes_after.false)
     ∙ ap (λ n. gap_between (map cell_of names) c.args.stretch.left (c.args.stretch.left + n)) (sym c.before_name.ensures.place)

@@ -1,5 +1,5 @@
 use Rattle.std.proofs.Common.{map, refl, sym, ◌∙◌}
-use Rattle.fixed_replay.specs.PlainCells.{cell_of}
+use Rattle.fixed_replay.specs.Code.PlainCells.{cell_of}
 use Rattle.fixed_replay.proofs.Stepwise.{replay_step, replay_end}
 use Rattle.fixed_replay.proofs.plain.places.replay.Goals as goal
 

@@ -1,6 +1,6 @@
 use Rattle.std.proofs.Common.{◌≡◌, [], map, take, drop}
 use Rattle.context_diff.specs.Replays.{replay}
-use Rattle.fixed_replay.specs.PlainCells.{insertion_of, cell_of, name_of}
+use Rattle.fixed_replay.specs.Code.PlainCells.{insertion_of, cell_of, name_of}
 use Rattle.fixed_replay.proofs.plain.places.replay.Given as goal
 
 -- what is left of the replay begins at these cells

@@ -1,7 +1,7 @@
 use Rattle.std.proofs.Common.{◌+◌, map, drop, ap, sym, ◌∙◌, arith}
-use Rattle.context_diff.specs.GapEnds.{gap_between}
+use Rattle.context_diff.specs.Code.GapEnds.{gap_between}
 use Rattle.context_diff.specs.Replays.{narrowed, narrowed_by}
-use Rattle.fixed_replay.specs.PlainCells.{insertion_of, cell_of, name_of}
+use Rattle.fixed_replay.specs.Code.PlainCells.{insertion_of, cell_of, name_of}
 use Rattle.fixed_replay.proofs.Stepwise.{gap_of_starts, start_within, narrowed_more, narrowed_end}
 use Rattle.fixed_replay.proofs.plain.places.stretch_of.Goals as goal
 

@@ -1,7 +1,7 @@
 use Rattle.std.proofs.Common.{◌≡◌, ◌≤◌, length, map, drop}
-use Rattle.context_diff.specs.GapEnds.{gap_between}
+use Rattle.context_diff.specs.Code.GapEnds.{gap_between}
 use Rattle.context_diff.specs.Replays.{narrowed, gap_of}
-use Rattle.fixed_replay.specs.PlainCells.{insertion_of, cell_of, name_of}
+use Rattle.fixed_replay.specs.Code.PlainCells.{insertion_of, cell_of, name_of}
 use Rattle.fixed_replay.proofs.plain.places.stretch_of.Given as goal
 
 -- the inserts that are left narrow this stretch to the gap

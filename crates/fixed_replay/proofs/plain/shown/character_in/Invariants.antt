@@ -1,7 +1,7 @@
 use Rattle.std.proofs.Common.{◌≡◌, map, drop}
 use Rattle.context_diff.specs.Ops.{data_of}
 use Rattle.context_diff.specs.Replays.{character_in}
-use Rattle.fixed_replay.specs.PlainCells.{cell_of}
+use Rattle.fixed_replay.specs.Code.PlainCells.{cell_of}
 use Rattle.fixed_replay.proofs.plain.shown.character_in.Given as goal
 
 -- no insert so far has the name

@@ -2,7 +2,7 @@ use Rattle.std.proofs.Common.{◌≡◌, map, drop}
 use Rattle.std.specs.List.{list_any}
 use Rattle.context_diff.specs.Ops.{data_of}
 use Rattle.context_diff.specs.Replays.{covers}
-use Rattle.fixed_replay.specs.PlainCells.{cell_of}
+use Rattle.fixed_replay.specs.Code.PlainCells.{cell_of}
 use Rattle.fixed_replay.proofs.plain.shown.is_covered.Given as goal
 
 -- no operation so far covers the cell

@@ -1,6 +1,6 @@
 use Rattle.std.proofs.Common.{◌≡◌, ◌++◌, map, drop}
 use Rattle.context_diff.specs.Ops.{data_of}
-use Rattle.fixed_replay.specs.PlainCells.{characters_among}
+use Rattle.fixed_replay.specs.Code.PlainCells.{characters_among}
 use Rattle.fixed_replay.proofs.plain.shown.shown_characters.Given as goal
 
 -- the characters so far, and those of the cells that are left

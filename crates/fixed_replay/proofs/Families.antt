@@ -1,4 +1,4 @@
--- Families whose originals have ranks and whose groups stand behind their originals, as those of histories do.
+-- Families whose originals have ranks and whose groups stand after their originals, as those of histories do.
 use Rattle.std.specs.Prelude.{◌≡◌, ◌≢◌, ℕ, ◌<◌, ◌≤◌, Bool, true, ◌||◌, ◌&&◌, ◌==◌, nat_lt, ◌⊎◌}
 use Rattle.op_name.specs.NameData.{NameData}
 use Rattle.op_name.specs.declared.member.Member.{Member}
