@@ -6,11 +6,13 @@ use Rattle.std.proofs.lemmas.Bool.{ltb-true, lt-ltb, le-leb, leb-true}
 use Rattle.op_name.specs.NameData.{NameData}
 use Rattle.context_vector.specs.Contexts.{ContextData, IsContext, AreCounts, AreEntries, IsBefore}
 use Rattle.context_diff.specs.Operations.{OpData, inserting, deleting, undoing, context_of, IsInRange}
+use Rattle.op_name.specs.declared.name.TheConstants.{NUMBERS, SITES}
+use Rattle.context_diff.specs.declared.op.TheConstants.{UNDO_ENTRIES}
 use Rattle.wire_codec.specs.declared.cause.Cause.TheVariants.{Range, Order, Zero}
 use Rattle.wire_codec.specs.declared.head.Head.{Head}
 use Rattle.wire_codec.specs.declared.head.Head.TheVariants.{Insert, Delete, Undo}
 use Rattle.wire_codec.specs.Spelling.{head_of, op_of, site_bytes, name_bytes, head_bytes, count_bytes, entry_bytes, counts_bytes, entries_bytes, context_bytes, body_bytes}
-use Rattle.wire_codec.specs.Reading.{LeftData, ◌>>=◌, number, tested, bounded, last_number, most_counts, most_entries, site_at, name_at, head_at, many, count_at, site_after, entry_at, is_above, name_of, counts_at, entries_at, context_at, op_at}
+use Rattle.wire_codec.specs.Reading.{LeftData, ◌>>=◌, number, tested, bounded, site_at, name_at, head_at, many, count_at, site_after, entry_at, is_above, name_of, counts_at, entries_at, context_at, op_at}
 use Rattle.wire_codec.proofs.TwoWays.{Reads, bind, mapped, in_words, tested_reads}
 use Rattle.wire_codec.proofs.Numbers.{wide8, wide16, wide32, number_reads, bounded_reads}
 use Rattle.wire_codec.proofs.Lists.{Follow, many_reads}
@@ -28,15 +30,15 @@ pub count_reads : (low : ℕ) → Reads (count_at low) count_bytes (IsCount low)
 unfolding count_at
 count_reads low =
     in_words (count_at low) count_bytes count_bytes
-    (λ p. (IsSite p.0 × (leb low p.0 ≡ true)) × ((((p.1 < 2 ^ 32) × (ltb 0 p.1 ≡ true)) × (leb p.1 last_number ≡ true)) × ((p.0, p.1) ≡ p))) (IsCount low)
+    (λ p. (IsSite p.0 × (leb low p.0 ≡ true)) × ((((p.1 < 2 ^ 32) × (ltb 0 p.1 ≡ true)) × (leb p.1 NUMBERS ≡ true)) × ((p.0, p.1) ≡ p))) (IsCount low)
     (bind {X = ℕ × ℕ} (tested (λ s. leb low s) Order site_at)
-    (λ s m. ◌>>=◌ {B = (ℕ × ℕ) × LeftData} (tested (λ n. leb n last_number) Range (tested (λ n. ltb 0 n) Zero (number w32)) m) (λ n. Ok ((s, n.0), n.1)))
+    (λ s m. ◌>>=◌ {B = (ℕ × ℕ) × LeftData} (tested (λ n. leb n NUMBERS) Range (tested (λ n. ltb 0 n) Zero (number w32)) m) (λ n. Ok ((s, n.0), n.1)))
     site_bytes (λ p. to_be_bytes w32 p.1) (λ s. IsSite s × (leb low s ≡ true))
-    (λ s p. (((p.1 < 2 ^ 32) × (ltb 0 p.1 ≡ true)) × (leb p.1 last_number ≡ true)) × ((s, p.1) ≡ p)) (λ p. p.0)
+    (λ s p. (((p.1 < 2 ^ 32) × (ltb 0 p.1 ≡ true)) × (leb p.1 NUMBERS ≡ true)) × ((s, p.1) ≡ p)) (λ p. p.0)
     (tested_reads (λ s. leb low s) Order site_at site_bytes IsSite site_reads)
-    (λ s _. mapped {X = ℕ × ℕ} (tested (λ n. leb n last_number) Range (tested (λ n. ltb 0 n) Zero (number w32))) (to_be_bytes w32)
-    (λ n. ((n < 2 ^ 32) × (ltb 0 n ≡ true)) × (leb n last_number ≡ true)) (λ n. (s, n)) (λ p. p.1)
-    (tested_reads (λ n. leb n last_number) Range (tested (λ n. ltb 0 n) Zero (number w32)) (to_be_bytes w32) (λ n. (n < 2 ^ 32) × (ltb 0 n ≡ true))
+    (λ s _. mapped {X = ℕ × ℕ} (tested (λ n. leb n NUMBERS) Range (tested (λ n. ltb 0 n) Zero (number w32))) (to_be_bytes w32)
+    (λ n. ((n < 2 ^ 32) × (ltb 0 n ≡ true)) × (leb n NUMBERS ≡ true)) (λ n. (s, n)) (λ p. p.1)
+    (tested_reads (λ n. leb n NUMBERS) Range (tested (λ n. ltb 0 n) Zero (number w32)) (to_be_bytes w32) (λ n. (n < 2 ^ 32) × (ltb 0 n ≡ true))
     (tested_reads (λ n. ltb 0 n) Zero (number w32) (to_be_bytes w32) (λ n. n < 2 ^ 32) (number_reads w32 (2 ^ 32) wide32)))
     (λ n. refl))
     (λ s p h. ap (λ (y : ℕ × ℕ). y.0) (sym h.1)))
@@ -88,10 +90,10 @@ counts_few low (p ∷ ps) h le = let rest = counts_few (p.0 + 1) ps h.4 (omega (
 pub counts_reads : Reads counts_at counts_bytes (AreCounts 0)
 unfolding counts_at
 counts_reads =
-    in_words counts_at counts_bytes counts_bytes (λ ps. ((0 ≤ length ps) × (length ps ≤ most_counts)) × ((length ps ≡ length ps) × Follow IsCount site_after 0 ps)) (AreCounts 0)
-    (bind {X = List (ℕ × ℕ)} (bounded w8 0 most_counts Range) (λ n m. many count_at site_after n 0 m) (to_be_bytes w8) (flat_map count_bytes)
-    (λ n. (0 ≤ n) × (n ≤ most_counts)) (λ n ps. (length ps ≡ n) × Follow IsCount site_after 0 ps) (λ ps. length ps)
-    (bounded_reads w8 (2 ^ 8) wide8 0 most_counts Range (omega arith))
+    in_words counts_at counts_bytes counts_bytes (λ ps. ((0 ≤ length ps) × (length ps ≤ SITES)) × ((length ps ≡ length ps) × Follow IsCount site_after 0 ps)) (AreCounts 0)
+    (bind {X = List (ℕ × ℕ)} (bounded w8 0 SITES Range) (λ n m. many count_at site_after n 0 m) (to_be_bytes w8) (flat_map count_bytes)
+    (λ n. (0 ≤ n) × (n ≤ SITES)) (λ n ps. (length ps ≡ n) × Follow IsCount site_after 0 ps) (λ ps. length ps)
+    (bounded_reads w8 (2 ^ 8) wide8 0 SITES Range (omega arith))
     (λ n _. many_reads count_at site_after count_bytes IsCount count_reads n 0)
     (λ n ps h. h.0))
     (λ ps h. counts_from 0 ps h.1.1)
@@ -129,15 +131,15 @@ entries_in_order es h = (entries_from None es h).1
 
 -- so many undone names as a frame has room for
 abbrev pub AreFewEntries : List (NameData × ℕ) → Type 0
-AreFewEntries es = AreEntries es × (length es ≤ most_entries)
+AreFewEntries es = AreEntries es × (length es ≤ UNDO_ENTRIES)
 
 pub entries_reads : Reads entries_at entries_bytes AreFewEntries
 unfolding entries_at
 entries_reads =
-    in_words entries_at entries_bytes entries_bytes (λ es. ((0 ≤ length es) × (length es ≤ most_entries)) × ((length es ≡ length es) × Follow IsEntry name_of None es)) AreFewEntries
-    (bind {X = List (NameData × ℕ)} (bounded w16 0 most_entries Range) (λ n m. many entry_at name_of n None m) (to_be_bytes w16) (flat_map entry_bytes)
-    (λ n. (0 ≤ n) × (n ≤ most_entries)) (λ n es. (length es ≡ n) × Follow IsEntry name_of None es) (λ es. length es)
-    (bounded_reads w16 (2 ^ 16) wide16 0 most_entries Range (omega arith))
+    in_words entries_at entries_bytes entries_bytes (λ es. ((0 ≤ length es) × (length es ≤ UNDO_ENTRIES)) × ((length es ≡ length es) × Follow IsEntry name_of None es)) AreFewEntries
+    (bind {X = List (NameData × ℕ)} (bounded w16 0 UNDO_ENTRIES Range) (λ n m. many entry_at name_of n None m) (to_be_bytes w16) (flat_map entry_bytes)
+    (λ n. (0 ≤ n) × (n ≤ UNDO_ENTRIES)) (λ n es. (length es ≡ n) × Follow IsEntry name_of None es) (λ es. length es)
+    (bounded_reads w16 (2 ^ 16) wide16 0 UNDO_ENTRIES Range (omega arith))
     (λ n _. many_reads entry_at name_of entry_bytes IsEntry entry_reads n None)
     (λ n es h. h.0))
     (λ es h. ((entries_from None es h.1.1).1, h.0.1))
@@ -148,7 +150,7 @@ entries_reads =
 
 pub record FitsContext (c : ContextData) : Type 0 where
   pub is : IsContext c
-  pub few : length c.entries ≤ most_entries
+  pub few : length c.entries ≤ UNDO_ENTRIES
 
 pub context_reads : Reads context_at context_bytes FitsContext
 unfolding context_at context_bytes

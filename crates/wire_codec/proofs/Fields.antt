@@ -5,11 +5,13 @@ use Rattle.std.specs.Char.{IsScalar}
 use Rattle.std.proofs.lemmas.Bool.{ltb-true, lt-ltb, cases_eq}
 use Rattle.std.proofs.Math.Utf8.{scalar, scalar_fits}
 use Rattle.op_name.specs.NameData.{NameData, IsName}
+use Rattle.op_name.specs.declared.name.TheConstants.{NUMBERS}
+use Rattle.context_diff.specs.declared.op.TheConstants.{PLACES}
 use Rattle.wire_codec.specs.declared.cause.Cause.TheVariants.{Range, Kind, Char}
 use Rattle.wire_codec.specs.declared.head.Head.{Head}
 use Rattle.wire_codec.specs.declared.head.Head.TheVariants.{Insert, Delete, Undo}
 use Rattle.wire_codec.specs.Spelling.{site_width, site_bytes, name_bytes, kind_of, field_bytes, head_bytes}
-use Rattle.wire_codec.specs.Reading.{LeftData, ◌>>=◌, number, last_site, last_number, last_place, kind_at, site_at, number_at, place_at, char_at, generation_at, name_at, insert_at, delete_at, undo_at, fields_at, head_at}
+use Rattle.wire_codec.specs.Reading.{LeftData, ◌>>=◌, number, last_site, kind_at, site_at, number_at, place_at, char_at, generation_at, name_at, insert_at, delete_at, undo_at, fields_at, head_at}
 use Rattle.wire_codec.proofs.TwoWays.{Reads, bind, mapped, in_words, tested_reads}
 use Rattle.wire_codec.proofs.Numbers.{wide8, wide16, wide32, number_reads, bounded_reads}
 
@@ -17,7 +19,7 @@ abbrev pub IsSite : ℕ → Type 0
 IsSite s = (0 ≤ s) × (s ≤ last_site)
 
 abbrev pub IsPlace : ℕ → Type 0
-IsPlace p = (0 ≤ p) × (p ≤ last_place)
+IsPlace p = (0 ≤ p) × (p ≤ PLACES)
 
 abbrev pub IsGeneration : ℕ → Type 0
 IsGeneration g = (1 ≤ g) × (g ≤ 65535)
@@ -35,7 +37,7 @@ pub site_reads : Reads site_at site_bytes IsSite
 site_reads = bounded_reads site_width (2 ^ 8) wide8 0 last_site Range (omega arith)
 
 pub place_reads : Reads place_at (to_be_bytes w32) IsPlace
-place_reads = bounded_reads w32 (2 ^ 32) wide32 0 last_place Range (omega arith)
+place_reads = bounded_reads w32 (2 ^ 32) wide32 0 PLACES Range (omega arith)
 
 char_reads : Reads char_at (to_be_bytes w32) IsScalar
 char_reads =
@@ -54,12 +56,12 @@ generation_reads =
 pub name_reads : Reads name_at name_bytes IsNamed
 unfolding name_at
 name_reads =
-    in_words name_at name_bytes name_bytes (λ n. IsSite n.site × (((1 ≤ n.number) × (n.number ≤ last_number)) × (n ≡ n))) IsNamed
+    in_words name_at name_bytes name_bytes (λ n. IsSite n.site × (((1 ≤ n.number) × (n.number ≤ NUMBERS)) × (n ≡ n))) IsNamed
     (bind site_at (λ s m. ◌>>=◌ {B = NameData × LeftData} (number_at m) (λ k. Ok (record { site = s; number = k.0 }, k.1))) site_bytes (λ n. to_be_bytes w32 n.number) IsSite
-    (λ s n. ((1 ≤ n.number) × (n.number ≤ last_number)) × (record { site = s; number = n.number } ≡ n)) (λ n. n.site)
+    (λ s n. ((1 ≤ n.number) × (n.number ≤ NUMBERS)) × (record { site = s; number = n.number } ≡ n)) (λ n. n.site)
     site_reads
-    (λ s h. mapped number_at (to_be_bytes w32) (λ k. (1 ≤ k) × (k ≤ last_number)) (λ k. record { site = s; number = k }) (λ n. n.number)
-    (bounded_reads w32 (2 ^ 32) wide32 1 last_number Range (omega arith)) (λ k. refl))
+    (λ s h. mapped number_at (to_be_bytes w32) (λ k. (1 ≤ k) × (k ≤ NUMBERS)) (λ k. record { site = s; number = k }) (λ n. n.number)
+    (bounded_reads w32 (2 ^ 32) wide32 1 NUMBERS Range (omega arith)) (λ k. refl))
     (λ s n h. ap (λ (y : NameData). y.site) (sym h.1)))
     (λ n h. (omega (arith, h.0), h.1.0.0, h.1.0.1))
     (λ n h. ((omega arith, omega (arith, h.0)), ((h.1, h.2), refl)))

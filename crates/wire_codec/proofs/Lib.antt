@@ -13,3 +13,4 @@ pub mod Pushes
 pub mod Fronts
 pub mod Streaming
 pub mod Growth
+pub mod CallerLemmas

@@ -6,7 +6,7 @@ use Rattle.context_vector.specs.Contexts.{AreEntries}
 use Rattle.wire_codec.specs.declared.fault.Fault.{Fault}
 use Rattle.wire_codec.specs.Spelling.{count_bytes, entry_bytes}
 use Rattle.wire_codec.specs.Reading.{LeftData, many, count_at, site_after, entry_at, name_of}
-use Rattle.wire_codec.specs.Sections.{elements, raw_count, raw_entry}
+use Rattle.wire_codec.specs.Code.Sections.{elements, raw_count, raw_entry}
 use Rattle.wire_codec.specs.Judging.{count_len, entry_len}
 use Rattle.wire_codec.proofs.Steps.{IsBytes}
 use Rattle.wire_codec.proofs.Numbers.{wide8, wide16, wide32}

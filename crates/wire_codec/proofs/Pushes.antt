@@ -6,11 +6,13 @@ use Rattle.std.proofs.Math.Nat.{mul-suc}
 use Rattle.std.proofs.lemmas.List.{append-nil, length-append, take_more}
 use Rattle.std.proofs.lemmas.List.Concat.{flat_map-append}
 use Rattle.std.proofs.lemmas.Option.{slice_get_within, get_or_from_slice_get}
+use Rattle.std.specs.Prelude.{slice_index_or}
 use Rattle.op_name.specs.NameData.{NameData}
+use Rattle.op_name.specs.declared.name.TheConstants.{SITES}
 use Rattle.context_vector.specs.Contexts.{AreCounts, AreEntries}
-use Rattle.op_name.proofs.Orders.{name_transitive}
+use Rattle.op_name.proofs.CallerLemmas.{name_transitive}
 use Rattle.context_vector.specs.Vectors.{SitesBelow, NamesBelow}
-use Rattle.wire_codec.specs.Writing.{HasRoom, Puts}
+use Rattle.wire_codec.specs.Code.Puts.{HasRoom, Puts}
 
 -- a site with its count in the middle of a list
 pub record FollowsCounts (before : List (ℕ × ℕ)) (p : ℕ × ℕ) : Type 0 where
@@ -48,10 +50,10 @@ pub all_taken : {A : Type 0} (all before now : List A) → before ++ now ≡ all
 all_taken {A = A} all before now e is = sym (append-nil before) ∙ (ap (λ (t : List A). before ++ t) (sym is) ∙ e)
 
 -- each site of a context is one
-pub site_is_site : (low : ℕ) (ps : List (ℕ × ℕ)) (i : ℕ) (p : ℕ × ℕ) → AreCounts low ps → slice_get ps i ≡ Some p → p.0 < 64
-site_is_site low [] i p h e = absurd cc
-site_is_site low (q ∷ ps) zero p h e = let same : q ≡ p = cc in subst (λ (x : ℕ × ℕ). x.0 < 64) same h.1
-site_is_site low (q ∷ ps) (suc i) p h e = site_is_site (q.0 + 1) ps i p h.4 e
+pub site_is_site : (low : ℕ) (ps : List (ℕ × ℕ)) (i : ℕ) (d : ℕ × ℕ) → AreCounts low ps → i < length ps → (slice_index_or ps i d).0 < SITES
+site_is_site low [] i d h e = omega (arith, e)
+site_is_site low (q ∷ ps) zero d h e = h.1
+site_is_site low (q ∷ ps) (suc i) d h e = site_is_site (q.0 + 1) ps i d h.4 (omega (arith, e))
 
 -- ---- pieces put one after the other
 

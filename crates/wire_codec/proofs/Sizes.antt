@@ -10,7 +10,7 @@ use Rattle.context_diff.specs.Operations.{OpData, context_of, IsInRange}
 use Rattle.wire_codec.specs.declared.head.Head.{Head}
 use Rattle.wire_codec.specs.declared.head.Head.TheVariants.{Insert, Delete, Undo}
 use Rattle.wire_codec.specs.Spelling.{head_of, head_bytes, count_bytes, entry_bytes, counts_bytes, entries_bytes, context_bytes, body_bytes, frame}
-use Rattle.wire_codec.specs.Writing.{head_len}
+use Rattle.wire_codec.specs.Code.Puts.{head_len}
 use Rattle.wire_codec.specs.Judging.{longest, count_len, entry_len}
 use Rattle.wire_codec.proofs.Contexts.{counts_few, context_in_range}
 

@@ -1,5 +1,5 @@
 -- The answers as the code gives them.
-use Rattle.std.specs.Prelude.{ℕ, ◌<◌, ◌≤◌, List, length, Result, Ok, Err}
+use Rattle.std.specs.Prelude.{ℕ, ◌<◌, ◌≤◌, List, ◌++◌, length, Result, Ok, Err}
 use Rattle.context_diff.specs.Operations.{OpData}
 use Rattle.context_diff.specs.Ops.{data_of}
 use Rattle.wire_codec.specs.declared.answers.Scan.{Scan}
@@ -28,13 +28,22 @@ pub record BeginsWithFrame (bytes : List ℕ) (used : ℕ) : Type 0 where
   pub op : OpData
   pub is : IsFrame bytes op used
 
+-- the bytes begin with a frame
+abbrev pub HasFrame : List ℕ → Type 0
+HasFrame bytes = (used : ℕ) × BeginsWithFrame bytes used
+
+-- a fault is in the bytes, and more bytes don't help: no continuation of them begins with a frame
+pub record IsBad (bytes : List ℕ) (offset : ℕ) : Type 0 where
+  pub within : offset ≤ length bytes
+  pub never : (more : List ℕ) → ¬ HasFrame (bytes ++ more)
+
 -- what each answer says of the bytes
 abbrev pub SaysOf : List ℕ → Scan → Type 0
 SaysOf bytes (scanned.Frame used) = BeginsWithFrame bytes used
 SaysOf bytes (scanned.More n) = length bytes < n
-SaysOf bytes (scanned.Bad cause offset) = offset ≤ length bytes
+SaysOf bytes (scanned.Bad cause offset) = IsBad bytes offset
 
 abbrev pub TellsOf : List ℕ → Decoded → Type 0
 TellsOf bytes (decoded.Got op used) = IsFrame bytes (data_of op) used
 TellsOf bytes (decoded.More n) = length bytes < n
-TellsOf bytes (decoded.Bad cause offset) = offset ≤ length bytes
+TellsOf bytes (decoded.Bad cause offset) = IsBad bytes offset

@@ -9,12 +9,13 @@ use Rattle.wire_codec.specs.declared.cause.Cause.TheVariants.{TooLong, Length, O
 use Rattle.wire_codec.specs.declared.fault.Fault.{Fault}
 use Rattle.wire_codec.specs.declared.fault.Refused.{Refused}
 use Rattle.wire_codec.specs.declared.fault.Refused.TheVariants.{More, Bad}
+use Rattle.wire_codec.specs.declared.rules.TheConstants.{LONGEST_BODY}
 use Rattle.wire_codec.specs.Spelling.{frame}
 use Rattle.wire_codec.specs.Reading.{LeftData, left_at, fault, ◌>>=◌, want, op_at}
 
--- the bytes of the longest body: an insert with 64 sites and 16,384 undone names
+-- the bytes of the longest body: an insert with a count for each site and as many undo entries as there may be
 abbrev pub longest : ℕ
-longest = 115025
+longest = LONGEST_BODY
 
 -- the offset of an operation's number, or of its target's site
 abbrev pub own_at : ℕ

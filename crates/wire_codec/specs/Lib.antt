@@ -1,9 +1,8 @@
+pub mod Causes
 pub mod Spelling
 pub mod Reading
-pub mod Sections
 pub mod Judging
-pub mod Parts
 pub mod Answers
-pub mod Writing
 pub mod StreamData
 pub mod Streams
+pub mod Code

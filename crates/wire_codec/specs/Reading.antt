@@ -1,10 +1,12 @@
 -- Reading fields from left to right, with the first fault that is met and the offset at which it is.
-use Rattle.std.specs.Prelude.{ℕ, zero, suc, ◌+◌, Bool, true, false, ◌&&◌, ◌==◌, List, [], ◌∷◌, length, take, drop, Option, Some, None, Result, Ok, Err, nat_lt, nat_le, if◌then◌else◌}
+use Rattle.std.specs.Prelude.{ℕ, zero, suc, ◌+◌, ◌-◌, Bool, true, false, ◌&&◌, ◌==◌, List, [], ◌∷◌, length, take, drop, Option, Some, None, Result, Ok, Err, nat_lt, nat_le, if◌then◌else◌}
 use Rattle.std.specs.Int.{Width, w8, w16, w32, byte_len, from_be_bytes}
 use lib.Utf8.{scalar}
 use Rattle.op_name.specs.NameData.{NameData, name_lt}
+use Rattle.op_name.specs.declared.name.TheConstants.{SITES, NUMBERS}
 use Rattle.context_vector.specs.Contexts.{ContextData}
 use Rattle.context_diff.specs.Operations.{OpData}
+use Rattle.context_diff.specs.declared.op.TheConstants.{PLACES, UNDO_ENTRIES}
 use Rattle.wire_codec.specs.declared.cause.Cause.{Cause}
 use Rattle.wire_codec.specs.declared.cause.Cause.TheVariants.{Kind, Range, Char, Order, Zero, Length}
 use Rattle.wire_codec.specs.declared.fault.Fault.{Fault}
@@ -61,19 +63,7 @@ bounded w low high cause = tested (λ n. nat_le low n && nat_le n high) cause (n
 -- ---- fields
 
 abbrev pub last_site : ℕ
-last_site = 63
-
-abbrev pub last_number : ℕ
-last_number = 1000000
-
-abbrev pub last_place : ℕ
-last_place = 64000000
-
-abbrev pub most_counts : ℕ
-most_counts = 64
-
-abbrev pub most_entries : ℕ
-most_entries = 16384
+last_site = SITES - 1
 
 abbrev pub kind_at : LeftData → Found ℕ
 kind_at = bounded w8 1 3 Kind
@@ -82,10 +72,10 @@ abbrev pub site_at : LeftData → Found ℕ
 site_at = bounded site_width 0 last_site Range
 
 abbrev pub number_at : LeftData → Found ℕ
-number_at = bounded w32 1 last_number Range
+number_at = bounded w32 1 NUMBERS Range
 
 abbrev pub place_at : LeftData → Found ℕ
-place_at = bounded w32 0 last_place Range
+place_at = bounded w32 0 PLACES Range
 
 abbrev pub char_at : LeftData → Found ℕ
 char_at = tested scalar Char (number w32)
@@ -144,7 +134,7 @@ many step next (suc n) state l = do
 unfoldable pub count_at : ℕ → LeftData → Found (ℕ × ℕ)
 count_at low l = do
   site ← tested (nat_le low) Order site_at l
-  count ← tested (λ n. nat_le n last_number) Range (tested (nat_lt 0) Zero (number w32)) site.1
+  count ← tested (λ n. nat_le n NUMBERS) Range (tested (nat_lt 0) Zero (number w32)) site.1
   Ok ((site.0, count.0), count.1)
 
 -- the least site that may come after this one
@@ -168,12 +158,12 @@ name_of e = Some e.0
 
 unfoldable pub counts_at : LeftData → Found (List (ℕ × ℕ))
 counts_at l = do
-  n ← bounded w8 0 most_counts Range l
+  n ← bounded w8 0 SITES Range l
   many count_at site_after n.0 0 n.1
 
 unfoldable pub entries_at : LeftData → Found (List (NameData × ℕ))
 entries_at l = do
-  n ← bounded w16 0 most_entries Range l
+  n ← bounded w16 0 UNDO_ENTRIES Range l
   many entry_at name_of n.0 None n.1
 
 unfoldable pub context_at : LeftData → Found ContextData

@@ -28,7 +28,7 @@ TakesAnswer old (Ok (Some op)) new = TakesOp old (data_of op) new
 TakesAnswer old (Ok None) new = new ≡ old
 TakesAnswer old (Err e) new = new ≡ old
 
--- the judgement of the bytes left, offsets counted from the first byte fed; want of memory says nothing
+-- the judgement of the bytes left, offsets counted from the first byte fed; out of memory says nothing of it
 abbrev pub IsAnswer : ℕ → Result (Option Op) StreamBad → Result (OpData × ℕ) Refused → Type 0
 IsAnswer taken (Ok (Some op)) j = j ≡ Ok (data_of op, length (frame (data_of op)))
 IsAnswer taken (Ok None) j = (n : ℕ) × (j ≡ Err (More n))

@@ -1,5 +1,8 @@
 //! Why bytes are no frame.
 
+ghost use Rattle.std.specs.Prelude.{◌≡◌};
+ghost use Rattle.wire_codec.specs.Causes.{cause_word};
+
 /// Why the bytes at an offset can't be part of a frame.
 #[derive(Clone, Copy, Debug, PartialEq, Eq)]
 pub enum Cause {
@@ -23,4 +26,24 @@ pub enum Cause {
     Target,
     /// An undo entry of a context that names no original of that context.
     Stray,
+}
+
+impl Cause {
+    /// The word for the cause in reports and messages.
+    pub fn word(self) -> &'static str
+        ensures { result.now ≡ cause_word self }
+    {
+        match self {
+            Cause::TooLong => "toolong",
+            Cause::Kind => "kind",
+            Cause::Range => "range",
+            Cause::Char => "char",
+            Cause::Order => "order",
+            Cause::Zero => "zero",
+            Cause::Length => "length",
+            Cause::Own => "own",
+            Cause::Target => "target",
+            Cause::Stray => "stray",
+        }
+    }
 }

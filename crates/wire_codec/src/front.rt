@@ -1,23 +1,25 @@
 //! Judging bytes from anywhere.
 
-ghost use Rattle.std.specs.Prelude.{◌≡◌, ◌++◌, ℕ, List, length, Ok, IfOk};
+ghost use Rattle.std.specs.Prelude.{◌≡◌, ◌++◌, ℕ, List, length, Ok, IfOk, IsOk, OnErr};
+ghost use Rattle.context_vector.specs.Contexts.{AreCounts};
 ghost use Rattle.context_diff.specs.Operations.{OpData, IsWellFormed};
 ghost use Rattle.wire_codec.specs.Spelling.{frame};
 ghost use Rattle.wire_codec.specs.Judging.{judge};
-ghost use Rattle.wire_codec.specs.Answers.{scan_of, judgement_of, SaysOf, TellsOf};
+ghost use Rattle.wire_codec.specs.Code.Lent.{op_seen, judged_as};
+ghost use Rattle.wire_codec.specs.Answers.{scan_of, judgement_of, HasFrame, SaysOf, TellsOf};
 
 use crate::answers::{Decoded, Scan};
 use crate::fault::Refused;
-use crate::rules::judge;
+use crate::rules::{LentOp, judge};
 use crate::vectors::op_of;
 use op_name::Memory;
 use std::alloc::Global;
 
-// The judgement without its operation.
-fn scanned(bytes: &[u8]) -> Scan
-    ensures { result ≡ scan_of (judge bytes.now) }
+// What is answered to a judgement, without its operation.
+fn scanned(judged: Result<(LentOp, u32), Refused>) -> Scan
+    ensures { result ≡ scan_of (judged_as op_seen judged.entry) }
 {
-    match judge(bytes) {
+    match judged {
         Ok((_, used)) => Scan::Frame { used },
         Err(Refused::More(at_least)) => Scan::More { at_least },
         Err(Refused::Bad(fault)) => Scan::Bad {
@@ -27,11 +29,13 @@ fn scanned(bytes: &[u8]) -> Scan
     }
 }
 
-// The judgement, the operation with a context of its own.
-fn decoded(alloc: Global, bytes: &[u8]) -> Result<Decoded, Memory>
-    ensures { IfOk result (λ d. judgement_of d ≡ judge bytes.now) }
+// What is answered to a judgement, the operation with a context of its own.
+fn decoded(alloc: Global, judged: Result<(LentOp, u32), Refused>) -> Result<Decoded, Memory>
+    requires { IfOk judged (λ p. AreCounts 0 p.0.context.counts) }
+    ensures exact { IfOk result (λ d. judgement_of d ≡ judged_as op_seen judged.entry) }
+    ensures memory { OnErr result (IsOk judged.entry) }
 {
-    Ok(match judge(bytes) {
+    Ok(match judged {
         Ok((op, used)) => Decoded::Got {
             op: op_of(alloc, &op)?,
             used,
@@ -51,29 +55,32 @@ fn decoded(alloc: Global, bytes: &[u8]) -> Result<Decoded, Memory>
 pub fn scan(bytes: &[u8]) -> Scan
     ensures exact { result ≡ scan_of (judge bytes.now) }
 
-    // What the answer says: a frame is there, more bytes are asked for than there are, or a place in the bytes.
+    // What the answer says: a frame is there, more bytes are asked for than there are, or there is a fault in the
+    // bytes, and no continuation of them begins with a frame.
     ensures says { SaysOf bytes.now result }
 
     // Each frame is found, whatever follows it.
     ensures only { (o : OpData) (rest : List ℕ) → IsWellFormed o → bytes.now ≡ frame o ++ rest
         → result ≡ scan_of (Ok (o, length (frame o))) }
 {
-    scanned(bytes)
+    scanned(judge(bytes))
 }
 
 /// What the bytes begin with, as `scan` answers, and the operation of the frame.
 ///
-/// It answers `Memory` where the context of the operation found none.
+/// It answers `Memory` where the context of the operation found none, so only where the bytes begin with a frame.
 pub fn decode(alloc: Global, bytes: &[u8]) -> Result<Decoded, Memory>
     ensures exact { IfOk result (λ d. judgement_of d ≡ judge bytes.now) }
 
     // What the answer says: the first bytes are the frame of that well-formed operation, more bytes are asked for
-    // than there are, or a place in the bytes.
+    // than there are, or there is a fault in the bytes, and no continuation of them begins with a frame.
     ensures tells { IfOk result (TellsOf bytes.now) }
 
     // Each frame is found, whatever follows it.
     ensures only { (o : OpData) (rest : List ℕ) → IsWellFormed o → bytes.now ≡ frame o ++ rest
         → IfOk result (λ d. judgement_of d ≡ Ok (o, length (frame o))) }
+
+    ensures memory { OnErr result (HasFrame bytes.now) }
 {
-    decoded(alloc, bytes)
+    decoded(alloc, judge(bytes))
 }

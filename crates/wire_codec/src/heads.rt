@@ -1,23 +1,20 @@
 //! Reading names, and the fields before a context.
 
-ghost use Rattle.std.specs.Prelude.{◌≡◌, ◌≤◌, IfOk};
+ghost use Rattle.std.specs.Prelude.{◌≡◌, ◌<◌, IfOk};
 ghost use Rattle.wire_codec.specs.Reading.{after, site_at, number_at, place_at, char_at, generation_at, name_at, insert_at, delete_at, undo_at, fields_at, head_at};
 
 use crate::cause::Cause;
 use crate::fault::Fault;
 use crate::head::Head;
 use crate::left::{Left, check};
-use op_name::Name;
+use context_diff::PLACES;
+use op_name::{NUMBERS, Name, SITES};
 
-const LAST_SITE: u8 = 63;
-
-pub(crate) const LAST_NUMBER: u32 = 1_000_000;
-
-const LAST_PLACE: u32 = 64_000_000;
+const LAST_SITE: u8 = (SITES - 1) as u8;
 
 pub(crate) fn site(left: &mut Left) -> Result<u16, Fault>
     ensures read { after result left.new ≡ site_at left.old }
-    ensures within { IfOk result (λ s. s ≤ 63) }
+    ensures within { IfOk result (λ s. s < SITES) }
 {
     let site = left.bounded8(0, LAST_SITE, Cause::Range)?;
     Ok(u16::from(site))
@@ -28,14 +25,14 @@ pub(crate) fn name(left: &mut Left) -> Result<Name, Fault>
     ensures { after result left.new ≡ name_at left.old }
 {
     let site = site(left)?;
-    let number = left.bounded32(1, LAST_NUMBER, Cause::Range)?;
+    let number = left.bounded32(1, NUMBERS, Cause::Range)?;
     Ok(Name { site, number })
 }
 
 fn place(left: &mut Left) -> Result<u32, Fault>
     ensures { after result left.new ≡ place_at left.old }
 {
-    left.bounded32(0, LAST_PLACE, Cause::Range)
+    left.bounded32(0, PLACES, Cause::Range)
 }
 
 fn character(left: &mut Left) -> Result<char, Fault>

@@ -5,6 +5,7 @@ ghost use Rattle.std.specs.List.{flat_map};
 ghost use Rattle.context_diff.specs.Operations.{OpData, IsWellFormed};
 ghost use Rattle.wire_codec.specs.Spelling.{frame};
 ghost use Rattle.wire_codec.specs.Judging.{judge};
+ghost use Rattle.wire_codec.specs.Answers.{HasFrame};
 ghost use Rattle.wire_codec.specs.declared.fault.Fault.{Fault};
 ghost use Rattle.wire_codec.specs.declared.fault.Refused.TheVariants.{Bad};
 ghost use Rattle.wire_codec.specs.StreamData.{StreamData};
@@ -21,9 +22,11 @@ pub fn judgement_is_the_frames()
     ensures again { (o : OpData) (rest : List ℕ) → IsWellFormed o → judge (frame o ++ rest) ≡ Ok (o, length (frame o)) }
 {}
 
-/// Bytes that are bad stay bad at the same place for the same cause, whatever comes behind them.
+/// Bytes that are bad stay bad at the same place for the same cause, whatever comes after them; so no continuation
+/// of them begins with a frame.
 pub fn a_fault_stays()
     ensures stays { (bytes more : List ℕ) (f : Fault) → judge bytes ≡ Err (Bad f) → judge (bytes ++ more) ≡ Err (Bad f) }
+    ensures never { (bytes more : List ℕ) (f : Fault) → judge bytes ≡ Err (Bad f) → ¬ HasFrame (bytes ++ more) }
 {}
 
 /// Over any calls of one stream, however the input was cut: the bytes that were left and the bytes fed

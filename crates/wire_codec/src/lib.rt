@@ -25,6 +25,7 @@ pub use answers::{Decoded, Scan};
 pub use cause::Cause;
 pub use front::{decode, scan};
 pub use laws::{a_fault_stays, frames_apart, judgement_is_the_frames, whole_stream};
+pub use rules::LONGEST_BODY;
 pub use stream::{FrameStream, StreamBad};
 pub use writing::encode;
 

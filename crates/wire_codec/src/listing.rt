@@ -1,23 +1,24 @@
 //! Reading the two lists of a context, one element after the other.
 
-ghost use Rattle.std.specs.Prelude.{◌≡◌, ◌≤◌, None, IfOk};
+ghost use Rattle.std.specs.Prelude.{◌≡◌, ◌<◌, None, IfOk};
 ghost use Rattle.wire_codec.specs.Reading.{after, is_above, many, count_at, site_after, entry_at, name_of, counts_at, entries_at};
 
 use crate::cause::Cause;
 use crate::fault::Fault;
-use crate::heads::{LAST_NUMBER, name, site};
+use crate::heads::{name, site};
 use crate::left::{Left, check};
 use crate::sections::{Counts, Entries};
-use op_name::Name;
+use context_diff::UNDO_ENTRIES;
+use op_name::{NUMBERS, Name, SITES};
 
-const MOST_COUNTS: u8 = 64;
+const MOST_COUNTS: u8 = SITES as u8;
 
-const MOST_ENTRIES: u16 = 16_384;
+const MOST_ENTRIES: u16 = UNDO_ENTRIES as u16;
 
 #[tactic(auto, unfolding(crate::specs::Reading::count_at))]
 fn count(left: &mut Left, low: u16) -> Result<(u16, u32), Fault>
     ensures read { after result left.new ≡ count_at low left.old }
-    ensures within { IfOk result (λ p. p.0 ≤ 63) }
+    ensures within { IfOk result (λ p. p.0 < SITES) }
 {
     let start = left.at();
     let site = site(left)?;
@@ -25,7 +26,7 @@ fn count(left: &mut Left, low: u16) -> Result<(u16, u32), Fault>
     let start = left.at();
     let count = left.number32()?;
     check(count > 0, Cause::Zero, start)?;
-    check(count <= LAST_NUMBER, Cause::Range, start)?;
+    check(count <= NUMBERS, Cause::Range, start)?;
     Ok((site, count))
 }
 

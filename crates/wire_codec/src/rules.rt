@@ -6,17 +6,24 @@ ghost use Rattle.context_vector.specs.Contexts.{count_in, entry_in, has};
 ghost use Rattle.context_diff.specs.Operations.{context_of};
 ghost use Rattle.wire_codec.specs.Reading.{context_at, op_at};
 ghost use Rattle.wire_codec.specs.Judging.{entry_len, is_own, has_target, stray_from, entries_begin, body_at, judge};
-ghost use Rattle.wire_codec.specs.Parts.{after_as, context_seen, op_seen, seen_as, judged_as};
+ghost use Rattle.wire_codec.specs.Code.Lent.{after_as, context_seen, op_seen, seen_as, judged_as};
 
 use crate::cause::Cause;
 use crate::fault::{Fault, Refused};
 use crate::head::Head;
 use crate::left::{Left, check};
-use crate::sections::{Counts, ENTRY_LEN, Entries};
+use crate::sections::{COUNT_LEN, Counts, ENTRY_LEN, Entries};
 use crate::{heads, listing};
-use op_name::Name;
+use context_diff::UNDO_ENTRIES;
+use op_name::{Name, SITES};
 
-const LONGEST: u32 = 115_025;
+/// The greatest number of bytes of a body: that of an insert whose context has a count for each site and as many
+/// undo entries as there may be.
+pub const LONGEST_BODY: u32 = 14
+    + 1
+    + COUNT_LEN as u32 * SITES as u32
+    + 2
+    + ENTRY_LEN as u32 * UNDO_ENTRIES;
 
 const OWN_AT: u32 = 6;
 
@@ -158,7 +165,7 @@ pub(crate) fn judge<'a>(bytes: &'a [u8]) -> Result<(LentOp<'a>, u32), Refused>
     }
     let (front, rest) = bytes.split_at(4);
     let length = u32::from_be_bytes([front[0], front[1], front[2], front[3]]);
-    if length > LONGEST {
+    if length > LONGEST_BODY {
         return Err(Refused::Bad(Fault {
             cause: Cause::TooLong,
             offset: 0,

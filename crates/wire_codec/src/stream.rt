@@ -1,7 +1,8 @@
 //! Streams of frames that come in pieces.
 
-ghost use Rattle.std.specs.Prelude.{◌≡◌, ◌++◌, [], length, OnOk, OnErr, IfOk};
+ghost use Rattle.std.specs.Prelude.{◌≡◌, ◌++◌, [], length, Err, OnOk, OnErr, IfOk};
 ghost use Rattle.wire_codec.specs.Judging.{judge};
+ghost use Rattle.wire_codec.specs.Answers.{HasFrame};
 ghost use Rattle.wire_codec.specs.Streams.{Feeds, TakesAnswer, IsAnswer};
 
 use crate::answers::Decoded;
@@ -18,7 +19,7 @@ use std::marker::Model;
 pub enum StreamBad {
     /// The bytes left begin with no frame. The offset counts from the first byte fed.
     Bad { cause: Cause, offset: u64 },
-    /// Memory was wanting.
+    /// Out of memory; the bytes left begin with a frame.
     Memory,
 }
 
@@ -87,6 +88,7 @@ impl FrameStream {
     pub fn take(&mut self) -> Result<Option<Op>, StreamBad>
         ensures taken { TakesAnswer self.old result self.new }
         ensures exact { IsAnswer self.old.taken result (judge self.old.left) }
+        ensures memory { result ≡ Err StreamBad.Memory → HasFrame self.old.left }
     {
         match decode(self.alloc, self.left.as_slice())? {
             Decoded::Got { op, used } => {

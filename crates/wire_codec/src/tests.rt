@@ -424,3 +424,49 @@ fn a_stream_stays_at_a_fault(rt: HostRuntime) -> Result<(), Fail> {
     assert_eq!(rt; stream.rest(), 7);
     Ok(())
 }
+
+#[test]
+fn causes_have_words(rt: HostRuntime) {
+    let words = [
+        (Cause::TooLong, "toolong"),
+        (Cause::Kind, "kind"),
+        (Cause::Range, "range"),
+        (Cause::Char, "char"),
+        (Cause::Order, "order"),
+        (Cause::Zero, "zero"),
+        (Cause::Length, "length"),
+        (Cause::Own, "own"),
+        (Cause::Target, "target"),
+        (Cause::Stray, "stray"),
+    ];
+    for (cause, word) in words {
+        assert_eq!(rt; cause.word(), word);
+    }
+    assert_eq!(rt; LONGEST_BODY, 115_025);
+}
+
+#[test]
+fn a_stream_holds_more_than_65_536_bytes(rt: HostRuntime) -> Result<(), Fail> {
+    let mut stream = FrameStream::new(rt.alloc()).ok().ok_or("there is memory")?;
+    stream
+        .feed(b"\x00\x01\xc1\x51")
+        .ok()
+        .ok_or("there is memory")?;
+    let piece = vec![in rt.alloc(); 0u8; 65_536]
+        .ok()
+        .ok_or("there is memory")?;
+    stream.feed(piece.as_slice()).ok().ok_or("there is memory")?;
+    assert!(rt; matches!(stream.take(), Ok(None)));
+    assert_eq!(rt; stream.rest(), 65_540);
+    stream.feed(piece.as_slice()).ok().ok_or("there is memory")?;
+    assert!(rt;
+        matches!(
+            stream.take(),
+            Err(StreamBad::Bad {
+                cause: Cause::Kind,
+                offset: 4
+            })
+        )
+    );
+    Ok(())
+}

@@ -3,7 +3,7 @@
 ghost use Rattle.std.specs.Prelude.{◌≡◌, [], IfOk};
 ghost use Rattle.context_vector.specs.Contexts.{AreCounts};
 ghost use Rattle.context_diff.specs.Ops.{data_of};
-ghost use Rattle.wire_codec.specs.Parts.{context_seen, op_seen};
+ghost use Rattle.wire_codec.specs.Code.Lent.{context_seen, op_seen};
 
 use crate::head::Head;
 use crate::rules::{LentContext, LentOp};
@@ -40,8 +40,10 @@ fn vector_of(alloc: Global, context: &LentContext) -> Result<Vector, Memory>
     requires { AreCounts 0 context.now.counts }
     ensures { IfOk result (λ v. v.set ≡ context_seen context.now) }
 {
-    let vector = with_counts(alloc, &context.counts)?;
-    with_entries(vector, &context.entries)
+    let counted = with_counts(alloc, &context.counts)?;
+    let mut vector = with_entries(counted, &context.entries)?;
+    vector.share();
+    Ok(vector)
 }
 
 /// The operation with a context of its own.

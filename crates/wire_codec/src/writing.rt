@@ -1,20 +1,20 @@
 //! Operations to bytes.
 
-ghost use Rattle.std.specs.Prelude.{◌≡◌, ◌+◌, ◌*◌, ◌≤◌, ◌<◌, ◌++◌, length, Some, OnOk, OnErr, slice_get};
+ghost use Rattle.std.specs.Prelude.{◌≡◌, ◌+◌, ◌*◌, ◌≤◌, ◌<◌, ◌++◌, length, OnOk, OnErr};
 ghost use Rattle.std.specs.List.{flat_map};
 ghost use Rattle.std.specs.Int.{w32, to_be_bytes};
+ghost use Rattle.context_vector.specs.Contexts.{AreCounts};
 ghost use Rattle.context_diff.specs.Operations.{IsWellFormed, context_of};
 ghost use Rattle.context_diff.specs.Ops.{data_of};
 ghost use Rattle.wire_codec.specs.declared.head.Head.TheVariants.{Insert, Delete, Undo};
 ghost use Rattle.wire_codec.specs.Spelling.{head_of, site_bytes, name_bytes, count_bytes, entry_bytes, counts_bytes, entries_bytes, head_bytes, body_bytes, frame};
-ghost use Rattle.wire_codec.specs.Reading.{most_entries};
 ghost use Rattle.wire_codec.specs.Judging.{count_len, entry_len};
-ghost use Rattle.wire_codec.specs.Writing.{HasRoom, Puts, HasAuthor, head_len};
+ghost use Rattle.wire_codec.specs.Code.Puts.{HasRoom, Puts, HasAuthor, head_len};
 
 use crate::head::Head;
-use context_diff::Op;
+use context_diff::{Op, UNDO_ENTRIES};
 use context_vector::Vector;
-use op_name::{Memory, Name};
+use op_name::{Memory, Name, SITES};
 
 // Puts bytes for which there is room.
 fn put(out: &mut Vec<u8>, bytes: &[u8])
@@ -29,7 +29,7 @@ fn put(out: &mut Vec<u8>, bytes: &[u8])
 
 fn put_site(out: &mut Vec<u8>, site: u16)
     requires room { HasRoom out.old 1 }
-    requires site { site < 64 }
+    requires site { site < SITES }
     ensures { Puts out.old out.new (site_bytes site) }
 {
     put(out, &(site as u8).to_be_bytes());
@@ -107,7 +107,7 @@ fn put_delete(out: &mut Vec<u8>, name: &Name, place: u32)
 #[tactic(auto, unfolding(crate::specs::Spelling::head_bytes))]
 fn put_undo(out: &mut Vec<u8>, author: u16, target: &Name, generation: u16)
     requires room { HasRoom out.old 9 }
-    requires author { author < 64 }
+    requires author { author < SITES }
     ensures { Puts out.old out.new (head_bytes (Undo author target.now generation)) }
 {
     put(out, &[3]);
@@ -130,7 +130,7 @@ fn put_head(out: &mut Vec<u8>, head: Head)
 
 fn put_count(out: &mut Vec<u8>, site: u16, count: u32)
     requires room { HasRoom out.old 5 }
-    requires site { site < 64 }
+    requires site { site < SITES }
     ensures { Puts out.old out.new (count_bytes (site, count)) }
 {
     put_site(out, site);
@@ -145,35 +145,22 @@ fn put_entry(out: &mut Vec<u8>, entry: &(Name, u16))
     put(out, &entry.1.to_be_bytes());
 }
 
-fn nth_entry(context: &Vector, i: u32) -> (Name, u16)
-    requires { i < length context.now.set.entries }
-    ensures { slice_get context.now.set.entries i ≡ Some result }
+fn put_each_count(out: &mut Vec<u8>, counts: &[(u16, u32)])
+    requires room { HasRoom out.old (count_len * length counts.now) }
+    requires sites { AreCounts 0 counts.now }
+    ensures { Puts out.old out.new (flat_map count_bytes counts.now) }
 {
-    match context.entry_at(i) {
-        Some(entry) => entry,
-        None => unreachable!(),
-    }
-}
-
-fn put_each_count(out: &mut Vec<u8>, context: &Vector)
-    requires { HasRoom out.old (count_len * length context.now.set.counts) }
-    ensures { Puts out.old out.new (flat_map count_bytes context.now.set.counts) }
-{
-    context.known();
-    for i in 0..context.sites() {
-        let Some((site, count)) = context.site_at(i) else {
-            unreachable!();
-        };
+    for &(site, count) in counts {
         put_count(out, site, count);
     }
 }
 
-fn put_each_entry(out: &mut Vec<u8>, context: &Vector)
-    requires { HasRoom out.old (entry_len * length context.now.set.entries) }
-    ensures { Puts out.old out.new (flat_map entry_bytes context.now.set.entries) }
+fn put_each_entry(out: &mut Vec<u8>, entries: &[(Name, u16)])
+    requires { HasRoom out.old (entry_len * length entries.now) }
+    ensures { Puts out.old out.new (flat_map entry_bytes entries.now) }
 {
-    for i in 0..context.entries() {
-        put_entry(out, &nth_entry(context, i));
+    for entry in entries {
+        put_entry(out, entry);
     }
 }
 
@@ -181,17 +168,18 @@ fn put_counts(out: &mut Vec<u8>, context: &Vector)
     requires { HasRoom out.old (1 + count_len * length context.now.set.counts) }
     ensures { Puts out.old out.new (counts_bytes context.now.set.counts) }
 {
+    context.known();
     put(out, &(context.sites() as u8).to_be_bytes());
-    put_each_count(out, context);
+    put_each_count(out, context.counts());
 }
 
 fn put_entries(out: &mut Vec<u8>, context: &Vector)
     requires room { HasRoom out.old (2 + entry_len * length context.now.set.entries) }
-    requires few { length context.now.set.entries ≤ most_entries }
+    requires few { length context.now.set.entries ≤ UNDO_ENTRIES }
     ensures { Puts out.old out.new (entries_bytes context.now.set.entries) }
 {
     put(out, &(context.entries() as u16).to_be_bytes());
-    put_each_entry(out, context);
+    put_each_entry(out, context.named());
 }
 
 #[tactic(auto, using(crate::proofs::Sizes::body_size))]

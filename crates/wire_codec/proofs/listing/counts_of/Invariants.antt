@@ -1,6 +1,6 @@
 use Rattle.std.proofs.Common.{◌≡◌}
 use Rattle.wire_codec.specs.Reading.{count_at, site_after}
-use Rattle.wire_codec.specs.Sections.{raw_count}
+use Rattle.wire_codec.specs.Code.Sections.{raw_count}
 use Rattle.wire_codec.specs.Judging.{count_len}
 use Rattle.wire_codec.proofs.Elements.{IsUnderWay}
 use Rattle.wire_codec.proofs.listing.counts_of.Given as goal

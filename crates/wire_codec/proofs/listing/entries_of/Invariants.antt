@@ -1,6 +1,6 @@
 use Rattle.std.proofs.Common.{◌≡◌, None}
 use Rattle.wire_codec.specs.Reading.{entry_at, name_of}
-use Rattle.wire_codec.specs.Sections.{raw_entry}
+use Rattle.wire_codec.specs.Code.Sections.{raw_entry}
 use Rattle.wire_codec.specs.Judging.{entry_len}
 use Rattle.wire_codec.proofs.Elements.{IsUnderWay}
 use Rattle.wire_codec.proofs.listing.entries_of.Given as goal

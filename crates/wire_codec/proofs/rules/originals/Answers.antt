@@ -5,7 +5,7 @@ use Rattle.context_vector.specs.Contexts.{has}
 use Rattle.wire_codec.specs.declared.cause.Cause.TheVariants.{Stray}
 use Rattle.wire_codec.specs.Reading.{want}
 use Rattle.wire_codec.specs.Judging.{stray_from}
-use Rattle.wire_codec.specs.Parts.{context_seen}
+use Rattle.wire_codec.specs.Code.Lent.{context_seen}
 use Rattle.wire_codec.proofs.WellFormed.{stray_passes, stray_stops, stray_over}
 use Rattle.wire_codec.proofs.rules.originals.Goals as goal
 

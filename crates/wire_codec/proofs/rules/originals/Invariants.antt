@@ -1,6 +1,6 @@
 use Rattle.std.proofs.Common.{◌≡◌, ◌+◌, ◌*◌, ◌<◌, ◌^◌, length}
 use Rattle.wire_codec.specs.Judging.{entry_len, stray_from}
-use Rattle.wire_codec.specs.Parts.{context_seen}
+use Rattle.wire_codec.specs.Code.Lent.{context_seen}
 use Rattle.wire_codec.proofs.rules.originals.Given as goal
 
 abbrev pub invariant-loop-name : goal.invariant-loop-name

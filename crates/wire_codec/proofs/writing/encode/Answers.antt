@@ -5,7 +5,7 @@ use Rattle.context_diff.specs.Operations.{context_of}
 use Rattle.context_diff.specs.Ops.{data_of}
 use Rattle.wire_codec.specs.declared.head.Head.{Head}
 use Rattle.wire_codec.specs.Spelling.{head_of, head_bytes, counts_bytes, entries_bytes, body_bytes}
-use Rattle.wire_codec.specs.Writing.{head_len}
+use Rattle.wire_codec.specs.Code.Puts.{head_len}
 use Rattle.wire_codec.proofs.Sizes.{length-head_bytes, length-counts, frame_pieces}
 use Rattle.wire_codec.proofs.Pushes.{four_pieces}
 use Rattle.wire_codec.proofs.writing.encode.Goals as goal
