@@ -2,3 +2,8 @@ pub mod Shown
 pub mod Entries
 pub mod Positions
 pub mod Named
+pub mod Flags
+pub mod Chunked
+pub mod Texts
+pub mod Blocks
+pub mod CallerLemmas

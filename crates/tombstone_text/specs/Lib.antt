@@ -1,1 +1,4 @@
-pub mod Rooms
+pub mod Cells
+pub mod Chunks
+pub mod Sums
+pub mod Code

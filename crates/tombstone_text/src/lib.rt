@@ -3,11 +3,16 @@
 //! A `Cells` is a list of cells. Each has the name of its insert, its character, and the marks that covers
 //! left on it. Forms are applied to it: an insert adds a cell, a cover marks one, and no cell ever goes, so
 //! that places keep their meaning. A hidden cell is a tombstone.
+//!
+//! The cells are kept in chunks, each with a column of flags that tell which of its cells are shown; the calls
+//! on chunks lend them to those that look for shown cells.
 #![tactic(auto)]
 
 mod cell;
 mod cells;
+mod chunk;
 mod deleters;
+mod sums;
 
 pub use cell::Cell;
 pub use cells::Cells;

@@ -1,4 +1,4 @@
--- A text as contracts see it: its cells, and the room that its lists have to spare.
+-- A text as contracts see it: its cells, the chunks that they are kept in, and the room that its lists have to spare.
 use Rattle.std.specs.Prelude.{ℕ, ◌<◌, ◌≤◌, List, length, slice_get, IfSome}
 use Rattle.ttf_form.specs.Cells.{CellData}
 use Rattle.ttf_form.specs.declared.cover.Mark.{Mark}
@@ -6,13 +6,14 @@ use Rattle.ttf_form.specs.declared.cover.Mark.TheVariants.{Own, By}
 use Rattle.ttf_form.specs.declared.form.Form.{Form}
 use Rattle.ttf_form.specs.declared.form.Form.TheVariants.{Ins as Insert, Cover as Covered}
 
--- spare places in the list of cells, and places for the deleters of one cell
+-- how many cells may come in, and places for the deleters of one cell
 pub record Room : Type 0 where
   pub places : ℕ
   pub deleters : ℕ
 
--- the cells in the order in which they stand, shown or hidden, and the room beside them
+-- the cells in the order in which they stand, shown or hidden, the chunks that they are kept in, and the room beside them
 pub record CellsData : Type 0 where
+  pub chunks : List (List CellData)
   pub cells : List CellData
   pub room : Room
 

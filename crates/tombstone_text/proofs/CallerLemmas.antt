@@ -1,0 +1,3 @@
+-- What the proofs of other crates cite of this crate's lemmas.
+pub use Rattle.tombstone_text.proofs.Chunked.{sum-shown}
+pub use Rattle.tombstone_text.proofs.Flags.{ones-flags}

@@ -1,0 +1,114 @@
+-- What a change of one chunk does to the columns of a text.
+use Rattle.std.proofs.Common.{◌≡◌, ℕ, suc, ◌+◌, ◌-◌, ◌<◌, ◌≤◌, true, cond, List, [], length, map, filter, take, drop, insert, set, get_or, Option, None, sym, ap, ◌∙◌, arith}
+use Rattle.std.specs.List.{sum}
+use Rattle.std.proofs.lemmas.List.{map-set, get_or-map, length-map, set-get_or, length-take, length-drop, take-append-drop}
+use Rattle.std.proofs.lemmas.List.Elements.{filter-append}
+use Rattle.std.proofs.lemmas.List.{length-append}
+use Rattle.std.proofs.lemmas.List.Edits.{length-insert}
+use Rattle.std.proofs.lemmas.List.Sums.{sum_by-set, get_or-le-sum_by}
+use Rattle.op_name.specs.NameData.{NameData}
+use Rattle.ttf_form.specs.Cells.{CellData, cell_shown, change_at}
+use Rattle.tombstone_text.specs.Chunks.{flag_of, shown_in}
+use Rattle.tombstone_text.specs.Code.Cells.{cut, IsText}
+use Rattle.tombstone_text.proofs.Flags.{map-insert}
+use Rattle.tombstone_text.proofs.Shown.{length-filter-insert}
+use Rattle.tombstone_text.proofs.Chunked.{filled_set, filled_cut, cut_is, length-change, flag-le, shown-change}
+
+pub len_at : (cs : List (List CellData)) (ls ss : List ℕ) (f : Option (List CellData)) (sp : List (NameData × ℕ)) (i : ℕ) → IsText cs ls ss f sp → i < length cs
+    → get_or ls i 0 ≡ length (get_or cs i [])
+len_at cs ls ss f sp i t lt = ap (λ (l : List ℕ). get_or l i 0) t.lens_are ∙ get_or-map (λ (c : List CellData). length c) cs i [] 0 lt
+
+pub shown_at : (cs : List (List CellData)) (ls ss : List ℕ) (f : Option (List CellData)) (sp : List (NameData × ℕ)) (i : ℕ) → IsText cs ls ss f sp → i < length cs
+    → get_or ss i 0 ≡ shown_in (get_or cs i [])
+shown_at cs ls ss f sp i t lt = ap (λ (l : List ℕ). get_or l i 0) t.shown_are ∙ get_or-map shown_in cs i [] 0 lt
+
+pub lens_long : (cs : List (List CellData)) (ls ss : List ℕ) (f : Option (List CellData)) (sp : List (NameData × ℕ)) → IsText cs ls ss f sp
+    → (length ls ≡ length cs) × (length ss ≡ length cs)
+lens_long cs ls ss f sp t =
+    (ap (λ (l : List ℕ). length l) t.lens_are ∙ length-map cs (λ (c : List CellData). length c), ap (λ (l : List ℕ). length l) t.shown_are ∙ length-map cs shown_in)
+
+-- a number changed in a column
+pub set-sum : (xs : List ℕ) (i y : ℕ) → i < length xs → sum (set xs i y) + get_or xs i 0 ≡ sum xs + y
+set-sum xs i y lt = sum_by-set (λ (n : ℕ). n) xs i y 0 lt
+
+pub part-le : (xs : List ℕ) (i : ℕ) → i < length xs → get_or xs i 0 ≤ sum xs
+part-le xs i lt = get_or-le-sum_by (λ (n : ℕ). n) xs i 0 lt
+
+set_both : (xs ys : List ℕ) (i a b : ℕ) → xs ≡ ys → a ≡ b → set xs i a ≡ set ys i b
+set_both xs ys i a b e f = ap (λ l. set l i a) e ∙ ap (λ n. set ys i n) f
+
+-- one more shown cell in a chunk
+pub text_put : (cs : List (List CellData)) (ls ss : List ℕ) (f : Option (List CellData)) (sp : List (NameData × ℕ)) (i o : ℕ) (x : CellData) (d : List CellData) (a b : ℕ)
+    → IsText cs ls ss f sp → i < length cs → o ≤ length (get_or cs i []) → d ≡ insert (get_or cs i []) o x → cell_shown x ≡ true
+    → a ≡ get_or ls i 0 + 1 → b ≡ get_or ss i 0 + 1 → IsText (set cs i d) (set ls i a) (set ss i b) f sp
+text_put cs ls ss f sp i o x d a b t lt within new shows la sb =
+    let long : length d ≡ length (get_or cs i []) + 1 = ap (λ (c : List CellData). length c) new ∙ length-insert (get_or cs i []) o x within in
+    let count : shown_in d ≡ shown_in (get_or cs i []) + 1 =
+    ap (λ (c : List CellData). shown_in c) new ∙ length-filter-insert cell_shown (get_or cs i []) o x ∙ ap (λ q. shown_in (get_or cs i []) + cond q 1 0) shows in
+    let old = len_at cs ls ss f sp i t lt in
+    let seen = shown_at cs ls ss f sp i t lt in
+    record {
+      lens_are = set_both ls (map (λ (c : List CellData). length c) cs) i a (length d) t.lens_are (omega arith) ∙ sym (map-set (λ (c : List CellData). length c) cs i d);
+      shown_are = set_both ss (map shown_in cs) i b (shown_in d) t.shown_are (omega arith) ∙ sym (map-set shown_in cs i d);
+      filled = filled_set cs i d t.filled (omega arith);
+      fresh_is = t.fresh_is;
+      spare_is = t.spare_is;
+    }
+
+-- a cell changed in a chunk
+pub text_change : (g : CellData → CellData) (cs : List (List CellData)) (ls ss : List ℕ) (f : Option (List CellData)) (sp tp : List (NameData × ℕ)) (i o : ℕ) (d : List CellData) (b : ℕ)
+    → IsText cs ls ss f sp → i < length cs → o < length (get_or cs i []) → d ≡ change_at o g (get_or cs i []) → b ≡ shown_in d → tp ≡ []
+    → IsText (set cs i d) ls (set ss i b) f tp
+text_change g cs ls ss f sp tp i o d b t lt within new sb none =
+    let long : length d ≡ length (get_or cs i []) = ap (λ (c : List CellData). length c) new ∙ length-change g (get_or cs i []) o in
+    let kept : set (map (λ (c : List CellData). length c) cs) i (length d) ≡ map (λ (c : List CellData). length c) cs =
+    ap (λ n. set (map (λ (c : List CellData). length c) cs) i n) (long ∙ sym (get_or-map (λ (c : List CellData). length c) cs i [] 0 lt))
+    ∙ set-get_or (map (λ (c : List CellData). length c) cs) i 0 in
+    record {
+      lens_are = t.lens_are ∙ sym kept ∙ sym (map-set (λ (c : List CellData). length c) cs i d);
+      shown_are = set_both ss (map shown_in cs) i b (shown_in d) t.shown_are sb ∙ sym (map-set shown_in cs i d);
+      filled = filled_set cs i d t.filled (omega arith);
+      fresh_is = t.fresh_is;
+      spare_is = none;
+    }
+
+insert_both : (xs ys : List ℕ) (k a b : ℕ) → xs ≡ ys → a ≡ b → insert xs k a ≡ insert ys k b
+insert_both xs ys k a b e f = ap (λ l. insert l k a) e ∙ ap (λ n. insert ys k n) f
+
+-- a column of a text with a chunk cut in two
+column_cut : (h : List CellData → ℕ) (cs : List (List CellData)) (ls : List ℕ) (i n k low high : ℕ) → ls ≡ map h cs → i < length cs → n ≡ suc i
+    → low ≡ h (take k (get_or cs i [])) → high ≡ h (drop k (get_or cs i [])) → insert (set ls i low) n high ≡ map h (cut cs i k)
+column_cut h cs ls i n k low high e lt next l u =
+    let lower = take k (get_or cs i []) in
+    let upper = drop k (get_or cs i []) in
+    insert_both (set ls i low) (map h (set cs i lower)) n high (h upper) (set_both ls (map h cs) i low (h lower) e l ∙ sym (map-set h cs i lower)) u
+    ∙ sym (map-insert h (set cs i lower) n upper)
+    ∙ ap (λ ds. map h ds) (cut_is cs i k n lt next)
+
+pub text_cut : (cs : List (List CellData)) (ls ss : List ℕ) (f : Option (List CellData)) (sp : List (NameData × ℕ)) (i n k up low high : ℕ)
+    → IsText cs ls ss f sp → i < length cs → n ≡ suc i → 1 ≤ k → up + k ≡ length (get_or cs i []) → 1 ≤ up
+    → low ≡ shown_in (take k (get_or cs i [])) → high ≡ shown_in (drop k (get_or cs i []))
+    → IsText (cut cs i k) (insert (set ls i k) n up) (insert (set ss i low) n high) None sp
+text_cut cs ls ss f sp i n k up low high t lt next some all more l u =
+    record {
+      lens_are = column_cut (λ (c : List CellData). length c) cs ls i n k k up t.lens_are lt next (omega (arith, length-take k (get_or cs i []))) (omega (arith, length-drop k (get_or cs i [])));
+      shown_are = column_cut shown_in cs ss i n k low high t.shown_are lt next l u;
+      filled = filled_cut cs i k t.filled lt some (omega arith);
+      fresh_is = tt;
+      spare_is = t.spare_is;
+    }
+
+-- both parts have as many shown cells as the whole
+pub shown_parts : (xs : List CellData) (k : ℕ) → shown_in (take k xs) + shown_in (drop k xs) ≡ shown_in xs
+shown_parts xs k =
+    sym (length-append (filter cell_shown (take k xs)) (filter cell_shown (drop k xs)))
+    ∙ ap (λ (s : List CellData). length s) (sym (filter-append cell_shown (take k xs) (drop k xs)))
+    ∙ ap (λ (s : List CellData). shown_in s) (take-append-drop k xs)
+
+-- the number of shown cells, counted anew by the two flags of the cell that changed
+pub counted_again : (g : CellData → CellData) (xs : List CellData) (k n before after : ℕ) (d : CellData) → k < length xs → n ≡ shown_in xs
+    → before ≡ flag_of (get_or xs k d) → after ≡ flag_of (get_or (change_at k g xs) k d) → (before ≤ n) × (n - before + after ≡ shown_in (change_at k g xs))
+counted_again g xs k n before after d lt e b a =
+    let low = flag-le xs k d lt in
+    let change = shown-change g xs k d lt in
+    (omega arith, omega arith)
