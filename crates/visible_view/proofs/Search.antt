@@ -1,7 +1,16 @@
--- A search for the v-th shown cell, from the front and from the end.
-use Rattle.std.proofs.Common.{◌≡◌, ℕ, zero, suc, ◌+◌, ◌-◌, ◌<◌, ◌≤◌, Bool, true, false, cond, Option, Some, None, List, [], ◌∷◌, filter, take, length, slice_get, get_or, refl, sym, ap, ◌∙◌, subst, arith}
-use Rattle.std.proofs.lemmas.List.{take_all}
-use Rattle.std.proofs.lemmas.List.Filters.{length-filter_more}
+-- The v-th shown cell is the one that has v shown ones before it; by chunks, and by the flags of one chunk.
+use Rattle.std.proofs.Common.{◌≡◌, ℕ, zero, suc, ◌+◌, ◌<◌, ◌≤◌, Bool, true, false, Some, None, List, [], ◌∷◌, filter, take, length, slice_get, get_or, refl, sym, ap, ◌∙◌, arith}
+use Rattle.std.proofs.lemmas.List.{take_all, length-map, length-append, get_or-map, get_or_default, take-map, take-append-le}
+use Rattle.std.proofs.Math.Seq.{take-append-add}
+use Rattle.std.proofs.Common.{◌++◌, append_assoc, map, if◌then◌else◌}
+use Rattle.std.specs.List.{sum}
+use Rattle.std.proofs.lemmas.List.Concat.{get_or-flat_map}
+use Rattle.std.proofs.lemmas.List.Elements.{filter-append}
+use Rattle.lane_rank.specs.Ones.{ones_of, IsSelected}
+use Rattle.tombstone_text.specs.Chunks.{flat, flag_of, shown_in}
+use Rattle.tombstone_text.specs.Sums.{IsPart}
+use Rattle.tombstone_text.specs.Code.Chunks.{blank}
+use Rattle.tombstone_text.proofs.CallerLemmas.{ones-flags, sum-shown}
 use Rattle.std.proofs.lemmas.Option.{slice_get_past}
 use Rattle.ttf_form.specs.Cells.{CellData, cell_shown}
 use Rattle.visible_view.specs.View.{shown_cells, shown_places}
@@ -11,18 +20,9 @@ use Rattle.visible_view.proofs.ShownPlaces.{shown_at, length-places}
 abbrev pub shown_before : List CellData → ℕ → ℕ
 shown_before cs place = length (shown_cells (take place cs))
 
--- any cell, where a list is known to have one
-blank : CellData
-blank = record { name = record { site = 0; number = 0 }; ch = 0; generation = 0; deleters = [] }
-
 -- whether the cell at the place is shown
 abbrev pub TellsShown : List CellData → ℕ → Bool → Type 0
 TellsShown cs place b = (c : CellData) → place < length cs → cell_shown (get_or cs place c) ≡ b
-
-pub before_next : (cs : List CellData) (place : ℕ) (b : Bool) → place < length cs → TellsShown cs place b
-    → shown_before cs (place + 1) ≡ shown_before cs place + cond b 1 0
-before_next cs place b lt tells =
-    length-filter_more cell_shown cs place blank lt ∙ ap (λ t. shown_before cs place + cond t 1 0) (tells blank lt)
 
 pub found_at : (cs : List CellData) (place v : ℕ) → place < length cs → TellsShown cs place true → shown_before cs place ≡ v
     → slice_get (shown_places cs) v ≡ Some place
@@ -35,35 +35,64 @@ before_end cs n e = ap (λ xs. length (shown_cells xs)) (take_all n cs (omega ar
 pub none_at : (cs : List CellData) (v : ℕ) → length (shown_cells cs) ≤ v → slice_get (shown_places cs) v ≡ None
 none_at cs v le = slice_get_past (shown_places cs) v (let e = length-places 0 cs in omega arith)
 
--- from the end: all shown cells but so many stand at the place or behind it, and the v-th isn't behind it
-pub record IsBehind (cs : List CellData) (v place before : ℕ) : Type 0 where
-  pub within : place ≤ length cs
-  pub count : before ≡ shown_before cs place
-  pub low : v ≤ before
-  pub found : before ≡ v → slice_get (shown_places cs) v ≡ Some place
+-- the cells in front of a place in a chunk
+pub flat_take : (cs : List (List CellData)) (i o p : ℕ) → i < length cs → o ≤ length (get_or cs i []) → length (flat (take i cs)) + o ≡ p
+    → take p (flat cs) ≡ flat (take i cs) ++ take o (get_or cs i [])
+flat_take [] i o p lt le e = absurd (omega arith)
+flat_take (c ∷ cs) zero o p lt le e =
+    let z : 0 + o ≡ p = e in
+    let same : p ≡ o = omega arith in
+    ap (λ k. take k (c ++ flat cs)) same ∙ take-append-le o c (flat cs) le
+flat_take (c ∷ cs) (suc i) o p lt le e =
+    let long = length-append c (flat (take i cs)) in
+    let here : p ≡ length c + (length (flat (take i cs)) + o) = omega arith in
+    ap (λ k. take k (c ++ flat cs)) here
+    ∙ take-append-add c (flat cs) (length (flat (take i cs)) + o)
+    ∙ ap (λ (zs : List CellData). c ++ zs) (flat_take cs i o (length (flat (take i cs)) + o) (omega arith) le refl)
+    ∙ sym (append_assoc c (flat (take i cs)) (take o (get_or cs i [])))
 
-pub from_the_last : (cs : List CellData) (v place before : ℕ) → place ≡ length cs → before ≡ length (shown_cells cs) → v < length (shown_cells cs)
-    → IsBehind cs v place before
-from_the_last cs v place before p b lt =
-    let all = before_end cs place p in
-    record { within = omega arith; count = b ∙ sym all; low = omega arith; found = λ e. absurd (omega arith) }
+flag_shown : (c : CellData) (b : Bool) → flag_of c ≡ 1 → cell_shown c ≡ b → b ≡ true
+flag_shown c true e s = refl
+flag_shown c false e s = let no : flag_of c ≡ 0 = ap (λ t. if t then 1 else 0) s in absurd (omega arith)
 
-pub has_one : (cs : List CellData) (v place before : ℕ) → IsBehind cs v place before → v < before → 0 < place
-has_one cs v zero before i lt = let none : before ≡ 0 = i.count in absurd (omega arith)
-has_one cs v (suc place) before i lt = omega arith
+pub length-flat-spot : (ds : List (List CellData)) (j o : ℕ) → j < length ds → o < length (get_or ds j []) → length (flat (take j ds)) + o < length (flat ds)
+length-flat-spot [] j o l w = absurd (omega arith)
+length-flat-spot (d ∷ ds) zero o l w = omega (arith, length-append d (flat ds))
+length-flat-spot (d ∷ ds) (suc j) o l w =
+    let rest = length-flat-spot ds j o (omega arith) w in
+    omega (arith, length-append d (flat ds), length-append d (flat (take j ds)))
 
-pub one_back : (cs : List CellData) (v place next before after : ℕ) (b : Bool) → IsBehind cs v place before → v < before → place ≡ next + 1
-    → TellsShown cs next b → after + cond b 1 0 ≡ before → IsBehind cs v next after
-one_back cs v place next before after b i lt step tells less = by b tells less
-  where
-    here : next < length cs
-    here = let w = i.within in omega arith
+-- the one after so many in the flags of its chunk is the v-th shown cell
+pub found_in_chunk : (cs : List (List CellData)) (i before at start v : ℕ) → IsPart (map shown_in cs) i before v
+    → IsSelected (map flag_of (get_or cs i [])) before at → start ≡ length (flat (take i cs)) → slice_get (shown_places (flat cs)) v ≡ Some (start + at)
+found_in_chunk cs i before at start v part one from =
+    let lt : i < length cs = let l = part.part in omega (arith, length-map cs shown_in) in
+    let within : at < length (get_or cs i []) = let w = one.within in omega (arith, length-map (get_or cs i []) flag_of) in
+    let place : start + at ≡ length (flat (take i cs)) + at = omega arith in
+    let long = length-flat-spot cs i at lt within in
+    let there : start + at < length (flat cs) = omega arith in
+    let shown : cell_shown (get_or (get_or cs i []) at blank) ≡ true =
+    flag_shown (get_or (get_or cs i []) at blank) (cell_shown (get_or (get_or cs i []) at blank)) (sym (get_or-map flag_of (get_or cs i []) at blank 0 within) ∙ one.one) refl in
+    let tells : TellsShown (flat cs) (start + at) true =
+    λ c l. ap (λ k. cell_shown (get_or (flat cs) k c)) place
+    ∙ ap (λ (d : CellData). cell_shown d) (get_or-flat_map (λ (d : List CellData). d) cs i at [] c lt within ∙ get_or_default (get_or cs i []) at c blank within)
+    ∙ shown in
+    let front : shown_before (flat cs) (start + at) ≡ shown_in (flat (take i cs)) + shown_in (take at (get_or cs i [])) =
+    ap (λ (s : List CellData). length (filter cell_shown s)) (flat_take cs i at (start + at) lt (omega arith) (sym place))
+    ∙ ap (λ (s : List CellData). length s) (filter-append cell_shown (flat (take i cs)) (take at (get_or cs i [])))
+    ∙ length-append (filter cell_shown (flat (take i cs))) (filter cell_shown (take at (get_or cs i []))) in
+    let sums : sum (take i (map shown_in cs)) ≡ shown_in (flat (take i cs)) = ap sum (take-map shown_in i cs) ∙ sum-shown (take i cs) in
+    let ones : ones_of (take at (map flag_of (get_or cs i []))) ≡ shown_in (take at (get_or cs i [])) =
+    ap ones_of (take-map flag_of at (get_or cs i [])) ∙ ones-flags (take at (get_or cs i [])) in
+    let sought = part.place in
+    let count = one.before in
+    found_at (flat cs) (start + at) v there tells (omega arith)
 
-    by : (t : Bool) → TellsShown cs next t → after + cond t 1 0 ≡ before → IsBehind cs v next after
-    by true tell e =
-        let count = i.count ∙ ap (λ k. shown_before cs k) step ∙ before_next cs next true here tell in
-        let now : after ≡ shown_before cs next = omega arith in
-        record { within = omega arith; count = now; low = omega arith; found = λ f. found_at cs next v here tell (sym now ∙ f) }
-    by false tell e =
-        let count = i.count ∙ ap (λ k. shown_before cs k) step ∙ before_next cs next false here tell in
-        record { within = omega arith; count = omega arith; low = omega arith; found = λ f. absurd (omega arith) }
+-- there is one
+pub one_there : (cs : List (List CellData)) (i before v : ℕ) → IsPart (map shown_in cs) i before v → ones_of (map flag_of (get_or cs i [])) ≤ before → ⊥
+one_there cs i before v part le =
+    let lt : i < length cs = let l = part.part in omega (arith, length-map cs shown_in) in
+    let w = part.within in
+    let n = get_or-map shown_in cs i [] 0 lt in
+    let m = ones-flags (get_or cs i []) in
+    omega arith

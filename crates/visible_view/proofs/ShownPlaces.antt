@@ -1,5 +1,5 @@
 -- The places of the shown cells: how many, where each is, and which cell stands there.
-use Rattle.std.proofs.Common.{◌≡◌, ℕ, zero, suc, ◌+◌, ◌-◌, ◌<◌, ◌≤◌, Bool, true, false, cond, if◌then◌else◌, Option, Some, None, is_some, IsSome, IfSome, option_map, List, [], ◌∷◌, map, filter, take, length, slice_get, get_or, refl, sym, ap, ◌∙◌, subst, arith}
+use Rattle.std.proofs.Common.{◌≡◌, ℕ, zero, suc, ◌+◌, ◌-◌, ◌<◌, Bool, true, false, cond, if◌then◌else◌, Option, Some, None, is_some, IsSome, IfSome, option_map, List, [], ◌∷◌, map, take, length, slice_get, get_or, refl, sym, ap, ◌∙◌, arith}
 use Rattle.ttf_form.specs.Cells.{CellData, cell_shown}
 use Rattle.visible_view.specs.View.{shown_cells, shown_places_from, shown_places, places_behind}
 
@@ -64,7 +64,7 @@ cell_at_place cs v p e =
     let i = cell_at 0 cs v p e in
     ap (λ k. slice_get cs k) (i.place ∙ omega arith) ∙ i.cell
 
--- where a character goes behind at least one
+-- where a character goes after at least one
 pub behind_some : (ps : List ℕ) (v : ℕ) → 0 < v → slice_get (0 ∷ map suc ps) v ≡ option_map suc (slice_get ps (v - 1))
 behind_some ps zero h = absurd (omega arith)
 behind_some ps (suc v) h = mapped ps v ∙ ap (λ k. option_map suc (slice_get ps k)) (omega arith)

@@ -1,13 +1,13 @@
 //! The shown characters as text.
 
-ghost use Rattle.std.specs.Prelude.{◌≡◌, ◌++◌, ◌∷◌, [], take, slice_get, option_to_list, vec_len, encode_utf8, OnOk, OnErr};
+ghost use Rattle.std.specs.Prelude.{◌≡◌, ◌++◌, ◌∷◌, [], take, vec_len, encode_utf8, OnOk, OnErr};
 ghost use Rattle.visible_view.specs.View.{shown_text};
 
 use op_name::Memory;
 use tombstone_text::{Cell, Cells};
 
-/// Appends the characters of the shown cells in UTF-8, in one pass over the cells; after want of memory `out`
-/// is as it was.
+/// Appends the characters of the shown cells in UTF-8, in one pass over the chunks that have any. When out of
+/// memory, `out` is as it was.
 pub fn write_text(cells: &Cells, out: &mut Vec<u8>) -> Result<(), Memory>
     ensures ok { OnOk result (out.new.items ≡ out.old.items ++ shown_text cells.now.cells) }
     ensures err { OnErr result (out.new.items ≡ out.old.items) }
@@ -15,33 +15,36 @@ pub fn write_text(cells: &Cells, out: &mut Vec<u8>) -> Result<(), Memory>
     let start = out.len();
     match push_shown(cells, out) {
         Ok(()) => Ok(()),
-        Err(want) => {
+        Err(memory) => {
             out.truncate(start);
-            Err(want)
+            Err(memory)
         }
     }
 }
 
-/// Appends the characters of the shown cells, or of some of them and then memory was wanting.
+/// Appends the characters of the shown cells; when out of memory, those of some of them.
 fn push_shown(cells: &Cells, out: &mut Vec<u8>) -> Result<(), Memory>
     ensures ok { OnOk result (out.new.items ≡ out.old.items ++ shown_text cells.now.cells) }
     ensures err { OnErr result (take (vec_len out.old) out.new.items ≡ out.old.items) }
 {
-    for place in 0..cells.len() {
-        push_at(cells, place, out)?;
+    cells.known();
+    for i in 0..cells.chunk_count() {
+        if cells.chunk_shown(i) > 0 {
+            push_chunk(cells.chunk_cells(i), out)?;
+        }
     }
     Ok(())
 }
 
-/// Appends the character of the cell at a place, if there is one and it is shown.
-fn push_at(cells: &Cells, place: u32, out: &mut Vec<u8>) -> Result<(), Memory>
-    ensures ok { OnOk result (out.new.items ≡ out.old.items ++ shown_text (option_to_list (slice_get cells.now.cells place))) }
-    ensures err { OnErr result (out.new.items ≡ out.old.items) }
+/// Appends the characters of the shown ones of some cells; when out of memory, of some of these.
+fn push_chunk(cells: &[Cell], out: &mut Vec<u8>) -> Result<(), Memory>
+    ensures ok { OnOk result (out.new.items ≡ out.old.items ++ shown_text cells.now) }
+    ensures err { OnErr result (take (vec_len out.old) out.new.items ≡ out.old.items) }
 {
-    match cells.cell(place) {
-        Some(cell) => push_cell(cell, out),
-        None => Ok(()),
+    for cell in cells {
+        push_cell(cell, out)?;
     }
+    Ok(())
 }
 
 /// Appends the character of a cell if it is shown.
