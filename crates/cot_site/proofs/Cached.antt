@@ -3,15 +3,15 @@ use Rattle.std.proofs.Common.{◌≡◌, sym, subst, List, [], ◌∷◌, ◌++�
 use Rattle.std.specs.Prelude.{Option, Some, None}
 use Rattle.context_diff.specs.Operations.{OpData}
 use Rattle.context_diff.specs.Histories.{IsNext, IsValid}
-use Rattle.context_diff.proofs.Valid.{valid_push}
+use Rattle.context_diff.proofs.CallerLemmas.{valid_push}
 use Rattle.ttf_form.specs.declared.form.Form.{Form}
 use Rattle.ttf_form.specs.Forms.{form_over}
 use Rattle.form_cache.specs.Keys.{KeyData}
 use Rattle.form_cache.specs.Entries.{Entries, form_at, used}
 use Rattle.transform_rec.specs.Histories.{family_in}
-use Rattle.transform_rec.proofs.Keeping.{next_keeps, no_entries, found_form, forms_used}
+use Rattle.transform_rec.proofs.CallerLemmas.{next_keeps, no_entries, found_form, forms_used}
 use Rattle.undo_group.specs.BaseForms.{base_form}
-use Rattle.fixed_replay.proofs.Growth.{base_form_on}
+use Rattle.fixed_replay.proofs.CallerLemmas.{base_form_on}
 use Rattle.cot_site.specs.Sites.{AreCached, IsFormOf}
 
 pub cached_none : (h : List OpData) (es : Entries Form) → es ≡ [] → AreCached h es

@@ -10,10 +10,9 @@ use Rattle.op_name.specs.declared.member.Member.TheVariants.{Original}
 use Rattle.op_name.specs.Members.{member_eq}
 use Rattle.context_diff.specs.Operations.{OpData, inserting, deleting, undoing, member_of, is_original}
 use Rattle.context_diff.specs.Histories.{generation_in}
-use Rattle.op_name.proofs.Orders.{member_same, member_itself}
+use Rattle.op_name.proofs.CallerLemmas.{member_same, member_itself}
 use Rattle.context_diff.specs.Ops.{op_eq}
-use Rattle.context_diff.proofs.Equal.{op_eq_decides}
-use Rattle.context_diff.proofs.Known.{contains_cases, contains_here, contains_later, contains_none}
+use Rattle.context_diff.proofs.CallerLemmas.{op_eq_decides, contains_cases, contains_here, contains_later, contains_none}
 use Rattle.cot_site.specs.Verdicts.{is_repeat, is_other, is_forged, IsRepeat, HasOther, IsForgery}
 
 -- ---- tests on the elements of a list

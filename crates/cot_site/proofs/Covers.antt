@@ -13,9 +13,7 @@ use Rattle.context_diff.specs.Operations.{OpData}
 use Rattle.context_diff.specs.Histories.{is_known, LacksNothing, IsClosed}
 use Rattle.context_diff.specs.Bases.{original_context}
 use Rattle.context_diff.specs.Books.{IsFirstOpenSite}
-use Rattle.context_diff.proofs.Complete.{IsComplete}
-use Rattle.context_diff.proofs.Histories.{original_facts}
-use Rattle.context_diff.proofs.Covering.{named_known, all_covered, covered_below, not_covered}
+use Rattle.context_diff.proofs.CallerLemmas.{IsComplete, original_facts, named_known, all_covered, covered_below, not_covered}
 use Rattle.cot_site.specs.Verdicts.{first_lacked, is_covered, first_uncovered}
 use Rattle.cot_site.proofs.Lacking.{lacking, answer_none, none_within}
 

@@ -1,39 +1,34 @@
 -- Executing one more operation: its form may be derived, fits the cells, and gives the forms and cells of the longer history.
-use Rattle.std.proofs.Common.{◌≡◌, Bool, true, false, inl, inr, List, [], ◌∷◌, ◌++◌, length, refl, ap, sym, subst, ◌∙◌, ◌↔◌, IsNone, arith, length-append}
-use Rattle.std.specs.Prelude.{Option, Some, None, option_map}
+use Rattle.std.proofs.Common.{◌≡◌, ℕ, suc, ◌≤◌, Bool, true, false, inl, inr, List, [], ◌∷◌, ◌++◌, length, refl, ap, sym, subst, ◌∙◌, ◌↔◌, IsNone, arith, length-append}
+use Rattle.std.specs.Prelude.{Option, Some, None, nat_lt, option_map}
 use Rattle.std.specs.Option.{option_to_list}
 use Rattle.context_diff.specs.declared.op.Op.{Op}
 use Rattle.context_diff.specs.Ops.{data_of}
 use Rattle.std.specs.Prelude.{◌||◌}
-use Rattle.std.proofs.lemmas.Bool.{or_cases}
+use Rattle.std.proofs.lemmas.Bool.{cases_lt, le-ltb, lt-ltb, or_cases, true≢false}
+use Rattle.std.proofs.lemmas.List.{length-map, map-append}
 use Rattle.op_name.specs.declared.member.Member.{Member}
 use Rattle.op_name.specs.Members.{member_eq}
 use Rattle.context_vector.specs.Contexts.{ContextData, has}
 use Rattle.context_diff.specs.Operations.{OpData, member_of}
 use Rattle.context_diff.specs.Histories.{is_known, members_in, context_of_all, IsNext, IsValid}
 use Rattle.context_diff.specs.Bases.{base_has}
-use Rattle.context_diff.proofs.Complete.{complete, closed_on}
-use Rattle.context_diff.proofs.ClosedSets.{base_listed, base_itself}
-use Rattle.context_diff.proofs.Known.{known_on, known_push}
-use Rattle.context_diff.proofs.Names.{member_same, member_itself}
-use Rattle.context_diff.proofs.Valid.{valid_push, valid_pop}
+use Rattle.context_diff.proofs.CallerLemmas.{complete, closed_on, base_listed, base_itself, known_on, known_push, member_same, member_itself, valid_push, valid_pop}
 use Rattle.ttf_form.specs.declared.form.Form.{Form}
 use Rattle.ttf_form.specs.Forms.{form_over}
 use Rattle.ttf_form.specs.Cells.{CellData, applied, FitsCells}
-use Rattle.transform_rec.specs.Sets.{none, plus_all}
+use Rattle.transform_rec.specs.Sets.{none, plus, plus_all}
 use Rattle.transform_rec.specs.Derived.{Derived}
-use Rattle.transform_rec.specs.Executing.{executed}
+use Rattle.transform_rec.specs.Executing.{AreFormsFrom, executed}
+use Rattle.transform_rec.specs.Family.{Family}
 use Rattle.transform_rec.specs.Histories.{family_in, MayBeAddedTo}
-use Rattle.transform_rec.proofs.Sets.{same_set}
-use Rattle.transform_rec.proofs.Executing.{At, empty_state, state_after, addable_fits}
+use Rattle.transform_rec.proofs.CallerLemmas.{same_set, At, empty_state, state_after, addable_fits}
 use Rattle.undo_group.specs.BaseForms.{base_form}
 use Rattle.undo_group.specs.Laws.Forms.{base_forms_hold}
 use Rattle.fixed_replay.specs.Replayed.{IsReplayed}
-use Rattle.fixed_replay.proofs.Editor.{setting_of}
-use Rattle.fixed_replay.proofs.ExecutedForms.{executed_replayed}
-use Rattle.fixed_replay.proofs.Growth.{known_set, forms_on, forms_grow, holds_more, base_form_on}
-use Rattle.fixed_replay.proofs.ValidFamilies.{valid_family, valid_own_names}
-use Rattle.cot_site.specs.Sites.{AreExecuted, IsExecuted, IsStep}
+use Rattle.fixed_replay.proofs.CallerLemmas.{setting_of, executed_replayed, known_set, forms_on, forms_grow, holds_more, base_form_on, valid_family, valid_own_names}
+use Rattle.cot_site.specs.Sites.{AreExecuted}
+use Rattle.cot_site.specs.Code.Replicas.{IsExecuted, IsStep, IsNextAfter}
 use Rattle.cot_site.proofs.LocalOps.{all_ready, all_closed, all_stray}
 
 -- the cells of executed forms are the fixed replay of the history
@@ -133,6 +128,27 @@ derived_at h o k to m f grown is member d =
     subst (λ (l : List OpData). Derived form_over (family_in l (base_form l)) (member_of o) (has (context_of_all h)) f) grown
     (subst (λ (c : ContextData). Derived form_over (family_in k (base_form k)) (member_of o) (has c) f) is (subst (λ (x : Member). Derived form_over (family_in k (base_form k)) x (has to) f) member d))
 
+-- the next operation comes after those that were executed
+next_after : (h : List OpData) (o : OpData) (fs : List Form) (cs : List CellData) → IsValid h → IsNext h o → IsExecuted h fs cs → IsNextAfter (h ++ o ∷ []) (member_of o) (has (context_of_all h)) fs
+next_after h o fs cs valid next ex =
+    let k = h ++ o ∷ [] in
+    let long = valid_push h o valid next in
+    let w = complete h valid in
+    record {
+      before = members_in h;
+      whole = map-append member_of h (o ∷ []);
+      forms = forms_on form_over (family_in h (base_form h)) (family_in k (base_form k)) (holds_more h (o ∷ []) (base_form h) (base_form k) long (base_form_on h (o ∷ []) long)) (members_in h) none fs ex.forms;
+      set = λ z. known_set h z ∙ sym (w.holds z);
+    }
+
+pub next_after_at : (h : List OpData) (o : OpData) (k : List OpData) (to : ContextData) (m : Member) (fs gs : List Form) (cs : List CellData) → IsValid h → IsNext h o → k ≡ h ++ o ∷ [] → to ≡ context_of_all h → m ≡ member_of o → IsExecuted h fs cs → gs ≡ fs
+    → IsNextAfter k m (has to) gs
+next_after_at h o k to m fs gs cs valid next grown is member ex same =
+    subst (λ (l : List OpData). IsNextAfter l m (has to) gs) (sym grown)
+    (subst (λ (c : ContextData). IsNextAfter (h ++ o ∷ []) m (has c) gs) (sym is)
+    (subst (λ (x : Member). IsNextAfter (h ++ o ∷ []) x (has (context_of_all h)) gs) (sym member)
+    (subst (λ (xs : List Form). IsNextAfter (h ++ o ∷ []) (member_of o) (has (context_of_all h)) xs) (sym same) (next_after h o fs cs valid next ex))))
+
 pub fits_at : (h : List OpData) (o : OpData) (k : List OpData) (to : ContextData) (m : Member) (fs : List Form) (cs : List CellData) → IsValid h → IsNext h o → k ≡ h ++ o ∷ [] → to ≡ context_of_all h → m ≡ member_of o → IsExecuted h fs cs
     → (f : Form) → Derived form_over (family_in k (base_form k)) m (has to) f → FitsCells cs f
 fits_at h o k to m fs cs valid next grown is member ex f d = more_fits h o fs cs f (valid_push h o valid next) ex (derived_at h o k to m f grown is member d)
@@ -152,3 +168,25 @@ executed_same h k fs gs cs ds ex a b d = subst (λ (l : List OpData). IsExecuted
 pub popped : (h k g : List OpData) (o : OpData) (r : Option Op) → g ≡ h ++ o ∷ [] → (IsNone r ↔ (length g ≡ 0)) → g ≡ k ++ option_to_list (option_map data_of r) → k ≡ h
 popped h k g o None grown none ops = absurd (omega (arith, none.0 refl, ap (λ (l : List OpData). length l) grown, length-append h (o ∷ [])))
 popped h k g o (Some p) grown none ops = same_before k h (data_of p) o (sym ops ∙ grown)
+
+-- ---- the number of forms
+
+forms_count : {F : Type 0} (over : F → F → F) (b : Family F) (C : Member → Bool) (ms : List Member) (fs : List F) → AreFormsFrom over b C ms fs → length fs ≡ length ms
+forms_count over b C [] [] are = refl
+forms_count over b C [] (f ∷ fs) are = absurd are
+forms_count over b C (m ∷ ms) [] are = absurd are
+forms_count over b C (m ∷ ms) (f ∷ fs) are = ap suc (forms_count over b (plus C m) ms fs are.1)
+
+-- there is a form for each operation
+pub forms_for_all : (h : List OpData) (fs : List Form) → AreExecuted h fs → length fs ≡ length h
+forms_for_all h fs are = forms_count form_over (family_in h (base_form h)) none (members_in h) fs are ∙ length-map h member_of
+
+-- nothing is at a place exactly where it is past the last operation
+pub executed_past : (h : List OpData) (fs : List Form) (i : ℕ) (there : Bool) → AreExecuted h fs → there ≡ nat_lt i (length fs) → (there ≡ false) ↔ (length h ≤ i)
+executed_past h fs i there are at = (
+  λ none. elim (cases_lt i (length fs)) [
+    | inl less ↦ absurd (true≢false (sym (lt-ltb i (length fs) less) ∙ (sym at ∙ none)))
+    | inr from ↦ omega (arith, from, forms_for_all h fs are)
+  ],
+  λ beyond. at ∙ le-ltb i (length fs) (omega (arith, beyond, forms_for_all h fs are)),
+)

@@ -10,9 +10,7 @@ use Rattle.context_diff.specs.Operations.{OpData, member_of, context_of, IsWellF
 use Rattle.context_diff.specs.Histories.{is_known, context_of_all, LacksNothing, IsClosed, IsValid}
 use Rattle.context_diff.specs.Ops.{op_eq}
 use Rattle.context_diff.specs.Books.{IsFirstOpenSite}
-use Rattle.context_diff.proofs.Complete.{complete}
-use Rattle.context_diff.proofs.Equal.{op_eq_decides}
-use Rattle.context_diff.proofs.Known.{known_member}
+use Rattle.context_diff.proofs.CallerLemmas.{complete, op_eq_decides, known_member}
 use Rattle.cot_site.specs.Verdicts.{is_other, lacked, first_uncovered}
 use Rattle.cot_site.proofs.Cases.{same_any, other_any, passes_any}
 use Rattle.op_name.specs.declared.member.Member.{Member}

@@ -11,11 +11,11 @@ use Rattle.op_name.specs.Members.{IsMember, member_eq, member_lt}
 use Rattle.context_vector.specs.Contexts.{ContextData, IsContext, Within, count_in, entry_in}
 use Rattle.context_diff.specs.Operations.{OpData}
 use Rattle.context_diff.specs.Histories.{context_of_all, LacksNothing, LacksFirst}
-use Rattle.op_name.proofs.Orders.{member_same, member_total}
+use Rattle.op_name.proofs.CallerLemmas.{member_same, member_total}
 use Rattle.context_vector.specs.Shortfalls.{first_short}
 use Rattle.context_vector.specs.Vectors.{IsFirstMissing}
-use Rattle.context_vector.proofs.Sets.{short_original, short_group, none_missing, missing_not_within}
-use Rattle.context_diff.proofs.Complete.{IsComplete}
+use Rattle.context_vector.proofs.CallerLemmas.{short_original, short_group, none_missing, missing_not_within}
+use Rattle.context_diff.proofs.CallerLemmas.{IsComplete}
 use Rattle.cot_site.specs.Verdicts.{first_lacked, lacked}
 
 -- what the answer says: a first missing member, or none

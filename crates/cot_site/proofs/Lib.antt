@@ -9,6 +9,9 @@ pub mod Views
 pub mod FormLists
 pub mod Findings
 pub mod Waiting
+pub mod Settling
+pub mod FirstReleases
 pub mod Made
 pub mod WorkedCases
 pub mod Cached
+pub mod CallerLemmas

@@ -9,17 +9,9 @@ use Rattle.context_vector.specs.Contexts.{ContextData, IsContext, KeepsStray, ha
 use Rattle.context_diff.specs.Operations.{OpData, inserting, deleting, undoing, member_of, IsWellFormed}
 use Rattle.context_diff.specs.Histories.{is_known, is_even, generation_in, context_of_all, inserts_in, LacksNothing, IsClosed, IsNext, IsValid}
 use Rattle.context_diff.specs.Replays.{Insertion, Cell, insertions_in, is_earlier, put_by, sort_by, gap_of, put, replay, replay_of, is_shown, characters_of}
-use Rattle.context_vector.proofs.Counts.{sum_at_most}
-use Rattle.context_vector.proofs.Entries.{entry_at_most}
-use Rattle.context_vector.proofs.Sets.{rank_raised}
-use Rattle.context_diff.proofs.Complete.{IsComplete, complete, next_member, context_push}
-use Rattle.context_diff.proofs.Generations.{generation_is}
-use Rattle.context_diff.proofs.Histories.{group_facts}
-use Rattle.context_diff.proofs.Known.{contains_here, contains_later, holder, known_member}
-use Rattle.context_diff.proofs.Members.{all_is_context}
-use Rattle.context_diff.proofs.Raising.{has_number, has_generation}
-use Rattle.context_diff.proofs.Valid.{by_pushes}
-use Rattle.fixed_replay.proofs.Narrowing.{gap_of_whole}
+use Rattle.context_vector.proofs.CallerLemmas.{sum_at_most, entry_at_most, rank_raised}
+use Rattle.context_diff.proofs.CallerLemmas.{IsComplete, complete, next_member, context_push, generation_is, group_facts, contains_here, contains_later, holder, known_member, all_is_context, has_number, has_generation, by_pushes}
+use Rattle.fixed_replay.proofs.CallerLemmas.{gap_of_whole}
 use Rattle.cot_site.specs.declared.local.Local.{Local}
 use Rattle.cot_site.specs.declared.local.Local.TheVariants.{PlaceOut, Unknown, NotInForce, InForce, GenerationFull, NumberFull, ContextFull}
 use Rattle.cot_site.specs.States.{State}

@@ -12,7 +12,8 @@ use Rattle.context_diff.specs.Ops.{data_of}
 use Rattle.cot_site.specs.declared.local.Local.{Local}
 use Rattle.cot_site.specs.declared.local.Local.TheVariants.{PlaceOut, NumberFull, ContextFull, Memory}
 use Rattle.cot_site.specs.States.{State}
-use Rattle.cot_site.specs.Commands.{place_of_shown, place_behind, count_made, next_name, in_context, numbered, turned, local_insert, local_delete, IsAnswer, IsContextAnswer}
+use Rattle.cot_site.specs.Commands.{place_of_shown, place_behind, count_made, next_name, in_context, numbered, turned, local_insert, local_delete, IsAnswer}
+use Rattle.cot_site.specs.Code.Making.{IsContextAnswer}
 use Rattle.cot_site.proofs.LocalOps.{in_context_made}
 
 pub in_context_full : (c : ContextData) (o : OpData) → 16384 < length c.entries → in_context c o ≡ Err (ContextFull (length c.entries))

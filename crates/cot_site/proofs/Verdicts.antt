@@ -11,12 +11,8 @@ use Rattle.op_name.specs.Members.{target_of}
 use Rattle.context_vector.specs.Contexts.{IsContext}
 use Rattle.context_diff.specs.Operations.{OpData, inserting, deleting, undoing, member_of, context_of, is_original, IsWellFormed}
 use Rattle.context_diff.specs.Histories.{is_known, generation_in, context_of_all, inserts_in, LacksNothing, HasPlace, IsNext, IsValid}
-use Rattle.context_diff.proofs.Complete.{complete}
-use Rattle.context_diff.proofs.Known.{holder, known_member}
-use Rattle.context_diff.proofs.Generations.{generation_is}
-use Rattle.context_diff.proofs.Raising.{has_group, has_generation}
+use Rattle.context_diff.proofs.CallerLemmas.{complete, holder, known_member, generation_is, has_group, has_generation, op_eq_decides}
 use Rattle.context_diff.specs.Ops.{op_eq}
-use Rattle.context_diff.proofs.Equal.{op_eq_decides}
 use Rattle.cot_site.specs.declared.verdict.Verdict.{Verdict}
 use Rattle.cot_site.specs.declared.verdict.Verdict.TheVariants.{Repeat, Forged, Waits, NotClosed, PlaceOut, Integrated}
 use Rattle.cot_site.specs.Verdicts.{is_repeat, is_forged, lacked, first_uncovered, placed_verdict, ready_verdict, waiting_verdict, verdict_of, IsRepeat, HasOther, IsNew, place_in, IsVerdict}

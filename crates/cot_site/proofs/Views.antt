@@ -7,7 +7,7 @@ use Rattle.ttf_form.specs.Cells.{CellData, cell_key, cell_shown}
 use Rattle.ttf_form.specs.Families.{IsIn}
 use Rattle.visible_view.specs.View.{shown_cells, shown_places_from, shown_places, shown_text}
 use Rattle.fixed_replay.specs.Replayed.{IsReplayed}
-use Rattle.fixed_replay.proofs.ExecutedForms.{replayed_shown, replayed_characters, replayed_text}
+use Rattle.fixed_replay.proofs.CallerLemmas.{replayed_shown, replayed_characters, replayed_text}
 use Rattle.cot_site.specs.States.{State}
 use Rattle.cot_site.specs.Views.{places_from, shown_places_of, cells_view, history_view}
 

@@ -15,9 +15,7 @@ use Rattle.context_diff.specs.Operations.{OpData, member_of, context_of, is_orig
 use Rattle.context_diff.specs.Histories.{is_known, context_of_all, IsNext, IsValid}
 use Rattle.context_diff.specs.declared.op.Op.{Op}
 use Rattle.context_diff.specs.Ops.{data_of, op_eq}
-use Rattle.context_diff.proofs.Complete.{complete}
-use Rattle.context_diff.proofs.Equal.{op_eq_decides}
-use Rattle.context_diff.proofs.Known.{contains_cases, contains_here, contains_later, contains_none}
+use Rattle.context_diff.proofs.CallerLemmas.{complete, op_eq_decides, contains_cases, contains_here, contains_later, contains_none}
 use Rattle.causal_gate.specs.Waiting.{IsReady, IsFirstReady, NoneReady, NamesAgree}
 use Rattle.cot_site.specs.declared.verdict.Verdict.{Verdict}
 use Rattle.cot_site.specs.declared.verdict.Verdict.TheVariants.{Repeat, Forged, Waits, NotClosed, PlaceOut, Integrated}
@@ -95,7 +93,7 @@ waits_agree h w o m valid formed e x n at named is =
 
 -- ---- what is ready
 
-none_true : (r : Option Member) → is_none r ≡ true → r ≡ None
+pub none_true : (r : Option Member) → is_none r ≡ true → r ≡ None
 none_true None e = refl
 none_true (Some m) e = absurd (false≢true e)
 
@@ -116,7 +114,7 @@ ready_decides h valid o formed =
         or_right (is_known h (member_of o)) (is_none (lacked h (context_of o)))
         (ap (λ r. is_none r) (lacked_none h (complete h valid) (context_of o) (formed_context o formed) (λ m at. sym ((complete h valid).holds m) ∙ within m at)))
 
-got_there : (w : List OpData) (i : ℕ) (o : OpData) → slice_get w i ≡ Some o → Contains w o
+pub got_there : (w : List OpData) (i : ℕ) (o : OpData) → slice_get w i ≡ Some o → Contains w o
 got_there [] i o at = absurd (none_got i o at)
   where
     none_got : (j : ℕ) (p : OpData) → slice_get {X = OpData} [] j ≡ Some p → ⊥

@@ -1,11 +1,12 @@
 -- Local commands: which operation a site makes, or why it makes none.
-use Rattle.std.specs.Prelude.{◌≡◌, ◌⊎◌, ℕ, suc, ◌+◌, ◌<◌, ◌≤◌, true, false, List, ◌∷◌, Option, Some, None, Result, Ok, Err, IsOk, ◌==◌, nat_lt, if◌then◌else◌, length, map, slice_get}
+use Rattle.std.specs.Prelude.{◌≡◌, ℕ, suc, ◌+◌, List, ◌∷◌, Option, Some, None, Result, Ok, Err, IsOk, ◌==◌, nat_lt, if◌then◌else◌, length, map, slice_get}
 use Rattle.op_name.specs.declared.member.Member.TheVariants.{Original}
+use Rattle.op_name.specs.declared.name.TheConstants.{NUMBERS}
 use Rattle.op_name.specs.NameData.{NameData}
 use Rattle.context_vector.specs.Contexts.{ContextData, count_of}
+use Rattle.context_diff.specs.declared.op.TheConstants.{UNDO_ENTRIES}
 use Rattle.context_diff.specs.Operations.{OpData, inserting, deleting, undoing}
 use Rattle.context_diff.specs.Histories.{is_known, is_even, generation_in, context_of_all}
-use Rattle.context_vector.specs.Vectors.{VectorData}
 use Rattle.context_diff.specs.declared.op.Op.{Op}
 use Rattle.context_diff.specs.Ops.{data_of}
 use Rattle.cot_site.specs.declared.local.Local.{Local}
@@ -17,7 +18,7 @@ use Rattle.cot_site.specs.Views.{View, shown_places_of, history_view}
 abbrev pub place_of_shown : List OpData → ℕ → Option ℕ
 place_of_shown h v = slice_get (shown_places_of h) v
 
--- the place for a character behind v shown ones: the front, or the place behind the shown cell before it
+-- the place for a character after v shown ones: the front, or the place after the shown cell before it
 abbrev pub place_behind : List OpData → ℕ → Option ℕ
 place_behind h v = slice_get (0 ∷ map suc (shown_places_of h)) v
 
@@ -31,13 +32,13 @@ next_name s = record { site = s.number; number = count_made s + 1 }
 
 -- the operation, if its context has no more undo entries than an operation carries
 abbrev pub in_context : ContextData → OpData → Result OpData Local
-in_context c o = if nat_lt 16384 (length c.entries) then Err (ContextFull (length c.entries)) else Ok o
+in_context c o = if nat_lt UNDO_ENTRIES (length c.entries) then Err (ContextFull (length c.entries)) else Ok o
 
 -- the original, if the site has a number for it
 abbrev pub numbered : State → OpData → Result OpData Local
-numbered s o = if nat_lt (count_made s) 1000000 then in_context (context_of_all s.history) o else Err NumberFull
+numbered s o = if nat_lt (count_made s) NUMBERS then in_context (context_of_all s.history) o else Err NumberFull
 
--- the insert of a character behind v shown ones, for a site that sees its text so
+-- the insert of a character after v shown ones, for a site that sees its text so
 abbrev pub insert_in : View → State → ℕ → ℕ → Result OpData Local
 insert_in view s v ch = elim (slice_get (0 ∷ map suc view.places) v) [
   | None ↦ Err (PlaceOut v (length view.characters))
@@ -76,23 +77,8 @@ local_redo s t =
     then (if is_even (generation_in s.history t) then Err (InForce (generation_in s.history t)) else if generation_in s.history t == 65535 then Err GenerationFull else turned s t)
     else Err (Unknown t)
 
--- the answer is that of the definition, or memory was wanting where the definition has an operation
+-- the answer is that of the definition, or out of memory where the definition has an operation
 abbrev pub IsAnswer : Result OpData Local → Result Op Local → Type 0
 IsAnswer r (Ok o) = r ≡ Ok (data_of o)
 IsAnswer r (Err Memory) = IsOk r
 IsAnswer r (Err e) = r ≡ Err e
-
--- the next name of the site, unless its numbers are used up
-abbrev pub IsNumber : State → Result NameData Local → Type 0
-IsNumber s (Ok n) = (n ≡ next_name s) × (count_made s < 1000000)
-IsNumber s (Err e) = (e ≡ NumberFull) × (1000000 ≤ count_made s)
-
--- the context, unless it has more undo entries than an operation carries, or memory was wanting
-abbrev pub IsContextAnswer : ContextData → Result VectorData Local → Type 0
-IsContextAnswer c (Ok v) = (v.set ≡ c) × (length c.entries ≤ 16384)
-IsContextAnswer c (Err e) = ((e ≡ ContextFull (length c.entries)) × (16384 < length c.entries)) ⊎ ((e ≡ Memory) × (length c.entries ≤ 16384))
-
--- the generation of an original, unless the history hasn't the original
-abbrev pub IsGeneration : State → NameData → Result ℕ Local → Type 0
-IsGeneration s t (Ok g) = (g ≡ generation_in s.history t) × (is_known s.history (Original t) ≡ true)
-IsGeneration s t (Err e) = (e ≡ Unknown t) × (is_known s.history (Original t) ≡ false)

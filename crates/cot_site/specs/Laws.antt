@@ -1,20 +1,22 @@
 -- The laws of verdicts, releases and local commands.
-use Rattle.std.specs.Prelude.{◌≡◌, ◌↔◌, ℕ, ◌<◌, false, List, [], ◌∷◌, ◌++◌, Contains, Ok, Some, length}
+use Rattle.std.specs.Prelude.{◌≡◌, ◌↔◌, ℕ, ◌<◌, ◌≤◌, List, [], ◌∷◌, ◌++◌, Contains, Ok, Some, length}
 use Rattle.op_name.specs.declared.member.Member.{Member}
 use Rattle.op_name.specs.declared.member.Member.TheVariants.{Original}
+use Rattle.op_name.specs.declared.name.TheConstants.{SITES}
 use Rattle.op_name.specs.NameData.{NameData}
 use Rattle.context_diff.specs.Operations.{OpData, member_of, IsWellFormed}
 use Rattle.context_diff.specs.Histories.{IsNext, IsValid}
 use Rattle.cot_site.specs.declared.verdict.Verdict.{Verdict}
 use Rattle.cot_site.specs.declared.verdict.Verdict.TheVariants.{Waits, Integrated}
 use Rattle.cot_site.specs.Verdicts.{verdict_of, IsVerdict, HasOther}
-use Rattle.cot_site.specs.States.{State, Released, released, is_ready, IsSettled}
+use Rattle.cot_site.specs.States.{State, Released, released, IsSettled, IsFirstRelease, NoneIsReady}
 use Rattle.context_diff.specs.Replays.{shown, text_of}
 use Rattle.ttf_form.specs.declared.form.Form.{Form}
 use Rattle.ttf_form.specs.Cells.{applied}
 use Rattle.transform_rec.specs.Executing.{executed}
 use Rattle.visible_view.specs.View.{shown_cells, shown_places, shown_text}
 use Rattle.cot_site.specs.Sites.{AreExecuted, KeepsForms}
+use Rattle.cot_site.specs.Releases.{IsSound, IsLater, all_releases, state_after, settled}
 use Rattle.cot_site.specs.Views.{shown_places_of, history_view, forms_view, AreFormLists}
 use Rattle.cot_site.specs.Commands.{local_insert, local_delete, local_undo, local_redo}
 use Rattle.std.specs.Char.{IsScalar}
@@ -34,23 +36,47 @@ IntegratedOperationsAreNext =
 
 -- a released operation doesn't wait again
 abbrev pub ReleasesNeverWait : Type 0
-ReleasesNeverWait =
-    (s : State) (r : Released) (m : Member)
-    → IsValid s.history
-    → ((o : OpData) → Contains s.waiting o → IsWellFormed o)
-    → released s ≡ Some r
-    → ¬ (r.verdict ≡ Waits m)
+ReleasesNeverWait = (s : State) (r : Released) (m : Member) → IsSound s → released s ≡ Some r → ¬ (r.verdict ≡ Waits m)
 
--- a state is settled exactly where no waiting operation is ready
+-- nor does any on the way to the settled state
+abbrev pub NoReleaseWaits : Type 0
+NoReleaseWaits = (s : State) (r : Released) (m : Member) → IsSound s → Contains (all_releases s) r → ¬ (r.verdict ≡ Waits m)
+
+-- each release takes the first operation that is ready after the releases before it
+abbrev pub EachReleaseIsTheFirst : Type 0
+EachReleaseIsTheFirst = (s : State) (done left : List Released) (r : Released) → all_releases s ≡ done ++ r ∷ left → released (state_after s done) ≡ Some r
+
+-- there are at most as many releases as operations that wait
+abbrev pub ReleasesAreFew : Type 0
+ReleasesAreFew = (s : State) → length (all_releases s) ≤ length s.waiting
+
+-- after all releases no waiting operation is ready
+abbrev pub ReleasesSettle : Type 0
+ReleasesSettle = (s : State) → IsSound s → IsSettled (settled s)
+
+-- a settled state has no release
+abbrev pub SettledStatesStay : Type 0
+SettledStatesStay = (s : State) → IsSettled s → (all_releases s ≡ []) × (settled s ≡ s)
+
+-- each release leaves a sound state of the same site, where what was integrated stays so
+abbrev pub ReleasesKeepHistories : Type 0
+ReleasesKeepHistories =
+    (s : State) (done left : List Released) → IsSound s → all_releases s ≡ done ++ left → IsSound (state_after s done) × IsLater s (state_after s done)
+
+-- a sound state is settled exactly where no waiting operation is ready, in the words of readiness
 abbrev pub SettledStatesHaveNoneReady : Type 0
-SettledStatesHaveNoneReady = (s : State) → IsSettled s ↔ ((o : OpData) → Contains s.waiting o → is_ready s.history o ≡ false)
+SettledStatesHaveNoneReady = (s : State) → IsSound s → IsSettled s ↔ NoneIsReady s
+
+-- what is released is the first ready operation with its verdict and effect, in the words of both, and nothing else is
+abbrev pub ReleasesAreExact : Type 0
+ReleasesAreExact = (s : State) (r : Released) → IsSound s → IsFirstRelease s r ↔ (released s ≡ Some r)
 
 -- what a site makes may come next in its history
 abbrev pub LocalOperationsAreNext : Type 0
 LocalOperationsAreNext =
     (s : State) (o : OpData)
     → IsValid s.history
-    → s.number < 64
+    → s.number < SITES
     → ((v ch : ℕ) → IsScalar ch → local_insert s v ch ≡ Ok o → IsNext s.history o)
     × ((v : ℕ) → local_delete s v ≡ Ok o → IsNext s.history o)
     × ((t : NameData) → local_undo s t ≡ Ok o → IsNext s.history o)

@@ -1,18 +1,16 @@
 -- A site as contracts see it: its state, the forms in which its history was executed, and the entries of its cache.
-use Rattle.std.specs.Prelude.{◌≡◌, ℕ, Bool, List, [], ◌∷◌, ◌++◌, Contains, Option, Some, None, length, take}
-use Rattle.op_name.specs.declared.member.Member.{Member}
+use Rattle.std.specs.Prelude.{◌≡◌, ◌⊎◌, ℕ, List, [], Contains, Option, Some, None, length, take}
 use Rattle.context_diff.specs.Operations.{OpData, IsWellFormed}
 use Rattle.context_diff.specs.Histories.{members_in}
 use Rattle.ttf_form.specs.declared.form.Form.{Form}
 use Rattle.ttf_form.specs.Forms.{form_over}
-use Rattle.ttf_form.specs.Cells.{CellData, applied}
 use Rattle.context_vector.specs.Contexts.{has}
 use Rattle.form_cache.specs.Keys.{KeyData}
 use Rattle.form_cache.specs.Entries.{Entries}
 use Rattle.transform_rec.specs.Sets.{none}
-use Rattle.transform_rec.specs.Derived.{Derived, IsOnlyFormAt}
+use Rattle.transform_rec.specs.Derived.{IsOnlyFormAt}
 use Rattle.transform_rec.specs.Entries.{AreForms}
-use Rattle.transform_rec.specs.Executing.{AreFormsFrom, executed}
+use Rattle.transform_rec.specs.Executing.{AreFormsFrom}
 use Rattle.transform_rec.specs.Histories.{family_in}
 use Rattle.undo_group.specs.BaseForms.{base_form}
 use Rattle.context_diff.specs.declared.op.Op.{Op}
@@ -25,18 +23,6 @@ use Rattle.cot_site.specs.States.{State, Released}
 abbrev pub AreExecuted : List OpData → List Form → Type 0
 AreExecuted h fs = AreFormsFrom form_over (family_in h (base_form h)) none (members_in h) fs
 
--- the forms of a history, and the cells that they give one after the other
-pub record IsExecuted (h : List OpData) (fs : List Form) (cs : List CellData) : Type 0 where
-  pub forms : AreExecuted h fs
-  pub cells : cs ≡ executed applied [] fs
-
--- one more form of a member at a set, appended and applied to the cells
-pub record IsStep (h : List OpData) (m : Member) (to : Member → Bool) (old new : List Form) (before after : List CellData) : Type 0 where
-  pub form : Form
-  pub derived : Derived form_over (family_in h (base_form h)) m to form
-  pub appended : new ≡ old ++ form ∷ []
-  pub cells : after ≡ applied before form
-
 -- over this history, f is the only derived form of the key's member at the key's context
 abbrev pub IsFormOf : List OpData → KeyData → Form → Type 0
 IsFormOf h k f = IsOnlyFormAt form_over (family_in h (base_form h)) k.member (has k.context) f
@@ -44,12 +30,6 @@ IsFormOf h k f = IsOnlyFormAt form_over (family_in h (base_form h)) k.member (ha
 -- over this history, each entry is the form of its key
 abbrev pub AreCached : List OpData → Entries Form → Type 0
 AreCached h es = AreForms form_over (family_in h (base_form h)) es
-
--- an executed history, with the entries of a cache
-pub record ReplicaData : Type 0 where
-  pub history : List OpData
-  pub forms : List Form
-  pub entries : Entries Form
 
 -- a state, with the form of each operation of its history, and the entries of the cache, which are no part of the state
 pub record SiteData : Type 0 where
@@ -62,13 +42,13 @@ pub record SiteData : Type 0 where
 abbrev pub state_of : SiteData → State
 state_of s = record { number = s.number; history = s.history; waiting = s.waiting }
 
--- the history and its forms are as before; of the entries of the cache nothing is said
-abbrev pub IsExecutedAsBefore : ReplicaData → ReplicaData → Type 0
-IsExecutedAsBefore old new = (new.history ≡ old.history) × (new.forms ≡ old.forms)
+-- the entries of a cache are the old ones, or none
+abbrev pub AreKeptOrGone : Entries Form → Entries Form → Type 0
+AreKeptOrGone old new = (new ≡ old) ⊎ (new ≡ [])
 
--- the state and the executed forms are as before; of the entries of the cache nothing is said
+-- the state and the executed forms are as before; the entries of the cache are the old ones, or none
 abbrev pub IsAsBefore : SiteData → SiteData → Type 0
-IsAsBefore old new = (state_of new ≡ state_of old) × (new.forms ≡ old.forms)
+IsAsBefore old new = (state_of new ≡ state_of old) × (new.forms ≡ old.forms) × AreKeptOrGone old.entries new.entries
 
 -- the old forms are the first of the new ones
 abbrev pub KeepsForms : List Form → List Form → Type 0

@@ -1,13 +1,13 @@
 -- States of a site, and what a delivery and a release make of them.
-use Rattle.std.specs.Prelude.{◌≡◌, ℕ, suc, Bool, List, [], ◌∷◌, ◌++◌, Option, Some, None, ◌||◌, if◌then◌else◌, option_map, slice_get, remove}
+use Rattle.std.specs.Prelude.{◌≡◌, ◌⊎◌, ℕ, suc, ◌<◌, Bool, true, List, [], ◌∷◌, ◌++◌, Contains, Option, Some, None, ◌||◌, if◌then◌else◌, option_map, slice_get, remove}
 use Rattle.std.specs.List.{list_any}
 use Rattle.std.specs.Option.{is_none}
 use Rattle.context_diff.specs.Operations.{OpData, member_of, context_of}
-use Rattle.context_diff.specs.Histories.{is_known}
+use Rattle.context_diff.specs.Histories.{is_known, LacksNothing}
 use Rattle.context_diff.specs.Ops.{op_eq}
 use Rattle.cot_site.specs.declared.verdict.Verdict.{Verdict}
 use Rattle.cot_site.specs.declared.verdict.Verdict.TheVariants.{Repeat, Forged, Waits, NotClosed, PlaceOut, Integrated}
-use Rattle.cot_site.specs.Verdicts.{verdict_of, lacked}
+use Rattle.cot_site.specs.Verdicts.{verdict_of, lacked, IsVerdict}
 
 -- State: a site's number, the operations that it integrated in their order, and those that wait in the order of arrival
 pub record State : Type 0 where
@@ -15,7 +15,7 @@ pub record State : Type 0 where
   pub history : List OpData
   pub waiting : List OpData
 
--- the list with the operation behind its last, unless it is there already
+-- the list with the operation after its last, unless it is there already
 abbrev pub held : List OpData → OpData → List OpData
 held w o = if list_any (op_eq o) w then w else w ++ o ∷ []
 
@@ -36,6 +36,15 @@ after_verdict (Waits m) o s = with_held s o
 after_verdict (NotClosed k) o s = s
 after_verdict (PlaceOut p k) o s = s
 after_verdict Integrated o s = with_last s o
+
+-- the operation with this verdict is integrated or held
+abbrev pub IsKept : Verdict → Type 0
+IsKept Repeat = ⊥
+IsKept (Forged n) = ⊥
+IsKept (Waits m) = Unit {0}
+IsKept (NotClosed k) = ⊥
+IsKept (PlaceOut p k) = ⊥
+IsKept Integrated = Unit {0}
 
 -- the verdict that a delivered operation gets
 abbrev pub judged : State → OpData → Verdict
@@ -86,3 +95,23 @@ after_release s (Some r) = r.after
 -- Settled: no waiting operation is ready
 abbrev pub IsSettled : State → Type 0
 IsSettled s = first_ready s.history s.waiting ≡ None
+
+-- ---- the same in words
+
+-- the operation's member is integrated, or its context lacks nothing
+abbrev pub IsReady : List OpData → OpData → Type 0
+IsReady h o = (is_known h (member_of o) ≡ true) ⊎ LacksNothing h (context_of o)
+
+-- the released operation waited at this place, ready, and none before it was; it left, and got the verdict over the history and
+-- the others, with its effect
+pub record IsFirstRelease (s : State) (r : Released) : Type 0 where
+  pub place : ℕ
+  pub there : slice_get s.waiting place ≡ Some r.op
+  pub ready : IsReady s.history r.op
+  pub first : (i : ℕ) (o : OpData) → i < place → slice_get s.waiting i ≡ Some o → ¬ IsReady s.history o
+  pub verdict : IsVerdict s.history (remove s.waiting place) r.op r.verdict
+  pub after : r.after ≡ after_verdict r.verdict r.op (without_waiting s place)
+
+-- no waiting operation is ready
+abbrev pub NoneIsReady : State → Type 0
+NoneIsReady s = (o : OpData) → Contains s.waiting o → ¬ IsReady s.history o

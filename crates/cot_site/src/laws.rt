@@ -1,6 +1,6 @@
 //! Laws of verdicts, releases and local commands: each says what its definitions give, and does nothing.
 
-ghost use Rattle.cot_site.specs.Laws.{VerdictsAreExact, IntegratedOperationsAreNext, ReleasesNeverWait, SettledStatesHaveNoneReady, LocalOperationsAreNext, ExecutedFormsShowTheHistory, FormListsAreThere, OneListOfForms, FormListsStay, FormListsShowTheHistories};
+ghost use Rattle.cot_site.specs.Laws.{VerdictsAreExact, IntegratedOperationsAreNext, ReleasesNeverWait, NoReleaseWaits, EachReleaseIsTheFirst, ReleasesAreFew, ReleasesSettle, SettledStatesStay, ReleasesKeepHistories, SettledStatesHaveNoneReady, ReleasesAreExact, LocalOperationsAreNext, ExecutedFormsShowTheHistory, FormListsAreThere, OneListOfForms, FormListsStay, FormListsShowTheHistories};
 
 /// A well-formed operation has exactly one verdict over a valid history, the one whose words hold.
 pub fn verdicts_are_exact()
@@ -17,9 +17,45 @@ pub fn releases_never_wait()
     ensures { ReleasesNeverWait }
 {}
 
-/// A state is settled exactly where no waiting operation is ready.
+/// Nor does any that is released on the way to the settled state.
+pub fn no_release_waits()
+    ensures { NoReleaseWaits }
+{}
+
+/// Each release takes the first operation that is ready after the releases before it.
+pub fn each_release_is_the_first()
+    ensures { EachReleaseIsTheFirst }
+{}
+
+/// There are at most as many releases as operations that wait.
+pub fn releases_are_few()
+    ensures { ReleasesAreFew }
+{}
+
+/// After all releases no waiting operation is ready.
+pub fn releases_settle()
+    ensures { ReleasesSettle }
+{}
+
+/// A settled state has no release.
+pub fn settled_states_stay()
+    ensures { SettledStatesStay }
+{}
+
+/// Each release leaves a sound state of the same site, where what was integrated stays so, in its order.
+pub fn releases_keep_histories()
+    ensures { ReleasesKeepHistories }
+{}
+
+/// A sound state is settled exactly where no waiting operation is ready: its member is integrated, or its context
+/// lacks nothing.
 pub fn settled_states_have_none_ready()
     ensures { SettledStatesHaveNoneReady }
+{}
+
+/// What is released is the first ready operation, with its verdict and effect, in the words of both.
+pub fn releases_are_exact()
+    ensures { ReleasesAreExact }
 {}
 
 /// What a site makes may come next in its history.

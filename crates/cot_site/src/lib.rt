@@ -8,16 +8,21 @@
 mod judging;
 mod laws;
 mod local;
+mod release;
 mod replica;
 mod site;
 mod verdict;
 
 pub use laws::{
-    executed_forms_show_the_history, form_lists_are_there, form_lists_show_the_histories,
-    form_lists_stay, integrated_operations_are_next, local_operations_are_next, one_list_of_forms,
-    releases_never_wait, settled_states_have_none_ready, verdicts_are_exact,
+    each_release_is_the_first, executed_forms_show_the_history, form_lists_are_there,
+    form_lists_show_the_histories, form_lists_stay, integrated_operations_are_next,
+    local_operations_are_next, no_release_waits, one_list_of_forms, releases_are_exact,
+    releases_are_few, releases_keep_histories, releases_never_wait, releases_settle,
+    settled_states_have_none_ready, settled_states_stay, verdicts_are_exact,
 };
 pub use local::Local;
+pub use release::Release;
+pub use replica::CACHED_FORMS;
 pub use site::Site;
 pub use verdict::Verdict;
 

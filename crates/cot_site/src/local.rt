@@ -5,7 +5,7 @@ use op_name::Name;
 /// Why a site didn't make an operation. Nothing is changed then. The causes are looked for in this order.
 #[derive(Clone, Copy, Debug, PartialEq, Eq, Drop)]
 pub enum Local {
-    /// The place counts shown characters, of which there are `visible`: an insert may stand behind the last
+    /// The place counts shown characters, of which there are `visible`: an insert may stand after the last
     /// one, a delete needs one.
     PlaceOut { place: u32, visible: u32 },
     /// The site has integrated no insert or delete of this name.
@@ -20,6 +20,6 @@ pub enum Local {
     NumberFull,
     /// The history has `entries` undone names, more than the 16,384 that the context of an operation carries.
     ContextFull { entries: u32 },
-    /// Memory was wanting.
+    /// Out of memory.
     Memory,
 }

@@ -1,13 +1,14 @@
 //! The integrated operations of a site, with what they made of the text.
 
-ghost use Rattle.std.specs.Prelude.{◌≡◌, ◌<◌, ◌++◌, ◌∷◌, List, [], OnOk, OnErr, IfOk, IfSome, length, option_map, slice_get, vec_len, vec_capacity};
+ghost use Rattle.std.specs.Prelude.{◌≡◌, ◌<◌, ◌≤◌, ◌↔◌, ◌++◌, ◌∷◌, List, [], IsNone, OnOk, OnErr, IfOk, IfSome, length, option_map, slice_get, vec_len, vec_capacity};
 ghost use Rattle.context_vector.specs.Contexts.{has};
 ghost use Rattle.context_diff.specs.Operations.{OpData};
 ghost use Rattle.context_diff.specs.Histories.{context_of_all, IsNext, IsValid};
 ghost use Rattle.context_diff.specs.Replays.{shown, text_of};
+ghost use Rattle.context_diff.specs.Books.{HasRoomToPop};
 ghost use Rattle.context_diff.specs.Ops.{data_of};
 ghost use Rattle.ttf_form.specs.Forms.{form_over};
-ghost use Rattle.tombstone_text.specs.Rooms.{HasRoomFor};
+ghost use Rattle.tombstone_text.specs.Cells.{HasRoomFor};
 ghost use Rattle.form_cache.specs.Entries.{form_at, used};
 ghost use Rattle.ttf_form.specs.Cells.{FitsCells};
 ghost use Rattle.ttf_form.specs.declared.form.Form.{Form};
@@ -15,11 +16,13 @@ ghost use Rattle.transform_rec.specs.Derived.{Derived};
 ghost use Rattle.transform_rec.specs.Histories.{family_in, MayBeAddedTo};
 ghost use Rattle.undo_group.specs.BaseForms.{base_form};
 ghost use Rattle.cot_site.specs.Commands.{place_of_shown, place_behind};
-ghost use Rattle.cot_site.specs.Sites.{AreExecuted, AreCached, IsFormOf, IsExecutedAsBefore, KeepsForms, IsStep};
+ghost use Rattle.cot_site.specs.Sites.{AreExecuted, AreCached, IsFormOf, KeepsForms};
+ghost use Rattle.cot_site.specs.Code.Replicas.{IsExecutedAsBefore, IsStep, IsNextAfter};
 
 use context_diff::{Book, Op};
 use context_vector::Vector;
 use form_cache::{Cache, Key};
+use form_rows::executed_group;
 use op_name::{Member, Memory};
 use std::alloc::Global;
 use std::marker::Model;
@@ -29,11 +32,12 @@ use ttf_form::{Cover, Form};
 use undo_group::TextBases;
 use visible_view::{cell_of_visible, model_place, visible_len, write_text};
 
-/// The greatest number of forms in the cache.
-const CACHED_FORMS: u32 = 16_384;
+/// The greatest number of forms in a site's cache.
+pub const CACHED_FORMS: u32 = 16_384;
 
 /// A valid history, the form in which each of its operations was executed, the cells that these forms gave,
-/// and forms that were computed on the way.
+/// and forms that were computed on the way. A site hands its calls on what it has integrated to it: what ties
+/// these parts together is kept here, and a site adds its number and what waits.
 #[derive(Drop)]
 pub struct Replica {
     book: Book,
@@ -43,13 +47,16 @@ pub struct Replica {
 }
 
 impl Model for Replica {
-    ghost use Rattle.cot_site.specs.Sites.{ReplicaData, IsExecuted, AreCached};
+    ghost use Rattle.std.specs.Prelude.{◌≡◌};
+    ghost use Rattle.cot_site.specs.Sites.{AreCached};
+    ghost use Rattle.cot_site.specs.Code.Replicas.{ReplicaData, IsExecuted};
+    ghost use Rattle.cot_site.specs.declared.replica.TheConstants.{CACHED_FORMS};
 
     ghost Value = { ReplicaData };
 
     ghost view = { λ r. record { history = r.book.ops; forms = r.forms.items; entries = r.cache.entries } };
 
-    ghost invariant = { λ r. IsExecuted r.book.ops r.forms.items r.cells.cells × AreCached r.book.ops r.cache.entries };
+    ghost invariant = { λ r. IsExecuted r.book.ops r.forms.items r.cells.cells × AreCached r.book.ops r.cache.entries × (r.cache.capacity ≡ CACHED_FORMS) };
 }
 
 impl Replica {
@@ -67,13 +74,15 @@ impl Replica {
     }
 
     /// Nothing but what the type keeps: the history is valid, each form is a form of its operation at the
-    /// members before it, and each entry of the cache is the form of its key.
+    /// members before it, each entry of the cache is the form of its key, and there are at most `CACHED_FORMS`.
     pub fn known(&self)
         ensures valid { IsValid self.now.history }
         ensures forms { AreExecuted self.now.history self.now.forms }
         ensures entries { AreCached self.now.history self.now.entries }
+        ensures bounded { length self.now.entries ≤ CACHED_FORMS }
     {
         self.book.known();
+        self.cache.known();
     }
 
     /// The integrated operations.
@@ -93,7 +102,8 @@ impl Replica {
 
     /// The form in which the i-th operation was executed; None exactly past the end.
     pub fn executed(&self, i: u32) -> Option<&Form>
-        ensures { option_map (λ f. f.now) result ≡ slice_get self.now.forms i }
+        ensures form { option_map (λ f. f.now) result ≡ slice_get self.now.forms i }
+        ensures none { IsNone result ↔ (length self.now.history ≤ i) }
     {
         self.forms.get(i as usize)
     }
@@ -104,7 +114,8 @@ impl Replica {
         ensures form { result ≡ form_at self.old.entries key.now }
         ensures derived { IfSome result (IsFormOf self.old.history key.now) }
         ensures entries { self.new.entries ≡ used self.old.entries key.now }
-        ensures before { IsExecutedAsBefore self.old self.new }
+        ensures history { self.new.history ≡ self.old.history }
+        ensures executed { self.new.forms ≡ self.old.forms }
     {
         self.cache.get(key)
     }
@@ -125,7 +136,7 @@ impl Replica {
         cell_of_visible(&self.cells, v)
     }
 
-    /// The place for a character behind v shown ones; None exactly where there are fewer than v.
+    /// The place for a character after v shown ones; None exactly where there are fewer than v.
     pub fn place_behind(&self, v: u32) -> Option<u32>
         ensures { result ≡ place_behind self.now.history v }
     {
@@ -133,7 +144,7 @@ impl Replica {
         model_place(&self.cells, v)
     }
 
-    /// Appends the shown text in UTF-8; after want of memory `out` is as it was.
+    /// Appends the shown text in UTF-8; after out of memory `out` is as it was.
     pub fn text(&self, out: &mut Vec<u8>) -> Result<(), Memory>
         ensures ok { OnOk result (out.new.items ≡ out.old.items ++ text_of self.now.history) }
         ensures err { OnErr result (out.new.items ≡ out.old.items) }
@@ -143,7 +154,8 @@ impl Replica {
     }
 
     /// Appends the operation, which is next, and executes its form at the members that were integrated before
-    /// it. After want of memory the history, the forms and the cells are as before.
+    /// it. After out of memory the history, the forms and the cells are as before, and the cache has its old entries or
+    /// none.
     pub fn integrate(&mut self, op: Op) -> Result<(), Memory>
         requires { IsNext self.old.history (data_of op) }
         ensures history { OnOk result (self.new.history ≡ self.old.history ++ data_of op ∷ []) }
@@ -151,6 +163,7 @@ impl Replica {
         ensures err { OnErr result (IsExecutedAsBefore self.old self.new) }
     {
         self.book.known();
+        let op = with_shared_names(&self.book, op);
         let before = self.book.have().try_clone()?;
         let member = op.member();
         self.forms.reserve(1)?;
@@ -164,7 +177,10 @@ impl Replica {
             &member,
             &before,
         ) {
-            Ok(()) => Ok(()),
+            Ok(()) => {
+                self.book.share();
+                Ok(())
+            }
             Err(want) => {
                 take_back(&mut self.book, &mut self.cache);
                 Err(want)
@@ -173,17 +189,28 @@ impl Replica {
     }
 }
 
+// The operation, with the book's own list of undone names where its context has the same ones.
+fn with_shared_names(book: &Book, op: Op) -> Op
+    ensures { data_of result ≡ data_of op }
+{
+    let mut op = op;
+    op.share_with(book.have());
+    op
+}
+
 // Takes the last operation out, and with it all forms of the cache: their members or contexts may have it.
 fn take_back(book: &mut Book, cache: &mut Cache<Form>)
+    requires { HasRoomToPop book.old }
     ensures ops { (h : List OpData) (o : OpData) → book.old.ops ≡ h ++ o ∷ [] → book.new.ops ≡ h }
     ensures entries { cache.new.entries ≡ [] }
+    ensures capacity { cache.new.capacity ≡ cache.old.capacity }
 {
     cache.clear();
     book.pop();
 }
 
 // Executes the form of a member of the book at `to`, and appends it to the forms, which have a spare place. After
-// want of memory the forms and the cells are as they were. Each entry of the cache stays the form of its key.
+// out of memory the forms and the cells are as they were. Each entry of the cache stays the form of its key.
 fn execute(
     book: &Book,
     cache: &mut Cache<Form>,
@@ -194,15 +221,17 @@ fn execute(
 ) -> Result<(), Memory>
     requires room { vec_len forms.old < vec_capacity forms.old }
     requires added { MayBeAddedTo book.now.ops to.now.set member.now }
+    requires next { IsNextAfter book.now.ops member.now (has to.now.set) forms.old.items }
     requires cached { AreCached book.now.ops cache.old.entries }
     requires fits { (f : Form) → Derived form_over (family_in book.now.ops (base_form book.now.ops)) member.now (has to.now.set) f → FitsCells cells.old.cells f }
     ensures step { OnOk result (IsStep book.now.ops member.now (has to.now.set) forms.old.items forms.new.items cells.old.cells cells.new.cells) }
     ensures forms { OnErr result (forms.new.items ≡ forms.old.items) }
     ensures cells { OnErr result (cells.new.cells ≡ cells.old.cells) }
     ensures cached { AreCached book.now.ops cache.new.entries }
+    ensures capacity { cache.new.capacity ≡ cache.old.capacity }
 {
     let alloc = *forms.allocator();
-    match form_with_room(alloc, book, cache, cells, member, to) {
+    match form_with_room(alloc, book, cache, cells, forms.as_slice(), member, to) {
         Ok(form) => {
             cells.apply(&form);
             append(forms, &form);
@@ -232,17 +261,61 @@ fn form_with_room(
     book: &Book,
     cache: &mut Cache<Form>,
     cells: &mut Cells,
+    forms: &[Form],
+    member: &Member,
+    to: &Vector,
+) -> Result<Form, Memory>
+    requires added { MayBeAddedTo book.now.ops to.now.set member.now }
+    requires next { IsNextAfter book.now.ops member.now (has to.now.set) forms.now }
+    requires cached { AreCached book.now.ops cache.old.entries }
+    ensures form { IfOk result (Derived form_over (family_in book.now.ops (base_form book.now.ops)) member.now (has to.now.set)) }
+    ensures room { IfOk result (HasRoomFor cells.new) }
+    ensures cells { cells.new.cells ≡ cells.old.cells }
+    ensures cached { AreCached book.now.ops cache.new.entries }
+    ensures capacity { cache.new.capacity ≡ cache.old.capacity }
+{
+    let form = form_at(alloc, book, cache, forms, member, to)?;
+    cells.reserve(&form)?;
+    Ok(form)
+}
+
+// The form of a member of the book at `to`: that of an undo group follows the form in which the group before it, or its
+// original, was executed.
+fn form_at(
+    alloc: Global,
+    book: &Book,
+    cache: &mut Cache<Form>,
+    forms: &[Form],
+    member: &Member,
+    to: &Vector,
+) -> Result<Form, Memory>
+    requires added { MayBeAddedTo book.now.ops to.now.set member.now }
+    requires next { IsNextAfter book.now.ops member.now (has to.now.set) forms.now }
+    requires cached { AreCached book.now.ops cache.old.entries }
+    ensures form { IfOk result (Derived form_over (family_in book.now.ops (base_form book.now.ops)) member.now (has to.now.set)) }
+    ensures cached { AreCached book.now.ops cache.new.entries }
+    ensures capacity { cache.new.capacity ≡ cache.old.capacity }
+{
+    match member {
+        Member::Original(_) => original_form(alloc, book, cache, member, to),
+        Member::Group(target, generation) => Ok(executed_group(book, target, *generation, forms)),
+    }
+}
+
+// The form of a member of the book at `to`, with the forms of the cache at hand.
+fn original_form(
+    alloc: Global,
+    book: &Book,
+    cache: &mut Cache<Form>,
     member: &Member,
     to: &Vector,
 ) -> Result<Form, Memory>
     requires added { MayBeAddedTo book.now.ops to.now.set member.now }
     requires cached { AreCached book.now.ops cache.old.entries }
     ensures form { IfOk result (Derived form_over (family_in book.now.ops (base_form book.now.ops)) member.now (has to.now.set)) }
-    ensures room { IfOk result (HasRoomFor cells.new) }
-    ensures cells { cells.new.cells ≡ cells.old.cells }
     ensures cached { AreCached book.now.ops cache.new.entries }
+    ensures capacity { cache.new.capacity ≡ cache.old.capacity }
 {
     let form = transform_with(alloc, book, &TextBases::new(book), cache, member, to)?;
-    cells.reserve(&form)?;
     Ok(form)
 }

@@ -1,28 +1,29 @@
 //! The site: its parts, what contracts see of it, and the calls that only read.
 
-ghost use Rattle.std.specs.Prelude.{◌≡◌, ◌<◌, ◌++◌, [], OnOk, OnErr, IfOk, IfSome, length, option_map, slice_get};
+ghost use Rattle.std.specs.Prelude.{◌≡◌, ◌<◌, ◌≤◌, ◌↔◌, ◌++◌, [], OnOk, OnErr, IfOk, IfSome, IsNone, length, option_map, slice_get};
 ghost use Rattle.context_diff.specs.Operations.{IsWellFormed};
 ghost use Rattle.context_diff.specs.Histories.{context_of_all, IsValid};
 ghost use Rattle.context_diff.specs.Replays.{shown, text_of};
 ghost use Rattle.context_diff.specs.Ops.{data_of};
 ghost use Rattle.cot_site.specs.Verdicts.{verdict_of};
 ghost use Rattle.form_cache.specs.Entries.{form_at, used};
-ghost use Rattle.cot_site.specs.Sites.{AreExecuted, AreCached, AllFormed, IsFormOf, IsAsBefore};
+ghost use Rattle.cot_site.specs.Sites.{AreExecuted, AreCached, AllFormed, IsFormOf, state_of};
 
 use crate::judging::verdict_on;
-use crate::replica::Replica;
+use crate::replica::{CACHED_FORMS, Replica};
 use crate::verdict::Verdict;
 use causal_gate::Pool;
 use context_diff::{Book, Op};
 use context_vector::Vector;
 use form_cache::Key;
-use op_name::Memory;
+use op_name::{Memory, SITES};
 use std::alloc::Global;
 use std::marker::Model;
 use ttf_form::Form;
 
 mod deliveries;
 mod edits;
+mod releases;
 
 /// One participant's copy of a group text: its number, below `SITES`, the valid history of the operations that
 /// it has integrated, and the operations that wait for members of their contexts, in the order of arrival.
@@ -38,19 +39,20 @@ pub struct Site {
 
 impl Model for Site {
     ghost use Rattle.std.specs.Prelude.{◌<◌};
+    ghost use Rattle.op_name.specs.declared.name.TheConstants.{SITES};
     ghost use Rattle.cot_site.specs.Sites.{SiteData, AllFormed};
 
     ghost Value = { SiteData };
 
     ghost view = { λ s. record { number = s.number; history = s.replica.history; waiting = s.pool; forms = s.replica.forms; entries = s.replica.entries } };
 
-    ghost invariant = { λ s. (s.number < 64) × AllFormed s.pool };
+    ghost invariant = { λ s. (s.number < SITES) × AllFormed s.pool };
 }
 
 impl Site {
     /// The site of this number, with nothing integrated, nothing waiting and no form in its cache.
     pub fn new(alloc: Global, site: u16) -> Result<Site, Memory>
-        requires { site < 64 }
+        requires { site < SITES }
         ensures { IfOk result (λ s. s ≡ record { number = site; history = []; waiting = []; forms = []; entries = [] }) }
     {
         let replica = Replica::new(alloc)?;
@@ -62,14 +64,15 @@ impl Site {
     }
 
     /// Nothing but what the type keeps: the history is valid, all that waits is well formed, each form is a
-    /// form of its operation at the members that were integrated before it, and each entry of the cache is the
-    /// form of its key.
+    /// form of its operation at the members that were integrated before it, each entry of the cache is the
+    /// form of its key, and there are at most `CACHED_FORMS`.
     pub fn known(&self)
-        ensures number { self.now.number < 64 }
+        ensures number { self.now.number < SITES }
         ensures history { IsValid self.now.history }
         ensures waiting { AllFormed self.now.waiting }
         ensures forms { AreExecuted self.now.history self.now.forms }
         ensures entries { AreCached self.now.history self.now.entries }
+        ensures bounded { length self.now.entries ≤ CACHED_FORMS }
     {
         self.replica.known();
     }
@@ -104,7 +107,8 @@ impl Site {
 
     /// The form in which the i-th integrated operation was executed; None exactly past the end.
     pub fn executed(&self, i: u32) -> Option<&Form>
-        ensures { option_map (λ f. f.now) result ≡ slice_get self.now.forms i }
+        ensures form { option_map (λ f. f.now) result ≡ slice_get self.now.forms i }
+        ensures none { IsNone result ↔ (length self.now.history ≤ i) }
     {
         self.replica.executed(i)
     }
@@ -116,7 +120,8 @@ impl Site {
         ensures form { result ≡ form_at self.old.entries key.now }
         ensures derived { IfSome result (IsFormOf self.old.history key.now) }
         ensures entries { self.new.entries ≡ used self.old.entries key.now }
-        ensures before { IsAsBefore self.old self.new }
+        ensures state { state_of self.new ≡ state_of self.old }
+        ensures forms { self.new.forms ≡ self.old.forms }
     {
         self.replica.cached(key)
     }
@@ -129,7 +134,7 @@ impl Site {
     }
 
     /// Appends the shown text in UTF-8: the characters, in the order of the one fixed replay of the inserts of
-    /// the history, whose insert is in force and which no delete in force hits. After want of memory `out` is
+    /// the history, whose insert is in force and which no delete in force hits. After out of memory `out` is
     /// as it was.
     pub fn text(&self, out: &mut Vec<u8>) -> Result<(), Memory>
         ensures ok { OnOk result (out.new.items ≡ out.old.items ++ text_of self.now.history) }

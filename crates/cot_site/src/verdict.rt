@@ -16,7 +16,7 @@ pub enum Verdict {
     /// The context isn't closed: the last original of this site that it names was made after something that
     /// the context hasn't. It is the least such site.
     NotClosed { site: u16 },
-    /// The place, which counts the cells of the context, is behind them (insert) or at none of them (delete);
+    /// The place, which counts the cells of the context, is after them (insert) or at none of them (delete);
     /// `cells` is their number.
     PlaceOut { place: u32, cells: u32 },
     /// The operation is now the last one of the site's history.

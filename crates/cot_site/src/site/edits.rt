@@ -6,26 +6,21 @@ ghost use Rattle.context_diff.specs.Replays.{characters_of};
 ghost use Rattle.op_name.specs.declared.member.Member.TheVariants.{Original};
 ghost use Rattle.context_diff.specs.Ops.{data_of};
 ghost use Rattle.cot_site.specs.States.{with_last};
-ghost use Rattle.cot_site.specs.Commands.{place_behind, place_of_shown, local_insert, local_delete, local_undo, local_redo, turned, next_name, IsAnswer, IsNumber, IsContextAnswer, IsGeneration};
+ghost use Rattle.cot_site.specs.Commands.{place_behind, place_of_shown, local_insert, local_delete, local_undo, local_redo, turned, next_name, IsAnswer};
+ghost use Rattle.cot_site.specs.Code.Making.{IsNumber, IsContextAnswer, IsGeneration};
 ghost use Rattle.cot_site.specs.Sites.{KeepsForms, IsAsBefore, state_of};
 
 use crate::local::Local;
 use crate::site::Site;
-use context_diff::Op;
+use context_diff::{Op, UNDO_ENTRIES};
 use context_vector::Vector;
-use op_name::{Member, Name};
+use op_name::{Member, NUMBERS, Name};
 use undo_group::generation;
 
-/// The greatest number that a site gives to one of its originals.
-const NUMBERS: u32 = 1_000_000;
-
-/// The greatest number of undo entries that the context of an operation has.
-const UNDO_ENTRIES: u32 = 16_384;
-
 impl Site {
-    /// Inserts a character behind `v` shown ones: makes the operation with the site's next number and all
+    /// Inserts a character after `v` shown ones: makes the operation with the site's next number and all
     /// members of the history as context, integrates it, and answers a copy. Refused by PlaceOut, NumberFull,
-    /// ContextFull or Memory; then nothing is changed, but that after Memory the cache may have lost entries.
+    /// ContextFull or Memory; then nothing is changed, but that after Memory the cache may be empty.
     pub fn insert(&mut self, v: u32, ch: char) -> Result<Op, Local>
         ensures answer { IsAnswer (local_insert (state_of self.old) v ch) result }
         ensures made { IfOk result (λ o. state_of self.new ≡ with_last (state_of self.old) (data_of o)) }
@@ -49,7 +44,7 @@ impl Site {
 
     /// Deletes the `v`-th shown character, from 0: makes the operation with the site's next number and all
     /// members of the history as context, integrates it, and answers a copy. Refused by PlaceOut, NumberFull,
-    /// ContextFull or Memory; then nothing is changed, but that after Memory the cache may have lost entries.
+    /// ContextFull or Memory; then nothing is changed, but that after Memory the cache may be empty.
     pub fn delete(&mut self, v: u32) -> Result<Op, Local>
         ensures answer { IsAnswer (local_delete (state_of self.old) v) result }
         ensures made { IfOk result (λ o. state_of self.new ≡ with_last (state_of self.old) (data_of o)) }
@@ -72,7 +67,7 @@ impl Site {
 
     /// Undoes the insert or delete of this name, whoever made it: makes the undo at the generation after the
     /// original's, integrates it, and answers a copy. Refused by Unknown, NotInForce, ContextFull or Memory;
-    /// then nothing is changed, but that after Memory the cache may have lost entries.
+    /// then nothing is changed, but that after Memory the cache may be empty.
     pub fn undo(&mut self, name: Name) -> Result<Op, Local>
         ensures answer { IsAnswer (local_undo (state_of self.old) name) result }
         ensures made { IfOk result (λ o. state_of self.new ≡ with_last (state_of self.old) (data_of o)) }
@@ -89,7 +84,7 @@ impl Site {
 
     /// Redoes the insert or delete of this name, whoever undid it: makes the redo at the generation after the
     /// original's, integrates it, and answers a copy. Refused by Unknown, InForce, GenerationFull, ContextFull
-    /// or Memory; then nothing is changed, but that after Memory the cache may have lost entries.
+    /// or Memory; then nothing is changed, but that after Memory the cache may be empty.
     pub fn redo(&mut self, name: Name) -> Result<Op, Local>
         ensures answer { IsAnswer (local_redo (state_of self.old) name) result }
         ensures made { IfOk result (λ o. state_of self.new ≡ with_last (state_of self.old) (data_of o)) }
@@ -107,7 +102,7 @@ impl Site {
         self.turn(name, generation)
     }
 
-    // The place for a character behind `v` shown ones, if there are so many.
+    // The place for a character after `v` shown ones, if there are so many.
     fn place_behind(&self, v: u32) -> Option<u32>
         ensures { result ≡ place_behind self.now.history v }
     {

@@ -1,7 +1,7 @@
 //! Sessions as lists of steps, each at one site.
 
 use super::{deliver, give, shows};
-use crate::{Local, Site, Verdict};
+use crate::{Local, Release, Site, Verdict};
 use context_diff::Op;
 use context_vector::Vector;
 use op_name::{Member, Name};
@@ -59,7 +59,7 @@ pub(super) enum Step {
     Gets(&'static [usize]),
     /// Answers so on a message.
     Judges(usize, Answer),
-    /// Integrates these members in one release after the other, and then has none to release.
+    /// Integrates these members in one release after the other, until none is ready.
     Releases(&'static [(Named, u16)]),
     /// Holds so many operations that wait.
     Holds(u32),
@@ -217,39 +217,20 @@ fn judges(site: &mut Site, messages: &[Op], number: usize, wanted: &Answer) -> R
     }
 }
 
-fn member_of(op: &Op) -> (Named, u16) {
-    match op {
-        Op::Insert { name, .. } | Op::Delete { name, .. } => (parts(name), 0),
-        Op::Undo {
-            target,
-            generation,
-            ..
-        } => (parts(target), *generation),
-    }
-}
-
-/// The member that a release integrates, if there is a release.
-fn released(site: &mut Site) -> Result<Option<(Named, u16)>, Fail> {
-    match site.release_next() {
-        Ok(Some(pair)) => {
-            if answer_of(&pair.1) == Answer::Integrated {
-                Ok(Some(member_of(&pair.0)))
-            } else {
-                Err(Fail::new("a release that isn't integrated"))
-            }
-        }
-        Ok(None) => Ok(None),
-        Err(want) => Err(Fail::from(want)),
-    }
-}
-
-fn releases(site: &mut Site, members: &[(Named, u16)]) -> Result<bool, Fail> {
-    for member in members {
-        if released(site)? != Some(*member) {
-            return Ok(false);
+/// Whether these are releases of these members, all integrated.
+fn are_integrated(released: &[Release], members: &[(Named, u16)]) -> bool {
+    for (release, member) in released.iter().zip(members) {
+        if release.verdict != Verdict::Integrated || member_parts(&release.member) != *member {
+            return false;
         }
     }
-    Ok(released(site)?.is_none())
+    released.len() == members.len()
+}
+
+fn releases(alloc: Global, site: &mut Site, members: &[(Named, u16)]) -> Result<bool, Fail> {
+    let mut released = Vec::new(alloc);
+    site.settle(&mut released)?;
+    Ok(are_integrated(released.as_slice(), members))
 }
 
 /// The place of the form in which the i-th operation of a site was executed.
@@ -286,7 +267,7 @@ fn taken(
         Step::Sends(of, place, ch, last) => sends(alloc, *of, *place, *ch, last, messages),
         Step::Gets(numbers) => gets(site, messages.as_slice(), numbers),
         Step::Judges(number, wanted) => judges(site, messages.as_slice(), *number, wanted),
-        Step::Releases(members) => releases(site, members),
+        Step::Releases(members) => releases(alloc, site, members),
         Step::Holds(count) => Ok(site.pool().len() == *count),
         Step::Shows(text) => shows(alloc, site, text),
         Step::Executed(places) => Ok(executed(site, places)),

@@ -1,7 +1,7 @@
 use Rattle.std.proofs.Common.{refl, ◌∙◌, sym, ap}
 use Rattle.std.specs.Prelude.{not}
 use Rattle.context_diff.specs.Ops.{data_of}
-use Rattle.causal_gate.proofs.Apart.{named_once}
+use Rattle.causal_gate.proofs.CallerLemmas.{named_once}
 use Rattle.cot_site.proofs.Findings.{none_other, one_other}
 use Rattle.cot_site.proofs.judging.other_waits.Goals as goal
 

@@ -1,5 +1,7 @@
-use Rattle.std.proofs.Common.{subst}
-use Rattle.cot_site.specs.Sites.{ReplicaData, AreExecuted, AreCached}
+use Rattle.std.proofs.Common.{subst, ℕ, ◌≤◌, length}
+use Rattle.cot_site.specs.declared.replica.TheConstants.{CACHED_FORMS}
+use Rattle.cot_site.specs.Sites.{AreExecuted, AreCached}
+use Rattle.cot_site.specs.Code.Replicas.{ReplicaData}
 use Rattle.cot_site.proofs.replica.Replica.known.Goals as goal
 
 pub returns-clause-forms : goal.returns-clause-forms
@@ -7,3 +9,8 @@ returns-clause-forms c = subst (λ (r : ReplicaData). AreExecuted r.history r.fo
 
 pub returns-clause-entries : goal.returns-clause-entries
 returns-clause-entries c = subst (λ (r : ReplicaData). AreCached r.history r.entries) c.self.view_is c.self.invariant.1
+
+pub returns-clause-bounded : goal.returns-clause-bounded
+returns-clause-bounded c =
+    subst (λ (r : ReplicaData). length r.entries ≤ CACHED_FORMS) c.self.view_is
+    (subst (λ (n : ℕ). length c.self.inside.cache.entries ≤ n) c.self.invariant.2 c.known-2.ensures.bounded)

@@ -1,6 +1,6 @@
 use Rattle.std.proofs.Common.{◌∙◌, ap, ℕ, suc, List, ◌∷◌, map}
 use Rattle.std.specs.Prelude.{slice_get}
-use Rattle.cot_site.specs.Sites.{ReplicaData}
+use Rattle.cot_site.specs.Code.Replicas.{ReplicaData}
 use Rattle.cot_site.specs.Commands.{place_behind}
 use Rattle.cot_site.proofs.Executions.{cells_replayed}
 use Rattle.cot_site.proofs.Views.{places_are}

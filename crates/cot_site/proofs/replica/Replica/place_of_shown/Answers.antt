@@ -1,6 +1,6 @@
 use Rattle.std.proofs.Common.{◌∙◌, ap, ℕ, List}
 use Rattle.std.specs.Prelude.{slice_get}
-use Rattle.cot_site.specs.Sites.{ReplicaData}
+use Rattle.cot_site.specs.Code.Replicas.{ReplicaData}
 use Rattle.cot_site.specs.Commands.{place_of_shown}
 use Rattle.cot_site.proofs.Executions.{cells_replayed}
 use Rattle.cot_site.proofs.Views.{places_are}

@@ -1,6 +1,6 @@
 use Rattle.std.proofs.Common.{◌≡◌, ◌∙◌, ap, subst, ℕ, List, ◌++◌, OnOk}
 use Rattle.context_diff.specs.Replays.{text_of}
-use Rattle.cot_site.specs.Sites.{ReplicaData}
+use Rattle.cot_site.specs.Code.Replicas.{ReplicaData}
 use Rattle.cot_site.proofs.Executions.{cells_replayed}
 use Rattle.cot_site.proofs.Views.{text_is}
 use Rattle.cot_site.proofs.replica.Replica.text.Goals as goal

@@ -1,6 +1,6 @@
 use Rattle.std.proofs.Common.{◌∙◌, length, ap}
 use Rattle.context_diff.specs.Replays.{shown}
-use Rattle.cot_site.specs.Sites.{ReplicaData}
+use Rattle.cot_site.specs.Code.Replicas.{ReplicaData}
 use Rattle.cot_site.proofs.Executions.{cells_replayed}
 use Rattle.cot_site.proofs.Views.{shown_count}
 use Rattle.cot_site.proofs.replica.Replica.visible_len.Goals as goal

@@ -3,7 +3,7 @@ use Rattle.std.specs.Prelude.{Some, None, option_map, slice_get}
 use Rattle.context_diff.specs.Operations.{OpData}
 use Rattle.context_diff.specs.declared.op.Op.{Op}
 use Rattle.context_diff.specs.Ops.{data_of}
-use Rattle.context_diff.proofs.Books.{not_past}
+use Rattle.context_diff.proofs.CallerLemmas.{not_past}
 use Rattle.cot_site.proofs.Waiting.{judged_at, formed_at}
 use Rattle.cot_site.proofs.site.Site.verdict_at.Goals as goal
 

@@ -1,4 +1,4 @@
-use Rattle.std.proofs.Common.{sym, subst}
+use Rattle.std.proofs.Common.{ap, sym, subst}
 use Rattle.context_vector.specs.Contexts.{has}
 use Rattle.ttf_form.specs.Forms.{form_over}
 use Rattle.transform_rec.specs.Derived.{Derived}
@@ -6,7 +6,15 @@ use Rattle.transform_rec.specs.Entries.{AreForms}
 use Rattle.transform_rec.specs.Histories.{family_in}
 use Rattle.undo_group.specs.BaseForms.{base_form}
 use Rattle.context_diff.specs.Books.{BookData}
-use Rattle.cot_site.proofs.replica.form_with_room.Goals as goal
+use Rattle.context_diff.specs.Histories.{members_in}
+use Rattle.context_diff.specs.Bases.{base_has}
+use Rattle.cot_site.proofs.replica.original_form.Goals as goal
+
+pub transform_with-requires-clause-bases : goal.transform_with-requires-clause-bases
+transform_with-requires-clause-bases c = record {
+  members = ap (λ (b : BookData). members_in b.ops) c.new.ensures;
+  contexts = λ x y known. ap (λ (b : BookData). base_has b.ops x y) c.new.ensures;
+}
 
 pub transform_with-requires-clause-known : goal.transform_with-requires-clause-known
 transform_with-requires-clause-known c =
@@ -15,10 +23,6 @@ transform_with-requires-clause-known c =
 pub returns-in_err-form-clause-cached : goal.returns-in_err-form-clause-cached
 returns-in_err-form-clause-cached c =
     subst (λ (b : BookData). AreForms form_over (family_in c.args.book.now.ops (base_form b.ops)) c.transform_with.new.cache.entries) c.new.ensures c.in_err-form.ensures.known
-
-pub returns-in_err-reserve-clause-cached : goal.returns-in_err-reserve-clause-cached
-returns-in_err-reserve-clause-cached c =
-    subst (λ (b : BookData). AreForms form_over (family_in c.args.book.now.ops (base_form b.ops)) c.transform_with.new.cache.entries) c.new.ensures c.in_ok-form.ensures.known
 
 pub returns-clause-form : goal.returns-clause-form
 returns-clause-form c =

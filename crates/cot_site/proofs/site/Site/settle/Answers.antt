@@ -1,0 +1,37 @@
+use Rattle.std.proofs.Common.{subst}
+use Rattle.cot_site.specs.Sites.{state_of}
+use Rattle.cot_site.specs.Code.Releasing.{IsReleasedInto}
+use Rattle.cot_site.proofs.Settling.{settling_first, settling_more, settling_fewer, settling_last, forms_same, forms_on}
+use Rattle.cot_site.proofs.site.Site.settle.Goals as goal
+
+pub loop-init : goal.loop-init
+loop-init c =
+    (settling_first (state_of c.args.self.now) c.args.released.now.items (record { number = c.known.ensures.number; history = c.known.ensures.history; waiting = c.known.ensures.waiting }), forms_same _)
+
+pub loop-preserved : goal.loop-preserved
+loop-preserved c =
+    let now = state_of c.loop.self in
+    let next = state_of c.release_into.new.self in
+    let one = subst (λ b. IsReleasedInto now next c.loop.released.items c.release_into.new.list.items b) c.if-not-branch.false c.in_ok-release_into.ensures.release in
+    (settling_more _ now next _ c.loop.released.items c.release_into.new.list.items c.loop.invariant.0 one, forms_on _ _ _ c.loop.invariant.1 c.in_ok-release_into.ensures.forms)
+
+pub loop-smaller : goal.loop-smaller
+loop-smaller c =
+    let now = state_of c.loop.self in
+    let next = state_of c.release_into.new.self in
+    let one = subst (λ b. IsReleasedInto now next c.loop.released.items c.release_into.new.list.items b) c.if-not-branch.false c.in_ok-release_into.ensures.release in
+    settling_fewer _ now next _ c.loop.released.items c.release_into.new.list.items c.loop.invariant.0 one
+
+pub returns-then-not-branch-clause-state : goal.returns-then-not-branch-clause-state
+returns-then-not-branch-clause-state c =
+    let now = state_of c.loop.self in
+    let next = state_of c.release_into.new.self in
+    let none = subst (λ b. IsReleasedInto now next c.loop.released.items c.release_into.new.list.items b) c.if-not-branch.true c.in_ok-release_into.ensures.release in
+    (settling_last _ now next _ c.loop.released.items c.release_into.new.list.items c.loop.invariant.0 none).0
+
+pub returns-then-not-branch-clause-released : goal.returns-then-not-branch-clause-released
+returns-then-not-branch-clause-released c =
+    let now = state_of c.loop.self in
+    let next = state_of c.release_into.new.self in
+    let none = subst (λ b. IsReleasedInto now next c.loop.released.items c.release_into.new.list.items b) c.if-not-branch.true c.in_ok-release_into.ensures.release in
+    (settling_last _ now next _ c.loop.released.items c.release_into.new.list.items c.loop.invariant.0 none).1

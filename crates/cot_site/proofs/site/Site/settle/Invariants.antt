@@ -1,0 +1,12 @@
+use Rattle.std.proofs.Common.{length}
+use Rattle.cot_site.specs.Sites.{state_of, KeepsForms}
+use Rattle.cot_site.proofs.Settling.{IsSettling}
+use Rattle.cot_site.proofs.site.Site.settle.Given as goal
+
+-- some releases are done and listed
+abbrev pub invariant-loop : goal.invariant-loop
+invariant-loop l =
+    IsSettling (state_of l.fn.self) (state_of l.self) l.fn.released.items l.released.items × KeepsForms l.fn.self.forms l.self.forms
+
+abbrev pub decreases-loop : goal.decreases-loop
+decreases-loop l = length l.self.waiting

@@ -1,0 +1,44 @@
+-- An executed history: its forms, the cells that they give, and the entries of the cache.
+use Rattle.std.specs.Prelude.{◌≡◌, Bool, List, [], ◌∷◌, ◌++◌}
+use Rattle.op_name.specs.declared.member.Member.{Member}
+use Rattle.context_diff.specs.Operations.{OpData}
+use Rattle.context_diff.specs.Histories.{members_in}
+use Rattle.ttf_form.specs.declared.form.Form.{Form}
+use Rattle.ttf_form.specs.Forms.{form_over}
+use Rattle.ttf_form.specs.Cells.{CellData, applied}
+use Rattle.form_cache.specs.Entries.{Entries}
+use Rattle.transform_rec.specs.Sets.{none, SameSet, plus_all}
+use Rattle.transform_rec.specs.Derived.{Derived}
+use Rattle.transform_rec.specs.Executing.{AreFormsFrom, executed}
+use Rattle.transform_rec.specs.Histories.{family_in}
+use Rattle.undo_group.specs.BaseForms.{base_form}
+use Rattle.cot_site.specs.Sites.{AreExecuted, AreKeptOrGone}
+
+-- the forms of a history, and the cells that they give one after the other
+pub record IsExecuted (h : List OpData) (fs : List Form) (cs : List CellData) : Type 0 where
+  pub forms : AreExecuted h fs
+  pub cells : cs ≡ executed applied [] fs
+
+-- one more form of a member at a set, appended and applied to the cells
+pub record IsStep (h : List OpData) (m : Member) (to : Member → Bool) (old new : List Form) (before after : List CellData) : Type 0 where
+  pub form : Form
+  pub derived : Derived form_over (family_in h (base_form h)) m to form
+  pub appended : new ≡ old ++ form ∷ []
+  pub cells : after ≡ applied before form
+
+-- m is the last member of the history; those before it, which are the set, were executed in these forms
+pub record IsNextAfter (h : List OpData) (m : Member) (to : Member → Bool) (fs : List Form) : Type 0 where
+  pub before : List Member
+  pub whole : members_in h ≡ before ++ m ∷ []
+  pub forms : AreFormsFrom form_over (family_in h (base_form h)) none before fs
+  pub set : SameSet (plus_all none before) to
+
+-- an executed history, with the entries of a cache
+pub record ReplicaData : Type 0 where
+  pub history : List OpData
+  pub forms : List Form
+  pub entries : Entries Form
+
+-- the history and its forms are as before; the entries of the cache are the old ones, or none
+abbrev pub IsExecutedAsBefore : ReplicaData → ReplicaData → Type 0
+IsExecutedAsBefore old new = (new.history ≡ old.history) × (new.forms ≡ old.forms) × AreKeptOrGone old.entries new.entries
