@@ -15,6 +15,7 @@ use Rattle.std.specs.Result.{result_ok}
 use Rattle.hex.specs.Hex.{decode_of}
 use Rattle.hex.proofs.HexLemmas.{decode_of-ok}
 use Rattle.op_name.specs.NameData.{NameData, IsName}
+use Rattle.op_name.specs.declared.name.TheConstants.{SITES, NUMBERS}
 use Rattle.script_text.specs.Fields.{cut, number_of, text_of, site_of, count_of, name_of, named, octets_of, tested, starts_numeral, is_numeral, IsSite, IsCount, IsNameText, IsHex, IsNumber, IsCharacters, IsPair, pair_by}
 
 -- the first field has no c
@@ -210,20 +211,20 @@ tested_reads {A = A} test read Is r = record {
 pub site_reads : Reads site_of IsSite
 unfolding site_of
 site_reads =
-    let t = tested_reads (λ n. nat_lt n 64) number_of IsNumber number_reads in
+    let t = tested_reads (λ n. nat_lt n SITES) number_of IsNumber number_reads in
     record {
-      from = λ bs x e. let h = t.from bs x e in (h.0.0, ltb-true x 64 h.1);
-      to = λ bs x h. let wide : x < 2 ^ 32 = omega arith in t.to bs x ((h.0, wide), lt-ltb x 64 h.1);
+      from = λ bs x e. let h = t.from bs x e in (h.0.0, ltb-true x SITES h.1);
+      to = λ bs x h. let wide : x < 2 ^ 32 = omega arith in t.to bs x ((h.0, wide), lt-ltb x SITES h.1);
     }
 
 pub count_reads : Reads count_of IsCount
 unfolding count_of
 count_reads =
-    let t = tested_reads (λ n. nat_le 1 n && nat_le n 64) number_of IsNumber number_reads in
+    let t = tested_reads (λ n. nat_le 1 n && nat_le n SITES) number_of IsNumber number_reads in
     record {
-      from = λ bs x e. let h = t.from bs x e in let p = and_parts (nat_le 1 x) (nat_le x 64) h.1 in (h.0.0, leb-true 1 x p.0, leb-true x 64 p.1);
+      from = λ bs x e. let h = t.from bs x e in let p = and_parts (nat_le 1 x) (nat_le x SITES) h.1 in (h.0.0, leb-true 1 x p.0, leb-true x SITES p.1);
       to = λ bs x h. let wide : x < 2 ^ 32 = omega arith in
-          t.to bs x ((h.0, wide), and_from (nat_le 1 x) (nat_le x 64) (le-leb 1 x h.1) (le-leb x 64 h.2));
+          t.to bs x ((h.0, wide), and_from (nat_le 1 x) (nat_le x SITES) (le-leb 1 x h.1) (le-leb x SITES h.2));
     }
 
 pub site_lacks : (c : ℕ) → ¬ (IsInRange 48 57 c) → (bs : List ℕ) (n : ℕ) → IsSite bs n → Lacks c bs
@@ -233,13 +234,13 @@ point_no_digit : ¬ (IsInRange 48 57 46)
 point_no_digit h = omega (arith, h)
 
 -- what `Name::new` answers is the name, if the parts are in range
-pub named_new : {E : Type 0} (s n : ℕ) (r : Result NameData E) → (IsOk r ↔ IsName s n) → IfOk r (λ m. m.site ≡ s) → IfOk r (λ m. m.number ≡ n) → s < 64
+pub named_new : {E : Type 0} (s n : ℕ) (r : Result NameData E) → (IsOk r ↔ IsName s n) → IfOk r (λ m. m.site ≡ s) → IfOk r (λ m. m.number ≡ n) → s < SITES
     → result_ok r ≡ named (s, n)
 named_new s n (Ok m) accepted site number small =
     let name = accepted.0 refl in
-    rw (le-leb 1 n name.1, le-leb n 1000000 name.2) (ap₂ (λ (a b : ℕ). let x : NameData = record { site = a; number = b } in Some x) site number)
+    rw (le-leb 1 n name.1, le-leb n NUMBERS name.2) (ap₂ (λ (a b : ℕ). let x : NameData = record { site = a; number = b } in Some x) site number)
 named_new s n (Err e) accepted site number small =
-    sym (no_if (nat_le 1 n && nat_le n 1000000) _ (λ t. let p = and_parts _ _ t in absurd (refused (accepted.1 (small, leb-true 1 n p.0, leb-true n 1000000 p.1)))))
+    sym (no_if (nat_le 1 n && nat_le n NUMBERS) _ (λ t. let p = and_parts _ _ t in absurd (refused (accepted.1 (small, leb-true 1 n p.0, leb-true n NUMBERS p.1)))))
   where
     refused : false ≡ true → ⊥
     refused t = cc
@@ -252,14 +253,14 @@ name_reads =
       from = λ bs n e.
           let a = and_then_some (pair_by 46 site_of number_of bs) _ n e in
           let h = pair.from bs a.0 a.1 in
-          let q = some_if (nat_le 1 a.0.1 && nat_le a.0.1 1000000) _ n a.2 in
-          let p = and_parts (nat_le 1 a.0.1) (nat_le a.0.1 1000000) q.0 in
+          let q = some_if (nat_le 1 a.0.1 && nat_le a.0.1 NUMBERS) _ n a.2 in
+          let p = and_parts (nat_le 1 a.0.1) (nat_le a.0.1 NUMBERS) q.0 in
           let spelled : bs ≡ decimal a.0.0 ++ 46 ∷ decimal a.0.1 = h.2 ∙ ap (λ x. x ++ 46 ∷ h.1) h.3.0 ∙ ap (λ y. decimal a.0.0 ++ 46 ∷ y) h.4.0 in
           subst (λ (m : NameData). IsNameText bs m) q.1 (spelled, (h.3.1, leb-true _ _ p.0, leb-true _ _ p.1));
       to = λ bs n h.
           let wide : n.number < 2 ^ 32 = omega (arith, h.1.2) in
           let read = pair.to bs (n.site, n.number) (decimal n.site, decimal n.number, h.0, (refl, h.1.0), (refl, wide)) in
-          rw (read, le-leb 1 n.number h.1.1, le-leb n.number 1000000 h.1.2) refl;
+          rw (read, le-leb 1 n.number h.1.1, le-leb n.number NUMBERS h.1.2) refl;
     }
 
 result_some : {A E : Type 0} (r : Result A E) (x : A) → result_ok r ≡ Some x → r ≡ Ok x

@@ -1,3 +1,5 @@
 pub mod FieldLaws
 pub mod LineLaws
 pub mod Listings
+pub mod CallerLemmas
+pub mod HexLaws

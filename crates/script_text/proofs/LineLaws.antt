@@ -6,18 +6,20 @@ use Rattle.std.proofs.lemmas.Str.{IsUtf8-from_ascii, IsUtf8-append, IsUtf8-nil}
 use Rattle.std.proofs.lemmas.Str.Ascii.{IsAscii-cons, IsAscii-nil}
 use Rattle.std.proofs.lemmas.Fmt.{IsAscii-decimal}
 use Rattle.std.specs.Str.{IsAscii}
+use Rattle.std.specs.Prelude.{IsSomeAnd}
 use Rattle.hex.specs.Hex.{encode_lower, lower_digits}
 use Rattle.hex.proofs.HexLemmas.{decode_of-encode_lower, decode_of-ok, IsAscii-encode_with}
-use Rattle.script_text.specs.declared.lines.Line.{Line}
-use Rattle.script_text.specs.declared.lines.Line.TheVariants.{Blank, Sites, Ins, Nl, Del, Undo, Redo, Give, All, Sync, Raw, Show, State}
-use Rattle.script_text.specs.declared.lines.LineBad.{LineBad}
-use Rattle.script_text.specs.declared.lines.LineBad.TheVariants.{Long, Utf8, Form, Memory}
+use Rattle.script_text.specs.declared.reading.line.Line.{Line}
+use Rattle.script_text.specs.declared.reading.line.Line.TheVariants.{Blank, Sites, Ins, Nl, Del, Undo, Redo, Give, All, Sync, Raw, Show, State}
+use Rattle.script_text.specs.declared.reading.line.LineBad.{LineBad}
+use Rattle.script_text.specs.declared.reading.line.LineBad.TheVariants.{Long, Utf8, Form, Memory}
 use Rattle.op_name.specs.NameData.{NameData, IsName}
 use Rattle.script_text.specs.Names.{name_text}
 use Rattle.script_text.specs.Fields.{IsText, cut, pair_by, number_of, site_of, count_of, name_of, text_of, octets_of, IsNumber, IsSite, IsNameText, IsCharacters, IsHex, IsPair}
 use Rattle.script_text.specs.Rows.{Row, table, row_in, sites_row, ins_row, nl_row, del_row, undo_row, redo_row, give_row, all_row, raw_row, show_row, state_row}
-use Rattle.script_text.specs.Lines.{command, two, spelling, IsInRange, IsLine}
-use Rattle.script_text.specs.Answers.{line_in, FormAnswers, Answers, IsReadAs}
+use Rattle.script_text.specs.declared.reading.parse.TheConstants.{LONGEST}
+use Rattle.script_text.specs.Lines.{command, two, spelling, IsInRange, IsLine, HasContent}
+use Rattle.script_text.specs.Answers.{line_in, LineAnswers, Answers, IsReadAs}
 use Rattle.script_text.proofs.FieldLaws.{Reads, number_reads, site_reads, count_reads, name_reads, text_reads, octets_reads, pair_reads, number_lacks, site_lacks, blank_no_digit, some_is, and_then_some, cut_some}
 
 site_and_number : Reads (pair_by 32 site_of number_of) (IsPair 32 IsSite IsNumber)
@@ -140,7 +142,7 @@ AllFound (r ∷ rs) = Found r × AllFound rs
 
 table_found : AllFound table
 unfolding AllFound Found
-table_found = (sites_found, (ins_found, (nl_found, (del_found, (undo_found, (redo_found, (give_found, (all_found, (raw_found, (show_found, (state_found, tt)))))))))))
+table_found = (ins_found, (raw_found, (sites_found, (nl_found, (del_found, (undo_found, (redo_found, (give_found, (all_found, (show_found, (state_found, tt)))))))))))
 
 row_found : (rs : List Row) → AllFound rs → (word fields : List ℕ) (l : Line) → row_in rs word fields ≡ Some l → IsLine (command word fields) l
 unfolding AllFound Found
@@ -193,10 +195,10 @@ line_only bs (Raw site bytes) (h, r) =
     (site_and_octets.to _ (site, bytes) (decimal site, h.0, refl, (refl, r.0), (h.2, r.1)))
 
 -- the clauses of the call, from its answer
-pub answers_line : (bs text : List ℕ) (r : Result Line LineBad) → length bs ≤ 262144 → (text ≡ bs) × IsUtf8 bs → FormAnswers r (line_in text) → Answers bs r
+pub answers_line : (bs text : List ℕ) (r : Result Line LineBad) → length bs ≤ LONGEST → (text ≡ bs) × IsUtf8 bs → LineAnswers r (line_in text) → Answers bs r
 answers_line bs text (Ok l) short t h = ((short, t.1), ap line_in (sym t.0) ∙ h)
 answers_line bs text (Err Form) short t h = ((short, t.1), ap line_in (sym t.0) ∙ h)
-answers_line bs text (Err Memory) short t h = (short, t.1)
+answers_line bs text (Err Memory) short t h = ((short, t.1), subst (λ (o : Option Line). IsSomeAnd o HasContent) (ap line_in t.0) h)
 answers_line bs text (Err Long) short t h = absurd h
 answers_line bs text (Err Utf8) short t h = absurd h
 
@@ -217,6 +219,17 @@ answers_form bs (Err Form) h e = (h.0, λ l is. let f : None ≡ Some l = sym h.
 answers_form bs (Err Memory) h e = cc
 answers_form bs (Err Long) h e = cc
 answers_form bs (Err Utf8) h e = cc
+
+content_of : (bs : List ℕ) (o : Option Line) → line_in bs ≡ o → IsSomeAnd o HasContent → (l : Line) × IsLine bs l × HasContent l
+content_of bs None e h = absurd h
+content_of bs (Some l) e h = (l, line_found bs l e, h)
+
+pub answers_memory : (bs : List ℕ) (r : Result Line LineBad) → Answers bs r → r ≡ Err Memory → (l : Line) × IsText bs × IsLine bs l × HasContent l
+answers_memory bs (Ok k) h e = cc
+answers_memory bs (Err Form) h e = cc
+answers_memory bs (Err Memory) h e = let c = content_of bs (line_in bs) refl h.1 in (c.0, h.0, c.1, c.2)
+answers_memory bs (Err Long) h e = cc
+answers_memory bs (Err Utf8) h e = cc
 
 -- each line in range has a spelling, and no bytes are two lines
 pub spelling_is : (l : Line) → IsInRange l → IsLine (spelling l) l

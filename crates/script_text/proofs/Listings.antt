@@ -1,38 +1,37 @@
--- Items with commas between them, put one behind the other.
-use Rattle.std.proofs.Common.{◌≡◌, ℕ, suc, ◌+◌, ◌==◌, List, [], ◌∷◌, ◌++◌, length, take, map, if◌then◌else◌, Some, refl, sym, ap, ◌∙◌, append_assoc, arith}
-use Rattle.std.proofs.Math.Dec.{eqb-suc-zero}
-use Rattle.std.specs.List.{slice_get, join_with_byte}
-use Rattle.std.proofs.lemmas.List.{length-map, length-take-le, map-append, take_more}
-use Rattle.std.proofs.lemmas.Option.{slice_get_within, get_or_from_slice_get}
+-- Items with commas between them, put one after the other.
+use Rattle.std.proofs.Common.{◌≡◌, ℕ, ◌+◌, ◌<◌, List, [], ◌∷◌, ◌++◌, length, take, map, refl, sym, ap, ◌∙◌, append_assoc, arith}
+use Rattle.std.specs.Prelude.{slice_index_or}
+use Rattle.std.specs.List.{join_with_byte, flat_map}
+use Rattle.std.proofs.lemmas.List.{append-nil, take_more, take_all}
+use Rattle.std.proofs.lemmas.List.Concat.{flat_map-append, flat_map-cons}
+use Rattle.script_text.specs.Report.{listed, with_commas}
 
--- the items before the i-th element's stand there
-abbrev pub IsListedUpTo : {A : Type 0} → (A → List ℕ) → List A → ℕ → List ℕ → Type 0
-IsListedUpTo text xs i list = list ≡ join_with_byte 44 (map text (take i xs))
+-- the first item, and each other one with a comma before it
+pub listed_first : {A : Type 0} (text : A → List ℕ) (x : A) (xs : List A) → listed (map text (x ∷ xs)) ≡ text x ++ with_commas text xs
+listed_first text x [] = sym (append-nil (text x))
+listed_first text x (y ∷ ys) =
+    ap (λ (t : List ℕ). text x ++ 44 ∷ t) (listed_first text y ys) ∙ ap (λ (t : List ℕ). text x ++ t) (sym (flat_map-cons (λ z. 44 ∷ text z) y ys))
 
--- an item as it stands behind n others
-abbrev pub behind : ℕ → List ℕ → List ℕ
-behind n item = if n == 0 then item else 44 ∷ item
+-- the first item and then the others
+pub listed_both : {A : Type 0} (text : A → List ℕ) (all : List A) (x : A) (xs : List A) (start was now : List ℕ) → all ≡ x ∷ xs → was ≡ start ++ text x → now ≡ was ++ with_commas text xs → now ≡ start ++ listed (map text all)
+listed_both {A = A} text all x xs start was now is first others =
+    let list : listed (map text all) ≡ text x ++ with_commas text xs = ap (λ (l : List A). listed (map text l)) is ∙ listed_first text x xs in
+    others ∙ (ap (λ (t : List ℕ). t ++ with_commas text xs) first ∙ (append_assoc start (text x) (with_commas text xs) ∙ ap (λ (t : List ℕ). start ++ t) (sym list)))
 
-behind_more : (n : ℕ) (item : List ℕ) → behind (suc n) item ≡ 44 ∷ item
-behind_more n item = rw (eqb-suc-zero n) refl
+-- the items before the i-th stand there
+abbrev pub IsListedUpTo : {A : Type 0} → (A → List ℕ) → List ℕ → List A → ℕ → List ℕ → Type 0
+IsListedUpTo text start xs i now = now ≡ start ++ with_commas text (take i xs)
 
-join_more : (items : List (List ℕ)) (item : List ℕ) → join_with_byte 44 (items ++ item ∷ []) ≡ join_with_byte 44 items ++ behind (length items) item
-join_more [] item = refl
-join_more (x ∷ []) item = ap (λ (t : List ℕ). x ++ t) (sym (behind_more 0 item))
-join_more (x ∷ (y ∷ items)) item =
-    let all = 44 ∷ join_with_byte 44 (y ∷ items) in
-    ap (λ (t : List ℕ). x ++ 44 ∷ t) (join_more (y ∷ items) item)
-    ∙ (ap (λ (t : List ℕ). x ++ (all ++ t)) (behind_more (length items) item ∙ sym (behind_more (suc (length items)) item))
-    ∙ sym (append_assoc x all (behind (suc (suc (length items))) item)))
+module _ {A : Type 0} (text : A → List ℕ) (start : List ℕ) (xs : List A) where
+  pub listed_none : (now : List ℕ) → now ≡ start → IsListedUpTo text start xs 0 now
+  listed_none now e = e ∙ sym (append-nil start)
 
--- the next item is put
-pub listed_more : {A : Type 0} (text : A → List ℕ) (xs : List A) (i : ℕ) (x : A) (item was now : List ℕ) → slice_get xs i ≡ Some x → item ≡ text x → IsListedUpTo text xs i was → now ≡ was ++ behind i item → IsListedUpTo text xs (i + 1) now
-listed_more {A = A} text xs i x item was now at is up put =
-    let within = slice_get_within xs i x at in
-    let before = map text (take i xs) in
-    let one_more : take (i + 1) xs ≡ take i xs ++ x ∷ [] = take_more xs i x within ∙ ap (λ (y : A). take i xs ++ y ∷ []) (get_or_from_slice_get xs i x x at) in
-    let items : map text (take (i + 1) xs) ≡ before ++ text x ∷ [] = ap (map text) one_more ∙ map-append text (take i xs) (x ∷ []) in
-    let long : length before ≡ i = length-map (take i xs) text ∙ length-take-le i xs (omega (arith, within)) in
-    put ∙ (ap (λ (t : List ℕ). was ++ behind i t) is ∙ (ap (λ (t : List ℕ). t ++ behind i (text x)) up
-    ∙ (ap (λ (n : ℕ). join_with_byte 44 before ++ behind n (text x)) (sym long)
-    ∙ sym (ap (join_with_byte 44) items ∙ join_more before (text x)))))
+  pub listed_more : (i : ℕ) (d : A) (was now : List ℕ) → i < length xs → IsListedUpTo text start xs i was → now ≡ was ++ (44 ∷ text (slice_index_or xs i d)) → IsListedUpTo text start xs (i + 1) now
+  listed_more i d was now within up put =
+      let x = slice_index_or xs i d in
+      let items : with_commas text (take (i + 1) xs) ≡ with_commas text (take i xs) ++ (44 ∷ text x) =
+      ap (with_commas text) (take_more xs i d within) ∙ (flat_map-append (λ z. 44 ∷ text z) (take i xs) (x ∷ []) ∙ ap (λ (t : List ℕ). with_commas text (take i xs) ++ t) (append-nil (44 ∷ text x))) in
+      put ∙ (ap (λ (t : List ℕ). t ++ (44 ∷ text x)) up ∙ (append_assoc start (with_commas text (take i xs)) (44 ∷ text x) ∙ ap (λ (t : List ℕ). start ++ t) (sym items)))
+
+  pub listed_end : (i : ℕ) (now : List ℕ) → ¬ (i < length xs) → IsListedUpTo text start xs i now → now ≡ start ++ with_commas text xs
+  listed_end i now past up = up ∙ ap (λ (t : List A). start ++ with_commas text t) (take_all i xs (omega (arith, past)))

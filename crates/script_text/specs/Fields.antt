@@ -4,6 +4,8 @@ use Rattle.std.specs.Str.{all_ascii_digits, is_utf8, all_scalars, IsUtf8}
 use Rattle.std.specs.Result.{result_ok}
 use Rattle.hex.specs.Hex.{decode_of}
 use Rattle.op_name.specs.NameData.{NameData, IsName}
+use Rattle.op_name.specs.declared.name.TheConstants.{SITES, NUMBERS}
+use Rattle.script_text.specs.declared.reading.parse.TheConstants.{LONGEST}
 use Rattle.script_text.specs.Names.{name_text}
 use Rattle.std.specs.Str.Parse.{digits_value}
 
@@ -11,7 +13,7 @@ infixl 10 ◌>>=◌
 abbrev pub ◌>>=◌ : {A B : Type 0} → Option A → (A → Option B) → Option B
 o >>= f = option_and_then f o
 
--- what stands before the first c and what stands behind it, if there is a c
+-- what stands before the first c and what stands after it, if there is a c
 unfoldable pub cut : ℕ → List ℕ → Option (List ℕ × List ℕ)
 cut c [] = None
 cut c (b ∷ bs) = if b == c then Some ([], bs) else option_map (λ p. (b ∷ p.0, p.1)) (cut c bs)
@@ -43,17 +45,17 @@ is_numeral ds = starts_numeral ds && all_ascii_digits ds
 unfoldable pub number_of : List ℕ → Option ℕ
 number_of ds = if is_numeral ds && nat_lt (digits_value 10 ds) (2 ^ 32) then Some (digits_value 10 ds) else None
 
--- a site: 0 to 63
+-- a site: from 0, below SITES
 unfoldable pub site_of : List ℕ → Option ℕ
-site_of bs = tested (λ n. nat_lt n 64) number_of bs
+site_of bs = tested (λ n. nat_lt n SITES) number_of bs
 
--- a number of sites: 1 to 64
+-- a number of sites: 1 to SITES
 unfoldable pub count_of : List ℕ → Option ℕ
-count_of bs = tested (λ n. nat_le 1 n && nat_le n 64) number_of bs
+count_of bs = tested (λ n. nat_le 1 n && nat_le n SITES) number_of bs
 
 -- the name that a site and a number make, if they are in its range
 abbrev pub named : ℕ × ℕ → Option NameData
-named x = if nat_le 1 x.1 && nat_le x.1 1000000 then Some (record { site = x.0; number = x.1 }) else None
+named x = if nat_le 1 x.1 && nat_le x.1 NUMBERS then Some (record { site = x.0; number = x.1 }) else None
 
 -- a name, `S.N`
 unfoldable pub name_of : List ℕ → Option NameData
@@ -79,11 +81,11 @@ IsCharacters bs cs = (bs ≡ encode_utf8_all cs) × (0 < length cs) × IsTrue (a
 
 -- the field spells the site
 abbrev pub IsSite : List ℕ → ℕ → Type 0
-IsSite bs n = (bs ≡ decimal n) × (n < 64)
+IsSite bs n = (bs ≡ decimal n) × (n < SITES)
 
 -- the field spells the number of sites
 abbrev pub IsCount : List ℕ → ℕ → Type 0
-IsCount bs n = (bs ≡ decimal n) × (1 ≤ n) × (n ≤ 64)
+IsCount bs n = (bs ≡ decimal n) × (1 ≤ n) × (n ≤ SITES)
 
 -- the field spells the name
 abbrev pub IsNameText : List ℕ → NameData → Type 0
@@ -97,6 +99,6 @@ IsHex hex bytes = (decode_of hex ≡ Ok bytes) × (0 < length bytes)
 abbrev pub IsPair : {A B : Type 0} → ℕ → (List ℕ → A → Type 0) → (List ℕ → B → Type 0) → List ℕ → A × B → Type 0
 IsPair c First Second bs x = (a : List ℕ) × (b : List ℕ) × (bs ≡ a ++ c ∷ b) × First a x.0 × Second b x.1
 
--- the bytes may be a line: at most 262,144 of them, in UTF-8 (RFC 3629)
+-- the bytes may be a line: at most LONGEST of them, in UTF-8 (RFC 3629)
 abbrev pub IsText : List ℕ → Type 0
-IsText bs = (length bs ≤ 262144) × IsUtf8 bs
+IsText bs = (length bs ≤ LONGEST) × IsUtf8 bs

@@ -1,10 +1,11 @@
 -- Lines of scripts: how each is spelled, and in what range its parts are.
-use Rattle.std.specs.Prelude.{◌≡◌, ℕ, ◌<◌, ◌≤◌, ◌^◌, List, [], ◌∷◌, ◌++◌, length, codes, decimal, encode_utf8_all, Ok, ◌⊎◌, IsTrue}
+use Rattle.std.specs.Prelude.{◌≡◌, ℕ, ◌<◌, ◌≤◌, ◌^◌, List, [], ◌∷◌, ◌++◌, length, codes, decimal, encode_utf8_all, Option, Some, None, Ok, ◌⊎◌, IsTrue}
 use Rattle.std.specs.Str.{all_scalars}
 use Rattle.hex.specs.Hex.{decode_of, encode_lower, IsBytes}
 use Rattle.op_name.specs.NameData.{IsName}
-use Rattle.script_text.specs.declared.lines.Line.{Line}
-use Rattle.script_text.specs.declared.lines.Line.TheVariants.{Blank, Sites, Ins, Nl, Del, Undo, Redo, Give, All, Sync, Raw, Show, State}
+use Rattle.op_name.specs.declared.name.TheConstants.{SITES}
+use Rattle.script_text.specs.declared.reading.line.Line.{Line}
+use Rattle.script_text.specs.declared.reading.line.Line.TheVariants.{Blank, Sites, Ins, Nl, Del, Undo, Redo, Give, All, Sync, Raw, Show, State}
 use Rattle.script_text.specs.Names.{name_text}
 
 -- a word and its fields; two fields
@@ -33,18 +34,18 @@ spelling (State site) = command (codes "state") (decimal site)
 -- the parts of the line are in range
 abbrev pub IsInRange : Line → Type 0
 IsInRange Blank = Unit {0}
-IsInRange (Sites count) = (1 ≤ count) × (count ≤ 64)
-IsInRange (Ins site place text) = (site < 64) × (place < 2 ^ 32) × (0 < length text) × IsTrue (all_scalars text)
-IsInRange (Nl site place) = (site < 64) × (place < 2 ^ 32)
-IsInRange (Del site place) = (site < 64) × (place < 2 ^ 32)
-IsInRange (Undo site name) = (site < 64) × IsName name.site name.number
-IsInRange (Redo site name) = (site < 64) × IsName name.site name.number
-IsInRange (Give site message) = (site < 64) × (message < 2 ^ 32)
-IsInRange (All site) = site < 64
+IsInRange (Sites count) = (1 ≤ count) × (count ≤ SITES)
+IsInRange (Ins site place text) = (site < SITES) × (place < 2 ^ 32) × (0 < length text) × IsTrue (all_scalars text)
+IsInRange (Nl site place) = (site < SITES) × (place < 2 ^ 32)
+IsInRange (Del site place) = (site < SITES) × (place < 2 ^ 32)
+IsInRange (Undo site name) = (site < SITES) × IsName name.site name.number
+IsInRange (Redo site name) = (site < SITES) × IsName name.site name.number
+IsInRange (Give site message) = (site < SITES) × (message < 2 ^ 32)
+IsInRange (All site) = site < SITES
 IsInRange Sync = Unit {0}
-IsInRange (Raw site bytes) = (site < 64) × (0 < length bytes) × IsBytes bytes
-IsInRange (Show site) = site < 64
-IsInRange (State site) = site < 64
+IsInRange (Raw site bytes) = (site < SITES) × (0 < length bytes) × IsBytes bytes
+IsInRange (Show site) = site < SITES
+IsInRange (State site) = site < SITES
 
 -- the bytes spell what the line says. A line that does nothing is empty or starts with `#`; the digits of `raw` are of
 -- either case; each other line has its one spelling
@@ -56,3 +57,25 @@ IsSpelled bs line = bs ≡ spelling line
 -- the bytes are the line: a row of the table, spelled so, with its parts in range
 abbrev pub IsLine : List ℕ → Line → Type 0
 IsLine bs line = IsSpelled bs line × IsInRange line
+
+-- the site that the line speaks of; a line that does nothing, `sites` and `sync` speak of no one site
+abbrev pub line_site : Line → Option ℕ
+line_site Blank = None
+line_site (Sites count) = None
+line_site Sync = None
+line_site (Ins site place text) = Some site
+line_site (Nl site place) = Some site
+line_site (Del site place) = Some site
+line_site (Undo site name) = Some site
+line_site (Redo site name) = Some site
+line_site (Give site message) = Some site
+line_site (All site) = Some site
+line_site (Raw site bytes) = Some site
+line_site (Show site) = Some site
+line_site (State site) = Some site
+
+-- the line has a text or bytes
+abbrev pub HasContent : Line → Type 0
+HasContent (Ins site place text) = Unit {0}
+HasContent (Raw site bytes) = Unit {0}
+HasContent line = ⊥

@@ -1,12 +1,12 @@
 -- The lines of a report.
 use Rattle.std.specs.Prelude.{ℕ, List, [], ◌∷◌, ◌++◌, length, map, decimal, codes, if◌then◌else◌}
-use Rattle.std.specs.List.{join_with_byte}
+use Rattle.std.specs.List.{join_with_byte, flat_map}
 use Rattle.context_vector.specs.Contexts.{ContextData}
 use Rattle.context_diff.specs.Operations.{OpData, inserting, deleting, undoing}
 use Rattle.context_diff.specs.Histories.{is_even}
 use Rattle.script_text.specs.Names.{name_text, group_text}
-use Rattle.script_text.specs.declared.refusal.Refusal.{Refusal}
-use Rattle.script_text.specs.declared.refusal.Refusal.TheVariants.{Limit, Long, Utf8, Form, NoSites, Twice, NoSite, NoMessage}
+use Rattle.script_text.specs.declared.report.refusal.Refusal.{Refusal}
+use Rattle.script_text.specs.declared.report.refusal.Refusal.TheVariants.{Limit, Long, Utf8, Form, NoSites, Twice, NoSite, NoMessage}
 
 -- what a local operation does, in words: an undo at an even generation is a redo
 abbrev pub turn_word : ℕ → List ℕ
@@ -42,6 +42,10 @@ shown_text chars text =
 abbrev pub listed : List (List ℕ) → List ℕ
 listed [] = codes "-"
 listed (item ∷ items) = join_with_byte 44 (item ∷ items)
+
+-- items with a comma before each
+abbrev pub with_commas : {A : Type 0} → (A → List ℕ) → List A → List ℕ
+with_commas text xs = flat_map (λ x. 44 ∷ text x) xs
 
 -- `S:COUNT`
 abbrev pub count_text : ℕ × ℕ → List ℕ

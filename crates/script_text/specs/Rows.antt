@@ -1,7 +1,7 @@
--- The table of lines, as it is read: a word, and a reader of the fields behind it.
+-- The table of lines, as it is read: a word, and a reader of the fields after it.
 use Rattle.std.specs.Prelude.{ℕ, List, [], ◌∷◌, codes, bytes_eq, Option, None, option_map, if◌then◌else◌}
-use Rattle.script_text.specs.declared.lines.Line.{Line}
-use Rattle.script_text.specs.declared.lines.Line.TheVariants.{Sites, Ins, Nl, Del, Undo, Redo, Give, All, Raw, Show, State}
+use Rattle.script_text.specs.declared.reading.line.Line.{Line}
+use Rattle.script_text.specs.declared.reading.line.Line.TheVariants.{Sites, Ins, Nl, Del, Undo, Redo, Give, All, Raw, Show, State}
 use Rattle.script_text.specs.Fields.{pair_by, count_of, site_of, number_of, name_of, text_of, octets_of}
 
 unfoldable pub sites_row : List ℕ → Option Line
@@ -41,11 +41,14 @@ state_row bs = option_map (λ s. State s) (site_of bs)
 abbrev pub Row : Type 0
 Row = List ℕ × (List ℕ → Option Line)
 
+-- the rows without a text and without bytes
+abbrev pub plain_table : List Row
+plain_table =
+    (codes "sites", sites_row) ∷ (codes "nl", nl_row) ∷ (codes "del", del_row) ∷ (codes "undo", undo_row) ∷ (codes "redo", redo_row)
+    ∷ (codes "give", give_row) ∷ (codes "all", all_row) ∷ (codes "show", show_row) ∷ (codes "state", state_row) ∷ []
+
 abbrev pub table : List Row
-table =
-    (codes "sites", sites_row) ∷ (codes "ins", ins_row) ∷ (codes "nl", nl_row) ∷ (codes "del", del_row)
-    ∷ (codes "undo", undo_row) ∷ (codes "redo", redo_row) ∷ (codes "give", give_row) ∷ (codes "all", all_row)
-    ∷ (codes "raw", raw_row) ∷ (codes "show", show_row) ∷ (codes "state", state_row) ∷ []
+table = (codes "ins", ins_row) ∷ (codes "raw", raw_row) ∷ plain_table
 
 -- what the row of this word reads
 abbrev pub row_in : List Row → List ℕ → List ℕ → Option Line

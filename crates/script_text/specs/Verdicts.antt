@@ -7,8 +7,8 @@ use Rattle.cot_site.specs.declared.verdict.Verdict.TheVariants.{Repeat, Forged, 
 use Rattle.cot_site.specs.declared.local.Local.{Local}
 use Rattle.cot_site.specs.declared.local.Local.TheVariants as local
 use Rattle.script_text.specs.Names.{name_text, member_text}
-use Rattle.script_text.specs.declared.event.Event.{Event}
-use Rattle.script_text.specs.declared.event.Event.TheVariants.{Give, Free}
+use Rattle.script_text.specs.declared.report.event.Event.{Event}
+use Rattle.script_text.specs.declared.report.event.Event.TheVariants.{Give, Free}
 
 -- a forged operation is named by its name
 abbrev pub forged_text : NameData → List ℕ

@@ -4,31 +4,14 @@
 //! line is appended to the bytes of a report by a call of its own, with its line feed.
 #![tactic(auto)]
 
-mod chars;
-mod event;
-mod field;
-mod lines;
-mod made;
-mod members;
-mod octets;
-mod raw;
-mod reasons;
-mod refusal;
-mod rows;
-mod shown;
-mod states;
-mod verdicts;
+mod reading;
+mod report;
 
-pub use chars::Chars;
-pub use event::{Event, verdict_line};
-pub use lines::{LONGEST, Line, LineBad, each_line_has_a_spelling, parse_line};
-pub use made::op_line;
-pub use octets::Octets;
-pub use raw::{raw_bad_line, raw_more_line};
-pub use reasons::local_line;
-pub use refusal::{Refusal, refused_line};
-pub use shown::shown_lines;
-pub use states::state_line;
+pub use reading::{Chars, LONGEST, Line, LineBad, Octets, each_line_has_a_spelling, parse_line};
+pub use report::{
+    Event, Refusal, local_line, op_line, put_group, put_made, put_member, put_name, put_reason,
+    put_verdict, raw_bad_line, raw_more_line, refused_line, shown_lines, state_line, verdict_line,
+};
 
 #[cfg(test)]
 mod tests;

@@ -1,6 +1,6 @@
 //! Every row of the table of lines, and what is no row.
 
-use crate::lines::{LONGEST, Line, LineBad, each_line_has_a_spelling, parse_line};
+use crate::{LONGEST, Line, LineBad, each_line_has_a_spelling, parse_line};
 use std::alloc::Global;
 
 /// The word of the line, with two of its numbers: the site or the number of sites; the place, the message or the

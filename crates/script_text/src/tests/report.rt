@@ -3,13 +3,10 @@
 ghost use Rattle.std.specs.Prelude.{IfOk};
 ghost use Rattle.op_name.specs.Members.{IsMember};
 
-use crate::event::{Event, verdict_line};
-use crate::made::op_line;
-use crate::raw::{raw_bad_line, raw_more_line};
-use crate::reasons::local_line;
-use crate::refusal::{Refusal, refused_line};
-use crate::shown::shown_lines;
-use crate::states::state_line;
+use crate::{
+    Event, Refusal, local_line, op_line, raw_bad_line, raw_more_line, refused_line, shown_lines,
+    state_line, verdict_line,
+};
 use context_diff::Op;
 use context_vector::Vector;
 use cot_site::{Local, Verdict};
@@ -30,7 +27,7 @@ fn refused_lines(rt: HostRuntime) -> Result<(), Memory> {
     ];
     for (cause, wanted) in cases {
         let mut out = Vec::new(rt.alloc());
-        refused_line(rt.alloc(), 7, cause, &mut out)?;
+        refused_line(7, cause, &mut out)?;
         assert!(rt; out.as_slice() == wanted.as_bytes(), "{wanted}");
     }
     Ok(())
@@ -39,8 +36,8 @@ fn refused_lines(rt: HostRuntime) -> Result<(), Memory> {
 #[test]
 fn shown_texts(rt: HostRuntime) -> Result<(), Memory> {
     let mut out = Vec::new(rt.alloc());
-    shown_lines(rt.alloc(), 0, b"", &mut out)?;
-    shown_lines(rt.alloc(), 2, "p\u{e9}".as_bytes(), &mut out)?;
+    shown_lines(0, b"", &mut out)?;
+    shown_lines(2, "p\u{e9}".as_bytes(), &mut out)?;
     assert!(rt; out.as_slice() == "text 0 0\n\ntext 2 3\np\u{e9}\n".as_bytes());
     Ok(())
 }
@@ -95,7 +92,7 @@ fn op_lines(rt: HostRuntime) -> Result<(), Memory> {
     ];
     for (message, op, wanted) in cases.iter() {
         let mut out = Vec::new(alloc);
-        op_line(alloc, *message, op, &mut out)?;
+        op_line(*message, op, &mut out)?;
         assert!(rt; out.as_slice() == wanted.as_bytes(), "{wanted}");
     }
     Ok(())
@@ -208,7 +205,7 @@ fn verdict_lines(rt: HostRuntime) -> Result<(), Memory> {
     ];
     for (event, site, member, verdict, wanted) in cases {
         let mut out = Vec::new(alloc);
-        verdict_line(alloc, event, site, member, verdict, &mut out)?;
+        verdict_line(event, site, member, verdict, &mut out)?;
         assert!(rt; out.as_slice() == wanted.as_bytes(), "{wanted}");
     }
     Ok(())
@@ -218,20 +215,19 @@ fn verdict_lines(rt: HostRuntime) -> Result<(), Memory> {
 fn local_lines(rt: HostRuntime) -> Result<(), Memory> {
     let alloc = rt.alloc();
     let mut out = Vec::new(alloc);
-    local_line(alloc, Local::InForce { generation: 0 }, &mut out)?;
-    local_line(alloc, Local::NotInForce { generation: 1 }, &mut out)?;
-    local_line(alloc, Local::Unknown { name: name(0, 9)? }, &mut out)?;
+    local_line(Local::InForce { generation: 0 }, &mut out)?;
+    local_line(Local::NotInForce { generation: 1 }, &mut out)?;
+    local_line(Local::Unknown { name: name(0, 9)? }, &mut out)?;
     local_line(
-        alloc,
         Local::PlaceOut {
             place: 5,
             visible: 1,
         },
         &mut out,
     )?;
-    local_line(alloc, Local::GenerationFull, &mut out)?;
-    local_line(alloc, Local::NumberFull, &mut out)?;
-    local_line(alloc, Local::ContextFull { entries: 16_385 }, &mut out)?;
+    local_line(Local::GenerationFull, &mut out)?;
+    local_line(Local::NumberFull, &mut out)?;
+    local_line(Local::ContextFull { entries: 16_385 }, &mut out)?;
     let wanted =
         "no inforce 0\nno notinforce 1\nno unknown 0.9\nno place 5 1\nno generationfull\nno numberfull\nno contextfull 16385\n";
     assert!(rt; out.as_slice() == wanted.as_bytes());
@@ -263,9 +259,9 @@ fn state_lines(rt: HostRuntime) -> Result<(), Memory> {
         (0, 1, 1),
     ];
     let mut out = Vec::new(alloc);
-    state_line(alloc, 1, &Vector::new(alloc), 2, &mut out)?;
-    state_line(alloc, 1, &vector(alloc, &turned)?, 0, &mut out)?;
-    state_line(alloc, 63, &vector(alloc, &several)?, 7, &mut out)?;
+    state_line(1, &Vector::new(alloc), 2, &mut out)?;
+    state_line(1, &vector(alloc, &turned)?, 0, &mut out)?;
+    state_line(63, &vector(alloc, &several)?, 7, &mut out)?;
     let wanted =
         "state 1 have - groups - waiting 2\nstate 1 have 0:1 groups 0.1/2 waiting 0\nstate 63 have 0:2,2:1 groups 0.1/1,0.2/1,2.1/1 waiting 7\n";
     assert!(rt; out.as_slice() == wanted.as_bytes());
@@ -275,10 +271,10 @@ fn state_lines(rt: HostRuntime) -> Result<(), Memory> {
 #[test]
 fn raw_lines(rt: HostRuntime) -> Result<(), Memory> {
     let mut out = Vec::new(rt.alloc());
-    raw_bad_line(rt.alloc(), 0, "char", 14, &mut out)?;
-    raw_more_line(rt.alloc(), 0, 21, &mut out)?;
-    raw_bad_line(rt.alloc(), 0, "own", 6, &mut out)?;
-    raw_bad_line(rt.alloc(), 0, "toolong", 0, &mut out)?;
+    raw_bad_line(0, "char", 14, &mut out)?;
+    raw_more_line(0, 21, &mut out)?;
+    raw_bad_line(0, "own", 6, &mut out)?;
+    raw_bad_line(0, "toolong", 0, &mut out)?;
     assert!(rt;
         out.as_slice()
             == "raw 0 bad char 14\nraw 0 more 21\nraw 0 bad own 6\nraw 0 bad toolong 0\n".as_bytes()

@@ -1,0 +1,13 @@
+//! Reading the lines of scripts.
+
+mod chars;
+mod field;
+mod line;
+mod octets;
+mod parse;
+mod rows;
+
+pub use chars::Chars;
+pub use line::{Line, LineBad};
+pub use octets::Octets;
+pub use parse::{LONGEST, each_line_has_a_spelling, parse_line};

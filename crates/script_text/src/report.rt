@@ -1,0 +1,22 @@
+//! Writing the lines of reports.
+
+mod event;
+mod made;
+mod members;
+mod put;
+mod raw;
+mod reasons;
+mod refusal;
+mod shown;
+mod states;
+mod verdicts;
+
+pub use event::{Event, verdict_line};
+pub use made::{op_line, put_made};
+pub use members::{put_group, put_member, put_name};
+pub use raw::{raw_bad_line, raw_more_line};
+pub use reasons::{local_line, put_reason};
+pub use refusal::{Refusal, refused_line};
+pub use shown::shown_lines;
+pub use states::state_line;
+pub use verdicts::put_verdict;
