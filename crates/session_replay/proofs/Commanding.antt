@@ -13,11 +13,11 @@ use Rattle.cot_site.specs.declared.local.Local.{Local}
 use Rattle.cot_site.specs.declared.local.Local.TheVariants as local
 use Rattle.script_text.specs.Report.{op_text}
 use Rattle.script_text.specs.Verdicts.{local_text}
-use Rattle.session_replay.specs.declared.session.commands.Command.{Command}
-use Rattle.session_replay.specs.Steps.{last_of, written_by, AreDone}
+use Rattle.session_replay.specs.declared.sites.commands.Command.{Command}
+use Rattle.session_replay.specs.Steps.{last_of, written_by}
 use Rattle.session_replay.specs.Sessions.{SessionData, site_at, settling, made}
-use Rattle.session_replay.specs.Commands.{commanded}
-use Rattle.session_replay.specs.Doing.{local_of}
+use Rattle.session_replay.specs.LineSteps.{commanded}
+use Rattle.session_replay.specs.Code.Doing.{AreDone, local_of}
 use Rattle.session_replay.proofs.Lifting.{session_of, state_at, made_done, made_formed}
 
 -- what stands where it was written

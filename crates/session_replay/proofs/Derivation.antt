@@ -1,7 +1,7 @@
 -- The report that is read with forms: a view that agrees with the histories of a session gives the same steps, line by line, and
 -- so the same report.
 use Rattle.std.proofs.Common.{◌≡◌, ℕ, ◌+◌, ◌<◌, Bool, true, inl, inr, List, [], ◌∷◌, ◌++◌, length, Result, Ok, Err, refl, ap, sym, subst, ◌∙◌}
-use Rattle.std.specs.Prelude.{nat_lt, if◌then◌else◌}
+use Rattle.std.specs.Prelude.{Option, Some, None, IfSome, nat_lt, if◌then◌else◌}
 use Rattle.std.specs.Str.{all_scalars}
 use Rattle.std.proofs.lemmas.Bool.{cases_Bool, and_parts, ltb-true}
 use Rattle.context_diff.specs.Operations.{OpData}
@@ -11,27 +11,27 @@ use Rattle.ttf_form.specs.declared.form.Form.{Form}
 use Rattle.cot_site.specs.Views.{View, history_view, forms_view, AreFormLists}
 use Rattle.cot_site.specs.Commands.{insert_in, delete_in, local_insert}
 use Rattle.cot_site.specs.declared.local.Local.{Local}
-use Rattle.cot_site.proofs.FormLists.{computed_of, computed_lists, lists_show}
-use Rattle.script_text.specs.Lines.{IsInRange}
-use Rattle.script_text.specs.declared.lines.Line.{Line}
-use Rattle.script_text.specs.declared.lines.Line.TheVariants as line
-use Rattle.script_text.specs.declared.refusal.Refusal.{Refusal}
+use Rattle.cot_site.proofs.CallerLemmas.{computed_of, computed_lists, lists_show}
+use Rattle.script_text.specs.declared.reading.line.Line.{Line}
+use Rattle.script_text.specs.declared.reading.line.Line.TheVariants as line
+use Rattle.script_text.specs.declared.report.refusal.Refusal.{Refusal}
 use Rattle.session_replay.specs.declared.session.StepBad.{StepBad}
 use Rattle.session_replay.specs.declared.session.StepBad.TheVariants.{NoSite}
+use Rattle.script_text.specs.Lines.{line_site}
 use Rattle.session_replay.specs.Steps.{Step, last_of, written_by}
 use Rattle.session_replay.specs.Sessions.{SessionData, site_at, made, unstarted}
-use Rattle.session_replay.specs.Commands.{told, commanded, typed, typed_in, typed_on, show_text_in, at_known, started_line, started_line_in, first_line, line_steps, line_steps_in}
-use Rattle.session_replay.specs.Scripts.{Report, Piece, behind, line_read, pieces_of, steps_or, steps_of_read, steps_of_read_in, piece_steps, piece_steps_in, report_on, report_from, report_from_in, script_report, script_report_in, sessions_on, sessions_from, sessions_from_in, sessions_of, sessions_of_in}
+use Rattle.session_replay.specs.LineSteps.{told, commanded, typed, typed_in, typed_on, show_text_in, once_started, at_site_of, steps_there, steps_there_in, line_steps, line_steps_in, AreValues}
+use Rattle.session_replay.specs.Scripts.{Report, Piece, prepended, line_read, pieces_of, steps_or, steps_of_read, steps_of_read_in, piece_steps, piece_steps_in, report_on, report_from, report_from_in, script_report, script_report_in}
 use Rattle.session_replay.specs.Derivation.{IsDerivedReport}
-use Rattle.session_replay.specs.Laws.{IsSound}
-use Rattle.session_replay.proofs.Sound.{Kept, good_made, good_last, site_fine}
+use Rattle.session_replay.specs.Soundness.{IsSound}
+use Rattle.session_replay.proofs.Sound.{Kept, good_made, good_last, site_sound}
 use Rattle.session_replay.proofs.LineLaws.{inserted_next}
-use Rattle.session_replay.proofs.ScriptLaws.{Rests, unstarted_rests, read_range, piece_rests}
+use Rattle.session_replay.proofs.ScriptLaws.{Rests, unstarted_rests, read_values, piece_rests}
 
 -- a view that sees of each valid history what the history shows
 module _ (view : State → View) (agrees : (s : State) → IsValid s.history → view s ≡ history_view s) where
   seen_at : (d : SessionData) (i : ℕ) → IsSound d → i < length d.sites → view (site_at d i) ≡ history_view (site_at d i)
-  seen_at d i sound within = agrees (site_at d i) (site_fine d i sound within).valid
+  seen_at d i sound within = agrees (site_at d i) (site_sound d i sound within).history
 
   -- ---- a text
 
@@ -54,51 +54,44 @@ module _ (view : State → View) (agrees : (s : State) → IsValid s.history →
 
   -- ---- lines
 
-  at_known_same : (i : ℕ) (d : SessionData) (r q : Result (List (Step SessionData)) StepBad) → (i < length d.sites → r ≡ q) → at_known i d r ≡ at_known i d q
-  at_known_same i d r q same =
+  guarded_same : (o : Option ℕ) (d : SessionData) (r q : Result (List (Step SessionData)) StepBad) → (IfSome o (λ i. i < length d.sites) → r ≡ q) → at_site_of o d r ≡ at_site_of o d q
+  guarded_same None d r q same = same tt
+  guarded_same (Some i) d r q same =
       elim (cases_Bool (nat_lt i (length d.sites))) [
-        | inl less ↦ ap (λ (x : Result (List (Step SessionData)) StepBad). at_known i d x) (same (ltb-true i (length d.sites) less))
-        | inr not ↦ ap (λ (b : Bool). if b then r else Err NoSite) not ∙ sym (ap (λ (b : Bool). if b then q else Err NoSite) not)
+        | inl less ↦ ap (λ (x : Result (List (Step SessionData)) StepBad). at_site_of (Some i) d x) (same (ltb-true i (length d.sites) less))
+        | inr not ↦ ap (λ (b : Bool). once_started d (if b then r else Err NoSite)) not ∙ sym (ap (λ (b : Bool). once_started d (if b then q else Err NoSite)) not)
       ]
 
-  started_same : (l : Line) (d : SessionData) → IsSound d → IsInRange l → started_line_in view l d ≡ started_line l d
-  started_same line.Blank d sound range = refl
-  started_same (line.Sites n) d sound range = refl
-  started_same (line.Ins i v text) d sound range =
-      at_known_same i d (Ok (typed_in view i v text d)) (Ok (typed i v text d))
-      (λ within. ap (λ es. Ok es) (typed_same text range.3 (length d.sites) i v within d (record { sound = sound; sites = refl })))
-  started_same (line.Nl i v) d sound range =
-      at_known_same i d (Ok (commanded i (insert_in (view (site_at d i)) (site_at d i) v 10) d)) (Ok (commanded i (insert_in (history_view (site_at d i)) (site_at d i) v 10) d))
-      (λ within. ap (λ (x : View). Ok (commanded i (insert_in x (site_at d i) v 10) d)) (seen_at d i sound within))
-  started_same (line.Del i v) d sound range =
-      at_known_same i d (Ok (commanded i (delete_in (view (site_at d i)) (site_at d i) v) d)) (Ok (commanded i (delete_in (history_view (site_at d i)) (site_at d i) v) d))
-      (λ within. ap (λ (x : View). Ok (commanded i (delete_in x (site_at d i) v) d)) (seen_at d i sound within))
-  started_same (line.Undo i t) d sound range = refl
-  started_same (line.Redo i t) d sound range = refl
-  started_same (line.Give i m) d sound range = refl
-  started_same (line.All i) d sound range = refl
-  started_same line.Sync d sound range = refl
-  started_same (line.Raw i bytes) d sound range = refl
-  started_same (line.Show i) d sound range =
-      at_known_same i d (Ok (told (show_text_in view i d) d)) (Ok (told (show_text_in history_view i d) d))
-      (λ within. ap (λ (x : View). Ok (told (show_text_in (λ s. x) i d) d)) (seen_at d i sound within))
-  started_same (line.State i) d sound range = refl
+  there_same : (l : Line) (d : SessionData) → IsSound d → AreValues l → IfSome (line_site l) (λ i. i < length d.sites) → steps_there_in view l d ≡ steps_there l d
+  there_same line.Blank d sound values within = refl
+  there_same (line.Sites n) d sound values within = refl
+  there_same (line.Ins i v text) d sound values within = ap (λ es. Ok es) (typed_same text values (length d.sites) i v within d (record { sound = sound; sites = refl }))
+  there_same (line.Nl i v) d sound values within = ap (λ (x : View). Ok (commanded i (insert_in x (site_at d i) v 10) d)) (seen_at d i sound within)
+  there_same (line.Del i v) d sound values within = ap (λ (x : View). Ok (commanded i (delete_in x (site_at d i) v) d)) (seen_at d i sound within)
+  there_same (line.Undo i t) d sound values within = refl
+  there_same (line.Redo i t) d sound values within = refl
+  there_same (line.Give i m) d sound values within = refl
+  there_same (line.All i) d sound values within = refl
+  there_same line.Sync d sound values within = refl
+  there_same (line.Raw i bytes) d sound values within = refl
+  there_same (line.Show i) d sound values within = ap (λ (x : View). Ok (told (show_text_in (λ s. x) i d) d)) (seen_at d i sound within)
+  there_same (line.State i) d sound values within = refl
 
-  line_same : (l : Line) (d : SessionData) → IsSound d → IsInRange l → line_steps_in view l d ≡ line_steps l d
-  line_same l d sound range = ap (λ (r : Result (List (Step SessionData)) StepBad). if nat_lt 0 (length d.sites) then r else first_line l) (started_same l d sound range)
+  pub line_same : (l : Line) (d : SessionData) → IsSound d → AreValues l → line_steps_in view l d ≡ line_steps l d
+  line_same l d sound values = guarded_same (line_site l) d (steps_there_in view l d) (steps_there l d) (there_same l d sound values)
 
   piece_same : (p : Piece) (d : SessionData) → IsSound d → piece_steps_in view p d ≡ piece_steps p d
   piece_same p d sound = from (line_read p) refl
     where
       from : (r : Result Line Refusal) → line_read p ≡ r → steps_of_read_in view r d ≡ steps_of_read r d
       from (Err why) is = refl
-      from (Ok l) is = ap (λ (r : Result (List (Step SessionData)) StepBad). steps_or r) (line_same l d sound (read_range p l is))
+      from (Ok l) is = ap (λ (r : Result (List (Step SessionData)) StepBad). steps_or r) (line_same l d sound (read_values p l is))
 
   -- ---- reports
 
   report_on_same : (next other : SessionData → Report) (number : ℕ) (r : Result (List (Step SessionData)) Refusal) (d : SessionData) → ((es : List (Step SessionData)) → r ≡ Ok es → next (last_of d es) ≡ other (last_of d es)) → report_on next number r d ≡ report_on other number r d
   report_on_same next other number (Err why) d same = refl
-  report_on_same next other number (Ok es) d same = ap (λ (rest : Report). behind (written_by es) rest) (same es refl)
+  report_on_same next other number (Ok es) d same = ap (λ (rest : Report). prepended (written_by es) rest) (same es refl)
 
   report_same : (pieces : List Piece) (number : ℕ) (d : SessionData) → Rests d → report_from_in view number pieces d ≡ report_from number pieces d
   unfolding report_from_in
@@ -111,23 +104,6 @@ module _ (view : State → View) (agrees : (s : State) → IsValid s.history →
   pub script_same : (bytes : List ℕ) → script_report_in view bytes ≡ script_report bytes
   script_same bytes = report_same (pieces_of bytes) 1 unstarted unstarted_rests
 
-  -- ---- sessions
-
-  sessions_on_same : (next other : SessionData → List SessionData) (r : Result (List (Step SessionData)) Refusal) (d : SessionData) → ((es : List (Step SessionData)) → r ≡ Ok es → next (last_of d es) ≡ other (last_of d es)) → sessions_on next r d ≡ sessions_on other r d
-  sessions_on_same next other (Err why) d same = refl
-  sessions_on_same next other (Ok es) d same = ap (λ (rest : List SessionData). last_of d es ∷ rest) (same es refl)
-
-  sessions_same : (pieces : List Piece) (d : SessionData) → Rests d → sessions_from_in view pieces d ≡ sessions_from pieces d
-  unfolding sessions_from_in
-  sessions_same [] d rests = refl
-  sessions_same (p ∷ pieces) d rests =
-      ap (λ (r : Result (List (Step SessionData)) Refusal). sessions_on (sessions_from_in view pieces) r d) (piece_same p d rests.0)
-      ∙ sessions_on_same (sessions_from_in view pieces) (sessions_from pieces) (piece_steps p d) d
-      (λ es is. sessions_same pieces (last_of d es) (piece_rests p d es rests is))
-
-  pub script_sessions_same : (bytes : List ℕ) → sessions_of_in view bytes ≡ sessions_of bytes
-  script_sessions_same bytes = ap (λ (rest : List SessionData). unstarted ∷ rest) (sessions_same (pieces_of bytes) unstarted unstarted_rests)
-
 -- the report of a script is read with forms
 pub report_derived : (bytes : List ℕ) → IsDerivedReport bytes (script_report bytes)
 report_derived bytes = record {
@@ -139,7 +115,3 @@ report_derived bytes = record {
 -- and whatever is read with forms is the report
 pub derived_once : (bytes : List ℕ) (r : Report) → IsDerivedReport bytes r → r ≡ script_report bytes
 derived_once bytes r is = is.report ∙ script_same (forms_view is.forms) (λ s valid. lists_show is.forms s is.lists valid) bytes
-
--- and the sessions are the same
-pub sessions_derived : (bytes : List ℕ) (forms : State → List Form) → AreFormLists forms → sessions_of_in (forms_view forms) bytes ≡ sessions_of bytes
-sessions_derived bytes forms are = script_sessions_same (forms_view forms) (λ s valid. lists_show forms s are valid) bytes

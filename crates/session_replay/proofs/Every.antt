@@ -1,8 +1,8 @@
--- What holds of the state behind each step.
+-- What holds of the state after each step.
 use Rattle.std.proofs.Common.{List, [], ◌∷◌, ◌++◌, sym, subst}
 use Rattle.session_replay.specs.Steps.{Step, last_of, IsReached}
 
--- it holds of the state behind each of these steps
+-- it holds of the state after each of these steps
 abbrev pub Every : {S : Type 0} → (S → Type 0) → List (Step S) → Type 0
 Every P [] = Unit {0}
 Every P (e ∷ es) = P e.after × Every P es

@@ -3,12 +3,13 @@ pub mod Releasing
 pub mod Splits
 pub mod Endings
 pub mod Every
-pub mod States
 pub mod Sound
 pub mod LineLaws
 pub mod ScriptLaws
+pub mod Transcripts
 pub mod Derivation
 pub mod Lifting
 pub mod Commanding
 pub mod Loops
 pub mod Lines
+pub mod Characters

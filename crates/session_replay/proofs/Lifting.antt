@@ -6,12 +6,13 @@ use Rattle.context_diff.specs.Operations.{OpData, IsWellFormed}
 use Rattle.context_diff.specs.Histories.{IsValid}
 use Rattle.context_diff.specs.declared.op.Op.{Op}
 use Rattle.context_diff.specs.Ops.{data_of}
-use Rattle.context_diff.proofs.Valid.{valid_pop}
+use Rattle.context_diff.proofs.CallerLemmas.{valid_pop}
 use Rattle.cot_site.specs.States.{State, with_last}
 use Rattle.cot_site.specs.Sites.{SiteData, state_of, AllFormed}
-use Rattle.cot_site.proofs.Waiting.{held_formed, formed_at}
+use Rattle.cot_site.proofs.CallerLemmas.{held_formed, formed_at}
 use Rattle.script_text.specs.Report.{op_text}
-use Rattle.session_replay.specs.Steps.{Step, last_of, written_by, IsReached, AreDone}
+use Rattle.session_replay.specs.Steps.{Step, last_of, written_by, IsReached}
+use Rattle.session_replay.specs.Code.Doing.{AreDone}
 use Rattle.session_replay.specs.Sessions.{SessionData, site_at, new_site, at_site, taking_in, settling, given, made}
 use Rattle.session_replay.proofs.Steps.{reached_again}
 

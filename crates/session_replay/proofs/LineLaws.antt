@@ -1,34 +1,36 @@
 -- Lines: what each does keeps sessions sound and ends settled.
 use Rattle.std.proofs.Common.{◌≡◌, ℕ, zero, suc, ◌+◌, ◌<◌, ◌≤◌, Bool, true, false, inl, inr, List, [], ◌∷◌, ◌++◌, length, Result, Ok, Err, refl, ap, sym, subst, ◌∙◌, arith}
-use Rattle.std.specs.Prelude.{Option, Some, None, slice_get, drop, nat_lt, if◌then◌else◌}
+use Rattle.std.specs.Prelude.{Contains, Option, Some, None, IfSome, slice_get, drop, nat_lt, nat_le, if◌then◌else◌}
 use Rattle.std.specs.Char.{IsScalar}
 use Rattle.std.specs.Str.{all_scalars}
-use Rattle.std.proofs.lemmas.Bool.{cases_Bool, and_parts, ltb-true}
+use Rattle.std.proofs.lemmas.Bool.{cases_Bool, and_parts, ltb-true, leb-true}
 use Rattle.context_diff.specs.Operations.{OpData, IsWellFormed}
-use Rattle.context_diff.specs.Histories.{IsNext}
-use Rattle.context_diff.proofs.Known.{contains_here, contains_later}
+use Rattle.context_diff.specs.Histories.{IsNext, IsValid}
+use Rattle.context_diff.proofs.CallerLemmas.{contains_cases, contains_here, contains_later, contains_none}
+use Rattle.cot_site.specs.States.{State}
+use Rattle.cot_site.proofs.CallerLemmas.{settled_none, local_insert_next, local_delete_next, local_undo_next, local_redo_next, formed_at}
 use Rattle.cot_site.specs.Sites.{AllFormed}
 use Rattle.cot_site.specs.Commands.{local_insert, local_delete, local_undo, local_redo}
 use Rattle.cot_site.specs.declared.local.Local.{Local}
-use Rattle.cot_site.proofs.LocalOps.{local_insert_next, local_delete_next, local_undo_next, local_redo_next}
-use Rattle.cot_site.proofs.Waiting.{formed_at}
+use Rattle.wire_codec.specs.Causes.{cause_word}
 use Rattle.wire_codec.specs.Judging.{judge}
 use Rattle.wire_codec.specs.declared.fault.Refused.{Refused}
 use Rattle.wire_codec.specs.declared.fault.Refused.TheVariants.{More, Bad}
-use Rattle.wire_codec.proofs.Steps.{IsBytes, IsBytes-drop}
-use Rattle.wire_codec.proofs.Judgement.{judge_takes}
+use Rattle.wire_codec.proofs.CallerLemmas.{IsBytes, IsBytes-drop, judge_takes}
 use Rattle.script_text.specs.Report.{raw_more_text, raw_bad_text}
 use Rattle.script_text.specs.Verdicts.{local_text}
-use Rattle.script_text.specs.Lines.{IsInRange}
-use Rattle.script_text.specs.declared.lines.Line.{Line}
-use Rattle.script_text.specs.declared.lines.Line.TheVariants.{Blank, Sites, Ins, Nl, Del, Undo, Redo, Give, All, Sync, Raw, Show, State}
+use Rattle.script_text.specs.declared.reading.line.Line.{Line}
+use Rattle.script_text.specs.declared.reading.line.Line.TheVariants as line
 use Rattle.session_replay.specs.declared.session.StepBad.{StepBad}
-use Rattle.session_replay.specs.declared.session.StepBad.TheVariants.{Twice, NoSite, NoMessage}
+use Rattle.session_replay.specs.declared.session.StepBad.TheVariants.{NoSites, Twice, NoSite, NoMessage}
+use Rattle.script_text.specs.Lines.{line_site}
 use Rattle.session_replay.specs.Steps.{Step, last_of}
-use Rattle.session_replay.specs.Sessions.{SessionData, site_at, made, given, given_all, synced}
-use Rattle.session_replay.specs.Commands.{told, commanded, typed, typed_in, typed_on, cause_word, framed, framed_on, given_message, at_known, started_line, show_text, have_text}
-use Rattle.session_replay.specs.Laws.{IsSound}
-use Rattle.session_replay.proofs.Sound.{Good, Kept, good_none, good_told, good_made, good_given, good_then, good_last, site_fine}
+use Rattle.session_replay.specs.Sessions.{SessionData, site_at, new_site, new_sites, opened, made, given, given_all, synced}
+use Rattle.session_replay.specs.LineSteps.{told, commanded, typed, typed_in, typed_on, framed, framed_on, given_message, once_started, at_site_of, opening, steps_there, line_steps, AreValues, show_text, have_text}
+use Rattle.session_replay.specs.Events.{Opening}
+use Rattle.session_replay.specs.Soundness.{IsSound, AreSettled}
+use Rattle.session_replay.proofs.Every.{Every, every_map}
+use Rattle.session_replay.proofs.Sound.{Good, Kept, Eventful, eventless, one_event, good_none, good_told, good_made, good_given, good_then, good_last, site_sound}
 
 -- ---- local commands
 
@@ -49,8 +51,8 @@ good_typed_on next i (Err why) d sound within is rest = good_told (local_text wh
 
 pub inserted_next : (d : SessionData) (i v ch : ℕ) → IsSound d → i < length d.sites → IsScalar ch → (o : OpData) → local_insert (site_at d i) v ch ≡ Ok o → IsNext (site_at d i).history o
 inserted_next d i v ch sound within scalar o is =
-    let fine = site_fine d i sound within in
-    local_insert_next (site_at d i) fine.valid fine.number o v ch scalar is
+    let fine = site_sound d i sound within in
+    local_insert_next (site_at d i) fine.history fine.number o v ch scalar is
 
 good_typed : (chs : List ℕ) → all_scalars chs ≡ true → (n i v : ℕ) → i < n → GoodNext n (typed i v chs)
 unfolding typed_in
@@ -92,7 +94,52 @@ good_framed (suc m) (b ∷ bytes) are n i within d kept =
     good_framed_on (framed m i) i (b ∷ bytes) (judge (b ∷ bytes)) d kept.sound here (λ o used is. (judge_takes (b ∷ bytes) o used are is).well)
     (λ k. subst (λ l. GoodNext l (framed m i (drop k (b ∷ bytes)))) (sym kept.sites) (good_framed m (drop k (b ∷ bytes)) (IsBytes-drop k (b ∷ bytes) are) n i within))
 
+-- ---- the first sites
+
+-- a site that has nothing yet, of a number below this
+record Fresh (n : ℕ) (s : State) : Type 0 where
+  number : s.number < n
+  history : s.history ≡ []
+  waiting : s.waiting ≡ []
+
+fresh_sites : (n i m : ℕ) → i + n ≤ m → (s : State) → Contains (new_sites i n) s → Fresh m s
+unfolding new_sites
+fresh_sites zero i m few s at = absurd (contains_none s at)
+fresh_sites (suc n) i m few s at =
+    elim (contains_cases (new_site i) (new_sites (suc i) n) s at) [
+      | inl same ↦ subst (Fresh m) same (record { number = omega (arith, few); history = refl; waiting = refl })
+      | inr later ↦ fresh_sites n (suc i) m (omega (arith, few)) s later
+    ]
+
+opened_sound : (n : ℕ) → n ≤ 64 → IsSound (opened n)
+opened_sound n few = record {
+  sites = λ s at.
+      let fresh = fresh_sites n 0 64 (omega (arith, few)) s at in
+      record {
+        number = fresh.number;
+        history = subst IsValid (sym fresh.history) tt;
+        waiting = subst AllFormed (sym fresh.waiting) (λ o there. absurd (contains_none o there));
+      };
+  messages = λ o at. absurd (contains_none o at);
+}
+
+opened_settled : (n : ℕ) → n ≤ 64 → AreSettled (opened n)
+opened_settled n few s at = (settled_none s).1 (λ o there. absurd (contains_none o (subst (λ w. Contains w o) (fresh_sites n 0 64 (omega (arith, few)) s at).waiting there)))
+
 -- ---- lines
+
+-- each step leaves a sound session, and from a settled session on the last one is settled
+pub record Lasting (d : SessionData) (es : List (Step SessionData)) : Type 0 where
+  pub all : Every IsSound es
+  pub settles : AreSettled d → AreSettled (last_of d es)
+  pub events : Eventful d es
+
+from_good : (d : SessionData) (es : List (Step SessionData)) → Good d es → Lasting d es
+from_good d es good = record { all = every_map (Kept (length d.sites)) IsSound (λ s kept. kept.sound) es good.all; settles = good.settles; events = good.events }
+
+nothing_lasts : (d : SessionData) → Lasting d []
+unfolding last_of
+nothing_lasts d = record { all = tt; settles = λ s. s; events = eventless d }
 
 ok_steps : (es fs : List (Step SessionData)) → ◌≡◌ {A = Result (List (Step SessionData)) StepBad} (Ok es) (Ok fs) → es ≡ fs
 ok_steps es fs e = cc
@@ -100,48 +147,87 @@ ok_steps es fs e = cc
 err_steps : (why : StepBad) (fs : List (Step SessionData)) → ◌≡◌ {A = Result (List (Step SessionData)) StepBad} (Err why) (Ok fs) → ⊥
 err_steps why fs e = cc
 
--- a line at a site is done where the site is there
-at_known_ok : (i : ℕ) (d : SessionData) (r : Result (List (Step SessionData)) StepBad) (es : List (Step SessionData)) → at_known i d r ≡ Ok es → (i < length d.sites) × (r ≡ Ok es)
-at_known_ok i d r es is =
-    elim (cases_Bool (nat_lt i (length d.sites))) [
-      | inl less ↦ (ltb-true i (length d.sites) less, sym (ap (λ (b : Bool). if b then r else Err NoSite) less) ∙ is)
-      | inr not ↦ absurd (err_steps NoSite es (sym (ap (λ (b : Bool). if b then r else Err NoSite) not) ∙ is))
+-- these steps are good
+good_lasts : (d : SessionData) (fs es : List (Step SessionData)) → ◌≡◌ {A = Result (List (Step SessionData)) StepBad} (Ok fs) (Ok es) → Good d fs → Lasting d es
+good_lasts d fs es is good = subst (Lasting d) (ok_steps fs es is) (from_good d fs good)
+
+-- steps of a started session
+started_ok : (d : SessionData) (r : Result (List (Step SessionData)) StepBad) (es : List (Step SessionData)) → once_started d r ≡ Ok es → r ≡ Ok es
+started_ok d r es is =
+    elim (cases_Bool (nat_lt 0 (length d.sites))) [
+      | inl some ↦ sym (ap (λ (b : Bool). if b then r else Err NoSites) some) ∙ is
+      | inr none ↦ absurd (err_steps NoSites es (sym (ap (λ (b : Bool). if b then r else Err NoSites) none) ∙ is))
     ]
 
-good_at : (i : ℕ) (d : SessionData) (fs es : List (Step SessionData)) → at_known i d (Ok fs) ≡ Ok es → (i < length d.sites → Good d fs) → Good d es
-good_at i d fs es is good =
-    let known = at_known_ok i d (Ok fs) es is in
-    subst (Good d) (ok_steps fs es known.1) (good known.0)
+-- steps at a site that is there, if they speak of one
+pub site_there : (o : Option ℕ) (d : SessionData) (r : Result (List (Step SessionData)) StepBad) (es : List (Step SessionData)) → at_site_of o d r ≡ Ok es → IfSome o (λ i. i < length d.sites) × (r ≡ Ok es)
+site_there None d r es is = (tt, is)
+site_there (Some i) d r es is =
+    let inner = started_ok d (if nat_lt i (length d.sites) then r else Err NoSite) es is in
+    elim (cases_Bool (nat_lt i (length d.sites))) [
+      | inl less ↦ (ltb-true i (length d.sites) less, sym (ap (λ (b : Bool). if b then r else Err NoSite) less) ∙ inner)
+      | inr not ↦ absurd (err_steps NoSite es (sym (ap (λ (b : Bool). if b then r else Err NoSite) not) ∙ inner))
+    ]
 
-good_message : (i m : ℕ) (d : SessionData) (es : List (Step SessionData)) → IsSound d → at_known i d (given_message i (slice_get d.messages m) d) ≡ Ok es → Good d es
-good_message i m d es sound is = from (slice_get d.messages m) refl (at_known_ok i d (given_message i (slice_get d.messages m) d) es is).1
+-- the sites that were just made
+opened_lasts : (n : ℕ) (d : SessionData) → n ≤ 64 → Lasting d (told [] (opened n))
+unfolding last_of
+opened_lasts n d few = record {
+  all = (opened_sound n few, tt);
+  settles = λ s. opened_settled n few;
+  events = one_event d (Opening n) (opened_sound n few) tt (λ s. opened_settled n few);
+}
+
+opening_lasts : (n : ℕ) (d : SessionData) (es : List (Step SessionData)) → opening n d ≡ Ok es → Lasting d es
+opening_lasts n d es is =
+    elim (cases_Bool (nat_lt 0 (length d.sites))) [
+      | inl some ↦ absurd (err_steps Twice es (sym (ap (λ (b : Bool). if b then Err Twice else if nat_le n 64 then Ok (told [] (opened n)) else Err NoSite) some) ∙ is))
+      | inr none ↦ first (sym (ap (λ (b : Bool). if b then Err Twice else if nat_le n 64 then Ok (told [] (opened n)) else Err NoSite) none) ∙ is)
+    ]
   where
-    within : i < length d.sites
-    within = (at_known_ok i d (given_message i (slice_get d.messages m) d) es is).0
+    first : (if nat_le n 64 then Ok (told [] (opened n)) else Err NoSite) ≡ Ok es → Lasting d es
+    first same =
+        elim (cases_Bool (nat_le n 64)) [
+          | inl few ↦
+              subst (Lasting d) (ok_steps (told [] (opened n)) es (sym (ap (λ (b : Bool). if b then Ok (told [] (opened n)) else Err NoSite) few) ∙ same)) (opened_lasts n d (leb-true n 64 few))
+          | inr many ↦ absurd (err_steps NoSite es (sym (ap (λ (b : Bool). if b then Ok (told [] (opened n)) else Err NoSite) many) ∙ same))
+        ]
 
-    from : (r : Option OpData) → slice_get d.messages m ≡ r → given_message i r d ≡ Ok es → Good d es
+good_message : (i m : ℕ) (d : SessionData) (es : List (Step SessionData)) → IsSound d → i < length d.sites → given_message i (slice_get d.messages m) d ≡ Ok es → Lasting d es
+good_message i m d es sound within is = from (slice_get d.messages m) refl is
+  where
+    from : (r : Option OpData) → slice_get d.messages m ≡ r → given_message i r d ≡ Ok es → Lasting d es
     from None none e = absurd (err_steps NoMessage es e)
-    from (Some o) some e = subst (Good d) (ok_steps (given false i o d) es e) (good_given false d i o sound within (formed_at d.messages m o sound.messages some))
+    from (Some o) some e = good_lasts d (given false i o d) es e (good_given false d i o sound within (formed_at d.messages m o sound.messages some))
 
-pub good_line : (line : Line) (d : SessionData) (es : List (Step SessionData)) → IsSound d → IsInRange line → started_line line d ≡ Ok es → Good d es
-good_line Blank d es sound range is = subst (Good d) (ok_steps [] es is) (good_none d)
-good_line (Sites n) d es sound range is = absurd (err_steps Twice es is)
-good_line (Ins i v text) d es sound range is =
-    good_at i d (typed i v text d) es is (λ within. good_typed text range.3 (length d.sites) i v within d (record { sound = sound; sites = refl }))
-good_line (Nl i v) d es sound range is =
-    good_at i d (commanded i (local_insert (site_at d i) v 10) d) es is (λ within. good_command i (local_insert (site_at d i) v 10) d sound within (inserted_next d i v 10 sound within refl))
-good_line (Del i v) d es sound range is =
-    good_at i d (commanded i (local_delete (site_at d i) v) d) es is (λ within. let fine = site_fine d i sound within in good_command i (local_delete (site_at d i) v) d sound within (λ o e. local_delete_next (site_at d i) fine.valid fine.number o v e))
-good_line (Undo i t) d es sound range is =
-    good_at i d (commanded i (local_undo (site_at d i) t) d) es is (λ within. let fine = site_fine d i sound within in good_command i (local_undo (site_at d i) t) d sound within (λ o e. local_undo_next (site_at d i) fine.valid fine.number o t e))
-good_line (Redo i t) d es sound range is =
-    good_at i d (commanded i (local_redo (site_at d i) t) d) es is (λ within. let fine = site_fine d i sound within in good_command i (local_redo (site_at d i) t) d sound within (λ o e. local_redo_next (site_at d i) fine.valid fine.number o t e))
-good_line (Give i m) d es sound range is = good_message i m d es sound is
-good_line (All i) d es sound range is =
-    good_at i d (given_all i d.messages d) es is (λ within. good_all d.messages sound.messages (length d.sites) i within d (record { sound = sound; sites = refl }))
-good_line Sync d es sound range is =
-    subst (Good d) (ok_steps (synced 0 (length d.sites) d) es is) (good_synced (length d.sites) (length d.sites) 0 (omega arith) d (record { sound = sound; sites = refl }))
-good_line (Raw i bytes) d es sound range is =
-    good_at i d (framed (length bytes) i bytes d) es is (λ within. good_framed (length bytes) bytes range.2 (length d.sites) i within d (record { sound = sound; sites = refl }))
-good_line (Show i) d es sound range is = good_at i d (told (show_text i d) d) es is (λ within. good_told (show_text i d) d sound)
-good_line (State i) d es sound range is = good_at i d (told (have_text i d) d) es is (λ within. good_told (have_text i d) d sound)
+there_lasts : (l : Line) (d : SessionData) (es : List (Step SessionData)) → IsSound d → AreValues l → IfSome (line_site l) (λ i. i < length d.sites) → steps_there l d ≡ Ok es → Lasting d es
+there_lasts line.Blank d es sound values within is = subst (Lasting d) (ok_steps [] es is) (nothing_lasts d)
+there_lasts (line.Sites n) d es sound values within is = opening_lasts n d es is
+there_lasts (line.Ins i v text) d es sound values within is =
+    good_lasts d (typed i v text d) es is (good_typed text values (length d.sites) i v within d (record { sound = sound; sites = refl }))
+there_lasts (line.Nl i v) d es sound values within is =
+    good_lasts d (commanded i (local_insert (site_at d i) v 10) d) es is (good_command i (local_insert (site_at d i) v 10) d sound within (inserted_next d i v 10 sound within refl))
+there_lasts (line.Del i v) d es sound values within is =
+    let fine = site_sound d i sound within in
+    good_lasts d (commanded i (local_delete (site_at d i) v) d) es is (good_command i (local_delete (site_at d i) v) d sound within (λ o e. local_delete_next (site_at d i) fine.history fine.number o v e))
+there_lasts (line.Undo i t) d es sound values within is =
+    let fine = site_sound d i sound within in
+    good_lasts d (commanded i (local_undo (site_at d i) t) d) es is (good_command i (local_undo (site_at d i) t) d sound within (λ o e. local_undo_next (site_at d i) fine.history fine.number o t e))
+there_lasts (line.Redo i t) d es sound values within is =
+    let fine = site_sound d i sound within in
+    good_lasts d (commanded i (local_redo (site_at d i) t) d) es is (good_command i (local_redo (site_at d i) t) d sound within (λ o e. local_redo_next (site_at d i) fine.history fine.number o t e))
+there_lasts (line.Give i m) d es sound values within is = good_message i m d es sound within is
+there_lasts (line.All i) d es sound values within is =
+    good_lasts d (given_all i d.messages d) es is (good_all d.messages sound.messages (length d.sites) i within d (record { sound = sound; sites = refl }))
+there_lasts line.Sync d es sound values within is =
+    good_lasts d (synced 0 (length d.sites) d) es (started_ok d (Ok (synced 0 (length d.sites) d)) es is)
+    (good_synced (length d.sites) (length d.sites) 0 (omega arith) d (record { sound = sound; sites = refl }))
+there_lasts (line.Raw i bytes) d es sound values within is =
+    good_lasts d (framed (length bytes) i bytes d) es is (good_framed (length bytes) bytes values (length d.sites) i within d (record { sound = sound; sites = refl }))
+there_lasts (line.Show i) d es sound values within is = good_lasts d (told (show_text i d) d) es is (good_told (show_text i d) d sound)
+there_lasts (line.State i) d es sound values within is = good_lasts d (told (have_text i d) d) es is (good_told (have_text i d) d sound)
+
+pub line_lasts : (l : Line) (d : SessionData) (es : List (Step SessionData)) → IsSound d → AreValues l → line_steps l d ≡ Ok es → Lasting d es
+line_lasts l d es sound values is =
+    let there = site_there (line_site l) d (steps_there l d) es is in
+    there_lasts l d es sound values there.0 there.1

@@ -14,16 +14,17 @@ use Rattle.cot_site.specs.Views.{places_from, shown_places_of}
 use Rattle.cot_site.specs.Commands.{local_insert, place_behind, numbered, next_name}
 use Rattle.cot_site.specs.declared.local.Local.{Local}
 use Rattle.cot_site.specs.declared.local.Local.TheVariants.{PlaceOut}
-use Rattle.cot_site.proofs.LocalOps.{few_cells}
+use Rattle.cot_site.proofs.CallerLemmas.{few_cells}
 use Rattle.script_text.specs.Report.{raw_bad_text, raw_more_text}
+use Rattle.wire_codec.specs.Causes.{cause_word}
 use Rattle.wire_codec.specs.Judging.{judge, judged, longest, length_of}
 use Rattle.wire_codec.specs.declared.fault.Fault.{Fault}
 use Rattle.wire_codec.specs.declared.fault.Refused.{Refused}
 use Rattle.wire_codec.specs.declared.fault.Refused.TheVariants.{More, Bad}
 use Rattle.session_replay.specs.Steps.{Step, last_of}
 use Rattle.session_replay.specs.Sessions.{SessionData, site_at, given, given_all, synced, new_site, new_sites}
-use Rattle.session_replay.specs.Doing.{frame_bytes}
-use Rattle.session_replay.specs.Commands.{commanded, typed, typed_in, typed_on, framed, framed_on, told, cause_word}
+use Rattle.session_replay.specs.Code.Doing.{frame_bytes}
+use Rattle.session_replay.specs.LineSteps.{commanded, typed, typed_in, typed_on, framed, framed_on, told}
 
 -- the line of bytes that begin with no frame
 abbrev pub refused_frame : ℕ → Refused → List ℕ
@@ -79,7 +80,7 @@ places_few test n (c ∷ cs) = elim (cases_Bool (test c)) [
       subst (λ (b : Bool). length (if b then n ∷ places_from test (suc n) cs else places_from test (suc n) cs) ≤ suc (length cs)) (sym isnt) (omega (arith, places_few test (suc n) cs))
 ]
 
--- a character was inserted behind at most 64,000,000 others
+-- a character was inserted after at most 64,000,000 others
 pub place_small : (s : State) (v ch : ℕ) → IsValid s.history → true ≡ is_ok (local_insert s v ch) → v ≤ 64000000
 place_small s v ch valid ok = from (place_behind s.history v) refl ok
   where
@@ -92,7 +93,7 @@ place_small s v ch valid ok = from (place_behind s.history v) refl ok
 
 -- ---- messages
 
--- the message of a number and those behind it
+-- the message of a number and those after it
 pub given_more : (i k : ℕ) (os : List OpData) (d : SessionData) (o : OpData) → slice_get os k ≡ Some o → given_all i (drop k os) d ≡ given true i o d ++ given_all i (drop (k + 1) os) (last_of d (given true i o d))
 unfolding given_all
 given_more i k os d o at =
@@ -125,7 +126,7 @@ message_there (p ∷ ps) (suc k) within = message_there ps k (omega (arith, with
 
 -- ---- sites
 
--- the site of a number and those behind it
+-- the site of a number and those after it
 pub synced_more : (i n : ℕ) (d : SessionData) → i < n → synced i (n - i) d ≡ given_all i d.messages d ++ synced (i + 1) (n - (i + 1)) (last_of d (given_all i d.messages d))
 unfolding synced
 synced_more i n d within =
@@ -225,7 +226,7 @@ pub one_refused : (i : ℕ) (bytes : List ℕ) (d : SessionData) (r : Refused) �
 one_refused i bytes d (More least) some is = one_is i bytes d some ∙ ap (λ r. framed_on (framed 0 i) i bytes r d) (sym is)
 one_refused i bytes d (Bad f) some is = one_is i bytes d some ∙ ap (λ r. framed_on (framed 0 i) i bytes r d) (sym is)
 
--- the first frame, and those behind it
+-- the first frame, and those after it
 pub frames_on : (i : ℕ) (bytes : List ℕ) (d now : SessionData) (used : ℕ) → 0 < length bytes → Some used ≡ frame_bytes (judge bytes) → now ≡ last_of d (framed 1 i bytes d)
     → framed (length bytes) i bytes d ≡ framed 1 i bytes d ++ framed (length (drop used bytes)) i (drop used bytes) now
 frames_on i bytes d now used some is at = from (judge bytes) refl

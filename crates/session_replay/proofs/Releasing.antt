@@ -1,170 +1,105 @@
--- Releases one after the other: each takes one operation out of the waiting ones, so that all are done after so many.
-use Rattle.std.proofs.Common.{◌≡◌, ℕ, zero, suc, ◌<◌, inl, inr, List, [], ◌∷◌, ◌++◌, refl, sym, ap, subst, ◌∙◌, length, append-nil, arith}
-use Rattle.std.specs.Prelude.{Result, Option, Some, None, option_map, remove}
-use Rattle.std.proofs.lemmas.List.Edits.{length-remove}
-use Rattle.std.proofs.lemmas.Option.{none-some}
-use Rattle.op_name.specs.declared.member.Member.{Member}
-use Rattle.context_diff.specs.Operations.{OpData, member_of, IsWellFormed}
-use Rattle.context_diff.specs.Histories.{IsValid}
-use Rattle.context_diff.specs.declared.op.Op.{Op}
-use Rattle.context_diff.specs.Ops.{data_of}
-use Rattle.cot_site.specs.declared.verdict.Verdict.{Verdict}
-use Rattle.cot_site.specs.declared.verdict.Verdict.TheVariants.{Repeat, Forged, Waits, NotClosed, PlaceOut, Integrated}
-use Rattle.cot_site.specs.States.{State, Released, first_ready, released, released_at, after_verdict, after_release, without_waiting, delivered_again, delivered, judged}
-use Rattle.cot_site.specs.Sites.{IsRelease, AllFormed}
-use Rattle.cot_site.proofs.Releases.{FirstAnswer, first_answer, release_not_waits}
-use Rattle.cot_site.proofs.Waiting.{first_within}
-use Rattle.script_text.specs.declared.event.Event.TheVariants.{Free}
+-- The releases after an event, with their lines.
+use Rattle.std.proofs.Common.{◌≡◌, ℕ, zero, suc, ◌+◌, ◌<◌, ◌≤◌, List, [], ◌∷◌, ◌++◌, refl, sym, ap, subst, ◌∙◌, length, map, take, get_or, append-nil, append_assoc, arith}
+use Rattle.std.proofs.lemmas.List.{map-append}
+use Rattle.std.specs.Prelude.{Result, Ok, Err, Option, Some, None, OnOk, OnErr}
+use Rattle.std.proofs.lemmas.List.{take_all}
+use Rattle.context_diff.specs.Operations.{member_of}
+use Rattle.cot_site.specs.declared.release.Release.{Release}
+use Rattle.cot_site.specs.States.{State, Released, released, IsSettled}
+use Rattle.cot_site.specs.Releases.{IsSound as IsSoundSite, and_more, releases, all_releases, state_after, settled, release_of, IsPartlySettled}
+use Rattle.cot_site.proofs.CallerLemmas.{release_number, sound_released, settled_settles}
+use Rattle.script_text.specs.declared.report.event.Event.TheVariants.{Free}
 use Rattle.script_text.specs.Verdicts.{verdict_line_text}
-use Rattle.session_replay.specs.Steps.{Step, last_of, written_by, AreDone}
-use Rattle.session_replay.specs.Sessions.{freed, releases, all_releases, settling}
-use Rattle.session_replay.proofs.Steps.{done_first}
+use Rattle.session_replay.specs.Steps.{Step, last_of, written_by, IsReached}
+use Rattle.session_replay.specs.Code.Doing.{AreDone, IsFront, free_line, free_lines}
+use Rattle.session_replay.specs.Sessions.{free_step, settling}
+use Rattle.session_replay.proofs.Every.{Every}
+use Rattle.session_replay.proofs.Steps.{done_first, reached_at, front_same}
 
-waiting_kept : (v : Verdict) (o : OpData) (s : State) → ((m : Member) → ¬ (v ≡ Waits m)) → (after_verdict v o s).waiting ≡ s.waiting
-waiting_kept Repeat o s other = refl
-waiting_kept (Forged n) o s other = refl
-waiting_kept (Waits m) o s other = absurd (other m refl)
-waiting_kept (NotClosed k) o s other = refl
-waiting_kept (PlaceOut p k) o s other = refl
-waiting_kept Integrated o s other = refl
+-- ---- what releases leave and write
 
--- a release takes one operation out of the waiting ones
-pub release_fewer : (s : State) (r : Released) → IsValid s.history → AllFormed s.waiting → released s ≡ Some r → length s.waiting ≡ suc (length r.after.waiting)
-release_fewer s r valid formed is = from (first_answer s.history s.waiting)
-  where
-    from : FirstAnswer s.history s.waiting (first_ready s.history s.waiting) → length s.waiting ≡ suc (length r.after.waiting)
-    from (inr (none, _)) = absurd (none-some r (sym (ap (released_at s) none) ∙ is))
-    from (inl (i, some, found)) =
-        let whole : Some (delivered_again (without_waiting s i) found.op) ≡ Some r = sym (ap (released_at s) some ∙ ap (option_map (delivered_again (without_waiting s i))) found.at) ∙ is in
-        let same : delivered_again (without_waiting s i) found.op ≡ r = cc in
-        let waits : (m : Member) → ¬ (judged (without_waiting s i) found.op ≡ Waits m) = λ m e. release_not_waits s r m valid formed is (ap (λ (x : Released). x.verdict) (sym same) ∙ e) in
-        let left : r.after.waiting ≡ remove s.waiting i = ap (λ (x : Released). x.after.waiting) (sym same) ∙ waiting_kept (judged (without_waiting s i) found.op) found.op (without_waiting s i) waits in
-        let shorter = length-remove s.waiting i (first_within s.history s.waiting i some) in
-        omega (arith, shorter, ap length left)
+pub last_freed : (s : State) (rs : List Released) → last_of s (map free_step rs) ≡ state_after s rs
+unfolding last_of state_after
+last_freed s [] = refl
+last_freed s (r ∷ rs) = last_freed r.after rs
 
--- what is released is one of those that waited
-pub release_formed : (s : State) (r : Released) → AllFormed s.waiting → released s ≡ Some r → IsWellFormed r.op
-release_formed s r formed is = from (first_answer s.history s.waiting)
-  where
-    from : FirstAnswer s.history s.waiting (first_ready s.history s.waiting) → IsWellFormed r.op
-    from (inr (none, _)) = absurd (none-some r (sym (ap (released_at s) none) ∙ is))
-    from (inl (i, some, found)) =
-        let whole : Some (delivered_again (without_waiting s i) found.op) ≡ Some r = sym (ap (released_at s) some ∙ ap (option_map (delivered_again (without_waiting s i))) found.at) ∙ is in
-        let same : delivered_again (without_waiting s i) found.op ≡ r = cc in
-        subst IsWellFormed (ap (λ (x : Released). x.op) same) (formed found.op found.there)
+-- a release at a time
+freed_by : (n : ℕ) → ((t : State) → written_by (map free_step (releases n t)) ≡ free_lines t.number (map release_of (releases n t))) → (s : State) (r : Option Released) → released s ≡ r
+    → written_by (map free_step (and_more (releases n) r)) ≡ free_lines s.number (map release_of (and_more (releases n) r))
+unfolding written_by
+freed_by n rest s None none = refl
+freed_by n rest s (Some r) some =
+    ap (λ w. verdict_line_text Free r.after.number (member_of r.op) r.verdict ++ w) (rest r.after)
+    ∙ ap (λ k. free_line k (release_of r) ++ free_lines k (map release_of (releases n r.after))) (release_number s r some)
 
--- ---- the steps of releases
+-- no release changes the number of the site
+pub freed_lines : (n : ℕ) (s : State) → written_by (map free_step (releases n s)) ≡ free_lines s.number (map release_of (releases n s))
+unfolding written_by releases
+freed_lines zero s = refl
+freed_lines (suc n) s = freed_by n (freed_lines n) s (released s) refl
 
--- what a release writes and leaves
-abbrev pub release_step : Released → Step State
-release_step r = record { written = verdict_line_text Free r.after.number (member_of r.op) r.verdict; after = r.after }
+-- ---- states along releases
 
-pub releases_none : (n : ℕ) (s : State) → released s ≡ None → releases n s ≡ []
+sound_by : (n : ℕ) → ((t : State) → IsSoundSite t → Every IsSoundSite (map free_step (releases n t))) → (s : State) → IsSoundSite s → (r : Option Released) → released s ≡ r → Every IsSoundSite (map free_step (and_more (releases n) r))
+sound_by n rest s sound None none = tt
+sound_by n rest s sound (Some r) some = let after = sound_released s r sound some in (after, rest r.after after)
+
+sound_freed : (n : ℕ) (s : State) → IsSoundSite s → Every IsSoundSite (map free_step (releases n s))
 unfolding releases
-releases_none zero s none = refl
-releases_none (suc n) s none = ap (freed (releases n)) none
+sound_freed zero s sound = tt
+sound_freed (suc n) s sound = sound_by n (sound_freed n) s sound (released s) refl
 
-pub releases_some : (n : ℕ) (s : State) (r : Released) → released s ≡ Some r → releases (suc n) s ≡ release_step r ∷ releases n r.after
-unfolding releases
-releases_some n s r some = ap (freed (releases n)) some
+-- an event with its releases leaves sound states
+pub sound_settling : (written : List ℕ) (s : State) → IsSoundSite s → Every IsSoundSite (settling written s)
+sound_settling written s sound = (sound, sound_freed (length s.waiting) s sound)
 
-one_some : (s : State) (r : Released) → released s ≡ Some r → releases 1 s ≡ release_step r ∷ []
-unfolding releases
-one_some s r some = releases_some zero s r some
-
--- the state after one release, or none
-pub one_after : (s : State) → last_of s (releases 1 s) ≡ after_release s (released s)
+-- and at last a settled one
+pub settling_settles : (written : List ℕ) (s t : State) → IsSoundSite s → IsSettled (last_of t (settling written s))
 unfolding last_of
-one_after s = from (released s) refl
+settling_settles written s t sound = subst IsSettled (sym (last_freed s (all_releases s))) (settled_settles s sound)
+
+-- ---- what the calls of a site answer
+
+-- the lines so far, and the next one
+pub free_lines_more : (n i : ℕ) (rs : List Release) (r : Release) → i < length rs → r ≡ get_or rs i r → free_lines n (take (i + 1) rs) ≡ free_lines n (take i rs) ++ free_line n r
+free_lines_more n i rs r within is = ap (λ k. free_lines n (take k rs)) next ∙ more i rs within is
   where
-    from : (r : Option Released) → released s ≡ r → last_of s (releases 1 s) ≡ after_release s (released s)
-    from None none = ap (last_of s) (releases_none 1 s none) ∙ ap (after_release s) (sym none)
-    from (Some r) some = ap (last_of s) (one_some s r some) ∙ ap (after_release s) (sym some)
+    next : i + 1 ≡ suc i
+    next = omega arith
 
--- all releases are one, if there is one, and then all others
-pub one_of_all : (s : State) → IsValid s.history → AllFormed s.waiting → all_releases s ≡ releases 1 s ++ all_releases (last_of s (releases 1 s))
-one_of_all s valid formed = from (released s) refl
-  where
-    from : (r : Option Released) → released s ≡ r → all_releases s ≡ releases 1 s ++ all_releases (last_of s (releases 1 s))
-    from None none =
-        let same : last_of s (releases 1 s) ≡ s = one_after s ∙ ap (after_release s) none in
-        let nothing : all_releases s ≡ [] = releases_none (length s.waiting) s none in
-        nothing ∙ sym (ap (λ xs. xs ++ all_releases (last_of s (releases 1 s))) (releases_none 1 s none) ∙ ap (λ x. all_releases x) same ∙ nothing)
-    from (Some r) some =
-        let after : last_of s (releases 1 s) ≡ r.after = one_after s ∙ ap (after_release s) some in
-        let many : all_releases s ≡ releases (suc (length r.after.waiting)) s = ap (λ n. releases n s) (release_fewer s r valid formed some) in
-        many
-        ∙ releases_some (length r.after.waiting) s r some
-        ∙ sym (ap (λ xs. xs ++ all_releases (last_of s (releases 1 s))) (one_some s r some) ∙ ap (λ x. release_step r ∷ all_releases x) after)
+    more : (i : ℕ) (rs : List Release) → i < length rs → r ≡ get_or rs i r → free_lines n (take (suc i) rs) ≡ free_lines n (take i rs) ++ free_line n r
+    more i [] within is = absurd (omega (arith, within))
+    more zero (x ∷ xs) within is = append-nil (free_line n x) ∙ ap (free_line n) (sym is)
+    more (suc i) (x ∷ xs) within is =
+        ap (λ w. free_line n x ++ w) (more i xs (omega arith) is) ∙ sym (append_assoc (free_line n x) (free_lines n (take i xs)) (free_line n r))
 
--- once nothing is released, no release is left
-pub none_left : (s now : State) → released s ≡ None → now ≡ after_release s (released s) → all_releases now ≡ []
-none_left s now none at =
-    let same : now ≡ s = at ∙ ap (after_release s) none in
-    ap (λ x. all_releases x) same ∙ releases_none (length s.waiting) s none
+pub free_lines_all : (n i : ℕ) (rs : List Release) → length rs ≤ i → free_lines n (take i rs) ≡ free_lines n rs
+free_lines_all n i rs past = ap (free_lines n) (take_all i rs past)
 
--- ---- what one call of a site answers
+-- all releases are done, and so many of them are told
+pub all_freed : {T E : Type 0} (result : Result T E) (s now : State) (number : ℕ) (first list told : List Release) (old new : List ℕ)
+    → now ≡ settled s → number ≡ s.number → first ≡ [] → list ≡ first ++ map release_of (all_releases s) → told ≡ list → OnOk result (new ≡ old ++ free_lines number told) → OnErr result (IsFront old new)
+    → AreDone result (map free_step (all_releases s)) s now old new
+all_freed (Ok t) s now number first list told old new at named none listed same ok err =
+    let all : told ≡ map release_of (all_releases s) = same ∙ listed ∙ ap (λ xs. xs ++ map release_of (all_releases s)) none in
+    let line : free_lines number told ≡ written_by (map free_step (all_releases s)) = ap (λ k. free_lines k told) named ∙ ap (free_lines s.number) all ∙ sym (freed_lines (length s.waiting) s) in
+    (at ∙ sym (last_freed s (all_releases s)), ok ∙ ap (λ w. old ++ w) line)
+all_freed (Err e) s now number first list told old new at named none listed same ok err = (reached_at s now (map free_step (all_releases s)) (at ∙ sym (last_freed s (all_releases s))), err)
 
-pub no_release : (r : Option Released) → IsRelease r None → r ≡ None
-no_release None h = refl
-no_release (Some r) h = absurd h
-
--- the answer tells this release
-pub record IsFreed (s now : State) (p : Op × Verdict) : Type 0 where
-  pub release : Released
-  pub is : released s ≡ Some release
-  pub after : now ≡ release.after
-  pub op : release.op ≡ data_of p.0
-  pub verdict : release.verdict ≡ p.1
-
-pub freed_is : (s now : State) (p : Op × Verdict) → IsRelease (released s) (Some p) → now ≡ after_release s (released s) → IsFreed s now p
-freed_is s now p h at = from (released s) refl h at
-  where
-    from : (r : Option Released) → released s ≡ r → IsRelease r (Some p) → now ≡ after_release s r → IsFreed s now p
-    from None is h at = absurd h
-    from (Some r) is h at = record { release = r; is = is; after = at; op = h.0; verdict = h.1 }
-
-pub freed_step : (s now : State) (p : Op × Verdict) → IsFreed s now p → releases 1 s ≡ record { written = verdict_line_text Free now.number (member_of (data_of p.0)) p.1; after = now } ∷ []
-freed_step s now p f = one_some s f.release f.is ∙ same f.release f.after f.op f.verdict
-  where
-    same : (r : Released) → now ≡ r.after → r.op ≡ data_of p.0 → r.verdict ≡ p.1 → release_step r ∷ [] ≡ record { written = verdict_line_text Free now.number (member_of (data_of p.0)) p.1; after = now } ∷ []
-    same r after op verdict =
-        ap (λ (x : State). record { written = verdict_line_text Free x.number (member_of r.op) r.verdict; after = x } ∷ []) (sym after)
-        ∙ ap (λ (o : OpData). record { written = verdict_line_text Free now.number (member_of o) r.verdict; after = now } ∷ []) op
-        ∙ ap (λ (v : Verdict). record { written = verdict_line_text Free now.number (member_of (data_of p.0)) v; after = now } ∷ []) verdict
-
-pub freed_written : (s now : State) (p : Op × Verdict) → IsFreed s now p → written_by (releases 1 s) ≡ verdict_line_text Free now.number (member_of (data_of p.0)) p.1
-unfolding written_by
-freed_written s now p f = ap (λ (es : List (Step State)). written_by es) (freed_step s now p f) ∙ append-nil (verdict_line_text Free now.number (member_of (data_of p.0)) p.1)
-
-pub freed_formed : (s now : State) (p : Op × Verdict) → AllFormed s.waiting → IsFreed s now p → IsWellFormed (data_of p.0)
-freed_formed s now p formed f = subst IsWellFormed f.op (release_formed s f.release formed f.is)
-
-pub freed_fewer : (s now : State) (p : Op × Verdict) → IsValid s.history → AllFormed s.waiting → IsFreed s now p → length now.waiting < length s.waiting
-freed_fewer s now p valid formed f =
-    omega (arith, release_fewer s f.release valid formed f.is, ap (λ (x : State). length x.waiting) f.after)
-
--- nothing was released, and nothing is written
-pub none_done : (s now : State) (old : List ℕ) → released s ≡ None → now ≡ after_release s (released s) → (now ≡ last_of s (releases 1 s)) × (old ≡ old ++ written_by (releases 1 s))
-unfolding written_by
-none_done s now old none at = (at ∙ sym (one_after s), sym (ap (λ (es : List (Step State)). old ++ written_by es) (releases_none 1 s none) ∙ append-nil old))
-
--- ---- an event and the releases after it
+-- the first few releases are done, and none is told
+pub partly_freed : (s now : State) (old new : List Release) (out : List ℕ) → IsPartlySettled s now old new → IsReached s (map free_step (all_releases s)) now × IsFront out out
+partly_freed s now old new out partly = (
+  record {
+    done = map free_step partly.done;
+    left = map free_step partly.left;
+    parts = ap (map free_step) partly.parts ∙ map-append free_step partly.done partly.left;
+    state = partly.state ∙ sym (last_freed s partly.done);
+  },
+  front_same out,
+)
 
 -- the event is done and told, and then so many releases
-pub settled : {T E : Type 0} (result : Result T E) (w : List ℕ) (s after mid last : State) (old half new : List ℕ)
-    → mid ≡ after → half ≡ old ++ w → AreDone result (all_releases mid) mid last half new → AreDone result (settling w after) s last old new
-settled result w s after mid last old half new at written h =
-    done_first result (record { written = w; after = after }) (all_releases after) s last old half new written (subst (λ x. AreDone result (all_releases x) x last half new) at h)
-
--- no event changes the number of a site
-pub delivered_number : (s : State) (o : OpData) → (delivered s o).number ≡ s.number
-delivered_number s o = kept (judged s o)
-  where
-    kept : (v : Verdict) → (after_verdict v o s).number ≡ s.number
-    kept Repeat = refl
-    kept (Forged n) = refl
-    kept (Waits m) = refl
-    kept (NotClosed k) = refl
-    kept (PlaceOut p k) = refl
-    kept Integrated = refl
+pub event_done : {T E : Type 0} (result : Result T E) (w : List ℕ) (s after mid last : State) (old half new : List ℕ)
+    → mid ≡ after → half ≡ old ++ w → AreDone result (map free_step (all_releases mid)) mid last half new → AreDone result (settling w after) s last old new
+event_done result w s after mid last old half new at written h =
+    done_first result (record { written = w; after = after }) (map free_step (all_releases after)) s last old half new written (subst (λ x. AreDone result (map free_step (all_releases x)) x last half new) at h)

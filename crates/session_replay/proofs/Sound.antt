@@ -1,22 +1,27 @@
 -- Sound sessions: each step of a line leaves one, and a line whose events settle ends settled.
-use Rattle.std.proofs.Common.{◌≡◌, ℕ, zero, suc, ◌<◌, Bool, ◌⊎◌, inl, inr, List, [], ◌∷◌, ◌++◌, length, refl, ap, sym, subst, ◌∙◌, append_assoc, append-nil}
+use Rattle.std.proofs.Common.{◌≡◌, ℕ, zero, suc, ◌<◌, Bool, ◌⊎◌, inl, inr, List, [], ◌∷◌, ◌++◌, length, map, refl, ap, sym, subst, ◌∙◌, append_assoc, append-nil}
 use Rattle.std.specs.Prelude.{Contains, set}
 use Rattle.std.proofs.lemmas.List.Elements.{Contains-get_or, Contains-push_cases}
 use Rattle.std.proofs.lemmas.List.{length-set}
 use Rattle.context_diff.specs.Operations.{OpData, IsWellFormed}
 use Rattle.context_diff.specs.Histories.{IsNext, IsValid}
-use Rattle.context_diff.proofs.Known.{contains_cases, contains_here, contains_later, contains_none}
+use Rattle.context_diff.proofs.CallerLemmas.{contains_cases, contains_here, contains_later, contains_none}
 use Rattle.cot_site.specs.States.{State, IsSettled, with_last, delivered, judged}
 use Rattle.cot_site.specs.Sites.{AllFormed}
+use Rattle.cot_site.specs.Releases.{IsSound as IsSoundSite, all_releases}
+use Rattle.cot_site.proofs.CallerLemmas.{sound_more, sound_delivered, verdicts_exact}
+use Rattle.cot_site.specs.declared.verdict.Verdict.{Verdict}
+use Rattle.cot_site.specs.declared.verdict.Verdict.TheVariants.{Waits}
 use Rattle.script_text.specs.Report.{op_text}
-use Rattle.session_replay.specs.Steps.{Step, last_of}
-use Rattle.session_replay.specs.Sessions.{SessionData, site_at, new_site, at_site, all_releases, settling, made, given, told_verdict}
-use Rattle.session_replay.specs.Commands.{told}
-use Rattle.session_replay.specs.Events.{Event, Making, Giving, Telling, steps_of, all_steps, rests}
-use Rattle.session_replay.specs.Laws.{IsSound, AreSettled}
+use Rattle.session_replay.specs.Steps.{Step, last_of, written_by}
+use Rattle.session_replay.specs.Sessions.{SessionData, site_at, new_site, at_site, free_step, settling, made, given, told_verdict}
+use Rattle.session_replay.specs.LineSteps.{told}
+use Rattle.session_replay.specs.Events.{Event, Making, Giving, Telling, steps_of, after_event, all_steps, Moment, moments, after_moment}
+use Rattle.session_replay.specs.Soundness.{IsSound, AreSettled}
+use Rattle.session_replay.specs.Transcripts.{NamesLacking, WaitsByName}
 use Rattle.session_replay.proofs.Steps.{last_append}
 use Rattle.session_replay.proofs.Every.{Every, every_append, every_last}
-use Rattle.session_replay.proofs.States.{Fine, fine_more, fine_delivered, fine_settling, settling_settles}
+use Rattle.session_replay.proofs.Releasing.{sound_settling, settling_settles}
 
 -- ---- one site of a session
 
@@ -31,32 +36,30 @@ set_cases (z ∷ zs) (suc i) y x at =
       | inr later ↦ elim (set_cases zs i y x later) [ inl same ↦ inl same | inr old ↦ inr (contains_later z zs x old) ]
     ]
 
-pub site_fine : (d : SessionData) (i : ℕ) → IsSound d → i < length d.sites → Fine (site_at d i)
-site_fine d i sound within =
+pub site_sound : (d : SessionData) (i : ℕ) → IsSound d → i < length d.sites → IsSoundSite (site_at d i)
+site_sound d i sound within =
     let there = Contains-get_or d.sites i (new_site i) within in
-    record { number = sound.numbers (site_at d i) there; valid = sound.histories (site_at d i) there; formed = sound.waiting (site_at d i) there }
+    sound.sites (site_at d i) there
 
 -- sessions with so many sites
 pub record Kept (n : ℕ) (d : SessionData) : Type 0 where
   pub sound : IsSound d
   pub sites : length d.sites ≡ n
 
-with_fine : (d : SessionData) (ms : List OpData) (i : ℕ) (s : State) → IsSound d → AllFormed ms → Fine s → Kept (length d.sites) (record { sites = set d.sites i s; messages = ms })
-with_fine d ms i s sound formed fine = record {
+with_sound : (d : SessionData) (ms : List OpData) (i : ℕ) (s : State) → IsSound d → AllFormed ms → IsSoundSite s → Kept (length d.sites) (record { sites = set d.sites i s; messages = ms })
+with_sound d ms i s sound formed fine = record {
   sound = record {
-    numbers = λ t at. elim (set_cases d.sites i s t at) [ inl same ↦ subst (λ x. x.number < 64) same fine.number | inr old ↦ sound.numbers t old ];
-    histories = λ t at. elim (set_cases d.sites i s t at) [ inl same ↦ subst (λ x. IsValid x.history) same fine.valid | inr old ↦ sound.histories t old ];
-    waiting = λ t at. elim (set_cases d.sites i s t at) [ inl same ↦ subst (λ x. AllFormed x.waiting) same fine.formed | inr old ↦ sound.waiting t old ];
+    sites = λ t at. elim (set_cases d.sites i s t at) [ inl same ↦ subst IsSoundSite same fine | inr old ↦ sound.sites t old ];
     messages = formed;
   };
   sites = length-set d.sites i s;
 }
 
-every_site : (d : SessionData) (ms : List OpData) (i : ℕ) (es : List (Step State)) → IsSound d → AllFormed ms → Every Fine es → Every (Kept (length d.sites)) (at_site d.sites ms i es)
+every_site : (d : SessionData) (ms : List OpData) (i : ℕ) (es : List (Step State)) → IsSound d → AllFormed ms → Every IsSoundSite es → Every (Kept (length d.sites)) (at_site d.sites ms i es)
 every_site d ms i [] sound formed all = tt
-every_site d ms i (e ∷ es) sound formed all = (with_fine d ms i e.after sound formed all.0, every_site d ms i es sound formed all.1)
+every_site d ms i (e ∷ es) sound formed all = (with_sound d ms i e.after sound formed all.0, every_site d ms i es sound formed all.1)
 
--- the session behind steps of a site
+-- the session after steps of a site
 last_at : (sites : List State) (ms : List OpData) (i : ℕ) (s : State) (es : List (Step State)) → last_of (record { sites = set sites i s; messages = ms }) (at_site sites ms i es) ≡ record { sites = set sites i (last_of s es); messages = ms }
 unfolding last_of
 last_at sites ms i s [] = refl
@@ -65,27 +68,46 @@ last_at sites ms i s (e ∷ es) = last_at sites ms i e.after es
 with_settled : (d : SessionData) (ms : List OpData) (i : ℕ) (s : State) → AreSettled d → IsSettled s → AreSettled (record { sites = set d.sites i s; messages = ms })
 with_settled d ms i s settled is t at = elim (set_cases d.sites i s t at) [ inl same ↦ subst IsSettled same is | inr old ↦ settled t old ]
 
+-- ---- deliveries that wait
+
+waits_by_name : (many : Bool) (i : ℕ) (o : OpData) (d : SessionData) → IsValid (site_at d i).history → IsWellFormed o → WaitsByName (Giving many i o) d
+unfolding written_by
+waits_by_name many i o d valid formed missing is = record {
+  first = ((verdicts_exact s.history s.waiting o (Waits missing) valid formed).1 (sym is)).1;
+  more = written_by (at_site d.sites d.messages i (map free_step (all_releases (delivered s o))));
+  written = ap (λ (v : Verdict). told_verdict many o v s.number ++ written_by (at_site d.sites d.messages i (map free_step (all_releases (delivered s o))))) is;
+}
+  where
+    s : State
+    s = site_at d i
+
 -- ---- lines
 
--- steps as events, behind each of which the session is sound, and settled if it was so in front
+-- steps as events, after each of which the session is sound, and settled if it was so before; a delivery that waits does so by name
 pub record Eventful (d : SessionData) (es : List (Step SessionData)) : Type 0 where
   pub events : List Event
   pub parts : es ≡ all_steps events d
-  pub sound : (r : SessionData) → Contains (rests events d) r → IsSound r
-  pub settled : AreSettled d → (r : SessionData) → Contains (rests events d) r → AreSettled r
+  pub sound : (m : Moment) → Contains (moments events d) m → IsSound (after_moment m) × WaitsByName m.event m.before
+  pub settled : AreSettled d → (m : Moment) → Contains (moments events d) m → AreSettled (after_moment m)
 
 pub eventless : (d : SessionData) → Eventful d []
-unfolding all_steps rests
-eventless d = record { events = []; parts = refl; sound = λ r at. absurd (contains_none r at); settled = λ s r at. absurd (contains_none r at) }
+unfolding all_steps moments
+eventless d = record { events = []; parts = refl; sound = λ m at. absurd (contains_none m at); settled = λ s m at. absurd (contains_none m at) }
 
 -- one event
-pub one_event : (d : SessionData) (v : Event) → IsSound (last_of d (steps_of v d)) → (AreSettled d → AreSettled (last_of d (steps_of v d))) → Eventful d (steps_of v d)
-unfolding all_steps rests
-one_event d v sound settles = record {
+pub one_event : (d : SessionData) (v : Event) → IsSound (after_event v d) → WaitsByName v d → (AreSettled d → AreSettled (after_event v d)) → Eventful d (steps_of v d)
+unfolding all_steps moments
+one_event d v sound named settles = record {
   events = v ∷ [];
   parts = sym (append-nil (steps_of v d));
-  sound = λ r at. elim (contains_cases (last_of d (steps_of v d)) [] r at) [ inl same ↦ subst IsSound same sound | inr none ↦ absurd (contains_none r none) ];
-  settled = λ s r at. elim (contains_cases (last_of d (steps_of v d)) [] r at) [ inl same ↦ subst AreSettled same (settles s) | inr none ↦ absurd (contains_none r none) ];
+  sound = λ m at. elim (contains_cases (record { before = d; event = v }) [] m at) [
+    | inl same ↦ subst (λ (x : Moment). IsSound (after_moment x) × WaitsByName x.event x.before) same (sound, named)
+    | inr none ↦ absurd (contains_none m none)
+  ];
+  settled = λ s m at. elim (contains_cases (record { before = d; event = v }) [] m at) [
+    | inl same ↦ subst (λ (x : Moment). AreSettled (after_moment x)) same (settles s)
+    | inr none ↦ absurd (contains_none m none)
+  ];
 }
 
 all_append : (vs ws : List Event) (d : SessionData) → all_steps (vs ++ ws) d ≡ all_steps vs d ++ all_steps ws (last_of d (all_steps vs d))
@@ -96,16 +118,18 @@ all_append (v ∷ vs) ws d =
     ∙ (sym (append_assoc (steps_of v d) (all_steps vs (last_of d (steps_of v d))) (all_steps ws (last_of (last_of d (steps_of v d)) (all_steps vs (last_of d (steps_of v d))))))
     ∙ ap (λ x. (steps_of v d ++ all_steps vs (last_of d (steps_of v d))) ++ all_steps ws x) (sym (last_append d (steps_of v d) (all_steps vs (last_of d (steps_of v d))))))
 
-rests_cases : (vs ws : List Event) (d r : SessionData) → Contains (rests (vs ++ ws) d) r → Contains (rests vs d) r ⊎ Contains (rests ws (last_of d (all_steps vs d))) r
-unfolding all_steps rests last_of
-rests_cases [] ws d r at = inr at
-rests_cases (v ∷ vs) ws d r at =
-    elim (contains_cases (last_of d (steps_of v d)) (rests (vs ++ ws) (last_of d (steps_of v d))) r at) [
-      | inl same ↦ inl (subst (λ x. Contains (last_of d (steps_of v d) ∷ rests vs (last_of d (steps_of v d))) x) same (contains_here (last_of d (steps_of v d)) (rests vs (last_of d (steps_of v d)))))
+moments_cases : (vs ws : List Event) (d : SessionData) (m : Moment) → Contains (moments (vs ++ ws) d) m → Contains (moments vs d) m ⊎ Contains (moments ws (last_of d (all_steps vs d))) m
+unfolding all_steps moments last_of
+moments_cases [] ws d m at = inr at
+moments_cases (v ∷ vs) ws d m at =
+    let first : Moment = record { before = d; event = v } in
+    let after = last_of d (steps_of v d) in
+    elim (contains_cases first (moments (vs ++ ws) after) m at) [
+      | inl same ↦ inl (subst (λ x. Contains (first ∷ moments vs after) x) same (contains_here first (moments vs after)))
       | inr later ↦
-          elim (rests_cases vs ws (last_of d (steps_of v d)) r later) [
-            | inl old ↦ inl (contains_later (last_of d (steps_of v d)) (rests vs (last_of d (steps_of v d))) r old)
-            | inr new ↦ inr (subst (λ x. Contains (rests ws x) r) (sym (last_append d (steps_of v d) (all_steps vs (last_of d (steps_of v d))))) new)
+          elim (moments_cases vs ws after m later) [
+            | inl old ↦ inl (contains_later first (moments vs after) m old)
+            | inr new ↦ inr (subst (λ x. Contains (moments ws x) m) (sym (last_append d (steps_of v d) (all_steps vs after))) new)
           ]
     ]
 
@@ -113,8 +137,8 @@ eventful_then : (d : SessionData) (es fs : List (Step SessionData)) → (AreSett
 eventful_then d es fs settles a b = record {
   events = a.events ++ b.events;
   parts = ap (λ xs. xs ++ fs) a.parts ∙ (ap (λ xs. all_steps a.events d ++ xs) (b.parts ∙ ap (all_steps b.events) at) ∙ sym (all_append a.events b.events d));
-  sound = λ r there. elim (rests_cases a.events b.events d r there) [ inl old ↦ a.sound r old | inr new ↦ b.sound r (subst (λ x. Contains (rests b.events x) r) (sym at) new) ];
-  settled = λ s r there. elim (rests_cases a.events b.events d r there) [ inl old ↦ a.settled s r old | inr new ↦ b.settled (settles s) r (subst (λ x. Contains (rests b.events x) r) (sym at) new) ];
+  sound = λ m there. elim (moments_cases a.events b.events d m there) [ inl old ↦ a.sound m old | inr new ↦ b.sound m (subst (λ x. Contains (moments b.events x) m) (sym at) new) ];
+  settled = λ s m there. elim (moments_cases a.events b.events d m there) [ inl old ↦ a.settled s m old | inr new ↦ b.settled (settles s) m (subst (λ x. Contains (moments b.events x) m) (sym at) new) ];
 }
   where
     at : last_of d es ≡ last_of d (all_steps a.events d)
@@ -132,7 +156,7 @@ good_none d = record { all = tt; settles = λ s. s; events = eventless d }
 
 pub good_told : (w : List ℕ) (d : SessionData) → IsSound d → Good d (told w d)
 unfolding last_of
-good_told w d sound = record { all = (record { sound = sound; sites = refl }, tt); settles = λ s. s; events = one_event d (Telling w) sound (λ s. s) }
+good_told w d sound = record { all = (record { sound = sound; sites = refl }, tt); settles = λ s. s; events = one_event d (Telling w) sound tt (λ s. s) }
 
 pub good_last : (d : SessionData) (es : List (Step SessionData)) → IsSound d → Good d es → Kept (length d.sites) (last_of d es)
 good_last d es sound good = every_last (Kept (length d.sites)) d es (record { sound = sound; sites = refl }) good.all
@@ -145,32 +169,32 @@ good_then d es fs sound good next = record {
 }
 
 -- an event at a site, with its releases
-event_settles : (d : SessionData) (ms : List OpData) (i : ℕ) (written : List ℕ) (s : State) → Fine s → AreSettled d → AreSettled (last_of d (at_site d.sites ms i (settling written s)))
+event_settles : (d : SessionData) (ms : List OpData) (i : ℕ) (written : List ℕ) (s : State) → IsSoundSite s → AreSettled d → AreSettled (last_of d (at_site d.sites ms i (settling written s)))
 unfolding last_of
 event_settles d ms i written s fine settled =
-    subst AreSettled (sym (last_at d.sites ms i s (all_releases s))) (with_settled d ms i (last_of s (all_releases s)) settled (settling_settles written s s fine))
+    subst AreSettled (sym (last_at d.sites ms i s (map free_step (all_releases s)))) (with_settled d ms i (last_of s (map free_step (all_releases s))) settled (settling_settles written s s fine))
 
 -- the event v has these steps
-good_event : (v : Event) (d : SessionData) (ms : List OpData) (i : ℕ) (written : List ℕ) (s : State) → steps_of v d ≡ at_site d.sites ms i (settling written s) → IsSound d → AllFormed ms → Fine s → Good d (at_site d.sites ms i (settling written s))
-good_event v d ms i written s are sound formed fine = record {
+good_event : (v : Event) (d : SessionData) (ms : List OpData) (i : ℕ) (written : List ℕ) (s : State) → steps_of v d ≡ at_site d.sites ms i (settling written s) → WaitsByName v d → IsSound d → AllFormed ms → IsSoundSite s → Good d (at_site d.sites ms i (settling written s))
+good_event v d ms i written s are named sound formed fine = record {
   all = all;
   settles = event_settles d ms i written s fine;
-  events = subst (Eventful d) are (one_event d v (subst (λ es. IsSound (last_of d es)) (sym are) last) (λ settled. subst (λ es. AreSettled (last_of d es)) (sym are) (event_settles d ms i written s fine settled)));
+  events = subst (Eventful d) are (one_event d v (subst (λ es. IsSound (last_of d es)) (sym are) last) named (λ settled. subst (λ es. AreSettled (last_of d es)) (sym are) (event_settles d ms i written s fine settled)));
 }
   where
     all : Every (Kept (length d.sites)) (at_site d.sites ms i (settling written s))
-    all = every_site d ms i (settling written s) sound formed (fine_settling written s fine)
+    all = every_site d ms i (settling written s) sound formed (sound_settling written s fine)
 
     last : IsSound (last_of d (at_site d.sites ms i (settling written s)))
     last = (every_last (Kept (length d.sites)) d (at_site d.sites ms i (settling written s)) (record { sound = sound; sites = refl }) all).sound
 
 pub good_made : (d : SessionData) (i : ℕ) (o : OpData) → IsSound d → i < length d.sites → IsNext (site_at d i).history o → Good d (made i o d)
 good_made d i o sound within next =
-    good_event (Making i o) d (d.messages ++ o ∷ []) i (op_text (length d.messages) o) (with_last (site_at d i) o) refl sound all (fine_more (site_at d i) o (site_fine d i sound within) next)
+    good_event (Making i o) d (d.messages ++ o ∷ []) i (op_text (length d.messages) o) (with_last (site_at d i) o) refl tt sound all (sound_more (site_at d i) o (site_sound d i sound within) next)
   where
     all : AllFormed (d.messages ++ o ∷ [])
     all x at = elim (Contains-push_cases d.messages o x at) [ inl old ↦ sound.messages x old | inr same ↦ subst IsWellFormed same next.formed ]
 
 pub good_given : (many : Bool) (d : SessionData) (i : ℕ) (o : OpData) → IsSound d → i < length d.sites → IsWellFormed o → Good d (given many i o d)
 good_given many d i o sound within formed =
-    good_event (Giving many i o) d d.messages i (told_verdict many o (judged (site_at d i) o) (site_at d i).number) (delivered (site_at d i) o) refl sound sound.messages (fine_delivered (site_at d i) o (site_fine d i sound within) formed)
+    good_event (Giving many i o) d d.messages i (told_verdict many o (judged (site_at d i) o) (site_at d i).number) (delivered (site_at d i) o) refl (waits_by_name many i o d (site_sound d i sound within).history formed) sound sound.messages (sound_delivered (site_at d i) o (site_sound d i sound within) formed)

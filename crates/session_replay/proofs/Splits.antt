@@ -36,9 +36,9 @@ not_found p bs e = elim (cases_Bool (nat_lt (position_or_len p bs) (length bs)))
   | inr f ↦ grind (arith, nat_tests)
 ]
 
-pub split_found : (bs line behind : List ℕ) (end : ℕ) (tail : List ℕ) → position (λ b. b == 10) bs ≡ Some end → line ≡ take end bs → behind ≡ drop 1 (drop end bs)
-    → lines_of (bs ++ tail) ≡ line ∷ lines_of (behind ++ tail)
-split_found bs line behind end tail e l b =
+pub split_found : (bs line after : List ℕ) (end : ℕ) (tail : List ℕ) → position (λ b. b == 10) bs ≡ Some end → line ≡ take end bs → after ≡ drop 1 (drop end bs)
+    → lines_of (bs ++ tail) ≡ line ∷ lines_of (after ++ tail)
+split_found bs line after end tail e l b =
     let f = found_at (λ x. x == 10) bs end e in
     split_within (λ x. x == 10) bs tail f.0 ∙ rw (l, b, f.1) refl
 

@@ -1,9 +1,10 @@
--- Steps one after the other: the state behind them, what they write, and how far an answer says that they came.
+-- Steps one after the other: the state after them, what they write, and how far an answer says that they came.
 use Rattle.std.proofs.Common.{◌≡◌, ℕ, List, [], ◌∷◌, ◌++◌, refl, sym, ap, subst, ◌∙◌, append_assoc, append-nil}
 use Rattle.std.specs.Prelude.{Result, Ok, Err}
-use Rattle.session_replay.specs.Steps.{Step, last_of, written_by, IsReached, IsFront, AreDone}
+use Rattle.session_replay.specs.Steps.{Step, last_of, written_by, IsReached}
+use Rattle.session_replay.specs.Code.Doing.{IsFront, AreDone}
 
--- ---- more steps behind
+-- ---- more steps after
 
 pub last_append : {S : Type 0} (s : S) (es fs : List (Step S)) → last_of s (es ++ fs) ≡ last_of (last_of s es) fs
 unfolding last_of
@@ -31,8 +32,8 @@ reached_before s r es fs h = record {
 }
 
 -- all of the first part, and the first few of the second
-pub reached_behind : {S : Type 0} (s r : S) (es fs : List (Step S)) → IsReached (last_of s es) fs r → IsReached s (es ++ fs) r
-reached_behind s r es fs h = record {
+pub reached_after : {S : Type 0} (s r : S) (es fs : List (Step S)) → IsReached (last_of s es) fs r → IsReached s (es ++ fs) r
+reached_after s r es fs h = record {
   done = es ++ h.done;
   left = h.left;
   parts = ap (λ xs. es ++ xs) h.parts ∙ sym (append_assoc es h.done h.left);
@@ -64,7 +65,7 @@ front_on old mid new h k = record {
 
 -- ---- how far an answer says that steps came
 
--- no step was done, and memory was wanting
+-- no step was done, out of memory
 pub done_nothing : {S : Type 0} (es : List (Step S)) (s now : S) (old new : List ℕ) → now ≡ s → new ≡ old → IsReached s es now × IsFront old new
 unfolding last_of
 done_nothing es s now old new same kept = (
@@ -80,7 +81,7 @@ done_then (Ok t) es fs s mid now old half new at written h = (
   h.1 ∙ ap (λ xs. xs ++ written_by fs) written ∙ append_assoc old (written_by es) (written_by fs) ∙ ap (λ xs. old ++ xs) (sym (written_append es fs)),
 )
 done_then (Err e) es fs s mid now old half new at written h = (
-  reached_behind s now es fs (reached_same mid (last_of s es) now fs at h.0),
+  reached_after s now es fs (reached_same mid (last_of s es) now fs at h.0),
   front_on old half new (record { more = written_by es; parts = written }) h.1,
 )
 
@@ -133,7 +134,7 @@ along_end whole first old left now new a none =
 pub along_short : {S : Type 0} (whole : List (Step S)) (first : S) (old : List ℕ) (left : List (Step S)) (now last : S) (new final : List ℕ)
     → IsAlong whole first old left now new → IsReached now left last × IsFront new final → IsReached first whole last × IsFront old final
 along_short whole first old left now last new final a h = (
-  subst (λ xs. IsReached first xs last) (sym a.parts) (reached_behind first last a.done left (reached_same now (last_of first a.done) last left a.state h.0)),
+  subst (λ xs. IsReached first xs last) (sym a.parts) (reached_after first last a.done left (reached_same now (last_of first a.done) last left a.state h.0)),
   front_on old new final (record { more = written_by a.done; parts = a.written }) h.1,
 )
 
@@ -157,7 +158,7 @@ unfolding last_of written_by
 done_first result e es s now old half new written h =
     done_then result (e ∷ []) es s e.after now old half new refl (written ∙ ap (λ w. old ++ w) (sym (append-nil e.written))) h
 
--- ---- what a call hands on where memory was wanting
+-- ---- what a call hands on out of memory
 
 pub stopped : {T E S : Type 0} (result : Result T E) (e : E) → result ≡ Err e → (es : List (Step S)) (s now : S) (old new : List ℕ) → IsReached s es now × IsFront old new → AreDone result es s now old new
 stopped (Ok t) e is es s now old new h = absurd (ok-err is)

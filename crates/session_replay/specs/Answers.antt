@@ -1,11 +1,11 @@
 -- What the calls of a session answer.
-use Rattle.std.specs.Prelude.{◌≡◌, ℕ, List, [], Result, Ok, Err, length, ◌<◌, ◌≤◌}
+use Rattle.std.specs.Prelude.{◌≡◌, ℕ, List, [], Result, Ok, Err}
 use Rattle.session_replay.specs.declared.session.StepBad.{StepBad}
-use Rattle.session_replay.specs.declared.session.StepBad.TheVariants.{NoSites, Twice, NoSite, NoMessage, Memory}
+use Rattle.session_replay.specs.declared.session.StepBad.TheVariants.{Memory}
 use Rattle.session_replay.specs.Steps.{Step, last_of, written_by, IsReached}
 use Rattle.session_replay.specs.Sessions.{SessionData}
 
--- the answer of a line with these steps, or with this refusal: all steps are done; or memory was wanting, and the first few are
+-- the answer of a line with these steps, or with this refusal: all steps are done; or, out of memory, the first few are
 -- done; or the line is refused, and nothing changed
 abbrev pub IsDone : {T : Type 0} → Result (List (Step SessionData)) StepBad → Result T StepBad → SessionData → SessionData → Type 0
 IsDone (Ok es) (Ok t) old new = new ≡ last_of old es
@@ -17,12 +17,3 @@ IsDone (Err why) (Err cause) old new = (cause ≡ why) × (new ≡ old)
 abbrev pub lines_of_steps : Result (List (Step SessionData)) StepBad → List ℕ
 lines_of_steps (Ok es) = written_by es
 lines_of_steps (Err why) = []
-
--- the place of the site of this number among the sites, or why it has none
-abbrev pub IsPlace : SessionData → ℕ → Result ℕ StepBad → Type 0
-IsPlace d i (Ok at) = (at ≡ i) × (i < length d.sites)
-IsPlace d i (Err NoSites) = d.sites ≡ []
-IsPlace d i (Err NoSite) = (length d.sites ≤ i) × (0 < length d.sites)
-IsPlace d i (Err Twice) = ⊥
-IsPlace d i (Err NoMessage) = ⊥
-IsPlace d i (Err Memory) = ⊥

@@ -4,7 +4,7 @@ use Rattle.std.specs.Prelude.{◌≡◌, ℕ, List}
 use Rattle.ttf_form.specs.declared.form.Form.{Form}
 use Rattle.cot_site.specs.States.{State}
 use Rattle.cot_site.specs.Views.{forms_view, AreFormLists}
-use Rattle.session_replay.specs.Scripts.{Report, script_report, script_report_in, sessions_of, sessions_of_in}
+use Rattle.session_replay.specs.Scripts.{Report, script_report, script_report_in}
 
 -- the report of the script, read with lists of forms: beside a valid history each operation has a derived form at the members
 -- before it, and texts, visible places, and the counts that refused places tell are those of the cells that the forms give
@@ -20,7 +20,3 @@ DerivedReportsAreThere = (bytes : List ℕ) → IsDerivedReport bytes (script_re
 -- and there is no other
 abbrev pub OneDerivedReport : Type 0
 OneDerivedReport = (bytes : List ℕ) (r : Report) → IsDerivedReport bytes r → r ≡ script_report bytes
-
--- with lists of forms beside the states, a script comes by the same sessions: the same sites in the same states, line by line
-abbrev pub DerivedSessionsAreTheSame : Type 0
-DerivedSessionsAreTheSame = (bytes : List ℕ) (forms : State → List Form) → AreFormLists forms → sessions_of_in (forms_view forms) bytes ≡ sessions_of bytes

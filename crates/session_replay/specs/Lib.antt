@@ -1,10 +1,12 @@
+-- The words of the crate's contracts.
 pub mod Steps
 pub mod Sessions
-pub mod Commands
+pub mod LineSteps
 pub mod Events
+pub mod Soundness
 pub mod Scripts
-pub mod Endings
-pub mod Answers
+pub mod Transcripts
 pub mod Derivation
-pub mod Doing
+pub mod Answers
 pub mod Laws
+pub mod Code

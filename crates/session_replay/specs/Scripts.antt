@@ -4,32 +4,30 @@ use Rattle.std.specs.List.{slice_split}
 use Rattle.std.specs.Str.{is_utf8}
 use Rattle.cot_site.specs.States.{State}
 use Rattle.cot_site.specs.Views.{View, history_view}
-use Rattle.script_text.specs.declared.lines.Line.{Line}
-use Rattle.script_text.specs.declared.refusal.Refusal.{Refusal}
-use Rattle.script_text.specs.declared.refusal.Refusal.TheVariants as refusal
+use Rattle.script_text.specs.declared.reading.line.Line.{Line}
+use Rattle.script_text.specs.declared.report.refusal.Refusal.{Refusal}
+use Rattle.script_text.specs.declared.report.refusal.Refusal.TheVariants as refusal
+use Rattle.script_text.specs.declared.reading.parse.TheConstants.{LONGEST}
 use Rattle.script_text.specs.Answers.{line_in}
 use Rattle.script_text.specs.Report.{refused_text}
+use Rattle.session_replay.specs.declared.script.TheConstants.{MAX_SCRIPT}
 use Rattle.session_replay.specs.declared.session.StepBad.{StepBad}
 use Rattle.session_replay.specs.declared.session.StepBad.TheVariants.{NoSites, Twice, NoSite, NoMessage, Memory}
 use Rattle.session_replay.specs.Steps.{Step, last_of, written_by}
 use Rattle.session_replay.specs.Sessions.{SessionData, unstarted}
-use Rattle.session_replay.specs.Commands.{line_steps_in}
+use Rattle.session_replay.specs.LineSteps.{line_steps_in}
 
 -- what is written, and whether the script was refused
 pub record Report : Type 0 where
   pub written : List ℕ
   pub refused : Bool
 
--- the most bytes of a script: 64 MiB
-abbrev pub limit : ℕ
-limit = 67108864
-
 -- the bytes of a line without its line feed; or a line that holds, or would begin with, the byte past the limit
 pub data Piece : Type 0 where
   Whole : List ℕ → Piece
   Past : Piece
 
--- the lines of a script, without their line feeds; behind the last line feed stands an empty line, which does nothing
+-- the lines of a script, without their line feeds; after the last line feed stands an empty line, which does nothing
 abbrev pub lines_of : List ℕ → List (List ℕ)
 lines_of bytes = slice_split (λ b. b == 10) bytes
 
@@ -40,7 +38,7 @@ cut_off (line ∷ []) = Past ∷ []
 cut_off (line ∷ next ∷ lines) = Whole line ∷ cut_off (next ∷ lines)
 
 abbrev pub pieces_of : List ℕ → List Piece
-pieces_of bytes = if nat_le (length bytes) limit then map Whole (lines_of bytes) else cut_off (lines_of (take limit bytes))
+pieces_of bytes = if nat_le (length bytes) MAX_SCRIPT then map Whole (lines_of bytes) else cut_off (lines_of (take MAX_SCRIPT bytes))
 
 -- what a line says, or the first cause why it can't be read
 abbrev pub read_form : Option Line → Result Line Refusal
@@ -50,7 +48,7 @@ read_form (Some line) = Ok line
 abbrev pub line_read : Piece → Result Line Refusal
 line_read Past = Err refusal.Limit
 line_read (Whole bytes) =
-    if nat_le (length bytes) 262144 then (if is_utf8 bytes then read_form (line_in bytes) else Err refusal.Utf8)
+    if nat_le (length bytes) LONGEST then (if is_utf8 bytes then read_form (line_in bytes) else Err refusal.Utf8)
     else Err refusal.Long
 
 -- the cause of a line that a session refuses
@@ -83,13 +81,13 @@ abbrev pub piece_steps : Piece → SessionData → Result (List (Step SessionDat
 piece_steps p d = piece_steps_in history_view p d
 
 -- bytes that stand before a report
-abbrev pub behind : List ℕ → Report → Report
-behind written rest = record { written = written ++ rest.written; refused = rest.refused }
+abbrev pub prepended : List ℕ → Report → Report
+prepended written rest = record { written = written ++ rest.written; refused = rest.refused }
 
--- what a line writes, and behind it the report of what follows; a refused line ends the script
+-- what a line writes, and after it the report of what follows; a refused line ends the script
 abbrev pub report_on : (SessionData → Report) → ℕ → Result (List (Step SessionData)) Refusal → SessionData → Report
 report_on next number (Err why) d = record { written = refused_text number why; refused = true }
-report_on next number (Ok es) d = behind (written_by es) (next (last_of d es))
+report_on next number (Ok es) d = prepended (written_by es) (next (last_of d es))
 
 -- the report of these lines, of which the first has this number
 unfoldable pub report_from_in : (State → View) → ℕ → List Piece → SessionData → Report
@@ -107,25 +105,3 @@ script_report_in view bytes = report_from_in view 1 (pieces_of bytes) unstarted
 -- the same where each site sees what its history shows
 abbrev pub script_report : List ℕ → Report
 script_report bytes = script_report_in history_view bytes
-
--- the session behind a line, and those that follow; none behind a refused line
-abbrev pub sessions_on : (SessionData → List SessionData) → Result (List (Step SessionData)) Refusal → SessionData → List SessionData
-sessions_on next (Err why) d = []
-sessions_on next (Ok es) d = last_of d es ∷ next (last_of d es)
-
--- the sessions behind these lines, up to a refused one
-unfoldable pub sessions_from_in : (State → View) → List Piece → SessionData → List SessionData
-sessions_from_in view [] d = []
-sessions_from_in view (p ∷ pieces) d = sessions_on (sessions_from_in view pieces) (piece_steps_in view p d) d
-
--- the same where each site sees what its history shows
-abbrev pub sessions_from : List Piece → SessionData → List SessionData
-sessions_from pieces d = sessions_from_in history_view pieces d
-
--- the sessions that a script comes by
-abbrev pub sessions_of_in : (State → View) → List ℕ → List SessionData
-sessions_of_in view bytes = unstarted ∷ sessions_from_in view (pieces_of bytes) unstarted
-
--- the same where each site sees what its history shows
-abbrev pub sessions_of : List ℕ → List SessionData
-sessions_of bytes = sessions_of_in history_view bytes

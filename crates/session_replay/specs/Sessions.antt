@@ -1,10 +1,11 @@
 -- Sessions: the sites that a script made, each with its state, and the messages; what an event at one site does.
-use Rattle.std.specs.Prelude.{ℕ, zero, suc, Bool, true, false, List, [], ◌∷◌, ◌++◌, length, map, set, slice_index_or, Option, Some, None, if◌then◌else◌}
+use Rattle.std.specs.Prelude.{ℕ, zero, suc, Bool, true, false, List, [], ◌∷◌, ◌++◌, length, map, set, slice_index_or, if◌then◌else◌}
 use Rattle.context_diff.specs.Operations.{OpData, member_of}
-use Rattle.cot_site.specs.States.{State, Released, judged, delivered, released, with_last}
+use Rattle.cot_site.specs.States.{State, Released, judged, delivered, with_last}
+use Rattle.cot_site.specs.Releases.{all_releases}
 use Rattle.cot_site.specs.declared.verdict.Verdict.{Verdict}
 use Rattle.cot_site.specs.declared.verdict.Verdict.TheVariants.{Repeat, Forged, Waits, NotClosed, PlaceOut, Integrated}
-use Rattle.script_text.specs.declared.event.Event.TheVariants.{Give, Free}
+use Rattle.script_text.specs.declared.report.event.Event.TheVariants.{Give, Free}
 use Rattle.script_text.specs.Report.{op_text}
 use Rattle.script_text.specs.Verdicts.{verdict_line_text}
 use Rattle.session_replay.specs.Steps.{Step, and_then}
@@ -13,6 +14,11 @@ use Rattle.session_replay.specs.Steps.{Step, and_then}
 pub record SessionData : Type 0 where
   pub sites : List State
   pub messages : List OpData
+
+-- a session, and whether a line of it was cut short, out of memory
+pub record Running : Type 0 where
+  pub session : SessionData
+  pub cut : Bool
 
 -- no site yet
 abbrev pub unstarted : SessionData
@@ -27,6 +33,10 @@ unfoldable pub new_sites : ℕ → ℕ → List State
 new_sites i zero = []
 new_sites i (suc n) = new_site i ∷ new_sites (suc i) n
 
+-- the session in which n sites were just made
+abbrev pub opened : ℕ → SessionData
+opened n = record { sites = new_sites 0 n; messages = [] }
+
 abbrev pub site_at : SessionData → ℕ → State
 site_at d i = slice_index_or d.sites i (new_site i)
 
@@ -35,23 +45,13 @@ with_site d i s = record { sites = set d.sites i s; messages = d.messages }
 
 -- ---- events at one site
 
--- what a release writes and leaves, if there is one, and what follows
-abbrev pub freed : (State → List (Step State)) → Option Released → List (Step State)
-freed next None = []
-freed next (Some r) = record { written = verdict_line_text Free r.after.number (member_of r.op) r.verdict; after = r.after } ∷ next r.after
-
--- the releases of a site, at most n of them: the first ready operation leaves the waiting ones with its verdict, until none is ready
-unfoldable pub releases : ℕ → State → List (Step State)
-releases zero s = []
-releases (suc n) s = freed (releases n) (released s)
-
--- all releases: a released operation doesn't wait again, so that there are no more than operations that wait
-abbrev pub all_releases : State → List (Step State)
-all_releases s = releases (length s.waiting) s
+-- a release, with its line
+abbrev pub free_step : Released → Step State
+free_step r = record { written = verdict_line_text Free r.after.number (member_of r.op) r.verdict; after = r.after }
 
 -- an event that leaves the site in this state, and the releases after it
 abbrev pub settling : List ℕ → State → List (Step State)
-settling written s = record { written = written; after = s } ∷ all_releases s
+settling written s = record { written = written; after = s } ∷ map free_step (all_releases s)
 
 -- a local operation, which becomes the message of this number
 abbrev pub making : ℕ → OpData → State → List (Step State)

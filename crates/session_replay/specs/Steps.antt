@@ -1,12 +1,12 @@
--- Steps: what happens one after the other, each with what is written for it and what it leaves behind.
-use Rattle.std.specs.Prelude.{◌≡◌, ℕ, List, [], ◌∷◌, ◌++◌, Result, Ok, Err}
+-- Steps: what happens one after the other, each with what is written for it and the state that it leaves.
+use Rattle.std.specs.Prelude.{◌≡◌, ℕ, List, [], ◌∷◌, ◌++◌}
 
--- one thing that happened: what is written for it, and the state behind it
+-- one thing that happened: what is written for it, and the state after it
 pub record Step (S : Type 0) : Type 0 where
   pub written : List ℕ
   pub after : S
 
--- the state behind the last of these steps, the first state if there are none
+-- the state after the last of these steps, the first state if there are none
 unfoldable pub last_of : {S : Type 0} → S → List (Step S) → S
 last_of s [] = s
 last_of s (e ∷ es) = last_of e.after es
@@ -16,24 +16,13 @@ unfoldable pub written_by : {S : Type 0} → List (Step S) → List ℕ
 written_by [] = []
 written_by (e ∷ es) = e.written ++ written_by es
 
--- steps, and behind them those that the state then gives
+-- steps, and after them those that the state then gives
 abbrev pub and_then : {S : Type 0} → S → List (Step S) → (S → List (Step S)) → List (Step S)
 and_then s es next = es ++ next (last_of s es)
 
--- the state behind the first few of these steps
+-- the state after the first few of these steps
 pub record IsReached {S : Type 0} (s : S) (es : List (Step S)) (reached : S) : Type 0 where
   pub done : List (Step S)
   pub left : List (Step S)
   pub parts : es ≡ done ++ left
   pub state : reached ≡ last_of s done
-
--- bytes behind those that were there
-pub record IsFront (old new : List ℕ) : Type 0 where
-  pub more : List ℕ
-  pub parts : new ≡ old ++ more
-
--- an answer tells how far steps came: all are done and written; or memory was wanting, the first few are done, and what was
--- written before is there
-abbrev pub AreDone : {T E S : Type 0} → Result T E → List (Step S) → S → S → List ℕ → List ℕ → Type 0
-AreDone (Ok t) es s now old new = (now ≡ last_of s es) × (new ≡ old ++ written_by es)
-AreDone (Err e) es s now old new = IsReached s es now × IsFront old new

@@ -2,31 +2,11 @@
 
 ghost use Rattle.std.specs.Prelude.{◌≡◌, ℕ, List, Err, IfOk};
 ghost use Rattle.script_text.specs.Answers.{Answers};
-ghost use Rattle.session_replay.specs.Commands.{cause_word};
 ghost use Rattle.session_replay.specs.Scripts.{Whole, line_read, refusal_of};
 
 use crate::session::StepBad;
 use op_name::Memory;
 use script_text::{LineBad, Refusal};
-use wire_codec::Cause;
-
-/// The word of a cause of bad bytes.
-pub(crate) fn word_of(cause: Cause) -> &'static str
-    ensures { result.now ≡ cause_word cause }
-{
-    match cause {
-        Cause::TooLong => "toolong",
-        Cause::Kind => "kind",
-        Cause::Range => "range",
-        Cause::Char => "char",
-        Cause::Order => "order",
-        Cause::Zero => "zero",
-        Cause::Length => "length",
-        Cause::Own => "own",
-        Cause::Target => "target",
-        Cause::Stray => "stray",
-    }
-}
 
 /// Why a script ends at a line whose bytes can't be read.
 pub(crate) fn reading_refused(why: LineBad) -> Result<Refusal, Memory>

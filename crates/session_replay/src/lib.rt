@@ -10,13 +10,13 @@ mod laws;
 mod releases;
 mod script;
 mod session;
+mod sites;
 
 pub use laws::{
-    deliveries_settle, derived_reports_are_there, derived_sessions_are_the_same, events_settle,
-    lines_settle, local_operations_settle, one_derived_report, scripts_settle, sessions_stay_sound,
-    sites_converge, waiting_is_named,
+    deliveries_settle, derived_reports_are_there, local_operations_settle, one_derived_report,
+    one_transcript, sessions_stay_sound, transcripts_are_there,
 };
-pub use script::{replay, replay_past};
+pub use script::{MAX_SCRIPT, replay, replay_past};
 pub use session::{Session, StepBad};
 
 #[cfg(test)]

@@ -1,11 +1,11 @@
 //! Scripts: line after line is done, and the report is written.
 
 ghost use Rattle.std.specs.Prelude.{◌≡◌, ◌≤◌, ◌<◌, ◌+◌, ◌^◌, ◌++◌, ◌∷◌, [], ℕ, List, true, IfOk, IfSome, IfNone, OnOk, OnErr, length, ◌==◌, position};
-ghost use Rattle.session_replay.specs.Commands.{line_steps};
-ghost use Rattle.session_replay.specs.Endings.{ended, followed};
-ghost use Rattle.session_replay.specs.Scripts.{Piece, Whole, Past, script_report, report_from, report_on, steps_or, behind, limit, lines_of};
+ghost use Rattle.session_replay.specs.LineSteps.{line_steps};
+ghost use Rattle.session_replay.specs.Code.Endings.{ended, followed};
+ghost use Rattle.session_replay.specs.Scripts.{Piece, Whole, Past, script_report, report_from, report_on, steps_or, prepended, lines_of};
 ghost use Rattle.session_replay.specs.Sessions.{unstarted};
-ghost use Rattle.session_replay.specs.Steps.{IsFront};
+ghost use Rattle.session_replay.specs.Code.Doing.{IsFront};
 
 use crate::causes::{reading_refused, step_refused};
 use crate::session::Session;
@@ -13,38 +13,41 @@ use op_name::Memory;
 use script_text::{Line, Refusal, parse_line, refused_line};
 use std::alloc::Global;
 
-/// Appends the whole report of a script of at most 67,108,864 bytes. `Ok(true)` exactly where the script is
-/// refused; then the last line of the report says at which line, and why. After want of memory `out` is as it was.
+/// The most bytes of a script: 64 MiB.
+pub const MAX_SCRIPT: usize = 67_108_864;
+
+/// Appends the whole report of a script of at most `MAX_SCRIPT` bytes. `Ok(true)` exactly where the script is
+/// refused; then the last line of the report says at which line, and why. Out of memory, `out` is as it was.
 pub fn replay(alloc: Global, bytes: &[u8], out: &mut Vec<u8>) -> Result<bool, Memory>
-    requires { length bytes.now ≤ limit }
+    requires { length bytes.now ≤ MAX_SCRIPT }
     ensures report { IfOk result (λ refused.
-        behind out.old.items (script_report bytes.now) ≡ record { written = out.new.items; refused = refused }) }
+        prepended out.old.items (script_report bytes.now) ≡ record { written = out.new.items; refused = refused }) }
     ensures err { OnErr result (out.new.items ≡ out.old.items) }
 {
     let start = out.len();
     match do_whole(alloc, bytes, out) {
         Ok(refused) => Ok(refused),
-        Err(want) => {
+        Err(memory) => {
             out.truncate(start);
-            Err(want)
+            Err(memory)
         }
     }
 }
 
-/// The same for a script of more bytes, of which these are the first 67,108,864: the lines that end within
+/// The same for a script of more bytes, of which these are the first `MAX_SCRIPT`: the lines that end within
 /// them are done, and the next one is refused, unless an earlier one was. How the script goes on plays no part.
 pub fn replay_past(alloc: Global, bytes: &[u8], out: &mut Vec<u8>) -> Result<(), Memory>
-    requires { length bytes.now ≡ limit }
+    requires { length bytes.now ≡ MAX_SCRIPT }
     ensures report { (tail : List ℕ) → 0 < length tail → OnOk result (
-        behind out.old.items (script_report (bytes.now ++ tail)) ≡ record { written = out.new.items; refused = true }) }
+        prepended out.old.items (script_report (bytes.now ++ tail)) ≡ record { written = out.new.items; refused = true }) }
     ensures err { OnErr result (out.new.items ≡ out.old.items) }
 {
     let start = out.len();
     match do_past(alloc, bytes, out) {
         Ok(()) => Ok(()),
-        Err(want) => {
+        Err(memory) => {
             out.truncate(start);
-            Err(want)
+            Err(memory)
         }
     }
 }
@@ -52,17 +55,17 @@ pub fn replay_past(alloc: Global, bytes: &[u8], out: &mut Vec<u8>) -> Result<(),
 /// How far a script has come: its session, and the number of the next line, from 1.
 #[derive(Drop)]
 struct Progress {
-    session: Session,
+    running: Session,
     number: u32,
 }
 
 impl Progress {
     fn new(alloc: Global) -> Progress
-        ensures session { result.session ≡ unstarted }
+        ensures session { result.running.session ≡ unstarted }
         ensures number { result.number ≡ 1 }
     {
         Progress {
-            session: Session::new(alloc),
+            running: Session::new(alloc),
             number: 1,
         }
     }
@@ -70,9 +73,9 @@ impl Progress {
 
 // All lines of a script, the last one too. Answers whether it is refused.
 fn do_whole(alloc: Global, bytes: &[u8], out: &mut Vec<u8>) -> Result<bool, Memory>
-    requires { length bytes.now ≤ limit }
+    requires { length bytes.now ≤ MAX_SCRIPT }
     ensures report { IfOk result (λ refused.
-        behind out.old.items (report_from 1 (ended Whole (lines_of bytes.now)) unstarted)
+        prepended out.old.items (report_from 1 (ended Whole (lines_of bytes.now)) unstarted)
         ≡ record { written = out.new.items; refused = refused }) }
     ensures front { IsFront out.old.items out.new.items }
 {
@@ -85,20 +88,20 @@ fn do_whole(alloc: Global, bytes: &[u8], out: &mut Vec<u8>) -> Result<bool, Memo
 
 // All lines of a script of which the last is past the limit.
 fn do_past(alloc: Global, bytes: &[u8], out: &mut Vec<u8>) -> Result<(), Memory>
-    requires { length bytes.now ≤ limit }
+    requires { length bytes.now ≤ MAX_SCRIPT }
     ensures report { OnOk result (
-        behind out.old.items (report_from 1 (ended (λ line. Past) (lines_of bytes.now)) unstarted)
+        prepended out.old.items (report_from 1 (ended (λ line. Past) (lines_of bytes.now)) unstarted)
         ≡ record { written = out.new.items; refused = true }) }
     ensures front { IsFront out.old.items out.new.items }
 {
     let mut progress = Progress::new(alloc);
     match do_lines(alloc, &mut progress, bytes, out)? {
-        Some(_) => refused_line(alloc, progress.number, Refusal::Limit, out),
+        Some(_) => refused_line(progress.number, Refusal::Limit, out),
         None => Ok(()),
     }
 }
 
-// Each line that ends with a line feed, until one is refused. Answers what stands behind the last of
+// Each line that ends with a line feed, until one is refused. Answers what stands after the last of
 // them, or None for a refused script. `tail` is whatever else may follow, and `last` what becomes of a last line.
 fn do_lines<'a>(
     alloc: Global,
@@ -108,18 +111,18 @@ fn do_lines<'a>(
 ) -> Result<Option<&'a [u8]>, Memory>
     requires { progress.old.number + length bytes.now + 1 < 2 ^ 32 }
     ensures goes_on { IfOk result (λ r. IfSome r (λ rest. (last : List ℕ → Piece) → (tail : List ℕ) →
-        behind out.old.items (report_from progress.old.number (ended last (lines_of (bytes.now ++ tail))) progress.old.session)
-        ≡ behind out.new.items (report_from progress.new.number (ended last (lines_of (rest.now ++ tail))) progress.new.session))) }
+        prepended out.old.items (report_from progress.old.number (ended last (lines_of (bytes.now ++ tail))) progress.old.running.session)
+        ≡ prepended out.new.items (report_from progress.new.number (ended last (lines_of (rest.now ++ tail))) progress.new.running.session))) }
     ensures refused { IfOk result (λ r. IfNone r ((last : List ℕ → Piece) → (tail : List ℕ) →
-        behind out.old.items (report_from progress.old.number (ended last (lines_of (bytes.now ++ tail))) progress.old.session)
+        prepended out.old.items (report_from progress.old.number (ended last (lines_of (bytes.now ++ tail))) progress.old.running.session)
         ≡ record { written = out.new.items; refused = true })) }
     ensures last { IfOk result (λ r. IfSome r (λ rest. lines_of rest.now ≡ rest.now ∷ [])) }
     ensures number { IfOk result (λ r. IfSome r (λ rest. progress.new.number + 1 < 2 ^ 32)) }
     ensures front { IsFront out.old.items out.new.items }
 {
     let mut rest = bytes;
-    while let Some((line, behind)) = split_line(rest) {
-        rest = behind;
+    while let Some((line, after)) = split_line(rest) {
+        rest = after;
         if do_line(alloc, progress, line, out)? {
             return Ok(None);
         }
@@ -136,49 +139,44 @@ fn do_line(
 ) -> Result<bool, Memory>
     requires { progress.old.number + 1 < 2 ^ 32 }
     ensures report { IfOk result (λ refused. (pieces : List Piece) →
-        behind out.old.items (report_from progress.old.number (Whole bytes.now ∷ pieces) progress.old.session)
-        ≡ followed refused out.new.items (report_from progress.new.number pieces progress.new.session)) }
+        prepended out.old.items (report_from progress.old.number (Whole bytes.now ∷ pieces) progress.old.running.session)
+        ≡ followed refused out.new.items (report_from progress.new.number pieces progress.new.running.session)) }
     ensures number { progress.new.number ≤ progress.old.number + 1 }
     ensures front { IsFront out.old.items out.new.items }
 {
     match parse_line(alloc, bytes) {
-        Ok(line) => do_read(alloc, progress, &line, out),
+        Ok(line) => do_read(progress, &line, out),
         Err(why) => {
             let cause = reading_refused(why)?;
-            refused_line(alloc, progress.number, cause, out)?;
+            refused_line(progress.number, cause, out)?;
             Ok(true)
         }
     }
 }
 
 // One line, as it was read. Answers whether it is refused.
-fn do_read(
-    alloc: Global,
-    progress: &mut Progress,
-    line: &Line,
-    out: &mut Vec<u8>,
-) -> Result<bool, Memory>
+fn do_read(progress: &mut Progress, line: &Line, out: &mut Vec<u8>) -> Result<bool, Memory>
     requires { progress.old.number + 1 < 2 ^ 32 }
     ensures report { IfOk result (λ refused. (pieces : List Piece) →
-        behind out.old.items (report_on (report_from (progress.old.number + 1) pieces) progress.old.number (steps_or (line_steps line.now progress.old.session)) progress.old.session)
-        ≡ followed refused out.new.items (report_from progress.new.number pieces progress.new.session)) }
+        prepended out.old.items (report_on (report_from (progress.old.number + 1) pieces) progress.old.number (steps_or (line_steps line.now progress.old.running.session)) progress.old.running.session)
+        ≡ followed refused out.new.items (report_from progress.new.number pieces progress.new.running.session)) }
     ensures number { progress.new.number ≤ progress.old.number + 1 }
     ensures front { IsFront out.old.items out.new.items }
 {
-    match progress.session.step(line, out) {
+    match progress.running.step(line, out) {
         Ok(()) => {
             progress.number += 1;
             Ok(false)
         }
         Err(why) => {
             let cause = step_refused(why)?;
-            refused_line(alloc, progress.number, cause, out)?;
+            refused_line(progress.number, cause, out)?;
             Ok(true)
         }
     }
 }
 
-/// The first line without its line feed, and what stands behind that. None exactly where no line feed is left.
+/// The first line without its line feed, and what stands after that. None exactly where no line feed is left.
 fn split_line(bytes: &[u8]) -> Option<(&[u8], &[u8])>
     ensures found { IfSome result (λ p. (tail : List ℕ) →
         lines_of (bytes.now ++ tail) ≡ p.0.now ∷ lines_of (p.1.now ++ tail)) }
@@ -187,8 +185,8 @@ fn split_line(bytes: &[u8]) -> Option<(&[u8], &[u8])>
 {
     let end = line_end(bytes)?;
     let (line, rest) = bytes.split_at(end);
-    let (_, behind) = rest.split_at(1);
-    Some((line, behind))
+    let (_, after) = rest.split_at(1);
+    Some((line, after))
 }
 
 // Where the first line feed stands.

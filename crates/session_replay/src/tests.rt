@@ -1,13 +1,11 @@
 //! Scripts and their reports.
 
-use crate::replay;
+use super::*;
 use op_name::Memory;
+use script_text::parse_line;
 use std::alloc::Global;
 use std::process::Abort;
 use std::test::Fail;
-
-/// The longest script.
-const LIMIT: usize = 67_108_864;
 
 /// The report of a script, whose lines are separated by `; `, and whether it is refused.
 fn report_of(alloc: Global, script: &str) -> Result<(Vec<u8>, bool), Memory> {
@@ -16,7 +14,7 @@ fn report_of(alloc: Global, script: &str) -> Result<(Vec<u8>, bool), Memory> {
         bytes.extend_from_slice(line.as_bytes())?;
         bytes.extend_from_slice(b"\n")?;
     }
-    if bytes.len() > LIMIT {
+    if bytes.len() > MAX_SCRIPT {
         return Err(Memory);
     }
     let mut out = Vec::new(alloc);
@@ -24,14 +22,14 @@ fn report_of(alloc: Global, script: &str) -> Result<(Vec<u8>, bool), Memory> {
     Ok((out, refused))
 }
 
-/// A case: what it shows, a script, whether it is refused, and how its report ends.
+/// A case: what it shows, a script, whether it is refused, and its report.
 type Case = (&'static str, &'static str, bool, &'static str);
 
 fn check(rt: &impl Abort, alloc: Global, cases: &[Case]) -> Result<(), Fail> {
-    for (why, script, refused, end) in cases {
+    for (why, script, refused, wanted) in cases {
         let report = report_of(alloc, script)?;
         assert_eq!(rt; report.1, *refused, "{why}");
-        assert!(rt; report.0.ends_with(end.as_bytes()), "{why}");
+        assert_eq!(rt; report.0.as_slice(), wanted.as_bytes(), "{why}");
     }
     Ok(())
 }
@@ -53,31 +51,25 @@ fn texts_converge(rt: HostRuntime) -> Result<(), Fail> {
                 "two inserts around a delete",
                 "sites 3; ins 0 0 abc; sync; del 0 1; ins 1 2 x; ins 2 1 y; sync; show 0; show 1; show 2",
                 false,
-                "give 0 integrated 1.1\ngive 0 integrated 2.1\ngive 1 integrated 0.4\ngive 1 integrated 2.1\ngive 2 integrated 0.4\ngive 2 integrated 1.1\ntext 4 4\nayxc\ntext 4 4\nayxc\ntext 4 4\nayxc\n",
+                "op 0 insert 0.1\nop 1 insert 0.2\nop 2 insert 0.3\ngive 1 integrated 0.1\ngive 1 integrated 0.2\ngive 1 integrated 0.3\ngive 2 integrated 0.1\ngive 2 integrated 0.2\ngive 2 integrated 0.3\nop 3 delete 0.4\nop 4 insert 1.1\nop 5 insert 2.1\ngive 0 integrated 1.1\ngive 0 integrated 2.1\ngive 1 integrated 0.4\ngive 1 integrated 2.1\ngive 2 integrated 0.4\ngive 2 integrated 1.1\ntext 4 4\nayxc\ntext 4 4\nayxc\ntext 4 4\nayxc\n",
             ),
             (
                 "the smaller site stands in front",
                 "sites 3; ins 1 0 p; ins 2 0 q; sync; show 0; show 2",
                 false,
-                "text 2 2\npq\ntext 2 2\npq\n",
+                "op 0 insert 1.1\nop 1 insert 2.1\ngive 0 integrated 1.1\ngive 0 integrated 2.1\ngive 1 integrated 2.1\ngive 2 integrated 1.1\ntext 2 2\npq\ntext 2 2\npq\n",
             ),
             (
                 "a run of one site stays together",
                 "sites 4; ins 2 0 xy; ins 1 0 m; ins 3 0 n; sync; show 0",
                 false,
-                "text 4 4\nmxyn\n",
+                "op 0 insert 2.1\nop 1 insert 2.2\nop 2 insert 1.1\nop 3 insert 3.1\ngive 0 integrated 2.1\ngive 0 integrated 2.2\ngive 0 integrated 1.1\ngive 0 integrated 3.1\ngive 1 integrated 2.1\ngive 1 integrated 2.2\ngive 1 integrated 3.1\ngive 2 integrated 1.1\ngive 2 integrated 3.1\ngive 3 integrated 2.1\ngive 3 integrated 2.2\ngive 3 integrated 1.1\ntext 4 4\nmxyn\n",
             ),
             (
                 "a run that was typed backwards",
                 "sites 4; ins 2 0 x; ins 2 0 y; ins 1 0 m; ins 3 0 n; sync; show 0",
                 false,
-                "text 4 4\nmyxn\n",
-            ),
-            (
-                "notes of two people",
-                "sites 2; ins 0 0 Agenda: budget; sync; ins 1 14 , staff; ins 0 8 draft ; sync; show 0; show 1",
-                false,
-                "text 27 27\nAgenda: draft budget, staff\ntext 27 27\nAgenda: draft budget, staff\n",
+                "op 0 insert 2.1\nop 1 insert 2.2\nop 2 insert 1.1\nop 3 insert 3.1\ngive 0 integrated 2.1\ngive 0 integrated 2.2\ngive 0 integrated 1.1\ngive 0 integrated 3.1\ngive 1 integrated 2.1\ngive 1 integrated 2.2\ngive 1 integrated 3.1\ngive 2 integrated 1.1\ngive 2 integrated 3.1\ngive 3 integrated 2.1\ngive 3 integrated 2.2\ngive 3 integrated 1.1\ntext 4 4\nmyxn\n",
             ),
         ],
     )
@@ -90,28 +82,22 @@ fn undo_and_redo_of_anyone(rt: HostRuntime) -> Result<(), Fail> {
         rt.alloc(),
         &[
             (
-                "two undos of one original are one",
-                "sites 2; ins 0 0 abc; sync; undo 0 0.2; undo 1 0.2; give 1 3; give 0 4; show 0; redo 1 0.2; give 0 5; show 0",
-                false,
-                "op 3 undo 0.2/1\nop 4 undo 0.2/1\ngive 1 repeat 0.2/1\ngive 0 repeat 0.2/1\ntext 2 2\nac\nop 5 redo 0.2/2\ngive 0 integrated 0.2/2\ntext 3 3\nabc\n",
-            ),
-            (
                 "an undo that a redo has passed",
                 "sites 2; ins 0 0 abc; sync; undo 0 0.2; redo 0 0.2; undo 1 0.2; give 1 3; give 1 4; give 0 5; show 0; show 1",
                 false,
-                "give 1 repeat 0.2/1\ngive 1 integrated 0.2/2\ngive 0 repeat 0.2/1\ntext 3 3\nabc\ntext 3 3\nabc\n",
+                "op 0 insert 0.1\nop 1 insert 0.2\nop 2 insert 0.3\ngive 1 integrated 0.1\ngive 1 integrated 0.2\ngive 1 integrated 0.3\nop 3 undo 0.2/1\nop 4 redo 0.2/2\nop 5 undo 0.2/1\ngive 1 repeat 0.2/1\ngive 1 integrated 0.2/2\ngive 0 repeat 0.2/1\ntext 3 3\nabc\ntext 3 3\nabc\n",
             ),
             (
                 "a character that two people deleted",
                 "sites 2; ins 0 0 abc; sync; del 0 1; del 1 1; sync; undo 0 0.4; show 0; undo 0 1.1; show 0",
                 false,
-                "op 5 undo 0.4/1\ntext 2 2\nac\nop 6 undo 1.1/1\ntext 3 3\nabc\n",
+                "op 0 insert 0.1\nop 1 insert 0.2\nop 2 insert 0.3\ngive 1 integrated 0.1\ngive 1 integrated 0.2\ngive 1 integrated 0.3\nop 3 delete 0.4\nop 4 delete 1.1\ngive 0 integrated 1.1\ngive 1 integrated 0.4\nop 5 undo 0.4/1\ntext 2 2\nac\nop 6 undo 1.1/1\ntext 3 3\nabc\n",
             ),
             (
                 "a character whose insert and delete are undone",
                 "sites 1; ins 0 0 abc; del 0 1; undo 0 0.2; undo 0 0.4; show 0",
                 false,
-                "text 2 2\nac\n",
+                "op 0 insert 0.1\nop 1 insert 0.2\nop 2 insert 0.3\nop 3 delete 0.4\nop 4 undo 0.2/1\nop 5 undo 0.4/1\ntext 2 2\nac\n",
             ),
             (
                 "commands that are refused",
@@ -133,22 +119,22 @@ fn deliveries_in_any_order(rt: HostRuntime) -> Result<(), Fail> {
                 "the last message first",
                 "sites 2; ins 0 0 abc; give 1 2; give 1 2; give 1 1; state 1; give 1 0",
                 false,
-                "op 2 insert 0.3\ngive 1 waits 0.3 0.1\ngive 1 waits 0.3 0.1\ngive 1 waits 0.2 0.1\nstate 1 have - groups - waiting 2\ngive 1 integrated 0.1\nfree 1 integrated 0.2\nfree 1 integrated 0.3\n",
+                "op 0 insert 0.1\nop 1 insert 0.2\nop 2 insert 0.3\ngive 1 waits 0.3 0.1\ngive 1 waits 0.3 0.1\ngive 1 waits 0.2 0.1\nstate 1 have - groups - waiting 2\ngive 1 integrated 0.1\nfree 1 integrated 0.2\nfree 1 integrated 0.3\n",
             ),
             (
                 "an undo before its insert",
                 "sites 2; ins 0 0 a; undo 0 0.1; redo 0 0.1; give 1 1; give 1 0; give 1 2",
                 false,
-                "give 1 waits 0.1/1 0.1\ngive 1 integrated 0.1\nfree 1 integrated 0.1/1\ngive 1 integrated 0.1/2\n",
+                "op 0 insert 0.1\nop 1 undo 0.1/1\nop 2 redo 0.1/2\ngive 1 waits 0.1/1 0.1\ngive 1 integrated 0.1\nfree 1 integrated 0.1/1\ngive 1 integrated 0.1/2\n",
             ),
             (
                 "a redo before its undo",
                 "sites 2; ins 0 0 a; undo 0 0.1; redo 0 0.1; give 1 0; give 1 2; give 1 1; state 1",
                 false,
-                "give 1 integrated 0.1\ngive 1 waits 0.1/2 0.1/1\ngive 1 integrated 0.1/1\nfree 1 integrated 0.1/2\nstate 1 have 0:1 groups 0.1/2 waiting 0\n",
+                "op 0 insert 0.1\nop 1 undo 0.1/1\nop 2 redo 0.1/2\ngive 1 integrated 0.1\ngive 1 waits 0.1/2 0.1/1\ngive 1 integrated 0.1/1\nfree 1 integrated 0.1/2\nstate 1 have 0:1 groups 0.1/2 waiting 0\n",
             ),
             (
-                "an edit before and behind another",
+                "an edit before and after another",
                 "sites 2; ins 0 0 ab; give 1 0; give 1 1; del 0 0; ins 1 1 x; give 0 3; give 1 2; show 0; show 1; state 1",
                 false,
                 "op 0 insert 0.1\nop 1 insert 0.2\ngive 1 integrated 0.1\ngive 1 integrated 0.2\nop 2 delete 0.3\nop 3 insert 1.1\ngive 0 integrated 1.1\ngive 1 integrated 0.3\ntext 2 2\nxb\ntext 2 2\nxb\nstate 1 have 0:3,1:1 groups - waiting 0\n",
@@ -203,7 +189,7 @@ fn frames_from_anywhere(rt: HostRuntime) -> Result<(), Fail> {
                 "a context that isn't closed",
                 "sites 3; ins 0 0 a; give 1 0; ins 1 1 b; give 2 0; give 2 1; raw 2 0000001601020000000100000000000000630101000000010000",
                 false,
-                "give 2 notclosed 2.1 1\n",
+                "op 0 insert 0.1\ngive 1 integrated 0.1\nop 1 insert 1.1\ngive 2 integrated 0.1\ngive 2 integrated 1.1\ngive 2 notclosed 2.1 1\n",
             ),
         ],
     )
@@ -236,20 +222,107 @@ fn refused_lines_end_a_script(rt: HostRuntime) -> Result<(), Fail> {
 
 #[test]
 fn three_messages_in_each_order_show_one_text(rt: HostRuntime) -> Result<(), Fail> {
+    let alloc = rt.alloc();
     let made = "sites 4; ins 0 0 abc; sync; del 0 1; ins 1 2 x; ins 2 1 y; ";
+    let told =
+        "op 0 insert 0.1\nop 1 insert 0.2\nop 2 insert 0.3\ngive 1 integrated 0.1\ngive 1 integrated 0.2\ngive 1 integrated 0.3\ngive 2 integrated 0.1\ngive 2 integrated 0.2\ngive 2 integrated 0.3\ngive 3 integrated 0.1\ngive 3 integrated 0.2\ngive 3 integrated 0.3\nop 3 delete 0.4\nop 4 insert 1.1\nop 5 insert 2.1\n";
     let orders = [
-        "give 3 3; give 3 4; give 3 5; show 3",
-        "give 3 3; give 3 5; give 3 4; show 3",
-        "give 3 4; give 3 3; give 3 5; show 3",
-        "give 3 4; give 3 5; give 3 3; show 3",
-        "give 3 5; give 3 3; give 3 4; show 3",
-        "give 3 5; give 3 4; give 3 3; show 3",
+        (
+            "give 3 3; give 3 4; give 3 5",
+            "give 3 integrated 0.4\ngive 3 integrated 1.1\ngive 3 integrated 2.1\n",
+        ),
+        (
+            "give 3 3; give 3 5; give 3 4",
+            "give 3 integrated 0.4\ngive 3 integrated 2.1\ngive 3 integrated 1.1\n",
+        ),
+        (
+            "give 3 4; give 3 3; give 3 5",
+            "give 3 integrated 1.1\ngive 3 integrated 0.4\ngive 3 integrated 2.1\n",
+        ),
+        (
+            "give 3 4; give 3 5; give 3 3",
+            "give 3 integrated 1.1\ngive 3 integrated 2.1\ngive 3 integrated 0.4\n",
+        ),
+        (
+            "give 3 5; give 3 3; give 3 4",
+            "give 3 integrated 2.1\ngive 3 integrated 0.4\ngive 3 integrated 1.1\n",
+        ),
+        (
+            "give 3 5; give 3 4; give 3 3",
+            "give 3 integrated 2.1\ngive 3 integrated 1.1\ngive 3 integrated 0.4\n",
+        ),
     ];
-    for order in orders {
-        let mut script = String::from_str(rt.alloc(), made)?;
+    for (order, verdicts) in orders {
+        let mut script = String::from_str(alloc, made)?;
         script.push_str(order)?;
-        let report = report_of(rt.alloc(), script.as_str())?;
-        assert!(rt; report.0.ends_with(b"text 4 4\nayxc\n"), "{order}");
+        script.push_str("; show 3")?;
+        let mut wanted = String::from_str(alloc, told)?;
+        wanted.push_str(verdicts)?;
+        wanted.push_str("text 4 4\nayxc\n")?;
+        let report = report_of(alloc, script.as_str())?;
+        assert_eq!(rt; report.0.as_slice(), wanted.as_bytes(), "{order}");
     }
     Ok(())
+}
+
+#[test]
+fn a_session_does_line_after_line(rt: HostRuntime) -> Result<(), Fail> {
+    let alloc = rt.alloc();
+    let mut session = Session::new(alloc);
+    let mut out = Vec::new(alloc);
+    let lines = [
+        ("show 0", Err(StepBad::NoSites)),
+        ("# nothing", Ok(())),
+        ("sites 1", Ok(())),
+        ("sites 1", Err(StepBad::Twice)),
+        ("ins 0 0 a", Ok(())),
+        ("show 1", Err(StepBad::NoSite)),
+        ("give 0 1", Err(StepBad::NoMessage)),
+        ("show 0", Ok(())),
+    ];
+    for (text, answer) in lines {
+        let Ok(line) = parse_line(alloc, text.as_bytes()) else {
+            return Err(Fail::new("a line that isn't read"));
+        };
+        assert_eq!(rt; session.step(&line, &mut out), answer, "{text}");
+        session.known();
+    }
+    assert_eq!(rt;
+        out.as_slice(),
+        b"op 0 insert 0.1\ntext 1 1\na\n".as_slice()
+    );
+    Ok(())
+}
+
+/// A comment that is as long as a line may be, but for its last byte, with its line feed.
+fn comment(alloc: Global) -> Result<Vec<u8>, Memory> {
+    let mut line = vec![in alloc; b'#'; 262_143]?;
+    line.extend_from_slice(b"\n")?;
+    Ok(line)
+}
+
+#[test]
+fn a_script_past_the_limit_is_refused_there(rt: HostRuntime) -> Result<(), Fail> {
+    let alloc = rt.alloc();
+    let line = comment(alloc)?;
+    let mut bytes = Vec::new(alloc);
+    for _ in 0..256 {
+        bytes.extend_from_slice(&line)?;
+    }
+    assert!(rt; bytes.len() == MAX_SCRIPT);
+    let mut out = Vec::new(alloc);
+    replay_past(alloc, &bytes, &mut out)?;
+    assert_eq!(rt; out.as_slice(), b"refused 257 limit\n".as_slice());
+    Ok(())
+}
+
+#[test]
+fn the_laws_can_be_called(_rt: HostRuntime) {
+    sessions_stay_sound();
+    local_operations_settle();
+    deliveries_settle();
+    transcripts_are_there();
+    one_transcript();
+    derived_reports_are_there();
+    one_derived_report();
 }

@@ -1,6 +1,6 @@
-use Rattle.session_replay.specs.Laws.{IsSound}
+use Rattle.session_replay.specs.Soundness.{IsSound}
 use Rattle.session_replay.proofs.Every.{every_reached}
-use Rattle.session_replay.proofs.ScriptLaws.{line_lasts}
+use Rattle.session_replay.proofs.LineLaws.{line_lasts}
 use Rattle.session_replay.proofs.laws.sessions_stay_sound.Goals as goal
 
 pub returns : goal.returns

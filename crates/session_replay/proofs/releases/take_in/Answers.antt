@@ -5,7 +5,8 @@ use Rattle.cot_site.specs.Sites.{state_of}
 use Rattle.cot_site.specs.States.{judged}
 use Rattle.session_replay.specs.Sessions.{told_verdict}
 use Rattle.session_replay.proofs.Steps.{done_nothing, first_done, stopped}
-use Rattle.session_replay.proofs.Releasing.{settled, delivered_number}
+use Rattle.cot_site.proofs.CallerLemmas.{delivered_number}
+use Rattle.session_replay.proofs.Releasing.{event_done}
 use Rattle.session_replay.proofs.releases.take_in.Goals as goal
 
 pub returns-in-Err : goal.returns-in-Err
@@ -23,4 +24,4 @@ returns-in_ok-tell_verdict-in-Ok c =
     let old = c.args.out.now.items in
     let number = c.number.ensures ∙ ap (λ x. x.number) c.in-Ok.ensures.effect ∙ delivered_number s o in
     let told = ap (λ v. told_verdict c.args.many o v c.number.result) c.in-Ok.ensures.verdict ∙ ap (λ n. told_verdict c.args.many o (judged s o) n) number in
-    settled c.release_all.result _ s _ _ _ old _ _ c.in-Ok.ensures.effect (c.in_ok-tell_verdict-in-Ok.ensures.ok ∙ ap (λ w. old ++ w) told) c.release_all.ensures
+    event_done c.release_all.result _ s _ _ _ old _ _ c.in-Ok.ensures.effect (c.in_ok-tell_verdict-in-Ok.ensures.ok ∙ ap (λ w. old ++ w) told) c.release_all.ensures

@@ -2,7 +2,7 @@ use Rattle.std.proofs.Common.{refl}
 use Rattle.std.proofs.lemmas.Result.{err_from_is_err_and}
 use Rattle.cot_site.specs.Sites.{state_of}
 use Rattle.session_replay.proofs.Steps.{first_done, stopped}
-use Rattle.session_replay.proofs.Releasing.{settled}
+use Rattle.session_replay.proofs.Releasing.{event_done}
 use Rattle.session_replay.proofs.releases.tell_made.Goals as goal
 
 pub returns-in_err-op_line : goal.returns-in_err-op_line
@@ -11,4 +11,4 @@ returns-in_err-op_line c =
     stopped c.from_residual.result p.0 p.1 _ _ _ _ _ (first_done _ _ (state_of c.args.site.now) _ _ _ refl c.in_err-op_line.ensures.err)
 
 pub returns : goal.returns
-returns c = settled c.release_all.result _ _ _ _ _ _ _ _ refl c.in_ok-op_line.ensures.ok c.release_all.ensures
+returns c = event_done c.release_all.result _ _ _ _ _ _ _ _ refl c.in_ok-op_line.ensures.ok c.release_all.ensures

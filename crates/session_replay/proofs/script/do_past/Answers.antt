@@ -1,6 +1,6 @@
 use Rattle.std.proofs.Common.{◌≡◌, ◌++◌, ◌∷◌, [], List, ℕ, true}
-use Rattle.session_replay.specs.Endings.{ended}
-use Rattle.session_replay.specs.Scripts.{Piece, Past, behind, lines_of, report_from}
+use Rattle.session_replay.specs.Code.Endings.{ended}
+use Rattle.session_replay.specs.Scripts.{Piece, Past, prepended, lines_of, report_from}
 use Rattle.session_replay.proofs.Endings.{from_start, from_start_refused, limit_along}
 use Rattle.session_replay.proofs.script.do_past.Goals as goal
 
@@ -10,10 +10,10 @@ returns-in-Some-clause-report c =
     let first = c.new-progress.result in
     let now = c.do_lines.new.progress in
     let on : (last : List ℕ → Piece) → (tail : List ℕ) →
-    behind c.args.out.now.items (report_from first.number (ended last (lines_of (c.args.bytes.now ++ tail))) first.session)
-    ≡ behind c.do_lines.new.out.items (report_from now.number (ended last (lines_of (c.in-Some.field-0.now ++ tail))) now.session) = rw c.in-Some.is at c.in_ok-do_lines.ensures.goes_on in
+    prepended c.args.out.now.items (report_from first.number (ended last (lines_of (c.args.bytes.now ++ tail))) first.running.session)
+    ≡ prepended c.do_lines.new.out.items (report_from now.number (ended last (lines_of (c.in-Some.field-0.now ++ tail))) now.running.session) = rw c.in-Some.is at c.in_ok-do_lines.ensures.goes_on in
     let one : lines_of c.in-Some.field-0.now ≡ c.in-Some.field-0.now ∷ [] = rw c.in-Some.is at c.in_ok-do_lines.ensures.last in
-    let all = from_start c.args.out.now.items c.do_lines.new.out.items first.number now.number first.session now.session last c.args.bytes.now c.in-Some.field-0.now c.new-progress.ensures.session c.new-progress.ensures.number (on last) one in
+    let all = from_start c.args.out.now.items c.do_lines.new.out.items first.number now.number first.running.session now.running.session last c.args.bytes.now c.in-Some.field-0.now c.new-progress.ensures.session c.new-progress.ensures.number (on last) one in
     limit_along c.refused_line.result _ _ _ _ _ all c.refused_line.ensures.ok
 
 pub returns-clause-report : goal.returns-clause-report
@@ -21,6 +21,6 @@ returns-clause-report c =
     let last : List ℕ → Piece = λ line. Past in
     let first = c.new-progress.result in
     let stop : (last : List ℕ → Piece) → (tail : List ℕ) →
-    behind c.args.out.now.items (report_from first.number (ended last (lines_of (c.args.bytes.now ++ tail))) first.session)
+    prepended c.args.out.now.items (report_from first.number (ended last (lines_of (c.args.bytes.now ++ tail))) first.running.session)
     ≡ record { written = c.do_lines.new.out.items; refused = true } = rw c.in-None.is at c.in_ok-do_lines.ensures.refused in
-    from_start_refused c.args.out.now.items c.do_lines.new.out.items first.number first.session last c.args.bytes.now c.new-progress.ensures.session c.new-progress.ensures.number (stop last)
+    from_start_refused c.args.out.now.items c.do_lines.new.out.items first.number first.running.session last c.args.bytes.now c.new-progress.ensures.session c.new-progress.ensures.number (stop last)

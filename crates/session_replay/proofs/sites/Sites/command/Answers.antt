@@ -1,0 +1,47 @@
+use Rattle.std.proofs.Common.{◌∙◌, List, [], ◌∷◌, ◌++◌, ap, sym, subst, refl, map, length, arith}
+use Rattle.std.proofs.lemmas.Result.{err_from_is_err_and}
+use Rattle.context_diff.specs.Ops.{data_of}
+use Rattle.context_diff.specs.declared.op.Op.{Op}
+use Rattle.cot_site.specs.Sites.{AllFormed}
+use Rattle.session_replay.proofs.Steps.{stopped, done_nothing, ended_well, ended_short, all_done}
+use Rattle.session_replay.proofs.Lifting.{same_messages}
+use Rattle.session_replay.proofs.Commanding.{command_made, command_formed, refused_same, command_refused, command_told}
+use Rattle.session_replay.proofs.sites.Sites.command.Goals.{in-Ok-told, in-Err-told, in-Ok-refuse, in-Err-refuse}
+use Rattle.session_replay.proofs.sites.Sites.command.Goals as goal
+
+pub invariant_of-self : goal.invariant_of-self
+invariant_of-self c = subst (λ (ms : List Op). AllFormed (map data_of ms)) (sym c.make_room.ensures.same) c.self.invariant
+
+pub returns-in_err-make_room-clause-done : goal.returns-in_err-make_room-clause-done
+returns-in_err-make_room-clause-done c =
+    let p = err_from_is_err_and c.from_residual.result c.from_residual.ensures.1 in
+    let same = same_messages c.self.inside.sites.items c.make_room.new.messages.items c.self.inside.messages.items c.make_room.ensures.same ∙ c.self.view_is in
+    stopped c.from_residual.result p.0 p.1 _ c.args.self.now _ _ _ (done_nothing _ c.args.self.now _ _ _ same refl)
+
+pub invariant_of-self-in-Err : goal.invariant_of-self-in-Err
+invariant_of-self-in-Err c = subst (λ (ms : List Op). AllFormed (map data_of ms)) (sym c.make_room.ensures.same) c.self.invariant
+
+pub invariant_of-self-in-Ok : goal.invariant_of-self-in-Ok
+invariant_of-self-in-Ok c =
+    let pushed = c.push_reserved.ensures.items ∙ ap (λ (ms : List Op). ms ++ c.in-Ok.op ∷ []) c.make_room.ensures.same in
+    command_formed c.self.inside.sites.items c.self.inside.messages.items _ c.args.self.now c.args.at c.in-Ok.op c.index_mut.result.now c.make.new.site c.index.result.now c.self.view_is c.requires c.self.invariant pushed c.in-Ok.ensures.made c.index.ensures c.known.ensures.history
+
+pub returns-after-told-clause-done : goal.returns-after-told-clause-done
+returns-after-told-clause-done c =
+    let pushed = c.push_reserved.ensures.items ∙ ap (λ (ms : List Op). ms ++ c.in-Ok.op ∷ []) c.make_room.ensures.same in
+    let h = command_made c.tell_made-told.result c.args.self.now c.self.inside.sites.items c.self.inside.messages.items c.push_reserved.new.self.items c.args.at c.args.command c.in-Ok.op c.index_mut.result.now c.make.new.site c.index_mut-in-Ok.result.now c.tell_made-told.new.site _ c.args.out.now.items c.tell_made-told.new.out.items c.self.view_is c.requires c.index_mut.ensures.value c.in-Ok.ensures.answer c.in-Ok.ensures.made c.index_mut-in-Ok.ensures.value (omega (arith, c.len-number.ensures, c.make_room.new.messages.ok.0, ap length c.make_room.ensures.same)) pushed c.tell_made-told.ensures in
+    elim c.match-told.branch [
+      | in-Ok-told w ↦ ended_well c.tell_made-told.result c.match-told.result _ _ _ _ _ _ _ w.in-Ok-told.is w.result-is h
+      | in-Err-told w ↦ ended_short c.tell_made-told.result c.match-told.result _ _ _ _ _ _ _ w.in-Err-told.is w.result-is h
+    ]
+
+pub returns-after-refuse-clause-done : goal.returns-after-refuse-clause-done
+returns-after-refuse-clause-done c =
+    let same = refused_same c.self.inside.sites.items c.self.inside.messages.items c.make_room.new.messages.items c.args.self.now c.args.at c.index_mut.result.now c.make.new.site c.self.view_is c.index_mut.ensures.value c.in-Err.ensures.err c.make_room.ensures.same in
+    let x = c.index_mut.result.now in
+    elim c.match-refuse.branch [
+      | in-Ok-refuse w ↦
+          let refused = command_refused c.args.self.now c.self.inside.sites.items c.self.inside.messages.items c.args.at c.args.command c.in-Err.why x c.self.view_is c.requires c.index_mut.ensures.value c.in-Err.ensures.answer w.in-Ok-refuse.ensures.told in
+          all_done c.match-refuse.result _ _ _ _ _ _ w.result-is (command_told c.args.self.now _ c.args.at _ c.in-Err.why _ _ refused same w.in-Ok-refuse.ensures.ok)
+      | in-Err-refuse w ↦ stopped c.match-refuse.result _ w.result-is _ _ _ _ _ (done_nothing _ _ _ _ _ same w.in-Err-refuse.ensures.err)
+    ]

@@ -1,0 +1,252 @@
+//! The sites of a session and their messages.
+
+ghost use Rattle.std.specs.Prelude.{◌≡◌, ◌++◌, ◌<◌, ◌≤◌, ℕ, IsTrue, OnOk, IfErr, IfOk, IfSome, length, map, nat_lt, slice_index};
+ghost use Rattle.std.specs.Char.{IsScalar};
+ghost use Rattle.std.specs.Str.{all_scalars};
+ghost use Rattle.cot_site.specs.Sites.{state_of};
+ghost use Rattle.script_text.specs.Lines.{line_site};
+ghost use Rattle.session_replay.specs.Answers.{IsDone};
+ghost use Rattle.session_replay.specs.LineSteps.{line_steps, commanded, at_site_of, steps_there, opening, AreValues};
+ghost use Rattle.session_replay.specs.Code.Doing.{IsPlace, IsLineDone, as_step, local_of};
+ghost use Rattle.session_replay.specs.Sessions.{unstarted, new_sites, site_at};
+ghost use Rattle.script_text.specs.declared.reading.line.Line.TheVariants.{Sync};
+
+use crate::session::StepBad;
+use crate::sites::commands::Command;
+use context_diff::Op;
+use cot_site::Site;
+use op_name::{Memory, SITES};
+use script_text::Line;
+use std::alloc::Global;
+use std::marker::Model;
+
+mod commands;
+mod deliveries;
+mod raw;
+mod shows;
+
+/// The sites of a script, none before it makes them, and the messages, numbered from 0, that their local
+/// operations became.
+#[derive(Drop)]
+pub(crate) struct Sites {
+    sites: Vec<Site>,
+    messages: Vec<Op>,
+}
+
+impl Model for Sites {
+    ghost use Rattle.std.specs.Prelude.{map};
+    ghost use Rattle.context_diff.specs.Ops.{data_of};
+    ghost use Rattle.cot_site.specs.Sites.{AllFormed, state_of};
+    ghost use Rattle.session_replay.specs.Sessions.{SessionData};
+
+    ghost Value = { SessionData };
+
+    ghost view = { λ s. record { sites = map state_of s.sites.items; messages = map data_of s.messages.items } };
+
+    ghost invariant = { λ s. AllFormed (map data_of s.messages.items) };
+}
+
+impl Sites {
+    /// No sites and no messages; takes no memory.
+    pub(crate) fn new(alloc: Global) -> Sites
+        ensures { result ≡ unstarted }
+    {
+        Sites {
+            sites: Vec::new(alloc),
+            messages: Vec::new(alloc),
+        }
+    }
+
+    /// Does a line, and appends its report lines; a line that isn't done may leave some of them.
+    pub(crate) fn do_line(&mut self, line: &Line, out: &mut Vec<u8>) -> Result<(), StepBad>
+        ensures done { IsLineDone (line_steps line.now self.old) result self.old self.new out.old.items out.new.items }
+        ensures values { AreValues line.now }
+    {
+        check_values(line);
+        match self.check_site(line) {
+            Ok(()) => self.do_there(line, out),
+            Err(why) => Err(why),
+        }
+    }
+
+    // Whether the site that the line speaks of is there, if it speaks of one.
+    fn check_site(&self, line: &Line) -> Result<(), StepBad>
+        ensures there { OnOk result (IfSome (line_site line.now) (λ i. i < length self.now.sites)) }
+        ensures ok { OnOk result (at_site_of (line_site line.now) self.now (steps_there line.now self.now) ≡ steps_there line.now self.now) }
+        ensures refused { IfErr result (λ why. at_site_of (line_site line.now) self.now (steps_there line.now self.now) ≡ Err why) }
+    {
+        match line.site() {
+            Some(site) => match self.place_of(site) {
+                Ok(_) => Ok(()),
+                Err(why) => Err(why),
+            },
+            None => Ok(()),
+        }
+    }
+
+    // A line whose site is there, if it speaks of one.
+    fn do_there(&mut self, line: &Line, out: &mut Vec<u8>) -> Result<(), StepBad>
+        requires { IfSome (line_site line.now) (λ i. i < length self.old.sites) }
+        ensures { IsLineDone (steps_there line.now self.old) result self.old self.new out.old.items out.new.items }
+    {
+        match line {
+            Line::Blank => Ok(()),
+            Line::Sites { count } => self.start(*count),
+            Line::Ins { site, place, text } => {
+                done(self.type_text(*site as usize, *place, text.as_slice(), out))
+            }
+            Line::Nl { site, place } => self.do_command(
+                *site as usize,
+                Command::Insert {
+                    place: *place,
+                    ch: '\n',
+                },
+                out,
+            ),
+            Line::Del { site, place } => {
+                self.do_command(*site as usize, Command::Delete { place: *place }, out)
+            }
+            Line::Undo { site, name } => {
+                self.do_command(*site as usize, Command::Undo { name: *name }, out)
+            }
+            Line::Redo { site, name } => {
+                self.do_command(*site as usize, Command::Redo { name: *name }, out)
+            }
+            Line::Give { site, message } => self.give(*site as usize, *message, out),
+            Line::All { site } => done(self.give_all(*site as usize, out)),
+            Line::Sync => self.sync_started(out),
+            Line::Raw { site, bytes } => done(self.give_frames(*site, bytes.as_slice(), out)),
+            Line::Show { site } => done(self.show(*site as usize, out)),
+            Line::State { site } => done(self.show_state(*site, out)),
+        }
+    }
+
+    // Delivers every message to each site, once sites are made.
+    fn sync_started(&mut self, out: &mut Vec<u8>) -> Result<(), StepBad>
+        ensures { IsLineDone (steps_there Sync self.old) result self.old self.new out.old.items out.new.items }
+    {
+        if !self.is_started() {
+            return Err(StepBad::NoSites);
+        }
+        done(self.sync(out))
+    }
+
+    // A command at the site.
+    fn do_command(&mut self, at: usize, command: Command, out: &mut Vec<u8>) -> Result<(), StepBad>
+        requires { at < length self.old.sites }
+        ensures { IsLineDone (Ok (commanded at (local_of command (site_at self.old at)) self.old)) result self.old self.new out.old.items out.new.items }
+    {
+        match self.command(at, command, out) {
+            Ok(_) => Ok(()),
+            Err(_) => Err(StepBad::Memory),
+        }
+    }
+
+    // Whether sites were made.
+    fn is_started(&self) -> bool
+        ensures { result ≡ nat_lt 0 (length self.now.sites) }
+    {
+        !self.sites.is_empty()
+    }
+
+    // The place of the site of this number among the sites.
+    fn place_of(&self, site: u16) -> Result<usize, StepBad>
+        ensures { IsPlace self.now site result }
+    {
+        if !self.is_started() {
+            return Err(StepBad::NoSites);
+        }
+        let at = site as usize;
+        if at < self.sites.len() {
+            Ok(at)
+        } else {
+            Err(StepBad::NoSite)
+        }
+    }
+
+    // Makes the sites; no message is there.
+    fn start(&mut self, count: u16) -> Result<(), StepBad>
+        ensures { IsDone (opening count self.old) result self.old self.new }
+    {
+        if self.is_started() {
+            return Err(StepBad::Twice);
+        }
+        if count > SITES {
+            return Err(StepBad::NoSite);
+        }
+        match new_sites(*self.sites.allocator(), count) {
+            Ok(sites) => {
+                self.sites = sites;
+                self.messages.clear();
+                Ok(())
+            }
+            Err(_) => Err(StepBad::Memory),
+        }
+    }
+}
+
+// The sites of the numbers below `count`, which is at most `SITES`.
+fn new_sites(alloc: Global, count: u16) -> Result<Vec<Site>, Memory>
+    requires { count ≤ SITES }
+    ensures { IfOk result (λ sites. map state_of sites.items ≡ new_sites 0 count) }
+{
+    let mut sites = Vec::new(alloc);
+    for number in 0..count {
+        match Site::new(alloc, number) {
+            Ok(site) => {
+                if sites.push(site).is_err() {
+                    return Err(Memory);
+                }
+            }
+            Err(memory) => return Err(memory),
+        }
+    }
+    Ok(sites)
+}
+
+// Whether steps of a line were done.
+fn done(ending: Result<(), Memory>) -> Result<(), StepBad>
+    ensures { result ≡ as_step ending }
+{
+    match ending {
+        Ok(()) => Ok(()),
+        Err(_) => Err(StepBad::Memory),
+    }
+}
+
+// Nothing but what the types of a line's parts say: its text is characters, its bytes are bytes.
+fn check_values(line: &Line)
+    ensures { AreValues line.now }
+{
+    match line {
+        Line::Ins { text, .. } => are_characters(text.as_slice()),
+        Line::Raw { bytes, .. } => are_bytes(bytes.as_slice()),
+        Line::Blank
+        | Line::Sites { .. }
+        | Line::Nl { .. }
+        | Line::Del { .. }
+        | Line::Undo { .. }
+        | Line::Redo { .. }
+        | Line::Give { .. }
+        | Line::All { .. }
+        | Line::Sync
+        | Line::Show { .. }
+        | Line::State { .. } => {}
+    }
+}
+
+fn are_characters(text: &[char])
+    ensures { IsTrue (all_scalars text.now) }
+{
+    for ch in text {
+        is_character(*ch);
+    }
+}
+
+fn is_character(ch: char)
+    ensures { IsScalar ch }
+{}
+
+fn are_bytes(bytes: &[u8])
+    ensures { (k : ℕ) → slice_index bytes.now k < 256 }
+{}
