@@ -1,14 +1,14 @@
 //! The report of what was read.
 
 ghost use Rattle.std.specs.Prelude.{◌≡◌, ◌++◌, ◌<◌, ◌≤◌, ℕ, List, true, length, IfOk};
-ghost use Rattle.session_replay.specs.Scripts.{behind, limit, script_report};
+ghost use Rattle.session_replay.specs.Scripts.{prepended, script_report};
 
 use op_name::Memory;
 use outside_io::Taken;
-use session_replay::{replay, replay_past};
+use session_replay::{MAX_SCRIPT, replay, replay_past};
 use std::alloc::Global;
 
-/// Appends the report of a script, of which all was taken or the first 67,108,864 bytes. Answers whether the
+/// Appends the report of a script, of which all was taken or the first `MAX_SCRIPT` bytes. Answers whether the
 /// script is refused.
 pub(crate) fn report(
     alloc: Global,
@@ -16,12 +16,12 @@ pub(crate) fn report(
     bytes: &[u8],
     out: &mut Vec<u8>,
 ) -> Result<bool, Memory>
-    requires short { length bytes.now ≤ limit }
-    requires full { taken ≡ Taken.Past → length bytes.now ≡ limit }
+    requires short { length bytes.now ≤ MAX_SCRIPT }
+    requires full { taken ≡ Taken.Past → length bytes.now ≡ MAX_SCRIPT }
     ensures end { taken ≡ Taken.End → IfOk result (λ refused.
-        behind out.old.items (script_report bytes.now) ≡ record { written = out.new.items; refused = refused }) }
+        prepended out.old.items (script_report bytes.now) ≡ record { written = out.new.items; refused = refused }) }
     ensures past { taken ≡ Taken.Past → (tail : List ℕ) → 0 < length tail → IfOk result (λ refused.
-        behind out.old.items (script_report (bytes.now ++ tail)) ≡ record { written = out.new.items; refused = refused }) }
+        prepended out.old.items (script_report (bytes.now ++ tail)) ≡ record { written = out.new.items; refused = refused }) }
     ensures past_refused { taken ≡ Taken.Past → IfOk result (λ refused. refused ≡ true) }
 {
     match taken {

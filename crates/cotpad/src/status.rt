@@ -16,7 +16,7 @@ pub enum Status {
     ReadFault,
     /// The sink failed.
     WriteFault,
-    /// Memory was wanting.
+    /// Out of memory.
     Memory,
     /// The wire failed.
     LinkFault,
