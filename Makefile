@@ -1,5 +1,5 @@
 # `make` leaves the proved program at bin/cotpad; `make demo` replays the examples with it.
-.PHONY: all demo clean
+.PHONY: all demo doors clean
 
 SOURCES := $(shell find crates -name out -prune -o -type f \( -name '*.rt' -o -name '*.antt' \) -print) crates.txt
 
@@ -15,6 +15,10 @@ demo: bin/cotpad
 	@for script in examples/*.script; do \
 		echo "== $$script"; cat $$script; echo "-- replayed"; bin/cotpad replay < $$script; echo; \
 	done
+
+# Names each import of another crate's proofs that goes past that crate's door, proofs/CallerLemmas.antt.
+doors:
+	@tools/doors
 
 clean:
 	rm -rf bin

@@ -2,7 +2,7 @@
 # Measures bin/cotpad on made inputs, and prints seconds (the least of three runs) and how they grow from row to row.
 # Run `make` first, on a machine with nothing else to do.
 #   bench/measure.sh            all inputs
-#   bench/measure.sh offline    one of: comments typing offline rounds apart
+#   bench/measure.sh offline    one of: comments typing offline rounds apart undone
 set -eu
 cd "$(dirname "$0")/.."
 made=$(mktemp -d)
@@ -104,5 +104,16 @@ apart() {
     done
 }
 
-if [ $# -eq 0 ]; then set -- comments typing offline rounds apart; fi
+# one site undoes 1,000 of its inserts, and then types k characters: the contexts of these share the undone names
+undone() {
+    for k in 5000 10000 20000; do
+        { echo "sites 1"; printf "ins 0 0 "; text 1000; echo; awk -v k="$k" 'BEGIN {
+            for (i = 1; i <= 1000; i++) printf "undo 0 0.%d\n", i
+            for (i = 0; i < k; i++) printf "ins 0 %d x\n", i
+        }'; } > "$made/undone"
+        row "one site undoes 1,000 inserts, and types $k characters" "$made/undone"
+    done
+}
+
+if [ $# -eq 0 ]; then set -- comments typing offline rounds apart undone; fi
 for what in "$@"; do before=; "$what"; done
