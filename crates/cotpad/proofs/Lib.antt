@@ -1,1 +1,5 @@
-pub mod Reporting
+pub mod Answering
+pub mod Spelling
+pub mod Scripts
+pub mod Edits
+pub mod Logs

@@ -1,5 +1,9 @@
 -- The words of the crate's contracts.
+pub mod Commands
 pub mod Words
 pub mod Statuses
 pub mod Outside
-pub mod Replaying
+pub mod Editing
+pub mod Replies
+pub mod Answers
+pub mod Code

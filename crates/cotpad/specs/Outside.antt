@@ -18,6 +18,10 @@ pub record Outside : Type 0 where
 abbrev pub told : Option (List ℕ) → ℕ → Option (List ℕ) → ℕ → Outside
 told left read_faults held write_faults = record { left = left; held = held; read_faults = read_faults; write_faults = write_faults }
 
+-- known bytes stay at the front
+abbrev pub Grows : Option (List ℕ) → Option (List ℕ) → Type 0
+Grows held now = (more : List ℕ) × Appends held now more
+
 -- these bytes were written whole, and no write failed
 pub record IsWritten (bytes : List ℕ) (old new : Outside) : Type 0 where
   pub appended : Appends old.held new.held bytes

@@ -1,15 +1,46 @@
 -- The words that spell commands.
-use Rattle.std.specs.Prelude.{◌≡◌, ℕ, List, [], ◌∷◌, codes, map, string_bytes, String}
-use Rattle.cotpad.specs.declared.command.Command.{Command}
-use Rattle.cotpad.specs.declared.command.Command.TheVariants.{Replay}
+use Rattle.std.specs.Prelude.{◌≡◌, ◌≢◌, ◌<◌, ◌^◌, ℕ, List, [], ◌∷◌, codes, decimal, map, string_bytes, String}
+use Rattle.std.specs.Str.{IsUtf8}
+use Rattle.op_name.specs.NameData.{IsName}
+use Rattle.op_name.specs.declared.name.TheConstants.{SITES}
+use Rattle.script_text.specs.Names.{name_text}
+use Rattle.cotpad.specs.Commands.{CommandData, Replay, Show, Edit, EditData, Ins, Nl, Del, Undo, Redo}
 
--- the words spell the command: a row for each
-abbrev pub Spells : {A : Type 0} → List (String A) → Command → Type 0
-Spells words Replay = map string_bytes words ≡ codes "replay" ∷ []
+-- the words of an edit, behind its site: a row for each. A text is one word
+abbrev pub edit_words : EditData → List (List ℕ)
+edit_words (Ins place text) = codes "ins" ∷ decimal place ∷ text ∷ []
+edit_words (Nl place) = codes "nl" ∷ decimal place ∷ []
+edit_words (Del place) = codes "del" ∷ decimal place ∷ []
+edit_words (Undo name) = codes "undo" ∷ name_text name ∷ []
+edit_words (Redo name) = codes "redo" ∷ name_text name ∷ []
+
+-- the words of a command: a row for each
+abbrev pub command_words : CommandData → List (List ℕ)
+command_words Replay = codes "replay" ∷ []
+command_words Show = codes "show" ∷ []
+command_words (Edit site edit) = codes "edit" ∷ decimal site ∷ edit_words edit
+
+-- the parts of an edit are in range; a text isn't empty
+abbrev pub IsEditInRange : EditData → Type 0
+IsEditInRange (Ins place text) = (place < 2 ^ 32) × (text ≢ [])
+IsEditInRange (Nl place) = place < 2 ^ 32
+IsEditInRange (Del place) = place < 2 ^ 32
+IsEditInRange (Undo name) = IsName name.site name.number
+IsEditInRange (Redo name) = IsName name.site name.number
+
+-- the parts of a command are in range
+abbrev pub IsInRange : CommandData → Type 0
+IsInRange Replay = Unit {0}
+IsInRange Show = Unit {0}
+IsInRange (Edit site edit) = (site < SITES) × IsEditInRange edit
+
+-- the words spell the command, in the one way in which it is spelled
+abbrev pub Spells : {A : Type 0} → List (String A) → CommandData → Type 0
+Spells words command = (map string_bytes words ≡ command_words command) × IsInRange command
 
 -- they spell none
 abbrev pub SpellNothing : {A : Type 0} → List (String A) → Type 0
-SpellNothing words = (command : Command) → ¬ Spells words command
+SpellNothing words = (command : CommandData) → ¬ Spells words command
 
 -- what is written then: `cotpad: words` and a line feed
 abbrev pub words_line : List ℕ

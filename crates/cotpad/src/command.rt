@@ -1,29 +1,173 @@
 //! Commands, and the words that spell them.
 
-ghost use Rattle.std.specs.Prelude.{◌≡◌, ◌↔◌, IsTrue, Some, IfSome, codes};
+ghost use Rattle.std.specs.Prelude.{◌≡◌, Some, None, IfSome, MatchOption, map, option_map, string_bytes, ℕ, List};
+ghost use Rattle.cotpad.specs.Commands.{CommandData, command_data, edit_data};
+ghost use Rattle.cotpad.specs.Commands as asked;
 ghost use Rattle.cotpad.specs.Words.{Spells};
+ghost use Rattle.cotpad.specs.Code.Reading.{command_in, command_row, edit_in, edit_row, ins_in, nl_in, del_in, undo_in, redo_in, first_in, one_in, alone_in};
+
+use op_name::Name;
+use script_text::{parse_name, parse_number, parse_site};
 
 /// What the program is asked to do.
-#[derive(Clone, Copy, Debug, PartialEq, Eq)]
-pub enum Command {
+#[derive(Clone, Copy, Debug)]
+pub enum Command<'a> {
     /// `replay`: reads a script, and writes the report of its session.
     Replay,
+    /// `show`: reads a log, and writes its text.
+    Show,
+    /// `edit SITE EDIT`: reads a log, edits it as this site, and writes the log of the result.
+    Edit { site: u16, edit: Edit<'a> },
+}
+
+/// What is done at a site. Places count shown characters.
+#[derive(Clone, Copy, Debug)]
+pub enum Edit<'a> {
+    /// `ins V TEXT`: inserts each character of a text, after so many shown ones and on.
+    Ins { place: u32, text: &'a str },
+    /// `nl V`: inserts a line feed.
+    Nl { place: u32 },
+    /// `del V`: deletes the shown character at this place, from 0.
+    Del { place: u32 },
+    /// `undo NAME`: undoes an insert or delete.
+    Undo { name: Name },
+    /// `redo NAME`: redoes an insert or delete.
+    Redo { name: Name },
 }
 
 /// The command that these words spell, which are those after the program's name. None exactly where they spell
 /// no command.
-pub(crate) fn command_of(words: &[String]) -> Option<Command>
-    ensures found { IfSome result (λ command. Spells words.now command) }
-    ensures only { (command : Command) → Spells words.now command → result ≡ Some command }
+#[tactic(auto, using(crate::proofs::Spelling::found, crate::proofs::Spelling::only), unfolding(crate::specs::Code::Reading::command_in))]
+pub(crate) fn command_of(words: &[String]) -> Option<Command<'_>>
+    ensures read { option_map command_data result ≡ command_in (map string_bytes words.now) }
+    ensures found { IfSome result (λ command. Spells words.now (command_data command)) }
+    ensures only { (command : CommandData) → Spells words.now command → option_map command_data result ≡ Some command }
 {
-    match words {
-        [word] if is_replay(word.as_str()) => Some(Command::Replay),
+    let (word, parts) = first(words)?;
+    command_row(word, parts)
+}
+
+// The row of the word, with these parts.
+#[tactic(auto, unfolding(crate::specs::Code::Reading::command_row))]
+fn command_row<'a>(word: &str, parts: &'a [String]) -> Option<Command<'a>>
+    ensures { option_map command_data result ≡ command_row word.now (map string_bytes parts.now) }
+{
+    match word {
+        "replay" => replay_of(parts),
+        "show" => show_of(parts),
+        "edit" => edit_of(parts),
         _ => None,
     }
 }
 
-fn is_replay(word: &str) -> bool
-    ensures { IsTrue result ↔ (word.now ≡ codes "replay") }
+fn replay_of(parts: &[String]) -> Option<Command<'_>>
+    ensures { option_map command_data result ≡ alone_in asked.Replay (map string_bytes parts.now) }
 {
-    word == "replay"
+    if parts.is_empty() {
+        Some(Command::Replay)
+    } else {
+        None
+    }
+}
+
+fn show_of(parts: &[String]) -> Option<Command<'_>>
+    ensures { option_map command_data result ≡ alone_in asked.Show (map string_bytes parts.now) }
+{
+    if parts.is_empty() {
+        Some(Command::Show)
+    } else {
+        None
+    }
+}
+
+// `SITE EDIT`
+#[tactic(auto, unfolding(crate::specs::Code::Reading::edit_in))]
+fn edit_of(parts: &[String]) -> Option<Command<'_>>
+    ensures { option_map command_data result ≡ edit_in (map string_bytes parts.now) }
+{
+    let (site, rest) = first(parts)?;
+    let site = parse_site(site)?;
+    let (word, parts) = first(rest)?;
+    match edit_row(word, parts) {
+        Some(edit) => Some(Command::Edit { site, edit }),
+        None => None,
+    }
+}
+
+// The row of the word of an edit, with these parts.
+#[tactic(auto, unfolding(crate::specs::Code::Reading::edit_row))]
+fn edit_row<'a>(word: &str, parts: &'a [String]) -> Option<Edit<'a>>
+    ensures { option_map edit_data result ≡ edit_row word.now (map string_bytes parts.now) }
+{
+    match word {
+        "ins" => ins_of(parts),
+        "nl" => nl_of(parts),
+        "del" => del_of(parts),
+        "undo" => undo_of(parts),
+        "redo" => redo_of(parts),
+        _ => None,
+    }
+}
+
+// `V TEXT`
+#[tactic(auto, unfolding(crate::specs::Code::Reading::ins_in))]
+fn ins_of(parts: &[String]) -> Option<Edit<'_>>
+    ensures { option_map edit_data result ≡ ins_in (map string_bytes parts.now) }
+{
+    let (place, rest) = first(parts)?;
+    let place = parse_number(place)?;
+    let text = one(rest)?;
+    if text.is_empty() {
+        None
+    } else {
+        Some(Edit::Ins { place, text })
+    }
+}
+
+#[tactic(auto, unfolding(crate::specs::Code::Reading::nl_in))]
+fn nl_of(parts: &[String]) -> Option<Edit<'_>>
+    ensures { option_map edit_data result ≡ nl_in (map string_bytes parts.now) }
+{
+    let place = parse_number(one(parts)?)?;
+    Some(Edit::Nl { place })
+}
+
+#[tactic(auto, unfolding(crate::specs::Code::Reading::del_in))]
+fn del_of(parts: &[String]) -> Option<Edit<'_>>
+    ensures { option_map edit_data result ≡ del_in (map string_bytes parts.now) }
+{
+    let place = parse_number(one(parts)?)?;
+    Some(Edit::Del { place })
+}
+
+#[tactic(auto, unfolding(crate::specs::Code::Reading::undo_in))]
+fn undo_of(parts: &[String]) -> Option<Edit<'_>>
+    ensures { option_map edit_data result ≡ undo_in (map string_bytes parts.now) }
+{
+    let name = parse_name(one(parts)?)?;
+    Some(Edit::Undo { name })
+}
+
+#[tactic(auto, unfolding(crate::specs::Code::Reading::redo_in))]
+fn redo_of(parts: &[String]) -> Option<Edit<'_>>
+    ensures { option_map edit_data result ≡ redo_in (map string_bytes parts.now) }
+{
+    let name = parse_name(one(parts)?)?;
+    Some(Edit::Redo { name })
+}
+
+// The first word and the others, if there is one.
+fn first(words: &[String]) -> Option<(&str, &[String])>
+    ensures { MatchOption result (first_in (map string_bytes words.now) ≡ None) (λ p. first_in (map string_bytes words.now) ≡ Some (p.0.now, map string_bytes p.1.now)) }
+{
+    let (word, others) = words.split_first()?;
+    Some((word.as_str(), others))
+}
+
+// The one word, if there is one alone.
+fn one(words: &[String]) -> Option<&str>
+    ensures { MatchOption result (one_in (map string_bytes words.now) ≡ None) (λ w. one_in (map string_bytes words.now) ≡ Some w.now) }
+{
+    let (word, others) = first(words)?;
+    if others.is_empty() { Some(word) } else { None }
 }

@@ -1,15 +1,18 @@
-//! The program: a script comes in, and the report of its session goes out.
+//! The program: a script or a log comes in, and a report, a text or a log goes out.
 //!
-//! `run` is the whole program over any source, sink and wire; what it writes for `replay` is the report of
-//! the script, as the definitions of sessions say it, in which each `show` prints the text of a site's history.
-//! Each command has its row in the relation of words to commands, and a function of its own with its contract.
+//! `run` is the whole program over any source, sink and wire. Each command has its row in the relation of words to
+//! commands, a definition of what it replies, and a file of its own; one table says of all of them which answer comes
+//! when, and what it leaves.
 #![tactic(auto)]
 
+mod answer;
 mod command;
+mod edit;
 mod laws;
+mod loaded;
 mod replay;
-mod report;
 mod run;
+mod show;
 mod status;
 
 use outside_io::{NoWire, StdinSource, StdoutSink};

@@ -5,20 +5,28 @@ ghost use Rattle.outside_io.specs.Faults.{Rose};
 ghost use Rattle.context_diff.specs.Operations.{OpData};
 ghost use Rattle.context_diff.specs.Histories.{IsValid, Same};
 ghost use Rattle.context_diff.specs.Replays.{text_of};
+ghost use Rattle.cotpad.specs.Commands.{EditData, CommandData};
+ghost use Rattle.cotpad.specs.Commands as asked;
 ghost use Rattle.cotpad.specs.Words.{Spells, SpellNothing};
 ghost use Rattle.cotpad.specs.Statuses.{IsReported};
 ghost use Rattle.cotpad.specs.Outside.{told, AreWrongWords};
-ghost use Rattle.cotpad.specs.Replaying.{IsReplayed};
+ghost use Rattle.cotpad.specs.Answers.{IsAnswered};
+ghost use Rattle.cotpad.specs.Replies.{IsScriptReport, IsShown, IsEdited};
 
+use crate::answer::answer;
 use crate::command::{Command, command_of};
+use crate::edit::Editing;
 use crate::laws::same_operations;
-use crate::replay::replay_script;
+use crate::replay::Replay;
+use crate::show::Show;
 use crate::status::Status;
 use outside_io::{Failed, Sink, Source, Wire, write_whole};
 use std::alloc::Global;
 
-/// Does what the words say, which are those after the program's name: `replay` reads a script from the source
-/// and writes the report of its session to the sink. Any other words write `cotpad: words`, and nothing is read.
+/// Does what the words say, which are those after the program's name. `replay` reads a script, and writes the report of
+/// its session. `show` reads a log, and writes its text. `edit SITE ins V TEXT`, `edit SITE nl V`, `edit SITE del V`,
+/// `edit SITE undo NAME` and `edit SITE redo NAME` read a log, edit it as this site, and write the log of the result.
+/// Any other words write `cotpad: words`, and nothing is read.
 pub fn run<S: Source, K: Sink, W: Wire>(
     alloc: Global,
     words: &[String],
@@ -26,9 +34,17 @@ pub fn run<S: Source, K: Sink, W: Wire>(
     sink: &mut K,
     wire: &mut W,
 ) -> Status
-    // `replay`: each answer, with its cause and what it leaves in the source and the sink. On Done and Refused what
-    // is written is the report of the bytes that the source had left, and the transcript of it says what that is.
-    ensures replay { Spells words.now Command.Replay → IsReplayed
+    // Each command: every answer, with its cause and what it leaves in the source and the sink. On Done and Refused what
+    // is written is the reply to the bytes that the source had left.
+    ensures replay { Spells words.now asked.Replay → IsAnswered IsScriptReport
+        (told (S.left source.old) (S.faults source.old) (K.held sink.old) (K.faults sink.old))
+        (told (S.left source.new) (S.faults source.new) (K.held sink.new) (K.faults sink.new))
+        result }
+    ensures show { Spells words.now asked.Show → IsAnswered IsShown
+        (told (S.left source.old) (S.faults source.old) (K.held sink.old) (K.faults sink.old))
+        (told (S.left source.new) (S.faults source.new) (K.held sink.new) (K.faults sink.new))
+        result }
+    ensures edit { (site : ℕ) (edit : EditData) → Spells words.now (asked.Edit site edit) → IsAnswered (IsEdited site edit)
         (told (S.left source.old) (S.faults source.old) (K.held sink.old) (K.faults sink.old))
         (told (S.left source.new) (S.faults source.new) (K.held sink.new) (K.faults sink.new))
         result }
@@ -47,15 +63,17 @@ pub fn run<S: Source, K: Sink, W: Wire>(
     // The wire plays no part.
     ensures wire { wire.new ≡ wire.old }
 
-    // Without a fault the report is written, unless out of memory.
-    ensures complete { Spells words.now Command.Replay
+    // Without a fault the reply is written, unless out of memory.
+    ensures complete { (command : CommandData) → Spells words.now command
         → (Rose (S.faults source.old) (S.faults source.new) → ⊥)
         → (Rose (K.faults sink.old) (K.faults sink.new) → ⊥)
         → IsReported result ⊎ (result ≡ Status.Memory) }
 {
     same_operations();
     match command_of(words) {
-        Some(Command::Replay) => replay_script(alloc, source, sink),
+        Some(Command::Replay) => answer(alloc, &Replay, source, sink),
+        Some(Command::Show) => answer(alloc, &Show, source, sink),
+        Some(Command::Edit { site, edit }) => answer(alloc, &Editing { site, edit }, source, sink),
         None => refuse_words(sink),
     }
 }

@@ -18,6 +18,27 @@ fn words_of(alloc: Global, text: &str) -> Result<Vec<String>, Fail> {
     Ok(words)
 }
 
+/// The header of a log.
+const HEADER: &str = "434f544c4f47310a";
+
+/// The frame of insert 0.1: `a` at place 0, with an empty context.
+const A: &str = "000000110100000000010000000000000061000000";
+
+/// The frame of insert 0.2: `b` at place 1, with 0.1 as context.
+const B: &str = "0000001601000000000200000001000000620100000000010000";
+
+/// The bytes that pieces in hexadecimal spell, one after the other.
+fn bytes_of(alloc: Global, pieces: &[&str]) -> Result<Vec<u8>, Fail> {
+    let mut bytes = Vec::new(alloc);
+    for piece in pieces {
+        match hex::decode(alloc, piece) {
+            Ok(part) => bytes.extend_from_slice(&part)?,
+            Err(_) => return Err(Fail::new("no hexadecimal digits")),
+        }
+    }
+    Ok(bytes)
+}
+
 /// The status of a call, and what the sink holds then. At most `chunk` bytes are read at once.
 fn called(
     alloc: Global,
@@ -94,7 +115,21 @@ fn a_script_is_reported_line_by_line(rt: HostRuntime) -> Result<(), Fail> {
 
 #[test]
 fn other_words_read_nothing(rt: HostRuntime) -> Result<(), Fail> {
-    for words in ["replay now", "", "Replay", "show", "replay "] {
+    for words in [
+        "replay now",
+        "",
+        "Replay",
+        "replay ",
+        "show 0",
+        "edit 64 del 0",
+        "edit 0 ins 0 ",
+        "edit 0 ins 0 a b",
+        "edit 0 nl 01",
+        "edit 0 del 4294967296",
+        "edit 0 undo 0.0",
+        "edit 0 redo 0.1/1",
+        "edit 0 give 0",
+    ] {
         let (ended, held) = called(rt.alloc(), words, b"sites 1\nshow 0\n", 8, &[0], &[])?;
         assert_eq!(rt; ended, Status::Words, "{words}");
         assert_eq!(rt; held.as_slice(), b"cotpad: words\n".as_slice(), "{words}");
@@ -153,6 +188,108 @@ fn a_line_is_refused_that_is_too_long_or_no_text(rt: HostRuntime) -> Result<(), 
         held.as_slice(),
         b"op 0 insert 0.1\nrefused 3 utf8\n".as_slice()
     );
+    Ok(())
+}
+
+#[test]
+fn a_log_is_shown_or_refused(rt: HostRuntime) -> Result<(), Fail> {
+    let alloc = rt.alloc();
+    let forged = "000000110100000000010000000000000062000000";
+    let cut = "0000001101000000000100000000000000610000";
+    let cases: [(&str, &[&str], Status, &str); 6] = [
+        (
+            "two operations",
+            &[HEADER, A, B],
+            Status::Done,
+            "text 2 2\nab\n",
+        ),
+        (
+            "the later one first",
+            &[HEADER, B, A],
+            Status::Done,
+            "text 2 2\nab\n",
+        ),
+        ("no operation", &[HEADER], Status::Done, "text 0 0\n\n"),
+        ("no header", &[], Status::Refused, "refused log header\n"),
+        (
+            "a frame that is cut",
+            &[HEADER, cut],
+            Status::Refused,
+            "refused log cut 8\n",
+        ),
+        (
+            "another operation of a name",
+            &[HEADER, A, forged],
+            Status::Refused,
+            "refused log op 29 forged 0.1\n",
+        ),
+    ];
+    for (why, pieces, status, reply) in cases {
+        let log = bytes_of(alloc, pieces)?;
+        let (ended, held) = called(alloc, "show", &log, 16, &[], &[])?;
+        assert_eq!(rt; ended, status, "{why}");
+        assert_eq!(rt; held.as_slice(), reply.as_bytes(), "{why}");
+    }
+    Ok(())
+}
+
+#[test]
+fn an_edit_writes_the_log_of_what_it_made(rt: HostRuntime) -> Result<(), Fail> {
+    let alloc = rt.alloc();
+    let cases: [(&str, &[&str], &[&str]); 2] = [
+        ("edit 0 ins 0 a", &[HEADER], &[HEADER, A]),
+        ("edit 0 ins 1 b", &[HEADER, A], &[HEADER, A, B]),
+    ];
+    for (words, before, after) in cases {
+        let log = bytes_of(alloc, before)?;
+        let (ended, held) = called(alloc, words, &log, 16, &[], &[])?;
+        assert_eq!(rt; ended, Status::Done, "{words}");
+        assert_eq!(rt;
+            held.as_slice(),
+            bytes_of(alloc, after)?.as_slice(),
+            "{words}"
+        );
+    }
+    Ok(())
+}
+
+#[test]
+fn a_refused_edit_writes_no_log(rt: HostRuntime) -> Result<(), Fail> {
+    let alloc = rt.alloc();
+    let cases: [(&str, &[&str], &str); 5] = [
+        ("edit 0 undo 0.1", &[HEADER], "refused no unknown 0.1\n"),
+        ("edit 0 ins 2 bc", &[HEADER, A], "refused no place 2 1\n"),
+        ("edit 1 del 1", &[HEADER, A], "refused no place 1 1\n"),
+        ("edit 1 redo 0.1", &[HEADER, A], "refused no inforce 0\n"),
+        ("edit 0 undo 0.1", &[], "refused log header\n"),
+    ];
+    for (words, log, reply) in cases {
+        let log = bytes_of(alloc, log)?;
+        let (ended, held) = called(alloc, words, &log, 16, &[], &[])?;
+        assert_eq!(rt; ended, Status::Refused, "{words}");
+        assert_eq!(rt; held.as_slice(), reply.as_bytes(), "{words}");
+    }
+    Ok(())
+}
+
+#[test]
+fn undone_text_comes_back(rt: HostRuntime) -> Result<(), Fail> {
+    let alloc = rt.alloc();
+    let mut log = bytes_of(alloc, &[HEADER])?;
+    let steps = [
+        ("edit 0 ins 0 h\u{e9}", "text 2 3\nh\u{e9}\n"),
+        ("edit 1 nl 1", "text 3 4\nh\n\u{e9}\n"),
+        ("edit 2 undo 0.2", "text 2 2\nh\n\n"),
+        ("edit 1 redo 0.2", "text 3 4\nh\n\u{e9}\n"),
+        ("edit 2 del 0", "text 2 3\n\n\u{e9}\n"),
+    ];
+    for (words, shown) in steps {
+        let (ended, edited) = called(alloc, words, &log, 4096, &[], &[])?;
+        assert_eq!(rt; ended, Status::Done, "{words}");
+        let (_, held) = called(alloc, "show", &edited, 4096, &[], &[])?;
+        assert_eq!(rt; held.as_slice(), shown.as_bytes(), "{words}");
+        log = edited;
+    }
     Ok(())
 }
 

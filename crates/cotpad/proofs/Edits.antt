@@ -1,0 +1,104 @@
+-- An edit as it is done makes what is defined.
+use Rattle.std.proofs.Common.{◌≡◌, ℕ, zero, suc, ◌+◌, ◌<◌, ◌≤◌, Bool, true, false, if◌then◌else◌, List, [], ◌∷◌, ◌++◌, refl, sym, ap, subst, ◌∙◌, inl, inr, arith, length, map, drop, get_or, chars}
+use Rattle.std.specs.Prelude.{⊤, OnOk, OnErr, Option, Some, None, Result, Ok, Err, slice_get, IsOk}
+use Rattle.std.specs.Result.{is_ok}
+use Rattle.std.proofs.Math.Seq.{drop-cons}
+use Rattle.std.proofs.lemmas.List.{length-map}
+use Rattle.std.proofs.lemmas.Option.{slice_get_within}
+use Rattle.std.proofs.lemmas.Bool.{true≢false, cases_Bool}
+use Rattle.context_diff.specs.Operations.{OpData, inserting}
+use Rattle.context_diff.specs.declared.op.Op.{Op}
+use Rattle.context_diff.specs.Ops.{data_of}
+use Rattle.context_diff.specs.Histories.{IsValid, context_of_all}
+use Rattle.context_diff.specs.Replays.{Cell, replay_of, is_shown, characters_of}
+use Rattle.cot_site.specs.States.{State, with_last}
+use Rattle.cot_site.specs.Releases.{settled}
+use Rattle.cot_site.specs.Views.{places_from, shown_places_of}
+use Rattle.cot_site.specs.Commands.{local_insert, place_behind, numbered, next_name, IsAnswer}
+use Rattle.cot_site.specs.declared.local.Local.{Local}
+use Rattle.cot_site.specs.declared.local.Local.TheVariants as local
+use Rattle.cot_site.proofs.CallerLemmas.{few_cells}
+use Rattle.cotpad.specs.Editing.{made, then_next, typed}
+use Rattle.cotpad.specs.Code.Editing.{IsDone}
+
+-- an operation was made, and all was released
+pub made_is : (s : State) (r : Result OpData Local) (o : OpData) (after end : State) → r ≡ Ok o → after ≡ with_last s o → end ≡ settled after → made s r ≡ Ok end
+made_is s r o after end is last all = ap (made s) is ∙ ap Ok (ap settled (sym last) ∙ sym all)
+
+-- none was made
+pub made_none : (s t : State) (r : Result OpData Local) (why : Local) → IsAnswer r (Err why) → IsDone (made s r) (Err why) t
+made_none s t r (local.PlaceOut place visible) is = ap (made s) is
+made_none s t r (local.Unknown name) is = ap (made s) is
+made_none s t r (local.NotInForce g) is = ap (made s) is
+made_none s t r (local.InForce g) is = ap (made s) is
+made_none s t r local.GenerationFull is = ap (made s) is
+made_none s t r local.NumberFull is = ap (made s) is
+made_none s t r (local.ContextFull entries) is = ap (made s) is
+made_none s t r local.Memory is = tt
+
+-- out of memory in the releases
+pub done_short : (edited : Result State Local) (r : Result ⊤ Local) (t : State) → r ≡ Err local.Memory → IsDone edited r t
+done_short edited r t is = subst (λ x. IsDone edited x t) (sym is) tt
+
+-- an operation was made, and then all was released, or memory ran out
+pub made_done : (s : State) (made_op : Result OpData Local) (o : OpData) (after end : State) (r : Result ⊤ Local)
+    → made_op ≡ Ok o → after ≡ with_last s o → OnOk r (end ≡ settled after) → OnErr r (r ≡ Err local.Memory)
+    → IsDone (made s made_op) r end
+made_done s made_op o after end (Ok u) is last all short = made_is s made_op o after end is last all
+made_done s made_op o after end (Err why) is last all short = done_short (made s made_op) (Err why) end short
+
+-- the rest of a text, whose next character is this one
+typed_at : (v k : ℕ) (text : List ℕ) (s : State) (ch : ℕ) → k < length text → ch ≡ get_or text k ch → typed v (drop k text) s ≡ then_next (typed (v + 1) (drop (k + 1) text)) (made s (local_insert s v ch))
+unfolding typed
+typed_at v k text s ch within is =
+    let cut : drop k text ≡ ch ∷ drop (k + 1) text = drop-cons text k ch within ∙ ap (λ c. c ∷ drop (suc k) text) (sym is) ∙ ap (λ n. ch ∷ drop n text) (next_is k) in
+    ap (λ cs. typed v cs s) cut
+  where
+    next_is : (n : ℕ) → suc n ≡ n + 1
+    next_is n = omega arith
+
+pub typed_more : (v k : ℕ) (text : List ℕ) (s t : State) (ch : ℕ) → k < length text → ch ≡ get_or text k ch → made s (local_insert s v ch) ≡ Ok t
+    → typed v (drop k text) s ≡ typed (v + 1) (drop (k + 1) text) t
+typed_more v k text s t ch within is ok = typed_at v k text s ch within is ∙ ap (then_next (typed (v + 1) (drop (k + 1) text))) ok
+
+-- a refused character refuses the text
+pub typed_refused : (v k : ℕ) (text : List ℕ) (s t : State) (ch : ℕ) (why : Local) → k < length text → ch ≡ get_or text k ch
+    → IsDone (made s (local_insert s v ch)) (Err why) t → IsDone (typed v (drop k text) s) (Err why) t
+typed_refused v k text s t ch (local.PlaceOut place visible) within is never = typed_at v k text s ch within is ∙ ap (then_next (typed (v + 1) (drop (k + 1) text))) never
+typed_refused v k text s t ch (local.Unknown name) within is never = typed_at v k text s ch within is ∙ ap (then_next (typed (v + 1) (drop (k + 1) text))) never
+typed_refused v k text s t ch (local.NotInForce g) within is never = typed_at v k text s ch within is ∙ ap (then_next (typed (v + 1) (drop (k + 1) text))) never
+typed_refused v k text s t ch (local.InForce g) within is never = typed_at v k text s ch within is ∙ ap (then_next (typed (v + 1) (drop (k + 1) text))) never
+typed_refused v k text s t ch local.GenerationFull within is never = typed_at v k text s ch within is ∙ ap (then_next (typed (v + 1) (drop (k + 1) text))) never
+typed_refused v k text s t ch local.NumberFull within is never = typed_at v k text s ch within is ∙ ap (then_next (typed (v + 1) (drop (k + 1) text))) never
+typed_refused v k text s t ch (local.ContextFull entries) within is never = typed_at v k text s ch within is ∙ ap (then_next (typed (v + 1) (drop (k + 1) text))) never
+typed_refused v k text s t ch local.Memory within is never = tt
+
+drop_past : {X : Type 0} (xs : List X) (n : ℕ) → length xs ≤ n → drop n xs ≡ []
+drop_past [] zero le = refl
+drop_past [] (suc n) le = refl
+drop_past (x ∷ xs) zero le = absurd (omega (arith, le))
+drop_past (x ∷ xs) (suc n) le = drop_past xs n (omega (arith, le))
+
+pub typed_none : (v k : ℕ) (text : List ℕ) (s : State) → length text ≤ k → typed v (drop k text) s ≡ Ok s
+unfolding typed
+typed_none v k text s past = ap (λ cs. typed v cs s) (drop_past text k past)
+
+places_few : (test : Cell → Bool) (n : ℕ) (cs : List Cell) → length (places_from test n cs) ≤ length cs
+places_few test n [] = omega arith
+places_few test n (c ∷ cs) = elim (cases_Bool (test c)) [
+  | inl so ↦
+      subst (λ (b : Bool). length (if b then n ∷ places_from test (suc n) cs else places_from test (suc n) cs) ≤ suc (length cs)) (sym so) (omega (arith, places_few test (suc n) cs))
+  | inr isnt ↦
+      subst (λ (b : Bool). length (if b then n ∷ places_from test (suc n) cs else places_from test (suc n) cs) ≤ suc (length cs)) (sym isnt) (omega (arith, places_few test (suc n) cs))
+]
+
+-- a character was inserted after at most 64,000,000 others
+pub place_small : (s t : State) (v ch : ℕ) → IsValid s.history → made s (local_insert s v ch) ≡ Ok t → v ≤ 64000000
+place_small s t v ch valid ok = from (place_behind s.history v) refl ok
+  where
+    from : (r : Option ℕ) → place_behind s.history v ≡ r → made s (elim r as (λ _. Result OpData Local) [ None ↦ Err (local.PlaceOut v (length (characters_of s.history))) | Some p ↦ numbered s (inserting (next_name s) p ch (context_of_all s.history)) ]) ≡ Ok t → v ≤ 64000000
+    from None at ok = cc
+    from (Some p) at ok =
+        let places = shown_places_of s.history in
+        let within : v < suc (length (map suc places)) = slice_get_within (0 ∷ map suc places) v p at in
+        omega (arith, within, length-map places suc, places_few (is_shown s.history) 0 (replay_of s.history), few_cells s.history valid)

@@ -1,0 +1,4 @@
+-- The words of private functions' contracts; no public contract uses them.
+pub mod Reading
+pub mod Refusing
+pub mod Editing

@@ -1,0 +1,36 @@
+-- Commands: what the program is asked to do.
+use Rattle.std.specs.Prelude.{ℕ, List}
+use Rattle.op_name.specs.NameData.{NameData}
+use Rattle.cotpad.specs.declared.command.Command.{Command}
+use Rattle.cotpad.specs.declared.command.Command.TheVariants as command
+use Rattle.cotpad.specs.declared.command.Edit as declared
+use Rattle.cotpad.specs.declared.command.Edit.TheVariants as edit
+
+-- an edit at a site: a text or a line feed is inserted after so many shown characters, a shown character is deleted, an insert or
+-- delete is undone or redone
+pub data EditData : Type 0 where
+  Ins : ℕ → List ℕ → EditData
+  Nl : ℕ → EditData
+  Del : ℕ → EditData
+  Undo : NameData → EditData
+  Redo : NameData → EditData
+
+-- a script is replayed; the text of a log is shown; a log is loaded as a site and edited there
+pub data CommandData : Type 0 where
+  Replay : CommandData
+  Show : CommandData
+  Edit : ℕ → EditData → CommandData
+
+-- what contracts see of an edit, whose text is its bytes
+abbrev pub edit_data : declared.Edit → EditData
+edit_data (edit.Ins place text) = Ins place text.now
+edit_data (edit.Nl place) = Nl place
+edit_data (edit.Del place) = Del place
+edit_data (edit.Undo name) = Undo name
+edit_data (edit.Redo name) = Redo name
+
+-- what contracts see of a command
+abbrev pub command_data : Command → CommandData
+command_data command.Replay = Replay
+command_data command.Show = Show
+command_data (command.Edit site e) = Edit site (edit_data e)

@@ -1,0 +1,78 @@
+-- What commands reply.
+use Rattle.std.specs.Prelude.{◌≡◌, ◌≢◌, ◌⊎◌, ◌<◌, ◌≤◌, ℕ, true, false, List, ◌++◌, codes, length, Result, Ok, Err}
+use Rattle.context_diff.specs.Replays.{text_of, characters_of}
+use Rattle.cot_site.specs.States.{State}
+use Rattle.cot_site.specs.declared.local.Local.{Local}
+use Rattle.outside_io.specs.declared.reading.TheConstants.{MAX_INPUT}
+use Rattle.script_text.specs.Report.{shown_text}
+use Rattle.script_text.specs.Verdicts.{local_text}
+use Rattle.session_log.specs.declared.log_bad.LogBad.{LogBad}
+use Rattle.session_log.specs.declared.log_bad.LogBad.TheVariants as bad
+use Rattle.session_log.specs.Logs.{log_of}
+use Rattle.session_log.specs.Loadings.{IsLoaded, IsUnloaded}
+use Rattle.session_log.specs.Words.{refused_log_text}
+use Rattle.session_replay.specs.Scripts.{Report, script_report}
+use Rattle.session_replay.specs.Transcripts.{IsTranscript}
+use Rattle.session_replay.specs.Derivation.{IsDerivedReport}
+use Rattle.cotpad.specs.Commands.{EditData}
+use Rattle.cotpad.specs.Editing.{edited}
+
+-- ---- `replay`
+
+-- the report of a script. Its transcript says what it is: the lines done one after the other, from no site on; `show` writes the
+-- text of the definition for the history that the site has there; after each event with its releases no operation is ready, and
+-- whatever waits, waits for a named member. It is also the report, and the only one, of the session that is read with derived
+-- forms in the place of replays
+pub record IsScriptReport (bytes : List ℕ) (reply : Report) : Type 0 where
+  pub report : reply ≡ script_report bytes
+  pub transcript : IsTranscript bytes (script_report bytes)
+  pub derived : IsDerivedReport bytes (script_report bytes)
+  pub derived_once : (r : Report) → IsDerivedReport bytes r → r ≡ script_report bytes
+
+-- ---- commands that load their input as a log
+
+-- what is written, where nothing is refused
+abbrev pub accepting : List ℕ → Report
+accepting written = record { written = written; refused = false }
+
+-- the line that says why something is refused
+abbrev pub refusing : List ℕ → Report
+refusing line = record { written = line; refused = true }
+
+-- the line of an input that is too long: it is refused before it is looked at
+abbrev pub limit_line : List ℕ
+limit_line = codes "refused limit\n"
+
+-- the line that refuses the bytes as the log of this site: they are too many, or else the log is refused for this reason
+abbrev pub IsRefusal : ℕ → List ℕ → List ℕ → Type 0
+IsRefusal site bytes line =
+    ((MAX_INPUT < length bytes) × (line ≡ limit_line))
+    ⊎ ((length bytes ≤ MAX_INPUT) × ((why : LogBad) × (why ≢ bad.Memory) × IsUnloaded site bytes why × (line ≡ refused_log_text why)))
+
+-- the bytes are a log, not too long, and loaded as this site they give this state
+abbrev pub IsLoadedAs : ℕ → List ℕ → State → Type 0
+IsLoadedAs site bytes s = (length bytes ≤ MAX_INPUT) × IsLoaded site bytes s
+
+-- the reply of a command that loads its input as this site, and then replies to the state
+abbrev pub RepliesToLog : ℕ → (State → Report) → List ℕ → Report → Type 0
+RepliesToLog site to_state bytes reply =
+    ((line : List ℕ) × IsRefusal site bytes line × (reply ≡ refusing line)) ⊎ ((s : State) × IsLoadedAs site bytes s × (reply ≡ to_state s))
+
+-- `show`: the lines of the text that the history shows
+abbrev pub shown_reply : State → Report
+shown_reply s = accepting (shown_text (length (characters_of s.history)) (text_of s.history))
+
+abbrev pub IsShown : List ℕ → Report → Type 0
+IsShown = RepliesToLog 0 shown_reply
+
+-- `refused no REASON` and a line feed
+abbrev pub refused_edit_text : Local → List ℕ
+refused_edit_text why = codes "refused " ++ local_text why
+
+-- `edit`: the log of the edited site; nothing of it where an operation is refused, but why
+abbrev pub edit_reply : Result State Local → Report
+edit_reply (Ok s) = accepting (log_of s.history s.waiting)
+edit_reply (Err why) = refusing (refused_edit_text why)
+
+abbrev pub IsEdited : ℕ → EditData → List ℕ → Report → Type 0
+IsEdited site edit = RepliesToLog site (λ s. edit_reply (edited s edit))

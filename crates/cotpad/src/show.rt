@@ -1,0 +1,49 @@
+//! The command `show`.
+
+ghost use Rattle.std.specs.Prelude.{◌≡◌, ◌++◌, ℕ, List, true, IfOk, OnOk};
+ghost use Rattle.cot_site.specs.Sites.{state_of};
+ghost use Rattle.cotpad.specs.Replies.{IsShown, shown_reply};
+
+use crate::answer::Replies;
+use crate::loaded::load_or_refuse;
+use cot_site::Site;
+use op_name::Memory;
+use outside_io::Taken;
+use script_text::shown_lines;
+use std::alloc::Global;
+
+/// Loads a log as site 0, and writes the lines of its text.
+#[derive(Drop)]
+pub(crate) struct Show;
+
+impl Replies for Show {
+    ghost replies = { λ _. IsShown };
+
+    ghost in_range = { λ _. Unit {0} };
+
+    fn reply(
+        &self,
+        alloc: Global,
+        taken: Taken,
+        bytes: &[u8],
+        out: &mut Vec<u8>,
+    ) -> Result<bool, Memory> {
+        match load_or_refuse(alloc, 0, taken, bytes, out) {
+            Ok(Some(site)) => {
+                show_text(alloc, &site, out)?;
+                Ok(false)
+            }
+            Ok(None) => Ok(true),
+            Err(memory) => Err(memory),
+        }
+    }
+}
+
+/// Appends the lines of the text that the site shows.
+pub(crate) fn show_text(alloc: Global, site: &Site, out: &mut Vec<u8>) -> Result<(), Memory>
+    ensures { OnOk result (out.new.items ≡ out.old.items ++ (shown_reply (state_of site.now)).written) }
+{
+    let mut text = Vec::new(alloc);
+    site.text(&mut text)?;
+    shown_lines(site.visible_len(), &text, out)
+}
