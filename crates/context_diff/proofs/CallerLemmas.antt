@@ -8,7 +8,7 @@ pub use Rattle.context_diff.proofs.Equal.{derived_op, op_eq_decides, op_same}
 pub use Rattle.context_diff.proofs.GapEnds.{gap_ends, narrow_left, narrow_right}
 pub use Rattle.context_diff.proofs.Generations.{generation_is}
 pub use Rattle.context_diff.proofs.Histories.{context_is, group_facts, original_facts, own_alone, own_earlier, related}
-pub use Rattle.context_diff.proofs.Known.{contains_cases, contains_here, contains_later, contains_none, holder, known_member, known_on, known_push, original_holder}
+pub use Rattle.context_diff.proofs.Known.{contains_cases, contains_here, contains_later, contains_none, holder, in_known, known_in, known_member, known_on, known_push, original_holder}
 pub use Rattle.context_diff.proofs.Members.{all_is_context, formed_member}
 pub use Rattle.context_diff.proofs.Names.{member_itself, member_same}
 pub use Rattle.context_diff.proofs.Next.{have_known}

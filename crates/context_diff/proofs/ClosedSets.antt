@@ -5,6 +5,7 @@ use Rattle.std.proofs.lemmas.Bool.{cases_lt, and_parts, and_from, or_cases, or_l
 use Rattle.op_name.specs.declared.member.Member.{Member}
 use Rattle.op_name.specs.declared.member.Member.TheVariants.{Original, Group}
 use Rattle.op_name.specs.NameData.{NameData, name_eq}
+use Rattle.op_name.proofs.CallerLemmas.{same_parts}
 use Rattle.context_vector.specs.Contexts.{ContextData, Within, KeepsStray, has, count_of}
 use Rattle.context_diff.specs.Operations.{OpData}
 use Rattle.context_diff.specs.Histories.{is_known, LacksNothing, IsClosed}
@@ -14,7 +15,7 @@ use Rattle.context_diff.proofs.Names.{name_same, name_itself}
 use Rattle.context_diff.proofs.Raising.{has_original, has_number, has_group, has_generation}
 use Rattle.context_diff.proofs.Known.{known_member}
 use Rattle.context_diff.proofs.Complete.{IsComplete}
-use Rattle.context_diff.proofs.Histories.{original_facts, context_is, group_facts, own_alone, holds_last, context_chain, same_name}
+use Rattle.context_diff.proofs.Histories.{original_facts, context_is, group_facts, own_alone, holds_last, context_chain}
 
 -- a set of members of the history that holds, with each member, all that it was made after
 pub record IsClosedSet (h : List OpData) (c : Member → Bool) : Type 0 where
@@ -87,7 +88,7 @@ holds_original h w v closed n there =
           let chain = context_chain h w (count_of v n.site - n.number - 1) n last last_known refl range.0 (omega arith) in
           λ m e. from_last m (chain m e)
       | inr more ↦
-          let same : n ≡ last = same_name n last refl (omega (arith, range.1)) in
+          let same : n ≡ last = same_parts n last refl (omega (arith, range.1)) in
           subst (λ (x : NameData). Within (original_context h x) v) (sym same) from_last
     ]
 

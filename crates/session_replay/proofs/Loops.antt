@@ -10,7 +10,8 @@ use Rattle.context_diff.specs.Operations.{OpData, inserting}
 use Rattle.context_diff.specs.Histories.{IsValid, context_of_all}
 use Rattle.context_diff.specs.Replays.{Cell, replay_of, is_shown, characters_of}
 use Rattle.cot_site.specs.States.{State}
-use Rattle.cot_site.specs.Views.{places_from, shown_places_of}
+use Rattle.cot_site.specs.Views.{shown_places_of}
+use Rattle.op_name.specs.Lists.{places_from}
 use Rattle.cot_site.specs.Commands.{local_insert, place_behind, numbered, next_name}
 use Rattle.cot_site.specs.declared.local.Local.{Local}
 use Rattle.cot_site.specs.declared.local.Local.TheVariants.{PlaceOut}

@@ -3,6 +3,7 @@ use Rattle.std.proofs.Common.{◌≡◌, ℕ, ◌+◌, ◌*◌, ◌≤◌, leb, 
 use Rattle.std.proofs.lemmas.Bool.{le-leb, leb-true, eqb-true, eq-eqb, and_parts, and_from}
 use Rattle.op_name.specs.declared.member.Member.TheVariants.{Original}
 use Rattle.op_name.specs.NameData.{NameData, name_eq}
+use Rattle.op_name.proofs.CallerLemmas.{name_same, name_itself}
 use Rattle.context_vector.specs.Contexts.{ContextData, AreEntries, KeepsStray, has, entry_of, entry_in}
 use Rattle.context_diff.specs.Operations.{OpData, inserting, deleting, undoing, KeepsOwn, KeepsTarget}
 use Rattle.wire_codec.specs.declared.fault.Fault.{Fault}
@@ -38,16 +39,6 @@ abbrev pub AreOriginals : ContextData → List (NameData × ℕ) → Type 0
 AreOriginals c [] = Unit {0}
 AreOriginals c (e ∷ es) = (has c (Original e.0) ≡ true) × AreOriginals c es
 
-same_name : (n m : NameData) → name_eq n m ≡ true → n ≡ m
-same_name n m h =
-    let parts = and_parts (eqb n.site m.site) (eqb n.number m.number) h in
-    let site : n.site ≡ m.site = eqb-true _ _ parts.0 in
-    let number : n.number ≡ m.number = eqb-true _ _ parts.1 in
-    ap (λ (s : ℕ). record { site = s; number = n.number }) site ∙ ap (λ (k : ℕ). record { site = m.site; number = k }) number
-
-name_eq-same : (n : NameData) → name_eq n n ≡ true
-name_eq-same n = and_from (eqb n.site n.site) (eqb n.number n.number) (eq-eqb _ _ refl) (eq-eqb _ _ refl)
-
 -- an entry that is found further back is found
 found_later : (b : Bool) (g k : ℕ) → 1 ≤ g → 1 ≤ k → 1 ≤ cond b g k
 found_later true g k hg hk = hg
@@ -60,12 +51,12 @@ found_first false g k e h = absurd cc
 originals_from : (c : ContextData) (es : List (NameData × ℕ)) → AreEntries es → ((n : NameData) → 1 ≤ entry_in es n → has c (Original n) ≡ true) → AreOriginals c es
 originals_from c [] are h = tt
 originals_from c (e ∷ es) are h = (
-  h e.0 (found_first (name_eq e.0 e.0) e.1 (entry_in es e.0) (name_eq-same e.0) are.1),
+  h e.0 (found_first (name_eq e.0 e.0) e.1 (entry_in es e.0) (name_itself e.0) are.1),
   originals_from c es are.4 (λ n found. h n (found_later (name_eq e.0 n) e.1 (entry_in es n) are.1 found)),
 )
 
 originals_at : (c : ContextData) (m n : NameData) (b : Bool) (g k : ℕ) → name_eq m n ≡ b → has c (Original m) ≡ true → (1 ≤ k → has c (Original n) ≡ true) → 1 ≤ cond b g k → has c (Original n) ≡ true
-originals_at c m n true g k same is later found = subst (λ (x : NameData). has c (Original x) ≡ true) (same_name m n same) is
+originals_at c m n true g k same is later found = subst (λ (x : NameData). has c (Original x) ≡ true) (name_same m n same) is
 originals_at c m n false g k same is later found = later found
 
 originals_to : (c : ContextData) (es : List (NameData × ℕ)) → AreOriginals c es → (n : NameData) → 1 ≤ entry_in es n → has c (Original n) ≡ true
