@@ -6,7 +6,7 @@ use Rattle.std.proofs.lemmas.Bool.{cases_lt}
 use Rattle.op_name.specs.declared.member.Member.TheVariants.{Original, Group}
 use Rattle.op_name.specs.NameData.{NameData}
 use Rattle.op_name.proofs.CallerLemmas.{same_parts}
-use Rattle.context_vector.specs.Contexts.{ContextData, Within, IsContext, KeepsStray, has, count_of}
+use Rattle.context_vector.specs.Contexts.{ContextData, Within, IsContext, HasNoStray, has, count_of}
 use Rattle.context_diff.specs.Operations.{OpData, inserting, deleting, undoing, member_of, context_of, is_original, IsWellFormed}
 use Rattle.context_diff.specs.Histories.{is_known, context_of_all, LacksNothing, IsClosed}
 use Rattle.context_diff.specs.Bases.{original_context}
@@ -19,7 +19,7 @@ pub record IsContextOf (h : List OpData) (n : NameData) (c : ContextData) : Type
   pub number : 1 ≤ n.number
   pub form : IsContext c
   pub own : count_of c n.site + 1 ≡ n.number
-  pub stray : KeepsStray c
+  pub stray : HasNoStray c
   pub ready : LacksNothing h c
   pub closed : IsClosed h c
 

@@ -7,7 +7,7 @@ use Rattle.op_name.specs.declared.name.TheConstants.{SITES, NUMBERS}
 use Rattle.op_name.specs.declared.member.TheConstants.{GENERATIONS}
 use Rattle.op_name.specs.NameData.{NameData, IsName, name_eq, name_lt}
 use Rattle.op_name.specs.declared.member.Member.TheVariants.{Original}
-use Rattle.context_vector.specs.Contexts.{ContextData, AreCounts, AreEntries, IsBefore, count_in, entry_in, KeepsStray, has}
+use Rattle.context_vector.specs.Contexts.{ContextData, AreCounts, AreEntries, IsBefore, count_in, entry_in, HasNoStray, has}
 use Rattle.op_name.proofs.CallerLemmas.{name_order, name_less_other}
 use Rattle.context_diff.proofs.Names.{name_same, name_itself}
 use Rattle.context_diff.proofs.Raising.{has_generation, has_group}
@@ -187,14 +187,14 @@ entry_more (d ∷ ds) are (suc i) e at n =
     ] refl
 
 -- where each entry's original is in the context, it keeps the rule on stray entries
-pub stray_kept : (c : ContextData) → ((i : ℕ) (e : NameData × ℕ) → i < length c.entries → slice_get c.entries i ≡ Some e → has c (Original e.0) ≡ true) → KeepsStray c
+pub stray_kept : (c : ContextData) → ((i : ℕ) (e : NameData × ℕ) → i < length c.entries → slice_get c.entries i ≡ Some e → has c (Original e.0) ≡ true) → HasNoStray c
 stray_kept c each n g there =
     let range = has_generation c n g there in
     let at = entry_place c.entries n (omega (arith, range.0, range.1)) in
     each at.place (n, entry_in c.entries n) at.within at.at
 
 -- an entry whose original the context hasn't breaks that rule
-pub stray_broken : (c : ContextData) → AreEntries c.entries → (i : ℕ) (e : NameData × ℕ) → slice_get c.entries i ≡ Some e → has c (Original e.0) ≡ false → KeepsStray c → ⊥
+pub stray_broken : (c : ContextData) → AreEntries c.entries → (i : ℕ) (e : NameData × ℕ) → slice_get c.entries i ≡ Some e → has c (Original e.0) ≡ false → HasNoStray c → ⊥
 stray_broken c are i e at lacks keeps =
     let here = entry_at c.entries are i e at in
     false≢true (sym lacks ∙ keeps e.0 1 (has_group c e.0 1 (omega arith) (omega (arith, here.least, here.entry))))

@@ -6,7 +6,7 @@ use Rattle.op_name.specs.declared.member.Member.TheVariants.{Original, Group}
 use Rattle.op_name.specs.NameData.{NameData, IsName}
 use Rattle.op_name.specs.declared.name.TheConstants.{SITES}
 use Rattle.op_name.specs.declared.member.TheConstants.{GENERATIONS}
-use Rattle.context_vector.specs.Contexts.{ContextData, IsContext, KeepsStray, has, count_of, entry_of}
+use Rattle.context_vector.specs.Contexts.{ContextData, IsContext, HasNoStray, has, count_of, entry_of}
 use Rattle.context_diff.specs.declared.op.TheConstants.{PLACES, UNDO_ENTRIES}
 
 -- an insert has a name, a place, a character (its code) and a context; a delete has no character; an undo has its author,
@@ -63,4 +63,4 @@ pub record IsWellFormed (o : OpData) : Type 0 where
   pub in_range : IsInRange o
   pub own : KeepsOwn o
   pub target : KeepsTarget o
-  pub stray : KeepsStray (context_of o)
+  pub stray : HasNoStray (context_of o)

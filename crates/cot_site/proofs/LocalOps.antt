@@ -5,7 +5,7 @@ use Rattle.std.specs.Char.{IsScalar}
 use Rattle.std.proofs.lemmas.Bool.{cases_Bool, cases_lt, true≢false, false≢true, false_from_ne_true, lt-ltb, le-ltb, eq-eqb}
 use Rattle.op_name.specs.NameData.{NameData, IsName}
 use Rattle.op_name.specs.declared.member.Member.TheVariants.{Original, Group}
-use Rattle.context_vector.specs.Contexts.{ContextData, IsContext, KeepsStray, has, rank_of, raised, IsNextMember}
+use Rattle.context_vector.specs.Contexts.{ContextData, IsContext, HasNoStray, has, rank_of, raised, IsNextMember}
 use Rattle.context_diff.specs.Operations.{OpData, inserting, deleting, undoing, member_of, IsWellFormed}
 use Rattle.context_diff.specs.Histories.{is_known, generation_in, context_of_all, inserts_in, LacksNothing, IsClosed, IsNext, IsValid}
 use Rattle.op_name.specs.Members.{is_even}
@@ -92,7 +92,7 @@ all_ready h w m there = sym (w.holds m) ∙ there
 pub all_closed : (h : List OpData) → IsComplete h → IsClosed h (context_of_all h)
 all_closed h w s o n at is site number m there = w.holds m ∙ w.ready o at m there
 
-pub all_stray : (h : List OpData) → IsComplete h → KeepsStray (context_of_all h)
+pub all_stray : (h : List OpData) → IsComplete h → HasNoStray (context_of_all h)
 all_stray h w t g there = w.holds (Original t) ∙ (group_facts h w t g (sym (w.holds (Group t g)) ∙ there)).target
 
 -- ---- places

@@ -4,7 +4,7 @@ use Rattle.std.proofs.lemmas.Bool.{le-leb, leb-true, eqb-true, eq-eqb, and_parts
 use Rattle.op_name.specs.declared.member.Member.TheVariants.{Original}
 use Rattle.op_name.specs.NameData.{NameData, name_eq}
 use Rattle.op_name.proofs.CallerLemmas.{name_same, name_itself}
-use Rattle.context_vector.specs.Contexts.{ContextData, AreEntries, KeepsStray, has, entry_of, entry_in}
+use Rattle.context_vector.specs.Contexts.{ContextData, AreEntries, HasNoStray, has, entry_of, entry_in}
 use Rattle.context_diff.specs.Operations.{OpData, inserting, deleting, undoing, KeepsOwn, KeepsTarget}
 use Rattle.wire_codec.specs.declared.fault.Fault.{Fault}
 use Rattle.wire_codec.specs.declared.cause.Cause.TheVariants.{Stray}
@@ -63,15 +63,15 @@ originals_to : (c : ContextData) (es : List (NameData × ℕ)) → AreOriginals 
 originals_to c [] are n found = absurd (omega arith)
 originals_to c (e ∷ es) are n found = originals_at c e.0 n (name_eq e.0 n) e.1 (entry_in es n) refl are.0 (originals_to c es are.1 n) found
 
-pub stray_keeps : (c : ContextData) → AreOriginals c c.entries → KeepsStray c
+pub stray_keeps : (c : ContextData) → AreOriginals c c.entries → HasNoStray c
 stray_keeps c are n g h =
     let parts = and_parts (leb 1 g) (leb g (entry_of c n)) h in
     let some = leb-true 1 g parts.0 in
     let most = leb-true g (entry_of c n) parts.1 in
     originals_to c c.entries are n (omega (arith, some, most))
 
-pub keeps_stray : (c : ContextData) → AreEntries c.entries → KeepsStray c → AreOriginals c c.entries
-keeps_stray c entries keeps =
+pub has_no_stray : (c : ContextData) → AreEntries c.entries → HasNoStray c → AreOriginals c c.entries
+has_no_stray c entries keeps =
     originals_from c c.entries entries (λ n found. keeps n (entry_of c n) (and_from (leb 1 (entry_of c n)) (leb (entry_of c n) (entry_of c n)) (le-leb _ _ found) (le-leb _ _ (omega arith))))
 
 pub stray_ok : (c : ContextData) (at : ℕ) (es : List (NameData × ℕ)) → stray_from c at es ≡ Ok tt → AreOriginals c es
