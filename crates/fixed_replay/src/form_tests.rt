@@ -263,10 +263,11 @@ fn forms_of_a_small_history(rt: HostRuntime) -> Result<(), Fail> {
     laws_hold(&book);
     let marks = marks_by_hand(Name::new(0, 2)?, Name::new(2, 1)?);
     let inserts = inserts_by_hand(Name::new(1, 1)?, Name::new(3, 1)?);
-    for rows in [marks, inserts] {
-        for (why, member, known, form) in rows {
-            assert!(rt; has_form(alloc, &book, &member, known, &form)?, "{why}");
-        }
+    for (why, member, known, form) in marks {
+        assert!(rt; has_form(alloc, &book, &member, known, &form)?, "{why}");
+    }
+    for (why, member, known, form) in inserts {
+        assert!(rt; has_form(alloc, &book, &member, known, &form)?, "{why}");
     }
     Ok(())
 }
