@@ -60,7 +60,7 @@ every_site d ms i [] sound formed all = tt
 every_site d ms i (e ∷ es) sound formed all = (with_sound d ms i e.after sound formed all.0, every_site d ms i es sound formed all.1)
 
 -- the session after steps of a site
-last_at : (sites : List State) (ms : List OpData) (i : ℕ) (s : State) (es : List (Step State)) → last_of (record { sites = set sites i s; messages = ms }) (at_site sites ms i es) ≡ record { sites = set sites i (last_of s es); messages = ms }
+pub last_at : (sites : List State) (ms : List OpData) (i : ℕ) (s : State) (es : List (Step State)) → last_of (record { sites = set sites i s; messages = ms }) (at_site sites ms i es) ≡ record { sites = set sites i (last_of s es); messages = ms }
 unfolding last_of
 last_at sites ms i s [] = refl
 last_at sites ms i s (e ∷ es) = last_at sites ms i e.after es
