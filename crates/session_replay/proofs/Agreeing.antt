@@ -1,19 +1,19 @@
 -- Histories that agree: an operation that is next in one is next in any other that has its context.
-use Rattle.std.proofs.Common.{◌≡◌, ℕ, zero, suc, ◌+◌, ◌≤◌, Bool, true, false, inl, inr, List, [], ◌∷◌, ◌++◌, refl, ap, sym, subst, ◌∙◌, arith, length}
-use Rattle.std.specs.Prelude.{Contains, Some, slice_get, ◌&&◌, ◌↔◌, if◌then◌else◌}
-use Rattle.std.proofs.lemmas.Bool.{cases_Bool, false≢true, or_parts}
+use Rattle.std.proofs.Common.{◌≡◌, ℕ, zero, suc, ◌+◌, ◌≤◌, Bool, true, false, inl, inr, List, [], ◌∷◌, ◌++◌, refl, ap, sym, subst, ◌∙◌, arith}
+use Rattle.std.specs.Prelude.{Contains, Some, slice_get, ◌&&◌, if◌then◌else◌}
+use Rattle.std.proofs.lemmas.Bool.{false≢true, or_parts}
 use Rattle.std.proofs.lemmas.Bool.Decides.{nat_tests}
 use Rattle.std.proofs.lemmas.List.Elements.{Contains-push_cases}
 use Rattle.op_name.specs.declared.member.Member.{Member}
 use Rattle.op_name.specs.declared.member.Member.TheVariants.{Original}
-use Rattle.op_name.specs.NameData.{NameData, name_eq}
+use Rattle.op_name.specs.NameData.{NameData}
 use Rattle.op_name.specs.Members.{member_eq}
 use Rattle.context_vector.specs.Contexts.{ContextData, AreCounts, Within, has, count_of, entry_of}
 use Rattle.context_vector.proofs.CallerLemmas.{same_context}
 use Rattle.context_diff.specs.Operations.{OpData, inserting, deleting, undoing, member_of, context_of, is_insert, is_original, IsWellFormed}
-use Rattle.context_diff.specs.Histories.{is_known, inserts_in, generation_in, context_of_all, LacksNothing, IsValid, IsNext, HasPlace, Same}
+use Rattle.context_diff.specs.Histories.{is_known, inserts_in, context_of_all, LacksNothing, IsValid, IsNext, HasPlace, Same}
 use Rattle.context_diff.specs.Code.Counting.{is_insert_of, inserts_of, inserts_listed}
-use Rattle.context_diff.proofs.Names.{member_itself, member_apart}
+use Rattle.op_name.proofs.CallerLemmas.{member_itself, member_apart}
 use Rattle.context_diff.proofs.Known.{contains_none, holder, known_member}
 use Rattle.context_diff.proofs.Valid.{by_pushes}
 use Rattle.context_diff.proofs.Complete.{complete, formed_number}

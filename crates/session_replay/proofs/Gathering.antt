@@ -1,22 +1,22 @@
 -- Generated sessions: all that a site has are messages, and once every message was delivered to all sites they have the same.
-use Rattle.std.proofs.Common.{◌≡◌, ◌≢◌, ℕ, zero, suc, ◌+◌, ◌%◌, ◌<◌, ◌≤◌, Bool, true, false, ◌⊎◌, inl, inr, List, [], ◌∷◌, ◌++◌, length, map, refl, ap, sym, subst, ◌∙◌, append-nil, append_assoc, length-append, arith, Result, Ok, Err, get_or}
-use Rattle.std.specs.Prelude.{Contains, set, ◌&&◌, ◌||◌, ◌==◌, if◌then◌else◌}
+use Rattle.std.proofs.Common.{◌≡◌, ◌≢◌, ℕ, zero, suc, ◌+◌, ◌%◌, ◌<◌, ◌≤◌, Bool, true, false, inl, inr, List, [], ◌∷◌, ◌++◌, length, map, refl, ap, sym, subst, ◌∙◌, append-nil, length-append, arith, Result, get_or}
+use Rattle.std.specs.Prelude.{Contains, set, ◌||◌, ◌==◌}
 use Rattle.std.proofs.Math.Nat.{mod-lt}
 use Rattle.std.proofs.lemmas.Bool.{cases_Bool, cases_eq, true≢false, false≢true}
 use Rattle.std.proofs.lemmas.Bool.Decides.{nat_tests}
 use Rattle.std.proofs.lemmas.List.{length-set, get_or-set_same, get_or-set_other}
 use Rattle.std.proofs.lemmas.List.Elements.{Contains-append_left, Contains-append_right, Contains-push_cases}
 use Rattle.op_name.specs.declared.member.Member.{Member}
-use Rattle.op_name.specs.declared.member.Member.TheVariants.{Original, Group}
+use Rattle.op_name.specs.declared.member.Member.TheVariants.{Original}
 use Rattle.op_name.specs.NameData.{NameData}
-use Rattle.context_diff.specs.Operations.{OpData, inserting, deleting, undoing, member_of, context_of, IsWellFormed}
+use Rattle.context_diff.specs.Operations.{OpData, inserting, deleting, undoing, member_of, context_of}
 use Rattle.context_diff.specs.Histories.{is_known, LacksNothing, IsNext, IsValid, Same}
-use Rattle.context_diff.proofs.CallerLemmas.{contains_cases, contains_here, contains_later, contains_none, holder, known_member, known_on, shifted}
+use Rattle.context_diff.proofs.CallerLemmas.{contains_cases, contains_here, contains_none, holder, known_member, known_on, shifted}
 use Rattle.cot_site.specs.declared.verdict.Verdict.{Verdict}
 use Rattle.cot_site.specs.declared.verdict.Verdict.TheVariants.{Repeat, Integrated}
 use Rattle.cot_site.specs.declared.local.Local.{Local}
 use Rattle.cot_site.specs.States.{State, judged, delivered, with_last, after_verdict}
-use Rattle.cot_site.specs.Verdicts.{verdict_of, IsRepeat}
+use Rattle.cot_site.specs.Verdicts.{IsRepeat}
 use Rattle.cot_site.specs.Releases.{IsSound as IsSoundSite, releases, all_releases, state_after, settled}
 use Rattle.cot_site.proofs.CallerLemmas.{sound_more, verdicts_exact}
 use Rattle.cot_site.proofs.Verdicts.{next_integrated, group_reached}
@@ -25,13 +25,13 @@ use Rattle.session_replay.specs.declared.draws.Draw.{Draw}
 use Rattle.session_replay.specs.Steps.{last_of}
 use Rattle.session_replay.specs.Sessions.{SessionData, new_site, new_sites, opened, site_at, at_site, free_step, settling, told_verdict, given, given_all, synced}
 use Rattle.session_replay.specs.LineSteps.{commanded}
-use Rattle.session_replay.specs.Generating.{Plan, Generation, drawn_operation, draws_from, turn_of, is_due, synced_if, acted, generating, generated, NothingWaits, HaveTheSame}
+use Rattle.session_replay.specs.Generating.{Plan, drawn_operation, draws_from, turn_of, is_due, synced_if, acted, generating, generated, NothingWaits, HaveTheSame}
 use Rattle.session_replay.proofs.Steps.{last_append}
 use Rattle.session_replay.proofs.Releasing.{last_freed}
 use Rattle.session_replay.proofs.Sound.{last_at}
 use Rattle.session_replay.proofs.Agreeing.{Agree, next_elsewhere, same_by_members}
 use Rattle.session_replay.proofs.Room.{no_longer}
-use Rattle.session_replay.proofs.Making.{Makes, HasRoom, drawn_makes}
+use Rattle.session_replay.proofs.Making.{Makes, drawn_makes}
 
 -- ---- messages
 
@@ -320,10 +320,10 @@ keeps_own ms o i s keeps next = record {
 grown : (n i : ℕ) (r : Draw) (d : SessionData) → i < n → Steady n d → length d.messages ≤ 10000 → Grown n d (acted i r d)
 grown n i r d within steady few = subst (Grown n d) (sym (acted_leaves i r d m keeps.quiet)) (record {
   steady = open_with n d (d.messages ++ m.op ∷ []) i (with_last s m.op) steady within
-  (keeps_own d.messages m.op i s keeps m.next)
-  (λ j less apart. keeps_more d.messages m.op i j (site_at d j) apart own (steady.sites j less))
-  (one_more_message n d i m.op within steady m.next own)
-  (made_more [] d.messages m.op steady.made (record { history = s.history; valid = keeps.sound.history; part = keeps.part; next = m.next }));
+      (keeps_own d.messages m.op i s keeps m.next)
+      (λ j less apart. keeps_more d.messages m.op i j (site_at d j) apart own (steady.sites j less))
+      (one_more_message n d i m.op within steady m.next own)
+      (made_more [] d.messages m.op steady.made (record { history = s.history; valid = keeps.sound.history; part = keeps.part; next = m.next }));
   more = length-append d.messages (m.op ∷ []);
 })
   where

@@ -1,6 +1,6 @@
 -- What is drawn for a site is an operation of its own: no event of a generated session is refused.
-use Rattle.std.proofs.Common.{◌≡◌, ℕ, zero, suc, ◌+◌, ◌%◌, ◌<◌, ◌≤◌, Bool, true, false, inl, inr, List, [], ◌∷◌, length, map, Result, Ok, Err, refl, ap, sym, ◌∙◌, arith, get_or}
-use Rattle.std.specs.Prelude.{Option, Some, None, slice_get, filter, ◌==◌, nat_lt, if◌then◌else◌}
+use Rattle.std.proofs.Common.{◌≡◌, ℕ, suc, ◌+◌, ◌%◌, ◌<◌, ◌≤◌, Bool, true, false, inl, inr, List, [], ◌∷◌, length, map, Result, Ok, Err, refl, ap, sym, ◌∙◌, arith, get_or}
+use Rattle.std.specs.Prelude.{Option, Some, None, filter, ◌==◌, nat_lt, if◌then◌else◌}
 use Rattle.std.specs.Char.{IsScalar}
 use Rattle.std.proofs.Math.Nat.{mod-lt}
 use Rattle.std.proofs.Math.Utf8.{low_scalar}
@@ -10,16 +10,17 @@ use Rattle.std.proofs.lemmas.Option.{slice_get-get_or}
 use Rattle.std.proofs.lemmas.List.{length-map}
 use Rattle.op_name.specs.NameData.{NameData}
 use Rattle.op_name.specs.declared.member.Member.TheVariants.{Original}
-use Rattle.context_vector.specs.Contexts.{has}
 use Rattle.context_vector.proofs.CallerLemmas.{has_original}
 use Rattle.context_diff.specs.Operations.{OpData, inserting, deleting, undoing, member_of}
-use Rattle.context_diff.specs.Histories.{is_known, is_even, generation_in, context_of_all, IsNext, IsValid}
+use Rattle.op_name.specs.Members.{is_even}
+use Rattle.context_diff.specs.Histories.{is_known, generation_in, context_of_all, IsNext, IsValid}
 use Rattle.context_diff.specs.Replays.{Cell, replay_of, is_shown, shown, characters_of}
 use Rattle.context_diff.proofs.CallerLemmas.{complete, all_is_context}
 use Rattle.cot_site.specs.declared.local.Local.{Local}
 use Rattle.cot_site.specs.declared.local.Local.TheVariants.{PlaceOut, Unknown, NotInForce, InForce, GenerationFull, NumberFull}
 use Rattle.cot_site.specs.States.{State}
-use Rattle.cot_site.specs.Views.{places_from, shown_places_of}
+use Rattle.op_name.specs.Lists.{places_from}
+use Rattle.cot_site.specs.Views.{shown_places_of}
 use Rattle.cot_site.specs.Commands.{place_of_shown, place_behind, count_made, next_name, in_context, numbered, turned, local_insert, local_delete, local_undo, local_redo}
 use Rattle.cot_site.proofs.CallerLemmas.{local_insert_next, local_delete_next, local_undo_next, local_redo_next, few_cells}
 use Rattle.cot_site.proofs.LocalOps.{in_context_made}

@@ -1,6 +1,6 @@
 -- The originals of a history in the order of names.
-use Rattle.std.proofs.Common.{◌≡◌, ℕ, zero, suc, ◌+◌, ◌-◌, ◌<◌, ◌≤◌, Bool, true, false, inl, inr, List, [], ◌∷◌, ◌++◌, refl, ap, sym, ◌∙◌, arith, length, length-append, map, drop, get_or}
-use Rattle.std.specs.Prelude.{Some, None, slice_get, option_map, ◌==◌, if◌then◌else◌}
+use Rattle.std.proofs.Common.{◌≡◌, ℕ, zero, suc, ◌+◌, ◌-◌, ◌<◌, ◌≤◌, true, false, inl, inr, List, [], ◌∷◌, ◌++◌, refl, ap, sym, ◌∙◌, arith, length, length-append, drop, get_or}
+use Rattle.std.specs.Prelude.{Some, None, slice_get, option_map, ◌==◌}
 use Rattle.std.specs.List.{range_with_len}
 use Rattle.std.proofs.lemmas.Bool.{cases_lt}
 use Rattle.std.proofs.Math.Seq.{drop-cons}
@@ -99,23 +99,23 @@ name_counted low (p ∷ ps) are i t at =
 -- ---- a walk over the counts
 
 -- the site of this number in the list, and those after it
-there : (ps : List (ℕ × ℕ)) (k : ℕ) (p : ℕ × ℕ) → k < length ps → p ≡ get_or ps k p → drop k ps ≡ p ∷ drop (k + 1) ps
+there : (ps : List (ℕ × ℕ)) (k : ℕ) (p : ℕ × ℕ) → k < length ps → p ≡ get_or ps k (0, 0) → drop k ps ≡ p ∷ drop (k + 1) ps
 there ps k p within is =
     let next : suc k ≡ k + 1 = omega arith in
-    drop-cons ps k p within ∙ ap (λ q. q ∷ drop (suc k) ps) (sym is) ∙ ap (λ n. p ∷ drop n ps) next
+    drop-cons ps k (0, 0) within ∙ ap (λ q. q ∷ drop (suc k) ps) (sym is) ∙ ap (λ n. p ∷ drop n ps) next
 
-pub found_here : (ps : List (ℕ × ℕ)) (k : ℕ) (p : ℕ × ℕ) (left : ℕ) → k < length ps → p ≡ get_or ps k p → left < p.1 → slice_get (names_in (drop k ps)) left ≡ Some (record { site = p.0; number = left + 1 })
+pub found_here : (ps : List (ℕ × ℕ)) (k : ℕ) (p : ℕ × ℕ) (left : ℕ) → k < length ps → p ≡ get_or ps k (0, 0) → left < p.1 → slice_get (names_in (drop k ps)) left ≡ Some (record { site = p.0; number = left + 1 })
 found_here ps k p left within is less = ap (λ qs. slice_get (names_in qs) left) (there ps k p within is) ∙ name_here p (drop (k + 1) ps) left less
 
-pub found_later : (ps : List (ℕ × ℕ)) (k : ℕ) (p : ℕ × ℕ) (left : ℕ) → k < length ps → p ≡ get_or ps k p → p.1 ≤ left → slice_get (names_in (drop k ps)) left ≡ slice_get (names_in (drop (k + 1) ps)) (left - p.1)
+pub found_later : (ps : List (ℕ × ℕ)) (k : ℕ) (p : ℕ × ℕ) (left : ℕ) → k < length ps → p ≡ get_or ps k (0, 0) → p.1 ≤ left → slice_get (names_in (drop k ps)) left ≡ slice_get (names_in (drop (k + 1) ps)) (left - p.1)
 found_later ps k p left within is past = ap (λ qs. slice_get (names_in qs) left) (there ps k p within is) ∙ name_later p (drop (k + 1) ps) left past
 
 pub found_none : (ps : List (ℕ × ℕ)) (k left : ℕ) → length ps ≤ k → slice_get (names_in (drop k ps)) left ≡ None
 found_none ps k left past = ap (λ qs. slice_get (names_in qs) left) (drop_past ps k past) ∙ slice_get_past [] left (omega arith)
 
 -- the name is in range
-pub found_range : (ps : List (ℕ × ℕ)) (k : ℕ) (p : ℕ × ℕ) → AreCounts 0 ps → k < length ps → p ≡ get_or ps k p → (p.0 < 64) × (p.1 ≤ 1000000)
+pub found_range : (ps : List (ℕ × ℕ)) (k : ℕ) (p : ℕ × ℕ) → AreCounts 0 ps → k < length ps → p ≡ get_or ps k (0, 0) → (p.0 < 64) × (p.1 ≤ 1000000)
 found_range ps k p are within is =
-    let at : slice_get ps k ≡ Some p = slice_get-get_or ps k p within ∙ ap Some (sym is) in
+    let at : slice_get ps k ≡ Some p = slice_get-get_or ps k (0, 0) within ∙ ap Some (sym is) in
     let it = count_at 0 ps are k p at in
     (it.site, it.greatest)

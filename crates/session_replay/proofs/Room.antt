@@ -1,6 +1,6 @@
 -- What a history of few operations has room for: no site of it runs out of numbers, generations or undo entries.
-use Rattle.std.proofs.Common.{◌≡◌, ℕ, zero, suc, ◌+◌, ◌<◌, ◌≤◌, Bool, true, false, ◌⊎◌, inl, inr, List, [], ◌∷◌, ◌++◌, refl, ap, sym, subst, ◌∙◌, arith, length, length-append}
-use Rattle.std.specs.Prelude.{Contains, max, ◌==◌, if◌then◌else◌}
+use Rattle.std.proofs.Common.{◌≡◌, ℕ, suc, ◌+◌, ◌≤◌, Bool, inl, inr, List, [], ◌∷◌, ◌++◌, ap, sym, subst, ◌∙◌, arith, length, length-append}
+use Rattle.std.specs.Prelude.{Contains, ◌==◌, if◌then◌else◌}
 use Rattle.std.proofs.lemmas.Bool.{cases_Bool, false≢true}
 use Rattle.std.proofs.lemmas.List.Elements.{Contains-append_left, Contains-append_right, Contains-append_cases}
 use Rattle.op_name.specs.declared.member.Member.{Member}
@@ -9,8 +9,8 @@ use Rattle.op_name.specs.NameData.{NameData, name_eq, name_lt}
 use Rattle.context_vector.specs.Contexts.{ContextData, count_of, count_in, entry_of, entry_in, put_entry, put_count, raised, empty, IsNextMember}
 use Rattle.context_vector.proofs.CallerLemmas.{count_put, entry_put}
 use Rattle.context_diff.specs.Operations.{OpData, member_of}
-use Rattle.context_diff.specs.Histories.{is_known, generation_in, context_after, context_of_all, IsValid, IsNext}
-use Rattle.context_diff.proofs.CallerLemmas.{by_pushes, complete, context_push, next_member, generation_is, known_member, contains_here, contains_later, contains_none, contains_cases}
+use Rattle.context_diff.specs.Histories.{is_known, generation_in, context_after, context_of_all, IsValid}
+use Rattle.context_diff.proofs.CallerLemmas.{by_pushes, complete, context_push, next_member, generation_is, known_member, contains_here, contains_none, contains_cases}
 
 -- ---- a history within a list
 

@@ -18,7 +18,7 @@ use Rattle.session_replay.specs.Sessions.{SessionData, site_at, new_site, at_sit
 use Rattle.session_replay.specs.LineSteps.{told}
 use Rattle.session_replay.specs.Events.{Event, Making, Giving, Telling, steps_of, after_event, all_steps, Moment, moments, after_moment}
 use Rattle.session_replay.specs.Soundness.{IsSound, AreSettled}
-use Rattle.session_replay.specs.Transcripts.{NamesLacking, WaitsByName}
+use Rattle.session_replay.specs.Transcripts.{WaitsByName}
 use Rattle.session_replay.proofs.Steps.{last_append}
 use Rattle.session_replay.proofs.Every.{Every, every_append, every_last}
 use Rattle.session_replay.proofs.Releasing.{sound_settling, settling_settles}

@@ -1,15 +1,16 @@
 -- Generated sessions: which site acts is counted, and what it does is drawn from a number.
-use Rattle.std.specs.Prelude.{◌≡◌, ℕ, zero, suc, ◌+◌, ◌*◌, ◌/◌, ◌%◌, ◌^◌, ◌≤◌, Bool, true, List, [], ◌∷◌, ◌++◌, ◌&&◌, ◌||◌, ◌==◌, Contains, Option, Some, None, Result, if◌then◌else◌, length, map, nat_le, nat_lt, slice_get}
+use Rattle.std.specs.Prelude.{◌≡◌, ℕ, zero, suc, ◌+◌, ◌*◌, ◌/◌, ◌%◌, ◌^◌, Bool, List, [], ◌∷◌, ◌++◌, ◌&&◌, ◌||◌, ◌==◌, Contains, Option, Some, None, Result, if◌then◌else◌, length, map, nat_lt, slice_get}
 use Rattle.std.specs.List.{range_with_len}
 use Rattle.op_name.specs.NameData.{NameData}
 use Rattle.context_diff.specs.Operations.{OpData, inserting, deleting, undoing}
-use Rattle.context_diff.specs.Histories.{context_of_all, in_force, is_even, Same}
+use Rattle.op_name.specs.Members.{is_even}
+use Rattle.context_diff.specs.Histories.{context_of_all, in_force, Same}
 use Rattle.context_diff.specs.Replays.{shown}
 use Rattle.cot_site.specs.States.{State}
 use Rattle.cot_site.specs.Commands.{local_insert, local_delete, local_undo, local_redo}
 use Rattle.cot_site.specs.declared.local.Local.{Local}
 use Rattle.session_replay.specs.declared.draws.Draw.{Draw}
-use Rattle.session_replay.specs.Steps.{Step, last_of}
+use Rattle.session_replay.specs.Steps.{last_of}
 use Rattle.session_replay.specs.Sessions.{SessionData, opened, site_at, synced}
 use Rattle.session_replay.specs.LineSteps.{commanded}
 

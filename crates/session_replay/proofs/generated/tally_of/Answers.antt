@@ -1,4 +1,4 @@
-use Rattle.std.proofs.Common.{◌≡◌, ◌≤◌, length, arith}
+use Rattle.std.proofs.Common.{arith}
 use Rattle.std.proofs.lemmas.List.{length-map}
 use Rattle.context_diff.specs.Ops.{data_of}
 use Rattle.session_replay.specs.Code.Drawing.{counts_in}

@@ -1,6 +1,6 @@
-use Rattle.std.proofs.Common.{◌≡◌, ◌∙◌, ◌<◌, ◌%◌, ◌+◌, ap, sym, refl, length, arith}
+use Rattle.std.proofs.Common.{◌∙◌, ◌+◌, ap, sym, refl, length}
 use Rattle.session_replay.specs.Sessions.{SessionData}
-use Rattle.session_replay.specs.Generating.{Plan, is_due}
+use Rattle.session_replay.specs.Generating.{is_due}
 use Rattle.session_replay.specs.Code.Drawing.{plan_of}
 use Rattle.session_replay.proofs.Gathering.{new_count}
 use Rattle.session_replay.proofs.Rounds.{generating_none, session_next, number_next, synced_due, not_due}

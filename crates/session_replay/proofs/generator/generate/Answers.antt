@@ -1,8 +1,6 @@
-use Rattle.std.proofs.Common.{◌≡◌, ◌∙◌, ◌≤◌, List, ap, sym, subst, length, arith}
-use Rattle.cot_site.specs.States.{State}
-use Rattle.context_diff.specs.Operations.{OpData}
+use Rattle.std.proofs.Common.{◌∙◌, ap, sym, subst, length, arith}
 use Rattle.session_replay.specs.Sessions.{SessionData}
-use Rattle.session_replay.specs.Generating.{Plan, Counts, generated, counts_of, all_counted, NothingWaits, HaveTheSame}
+use Rattle.session_replay.specs.Generating.{Plan, generated, counts_of, all_counted, NothingWaits, HaveTheSame}
 use Rattle.session_replay.proofs.Gathering.{IsPlan, all_made, all_sites, all_quiet, all_same}
 use Rattle.session_replay.proofs.Tallies.{counted}
 use Rattle.session_replay.proofs.generator.generate.Goals as goal

@@ -1,4 +1,4 @@
-use Rattle.std.proofs.Common.{◌≡◌, ◌≤◌, arith}
+use Rattle.std.proofs.Common.{arith}
 use Rattle.session_replay.proofs.Making.{shown_few}
 use Rattle.session_replay.proofs.sites.drawing.drawn_command.Goals as goal
 

@@ -1,8 +1,6 @@
-use Rattle.std.proofs.Common.{◌≡◌, ◌∙◌, Bool, ap, sym, refl, Result}
+use Rattle.std.proofs.Common.{◌≡◌, ◌∙◌, Bool, ap, sym}
 use Rattle.std.specs.Prelude.{if◌then◌else◌}
-use Rattle.context_diff.specs.Operations.{OpData}
 use Rattle.context_diff.specs.Histories.{in_force}
-use Rattle.cot_site.specs.declared.local.Local.{Local}
 use Rattle.cot_site.specs.Commands.{local_undo, local_redo}
 use Rattle.cot_site.specs.Sites.{state_of}
 use Rattle.session_replay.proofs.sites.drawing.turned.Goals as goal
