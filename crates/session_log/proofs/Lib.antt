@@ -1,0 +1,6 @@
+mod HandedOn
+mod Frames
+mod Appending
+mod Listings
+mod TakingIn
+mod RoundTrips
