@@ -5,7 +5,7 @@ use Rattle.std.specs.Option.{is_some}
 use Rattle.std.proofs.lemmas.Bool.{true≢false, false≢true}
 use Rattle.std.proofs.lemmas.Grind.{flat_map-append}
 use Rattle.std.proofs.lemmas.List.{length-append, append_cancel_left}
-use Rattle.context_diff.specs.Operations.{OpData}
+use Rattle.context_diff.specs.Operations.{OpData, IsWellFormed}
 use Rattle.context_diff.proofs.CallerLemmas.{contains_here, contains_later, contains_none}
 use Rattle.wire_codec.specs.declared.fault.Fault.{Fault}
 use Rattle.wire_codec.specs.declared.fault.Refused.{Refused}
@@ -144,15 +144,17 @@ one_log bytes a b log_a log_b =
     none [] e = refl
     none (o ∷ os) e = absurd (frame_some o (frames os) e)
 
--- what is left of a log, if there is something, begins with a frame
-left_good : (os : List OpData) (rest : List ℕ) (why : Refused) → AllFormed os → rest ≡ frames os → rest ≢ [] → judge rest ≡ Err why → ⊥
-left_good [] rest why all is some e = some is
-left_good (o ∷ os) rest why all is some e =
-    let good = judge_again o (frames os) (all o (contains_here o os)) in
-    never (length (frame o)) (sym good ∙ ap judge (sym is) ∙ e)
+-- what begins with a frame is judged good
+pub good_not_err : (o : OpData) (rest : List ℕ) (why : Refused) → IsWellFormed o → judge (frame o ++ rest) ≡ Err why → ⊥
+good_not_err o rest why well e = never (length (frame o)) (sym (judge_again o rest well) ∙ e)
   where
     never : (n : ℕ) → ◌≡◌ {A = Result (OpData × ℕ) Refused} (Ok (o, n)) (Err why) → ⊥
     never n both = cc
+
+-- what is left of a log, if there is something, begins with a frame
+left_good : (os : List OpData) (rest : List ℕ) (why : Refused) → AllFormed os → rest ≡ frames os → rest ≢ [] → judge rest ≡ Err why → ⊥
+left_good [] rest why all is some e = some is
+left_good (o ∷ os) rest why all is some e = good_not_err o (frames os) why (all o (contains_here o os)) (ap judge (sym is) ∙ e)
 
 -- nothing is no fault
 nothing_bad : (f : Fault) → judge [] ≡ Err (Bad f) → ⊥

@@ -4,3 +4,4 @@ mod Appending
 mod Listings
 mod TakingIn
 mod RoundTrips
+mod Refusals

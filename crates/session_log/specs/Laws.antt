@@ -18,6 +18,14 @@ OneReading = (bytes : List ℕ) (a b : List OpData) → IsLogOf bytes a → IsLo
 abbrev pub LogsHaveNoFault : Type 0
 LogsHaveNoFault = (bytes : List ℕ) (os : List OpData) (why : LogBad) → IsLogOf bytes os → why ≢ bad.Memory → ¬ IsUnread bytes why
 
+-- one reason not to read the bytes holds at most, beside want of memory
+abbrev pub OneFault : Type 0
+OneFault = (bytes : List ℕ) (a b : LogBad) → a ≢ bad.Memory → b ≢ bad.Memory → IsUnread bytes a → IsUnread bytes b → a ≡ b
+
+-- and one reason not to load them
+abbrev pub OneRefusal : Type 0
+OneRefusal = (site : ℕ) (bytes : List ℕ) (a b : LogBad) → a ≢ bad.Memory → b ≢ bad.Memory → IsUnloaded site bytes a → IsUnloaded site bytes b → a ≡ b
+
 -- there is one loaded state at most, and where there is one, nothing is refused
 abbrev pub OneLoading : Type 0
 OneLoading =

@@ -12,7 +12,7 @@ use Rattle.session_log.specs.declared.log_bad.LogBad.TheVariants as bad
 use Rattle.session_log.specs.Logs.{offset_after, IsLogOf}
 use Rattle.session_log.specs.Readings.{IsUnread}
 
--- the operation can be in no history with those integrated, whatever comes after it
+-- the verdicts that refuse an operation: other content of its name is known, its context isn't closed, or its place is out
 abbrev pub is_refusal : Verdict → Bool
 is_refusal Repeat = false
 is_refusal (Forged n) = true

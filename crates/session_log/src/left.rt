@@ -12,7 +12,7 @@ use crate::placed::Placed;
 use crate::reading::MAX_LOG;
 use std::alloc::Global;
 use std::marker::Model;
-use wire_codec::{Decoded, Scan, decode, scan};
+use wire_codec::{Cause, Decoded, Scan, decode, scan};
 
 /// What each log begins with.
 pub(crate) const HEADER: &[u8] = b"COTLOG1\n";
@@ -67,13 +67,8 @@ impl<'a> Left<'a> {
                 self.advance(used);
                 Ok(true)
             }
-            Scan::More { .. } => Err(LogBad::Cut {
-                offset: self.offset,
-            }),
-            Scan::Bad { cause, offset } => Err(LogBad::Bad {
-                offset: self.offset + offset,
-                cause,
-            }),
+            Scan::More { .. } => Err(self.cut()),
+            Scan::Bad { cause, offset } => Err(self.bad(cause, offset)),
         }
     }
 
@@ -92,14 +87,29 @@ impl<'a> Left<'a> {
                 self.advance(used);
                 Ok(Some(Placed { offset, op }))
             }
-            Ok(Decoded::More { .. }) => Err(LogBad::Cut {
-                offset: self.offset,
-            }),
-            Ok(Decoded::Bad { cause, offset }) => Err(LogBad::Bad {
-                offset: self.offset + offset,
-                cause,
-            }),
+            Ok(Decoded::More { .. }) => Err(self.cut()),
+            Ok(Decoded::Bad { cause, offset }) => Err(self.bad(cause, offset)),
             Err(_) => Err(LogBad::Memory),
+        }
+    }
+
+    // The bytes end within the next frame.
+    fn cut(&self) -> LogBad
+        ensures { result ≡ LogBad.Cut self.now.offset }
+    {
+        LogBad::Cut {
+            offset: self.offset,
+        }
+    }
+
+    // There is no next frame: its first fault is so many bytes on.
+    fn bad(&self, cause: Cause, within: u32) -> LogBad
+        requires { within ≤ length self.now.bytes }
+        ensures { result ≡ LogBad.Bad (self.now.offset + within) cause }
+    {
+        LogBad::Bad {
+            offset: self.offset + within,
+            cause,
         }
     }
 

@@ -14,7 +14,7 @@ mod reading;
 mod words;
 mod writing;
 
-pub use laws::{logs_have_no_fault, one_loading, one_reading, round_trip};
+pub use laws::{logs_have_no_fault, one_fault, one_loading, one_reading, one_refusal, round_trip};
 pub use loading::load;
 pub use log_bad::LogBad;
 pub use placed::Placed;

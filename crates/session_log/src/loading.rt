@@ -111,7 +111,7 @@ fn first_refusal(released: &[Release]) -> Option<Release>
     None
 }
 
-// Whether the operation can be in no history with those integrated.
+// Whether the verdict refuses the operation.
 fn is_refusal(verdict: &Verdict) -> bool
     ensures { result ≡ is_refusal verdict.now }
 {
