@@ -1,4 +1,4 @@
-# `make` leaves the proved program at bin/cotpad; `make demo` replays the examples with it.
+# `make` leaves the proved program at bin/cotpad; `make demo` replays and shows the examples with it.
 .PHONY: all demo doors clean
 
 SOURCES := $(shell find crates -name out -prune -o -type f \( -name '*.rt' -o -name '*.antt' \) -print) crates.txt
@@ -14,6 +14,9 @@ bin/cotpad: $(SOURCES)
 demo: bin/cotpad
 	@for script in examples/*.script; do \
 		echo "== $$script"; cat $$script; echo "-- replayed"; bin/cotpad replay < $$script; echo; \
+	done
+	@for log in examples/*.log; do \
+		echo "== $$log, shown"; bin/cotpad show < $$log; \
 	done
 
 # Names each import of another crate's proofs that goes past that crate's door, proofs/CallerLemmas.antt.

@@ -13,13 +13,15 @@ use Rattle.context_diff.specs.Histories.{IsValid, context_of_all}
 use Rattle.context_diff.specs.Replays.{Cell, replay_of, is_shown, characters_of}
 use Rattle.cot_site.specs.States.{State, with_last}
 use Rattle.cot_site.specs.Releases.{settled}
-use Rattle.cot_site.specs.Views.{places_from, shown_places_of}
+use Rattle.op_name.specs.Lists.{places_from}
+use Rattle.cot_site.specs.Views.{shown_places_of}
 use Rattle.cot_site.specs.Commands.{local_insert, place_behind, numbered, next_name, IsAnswer}
 use Rattle.cot_site.specs.declared.local.Local.{Local}
 use Rattle.cot_site.specs.declared.local.Local.TheVariants as local
 use Rattle.cot_site.proofs.CallerLemmas.{few_cells}
 use Rattle.cotpad.specs.Editing.{made, then_next, typed}
-use Rattle.cotpad.specs.Code.Editing.{IsDone}
+use Rattle.cotpad.specs.Code.Editing.{IsDone, IsEditReply}
+use Rattle.cotpad.specs.Replies.{edit_reply, refused_edit_text}
 
 -- an operation was made, and all was released
 pub made_is : (s : State) (r : Result OpData Local) (o : OpData) (after end : State) → r ≡ Ok o → after ≡ with_last s o → end ≡ settled after → made s r ≡ Ok end
@@ -102,3 +104,19 @@ place_small s t v ch valid ok = from (place_behind s.history v) refl ok
         let places = shown_places_of s.history in
         let within : v < suc (length (map suc places)) = slice_get_within (0 ∷ map suc places) v p at in
         omega (arith, within, length-map places suc, places_few (is_shown s.history) 0 (replay_of s.history), few_cells s.history valid)
+
+-- a refused edit is replied by its reason
+pub refused_reply : (edit : Result State Local) (why : Local) (t : State) (old new : List ℕ) → IsDone edit (Err why) t → (why ≡ local.Memory → ⊥) → new ≡ old ++ refused_edit_text why → IsEditReply edit old new true
+refused_reply edit why t old new done never added =
+    let is : edit ≡ Err why = reason why done never in
+    record { written = added ∙ ap (λ x. old ++ (edit_reply x).written) (sym is); told = ap (λ x. (edit_reply x).refused) is }
+  where
+    reason : (why : Local) → IsDone edit (Err why) t → (why ≡ local.Memory → ⊥) → edit ≡ Err why
+    reason (local.PlaceOut place visible) done never = done
+    reason (local.Unknown name) done never = done
+    reason (local.NotInForce g) done never = done
+    reason (local.InForce g) done never = done
+    reason local.GenerationFull done never = done
+    reason local.NumberFull done never = done
+    reason (local.ContextFull entries) done never = done
+    reason local.Memory done never = absurd (never refl)

@@ -1,6 +1,6 @@
 -- What was taken of the input is the log that is loaded, or refused.
 use Rattle.std.proofs.Common.{◌≡◌, ◌≢◌, ℕ, ◌≤◌, ◌<◌, Bool, true, false, List, [], ◌++◌, refl, ap, sym, subst, ◌∙◌, inl, inr, arith, length}
-use Rattle.std.specs.Prelude.{Result, Ok, Err, IfOk}
+use Rattle.std.specs.Prelude.{Option, Some, None, Result, Ok, Err, IfOk, IfSome, IfNone}
 use Rattle.outside_io.specs.declared.reading.Taken.{Taken}
 use Rattle.outside_io.specs.declared.reading.Taken.TheVariants.{End, Past}
 use Rattle.session_replay.specs.Scripts.{Report}
@@ -54,3 +54,11 @@ pub edit_replied : {E : Type 0} (edit : EditData) (site : ℕ) (s : State) (all 
     → IfOk r (λ refused. IsAppended (IsEdited site edit) refused all old new)
 edit_replied edit site s all old middle new (Ok refused) at same h = state_replied (λ t. edit_reply (edited t edit)) site s all old middle new refused at same h.written h.told
 edit_replied edit site s all old middle new (Err e) at same h = tt
+
+-- what holds of the value in an answer
+pub if_some : {X : Type 0} (o : Option X) (x : X) (P : X → Type 0) → o ≡ Some x → IfSome o P → P x
+if_some o x P is holds = subst (λ q. IfSome q P) is holds
+
+-- what holds where there is none
+pub if_none : {X : Type 0} (o : Option X) (P : Type 0) → o ≡ None → IfNone o P → P
+if_none o P is holds = subst (λ q. IfNone q P) is holds

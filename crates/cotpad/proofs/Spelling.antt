@@ -1,16 +1,17 @@
 -- Words are read as a command exactly where they spell it.
-use Rattle.std.proofs.Common.{◌≡◌, ℕ, Bool, true, false, List, [], ◌∷◌, length, codes, bytes_eq, decimal, map, string_bytes, String, Option, Some, None, refl, sym, ap, ◌∙◌, subst, option_map, ◌==◌, eq-eqb, ne_eqb, arith}
+use Rattle.std.proofs.Common.{◌≡◌, ℕ, Bool, true, false, List, [], ◌∷◌, length, codes, bytes_eq, decimal, map, string_bytes, String, Option, Some, None, refl, sym, ap, ◌∙◌, subst, option_map, ◌==◌, ◌≤◌, ◌&&◌, nat_le, leb-true, le-leb, eq-eqb, ne_eqb, arith}
 use Rattle.std.specs.Prelude.{IfSome, if◌then◌else◌}
-use Rattle.std.proofs.lemmas.Bool.{cond_both, true≢false}
+use Rattle.std.proofs.lemmas.Bool.{cond_both, and_parts, true≢false}
 use Rattle.std.proofs.lemmas.Slice.Eq.{bytes_eq-Decides}
 use Rattle.op_name.specs.NameData.{NameData}
 use Rattle.script_text.specs.Names.{name_text}
-use Rattle.script_text.specs.Fields.{number_of, site_of, name_of}
-use Rattle.script_text.proofs.FieldLaws.{number_reads, site_reads, name_reads, and_then_some, some_is}
+use Rattle.script_text.specs.Fields.{number_of, long_of, site_of, name_of, ◌>>=◌}
+use Rattle.script_text.proofs.CallerLemmas.{long_reads, number_reads, site_reads, name_reads, and_then_some, some_is}
+use Rattle.session_replay.specs.declared.generator.TheConstants.{MAX_EVENTS, MAX_WINDOW}
 use Rattle.cotpad.specs.declared.command.Command.{Command}
-use Rattle.cotpad.specs.Commands.{CommandData, Replay, Show, Edit, EditData, Ins, Nl, Del, Undo, Redo, command_data}
+use Rattle.cotpad.specs.Commands.{CommandData, Replay, Show, Edit, Gen, EditData, Ins, Nl, Del, Undo, Redo, command_data}
 use Rattle.cotpad.specs.Words.{edit_words, command_words, IsEditInRange, IsInRange, Spells}
-use Rattle.cotpad.specs.Code.Reading.{first_in, one_in, alone_in, text_in, ins_in, nl_in, del_in, undo_in, redo_in, edit_row, edit_in, command_row, command_in}
+use Rattle.cotpad.specs.Code.Reading.{first_in, one_in, alone_in, text_in, ins_in, nl_in, del_in, undo_in, redo_in, edit_row, edit_in, gen_in, gen_of, command_row, command_in}
 
 first_some : (ws : List (List ℕ)) (p : List ℕ × List (List ℕ)) → first_in ws ≡ Some p → ws ≡ p.0 ∷ p.1
 first_some [] p e = cc
@@ -125,6 +126,38 @@ editing_from parts c h =
     first_some parts p.0 p.1 ∙ ap (λ x. x ∷ p.0.1) site.0 ∙ ap (λ xs. decimal s.0 ∷ xs) (first_some p.0.1 q.0 q.1 ∙ edit.0) in
     subst (λ x. (codes "edit" ∷ parts ≡ command_words x) × IsInRange x) (some_is (Edit s.0 e.0) c e.2) (ap (λ xs. codes "edit" ∷ xs) spelled, (site.1, edit.1))
 
+gen_of_some : (start events window : ℕ) (c : CommandData) → gen_of start events window ≡ Some c → (events ≤ MAX_EVENTS) × (1 ≤ window) × (window ≤ MAX_WINDOW) × (Gen start events window ≡ c)
+gen_of_some start events window c h =
+    cond_both (nat_le events MAX_EVENTS && (nat_le 1 window && nat_le window MAX_WINDOW)) (Some (Gen start events window)) None
+    (λ o. o ≡ Some c → (events ≤ MAX_EVENTS) × (1 ≤ window) × (window ≤ MAX_WINDOW) × (Gen start events window ≡ c))
+    (λ t e.
+    let p = and_parts (nat_le events MAX_EVENTS) (nat_le 1 window && nat_le window MAX_WINDOW) t in
+    let q = and_parts (nat_le 1 window) (nat_le window MAX_WINDOW) p.1 in
+    (leb-true _ _ p.0, leb-true _ _ q.0, leb-true _ _ q.1, some_is (Gen start events window) c e))
+    (λ t e. cc)
+    h
+
+gen_from : (parts : List (List ℕ)) (c : CommandData) → gen_in parts ≡ Some c → IsCommand (codes "gen" ∷ parts) c
+unfolding gen_in IsCommand
+gen_from parts c h =
+    let p = and_then_some (first_in parts) _ c h in
+    let s = and_then_some (long_of p.0.0) _ c p.2 in
+    let q = and_then_some (first_in p.0.1) _ c s.2 in
+    let e = and_then_some (number_of q.0.0) _ c q.2 in
+    let w = and_then_some (one_in q.0.1) _ c e.2 in
+    let v = and_then_some (number_of w.0) _ c w.2 in
+    let start = long_reads.from p.0.0 s.0 s.1 in
+    let events = number_reads.from q.0.0 e.0 e.1 in
+    let window = number_reads.from w.0 v.0 v.1 in
+    let parts_in = gen_of_some s.0 e.0 v.0 c v.2 in
+    let spelled : parts ≡ decimal s.0 ∷ decimal e.0 ∷ decimal v.0 ∷ [] =
+    first_some parts p.0 p.1 ∙ ap (λ x. x ∷ p.0.1) start.0
+    ∙ ap (λ xs. decimal s.0 ∷ xs) (first_some p.0.1 q.0 q.1 ∙ ap (λ x. x ∷ q.0.1) events.0 ∙ ap (λ xs. decimal e.0 ∷ xs) (one_some q.0.1 w.0 w.1 ∙ ap (λ x. x ∷ []) window.0)) in
+    subst (λ x. (codes "gen" ∷ parts ≡ command_words x) × IsInRange x) parts_in.3 (ap (λ xs. codes "gen" ∷ xs) spelled, (start.1, parts_in.0, parts_in.1, parts_in.2))
+
+gen_of_to : (start events window : ℕ) → events ≤ MAX_EVENTS → 1 ≤ window → window ≤ MAX_WINDOW → gen_of start events window ≡ Some (Gen start events window)
+gen_of_to start events window few some small = rw (le-leb _ _ few, le-leb _ _ some, le-leb _ _ small) refl
+
 replay_from : (parts : List (List ℕ)) (c : CommandData) → alone_in Replay parts ≡ Some c → IsCommand (codes "replay" ∷ parts) c
 unfolding IsCommand
 replay_from parts c h =
@@ -145,18 +178,26 @@ command_from ws c h =
     subst (λ xs. IsCommand xs c) (sym (first_some ws p.0 p.1))
     (row_or IsCommand p.0.0 (codes "replay") parts c (alone_in Replay parts) _ (replay_from parts c)
     (row_or IsCommand p.0.0 (codes "show") parts c (alone_in Show parts) _ (show_from parts c)
-    (row_or IsCommand p.0.0 (codes "edit") parts c (edit_in parts) None (editing_from parts c) (λ never. cc)))
+    (row_or IsCommand p.0.0 (codes "edit") parts c (edit_in parts) _ (editing_from parts c)
+    (row_or IsCommand p.0.0 (codes "gen") parts c (gen_in parts) None (gen_from parts c) (λ never. cc))))
     p.2)
 
 command_to : (c : CommandData) → IsInRange c → command_in (command_words c) ≡ Some c
-unfolding command_in command_row edit_in edit_row ins_in nl_in del_in undo_in redo_in
+unfolding command_in command_row edit_in edit_row ins_in nl_in del_in undo_in redo_in gen_in
 command_to Replay r = refl
 command_to Show r = refl
+command_to (Gen start events window) r =
+    rw (long_reads.to (decimal start) start (refl, r.0), number_reads.to (decimal events) events (refl, omega (arith, r.1)), number_reads.to (decimal window) window (refl, omega (arith, r.3))) (gen_of_to start events window r.1 r.2 r.3)
 command_to (Edit site (Ins place text)) r = rw (site_reads.to (decimal site) site (refl, r.0), number_reads.to (decimal place) place (refl, r.1.0), text_to text r.1.1) refl
 command_to (Edit site (Nl place)) r = rw (site_reads.to (decimal site) site (refl, r.0), number_reads.to (decimal place) place (refl, r.1)) refl
 command_to (Edit site (Del place)) r = rw (site_reads.to (decimal site) site (refl, r.0), number_reads.to (decimal place) place (refl, r.1)) refl
 command_to (Edit site (Undo name)) r = rw (site_reads.to (decimal site) site (refl, r.0), name_reads.to (name_text name) name (refl, r.1)) refl
 command_to (Edit site (Redo name)) r = rw (site_reads.to (decimal site) site (refl, r.0), name_reads.to (name_text name) name (refl, r.1)) refl
+
+-- the row of the first word reads the words
+pub read_row : (ws : List (List ℕ)) (word : List ℕ) (parts : List (List ℕ)) (o : Option CommandData) → first_in ws ≡ Some (word, parts) → o ≡ command_row word parts → o ≡ command_in ws
+unfolding command_in
+read_row ws word parts o first row = row ∙ ap (λ (x : Option (List ℕ × List (List ℕ))). x >>= (λ p. command_row p.0 p.1)) (sym first)
 
 -- the clauses of the call, from its answer
 pub found : {A : Type 0} (words : List (String A)) (r : Option Command) → option_map command_data r ≡ command_in (map string_bytes words) → IfSome r (λ c. Spells words (command_data c))

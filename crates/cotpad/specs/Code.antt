@@ -2,3 +2,4 @@
 pub mod Reading
 pub mod Refusing
 pub mod Editing
+pub mod Generated

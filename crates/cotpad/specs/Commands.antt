@@ -15,11 +15,12 @@ pub data EditData : Type 0 where
   Undo : NameData → EditData
   Redo : NameData → EditData
 
--- a script is replayed; the text of a log is shown; a log is loaded as a site and edited there
+-- a script is replayed; the text of a log is shown; a log is loaded as a site and edited there; a session is generated
 pub data CommandData : Type 0 where
   Replay : CommandData
   Show : CommandData
   Edit : ℕ → EditData → CommandData
+  Gen : ℕ → ℕ → ℕ → CommandData
 
 -- what contracts see of an edit, whose text is its bytes
 abbrev pub edit_data : declared.Edit → EditData
@@ -34,3 +35,4 @@ abbrev pub command_data : Command → CommandData
 command_data command.Replay = Replay
 command_data command.Show = Show
 command_data (command.Edit site e) = Edit site (edit_data e)
+command_data (command.Gen start events window) = Gen start events window

@@ -5,5 +5,6 @@ pub mod Statuses
 pub mod Outside
 pub mod Editing
 pub mod Replies
+pub mod Generating
 pub mod Answers
 pub mod Code

@@ -1,10 +1,11 @@
 -- The words that spell commands.
-use Rattle.std.specs.Prelude.{◌≡◌, ◌≢◌, ◌<◌, ◌^◌, ℕ, List, [], ◌∷◌, codes, decimal, map, string_bytes, String}
+use Rattle.std.specs.Prelude.{◌≡◌, ◌≢◌, ◌<◌, ◌≤◌, ◌^◌, ℕ, List, [], ◌∷◌, codes, decimal, map, string_bytes, String}
 use Rattle.std.specs.Str.{IsUtf8}
 use Rattle.op_name.specs.NameData.{IsName}
 use Rattle.op_name.specs.declared.name.TheConstants.{SITES}
 use Rattle.script_text.specs.Names.{name_text}
-use Rattle.cotpad.specs.Commands.{CommandData, Replay, Show, Edit, EditData, Ins, Nl, Del, Undo, Redo}
+use Rattle.session_replay.specs.declared.generator.TheConstants.{MAX_EVENTS, MAX_WINDOW}
+use Rattle.cotpad.specs.Commands.{CommandData, Replay, Show, Edit, Gen, EditData, Ins, Nl, Del, Undo, Redo}
 
 -- the words of an edit, behind its site: a row for each. A text is one word
 abbrev pub edit_words : EditData → List (List ℕ)
@@ -19,6 +20,7 @@ abbrev pub command_words : CommandData → List (List ℕ)
 command_words Replay = codes "replay" ∷ []
 command_words Show = codes "show" ∷ []
 command_words (Edit site edit) = codes "edit" ∷ decimal site ∷ edit_words edit
+command_words (Gen start events window) = codes "gen" ∷ decimal start ∷ decimal events ∷ decimal window ∷ []
 
 -- the parts of an edit are in range; a text isn't empty
 abbrev pub IsEditInRange : EditData → Type 0
@@ -33,6 +35,7 @@ abbrev pub IsInRange : CommandData → Type 0
 IsInRange Replay = Unit {0}
 IsInRange Show = Unit {0}
 IsInRange (Edit site edit) = (site < SITES) × IsEditInRange edit
+IsInRange (Gen start events window) = (start < 2 ^ 64) × (events ≤ MAX_EVENTS) × (1 ≤ window) × (window ≤ MAX_WINDOW)
 
 -- the words spell the command, in the one way in which it is spelled
 abbrev pub Spells : {A : Type 0} → List (String A) → CommandData → Type 0

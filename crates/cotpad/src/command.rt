@@ -4,10 +4,11 @@ ghost use Rattle.std.specs.Prelude.{◌≡◌, Some, None, IfSome, MatchOption, 
 ghost use Rattle.cotpad.specs.Commands.{CommandData, command_data, edit_data};
 ghost use Rattle.cotpad.specs.Commands as asked;
 ghost use Rattle.cotpad.specs.Words.{Spells};
-ghost use Rattle.cotpad.specs.Code.Reading.{command_in, command_row, edit_in, edit_row, ins_in, nl_in, del_in, undo_in, redo_in, first_in, one_in, alone_in};
+ghost use Rattle.cotpad.specs.Code.Reading.{command_in, command_row, edit_in, edit_row, gen_in, ins_in, nl_in, del_in, undo_in, redo_in, first_in, one_in, alone_in};
 
 use op_name::Name;
-use script_text::{parse_name, parse_number, parse_site};
+use script_text::{parse_long, parse_name, parse_number, parse_site};
+use session_replay::{MAX_EVENTS, MAX_WINDOW};
 
 /// What the program is asked to do.
 #[derive(Clone, Copy, Debug)]
@@ -17,7 +18,16 @@ pub enum Command<'a> {
     /// `show`: reads a log, and writes its text.
     Show,
     /// `edit SITE EDIT`: reads a log, edits it as this site, and writes the log of the result.
-    Edit { site: u16, edit: Edit<'a> },
+    Edit {
+        site: u16,
+        edit: Edit<'a>,
+    },
+    /// `gen START EVENTS WINDOW`: generates a session of four sites, and writes what it did and shows.
+    Gen {
+        start: u64,
+        events: u32,
+        window: u32,
+    },
 }
 
 /// What is done at a site. Places count shown characters.
@@ -56,6 +66,7 @@ fn command_row<'a>(word: &str, parts: &'a [String]) -> Option<Command<'a>>
         "replay" => replay_of(parts),
         "show" => show_of(parts),
         "edit" => edit_of(parts),
+        "gen" => gen_of(parts),
         _ => None,
     }
 }
@@ -154,6 +165,27 @@ fn redo_of(parts: &[String]) -> Option<Edit<'_>>
 {
     let name = parse_name(one(parts)?)?;
     Some(Edit::Redo { name })
+}
+
+// `START EVENTS WINDOW`
+#[tactic(auto, unfolding(crate::specs::Code::Reading::gen_in))]
+fn gen_of(parts: &[String]) -> Option<Command<'_>>
+    ensures { option_map command_data result ≡ gen_in (map string_bytes parts.now) }
+{
+    let (start, rest) = first(parts)?;
+    let start = parse_long(start)?;
+    let (events, rest) = first(rest)?;
+    let events = parse_number(events)?;
+    let window = parse_number(one(rest)?)?;
+    if events <= MAX_EVENTS && 1 <= window && window <= MAX_WINDOW {
+        Some(Command::Gen {
+            start,
+            events,
+            window,
+        })
+    } else {
+        None
+    }
 }
 
 // The first word and the others, if there is one.

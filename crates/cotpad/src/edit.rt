@@ -73,7 +73,8 @@ fn edit_log(
 // Appends the line that says why an edit is refused.
 fn refuse_edit(why: Local, out: &mut Vec<u8>) -> Result<(), Memory>
     requires { why ≢ Local.Memory }
-    ensures { OnOk result (out.new.items ≡ out.old.items ++ refused_edit_text why) }
+    ensures written { OnOk result (out.new.items ≡ out.old.items ++ refused_edit_text why) }
+    ensures why { OnOk result (why ≢ Local.Memory) }
 {
     out.extend_from_slice(b"refused ")?;
     local_line(why, out)
@@ -99,8 +100,10 @@ fn type_text(alloc: Global, site: &mut Site, from: u32, text: &str) -> Result<()
     let mut place = from;
     for ch in text.chars() {
         site.known();
-        insert(alloc, site, place, ch)?;
-        place += 1;
+        match insert(alloc, site, place, ch) {
+            Ok(()) => place += 1,
+            Err(why) => return Err(why),
+        }
     }
     Ok(())
 }

@@ -8,6 +8,7 @@
 mod answer;
 mod command;
 mod edit;
+mod generator;
 mod laws;
 mod loaded;
 mod replay;

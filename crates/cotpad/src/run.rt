@@ -10,12 +10,14 @@ ghost use Rattle.cotpad.specs.Commands as asked;
 ghost use Rattle.cotpad.specs.Words.{Spells, SpellNothing};
 ghost use Rattle.cotpad.specs.Statuses.{IsReported};
 ghost use Rattle.cotpad.specs.Outside.{told, AreWrongWords};
-ghost use Rattle.cotpad.specs.Answers.{IsAnswered};
+ghost use Rattle.cotpad.specs.Answers.{IsAnswered, IsMade};
+ghost use Rattle.cotpad.specs.Generating.{gen_text, IsCounted};
 ghost use Rattle.cotpad.specs.Replies.{IsScriptReport, IsShown, IsEdited};
 
 use crate::answer::answer;
 use crate::command::{Command, command_of};
 use crate::edit::Editing;
+use crate::generator::answer_generated;
 use crate::laws::same_operations;
 use crate::replay::Replay;
 use crate::show::Show;
@@ -26,6 +28,7 @@ use std::alloc::Global;
 /// Does what the words say, which are those after the program's name. `replay` reads a script, and writes the report of
 /// its session. `show` reads a log, and writes its text. `edit SITE ins V TEXT`, `edit SITE nl V`, `edit SITE del V`,
 /// `edit SITE undo NAME` and `edit SITE redo NAME` read a log, edit it as this site, and write the log of the result.
+/// `gen START EVENTS WINDOW` reads nothing, generates a session of four sites, and writes what it did and what site 0 shows.
 /// Any other words write `cotpad: words`, and nothing is read.
 pub fn run<S: Source, K: Sink, W: Wire>(
     alloc: Global,
@@ -48,6 +51,12 @@ pub fn run<S: Source, K: Sink, W: Wire>(
         (told (S.left source.old) (S.faults source.old) (K.held sink.old) (K.faults sink.old))
         (told (S.left source.new) (S.faults source.new) (K.held sink.new) (K.faults sink.new))
         result }
+    ensures generated { (start events window : ℕ) → Spells words.now (asked.Gen start events window) → IsMade (gen_text start events window)
+        (told (S.left source.old) (S.faults source.old) (K.held sink.old) (K.faults sink.old))
+        (told (S.left source.new) (S.faults source.new) (K.held sink.new) (K.faults sink.new))
+        result }
+    // Once it is generated, all sites of a session show the same text.
+    ensures counted { (start events window : ℕ) → Spells words.now (asked.Gen start events window) → result ≡ Status.Done → IsCounted start events window }
     // Histories of the same operations, in whatever order they came, show the same text.
     ensures same { (h k : List OpData) → IsValid h → IsValid k → Same h k → text_of h ≡ text_of k }
 
@@ -56,7 +65,9 @@ pub fn run<S: Source, K: Sink, W: Wire>(
         (told (S.left source.old) (S.faults source.old) (K.held sink.old) (K.faults sink.old))
         (told (S.left source.new) (S.faults source.new) (K.held sink.new) (K.faults sink.new))
         result }
+    // Nothing is read for these, and to generate a session.
     ensures unread { SpellNothing words.now → source.new ≡ source.old }
+    ensures unread_too { (start events window : ℕ) → Spells words.now (asked.Gen start events window) → source.new ≡ source.old }
 
     // After a fault of reading, or out of memory, no write was tried.
     ensures untouched { (result ≡ Status.ReadFault) ⊎ (result ≡ Status.Memory) → sink.new ≡ sink.old }
@@ -74,6 +85,13 @@ pub fn run<S: Source, K: Sink, W: Wire>(
         Some(Command::Replay) => answer(alloc, &Replay, source, sink),
         Some(Command::Show) => answer(alloc, &Show, source, sink),
         Some(Command::Edit { site, edit }) => answer(alloc, &Editing { site, edit }, source, sink),
+        Some(
+            Command::Gen {
+                start,
+                events,
+                window,
+            },
+        ) => answer_generated(alloc, start, events, window, sink),
         None => refuse_words(sink),
     }
 }

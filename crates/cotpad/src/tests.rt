@@ -129,6 +129,10 @@ fn other_words_read_nothing(rt: HostRuntime) -> Result<(), Fail> {
         "edit 0 undo 0.0",
         "edit 0 redo 0.1/1",
         "edit 0 give 0",
+        "gen 0 10001 1",
+        "gen 0 1 0",
+        "gen 0 1 65",
+        "gen 18446744073709551616 0 1",
     ] {
         let (ended, held) = called(rt.alloc(), words, b"sites 1\nshow 0\n", 8, &[0], &[])?;
         assert_eq!(rt; ended, Status::Words, "{words}");
@@ -289,6 +293,27 @@ fn undone_text_comes_back(rt: HostRuntime) -> Result<(), Fail> {
         let (_, held) = called(alloc, "show", &edited, 4096, &[], &[])?;
         assert_eq!(rt; held.as_slice(), shown.as_bytes(), "{words}");
         log = edited;
+    }
+    Ok(())
+}
+
+#[test]
+fn a_session_is_generated(rt: HostRuntime) -> Result<(), Fail> {
+    let alloc = rt.alloc();
+    let cases: [(&str, &str); 2] = [
+        (
+            "gen 0 0 1",
+            "gen 0 events 0 inserts 0 deletes 0 undos 0 redos 0\nequal 4\ntext 0 0\n\n",
+        ),
+        (
+            "gen 0 1 1",
+            "gen 0 events 1 inserts 1 deletes 0 undos 0 redos 0\nequal 4\ntext 1 1\ne\n",
+        ),
+    ];
+    for (words, reply) in cases {
+        let (ended, held) = called(alloc, words, b"not read", 8, &[0], &[])?;
+        assert_eq!(rt; ended, Status::Done, "{words}");
+        assert_eq!(rt; held.as_slice(), reply.as_bytes(), "{words}");
     }
     Ok(())
 }

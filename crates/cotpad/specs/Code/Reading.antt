@@ -1,7 +1,8 @@
 -- The table of words, as it is read.
-use Rattle.std.specs.Prelude.{ℕ, ◌==◌, List, [], ◌∷◌, codes, bytes_eq, length, Option, Some, None, option_and_then, if◌then◌else◌}
-use Rattle.script_text.specs.Fields.{number_of, site_of, name_of, ◌>>=◌}
-use Rattle.cotpad.specs.Commands.{CommandData, Replay, Show, Edit, EditData, Ins, Nl, Del, Undo, Redo}
+use Rattle.std.specs.Prelude.{ℕ, ◌==◌, ◌&&◌, nat_le, List, [], ◌∷◌, codes, bytes_eq, length, Option, Some, None, option_and_then, if◌then◌else◌}
+use Rattle.session_replay.specs.declared.generator.TheConstants.{MAX_EVENTS, MAX_WINDOW}
+use Rattle.script_text.specs.Fields.{number_of, long_of, site_of, name_of, ◌>>=◌}
+use Rattle.cotpad.specs.Commands.{CommandData, Replay, Show, Edit, Gen, EditData, Ins, Nl, Del, Undo, Redo}
 
 -- the first word and the others, if there is one
 abbrev pub first_in : List (List ℕ) → Option (List ℕ × List (List ℕ))
@@ -73,13 +74,28 @@ edit_in ws = do
   edit ← edit_row q.0 q.1
   Some (Edit site edit)
 
+-- events and a window in their ranges
+abbrev pub gen_of : ℕ → ℕ → ℕ → Option CommandData
+gen_of start events window = if nat_le events MAX_EVENTS && (nat_le 1 window && nat_le window MAX_WINDOW) then Some (Gen start events window) else None
+
+unfoldable pub gen_in : List (List ℕ) → Option CommandData
+gen_in ws = do
+  p ← first_in ws
+  start ← long_of p.0
+  q ← first_in p.1
+  events ← number_of q.0
+  word ← one_in q.1
+  window ← number_of word
+  gen_of start events window
+
 -- the command of this word and these parts
 unfoldable pub command_row : List ℕ → List (List ℕ) → Option CommandData
 command_row word parts =
     if bytes_eq word (codes "replay") then alone_in Replay parts
     else (if bytes_eq word (codes "show") then alone_in Show parts
     else (if bytes_eq word (codes "edit") then edit_in parts
-    else None))
+    else (if bytes_eq word (codes "gen") then gen_in parts
+    else None)))
 
 -- the command that these words spell, if they spell one
 unfoldable pub command_in : List (List ℕ) → Option CommandData

@@ -1,13 +1,24 @@
-use Rattle.std.proofs.Common.{false, refl}
+use Rattle.std.proofs.Common.{◌≡◌, false, refl}
+use Rattle.std.specs.Prelude.{Some, None}
 use Rattle.cot_site.specs.Sites.{state_of}
-use Rattle.cotpad.specs.Replies.{shown_reply}
-use Rattle.cotpad.proofs.Logs.{line_replied, state_replied}
+use Rattle.cotpad.specs.Replies.{IsLoadedAs, shown_reply}
+use Rattle.cotpad.specs.Code.Refusing.{IsRefusedInto}
+use Rattle.cotpad.proofs.Logs.{line_replied, state_replied, if_some, if_none}
 use Rattle.cotpad.proofs.show.ShowReplies.reply.Goals as goal
 
 pub returns-in_ok-show_text-in-Ok-Some-clause-reply : goal.returns-in_ok-show_text-in-Ok-Some-clause-reply
 returns-in_ok-show_text-in-Ok-Some-clause-reply c = λ all taken.
+    let e = c.in-Ok-Some.field-0-is in
+    let f = c.in-Ok-Some.site-is in
+    let is : c.in-Ok-Some.field-0 ≡ Some c.in-Ok-Some.site = cc in
     state_replied shown_reply 0 (state_of c.in-Ok-Some.site) all c.args.out.now.items c.load_or_refuse.new.out.items c.show_text.new.out.items false
-    (c.in-Ok-Some.ensures.loaded all taken) c.in-Ok-Some.ensures.same c.in_ok-show_text-in-Ok-Some.ensures refl
+    (if_some c.in-Ok-Some.field-0 c.in-Ok-Some.site (λ s. IsLoadedAs 0 all (state_of s)) is (c.in-Ok-Some.ensures.loaded all taken))
+    (if_some c.in-Ok-Some.field-0 c.in-Ok-Some.site (λ s. c.load_or_refuse.new.out.items ≡ c.args.out.now.items) is c.in-Ok-Some.ensures.same)
+    c.in_ok-show_text-in-Ok-Some.ensures refl
 
 pub returns-in-Ok-None-clause-reply : goal.returns-in-Ok-None-clause-reply
-returns-in-Ok-None-clause-reply c = λ all taken. line_replied shown_reply 0 all c.args.out.now.items c.load_or_refuse.new.out.items (c.in-Ok-None.ensures.refused all taken)
+returns-in-Ok-None-clause-reply c = λ all taken.
+    let e = c.in-Ok-None.field-0-is in
+    let is : c.in-Ok-None.field-0 ≡ None = cc in
+    line_replied shown_reply 0 all c.args.out.now.items c.load_or_refuse.new.out.items
+    (if_none c.in-Ok-None.field-0 (IsRefusedInto 0 all c.args.out.now.items c.load_or_refuse.new.out.items) is (c.in-Ok-None.ensures.refused all taken))
