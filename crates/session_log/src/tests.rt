@@ -61,10 +61,10 @@ fn shows(alloc: Global, bytes: &[u8], text: &[u8], waiting: u32) -> Result<bool,
 /// The line that says why the log is refused; nothing if it is not.
 fn refusal(alloc: Global, bytes: &[u8]) -> Result<Vec<u8>, Fail> {
     let mut out = Vec::new(alloc);
-    match loaded(alloc, 0, bytes) {
-        Ok(_) => {}
-        Err(LogBad::Memory) => return Err(Fail::new("out of memory")),
-        Err(why) => refused_log_line(why, &mut out)?,
+    match loaded(alloc, 0, bytes).err() {
+        Some(LogBad::Memory) => return Err(Fail::new("out of memory")),
+        Some(why) => refused_log_line(why, &mut out)?,
+        None => {}
     }
     Ok(out)
 }
