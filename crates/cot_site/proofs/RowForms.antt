@@ -4,11 +4,11 @@ use Rattle.std.specs.Prelude.{Some}
 use Rattle.op_name.specs.NameData.{NameData}
 use Rattle.op_name.specs.declared.member.Member.{Member}
 use Rattle.op_name.specs.declared.member.Member.TheVariants.{Original}
-use Rattle.context_vector.specs.Contexts.{ContextData, has}
+use Rattle.context_vector.specs.Contexts.{ContextData, has, raised, IsNextMember}
 use Rattle.context_diff.specs.Operations.{OpData, member_of, context_of}
 use Rattle.context_diff.specs.Histories.{members_in, IsValid}
 use Rattle.context_diff.specs.Bases.{base_has}
-use Rattle.context_diff.proofs.CallerLemmas.{contains_none}
+use Rattle.context_diff.proofs.CallerLemmas.{contains_none, has_raised}
 use Rattle.ttf_form.specs.declared.form.Form.{Form}
 use Rattle.ttf_form.specs.Forms.{form_over, IsInertForm}
 use Rattle.ttf_form.specs.Families.{IsIn}
@@ -72,3 +72,7 @@ first_at h n x c w f context with within is form =
     let same : SameSet (has w) C = λ y. with y ∙ plus_same (has c) (base_has h m) m context y in
     let only = form x is (λ y i. sym (same y) ∙ within y i) in
     subst (λ (D : Member → Bool). IsOnlyFormAt form_over (family_in h (base_form h)) (Original x) D f) (sym (same_set (has w) C same)) only
+
+-- the members of a context that was raised by its next member
+pub raised_with : (old new c : ContextData) (m : Member) → old ≡ c → IsNextMember old m → new ≡ raised old m → (y : Member) → has new y ≡ plus (has c) m y
+raised_with old new c m same next grown y = ap (λ (k : ContextData). has k y) grown ∙ (has_raised old m next y ∙ ap (λ (k : ContextData). plus (has k) m y) same)

@@ -413,7 +413,13 @@ fn keep_form(cache: &mut Cache<Form>, name: &Name, context: Vector, form: Form)
 
 // Keeps the first form of the row of an original, which is the form of its insert at the original's context with the
 // original, if all that the insert was made after is there.
-fn keep_first(book: &Book, cache: &mut Cache<Form>, name: &Name, context: &Vector, first: Option<Form>)
+fn keep_first(
+    book: &Book,
+    cache: &mut Cache<Form>,
+    name: &Name,
+    context: &Vector,
+    first: Option<Form>,
+)
     requires first { IfSome first (IsFormWith form_over insert_of (family_in book.now.ops (base_form book.now.ops)) (Original name.now)) }
     requires context { (y : Member) → has context.now.set y ≡ base_has book.now.ops (Original name.now) y }
     requires cached { AreCached book.now.ops cache.old.entries }

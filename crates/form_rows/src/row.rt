@@ -68,7 +68,9 @@ impl<F: Named + Copy> Row<F> {
 
     /// How many forms it has once it has looked at the forms in which the members since were executed.
     pub fn len_after(&self, executed: &[F]) -> usize {
-        self.forms.len().saturating_add(kept_number(executed, self.upto))
+        self.forms
+            .len()
+            .saturating_add(kept_number(executed, self.upto))
     }
 
     /// The first of its forms.

@@ -1,4 +1,5 @@
 use Rattle.std.proofs.Common.{◌≡◌, ◌∙◌, ◌++◌, ◌∷◌, [], true, Bool, List, ap, sym, subst}
+use Rattle.std.specs.Prelude.{IfOk}
 use Rattle.op_name.specs.declared.member.Member.{Member}
 use Rattle.context_vector.specs.Contexts.{has}
 use Rattle.context_diff.specs.Histories.{is_known}
@@ -19,7 +20,9 @@ pub original_form-requires-clause-next : goal.original_form-requires-clause-next
 original_form-requires-clause-next c = subst (λ (x : Member). IsNextAfter c.args.book.now.ops x (has c.args.to.now.set) c.args.forms.now c.args.rows.now.kept.items) c.in-Original.is c.requires.next
 
 pub returns-in-Original-clause-form : goal.returns-in-Original-clause-form
-returns-in-Original-clause-form c = ?
+returns-in-Original-clause-form c =
+    let h = c.args.book.now.ops in
+    subst (λ (x : Member). IfOk c.original_form.result (Derived form_over (family_in h (base_form h)) x (has c.args.to.now.set))) (sym c.in-Original.is) c.original_form.ensures.form
 
 pub executed_group-requires : goal.executed_group-requires
 executed_group-requires c =

@@ -6,8 +6,8 @@ use Rattle.undo_group.specs.BaseForms.{base_form}
 use Rattle.cot_site.proofs.RowForms.{first_at}
 use Rattle.cot_site.proofs.replica.keep_insert.Goals as goal
 
-pub returns-in-Some-then-has_base-clause-cached : goal.returns-in-Some-then-has_base-clause-cached
-returns-in-Some-then-has_base-clause-cached c =
+pub returns-then-has_base-clause-cached : goal.returns-then-has_base-clause-cached
+returns-then-has_base-clause-cached c =
     let h = c.args.book.now.ops in
     let x = c.args.ins.now.name in
     let only = first_at h c.args.name.now x c.args.context.now.set c.in-Some.with.set (Insert c.args.ins.now) c.requires.context c.in-Some.ensures (c.has_base.ensures c.if-has_base.true) refl c.requires.first in

@@ -64,9 +64,11 @@ executed_form-requires-clause-short c =
 
 pub executed_form-requires-clause-ready : goal.executed_form-requires-clause-ready
 executed_form-requires-clause-ready c =
-    let w = c.requires.1 in
-    (c.requires.0, subst (λ (b : BookData). IsLast form_over IsInertForm (family_in b.ops (base_form b.ops)) (Original c.args.name.now) c.requires.0 c.args.executed.now c.args.rows.now.kept.items) (sym c.new-bases.ensures)
-    (record { whole = w.whole; forms = w.forms; known = w.rows }))
+    let w = c.requires.1 in (
+      c.requires.0,
+      subst (λ (b : BookData). IsLast form_over IsInertForm (family_in b.ops (base_form b.ops)) (Original c.args.name.now) c.requires.0 c.args.executed.now c.args.rows.now.kept.items) (sym c.new-bases.ensures)
+          (record { whole = w.whole; forms = w.forms; known = w.rows }),
+    )
 
 pub unreachable-requires : goal.unreachable-requires
 unreachable-requires c =
