@@ -262,6 +262,7 @@ impl Cells {
         requires place { ins.now.place ≤ length self.old.cells }
         ensures { self.new.cells ≡ put_in ins.now.place (bare_cells ins.now) self.old.cells }
     {
+        let _ = &self.chunks;
         let cell = Cell::bare(ins);
         if self.chunk_count() == 0 {
             self.put_first(cell);
