@@ -269,7 +269,7 @@ impl Cells {
         } else {
             let (i, at) = self.seat(ins.place);
             if self.is_full(i) {
-                let keep = kept(at);
+                let keep = kept(ins.place == self.len());
                 self.split(i, keep);
                 if at <= keep {
                     self.put_at(i, at, cell);
@@ -389,13 +389,13 @@ impl Cells {
     }
 }
 
-/// How many cells a full chunk keeps when it is cut for a new cell at place `at` of it: half of them, and all
-/// but one where the new cell comes after the last, so that typing at the end of a text leaves full chunks.
-fn kept(at: usize) -> usize
+/// How many cells a full chunk keeps when it is cut for a new cell: half of them, and all but one where the new
+/// cell is put at the end of the text, so that typing there leaves full chunks.
+fn kept(at_end: bool) -> usize
     ensures some { 1 ≤ result }
     ensures less { result < FULL }
 {
-    if at == FULL { FULL - 1 } else { FULL / 2 }
+    if at_end { FULL - 1 } else { FULL / 2 }
 }
 
 /// The flag of the cell at place `at` of a chunk.
