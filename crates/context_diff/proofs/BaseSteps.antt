@@ -5,6 +5,7 @@ use Rattle.std.proofs.lemmas.Bool.Decides.{nat_tests}
 use Rattle.std.proofs.lemmas.Bool.{cases_Bool, cases_lt, lt-ltb, le-ltb}
 use Rattle.op_name.specs.declared.member.Member.{Member}
 use Rattle.op_name.specs.declared.member.Member.TheVariants.{Original, Group}
+use Rattle.op_name.specs.declared.member.TheConstants.{GENERATIONS}
 use Rattle.op_name.specs.NameData.{NameData, IsName}
 use Rattle.context_vector.specs.Contexts.{ContextData, IsContext, has, count_of, raised}
 use Rattle.context_diff.specs.Operations.{OpData, inserting, deleting, undoing, member_of, IsWellFormed}
@@ -66,7 +67,7 @@ name_range (inserting m p ch c) f n is = let same : m ≡ n = cc in subst (λ (x
 name_range (deleting m p c) f n is = let same : m ≡ n = cc in subst (λ (x : NameData). IsName x.site x.number) same f.in_range.0
 name_range (undoing a t g c) f n is = cc
 
-generation_range : (o : OpData) → IsWellFormed o → (t : NameData) (g : ℕ) → member_of o ≡ Group t g → g ≤ 65535
+generation_range : (o : OpData) → IsWellFormed o → (t : NameData) (g : ℕ) → member_of o ≡ Group t g → g ≤ GENERATIONS
 generation_range (inserting m p ch c) f t g is = cc
 generation_range (deleting m p c) f t g is = cc
 generation_range (undoing a u k c) f t g is = let same : k ≡ g = cc in omega (arith, f.in_range.3)

@@ -5,7 +5,8 @@ use Rattle.std.proofs.lemmas.Bool.{cases_lt, and_parts, and_from, or_cases, or_l
 use Rattle.op_name.specs.declared.member.Member.{Member}
 use Rattle.op_name.specs.declared.member.Member.TheVariants.{Original, Group}
 use Rattle.op_name.specs.NameData.{NameData, name_eq}
-use Rattle.context_vector.specs.Contexts.{ContextData, Within, KeepsStray, has, count_of}
+use Rattle.op_name.proofs.CallerLemmas.{same_parts}
+use Rattle.context_vector.specs.Contexts.{ContextData, Within, HasNoStray, has, count_of}
 use Rattle.context_diff.specs.Operations.{OpData}
 use Rattle.context_diff.specs.Histories.{is_known, LacksNothing, IsClosed}
 use Rattle.context_diff.specs.Bases.{original_context, is_below, is_before, base_has}
@@ -14,7 +15,7 @@ use Rattle.context_diff.proofs.Names.{name_same, name_itself}
 use Rattle.context_diff.proofs.Raising.{has_original, has_number, has_group, has_generation}
 use Rattle.context_diff.proofs.Known.{known_member}
 use Rattle.context_diff.proofs.Complete.{IsComplete}
-use Rattle.context_diff.proofs.Histories.{original_facts, context_is, group_facts, own_alone, holds_last, context_chain, same_name}
+use Rattle.context_diff.proofs.Histories.{original_facts, context_is, group_facts, own_alone, holds_last, context_chain}
 
 -- a set of members of the history that holds, with each member, all that it was made after
 pub record IsClosedSet (h : List OpData) (c : Member → Bool) : Type 0 where
@@ -22,8 +23,8 @@ pub record IsClosedSet (h : List OpData) (c : Member → Bool) : Type 0 where
   pub closed : (m y : Member) → c m ≡ true → base_has h m y ≡ true → c y ≡ true
 
 -- with each group of an original the set has the original
-abbrev pub KeepsStraySet : (Member → Bool) → Type 0
-KeepsStraySet c = (t : NameData) (g : ℕ) → c (Group t g) ≡ true → c (Original t) ≡ true
+abbrev pub HasNoStraySet : (Member → Bool) → Type 0
+HasNoStraySet c = (t : NameData) (g : ℕ) → c (Group t g) ≡ true → c (Original t) ≡ true
 
 -- what a base context holds: of an original what it knew, of a group what its original knew, that original, and the groups before
 pub base_original : (h : List OpData) (n : NameData) (y : Member) → base_has h (Original n) y ≡ true → (is_known h (Original n) ≡ true) × (has (original_context h n) y ≡ true)
@@ -87,7 +88,7 @@ holds_original h w v closed n there =
           let chain = context_chain h w (count_of v n.site - n.number - 1) n last last_known refl range.0 (omega arith) in
           λ m e. from_last m (chain m e)
       | inr more ↦
-          let same : n ≡ last = same_name n last refl (omega (arith, range.1)) in
+          let same : n ≡ last = same_parts n last refl (omega (arith, range.1)) in
           subst (λ (x : NameData). Within (original_context h x) v) (sym same) from_last
     ]
 
@@ -109,14 +110,14 @@ pub closed_set : (h : List OpData) → IsComplete h → (v : ContextData) → Is
 closed_set h w v closed = record { known = closed.ready; closed = closed_at h w v closed }
 
 -- a closed set keeps the original of each of its groups
-pub set_keeps_stray : (h : List OpData) (c : Member → Bool) → IsClosedSet h c → KeepsStraySet c
-set_keeps_stray h c closed t g there = closed.closed (Group t g) (Original t) there (group_has_target h t g (closed.known (Group t g) there))
+pub set_has_no_stray : (h : List OpData) (c : Member → Bool) → IsClosedSet h c → HasNoStraySet c
+set_has_no_stray h c closed t g there = closed.closed (Group t g) (Original t) there (group_has_target h t g (closed.known (Group t g) there))
 
 -- a context that is a closed set of members is closed as the rules on operations say it
 pub closed_context : (h : List OpData) → IsComplete h → (v : ContextData) → IsClosedSet h (has v) → IsClosedContext h v
 closed_context h w v set = record {
   ready = set.known;
-  stray = set_keeps_stray h (has v) set;
+  stray = set_has_no_stray h (has v) set;
   closed = λ s o n at is site number m e.
       let known : is_known h (Original n) ≡ true = ap (is_known h) (sym is) ∙ known_member h o at in
       let low = (original_facts h w n known).number in
@@ -177,7 +178,7 @@ base_set h w m = record { known = base_listed h w m; closed = base_closed h w m 
 
 -- with a group a base context has its original
 pub base_stray : (h : List OpData) → IsComplete h → (m : Member) (t : NameData) (g : ℕ) → base_has h m (Group t g) ≡ true → base_has h m (Original t) ≡ true
-base_stray h w m = set_keeps_stray h (base_has h m) (base_set h w m)
+base_stray h w m = set_has_no_stray h (base_has h m) (base_set h w m)
 
 -- the target of a group is none of those that the target knew
 no_own_group : (h : List OpData) → IsComplete h → (t : NameData) (g : ℕ) → InGroupBase h t g (Group t g) → ⊥

@@ -10,7 +10,7 @@ use Rattle.op_name.specs.Members.{member_eq}
 use Rattle.context_vector.specs.Contexts.{ContextData, has, count_of, entry_of, empty, raised, IsNextMember}
 use Rattle.context_diff.specs.Operations.{OpData, inserting, deleting, undoing, member_of, context_of, is_original, IsWellFormed}
 use Rattle.context_diff.specs.Histories.{is_known, context_after, context_of_all, LacksNothing, IsClosed, IsNext, IsValid}
-use Rattle.context_diff.proofs.Raising.{has_raised, has_original, has_number, has_group, has_generation, empty_has_none}
+use Rattle.context_diff.proofs.Raising.{has_raised, has_original, has_number, has_group, has_generation, has_empty}
 use Rattle.context_diff.proofs.Known.{known_on, known_push, known_member, contains_none}
 use Rattle.context_diff.proofs.Valid.{by_pushes}
 
@@ -131,6 +131,6 @@ complete h v =
       formed = λ o at. absurd (contains_none o at);
       ready = λ o at. absurd (contains_none o at);
       closed = λ o at. absurd (contains_none o at);
-      holds = empty_has_none;
+      holds = has_empty;
       one = λ o p at. absurd (contains_none o at);
     }) (λ b o valid was next. complete_push b o was next) h v

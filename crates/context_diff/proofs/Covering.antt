@@ -3,6 +3,7 @@ use Rattle.std.proofs.Common.{◌≡◌, ℕ, ◌<◌, ◌≤◌, true, List, re
 use Rattle.std.specs.Prelude.{Some, slice_get}
 use Rattle.op_name.specs.NameData.{NameData}
 use Rattle.op_name.specs.declared.member.Member.TheVariants.{Original}
+use Rattle.op_name.proofs.CallerLemmas.{same_parts}
 use Rattle.context_vector.specs.Contexts.{ContextData, Within, AreCounts, count_of}
 use Rattle.context_diff.specs.Operations.{OpData}
 use Rattle.context_diff.specs.Histories.{is_known, LacksNothing, CoversSite, IsClosed}
@@ -10,7 +11,7 @@ use Rattle.context_diff.specs.Bases.{original_context}
 use Rattle.context_diff.proofs.Raising.{has_original}
 use Rattle.context_diff.proofs.Known.{known_member, original_holder}
 use Rattle.context_diff.proofs.Complete.{IsComplete}
-use Rattle.context_diff.proofs.Histories.{original_facts, context_is, same_name}
+use Rattle.context_diff.proofs.Histories.{original_facts, context_is}
 use Rattle.context_diff.proofs.Listings.{count_at, count_place, count_order}
 
 -- a named original is in the history
@@ -26,7 +27,7 @@ covers_from h w v s within o n at is site number =
     let known : is_known h (Original n) ≡ true = ap (is_known h) (sym is) ∙ known_member h o at in
     let low = (original_facts h w n known).number in
     let last : NameData = record { site = s; number = count_of v s } in
-    let same : last ≡ n = same_name last n (sym site) (sym number) in
+    let same : last ≡ n = same_parts last n (sym site) (sym number) in
     let inner : Within (original_context h n) v = subst (λ (x : NameData). Within (original_context h x) v) same (within (omega arith)) in
     subst (λ (c : ContextData). Within c v) (context_is h w o n at is known) inner
 

@@ -5,7 +5,8 @@ use Rattle.std.specs.Prelude.{Contains}
 use Rattle.std.proofs.lemmas.Bool.{cases_lt}
 use Rattle.op_name.specs.declared.member.Member.TheVariants.{Original, Group}
 use Rattle.op_name.specs.NameData.{NameData}
-use Rattle.context_vector.specs.Contexts.{ContextData, Within, IsContext, KeepsStray, has, count_of}
+use Rattle.op_name.proofs.CallerLemmas.{same_parts}
+use Rattle.context_vector.specs.Contexts.{ContextData, Within, IsContext, HasNoStray, has, count_of}
 use Rattle.context_diff.specs.Operations.{OpData, inserting, deleting, undoing, member_of, context_of, is_original, IsWellFormed}
 use Rattle.context_diff.specs.Histories.{is_known, context_of_all, LacksNothing, IsClosed}
 use Rattle.context_diff.specs.Bases.{original_context}
@@ -18,7 +19,7 @@ pub record IsContextOf (h : List OpData) (n : NameData) (c : ContextData) : Type
   pub number : 1 ≤ n.number
   pub form : IsContext c
   pub own : count_of c n.site + 1 ≡ n.number
-  pub stray : KeepsStray c
+  pub stray : HasNoStray c
   pub ready : LacksNothing h c
   pub closed : IsClosed h c
 
@@ -101,16 +102,13 @@ holds_last h c ready closed n low last =
     let held = original_holder h n (ready (Original n) there) in
     subst (λ (d : ContextData). Within d c) (sym held.context) (closed n.site held.op n held.there held.is refl last)
 
-pub same_name : (a b : NameData) → a.site ≡ b.site → a.number ≡ b.number → a ≡ b
-same_name a b p q = λ i. record { site = p i; number = q i }
-
 -- the contexts of one site lie in one another
 pub context_chain : (h : List OpData) → IsComplete h → (d : ℕ) (x n : NameData) → is_known h (Original n) ≡ true → x.site ≡ n.site → 1 ≤ x.number → x.number + suc d ≡ n.number → Within (original_context h x) (original_context h n)
 context_chain h v zero x n known site low far =
     let facts = original_facts h v n known in
     let c = original_context h n in
     let last : NameData = record { site = n.site; number = count_of c n.site } in
-    let same : x ≡ last = same_name x last site (omega (arith, facts.own)) in
+    let same : x ≡ last = same_parts x last site (omega (arith, facts.own)) in
     subst (λ (y : NameData). Within (original_context h y) c) (sym same) (holds_last h c facts.ready facts.closed last (omega (arith, facts.own)) refl)
 context_chain h v (suc d) x n known site low far =
     let facts = original_facts h v n known in
@@ -130,6 +128,6 @@ related h v n m known known' apart site =
       | inl less ↦ inr (own_earlier h v m known' n site low less)
       | inr more ↦ elim (cases_lt m.number n.number) [
         | inl less ↦ inl (own_earlier h v n known m (sym site) low' less)
-        | inr more' ↦ absurd (apart (same_name n m site (omega arith)))
+        | inr more' ↦ absurd (apart (same_parts n m site (omega arith)))
       ]
     ]

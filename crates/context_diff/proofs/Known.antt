@@ -7,9 +7,10 @@ use Rattle.op_name.specs.declared.member.Member.{Member}
 use Rattle.op_name.specs.declared.member.Member.TheVariants.{Original}
 use Rattle.op_name.specs.NameData.{NameData}
 use Rattle.op_name.specs.Members.{member_eq}
+use Rattle.op_name.specs.Lists.{IsIn}
 use Rattle.context_vector.specs.Contexts.{empty}
 use Rattle.context_diff.specs.Operations.{OpData, member_of, context_of}
-use Rattle.context_diff.specs.Histories.{is_known}
+use Rattle.context_diff.specs.Histories.{members_in, is_known}
 use Rattle.context_diff.specs.Bases.{original_context}
 use Rattle.context_diff.proofs.Names.{member_same, member_itself}
 
@@ -63,6 +64,20 @@ known_member (p ∷ ps) o c =
       | inl is ↦ or_left (member_eq (member_of p) (member_of o)) (is_known ps (member_of o)) (ap (λ x. member_eq (member_of p) (member_of x)) (sym is) ∙ member_itself (member_of p))
       | inr later ↦ or_right (member_eq (member_of p) (member_of o)) (is_known ps (member_of o)) (known_member ps o later)
     ]
+
+-- the members of a history are those of its list
+pub known_in : (h : List OpData) (m : Member) → is_known h m ≡ true → IsIn m (members_in h)
+known_in [] m e = absurd (false≢true e)
+known_in (o ∷ os) m e =
+    elim (or_cases (member_eq (member_of o) m) (is_known os m) e) [
+      | inl same ↦ inl (sym (member_same (member_of o) m same))
+      | inr later ↦ inr (known_in os m later)
+    ]
+
+pub in_known : (h : List OpData) (m : Member) → IsIn m (members_in h) → is_known h m ≡ true
+in_known [] m i = absurd i
+in_known (o ∷ os) m (inl e) = or_left (member_eq (member_of o) m) (is_known os m) (ap (λ (x : Member). member_eq x m) (sym e) ∙ member_itself m)
+in_known (o ∷ os) m (inr i) = or_right (member_eq (member_of o) m) (is_known os m) (in_known os m i)
 
 -- the operation of a history that is this member
 pub record Holds (h : List OpData) (m : Member) : Type 0 where

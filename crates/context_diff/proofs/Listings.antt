@@ -4,10 +4,11 @@ use Rattle.std.specs.Prelude.{◌==◌, Some, None, slice_get, if◌then◌else�
 use Rattle.std.proofs.lemmas.Bool.Decides.{nat_tests}
 use Rattle.std.proofs.lemmas.Bool.{cases_Bool, false≢true, eqb-true}
 use Rattle.op_name.specs.declared.name.TheConstants.{SITES, NUMBERS}
+use Rattle.op_name.specs.declared.member.TheConstants.{GENERATIONS}
 use Rattle.op_name.specs.NameData.{NameData, IsName, name_eq, name_lt}
 use Rattle.op_name.specs.declared.member.Member.TheVariants.{Original}
-use Rattle.context_vector.specs.Contexts.{ContextData, AreCounts, AreEntries, IsBefore, count_in, entry_in, KeepsStray, has}
-use Rattle.op_name.proofs.CallerLemmas.{name_order}
+use Rattle.context_vector.specs.Contexts.{ContextData, AreCounts, AreEntries, IsBefore, count_in, entry_in, HasNoStray, has}
+use Rattle.op_name.proofs.CallerLemmas.{name_order, name_less_other}
 use Rattle.context_diff.proofs.Names.{name_same, name_itself}
 use Rattle.context_diff.proofs.Raising.{has_generation, has_group}
 
@@ -112,18 +113,11 @@ entry_later n (e ∷ es) before are zero x at =
     ap (λ (z : NameData × ℕ). name_lt n z.0) (sym is) ∙ before
 entry_later n (e ∷ es) before are (suc i) x at = name_order.transitive n e.0 x.0 before (entry_later e.0 es are.3 are.4 i x at)
 
-less_differs : (a b : NameData) → name_lt a b ≡ true → name_eq a b ≡ false
-less_differs a b less =
-    elim (name_eq a b) as (λ v. name_eq a b ≡ v → v ≡ false) [
-      | true ↦ λ e. absurd (false≢true (sym (name_order.irreflexive a) ∙ (ap (name_lt a) (name_same a b e) ∙ less)))
-      | false ↦ λ e. refl
-    ] refl
-
 -- what stands at a place of the entries
 pub record IsEntryAt (es : List (NameData × ℕ)) (e : NameData × ℕ) : Type 0 where
   pub name : IsName e.0.site e.0.number
   pub least : 1 ≤ e.1
-  pub greatest : e.1 ≤ 65535
+  pub greatest : e.1 ≤ GENERATIONS
   pub entry : entry_in es e.0 ≡ e.1
 
 pub entry_at : (es : List (NameData × ℕ)) → AreEntries es → (i : ℕ) (e : NameData × ℕ) → slice_get es i ≡ Some e → IsEntryAt es e
@@ -134,7 +128,7 @@ entry_at (d ∷ ds) are zero e at =
     (record { name = are.0; least = are.1; greatest = are.2; entry = ap (λ b. if b then d.1 else entry_in ds d.0) (name_itself d.0) })
 entry_at (d ∷ ds) are (suc i) e at =
     let rest = entry_at ds are.4 i e at in
-    let other = less_differs d.0 e.0 (entry_later d.0 ds are.3 are.4 i e at) in
+    let other = name_less_other d.0 e.0 (entry_later d.0 ds are.3 are.4 i e at) in
     record {
       name = rest.name;
       least = rest.least;
@@ -166,7 +160,7 @@ pub entry_before : (es : List (NameData × ℕ)) → AreEntries es → (i : ℕ)
 entry_before [] are i e at = let none : None ≡ Some e = at in cc
 entry_before (d ∷ ds) are zero e at = refl
 entry_before (d ∷ ds) are (suc i) e at =
-    let other = less_differs d.0 e.0 (entry_later d.0 ds are.3 are.4 i e at) in
+    let other = name_less_other d.0 e.0 (entry_later d.0 ds are.3 are.4 i e at) in
     ap (λ b. if b then d.1 else entry_in (take i ds) e.0) other ∙ entry_before ds are.4 i e at
 
 -- the entries with one more place
@@ -181,7 +175,7 @@ entry_more (d ∷ ds) are (suc i) e at n =
       | inl same ↦
           let later = entry_later d.0 ds are.3 are.4 i e at in
           let is : d.0 ≡ n = name_same d.0 n same in
-          let other : name_eq e.0 n ≡ false = ap (name_eq e.0) (sym is) ∙ turned d.0 e.0 (less_differs d.0 e.0 later) in
+          let other : name_eq e.0 n ≡ false = ap (name_eq e.0) (sym is) ∙ turned d.0 e.0 (name_less_other d.0 e.0 later) in
           rw (same, other) refl
       | inr apart ↦ rw apart more
     ]
@@ -193,14 +187,14 @@ entry_more (d ∷ ds) are (suc i) e at n =
     ] refl
 
 -- where each entry's original is in the context, it keeps the rule on stray entries
-pub stray_kept : (c : ContextData) → ((i : ℕ) (e : NameData × ℕ) → i < length c.entries → slice_get c.entries i ≡ Some e → has c (Original e.0) ≡ true) → KeepsStray c
+pub stray_kept : (c : ContextData) → ((i : ℕ) (e : NameData × ℕ) → i < length c.entries → slice_get c.entries i ≡ Some e → has c (Original e.0) ≡ true) → HasNoStray c
 stray_kept c each n g there =
     let range = has_generation c n g there in
     let at = entry_place c.entries n (omega (arith, range.0, range.1)) in
     each at.place (n, entry_in c.entries n) at.within at.at
 
 -- an entry whose original the context hasn't breaks that rule
-pub stray_broken : (c : ContextData) → AreEntries c.entries → (i : ℕ) (e : NameData × ℕ) → slice_get c.entries i ≡ Some e → has c (Original e.0) ≡ false → KeepsStray c → ⊥
+pub stray_broken : (c : ContextData) → AreEntries c.entries → (i : ℕ) (e : NameData × ℕ) → slice_get c.entries i ≡ Some e → has c (Original e.0) ≡ false → HasNoStray c → ⊥
 stray_broken c are i e at lacks keeps =
     let here = entry_at c.entries are i e at in
     false≢true (sym lacks ∙ keeps e.0 1 (has_group c e.0 1 (omega arith) (omega (arith, here.least, here.entry))))

@@ -10,6 +10,7 @@ use Rattle.std.proofs.lemmas.Grind.{take_at_read}
 use Rattle.std.proofs.lemmas.Bool.Decides.{nat_tests}
 use Rattle.std.proofs.lemmas.Bool.{cases_Bool, cases_order}
 use Rattle.op_name.specs.declared.member.Member.{Member}
+use Rattle.op_name.specs.Lists.{places_from}
 use Rattle.context_diff.specs.Code.Places.{times, passes_at, ArePlacesOf, members_at}
 
 -- numbers from `low` on, not falling
@@ -58,11 +59,6 @@ same_sorted a b (p ∷ ps) (q ∷ qs) up up' same =
           let at = same q in
           absurd (grind (arith, nat_tests, at, none))
     ]
-
--- the places of the members that pass, counted from k
-abbrev places_from : (Member → Bool) → ℕ → List Member → List ℕ
-places_from t k [] = []
-places_from t k (m ∷ ms) = if t m then k ∷ places_from t (suc k) ms else places_from t (suc k) ms
 
 places_sorted : (t : Member → Bool) (k : ℕ) (ms : List Member) → IsSortedFrom k (places_from t k ms)
 unfolding IsSortedFrom

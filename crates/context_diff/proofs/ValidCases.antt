@@ -6,13 +6,13 @@ use Rattle.std.proofs.lemmas.Bool.Decides.{nat_tests}
 use Rattle.op_name.specs.declared.member.Member.{Member}
 use Rattle.op_name.specs.declared.member.Member.TheVariants.{Original, Group}
 use Rattle.op_name.specs.Members.{member_lt}
-use Rattle.context_vector.specs.Contexts.{ContextData, KeepsStray, Within, has}
+use Rattle.context_vector.specs.Contexts.{ContextData, HasNoStray, Within, has}
 use Rattle.context_diff.specs.Operations.{OpData, inserting, deleting, undoing, context_of}
 use Rattle.context_diff.specs.Histories.{IsValid, LacksNothing, LacksFirst, IsClosed, CoversSite, HasPlace, is_known}
 use Rattle.context_diff.proofs.WorkedCases.{name, after, after_undos, abc, tie, typed, word_typed_backwards_reversed, undone_and_redone, both_deletes_undone}
 
 -- a context without undo entries names no group
-no_stray : (counts : List (ℕ × ℕ)) → KeepsStray (after counts)
+no_stray : (counts : List (ℕ × ℕ)) → HasNoStray (after counts)
 no_stray counts n g e = grind (arith, nat_tests)
 
 -- the empty context lacks nothing in any history
@@ -68,7 +68,7 @@ undone_and_redone_5_lacks_nothing : LacksNothing (abc (undoing 0 (name 0 2) 1 (a
 undone_and_redone_5_lacks_nothing (Original n) e = grind (arith, nat_tests)
 undone_and_redone_5_lacks_nothing (Group n g) e = grind (arith, nat_tests)
 
-stray_0_3_undone_0_2_1 : KeepsStray (after_undos ((0, 3) ∷ []) ((name 0 2, 1) ∷ []))
+stray_0_3_undone_0_2_1 : HasNoStray (after_undos ((0, 3) ∷ []) ((name 0 2, 1) ∷ []))
 stray_0_3_undone_0_2_1 n g e = grind (arith, nat_tests)
 
 within_0_2_0_3 : Within (after ((0, 2) ∷ [])) (after ((0, 3) ∷ []))
@@ -95,7 +95,7 @@ both_deletes_undone_7_lacks_nothing : LacksNothing (abc (deleting (name 0 4) 1 (
 both_deletes_undone_7_lacks_nothing (Original n) e = grind (arith, nat_tests)
 both_deletes_undone_7_lacks_nothing (Group n g) e = grind (arith, nat_tests)
 
-stray_0_4_1_1_undone_0_4_1 : KeepsStray (after_undos ((0, 4) ∷ (1, 1) ∷ []) ((name 0 4, 1) ∷ []))
+stray_0_4_1_1_undone_0_4_1 : HasNoStray (after_undos ((0, 4) ∷ (1, 1) ∷ []) ((name 0 4, 1) ∷ []))
 stray_0_4_1_1_undone_0_4_1 n g e = grind (arith, nat_tests)
 
 first_of_two : (x : Member) → has (after ((0, 2) ∷ [])) x ≡ true → is_known [] x ≡ false → member_lt x (Original (name 0 1)) ≡ false

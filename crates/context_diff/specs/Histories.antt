@@ -1,9 +1,9 @@
 -- Histories: lists of operations in the order in which a site integrated them, and which operation may come next.
-use Rattle.std.specs.Prelude.{◌≡◌, ℕ, ◌+◌, ◌<◌, ◌≤◌, ◌%◌, Bool, true, false, List, [], ◌∷◌, ◌++◌, ◌&&◌, ◌||◌, ◌==◌, Contains, ◌↔◌, map, max, if◌then◌else◌}
+use Rattle.std.specs.Prelude.{◌≡◌, ℕ, ◌+◌, ◌<◌, ◌≤◌, Bool, true, false, List, [], ◌∷◌, ◌++◌, ◌&&◌, ◌||◌, ◌==◌, Contains, ◌↔◌, map, max, if◌then◌else◌}
 use Rattle.op_name.specs.declared.member.Member.{Member}
 use Rattle.op_name.specs.declared.member.Member.TheVariants.{Original}
 use Rattle.op_name.specs.NameData.{NameData, name_eq}
-use Rattle.op_name.specs.Members.{member_eq, member_lt}
+use Rattle.op_name.specs.Members.{is_even, member_eq, member_lt}
 use Rattle.context_vector.specs.Contexts.{ContextData, Within, has, count_of, empty, raised}
 use Rattle.context_diff.specs.Operations.{OpData, inserting, deleting, undoing, member_of, context_of, is_original, is_insert, IsWellFormed}
 
@@ -27,11 +27,7 @@ abbrev pub generation_in : List OpData → NameData → ℕ
 generation_in [] t = 0
 generation_in (o ∷ os) t = max (generation_at o t) (generation_in os t)
 
--- whether an original whose greatest generation this is is in force: not undone, or redone
-abbrev pub is_even : ℕ → Bool
-is_even g = g % 2 == 0
-
--- Force: the original is in force
+-- Force: the original is in force: not undone, or redone
 abbrev pub in_force : List OpData → NameData → Bool
 in_force h t = is_even (generation_in h t)
 

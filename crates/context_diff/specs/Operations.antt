@@ -5,7 +5,8 @@ use Rattle.op_name.specs.declared.member.Member.{Member}
 use Rattle.op_name.specs.declared.member.Member.TheVariants.{Original, Group}
 use Rattle.op_name.specs.NameData.{NameData, IsName}
 use Rattle.op_name.specs.declared.name.TheConstants.{SITES}
-use Rattle.context_vector.specs.Contexts.{ContextData, IsContext, KeepsStray, has, count_of, entry_of}
+use Rattle.op_name.specs.declared.member.TheConstants.{GENERATIONS}
+use Rattle.context_vector.specs.Contexts.{ContextData, IsContext, HasNoStray, has, count_of, entry_of}
 use Rattle.context_diff.specs.declared.op.TheConstants.{PLACES, UNDO_ENTRIES}
 
 -- an insert has a name, a place, a character (its code) and a context; a delete has no character; an undo has its author,
@@ -39,11 +40,11 @@ is_insert (deleting n p c) = false
 is_insert (undoing a t g c) = false
 
 -- Range: names and contexts are in their ranges, a place is at most PLACES, a character is a Unicode scalar value (RFC 3629),
--- an author is one of the SITES sites, a generation is 1 to 65,535, a context has at most UNDO_ENTRIES undo entries
+-- an author is one of the SITES sites, a generation is 1 to GENERATIONS, a context has at most UNDO_ENTRIES undo entries
 abbrev pub IsInRange : OpData → Type 0
 IsInRange (inserting n p ch c) = IsName n.site n.number × (p ≤ PLACES) × IsScalar ch × IsContext c × (length c.entries ≤ UNDO_ENTRIES)
 IsInRange (deleting n p c) = IsName n.site n.number × (p ≤ PLACES) × IsContext c × (length c.entries ≤ UNDO_ENTRIES)
-IsInRange (undoing a t g c) = (a < SITES) × IsName t.site t.number × (1 ≤ g) × (g ≤ 65535) × IsContext c × (length c.entries ≤ UNDO_ENTRIES)
+IsInRange (undoing a t g c) = (a < SITES) × IsName t.site t.number × (1 ≤ g) × (g ≤ GENERATIONS) × IsContext c × (length c.entries ≤ UNDO_ENTRIES)
 
 -- Own: an original knows all earlier originals of its site and no others of it
 abbrev pub KeepsOwn : OpData → Type 0
@@ -62,4 +63,4 @@ pub record IsWellFormed (o : OpData) : Type 0 where
   pub in_range : IsInRange o
   pub own : KeepsOwn o
   pub target : KeepsTarget o
-  pub stray : KeepsStray (context_of o)
+  pub stray : HasNoStray (context_of o)

@@ -3,7 +3,7 @@ use Rattle.std.specs.Prelude.{Bool, false, ◌==◌, ◌&&◌}
 use Rattle.op_name.specs.NameData.{name_eq}
 use Rattle.context_vector.specs.Equality.{context_eq}
 use Rattle.context_diff.specs.Operations.{OpData, inserting, deleting, undoing, context_of, IsInRange, KeepsOwn, KeepsTarget}
-use Rattle.context_vector.specs.Contexts.{KeepsStray}
+use Rattle.context_vector.specs.Contexts.{HasNoStray}
 use Rattle.context_diff.specs.declared.op.Op.{Op}
 use Rattle.context_diff.specs.declared.op.Op.TheVariants.{Insert, Delete, Undo}
 use Rattle.context_diff.specs.declared.op.OpFault.{OpFault}
@@ -20,7 +20,7 @@ abbrev pub IsFirstBroken : OpData → OpFault → Type 0
 IsFirstBroken o Range = ¬ IsInRange o
 IsFirstBroken o Own = IsInRange o × (¬ KeepsOwn o)
 IsFirstBroken o Target = IsInRange o × KeepsOwn o × (¬ KeepsTarget o)
-IsFirstBroken o Stray = IsInRange o × KeepsOwn o × KeepsTarget o × (¬ KeepsStray (context_of o))
+IsFirstBroken o Stray = IsInRange o × KeepsOwn o × KeepsTarget o × (¬ HasNoStray (context_of o))
 
 -- the two are of one kind, and all their parts are equal, contexts as sets
 abbrev pub op_eq : OpData → OpData → Bool

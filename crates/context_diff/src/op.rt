@@ -2,7 +2,7 @@
 
 ghost use Rattle.std.specs.Prelude.{◌≡◌, ◌↔◌, ◌≤◌, IsNone, IsTrue, IfOk, IfSome, length};
 ghost use Rattle.op_name.specs.Members.{IsMember};
-ghost use Rattle.context_vector.specs.Contexts.{IsContext, KeepsStray};
+ghost use Rattle.context_vector.specs.Contexts.{IsContext, HasNoStray};
 ghost use Rattle.context_diff.specs.Operations.{member_of, context_of, is_insert, IsWellFormed, IsInRange, KeepsOwn, KeepsTarget};
 ghost use Rattle.context_diff.specs.Ops.{data_of, IsFirstBroken};
 
@@ -156,7 +156,7 @@ impl Op {
             Some(OpFault::Own)
         } else if !self.keeps_target() {
             Some(OpFault::Target)
-        } else if !keeps_stray(self.context()) {
+        } else if !has_no_stray(self.context()) {
             Some(OpFault::Stray)
         } else {
             None
@@ -239,8 +239,8 @@ fn is_short(context: &Vector) -> bool
 }
 
 // Whether the context has the original of each of its undo entries.
-fn keeps_stray(context: &Vector) -> bool
-    ensures { IsTrue result ↔ KeepsStray context.now.set }
+fn has_no_stray(context: &Vector) -> bool
+    ensures { IsTrue result ↔ HasNoStray context.now.set }
 {
     context.known();
     for i in 0..context.entries() {

@@ -66,8 +66,8 @@ pub record IsContext (c : ContextData) : Type 0 where
   pub entries : AreEntries c.entries
 
 -- each undo entry names an original that the context has
-abbrev pub KeepsStray : ContextData → Type 0
-KeepsStray c = (n : NameData) (g : ℕ) → has c (Group n g) ≡ true → has c (Original n) ≡ true
+abbrev pub HasNoStray : ContextData → Type 0
+HasNoStray c = (n : NameData) (g : ℕ) → has c (Group n g) ≡ true → has c (Original n) ≡ true
 
 -- the counts with this one for the site, at its place in the order
 abbrev pub put_count : ℕ → ℕ → List (ℕ × ℕ) → List (ℕ × ℕ)

@@ -8,9 +8,10 @@ use Rattle.op_name.specs.declared.member.TheConstants.{GENERATIONS}
 use Rattle.context_diff.specs.declared.op.TheConstants.{UNDO_ENTRIES}
 use Rattle.op_name.specs.NameData.{NameData, IsName}
 use Rattle.op_name.specs.declared.member.Member.TheVariants.{Original, Group}
-use Rattle.context_vector.specs.Contexts.{ContextData, IsContext, KeepsStray, has, rank_of, raised, IsNextMember}
+use Rattle.context_vector.specs.Contexts.{ContextData, IsContext, HasNoStray, has, rank_of, raised, IsNextMember}
 use Rattle.context_diff.specs.Operations.{OpData, inserting, deleting, undoing, member_of, IsWellFormed}
-use Rattle.context_diff.specs.Histories.{is_known, is_even, generation_in, context_of_all, inserts_in, LacksNothing, IsClosed, IsNext, IsValid}
+use Rattle.context_diff.specs.Histories.{is_known, generation_in, context_of_all, inserts_in, LacksNothing, IsClosed, IsNext, IsValid}
+use Rattle.op_name.specs.Members.{is_even}
 use Rattle.context_diff.specs.Replays.{Insertion, Cell, insertions_in, is_earlier, put_by, sort_by, gap_of, put, replay, replay_of, is_shown, characters_of}
 use Rattle.context_vector.proofs.CallerLemmas.{sum_at_most, entry_at_most, rank_raised}
 use Rattle.context_diff.proofs.CallerLemmas.{IsComplete, complete, next_member, context_push, generation_is, group_facts, contains_here, contains_later, holder, known_member, all_is_context, has_number, has_generation, by_pushes}
@@ -18,7 +19,8 @@ use Rattle.fixed_replay.proofs.CallerLemmas.{gap_of_whole}
 use Rattle.cot_site.specs.declared.local.Local.{Local}
 use Rattle.cot_site.specs.declared.local.Local.TheVariants.{PlaceOut, Unknown, NotInForce, InForce, GenerationFull, NumberFull, ContextFull}
 use Rattle.cot_site.specs.States.{State}
-use Rattle.cot_site.specs.Views.{places_from, shown_places_of}
+use Rattle.cot_site.specs.Views.{shown_places_of}
+use Rattle.op_name.specs.Lists.{places_from}
 use Rattle.cot_site.specs.Commands.{place_of_shown, place_behind, count_made, next_name, in_context, numbered, turned, local_insert, local_delete, local_undo, local_redo}
 
 -- ---- how many cells the replay has
@@ -93,7 +95,7 @@ all_ready h w m there = sym (w.holds m) ∙ there
 pub all_closed : (h : List OpData) → IsComplete h → IsClosed h (context_of_all h)
 all_closed h w s o n at is site number m there = w.holds m ∙ w.ready o at m there
 
-pub all_stray : (h : List OpData) → IsComplete h → KeepsStray (context_of_all h)
+pub all_stray : (h : List OpData) → IsComplete h → HasNoStray (context_of_all h)
 all_stray h w t g there = w.holds (Original t) ∙ (group_facts h w t g (sym (w.holds (Group t g)) ∙ there)).target
 
 -- ---- places

@@ -5,11 +5,12 @@ use Rattle.context_diff.specs.Operations.{OpData}
 use Rattle.context_diff.specs.Replays.{Cell, is_shown, shown, character_in, characters_of, text_of}
 use Rattle.ttf_form.specs.Cells.{CellData, cell_key, cell_shown}
 use Rattle.ttf_form.specs.Families.{IsIn}
-use Rattle.visible_view.specs.View.{shown_cells, shown_places_from, shown_places, shown_text}
+use Rattle.visible_view.specs.View.{shown_cells, shown_places, shown_text}
 use Rattle.fixed_replay.specs.Replayed.{IsReplayed}
 use Rattle.fixed_replay.proofs.CallerLemmas.{replayed_shown, replayed_characters, replayed_text}
 use Rattle.cot_site.specs.States.{State}
-use Rattle.cot_site.specs.Views.{places_from, shown_places_of, cells_view, history_view}
+use Rattle.cot_site.specs.Views.{shown_places_of, cells_view, history_view}
+use Rattle.op_name.specs.Lists.{places_from}
 
 pub length_mapped : {A B : Type 0} (f : A → B) (xs : List A) → length (map f xs) ≡ length xs
 length_mapped f [] = refl
@@ -19,7 +20,7 @@ pub shown_count : (h : List OpData) (cs : List CellData) → IsReplayed h cs →
 shown_count h cs is = sym (length_mapped cell_key (filter cell_shown cs)) ∙ ap length (replayed_shown h cs is)
 
 -- the places of what passes, cell by cell
-same_places : (p : Cell → Bool) (cs : List CellData) (n : ℕ) → ((d : CellData) → IsIn d cs → cell_shown d ≡ p (cell_key d)) → shown_places_from n cs ≡ places_from p n (map cell_key cs)
+same_places : (p : Cell → Bool) (cs : List CellData) (n : ℕ) → ((d : CellData) → IsIn d cs → cell_shown d ≡ p (cell_key d)) → places_from cell_shown n cs ≡ places_from p n (map cell_key cs)
 same_places p [] n same = refl
 same_places p (c ∷ cs) n same =
     let rest = same_places p cs (suc n) (λ d i. same d (inr i)) in

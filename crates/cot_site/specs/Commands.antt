@@ -7,11 +7,13 @@ use Rattle.op_name.specs.NameData.{NameData}
 use Rattle.context_vector.specs.Contexts.{ContextData, count_of}
 use Rattle.context_diff.specs.declared.op.TheConstants.{UNDO_ENTRIES}
 use Rattle.context_diff.specs.Operations.{OpData, inserting, deleting, undoing}
-use Rattle.context_diff.specs.Histories.{is_known, is_even, generation_in, context_of_all}
+use Rattle.context_diff.specs.Histories.{is_known, generation_in, context_of_all}
+use Rattle.op_name.specs.Members.{is_even}
 use Rattle.context_diff.specs.declared.op.Op.{Op}
 use Rattle.context_diff.specs.Ops.{data_of}
 use Rattle.cot_site.specs.declared.local.Local.{Local}
 use Rattle.cot_site.specs.declared.local.Local.TheVariants.{PlaceOut, Unknown, NotInForce, InForce, GenerationFull, NumberFull, ContextFull, Memory}
+use Rattle.visible_view.specs.View.{places_after}
 use Rattle.cot_site.specs.States.{State}
 use Rattle.cot_site.specs.Views.{View, shown_places_of, history_view}
 
@@ -21,7 +23,7 @@ place_of_shown h v = slice_get (shown_places_of h) v
 
 -- the place for a character after v shown ones: the front, or the place after the shown cell before it
 abbrev pub place_behind : List OpData → ℕ → Option ℕ
-place_behind h v = slice_get (0 ∷ map suc (shown_places_of h)) v
+place_behind h v = slice_get (places_after (shown_places_of h)) v
 
 -- how many originals of the site the history has
 abbrev pub count_made : State → ℕ

@@ -1,19 +1,15 @@
 -- What a site sees of its text, as its history says it and as forms beside its state show it.
-use Rattle.std.specs.Prelude.{ℕ, suc, Bool, List, [], ◌∷◌, map, if◌then◌else◌}
+use Rattle.std.specs.Prelude.{ℕ, List, [], map}
+use Rattle.op_name.specs.Lists.{places_from}
 use Rattle.context_diff.specs.Operations.{OpData}
 use Rattle.context_diff.specs.Histories.{IsValid}
-use Rattle.context_diff.specs.Replays.{Cell, replay_of, is_shown, characters_of}
+use Rattle.context_diff.specs.Replays.{replay_of, is_shown, characters_of}
 use Rattle.ttf_form.specs.declared.form.Form.{Form}
 use Rattle.ttf_form.specs.Cells.{CellData, applied}
 use Rattle.transform_rec.specs.Executing.{executed}
 use Rattle.visible_view.specs.View.{shown_cells, shown_places}
 use Rattle.cot_site.specs.States.{State}
 use Rattle.cot_site.specs.Sites.{AreExecuted}
-
--- the places of the cells that pass, where the first cell of the list stands at n
-abbrev pub places_from : (Cell → Bool) → ℕ → List Cell → List ℕ
-places_from p n [] = []
-places_from p n (c ∷ cs) = if p c then n ∷ places_from p (suc n) cs else places_from p (suc n) cs
 
 -- where the shown cells of a history stand among all cells of its replay
 abbrev pub shown_places_of : List OpData → List ℕ

@@ -14,7 +14,8 @@ use Rattle.ttf_form.specs.Cells.{CellData, cells_of}
 use Rattle.ttf_form.specs.Laws.Forms.{cover_moved}
 use Rattle.transform_rec.specs.Sets.{none, SameSet, plus, plus_all}
 use Rattle.transform_rec.specs.Lists.{IsIn}
-use Rattle.transform_rec.proofs.CallerLemmas.{count, member_apart, in_filter, filter_in, same_set, same_from, plus_cases, plus_keeps, all_in, all_cases, all_keeps, base_sound, derived_sound, form_step, exists, derived_once, IsForm, Run, Forms, run, At, forms_run, rest_run, part_run, before_cell}
+use Rattle.transform_rec.proofs.CallerLemmas.{count, in_filter, filter_in, same_set, same_from, plus_cases, plus_keeps, all_in, all_cases, all_keeps, base_sound, derived_sound, form_step, exists, derived_once, IsForm, Run, Forms, run, At, forms_run, rest_run, part_run, before_cell}
+use Rattle.op_name.proofs.CallerLemmas.{member_apart}
 use Rattle.transform_rec.specs.Family.{Family, IsSound}
 use Rattle.transform_rec.specs.Derived.{IsFamily}
 use Rattle.transform_rec.specs.Derived.Derived.{at_base}

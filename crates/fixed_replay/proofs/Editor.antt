@@ -17,7 +17,7 @@ use Rattle.transform_rec.specs.Family.{Family}
 use Rattle.transform_rec.specs.Derived.{Derived, Inclusion, IsInclusion, IsFamily}
 use Rattle.transform_rec.specs.Derived.Derived.{at_base, by_step}
 use Rattle.transform_rec.specs.Executing.{Table, IsTable, AddsAtPlace, HasOwnNames, Setting, LacksName}
-use Rattle.transform_rec.proofs.CallerLemmas.{member_cases}
+use Rattle.op_name.proofs.CallerLemmas.{member_cases}
 
 abbrev pub form_inclusion : Inclusion Form
 form_inclusion = record { Apart = ApartForms; IsBounded = IsBoundedForm; over = form_over; place = place_of; extent = extent_of }

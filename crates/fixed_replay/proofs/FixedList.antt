@@ -1,7 +1,8 @@
 -- The fixed list: all members of a family sorted by rank, site and generation. It is causal, and its inserts are in their
 -- fixed order.
 use Rattle.std.proofs.Common.{◌≡◌, ◌≢◌, ℕ, ◌<◌, Bool, true, false, nat_lt, ◌||◌, ◌&&◌, ◌==◌, List, [], ◌∷◌, ◌++◌, ◌⊎◌, inl, inr, refl, ap, sym, ◌∙◌, subst, subst₂, arith}
-use Rattle.transform_rec.proofs.CallerLemmas.{in_left, in_right, IsRising, member_cases, Forms, run, At, run_forms, any_order, sorted_run}
+use Rattle.transform_rec.proofs.CallerLemmas.{in_left, in_right, IsRising, Forms, run, At, run_forms, any_order, sorted_run}
+use Rattle.op_name.proofs.CallerLemmas.{member_cases}
 use Rattle.std.proofs.lemmas.Bool.Decides.{nat_tests}
 use Rattle.op_name.specs.NameData.{NameData}
 use Rattle.op_name.specs.declared.member.Member.{Member}

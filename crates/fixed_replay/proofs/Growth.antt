@@ -5,7 +5,7 @@ use Rattle.op_name.specs.declared.member.Member.{Member}
 use Rattle.op_name.specs.declared.member.Member.TheVariants.{Original, Group}
 use Rattle.context_diff.specs.Operations.{OpData, member_of}
 use Rattle.context_diff.specs.Histories.{members_in, is_known, IsValid}
-use Rattle.context_diff.proofs.CallerLemmas.{valid_parts, complete, group_facts, base_on}
+use Rattle.context_diff.proofs.CallerLemmas.{valid_parts, complete, group_facts, base_on, known_in, in_known}
 use Rattle.ttf_form.specs.declared.form.Form.{Form}
 use Rattle.ttf_form.specs.Families.{IsIn}
 use Rattle.transform_rec.specs.Sets.{none, SameSet, plus, plus_all}
@@ -13,7 +13,7 @@ use Rattle.transform_rec.specs.Family.{Family}
 use Rattle.transform_rec.specs.Derived.{Derived, Holds}
 use Rattle.transform_rec.specs.Executing.{AreFormsFrom}
 use Rattle.transform_rec.specs.Histories.{family_in}
-use Rattle.transform_rec.proofs.CallerLemmas.{in_left, same_set, same_from, all_in, all_cases, derived_moves, known_in, in_known}
+use Rattle.transform_rec.proofs.CallerLemmas.{in_left, same_set, same_from, all_in, all_cases, derived_moves}
 use Rattle.undo_group.specs.BaseForms.{original_form, group_form, base_form}
 use Rattle.fixed_replay.proofs.Elements.{not_both}
 use Rattle.fixed_replay.proofs.Operations.{listed_member}

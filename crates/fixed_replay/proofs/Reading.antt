@@ -15,7 +15,8 @@ use Rattle.ttf_form.specs.declared.cover.Mark.TheVariants.{Own, By}
 use Rattle.ttf_form.specs.declared.form.Form.{Form}
 use Rattle.ttf_form.specs.declared.form.Form.TheVariants.{Ins as Insert, Cover as Covered}
 use Rattle.ttf_form.specs.Forms.{place_of, IsBoundedForm}
-use Rattle.ttf_form.specs.Cells.{CellData, marked, raise_in, IsRising, cell_key, cells_of, is_even, cell_shown}
+use Rattle.ttf_form.specs.Cells.{CellData, marked, raise_in, IsRising, cell_key, cells_of, cell_shown}
+use Rattle.op_name.specs.Members.{is_even}
 use Rattle.ttf_form.specs.Laws.Deleters.{best, best_raise, best_raise_other, raise_rising}
 use Rattle.ttf_form.specs.Laws.Cells.{marked_key, marked_char}
 use Rattle.transform_rec.specs.Sets.{none, plus, plus_all}

@@ -8,7 +8,8 @@ use Rattle.op_name.specs.declared.member.Member.TheVariants.{Original}
 use Rattle.op_name.specs.NameData.{NameData, name_eq}
 use Rattle.context_vector.specs.Contexts.{ContextData, has, rank_of}
 use Rattle.context_diff.specs.Operations.{OpData, inserting, deleting, undoing, member_of, is_original}
-use Rattle.context_diff.specs.Histories.{in_force, is_even, Same}
+use Rattle.context_diff.specs.Histories.{in_force, Same}
+use Rattle.op_name.specs.Members.{is_even}
 use Rattle.context_diff.specs.Replays.{Insertion, Cell, cells_from, insertions_in, is_earlier, fixed_order, replay, replay_of, stands_at, hits, covers, is_shown, shown, character_in, characters_of, text_of}
 use Rattle.fixed_replay.specs.Originals.{AreTold, AreToldFrom, AreToldApart}
 use Rattle.transform_rec.specs.Lists.{IsIn, SameElements}

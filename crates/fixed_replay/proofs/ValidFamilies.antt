@@ -10,7 +10,7 @@ use Rattle.context_diff.specs.Operations.{OpData, inserting, member_of}
 use Rattle.context_diff.specs.Histories.{members_in, is_known, IsValid}
 use Rattle.context_diff.specs.Replays.{Insertion, insertions_in, fixed_order, is_earlier}
 use Rattle.context_diff.specs.Bases.{original_context, base_has}
-use Rattle.context_diff.proofs.CallerLemmas.{IsComplete, complete, group_facts, base_original, base_group, in_original, group_has_target, base_listed, base_stray}
+use Rattle.context_diff.proofs.CallerLemmas.{IsComplete, complete, group_facts, base_original, base_group, in_original, group_has_target, base_listed, base_stray, in_known}
 use Rattle.ttf_form.specs.declared.ins.Ins.{Ins}
 use Rattle.ttf_form.specs.declared.form.Form.{Form}
 use Rattle.ttf_form.specs.declared.form.Form.TheVariants.{Ins as Insert, Cover as Covered}
@@ -21,7 +21,7 @@ use Rattle.transform_rec.specs.Family.{Family}
 use Rattle.transform_rec.specs.Derived.{IsFamily}
 use Rattle.transform_rec.specs.Executing.{HasOwnNames, LacksName}
 use Rattle.transform_rec.specs.Histories.{family_in}
-use Rattle.transform_rec.proofs.CallerLemmas.{in_known, history_causal}
+use Rattle.transform_rec.proofs.CallerLemmas.{history_causal}
 use Rattle.fixed_replay.proofs.Families.{HasRanks, HasGroups}
 use Rattle.undo_group.specs.BaseForms.{AreBaseForms}
 use Rattle.undo_group.specs.Laws.Inserts.{context_of_original, IsInsertOp, insert_op, forms_apart}

@@ -18,7 +18,8 @@ use Rattle.ttf_form.specs.Laws.Forms.{form_over_cover, ins_moved}
 use Rattle.ttf_form.specs.Laws.Cells.{kept_at}
 use Rattle.transform_rec.specs.Sets.{none, IsSubset, SameSet, plus, plus_all}
 use Rattle.transform_rec.specs.Lists.{IsIn}
-use Rattle.transform_rec.proofs.CallerLemmas.{count, member_apart, in_filter, filter_in, length-count, count-append, same_set, same_from, plus_cases, all_in, all_cases, all_keeps, all-append, base_sound, derived_sound, forms_apart, form_step, exists, derived_once, IsForm, Run, Forms, run, At, state_after, forms_run, run_listed, run_append, forms-append, rest_run, part_state, before_cell}
+use Rattle.transform_rec.proofs.CallerLemmas.{count, in_filter, filter_in, length-count, count-append, same_set, same_from, plus_cases, all_in, all_cases, all_keeps, all-append, base_sound, derived_sound, forms_apart, form_step, exists, derived_once, IsForm, Run, Forms, run, At, state_after, forms_run, run_listed, run_append, forms-append, rest_run, part_state, before_cell}
+use Rattle.op_name.proofs.CallerLemmas.{member_apart}
 use Rattle.transform_rec.specs.Family.{Family, IsSound}
 use Rattle.transform_rec.specs.Derived.{IsFamily, weight}
 use Rattle.transform_rec.specs.Derived.Derived.{at_base}

@@ -10,7 +10,7 @@ use Rattle.op_name.specs.declared.member.Member.{Member}
 use Rattle.op_name.specs.declared.member.Member.TheVariants.{Original, Group}
 use Rattle.context_diff.specs.Operations.{OpData}
 use Rattle.context_diff.specs.Histories.{is_known, members_in}
-use Rattle.context_diff.proofs.CallerLemmas.{IsComplete, complete, group_facts}
+use Rattle.context_diff.proofs.CallerLemmas.{IsComplete, complete, group_facts, known_in, in_known}
 use Rattle.ttf_form.specs.declared.ins.Ins.{Ins}
 use Rattle.ttf_form.specs.declared.cover.Cover.{Cover}
 use Rattle.ttf_form.specs.declared.cover.Mark.{Mark}
@@ -24,7 +24,7 @@ use Rattle.transform_rec.specs.Sets.{none, plus_all}
 use Rattle.transform_rec.specs.Derived.{Derived, Deriving}
 use Rattle.transform_rec.specs.Executing.{AreFormsFrom, IsCausalFrom}
 use Rattle.transform_rec.specs.Histories.{family_in}
-use Rattle.transform_rec.proofs.CallerLemmas.{in_right, lacks_from, all_keeps, all_in, all-append, causal_parts, book_run, known_in, in_known, history_causal}
+use Rattle.transform_rec.proofs.CallerLemmas.{in_right, lacks_from, all_keeps, all_in, all-append, causal_parts, book_run, history_causal}
 use Rattle.undo_group.specs.BaseForms.{original_form, group_form, base_form}
 use Rattle.undo_group.specs.Bounds.{IsShortHistory}
 use Rattle.undo_group.specs.Following.{following, mark_of, Follows}

@@ -1,6 +1,6 @@
 -- Names and members are ordered: `name_eq` and `member_eq` decide equality, `name_lt` and `member_lt` are total orders.
-use Rattle.std.proofs.Common.{◌≡◌, ℕ, Bool, true, false, inl, inr, refl, ap, sym, subst, ◌∙◌, arith}
-use mathlib.Core.Bool.{false≢true}
+use Rattle.std.proofs.Common.{◌≡◌, ◌≢◌, ℕ, Bool, true, false, inl, inr, refl, ap, sym, subst, ◌∙◌, arith}
+use Rattle.std.proofs.lemmas.Bool.{false≢true, false_from_ne_true, cases_Bool}
 use Rattle.std.specs.Prelude.{◌==◌, nat_lt, ◌||◌, ◌&&◌, ◌⊎◌}
 use Rattle.std.specs.Bool.{Decides}
 use Rattle.std.proofs.lemmas.Bool.Decides.{nat_tests}
@@ -20,14 +20,12 @@ number_order = record {
   total = λ a b e f. grind (arith, nat_tests);
 }
 
--- the parts of a name are equal where the test says so
-name_parts : (a b : NameData) → name_eq a b ≡ true → (a.site ≡ b.site) × (a.number ≡ b.number)
-name_parts a b e = (grind (arith, nat_tests), grind (arith, nat_tests))
+-- a name is its site and its number
+pub same_parts : (a b : NameData) → a.site ≡ b.site → a.number ≡ b.number → a ≡ b
+same_parts a b p q = λ i. record { site = p i; number = q i }
 
 pub name_same : (a b : NameData) → name_eq a b ≡ true → a ≡ b
-name_same a b e =
-    let parts = name_parts a b e in
-    λ i. record { site = parts.0 i; number = parts.1 i }
+name_same a b e = same_parts a b (grind (arith, nat_tests)) (grind (arith, nat_tests))
 
 pub name_itself : (a : NameData) → name_eq a a ≡ true
 name_itself a = grind (arith, nat_tests)
@@ -44,6 +42,9 @@ name_transitive a b c e f = grind (arith, nat_tests)
 
 pub name_total : (a b : NameData) → name_eq a b ≡ false → name_lt a b ≡ false → name_lt b a ≡ true
 name_total a b e f = grind (arith, nat_tests)
+
+pub name_less_other : (a b : NameData) → name_lt a b ≡ true → name_eq a b ≡ false
+name_less_other a b less = grind (arith, nat_tests)
 
 pub name_order : IsOrder name_eq name_lt
 name_order = record { same = name_same; itself = name_itself; irreflexive = name_irreflexive; transitive = name_transitive; total = name_total }
@@ -68,6 +69,15 @@ member_same (Group n g) (Group m h) e =
 pub member_itself : (a : Member) → member_eq a a ≡ true
 member_itself (Original n) = name_itself n
 member_itself (Group n g) = grind (arith, nat_tests)
+
+pub member_apart : (a b : Member) → a ≢ b → member_eq a b ≡ false
+member_apart a b apart = false_from_ne_true (member_eq a b) (λ e. apart (member_same a b e))
+
+pub member_other : (a b : Member) → member_eq a b ≡ false → a ≢ b
+member_other a b e is = false≢true (sym e ∙ (ap (member_eq a) (sym is) ∙ member_itself a))
+
+pub member_cases : (a b : Member) → (a ≡ b) ⊎ (a ≢ b)
+member_cases a b = elim (cases_Bool (member_eq a b)) [ inl e ↦ inl (member_same a b e) | inr e ↦ inr (member_other a b e) ]
 
 -- the test of members decides equality
 pub members_decide : (a b : Member) → Decides (member_eq a b) (a ≡ b)

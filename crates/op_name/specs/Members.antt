@@ -1,5 +1,5 @@
 -- Members of contexts as contracts see them, and their order.
-use Rattle.std.specs.Prelude.{◌≤◌, Bool, true, false, ◌&&◌, ◌||◌, ◌==◌, nat_lt}
+use Rattle.std.specs.Prelude.{ℕ, ◌≤◌, ◌%◌, Bool, true, false, ◌&&◌, ◌||◌, ◌==◌, nat_lt}
 use Rattle.op_name.specs.declared.member.Member.{Member}
 use Rattle.op_name.specs.declared.member.Member.TheVariants.{Original, Group}
 use Rattle.op_name.specs.NameData.{NameData, name_eq, name_lt}
@@ -13,6 +13,10 @@ target_of (Group n g) = n
 abbrev pub IsMember : Member → Type 0
 IsMember (Original n) = Unit {0}
 IsMember (Group n g) = 1 ≤ g
+
+-- groups of odd generations undo, those of even ones redo; without a group the generation is 0
+abbrev pub is_even : ℕ → Bool
+is_even g = g % 2 == 0
 
 abbrev pub member_eq : Member → Member → Bool
 member_eq (Original n) (Original m) = name_eq n m

@@ -7,8 +7,7 @@ use Rattle.std.proofs.lemmas.Bool.{cases_Bool, and_parts, ltb-true}
 use Rattle.context_diff.specs.Operations.{OpData}
 use Rattle.context_diff.specs.Histories.{IsNext, IsValid}
 use Rattle.cot_site.specs.States.{State}
-use Rattle.ttf_form.specs.declared.form.Form.{Form}
-use Rattle.cot_site.specs.Views.{View, history_view, forms_view, AreFormLists}
+use Rattle.cot_site.specs.Views.{View, history_view, forms_view}
 use Rattle.cot_site.specs.Commands.{insert_in, delete_in, local_insert}
 use Rattle.cot_site.specs.declared.local.Local.{Local}
 use Rattle.cot_site.proofs.CallerLemmas.{computed_of, computed_lists, lists_show}

@@ -13,3 +13,10 @@ pub mod Commanding
 pub mod Loops
 pub mod Lines
 pub mod Characters
+mod Agreeing
+mod Names
+mod Room
+mod Gathering
+mod Making
+mod Tallies
+mod Rounds

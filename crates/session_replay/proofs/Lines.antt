@@ -1,20 +1,19 @@
 -- What a line in memory answers.
-use Rattle.std.proofs.Common.{◌≡◌, ℕ, ◌<◌, ◌≤◌, Bool, true, false, List, [], ◌++◌, refl, sym, ap, subst, ◌∙◌, length, take, append-nil, arith}
-use Rattle.std.specs.Prelude.{Option, Some, None, IfSome, Result, Ok, Err, OnOk, OnErr, IfErr, nat_lt, nat_le, if◌then◌else◌}
+use Rattle.std.proofs.Common.{◌≡◌, ℕ, ◌<◌, Bool, true, false, List, [], ◌++◌, refl, sym, ap, subst, ◌∙◌, length, take, append-nil, arith}
+use Rattle.std.specs.Prelude.{Option, Some, None, IfSome, Result, Ok, Err, OnOk, OnErr, nat_lt, nat_le, if◌then◌else◌}
 use Rattle.std.specs.Result.{is_err, is_ok}
 use Rattle.std.proofs.Math.Seq.{take-append_seam}
 use Rattle.std.proofs.lemmas.Bool.{true≢false, lt-ltb}
 use Rattle.std.proofs.lemmas.Bool.Decides.{nat_tests}
-use Rattle.cot_site.specs.Commands.{local_insert}
 use Rattle.cot_site.specs.States.{State as SiteState}
 use Rattle.script_text.specs.declared.reading.line.Line.{Line}
-use Rattle.script_text.specs.declared.reading.line.Line.TheVariants.{Blank, Sites, Nl, Show, State}
+use Rattle.script_text.specs.declared.reading.line.Line.TheVariants.{Blank, Sites}
 use Rattle.session_replay.specs.declared.session.StepBad.{StepBad}
 use Rattle.session_replay.specs.declared.session.StepBad.TheVariants.{NoSites, NoSite, NoMessage, Twice, Memory}
 use Rattle.script_text.specs.Lines.{line_site}
 use Rattle.session_replay.specs.Steps.{Step, last_of, written_by}
-use Rattle.session_replay.specs.Sessions.{SessionData, site_at, opened}
-use Rattle.session_replay.specs.LineSteps.{line_steps, once_started, at_site_of, opening, steps_there, AreValues, commanded, show_text, have_text, told}
+use Rattle.session_replay.specs.Sessions.{SessionData, opened}
+use Rattle.session_replay.specs.LineSteps.{line_steps, at_site_of, opening, steps_there, AreValues, told}
 use Rattle.session_replay.specs.Answers.{IsDone}
 use Rattle.session_replay.specs.Soundness.{IsSound, AreSettled}
 use Rattle.session_replay.specs.Code.Doing.{IsPlace, AreDone, IsFront, IsLineDone, as_step, cut_after}

@@ -10,7 +10,8 @@ use Rattle.context_diff.specs.Operations.{OpData, inserting}
 use Rattle.context_diff.specs.Histories.{IsValid, context_of_all}
 use Rattle.context_diff.specs.Replays.{Cell, replay_of, is_shown, characters_of}
 use Rattle.cot_site.specs.States.{State}
-use Rattle.cot_site.specs.Views.{places_from, shown_places_of}
+use Rattle.cot_site.specs.Views.{shown_places_of}
+use Rattle.op_name.specs.Lists.{places_from}
 use Rattle.cot_site.specs.Commands.{local_insert, place_behind, numbered, next_name}
 use Rattle.cot_site.specs.declared.local.Local.{Local}
 use Rattle.cot_site.specs.declared.local.Local.TheVariants.{PlaceOut}
@@ -71,7 +72,7 @@ typed_part i v k text d ch within is =
     let any = typed_any i v (drop (k + 1) text) d (local_insert (site_at d i) v ch) in
     (any.0, typed_at i v k text d ch within is ∙ any.1)
 
-places_few : (test : Cell → Bool) (n : ℕ) (cs : List Cell) → length (places_from test n cs) ≤ length cs
+pub places_few : (test : Cell → Bool) (n : ℕ) (cs : List Cell) → length (places_from test n cs) ≤ length cs
 places_few test n [] = omega arith
 places_few test n (c ∷ cs) = elim (cases_Bool (test c)) [
   | inl so ↦
@@ -104,7 +105,7 @@ given_more i k os d o at =
     let cut : drop k os ≡ o ∷ drop (k + 1) os = drop-cons os k o within ∙ ap (λ p. p ∷ drop (suc k) os) here ∙ ap (λ n. o ∷ drop n os) next in
     ap (λ ps. given_all i ps d) cut
 
-drop_past : {X : Type 0} (xs : List X) (n : ℕ) → length xs ≤ n → drop n xs ≡ []
+pub drop_past : {X : Type 0} (xs : List X) (n : ℕ) → length xs ≤ n → drop n xs ≡ []
 drop_past [] zero le = refl
 drop_past [] (suc n) le = refl
 drop_past (x ∷ xs) zero le = absurd (omega (arith, le))

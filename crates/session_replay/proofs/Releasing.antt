@@ -10,7 +10,7 @@ use Rattle.cot_site.specs.Releases.{IsSound as IsSoundSite, and_more, releases, 
 use Rattle.cot_site.proofs.CallerLemmas.{release_number, sound_released, settled_settles}
 use Rattle.script_text.specs.declared.report.event.Event.TheVariants.{Free}
 use Rattle.script_text.specs.Verdicts.{verdict_line_text}
-use Rattle.session_replay.specs.Steps.{Step, last_of, written_by, IsReached}
+use Rattle.session_replay.specs.Steps.{last_of, written_by, IsReached}
 use Rattle.session_replay.specs.Code.Doing.{AreDone, IsFront, free_line, free_lines}
 use Rattle.session_replay.specs.Sessions.{free_step, settling}
 use Rattle.session_replay.proofs.Every.{Every}

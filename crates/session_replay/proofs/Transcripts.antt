@@ -1,11 +1,9 @@
 -- Transcripts: the report of a script has one, and no other report has.
-use Rattle.std.proofs.Common.{◌≡◌, ℕ, suc, ◌+◌, ◌<◌, Bool, true, inl, inr, List, [], ◌∷◌, ◌++◌, length, map, Result, Ok, Err, refl, ap, sym, subst, ◌∙◌, append_assoc, append-nil, arith}
+use Rattle.std.proofs.Common.{◌≡◌, ℕ, ◌+◌, true, inl, inr, List, [], ◌∷◌, ◌++◌, length, map, Result, Ok, Err, refl, ap, sym, subst, ◌∙◌, append_assoc, append-nil, arith}
 use Rattle.std.specs.Prelude.{Contains, Some}
 use Rattle.std.specs.List.{concat}
 use Rattle.context_diff.proofs.CallerLemmas.{contains_cases, contains_here, contains_later, contains_none}
-use Rattle.ttf_form.specs.declared.form.Form.{Form}
-use Rattle.cot_site.specs.States.{State}
-use Rattle.cot_site.specs.Views.{forms_view, AreFormLists}
+use Rattle.cot_site.specs.Views.{forms_view}
 use Rattle.cot_site.proofs.CallerLemmas.{lists_show}
 use Rattle.script_text.specs.declared.reading.line.Line.{Line}
 use Rattle.script_text.specs.declared.reading.line.Line.TheVariants.{Show}
@@ -14,10 +12,9 @@ use Rattle.script_text.specs.Report.{refused_text}
 use Rattle.session_replay.specs.declared.session.StepBad.{StepBad}
 use Rattle.session_replay.specs.Steps.{Step, last_of, written_by}
 use Rattle.session_replay.specs.Sessions.{SessionData, unstarted}
-use Rattle.session_replay.specs.LineSteps.{told, show_text, line_steps, line_steps_in, steps_there}
+use Rattle.session_replay.specs.LineSteps.{told, show_text, line_steps, steps_there}
 use Rattle.session_replay.specs.Events.{Moment, moments, all_steps}
 use Rattle.session_replay.specs.Scripts.{Report, Piece, prepended, pieces_of, steps_or, steps_of_read, piece_steps, report_on, report_from, report_from_in, script_report}
-use Rattle.session_replay.specs.Soundness.{IsSound, AreSettled}
 use Rattle.session_replay.specs.Transcripts.{Settles, Entry, steps_in, written_in, after_entry, IsShown, IsEntry, AreConsecutive, after_entries, IsEnd, IsTranscript}
 use Rattle.session_replay.proofs.LineLaws.{Lasting, site_there, line_lasts}
 use Rattle.session_replay.proofs.ScriptLaws.{Rests, Reads, piece_reads, piece_rests, unstarted_rests, waiting_named}

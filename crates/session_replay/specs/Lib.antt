@@ -8,5 +8,6 @@ pub mod Scripts
 pub mod Transcripts
 pub mod Derivation
 pub mod Answers
+pub mod Generating
 pub mod Laws
 pub mod Code

@@ -1,6 +1,6 @@
 -- The steps of a line: what it does to a session. What is shown may be read in more than one way: a definition that looks at it
 -- says how by its first argument, the view that a site in each state has of its text.
-use Rattle.std.specs.Prelude.{ℕ, ◌+◌, zero, suc, false, IsTrue, List, [], ◌∷◌, length, drop, codes, encode_utf8_all, slice_get, slice_index, ◌<◌, nat_lt, nat_le, Result, Ok, Err, Option, Some, None, if◌then◌else◌}
+use Rattle.std.specs.Prelude.{ℕ, ◌+◌, zero, suc, false, IsTrue, List, [], ◌∷◌, length, drop, encode_utf8_all, slice_get, slice_index, ◌<◌, nat_lt, nat_le, Result, Ok, Err, Option, Some, None, if◌then◌else◌}
 use Rattle.std.specs.Str.{all_scalars}
 use Rattle.op_name.specs.declared.name.TheConstants.{SITES}
 use Rattle.context_diff.specs.Operations.{OpData}

@@ -6,12 +6,17 @@
 #![tactic(auto)]
 
 mod causes;
+mod draws;
+mod generated;
+mod generator;
 mod laws;
 mod releases;
 mod script;
 mod session;
 mod sites;
 
+pub use generated::Generated;
+pub use generator::{MAX_EVENTS, MAX_WINDOW, generate};
 pub use laws::{
     deliveries_settle, derived_reports_are_there, local_operations_settle, one_derived_report,
     one_transcript, sessions_stay_sound, transcripts_are_there,

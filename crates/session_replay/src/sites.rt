@@ -8,9 +8,12 @@ ghost use Rattle.script_text.specs.Lines.{line_site};
 ghost use Rattle.session_replay.specs.Answers.{IsDone};
 ghost use Rattle.session_replay.specs.LineSteps.{line_steps, commanded, at_site_of, steps_there, opening, AreValues};
 ghost use Rattle.session_replay.specs.Code.Doing.{IsPlace, IsLineDone, as_step, local_of};
-ghost use Rattle.session_replay.specs.Sessions.{unstarted, new_sites, site_at};
+ghost use Rattle.session_replay.specs.Sessions.{unstarted, opened, new_sites, site_at};
+ghost use Rattle.session_replay.specs.Generating.{counts_of};
+ghost use Rattle.session_replay.specs.declared.generator.TheConstants.{MAX_EVENTS};
 ghost use Rattle.script_text.specs.declared.reading.line.Line.TheVariants.{Sync};
 
+use crate::generated::Generated;
 use crate::session::StepBad;
 use crate::sites::commands::Command;
 use context_diff::Op;
@@ -22,6 +25,7 @@ use std::marker::Model;
 
 mod commands;
 mod deliveries;
+mod drawing;
 mod raw;
 mod shows;
 
@@ -55,6 +59,29 @@ impl Sites {
             sites: Vec::new(alloc),
             messages: Vec::new(alloc),
         }
+    }
+
+    /// So many sites, and no message.
+    pub(crate) fn opened(alloc: Global, count: u16) -> Result<Sites, Memory>
+        requires { count ≤ SITES }
+        ensures { IfOk result (λ s. s ≡ opened count) }
+    {
+        match new_sites(alloc, count) {
+            Ok(sites) => Ok(Sites {
+                sites,
+                messages: Vec::new(alloc),
+            }),
+            Err(memory) => Err(memory),
+        }
+    }
+
+    /// The sites, with how many of the messages are of each kind.
+    pub(crate) fn into_generated(self) -> Generated
+        requires { length self.messages ≤ MAX_EVENTS }
+        ensures sites { result.sites ≡ self.sites }
+        ensures counts { result.counts ≡ counts_of self.messages }
+    {
+        Generated::new(self.sites, &self.messages)
     }
 
     /// Does a line, and appends its report lines; a line that isn't done may leave some of them.

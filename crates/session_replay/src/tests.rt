@@ -7,6 +7,8 @@ use std::alloc::Global;
 use std::process::Abort;
 use std::test::Fail;
 
+mod drawn;
+
 /// The report of a script, whose lines are separated by `; `, and whether it is refused.
 fn report_of(alloc: Global, script: &str) -> Result<(Vec<u8>, bool), Memory> {
     let mut bytes = Vec::new(alloc);

@@ -15,7 +15,7 @@ use Rattle.context_vector.specs.Equality.{context_eq, context_eq_decides}
 use Rattle.context_diff.specs.Operations.{OpData, member_of}
 use Rattle.context_diff.specs.Histories.{members_in, IsValid}
 use Rattle.context_diff.specs.Bases.{base_has}
-use Rattle.context_diff.proofs.CallerLemmas.{IsClosedSet, has_number, has_original, has_generation, has_group, complete, own_earlier, in_original, in_group_below, below_group}
+use Rattle.context_diff.proofs.CallerLemmas.{IsClosedSet, has_number, has_original, has_generation, has_group, complete, own_earlier, in_original, in_group_below, below_group, in_known}
 use Rattle.ttf_form.specs.Families.{IsIn}
 use Rattle.form_cache.specs.Keys.{KeyData}
 use Rattle.form_cache.specs.Entries.{Entries, form_at}
@@ -30,7 +30,7 @@ use Rattle.transform_rec.proofs.Lists.{LastOf, in_middle}
 use Rattle.transform_rec.proofs.Sets.{plus_same, minus_parts, minus_from, minus_here, minus_plus, all_same}
 use Rattle.transform_rec.proofs.Families.{sound_moves, mine_without, its_without}
 use Rattle.transform_rec.proofs.CausalLists.{causal_moves}
-use Rattle.transform_rec.proofs.Histories.{history_causal, added_sound, sound_added, closed_is_set, at_most_or_more, known_generation, in_known}
+use Rattle.transform_rec.proofs.Histories.{history_causal, added_sound, sound_added, closed_is_set, at_most_or_more, known_generation}
 use Rattle.transform_rec.proofs.Keeping.{found_form}
 
 module _ {F : Type 0} (b : Family F) (c : IsCausalFamily b) where

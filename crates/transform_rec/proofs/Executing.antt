@@ -4,7 +4,7 @@ use Rattle.std.proofs.lemmas.Bool.{both_ways}
 use Rattle.op_name.specs.NameData.{NameData}
 use Rattle.op_name.specs.declared.member.Member.{Member}
 use Rattle.op_name.specs.declared.member.Member.TheVariants.{Original}
-use Rattle.op_name.proofs.CallerLemmas.{member_itself}
+use Rattle.op_name.proofs.CallerLemmas.{member_itself, member_cases}
 use Rattle.transform_rec.specs.Sets.{none, SameSet, plus, plus_all}
 use Rattle.ttf_form.specs.Families.{IsIn}
 use Rattle.transform_rec.specs.Lists.{AreApart}
@@ -13,7 +13,6 @@ use Rattle.transform_rec.specs.Derived.{Derived}
 use Rattle.transform_rec.specs.Derived.Derived.{at_base, by_step}
 use Rattle.ttf_form.specs.Names.{LacksName, NewNames}
 use Rattle.transform_rec.specs.Executing.{Setting, deriving_of, IsCausalFrom, AreFormsFrom, executed, own, IsStateAt}
-use Rattle.transform_rec.proofs.Members.{member_cases}
 use Rattle.transform_rec.proofs.Lists.{in_cases, in_take, in_drop, length-put, sum_none}
 use Rattle.transform_rec.proofs.Sets.{same_set, plus_here, plus_keeps}
 use Rattle.transform_rec.proofs.Forms.{derived_sound, derived_bounded, weight_plus, list_forms}

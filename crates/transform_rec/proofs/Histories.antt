@@ -9,7 +9,7 @@ use Rattle.context_vector.specs.Contexts.{ContextData, has, count_of, entry_of, 
 use Rattle.context_diff.specs.Operations.{OpData, member_of}
 use Rattle.context_diff.specs.Histories.{members_in, is_known, IsValid}
 use Rattle.context_diff.specs.Bases.{original_context, base_has}
-use Rattle.context_diff.proofs.CallerLemmas.{IsClosedSet, has_number, has_original, has_generation, has_group, shifted, IsComplete, complete, original_facts, group_facts, own_earlier, base_closed, base_listed, closed_set, closed_context, in_original, in_group_below, below_group, members_apart, not_later}
+use Rattle.context_diff.proofs.CallerLemmas.{known_in, in_known, IsClosedSet, has_number, has_original, has_generation, has_group, shifted, IsComplete, complete, original_facts, group_facts, own_earlier, base_closed, base_listed, closed_set, closed_context, in_original, in_group_below, below_group, members_apart, not_later}
 use Rattle.ttf_form.specs.Families.{IsIn}
 use Rattle.transform_rec.specs.Lists.{AreApart}
 use Rattle.transform_rec.specs.Family.{IsCausal, IsCausalFamily, IsClosed, IsSound}
@@ -17,15 +17,6 @@ use Rattle.transform_rec.specs.Histories.{family_in, MayBeAddedTo}
 use Rattle.op_name.proofs.CallerLemmas.{member_itself, member_same}
 
 -- ---- a history as a family
-
-pub known_in : (h : List OpData) (m : Member) → is_known h m ≡ true → IsIn m (members_in h)
-known_in [] m e = absurd (both_ways false refl e)
-known_in (o ∷ os) m e = elim (or_cases (member_eq (member_of o) m) (is_known os m) e) [ inl p ↦ inl (sym (member_same (member_of o) m p)) | inr k ↦ inr (known_in os m k) ]
-
-pub in_known : (h : List OpData) (m : Member) → IsIn m (members_in h) → is_known h m ≡ true
-in_known [] m i = absurd i
-in_known (o ∷ os) m (inl e) = or_left (member_eq (member_of o) m) (is_known os m) (subst (λ (x : Member). member_eq x m ≡ true) e (member_itself m))
-in_known (o ∷ os) m (inr i) = or_right (member_eq (member_of o) m) (is_known os m) (in_known os m i)
 
 apart_behind : (b os : List OpData) → IsValid (b ++ os) → AreApart (members_in os)
 apart_behind b [] v = tt

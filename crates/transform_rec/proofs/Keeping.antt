@@ -6,7 +6,7 @@ use Rattle.op_name.specs.declared.member.Member.{Member}
 use Rattle.context_vector.specs.Contexts.{ContextData, has}
 use Rattle.context_diff.specs.Operations.{OpData, member_of}
 use Rattle.context_diff.specs.Histories.{members_in, is_known, IsValid}
-use Rattle.context_diff.proofs.CallerLemmas.{contains_none, valid_parts, complete, base_on}
+use Rattle.context_diff.proofs.CallerLemmas.{contains_none, valid_parts, complete, base_on, in_known}
 use Rattle.form_cache.specs.declared.cache.Kept.{Kept}
 use Rattle.form_cache.specs.Keys.{KeyData}
 use Rattle.form_cache.specs.Entries.{Entries, CacheData, form_at, used, asked, with_form}
@@ -20,7 +20,7 @@ use Rattle.transform_rec.specs.Entries.{AreForms, NoEntriesAreForms, NextOperati
 use Rattle.transform_rec.proofs.Lists.{in_left}
 use Rattle.transform_rec.proofs.Sets.{plus_cases}
 use Rattle.transform_rec.proofs.Forms.{derived_moves, derived_among}
-use Rattle.transform_rec.proofs.Histories.{in_known, history_causal}
+use Rattle.transform_rec.proofs.Histories.{history_causal}
 
 -- ---- the calls of the cache
 

@@ -1,4 +1,3 @@
-pub mod Members
 pub mod Counting
 pub mod Lists
 pub mod Sets

@@ -11,7 +11,7 @@ use Rattle.transform_rec.proofs.Counting.{count, EachAt}
 use Rattle.transform_rec.specs.Family.{IsClosed}
 use Rattle.transform_rec.specs.Derived.{weight}
 use Rattle.transform_rec.specs.Executing.{Setting, AddsAtPlace, deriving_of, keep, own}
-use Rattle.transform_rec.proofs.Members.{member_apart}
+use Rattle.op_name.proofs.CallerLemmas.{member_apart}
 use Rattle.transform_rec.proofs.Lists.{in_left, in_right, in_cases, in_filter, filter_in, filter_all, filter_put, before_each, count_own}
 use Rattle.transform_rec.proofs.Sets.{same_set, same_from, plus_here, plus_keeps, plus_cases, all_keeps, all_in, all_cases}
 use Rattle.transform_rec.proofs.Families.{closed_plus}

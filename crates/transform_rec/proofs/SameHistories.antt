@@ -8,11 +8,11 @@ use Rattle.context_vector.specs.Contexts.{ContextData, has}
 use Rattle.context_diff.specs.Operations.{OpData, inserting, deleting, undoing, member_of, is_original}
 use Rattle.context_diff.specs.Histories.{is_known, generation_in, context_of_all, IsValid, Same}
 use Rattle.context_diff.specs.Bases.{original_context, is_before, is_below, base_has}
-use Rattle.context_diff.proofs.CallerLemmas.{has_generation, has_group, known_member, original_holder, complete, generation_is, group_facts, context_is}
+use Rattle.context_diff.proofs.CallerLemmas.{has_generation, has_group, known_member, original_holder, complete, generation_is, group_facts, context_is, known_in, in_known}
 use Rattle.transform_rec.specs.Derived.{Holds}
 use Rattle.transform_rec.specs.Histories.{family_in, SameOperationsSameForm}
+use Rattle.transform_rec.proofs.Sets.{same_bool}
 use Rattle.transform_rec.proofs.Forms.{derived_moves}
-use Rattle.transform_rec.proofs.Histories.{known_in, in_known}
 
 -- the operation that is an original is an insert or a delete
 named_original : (o : OpData) (n : NameData) → member_of o ≡ Original n → is_original o ≡ true
@@ -52,12 +52,6 @@ known_back h k v u s (Original n) e = original_back h k s n e
 known_back h k v u s (Group t g) e =
     let target = original_back h k s t (group_facts k (complete k u) t g e).target in
     group_there k h u v t g (sym (s.generations t target)) e
-
--- tests that pass alike are equal
-pub same_bool : (a b : Bool) → (a ≡ true → b ≡ true) → (b ≡ true → a ≡ true) → a ≡ b
-same_bool true b f g = sym (f refl)
-same_bool false true f g = g refl
-same_bool false false f g = refl
 
 pub same_known : (h k : List OpData) → IsValid h → IsValid k → Same h k → (m : Member) → is_known h m ≡ is_known k m
 same_known h k v u s m = same_bool (is_known h m) (is_known k m) (known_forth h k v u s m) (known_back h k v u s m)

@@ -3,17 +3,17 @@ use Rattle.std.proofs.Common.{◌≡◌, ◌≢◌, ℕ, ◌+◌, ◌≤◌, Boo
 use Rattle.std.proofs.lemmas.Bool.{cases_Bool, both_ways, or_right, or_left, or_cases, or_from, or_parts, and_parts, and_from, not-true, not_from_false, false_from_ne_true}
 use Rattle.op_name.specs.declared.member.Member.{Member}
 use Rattle.op_name.specs.Members.{member_eq}
-use Rattle.op_name.proofs.CallerLemmas.{member_itself, member_same}
+use Rattle.op_name.proofs.CallerLemmas.{member_itself, member_same, member_apart, member_other}
 use Rattle.transform_rec.specs.Sets.{IsSubset, SameSet, plus, minus, plus_all}
 use Rattle.ttf_form.specs.Families.{IsIn, sum_where}
 use Rattle.transform_rec.specs.Lists.{AreApart}
-use Rattle.transform_rec.proofs.Members.{member_apart, member_other}
 use Rattle.transform_rec.proofs.Lists.{sum_same}
 
 pub same_set : (C D : Member → Bool) → SameSet C D → C ≡ D
 same_set C D h = λ i y. h y i
 
-same_bool : (a b : Bool) → (a ≡ true → b ≡ true) → (b ≡ true → a ≡ true) → a ≡ b
+-- tests that pass alike are equal
+pub same_bool : (a b : Bool) → (a ≡ true → b ≡ true) → (b ≡ true → a ≡ true) → a ≡ b
 same_bool true b f g = sym (f refl)
 same_bool false true f g = g refl
 same_bool false false f g = refl

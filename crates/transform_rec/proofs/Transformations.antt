@@ -9,7 +9,7 @@ use Rattle.context_diff.specs.Operations.{OpData}
 use Rattle.context_diff.specs.Histories.{members_in, is_known, context_of_all, IsValid}
 use Rattle.context_diff.specs.Bases.{base_has, base_context_of}
 use Rattle.context_diff.specs.Differences.{difference_of}
-use Rattle.context_diff.proofs.CallerLemmas.{complete, base_value, has_raised}
+use Rattle.context_diff.proofs.CallerLemmas.{complete, base_value, has_raised, in_known}
 use Rattle.ttf_form.specs.declared.bases.Bases
 use Rattle.ttf_form.specs.Families.{IsIn, sum_where, total_by}
 use Rattle.ttf_form.specs.declared.include.TheConstants.{CELLS}
@@ -20,7 +20,7 @@ use Rattle.transform_rec.specs.Derived.{IsOnlyFormAt, Inclusion, IsInclusion, we
 use Rattle.transform_rec.specs.Laws.{family_of}
 use Rattle.transform_rec.specs.Histories.{family_in, family_over, AreBasesOf, MayBeAddedTo}
 use Rattle.transform_rec.proofs.Sets.{same_set}
-use Rattle.transform_rec.proofs.Histories.{in_known, history_causal, added_sound, sound_added, known_generation, added_next}
+use Rattle.transform_rec.proofs.Histories.{history_causal, added_sound, sound_added, known_generation, added_next}
 use Rattle.transform_rec.specs.Code.Pending.{IsOnWay}
 use Rattle.transform_rec.proofs.Turns.{Inertness, way_first, way_falls, way_room, way_next, way_pass, way_last}
 

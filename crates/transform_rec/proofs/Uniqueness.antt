@@ -6,7 +6,7 @@ use Rattle.transform_rec.specs.Sets.{IsSubset, SameSet, plus, meet}
 use Rattle.transform_rec.specs.Family.{Family, IsClosed, IsSound, size}
 use Rattle.transform_rec.specs.Derived.{IsOnlyFormAt, Deriving, Holds}
 use Rattle.transform_rec.specs.Derived.Derived.{at_base, by_step}
-use Rattle.transform_rec.proofs.Members.{member_cases}
+use Rattle.op_name.proofs.CallerLemmas.{member_cases}
 use Rattle.transform_rec.proofs.Sets.{same_set, same_from, plus_here, plus_keeps, plus_cases, plus_cancel, plus_within}
 use Rattle.transform_rec.proofs.Families.{closed_meet, size_plus}
 use Rattle.transform_rec.proofs.Forms.{IsForm, form_moves, form_step, derived_sound, forms_apart, exists, derived_moves}

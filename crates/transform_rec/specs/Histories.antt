@@ -1,7 +1,7 @@
 -- Histories as families, and where a member may be added to a context.
 use Rattle.std.specs.Prelude.{◌≡◌, Bool, true, false, List}
 use Rattle.op_name.specs.declared.member.Member.{Member}
-use Rattle.context_vector.specs.Contexts.{ContextData, has, KeepsStray}
+use Rattle.context_vector.specs.Contexts.{ContextData, has, HasNoStray}
 use Rattle.context_diff.specs.Operations.{OpData}
 use Rattle.context_diff.specs.Histories.{members_in, is_known, LacksNothing, IsClosed, IsValid, Same}
 use Rattle.context_diff.specs.Bases.{base_has}
@@ -32,7 +32,7 @@ pub record MayBeAddedTo (h : List OpData) (c : ContextData) (m : Member) : Type 
   pub known : is_known h m ≡ true
   pub ready : LacksNothing h c
   pub closed : IsClosed h c
-  pub stray : KeepsStray c
+  pub stray : HasNoStray c
   pub covers : (y : Member) → base_has h m y ≡ true → has c y ≡ true
   pub lacks : has c m ≡ false
 

@@ -1,8 +1,8 @@
 -- The cells of a document, the rule of applying a form to them, and which of them are shown.
-use Rattle.std.specs.Prelude.{◌≡◌, ℕ, zero, suc, ◌%◌, Bool, true, not, ◌&&◌, ◌==◌, max, List, [], ◌∷◌, ◌++◌, map, take, drop, length, if◌then◌else◌}
+use Rattle.std.specs.Prelude.{◌≡◌, ℕ, zero, suc, Bool, true, not, ◌&&◌, ◌==◌, max, List, [], ◌∷◌, ◌++◌, map, take, drop, length, if◌then◌else◌}
 use Rattle.std.specs.List.{list_any}
-use Rattle.op_name.specs.NameData.{NameData, name_eq, name_lt}
-use Rattle.op_name.specs.NameData.{IsBefore}
+use Rattle.op_name.specs.NameData.{NameData, name_eq, name_lt, IsBefore}
+use Rattle.op_name.specs.Members.{is_even}
 use Rattle.ttf_form.specs.declared.ins.Ins.{Ins}
 use Rattle.ttf_form.specs.declared.cover.Mark.{Mark}
 use Rattle.ttf_form.specs.declared.cover.Mark.TheVariants.{Own, By}
@@ -64,9 +64,6 @@ cells_of cs = map cell_key cs
 -- a form may be applied: its place is within the cells, and it adds no name that is there
 abbrev pub FitsCells : List CellData → Form → Type 0
 FitsCells cs a = IsBoundedForm a (length (cells_of cs)) × NewNames (cells_of cs) (added_by a)
-
-abbrev pub is_even : ℕ → Bool
-is_even g = (g % 2) == 0
 
 -- shown: its insert is in force, and none of its deleters is
 abbrev pub cell_shown : CellData → Bool

@@ -37,7 +37,7 @@ impl Exclude for Form {
 
     ghost inert_back = { form_inert_back };
 
-    /// A place behind the cell of an insert falls by one; a cover is passed over.
+    /// A place after the cell of an insert falls by one; a cover is passed over.
     fn exclude(&self, other: &Form) -> Form {
         match (self, other) {
             (Form::Ins(ins), Form::Ins(added)) => Form::Ins(ins.before_ins(added)),
@@ -48,7 +48,7 @@ impl Exclude for Form {
 }
 
 impl Ins {
-    /// This insert before the inclusion of `other`: a place behind that of `other` falls by one, any other stays.
+    /// This insert before the inclusion of `other`: a place after that of `other` falls by one, any other stays.
     pub fn before_ins(&self, other: &Ins) -> Ins
         ensures { result ≡ ins_back self.now other.now }
     {
@@ -63,7 +63,7 @@ impl Ins {
 
 impl Cover {
     /// This cover before the inclusion of an insert of one cell at `place`, so that it marks the same cell: a place
-    /// behind that one falls by one, any other stays.
+    /// after that one falls by one, any other stays.
     pub fn before_ins_at(&self, place: u32) -> Cover
         ensures { result ≡ cover_back self.now place 1 }
     {

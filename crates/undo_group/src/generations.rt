@@ -4,7 +4,8 @@ ghost use Rattle.std.specs.Prelude.{◌≡◌, ◌+◌, ◌↔◌, List, IsNone,
 ghost use Rattle.op_name.specs.declared.member.TheConstants.{GENERATIONS};
 ghost use Rattle.context_vector.specs.Contexts.{entry_of};
 ghost use Rattle.context_diff.specs.Operations.{OpData};
-ghost use Rattle.context_diff.specs.Histories.{is_even, in_force, generation_in, context_of_all, IsValid};
+ghost use Rattle.context_diff.specs.Histories.{in_force, generation_in, context_of_all, IsValid};
+ghost use Rattle.op_name.specs.Members.{is_even};
 
 use context_vector::Vector;
 use op_name::Name;

@@ -1,16 +1,17 @@
 -- The places of the shown cells: how many, where each is, and which cell stands there.
 use Rattle.std.proofs.Common.{◌≡◌, ℕ, zero, suc, ◌+◌, ◌-◌, ◌<◌, Bool, true, false, cond, if◌then◌else◌, Option, Some, None, is_some, IsSome, IfSome, option_map, List, [], ◌∷◌, map, take, length, slice_get, get_or, refl, sym, ap, ◌∙◌, arith}
 use Rattle.ttf_form.specs.Cells.{CellData, cell_shown}
-use Rattle.visible_view.specs.View.{shown_cells, shown_places_from, shown_places, places_behind}
+use Rattle.op_name.specs.Lists.{places_from}
+use Rattle.visible_view.specs.View.{shown_cells, shown_places, places_after}
 
 either : (b : Bool) (n : ℕ) (c : CellData) (ps : List ℕ) (cs : List CellData) → length ps ≡ length cs
     → length (if b then n ∷ ps else ps) ≡ length (cond b (c ∷ cs) cs)
 either true n c ps cs e = ap suc e
 either false n c ps cs e = e
 
-pub length-places : (n : ℕ) (cs : List CellData) → length (shown_places_from n cs) ≡ length (shown_cells cs)
+pub length-places : (n : ℕ) (cs : List CellData) → length (places_from cell_shown n cs) ≡ length (shown_cells cs)
 length-places n [] = refl
-length-places n (c ∷ cs) = either (cell_shown c) n c (shown_places_from (suc n) cs) (shown_cells cs) (length-places (suc n) cs)
+length-places n (c ∷ cs) = either (cell_shown c) n c (places_from cell_shown (suc n) cs) (shown_cells cs) (length-places (suc n) cs)
 
 further : (b : Bool) (n : ℕ) (c : CellData) (ps : List ℕ) (cs : List CellData) (o : Option ℕ) → slice_get ps (length cs) ≡ o
     → slice_get (if b then n ∷ ps else ps) (length (cond b (c ∷ cs) cs)) ≡ o
@@ -19,12 +20,12 @@ further false n c ps cs o e = e
 
 -- a shown cell stands at the place that has as many shown ones in front
 pub shown_at : (n : ℕ) (cs : List CellData) (i : ℕ) (d : CellData) → i < length cs → cell_shown (get_or cs i d) ≡ true
-    → slice_get (shown_places_from n cs) (length (shown_cells (take i cs))) ≡ Some (n + i)
+    → slice_get (places_from cell_shown n cs) (length (shown_cells (take i cs))) ≡ Some (n + i)
 shown_at n [] i d lt e = absurd (omega arith)
 shown_at n (c ∷ cs) zero d lt e =
-    ap (λ b. slice_get (if b then n ∷ shown_places_from (suc n) cs else shown_places_from (suc n) cs) 0) e ∙ ap (λ k. Some k) (omega arith)
+    ap (λ b. slice_get (if b then n ∷ places_from cell_shown (suc n) cs else places_from cell_shown (suc n) cs) 0) e ∙ ap (λ k. Some k) (omega arith)
 shown_at n (c ∷ cs) (suc i) d lt e =
-    further (cell_shown c) n c (shown_places_from (suc n) cs) (shown_cells (take i cs)) (Some (n + suc i))
+    further (cell_shown c) n c (places_from cell_shown (suc n) cs) (shown_cells (take i cs)) (Some (n + suc i))
     (shown_at (suc n) cs i d (omega arith) e ∙ ap (λ k. Some k) (omega arith))
 
 -- the place p, counted from n, of the cell that is the v-th of the shown ones
@@ -33,12 +34,12 @@ record IsCellOf (n : ℕ) (cs : List CellData) (v p : ℕ) : Type 0 where
   place : p ≡ n + at
   cell : slice_get cs at ≡ slice_get (shown_cells cs) v
 
-cell_at : (n : ℕ) (cs : List CellData) (v p : ℕ) → slice_get (shown_places_from n cs) v ≡ Some p → IsCellOf n cs v p
+cell_at : (n : ℕ) (cs : List CellData) (v p : ℕ) → slice_get (places_from cell_shown n cs) v ≡ Some p → IsCellOf n cs v p
 cell_at n [] v p e = cc
 cell_at n (c ∷ cs) v p e = by (λ w f. cell_at (suc n) cs w p f) (cell_shown c) refl v e
   where
-    by : ((w : ℕ) → slice_get (shown_places_from (suc n) cs) w ≡ Some p → IsCellOf (suc n) cs w p) → (b : Bool) → cell_shown c ≡ b → (w : ℕ)
-        → slice_get (if b then n ∷ shown_places_from (suc n) cs else shown_places_from (suc n) cs) w ≡ Some p
+    by : ((w : ℕ) → slice_get (places_from cell_shown (suc n) cs) w ≡ Some p → IsCellOf (suc n) cs w p) → (b : Bool) → cell_shown c ≡ b → (w : ℕ)
+        → slice_get (if b then n ∷ places_from cell_shown (suc n) cs else places_from cell_shown (suc n) cs) w ≡ Some p
         → IsCellOf n (c ∷ cs) w p
     by rest true is zero f =
         let front : n ≡ p = cc in
@@ -65,9 +66,9 @@ cell_at_place cs v p e =
     ap (λ k. slice_get cs k) (i.place ∙ omega arith) ∙ i.cell
 
 -- where a character goes after at least one
-pub behind_some : (ps : List ℕ) (v : ℕ) → 0 < v → slice_get (0 ∷ map suc ps) v ≡ option_map suc (slice_get ps (v - 1))
-behind_some ps zero h = absurd (omega arith)
-behind_some ps (suc v) h = mapped ps v ∙ ap (λ k. option_map suc (slice_get ps k)) (omega arith)
+pub after_some : (ps : List ℕ) (v : ℕ) → 0 < v → slice_get (0 ∷ map suc ps) v ≡ option_map suc (slice_get ps (v - 1))
+after_some ps zero h = absurd (omega arith)
+after_some ps (suc v) h = mapped ps v ∙ ap (λ k. option_map suc (slice_get ps k)) (omega arith)
   where
     mapped : (qs : List ℕ) (w : ℕ) → slice_get (map suc qs) w ≡ option_map suc (slice_get qs w)
     mapped [] w = refl
@@ -106,12 +107,12 @@ found_if_placed cs v o e =
     let found = found_within cs v in
     (λ h. found.0 (ap (λ x. is_some x) (sym e) ∙ h), λ h. ap (λ x. is_some x) e ∙ found.1 h)
 
-pub behind_placed : (cs : List CellData) (v p : ℕ) → (v ≡ 0 → ⊥) → Some p ≡ slice_get (shown_places cs) (v - 1) → Some (p + 1) ≡ slice_get (places_behind cs) v
-behind_placed cs v p some e =
+pub after_placed : (cs : List CellData) (v p : ℕ) → (v ≡ 0 → ⊥) → Some p ≡ slice_get (shown_places cs) (v - 1) → Some (p + 1) ≡ slice_get (places_after (shown_places cs)) v
+after_placed cs v p some e =
     let low : 0 < v = omega arith in
-    ap (λ k. Some k) (omega arith) ∙ ap (λ o. option_map suc o) e ∙ sym (behind_some (shown_places cs) v low)
+    ap (λ k. Some k) (omega arith) ∙ ap (λ o. option_map suc o) e ∙ sym (after_some (shown_places cs) v low)
 
-pub behind_none : (cs : List CellData) (v : ℕ) → (v ≡ 0 → ⊥) → None ≡ slice_get (shown_places cs) (v - 1) → None ≡ slice_get (places_behind cs) v
-behind_none cs v some e =
+pub after_none : (cs : List CellData) (v : ℕ) → (v ≡ 0 → ⊥) → None ≡ slice_get (shown_places cs) (v - 1) → None ≡ slice_get (places_after (shown_places cs)) v
+after_none cs v some e =
     let low : 0 < v = omega arith in
-    ap (λ o. option_map suc o) e ∙ sym (behind_some (shown_places cs) v low)
+    ap (λ o. option_map suc o) e ∙ sym (after_some (shown_places cs) v low)

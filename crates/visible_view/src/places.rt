@@ -2,7 +2,7 @@
 
 ghost use Rattle.std.specs.Prelude.{◌≡◌, ℕ, suc, ◌<◌, ◌≤◌, ◌↔◌, length, slice_get, slice_index_or, IsSome, IfSome};
 ghost use Rattle.ttf_form.specs.Cells.{CellData, cell_shown};
-ghost use Rattle.visible_view.specs.View.{shown_cells, shown_places, places_behind};
+ghost use Rattle.visible_view.specs.View.{shown_cells, shown_places, places_after};
 
 use lane_rank::select;
 use tombstone_text::Cells;
@@ -29,7 +29,7 @@ pub fn cell_of_visible(cells: &Cells, v: u32) -> Option<u32>
 /// one past the place of the shown cell `v` - 1; None exactly where `v` is above `visible_len`. It costs what
 /// `cell_of_visible` costs.
 pub fn model_place(cells: &Cells, v: u32) -> Option<u32>
-    ensures place { result ≡ slice_get (places_behind cells.now.cells) v }
+    ensures place { result ≡ slice_get (places_after (shown_places cells.now.cells)) v }
     ensures within { IfSome result (λ p. p ≤ length cells.now.cells) }
     ensures found { IsSome result ↔ (v ≤ length (shown_cells cells.now.cells)) }
 {

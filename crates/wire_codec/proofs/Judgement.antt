@@ -16,7 +16,7 @@ use Rattle.wire_codec.specs.Judging.{longest, own_at, is_own, has_target, stray_
 use Rattle.wire_codec.proofs.Steps.{IsBytes, IsBytes-take, IsBytes-drop, bind_ok, bind_err, want_ok, want_err}
 use Rattle.wire_codec.proofs.TwoWays.{Takes-ends}
 use Rattle.wire_codec.proofs.Contexts.{context_in_range, op_reads}
-use Rattle.wire_codec.proofs.WellFormed.{own_from, own_to, target_from, target_to, stray_keeps, keeps_stray, stray_ok, stray_again, stray_faults}
+use Rattle.wire_codec.proofs.WellFormed.{own_from, own_to, target_from, target_to, stray_keeps, has_no_stray, stray_ok, stray_again, stray_faults}
 use Rattle.wire_codec.proofs.Sizes.{body_short, body_long}
 
 -- ---- bodies
@@ -53,7 +53,7 @@ body_again o at well =
       read,
       own_to o well.own,
       target_to o well.target,
-      stray_again (context_of o) (entries_begin o (at + length (body_bytes o))) (context_of o).entries (keeps_stray (context_of o) entries well.stray),
+      stray_again (context_of o) (entries_begin o (at + length (body_bytes o))) (context_of o).entries (has_no_stray (context_of o) entries well.stray),
     ) refl
 
 body_faults : (l : LeftData) (f : Fault) → IsBytes l.bytes → l.at ≡ 4 → body_at l ≡ Err f → f.offset ≤ 4 + length l.bytes

@@ -3,7 +3,8 @@ use Rattle.std.proofs.Common.{◌≡◌, ℕ, ◌+◌, ◌*◌, ◌≤◌, leb, 
 use Rattle.std.proofs.lemmas.Bool.{le-leb, leb-true, eqb-true, eq-eqb, and_parts, and_from}
 use Rattle.op_name.specs.declared.member.Member.TheVariants.{Original}
 use Rattle.op_name.specs.NameData.{NameData, name_eq}
-use Rattle.context_vector.specs.Contexts.{ContextData, AreEntries, KeepsStray, has, entry_of, entry_in}
+use Rattle.op_name.proofs.CallerLemmas.{name_same, name_itself}
+use Rattle.context_vector.specs.Contexts.{ContextData, AreEntries, HasNoStray, has, entry_of, entry_in}
 use Rattle.context_diff.specs.Operations.{OpData, inserting, deleting, undoing, KeepsOwn, KeepsTarget}
 use Rattle.wire_codec.specs.declared.fault.Fault.{Fault}
 use Rattle.wire_codec.specs.declared.cause.Cause.TheVariants.{Stray}
@@ -38,16 +39,6 @@ abbrev pub AreOriginals : ContextData → List (NameData × ℕ) → Type 0
 AreOriginals c [] = Unit {0}
 AreOriginals c (e ∷ es) = (has c (Original e.0) ≡ true) × AreOriginals c es
 
-same_name : (n m : NameData) → name_eq n m ≡ true → n ≡ m
-same_name n m h =
-    let parts = and_parts (eqb n.site m.site) (eqb n.number m.number) h in
-    let site : n.site ≡ m.site = eqb-true _ _ parts.0 in
-    let number : n.number ≡ m.number = eqb-true _ _ parts.1 in
-    ap (λ (s : ℕ). record { site = s; number = n.number }) site ∙ ap (λ (k : ℕ). record { site = m.site; number = k }) number
-
-name_eq-same : (n : NameData) → name_eq n n ≡ true
-name_eq-same n = and_from (eqb n.site n.site) (eqb n.number n.number) (eq-eqb _ _ refl) (eq-eqb _ _ refl)
-
 -- an entry that is found further back is found
 found_later : (b : Bool) (g k : ℕ) → 1 ≤ g → 1 ≤ k → 1 ≤ cond b g k
 found_later true g k hg hk = hg
@@ -60,27 +51,27 @@ found_first false g k e h = absurd cc
 originals_from : (c : ContextData) (es : List (NameData × ℕ)) → AreEntries es → ((n : NameData) → 1 ≤ entry_in es n → has c (Original n) ≡ true) → AreOriginals c es
 originals_from c [] are h = tt
 originals_from c (e ∷ es) are h = (
-  h e.0 (found_first (name_eq e.0 e.0) e.1 (entry_in es e.0) (name_eq-same e.0) are.1),
+  h e.0 (found_first (name_eq e.0 e.0) e.1 (entry_in es e.0) (name_itself e.0) are.1),
   originals_from c es are.4 (λ n found. h n (found_later (name_eq e.0 n) e.1 (entry_in es n) are.1 found)),
 )
 
 originals_at : (c : ContextData) (m n : NameData) (b : Bool) (g k : ℕ) → name_eq m n ≡ b → has c (Original m) ≡ true → (1 ≤ k → has c (Original n) ≡ true) → 1 ≤ cond b g k → has c (Original n) ≡ true
-originals_at c m n true g k same is later found = subst (λ (x : NameData). has c (Original x) ≡ true) (same_name m n same) is
+originals_at c m n true g k same is later found = subst (λ (x : NameData). has c (Original x) ≡ true) (name_same m n same) is
 originals_at c m n false g k same is later found = later found
 
 originals_to : (c : ContextData) (es : List (NameData × ℕ)) → AreOriginals c es → (n : NameData) → 1 ≤ entry_in es n → has c (Original n) ≡ true
 originals_to c [] are n found = absurd (omega arith)
 originals_to c (e ∷ es) are n found = originals_at c e.0 n (name_eq e.0 n) e.1 (entry_in es n) refl are.0 (originals_to c es are.1 n) found
 
-pub stray_keeps : (c : ContextData) → AreOriginals c c.entries → KeepsStray c
+pub stray_keeps : (c : ContextData) → AreOriginals c c.entries → HasNoStray c
 stray_keeps c are n g h =
     let parts = and_parts (leb 1 g) (leb g (entry_of c n)) h in
     let some = leb-true 1 g parts.0 in
     let most = leb-true g (entry_of c n) parts.1 in
     originals_to c c.entries are n (omega (arith, some, most))
 
-pub keeps_stray : (c : ContextData) → AreEntries c.entries → KeepsStray c → AreOriginals c c.entries
-keeps_stray c entries keeps =
+pub has_no_stray : (c : ContextData) → AreEntries c.entries → HasNoStray c → AreOriginals c c.entries
+has_no_stray c entries keeps =
     originals_from c c.entries entries (λ n found. keeps n (entry_of c n) (and_from (leb 1 (entry_of c n)) (leb (entry_of c n) (entry_of c n)) (le-leb _ _ found) (le-leb _ _ (omega arith))))
 
 pub stray_ok : (c : ContextData) (at : ℕ) (es : List (NameData × ℕ)) → stray_from c at es ≡ Ok tt → AreOriginals c es

@@ -11,7 +11,7 @@ use Rattle.wire_codec.specs.Spelling.{frame}
 use Rattle.wire_codec.specs.Reading.{fault}
 use Rattle.wire_codec.specs.StreamData.{StreamData}
 
--- a piece stands behind the bytes left
+-- a piece follows the bytes left
 pub record Feeds (old : StreamData) (piece : List ℕ) (new : StreamData) : Type 0 where
   pub taken : new.taken ≡ old.taken
   pub left : new.left ≡ old.left ++ piece

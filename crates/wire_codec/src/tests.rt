@@ -347,7 +347,7 @@ fn an_operation_is_written(rt: HostRuntime) -> Result<(), Fail> {
     Ok(())
 }
 
-// The frames of what a stream gives are put behind each other.
+// The frames of what a stream gives are put one after the other.
 fn drain(stream: &mut FrameStream, out: &mut Vec<u8>) -> Result<(), Fail> {
     for _ in 0..4 {
         let answer = stream.take().ok().ok_or("the bytes are good")?;

@@ -311,7 +311,7 @@ const ODD: [History; 11] = [
         shown: "eabfcd",
     },
     History {
-        why: "one goes behind what the other has not seen",
+        why: "one goes after what the other has not seen",
         base: &[],
         then: &[
             Made(Insert((1, 1), 0, 'a'), &[], &[]),

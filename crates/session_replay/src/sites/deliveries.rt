@@ -43,8 +43,9 @@ impl Sites {
     }
 
     // Delivers every message to each site, rising.
-    pub(super) fn sync(&mut self, out: &mut Vec<u8>) -> Result<(), Memory>
-        ensures { AreDone result (synced 0 (length self.old.sites) self.old) self.old self.new out.old.items out.new.items }
+    pub(crate) fn sync(&mut self, out: &mut Vec<u8>) -> Result<(), Memory>
+        ensures done { AreDone result (synced 0 (length self.old.sites) self.old) self.old self.new out.old.items out.new.items }
+        ensures sites { length self.new.sites ≡ length self.old.sites }
     {
         for at in 0..self.sites.len() {
             self.give_all(at, out)?;

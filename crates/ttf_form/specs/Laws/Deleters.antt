@@ -2,9 +2,8 @@
 use Rattle.std.proofs.Common.{◌≡◌, ℕ, suc, max, ◌++◌, Bool, true, false, if◌then◌else◌, List, [], ◌∷◌, refl, sym, ap, ◌∙◌, subst, arith}
 use Rattle.std.proofs.Math.Nat.{max_comm}
 use Rattle.std.proofs.lemmas.Bool.Decides.{nat_tests}
-use Rattle.op_name.specs.NameData.{NameData, name_eq, name_lt}
-use Rattle.op_name.specs.NameData.{IsBefore}
-pub use Rattle.op_name.proofs.CallerLemmas.{name_itself as name_self, name_same, name_transitive as name_less_trans, name_irreflexive as name_less_self}
+use Rattle.op_name.specs.NameData.{NameData, name_eq, name_lt, IsBefore}
+pub use Rattle.op_name.proofs.CallerLemmas.{name_less_other, name_itself as name_self, name_same, name_transitive as name_less_trans, name_irreflexive as name_less_self}
 use Rattle.ttf_form.specs.Cells.{raise_in, IsRising}
 
 -- one more than the greatest generation that d has among the deleters, 0 if it is none of them
@@ -19,9 +18,6 @@ AreBelow (e ∷ es) d = (name_lt e.0 d ≡ true) × AreBelow es d
 
 pub name_less_asym : (n m : NameData) → name_lt n m ≡ true → name_lt m n ≡ false
 name_less_asym n m h = grind (arith, nat_tests)
-
-pub name_less_other : (n m : NameData) → name_lt n m ≡ true → name_eq n m ≡ false
-name_less_other n m h = grind (arith, nat_tests)
 
 pub name_more_other : (n m : NameData) → name_lt n m ≡ true → name_eq m n ≡ false
 name_more_other n m h = grind (arith, nat_tests)

@@ -8,14 +8,14 @@ use Rattle.context_vector.specs.Contexts.{ContextData, has}
 use Rattle.context_diff.specs.Operations.{OpData, inserting, deleting, undoing, member_of, context_of}
 use Rattle.context_diff.specs.Histories.{members_in, is_known, IsValid}
 use Rattle.context_diff.specs.Bases.{base_has}
-use Rattle.context_diff.proofs.CallerLemmas.{IsComplete, complete, context_is, related, in_original}
+use Rattle.context_diff.proofs.CallerLemmas.{IsComplete, complete, context_is, related, in_original, in_known}
 use Rattle.ttf_form.specs.declared.ins.Ins.{Ins}
 use Rattle.ttf_form.specs.declared.form.Form.{Form}
 use Rattle.ttf_form.specs.declared.form.Form.TheVariants.{Ins as Insert, Cover as Covered}
 use Rattle.ttf_form.specs.Forms.{ApartForms}
 use Rattle.ttf_form.specs.Families.{IsIn}
 use Rattle.undo_group.specs.BaseForms.{AreBaseForms}
-use Rattle.undo_group.specs.Laws.Members.{in_contains, in_known, listed_member, known_as}
+use Rattle.undo_group.specs.Laws.Members.{in_contains, listed_member, known_as}
 
 -- the base context of an original is the context of its operation
 pub context_of_original : (h : List OpData) → IsValid h → (o : OpData) (n : NameData) → IsIn o h → member_of o ≡ Original n → (y : Member) → base_has h (Original n) y ≡ has (context_of o) y

@@ -9,7 +9,7 @@ use Rattle.op_name.specs.Members.{member_eq}
 use Rattle.context_vector.specs.Contexts.{ContextData}
 use Rattle.context_diff.specs.Operations.{OpData, member_of}
 use Rattle.context_diff.specs.Histories.{members_in, is_known, inserts_in, IsNext, IsValid, IsValidAfter}
-use Rattle.context_diff.proofs.CallerLemmas.{member_same, member_itself, contains_cases, contains_here, contains_later, contains_none, shifted, complete, group_facts}
+use Rattle.context_diff.proofs.CallerLemmas.{in_known, contains_cases, contains_here, contains_later, contains_none, shifted, complete, group_facts}
 use Rattle.ttf_form.specs.Families.{IsIn}
 
 -- the library's word for an element of a list says the same
@@ -21,15 +21,6 @@ in_contains x (y ∷ ys) (inr i) = contains_later y ys x (in_contains x ys i)
 pub contains_in : {A : Type 0} (x : A) (xs : List A) → Contains xs x → IsIn x xs
 contains_in x [] c = absurd (contains_none x c)
 contains_in x (y ∷ ys) c = elim (contains_cases y ys x c) [ inl e ↦ inl (sym e) | inr after ↦ inr (contains_in x ys after) ]
-
-pub known_in : (h : List OpData) (m : Member) → is_known h m ≡ true → IsIn m (members_in h)
-known_in [] m e = absurd (false≢true e)
-known_in (o ∷ os) m e = elim (or_cases (member_eq (member_of o) m) (is_known os m) e) [ inl same ↦ inl (sym (member_same (member_of o) m same)) | inr after ↦ inr (known_in os m after) ]
-
-pub in_known : (h : List OpData) (m : Member) → IsIn m (members_in h) → is_known h m ≡ true
-in_known [] m i = absurd i
-in_known (o ∷ os) m (inl e) = or_left (member_eq (member_of o) m) (is_known os m) (subst (λ (x : Member). member_eq x m ≡ true) e (member_itself m))
-in_known (o ∷ os) m (inr i) = or_right (member_eq (member_of o) m) (is_known os m) (in_known os m i)
 
 pub member_listed : (o : OpData) (h : List OpData) → IsIn o h → IsIn (member_of o) (members_in h)
 member_listed o [] i = absurd i

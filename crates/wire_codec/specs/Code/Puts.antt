@@ -1,4 +1,4 @@
--- Bytes that are put behind others, where there is room for them.
+-- Bytes that are appended to others, where there is room for them.
 use Rattle.std.specs.Prelude.{◌≡◌, ℕ, ◌+◌, ◌≤◌, ◌<◌, List, ◌++◌, length, vec_len, vec_capacity}
 use Rattle.std.specs.Global.{Vec}
 use Rattle.op_name.specs.declared.name.TheConstants.{SITES}

@@ -3,7 +3,7 @@ use Rattle.op_name.specs.declared.member.Member.TheVariants.{Original}
 use Rattle.context_diff.specs.Books.{BookData}
 use Rattle.context_diff.specs.Histories.{members_in}
 use Rattle.ttf_form.specs.Families.{IsIn}
-use Rattle.undo_group.specs.Laws.Members.{known_in}
+use Rattle.context_diff.proofs.CallerLemmas.{known_in}
 use Rattle.cot_site.proofs.replica.base_of.Goals as goal
 
 pub base-requires : goal.base-requires

@@ -3,7 +3,7 @@ use Rattle.op_name.specs.declared.member.Member.TheVariants.{Group}
 use Rattle.context_diff.specs.Books.{BookData}
 use Rattle.context_diff.specs.Histories.{members_in}
 use Rattle.ttf_form.specs.Families.{IsIn}
-use Rattle.transform_rec.proofs.CallerLemmas.{known_in}
+use Rattle.context_diff.proofs.CallerLemmas.{known_in}
 use Rattle.form_rows.proofs.groups.group_mark.Goals as goal
 
 pub base-requires : goal.base-requires

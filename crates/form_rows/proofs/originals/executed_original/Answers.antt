@@ -18,7 +18,7 @@ use Rattle.transform_rec.specs.Family.{IsCausalFamily}
 use Rattle.transform_rec.specs.Histories.{family_in}
 use Rattle.transform_rec.proofs.CallerLemmas.{history_causal, in_right}
 use Rattle.undo_group.specs.BaseForms.{base_form}
-use Rattle.undo_group.specs.Laws.Members.{in_known}
+use Rattle.context_diff.proofs.CallerLemmas.{in_known}
 use Rattle.form_rows.specs.Names.{insert_of, AreNamed}
 use Rattle.form_rows.specs.Kept.{AreRows, IsFormWith, IsLast, CoversAreInert}
 use Rattle.form_rows.proofs.Growing.{forms_count}

@@ -1,6 +1,6 @@
 use Rattle.std.proofs.Common.{◌∙◌, ◌++◌, ◌<◌, ℕ, List, ap, sym, append-nil, append_assoc, take, length, rules}
 use Rattle.session_replay.specs.Code.Doing.{free_line, free_lines}
-use Rattle.session_replay.proofs.Releasing.{free_lines_more, free_lines_all}
+use Rattle.session_replay.proofs.Releasing.{free_lines_more}
 use Rattle.session_replay.proofs.releases.tell_releases.Goals as goal
 
 pub loop-release-init : goal.loop-release-init

@@ -4,7 +4,7 @@ use Rattle.context_vector.specs.Contexts.{has, raised}
 use Rattle.ttf_form.specs.Families.{IsIn}
 use Rattle.transform_rec.specs.Family.{size}
 use Rattle.transform_rec.specs.Histories.{family_in}
-use Rattle.transform_rec.proofs.Histories.{known_in}
+use Rattle.context_diff.proofs.CallerLemmas.{known_in}
 use Rattle.transform_rec.proofs.Transformations.{from_nothing, bases_causal, over_history, within_all, way_start, way_at, way_added, way_member, way_following, way_less, way_fits, way_on, way_skip, way_end}
 use Rattle.transform_rec.proofs.derivation.+transform.Goals.{then-not-inert+in_ok-other, else-not-inert}
 use Rattle.transform_rec.proofs.derivation.+transform.Goals as goal

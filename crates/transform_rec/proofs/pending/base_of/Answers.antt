@@ -3,7 +3,7 @@ use Rattle.op_name.specs.declared.member.Member.{Member}
 use Rattle.context_diff.specs.Histories.{is_known}
 use Rattle.form_cache.specs.Keys.{KeyData}
 use Rattle.ttf_form.specs.Families.{IsIn}
-use Rattle.transform_rec.proofs.Histories.{known_in}
+use Rattle.context_diff.proofs.CallerLemmas.{known_in}
 use Rattle.transform_rec.proofs.pending.base_of.Goals as goal
 
 pub base-requires : goal.base-requires

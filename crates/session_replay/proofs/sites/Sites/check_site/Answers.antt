@@ -1,8 +1,5 @@
-use Rattle.std.proofs.Common.{◌∙◌, sym, ap, subst}
-use Rattle.std.specs.Prelude.{Err}
-use Rattle.session_replay.specs.Code.Doing.{IsPlace}
-use Rattle.session_replay.specs.LineSteps.{steps_there}
-use Rattle.session_replay.proofs.Lines.{site_found, site_within, site_missing, site_none}
+use Rattle.std.proofs.Common.{◌∙◌, sym}
+use Rattle.session_replay.proofs.Lines.{site_found, site_within, site_missing}
 use Rattle.session_replay.proofs.sites.Sites.check_site.Goals as goal
 
 pub returns-in-Ok-clause-there : goal.returns-in-Ok-clause-there

@@ -22,7 +22,10 @@ pub returns-in_err-give_all : goal.returns-in_err-give_all
 returns-in_err-give_all c =
     let p = err_from_is_err_and c.from_residual.result c.from_residual.ensures.1 in
     let split = synced_more c.loop-at.at (length c.args.self.now.sites) c.loop-at.self (omega (arith, c.loop-at-test.true, c.loop-at.invariant.end)) in
-    stopped c.from_residual.result p.0 p.1 _ _ _ _ _ (along_short _ _ _ _ c.loop-at.self _ _ _ c.loop-at.invariant.along (reached_in _ _ _ _ _ _ split (done_short _ _ _ _ _ _ c.in_err-give_all.ensures.done)))
+    record {
+      done = stopped c.from_residual.result p.0 p.1 _ _ _ _ _ (along_short _ _ _ _ c.loop-at.self _ _ _ c.loop-at.invariant.along (reached_in _ _ _ _ _ _ split (done_short _ _ _ _ _ _ c.in_err-give_all.ensures.done)));
+      sites = c.in_err-give_all.ensures.sites ∙ c.loop-at.invariant.sites;
+    }
 
 pub loop-at-preserved : goal.loop-at-preserved
 loop-at-preserved c =
@@ -34,4 +37,7 @@ loop-at-preserved c =
     }
 
 pub returns : goal.returns
-returns c = along_end _ _ _ _ _ _ c.loop-at.invariant.along (synced_none c.loop-at.at (length c.args.self.now.sites) c.loop-at.self (omega (arith, c.loop-at-test.false, c.loop-at.invariant.end)))
+returns c = record {
+  done = along_end _ _ _ _ _ _ c.loop-at.invariant.along (synced_none c.loop-at.at (length c.args.self.now.sites) c.loop-at.self (omega (arith, c.loop-at-test.false, c.loop-at.invariant.end)));
+  sites = c.loop-at.invariant.sites;
+}

@@ -1,7 +1,8 @@
 use Rattle.std.proofs.Common.{◌≡◌, true, subst}
 use Rattle.op_name.specs.declared.member.Member.{Member}
 use Rattle.context_diff.specs.Histories.{is_known}
-use Rattle.undo_group.specs.Laws.Members.{in_known, target_known}
+use Rattle.undo_group.specs.Laws.Members.{target_known}
+use Rattle.context_diff.proofs.CallerLemmas.{in_known}
 use Rattle.undo_group.proofs.text_bases.TextBasesBasesForm.base.Goals as goal
 
 -- src/text_bases.rt:68:39

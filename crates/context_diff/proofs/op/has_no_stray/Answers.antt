@@ -5,7 +5,7 @@ use Rattle.op_name.specs.NameData.{NameData}
 use Rattle.op_name.specs.declared.member.Member.TheVariants.{Original}
 use Rattle.context_vector.specs.Contexts.{has}
 use Rattle.context_diff.proofs.Listings.{stray_kept, stray_broken}
-use Rattle.context_diff.proofs.op.keeps_stray.Goals as goal
+use Rattle.context_diff.proofs.op.has_no_stray.Goals as goal
 
 pub returns-then-not-contains : goal.returns-then-not-contains
 returns-then-not-contains c =

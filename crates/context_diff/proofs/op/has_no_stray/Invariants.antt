@@ -3,7 +3,7 @@ use Rattle.std.specs.Prelude.{Some, slice_get}
 use Rattle.op_name.specs.NameData.{NameData}
 use Rattle.op_name.specs.declared.member.Member.TheVariants.{Original}
 use Rattle.context_vector.specs.Contexts.{has}
-use Rattle.context_diff.proofs.op.keeps_stray.Given as goal
+use Rattle.context_diff.proofs.op.has_no_stray.Given as goal
 
 -- the originals of the entries so far are there
 abbrev pub invariant-loop-i : goal.invariant-loop-i

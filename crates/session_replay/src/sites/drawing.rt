@@ -1,0 +1,102 @@
+//! Events of generated sessions.
+
+ghost use Rattle.std.specs.Prelude.{◌≡◌, ◌<◌, ◌+◌, ◌%◌, length, slice_get};
+ghost use Rattle.context_vector.specs.Contexts.{AreCounts};
+ghost use Rattle.cot_site.specs.Sites.{state_of};
+ghost use Rattle.session_replay.specs.Generating.{drawn_operation, drawn_target, drawn_turn, names_in};
+ghost use Rattle.session_replay.specs.Sessions.{site_at};
+ghost use Rattle.session_replay.specs.LineSteps.{commanded};
+ghost use Rattle.session_replay.specs.Code.Doing.{AreDone, local_of};
+ghost use Rattle.session_replay.specs.declared.sites.commands.Command.TheVariants.{Insert};
+
+use crate::draws::Draw;
+use crate::sites::Sites;
+use crate::sites::commands::Command;
+use cot_site::Site;
+use op_name::{Memory, Name};
+use undo_group::in_force;
+
+impl Sites {
+    // Does at the site what was drawn for it.
+    pub(crate) fn act(&mut self, at: usize, draw: Draw, out: &mut Vec<u8>) -> Result<(), Memory>
+        requires { at < length self.old.sites }
+        ensures done { AreDone result (commanded at (drawn_operation (site_at self.old at) draw) self.old) self.old self.new out.old.items out.new.items }
+        ensures sites { length self.new.sites ≡ length self.old.sites }
+    {
+        let command = drawn_command(&self.sites[at], draw);
+        self.command(at, command, out)?;
+        Ok(())
+    }
+}
+
+// What is drawn for the site.
+fn drawn_command(site: &Site, draw: Draw) -> Command
+    ensures { local_of result (state_of site.now) ≡ drawn_operation (state_of site.now) draw }
+{
+    site.known();
+    let visible = site.visible_len();
+    match draw.kind % 16 {
+        10..=12 if visible > 0 => Command::Delete {
+            place: draw.place % visible,
+        },
+        13..=15 => match drawn_target(site, draw.place) {
+            Some(name) => turned(site, name),
+            None => drawn_insert(visible, draw),
+        },
+        _ => drawn_insert(visible, draw),
+    }
+}
+
+// The insert of the drawn letter after some of the shown characters.
+fn drawn_insert(visible: u32, draw: Draw) -> Command
+    requires { visible < 4294967295 }
+    ensures { result ≡ Insert (draw.place % (visible + 1)) (97 + draw.letter % 26) }
+{
+    Command::Insert {
+        place: draw.place % (visible + 1),
+        ch: (b'a' + (draw.letter % 26) as u8) as char,
+    }
+}
+
+// The undo of an original in force, the redo of any other.
+fn turned(site: &Site, name: Name) -> Command
+    ensures { local_of result (state_of site.now) ≡ drawn_turn (state_of site.now) name }
+{
+    site.known();
+    if in_force(site.vector(), &name) {
+        Command::Undo { name }
+    } else {
+        Command::Redo { name }
+    }
+}
+
+// The original at the drawn place, counted round, in the order of names; None where there is no original.
+fn drawn_target(site: &Site, place: u32) -> Option<Name>
+    ensures { result ≡ drawn_target (state_of site.now) place }
+{
+    site.known();
+    let have = site.vector();
+    let originals = have.rank();
+    if originals == 0 {
+        return None;
+    }
+    named_at(have.counts(), place % originals)
+}
+
+// The name at this place among the first originals of the sites.
+fn named_at(counts: &[(u16, u32)], place: u32) -> Option<Name>
+    requires { AreCounts 0 counts.now }
+    ensures { result ≡ slice_get (names_in counts.now) place }
+{
+    let mut left = place;
+    for (site, count) in counts {
+        if left < *count {
+            return Some(Name {
+                site: *site,
+                number: left + 1,
+            });
+        }
+        left -= *count;
+    }
+    None
+}
