@@ -65,7 +65,7 @@ fn take_row<F: Named + Copy>(kept: &mut Vec<AuthorRow<F>>, site: u16) -> Option<
     ensures left { (k : AuthorRow F) → Contains kept.new.items k → Contains kept.old.items k }
 {
     match place_of(kept.as_slice(), site) {
-        Some(i) => Some(kept.remove(i)),
+        Some(i) => Some(kept.swap_remove(i)),
         None => None,
     }
 }
@@ -83,15 +83,14 @@ fn place_of<F: Named + Copy>(kept: &[AuthorRow<F>], site: u16) -> Option<usize>
     None
 }
 
-// Keeps a row, if there is memory for it. While the rows have too many forms then, the one that was not used for the
-// longest time is dropped.
+// Keeps a row, if there is memory for it. Where the rows have too many forms then, all are dropped.
 fn put_row<F: Named + Copy>(kept: &mut Vec<AuthorRow<F>>, row: AuthorRow<F>)
     ensures rows { (k : AuthorRow F) → Contains kept.new.items k → Contains kept.old.items k ⊎ (row ≡ k) }
     ensures bound { forms_in kept.new.items ≤ ENTRIES }
 {
     let _ = kept.push(row);
-    while !are_few(kept.as_slice()) {
-        kept.remove(0);
+    if !are_few(kept.as_slice()) {
+        kept.clear();
     }
 }
 

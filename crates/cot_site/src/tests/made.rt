@@ -26,7 +26,10 @@ struct Numbers {
 impl Numbers {
     /// The next number below this one.
     fn below(&mut self, most: u32) -> u32 {
-        let next = self.last.wrapping_mul(1_664_525).wrapping_add(1_013_904_223);
+        let next = self
+            .last
+            .wrapping_mul(1_664_525)
+            .wrapping_add(1_013_904_223);
         self.last = next;
         if most == 0 { 0 } else { (next / 256) % most }
     }
