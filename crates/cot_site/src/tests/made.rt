@@ -1,7 +1,7 @@
 //! Sessions that are made from a number: sites learn of one another's operations in between, and the forms in which
 //! each executed its history are those that inclusion gives one by one.
 
-ghost use Rattle.std.specs.Prelude.{IsTrue, IfOk};
+ghost use Rattle.std.specs.Prelude.{◌<◌, IsTrue, IfOk};
 ghost use Rattle.context_diff.specs.Operations.{context_of};
 ghost use Rattle.context_diff.specs.Ops.{data_of};
 ghost use Rattle.transform_rec.specs.Histories.{MayBeAddedTo};
@@ -25,24 +25,28 @@ struct Numbers {
 
 impl Numbers {
     /// The next number below this one.
-    fn below(&mut self, most: u32) -> u32 {
+    fn below(&mut self, most: u32) -> u32
+        requires { 0 < most }
+        ensures { result < most }
+    {
         let next = self
             .last
             .wrapping_mul(1_664_525)
             .wrapping_add(1_013_904_223);
         self.last = next;
-        if most == 0 { 0 } else { (next / 256) % most }
+        (next / 256) % most
     }
 }
 
 /// A command at a site that shows so many characters.
 fn some_edit(numbers: &mut Numbers, visible: u32) -> Edit {
     let named = (numbers.below(4) as u16, 1 + numbers.below(5));
+    let place = numbers.below(visible.saturating_add(1));
     match numbers.below(10) {
         0 => Edit::Undo(named),
         1 => Edit::Redo(named),
-        2 => Edit::Delete(numbers.below(visible)),
-        _ => Edit::Insert(numbers.below(visible.saturating_add(1)), 'x'),
+        2 => Edit::Delete(place),
+        _ => Edit::Insert(place, 'x'),
     }
 }
 
@@ -55,10 +59,10 @@ fn writes(numbers: &mut Numbers, site: &mut Site, messages: &mut Vec<Op>) -> Res
     Ok(())
 }
 
-/// A site takes three messages in.
+/// A site takes a few messages in.
 fn reads(numbers: &mut Numbers, site: &mut Site, messages: &[Op]) -> Result<(), Fail> {
-    for _ in 0..3 {
-        let number = numbers.below(messages.len() as u32) as usize;
+    for _ in 0..4 {
+        let number = numbers.below(24) as usize;
         if let Some(op) = messages.get(number) {
             take_in(site, op)?;
         }
@@ -74,7 +78,7 @@ fn session(alloc: Global, seed: u32) -> Result<Vec<Site>, Fail> {
     for number in 0..4 {
         sites.push(Site::new(alloc, number)?)?;
     }
-    for _ in 0..60 {
+    for _ in 0..48 {
         let place = numbers.below(4) as usize;
         if let Some(site) = sites.get_mut(place) {
             if numbers.below(2) == 0 {
@@ -122,6 +126,20 @@ fn is_form(alloc: Global, book: &Book, m: &Member, op: &Op, form: &Form) -> Resu
     }
 }
 
+/// Adds a member to the context.
+fn add(context: &mut Vector, member: &Member) -> Result<(), Memory> {
+    match member {
+        Member::Original(name) => context.raise(&Member::Original(*name)),
+        Member::Group(name, generation) => {
+            if *generation > 0 {
+                context.raise(&Member::Group(*name, *generation))
+            } else {
+                Ok(())
+            }
+        }
+    }
+}
+
 /// Whether the site executed each operation in its form at the members before it.
 fn all_derived(alloc: Global, site: &Site) -> Result<bool, Fail> {
     let mut before = Vector::new(alloc);
@@ -140,7 +158,7 @@ fn all_derived(alloc: Global, site: &Site) -> Result<bool, Fail> {
         if !is_form(alloc, site.book(), &member, &at, form)? {
             return Ok(false);
         }
-        before.raise(&member)?;
+        add(&mut before, &member)?;
     }
     Ok(true)
 }
@@ -148,8 +166,9 @@ fn all_derived(alloc: Global, site: &Site) -> Result<bool, Fail> {
 #[test]
 fn forms_of_made_sessions(rt: HostRuntime) -> Result<(), Fail> {
     let alloc = rt.alloc();
-    for seed in 0..12 {
-        for site in session(alloc, seed)?.iter() {
+    for seed in 0..8 {
+        let sites = session(alloc, seed)?;
+        for site in sites.iter() {
             assert!(rt; all_derived(alloc, site)?, "seed {seed}");
         }
     }
