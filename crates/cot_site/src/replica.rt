@@ -41,7 +41,7 @@ use undo_group::TextBases;
 use visible_view::{cell_of_visible, model_place, visible_len, write_text};
 
 /// The greatest number of forms in a site's cache.
-pub const CACHED_FORMS: u32 = 16_384;
+pub const CACHED_FORMS: u32 = 512;
 
 /// A valid history, the form in which each of its operations was executed, the cells that these forms gave, the rows
 /// out of which the next forms are found, and forms that were computed on the way. A site hands its calls on what it has integrated to it: what ties
