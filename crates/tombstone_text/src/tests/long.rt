@@ -24,13 +24,7 @@ fn place_in(spot: Spot, number: u32, len: u32) -> u32 {
         Spot::Front => 0,
         Spot::Middle => len / 2,
         Spot::End => len,
-        Spot::Seam => {
-            if len < 511 {
-                len
-            } else {
-                512 - number % 2
-            }
-        }
+        Spot::Seam => { if len < 511 { len } else { 512 - number % 2 } }
         Spot::Anywhere => {
             if len == 0 {
                 0
