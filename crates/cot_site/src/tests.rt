@@ -3,7 +3,6 @@
 mod calls;
 mod forms;
 mod laws;
-mod made;
 mod memory;
 mod odd;
 mod orders;
