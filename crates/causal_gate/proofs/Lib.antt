@@ -3,4 +3,5 @@ pub mod Apart
 pub mod Held
 pub mod Found
 pub mod HintLists
+pub mod Turns
 pub mod CallerLemmas

@@ -5,6 +5,7 @@
 #![tactic(auto)]
 
 mod pool;
+mod rows;
 
 pub use pool::Pool;
 

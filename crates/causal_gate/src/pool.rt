@@ -3,14 +3,15 @@
 ghost use Rattle.std.specs.Prelude.{◌≡◌, ◌↔◌, ◌<◌, ◌++◌, ◌∷◌, [], Some, true, false, Contains, IsNone, IsTrue, IfOk, IfSome, OnErr, if◌then◌else◌, length, option_map, remove, slice_get};
 ghost use Rattle.op_name.specs.declared.member.Member.TheVariants.{Original};
 ghost use Rattle.op_name.specs.Members.{IsMember, member_eq};
-ghost use Rattle.context_vector.specs.Contexts.{Within, has};
-ghost use Rattle.context_diff.specs.Operations.{member_of};
+ghost use Rattle.context_vector.specs.Contexts.{Within, count_of, has};
+ghost use Rattle.context_diff.specs.Operations.{OpData, member_of};
 ghost use Rattle.context_diff.specs.Histories.{is_known};
 ghost use Rattle.context_vector.specs.Vectors.{IsFirstMissing};
 ghost use Rattle.context_diff.specs.Ops.{data_of};
 ghost use Rattle.causal_gate.specs.Waiting.{IsReady, IsFirstReady, NoneReady, IsPool, NamesAgree, context_at};
 ghost use Rattle.causal_gate.specs.Hints.{IsHint};
 
+use crate::rows::{Seen, before_in};
 use context_diff::Op;
 use context_vector::Vector;
 use indexmap::IndexSet;
@@ -26,11 +27,14 @@ const OPS: usize = 4_294_967_295;
 /// No two of them are equal, no two inserts or deletes among them have one name, and there are at most
 /// 4,294,967,295.
 ///
-/// Beside each stands a hint: a member of its context that was missing when the hint was set, or nothing. An
-/// operation whose hint is still missing isn't ready, so its context is not looked at again until then.
+/// Beside each stand the original of its site right before it, if its context has that, and a hint: a member of
+/// its context that was missing when the hint was set, or nothing. An operation isn't ready while the one before
+/// it is missing, nor while its hint is, unless it is there itself. So a search goes through a column of names,
+/// and looks at an operation only after its turn in the row of its site has come.
 #[derive(Drop)]
 pub struct Pool {
     ops: IndexSet<Op>,
+    befores: Vec<Option<Name>>,
     hints: Vec<Option<Member>>,
 }
 
@@ -39,13 +43,13 @@ impl Model for Pool {
     ghost use Rattle.context_diff.specs.Operations.{OpData};
     ghost use Rattle.context_diff.specs.Ops.{data_of};
     ghost use Rattle.causal_gate.specs.Waiting.{IsPool};
-    ghost use Rattle.causal_gate.specs.Hints.{AreHints};
+    ghost use Rattle.causal_gate.specs.Hints.{AreHints, AreBefore};
 
     ghost Value = { List OpData };
 
     ghost view = { λ p. map data_of p.ops.keys };
 
-    ghost invariant = { λ p. IsPool (map data_of p.ops.keys) × AreHints (map data_of p.ops.keys) p.hints.items };
+    ghost invariant = { λ p. IsPool (map data_of p.ops.keys) × AreHints (map data_of p.ops.keys) p.hints.items × AreBefore (map data_of p.ops.keys) p.befores.items };
 }
 
 impl Pool {
@@ -55,6 +59,7 @@ impl Pool {
     {
         Pool {
             ops: IndexSet::new(alloc),
+            befores: Vec::new(alloc),
             hints: Vec::new(alloc),
         }
     }
@@ -115,10 +120,12 @@ impl Pool {
         }
         self.ops.reserve(1)?;
         self.hints.reserve(1)?;
+        self.befores.reserve(1)?;
         let copy = op.try_clone()?;
         match self.ops.insert(copy) {
             Ok(_) => {
                 self.hints.push_reserved(None);
+                self.befores.push_reserved(before_in(op));
                 Ok(true)
             }
             Err(_) => unreachable!(),
@@ -126,26 +133,33 @@ impl Pool {
     }
 
     /// Sets the hint of each operation that has none, or whose hint is in `have`, to the first member of its
-    /// context that `have` lacks, and to nothing where it lacks none. What waits stays. It takes no memory.
+    /// context that `have` lacks, and to nothing where it lacks none; but while the original right before an
+    /// operation is missing, that serves as its hint. What waits stays. It takes no memory.
     pub fn renew(&mut self, have: &Vector)
         ensures { self.new ≡ self.old }
     {
+        let mut seen = Seen::at_first(have);
         for i in 0..self.len() {
-            self.renew_at(i, have);
+            if !self.is_behind(i, have, &mut seen) {
+                self.renew_at(i, have);
+            }
         }
     }
 
     /// The least place whose operation is ready: it is in `have`, or `have` covers its context. None exactly
-    /// where none is ready. It goes through the list, and looks at a context only where the operation's hint
-    /// isn't missing.
+    /// where none is ready. It goes through the list, and looks at an operation only where the one right
+    /// before it isn't missing, and at its context only where its hint isn't.
     pub fn first_ready(&self, have: &Vector) -> Option<u32>
         ensures first { IfSome result (IsFirstReady have.now.set self.now) }
         ensures none { IsNone result ↔ NoneReady have.now.set self.now }
     {
+        let mut seen = Seen::at_first(have);
         for i in 0..self.len() {
-            if let Some(op) = self.get(i) {
-                if is_ready(op, self.hint_at(i), have) {
-                    return Some(i);
+            if !self.is_behind(i, have, &mut seen) {
+                if let Some(op) = self.get(i) {
+                    if is_ready(op, self.hint_at(i), have) {
+                        return Some(i);
+                    }
                 }
             }
         }
@@ -159,6 +173,7 @@ impl Pool {
         ensures others { self.new ≡ remove self.old i }
     {
         self.hints.remove(i as usize);
+        self.befores.remove(i as usize);
         match self.ops.shift_remove_index(i as usize) {
             Some(op) => op,
             None => unreachable!(),
@@ -176,6 +191,19 @@ impl Pool {
         match self.get(i) {
             Some(op) => have.first_missing(op.context()),
             None => unreachable!(),
+        }
+    }
+
+    // Whether the original right before the i-th operation is missing, so that the operation isn't ready.
+    fn is_behind(&self, i: u32, have: &Vector, seen: &mut Seen) -> bool
+        requires { seen.old.count ≡ count_of have.now.set seen.old.site }
+        ensures seen { seen.new.count ≡ count_of have.now.set seen.new.site }
+        ensures waits { IsTrue result → (o : OpData) → slice_get self.now i ≡ Some o → ¬ IsReady have.now.set o }
+    {
+        let _ = &self.ops;
+        match name_in(self.befores.as_slice(), i as usize) {
+            Some(Some(before)) => !seen.has(have, &before),
+            _ => false,
         }
     }
 
@@ -207,6 +235,13 @@ impl Pool {
         let hint = self.fresh_hint(i, have);
         self.hints[i as usize] = hint;
     }
+}
+
+// The name at this place of a column.
+fn name_in(names: &[Option<Name>], i: usize) -> Option<Option<Name>>
+    ensures { result ≡ slice_get names.now i }
+{
+    names.get(i).copied()
 }
 
 // The hint at this place of a column.

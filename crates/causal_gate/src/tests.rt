@@ -172,6 +172,29 @@ fn each_is_ready_where_its_context_is_there(rt: HostRuntime) -> Result<(), Fail>
 }
 
 #[test]
+fn renewed_hints_change_no_answer(rt: HostRuntime) -> Result<(), Fail> {
+    let alloc = rt.alloc();
+    let mut pool = chain(alloc)?;
+    hold(&mut pool, undo_of_the_first(alloc)?)?;
+    // How many originals of sites 0, 1 and 5 are there, and what is ready; the hints are of the row before.
+    for (before, own, fifth, ready) in [
+        (0, 0, 0, None),
+        (1, 0, 0, Some(2)),
+        (1, 1, 1, Some(1)),
+        (1, 2, 1, Some(0)),
+        (1, 0, 1, Some(2)),
+        (0, 0, 1, None),
+        (1, 3, 0, Some(0)),
+    ] {
+        let have = known(alloc, &[(0, before), (1, own), (5, fifth)])?;
+        assert!(rt; pool.first_ready(&have) == ready);
+        pool.renew(&have);
+        assert!(rt; pool.first_ready(&have) == ready && pool.len() == 4);
+    }
+    Ok(())
+}
+
+#[test]
 fn the_others_stay_in_order(rt: HostRuntime) -> Result<(), Fail> {
     let mut pool = chain(rt.alloc())?;
     if 1 < pool.len() {

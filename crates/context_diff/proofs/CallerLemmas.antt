@@ -2,13 +2,15 @@
 pub use Rattle.context_diff.proofs.BaseValues.{base_value}
 pub use Rattle.context_diff.proofs.Books.{covered_ready, not_past}
 pub use Rattle.context_diff.proofs.ClosedSets.{IsClosedSet, base_closed, base_group, base_itself, base_listed, base_original, base_stray, below_group, closed_context, closed_set, group_has_target, holds_original, in_group_below, in_original}
-pub use Rattle.context_diff.proofs.Complete.{IsComplete, closed_on, complete, context_push, next_member}
+pub use Rattle.context_diff.proofs.Complete.{IsComplete, closed_on, complete, context_push, formed_number, next_member}
 pub use Rattle.context_diff.proofs.Covering.{all_covered, covered_below, named_known, not_covered}
 pub use Rattle.context_diff.proofs.Equal.{derived_op, op_eq_decides, op_same}
 pub use Rattle.context_diff.proofs.GapEnds.{gap_ends, narrow_left, narrow_right}
 pub use Rattle.context_diff.proofs.Generations.{generation_is}
 pub use Rattle.context_diff.proofs.Histories.{context_is, group_facts, original_facts, own_alone, own_earlier, related}
+pub use Rattle.context_diff.proofs.Inserts.{inserts_by_site, no_inserts}
 pub use Rattle.context_diff.proofs.Known.{contains_cases, contains_here, contains_later, contains_none, holder, in_known, known_in, known_member, known_on, known_push, original_holder}
+pub use Rattle.context_diff.proofs.Listings.{count_at}
 pub use Rattle.context_diff.proofs.Members.{all_is_context, formed_member}
 pub use Rattle.context_diff.proofs.Names.{member_itself, member_same}
 pub use Rattle.context_diff.proofs.Next.{have_known}

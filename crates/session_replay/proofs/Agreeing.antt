@@ -14,14 +14,7 @@ use Rattle.context_diff.specs.Operations.{OpData, inserting, deleting, undoing, 
 use Rattle.context_diff.specs.Histories.{is_known, inserts_in, context_of_all, LacksNothing, IsValid, IsNext, HasPlace, Same}
 use Rattle.context_diff.specs.Code.Counting.{is_insert_of, inserts_of, inserts_listed}
 use Rattle.op_name.proofs.CallerLemmas.{member_itself, member_apart}
-use Rattle.context_diff.proofs.Known.{contains_none, holder, known_member}
-use Rattle.context_diff.proofs.Valid.{by_pushes}
-use Rattle.context_diff.proofs.Complete.{complete, formed_number}
-use Rattle.context_diff.proofs.Raising.{has_original}
-use Rattle.context_diff.proofs.Inserts.{inserts_by_site, no_inserts}
-use Rattle.context_diff.proofs.Listings.{count_at}
-use Rattle.context_diff.proofs.Members.{all_is_context}
-use Rattle.context_diff.proofs.Generations.{generation_is}
+use Rattle.context_diff.proofs.CallerLemmas.{contains_none, holder, known_member, by_pushes, complete, formed_number, has_original, inserts_by_site, no_inserts, count_at, all_is_context, generation_is}
 
 -- no name has one content in the one and other content in the other
 abbrev pub Agree : List OpData → List OpData → Type 0

@@ -19,8 +19,7 @@ use Rattle.cot_site.specs.declared.local.Local.{Local}
 use Rattle.cot_site.specs.States.{State, judged, delivered, with_last, after_verdict}
 use Rattle.cot_site.specs.Verdicts.{IsRepeat}
 use Rattle.cot_site.specs.Releases.{IsSound as IsSoundSite, releases, all_releases, state_after, settled}
-use Rattle.cot_site.proofs.CallerLemmas.{sound_more, verdicts_exact}
-use Rattle.cot_site.proofs.Verdicts.{next_integrated, group_reached}
+use Rattle.cot_site.proofs.CallerLemmas.{sound_more, verdicts_exact, next_integrated, group_reached}
 use Rattle.script_text.specs.Report.{op_text}
 use Rattle.session_replay.specs.declared.draws.Draw.{Draw}
 use Rattle.session_replay.specs.Steps.{last_of}

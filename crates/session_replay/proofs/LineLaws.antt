@@ -36,7 +36,7 @@ use Rattle.session_replay.proofs.Sound.{Good, Kept, Eventful, eventless, one_eve
 
 good_command : (i : ℕ) (r : Result OpData Local) (d : SessionData) → IsSound d → i < length d.sites → ((o : OpData) → r ≡ Ok o → IsNext (site_at d i).history o) → Good d (commanded i r d)
 good_command i (Ok o) d sound within next = good_made d i o sound within (next o refl)
-good_command i (Err why) d sound within next = good_told (local_text why) d sound
+good_command i (Err why) d sound within next = good_told (local_text why) d sound refl
 
 -- what follows is good from each sound session with so many sites
 abbrev GoodNext : ℕ → (SessionData → List (Step SessionData)) → Type 0
@@ -47,7 +47,7 @@ on_last d es next sound good rest = good_then d es (next (last_of d es)) sound g
 
 good_typed_on : (next : SessionData → List (Step SessionData)) (i : ℕ) (r : Result OpData Local) (d : SessionData) → IsSound d → i < length d.sites → ((o : OpData) → r ≡ Ok o → IsNext (site_at d i).history o) → GoodNext (length d.sites) next → Good d (typed_on next i r d)
 good_typed_on next i (Ok o) d sound within is rest = on_last d (made i o d) next sound (good_made d i o sound within (is o refl)) rest
-good_typed_on next i (Err why) d sound within is rest = good_told (local_text why) d sound
+good_typed_on next i (Err why) d sound within is rest = good_told (local_text why) d sound refl
 
 pub inserted_next : (d : SessionData) (i v ch : ℕ) → IsSound d → i < length d.sites → IsScalar ch → (o : OpData) → local_insert (site_at d i) v ch ≡ Ok o → IsNext (site_at d i).history o
 inserted_next d i v ch sound within scalar o is =
@@ -82,8 +82,8 @@ good_synced (suc m) n i within d kept =
 
 good_framed_on : (next : List ℕ → SessionData → List (Step SessionData)) (i : ℕ) (bytes : List ℕ) (r : Result (OpData × ℕ) Refused) (d : SessionData) → IsSound d → i < length d.sites → ((o : OpData) (used : ℕ) → r ≡ Ok (o, used) → IsWellFormed o) → ((k : ℕ) → GoodNext (length d.sites) (next (drop k bytes))) → Good d (framed_on next i bytes r d)
 good_framed_on next i bytes (Ok p) d sound within formed rest = on_last d (given false i p.0 d) (next (drop p.1 bytes)) sound (good_given false d i p.0 sound within (formed p.0 p.1 refl)) (rest p.1)
-good_framed_on next i bytes (Err (More least)) d sound within formed rest = good_told (raw_more_text i least) d sound
-good_framed_on next i bytes (Err (Bad f)) d sound within formed rest = good_told (raw_bad_text i (cause_word f.cause) f.offset) d sound
+good_framed_on next i bytes (Err (More least)) d sound within formed rest = good_told (raw_more_text i least) d sound refl
+good_framed_on next i bytes (Err (Bad f)) d sound within formed rest = good_told (raw_bad_text i (cause_word f.cause) f.offset) d sound refl
 
 good_framed : (m : ℕ) (bytes : List ℕ) → IsBytes bytes → (n i : ℕ) → i < n → GoodNext n (framed m i bytes)
 unfolding framed
@@ -224,8 +224,8 @@ there_lasts line.Sync d es sound values within is =
     (good_synced (length d.sites) (length d.sites) 0 (omega arith) d (record { sound = sound; sites = refl }))
 there_lasts (line.Raw i bytes) d es sound values within is =
     good_lasts d (framed (length bytes) i bytes d) es is (good_framed (length bytes) bytes values (length d.sites) i within d (record { sound = sound; sites = refl }))
-there_lasts (line.Show i) d es sound values within is = good_lasts d (told (show_text i d) d) es is (good_told (show_text i d) d sound)
-there_lasts (line.State i) d es sound values within is = good_lasts d (told (have_text i d) d) es is (good_told (have_text i d) d sound)
+there_lasts (line.Show i) d es sound values within is = good_lasts d (told (show_text i d) d) es is (good_told (show_text i d) d sound refl)
+there_lasts (line.State i) d es sound values within is = good_lasts d (told (have_text i d) d) es is (good_told (have_text i d) d sound refl)
 
 pub line_lasts : (l : Line) (d : SessionData) (es : List (Step SessionData)) → IsSound d → AreValues l → line_steps l d ≡ Ok es → Lasting d es
 line_lasts l d es sound values is =

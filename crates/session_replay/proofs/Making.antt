@@ -22,8 +22,7 @@ use Rattle.cot_site.specs.States.{State}
 use Rattle.op_name.specs.Lists.{places_from}
 use Rattle.cot_site.specs.Views.{shown_places_of}
 use Rattle.cot_site.specs.Commands.{place_of_shown, place_behind, count_made, next_name, in_context, numbered, turned, local_insert, local_delete, local_undo, local_redo}
-use Rattle.cot_site.proofs.CallerLemmas.{local_insert_next, local_delete_next, local_undo_next, local_redo_next, few_cells}
-use Rattle.cot_site.proofs.LocalOps.{in_context_made}
+use Rattle.cot_site.proofs.CallerLemmas.{local_insert_next, local_delete_next, local_undo_next, local_redo_next, few_cells, in_context_made}
 use Rattle.session_replay.specs.declared.draws.Draw.{Draw}
 use Rattle.session_replay.specs.Generating.{names_of, drawn_target, drawn_turn, drawn_insert, drawn_operation}
 use Rattle.session_replay.proofs.Loops.{places_few}

@@ -9,7 +9,7 @@ use Rattle.std.proofs.lemmas.Option.{slice_get-get_or, slice_get-map, slice_get_
 use Rattle.std.proofs.lemmas.List.FromFn.{length-range_with_len, get_or-range_with_len, length-map-range_with_len}
 use Rattle.op_name.specs.NameData.{NameData}
 use Rattle.context_vector.specs.Contexts.{AreCounts, count_in, sum_of_counts}
-use Rattle.context_diff.proofs.Listings.{count_at}
+use Rattle.context_diff.proofs.CallerLemmas.{count_at}
 use Rattle.session_replay.specs.Generating.{first_names, names_in}
 use Rattle.session_replay.proofs.Loops.{drop_past}
 

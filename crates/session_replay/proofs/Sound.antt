@@ -1,6 +1,7 @@
 -- Sound sessions: each step of a line leaves one, and a line whose events settle ends settled.
 use Rattle.std.proofs.Common.{◌≡◌, ℕ, zero, suc, ◌<◌, Bool, ◌⊎◌, inl, inr, List, [], ◌∷◌, ◌++◌, length, map, refl, ap, sym, subst, ◌∙◌, append_assoc, append-nil}
-use Rattle.std.specs.Prelude.{Contains, set}
+use Rattle.std.specs.Prelude.{Contains, set, false, nat_eq, slice_index_or}
+use Rattle.std.proofs.lemmas.Bool.{false≢true}
 use Rattle.std.proofs.lemmas.List.Elements.{Contains-get_or, Contains-push_cases}
 use Rattle.std.proofs.lemmas.List.{length-set}
 use Rattle.context_diff.specs.Operations.{OpData, IsWellFormed}
@@ -18,7 +19,7 @@ use Rattle.session_replay.specs.Sessions.{SessionData, site_at, new_site, at_sit
 use Rattle.session_replay.specs.LineSteps.{told}
 use Rattle.session_replay.specs.Events.{Event, Making, Giving, Telling, steps_of, after_event, all_steps, Moment, moments, after_moment}
 use Rattle.session_replay.specs.Soundness.{IsSound, AreSettled}
-use Rattle.session_replay.specs.Transcripts.{WaitsByName}
+use Rattle.session_replay.specs.Transcripts.{IsNoDelivery, WaitsByName}
 use Rattle.session_replay.proofs.Steps.{last_append}
 use Rattle.session_replay.proofs.Every.{Every, every_append, every_last}
 use Rattle.session_replay.proofs.Releasing.{sound_settling, settling_settles}
@@ -154,9 +155,14 @@ pub good_none : (d : SessionData) → Good d []
 unfolding last_of
 good_none d = record { all = tt; settles = λ s. s; events = eventless d }
 
-pub good_told : (w : List ℕ) (d : SessionData) → IsSound d → Good d (told w d)
+-- the line of a delivery begins with the letter g
+pub no_delivery : (w : List ℕ) → nat_eq (slice_index_or w 0 0) 103 ≡ false → IsNoDelivery w
+no_delivery w other site m v same = absurd (false≢true (sym other ∙ ap (λ x. nat_eq (slice_index_or x 0 0) 103) same))
+
+-- a line that is told and begins with another letter
+pub good_told : (w : List ℕ) (d : SessionData) → IsSound d → nat_eq (slice_index_or w 0 0) 103 ≡ false → Good d (told w d)
 unfolding last_of
-good_told w d sound = record { all = (record { sound = sound; sites = refl }, tt); settles = λ s. s; events = one_event d (Telling w) sound tt (λ s. s) }
+good_told w d sound other = record { all = (record { sound = sound; sites = refl }, tt); settles = λ s. s; events = one_event d (Telling w) sound (no_delivery w other) (λ s. s) }
 
 pub good_last : (d : SessionData) (es : List (Step SessionData)) → IsSound d → Good d es → Kept (length d.sites) (last_of d es)
 good_last d es sound good = every_last (Kept (length d.sites)) d es (record { sound = sound; sites = refl }) good.all

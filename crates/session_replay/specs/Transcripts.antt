@@ -1,11 +1,12 @@
 -- Transcripts: a script as it was done, line by line, with what happened at its sites and what was written for it.
-use Rattle.std.specs.Prelude.{◌≡◌, ℕ, ◌+◌, ◌<◌, Bool, true, false, List, [], ◌∷◌, ◌++◌, Contains, Ok, Err, length, map}
+use Rattle.std.specs.Prelude.{◌≡◌, ◌≢◌, ℕ, ◌+◌, ◌<◌, Bool, true, false, List, [], ◌∷◌, ◌++◌, Contains, Ok, Err, length, map}
 use Rattle.std.specs.List.{concat}
 use Rattle.op_name.specs.declared.member.Member.{Member}
 use Rattle.context_diff.specs.Operations.{OpData, member_of, context_of}
 use Rattle.context_diff.specs.Histories.{LacksFirst}
 use Rattle.context_diff.specs.Replays.{characters_of, text_of}
 use Rattle.ttf_form.specs.declared.form.Form.{Form}
+use Rattle.cot_site.specs.declared.verdict.Verdict.{Verdict}
 use Rattle.cot_site.specs.declared.verdict.Verdict.TheVariants.{Waits}
 use Rattle.cot_site.specs.States.{State, judged}
 use Rattle.cot_site.specs.Views.{forms_view, AreFormLists}
@@ -30,11 +31,15 @@ pub record NamesLacking (many : Bool) (i : ℕ) (o : OpData) (d : SessionData) (
   pub more : List ℕ
   pub written : written_by (given many i o d) ≡ verdict_line_text Give (site_at d i).number (member_of o) (Waits missing) ++ more
 
--- so does the event, if it is a delivery that waits
+-- this is not the line of a delivery
+abbrev pub IsNoDelivery : List ℕ → Type 0
+IsNoDelivery written = (site : ℕ) (m : Member) (v : Verdict) → written ≢ verdict_line_text Give site m v
+
+-- so does the event, if it is a delivery that waits; and no line of a delivery is only told
 abbrev pub WaitsByName : Event → SessionData → Type 0
 WaitsByName (Making i o) d = Unit {0}
 WaitsByName (Giving many i o) d = (missing : Member) → judged (site_at d i) o ≡ Waits missing → NamesLacking many i o d missing
-WaitsByName (Telling w) d = Unit {0}
+WaitsByName (Telling w) d = IsNoDelivery w
 WaitsByName (Opening n) d = Unit {0}
 
 -- once an event with its releases is done, no site has an operation that is ready: whatever waits lacks a named member

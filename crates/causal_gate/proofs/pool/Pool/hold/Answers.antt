@@ -3,13 +3,15 @@ use Rattle.std.specs.Prelude.{Contains, Option, None}
 use Rattle.std.proofs.lemmas.Bool.{true≢false}
 use Rattle.std.proofs.lemmas.List.{length-map}
 use Rattle.op_name.specs.declared.member.Member.{Member}
+use Rattle.op_name.specs.NameData.{NameData}
 use Rattle.context_diff.specs.Operations.{OpData}
 use Rattle.context_diff.specs.Ops.{data_of}
 use Rattle.causal_gate.specs.Waiting.{IsPool, NamesAgree}
-use Rattle.causal_gate.specs.Hints.{AreHints}
+use Rattle.causal_gate.specs.Hints.{AreHints, AreBefore}
 use Rattle.causal_gate.proofs.Apart.{pool_push}
 use Rattle.causal_gate.proofs.Held.{found_there, found_nowhere, not_waiting, on_err, appended}
 use Rattle.causal_gate.proofs.HintLists.{hints_push}
+use Rattle.causal_gate.proofs.Turns.{befores_push}
 use Rattle.causal_gate.proofs.pool.Pool.hold.Goals as goal
 
 pub returns-then-contains-clause-new : goal.returns-then-contains-clause-new
@@ -29,6 +31,9 @@ returns-in_err-reserve-2-clause-memory c = on_err c.from_residual-in_err-reserve
 pub returns-in_err-copy-clause-memory : goal.returns-in_err-copy-clause-memory
 returns-in_err-copy-clause-memory c = on_err c.from_residual-in_err-copy.result (not_waiting c.args.op.now c.self.inside.ops.keys c.args.self.now c.self.view_is (sym c.contains.ensures ∙ c.if-contains.false))
 
+pub returns-in_err-reserve-3-clause-memory : goal.returns-in_err-reserve-3-clause-memory
+returns-in_err-reserve-3-clause-memory c = on_err c.from_residual-in_err-reserve-3.result (not_waiting c.args.op.now c.self.inside.ops.keys c.args.self.now c.self.view_is (sym c.contains.ensures ∙ c.if-contains.false))
+
 pub invariant_of-self-in-Ok : goal.invariant_of-self-in-Ok
 invariant_of-self-in-Ok c =
     let o = c.args.op.now in
@@ -38,9 +43,11 @@ invariant_of-self-in-Ok c =
     let agree : NamesAgree (map data_of keys) (data_of o) = subst (λ (os : List OpData). NamesAgree os (data_of o)) (sym c.self.view_is) c.requires in
     let unchanged : length c.reserve.new.self.keys ≡ length keys = ap length c.reserve.ensures.keys in
     let seen : length (map data_of keys) ≡ length keys = length-map keys data_of in
-    let hints : c.push_reserved.new.self.items ≡ c.self.inside.hints.items ++ None ∷ [] = c.push_reserved.ensures.items ∙ ap (λ (hs : List (Option Member)). hs ++ None ∷ []) c.reserve-2.ensures.items in (
+    let hints : c.push_reserved.new.self.items ≡ c.self.inside.hints.items ++ None ∷ [] = c.push_reserved.ensures.items ∙ ap (λ (hs : List (Option Member)). hs ++ None ∷ []) c.reserve-2.ensures.items in
+    let befores : c.push_reserved-in-Ok.new.self.items ≡ c.self.inside.befores.items ++ c.before_in.result ∷ [] = c.push_reserved-in-Ok.ensures.items ∙ ap (λ (ns : List (Option NameData)). ns ++ c.before_in.result ∷ []) c.reserve-3.ensures.items in (
       subst IsPool (sym put) (pool_push (map data_of keys) (data_of o) c.self.invariant.0 (found_nowhere o keys none) agree (omega arith)),
       subst₂ (λ (os : List OpData) (hs : List (Option Member)). AreHints os hs) (sym put) (sym hints) (hints_push (map data_of keys) c.self.inside.hints.items (data_of o) None c.self.invariant.1 tt),
+      subst₂ (λ (os : List OpData) (ns : List (Option NameData)). AreBefore os ns) (sym put) (sym befores) (befores_push (map data_of keys) c.self.inside.befores.items (data_of o) c.before_in.result c.self.invariant.2 c.before_in.ensures),
     )
 
 pub returns-clause-new : goal.returns-clause-new
