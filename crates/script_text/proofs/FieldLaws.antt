@@ -43,16 +43,16 @@ cut_by_parts c bs r h ascii = by r (split_parts c bs r h ascii)
     by None lacks = cut-lacks c bs lacks
     by (Some x) parts = ap (cut c) parts.0 ∙ cut-append c x.0.now x.1.now parts.1
 
-abbrev own : IsNumeralModel (λ ds. all_ascii_digits ds ≡ true) (digits_value 10)
+abbrev pub own : IsNumeralModel (λ ds. all_ascii_digits ds ≡ true) (digits_value 10)
 own = numerals_by_value _ tells_all_ascii_digits
 
 -- what the first digit of a numeral tells
-record Starts (bs : List ℕ) : Type 0 where
+pub record Starts (bs : List ℕ) : Type 0 where
   pub nonempty : 0 < length bs
   pub no_plus : get_or bs 0 0 ≢ 43
   pub alone : get_or bs 0 0 ≡ 48 → length bs ≡ 1
 
-starts : (bs : List ℕ) → starts_numeral bs ≡ true → Starts bs
+pub starts : (bs : List ℕ) → starts_numeral bs ≡ true → Starts bs
 starts [] s = cc
 starts (d ∷ ds) s = record {
   nonempty = omega arith;
@@ -95,7 +95,7 @@ numeral_is bs t small =
     let first = starts bs p.0 in
     sym (decimal-digits_value own bs p.1 first.nonempty first.alone (omega arith))
 
-digits_start : (ds : List ℕ) → 48 < get_or ds 0 0 → all_ascii_digits ds ≡ true → starts_numeral ds ≡ true
+pub digits_start : (ds : List ℕ) → 48 < get_or ds 0 0 → all_ascii_digits ds ≡ true → starts_numeral ds ≡ true
 digits_start [] more all = absurd (omega arith)
 digits_start (d ∷ ds) more all = let first = (and_parts (is_ascii_digit d) (all_ascii_digits ds) all).0 in grind (arith, nat_tests)
 

@@ -3,3 +3,4 @@ pub mod LineLaws
 pub mod Listings
 pub mod CallerLemmas
 pub mod HexLaws
+pub mod WordLaws

@@ -45,6 +45,10 @@ is_numeral ds = starts_numeral ds && all_ascii_digits ds
 unfoldable pub number_of : List ℕ → Option ℕ
 number_of ds = if is_numeral ds && nat_lt (digits_value 10 ds) (2 ^ 32) then Some (digits_value 10 ds) else None
 
+-- the same below 2 ^ 64
+unfoldable pub long_of : List ℕ → Option ℕ
+long_of ds = if is_numeral ds && nat_lt (digits_value 10 ds) (2 ^ 64) then Some (digits_value 10 ds) else None
+
 -- a site: from 0, below SITES
 unfoldable pub site_of : List ℕ → Option ℕ
 site_of bs = tested (λ n. nat_lt n SITES) number_of bs
@@ -74,6 +78,10 @@ text_of bs = if not (length bs == 0) && is_utf8 bs then Some (chars bs) else Non
 -- the field spells the number
 abbrev pub IsNumber : List ℕ → ℕ → Type 0
 IsNumber bs n = (bs ≡ decimal n) × (n < 2 ^ 32)
+
+-- the field spells the number, of at most 64 bits
+abbrev pub IsLong : List ℕ → ℕ → Type 0
+IsLong bs n = (bs ≡ decimal n) × (n < 2 ^ 64)
 
 -- the field spells the characters (RFC 3629), of which there is one at least
 abbrev pub IsCharacters : List ℕ → List ℕ → Type 0

@@ -6,8 +6,10 @@ mod line;
 mod octets;
 mod parse;
 mod rows;
+mod words;
 
 pub use chars::Chars;
 pub use line::{Line, LineBad};
 pub use octets::Octets;
 pub use parse::{LONGEST, each_line_has_a_spelling, parse_line};
+pub use words::{parse_long, parse_name, parse_number, parse_site};

@@ -1,7 +1,7 @@
 //! Fields: what stands between the blanks of a line.
 
 ghost use Rattle.std.specs.Prelude.{◌≡◌, Some, None, MatchOption, IfSome, chars, ◌<◌};
-ghost use Rattle.script_text.specs.Fields.{cut, number_of, site_of, count_of, name_of, text_of, starts_numeral};
+ghost use Rattle.script_text.specs.Fields.{cut, number_of, long_of, site_of, count_of, name_of, text_of, starts_numeral};
 
 use op_name::{Name, SITES};
 
@@ -21,6 +21,18 @@ pub(crate) fn number(field: &str) -> Option<u32>
         return None;
     }
     field.parse::<u32>().ok()
+}
+
+/// The same for a number below 2^64.
+#[tactic(auto, using(crate::proofs::WordLaws::long_parsed, crate::proofs::WordLaws::long_no))]
+pub(crate) fn long(field: &str) -> Option<u64>
+    ensures { result ≡ long_of field.now }
+{
+    if starts_numeral(field.as_bytes()) {
+        field.parse::<u64>().ok()
+    } else {
+        None
+    }
 }
 
 /// `0` alone, or a digit that isn't 0 comes first.

@@ -1,0 +1,7 @@
+mod HandedOn
+mod Frames
+mod Appending
+mod Listings
+mod TakingIn
+mod RoundTrips
+mod Refusals

@@ -1,0 +1,95 @@
+-- Taking in the operations of a log, one after the other.
+use Rattle.std.proofs.Common.{◌≡◌, ◌≢◌, List, [], ◌∷◌, ◌++◌, refl, ap, sym, subst, ◌∙◌, append_assoc}
+use Rattle.std.specs.Prelude.{ℕ, None}
+use Rattle.std.proofs.lemmas.Option.{none-some}
+use Rattle.context_diff.specs.Operations.{OpData}
+use Rattle.cot_site.specs.States.{State}
+use Rattle.session_log.specs.declared.log_bad.LogBad.{LogBad}
+use Rattle.session_log.specs.declared.log_bad.LogBad.TheVariants as bad
+use Rattle.session_log.specs.Logs.{IsLogOf}
+use Rattle.session_log.specs.Loadings.{first_refusal, verdicts_after, taken_in, after_all, AreTakenIn, new_state, IsLoaded, IsUnloaded}
+use Rattle.session_log.specs.Code.Passing.{LeftData, PassesOver, HasNoStep}
+use Rattle.session_log.specs.Code.Taking.{IsRefusal}
+use Rattle.session_log.proofs.Frames.{IsPassed, passed_more, passed_end, unread, front, one_log, log_no_fault}
+
+pub after-append : (s : State) (fs bs : List OpData) → after_all s (fs ++ bs) ≡ after_all (after_all s fs) bs
+after-append s [] bs = refl
+after-append s (a ∷ fs) bs = after-append (taken_in s a) fs bs
+
+pub taken-append : (s : State) (fs bs : List OpData) → AreTakenIn s fs → AreTakenIn (after_all s fs) bs → AreTakenIn s (fs ++ bs)
+taken-append s [] bs first rest = rest
+taken-append s (a ∷ fs) bs first rest = (first.0, taken-append (taken_in s a) fs bs first.1 rest)
+
+pub taken_one : (s : State) (fs : List OpData) (o : OpData) (bs : List OpData) → AreTakenIn s (fs ++ o ∷ bs) → first_refusal (verdicts_after (after_all s fs) o) ≡ None
+taken_one s [] o bs all = all.0
+taken_one s (a ∷ fs) o bs all = taken_one (taken_in s a) fs o bs all.1
+
+-- ---- on the way
+
+-- these operations were passed over and taken in
+pub record IsLoading (site : ℕ) (bytes : List ℕ) (left : LeftData) (s : State) : Type 0 where
+  pub ops : List OpData
+  pub passed : IsPassed bytes ops left
+  pub taken : AreTakenIn (new_state site) ops
+  pub state : s ≡ after_all (new_state site) ops
+
+pub loading_more : (site : ℕ) (bytes : List ℕ) (left next : LeftData) (s t : State) (o : OpData) → IsLoading site bytes left s → PassesOver left o next → first_refusal (verdicts_after s o) ≡ None → t ≡ taken_in s o → IsLoading site bytes next t
+loading_more site bytes left next s t o w step none is =
+    let none_at : first_refusal (verdicts_after (after_all (new_state site) w.ops) o) ≡ None = ap (λ (x : State). first_refusal (verdicts_after x o)) (sym w.state) ∙ none in
+    record {
+      ops = w.ops ++ o ∷ [];
+      passed = passed_more bytes w.ops o left next w.passed step;
+      taken = taken-append (new_state site) w.ops (o ∷ []) w.taken (none_at, tt);
+      state = is ∙ ap (λ (x : State). taken_in x o) w.state ∙ sym (after-append (new_state site) w.ops (o ∷ []));
+    }
+
+pub loading_end : (site : ℕ) (bytes : List ℕ) (left : LeftData) (s : State) → IsLoading site bytes left s → left.bytes ≡ [] → IsLoaded site bytes s
+loading_end site bytes left s w none = record {
+  ops = w.ops;
+  log = passed_end bytes w.ops left w.passed none;
+  taken = w.taken;
+  state = w.state;
+}
+
+-- a log has no fault, so what is left of it is passed over, unless memory is wanted
+pub loading_stopped : (site : ℕ) (bytes : List ℕ) (left : LeftData) (s : State) (why : LogBad) → ((os : List OpData) × IsLogOf bytes os) → IsLoading site bytes left s → HasNoStep left why → IsUnloaded site bytes why
+loading_stopped site bytes left s bad.Header log w no_step = absurd no_step
+loading_stopped site bytes left s (bad.Cut offset) log w no_step = unread bytes w.ops left (bad.Cut offset) w.passed no_step
+loading_stopped site bytes left s (bad.Bad offset cause) log w no_step = unread bytes w.ops left (bad.Bad offset cause) w.passed no_step
+loading_stopped site bytes left s (bad.Refused offset member verdict) log w no_step = absurd no_step
+loading_stopped site bytes left s bad.Memory log w no_step = log
+
+-- the first refusal
+pub loading_refused : (site : ℕ) (bytes : List ℕ) (left next : LeftData) (s : State) (o : OpData) (why : LogBad) → ((os : List OpData) × IsLogOf bytes os) → IsLoading site bytes left s → PassesOver left o next → IsRefusal left.offset (verdicts_after s o) why → IsUnloaded site bytes why
+loading_refused site bytes left next s o bad.Header log w step refusal = absurd refusal
+loading_refused site bytes left next s o (bad.Cut offset) log w step refusal = absurd refusal
+loading_refused site bytes left next s o (bad.Bad offset cause) log w step refusal = absurd refusal
+loading_refused site bytes left next s o (bad.Refused offset member verdict) log w step (place, first) =
+    let more = passed_more bytes w.ops o left next w.passed step in
+    let f = front bytes log.0 (w.ops ++ o ∷ []) next.bytes log.1 more.begins in
+    let parts : log.0 ≡ w.ops ++ o ∷ f.others = f.parts ∙ append_assoc w.ops (o ∷ []) f.others in
+    record {
+      before = w.ops;
+      op = o;
+      behind = f.others;
+      log = subst (IsLogOf bytes) parts log.1;
+      place = place ∙ w.passed.place;
+      taken = w.taken;
+      first = ap (λ (x : State). first_refusal (verdicts_after x o)) (sym w.state) ∙ first;
+    }
+loading_refused site bytes left next s o bad.Memory log w step refusal = log
+
+-- ---- one loading
+
+pub one_loaded : (site : ℕ) (bytes : List ℕ) (s t : State) → IsLoaded site bytes s → IsLoaded site bytes t → t ≡ s
+one_loaded site bytes s t a b = b.state ∙ ap (λ (os : List OpData). after_all (new_state site) os) (one_log bytes b.ops a.ops b.log a.log) ∙ sym a.state
+
+pub loaded_not_refused : (site : ℕ) (bytes : List ℕ) (s : State) → IsLoaded site bytes s → (why : LogBad) → why ≢ bad.Memory → ¬ IsUnloaded site bytes why
+loaded_not_refused site bytes s w bad.Header apart u = log_no_fault bytes w.ops bad.Header w.log apart u
+loaded_not_refused site bytes s w (bad.Cut offset) apart u = log_no_fault bytes w.ops (bad.Cut offset) w.log apart u
+loaded_not_refused site bytes s w (bad.Bad offset cause) apart u = log_no_fault bytes w.ops (bad.Bad offset cause) w.log apart u
+loaded_not_refused site bytes s w (bad.Refused offset member verdict) apart u =
+    let same = one_log bytes w.ops (u.before ++ u.op ∷ u.behind) w.log u.log in
+    let all : AreTakenIn (new_state site) (u.before ++ u.op ∷ u.behind) = subst (AreTakenIn (new_state site)) same w.taken in
+    none-some (record { member = member; verdict = verdict }) (sym (taken_one (new_state site) u.before u.op u.behind all) ∙ u.first)
+loaded_not_refused site bytes s w bad.Memory apart u = apart refl

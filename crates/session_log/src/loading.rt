@@ -1,0 +1,122 @@
+//! Loading logs.
+
+ghost use Rattle.std.specs.Prelude.{◌≡◌, ◌<◌, ◌≤◌, List, Some, None, OnOk, IfOk, IfErr, length};
+ghost use Rattle.context_diff.specs.Operations.{OpData, IsWellFormed};
+ghost use Rattle.context_diff.specs.Ops.{data_of};
+ghost use Rattle.cot_site.specs.Sites.{state_of};
+ghost use Rattle.cot_site.specs.declared.release.Release.{Release};
+ghost use Rattle.session_log.specs.Logs.{IsLogOf};
+ghost use Rattle.session_log.specs.Loadings.{is_refusal, first_refusal, verdicts_after, taken_in, new_state, IsLoaded, IsUnloaded};
+ghost use Rattle.session_log.specs.Code.Taking.{IsRefusal};
+
+use crate::left::Left;
+use crate::log_bad::LogBad;
+use crate::placed::Placed;
+use crate::reading::{MAX_LOG, check};
+use context_diff::Op;
+use cot_site::{Release, Site, Verdict};
+use op_name::SITES;
+use std::alloc::Global;
+
+/// Makes the site of this number from a log of at most `MAX_LOG` bytes: delivers its operations in the order of their
+/// frames, and releases after each one until nothing is ready.
+///
+/// Refused by Header, Cut or Bad, the first fault of the bytes; then by Refused, where the delivery of an operation or a
+/// release after it gets the first verdict Forged, NotClosed or PlaceOut; or by Memory, which comes only where the bytes
+/// are a log. All bytes are judged before any operation is delivered.
+pub fn load(alloc: Global, site: u16, bytes: &[u8]) -> Result<Site, LogBad>
+    requires site { site < SITES }
+    requires limit { length bytes.now ≤ MAX_LOG }
+    ensures loaded { IfOk result (λ s. IsLoaded site bytes.now (state_of s)) }
+    ensures refused { IfErr result (IsUnloaded site bytes.now) }
+{
+    check(bytes)?;
+    let mut loaded = Site::new(alloc, site)?;
+    deliver_all(alloc, &mut loaded, bytes)?;
+    Ok(loaded)
+}
+
+// Takes in the operations of the log at a site that has done nothing.
+fn deliver_all(alloc: Global, site: &mut Site, bytes: &[u8]) -> Result<(), LogBad>
+    requires new { state_of site.old ≡ new_state site.old.number }
+    requires limit { length bytes.now ≤ MAX_LOG }
+    requires log { (os : List OpData) × IsLogOf bytes.now os }
+    ensures loaded { OnOk result (IsLoaded site.old.number bytes.now (state_of site.new)) }
+    ensures refused { IfErr result (IsUnloaded site.old.number bytes.now) }
+{
+    let mut left = Left::after_header(bytes)?;
+    let mut released = Vec::new(alloc);
+    while let Some(Placed { offset, op }) = left.next(alloc)? {
+        take_in(site, offset, op, &mut released)?;
+    }
+    Ok(())
+}
+
+// Takes in the operation whose frame begins at this offset, unless a verdict is a refusal. The list is only room.
+fn take_in(site: &mut Site, offset: u32, op: Op, released: &mut Vec<Release>) -> Result<(), LogBad>
+    requires { IsWellFormed (data_of op) }
+    ensures taken { OnOk result (first_refusal (verdicts_after (state_of site.old) (data_of op)) ≡ None) }
+    ensures state { OnOk result (state_of site.new ≡ taken_in (state_of site.old) (data_of op)) }
+    ensures refused { IfErr result (IsRefusal offset (verdicts_after (state_of site.old) (data_of op))) }
+{
+    let op = with_shared_names(site, op);
+    match site.deliver(&op) {
+        Ok(verdict) if is_refusal(&verdict) => Err(LogBad::Refused {
+            offset,
+            member: op.member(),
+            verdict,
+        }),
+        Ok(_) => {
+            released.clear();
+            site.settle(released)?;
+            unless_refused(offset, first_refusal(released.as_slice()))
+        }
+        Err(_) => Err(LogBad::Memory),
+    }
+}
+
+// The operation, with the site's own list of undone names where its context has the same ones.
+fn with_shared_names(site: &Site, op: Op) -> Op
+    ensures { data_of result ≡ data_of op }
+{
+    let mut op = op;
+    op.share_with(site.vector());
+    op
+}
+
+// An error where there was a refusal.
+fn unless_refused(offset: u32, refusal: Option<Release>) -> Result<(), LogBad>
+    ensures ok { OnOk result (refusal ≡ None) }
+    ensures refused { IfErr result (λ why. (r : Release) × (refusal ≡ Some r) × (why ≡ LogBad.Refused offset r.member r.verdict)) }
+{
+    match refusal {
+        Some(Release { member, verdict }) => Err(LogBad::Refused {
+            offset,
+            member,
+            verdict,
+        }),
+        None => Ok(()),
+    }
+}
+
+// The first of the verdicts that is a refusal.
+fn first_refusal(released: &[Release]) -> Option<Release>
+    ensures { result ≡ first_refusal released.now }
+{
+    for release in released {
+        if is_refusal(&release.verdict) {
+            return Some(*release);
+        }
+    }
+    None
+}
+
+// Whether the verdict refuses the operation.
+fn is_refusal(verdict: &Verdict) -> bool
+    ensures { result ≡ is_refusal verdict.now }
+{
+    match verdict {
+        Verdict::Forged { .. } | Verdict::NotClosed { .. } | Verdict::PlaceOut { .. } => true,
+        Verdict::Repeat | Verdict::Waits { .. } | Verdict::Integrated => false,
+    }
+}
