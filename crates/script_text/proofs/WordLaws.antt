@@ -70,7 +70,7 @@ decimal_value n small =
     let below : nat_lt n (2 ^ 64) ≡ true = lt-ltb n (2 ^ 64) small in
     rw (decimal_starts n small, digits, value, below) refl
 
-long_reads : Reads long_of IsLong
+pub long_reads : Reads long_of IsLong
 unfolding long_of
 long_reads = record {
   from = λ bs n e.
