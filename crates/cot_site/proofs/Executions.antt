@@ -15,7 +15,7 @@ use Rattle.context_diff.specs.Histories.{is_known, members_in, context_of_all, I
 use Rattle.context_diff.specs.Bases.{base_has}
 use Rattle.context_diff.proofs.CallerLemmas.{complete, closed_on, base_listed, base_itself, known_on, known_push, member_same, member_itself, valid_push, valid_pop}
 use Rattle.ttf_form.specs.declared.form.Form.{Form}
-use Rattle.ttf_form.specs.Forms.{form_over}
+use Rattle.ttf_form.specs.Forms.{form_over, IsInertForm}
 use Rattle.ttf_form.specs.Cells.{CellData, applied, FitsCells}
 use Rattle.transform_rec.specs.Sets.{none, plus, plus_all}
 use Rattle.transform_rec.specs.Derived.{Derived}
@@ -27,8 +27,10 @@ use Rattle.undo_group.specs.BaseForms.{base_form}
 use Rattle.undo_group.specs.Laws.Forms.{base_forms_hold}
 use Rattle.fixed_replay.specs.Replayed.{IsReplayed}
 use Rattle.fixed_replay.proofs.CallerLemmas.{setting_of, executed_replayed, known_set, forms_on, forms_grow, holds_more, base_form_on, valid_family, valid_own_names}
+use Rattle.form_rows.specs.declared.rows.AuthorRow.{AuthorRow}
+use Rattle.form_rows.proofs.CallerLemmas.{rows_grow}
 use Rattle.cot_site.specs.Sites.{AreExecuted}
-use Rattle.cot_site.specs.Code.Replicas.{IsExecuted, IsStep, IsNextAfter}
+use Rattle.cot_site.specs.Code.Replicas.{AreRowsOf, IsExecuted, IsStep, IsNextAfter}
 use Rattle.cot_site.proofs.LocalOps.{all_ready, all_closed, all_stray}
 
 -- the cells of executed forms are the fixed replay of the history
@@ -129,25 +131,29 @@ derived_at h o k to m f grown is member d =
     (subst (λ (c : ContextData). Derived form_over (family_in k (base_form k)) (member_of o) (has c) f) is (subst (λ (x : Member). Derived form_over (family_in k (base_form k)) x (has to) f) member d))
 
 -- the next operation comes after those that were executed
-next_after : (h : List OpData) (o : OpData) (fs : List Form) (cs : List CellData) → IsValid h → IsNext h o → IsExecuted h fs cs → IsNextAfter (h ++ o ∷ []) (member_of o) (has (context_of_all h)) fs
-next_after h o fs cs valid next ex =
+next_after : (h : List OpData) (o : OpData) (fs : List Form) (cs : List CellData) (kept : List (AuthorRow Form)) → IsValid h → IsNext h o → IsExecuted h fs cs → AreRowsOf h kept → IsNextAfter (h ++ o ∷ []) (member_of o) (has (context_of_all h)) fs kept
+next_after h o fs cs kept valid next ex rows =
     let k = h ++ o ∷ [] in
     let long = valid_push h o valid next in
     let w = complete h valid in
+    let more = holds_more h (o ∷ []) (base_form h) (base_form k) long (base_form_on h (o ∷ []) long) in
     record {
       before = members_in h;
-      whole = map-append member_of h (o ∷ []);
-      forms = forms_on form_over (family_in h (base_form h)) (family_in k (base_form k)) (holds_more h (o ∷ []) (base_form h) (base_form k) long (base_form_on h (o ∷ []) long)) (members_in h) none fs ex.forms;
+      executed = record {
+        whole = map-append member_of h (o ∷ []);
+        forms = forms_on form_over (family_in h (base_form h)) (family_in k (base_form k)) more (members_in h) none fs ex.forms;
+        rows = rows_grow form_over IsInertForm (family_in h (base_form h)) (family_in k (base_form k)) more (members_in h) kept (λ z i. i) rows;
+      };
       set = λ z. known_set h z ∙ sym (w.holds z);
     }
 
-pub next_after_at : (h : List OpData) (o : OpData) (k : List OpData) (to : ContextData) (m : Member) (fs gs : List Form) (cs : List CellData) → IsValid h → IsNext h o → k ≡ h ++ o ∷ [] → to ≡ context_of_all h → m ≡ member_of o → IsExecuted h fs cs → gs ≡ fs
-    → IsNextAfter k m (has to) gs
-next_after_at h o k to m fs gs cs valid next grown is member ex same =
-    subst (λ (l : List OpData). IsNextAfter l m (has to) gs) (sym grown)
-    (subst (λ (c : ContextData). IsNextAfter (h ++ o ∷ []) m (has c) gs) (sym is)
-    (subst (λ (x : Member). IsNextAfter (h ++ o ∷ []) x (has (context_of_all h)) gs) (sym member)
-    (subst (λ (xs : List Form). IsNextAfter (h ++ o ∷ []) (member_of o) (has (context_of_all h)) xs) (sym same) (next_after h o fs cs valid next ex))))
+pub next_after_at : (h : List OpData) (o : OpData) (k : List OpData) (to : ContextData) (m : Member) (fs gs : List Form) (cs : List CellData) (kept : List (AuthorRow Form)) → IsValid h → IsNext h o → k ≡ h ++ o ∷ [] → to ≡ context_of_all h → m ≡ member_of o → IsExecuted h fs cs → gs ≡ fs → AreRowsOf h kept
+    → IsNextAfter k m (has to) gs kept
+next_after_at h o k to m fs gs cs kept valid next grown is member ex same rows =
+    subst (λ (l : List OpData). IsNextAfter l m (has to) gs kept) (sym grown)
+    (subst (λ (c : ContextData). IsNextAfter (h ++ o ∷ []) m (has c) gs kept) (sym is)
+    (subst (λ (x : Member). IsNextAfter (h ++ o ∷ []) x (has (context_of_all h)) gs kept) (sym member)
+    (subst (λ (xs : List Form). IsNextAfter (h ++ o ∷ []) (member_of o) (has (context_of_all h)) xs kept) (sym same) (next_after h o fs cs kept valid next ex rows))))
 
 pub fits_at : (h : List OpData) (o : OpData) (k : List OpData) (to : ContextData) (m : Member) (fs : List Form) (cs : List CellData) → IsValid h → IsNext h o → k ≡ h ++ o ∷ [] → to ≡ context_of_all h → m ≡ member_of o → IsExecuted h fs cs
     → (f : Form) → Derived form_over (family_in k (base_form k)) m (has to) f → FitsCells cs f

@@ -15,3 +15,4 @@ pub mod Made
 pub mod WorkedCases
 pub mod Cached
 pub mod CallerLemmas
+pub mod RowForms

@@ -1,8 +1,11 @@
 -- What a site makes may come next in its history.
-use Rattle.std.proofs.Common.{◌≡◌, ◌≢◌, ℕ, zero, suc, ◌+◌, ◌<◌, ◌≤◌, Bool, true, false, inl, inr, List, [], ◌∷◌, ◌++◌, length, map, Result, Ok, Err, refl, ap, sym, subst, ◌∙◌, arith, length-append}
+use Rattle.std.proofs.Common.{◌≡◌, ◌≢◌, ℕ, zero, suc, ◌+◌, ◌*◌, ◌<◌, ◌≤◌, Bool, true, false, inl, inr, List, [], ◌∷◌, ◌++◌, length, map, Result, Ok, Err, refl, ap, sym, subst, ◌∙◌, arith, length-append}
 use Rattle.std.specs.Prelude.{Option, Some, None, Contains, slice_get, ◌&&◌, ◌==◌, if◌then◌else◌}
 use Rattle.std.specs.Char.{IsScalar}
 use Rattle.std.proofs.lemmas.Bool.{cases_Bool, cases_lt, true≢false, false≢true, false_from_ne_true, lt-ltb, le-ltb, eq-eqb}
+use Rattle.op_name.specs.declared.name.TheConstants.{SITES, NUMBERS}
+use Rattle.op_name.specs.declared.member.TheConstants.{GENERATIONS}
+use Rattle.context_diff.specs.declared.op.TheConstants.{UNDO_ENTRIES}
 use Rattle.op_name.specs.NameData.{NameData, IsName}
 use Rattle.op_name.specs.declared.member.Member.TheVariants.{Original, Group}
 use Rattle.context_vector.specs.Contexts.{ContextData, IsContext, HasNoStray, has, rank_of, raised, IsNextMember}
@@ -78,8 +81,8 @@ few_inserts h valid =
     let more = rank_more (context_of_all k) o (length (insertions_in k)) (all_is_context k v) (next_member k (context_of_all k) o (complete k v).holds next) was in
     subst (λ (c : ContextData). length (insertions_in (k ++ o ∷ [])) ≤ rank_of c) (sym (context_push k o)) (omega (arith, more, insertions_push k o))) h valid
 
--- there are at most 64,000,000 cells
-pub few_cells : (h : List OpData) → IsValid h → length (replay_of h) ≤ 64000000
+-- there are at most as many cells as originals
+pub few_cells : (h : List OpData) → IsValid h → length (replay_of h) ≤ SITES * NUMBERS
 few_cells h valid =
     let most = sum_at_most 0 (context_of_all h).counts (omega arith) (all_is_context h valid).counts in
     omega (arith, few_inserts h valid, cells_counted h, most)
@@ -131,8 +134,8 @@ behind_within h (suc v) p e = let found = behind_some (shown_places_of h) v p e 
 
 -- ---- what a made operation has passed
 
-pub in_context_made : (c : ContextData) (o : OpData) → length c.entries ≤ 16384 → in_context c o ≡ Ok o
-in_context_made c o few = ap (λ (b : Bool). if b then Err (ContextFull (length c.entries)) else Ok o) (le-ltb 16384 (length c.entries) few)
+pub in_context_made : (c : ContextData) (o : OpData) → length c.entries ≤ UNDO_ENTRIES → in_context c o ≡ Ok o
+in_context_made c o few = ap (λ (b : Bool). if b then Err (ContextFull (length c.entries)) else Ok o) (le-ltb UNDO_ENTRIES (length c.entries) few)
 
 ok_same : (a b : OpData) → ◌≡◌ {A = Result OpData Local} (Ok a) (Ok b) → a ≡ b
 ok_same a b e = cc
@@ -140,25 +143,25 @@ ok_same a b e = cc
 err_ok : (e : Local) (b : OpData) → ◌≡◌ {A = Result OpData Local} (Err e) (Ok b) → ⊥
 err_ok e b is = cc
 
-pub in_context_ok : (c : ContextData) (o p : OpData) → in_context c o ≡ Ok p → (o ≡ p) × (length c.entries ≤ 16384)
+pub in_context_ok : (c : ContextData) (o p : OpData) → in_context c o ≡ Ok p → (o ≡ p) × (length c.entries ≤ UNDO_ENTRIES)
 in_context_ok c o p e =
-    elim (cases_lt 16384 (length c.entries)) [
-      | inl more ↦ absurd (err_ok (ContextFull (length c.entries)) p (sym (ap (λ (b : Bool). if b then Err (ContextFull (length c.entries)) else Ok o) (lt-ltb 16384 (length c.entries) more)) ∙ e))
+    elim (cases_lt UNDO_ENTRIES (length c.entries)) [
+      | inl more ↦ absurd (err_ok (ContextFull (length c.entries)) p (sym (ap (λ (b : Bool). if b then Err (ContextFull (length c.entries)) else Ok o) (lt-ltb UNDO_ENTRIES (length c.entries) more)) ∙ e))
       | inr few ↦ (ok_same o p (sym (in_context_made c o few) ∙ e), few)
     ]
 
-pub numbered_ok : (s : State) (o p : OpData) → numbered s o ≡ Ok p → (count_made s < 1000000) × (o ≡ p) × (length (context_of_all s.history).entries ≤ 16384)
+pub numbered_ok : (s : State) (o p : OpData) → numbered s o ≡ Ok p → (count_made s < NUMBERS) × (o ≡ p) × (length (context_of_all s.history).entries ≤ UNDO_ENTRIES)
 numbered_ok s o p e =
-    elim (cases_lt (count_made s) 1000000) [
+    elim (cases_lt (count_made s) NUMBERS) [
       | inl free ↦
-          let inner = in_context_ok (context_of_all s.history) o p (sym (ap (λ (b : Bool). if b then in_context (context_of_all s.history) o else Err NumberFull) (lt-ltb (count_made s) 1000000 free)) ∙ e) in
+          let inner = in_context_ok (context_of_all s.history) o p (sym (ap (λ (b : Bool). if b then in_context (context_of_all s.history) o else Err NumberFull) (lt-ltb (count_made s) NUMBERS free)) ∙ e) in
           (free, inner.0, inner.1)
-      | inr full ↦ absurd (err_ok NumberFull p (sym (ap (λ (b : Bool). if b then in_context (context_of_all s.history) o else Err NumberFull) (le-ltb (count_made s) 1000000 full)) ∙ e))
+      | inr full ↦ absurd (err_ok NumberFull p (sym (ap (λ (b : Bool). if b then in_context (context_of_all s.history) o else Err NumberFull) (le-ltb (count_made s) NUMBERS full)) ∙ e))
     ]
 
 -- ---- the operations
 
-module _ (s : State) (valid : IsValid s.history) (site : s.number < 64) where
+module _ (s : State) (valid : IsValid s.history) (site : s.number < SITES) where
   next_unknown : is_known s.history (Original (next_name s)) ≡ false
   next_unknown =
       false_from_ne_true (is_known s.history (Original (next_name s))) (λ e.
@@ -167,7 +170,7 @@ module _ (s : State) (valid : IsValid s.history) (site : s.number < 64) where
       let most : count_made s + 1 ≤ count_made s = there.1 in
       omega (arith, most))
 
-  pub insert_next : (p ch : ℕ) → IsScalar ch → count_made s < 1000000 → length (context_of_all s.history).entries ≤ 16384 → p ≤ length (replay_of s.history) → IsNext s.history (inserting (next_name s) p ch (context_of_all s.history))
+  pub insert_next : (p ch : ℕ) → IsScalar ch → count_made s < NUMBERS → length (context_of_all s.history).entries ≤ UNDO_ENTRIES → p ≤ length (replay_of s.history) → IsNext s.history (inserting (next_name s) p ch (context_of_all s.history))
   insert_next p ch scalar free few place =
       let w = complete s.history valid in
       record {
@@ -183,7 +186,7 @@ module _ (s : State) (valid : IsValid s.history) (site : s.number < 64) where
         placed = omega (arith, all_inserts s.history w);
       }
 
-  pub delete_next : (p : ℕ) → count_made s < 1000000 → length (context_of_all s.history).entries ≤ 16384 → p < length (replay_of s.history) → IsNext s.history (deleting (next_name s) p (context_of_all s.history))
+  pub delete_next : (p : ℕ) → count_made s < NUMBERS → length (context_of_all s.history).entries ≤ UNDO_ENTRIES → p < length (replay_of s.history) → IsNext s.history (deleting (next_name s) p (context_of_all s.history))
   delete_next p free few place =
       let w = complete s.history valid in
       record {
@@ -204,7 +207,7 @@ module _ (s : State) (valid : IsValid s.history) (site : s.number < 64) where
   name_range (deleting n p c) t f is = let same : n ≡ t = cc in subst (λ (x : NameData). IsName x.site x.number) same f.in_range.0
   name_range (undoing a u g c) t f is = absurd (cc)
 
-  turned_next : (t : NameData) → is_known s.history (Original t) ≡ true → generation_in s.history t + 1 ≤ 65535 → (o : OpData) → turned s t ≡ Ok o → IsNext s.history o
+  turned_next : (t : NameData) → is_known s.history (Original t) ≡ true → generation_in s.history t + 1 ≤ GENERATIONS → (o : OpData) → turned s t ≡ Ok o → IsNext s.history o
   turned_next t known most o e =
       let w = complete s.history valid in
       let made = in_context_ok (context_of_all s.history) (undoing s.number t (generation_in s.history t + 1) (context_of_all s.history)) o e in
@@ -226,7 +229,7 @@ module _ (s : State) (valid : IsValid s.history) (site : s.number < 64) where
         placed = tt;
       })
 
-  generation_range : (t : NameData) → generation_in s.history t ≤ 65535
+  generation_range : (t : NameData) → generation_in s.history t ≤ GENERATIONS
   generation_range t = omega (arith, generation_is s.history valid t, entry_at_most (context_of_all s.history).entries t (all_is_context s.history valid).entries)
 
   -- ---- the commands
@@ -259,19 +262,19 @@ module _ (s : State) (valid : IsValid s.history) (site : s.number < 64) where
             elim (cases_Bool (is_even (generation_in s.history t))) [
               | inr odd ↦ absurd (err_ok (NotInForce (generation_in s.history t)) o (sym (ap (λ (b : Bool). if b then turned s t else Err (NotInForce (generation_in s.history t))) odd) ∙ f))
               | inl even ↦
-                  let below : generation_in s.history t ≢ 65535 = λ full. false≢true (ap is_even (sym full) ∙ even) in
+                  let below : generation_in s.history t ≢ GENERATIONS = λ full. false≢true (ap is_even (sym full) ∙ even) in
                   let range = generation_range t in
                   turned_next t known (less (generation_in s.history t) range below) o (sym (ap (λ (b : Bool). if b then turned s t else Err (NotInForce (generation_in s.history t))) even) ∙ f)
             ]
       ]
     where
-      less : (g : ℕ) → g ≤ 65535 → g ≢ 65535 → g + 1 ≤ 65535
+      less : (g : ℕ) → g ≤ GENERATIONS → g ≢ GENERATIONS → g + 1 ≤ GENERATIONS
       less g le ne = omega arith
 
   pub local_redo_next : (o : OpData) (t : NameData) → local_redo s t ≡ Ok o → IsNext s.history o
   local_redo_next o t e =
       let g = generation_in s.history t in
-      let last : Result OpData Local = if g == 65535 then Err GenerationFull else turned s t in
+      let last : Result OpData Local = if g == GENERATIONS then Err GenerationFull else turned s t in
       let inner : Result OpData Local = if is_even g then Err (InForce g) else last in
       elim (cases_Bool (is_known s.history (Original t))) [
         | inr isnt ↦ absurd (err_ok (Unknown t) o (sym (ap (λ (b : Bool). if b then inner else Err (Unknown t)) isnt) ∙ e))
@@ -281,30 +284,30 @@ module _ (s : State) (valid : IsValid s.history) (site : s.number < 64) where
               | inl even ↦ absurd (err_ok (InForce g) o (sym (ap (λ (b : Bool). if b then Err (InForce g) else last) even) ∙ f))
               | inr odd ↦
                   let k : last ≡ Ok o = sym (ap (λ (b : Bool). if b then Err (InForce g) else last) odd) ∙ f in
-                  elim (cases_Bool (g == 65535)) [
+                  elim (cases_Bool (g == GENERATIONS)) [
                     | inl full ↦ absurd (err_ok GenerationFull o (sym (ap (λ (b : Bool). if b then Err GenerationFull else turned s t) full) ∙ k))
                     | inr free ↦
-                        let below : g ≢ 65535 = λ is. true≢false (sym (eq-eqb g 65535 is) ∙ free) in
+                        let below : g ≢ GENERATIONS = λ is. true≢false (sym (eq-eqb g GENERATIONS is) ∙ free) in
                         turned_next t known (less g (generation_range t) below) o (sym (ap (λ (b : Bool). if b then Err GenerationFull else turned s t) free) ∙ k)
                   ]
             ]
       ]
     where
-      less : (g : ℕ) → g ≤ 65535 → g ≢ 65535 → g + 1 ≤ 65535
+      less : (g : ℕ) → g ≤ GENERATIONS → g ≢ GENERATIONS → g + 1 ≤ GENERATIONS
       less g le ne = omega arith
 
 -- the same for parts that are equal to these
-pub insert_ready : (s : State) → IsValid s.history → s.number < 64 → (n : NameData) (p ch v : ℕ) (k : ContextData) → IsScalar ch → n ≡ next_name s → count_made s < 1000000 → k ≡ context_of_all s.history → length (context_of_all s.history).entries ≤ 16384 → place_behind s.history v ≡ Some p → IsNext s.history (inserting n p ch k)
+pub insert_ready : (s : State) → IsValid s.history → s.number < SITES → (n : NameData) (p ch v : ℕ) (k : ContextData) → IsScalar ch → n ≡ next_name s → count_made s < NUMBERS → k ≡ context_of_all s.history → length (context_of_all s.history).entries ≤ UNDO_ENTRIES → place_behind s.history v ≡ Some p → IsNext s.history (inserting n p ch k)
 insert_ready s valid site n p ch v k scalar name free context few at =
     subst (λ (m : NameData). IsNext s.history (inserting m p ch k)) (sym name)
     (subst (λ (c : ContextData). IsNext s.history (inserting (next_name s) p ch c)) (sym context) (insert_next s valid site p ch scalar free few (behind_within s.history v p at)))
 
-pub delete_ready : (s : State) → IsValid s.history → s.number < 64 → (n : NameData) (p v : ℕ) (k : ContextData) → n ≡ next_name s → count_made s < 1000000 → k ≡ context_of_all s.history → length (context_of_all s.history).entries ≤ 16384 → place_of_shown s.history v ≡ Some p → IsNext s.history (deleting n p k)
+pub delete_ready : (s : State) → IsValid s.history → s.number < SITES → (n : NameData) (p v : ℕ) (k : ContextData) → n ≡ next_name s → count_made s < NUMBERS → k ≡ context_of_all s.history → length (context_of_all s.history).entries ≤ UNDO_ENTRIES → place_of_shown s.history v ≡ Some p → IsNext s.history (deleting n p k)
 delete_ready s valid site n p v k name free context few at =
     subst (λ (m : NameData). IsNext s.history (deleting m p k)) (sym name)
     (subst (λ (c : ContextData). IsNext s.history (deleting (next_name s) p c)) (sym context) (delete_next s valid site p free few (shown_within s.history v p at)))
 
-pub turn_ready : (s : State) → IsValid s.history → s.number < 64 → (a : ℕ) (t : NameData) (g : ℕ) (k : ContextData) → a ≡ s.number → is_known s.history (Original t) ≡ true → g ≡ generation_in s.history t → g < 65535 → k ≡ context_of_all s.history → length (context_of_all s.history).entries ≤ 16384 → IsNext s.history (undoing a t (g + 1) k)
+pub turn_ready : (s : State) → IsValid s.history → s.number < SITES → (a : ℕ) (t : NameData) (g : ℕ) (k : ContextData) → a ≡ s.number → is_known s.history (Original t) ≡ true → g ≡ generation_in s.history t → g < GENERATIONS → k ≡ context_of_all s.history → length (context_of_all s.history).entries ≤ UNDO_ENTRIES → IsNext s.history (undoing a t (g + 1) k)
 turn_ready s valid site a t g k author known generation below context few =
     let o : OpData = undoing s.number t (generation_in s.history t + 1) (context_of_all s.history) in
     let next : IsNext s.history o = turned_next s valid site t known (omega (arith, below, generation)) o (in_context_made (context_of_all s.history) o few) in

@@ -1,6 +1,7 @@
 -- Local commands: which operation a site makes, or why it makes none.
 use Rattle.std.specs.Prelude.{◌≡◌, ℕ, suc, ◌+◌, List, ◌∷◌, Option, Some, None, Result, Ok, Err, IsOk, ◌==◌, nat_lt, if◌then◌else◌, length, map, slice_get}
 use Rattle.op_name.specs.declared.member.Member.TheVariants.{Original}
+use Rattle.op_name.specs.declared.member.TheConstants.{GENERATIONS}
 use Rattle.op_name.specs.declared.name.TheConstants.{NUMBERS}
 use Rattle.op_name.specs.NameData.{NameData}
 use Rattle.context_vector.specs.Contexts.{ContextData, count_of}
@@ -76,7 +77,7 @@ local_undo s t =
 abbrev pub local_redo : State → NameData → Result OpData Local
 local_redo s t =
     if is_known s.history (Original t)
-    then (if is_even (generation_in s.history t) then Err (InForce (generation_in s.history t)) else if generation_in s.history t == 65535 then Err GenerationFull else turned s t)
+    then (if is_even (generation_in s.history t) then Err (InForce (generation_in s.history t)) else if generation_in s.history t == GENERATIONS then Err GenerationFull else turned s t)
     else Err (Unknown t)
 
 -- the answer is that of the definition, or out of memory where the definition has an operation

@@ -1,9 +1,12 @@
 //! The integrated operations of a site, with what they made of the text.
 
-ghost use Rattle.std.specs.Prelude.{◌≡◌, ◌<◌, ◌≤◌, ◌↔◌, ◌++◌, ◌∷◌, List, [], IsNone, OnOk, OnErr, IfOk, IfSome, length, option_map, slice_get, vec_len, vec_capacity};
+ghost use Rattle.std.specs.Prelude.{◌≡◌, ◌<◌, ◌≤◌, ◌↔◌, ◌++◌, ◌∷◌, true, List, [], IsTrue, IsNone, OnOk, OnErr, IfOk, IfSome, length, option_map, slice_get, vec_len, vec_capacity};
+ghost use Rattle.op_name.specs.declared.member.Member.{Member};
+ghost use Rattle.op_name.specs.declared.member.Member.TheVariants.{Original};
+ghost use Rattle.context_diff.specs.Bases.{base_has};
 ghost use Rattle.context_vector.specs.Contexts.{has};
 ghost use Rattle.context_diff.specs.Operations.{OpData};
-ghost use Rattle.context_diff.specs.Histories.{context_of_all, IsNext, IsValid};
+ghost use Rattle.context_diff.specs.Histories.{context_of_all, is_known, IsNext, IsValid};
 ghost use Rattle.context_diff.specs.Replays.{shown, text_of};
 ghost use Rattle.context_diff.specs.Books.{HasRoomToPop};
 ghost use Rattle.context_diff.specs.Ops.{data_of};
@@ -12,51 +15,57 @@ ghost use Rattle.tombstone_text.specs.Cells.{HasRoomFor};
 ghost use Rattle.form_cache.specs.Entries.{form_at, used};
 ghost use Rattle.ttf_form.specs.Cells.{FitsCells};
 ghost use Rattle.ttf_form.specs.declared.form.Form.{Form};
-ghost use Rattle.transform_rec.specs.Derived.{Derived};
+ghost use Rattle.ttf_form.specs.declared.form.Form.TheVariants.{Ins as Insert};
+ghost use Rattle.transform_rec.specs.Sets.{plus};
+ghost use Rattle.transform_rec.specs.Family.{Family};
+ghost use Rattle.transform_rec.specs.Derived.{Derived, IsOnlyFormAt};
+ghost use Rattle.transform_rec.specs.Entries.{AreForms};
 ghost use Rattle.transform_rec.specs.Histories.{family_in, MayBeAddedTo};
 ghost use Rattle.undo_group.specs.BaseForms.{base_form};
+ghost use Rattle.form_rows.specs.Names.{insert_of};
+ghost use Rattle.form_rows.specs.Kept.{IsFormWith};
 ghost use Rattle.cot_site.specs.Commands.{place_of_shown, place_behind};
 ghost use Rattle.cot_site.specs.Sites.{AreExecuted, AreCached, IsFormOf, KeepsForms};
-ghost use Rattle.cot_site.specs.Code.Replicas.{IsExecutedAsBefore, IsStep, IsNextAfter};
+ghost use Rattle.cot_site.specs.Code.Replicas.{AreRowsOf, IsExecutedAsBefore, IsStep, IsNextAfter};
 
 use context_diff::{Book, Op};
 use context_vector::Vector;
 use form_cache::{Cache, Key};
-use form_rows::executed_group;
-use op_name::{Member, Memory};
+use form_rows::{Rows, executed_group, executed_original};
+use op_name::{Member, Memory, Name};
 use std::alloc::Global;
 use std::marker::Model;
 use tombstone_text::Cells;
-use transform_rec::transform_with;
-use ttf_form::{Cover, Form};
+use ttf_form::{Bases, Cover, Form, Ins};
 use undo_group::TextBases;
 use visible_view::{cell_of_visible, model_place, visible_len, write_text};
 
 /// The greatest number of forms in a site's cache.
-pub const CACHED_FORMS: u32 = 16_384;
+pub const CACHED_FORMS: u32 = 512;
 
-/// A valid history, the form in which each of its operations was executed, the cells that these forms gave,
-/// and forms that were computed on the way. A site hands its calls on what it has integrated to it: what ties
+/// A valid history, the form in which each of its operations was executed, the cells that these forms gave, the rows
+/// out of which the next forms are found, and forms that were computed on the way. A site hands its calls on what it has integrated to it: what ties
 /// these parts together is kept here, and a site adds its number and what waits.
 #[derive(Drop)]
 pub struct Replica {
     book: Book,
     forms: Vec<Form>,
     cells: Cells,
+    rows: Rows<Form>,
     cache: Cache<Form>,
 }
 
 impl Model for Replica {
     ghost use Rattle.std.specs.Prelude.{◌≡◌};
     ghost use Rattle.cot_site.specs.Sites.{AreCached};
-    ghost use Rattle.cot_site.specs.Code.Replicas.{ReplicaData, IsExecuted};
+    ghost use Rattle.cot_site.specs.Code.Replicas.{ReplicaData, IsExecuted, AreRowsOf};
     ghost use Rattle.cot_site.specs.declared.replica.TheConstants.{CACHED_FORMS};
 
     ghost Value = { ReplicaData };
 
     ghost view = { λ r. record { history = r.book.ops; forms = r.forms.items; entries = r.cache.entries } };
 
-    ghost invariant = { λ r. IsExecuted r.book.ops r.forms.items r.cells.cells × AreCached r.book.ops r.cache.entries × (r.cache.capacity ≡ CACHED_FORMS) };
+    ghost invariant = { λ r. IsExecuted r.book.ops r.forms.items r.cells.cells × AreCached r.book.ops r.cache.entries × (r.cache.capacity ≡ CACHED_FORMS) × AreRowsOf r.book.ops r.rows.kept.items };
 }
 
 impl Replica {
@@ -69,6 +78,7 @@ impl Replica {
             book: Book::new(alloc),
             forms: Vec::new(alloc),
             cells: Cells::new(alloc),
+            rows: Rows::new(alloc),
             cache,
         })
     }
@@ -172,6 +182,7 @@ impl Replica {
         match execute(
             &self.book,
             &mut self.cache,
+            &mut self.rows,
             &mut self.forms,
             &mut self.cells,
             &member,
@@ -182,7 +193,7 @@ impl Replica {
                 Ok(())
             }
             Err(want) => {
-                take_back(&mut self.book, &mut self.cache);
+                take_back(&mut self.book, &mut self.cache, &mut self.rows);
                 Err(want)
             }
         }
@@ -198,13 +209,15 @@ fn with_shared_names(book: &Book, op: Op) -> Op
     op
 }
 
-// Takes the last operation out, and with it all forms of the cache: their members or contexts may have it.
-fn take_back(book: &mut Book, cache: &mut Cache<Form>)
+// Takes the last operation out, and with it all rows and all forms of the cache: their members or contexts may have it.
+fn take_back(book: &mut Book, cache: &mut Cache<Form>, rows: &mut Rows<Form>)
     requires { HasRoomToPop book.old }
     ensures ops { (h : List OpData) (o : OpData) → book.old.ops ≡ h ++ o ∷ [] → book.new.ops ≡ h }
     ensures entries { cache.new.entries ≡ [] }
+    ensures rows { rows.new.kept.items ≡ [] }
     ensures capacity { cache.new.capacity ≡ cache.old.capacity }
 {
+    rows.clear();
     cache.clear();
     book.pop();
 }
@@ -214,6 +227,7 @@ fn take_back(book: &mut Book, cache: &mut Cache<Form>)
 fn execute(
     book: &Book,
     cache: &mut Cache<Form>,
+    rows: &mut Rows<Form>,
     forms: &mut Vec<Form>,
     cells: &mut Cells,
     member: &Member,
@@ -221,17 +235,17 @@ fn execute(
 ) -> Result<(), Memory>
     requires room { vec_len forms.old < vec_capacity forms.old }
     requires added { MayBeAddedTo book.now.ops to.now.set member.now }
-    requires next { IsNextAfter book.now.ops member.now (has to.now.set) forms.old.items }
+    requires next { IsNextAfter book.now.ops member.now (has to.now.set) forms.old.items rows.old.kept.items }
     requires cached { AreCached book.now.ops cache.old.entries }
     requires fits { (f : Form) → Derived form_over (family_in book.now.ops (base_form book.now.ops)) member.now (has to.now.set) f → FitsCells cells.old.cells f }
     ensures step { OnOk result (IsStep book.now.ops member.now (has to.now.set) forms.old.items forms.new.items cells.old.cells cells.new.cells) }
+    ensures rows { OnOk result (AreRowsOf book.now.ops rows.new.kept.items) }
     ensures forms { OnErr result (forms.new.items ≡ forms.old.items) }
     ensures cells { OnErr result (cells.new.cells ≡ cells.old.cells) }
     ensures cached { AreCached book.now.ops cache.new.entries }
     ensures capacity { cache.new.capacity ≡ cache.old.capacity }
 {
-    let alloc = *forms.allocator();
-    match form_with_room(alloc, book, cache, cells, forms.as_slice(), member, to) {
+    match form_with_room(book, cache, rows, cells, forms.as_slice(), member, to) {
         Ok(form) => {
             cells.apply(&form);
             append(forms, &form);
@@ -257,24 +271,25 @@ fn append(forms: &mut Vec<Form>, form: &Form)
 
 // The form of a member of the book at `to`, with room among the cells to apply it. The cells stay as they are.
 fn form_with_room(
-    alloc: Global,
     book: &Book,
     cache: &mut Cache<Form>,
+    rows: &mut Rows<Form>,
     cells: &mut Cells,
     forms: &[Form],
     member: &Member,
     to: &Vector,
 ) -> Result<Form, Memory>
     requires added { MayBeAddedTo book.now.ops to.now.set member.now }
-    requires next { IsNextAfter book.now.ops member.now (has to.now.set) forms.now }
+    requires next { IsNextAfter book.now.ops member.now (has to.now.set) forms.now rows.old.kept.items }
     requires cached { AreCached book.now.ops cache.old.entries }
     ensures form { IfOk result (Derived form_over (family_in book.now.ops (base_form book.now.ops)) member.now (has to.now.set)) }
+    ensures rows { OnOk result (AreRowsOf book.now.ops rows.new.kept.items) }
     ensures room { IfOk result (HasRoomFor cells.new) }
     ensures cells { cells.new.cells ≡ cells.old.cells }
     ensures cached { AreCached book.now.ops cache.new.entries }
     ensures capacity { cache.new.capacity ≡ cache.old.capacity }
 {
-    let form = form_at(alloc, book, cache, forms, member, to)?;
+    let form = form_at(book, cache, rows, forms, member, to)?;
     cells.reserve(&form)?;
     Ok(form)
 }
@@ -282,40 +297,183 @@ fn form_with_room(
 // The form of a member of the book at `to`: that of an undo group follows the form in which the group before it, or its
 // original, was executed.
 fn form_at(
-    alloc: Global,
     book: &Book,
     cache: &mut Cache<Form>,
+    rows: &mut Rows<Form>,
     forms: &[Form],
     member: &Member,
     to: &Vector,
 ) -> Result<Form, Memory>
     requires added { MayBeAddedTo book.now.ops to.now.set member.now }
-    requires next { IsNextAfter book.now.ops member.now (has to.now.set) forms.now }
+    requires next { IsNextAfter book.now.ops member.now (has to.now.set) forms.now rows.old.kept.items }
     requires cached { AreCached book.now.ops cache.old.entries }
     ensures form { IfOk result (Derived form_over (family_in book.now.ops (base_form book.now.ops)) member.now (has to.now.set)) }
+    ensures rows { OnOk result (AreRowsOf book.now.ops rows.new.kept.items) }
     ensures cached { AreCached book.now.ops cache.new.entries }
     ensures capacity { cache.new.capacity ≡ cache.old.capacity }
 {
     match member {
-        Member::Original(_) => original_form(alloc, book, cache, member, to),
+        Member::Original(name) => original_form(book, cache, rows, forms, name, to),
         Member::Group(target, generation) => Ok(executed_group(book, target, *generation, forms)),
     }
 }
 
-// The form of a member of the book at `to`, with the forms of the cache at hand.
+// The form of an original at `to`: its base form where that is its context, and else the form that the rows give.
 fn original_form(
-    alloc: Global,
     book: &Book,
     cache: &mut Cache<Form>,
-    member: &Member,
+    rows: &mut Rows<Form>,
+    forms: &[Form],
+    name: &Name,
     to: &Vector,
 ) -> Result<Form, Memory>
-    requires added { MayBeAddedTo book.now.ops to.now.set member.now }
+    requires known { is_known book.now.ops (Original name.now) ≡ true }
+    requires next { IsNextAfter book.now.ops (Original name.now) (has to.now.set) forms.now rows.old.kept.items }
     requires cached { AreCached book.now.ops cache.old.entries }
-    ensures form { IfOk result (Derived form_over (family_in book.now.ops (base_form book.now.ops)) member.now (has to.now.set)) }
+    ensures form { IfOk result (Derived form_over (family_in book.now.ops (base_form book.now.ops)) (Original name.now) (has to.now.set)) }
+    ensures rows { OnOk result (AreRowsOf book.now.ops rows.new.kept.items) }
     ensures cached { AreCached book.now.ops cache.new.entries }
     ensures capacity { cache.new.capacity ≡ cache.old.capacity }
 {
-    let form = transform_with(alloc, book, &TextBases::new(book), cache, member, to)?;
-    Ok(form)
+    book.known();
+    match book.original(name) {
+        Some(op) => {
+            if are_same(op.context(), to) {
+                Ok(base_of(book, name))
+            } else {
+                computed_form(book, cache, rows, forms, name, op.context(), to)
+            }
+        }
+        None => unreachable!(),
+    }
+}
+
+// Whether two contexts have the same members.
+fn are_same(a: &Vector, b: &Vector) -> bool
+    ensures { IsTrue result → a.now.set ≡ b.now.set }
+{
+    a == b
+}
+
+// The base form of an original of the book.
+fn base_of(book: &Book, name: &Name) -> Form
+    requires { is_known book.now.ops (Original name.now) ≡ true }
+    ensures { result ≡ base_form book.now.ops (Original name.now) }
+{
+    TextBases::new(book).base(&Member::Original(*name))
+}
+
+// The form of an original at `to` by the rows, which the cache keeps, with the form of the first member of its row.
+fn computed_form(
+    book: &Book,
+    cache: &mut Cache<Form>,
+    rows: &mut Rows<Form>,
+    forms: &[Form],
+    name: &Name,
+    context: &Vector,
+    to: &Vector,
+) -> Result<Form, Memory>
+    requires next { IsNextAfter book.now.ops (Original name.now) (has to.now.set) forms.now rows.old.kept.items }
+    requires context { (y : Member) → has context.now.set y ≡ base_has book.now.ops (Original name.now) y }
+    requires cached { AreCached book.now.ops cache.old.entries }
+    ensures form { IfOk result (Derived form_over (family_in book.now.ops (base_form book.now.ops)) (Original name.now) (has to.now.set)) }
+    ensures rows { OnOk result (AreRowsOf book.now.ops rows.new.kept.items) }
+    ensures cached { AreCached book.now.ops cache.new.entries }
+    ensures capacity { cache.new.capacity ≡ cache.old.capacity }
+{
+    match executed_original(book, name, forms, rows) {
+        Ok(made) => {
+            keep_executed(cache, name, to, made.0);
+            keep_first(book, cache, name, context, made.1);
+            Ok(made.0)
+        }
+        Err(want) => Err(want),
+    }
+}
+
+// Keeps the form of an original at a context, if there is memory for it.
+fn keep_executed(cache: &mut Cache<Form>, name: &Name, context: &Vector, form: Form)
+    ensures forms { (b : Family Form) → AreForms form_over b cache.old.entries → IsOnlyFormAt form_over b (Original name.now) (has context.now.set) form → AreForms form_over b cache.new.entries }
+    ensures capacity { cache.new.capacity ≡ cache.old.capacity }
+{
+    match context.try_clone() {
+        Ok(copy) => keep_form(cache, name, copy, form),
+        Err(_) => {}
+    }
+}
+
+// Keeps the form of an original at a context, if there is memory for it.
+fn keep_form(cache: &mut Cache<Form>, name: &Name, context: Vector, form: Form)
+    ensures forms { (b : Family Form) → AreForms form_over b cache.old.entries → IsOnlyFormAt form_over b (Original name.now) (has context.set) form → AreForms form_over b cache.new.entries }
+    ensures capacity { cache.new.capacity ≡ cache.old.capacity }
+{
+    let member = Member::Original(*name);
+    cache.keep(Key { member, context }, form);
+}
+
+// Keeps the first form of the row of an original, which is the form of its insert at the original's context with the
+// original, if all that the insert was made after is there.
+fn keep_first(
+    book: &Book,
+    cache: &mut Cache<Form>,
+    name: &Name,
+    context: &Vector,
+    first: Option<Form>,
+)
+    requires first { IfSome first (IsFormWith form_over insert_of (family_in book.now.ops (base_form book.now.ops)) (Original name.now)) }
+    requires context { (y : Member) → has context.now.set y ≡ base_has book.now.ops (Original name.now) y }
+    requires cached { AreCached book.now.ops cache.old.entries }
+    ensures cached { AreCached book.now.ops cache.new.entries }
+    ensures capacity { cache.new.capacity ≡ cache.old.capacity }
+{
+    match first {
+        Some(form) => match form {
+            Form::Ins(ins) => keep_insert(book, cache, name, context, &ins),
+            Form::Cover(_) => {}
+        },
+        None => {}
+    }
+}
+
+// The same of an insert.
+fn keep_insert(book: &Book, cache: &mut Cache<Form>, name: &Name, context: &Vector, ins: &Ins)
+    requires first { IsFormWith form_over insert_of (family_in book.now.ops (base_form book.now.ops)) (Original name.now) (Insert ins.now) }
+    requires context { (y : Member) → has context.now.set y ≡ base_has book.now.ops (Original name.now) y }
+    requires cached { AreCached book.now.ops cache.old.entries }
+    ensures cached { AreCached book.now.ops cache.new.entries }
+    ensures capacity { cache.new.capacity ≡ cache.old.capacity }
+{
+    match with_original(context, name) {
+        Some(with) => {
+            if has_base(book, &ins.name, &with) {
+                keep_form(cache, &ins.name, with, Form::Ins(*ins));
+            }
+        }
+        None => {}
+    }
+}
+
+// The context with the original, the next of its site; None also out of memory.
+fn with_original(context: &Vector, name: &Name) -> Option<Vector>
+    ensures { IfSome result (λ v. (y : Member) → has v.set y ≡ plus (has context.now.set) (Original name.now) y) }
+{
+    name.known();
+    let Ok(mut with) = context.try_clone() else {
+        return None;
+    };
+    match with.add(&Member::Original(*name)) {
+        Ok(()) => Some(with),
+        Err(_) => None,
+    }
+}
+
+// Whether the context has all that an original of the book was made after.
+fn has_base(book: &Book, name: &Name, context: &Vector) -> bool
+    ensures { IsTrue result → (y : Member) → base_has book.now.ops (Original name.now) y ≡ true → has context.now.set y ≡ true }
+{
+    book.known();
+    match book.original(name) {
+        Some(op) => context.covers(op.context()),
+        None => false,
+    }
 }

@@ -1,5 +1,5 @@
 -- Rows of a family are rows of a family that holds it, and over a list with one member more.
-use Rattle.std.proofs.Common.{◌≡◌, ◌≢◌, ℕ, ◌+◌, ◌≤◌, Bool, true, ◌⊎◌, inl, inr, List, [], ◌∷◌, ◌++◌, Contains, length, take, refl, sym, ap, subst, ◌∙◌, arith, length-append}
+use Rattle.std.proofs.Common.{◌≡◌, ◌≢◌, ℕ, suc, ◌+◌, ◌≤◌, Bool, true, ◌⊎◌, inl, inr, List, [], ◌∷◌, ◌++◌, Contains, length, take, refl, sym, ap, subst, ◌∙◌, arith, length-append}
 use Rattle.std.proofs.lemmas.List.{take-append-le}
 use Rattle.op_name.specs.declared.member.Member.{Member}
 use Rattle.op_name.specs.declared.member.Member.TheVariants.{Original}
@@ -9,6 +9,7 @@ use Rattle.transform_rec.specs.Family.{Family}
 use Rattle.transform_rec.specs.Derived.{Derived, Holds}
 use Rattle.transform_rec.specs.Derived.Derived.{at_base, by_step}
 use Rattle.transform_rec.proofs.CallerLemmas.{in_left, in_right, same_set, plus_same, derived_moves}
+use Rattle.transform_rec.specs.Executing.{AreFormsFrom}
 use Rattle.form_rows.specs.RowSets.{IsRow, RowData, IsRowAt}
 use Rattle.form_rows.specs.Kept.{IsAuthorRow, AreRows}
 use Rattle.form_rows.specs.declared.rows.AuthorRow.{AuthorRow}
@@ -56,6 +57,12 @@ module _ {F : Type 0} (over : F → F → F) (IsInert : F → Type 0) (b : Famil
         row = subst (λ (l : List Member). IsRow over IsInert b C l r.forms) (sym same) at.row;
       }
 
+  -- the rows over one member more
+  pub rows_stay : (xs : List Member) (m : Member) (rows : List (AuthorRow F)) → AreRows over IsInert b xs rows → AreRows over IsInert b (xs ++ m ∷ []) rows
+  rows_stay xs m rows are k i =
+      let a = are k i in
+      record { listed = in_left (Original k.last) xs (m ∷ []) a.listed; row = row_longer (plus (b.context (Original k.last)) (Original k.last)) xs m k.row a.row }
+
   -- the rows after one more operation: those that were left, and that of its author
   pub rows_longer : (xs : List Member) (m : Member) (old left new : List (AuthorRow F)) (own : AuthorRow F) → m ≡ Original own.last → AreRows over IsInert b xs old
       → ((k : AuthorRow F) → Contains left k → Contains old k) → ((k : AuthorRow F) → Contains new k → Contains left k ⊎ (own ≡ k))
@@ -69,3 +76,10 @@ module _ {F : Type 0} (over : F → F → F) (IsInert : F → Type 0) (b : Famil
           row = subst (λ (y : Member). IsRowAt over IsInert b (plus (b.context y) y) (xs ++ m ∷ []) own.row) is at;
         })
       ]
+
+-- there are as many executed forms as members
+pub forms_count : {F : Type 0} (over : F → F → F) (b : Family F) (xs : List Member) (C : Member → Bool) (fs : List F) → AreFormsFrom over b C xs fs → length fs ≡ length xs
+forms_count over b [] C [] r = refl
+forms_count over b [] C (f ∷ fs) r = absurd r
+forms_count over b (x ∷ xs) C [] r = absurd r
+forms_count over b (x ∷ xs) C (f ∷ fs) r = ap suc (forms_count over b xs (plus C x) fs r.1)

@@ -13,3 +13,6 @@ pub mod Prefixes
 pub mod Choices
 pub mod Growing
 pub mod Takes
+pub mod Firsts
+pub mod TextForms
+pub mod CallerLemmas

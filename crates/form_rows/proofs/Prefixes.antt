@@ -66,11 +66,14 @@ lacking_step (o ∷ os) c i (suc j) e le t told =
     ap (λ (n : ℕ). lacking (take n (o ∷ os)) c) more ∙ rest
 
 -- what a context lacks of a whole valid history
-pub lacking_start : (h : List OpData) → IsValid h → (a c : ContextData) → a ≡ context_of_all h → (x y n s : ℕ) → x ≡ inserts_in h a → y ≡ inserts_in h c → n ≡ length h → s ≡ x - y → s ≡ lacking (take n h) c
-lacking_start h v a c is x y n s ex ey en es =
+pub lacking_whole : (h : List OpData) → IsValid h → (a c : ContextData) → a ≡ context_of_all h → (x y s : ℕ) → x ≡ inserts_in h a → y ≡ inserts_in h c → s ≡ x - y → s ≡ lacking h c
+lacking_whole h v a c is x y s ex ey es =
     let all : (o : OpData) → IsIn o h → has a (member_of o) ≡ true = λ o i.
     ap (λ (l : ContextData). has l (member_of o)) is ∙ ((complete h v).holds (member_of o) ∙ known_as o (member_of o) h i refl) in
     let rest = lacking_rest h a c all in
+    omega (arith, rest)
+
+pub lacking_start : (h : List OpData) (c : ContextData) (n s : ℕ) → n ≡ length h → s ≡ lacking h c → s ≡ lacking (take n h) c
+lacking_start h c n s en es =
     let whole : take n h ≡ h = take_all n h (omega arith) in
-    let made : s ≡ lacking h c = omega (arith, rest) in
-    made ∙ ap (λ (l : List OpData). lacking l c) (sym whole)
+    es ∙ ap (λ (l : List OpData). lacking l c) (sym whole)

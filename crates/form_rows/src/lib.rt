@@ -10,6 +10,7 @@
 mod groups;
 mod laws;
 mod named;
+mod originals;
 mod passes;
 mod row;
 mod rows;
@@ -20,6 +21,7 @@ pub use laws::{
     members_move, passes_keep_rows,
 };
 pub use named::Named;
+pub use originals::executed_original;
 pub use passes::{after, front, pass};
 pub use row::Row;
 pub use rows::{Rows, executed_form};

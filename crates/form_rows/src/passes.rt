@@ -3,20 +3,19 @@
 ghost use Rattle.std.specs.Prelude.{◌≡◌, ◌≤◌, List, drop};
 ghost use Rattle.form_rows.specs.RowSets.{form_after, row_after, front_of, PassFits, AfterFits};
 
+use crate::named::Named;
 use ttf_form::{Exclude, Include};
 
 /// Brings the form over each form of the row in turn, and each of these over the form as it comes to it. It takes no
 /// memory.
-pub fn pass<F: Include + Copy>(form: F, row: &mut [F]) -> F
+pub fn pass<F: Named + Copy>(form: F, row: &mut [F]) -> F
     requires { PassFits F.over F.place F.extent form row.old }
     ensures form { result ≡ form_after F.over form row.old }
     ensures row { row.new ≡ row_after F.over form row.old }
 {
     let mut f = form;
     for x in row.iter_mut() {
-        let other = *x;
-        *x = other.include(&f);
-        f = f.include(&other);
+        x.cross(&mut f);
     }
     f
 }

@@ -1,8 +1,9 @@
 //! The row of one set of members.
 
-ghost use Rattle.std.specs.Prelude.{◌≡◌, ◌≢◌, ◌<◌, ◌≤◌, ◌++◌, ◌∷◌, [], Bool, List, OnOk, OnErr, IfOk, length, drop};
+ghost use Rattle.std.specs.Prelude.{◌≡◌, ◌≢◌, ◌<◌, ◌≤◌, ◌++◌, ◌∷◌, [], Bool, false, List, IsTrue, OnOk, OnErr, IfOk, length, drop, slice_get};
 ghost use Rattle.op_name.specs.declared.member.Member.{Member};
-ghost use Rattle.context_vector.specs.Contexts.{has};
+ghost use Rattle.context_vector.specs.Contexts.{has, count_of};
+ghost use Rattle.ttf_form.specs.Families.{IsIn};
 ghost use Rattle.transform_rec.specs.Sets.{none, plus, plus_all};
 ghost use Rattle.transform_rec.specs.Family.{IsCausalFamily};
 ghost use Rattle.transform_rec.specs.Derived.{Derived};
@@ -65,6 +66,20 @@ impl<F: Named + Copy> Row<F> {
         self.forms.len()
     }
 
+    /// How many forms it has once it has looked at the forms in which the members since were executed.
+    pub fn len_after(&self, executed: &[F]) -> usize {
+        self.forms
+            .len()
+            .saturating_add(kept_number(executed, self.upto))
+    }
+
+    /// The first of its forms.
+    pub fn first(&self) -> Option<F>
+        ensures { result ≡ slice_get self.now.forms 0 }
+    {
+        self.forms.get(0).copied()
+    }
+
     /// The form of m at all executed members, out of the row of a set whose inserts its context has. The row becomes that
     /// of the context with m over the executed members with m. After out of memory it is lost.
     pub fn execute<B: Bases<F>>(
@@ -120,6 +135,17 @@ fn add_kept<F: Include + Copy>(out: &mut Vec<F>, forms: &[F], from: usize) -> Re
     Ok(())
 }
 
+// How many forms from a place on aren't inert.
+fn kept_number<F: Include>(forms: &[F], from: usize) -> usize {
+    let mut number = 0;
+    for i in from..forms.len() {
+        if !forms[i].inert() {
+            number += 1;
+        }
+    }
+    number
+}
+
 // Moves the forms of members that the context has to the front of the row, one after the other, and takes them out. After
 // out of memory the row is as it was.
 fn take_out<F: Named + Copy>(row: &mut Vec<F>, context: &Vector) -> Result<(), Memory>
@@ -127,9 +153,45 @@ fn take_out<F: Named + Copy>(row: &mut Vec<F>, context: &Vector) -> Result<(), M
     ensures ok { OnOk result (row.new.items ≡ taken_out F.over F.back (had_by F.named context.now.set) [] row.old.items) }
     ensures err { OnErr result (row.new.items ≡ row.old.items) }
 {
+    if has_none(context, row.as_slice()) {
+        return Ok(());
+    }
     let left = left_of(*row.allocator(), row.as_slice(), context)?;
     *row = left;
     Ok(())
+}
+
+// Whether the context has no member of the row.
+fn has_none<F: Named>(context: &Vector, row: &[F]) -> bool
+    ensures { IsTrue result → (f : F) → IsIn f row.now → had_by F.named context.now.set f ≡ false }
+{
+    let mut site = 0;
+    let mut count = context.count(site);
+    for i in 0..row.len() {
+        if is_counted(&row[i], context, &mut site, &mut count) {
+            return false;
+        }
+    }
+    true
+}
+
+// Whether the form is one of a member of the context, of which the count of one site is at hand.
+fn is_counted<F: Named>(form: &F, context: &Vector, site: &mut u16, count: &mut u32) -> bool
+    requires { count.old ≡ count_of context.now.set site.old }
+    ensures had { result ≡ had_by F.named context.now.set form.now }
+    ensures count { count.new ≡ count_of context.now.set site.new }
+{
+    match form.name() {
+        Some(name) => {
+            name.known();
+            if name.site != *site {
+                *site = name.site;
+                *count = context.count(name.site);
+            }
+            name.number <= *count
+        }
+        None => false,
+    }
 }
 
 // What is left of a row without the forms of members that the context has.
@@ -180,7 +242,7 @@ fn move_to_front<F: Named + Copy>(form: F, row: &mut Vec<F>)
 }
 
 // Brings the form over the forms of a list, and these over it.
-fn pass_through<F: Include + Copy>(form: F, row: &mut Vec<F>) -> F
+fn pass_through<F: Named + Copy>(form: F, row: &mut Vec<F>) -> F
     requires { PassFits F.over F.place F.extent form row.old.items }
     ensures form { result ≡ form_after F.over form row.old.items }
     ensures row { row.new.items ≡ row_after F.over form row.old.items }

@@ -9,11 +9,12 @@ ghost use Rattle.context_diff.specs.Histories.{members_in};
 ghost use Rattle.ttf_form.specs.Families.{IsIn};
 ghost use Rattle.transform_rec.specs.Sets.{none, plus_all};
 ghost use Rattle.transform_rec.specs.Family.{IsCausalFamily};
-ghost use Rattle.transform_rec.specs.Derived.{Derived};
+ghost use Rattle.transform_rec.specs.Derived.{IsOnlyFormAt};
 ghost use Rattle.transform_rec.specs.Laws.{family_of};
 ghost use Rattle.form_rows.specs.Names.{AreNamed};
-ghost use Rattle.form_rows.specs.RowSets.{IsSource};
-ghost use Rattle.form_rows.specs.Kept.{AreRows, IsLast, IsCommon, forms_in, CoversAreInert};
+ghost use Rattle.form_rows.specs.Lacking.{lacking};
+ghost use Rattle.form_rows.specs.Kept.{AreRows, IsLast, IsFormWith, HasFirst, IsFirstRow, IsBeginning, forms_in, CoversAreInert};
+ghost use Rattle.form_rows.specs.declared.rows.TheConstants.{ENTRIES};
 
 use crate::laws::derives;
 use crate::named::Named;
@@ -85,7 +86,7 @@ fn place_of<F: Named + Copy>(kept: &[AuthorRow<F>], site: u16) -> Option<usize>
 // Keeps a row, if there is memory for it. Where the rows have too many forms then, all are dropped.
 fn put_row<F: Named + Copy>(kept: &mut Vec<AuthorRow<F>>, row: AuthorRow<F>)
     ensures rows { (k : AuthorRow F) → Contains kept.new.items k → Contains kept.old.items k ⊎ (row ≡ k) }
-    ensures bound { forms_in kept.new.items ≤ 1048576 }
+    ensures bound { forms_in kept.new.items ≤ ENTRIES }
 {
     let _ = kept.push(row);
     if !are_few(kept.as_slice()) {
@@ -95,7 +96,7 @@ fn put_row<F: Named + Copy>(kept: &mut Vec<AuthorRow<F>>, row: AuthorRow<F>)
 
 // Whether the rows have no more forms than may be kept.
 fn are_few<F: Named + Copy>(kept: &[AuthorRow<F>]) -> bool
-    ensures { IsTrue result ↔ (forms_in kept.now ≤ 1048576) }
+    ensures { IsTrue result ↔ (forms_in kept.now ≤ ENTRIES) }
 {
     let mut left = ENTRIES;
     for i in 0..kept.len() {
@@ -109,24 +110,36 @@ fn are_few<F: Named + Copy>(kept: &[AuthorRow<F>]) -> bool
     true
 }
 
-// How many of the first operations of the book have all their inserts in the context.
-fn common(book: &Book, context: &Vector) -> usize
+// How many inserts of the book the context lacks.
+fn lacked_inserts(book: &Book, context: &Vector) -> u32
     requires { Within context.now.set book.now.have.set }
-    ensures bound { result ≤ length book.now.ops }
-    ensures inserts { (o : OpData) → IsIn o (take result book.now.ops) → is_insert o ≡ true → has context.now.set (member_of o) ≡ true }
+    ensures { result ≡ lacking book.now.ops context.now.set }
 {
     book.known();
-    let mut lacked = book
-        .inserts_in(book.have())
-        .saturating_sub(book.inserts_in(context));
+    book.inserts_in(book.have())
+        .saturating_sub(book.inserts_in(context))
+}
+
+// How many of the first operations of the book have all their inserts in the context, if no more than `most` come after
+// these which aren't inserts that the context lacks.
+fn common(book: &Book, context: &Vector, lacked: u32, most: usize) -> Option<usize>
+    requires { lacked ≡ lacking book.now.ops context.now.set }
+    ensures { IfSome result (HasFirst book.now.ops context.now.set) }
+{
+    let mut lacked = lacked;
+    let mut left = most;
     let mut i = book.len();
     while lacked > 0 && i > 0 {
         i -= 1;
         if lacks_insert(book, i, context) {
             lacked -= 1;
+        } else if left > 0 {
+            left -= 1;
+        } else {
+            return None;
         }
     }
-    i as usize
+    Some(i as usize)
 }
 
 // Whether the i-th operation is an insert that the context lacks.
@@ -140,8 +153,9 @@ fn lacks_insert(book: &Book, i: u32, context: &Vector) -> bool
 }
 
 /// The form of the book's last member, the insert or delete of this name, at the members before it, which were executed
-/// in these forms. It is found by one pass over the row of its context, which is made from the row of its author or
-/// from that of the first members of the book. After out of memory the rows may have lost some.
+/// in these forms; and the first form of the row of its context with it, if that has one. The form is found by one pass
+/// over the row of its context, which is made from the row of its author or from that of the first members of the book.
+/// After out of memory the rows may have lost some.
 pub fn executed_form<F: Named + Copy, B: Bases<F>>(
     book: &Book,
     bases: &B,
@@ -149,7 +163,7 @@ pub fn executed_form<F: Named + Copy, B: Bases<F>>(
     rows: &mut Rows<F>,
     name: &Name,
     context: &Vector,
-) -> Result<F, Memory>
+) -> Result<(F, Option<F>), Memory>
     requires causal { IsCausalFamily (family_of ⟦<B as Bases<F>>⟧ bases.now) }
     requires names { AreNamed F.named F.IsInert (family_of ⟦<B as Bases<F>>⟧ bases.now) }
     requires members { B.members bases.now ≡ members_in book.now.ops }
@@ -158,26 +172,18 @@ pub fn executed_form<F: Named + Copy, B: Bases<F>>(
     requires context { (y : Member) → has context.now.set y ≡ B.base_context bases.now (Original name.now) y }
     requires short { length executed.now < 4294967296 }
     requires ready { (before : List Member) × IsLast F.over F.IsInert (family_of ⟦<B as Bases<F>>⟧ bases.now) (Original name.now) before executed.now rows.old.kept.items }
-    ensures form { IfOk result (λ f. (before : List Member) → IsLast F.over F.IsInert (family_of ⟦<B as Bases<F>>⟧ bases.now) (Original name.now) before executed.now rows.old.kept.items → Derived F.over (family_of ⟦<B as Bases<F>>⟧ bases.now) (Original name.now) (plus_all none before) f) }
+    ensures form { IfOk result (λ made. (before : List Member) → IsLast F.over F.IsInert (family_of ⟦<B as Bases<F>>⟧ bases.now) (Original name.now) before executed.now rows.old.kept.items → IsOnlyFormAt F.over (family_of ⟦<B as Bases<F>>⟧ bases.now) (Original name.now) (plus_all none before) made.0) }
+    ensures first { IfOk result (λ made. (before : List Member) → IsLast F.over F.IsInert (family_of ⟦<B as Bases<F>>⟧ bases.now) (Original name.now) before executed.now rows.old.kept.items → IfSome made.1 (IsFormWith F.over F.named (family_of ⟦<B as Bases<F>>⟧ bases.now) (Original name.now))) }
     ensures rows { OnOk result ((before : List Member) → IsLast F.over F.IsInert (family_of ⟦<B as Bases<F>>⟧ bases.now) (Original name.now) before executed.now rows.old.kept.items → AreRows F.over F.IsInert (family_of ⟦<B as Bases<F>>⟧ bases.now) (before ++ Original name.now ∷ []) rows.new.kept.items) }
-    ensures bound { OnOk result (forms_in rows.new.kept.items ≤ 1048576) }
+    ensures bound { OnOk result (forms_in rows.new.kept.items ≤ ENTRIES) }
 {
     book.known();
     derives::<F, B>(bases);
-    let first = first_members(book, context, executed.len());
-    let mut row = source(&mut rows.kept, bases, name, context, executed, first);
+    let mut row = source(&mut rows.kept, book, name, context, executed);
     let form = row.execute(bases, &Member::Original(*name), context, executed)?;
+    let first = row.first();
     put_row(&mut rows.kept, AuthorRow { last: *name, row });
-    Ok(form)
-}
-
-// How many of the first operations of the book, up to this number, have all their inserts in the context.
-fn first_members(book: &Book, context: &Vector, most: usize) -> usize
-    requires { Within context.now.set book.now.have.set }
-    ensures bound { result ≤ most }
-    ensures inserts { (o : OpData) → IsIn o (take result book.now.ops) → is_insert o ≡ true → has context.now.set (member_of o) ≡ true }
-{
-    at_most(common(book, context), most)
+    Ok((form, first))
 }
 
 // The lesser of two numbers.
@@ -188,42 +194,80 @@ fn at_most(number: usize, most: usize) -> usize
     if number < most { number } else { most }
 }
 
-// The row to begin with: the author's own, or else that of the first members.
-fn source<F: Named + Copy, B: Bases<F>>(
+// The row to begin with: the author's own, or that of the first members where that has fewer forms to be moved.
+fn source<F: Named + Copy>(
     kept: &mut Vec<AuthorRow<F>>,
-    bases: &B,
+    book: &Book,
     name: &Name,
     context: &Vector,
     executed: &[F],
-    first: usize,
 ) -> Row<F>
-    requires causal { IsCausalFamily (family_of ⟦<B as Bases<F>>⟧ bases.now) }
-    requires context { (y : Member) → has context.now.set y ≡ B.base_context bases.now (Original name.now) y }
-    requires bound { first ≤ length executed.now }
-    ensures row { (before : List Member) → IsLast F.over F.IsInert (family_of ⟦<B as Bases<F>>⟧ bases.now) (Original name.now) before executed.now kept.old.items → IsCommon F.over F.IsInert (family_of ⟦<B as Bases<F>>⟧ bases.now) (Original name.now) before first → (C : Member → Bool) × IsSource F.over F.IsInert (family_of ⟦<B as Bases<F>>⟧ bases.now) (Original name.now) C before executed.now result }
+    requires { Within context.now.set book.now.have.set }
+    ensures row { IsBeginning kept.old.items book.now.ops context.now.set (length executed.now) result }
     ensures left { (k : AuthorRow F) → Contains kept.new.items k → Contains kept.old.items k }
 {
-    derives::<F, B>(bases);
     let alloc = *kept.allocator();
-    match own_row(kept, name.site, context, executed.len() - first) {
-        Some(own) => own.row,
-        None => Row::of_first(alloc, first),
+    let lacked = lacked_inserts(book, context);
+    match own_row(kept, name.site, context) {
+        Some(own) => nearer_row(alloc, own.row, book, context, executed, lacked),
+        None => match first_row(alloc, book, context, lacked, usize::MAX, executed.len()) {
+            Some(row) => row,
+            None => Row::of_first(alloc, 0),
+        },
     }
 }
 
-// Takes the row of an author out; it is answered if the context has its last operation, and it has no more than so many forms.
+// The row of the first members whose inserts the context has, if no more than `most` members come after these which
+// aren't inserts that it lacks.
+fn first_row<F: Named + Copy>(
+    alloc: Global,
+    book: &Book,
+    context: &Vector,
+    lacked: u32,
+    most: usize,
+    executed: usize,
+) -> Option<Row<F>>
+    requires { lacked ≡ lacking book.now.ops context.now.set }
+    ensures { IfSome result (IsFirstRow book.now.ops context.now.set executed) }
+{
+    let first = common(book, context, lacked, most)?;
+    Some(Row::of_first(alloc, at_most(first, executed)))
+}
+
+// The author's row, or that of the first members where that has fewer forms to be moved.
+fn nearer_row<F: Named + Copy>(
+    alloc: Global,
+    own: Row<F>,
+    book: &Book,
+    context: &Vector,
+    executed: &[F],
+    lacked: u32,
+) -> Row<F>
+    requires { lacked ≡ lacking book.now.ops context.now.set }
+    ensures { (result ≡ own) ⊎ IsFirstRow book.now.ops context.now.set (length executed.now) result }
+{
+    let moves = own.len_after(executed).saturating_sub(lacked as usize);
+    if moves == 0 {
+        return own;
+    }
+    match first_row(alloc, book, context, lacked, moves, executed.len()) {
+        Some(row) => row,
+        None => own,
+    }
+}
+
+// Takes the row of an author out; it is answered if the context has its last operation.
 fn own_row<F: Named + Copy>(
     kept: &mut Vec<AuthorRow<F>>,
     site: u16,
     context: &Vector,
-    most: usize,
 ) -> Option<AuthorRow<F>>
     ensures there { IfSome result (λ k. Contains kept.old.items k × (has context.now.set (Original k.last) ≡ true)) }
     ensures left { (k : AuthorRow F) → Contains kept.new.items k → Contains kept.old.items k }
 {
     match take_row(kept, site) {
         Some(own) => {
-            if context.contains(&Member::Original(own.last)) && own.row.len() <= most {
+            if context.contains(&Member::Original(own.last)) {
                 Some(own)
             } else {
                 None

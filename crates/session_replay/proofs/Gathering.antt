@@ -12,6 +12,7 @@ use Rattle.op_name.specs.NameData.{NameData}
 use Rattle.context_diff.specs.Operations.{OpData, inserting, deleting, undoing, member_of, context_of}
 use Rattle.context_diff.specs.Histories.{is_known, LacksNothing, IsNext, IsValid, Same}
 use Rattle.context_diff.proofs.CallerLemmas.{contains_cases, contains_here, contains_none, holder, known_member, known_on, shifted}
+use Rattle.fixed_replay.proofs.CallerLemmas.{same_text, told_apart}
 use Rattle.cot_site.specs.declared.verdict.Verdict.{Verdict}
 use Rattle.cot_site.specs.declared.verdict.Verdict.TheVariants.{Repeat, Integrated}
 use Rattle.cot_site.specs.declared.local.Local.{Local}
@@ -24,7 +25,7 @@ use Rattle.session_replay.specs.declared.draws.Draw.{Draw}
 use Rattle.session_replay.specs.Steps.{last_of}
 use Rattle.session_replay.specs.Sessions.{SessionData, new_site, new_sites, opened, site_at, at_site, free_step, settling, told_verdict, given, given_all, synced}
 use Rattle.session_replay.specs.LineSteps.{commanded}
-use Rattle.session_replay.specs.Generating.{Plan, drawn_operation, draws_from, turn_of, is_due, synced_if, acted, generating, generated, NothingWaits, HaveTheSame}
+use Rattle.session_replay.specs.Generating.{Plan, drawn_operation, draws_from, turn_of, is_due, synced_if, acted, generating, generated, NothingWaits, HaveTheSame, ShowTheSame}
 use Rattle.session_replay.proofs.Steps.{last_append}
 use Rattle.session_replay.proofs.Releasing.{last_freed}
 use Rattle.session_replay.proofs.Sound.{last_at}
@@ -467,3 +468,14 @@ all_same p is syncs s t at bt =
     let same = same_at p.sites d a.place b.place (omega (arith, a.within, it.steady.count)) (omega (arith, b.within, it.steady.count)) it.steady (it.known (due_last p syncs)) in
     subst (λ (x : State). Same x.history t.history) (a.is (new_site a.place))
     (subst (λ (y : State). Same (site_at d a.place).history y.history) (b.is (new_site b.place)) same)
+
+valid_at : (p : Plan) → IsPlan p → (s : State) → Contains (generated p).sites s → IsValid s.history
+valid_at p is s at =
+    let d = generated p in
+    let it = progress p is p.events (omega arith) in
+    let found = place_of d.sites s at in
+    let keeps = it.steady.sites found.place (omega (arith, found.within, it.steady.count)) in
+    subst (λ (x : State). IsValid x.history) (found.is (new_site found.place)) keeps.sound.history
+
+pub all_show : (p : Plan) → IsPlan p → p.syncs ≡ true → ShowTheSame (generated p).sites
+all_show p is syncs s t at bt = same_text s.history t.history (told_apart s.history (valid_at p is s at)) (told_apart t.history (valid_at p is t bt)) (all_same p is syncs s t at bt)

@@ -20,3 +20,4 @@ mod Gathering
 mod Making
 mod Tallies
 mod Rounds
+mod Needed

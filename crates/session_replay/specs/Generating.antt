@@ -5,7 +5,7 @@ use Rattle.op_name.specs.NameData.{NameData}
 use Rattle.context_diff.specs.Operations.{OpData, inserting, deleting, undoing}
 use Rattle.op_name.specs.Members.{is_even}
 use Rattle.context_diff.specs.Histories.{context_of_all, in_force, Same}
-use Rattle.context_diff.specs.Replays.{shown}
+use Rattle.context_diff.specs.Replays.{shown, text_of}
 use Rattle.cot_site.specs.States.{State}
 use Rattle.cot_site.specs.Commands.{local_insert, local_delete, local_undo, local_redo}
 use Rattle.cot_site.specs.declared.local.Local.{Local}
@@ -152,6 +152,10 @@ pub record GeneratedData : Type 0 where
 -- any two of the sites have the same inserts and deletes, at the same generations
 abbrev pub HaveTheSame : List State → Type 0
 HaveTheSame sites = (s t : State) → Contains sites s → Contains sites t → Same s.history t.history
+
+-- any two of the sites show the same text
+abbrev pub ShowTheSame : List State → Type 0
+ShowTheSame sites = (s t : State) → Contains sites s → Contains sites t → text_of s.history ≡ text_of t.history
 
 -- at no site does an operation wait
 abbrev pub NothingWaits : List State → Type 0

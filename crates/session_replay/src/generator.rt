@@ -1,7 +1,7 @@
 //! Generated sessions.
 
 ghost use Rattle.std.specs.Prelude.{◌≡◌, ◌≤◌, ◌<◌, ◌&&◌, ◌||◌, ◌==◌, ◌%◌, true, IfOk, length};
-ghost use Rattle.session_replay.specs.Generating.{Plan, generated, counts_of, all_counted, HaveTheSame, NothingWaits};
+ghost use Rattle.session_replay.specs.Generating.{Plan, generated, counts_of, all_counted, HaveTheSame, ShowTheSame, NothingWaits};
 ghost use Rattle.session_replay.specs.Code.Drawing.{plan_of};
 
 use crate::draws::Draws;
@@ -48,6 +48,7 @@ pub fn generate(
     ensures counted { IfOk result (λ g. all_counted g.counts ≡ events) }
     ensures quiet { IfOk result (λ g. NothingWaits g.sites) }
     ensures same { syncs ≡ true → IfOk result (λ g. HaveTheSame g.sites) }
+    ensures texts { syncs ≡ true → IfOk result (λ g. ShowTheSame g.sites) }
 {
     let order = Order {
         events,

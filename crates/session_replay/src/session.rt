@@ -1,7 +1,7 @@
 //! Sessions: what a script did so far, changed line by line.
 
 ghost use Rattle.std.specs.Prelude.{◌≡◌, ◌++◌, true, false, OnOk, OnErr};
-ghost use Rattle.session_replay.specs.Answers.{IsDone, lines_of_steps};
+ghost use Rattle.session_replay.specs.Answers.{IsDone, HasStep, lines_of_steps};
 ghost use Rattle.session_replay.specs.Code.Doing.{cut_after};
 ghost use Rattle.session_replay.specs.LineSteps.{line_steps};
 ghost use Rattle.session_replay.specs.Sessions.{unstarted};
@@ -85,12 +85,13 @@ impl Session {
     /// count shown characters.
     ///
     /// A line is refused by the first of the causes of `StepBad` that holds, and nothing is changed then. Out of
-    /// memory, the first few steps of the line are done, and the session counts as cut short from then on. On
-    /// any refusal `out` is as it was.
+    /// memory, which comes only where the line has a step, the first few steps are done, and the session counts as
+    /// cut short from then on. On any refusal `out` is as it was.
     pub fn step(&mut self, line: &Line, out: &mut Vec<u8>) -> Result<(), StepBad>
         ensures session { IsDone (line_steps line.now self.old.session) result self.old.session self.new.session }
         ensures written { OnOk result (out.new.items ≡ out.old.items ++ lines_of_steps (line_steps line.now self.old.session)) }
         ensures err { OnErr result (out.new.items ≡ out.old.items) }
+        ensures needed { result ≡ Err StepBad.Memory → HasStep (line_steps line.now self.old.session) }
         ensures cut { result ≡ Err StepBad.Memory → self.new.cut ≡ true }
         ensures uncut { (result ≡ Err StepBad.Memory → ⊥) → self.new.cut ≡ self.old.cut }
     {

@@ -1,11 +1,11 @@
 //! The sites of a session and their messages.
 
-ghost use Rattle.std.specs.Prelude.{◌≡◌, ◌++◌, ◌<◌, ◌≤◌, ℕ, IsTrue, OnOk, IfErr, IfOk, IfSome, length, map, nat_lt, slice_index};
+ghost use Rattle.std.specs.Prelude.{◌≡◌, ◌≢◌, ◌++◌, ◌<◌, ◌≤◌, ℕ, IsTrue, OnOk, IfErr, IfOk, IfSome, length, map, nat_lt, slice_index};
 ghost use Rattle.std.specs.Char.{IsScalar};
 ghost use Rattle.std.specs.Str.{all_scalars};
 ghost use Rattle.cot_site.specs.Sites.{state_of};
 ghost use Rattle.script_text.specs.Lines.{line_site};
-ghost use Rattle.session_replay.specs.Answers.{IsDone};
+ghost use Rattle.session_replay.specs.Answers.{IsDone, HasStep};
 ghost use Rattle.session_replay.specs.LineSteps.{line_steps, commanded, at_site_of, steps_there, opening, AreValues};
 ghost use Rattle.session_replay.specs.Code.Doing.{IsPlace, IsLineDone, as_step, local_of};
 ghost use Rattle.session_replay.specs.Sessions.{unstarted, opened, new_sites, site_at};
@@ -87,6 +87,7 @@ impl Sites {
     /// Does a line, and appends its report lines; a line that isn't done may leave some of them.
     pub(crate) fn do_line(&mut self, line: &Line, out: &mut Vec<u8>) -> Result<(), StepBad>
         ensures done { IsLineDone (line_steps line.now self.old) result self.old self.new out.old.items out.new.items }
+        ensures needed { result ≡ Err StepBad.Memory → HasStep (line_steps line.now self.old) }
         ensures values { AreValues line.now }
     {
         check_values(line);
@@ -101,6 +102,7 @@ impl Sites {
         ensures there { OnOk result (IfSome (line_site line.now) (λ i. i < length self.now.sites)) }
         ensures ok { OnOk result (at_site_of (line_site line.now) self.now (steps_there line.now self.now) ≡ steps_there line.now self.now) }
         ensures refused { IfErr result (λ why. at_site_of (line_site line.now) self.now (steps_there line.now self.now) ≡ Err why) }
+        ensures known { IfErr result (λ why. why ≢ StepBad.Memory) }
     {
         match line.site() {
             Some(site) => match self.place_of(site) {
@@ -114,7 +116,8 @@ impl Sites {
     // A line whose site is there, if it speaks of one.
     fn do_there(&mut self, line: &Line, out: &mut Vec<u8>) -> Result<(), StepBad>
         requires { IfSome (line_site line.now) (λ i. i < length self.old.sites) }
-        ensures { IsLineDone (steps_there line.now self.old) result self.old self.new out.old.items out.new.items }
+        ensures done { IsLineDone (steps_there line.now self.old) result self.old self.new out.old.items out.new.items }
+        ensures needed { result ≡ Err StepBad.Memory → HasStep (steps_there line.now self.old) }
     {
         match line {
             Line::Blank => Ok(()),
@@ -150,7 +153,8 @@ impl Sites {
 
     // Delivers every message to each site, once sites are made.
     fn sync_started(&mut self, out: &mut Vec<u8>) -> Result<(), StepBad>
-        ensures { IsLineDone (steps_there Sync self.old) result self.old self.new out.old.items out.new.items }
+        ensures done { IsLineDone (steps_there Sync self.old) result self.old self.new out.old.items out.new.items }
+        ensures needed { result ≡ Err StepBad.Memory → HasStep (steps_there Sync self.old) }
     {
         if !self.is_started() {
             return Err(StepBad::NoSites);

@@ -206,11 +206,11 @@ seat_behind cs i o q n p t e f =
     record { chunk = s.chunk; within = omega arith; place_is = omega arith }
 
 -- what the columns of a text sum up to
-pub text-len : (cs : List (List CellData)) (ls ss : List ℕ) (f : Option (List CellData)) (sp : List (NameData × ℕ)) → IsText cs ls ss f sp → sum ls ≡ length (flat cs)
-text-len cs ls ss f sp t = ap sum t.lens_are ∙ sum-lens cs
+pub text-len : (cs : List (List CellData)) (ls ss : List ℕ) (f : Option (List CellData)) → IsText cs ls ss f → sum ls ≡ length (flat cs)
+text-len cs ls ss f t = ap sum t.lens_are ∙ sum-lens cs
 
-pub text-shown : (cs : List (List CellData)) (ls ss : List ℕ) (f : Option (List CellData)) (sp : List (NameData × ℕ)) → IsText cs ls ss f sp → sum ss ≡ shown_in (flat cs)
-text-shown cs ls ss f sp t = ap sum t.shown_are ∙ sum-shown cs
+pub text-shown : (cs : List (List CellData)) (ls ss : List ℕ) (f : Option (List CellData)) → IsText cs ls ss f → sum ss ≡ shown_in (flat cs)
+text-shown cs ls ss f t = ap sum t.shown_are ∙ sum-shown cs
 
 pub some_at : (xs : List CellData) (k : ℕ) (d : CellData) → k < length xs → slice_get xs k ≡ Some (get_or xs k d)
 some_at [] k d lt = absurd (omega arith)

@@ -14,17 +14,17 @@ use Rattle.tombstone_text.proofs.Flags.{map-insert}
 use Rattle.tombstone_text.proofs.Shown.{length-filter-insert}
 use Rattle.tombstone_text.proofs.Chunked.{filled_set, filled_cut, cut_is, length-change, flag-le, shown-change}
 
-pub len_at : (cs : List (List CellData)) (ls ss : List ℕ) (f : Option (List CellData)) (sp : List (NameData × ℕ)) (i : ℕ) → IsText cs ls ss f sp → i < length cs
+pub len_at : (cs : List (List CellData)) (ls ss : List ℕ) (f : Option (List CellData)) (i : ℕ) → IsText cs ls ss f → i < length cs
     → get_or ls i 0 ≡ length (get_or cs i [])
-len_at cs ls ss f sp i t lt = ap (λ (l : List ℕ). get_or l i 0) t.lens_are ∙ get_or-map (λ (c : List CellData). length c) cs i [] 0 lt
+len_at cs ls ss f i t lt = ap (λ (l : List ℕ). get_or l i 0) t.lens_are ∙ get_or-map (λ (c : List CellData). length c) cs i [] 0 lt
 
-pub shown_at : (cs : List (List CellData)) (ls ss : List ℕ) (f : Option (List CellData)) (sp : List (NameData × ℕ)) (i : ℕ) → IsText cs ls ss f sp → i < length cs
+pub shown_at : (cs : List (List CellData)) (ls ss : List ℕ) (f : Option (List CellData)) (i : ℕ) → IsText cs ls ss f → i < length cs
     → get_or ss i 0 ≡ shown_in (get_or cs i [])
-shown_at cs ls ss f sp i t lt = ap (λ (l : List ℕ). get_or l i 0) t.shown_are ∙ get_or-map shown_in cs i [] 0 lt
+shown_at cs ls ss f i t lt = ap (λ (l : List ℕ). get_or l i 0) t.shown_are ∙ get_or-map shown_in cs i [] 0 lt
 
-pub lens_long : (cs : List (List CellData)) (ls ss : List ℕ) (f : Option (List CellData)) (sp : List (NameData × ℕ)) → IsText cs ls ss f sp
+pub lens_long : (cs : List (List CellData)) (ls ss : List ℕ) (f : Option (List CellData)) → IsText cs ls ss f
     → (length ls ≡ length cs) × (length ss ≡ length cs)
-lens_long cs ls ss f sp t =
+lens_long cs ls ss f t =
     (ap (λ (l : List ℕ). length l) t.lens_are ∙ length-map cs (λ (c : List CellData). length c), ap (λ (l : List ℕ). length l) t.shown_are ∙ length-map cs shown_in)
 
 -- a number changed in a column
@@ -38,28 +38,27 @@ set_both : (xs ys : List ℕ) (i a b : ℕ) → xs ≡ ys → a ≡ b → set xs
 set_both xs ys i a b e f = ap (λ l. set l i a) e ∙ ap (λ n. set ys i n) f
 
 -- one more shown cell in a chunk
-pub text_put : (cs : List (List CellData)) (ls ss : List ℕ) (f : Option (List CellData)) (sp : List (NameData × ℕ)) (i o : ℕ) (x : CellData) (d : List CellData) (a b : ℕ)
-    → IsText cs ls ss f sp → i < length cs → o ≤ length (get_or cs i []) → d ≡ insert (get_or cs i []) o x → cell_shown x ≡ true
-    → a ≡ get_or ls i 0 + 1 → b ≡ get_or ss i 0 + 1 → IsText (set cs i d) (set ls i a) (set ss i b) f sp
-text_put cs ls ss f sp i o x d a b t lt within new shows la sb =
+pub text_put : (cs : List (List CellData)) (ls ss : List ℕ) (f : Option (List CellData)) (i o : ℕ) (x : CellData) (d : List CellData) (a b : ℕ)
+    → IsText cs ls ss f → i < length cs → o ≤ length (get_or cs i []) → d ≡ insert (get_or cs i []) o x → cell_shown x ≡ true
+    → a ≡ get_or ls i 0 + 1 → b ≡ get_or ss i 0 + 1 → IsText (set cs i d) (set ls i a) (set ss i b) f
+text_put cs ls ss f i o x d a b t lt within new shows la sb =
     let long : length d ≡ length (get_or cs i []) + 1 = ap (λ (c : List CellData). length c) new ∙ length-insert (get_or cs i []) o x within in
     let count : shown_in d ≡ shown_in (get_or cs i []) + 1 =
     ap (λ (c : List CellData). shown_in c) new ∙ length-filter-insert cell_shown (get_or cs i []) o x ∙ ap (λ q. shown_in (get_or cs i []) + cond q 1 0) shows in
-    let old = len_at cs ls ss f sp i t lt in
-    let seen = shown_at cs ls ss f sp i t lt in
+    let old = len_at cs ls ss f i t lt in
+    let seen = shown_at cs ls ss f i t lt in
     record {
       lens_are = set_both ls (map (λ (c : List CellData). length c) cs) i a (length d) t.lens_are (omega arith) ∙ sym (map-set (λ (c : List CellData). length c) cs i d);
       shown_are = set_both ss (map shown_in cs) i b (shown_in d) t.shown_are (omega arith) ∙ sym (map-set shown_in cs i d);
       filled = filled_set cs i d t.filled (omega arith);
       fresh_is = t.fresh_is;
-      spare_is = t.spare_is;
     }
 
 -- a cell changed in a chunk
-pub text_change : (g : CellData → CellData) (cs : List (List CellData)) (ls ss : List ℕ) (f : Option (List CellData)) (sp tp : List (NameData × ℕ)) (i o : ℕ) (d : List CellData) (b : ℕ)
-    → IsText cs ls ss f sp → i < length cs → o < length (get_or cs i []) → d ≡ change_at o g (get_or cs i []) → b ≡ shown_in d → tp ≡ []
-    → IsText (set cs i d) ls (set ss i b) f tp
-text_change g cs ls ss f sp tp i o d b t lt within new sb none =
+pub text_change : (g : CellData → CellData) (cs : List (List CellData)) (ls ss : List ℕ) (f : Option (List CellData)) (i o : ℕ) (d : List CellData) (b : ℕ)
+    → IsText cs ls ss f → i < length cs → o < length (get_or cs i []) → d ≡ change_at o g (get_or cs i []) → b ≡ shown_in d
+    → IsText (set cs i d) ls (set ss i b) f
+text_change g cs ls ss f i o d b t lt within new sb =
     let long : length d ≡ length (get_or cs i []) = ap (λ (c : List CellData). length c) new ∙ length-change g (get_or cs i []) o in
     let kept : set (map (λ (c : List CellData). length c) cs) i (length d) ≡ map (λ (c : List CellData). length c) cs =
     ap (λ n. set (map (λ (c : List CellData). length c) cs) i n) (long ∙ sym (get_or-map (λ (c : List CellData). length c) cs i [] 0 lt))
@@ -69,7 +68,6 @@ text_change g cs ls ss f sp tp i o d b t lt within new sb none =
       shown_are = set_both ss (map shown_in cs) i b (shown_in d) t.shown_are sb ∙ sym (map-set shown_in cs i d);
       filled = filled_set cs i d t.filled (omega arith);
       fresh_is = t.fresh_is;
-      spare_is = none;
     }
 
 insert_both : (xs ys : List ℕ) (k a b : ℕ) → xs ≡ ys → a ≡ b → insert xs k a ≡ insert ys k b
@@ -85,17 +83,16 @@ column_cut h cs ls i n k low high e lt next l u =
     ∙ sym (map-insert h (set cs i lower) n upper)
     ∙ ap (λ ds. map h ds) (cut_is cs i k n lt next)
 
-pub text_cut : (cs : List (List CellData)) (ls ss : List ℕ) (f : Option (List CellData)) (sp : List (NameData × ℕ)) (i n k up low high : ℕ)
-    → IsText cs ls ss f sp → i < length cs → n ≡ suc i → 1 ≤ k → up + k ≡ length (get_or cs i []) → 1 ≤ up
+pub text_cut : (cs : List (List CellData)) (ls ss : List ℕ) (f : Option (List CellData)) (i n k up low high : ℕ)
+    → IsText cs ls ss f → i < length cs → n ≡ suc i → 1 ≤ k → up + k ≡ length (get_or cs i []) → 1 ≤ up
     → low ≡ shown_in (take k (get_or cs i [])) → high ≡ shown_in (drop k (get_or cs i []))
-    → IsText (cut cs i k) (insert (set ls i k) n up) (insert (set ss i low) n high) None sp
-text_cut cs ls ss f sp i n k up low high t lt next some all more l u =
+    → IsText (cut cs i k) (insert (set ls i k) n up) (insert (set ss i low) n high) None
+text_cut cs ls ss f i n k up low high t lt next some all more l u =
     record {
       lens_are = column_cut (λ (c : List CellData). length c) cs ls i n k k up t.lens_are lt next (omega (arith, length-take k (get_or cs i []))) (omega (arith, length-drop k (get_or cs i [])));
       shown_are = column_cut shown_in cs ss i n k low high t.shown_are lt next l u;
       filled = filled_cut cs i k t.filled lt some (omega arith);
       fresh_is = tt;
-      spare_is = t.spare_is;
     }
 
 -- both parts have as many shown cells as the whole

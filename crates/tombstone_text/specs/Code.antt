@@ -1,3 +1,4 @@
 pub mod Sums
 pub mod Chunks
 pub mod Cells
+pub mod Deleters

@@ -13,6 +13,7 @@ ghost use Rattle.tombstone_text.specs.Code.Chunks.{blank};
 
 use crate::cell::Cell;
 use crate::chunk::{Chunk, FULL};
+use crate::deleters::Spare;
 use crate::sums::Sums;
 use op_name::{Memory, Name};
 use std::alloc::Global;
@@ -41,15 +42,15 @@ pub struct Cells {
     lens: Sums,
     shown: Sums,
     fresh: Option<Chunk>,
-    spare: Vec<(Name, u16)>,
+    spare: Spare,
 }
 
 impl Model for Cells {
     ghost Value = { CellsData };
 
-    ghost view = { λ c. record { chunks = c.chunks.items; cells = flat c.chunks.items; room = record { places = places_in c.fresh (vec_capacity c.chunks - vec_len c.chunks) c.lens.spare c.shown.spare; deleters = vec_capacity c.spare } } };
+    ghost view = { λ c. record { chunks = c.chunks.items; cells = flat c.chunks.items; room = record { places = places_in c.fresh (vec_capacity c.chunks - vec_len c.chunks) c.lens.spare c.shown.spare; deleters = c.spare } } };
 
-    ghost invariant = { λ c. IsText c.chunks.items c.lens.parts c.shown.parts c.fresh c.spare.items };
+    ghost invariant = { λ c. IsText c.chunks.items c.lens.parts c.shown.parts c.fresh };
 }
 
 impl Cells {
@@ -62,7 +63,7 @@ impl Cells {
             lens: Sums::new(alloc),
             shown: Sums::new(alloc),
             fresh: None,
-            spare: Vec::new(alloc),
+            spare: Spare::new(),
         }
     }
 
@@ -238,8 +239,7 @@ impl Cells {
         ensures cells { self.new.cells ≡ self.old.cells }
         ensures room { OnOk result (deleters < self.new.room.deleters) }
     {
-        self.spare.reserve(deleters + 1)?;
-        Ok(())
+        self.spare.reserve(deleters + 1, *self.chunks.allocator())
     }
 
     /// Applies a form for which `reserve` made room: an insert puts its new cell at its place, a cover marks
@@ -262,13 +262,14 @@ impl Cells {
         requires place { ins.now.place ≤ length self.old.cells }
         ensures { self.new.cells ≡ put_in ins.now.place (bare_cells ins.now) self.old.cells }
     {
-        let cell = Cell::bare(ins, Vec::new(*self.spare.allocator()));
+        let _ = &self.chunks;
+        let cell = Cell::bare(ins);
         if self.chunk_count() == 0 {
             self.put_first(cell);
         } else {
             let (i, at) = self.seat(ins.place);
             if self.is_full(i) {
-                let keep = kept(at);
+                let keep = kept(ins.place == self.len());
                 self.split(i, keep);
                 if at <= keep {
                     self.put_at(i, at, cell);
@@ -388,13 +389,13 @@ impl Cells {
     }
 }
 
-/// How many cells a full chunk keeps when it is cut for a new cell at place `at` of it: half of them, and all
-/// but one where the new cell comes after the last, so that typing at the end of a text leaves full chunks.
-fn kept(at: usize) -> usize
+/// How many cells a full chunk keeps when it is cut for a new cell: half of them, and all but one where the new
+/// cell is put at the end of the text, so that typing there leaves full chunks.
+fn kept(at_end: bool) -> usize
     ensures some { 1 ≤ result }
     ensures less { result < FULL }
 {
-    if at == FULL { FULL - 1 } else { FULL / 2 }
+    if at_end { FULL - 1 } else { FULL / 2 }
 }
 
 /// The flag of the cell at place `at` of a chunk.

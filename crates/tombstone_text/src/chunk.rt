@@ -7,8 +7,9 @@ ghost use Rattle.tombstone_text.specs.Chunks.{flag_of, shown_in};
 ghost use Rattle.tombstone_text.specs.Code.Chunks.{IsChunk, blank};
 
 use crate::cell::Cell;
+use crate::deleters::Spare;
 use lane_rank::ones;
-use op_name::{Memory, Name};
+use op_name::Memory;
 use std::alloc::Global;
 use std::marker::Model;
 use ttf_form::Mark;
@@ -106,13 +107,11 @@ impl Chunk {
         }
     }
 
-    /// Marks the cell at a place of the chunk. A deleter that is added takes the room of `spare`.
-    pub(crate) fn cover(&mut self, at: usize, mark: Mark, spare: &mut Vec<(Name, u16)>)
+    /// Marks the cell at a place of the chunk. A deleter that is added may take the list of `spare`.
+    pub(crate) fn cover(&mut self, at: usize, mark: Mark, spare: &mut Spare)
         requires within { at < length self.old }
-        requires empty { spare.old.items ≡ [] }
-        requires room { HasRoomOn mark (slice_index_or self.old at blank) (vec_capacity spare.old) }
+        requires room { HasRoomOn mark (slice_index_or self.old at blank) spare.old }
         ensures cells { self.new ≡ change_at at (marked mark) self.old }
-        ensures emptied { spare.new.items ≡ [] }
     {
         let cell = &mut self.cells[at];
         cell.cover(mark, spare);

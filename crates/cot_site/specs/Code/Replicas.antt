@@ -4,14 +4,16 @@ use Rattle.op_name.specs.declared.member.Member.{Member}
 use Rattle.context_diff.specs.Operations.{OpData}
 use Rattle.context_diff.specs.Histories.{members_in}
 use Rattle.ttf_form.specs.declared.form.Form.{Form}
-use Rattle.ttf_form.specs.Forms.{form_over}
+use Rattle.ttf_form.specs.Forms.{form_over, IsInertForm}
 use Rattle.ttf_form.specs.Cells.{CellData, applied}
 use Rattle.form_cache.specs.Entries.{Entries}
 use Rattle.transform_rec.specs.Sets.{none, SameSet, plus_all}
 use Rattle.transform_rec.specs.Derived.{Derived}
-use Rattle.transform_rec.specs.Executing.{AreFormsFrom, executed}
+use Rattle.transform_rec.specs.Executing.{executed}
 use Rattle.transform_rec.specs.Histories.{family_in}
 use Rattle.undo_group.specs.BaseForms.{base_form}
+use Rattle.form_rows.specs.Kept.{AreRows, IsExecutedBefore}
+use Rattle.form_rows.specs.declared.rows.AuthorRow.{AuthorRow}
 use Rattle.cot_site.specs.Sites.{AreExecuted, AreKeptOrGone}
 
 -- the forms of a history, and the cells that they give one after the other
@@ -26,11 +28,14 @@ pub record IsStep (h : List OpData) (m : Member) (to : Member → Bool) (old new
   pub appended : new ≡ old ++ form ∷ []
   pub cells : after ≡ applied before form
 
--- m is the last member of the history; those before it, which are the set, were executed in these forms
-pub record IsNextAfter (h : List OpData) (m : Member) (to : Member → Bool) (fs : List Form) : Type 0 where
+-- the rows are those of what authors of the history knew, over its members
+abbrev pub AreRowsOf : List OpData → List (AuthorRow Form) → Type 0
+AreRowsOf h kept = AreRows form_over IsInertForm (family_in h (base_form h)) (members_in h) kept
+
+-- m is the last member of the history; those before it, which are the set, were executed in these forms, and the rows are theirs
+pub record IsNextAfter (h : List OpData) (m : Member) (to : Member → Bool) (fs : List Form) (kept : List (AuthorRow Form)) : Type 0 where
   pub before : List Member
-  pub whole : members_in h ≡ before ++ m ∷ []
-  pub forms : AreFormsFrom form_over (family_in h (base_form h)) none before fs
+  pub executed : IsExecutedBefore h m before fs kept
   pub set : SameSet (plus_all none before) to
 
 -- an executed history, with the entries of a cache

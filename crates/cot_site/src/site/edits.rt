@@ -4,6 +4,7 @@ ghost use Rattle.std.specs.Prelude.{◌≡◌, ◌≢◌, ◌<◌, true, Err, If
 ghost use Rattle.context_diff.specs.Histories.{IsNext, context_of_all, is_known, generation_in};
 ghost use Rattle.context_diff.specs.Replays.{characters_of};
 ghost use Rattle.op_name.specs.declared.member.Member.TheVariants.{Original};
+ghost use Rattle.op_name.specs.declared.member.TheConstants.{GENERATIONS};
 ghost use Rattle.context_diff.specs.Ops.{data_of};
 ghost use Rattle.cot_site.specs.States.{with_last};
 ghost use Rattle.cot_site.specs.Commands.{place_behind, place_of_shown, local_insert, local_delete, local_undo, local_redo, turned, next_name, IsAnswer};
@@ -14,7 +15,7 @@ use crate::local::Local;
 use crate::site::Site;
 use context_diff::{Op, UNDO_ENTRIES};
 use context_vector::Vector;
-use op_name::{Member, NUMBERS, Name};
+use op_name::{GENERATIONS, Member, NUMBERS, Name};
 use undo_group::generation;
 
 impl Site {
@@ -96,7 +97,7 @@ impl Site {
         if generation % 2 == 0 {
             return Err(Local::InForce { generation });
         }
-        if generation == u16::MAX {
+        if generation == GENERATIONS {
             return Err(Local::GenerationFull);
         }
         self.turn(name, generation)
@@ -171,7 +172,7 @@ impl Site {
     fn turn(&mut self, name: Name, generation: u16) -> Result<Op, Local>
         requires known { is_known self.old.history (Original name) ≡ true }
         requires generation { generation ≡ generation_in self.old.history name }
-        requires below { generation < 65535 }
+        requires below { generation < GENERATIONS }
         ensures answer { IsAnswer (turned (state_of self.old) name) result }
         ensures made { IfOk result (λ o. state_of self.new ≡ with_last (state_of self.old) (data_of o)) }
         ensures forms { OnOk result (KeepsForms self.old.forms self.new.forms) }

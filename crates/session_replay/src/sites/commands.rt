@@ -42,7 +42,8 @@ impl Sites {
         out: &mut Vec<u8>,
     ) -> Result<(), Memory>
         requires { at < length self.old.sites }
-        ensures { AreDone result (typed at from text.now self.old) self.old self.new out.old.items out.new.items }
+        ensures done { AreDone result (typed at from text.now self.old) self.old self.new out.old.items out.new.items }
+        ensures needed { OnErr result (0 < length text.now) }
     {
         let mut place = from;
         for ch in text {

@@ -1,6 +1,6 @@
 //! Deliveries of messages.
 
-ghost use Rattle.std.specs.Prelude.{◌≡◌, ◌<◌, false, Some, length, slice_get};
+ghost use Rattle.std.specs.Prelude.{◌≡◌, ◌<◌, false, Some, OnErr, length, slice_get};
 ghost use Rattle.context_diff.specs.Operations.{OpData, IsWellFormed};
 ghost use Rattle.context_diff.specs.Ops.{data_of};
 ghost use Rattle.session_replay.specs.Sessions.{given, given_all, synced};
@@ -33,6 +33,7 @@ impl Sites {
     pub(super) fn give_all(&mut self, at: usize, out: &mut Vec<u8>) -> Result<(), Memory>
         requires { at < length self.old.sites }
         ensures done { AreDone result (given_all at self.old.messages self.old) self.old self.new out.old.items out.new.items }
+        ensures needed { OnErr result (0 < length self.old.messages) }
         ensures sites { length self.new.sites ≡ length self.old.sites }
         ensures messages { self.new.messages ≡ self.old.messages }
     {
@@ -45,6 +46,7 @@ impl Sites {
     // Delivers every message to each site, rising.
     pub(crate) fn sync(&mut self, out: &mut Vec<u8>) -> Result<(), Memory>
         ensures done { AreDone result (synced 0 (length self.old.sites) self.old) self.old self.new out.old.items out.new.items }
+        ensures needed { OnErr result (0 < length self.old.messages) }
         ensures sites { length self.new.sites ≡ length self.old.sites }
     {
         for at in 0..self.sites.len() {

@@ -1,6 +1,6 @@
 //! Deliveries of frames.
 
-ghost use Rattle.std.specs.Prelude.{◌≡◌, ◌<◌, ◌≤◌, IfOk, IfSome, length};
+ghost use Rattle.std.specs.Prelude.{◌≡◌, ◌<◌, ◌≤◌, IfOk, IfSome, OnErr, length};
 ghost use Rattle.wire_codec.specs.Judging.{judge};
 ghost use Rattle.session_replay.specs.LineSteps.{framed};
 ghost use Rattle.session_replay.specs.Code.Doing.{AreDone, frame_bytes};
@@ -20,7 +20,8 @@ impl Sites {
         out: &mut Vec<u8>,
     ) -> Result<(), Memory>
         requires { site < length self.old.sites }
-        ensures { AreDone result (framed (length bytes.now) site bytes.now self.old) self.old self.new out.old.items out.new.items }
+        ensures done { AreDone result (framed (length bytes.now) site bytes.now self.old) self.old self.new out.old.items out.new.items }
+        ensures needed { OnErr result (0 < length bytes.now) }
     {
         let mut rest = bytes;
         while !rest.is_empty() {

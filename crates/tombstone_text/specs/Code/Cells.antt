@@ -1,6 +1,5 @@
 -- How the cells of a text are kept: chunks, a column of their lengths, and one of their numbers of shown cells.
 use Rattle.std.specs.Prelude.{◌≡◌, ℕ, zero, suc, ◌+◌, ◌<◌, ◌≤◌, min, Option, Some, None, IfSome, List, [], ◌∷◌, length, map, take, drop, slice_index_or}
-use Rattle.op_name.specs.NameData.{NameData}
 use Rattle.ttf_form.specs.Cells.{CellData}
 use Rattle.tombstone_text.specs.Chunks.{flat, shown_in}
 
@@ -22,12 +21,11 @@ cut (c ∷ cs) zero k = take k c ∷ drop k c ∷ cs
 cut (c ∷ cs) (suc i) k = c ∷ cut cs i k
 
 -- the columns of a text are those of its chunks, each of which has a cell; what is kept to be used later is empty
-pub record IsText (chunks : List (List CellData)) (lens : List ℕ) (shown : List ℕ) (fresh : Option (List CellData)) (spare : List (NameData × ℕ)) : Type 0 where
+pub record IsText (chunks : List (List CellData)) (lens : List ℕ) (shown : List ℕ) (fresh : Option (List CellData)) : Type 0 where
   pub lens_are : lens ≡ map length chunks
   pub shown_are : shown ≡ map shown_in chunks
   pub filled : AreFilled chunks
   pub fresh_is : IfSome fresh (λ c. c ≡ [])
-  pub spare_is : spare ≡ []
 
 -- how many cells may come in: one where there is a fresh chunk, and a place for it in each column
 abbrev pub places_in : Option (List CellData) → ℕ → ℕ → ℕ → ℕ

@@ -12,6 +12,9 @@ enum Spot {
     Front,
     Middle,
     End,
+    /// At the end of the text up to its 511th cell; then by turns at places 511 and 512, which are before and
+    /// after the last cell of a full chunk.
+    Seam,
     Anywhere,
 }
 
@@ -21,6 +24,7 @@ fn place_in(spot: Spot, number: u32, len: u32) -> u32 {
         Spot::Front => 0,
         Spot::Middle => len / 2,
         Spot::End => len,
+        Spot::Seam => { if len < 511 { len } else { 512 - number % 2 } }
         Spot::Anywhere => {
             if len == 0 {
                 0
@@ -85,6 +89,17 @@ fn flags_agree(cells: &Cells) -> bool {
     true
 }
 
+/// Whether each chunk but the last has at least 256 cells.
+fn are_half_full(cells: &Cells) -> bool {
+    let count = cells.chunk_count();
+    for i in 0..count {
+        if i + 1 < count && cells.chunk_flags(i).len() < 256 {
+            return false;
+        }
+    }
+    true
+}
+
 /// Takes a step. When out of memory the cells must still be those of the plain list, and the second try finds
 /// it.
 fn take(both: &mut Beside, step: &Step) -> Result<(), Fail> {
@@ -136,6 +151,7 @@ fn long_texts(rt: HostRuntime) -> Result<(), Fail> {
         ("inserts at the front", Spot::Front),
         ("inserts in the middle", Spot::Middle),
         ("inserts at the end", Spot::End),
+        ("inserts by turns at a chunk's end", Spot::Seam),
         ("inserts anywhere", Spot::Anywhere),
     ];
     for (why, spot) in rows {
@@ -144,6 +160,7 @@ fn long_texts(rt: HostRuntime) -> Result<(), Fail> {
         assert!(rt; cells_agree(&both.cells, both.plain.as_slice()), "{why}");
         assert!(rt; chunks_agree(&both.cells, both.plain.as_slice()), "{why}");
         assert!(rt; flags_agree(&both.cells), "{why}");
+        assert!(rt; are_half_full(&both.cells), "{why}");
     }
     Ok(())
 }

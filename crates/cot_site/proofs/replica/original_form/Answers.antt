@@ -1,33 +1,21 @@
-use Rattle.std.proofs.Common.{ap, sym, subst}
-use Rattle.context_vector.specs.Contexts.{has}
-use Rattle.ttf_form.specs.Forms.{form_over}
-use Rattle.transform_rec.specs.Derived.{Derived}
-use Rattle.transform_rec.specs.Entries.{AreForms}
-use Rattle.transform_rec.specs.Histories.{family_in}
-use Rattle.undo_group.specs.BaseForms.{base_form}
-use Rattle.context_diff.specs.Books.{BookData}
-use Rattle.context_diff.specs.Histories.{members_in}
-use Rattle.context_diff.specs.Bases.{base_has}
+use Rattle.std.proofs.Common.{sym, ap, ◌∙◌}
+use Rattle.op_name.specs.declared.member.Member.TheVariants.{Original}
+use Rattle.context_vector.specs.Contexts.{ContextData, has}
+use Rattle.context_diff.specs.Ops.{data_of}
+use Rattle.form_rows.proofs.CallerLemmas.{original_base}
+use Rattle.cot_site.proofs.RowForms.{base_after, rows_after}
 use Rattle.cot_site.proofs.replica.original_form.Goals as goal
 
-pub transform_with-requires-clause-bases : goal.transform_with-requires-clause-bases
-transform_with-requires-clause-bases c = record {
-  members = ap (λ (b : BookData). members_in b.ops) c.new.ensures;
-  contexts = λ x y known. ap (λ (b : BookData). base_has b.ops x y) c.new.ensures;
-}
+pub computed_form-requires-clause-context : goal.computed_form-requires-clause-context
+computed_form-requires-clause-context c y =
+    let o = data_of c.in-Some.op.now in
+    ap (λ (k : ContextData). has k y) c.context-else-are_same.ensures ∙ original_base c.args.book.now.ops c.known.ensures.valid o c.args.name.now c.in-Some.ensures.there c.in-Some.ensures.named y
 
-pub transform_with-requires-clause-known : goal.transform_with-requires-clause-known
-transform_with-requires-clause-known c =
-    subst (λ (b : BookData). AreForms form_over (family_in c.args.book.now.ops (base_form b.ops)) c.args.cache.now.entries) (sym c.new.ensures) c.requires.cached
+pub returns-then-are_same-clause-form : goal.returns-then-are_same-clause-form
+returns-then-are_same-clause-form c =
+    let o = data_of c.in-Some.op.now in
+    base_after c.args.book.now.ops c.args.name.now c.args.to.now.set c.args.forms.now c.args.rows.now.kept.items o c.base_of.result c.known.ensures.valid c.requires.next c.in-Some.ensures.there c.in-Some.ensures.named
+    (sym c.context.ensures ∙ c.are_same.ensures c.if-are_same.true) c.base_of.ensures
 
-pub returns-in_err-form-clause-cached : goal.returns-in_err-form-clause-cached
-returns-in_err-form-clause-cached c =
-    subst (λ (b : BookData). AreForms form_over (family_in c.args.book.now.ops (base_form b.ops)) c.transform_with.new.cache.entries) c.new.ensures c.in_err-form.ensures.known
-
-pub returns-clause-form : goal.returns-clause-form
-returns-clause-form c =
-    subst (λ (b : BookData). Derived form_over (family_in c.args.book.now.ops (base_form b.ops)) c.args.member.now (has c.args.to.now.set) c.in_ok-form.form) c.new.ensures c.in_ok-form.ensures.form.0
-
-pub returns-clause-cached : goal.returns-clause-cached
-returns-clause-cached c =
-    subst (λ (b : BookData). AreForms form_over (family_in c.args.book.now.ops (base_form b.ops)) c.transform_with.new.cache.entries) c.new.ensures c.in_ok-form.ensures.known
+pub returns-then-are_same-clause-rows : goal.returns-then-are_same-clause-rows
+returns-then-are_same-clause-rows c = rows_after c.args.book.now.ops (Original c.args.name.now) (has c.args.to.now.set) c.args.forms.now c.args.rows.now.kept.items c.requires.next

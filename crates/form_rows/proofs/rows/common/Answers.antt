@@ -1,5 +1,4 @@
 use Rattle.std.proofs.Common.{◌≡◌, ◌+◌, ◌-◌, ◌≤◌, ◌∙◌, ℕ, Bool, length, take, if◌then◌else◌, sym, ap, arith}
-use Rattle.context_vector.specs.Vectors.{VectorData}
 use Rattle.form_rows.specs.Lacking.{lacking}
 use Rattle.form_rows.proofs.Prefixes.{lacking_start, lacking_step, lacking_none, one_when, none_when}
 use Rattle.form_rows.proofs.rows.common.Goals.{then-loop-lacked-test+else-i-gt0, else-loop-lacked-test}
@@ -8,7 +7,7 @@ use Rattle.form_rows.proofs.rows.common.Goals as goal
 pub loop-lacked-init : goal.loop-lacked-init
 loop-lacked-init c = record {
   within = let e = c.len-i.ensures in omega arith;
-  rest = lacking_start c.args.book.now.ops c.known.ensures.valid c.have.result.now.set c.args.context.now.set (ap (λ (v : VectorData). v.set) c.have.ensures ∙ c.known.ensures.have) c.inserts_in.result c.inserts_in-2.result c.len-i.result c.saturating_sub-lacked.result c.inserts_in.ensures c.inserts_in-2.ensures c.len-i.ensures c.saturating_sub-lacked.ensures;
+  rest = lacking_start c.args.book.now.ops c.args.context.now.set c.len-i.result c.args.lacked c.len-i.ensures c.requires;
 }
 
 pub loop-lacked-preserved-then-lacks_insert : goal.loop-lacked-preserved-then-lacks_insert
@@ -31,8 +30,8 @@ loop-lacked-preserved c =
     let one = none_when c.lacks_insert.result c.if-lacks_insert.false in
     record { within = omega arith; rest = omega (arith, step, one, at) }
 
-pub returns-clause-inserts : goal.returns-clause-inserts
-returns-clause-inserts c o there insert =
+pub returns : goal.returns
+returns c o there insert =
     let i = c.loop-lacked.i in
     let all : lacking (take i c.args.book.now.ops) c.args.context.now.set ≡ 0 = elim c.loop-lacked-test.branch [
       | then-loop-lacked-test+else-i-gt0 w ↦ let low = w.if-i-gt0.false in let z : i ≡ 0 = omega arith in ap (λ (n : ℕ). lacking (take n c.args.book.now.ops) c.args.context.now.set) z

@@ -5,9 +5,10 @@ use Rattle.context_vector.specs.Vectors.{VectorData}
 use Rattle.context_diff.specs.Ops.{data_of}
 use Rattle.cot_site.specs.declared.replica.TheConstants.{CACHED_FORMS}
 use Rattle.cot_site.specs.Sites.{AreCached}
-use Rattle.cot_site.specs.Code.Replicas.{ReplicaData, IsExecuted}
+use Rattle.cot_site.specs.Code.Replicas.{ReplicaData, IsExecuted, AreRowsOf}
 use Rattle.cot_site.proofs.Executions.{added_at, next_after_at, fits_at, step_at, executed_same}
 use Rattle.cot_site.proofs.Cached.{cached_same, cached_more, cached_none}
+use Rattle.cot_site.proofs.RowForms.{no_rows, rows_same}
 use Rattle.cot_site.proofs.replica.Replica.integrate.Goals as goal
 
 pub invariant_of-self-in_err-reserve-2 : goal.invariant_of-self-in_err-reserve-2
@@ -17,6 +18,7 @@ invariant_of-self-in_err-reserve-2 c =
       executed_same c.self.inside.book.ops c.reserve-2.new.self.ops c.self.inside.forms.items c.reserve.new.self.items cs cs c.self.invariant.0 c.reserve-2.ensures.ops c.reserve.ensures.items (λ i. cs),
       cached_same c.self.inside.book.ops c.reserve-2.new.self.ops es es c.self.invariant.1 c.reserve-2.ensures.ops (λ i. es),
       c.self.invariant.2,
+      rows_same c.self.inside.book.ops c.reserve-2.new.self.ops c.self.inside.rows.kept.items c.self.invariant.3 c.reserve-2.ensures.ops,
     )
 
 pub execute-requires-clause-added : goal.execute-requires-clause-added
@@ -35,7 +37,7 @@ execute-requires-clause-next c =
     let next = subst (λ (r : ReplicaData). IsNext r.history o) (sym c.self.view_is) (subst (λ (d : OpData). IsNext c.args.self.now.history d) (sym c.with_shared_names-op.ensures) c.requires) in
     let grown : c.push.new.self.ops ≡ h ++ o ∷ [] = c.push.ensures.ops ∙ ap (λ (l : List OpData). l ++ o ∷ []) c.reserve-2.ensures.ops in
     let before = c.in_ok-before.ensures ∙ (ap (λ (v : VectorData). v.set) c.have.ensures ∙ c.known.ensures.have) in
-    next_after_at h o c.push.new.self.ops c.in_ok-before.before.set c.member-member.result c.self.inside.forms.items c.reserve.new.self.items c.self.inside.cells.cells c.known.ensures.valid next grown before c.member-member.ensures.member c.self.invariant.0 c.reserve.ensures.items
+    next_after_at h o c.push.new.self.ops c.in_ok-before.before.set c.member-member.result c.self.inside.forms.items c.reserve.new.self.items c.self.inside.cells.cells c.self.inside.rows.kept.items c.known.ensures.valid next grown before c.member-member.ensures.member c.self.invariant.0 c.reserve.ensures.items c.self.invariant.3
 
 pub execute-requires-clause-fits : goal.execute-requires-clause-fits
 execute-requires-clause-fits c =
@@ -62,7 +64,7 @@ invariant_of-self-in-Ok c =
     let grown : c.push.new.self.ops ≡ h ++ o ∷ [] = c.push.ensures.ops ∙ ap (λ (l : List OpData). l ++ o ∷ []) c.reserve-2.ensures.ops in
     let before = c.in_ok-before.ensures ∙ (ap (λ (v : VectorData). v.set) c.have.ensures ∙ c.known.ensures.have) in
     let made = step_at h o c.push.new.self.ops c.in_ok-before.before.set c.member-member.result c.self.inside.forms.items c.reserve.new.self.items c.execute.new.forms.items c.self.inside.cells.cells c.execute.new.cells.cells c.known.ensures.valid next grown before c.member-member.ensures.member c.self.invariant.0 c.reserve.ensures.items c.in-Ok.ensures.step in
-    subst (λ (k : List OpData). IsExecuted k c.execute.new.forms.items c.execute.new.cells.cells × AreCached k c.execute.new.cache.entries × (c.execute.new.cache.capacity ≡ CACHED_FORMS)) (sym c.share.ensures.ops) (made, c.in-Ok.ensures.cached, c.in-Ok.ensures.capacity ∙ c.self.invariant.2)
+    subst (λ (k : List OpData). IsExecuted k c.execute.new.forms.items c.execute.new.cells.cells × AreCached k c.execute.new.cache.entries × (c.execute.new.cache.capacity ≡ CACHED_FORMS) × AreRowsOf k c.execute.new.rows.kept.items) (sym c.share.ensures.ops) (made, c.in-Ok.ensures.cached, c.in-Ok.ensures.capacity ∙ c.self.invariant.2, c.in-Ok.ensures.rows)
 
 pub invariant_of-self-in-Err : goal.invariant_of-self-in-Err
 invariant_of-self-in-Err c =
@@ -74,4 +76,5 @@ invariant_of-self-in-Err c =
           (c.in-Err.ensures.forms ∙ c.reserve.ensures.items) c.in-Err.ensures.cells,
       cached_none back c.take_back.new.cache.entries c.take_back.ensures.entries,
       c.take_back.ensures.capacity ∙ (c.in-Err.ensures.capacity ∙ c.self.invariant.2),
+      no_rows back c.take_back.new.rows.kept.items c.take_back.ensures.rows,
     )

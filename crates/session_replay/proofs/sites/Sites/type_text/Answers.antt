@@ -11,14 +11,14 @@ use Rattle.session_replay.proofs.sites.Sites.type_text.Goals as goal
 pub loop-ch-init : goal.loop-ch-init
 loop-ch-init c = record { along = along_first _ _ _; sites = refl }
 
-pub returns-in_err-command : goal.returns-in_err-command
-returns-in_err-command c =
+pub returns-in_err-command-clause-done : goal.returns-in_err-command-clause-done
+returns-in_err-command-clause-done c =
     let p = err_from_is_err_and c.from_residual.result c.from_residual.ensures.1 in
     let part = typed_part c.args.at c.loop-ch.place c.loop-ch.ch-index c.args.text.now c.loop-ch.self c.ch-item.result c.loop-ch-test.true c.ch-item.is in
     stopped c.from_residual.result p.0 p.1 _ _ _ _ _ (along_short _ _ _ _ c.loop-ch.self _ _ _ c.loop-ch.invariant.along (reached_in _ _ _ _ _ _ part.1 (done_short _ part.0 _ _ _ _ c.in_err-command.ensures.done)))
 
-pub returns-then-not-branch : goal.returns-then-not-branch
-returns-then-not-branch c =
+pub returns-then-not-branch-clause-done : goal.returns-then-not-branch-clause-done
+returns-then-not-branch-clause-done c =
     let split = typed_last c.args.at c.loop-ch.place c.loop-ch.ch-index c.args.text.now c.loop-ch.self c.ch-item.result c.loop-ch-test.true c.ch-item.is (sym c.if-not-branch.true ∙ c.in_ok-command.ensures.made) in
     along_end _ _ _ _ _ _ (along_part _ _ _ _ _ _ _ _ _ _ c.loop-ch.invariant.along split c.in_ok-command.ensures.done.0 c.in_ok-command.ensures.done.1) refl
 
@@ -37,5 +37,5 @@ loop-ch-preserved c =
       sites = c.in_ok-command.ensures.sites ∙ c.loop-ch.invariant.sites;
     }
 
-pub returns : goal.returns
-returns c = along_end _ _ _ _ _ _ c.loop-ch.invariant.along (typed_none c.args.at c.loop-ch.place c.args.text.now c.loop-ch.self c.loop-ch.ch-index c.loop-ch-test.false)
+pub returns-clause-done : goal.returns-clause-done
+returns-clause-done c = along_end _ _ _ _ _ _ c.loop-ch.invariant.along (typed_none c.args.at c.loop-ch.place c.args.text.now c.loop-ch.self c.loop-ch.ch-index c.loop-ch-test.false)

@@ -19,7 +19,7 @@ returns-then-i-total c =
 
 pub returns-else-i-total : goal.returns-else-i-total
 returns-else-i-total c =
-    let all = chunked.text-len _ _ _ _ _ c.self.invariant in
+    let all = chunked.text-len _ _ _ _ c.self.invariant in
     let seen = ap (λ v. length v.cells) c.self.view_is in
     let sum = c.total.ensures.total in
     let past = c.if-i-total.false in

@@ -13,7 +13,7 @@ use Rattle.tombstone_text.proofs.cells.Cells.mark.Goals as goal
 
 pub find-i-requires : goal.find-i-requires
 find-i-requires c =
-    let all = chunked.text-len _ _ _ _ _ c.self.invariant in
+    let all = chunked.text-len _ _ _ _ c.self.invariant in
     let seen = ap (λ v. length v.cells) c.self.view_is in
     omega arith
 
@@ -31,7 +31,7 @@ cover-requires-clause-room c =
     let there = ap (λ v. slice_get v.cells p) (sym c.self.view_is) ∙ chunked.flat_get cs i o p spot ∙ chunked.some_at (get_or cs i []) o blank within in
     let room : HasRoomOn c.args.cover.now.mark (get_or (get_or cs i []) o blank) c.args.self.now.room.deleters =
     subst (λ q. IfSome q (λ d. HasRoomOn c.args.cover.now.mark d c.args.self.now.room.deleters)) there c.requires.room in
-    subst (λ s. HasRoomOn c.args.cover.now.mark (get_or s o blank) (vec_capacity c.self.inside.spare)) (sym read)
+    subst (λ s. HasRoomOn c.args.cover.now.mark (get_or s o blank) c.self.inside.spare) (sym read)
     (subst (λ n. HasRoomOn c.args.cover.now.mark (get_or (get_or cs i []) o blank) n) (sym (ap (λ v. v.room.deleters) c.self.view_is)) room)
 
 pub flag_at-after-requires : goal.flag_at-after-requires
@@ -65,7 +65,7 @@ overflow_sub-shown c =
     c.cover.ensures.cells ∙ ap (λ (s : List CellData). change_at o (marked c.args.cover.now.mark) s) read in
     let before = c.flag_at-before.ensures ∙ ap (λ (s : List CellData). flag_of (get_or s o blank)) read in
     let after = c.flag_at-after.ensures ∙ ap (λ (s : List CellData). flag_of (get_or s o blank)) new in
-    let had = c.part-shown.ensures ∙ texts.shown_at _ _ _ _ _ i c.self.invariant lt in
+    let had = c.part-shown.ensures ∙ texts.shown_at _ _ _ _ i c.self.invariant lt in
     let again = texts.counted_again (marked c.args.cover.now.mark) (get_or cs i []) o c.part-shown.result c.flag_at-before.result c.flag_at-after.result blank within had before after in
     again.0
 
@@ -84,12 +84,12 @@ overflow_add-shown c =
     c.cover.ensures.cells ∙ ap (λ (s : List CellData). change_at o (marked c.args.cover.now.mark) s) read in
     let before = c.flag_at-before.ensures ∙ ap (λ (s : List CellData). flag_of (get_or s o blank)) read in
     let after = c.flag_at-after.ensures ∙ ap (λ (s : List CellData). flag_of (get_or s o blank)) new in
-    let had = c.part-shown.ensures ∙ texts.shown_at _ _ _ _ _ i c.self.invariant lt in
+    let had = c.part-shown.ensures ∙ texts.shown_at _ _ _ _ i c.self.invariant lt in
     let again = texts.counted_again (marked c.args.cover.now.mark) (get_or cs i []) o c.part-shown.result c.flag_at-before.result c.flag_at-after.result blank within had before after in
     let most = length-filter-le cell_shown (change_at o (marked c.args.cover.now.mark) (get_or cs i [])) in
     let long = chunked.length-change (marked c.args.cover.now.mark) (get_or cs i []) o in
     let part = texts.part-le c.self.inside.lens.parts i c.find-i.ensures.part in
-    let had = texts.len_at _ _ _ _ _ i c.self.invariant lt in
+    let had = texts.len_at _ _ _ _ i c.self.invariant lt in
     let low = c.total.ensures.low in
     record { fits = omega (arith, again.1) }
 
@@ -108,13 +108,13 @@ set-requires-clause-low c =
     c.cover.ensures.cells ∙ ap (λ (s : List CellData). change_at o (marked c.args.cover.now.mark) s) read in
     let before = c.flag_at-before.ensures ∙ ap (λ (s : List CellData). flag_of (get_or s o blank)) read in
     let after = c.flag_at-after.ensures ∙ ap (λ (s : List CellData). flag_of (get_or s o blank)) new in
-    let had = c.part-shown.ensures ∙ texts.shown_at _ _ _ _ _ i c.self.invariant lt in
+    let had = c.part-shown.ensures ∙ texts.shown_at _ _ _ _ i c.self.invariant lt in
     let again = texts.counted_again (marked c.args.cover.now.mark) (get_or cs i []) o c.part-shown.result c.flag_at-before.result c.flag_at-after.result blank within had before after in
     let count = again.1 ∙ ap (λ (s : List CellData). shown_in s) (sym new) in
-    let text = texts.text_change (marked c.args.cover.now.mark) _ _ _ _ _ c.cover.new.spare.items i o c.cover.new.self
-    (c.part-shown.result - c.flag_at-before.result + c.flag_at-after.result) c.self.invariant lt within new count c.cover.ensures.emptied in
-    let shown = chunked.text-shown _ _ _ _ _ text in
-    let lens = chunked.text-len _ _ _ _ _ text in
+    let text = texts.text_change (marked c.args.cover.now.mark) _ _ _ _ i o c.cover.new.self
+    (c.part-shown.result - c.flag_at-before.result + c.flag_at-after.result) c.self.invariant lt within new count in
+    let shown = chunked.text-shown _ _ _ _ text in
+    let lens = chunked.text-len _ _ _ _ text in
     let most = length-filter-le cell_shown (flat (set cs i c.cover.new.self)) in
     let low = c.total.ensures.low in
     omega arith
@@ -134,11 +134,11 @@ invariant_of-self c =
     c.cover.ensures.cells ∙ ap (λ (s : List CellData). change_at o (marked c.args.cover.now.mark) s) read in
     let before = c.flag_at-before.ensures ∙ ap (λ (s : List CellData). flag_of (get_or s o blank)) read in
     let after = c.flag_at-after.ensures ∙ ap (λ (s : List CellData). flag_of (get_or s o blank)) new in
-    let had = c.part-shown.ensures ∙ texts.shown_at _ _ _ _ _ i c.self.invariant lt in
+    let had = c.part-shown.ensures ∙ texts.shown_at _ _ _ _ i c.self.invariant lt in
     let again = texts.counted_again (marked c.args.cover.now.mark) (get_or cs i []) o c.part-shown.result c.flag_at-before.result c.flag_at-after.result blank within had before after in
     let count = again.1 ∙ ap (λ (s : List CellData). shown_in s) (sym new) in
-    let text = texts.text_change (marked c.args.cover.now.mark) _ _ _ _ _ c.cover.new.spare.items i o c.cover.new.self
-    (c.part-shown.result - c.flag_at-before.result + c.flag_at-after.result) c.self.invariant lt within new count c.cover.ensures.emptied in
+    let text = texts.text_change (marked c.args.cover.now.mark) _ _ _ _ i o c.cover.new.self
+    (c.part-shown.result - c.flag_at-before.result + c.flag_at-after.result) c.self.invariant lt within new count in
     rw c.set.ensures.parts text
 
 pub returns : goal.returns

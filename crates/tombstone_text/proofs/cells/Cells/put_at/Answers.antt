@@ -11,9 +11,9 @@ use Rattle.tombstone_text.proofs.cells.Cells.put_at.Goals as goal
 pub set-requires-clause-low : goal.set-requires-clause-low
 set-requires-clause-low c =
     let ls = c.self.inside.lens.parts in
-    let long = (texts.lens_long _ _ _ _ _ c.self.invariant).0 in
+    let long = (texts.lens_long _ _ _ _ c.self.invariant).0 in
     let n = ap (λ v. length v.chunks) c.self.view_is in
-    let all = chunked.text-len _ _ _ _ _ c.self.invariant in
+    let all = chunked.text-len _ _ _ _ c.self.invariant in
     let seen = ap (λ v. length v.cells) c.self.view_is in
     let more = texts.set-sum ls c.args.i (c.part-len.result + 1) (omega arith) in
     let part = c.part-len.ensures in
@@ -22,8 +22,8 @@ set-requires-clause-low c =
 pub overflow_add-shown : goal.overflow_add-shown
 overflow_add-shown c =
     let lt : c.args.i < length c.self.inside.chunks.items = let n = ap (λ v. length v.chunks) c.self.view_is in omega arith in
-    let long = (texts.lens_long _ _ _ _ _ c.self.invariant).1 in
-    let all = chunked.text-shown _ _ _ _ _ c.self.invariant in
+    let long = (texts.lens_long _ _ _ _ c.self.invariant).1 in
+    let all = chunked.text-shown _ _ _ _ c.self.invariant in
     let most = length-filter-le cell_shown (flat c.self.inside.chunks.items) in
     let seen = ap (λ v. length v.cells) c.self.view_is in
     let one = texts.part-le c.self.inside.shown.parts c.args.i (omega arith) in
@@ -33,9 +33,9 @@ overflow_add-shown c =
 pub set-requires-2-clause-low : goal.set-requires-2-clause-low
 set-requires-2-clause-low c =
     let ss = c.self.inside.shown.parts in
-    let long = (texts.lens_long _ _ _ _ _ c.self.invariant).1 in
+    let long = (texts.lens_long _ _ _ _ c.self.invariant).1 in
     let n = ap (λ v. length v.chunks) c.self.view_is in
-    let all = chunked.text-shown _ _ _ _ _ c.self.invariant in
+    let all = chunked.text-shown _ _ _ _ c.self.invariant in
     let most = length-filter-le cell_shown (flat c.self.inside.chunks.items) in
     let seen = ap (λ v. length v.cells) c.self.view_is in
     let more = texts.set-sum ss c.args.i (c.part-shown.result + 1) (omega arith) in
@@ -49,7 +49,7 @@ invariant_of-self c =
     let read : c.index_mut-chunk.result.now ≡ get_or cs c.args.i [] = get_or_read cs c.args.i c.index_mut-chunk.result.now lt c.index_mut-chunk.ensures.value [] in
     let within : c.args.at ≤ length (get_or cs c.args.i []) = let e = ap (λ v. length (get_or v.chunks c.args.i [])) c.self.view_is in omega arith in
     let new : c.put.new.self ≡ insert (get_or cs c.args.i []) c.args.at c.args.cell = c.put.ensures ∙ ap (λ (s : List CellData). insert s c.args.at c.args.cell) read in
-    let text = texts.text_put _ _ _ _ _ c.args.i c.args.at c.args.cell c.put.new.self (c.part-len.result + 1) (c.part-shown.result + 1) c.self.invariant lt within new c.requires.shown
+    let text = texts.text_put _ _ _ _ c.args.i c.args.at c.args.cell c.put.new.self (c.part-len.result + 1) (c.part-shown.result + 1) c.self.invariant lt within new c.requires.shown
     (ap (λ n. n + 1) c.part-len.ensures) (ap (λ n. n + 1) c.part-shown.ensures) in
     rw (c.set.ensures.parts, c.set-2.ensures.parts) text
 

@@ -6,7 +6,7 @@ use Rattle.tombstone_text.proofs.cells.Cells.seat.Goals as goal
 
 pub find-i-requires : goal.find-i-requires
 find-i-requires c =
-    let all = chunked.text-len _ _ _ _ _ c.self.invariant in
+    let all = chunked.text-len _ _ _ _ c.self.invariant in
     let seen = ap (λ v. length v.cells) c.self.view_is in
     let some = c.if-place-eq0.false in
     omega arith

@@ -21,12 +21,15 @@ invariant_of-self c =
       flag_room_is = c.self.invariant.flag_room_is;
     }
 
-pub returns-clause-cells : goal.returns-clause-cells
-returns-clause-cells c =
+pub returns : goal.returns
+returns c =
     let xs = c.self.inside.cells.items in
     let k = c.args.at in
     let seen : length xs ≡ length c.args.self.now = ap (λ (s : List CellData). length s) c.self.view_is in
     let there : k < length xs = omega arith in
-    ap (λ y. set xs k y) c.cover.ensures.marked
-    ∙ set_change (marked c.args.mark) xs k c.index_mut-cell.result.now there c.index_mut-cell.ensures.value
-    ∙ ap (λ s. change_at k (marked c.args.mark) s) c.self.view_is
+    record {
+      cells =
+          ap (λ y. set xs k y) c.cover.ensures.marked
+          ∙ set_change (marked c.args.mark) xs k c.index_mut-cell.result.now there c.index_mut-cell.ensures.value
+          ∙ ap (λ s. change_at k (marked c.args.mark) s) c.self.view_is;
+    }

@@ -1,0 +1,3 @@
+-- What the proofs of other crates cite of this crate's lemmas.
+pub use Rattle.form_rows.proofs.Growing.{rows_grow, rows_stay}
+pub use Rattle.form_rows.proofs.TextForms.{original_base}
