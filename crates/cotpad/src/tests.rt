@@ -27,10 +27,24 @@ const A: &str = "000000110100000000010000000000000061000000";
 /// The frame of insert 0.2: `b` at place 1, with 0.1 as context.
 const B: &str = "0000001601000000000200000001000000620100000000010000";
 
-/// The bytes that pieces in hexadecimal spell, one after the other.
-fn bytes_of(alloc: Global, pieces: &[&str]) -> Result<Vec<u8>, Fail> {
+/// Another insert 0.1: `b` at place 0.
+const FORGED: &str = "000000110100000000010000000000000062000000";
+
+/// The front of a frame.
+const CUT: &str = "0000001101000000000100000000000000610000";
+
+/// The bytes of a log that is spelled in letters: `h` the header, `a` and `b` the frames of these inserts, `f` that of
+/// another operation of the first name, `c` one that is cut.
+fn bytes_of(alloc: Global, letters: &str) -> Result<Vec<u8>, Fail> {
     let mut bytes = Vec::new(alloc);
-    for piece in pieces {
+    for letter in letters.chars() {
+        let piece = match letter {
+            'h' => HEADER,
+            'a' => A,
+            'b' => B,
+            'f' => FORGED,
+            _ => CUT,
+        };
         match hex::decode(alloc, piece) {
             Ok(part) => bytes.extend_from_slice(&part)?,
             Err(_) => return Err(Fail::new("no hexadecimal digits")),
@@ -198,32 +212,20 @@ fn a_line_is_refused_that_is_too_long_or_no_text(rt: HostRuntime) -> Result<(), 
 #[test]
 fn a_log_is_shown_or_refused(rt: HostRuntime) -> Result<(), Fail> {
     let alloc = rt.alloc();
-    let forged = "000000110100000000010000000000000062000000";
-    let cut = "0000001101000000000100000000000000610000";
-    let cases: [(&str, &[&str], Status, &str); 6] = [
-        (
-            "two operations",
-            &[HEADER, A, B],
-            Status::Done,
-            "text 2 2\nab\n",
-        ),
-        (
-            "the later one first",
-            &[HEADER, B, A],
-            Status::Done,
-            "text 2 2\nab\n",
-        ),
-        ("no operation", &[HEADER], Status::Done, "text 0 0\n\n"),
-        ("no header", &[], Status::Refused, "refused log header\n"),
+    let cases: [(&str, &str, Status, &str); 6] = [
+        ("two operations", "hab", Status::Done, "text 2 2\nab\n"),
+        ("the later one first", "hba", Status::Done, "text 2 2\nab\n"),
+        ("no operation", "h", Status::Done, "text 0 0\n\n"),
+        ("no header", "", Status::Refused, "refused log header\n"),
         (
             "a frame that is cut",
-            &[HEADER, cut],
+            "hc",
             Status::Refused,
             "refused log cut 8\n",
         ),
         (
             "another operation of a name",
-            &[HEADER, A, forged],
+            "haf",
             Status::Refused,
             "refused log op 29 forged 0.1\n",
         ),
@@ -240,9 +242,9 @@ fn a_log_is_shown_or_refused(rt: HostRuntime) -> Result<(), Fail> {
 #[test]
 fn an_edit_writes_the_log_of_what_it_made(rt: HostRuntime) -> Result<(), Fail> {
     let alloc = rt.alloc();
-    let cases: [(&str, &[&str], &[&str]); 2] = [
-        ("edit 0 ins 0 a", &[HEADER], &[HEADER, A]),
-        ("edit 0 ins 1 b", &[HEADER, A], &[HEADER, A, B]),
+    let cases: [(&str, &str, &str); 2] = [
+        ("edit 0 ins 0 a", "h", "ha"),
+        ("edit 0 ins 1 b", "ha", "hab"),
     ];
     for (words, before, after) in cases {
         let log = bytes_of(alloc, before)?;
@@ -260,12 +262,12 @@ fn an_edit_writes_the_log_of_what_it_made(rt: HostRuntime) -> Result<(), Fail> {
 #[test]
 fn a_refused_edit_writes_no_log(rt: HostRuntime) -> Result<(), Fail> {
     let alloc = rt.alloc();
-    let cases: [(&str, &[&str], &str); 5] = [
-        ("edit 0 undo 0.1", &[HEADER], "refused no unknown 0.1\n"),
-        ("edit 0 ins 2 bc", &[HEADER, A], "refused no place 2 1\n"),
-        ("edit 1 del 1", &[HEADER, A], "refused no place 1 1\n"),
-        ("edit 1 redo 0.1", &[HEADER, A], "refused no inforce 0\n"),
-        ("edit 0 undo 0.1", &[], "refused log header\n"),
+    let cases: [(&str, &str, &str); 5] = [
+        ("edit 0 undo 0.1", "h", "refused no unknown 0.1\n"),
+        ("edit 0 ins 2 bc", "ha", "refused no place 2 1\n"),
+        ("edit 1 del 1", "ha", "refused no place 1 1\n"),
+        ("edit 1 redo 0.1", "ha", "refused no inforce 0\n"),
+        ("edit 0 undo 0.1", "", "refused log header\n"),
     ];
     for (words, log, reply) in cases {
         let log = bytes_of(alloc, log)?;
@@ -279,7 +281,7 @@ fn a_refused_edit_writes_no_log(rt: HostRuntime) -> Result<(), Fail> {
 #[test]
 fn undone_text_comes_back(rt: HostRuntime) -> Result<(), Fail> {
     let alloc = rt.alloc();
-    let mut log = bytes_of(alloc, &[HEADER])?;
+    let mut log = bytes_of(alloc, "h")?;
     let steps = [
         ("edit 0 ins 0 h\u{e9}", "text 2 3\nh\u{e9}\n"),
         ("edit 1 nl 1", "text 3 4\nh\n\u{e9}\n"),
