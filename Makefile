@@ -1,5 +1,5 @@
 # `make` leaves the proved program at bin/cotpad; `make demo` replays and shows the examples with it.
-.PHONY: all demo doors clean
+.PHONY: all demo check-examples doors trust clean
 
 SOURCES := $(shell find crates -name out -prune -o -type f \( -name '*.rt' -o -name '*.antt' \) -print) crates.txt
 
@@ -18,6 +18,20 @@ demo: bin/cotpad
 	@for log in examples/*.log; do \
 		echo "== $$log, shown"; bin/cotpad show < $$log; \
 	done
+
+# Compares what the program writes of each example with its report, which was worked out by hand from docs/FORMATS.md.
+check-examples: bin/cotpad
+	@for script in examples/*.script; do \
+		bin/cotpad replay < $$script | cmp - $${script%.script}.report || exit 1; \
+	done
+	@for log in examples/*.log; do \
+		bin/cotpad show < $$log | cmp - $${log%.log}.report || exit 1; \
+	done
+	@echo "each example writes its report"
+
+# Says whether docs/TRUST.md lists what the contract of `run` reaches; `tools/trust --write` writes it.
+trust:
+	@tools/trust
 
 # Names each import of another crate's proofs that goes past that crate's door, proofs/CallerLemmas.antt.
 doors:
