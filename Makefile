@@ -19,7 +19,8 @@ demo: bin/cotpad
 		echo "== $$log, shown"; bin/cotpad show < $$log; \
 	done
 
-# Compares what the program writes of each example with its report, which was worked out by hand from docs/FORMATS.md.
+# Compares what the program writes of each example with its report, and its answers to the frames and logs of
+# docs/vectors.txt with theirs. Reports and answers were worked out by hand from docs/FORMATS.md.
 check-examples: bin/cotpad
 	@for script in examples/*.script; do \
 		bin/cotpad replay < $$script | cmp - $${script%.script}.report || exit 1; \
@@ -28,6 +29,7 @@ check-examples: bin/cotpad
 		bin/cotpad show < $$log | cmp - $${log%.log}.report || exit 1; \
 	done
 	@echo "each example writes its report"
+	@tools/check-vectors
 
 # Says whether docs/TRUST.md lists what the contract of `run` reaches; `tools/trust --write` writes it.
 trust:
