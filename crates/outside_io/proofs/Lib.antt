@@ -2,3 +2,5 @@
 pub mod Counts
 pub mod Written
 pub mod Read
+pub mod Linked
+pub mod Brought

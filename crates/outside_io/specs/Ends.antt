@@ -21,6 +21,11 @@ pub record IsUnlinked (ends : ℕ → End) : Type 0 where
   pub first : (ends 0).linked ≡ false
   pub second : (ends 1).linked ≡ false
 
+-- each end is linked as it was
+pub record KeepLinked (old new : ℕ → End) : Type 0 where
+  pub first : (new 0).linked ≡ (old 0).linked
+  pub second : (new 1).linked ≡ (old 1).linked
+
 -- no bytes, told where these bytes are told
 abbrev pub nothing_of : Option (List ℕ) → Option (List ℕ)
 nothing_of known = option_map (λ _. []) known

@@ -88,7 +88,7 @@ impl Source for SourceMem {
 }
 
 /// Moves the front of `rest`, at most `most` bytes of it, into the front of `buf`.
-fn fill_front(rest: &[u8], most: usize, buf: &mut [u8]) -> usize
+pub(crate) fn fill_front(rest: &[u8], most: usize, buf: &mut [u8]) -> usize
     ensures amount { result ≡ min (min most (length buf.new)) (length rest.now) }
     ensures moved { rest.now ≡ take result buf.new ++ drop result rest.now }
 {

@@ -5,6 +5,7 @@ use super::*;
 use std::alloc::{AllocError, Global};
 use std::io;
 use std::io::{ErrorKind, Read, Write};
+use std::process::Abort;
 use std::test::Fail;
 
 #[test]
@@ -192,4 +193,75 @@ fn standard_output_is_a_sink(rt: HostRuntime) {
         write_whole(&mut StdoutSink::new(Broken(0)), b"not ok"),
         Err(Failed)
     );
+}
+
+#[test]
+fn a_pair_in_memory_carries_bytes_both_ways(rt: HostRuntime) {
+    let alloc = rt.alloc();
+    let mut wire = WireMem::new(alloc, Vec::new(alloc), Vec::new(alloc));
+    talk(&rt, &mut wire);
+    assert_eq!(rt; wire.sent(0), b"hello".as_slice());
+    assert_eq!(rt; wire.sent(1), b"good day".as_slice());
+}
+
+#[test]
+fn a_pair_of_sockets_carries_bytes_both_ways(rt: HostRuntime) {
+    let mut wire = TcpWire::new(&rt);
+    talk(&rt, &mut wire);
+}
+
+fn talk<W: Wire>(rt: &impl Abort, wire: &mut W)
+    requires { IsUnlinked (W.ends wire.old) }
+{
+    assert_eq!(rt; wire.link_pair(), Ok(()));
+    assert!(rt; wire.linked(0) && wire.linked(1));
+    let mut buf = [0u8; 8];
+    assert_eq!(rt; wire.write(0, b"hello"), Ok(5));
+    assert_eq!(rt; wire.read(1, &mut buf[..5]), Ok(5));
+    assert_eq!(rt; &buf[..5], b"hello".as_slice());
+    assert_eq!(rt; wire.write(1, b"good day"), Ok(8));
+    assert_eq!(rt; wire.read(0, &mut buf), Ok(8));
+    assert_eq!(rt; buf.as_slice(), b"good day".as_slice());
+    wire.shut(0);
+    assert_eq!(rt; wire.read(1, &mut buf), Ok(0), "the other end was shut");
+    wire.shut(1);
+    assert!(rt; !wire.linked(0) && !wire.linked(1));
+}
+
+#[test]
+fn a_wire_in_memory_has_a_peer_and_fails_where_told(rt: HostRuntime) -> Result<(), Fail> {
+    let alloc = rt.alloc();
+    let mut wire = WireMem::new(alloc, b"abc".to_vec(alloc)?, [0, 3].to_vec(alloc)?);
+    hear(&rt, &mut wire);
+    assert_eq!(rt; wire.sent(0), b"xy".as_slice());
+    Ok(())
+}
+
+// Of the calls that are numbered, 0 and 3 fail.
+fn hear<W: Wire>(rt: &impl Abort, wire: &mut W)
+    requires { IsUnlinked (W.ends wire.old) }
+{
+    assert_eq!(rt; wire.link(Role::Listen, 7000), Err(Failed));
+    assert_eq!(rt; wire.link(Role::Listen, 7000), Ok(()));
+    assert!(rt; wire.linked(0) && !wire.linked(1));
+    let mut buf = [0u8; 2];
+    assert_eq!(rt; wire.read(0, &mut buf), Ok(2));
+    assert_eq!(rt; buf.as_slice(), b"ab".as_slice());
+    assert_eq!(rt;
+        wire.read(0, &mut buf),
+        Err(Failed),
+        "a listed call takes nothing"
+    );
+    assert_eq!(rt; wire.read(0, &mut buf), Ok(1));
+    assert_eq!(rt; wire.read(0, &mut buf), Ok(0), "the peer's bytes ended");
+    assert_eq!(rt; wire.write(0, b"xy"), Ok(2));
+    wire.shut(0);
+    assert_eq!(rt;
+        wire.link(Role::Connect, 7000),
+        Ok(()),
+        "the peer's bytes come anew"
+    );
+    assert!(rt; wire.linked(0));
+    assert_eq!(rt; wire.read(0, &mut buf), Ok(2));
+    wire.shut(0);
 }
