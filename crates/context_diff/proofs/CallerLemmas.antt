@@ -9,10 +9,10 @@ pub use Rattle.context_diff.proofs.GapEnds.{gap_ends, narrow_left, narrow_right}
 pub use Rattle.context_diff.proofs.Generations.{generation_is}
 pub use Rattle.context_diff.proofs.Histories.{context_is, group_facts, original_facts, own_alone, own_earlier, related}
 pub use Rattle.context_diff.proofs.Inserts.{inserts_by_site, no_inserts}
-pub use Rattle.context_diff.proofs.Known.{contains_cases, contains_here, contains_later, contains_none, holder, in_known, known_in, known_member, known_on, known_push, original_holder}
+pub use Rattle.context_diff.proofs.Known.{contains_cases, contains_here, contains_later, contains_none, holder, in_known, known_append, known_in, known_member, known_on, known_push, original_holder}
 pub use Rattle.context_diff.proofs.Listings.{count_at}
 pub use Rattle.context_diff.proofs.Members.{all_is_context, formed_member}
-pub use Rattle.context_diff.proofs.Names.{member_itself, member_same}
+pub use Rattle.context_diff.proofs.Names.{member_apart, member_itself, member_same}
 pub use Rattle.context_diff.proofs.Next.{have_known}
 pub use Rattle.context_diff.proofs.Order.{base_on, members_apart, not_later}
 pub use Rattle.context_diff.proofs.Raising.{has_generation, has_group, has_number, has_original, has_raised}

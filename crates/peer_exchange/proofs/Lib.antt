@@ -1,0 +1,4 @@
+pub mod Unseen
+mod SameInserts
+pub mod ValidJoins
+pub mod BothSides

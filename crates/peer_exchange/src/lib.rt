@@ -1,0 +1,12 @@
+//! The exchange of two sites: what each lacks of the other, and what both have afterwards.
+//!
+//! The *join* of two histories is the one, followed by what it lacks of the other, in the other's order. Where two sites
+//! agree, that is, know no name by different contents, each takes in all that it lacks, and both then have the join.
+#![tactic(auto)]
+
+mod laws;
+
+pub use laws::{
+    any_exchanges_meet, both_sides_are_joined, equal_members_are_alike, joins_are_idempotent,
+    joins_are_valid, joins_associate, joins_commute, lacked_operations_are_next,
+};
