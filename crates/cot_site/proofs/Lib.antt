@@ -16,3 +16,4 @@ pub mod WorkedCases
 pub mod Cached
 pub mod CallerLemmas
 pub mod RowForms
+pub mod Changes

@@ -1,14 +1,17 @@
 -- Rows of a site: over one member more, over the same history, and none; and the forms that a cache keeps of them.
-use Rattle.std.proofs.Common.{◌≡◌, Bool, true, false, ◌⊎◌, inl, inr, List, [], ◌∷◌, ◌++◌, Contains, refl, sym, ap, subst, ◌∙◌}
-use Rattle.std.specs.Prelude.{Some}
+use Rattle.std.proofs.Common.{◌≡◌, ◌-◌, Bool, true, false, ◌⊎◌, inl, inr, List, [], ◌∷◌, ◌++◌, Contains, length, take, refl, sym, ap, subst, ◌∙◌, arith, length-append}
+use Rattle.std.specs.Prelude.{Option, Some, None}
+use Rattle.std.proofs.lemmas.List.Elements.{Contains-append_right}
+use Rattle.std.proofs.Math.Seq.{take-append_seam}
 use Rattle.op_name.specs.NameData.{NameData}
 use Rattle.op_name.specs.declared.member.Member.{Member}
 use Rattle.op_name.specs.declared.member.Member.TheVariants.{Original}
 use Rattle.context_vector.specs.Contexts.{ContextData, has, raised, IsNextMember}
-use Rattle.context_diff.specs.Operations.{OpData, member_of, context_of}
-use Rattle.context_diff.specs.Histories.{members_in, IsValid}
+use Rattle.context_vector.specs.Vectors.{VectorData}
+use Rattle.context_diff.specs.Operations.{OpData, member_of}
+use Rattle.context_diff.specs.Histories.{context_of_all, IsNext, IsValid}
 use Rattle.context_diff.specs.Bases.{base_has}
-use Rattle.context_diff.proofs.CallerLemmas.{contains_none, has_raised}
+use Rattle.context_diff.proofs.CallerLemmas.{contains_here, contains_none, has_raised, valid_push}
 use Rattle.ttf_form.specs.declared.form.Form.{Form}
 use Rattle.ttf_form.specs.Forms.{form_over, IsInertForm}
 use Rattle.ttf_form.specs.Families.{IsIn}
@@ -28,7 +31,8 @@ use Rattle.form_rows.specs.Names.{insert_of}
 use Rattle.form_rows.specs.Kept.{AreRows, IsFormWith}
 use Rattle.form_rows.specs.declared.rows.AuthorRow.{AuthorRow}
 use Rattle.form_rows.proofs.CallerLemmas.{original_base, rows_stay}
-use Rattle.cot_site.specs.Code.Replicas.{AreRowsOf, IsNextAfter}
+use Rattle.cot_site.specs.Code.Replicas.{AreRowsOf, IsBefore, IsKeptBefore, IsNextAfter, before_last}
+use Rattle.cot_site.proofs.Cases.{named_original}
 
 pub no_rows : (h : List OpData) (kept : List (AuthorRow Form)) → kept ≡ [] → AreRowsOf h kept
 no_rows h kept e k i = absurd (contains_none k (subst (λ (l : List (AuthorRow Form)). Contains l k) e i))
@@ -42,12 +46,28 @@ rows_after h m to fs kept n =
     subst (λ (l : List Member). AreRows form_over IsInertForm (family_in h (base_form h)) l kept) (sym n.executed.whole)
     (rows_stay form_over IsInertForm (family_in h (base_form h)) n.before m kept n.executed.rows)
 
--- the base form of an original is its form at the members before it, where these are its context
-pub base_after : (h : List OpData) (n : NameData) (to : ContextData) (fs : List Form) (kept : List (AuthorRow Form)) (o : OpData) (f : Form) → IsValid h → IsNextAfter h (Original n) (has to) fs kept → Contains h o → member_of o ≡ Original n → context_of o ≡ to → f ≡ base_form h (Original n)
+-- the base form of an original is its form at the members before it, where these are its base context
+pub base_after : (h : List OpData) (n : NameData) (to : ContextData) (fs : List Form) (kept : List (AuthorRow Form)) (f : Form) → IsNextAfter h (Original n) (has to) fs kept → ((y : Member) → has to y ≡ base_has h (Original n) y) → f ≡ base_form h (Original n)
     → Derived form_over (family_in h (base_form h)) (Original n) (has to) f
-base_after h n to fs kept o f valid next at is same e =
-    at_base (subst (λ (l : List Member). IsIn (Original n) l) (sym next.executed.whole) (in_right (Original n) next.before (Original n ∷ []) (inl refl)))
-    (λ y. ap (λ (c : ContextData). has c y) (sym same) ∙ original_base h valid o n at is y) e
+base_after h n to fs kept f next same e =
+    at_base (subst (λ (l : List Member). IsIn (Original n) l) (sym next.executed.whole) (in_right (Original n) next.before (Original n ∷ []) (inl refl))) same e
+
+-- what was kept of the members before the last operation, when that came next
+module _ (h : List OpData) (o : OpData) (k : List OpData) (valid : IsValid h) (next : IsNext h o) (grown : k ≡ h ++ o ∷ []) where
+  pub before_last_is : before_last k ≡ context_of_all h
+  before_last_is =
+      let even : length k - 1 ≡ length h = omega (arith, ap length grown, length-append h (o ∷ [])) in
+      ap context_of_all (ap (λ n. take n k) even ∙ ap (take (length h)) grown ∙ take-append_seam h (o ∷ []))
+
+  pub kept_before : (c : ContextData) (m : Member) (kept : Option VectorData) → c ≡ context_of_all h → m ≡ member_of o → IsKeptBefore c o kept → IsBefore k m kept
+  kept_before c m (Some v) is member same = same ∙ is ∙ sym before_last_is
+  kept_before c m None is member same = λ n y original.
+      let named : member_of o ≡ Original n = sym member ∙ original in
+      let valid_k : IsValid k = subst IsValid (sym grown) (valid_push h o valid next) in
+      let there : Contains k o = subst (λ (l : List OpData). Contains l o) (sym grown) (Contains-append_right h (o ∷ []) o (contains_here o [])) in
+      ap (λ (d : ContextData). has d y) (before_last_is ∙ sym is ∙ sym (same (named_original o n named)))
+      ∙ original_base k valid_k o n there named y
+      ∙ ap (λ (x : Member). base_has k x y) (sym original)
 
 -- a form at the members before the last one
 pub form_after_at : (h : List OpData) (m : Member) (to : Member → Bool) (fs : List Form) (kept : List (AuthorRow Form)) (f : Form) (n : IsNextAfter h m to fs kept)

@@ -37,15 +37,6 @@ after_verdict (NotClosed k) o s = s
 after_verdict (PlaceOut p k) o s = s
 after_verdict Integrated o s = with_last s o
 
--- the operation with this verdict is integrated or held
-abbrev pub IsKept : Verdict → Type 0
-IsKept Repeat = ⊥
-IsKept (Forged n) = ⊥
-IsKept (Waits m) = Unit {0}
-IsKept (NotClosed k) = ⊥
-IsKept (PlaceOut p k) = ⊥
-IsKept Integrated = Unit {0}
-
 -- the verdict that a delivered operation gets
 abbrev pub judged : State → OpData → Verdict
 judged s o = verdict_of s.history s.waiting o

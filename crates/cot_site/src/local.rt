@@ -14,11 +14,11 @@ pub enum Local {
     NotInForce { generation: u16 },
     /// The original isn't undone; its generation is even.
     InForce { generation: u16 },
-    /// The original was undone and redone as often as can be: its generation is 65,535.
+    /// The original was undone and redone as often as can be: its generation is `GENERATIONS`.
     GenerationFull,
-    /// The site has made 1,000,000 originals.
+    /// The site has made `NUMBERS` originals.
     NumberFull,
-    /// The history has `entries` undone names, more than the 16,384 that the context of an operation carries.
+    /// The history has `entries` undone names, more than the `UNDO_ENTRIES` that the context of an operation carries.
     ContextFull { entries: u32 },
     /// Out of memory.
     Memory,

@@ -1,11 +1,11 @@
 //! The integrated operations of a site, with what they made of the text.
 
-ghost use Rattle.std.specs.Prelude.{◌≡◌, ◌<◌, ◌≤◌, ◌↔◌, ◌++◌, ◌∷◌, true, List, [], IsTrue, IsNone, OnOk, OnErr, IfOk, IfSome, length, option_map, slice_get, vec_len, vec_capacity};
+ghost use Rattle.std.specs.Prelude.{◌≡◌, ◌<◌, ◌≤◌, ◌↔◌, ◌++◌, ◌∷◌, true, false, List, [], IsTrue, IsNone, OnOk, OnErr, IfOk, IfSome, length, option_map, slice_get, vec_len, vec_capacity};
 ghost use Rattle.op_name.specs.declared.member.Member.{Member};
 ghost use Rattle.op_name.specs.declared.member.Member.TheVariants.{Original};
 ghost use Rattle.context_diff.specs.Bases.{base_has};
 ghost use Rattle.context_vector.specs.Contexts.{has};
-ghost use Rattle.context_diff.specs.Operations.{OpData};
+ghost use Rattle.context_diff.specs.Operations.{OpData, is_original};
 ghost use Rattle.context_diff.specs.Histories.{context_of_all, is_known, IsNext, IsValid};
 ghost use Rattle.context_diff.specs.Replays.{shown, text_of};
 ghost use Rattle.context_diff.specs.Books.{HasRoomToPop};
@@ -26,7 +26,7 @@ ghost use Rattle.form_rows.specs.Names.{insert_of};
 ghost use Rattle.form_rows.specs.Kept.{IsFormWith};
 ghost use Rattle.cot_site.specs.Commands.{place_of_shown, place_behind};
 ghost use Rattle.cot_site.specs.Sites.{AreExecuted, AreCached, IsFormOf, KeepsForms};
-ghost use Rattle.cot_site.specs.Code.Replicas.{AreRowsOf, IsExecutedAsBefore, IsStep, IsNextAfter};
+ghost use Rattle.cot_site.specs.Code.Replicas.{AreRowsOf, IsBefore, IsExecutedAsBefore, IsKeptBefore, IsStep, IsNextAfter, before_last};
 
 use context_diff::{Book, Op};
 use context_vector::Vector;
@@ -44,8 +44,8 @@ use visible_view::{cell_of_visible, model_place, visible_len, write_text};
 pub const CACHED_FORMS: u32 = 512;
 
 /// A valid history, the form in which each of its operations was executed, the cells that these forms gave, the rows
-/// out of which the next forms are found, and forms that were computed on the way. A site hands its calls on what it has integrated to it: what ties
-/// these parts together is kept here, and a site adds its number and what waits.
+/// out of which the next forms are found, and forms that were computed on the way. A site hands its calls on what it has
+/// integrated to it: what ties these parts together is kept here, and a site adds its number and what waits.
 #[derive(Drop)]
 pub struct Replica {
     book: Book,
@@ -174,7 +174,7 @@ impl Replica {
     {
         self.book.known();
         let op = with_shared_names(&self.book, op);
-        let before = self.book.have().try_clone()?;
+        let before = members_before(&self.book, &op)?;
         let member = op.member();
         self.forms.reserve(1)?;
         self.book.reserve(&op)?;
@@ -186,7 +186,7 @@ impl Replica {
             &mut self.forms,
             &mut self.cells,
             &member,
-            &before,
+            before,
         ) {
             Ok(()) => {
                 self.book.share();
@@ -209,6 +209,25 @@ fn with_shared_names(book: &Book, op: Op) -> Op
     op
 }
 
+// The members of the book, where the operation comes next and its form is to be found at them: not where an insert or a
+// delete was made after just these, nor for an undo.
+fn members_before(book: &Book, op: &Op) -> Result<Option<Vector>, Memory>
+    ensures { IfOk result (IsKeptBefore book.now.have.set (data_of op.now)) }
+{
+    if is_undo(op) || are_same(op.context(), book.have()) {
+        return Ok(None);
+    }
+    let members = book.have().try_clone()?;
+    Ok(Some(members))
+}
+
+// Whether the operation is an undo or a redo.
+fn is_undo(op: &Op) -> bool
+    ensures { IsTrue result → is_original (data_of op.now) ≡ false }
+{
+    matches!(op, Op::Undo { .. })
+}
+
 // Takes the last operation out, and with it all rows and all forms of the cache: their members or contexts may have it.
 fn take_back(book: &mut Book, cache: &mut Cache<Form>, rows: &mut Rows<Form>)
     requires { HasRoomToPop book.old }
@@ -222,7 +241,8 @@ fn take_back(book: &mut Book, cache: &mut Cache<Form>, rows: &mut Rows<Form>)
     book.pop();
 }
 
-// Executes the form of a member of the book at `to`, and appends it to the forms, which have a spare place. After
+// Executes the form of the last member of the book at the members before it, and appends it to the forms, which have a
+// spare place. After
 // out of memory the forms and the cells are as they were. Each entry of the cache stays the form of its key.
 fn execute(
     book: &Book,
@@ -231,21 +251,22 @@ fn execute(
     forms: &mut Vec<Form>,
     cells: &mut Cells,
     member: &Member,
-    to: &Vector,
+    before: Option<Vector>,
 ) -> Result<(), Memory>
     requires room { vec_len forms.old < vec_capacity forms.old }
-    requires added { MayBeAddedTo book.now.ops to.now.set member.now }
-    requires next { IsNextAfter book.now.ops member.now (has to.now.set) forms.old.items rows.old.kept.items }
+    requires added { MayBeAddedTo book.now.ops (before_last book.now.ops) member.now }
+    requires next { IsNextAfter book.now.ops member.now (has (before_last book.now.ops)) forms.old.items rows.old.kept.items }
+    requires before { IsBefore book.now.ops member.now before }
     requires cached { AreCached book.now.ops cache.old.entries }
-    requires fits { (f : Form) → Derived form_over (family_in book.now.ops (base_form book.now.ops)) member.now (has to.now.set) f → FitsCells cells.old.cells f }
-    ensures step { OnOk result (IsStep book.now.ops member.now (has to.now.set) forms.old.items forms.new.items cells.old.cells cells.new.cells) }
+    requires fits { (f : Form) → Derived form_over (family_in book.now.ops (base_form book.now.ops)) member.now (has (before_last book.now.ops)) f → FitsCells cells.old.cells f }
+    ensures step { OnOk result (IsStep book.now.ops member.now (has (before_last book.now.ops)) forms.old.items forms.new.items cells.old.cells cells.new.cells) }
     ensures rows { OnOk result (AreRowsOf book.now.ops rows.new.kept.items) }
     ensures forms { OnErr result (forms.new.items ≡ forms.old.items) }
     ensures cells { OnErr result (cells.new.cells ≡ cells.old.cells) }
     ensures cached { AreCached book.now.ops cache.new.entries }
     ensures capacity { cache.new.capacity ≡ cache.old.capacity }
 {
-    match form_with_room(book, cache, rows, cells, forms.as_slice(), member, to) {
+    match form_with_room(book, cache, rows, cells, forms.as_slice(), member, before) {
         Ok(form) => {
             cells.apply(&form);
             append(forms, &form);
@@ -269,7 +290,7 @@ fn append(forms: &mut Vec<Form>, form: &Form)
     }
 }
 
-// The form of a member of the book at `to`, with room among the cells to apply it. The cells stay as they are.
+// The form of the last member of the book at the members before it, with room among the cells to apply it. The cells stay as they are.
 fn form_with_room(
     book: &Book,
     cache: &mut Cache<Form>,
@@ -277,24 +298,25 @@ fn form_with_room(
     cells: &mut Cells,
     forms: &[Form],
     member: &Member,
-    to: &Vector,
+    before: Option<Vector>,
 ) -> Result<Form, Memory>
-    requires added { MayBeAddedTo book.now.ops to.now.set member.now }
-    requires next { IsNextAfter book.now.ops member.now (has to.now.set) forms.now rows.old.kept.items }
+    requires added { MayBeAddedTo book.now.ops (before_last book.now.ops) member.now }
+    requires next { IsNextAfter book.now.ops member.now (has (before_last book.now.ops)) forms.now rows.old.kept.items }
+    requires before { IsBefore book.now.ops member.now before }
     requires cached { AreCached book.now.ops cache.old.entries }
-    ensures form { IfOk result (Derived form_over (family_in book.now.ops (base_form book.now.ops)) member.now (has to.now.set)) }
+    ensures form { IfOk result (Derived form_over (family_in book.now.ops (base_form book.now.ops)) member.now (has (before_last book.now.ops))) }
     ensures rows { OnOk result (AreRowsOf book.now.ops rows.new.kept.items) }
     ensures room { IfOk result (HasRoomFor cells.new) }
     ensures cells { cells.new.cells ≡ cells.old.cells }
     ensures cached { AreCached book.now.ops cache.new.entries }
     ensures capacity { cache.new.capacity ≡ cache.old.capacity }
 {
-    let form = form_at(book, cache, rows, forms, member, to)?;
+    let form = form_at(book, cache, rows, forms, member, before)?;
     cells.reserve(&form)?;
     Ok(form)
 }
 
-// The form of a member of the book at `to`: that of an undo group follows the form in which the group before it, or its
+// The form of the last member of the book at the members before it: that of an undo group follows the form in which the group before it, or its
 // original, was executed.
 fn form_at(
     book: &Book,
@@ -302,48 +324,48 @@ fn form_at(
     rows: &mut Rows<Form>,
     forms: &[Form],
     member: &Member,
-    to: &Vector,
+    before: Option<Vector>,
 ) -> Result<Form, Memory>
-    requires added { MayBeAddedTo book.now.ops to.now.set member.now }
-    requires next { IsNextAfter book.now.ops member.now (has to.now.set) forms.now rows.old.kept.items }
+    requires added { MayBeAddedTo book.now.ops (before_last book.now.ops) member.now }
+    requires next { IsNextAfter book.now.ops member.now (has (before_last book.now.ops)) forms.now rows.old.kept.items }
+    requires before { IsBefore book.now.ops member.now before }
     requires cached { AreCached book.now.ops cache.old.entries }
-    ensures form { IfOk result (Derived form_over (family_in book.now.ops (base_form book.now.ops)) member.now (has to.now.set)) }
+    ensures form { IfOk result (Derived form_over (family_in book.now.ops (base_form book.now.ops)) member.now (has (before_last book.now.ops))) }
     ensures rows { OnOk result (AreRowsOf book.now.ops rows.new.kept.items) }
     ensures cached { AreCached book.now.ops cache.new.entries }
     ensures capacity { cache.new.capacity ≡ cache.old.capacity }
 {
     match member {
-        Member::Original(name) => original_form(book, cache, rows, forms, name, to),
+        Member::Original(name) => original_form(book, cache, rows, forms, name, before),
         Member::Group(target, generation) => Ok(executed_group(book, target, *generation, forms)),
     }
 }
 
-// The form of an original at `to`: its base form where that is its context, and else the form that the rows give.
+// The form of an original, the last member of the book: its base form where no member before it is news to it, and else
+// the form that the rows give.
 fn original_form(
     book: &Book,
     cache: &mut Cache<Form>,
     rows: &mut Rows<Form>,
     forms: &[Form],
     name: &Name,
-    to: &Vector,
+    before: Option<Vector>,
 ) -> Result<Form, Memory>
     requires known { is_known book.now.ops (Original name.now) ≡ true }
-    requires next { IsNextAfter book.now.ops (Original name.now) (has to.now.set) forms.now rows.old.kept.items }
+    requires next { IsNextAfter book.now.ops (Original name.now) (has (before_last book.now.ops)) forms.now rows.old.kept.items }
+    requires before { IsBefore book.now.ops (Original name.now) before }
     requires cached { AreCached book.now.ops cache.old.entries }
-    ensures form { IfOk result (Derived form_over (family_in book.now.ops (base_form book.now.ops)) (Original name.now) (has to.now.set)) }
+    ensures form { IfOk result (Derived form_over (family_in book.now.ops (base_form book.now.ops)) (Original name.now) (has (before_last book.now.ops))) }
     ensures rows { OnOk result (AreRowsOf book.now.ops rows.new.kept.items) }
     ensures cached { AreCached book.now.ops cache.new.entries }
     ensures capacity { cache.new.capacity ≡ cache.old.capacity }
 {
     book.known();
     match book.original(name) {
-        Some(op) => {
-            if are_same(op.context(), to) {
-                Ok(base_of(book, name))
-            } else {
-                computed_form(book, cache, rows, forms, name, op.context(), to)
-            }
-        }
+        Some(op) => match before {
+            Some(to) => computed_form(book, cache, rows, forms, name, op.context(), to),
+            None => Ok(base_of(book, name)),
+        },
         None => unreachable!(),
     }
 }
@@ -363,7 +385,8 @@ fn base_of(book: &Book, name: &Name) -> Form
     TextBases::new(book).base(&Member::Original(*name))
 }
 
-// The form of an original at `to` by the rows, which the cache keeps, with the form of the first member of its row.
+// The form of an original, the last member of the book, at the members before it by the rows. The cache keeps it, and
+// the form of the first member of its row.
 fn computed_form(
     book: &Book,
     cache: &mut Cache<Form>,
@@ -371,34 +394,24 @@ fn computed_form(
     forms: &[Form],
     name: &Name,
     context: &Vector,
-    to: &Vector,
+    to: Vector,
 ) -> Result<Form, Memory>
-    requires next { IsNextAfter book.now.ops (Original name.now) (has to.now.set) forms.now rows.old.kept.items }
+    requires next { IsNextAfter book.now.ops (Original name.now) (has (before_last book.now.ops)) forms.now rows.old.kept.items }
     requires context { (y : Member) → has context.now.set y ≡ base_has book.now.ops (Original name.now) y }
+    requires to { to.set ≡ before_last book.now.ops }
     requires cached { AreCached book.now.ops cache.old.entries }
-    ensures form { IfOk result (Derived form_over (family_in book.now.ops (base_form book.now.ops)) (Original name.now) (has to.now.set)) }
+    ensures form { IfOk result (Derived form_over (family_in book.now.ops (base_form book.now.ops)) (Original name.now) (has (before_last book.now.ops))) }
     ensures rows { OnOk result (AreRowsOf book.now.ops rows.new.kept.items) }
     ensures cached { AreCached book.now.ops cache.new.entries }
     ensures capacity { cache.new.capacity ≡ cache.old.capacity }
 {
     match executed_original(book, name, forms, rows) {
         Ok(made) => {
-            keep_executed(cache, name, to, made.0);
+            keep_form(cache, name, to, made.0);
             keep_first(book, cache, name, context, made.1);
             Ok(made.0)
         }
         Err(want) => Err(want),
-    }
-}
-
-// Keeps the form of an original at a context, if there is memory for it.
-fn keep_executed(cache: &mut Cache<Form>, name: &Name, context: &Vector, form: Form)
-    ensures forms { (b : Family Form) → AreForms form_over b cache.old.entries → IsOnlyFormAt form_over b (Original name.now) (has context.now.set) form → AreForms form_over b cache.new.entries }
-    ensures capacity { cache.new.capacity ≡ cache.old.capacity }
-{
-    match context.try_clone() {
-        Ok(copy) => keep_form(cache, name, copy, form),
-        Err(_) => {}
     }
 }
 

@@ -1,8 +1,13 @@
 -- An executed history: its forms, the cells that they give, and the entries of the cache.
-use Rattle.std.specs.Prelude.{◌≡◌, Bool, List, [], ◌∷◌, ◌++◌}
+use Rattle.std.specs.Prelude.{◌≡◌, ◌-◌, Bool, true, List, [], ◌∷◌, ◌++◌, Option, Some, None, length, take}
 use Rattle.op_name.specs.declared.member.Member.{Member}
-use Rattle.context_diff.specs.Operations.{OpData}
-use Rattle.context_diff.specs.Histories.{members_in}
+use Rattle.op_name.specs.declared.member.Member.TheVariants.{Original}
+use Rattle.op_name.specs.NameData.{NameData}
+use Rattle.context_vector.specs.Contexts.{ContextData, has}
+use Rattle.context_vector.specs.Vectors.{VectorData}
+use Rattle.context_diff.specs.Operations.{OpData, context_of, is_original}
+use Rattle.context_diff.specs.Histories.{context_of_all, members_in}
+use Rattle.context_diff.specs.Bases.{base_has}
 use Rattle.ttf_form.specs.declared.form.Form.{Form}
 use Rattle.ttf_form.specs.Forms.{form_over, IsInertForm}
 use Rattle.ttf_form.specs.Cells.{CellData, applied}
@@ -37,6 +42,21 @@ pub record IsNextAfter (h : List OpData) (m : Member) (to : Member → Bool) (fs
   pub before : List Member
   pub executed : IsExecutedBefore h m before fs kept
   pub set : SameSet (plus_all none before) to
+
+-- the members before the last operation of a history
+abbrev pub before_last : List OpData → ContextData
+before_last h = context_of_all (take (length h - 1) h)
+
+-- what is kept of a set of members when an operation comes next after them: nothing where it is an undo, or has them as its
+-- context
+abbrev pub IsKeptBefore : ContextData → OpData → Option VectorData → Type 0
+IsKeptBefore c o None = is_original o ≡ true → context_of o ≡ c
+IsKeptBefore c o (Some v) = v.set ≡ c
+
+-- the same of the members before the last one, m: where nothing is kept and m is an original, they are its base context
+abbrev pub IsBefore : List OpData → Member → Option VectorData → Type 0
+IsBefore h m None = (n : NameData) (y : Member) → m ≡ Original n → has (before_last h) y ≡ base_has h m y
+IsBefore h m (Some v) = v.set ≡ before_last h
 
 -- an executed history, with the entries of a cache
 pub record ReplicaData : Type 0 where

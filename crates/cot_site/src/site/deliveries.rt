@@ -6,7 +6,7 @@ ghost use Rattle.context_diff.specs.Histories.{IsNext};
 ghost use Rattle.context_diff.specs.Ops.{data_of};
 ghost use Rattle.causal_gate.specs.Waiting.{NamesAgree};
 ghost use Rattle.cot_site.specs.declared.verdict.Verdict.TheVariants.{Integrated};
-ghost use Rattle.cot_site.specs.States.{IsKept, delivered, judged, with_last, with_held};
+ghost use Rattle.cot_site.specs.States.{delivered, judged, with_last, with_held};
 ghost use Rattle.cot_site.specs.Sites.{KeepsForms, IsAsBefore, state_of};
 
 use crate::site::Site;
@@ -17,15 +17,15 @@ use op_name::Memory;
 impl Site {
     /// Delivers an operation, which is well formed: answers its verdict, and does what the verdict says. An
     /// integrated operation is the last of the history, and its form is executed; one that waits is held,
-    /// unless an equal one waits already; any other changes nothing. Out of memory comes only where the operation
-    /// is to be integrated or held; then the state and the forms are as before, and the cache may be empty.
+    /// unless an equal one waits already; any other changes nothing. Out of memory comes only where the state is to
+    /// change; then the state and the forms are as before, and the cache may be empty.
     pub fn deliver(&mut self, op: &Op) -> Result<Verdict, Memory>
         requires { IsWellFormed (data_of op.now) }
         ensures verdict { IfOk result (λ v. v ≡ judged (state_of self.old) (data_of op.now)) }
         ensures effect { OnOk result (state_of self.new ≡ delivered (state_of self.old) (data_of op.now)) }
         ensures forms { OnOk result (KeepsForms self.old.forms self.new.forms) }
         ensures entries { IfOk result (λ v. v ≢ Integrated → self.new.entries ≡ self.old.entries) }
-        ensures needed { OnErr result (IsKept (judged (state_of self.old) (data_of op.now))) }
+        ensures needed { OnErr result (delivered (state_of self.old) (data_of op.now) ≢ state_of self.old) }
         ensures err { OnErr result (IsAsBefore self.old self.new) }
     {
         self.known();
@@ -67,6 +67,7 @@ impl Site {
         ensures state { OnOk result (state_of self.new ≡ with_held (state_of self.old) (data_of op.now)) }
         ensures forms { OnOk result (self.new.forms ≡ self.old.forms) }
         ensures entries { OnOk result (self.new.entries ≡ self.old.entries) }
+        ensures needed { OnErr result (with_held (state_of self.old) (data_of op.now) ≢ state_of self.old) }
         ensures err { OnErr result (IsAsBefore self.old self.new) }
     {
         self.pool.hold(op)?;

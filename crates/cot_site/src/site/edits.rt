@@ -15,7 +15,7 @@ use crate::local::Local;
 use crate::site::Site;
 use context_diff::{Op, UNDO_ENTRIES};
 use context_vector::Vector;
-use op_name::{GENERATIONS, Member, NUMBERS, Name};
+use op_name::{GENERATIONS, NUMBERS, Name};
 use undo_group::generation;
 
 impl Site {

@@ -1,4 +1,4 @@
-use Rattle.std.proofs.Common.{◌≡◌, ◌∙◌, ◌++◌, ◌∷◌, [], true, Bool, List, ap, sym, subst}
+use Rattle.std.proofs.Common.{◌≡◌, ◌∙◌, ◌++◌, ◌∷◌, [], true, Bool, ap, sym, subst}
 use Rattle.std.specs.Prelude.{IfOk}
 use Rattle.op_name.specs.declared.member.Member.{Member}
 use Rattle.context_vector.specs.Contexts.{has}
@@ -9,7 +9,7 @@ use Rattle.transform_rec.specs.Derived.{Derived}
 use Rattle.transform_rec.specs.Histories.{family_in}
 use Rattle.transform_rec.proofs.CallerLemmas.{same_set}
 use Rattle.undo_group.specs.BaseForms.{base_form}
-use Rattle.cot_site.specs.Code.Replicas.{IsNextAfter}
+use Rattle.cot_site.specs.Code.Replicas.{IsBefore, IsNextAfter, before_last}
 use Rattle.cot_site.proofs.RowForms.{rows_after}
 use Rattle.cot_site.proofs.replica.form_at.Goals as goal
 
@@ -17,12 +17,15 @@ pub original_form-requires-clause-known : goal.original_form-requires-clause-kno
 original_form-requires-clause-known c = subst (λ (x : Member). is_known c.args.book.now.ops x ≡ true) c.in-Original.is c.requires.added.known
 
 pub original_form-requires-clause-next : goal.original_form-requires-clause-next
-original_form-requires-clause-next c = subst (λ (x : Member). IsNextAfter c.args.book.now.ops x (has c.args.to.now.set) c.args.forms.now c.args.rows.now.kept.items) c.in-Original.is c.requires.next
+original_form-requires-clause-next c = subst (λ (x : Member). IsNextAfter c.args.book.now.ops x (has (before_last c.args.book.now.ops)) c.args.forms.now c.args.rows.now.kept.items) c.in-Original.is c.requires.next
+
+pub original_form-requires-clause-before : goal.original_form-requires-clause-before
+original_form-requires-clause-before c = subst (λ (x : Member). IsBefore c.args.book.now.ops x c.args.before) c.in-Original.is c.requires.before
 
 pub returns-in-Original-clause-form : goal.returns-in-Original-clause-form
 returns-in-Original-clause-form c =
     let h = c.args.book.now.ops in
-    subst (λ (x : Member). IfOk c.original_form.result (Derived form_over (family_in h (base_form h)) x (has c.args.to.now.set))) (sym c.in-Original.is) c.original_form.ensures.form
+    subst (λ (x : Member). IfOk c.original_form.result (Derived form_over (family_in h (base_form h)) x (has (before_last c.args.book.now.ops)))) (sym c.in-Original.is) c.original_form.ensures.form
 
 pub executed_group-requires : goal.executed_group-requires
 executed_group-requires c =
@@ -34,8 +37,8 @@ returns-in-Group-clause-form c =
     let n = c.requires.next in
     let h = c.args.book.now.ops in
     let made = c.executed_group.ensures n.before (n.executed.whole ∙ ap (λ (x : Member). n.before ++ x ∷ []) c.in-Group.is) in
-    subst (λ (C : Member → Bool). Derived form_over (family_in h (base_form h)) c.args.member.now C c.executed_group.result) (same_set (plus_all none n.before) (has c.args.to.now.set) n.set)
+    subst (λ (C : Member → Bool). Derived form_over (family_in h (base_form h)) c.args.member.now C c.executed_group.result) (same_set (plus_all none n.before) (has (before_last c.args.book.now.ops)) n.set)
     (subst (λ (x : Member). Derived form_over (family_in h (base_form h)) x (plus_all none n.before) c.executed_group.result) (sym c.in-Group.is) made)
 
 pub returns-in-Group-clause-rows : goal.returns-in-Group-clause-rows
-returns-in-Group-clause-rows c = rows_after c.args.book.now.ops c.args.member.now (has c.args.to.now.set) c.args.forms.now c.args.rows.now.kept.items c.requires.next
+returns-in-Group-clause-rows c = rows_after c.args.book.now.ops c.args.member.now (has (before_last c.args.book.now.ops)) c.args.forms.now c.args.rows.now.kept.items c.requires.next

@@ -1,5 +1,4 @@
-use Rattle.std.proofs.Common.{sym, subst, refl}
-use Rattle.context_vector.specs.Contexts.{has}
+use Rattle.std.proofs.Common.{refl}
 use Rattle.ttf_form.specs.declared.form.Form.TheVariants.{Ins as Insert}
 use Rattle.transform_rec.specs.Histories.{family_in}
 use Rattle.undo_group.specs.BaseForms.{base_form}

@@ -1,14 +1,13 @@
 use Rattle.std.proofs.Common.{◌≡◌, ◌∙◌, sym, ap, subst, List, [], ◌∷◌, ◌++◌}
 use Rattle.context_diff.specs.Operations.{OpData}
 use Rattle.context_diff.specs.Histories.{IsNext}
-use Rattle.context_vector.specs.Vectors.{VectorData}
 use Rattle.context_diff.specs.Ops.{data_of}
 use Rattle.cot_site.specs.declared.replica.TheConstants.{CACHED_FORMS}
 use Rattle.cot_site.specs.Sites.{AreCached}
-use Rattle.cot_site.specs.Code.Replicas.{ReplicaData, IsExecuted, AreRowsOf}
+use Rattle.cot_site.specs.Code.Replicas.{ReplicaData, IsExecuted, AreRowsOf, before_last}
 use Rattle.cot_site.proofs.Executions.{added_at, next_after_at, fits_at, step_at, executed_same}
 use Rattle.cot_site.proofs.Cached.{cached_same, cached_more, cached_none}
-use Rattle.cot_site.proofs.RowForms.{no_rows, rows_same}
+use Rattle.cot_site.proofs.RowForms.{before_last_is, kept_before, no_rows, rows_same}
 use Rattle.cot_site.proofs.replica.Replica.integrate.Goals as goal
 
 pub invariant_of-self-in_err-reserve-2 : goal.invariant_of-self-in_err-reserve-2
@@ -27,8 +26,8 @@ execute-requires-clause-added c =
     let o = data_of c.with_shared_names-op.result in
     let next = subst (λ (r : ReplicaData). IsNext r.history o) (sym c.self.view_is) (subst (λ (d : OpData). IsNext c.args.self.now.history d) (sym c.with_shared_names-op.ensures) c.requires) in
     let grown : c.push.new.self.ops ≡ h ++ o ∷ [] = c.push.ensures.ops ∙ ap (λ (l : List OpData). l ++ o ∷ []) c.reserve-2.ensures.ops in
-    let before = c.in_ok-before.ensures ∙ (ap (λ (v : VectorData). v.set) c.have.ensures ∙ c.known.ensures.have) in
-    added_at h o c.push.new.self.ops c.in_ok-before.before.set c.member-member.result c.known.ensures.valid next grown before c.member-member.ensures.member
+    let before = before_last_is h o c.push.new.self.ops c.known.ensures.valid next grown in
+    added_at h o c.push.new.self.ops (before_last c.push.new.self.ops) c.member-member.result c.known.ensures.valid next grown before c.member-member.ensures.member
 
 pub execute-requires-clause-next : goal.execute-requires-clause-next
 execute-requires-clause-next c =
@@ -36,8 +35,16 @@ execute-requires-clause-next c =
     let o = data_of c.with_shared_names-op.result in
     let next = subst (λ (r : ReplicaData). IsNext r.history o) (sym c.self.view_is) (subst (λ (d : OpData). IsNext c.args.self.now.history d) (sym c.with_shared_names-op.ensures) c.requires) in
     let grown : c.push.new.self.ops ≡ h ++ o ∷ [] = c.push.ensures.ops ∙ ap (λ (l : List OpData). l ++ o ∷ []) c.reserve-2.ensures.ops in
-    let before = c.in_ok-before.ensures ∙ (ap (λ (v : VectorData). v.set) c.have.ensures ∙ c.known.ensures.have) in
-    next_after_at h o c.push.new.self.ops c.in_ok-before.before.set c.member-member.result c.self.inside.forms.items c.reserve.new.self.items c.self.inside.cells.cells c.self.inside.rows.kept.items c.known.ensures.valid next grown before c.member-member.ensures.member c.self.invariant.0 c.reserve.ensures.items c.self.invariant.3
+    let before = before_last_is h o c.push.new.self.ops c.known.ensures.valid next grown in
+    next_after_at h o c.push.new.self.ops (before_last c.push.new.self.ops) c.member-member.result c.self.inside.forms.items c.reserve.new.self.items c.self.inside.cells.cells c.self.inside.rows.kept.items c.known.ensures.valid next grown before c.member-member.ensures.member c.self.invariant.0 c.reserve.ensures.items c.self.invariant.3
+
+pub execute-requires-clause-before : goal.execute-requires-clause-before
+execute-requires-clause-before c =
+    let h = c.self.inside.book.ops in
+    let o = data_of c.with_shared_names-op.result in
+    let next = subst (λ (r : ReplicaData). IsNext r.history o) (sym c.self.view_is) (subst (λ (d : OpData). IsNext c.args.self.now.history d) (sym c.with_shared_names-op.ensures) c.requires) in
+    let grown : c.push.new.self.ops ≡ h ++ o ∷ [] = c.push.ensures.ops ∙ ap (λ (l : List OpData). l ++ o ∷ []) c.reserve-2.ensures.ops in
+    kept_before h o c.push.new.self.ops c.known.ensures.valid next grown c.self.inside.book.have.set c.member-member.result c.in_ok-before.before c.known.ensures.have c.member-member.ensures.member c.in_ok-before.ensures
 
 pub execute-requires-clause-fits : goal.execute-requires-clause-fits
 execute-requires-clause-fits c =
@@ -45,8 +52,8 @@ execute-requires-clause-fits c =
     let o = data_of c.with_shared_names-op.result in
     let next = subst (λ (r : ReplicaData). IsNext r.history o) (sym c.self.view_is) (subst (λ (d : OpData). IsNext c.args.self.now.history d) (sym c.with_shared_names-op.ensures) c.requires) in
     let grown : c.push.new.self.ops ≡ h ++ o ∷ [] = c.push.ensures.ops ∙ ap (λ (l : List OpData). l ++ o ∷ []) c.reserve-2.ensures.ops in
-    let before = c.in_ok-before.ensures ∙ (ap (λ (v : VectorData). v.set) c.have.ensures ∙ c.known.ensures.have) in
-    fits_at h o c.push.new.self.ops c.in_ok-before.before.set c.member-member.result c.self.inside.forms.items c.self.inside.cells.cells c.known.ensures.valid next grown before c.member-member.ensures.member c.self.invariant.0
+    let before = before_last_is h o c.push.new.self.ops c.known.ensures.valid next grown in
+    fits_at h o c.push.new.self.ops (before_last c.push.new.self.ops) c.member-member.result c.self.inside.forms.items c.self.inside.cells.cells c.known.ensures.valid next grown before c.member-member.ensures.member c.self.invariant.0
 
 pub execute-requires-clause-cached : goal.execute-requires-clause-cached
 execute-requires-clause-cached c =
@@ -62,8 +69,8 @@ invariant_of-self-in-Ok c =
     let o = data_of c.with_shared_names-op.result in
     let next = subst (λ (r : ReplicaData). IsNext r.history o) (sym c.self.view_is) (subst (λ (d : OpData). IsNext c.args.self.now.history d) (sym c.with_shared_names-op.ensures) c.requires) in
     let grown : c.push.new.self.ops ≡ h ++ o ∷ [] = c.push.ensures.ops ∙ ap (λ (l : List OpData). l ++ o ∷ []) c.reserve-2.ensures.ops in
-    let before = c.in_ok-before.ensures ∙ (ap (λ (v : VectorData). v.set) c.have.ensures ∙ c.known.ensures.have) in
-    let made = step_at h o c.push.new.self.ops c.in_ok-before.before.set c.member-member.result c.self.inside.forms.items c.reserve.new.self.items c.execute.new.forms.items c.self.inside.cells.cells c.execute.new.cells.cells c.known.ensures.valid next grown before c.member-member.ensures.member c.self.invariant.0 c.reserve.ensures.items c.in-Ok.ensures.step in
+    let before = before_last_is h o c.push.new.self.ops c.known.ensures.valid next grown in
+    let made = step_at h o c.push.new.self.ops (before_last c.push.new.self.ops) c.member-member.result c.self.inside.forms.items c.reserve.new.self.items c.execute.new.forms.items c.self.inside.cells.cells c.execute.new.cells.cells c.known.ensures.valid next grown before c.member-member.ensures.member c.self.invariant.0 c.reserve.ensures.items c.in-Ok.ensures.step in
     subst (λ (k : List OpData). IsExecuted k c.execute.new.forms.items c.execute.new.cells.cells × AreCached k c.execute.new.cache.entries × (c.execute.new.cache.capacity ≡ CACHED_FORMS) × AreRowsOf k c.execute.new.rows.kept.items) (sym c.share.ensures.ops) (made, c.in-Ok.ensures.cached, c.in-Ok.ensures.capacity ∙ c.self.invariant.2, c.in-Ok.ensures.rows)
 
 pub invariant_of-self-in-Err : goal.invariant_of-self-in-Err

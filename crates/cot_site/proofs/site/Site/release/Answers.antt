@@ -1,8 +1,12 @@
-use Rattle.std.proofs.Common.{◌∙◌, sym}
+use Rattle.std.proofs.Common.{◌≡◌, ◌∙◌, sym}
+use Rattle.std.specs.Prelude.{Some, slice_get}
 use Rattle.std.proofs.lemmas.Bool.{true≢false}
+use Rattle.context_diff.specs.Operations.{OpData}
 use Rattle.context_diff.specs.Ops.{data_of}
-use Rattle.cot_site.specs.States.{without_waiting}
+use Rattle.cot_site.specs.declared.verdict.Verdict.TheVariants.{Integrated}
+use Rattle.cot_site.specs.States.{judged, without_waiting}
 use Rattle.cot_site.specs.Sites.{state_of}
+use Rattle.cot_site.proofs.Changes.{not_as_before, refused}
 use Rattle.cot_site.proofs.Waiting.{ready_integrated, ready_quiet}
 use Rattle.cot_site.proofs.site.Site.release.Goals as goal
 
@@ -18,3 +22,19 @@ returns-clause-effect c =
     let at = c.take-2.ensures.op in
     c.take-2.ensures.state
     ∙ sym (ready_quiet s.history s.waiting c.args.place o o v (without_waiting (state_of s) c.args.place) c.known.ensures.history c.known.ensures.waiting at (c.requires.ready o at) (c.verdict_at-verdict.ensures o at) (λ e. true≢false (sym (c.is_integrated.ensures.1 e) ∙ c.if-is_integrated.false)))
+
+pub returns-in_err-copy-clause-needed : goal.returns-in_err-copy-clause-needed
+returns-in_err-copy-clause-needed c =
+    let s = c.args.self.now in
+    let integrates : (o : OpData) → slice_get s.waiting c.args.place ≡ Some o → judged (without_waiting (state_of s) c.args.place) o ≡ Integrated = λ o at. sym (c.verdict_at-verdict.ensures o at) ∙ c.is_integrated.ensures.0 c.if-is_integrated.true in
+    refused _ integrates
+
+pub returns-in_err-integrate-clause-needed : goal.returns-in_err-integrate-clause-needed
+returns-in_err-integrate-clause-needed c =
+    let s = c.args.self.now in
+    let integrates : (o : OpData) → slice_get s.waiting c.args.place ≡ Some o → judged (without_waiting (state_of s) c.args.place) o ≡ Integrated = λ o at. sym (c.verdict_at-verdict.ensures o at) ∙ c.is_integrated.ensures.0 c.if-is_integrated.true in
+    refused _ integrates
+
+pub returns-then-is_integrated-clause-entries : goal.returns-then-is_integrated-clause-entries
+returns-then-is_integrated-clause-entries c = λ same.
+    absurd (not_as_before (state_of c.args.self.now) (state_of c.integrate.new.self) (state_of c.take.new.self) (data_of c.in_ok-copy.copy) c.args.place c.in_ok-integrate.ensures.state c.take.ensures.state same)

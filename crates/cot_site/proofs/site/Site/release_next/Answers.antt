@@ -6,6 +6,7 @@ use Rattle.context_diff.specs.Ops.{data_of}
 use Rattle.cot_site.specs.declared.verdict.Verdict.{Verdict}
 use Rattle.cot_site.specs.States.{Released, after_release, after_verdict, without_waiting}
 use Rattle.cot_site.specs.Sites.{state_of, IsRelease}
+use Rattle.cot_site.proofs.Changes.{first_integrates, refused}
 use Rattle.cot_site.proofs.Waiting.{release_none, release_is, first_within, first_is_ready}
 use Rattle.cot_site.proofs.site.Site.release_next.Goals as goal
 
@@ -50,3 +51,7 @@ returns-clause-effect c =
 pub returns-clause-settled : goal.returns-clause-settled
 returns-clause-settled c =
     (λ none. absurd (true≢false none), λ settled. absurd (none-some c.in-Some.place (sym settled ∙ (sym c.first_ready.ensures ∙ c.in-Some.is))))
+
+pub returns-in_err-released-clause-needed : goal.returns-in_err-released-clause-needed
+returns-in_err-released-clause-needed c =
+    refused _ (first_integrates (state_of c.args.self.now) c.in-Some.place (sym c.first_ready.ensures ∙ c.in-Some.is) c.in_err-released.ensures.needed)
