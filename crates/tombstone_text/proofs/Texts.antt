@@ -6,7 +6,6 @@ use Rattle.std.proofs.lemmas.List.Elements.{filter-append}
 use Rattle.std.proofs.lemmas.List.{length-append}
 use Rattle.std.proofs.lemmas.List.Edits.{length-insert}
 use Rattle.std.proofs.lemmas.List.Sums.{sum_by-set, get_or-le-sum_by}
-use Rattle.op_name.specs.NameData.{NameData}
 use Rattle.ttf_form.specs.Cells.{CellData, cell_shown, change_at}
 use Rattle.tombstone_text.specs.Chunks.{flat, flag_of, shown_in}
 use Rattle.tombstone_text.specs.Sums.{IsPart}

@@ -1,4 +1,4 @@
-use Rattle.std.proofs.Common.{◌≡◌, ◌+◌, ◌-◌, List, insert, sym, ap, ◌∙◌, subst, arith}
+use Rattle.std.proofs.Common.{◌+◌, ◌-◌, List, insert, sym, ap, ◌∙◌, subst, arith}
 use Rattle.ttf_form.specs.Cells.{CellData}
 use Rattle.tombstone_text.specs.Code.Cells.{IsSeat}
 use Rattle.tombstone_text.proofs.Chunked as chunked

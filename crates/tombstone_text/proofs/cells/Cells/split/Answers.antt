@@ -1,4 +1,4 @@
-use Rattle.std.proofs.Common.{◌≡◌, ◌+◌, ◌<◌, List, [], length, get_or, ap, ◌∙◌, arith}
+use Rattle.std.proofs.Common.{◌+◌, ◌<◌, [], length, get_or, ap, ◌∙◌, arith}
 use Rattle.std.specs.List.{sum}
 use Rattle.tombstone_text.specs.Chunks.{flat}
 use Rattle.tombstone_text.specs.Code.Cells.{cut}

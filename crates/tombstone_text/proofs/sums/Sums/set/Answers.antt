@@ -1,4 +1,4 @@
-use Rattle.std.proofs.Common.{◌≡◌, ◌/◌, ◌<◌, length, set, ap, arith}
+use Rattle.std.proofs.Common.{◌/◌, ◌<◌, length, set, ap, arith}
 use Rattle.std.specs.List.{sum}
 use Rattle.tombstone_text.proofs.Blocks as block
 use Rattle.tombstone_text.specs.declared.sums.TheConstants.{BLOCK}
