@@ -49,7 +49,8 @@ pool_remove os i pool within = record {
   short = omega (arith, pool.short, length-remove os i within);
 }
 
-differs_in : (x : OpData) (xs : List OpData) → AllDifferFrom x xs → (y : OpData) → Contains xs y → HasOtherName y x
+-- an operation of the list has another name than one from which all of it differ
+pub differs_in : (x : OpData) (xs : List OpData) → AllDifferFrom x xs → (y : OpData) → Contains xs y → HasOtherName y x
 differs_in x [] all y there = absurd (contains_none y there)
 differs_in x (z ∷ zs) all y there =
     elim (contains_cases z zs y there) [

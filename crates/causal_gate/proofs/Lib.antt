@@ -1,7 +1,7 @@
 pub mod Places
 pub mod Apart
-pub mod Held
 pub mod Found
 pub mod HintLists
 pub mod Turns
+pub mod Named
 pub mod CallerLemmas

@@ -4,6 +4,7 @@
 //! site that came before their contexts. It finds the first of them that waits for nothing any more.
 #![tactic(auto)]
 
+mod names;
 mod pool;
 mod rows;
 

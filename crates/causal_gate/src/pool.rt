@@ -1,20 +1,22 @@
 //! The pool: operations in the order of their arrival, and the calls that look for one of them.
 
-ghost use Rattle.std.specs.Prelude.{◌≡◌, ◌↔◌, ◌<◌, ◌++◌, ◌∷◌, [], Some, true, false, Contains, IsNone, IsTrue, IfOk, IfSome, OnErr, if◌then◌else◌, length, option_map, remove, slice_get};
+ghost use Rattle.std.specs.Prelude.{◌≡◌, ◌↔◌, ◌<◌, ◌++◌, ◌∷◌, [], Some, true, false, Contains, IsNone, IsTrue, IfOk, IfSome, OnErr, if◌then◌else◌, length, map, option_map, remove, slice_get};
 ghost use Rattle.op_name.specs.declared.member.Member.TheVariants.{Original};
 ghost use Rattle.op_name.specs.Members.{IsMember, member_eq};
 ghost use Rattle.context_vector.specs.Contexts.{Within, count_of, has};
 ghost use Rattle.context_diff.specs.Operations.{OpData, member_of};
 ghost use Rattle.context_diff.specs.Histories.{is_known};
 ghost use Rattle.context_vector.specs.Vectors.{IsFirstMissing};
-ghost use Rattle.context_diff.specs.Ops.{data_of};
+ghost use Rattle.context_diff.specs.Ops.{data_of, op_eq};
 ghost use Rattle.causal_gate.specs.Waiting.{IsReady, IsFirstReady, NoneReady, IsPool, NamesAgree, context_at};
 ghost use Rattle.causal_gate.specs.Hints.{IsHint};
+ghost use Rattle.causal_gate.specs.Names.{op_in};
 
+use crate::names::{forget, note};
 use crate::rows::{Seen, before_in};
 use context_diff::Op;
 use context_vector::Vector;
-use indexmap::IndexSet;
+use indexmap::IndexMap;
 use op_name::{Member, Memory, Name};
 use std::alloc::Global;
 use std::marker::Model;
@@ -31,25 +33,31 @@ const OPS: usize = 4_294_967_295;
 /// its context that was missing when the hint was set, or nothing. An operation isn't ready while the one before
 /// it is missing, nor while its hint is, unless it is there itself. So a search goes through a column of names,
 /// and looks at an operation only after its turn in the row of its site has come.
+///
+/// Arrivals are numbered. An index has the number of each insert and delete by its name, and the place of a number
+/// is found by bisection among those of the operations that wait.
 #[derive(Drop)]
 pub struct Pool {
-    ops: IndexSet<Op>,
+    ops: Vec<Box<Op>>,
+    names: IndexMap<Name, u64>,
+    numbers: Vec<u64>,
+    next: u64,
     befores: Vec<Option<Name>>,
     hints: Vec<Option<Member>>,
 }
 
 impl Model for Pool {
-    ghost use Rattle.std.specs.Prelude.{List, map};
+    ghost use Rattle.std.specs.Prelude.{◌≡◌, List, length, map};
     ghost use Rattle.context_diff.specs.Operations.{OpData};
-    ghost use Rattle.context_diff.specs.Ops.{data_of};
     ghost use Rattle.causal_gate.specs.Waiting.{IsPool};
     ghost use Rattle.causal_gate.specs.Hints.{AreHints, AreBefore};
+    ghost use Rattle.causal_gate.specs.Names.{op_in, AreNamed};
 
     ghost Value = { List OpData };
 
-    ghost view = { λ p. map data_of p.ops.keys };
+    ghost view = { λ p. map op_in p.ops.items };
 
-    ghost invariant = { λ p. IsPool (map data_of p.ops.keys) × AreHints (map data_of p.ops.keys) p.hints.items × AreBefore (map data_of p.ops.keys) p.befores.items };
+    ghost invariant = { λ p. IsPool (map op_in p.ops.items) × AreHints (map op_in p.ops.items) p.hints.items × AreBefore (map op_in p.ops.items) p.befores.items × AreNamed p.names.entries (map op_in p.ops.items) × (length p.numbers.items ≡ length p.ops.items) };
 }
 
 impl Pool {
@@ -58,7 +66,10 @@ impl Pool {
         ensures { result ≡ [] }
     {
         Pool {
-            ops: IndexSet::new(alloc),
+            ops: Vec::new(alloc),
+            names: IndexMap::new(alloc),
+            numbers: Vec::new(alloc),
+            next: 0,
             befores: Vec::new(alloc),
             hints: Vec::new(alloc),
         }
@@ -83,11 +94,58 @@ impl Pool {
     pub fn get(&self, i: u32) -> Option<&Op>
         ensures { option_map (λ o. data_of o.now) result ≡ slice_get self.now i }
     {
-        self.ops.get_index(i as usize)
+        self.op_at(i as usize)
     }
 
-    /// The waiting insert or delete of this name; None exactly where none has it. It goes through the list.
+    // The operation at this place.
+    fn op_at(&self, i: usize) -> Option<&Op>
+        ensures { option_map (λ o. data_of o.now) result ≡ slice_get self.now i }
+    {
+        op_at(self.ops.as_slice(), i)
+    }
+
+    /// The waiting insert or delete of this name; None exactly where none has it. It is found by the index, and
+    /// by a walk only where numbers were given twice, after 2^64 arrivals.
     pub fn named(&self, name: &Name) -> Option<&Op>
+        ensures none { IsNone result ↔ (is_known self.now (Original name.now) ≡ false) }
+        ensures there { IfSome result (λ o. Contains self.now (data_of o.now)) }
+        ensures named { IfSome result (λ o. member_of (data_of o.now) ≡ Original name.now) }
+    {
+        match self.number_of(name) {
+            Some(number) => match self.numbered(number, name) {
+                Some(op) => Some(op),
+                None => self.first_named(name),
+            },
+            None => None,
+        }
+    }
+
+    // The number that the index has for the name.
+    fn number_of(&self, name: &Name) -> Option<u64>
+        ensures { IsNone result ↔ (is_known self.now (Original name.now) ≡ false) }
+    {
+        match self.names.get(name) {
+            Some(number) => Some(*number),
+            None => None,
+        }
+    }
+
+    // The operation of this number of arrival, if it has the name.
+    fn numbered(&self, number: u64, name: &Name) -> Option<&Op>
+        ensures there { IfSome result (λ o. Contains self.now (data_of o.now)) }
+        ensures named { IfSome result (λ o. member_of (data_of o.now) ≡ Original name.now) }
+    {
+        match self.numbers.binary_search(&number) {
+            Ok(i) => match self.op_at(i) {
+                Some(op) if is_named(op, name) => Some(op),
+                _ => None,
+            },
+            Err(_) => None,
+        }
+    }
+
+    // The first operation of this name, found by a walk.
+    fn first_named(&self, name: &Name) -> Option<&Op>
         ensures none { IsNone result ↔ (is_known self.now (Original name.now) ≡ false) }
         ensures there { IfSome result (λ o. Contains self.now (data_of o.now)) }
         ensures named { IfSome result (λ o. member_of (data_of o.now) ≡ Original name.now) }
@@ -112,24 +170,58 @@ impl Pool {
         ensures err { OnErr result (self.new ≡ self.old) }
         ensures memory { OnErr result (¬ Contains self.old (data_of op.now)) }
     {
-        if self.ops.contains(op) {
+        if self.has(op) {
             return Ok(false);
         }
         if self.ops.len() >= OPS {
             return Err(Memory);
         }
         self.ops.reserve(1)?;
+        self.names.reserve(1)?;
+        self.numbers.reserve(1)?;
         self.hints.reserve(1)?;
         self.befores.reserve(1)?;
         let copy = op.try_clone()?;
-        match self.ops.insert(copy) {
-            Ok(_) => {
-                self.hints.push_reserved(None);
-                self.befores.push_reserved(before_in(op));
-                Ok(true)
-            }
-            Err(_) => unreachable!(),
+        let boxed = Box::new(*self.ops.allocator(), copy)?;
+        note(&mut self.names, op, self.next);
+        self.ops.push_reserved(boxed);
+        self.numbers.push_reserved(self.next);
+        self.hints.push_reserved(None);
+        self.befores.push_reserved(before_in(op));
+        self.next = self.next.wrapping_add(1);
+        Ok(true)
+    }
+
+    // Whether an equal operation waits. Of an insert or a delete the name tells it.
+    fn has(&self, op: &Op) -> bool
+        requires { NamesAgree self.now (data_of op.now) }
+        ensures { IsTrue result ↔ Contains self.now (data_of op.now) }
+    {
+        match op {
+            Op::Insert { name, .. } | Op::Delete { name, .. } => self.has_name(name),
+            Op::Undo { .. } => self.has_equal(op),
         }
+    }
+
+    // Whether an insert or a delete of this name waits.
+    fn has_name(&self, name: &Name) -> bool
+        ensures { result ≡ is_known self.now (Original name.now) }
+    {
+        self.names.contains_key(name)
+    }
+
+    // Whether an equal operation waits, found by a walk.
+    fn has_equal(&self, op: &Op) -> bool
+        ensures { IsTrue result ↔ Contains self.now (data_of op.now) }
+    {
+        for i in 0..self.len() {
+            if let Some(other) = self.get(i) {
+                if is_equal(other, op) {
+                    return true;
+                }
+            }
+        }
+        false
     }
 
     /// Sets the hint of each operation that has none, or whose hint is in `have`, to the first member of its
@@ -174,10 +266,11 @@ impl Pool {
     {
         self.hints.remove(i as usize);
         self.befores.remove(i as usize);
-        match self.ops.shift_remove_index(i as usize) {
-            Some(op) => op,
-            None => unreachable!(),
-        }
+        self.numbers.remove(i as usize);
+        let boxed = self.ops.remove(i as usize);
+        let taken = Box::into_inner(boxed);
+        forget(&mut self.names, &taken);
+        taken
     }
 
     /// The first member of the i-th operation's context that `have` lacks, in the order of members; None
@@ -237,6 +330,16 @@ impl Pool {
     }
 }
 
+// The operation at this place of the list.
+fn op_at(ops: &[Box<Op>], i: usize) -> Option<&Op>
+    ensures { option_map (λ o. data_of o.now) result ≡ slice_get (map op_in ops.now) i }
+{
+    match ops.get(i) {
+        Some(op) => Some(&**op),
+        None => None,
+    }
+}
+
 // The name at this place of a column.
 fn name_in(names: &[Option<Name>], i: usize) -> Option<Option<Name>>
     ensures { result ≡ slice_get names.now i }
@@ -262,6 +365,13 @@ fn renewed(op: &Op, hint: Option<Member>, have: &Vector) -> Option<Member>
         }
     }
     have.first_missing(op.context())
+}
+
+// Whether both are the same operation.
+fn is_equal(a: &Op, b: &Op) -> bool
+    ensures { result ≡ op_eq (data_of a.now) (data_of b.now) }
+{
+    a == b
 }
 
 // Whether the operation is the insert or delete of this name.

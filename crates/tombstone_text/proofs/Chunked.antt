@@ -7,7 +7,6 @@ use Rattle.std.proofs.lemmas.List.Elements.{filter-append}
 use Rattle.std.proofs.lemmas.List.Sums.{sum-map, sum_by-cons}
 use Rattle.std.proofs.lemmas.List.Concat.{length-flat_map}
 use Rattle.ttf_form.specs.Cells.{CellData, cell_shown, change_at}
-use Rattle.op_name.specs.NameData.{NameData}
 use Rattle.tombstone_text.specs.Chunks.{flat, flag_of, shown_in}
 use Rattle.tombstone_text.specs.Sums.{IsPart}
 use Rattle.tombstone_text.specs.Code.Cells.{cut, AreFilled, IsSeat, IsText}
@@ -132,6 +131,27 @@ parts_long cs i k lt most =
     let low = ap (λ (c : List CellData). length c) (low_part cs i k lt) in
     let high = ap (λ (c : List CellData). length c) (high_part cs i k lt) in
     (omega (arith, length-take k (get_or cs i [])), omega (arith, length-drop k (get_or cs i [])))
+
+-- a seat in a chunk that has fewer cells than so many
+pub record HasSeat (cs : List (List CellData)) (i o p full : ℕ) : Type 0 where
+  pub seat : IsSeat cs i o p
+  pub room : length (get_or cs i []) < full
+
+-- after a full chunk was cut at k, a new cell has its seat in the lower part, which has room
+pub seat_in_low : (cs : List (List CellData)) (i o p k full : ℕ) → IsSeat cs i o p → length (get_or cs i []) ≡ full → k < full → o ≤ k → HasSeat (cut cs i k) i o p full
+seat_in_low cs i o p k full s all less side =
+    let parts = parts_long cs i k s.chunk (omega arith) in
+    record { seat = seat_low cs i o p k s (omega arith) side; room = omega (arith, parts.0) }
+
+-- or in the upper part
+pub seat_in_high : (cs : List (List CellData)) (i n o p k full : ℕ) → IsSeat cs i o p → length (get_or cs i []) ≡ full → 1 ≤ k → k < full → k < o → n ≡ suc i → HasSeat (cut cs i k) n (o - k) p full
+seat_in_high cs i n o p k full s all some less side next =
+    let parts = parts_long cs i k s.chunk (omega arith) in
+    let upper : length (get_or (cut cs i k) (suc i) []) < full = omega (arith, parts.1) in
+    record {
+      seat = seat_high cs i n o (o - k) p k s (omega arith) side next (omega arith);
+      room = subst (λ m. length (get_or (cut cs i k) m []) < full) (sym next) upper;
+    }
 
 -- a cell changed in its chunk
 change-left : (f : CellData → CellData) (xs ys : List CellData) (k : ℕ) → k < length xs → change_at k f (xs ++ ys) ≡ change_at k f xs ++ ys

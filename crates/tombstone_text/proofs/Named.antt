@@ -6,12 +6,15 @@ use Rattle.op_name.specs.NameData.{NameData, name_eq}
 use Rattle.ttf_form.specs.Names.{LacksName}
 use Rattle.ttf_form.specs.Cells.{CellData, cells_of}
 use Rattle.ttf_form.specs.Laws.Deleters.{name_self}
-use Rattle.std.proofs.lemmas.List.{length-append}
-use Rattle.std.proofs.Common.{zero, ◌-◌, take, get_or, arith}
+use Rattle.std.specs.List.{sum}
+use Rattle.std.proofs.lemmas.List.{length-append, get_or_read}
+use Rattle.std.proofs.Common.{zero, ◌-◌, ◌^◌, take, get_or, sym, Option, arith}
 use Rattle.std.proofs.lemmas.List.Sums.{fails_before_first, position_or_len_is, passes_at_first}
 use Rattle.std.proofs.lemmas.List.Concat.{get_or-flat_map}
 use Rattle.tombstone_text.specs.Chunks.{flat}
+use Rattle.tombstone_text.specs.Code.Cells.{IsText}
 use Rattle.tombstone_text.specs.Code.Chunks.{blank}
+use Rattle.tombstone_text.proofs.Chunked.{text-len}
 use Rattle.tombstone_text.proofs.Positions.{unplaced_behind, unplaced_at, placed_at}
 
 lacks_behind : (n : NameData) (cs : List CellData) → length cs ≤ position_or_len (λ c. name_eq c.name n) cs → LacksName (cells_of cs) n
@@ -125,3 +128,25 @@ placed_within n xs i e = by (nat_lt (position_or_len (λ (c : CellData). name_eq
         let at : position_or_len (λ (c : CellData). name_eq c.name n) xs ≡ i = cc in
         subst (λ k. k < length xs) at (grind (arith, nat_tests))
     by false h f = cc
+
+-- a chunk that is searched, with those before it
+pub record IsSearched (cs : List (List CellData)) (i start : ℕ) (chunk : List CellData) : Type 0 where
+  pub chunk_is : chunk ≡ get_or cs i []
+  pub behind : start + length chunk ≡ length (flat (take (i + 1) cs))
+  pub all : start + length chunk ≤ length (flat cs)
+  pub low : start + length chunk < 2 ^ 32
+
+pub searched : (cs : List (List CellData)) (ls ss : List ℕ) (f : Option (List CellData)) (i start : ℕ) (was chunk : List CellData) → IsText cs ls ss f → sum ls < 2 ^ 32 → i < length cs
+    → start ≡ length (flat (take i cs)) → was ≡ get_or cs i was → chunk ≡ was → IsSearched cs i start chunk
+searched cs ls ss f i start was chunk t low lt at read is =
+    let same : chunk ≡ get_or cs i [] = is ∙ get_or_read cs i was lt read [] in
+    let long = ap (λ (s : List CellData). length s) same in
+    let more = length-more cs i lt in
+    let most = taken-le cs (i + 1) in
+    let all = text-len cs ls ss f t in
+    record { chunk_is = same; behind = omega arith; all = omega arith; low = omega arith }
+
+-- where the search of a chunk finds the name, and where it doesn't
+pub found_in : (n : NameData) (cs : List (List CellData)) (i at : ℕ) (chunk : List CellData) → chunk ≡ get_or cs i [] → position (λ (c : CellData). name_eq c.name n) chunk ≡ Some at
+    → (position (λ (c : CellData). name_eq c.name n) (get_or cs i []) ≡ Some at) × (at < length chunk)
+found_in n cs i at chunk is e = (ap (λ (s : List CellData). position (λ (c : CellData). name_eq c.name n) s) (sym is) ∙ e, placed_within n chunk at e)

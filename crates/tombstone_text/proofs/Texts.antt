@@ -1,18 +1,18 @@
 -- What a change of one chunk does to the columns of a text.
-use Rattle.std.proofs.Common.{◌≡◌, ℕ, suc, ◌+◌, ◌-◌, ◌<◌, ◌≤◌, true, cond, List, [], length, map, filter, take, drop, insert, set, get_or, Option, None, sym, ap, ◌∙◌, arith}
+use Rattle.std.proofs.Common.{◌≡◌, ℕ, suc, ◌+◌, ◌-◌, ◌<◌, ◌≤◌, true, cond, List, [], length, map, filter, take, drop, insert, set, get_or, Option, None, sym, ap, ◌∙◌, subst, arith}
 use Rattle.std.specs.List.{sum}
-use Rattle.std.proofs.lemmas.List.{map-set, get_or-map, length-map, set-get_or, length-take, length-drop, take-append-drop}
+use Rattle.std.proofs.lemmas.List.{map-set, get_or-map, get_or_read, length-map, set-get_or, length-take, length-drop, take-append-drop}
 use Rattle.std.proofs.lemmas.List.Elements.{filter-append}
 use Rattle.std.proofs.lemmas.List.{length-append}
 use Rattle.std.proofs.lemmas.List.Edits.{length-insert}
 use Rattle.std.proofs.lemmas.List.Sums.{sum_by-set, get_or-le-sum_by}
-use Rattle.op_name.specs.NameData.{NameData}
 use Rattle.ttf_form.specs.Cells.{CellData, cell_shown, change_at}
-use Rattle.tombstone_text.specs.Chunks.{flag_of, shown_in}
+use Rattle.tombstone_text.specs.Chunks.{flat, flag_of, shown_in}
+use Rattle.tombstone_text.specs.Sums.{IsPart}
 use Rattle.tombstone_text.specs.Code.Cells.{cut, IsText}
 use Rattle.tombstone_text.proofs.Flags.{map-insert}
-use Rattle.tombstone_text.proofs.Shown.{length-filter-insert}
-use Rattle.tombstone_text.proofs.Chunked.{filled_set, filled_cut, cut_is, length-change, flag-le, shown-change}
+use Rattle.tombstone_text.proofs.Shown.{length-filter-insert, length-filter-le}
+use Rattle.tombstone_text.proofs.Chunked.{IsSpot, spot, text-len, text-shown, filled_set, filled_cut, cut_is, length-change, flag-le, shown-change}
 
 pub len_at : (cs : List (List CellData)) (ls ss : List ℕ) (f : Option (List CellData)) (i : ℕ) → IsText cs ls ss f → i < length cs
     → get_or ls i 0 ≡ length (get_or cs i [])
@@ -109,3 +109,69 @@ counted_again g xs k n before after d lt e b a =
     let low = flag-le xs k d lt in
     let change = shown-change g xs k d lt in
     (omega arith, omega arith)
+
+-- what stays true when a chunk is cut in two, its parts being lower and upper
+pub record IsCut (cs : List (List CellData)) (ls ss : List ℕ) (i n k up low high : ℕ) (lower upper : List CellData) : Type 0 where
+  pub chunks : insert (set cs i lower) n upper ≡ cut cs i k
+  pub text : IsText (cut cs i k) (insert (set ls i k) n up) (insert (set ss i low) n high) None
+  pub lens : sum (set ls i k) + up ≡ length (flat cs)
+  pub shown : sum (set ss i low) + high ≤ length (flat cs)
+
+pub cut_text : (cs : List (List CellData)) (ls ss : List ℕ) (f : Option (List CellData)) (i n k len low high : ℕ) (was lower upper : List CellData)
+    → IsText cs ls ss f → i < length cs → n ≡ suc i → 1 ≤ k → k < length (get_or cs i []) → was ≡ get_or cs i was → lower ≡ take k was → upper ≡ drop k was
+    → len ≡ get_or ls i 0 → low ≡ shown_in lower → high ≡ shown_in upper → IsCut cs ls ss i n k (len - k) low high lower upper
+cut_text cs ls ss f i n k len low high was lower upper t lt next some less read is_lower is_upper is_len is_low is_high =
+    let same : was ≡ get_or cs i [] = get_or_read cs i was lt read [] in
+    let lower_is : lower ≡ take k (get_or cs i []) = is_lower ∙ ap (λ (s : List CellData). take k s) same in
+    let upper_is : upper ≡ drop k (get_or cs i []) = is_upper ∙ ap (λ (s : List CellData). drop k s) same in
+    let low_is : low ≡ shown_in (take k (get_or cs i [])) = is_low ∙ ap (λ (s : List CellData). shown_in s) lower_is in
+    let high_is : high ≡ shown_in (drop k (get_or cs i [])) = is_high ∙ ap (λ (s : List CellData). shown_in s) upper_is in
+    let all = len_at cs ls ss f i t lt in
+    let had = shown_at cs ls ss f i t lt in
+    let both = shown_parts (get_or cs i []) k in
+    let long = lens_long cs ls ss f t in
+    let whole = text-len cs ls ss f t in
+    let seen = text-shown cs ls ss f t in
+    let most = length-filter-le cell_shown (flat cs) in
+    let lens = set-sum ls i k (omega (arith, long.0)) in
+    let shown = set-sum ss i low (omega (arith, long.1)) in
+    record {
+      chunks = ap (λ d. insert (set cs i d) n upper) lower_is ∙ ap (λ d. insert (set cs i (take k (get_or cs i []))) n d) upper_is ∙ cut_is cs i k n lt next;
+      text = text_cut cs ls ss f i n k (len - k) low high t lt next some (omega arith) (omega arith) low_is high_is;
+      lens = omega arith;
+      shown = omega arith;
+    }
+
+-- where a place of a text lies, found in the column of lengths
+pub text-spot : (cs : List (List CellData)) (ls ss : List ℕ) (f : Option (List CellData)) (i o p : ℕ) → IsText cs ls ss f → IsPart ls i o p → IsSpot cs i o p
+text-spot cs ls ss f i o p t part = spot cs i o p (subst (λ (l : List ℕ). IsPart l i o p) t.lens_are part)
+
+-- what stays true when a cell of a chunk is changed, and the chunk is d then, of which n - before + after cells are shown
+pub record IsChangedIn (g : CellData → CellData) (cs : List (List CellData)) (ls ss : List ℕ) (f : Option (List CellData)) (i o n before after : ℕ) (d : List CellData) : Type 0 where
+  pub chunk : d ≡ change_at o g (get_or cs i [])
+  pub low : before ≤ n
+  pub shown : n - before + after ≤ length (flat cs)
+  pub all : sum (set ss i (n - before + after)) ≤ length (flat cs)
+  pub text : IsText (set cs i d) ls (set ss i (n - before + after)) f
+
+pub changed_text : (g : CellData → CellData) (cs : List (List CellData)) (ls ss : List ℕ) (f : Option (List CellData)) (i o n before after : ℕ) (was d : List CellData) (x : CellData)
+    → IsText cs ls ss f → i < length cs → o < length (get_or cs i []) → was ≡ get_or cs i was → d ≡ change_at o g was → n ≡ get_or ss i 0
+    → before ≡ flag_of (get_or was o x) → after ≡ flag_of (get_or d o x) → IsChangedIn g cs ls ss f i o n before after d
+changed_text g cs ls ss f i o n before after was d x t lt within read change is_n is_before is_after =
+    let same : was ≡ get_or cs i [] = get_or_read cs i was lt read [] in
+    let new : d ≡ change_at o g (get_or cs i []) = change ∙ ap (λ (s : List CellData). change_at o g s) same in
+    let b = is_before ∙ ap (λ (s : List CellData). flag_of (get_or s o x)) same in
+    let a = is_after ∙ ap (λ (s : List CellData). flag_of (get_or s o x)) new in
+    let again = counted_again g (get_or cs i []) o n before after x within (is_n ∙ shown_at cs ls ss f i t lt) b a in
+    let text : IsText (set cs i d) ls (set ss i (n - before + after)) f =
+    text_change g cs ls ss f i o d (n - before + after) t lt within new (again.1 ∙ ap (λ (s : List CellData). shown_in s) (sym new)) in
+    let one = length-filter-le cell_shown (change_at o g (get_or cs i [])) in
+    let long = length-change g (get_or cs i []) o in
+    let lens = lens_long cs ls ss f t in
+    let part = part-le ls i (omega (arith, lens.0)) in
+    let len = len_at cs ls ss f i t lt in
+    let was_all = text-len cs ls ss f t in
+    let now_all = text-len (set cs i d) ls (set ss i (n - before + after)) f text in
+    let seen = text-shown (set cs i d) ls (set ss i (n - before + after)) f text in
+    let most = length-filter-le cell_shown (flat (set cs i d)) in
+    record { chunk = new; low = again.0; shown = omega (arith, again.1); all = omega arith; text = text }

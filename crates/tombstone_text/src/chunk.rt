@@ -133,9 +133,9 @@ impl Chunk {
 /// Moves the cells from place `keep` on to an empty list, in their order.
 fn move_cells(from: &mut Vec<Cell>, keep: usize, to: &mut Vec<Cell>)
     requires within { keep ≤ vec_len from.old }
-    requires most { vec_len from.old ≤ 512 }
+    requires most { vec_len from.old ≤ FULL }
     requires empty { to.old.items ≡ [] }
-    requires room { 512 ≤ vec_capacity to.old }
+    requires room { FULL ≤ vec_capacity to.old }
     ensures lower { from.new.items ≡ take keep from.old.items }
     ensures upper { to.new.items ≡ drop keep from.old.items }
     ensures from_room { vec_capacity from.old ≤ vec_capacity from.new }
@@ -153,9 +153,9 @@ fn move_cells(from: &mut Vec<Cell>, keep: usize, to: &mut Vec<Cell>)
 /// Moves the flags from place `keep` on to an empty list, in their order.
 fn move_flags(from: &mut Vec<u8>, keep: usize, to: &mut Vec<u8>)
     requires within { keep ≤ vec_len from.old }
-    requires most { vec_len from.old ≤ 512 }
+    requires most { vec_len from.old ≤ FULL }
     requires empty { to.old.items ≡ [] }
-    requires room { 512 ≤ vec_capacity to.old }
+    requires room { FULL ≤ vec_capacity to.old }
     ensures lower { from.new.items ≡ take keep from.old.items }
     ensures upper { to.new.items ≡ drop keep from.old.items }
     ensures from_room { vec_capacity from.old ≤ vec_capacity from.new }

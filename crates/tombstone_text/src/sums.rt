@@ -3,13 +3,14 @@
 ghost use Rattle.std.specs.Prelude.{◌≡◌, ℕ, ◌+◌, ◌-◌, ◌*◌, ◌<◌, ◌≤◌, ◌^◌, [], min, length, take, drop, insert, sum, slice_set, slice_index, vec_len, vec_capacity, OnOk};
 ghost use Rattle.tombstone_text.specs.Sums.{IsPart};
 ghost use Rattle.tombstone_text.specs.Code.Sums.{Column, IsTotal, AreBlocks};
+ghost use Rattle.tombstone_text.specs.declared.sums.TheConstants.{BLOCK};
 
 use op_name::Memory;
 use std::alloc::Global;
 use std::marker::Model;
 
 /// The sums of so many numbers each are kept.
-const BLOCK: usize = 64;
+pub(crate) const BLOCK: usize = 64;
 
 /// Numbers, each of which counts some things, with their sum, which is below 2^32, and the sum of each block of
 /// 64 of them. All the things, one number's after the other's, are counted from 0; where the n-th of them lies
@@ -25,7 +26,7 @@ pub(crate) struct Sums {
 impl Model for Sums {
     ghost Value = { Column };
 
-    ghost view = { λ s. record { parts = s.parts.items; spare = min (vec_capacity s.parts) (64 * vec_capacity s.blocks) - vec_len s.parts } };
+    ghost view = { λ s. record { parts = s.parts.items; spare = min (vec_capacity s.parts) (BLOCK * vec_capacity s.blocks) - vec_len s.parts } };
 
     ghost invariant = { λ s. IsTotal s.total s.parts.items × AreBlocks s.blocks.items s.parts.items };
 }
@@ -116,7 +117,7 @@ impl Sums {
 
 /// Adds all blocks up anew.
 fn build(parts: &[u32], blocks: &mut Vec<u32>)
-    requires room { length parts.now ≤ 64 * vec_capacity blocks.old }
+    requires room { length parts.now ≤ BLOCK * vec_capacity blocks.old }
     requires low { sum parts.now < 2 ^ 32 }
     ensures blocks { AreBlocks blocks.new.items parts.now }
     ensures room { vec_capacity blocks.new ≡ vec_capacity blocks.old }
@@ -134,7 +135,7 @@ fn build(parts: &[u32], blocks: &mut Vec<u32>)
 fn block_sum(parts: &[u32], at: usize) -> u32
     requires within { at < length parts.now }
     requires low { sum parts.now < 2 ^ 32 }
-    ensures { result ≡ sum (take 64 (drop at parts.now)) }
+    ensures { result ≡ sum (take BLOCK (drop at parts.now)) }
 {
     let rest = &parts[at..];
     sum_before(rest, BLOCK.min(rest.len()))
@@ -155,7 +156,7 @@ fn find_in(parts: &[u32], blocks: &[u32], n: u32) -> (usize, u32)
 fn find_block(parts: &[u32], blocks: &[u32], n: u32) -> (usize, u32)
     requires { AreBlocks blocks.now parts.now }
     ensures within { result.0 ≤ length blocks.now }
-    ensures left { sum (take (64 * result.0) parts.now) + result.1 ≡ n }
+    ensures left { sum (take (BLOCK * result.0) parts.now) + result.1 ≡ n }
 {
     let _ = parts;
     let mut j = 0;
@@ -207,7 +208,7 @@ fn sum_blocks(parts: &[u32], blocks: &[u32], j: usize) -> u32
     requires within { j ≤ length blocks.now }
     requires low { sum parts.now < 2 ^ 32 }
     requires blocks { AreBlocks blocks.now parts.now }
-    ensures { result ≡ sum (take (64 * j) parts.now) }
+    ensures { result ≡ sum (take (BLOCK * j) parts.now) }
 {
     let _ = parts;
     let mut total = 0;

@@ -164,3 +164,23 @@ fn long_texts(rt: HostRuntime) -> Result<(), Fail> {
     }
     Ok(())
 }
+
+// Nothing but the cells takes memory from the 512th insert on, so that a refusal of any allocation there is one of
+// `reserve`, for the insert that cuts the full chunk.
+#[test]
+fn out_of_memory_at_a_split(rt: HostRuntime) -> Result<(), Fail> {
+    let mut both = Beside {
+        cells: Cells::new(rt.alloc()),
+        plain: Vec::with_capacity(rt.alloc(), 600)?,
+    };
+    for number in 0..512 {
+        put(&mut both, number, letter(number))?;
+    }
+    assert!(rt; both.cells.chunk_count() == 1);
+    put(&mut both, 200, '-')?;
+    assert!(rt; both.cells.chunk_count() == 2);
+    assert!(rt; cells_agree(&both.cells, both.plain.as_slice()));
+    assert!(rt; chunks_agree(&both.cells, both.plain.as_slice()));
+    assert!(rt; flags_agree(&both.cells));
+    Ok(())
+}

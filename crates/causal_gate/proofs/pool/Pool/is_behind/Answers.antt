@@ -2,7 +2,7 @@ use Rattle.std.proofs.Common.{◌≡◌, ap, sym, ◌∙◌, List, map}
 use Rattle.std.specs.Prelude.{Option, Some, slice_get}
 use Rattle.op_name.specs.NameData.{NameData}
 use Rattle.context_diff.specs.Operations.{OpData}
-use Rattle.context_diff.specs.Ops.{data_of}
+use Rattle.causal_gate.specs.Names.{op_in}
 use Rattle.causal_gate.proofs.Turns.{before_waits, not_there}
 use Rattle.causal_gate.proofs.pool.Pool.is_behind.Goals as goal
 
@@ -13,6 +13,6 @@ returns-in-Some-Some-clause-waits c = λ behind o there.
     let is = c.in-Some-Some.is in
     let field = c.in-Some-Some.field-0-is in
     let at : slice_get ns c.args.i ≡ Some (Some c.in-Some-Some.before) = cc in
-    before_waits (map data_of c.self.inside.ops.keys) ns c.args.i c.in-Some-Some.before o c.args.have.now.set c.self.invariant.2 at
+    before_waits (map op_in c.self.inside.ops.items) ns c.args.i c.in-Some-Some.before o c.args.have.now.set c.self.invariant.2 at
     (ap (λ (os : List OpData). slice_get os c.args.i) c.self.view_is ∙ there)
     (sym c.has.ensures.has ∙ not_there c.has.result behind)

@@ -3,6 +3,7 @@ use Rattle.std.proofs.lemmas.List.Edits.{length-insert}
 use Rattle.ttf_form.specs.Cells.{CellData}
 use Rattle.tombstone_text.specs.Chunks.{flag_of}
 use Rattle.tombstone_text.proofs.Flags.{map-insert}
+use Rattle.tombstone_text.specs.declared.chunk.TheConstants.{FULL}
 use Rattle.tombstone_text.proofs.chunk.Chunk.put.Goals as goal
 
 pub invariant_of-self : goal.invariant_of-self
@@ -13,13 +14,13 @@ invariant_of-self c =
     let now : c.insert.new.self.items ≡ insert xs k c.args.cell = c.in-Ok.ensures.items in
     let flags : c.insert-2.new.self.items ≡ insert c.self.inside.flags.items k c.flag-mark.result = c.in-Ok-insert.ensures.items in
     let long = length-insert xs k c.args.cell (omega arith) in
-    let most : length (insert xs k c.args.cell) ≤ 512 = omega arith in
+    let most : length (insert xs k c.args.cell) ≤ FULL = omega arith in
     record {
       flags_are =
           flags ∙ ap (λ n. insert c.self.inside.flags.items k n) c.flag-mark.ensures
           ∙ ap (λ (fs : List ℕ). insert fs k (flag_of c.args.cell)) c.self.invariant.flags_are
           ∙ sym (map-insert flag_of xs k c.args.cell) ∙ ap (λ (s : List CellData). map flag_of s) (sym now);
-      most = subst (λ (s : List CellData). length s ≤ 512) (sym now) most;
+      most = subst (λ (s : List CellData). length s ≤ FULL) (sym now) most;
       room_is = omega (arith, c.in-Ok.ensures.capacity);
       flag_room_is = omega (arith, c.in-Ok-insert.ensures.capacity);
     }

@@ -2,18 +2,19 @@ use Rattle.std.proofs.Common.{ℕ, ◌≤◌, List, length, map, take, drop, sym
 use Rattle.std.proofs.lemmas.List.{take-map, drop-map, length-take, length-drop}
 use Rattle.ttf_form.specs.Cells.{CellData}
 use Rattle.tombstone_text.specs.Chunks.{flag_of}
+use Rattle.tombstone_text.specs.declared.chunk.TheConstants.{FULL}
 use Rattle.tombstone_text.proofs.chunk.Chunk.split.Goals as goal
 
 pub invariant_of-self : goal.invariant_of-self
 invariant_of-self c =
     let xs = c.self.inside.cells.items in
     let long = length-take c.args.keep xs in
-    let most : length (take c.args.keep xs) ≤ 512 = omega arith in
+    let most : length (take c.args.keep xs) ≤ FULL = omega arith in
     record {
       flags_are =
           c.move_flags.ensures.lower ∙ ap (λ (fs : List ℕ). take c.args.keep fs) c.self.invariant.flags_are
           ∙ take-map flag_of c.args.keep xs ∙ ap (λ (s : List CellData). map flag_of s) (sym c.move_cells.ensures.lower);
-      most = subst (λ (s : List CellData). length s ≤ 512) (sym c.move_cells.ensures.lower) most;
+      most = subst (λ (s : List CellData). length s ≤ FULL) (sym c.move_cells.ensures.lower) most;
       room_is = omega (arith, c.move_cells.ensures.from_room, c.self.invariant.room_is);
       flag_room_is = omega (arith, c.move_flags.ensures.from_room, c.self.invariant.flag_room_is);
     }
@@ -23,12 +24,12 @@ invariant_of-upper c =
     let xs = c.self.inside.cells.items in
     let long = length-drop c.args.keep xs in
     let full = c.self.invariant.most in
-    let most : length (drop c.args.keep xs) ≤ 512 = omega arith in
+    let most : length (drop c.args.keep xs) ≤ FULL = omega arith in
     record {
       flags_are =
           c.move_flags.ensures.upper ∙ ap (λ (fs : List ℕ). drop c.args.keep fs) c.self.invariant.flags_are
           ∙ drop-map flag_of c.args.keep xs ∙ ap (λ (s : List CellData). map flag_of s) (sym c.move_cells.ensures.upper);
-      most = subst (λ (s : List CellData). length s ≤ 512) (sym c.move_cells.ensures.upper) most;
+      most = subst (λ (s : List CellData). length s ≤ FULL) (sym c.move_cells.ensures.upper) most;
       room_is = omega (arith, c.move_cells.ensures.to_room, c.upper.invariant.room_is);
       flag_room_is = omega (arith, c.move_flags.ensures.to_room, c.upper.invariant.flag_room_is);
     }

@@ -1,5 +1,4 @@
-use Rattle.std.proofs.Common.{◌≡◌, ℕ, max, List, [], ◌∷◌, if◌then◌else◌, sym, ap, ◌∙◌}
-use Rattle.op_name.specs.NameData.{NameData, name_lt}
+use Rattle.std.proofs.Common.{◌≡◌, max, [], ◌∷◌, sym, ap, ◌∙◌}
 use Rattle.ttf_form.specs.Cells.{raise_in}
 use Rattle.ttf_form.specs.Laws.Deleters.{name_same, raise_none, raise_at}
 use Rattle.tombstone_text.specs.Code.Deleters.{entries_in}

@@ -8,7 +8,7 @@ use Rattle.context_diff.specs.Ops.{data_of}
 use Rattle.context_diff.specs.declared.op.Op.{Op}
 use Rattle.causal_gate.proofs.Places.{contains_at}
 use Rattle.causal_gate.proofs.Found.{known_at, known_nowhere}
-use Rattle.causal_gate.proofs.pool.Pool.named.Goals as goal
+use Rattle.causal_gate.proofs.pool.Pool.first_named.Goals as goal
 
 pub returns-then-is_named-clause-none : goal.returns-then-is_named-clause-none
 returns-then-is_named-clause-none c =
