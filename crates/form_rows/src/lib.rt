@@ -12,6 +12,7 @@ mod laws;
 mod named;
 mod originals;
 mod passes;
+mod placed;
 mod row;
 mod rows;
 
@@ -23,5 +24,6 @@ pub use laws::{
 pub use named::Named;
 pub use originals::executed_original;
 pub use passes::{after, front, pass};
+pub use placed::Placed;
 pub use row::Row;
 pub use rows::{Rows, executed_form};
