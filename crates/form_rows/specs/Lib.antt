@@ -4,3 +4,4 @@ pub mod Names
 pub mod RowSets
 pub mod Placing
 pub mod Laws
+pub mod Code

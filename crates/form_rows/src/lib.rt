@@ -5,9 +5,16 @@
 //! row is included in it as it comes by, and it in each of these; so one pass finds the form of a member at all members
 //! of a book, and leaves the row of the set with that member. Covers are in no row, since their inclusion changes
 //! nothing.
+//!
+//! A row is kept in blocks of a few forms with bounds of their places. A form whose place is greater than all places of
+//! a block moves by the cells of that block in one step and leaves it as it is; one whose place is smaller than all of
+//! them stays, and they move by its cells. Only within the bounds are the forms passed one by one.
 #![tactic(auto)]
 
+mod block;
+mod blocks;
 mod groups;
+mod had;
 mod laws;
 mod named;
 mod originals;
