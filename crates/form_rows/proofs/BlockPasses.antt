@@ -1,5 +1,5 @@
 -- A form whose place is smaller or greater than those of all forms that it passes, and rows in parts.
-use Rattle.std.proofs.Common.{◌≡◌, ℕ, suc, ◌+◌, ◌<◌, ◌≤◌, min, inl, inr, List, [], ◌∷◌, ◌++◌, Option, Some, map, length, refl, sym, ap, ap₂, subst, ◌∙◌, arith, append_assoc}
+use Rattle.std.proofs.Common.{◌≡◌, ℕ, suc, ◌+◌, ◌<◌, ◌≤◌, min, inl, inr, List, [], ◌∷◌, ◌++◌, Option, map, length, refl, sym, ap, ap₂, subst, ◌∙◌, arith, append_assoc}
 use Rattle.op_name.specs.NameData.{NameData}
 use Rattle.ttf_form.specs.Families.{IsIn, total_by}
 use Rattle.form_rows.specs.RowSets.{form_after, row_after, PassFits}

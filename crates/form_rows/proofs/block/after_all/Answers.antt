@@ -1,5 +1,4 @@
-use Rattle.std.proofs.Common.{◌≡◌, ◌+◌, ◌<◌, ◌≤◌, ℕ, sym, ap, subst, ◌∙◌}
-use Rattle.ttf_form.specs.Families.{IsIn, total_by}
+use Rattle.std.proofs.Common.{◌+◌, ◌≤◌, ℕ, sym, ap, subst, ◌∙◌}
 use Rattle.form_rows.proofs.BlockPasses.{all_before, last_moves, last_stays, last_fits}
 use Rattle.form_rows.proofs.block.after_all.Goals as goal
 

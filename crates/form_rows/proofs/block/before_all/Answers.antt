@@ -1,4 +1,4 @@
-use Rattle.std.proofs.Common.{◌≡◌, ◌+◌, ◌≤◌, ℕ, List, map, sym, ap, subst, ◌∙◌}
+use Rattle.std.proofs.Common.{◌+◌, ◌≤◌, ℕ, map, sym, ap, subst, ◌∙◌}
 use Rattle.form_rows.proofs.BlockPasses.{all_after, front_stays, front_moves, front_fits}
 use Rattle.form_rows.proofs.block.before_all.Goals as goal
 

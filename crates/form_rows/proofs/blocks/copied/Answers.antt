@@ -1,4 +1,4 @@
-use Rattle.std.proofs.Common.{◌≡◌, ◌∙◌, ◌++◌, List, sym, ap}
+use Rattle.std.proofs.Common.{◌∙◌, ◌++◌, List, sym, ap}
 use Rattle.form_rows.proofs.Turns.{joined_more}
 use Rattle.form_rows.proofs.blocks.copied.Goals as goal
 

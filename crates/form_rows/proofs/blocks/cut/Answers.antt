@@ -1,4 +1,4 @@
-use Rattle.std.proofs.Common.{◌≤◌, arith}
+use Rattle.std.proofs.Common.{arith}
 use Rattle.form_rows.proofs.Turns.{cut_more}
 use Rattle.form_rows.proofs.blocks.cut.Goals as goal
 

@@ -1,4 +1,4 @@
-use Rattle.std.proofs.Common.{◌≡◌, ◌∙◌, List, sym, ap, subst, arith}
+use Rattle.std.proofs.Common.{◌∙◌, List, sym, ap, subst, arith}
 use Rattle.form_rows.specs.RowSets.{form_after, row_after, PassFits}
 use Rattle.form_rows.proofs.Turns.{blocks_one, blocks_on}
 use Rattle.form_rows.proofs.blocks.pass_blocks.Goals as goal

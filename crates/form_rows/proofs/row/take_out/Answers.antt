@@ -1,4 +1,4 @@
-use Rattle.std.proofs.Common.{◌≡◌, ◌∙◌, List, [], sym, subst}
+use Rattle.std.proofs.Common.{◌∙◌, List, [], sym, subst}
 use Rattle.form_rows.specs.Names.{had_by}
 use Rattle.form_rows.specs.RowSets.{TakingFits}
 use Rattle.form_rows.proofs.Takes.{taken_none}

@@ -1,4 +1,4 @@
-use Rattle.std.proofs.Common.{◌≡◌, List, sym, subst, arith}
+use Rattle.std.proofs.Common.{List, sym, subst, arith}
 use Rattle.form_rows.specs.RowSets.{PassFits}
 use Rattle.form_rows.specs.Code.Blocks.{AreWithin}
 use Rattle.form_rows.proofs.BlockPasses.{block_passed, block_moved}

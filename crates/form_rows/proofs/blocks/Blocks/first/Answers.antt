@@ -1,4 +1,4 @@
-use Rattle.std.proofs.Common.{◌≡◌, ◌∙◌, ◌++◌, List, sym, ap, slice_get}
+use Rattle.std.proofs.Common.{◌∙◌, ◌++◌, List, sym, ap, slice_get}
 use Rattle.form_rows.specs.Code.Blocks.{joined}
 use Rattle.form_rows.proofs.Turns.{first_joined}
 use Rattle.form_rows.proofs.blocks.Blocks.first.Goals as goal

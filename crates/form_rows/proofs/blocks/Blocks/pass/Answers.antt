@@ -1,4 +1,4 @@
-use Rattle.std.proofs.Common.{◌≡◌, ◌∙◌, ◌++◌, List, length, sym, ap, subst}
+use Rattle.std.proofs.Common.{◌∙◌, ◌++◌, List, length, sym, ap, subst}
 use Rattle.form_rows.specs.RowSets.{row_after, PassFits}
 use Rattle.form_rows.specs.Code.Blocks.{joined}
 use Rattle.form_rows.proofs.BlockPasses.{fits_left, fits_right, length-row, passed_parts}

@@ -1,6 +1,5 @@
-use Rattle.std.proofs.Common.{◌≡◌, ◌∙◌, ◌+◌, ◌≤◌, Bool, List, [], length, sym, subst, ap, arith}
-use Rattle.op_name.specs.declared.member.Member.{Member}
-use Rattle.transform_rec.specs.Sets.{none, plus, plus_all}
+use Rattle.std.proofs.Common.{◌≡◌, ◌∙◌, ◌+◌, List, [], sym, subst, ap, arith}
+use Rattle.transform_rec.specs.Sets.{none, plus_all}
 use Rattle.transform_rec.specs.Derived.{Derived, Deriving}
 use Rattle.transform_rec.specs.Laws.{inclusion_of, family_of}
 use Rattle.form_rows.specs.Names.{had_by}
