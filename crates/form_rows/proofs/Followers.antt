@@ -1,5 +1,5 @@
 -- The form of a group at the members of a history, out of the executed form of the member before it.
-use Rattle.std.proofs.Common.{◌≡◌, ◌≢◌, ℕ, zero, suc, ◌+◌, ◌≤◌, Bool, true, false, List, [], ◌∷◌, ◌++◌, length, take, drop, inl, inr, refl, sym, ap, subst, ◌∙◌, arith}
+use Rattle.std.proofs.Common.{◌≡◌, ◌≢◌, ℕ, zero, suc, ◌≤◌, Bool, false, List, [], ◌∷◌, ◌++◌, length, take, drop, inl, inr, refl, sym, ap, subst, arith}
 use Rattle.op_name.specs.declared.member.Member.{Member}
 use Rattle.ttf_form.specs.Families.{IsIn, total_by}
 use Rattle.transform_rec.specs.Sets.{SameSet, plus, plus_all}

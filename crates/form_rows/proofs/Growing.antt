@@ -1,5 +1,5 @@
 -- Rows of a family are rows of a family that holds it, and over a list with one member more.
-use Rattle.std.proofs.Common.{◌≡◌, ◌≢◌, ℕ, suc, ◌+◌, ◌≤◌, Bool, true, ◌⊎◌, inl, inr, List, [], ◌∷◌, ◌++◌, Contains, length, take, refl, sym, ap, subst, ◌∙◌, arith, length-append}
+use Rattle.std.proofs.Common.{◌≡◌, suc, ◌+◌, Bool, ◌⊎◌, inl, inr, List, [], ◌∷◌, ◌++◌, Contains, length, take, refl, sym, ap, subst, arith, length-append}
 use Rattle.std.proofs.lemmas.List.{take-append-le}
 use Rattle.op_name.specs.declared.member.Member.{Member}
 use Rattle.op_name.specs.declared.member.Member.TheVariants.{Original}

@@ -15,4 +15,6 @@ pub mod Growing
 pub mod Takes
 pub mod Firsts
 pub mod TextForms
+pub mod BlockPasses
+pub mod Turns
 pub mod CallerLemmas

@@ -1,5 +1,5 @@
 -- The members of a row that a set has are moved to its front and taken out, one after the other; then it is the row of that set.
-use Rattle.std.proofs.Common.{◌≡◌, ◌≢◌, ℕ, ◌+◌, ◌≤◌, Bool, true, false, ◌&&◌, ◌||◌, ◌⊎◌, inl, inr, List, [], ◌∷◌, ◌++◌, if◌then◌else◌, refl, sym, ap, subst, ◌∙◌, append_assoc, append-nil}
+use Rattle.std.proofs.Common.{◌≡◌, ◌≢◌, ◌≤◌, Bool, true, false, inl, inr, List, [], ◌∷◌, ◌++◌, if◌then◌else◌, refl, sym, ap, subst, ◌∙◌, append_assoc, append-nil}
 use Rattle.std.specs.Prelude.{Option}
 use Rattle.std.proofs.lemmas.Bool.{cases_Bool, both_ways, and_parts, or_cases}
 use Rattle.op_name.specs.NameData.{NameData}
@@ -10,12 +10,11 @@ use Rattle.transform_rec.specs.Family.{IsClosed, IsSound}
 use Rattle.transform_rec.specs.Derived.{Deriving}
 use Rattle.transform_rec.specs.Executing.{IsCausalFrom}
 use Rattle.transform_rec.proofs.CallerLemmas.{lacks_from, plus_cases, all_keeps, all_in, all_cases, closed_plus, causal_listed, derived_sound}
-use Rattle.form_rows.proofs.DerivedForms.{IsForm}
 use Rattle.form_rows.specs.RowSets.{row_after, front_of, taken_out, PassFits, TakingFits, Inertness}
 use Rattle.form_rows.proofs.Passing.{Row, pass_fits, front_form, row_moved}
 use Rattle.form_rows.proofs.Alike.{row_alike}
 use Rattle.form_rows.proofs.Fronts.{front_set, front_ready}
-use Rattle.form_rows.proofs.Cuts.{IsCut, cut, named_form, IsThere, lacked}
+use Rattle.form_rows.proofs.Cuts.{IsCut, cut, named_form, lacked}
 
 module _ {F : Type 0} (d : Deriving F) (IsInert : F → Type 0) (n : Inertness d.inclusion.over IsInert) (back : F → F → F) (law : (a b : F) → d.inclusion.Apart a b → back (d.inclusion.over a b) b ≡ a)
     (named : F → Option NameData) (named_over : (a b : F) → named (d.inclusion.over a b) ≡ named a) (test : F → Bool) (test_over : (a b : F) → test (d.inclusion.over a b) ≡ test a) (B : Member → Bool) where

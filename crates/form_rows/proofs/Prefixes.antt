@@ -1,9 +1,8 @@
 -- Inserts of a history that a context lacks.
-use Rattle.std.proofs.Common.{◌≡◌, ℕ, zero, suc, ◌+◌, ◌-◌, ◌<◌, ◌≤◌, Bool, true, false, not, ◌&&◌, List, [], ◌∷◌, ◌++◌, inl, inr, if◌then◌else◌, take, get_or, length, refl, sym, ap, ◌∙◌, subst, arith}
+use Rattle.std.proofs.Common.{◌≡◌, ℕ, zero, suc, ◌+◌, ◌-◌, ◌≤◌, Bool, true, false, not, ◌&&◌, List, [], ◌∷◌, ◌++◌, inl, inr, if◌then◌else◌, take, length, refl, sym, ap, ◌∙◌, subst, arith}
 use Rattle.std.specs.Prelude.{Some, slice_get}
-use Rattle.std.proofs.lemmas.Bool.{cases_Bool, both_ways}
+use Rattle.std.proofs.lemmas.Bool.{both_ways}
 use Rattle.std.proofs.lemmas.List.{take_all}
-use Rattle.op_name.specs.declared.member.Member.{Member}
 use Rattle.context_vector.specs.Contexts.{ContextData, has}
 use Rattle.context_diff.specs.Operations.{OpData, member_of, is_insert}
 use Rattle.context_diff.specs.Histories.{context_of_all, inserts_in, IsValid}

@@ -1,13 +1,13 @@
 -- A member is executed out of a row of which its context has all but inert members.
-use Rattle.std.proofs.Common.{◌≡◌, ◌≢◌, ℕ, ◌+◌, ◌≤◌, Bool, true, false, inl, inr, List, [], ◌∷◌, ◌++◌, length, take, refl, sym, ap, subst, ◌∙◌, arith}
-use Rattle.std.specs.Prelude.{Option, Some}
+use Rattle.std.proofs.Common.{◌≡◌, ◌+◌, ◌≤◌, Bool, List, [], ◌∷◌, ◌++◌, length, take, refl, sym, ap, subst, ◌∙◌, arith}
+use Rattle.std.specs.Prelude.{Option}
 use Rattle.std.proofs.lemmas.List.{take_all}
 use Rattle.std.proofs.lemmas.Option.{same_Some}
 use Rattle.op_name.specs.NameData.{NameData}
 use Rattle.op_name.specs.declared.member.Member.{Member}
 use Rattle.op_name.specs.declared.member.Member.TheVariants.{Original}
 use Rattle.context_vector.specs.Contexts.{ContextData, has}
-use Rattle.ttf_form.specs.Families.{IsIn, total_by}
+use Rattle.ttf_form.specs.Families.{total_by}
 use Rattle.transform_rec.specs.Sets.{none, IsSubset, plus, plus_all}
 use Rattle.transform_rec.specs.Derived.{Deriving}
 use Rattle.transform_rec.specs.Derived.Derived.{at_base}

@@ -1,13 +1,13 @@
 -- The base forms of a valid history, as rows ask for them.
-use Rattle.std.proofs.Common.{◌≡◌, ℕ, Bool, true, false, List, refl, sym, ap, subst, ◌∙◌}
+use Rattle.std.proofs.Common.{◌≡◌, ℕ, true, List, refl, sym, ap, subst, ◌∙◌}
 use Rattle.std.specs.Prelude.{Some, Contains}
 use Rattle.std.proofs.lemmas.Bool.{both_ways}
 use Rattle.op_name.specs.NameData.{NameData}
 use Rattle.op_name.specs.declared.member.Member.{Member}
 use Rattle.op_name.specs.declared.member.Member.TheVariants.{Original}
 use Rattle.context_vector.specs.Contexts.{ContextData, has, Within}
-use Rattle.context_diff.specs.Operations.{OpData, inserting, deleting, undoing, member_of, context_of, is_insert}
-use Rattle.context_diff.specs.Histories.{is_known, members_in, context_of_all, IsValid}
+use Rattle.context_diff.specs.Operations.{OpData, inserting, deleting, undoing, member_of, context_of}
+use Rattle.context_diff.specs.Histories.{is_known, context_of_all, IsValid}
 use Rattle.context_diff.specs.Bases.{base_has}
 use Rattle.context_diff.proofs.CallerLemmas.{base_listed, base_value, complete, context_is, known_member}
 use Rattle.ttf_form.specs.declared.form.Form.{Form}

@@ -1,5 +1,5 @@
 -- The rows that a site keeps, one for each author.
-use Rattle.std.specs.Prelude.{◌≡◌, ℕ, ◌+◌, ◌≤◌, Bool, true, false, List, [], ◌∷◌, ◌++◌, ◌⊎◌, Option, Some, Contains, length, take}
+use Rattle.std.specs.Prelude.{◌≡◌, ℕ, ◌+◌, ◌≤◌, true, false, List, [], ◌∷◌, ◌++◌, ◌⊎◌, Option, Some, Contains, length, take}
 use Rattle.op_name.specs.NameData.{NameData}
 use Rattle.context_vector.specs.Contexts.{ContextData, has}
 use Rattle.op_name.specs.declared.member.Member.{Member}

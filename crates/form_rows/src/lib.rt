@@ -5,13 +5,21 @@
 //! row is included in it as it comes by, and it in each of these; so one pass finds the form of a member at all members
 //! of a book, and leaves the row of the set with that member. Covers are in no row, since their inclusion changes
 //! nothing.
+//!
+//! A row is kept in blocks of a few forms with bounds of their places. A form whose place is greater than all places of
+//! a block moves by the cells of that block in one step and leaves it as it is; one whose place is smaller than all of
+//! them stays, and they move by its cells. Only within the bounds are the forms passed one by one.
 #![tactic(auto)]
 
+mod block;
+mod blocks;
 mod groups;
+mod had;
 mod laws;
 mod named;
 mod originals;
 mod passes;
+mod placed;
 mod row;
 mod rows;
 
@@ -23,5 +31,6 @@ pub use laws::{
 pub use named::Named;
 pub use originals::executed_original;
 pub use passes::{after, front, pass};
+pub use placed::Placed;
 pub use row::Row;
 pub use rows::{Rows, executed_form};

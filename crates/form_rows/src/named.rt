@@ -5,14 +5,15 @@ ghost use Rattle.op_name.specs.NameData.{NameData};
 ghost use Rattle.ttf_form.specs.Forms.{ins_over, cover_over};
 ghost use Rattle.ttf_form.specs.declared.include.TheConstants.{CELLS};
 
+use crate::placed::Placed;
 use op_name::Name;
-use ttf_form::{Cover, Exclude, Form, Ins};
+use ttf_form::{Cover, Form, Ins};
 
 /// Forms of which rows are made: each that adds cells says the name of its insert, which inclusion keeps, and two are
 /// included in one another where they stand.
 ///
 /// A row is asked by the names which of its members a context has. No form is found by a name.
-pub trait Named: Exclude {
+pub trait Named: Placed {
     ghost named: { Self → Option NameData };
 
     /// The name of the insert that this is a form of; None of a form that adds no cell.

@@ -1,6 +1,6 @@
 //! The forms of inserts and deletes after the members that were executed before them.
 
-ghost use Rattle.std.specs.Prelude.{◌≡◌, ◌≤◌, ◌++◌, ◌∷◌, [], Bool, List, Contains, IfOk, IfSome, OnOk};
+ghost use Rattle.std.specs.Prelude.{◌≡◌, ◌≤◌, ◌++◌, ◌∷◌, [], Bool, List, Contains, IfOk, IfSome, OnOk, OnErr};
 ghost use Rattle.op_name.specs.declared.member.Member.{Member};
 ghost use Rattle.op_name.specs.declared.member.Member.TheVariants.{Original};
 ghost use Rattle.context_diff.specs.Histories.{is_known, members_in};
@@ -12,6 +12,7 @@ ghost use Rattle.transform_rec.specs.Histories.{family_in};
 ghost use Rattle.undo_group.specs.BaseForms.{base_form};
 ghost use Rattle.form_rows.specs.Names.{insert_of};
 ghost use Rattle.form_rows.specs.Kept.{AreRows, IsExecutedBefore, IsFormWith, forms_in};
+ghost use Rattle.form_rows.specs.declared.rows.AuthorRow.{AuthorRow};
 ghost use Rattle.form_rows.specs.declared.rows.TheConstants.{ENTRIES};
 
 use crate::rows::{Rows, executed_form};
@@ -34,6 +35,7 @@ pub fn executed_original(
     ensures first { IfOk result (λ made. IfSome made.1 (IsFormWith form_over insert_of (family_in book.now.ops (base_form book.now.ops)) (Original name.now))) }
     ensures rows { OnOk result (AreRows form_over IsInertForm (family_in book.now.ops (base_form book.now.ops)) (members_in book.now.ops) rows.new.kept.items) }
     ensures bound { OnOk result (forms_in rows.new.kept.items ≤ ENTRIES) }
+    ensures lost { OnErr result ((k : AuthorRow Form) → Contains rows.new.kept.items k → Contains rows.old.kept.items k) }
 {
     book.known();
     let bases = TextBases::new(book);

@@ -11,6 +11,8 @@ ghost use Rattle.transform_rec.specs.Laws.{family_of};
 ghost use Rattle.form_rows.specs.Names.{had_by, AreNamed};
 ghost use Rattle.form_rows.specs.RowSets.{form_after, row_after, front_of, taken_out, PassFits, TakingFits, IsAdded, IsRowAt, IsSource};
 
+use crate::blocks::Blocks;
+use crate::had::is_had;
 use crate::laws::derives;
 use crate::named::Named;
 use crate::passes::{front, pass};
@@ -23,17 +25,17 @@ use ttf_form::{Bases, Include};
 /// Forms of the inserts that a set of members lacks, among those that were executed up to a place: each after the set
 /// and the members before it.
 #[derive(Drop)]
-pub struct Row<F> {
-    forms: Vec<F>,
+pub struct Row<F: Named> {
+    forms: Blocks<F>,
     upto: usize,
 }
 
-impl<F> Model for Row<F> {
+impl<F: Named> Model for Row<F> {
     ghost use Rattle.form_rows.specs.RowSets.{RowData};
 
     ghost Value = { RowData F };
 
-    ghost view = { λ r. record { forms = r.forms.items; upto = r.upto } };
+    ghost view = { λ r. record { forms = r.forms; upto = r.upto } };
 }
 
 impl<F: Named + Copy> Row<F> {
@@ -42,7 +44,7 @@ impl<F: Named + Copy> Row<F> {
         ensures { result ≡ record { forms = []; upto = upto } }
     {
         Row {
-            forms: Vec::new(alloc),
+            forms: Blocks::new(alloc),
             upto,
         }
     }
@@ -67,7 +69,7 @@ impl<F: Named + Copy> Row<F> {
     }
 
     /// How many forms it has once it has looked at the forms in which the members since were executed.
-    pub fn len_after(&self, executed: &[F]) -> usize {
+    pub(crate) fn len_after(&self, executed: &[F]) -> usize {
         self.forms
             .len()
             .saturating_add(kept_number(executed, self.upto))
@@ -77,7 +79,7 @@ impl<F: Named + Copy> Row<F> {
     pub fn first(&self) -> Option<F>
         ensures { result ≡ slice_get self.now.forms 0 }
     {
-        self.forms.get(0).copied()
+        self.forms.first()
     }
 
     /// The form of m at all executed members, out of the row of a set whose inserts its context has. The row becomes that
@@ -108,19 +110,34 @@ impl<F: Named + Copy> Row<F> {
 
 // Takes the forms of members that the context has out of the row, and brings the form over the others, and these over it.
 // After out of memory the row is as it was.
-fn brought_over<F: Named + Copy>(form: F, row: &mut Vec<F>, context: &Vector) -> Result<F, Memory>
-    requires taking { TakingFits F.over F.back F.place F.extent (had_by F.named context.now.set) [] row.old.items }
-    requires passing { PassFits F.over F.place F.extent form (taken_out F.over F.back (had_by F.named context.now.set) [] row.old.items) }
-    ensures form { IfOk result (λ f. f ≡ form_after F.over form (taken_out F.over F.back (had_by F.named context.now.set) [] row.old.items)) }
-    ensures row { OnOk result (row.new.items ≡ row_after F.over form (taken_out F.over F.back (had_by F.named context.now.set) [] row.old.items)) }
-    ensures err { OnErr result (row.new.items ≡ row.old.items) }
+fn brought_over<F: Named + Copy>(
+    form: F,
+    row: &mut Blocks<F>,
+    context: &Vector,
+) -> Result<F, Memory>
+    requires taking { TakingFits F.over F.back F.place F.extent (had_by F.named context.now.set) [] row.old }
+    requires passing { PassFits F.over F.place F.extent form (taken_out F.over F.back (had_by F.named context.now.set) [] row.old) }
+    ensures form { IfOk result (λ f. f ≡ form_after F.over form (taken_out F.over F.back (had_by F.named context.now.set) [] row.old)) }
+    ensures row { OnOk result (row.new ≡ row_after F.over form (taken_out F.over F.back (had_by F.named context.now.set) [] row.old)) }
+    ensures err { OnErr result (row.new ≡ row.old) }
 {
     take_out(row, context)?;
-    Ok(pass_through(form, row))
+    Ok(row.pass(form))
 }
 
 // Appends the forms from a place on that aren't inert. After out of memory `out` is as it was.
-fn add_kept<F: Include + Copy>(out: &mut Vec<F>, forms: &[F], from: usize) -> Result<(), Memory>
+fn add_kept<F: Named + Copy>(out: &mut Blocks<F>, forms: &[F], from: usize) -> Result<(), Memory>
+    requires { from ≤ length forms.now }
+    ensures ok { OnOk result (IsAdded F.IsInert (drop from forms.now) out.old out.new) }
+    ensures err { OnErr result (out.new ≡ out.old) }
+{
+    let mut kept = Vec::new(out.alloc());
+    collect_kept(&mut kept, forms, from)?;
+    out.append(kept.as_slice())
+}
+
+// Appends the forms from a place on that aren't inert. After out of memory `out` is as it was.
+fn collect_kept<F: Include + Copy>(out: &mut Vec<F>, forms: &[F], from: usize) -> Result<(), Memory>
     requires { from ≤ length forms.now }
     ensures ok { OnOk result (IsAdded F.IsInert (drop from forms.now) out.old.items out.new.items) }
     ensures err { OnErr result (out.new.items ≡ out.old.items) }
@@ -148,50 +165,18 @@ fn kept_number<F: Include>(forms: &[F], from: usize) -> usize {
 
 // Moves the forms of members that the context has to the front of the row, one after the other, and takes them out. After
 // out of memory the row is as it was.
-fn take_out<F: Named + Copy>(row: &mut Vec<F>, context: &Vector) -> Result<(), Memory>
-    requires { TakingFits F.over F.back F.place F.extent (had_by F.named context.now.set) [] row.old.items }
-    ensures ok { OnOk result (row.new.items ≡ taken_out F.over F.back (had_by F.named context.now.set) [] row.old.items) }
-    ensures err { OnErr result (row.new.items ≡ row.old.items) }
+fn take_out<F: Named + Copy>(row: &mut Blocks<F>, context: &Vector) -> Result<(), Memory>
+    requires { TakingFits F.over F.back F.place F.extent (had_by F.named context.now.set) [] row.old }
+    ensures ok { OnOk result (row.new ≡ taken_out F.over F.back (had_by F.named context.now.set) [] row.old) }
+    ensures err { OnErr result (row.new ≡ row.old) }
 {
-    if has_none(context, row.as_slice()) {
+    if row.has_none(context) {
         return Ok(());
     }
-    let left = left_of(*row.allocator(), row.as_slice(), context)?;
-    *row = left;
+    let all = row.flat()?;
+    let left = left_of(*all.allocator(), all.as_slice(), context)?;
+    *row = Blocks::of(left);
     Ok(())
-}
-
-// Whether the context has no member of the row.
-fn has_none<F: Named>(context: &Vector, row: &[F]) -> bool
-    ensures { IsTrue result → (f : F) → IsIn f row.now → had_by F.named context.now.set f ≡ false }
-{
-    let mut site = 0;
-    let mut count = context.count(site);
-    for i in 0..row.len() {
-        if is_counted(&row[i], context, &mut site, &mut count) {
-            return false;
-        }
-    }
-    true
-}
-
-// Whether the form is one of a member of the context, of which the count of one site is at hand.
-fn is_counted<F: Named>(form: &F, context: &Vector, site: &mut u16, count: &mut u32) -> bool
-    requires { count.old ≡ count_of context.now.set site.old }
-    ensures had { result ≡ had_by F.named context.now.set form.now }
-    ensures count { count.new ≡ count_of context.now.set site.new }
-{
-    match form.name() {
-        Some(name) => {
-            name.known();
-            if name.site != *site {
-                *site = name.site;
-                *count = context.count(name.site);
-            }
-            name.number <= *count
-        }
-        None => false,
-    }
 }
 
 // What is left of a row without the forms of members that the context has.
@@ -219,16 +204,6 @@ fn append<F: Copy + Drop>(out: &mut Vec<F>, form: F) -> Result<(), Memory>
     match out.push(form) {
         Ok(()) => Ok(()),
         Err(_) => Err(Memory),
-    }
-}
-
-// Whether the form is one of a member of the context.
-fn is_had<F: Named>(form: &F, context: &Vector) -> bool
-    ensures { result ≡ had_by F.named context.now.set form.now }
-{
-    match form.name() {
-        Some(name) => context.contains(&Member::Original(name)),
-        None => false,
     }
 }
 

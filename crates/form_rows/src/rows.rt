@@ -1,6 +1,6 @@
 //! The rows that a site keeps.
 
-ghost use Rattle.std.specs.Prelude.{◌≡◌, ◌≤◌, ◌<◌, ◌++◌, ◌∷◌, ◌⊎◌, ◌&&◌, [], Bool, true, not, List, Some, Contains, IfOk, OnOk, IfSome, IsTrue, ◌↔◌, length, slice_get, take};
+ghost use Rattle.std.specs.Prelude.{◌≡◌, ◌≤◌, ◌<◌, ◌++◌, ◌∷◌, ◌⊎◌, ◌&&◌, [], Bool, true, not, List, Some, Contains, IfOk, OnOk, OnErr, IfSome, IsTrue, ◌↔◌, length, slice_get, take};
 ghost use Rattle.op_name.specs.declared.member.Member.{Member};
 ghost use Rattle.op_name.specs.declared.member.Member.TheVariants.{Original};
 ghost use Rattle.context_vector.specs.Contexts.{has, Within};
@@ -30,14 +30,14 @@ pub const ENTRIES: usize = 1_048_576;
 
 /// The row of what an author knew when it made its last insert or delete, with that.
 #[derive(Drop)]
-pub struct AuthorRow<F> {
+pub struct AuthorRow<F: Named> {
     last: Name,
     row: Row<F>,
 }
 
 /// Rows, at most one for each author.
 #[derive(Drop)]
-pub struct Rows<F> {
+pub struct Rows<F: Named> {
     kept: Vec<AuthorRow<F>>,
 }
 
@@ -176,6 +176,7 @@ pub fn executed_form<F: Named + Copy, B: Bases<F>>(
     ensures first { IfOk result (λ made. (before : List Member) → IsLast F.over F.IsInert (family_of ⟦<B as Bases<F>>⟧ bases.now) (Original name.now) before executed.now rows.old.kept.items → IfSome made.1 (IsFormWith F.over F.named (family_of ⟦<B as Bases<F>>⟧ bases.now) (Original name.now))) }
     ensures rows { OnOk result ((before : List Member) → IsLast F.over F.IsInert (family_of ⟦<B as Bases<F>>⟧ bases.now) (Original name.now) before executed.now rows.old.kept.items → AreRows F.over F.IsInert (family_of ⟦<B as Bases<F>>⟧ bases.now) (before ++ Original name.now ∷ []) rows.new.kept.items) }
     ensures bound { OnOk result (forms_in rows.new.kept.items ≤ ENTRIES) }
+    ensures lost { OnErr result ((k : AuthorRow F) → Contains rows.new.kept.items k → Contains rows.old.kept.items k) }
 {
     book.known();
     derives::<F, B>(bases);

@@ -1,6 +1,5 @@
-use Rattle.std.proofs.Common.{◌≡◌, ◌∙◌, true, false, ap, sym, refl}
+use Rattle.std.proofs.Common.{◌≡◌, ◌∙◌, false, ap, sym, refl}
 use Rattle.std.proofs.lemmas.Bool.{both_ways}
-use Rattle.op_name.specs.declared.member.Member.{Member}
 use Rattle.context_diff.specs.Histories.{is_known}
 use Rattle.context_diff.proofs.CallerLemmas.{complete}
 use Rattle.form_rows.specs.RowSets.{leader_of}

@@ -1,4 +1,4 @@
-use Rattle.std.proofs.Common.{◌≡◌, ◌+◌, ◌∙◌, drop, get_or, length, sym, ap, subst, refl}
+use Rattle.std.proofs.Common.{◌+◌, ◌∙◌, drop, length, sym, ap, subst, refl}
 use Rattle.std.proofs.lemmas.Option.{slice_get_read, get_or_from_slice_get}
 use Rattle.ttf_form.specs.declared.form.Form.{Form}
 use Rattle.ttf_form.specs.Forms.{form_over, place_of, extent_of}

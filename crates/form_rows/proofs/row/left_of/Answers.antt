@@ -1,4 +1,4 @@
-use Rattle.std.proofs.Common.{◌≡◌, ◌+◌, ◌∙◌, Bool, true, false, List, [], drop, sym, ap, subst}
+use Rattle.std.proofs.Common.{◌≡◌, ◌∙◌, true, false, List, [], sym, ap, subst}
 use Rattle.form_rows.specs.Names.{had_by}
 use Rattle.form_rows.specs.RowSets.{taken_out, TakingFits}
 use Rattle.form_rows.proofs.Takes.{taking_moved, taking_kept, taken_moved, taken_kept}

@@ -1,4 +1,4 @@
-use Rattle.std.proofs.Common.{◌≡◌, ◌≤◌, [], drop, length}
+use Rattle.std.proofs.Common.{◌≡◌, [], drop}
 use Rattle.form_rows.specs.Names.{had_by}
 use Rattle.form_rows.specs.RowSets.{taken_out, TakingFits}
 use Rattle.form_rows.proofs.row.left_of.Given as goal

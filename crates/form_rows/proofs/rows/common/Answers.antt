@@ -1,4 +1,4 @@
-use Rattle.std.proofs.Common.{◌≡◌, ◌+◌, ◌-◌, ◌≤◌, ◌∙◌, ℕ, Bool, length, take, if◌then◌else◌, sym, ap, arith}
+use Rattle.std.proofs.Common.{◌≡◌, ◌-◌, ◌∙◌, ℕ, take, sym, ap, arith}
 use Rattle.form_rows.specs.Lacking.{lacking}
 use Rattle.form_rows.proofs.Prefixes.{lacking_start, lacking_step, lacking_none, one_when, none_when}
 use Rattle.form_rows.proofs.rows.common.Goals.{then-loop-lacked-test+else-i-gt0, else-loop-lacked-test}

@@ -1,8 +1,8 @@
-use Rattle.std.proofs.Common.{◌≡◌, ◌≤◌, ◌+◌, ◌-◌, length, vec_len, vec_capacity, sym, subst, arith}
+use Rattle.std.proofs.Common.{arith}
 use Rattle.std.proofs.lemmas.Bool.{both_ways}
-use Rattle.form_rows.proofs.Looks.{IsAdding, adding_skip, adding_push, adding_end}
-use Rattle.form_rows.proofs.row.add_kept.Goals.{then-not-inert, else-not-inert}
-use Rattle.form_rows.proofs.row.add_kept.Goals as goal
+use Rattle.form_rows.proofs.Looks.{adding_skip, adding_push, adding_end}
+use Rattle.form_rows.proofs.row.collect_kept.Goals.{then-not-inert, else-not-inert}
+use Rattle.form_rows.proofs.row.collect_kept.Goals as goal
 
 pub loop-i-preserved : goal.loop-i-preserved
 loop-i-preserved g c =

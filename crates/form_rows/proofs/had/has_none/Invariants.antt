@@ -2,7 +2,7 @@ use Rattle.std.proofs.Common.{◌≡◌, false, take}
 use Rattle.context_vector.specs.Contexts.{count_of}
 use Rattle.ttf_form.specs.Families.{IsIn}
 use Rattle.form_rows.specs.Names.{had_by}
-use Rattle.form_rows.proofs.row.has_none.Given as goal
+use Rattle.form_rows.proofs.had.has_none.Given as goal
 
 abbrev pub invariant-loop-i : goal.invariant-loop-i
 invariant-loop-i g l = record {

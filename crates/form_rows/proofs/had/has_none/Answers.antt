@@ -1,7 +1,7 @@
-use Rattle.std.proofs.Common.{◌≡◌, false, sym, ◌∙◌}
+use Rattle.std.proofs.Common.{sym, ◌∙◌}
 use Rattle.form_rows.specs.Names.{had_by}
 use Rattle.form_rows.proofs.Takes.{none_more}
-use Rattle.form_rows.proofs.row.has_none.Goals as goal
+use Rattle.form_rows.proofs.had.has_none.Goals as goal
 
 pub loop-i-preserved : goal.loop-i-preserved
 loop-i-preserved g c = record {
