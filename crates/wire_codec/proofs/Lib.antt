@@ -7,6 +7,8 @@ pub mod Contexts
 pub mod WellFormed
 pub mod Sizes
 pub mod Judgement
+pub mod StateJudgement
+pub mod StateFronts
 pub mod Elements
 pub mod Loops
 pub mod Pushes
