@@ -9,6 +9,7 @@ pub mod Sizes
 pub mod Judgement
 pub mod StateJudgement
 pub mod StateFronts
+pub mod Needing
 pub mod Elements
 pub mod Loops
 pub mod Pushes
