@@ -2,3 +2,6 @@ pub mod Unseen
 mod SameInserts
 pub mod ValidJoins
 pub mod BothSides
+pub mod Staying
+pub mod Going
+pub mod Asking

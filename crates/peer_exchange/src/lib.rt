@@ -2,11 +2,21 @@
 //!
 //! The *join* of two histories is the one, followed by what it lacks of the other, in the other's order. Where two sites
 //! agree, that is, know no name by different contents, each takes in all that it lacks, and both then have the join.
+//!
+//! An exchange is three messages. `measure` says of the bytes of one how long it is, as far as they tell, and a
+//! `MessageReader` does so as they come in.
 #![tactic(auto)]
 
 mod laws;
+mod measuring;
+mod messages;
+mod reader;
+mod stages;
 
 pub use laws::{
     any_exchanges_meet, both_sides_are_joined, equal_members_are_alike, joins_are_idempotent,
     joins_are_valid, joins_associate, joins_commute, lacked_operations_are_next,
 };
+pub use measuring::measure;
+pub use messages::{Measure, PeerCause, Which};
+pub use reader::MessageReader;

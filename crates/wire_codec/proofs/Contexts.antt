@@ -82,6 +82,10 @@ pub counts_to : (low : ℕ) (ps : List (ℕ × ℕ)) → AreCounts low ps → Fo
 counts_to low [] h = tt
 counts_to low (p ∷ ps) h = (record { rises = h.0; site = h.1; some = h.2; most = h.3 }, counts_to (p.0 + 1) ps h.4)
 
+-- counts in their order, as they are read one after the other
+pub counts_in_order : (ps : List (ℕ × ℕ)) → Follow IsCount site_after 0 ps → AreCounts 0 ps
+counts_in_order ps h = counts_from 0 ps h
+
 -- sites rise below 64, so there are few of them
 pub counts_few : (low : ℕ) (ps : List (ℕ × ℕ)) → AreCounts low ps → low ≤ 64 → low + length ps ≤ 64
 counts_few low [] h le = omega arith
@@ -128,6 +132,9 @@ entries_to before (e ∷ es) first h = (record { rises = above_first before e es
 -- entries in their order, as they are read one after the other
 pub entries_in_order : (es : List (NameData × ℕ)) → Follow IsEntry name_of None es → AreEntries es
 entries_in_order es h = (entries_from None es h).1
+
+pub entries_in_turn : (es : List (NameData × ℕ)) → AreEntries es → Follow IsEntry name_of None es
+entries_in_turn es are = entries_to None es tt are
 
 -- so many undone names as a frame has room for
 abbrev pub AreFewEntries : List (NameData × ℕ) → Type 0

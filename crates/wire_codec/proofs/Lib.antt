@@ -7,6 +7,9 @@ pub mod Contexts
 pub mod WellFormed
 pub mod Sizes
 pub mod Judgement
+pub mod StateJudgement
+pub mod StateFronts
+pub mod Needing
 pub mod Elements
 pub mod Loops
 pub mod Pushes

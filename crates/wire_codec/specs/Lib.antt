@@ -3,6 +3,7 @@ pub mod Spelling
 pub mod Reading
 pub mod Judging
 pub mod Answers
+pub mod States
 pub mod StreamData
 pub mod Streams
 pub mod Code

@@ -15,3 +15,10 @@ pub enum Refused {
     More(u32),
     Bad(Fault),
 }
+
+/// Why bytes begin with no state: at least so many bytes are needed to tell, or there is a fault.
+#[derive(Clone, Copy, Debug, PartialEq, Eq)]
+pub enum Unread {
+    More(u64),
+    Bad(Fault),
+}

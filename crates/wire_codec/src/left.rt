@@ -52,6 +52,13 @@ impl<'a> Left<'a> {
         self.at
     }
 
+    /// Nothing but what the type keeps.
+    pub(crate) fn known(&self)
+        ensures { self.now.at + length self.now.bytes < 2 ^ 32 }
+    {
+        let _ = &self.bytes;
+    }
+
     pub(crate) fn bytes(&self) -> &'a [u8]
         ensures { result.now ≡ self.now.bytes }
     {

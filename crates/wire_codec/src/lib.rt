@@ -17,6 +17,8 @@ mod left;
 mod listing;
 mod rules;
 mod sections;
+mod state_answers;
+mod states;
 mod stream;
 mod vectors;
 mod writing;
@@ -26,8 +28,10 @@ pub use cause::Cause;
 pub use front::{decode, scan};
 pub use laws::{a_fault_stays, frames_apart, judgement_is_the_frames, whole_stream};
 pub use rules::LONGEST_BODY;
+pub use state_answers::{DecodedState, StateScan};
+pub use states::{decode_state, scan_state};
 pub use stream::{FrameStream, StreamBad};
-pub use writing::encode;
+pub use writing::{encode, encode_state};
 
 #[cfg(test)]
 mod tests;

@@ -11,7 +11,7 @@ use crate::sections::{Counts, Entries};
 use context_diff::UNDO_ENTRIES;
 use op_name::{NUMBERS, Name, SITES};
 
-const MOST_COUNTS: u8 = SITES as u8;
+pub(crate) const MOST_COUNTS: u8 = SITES as u8;
 
 const MOST_ENTRIES: u16 = UNDO_ENTRIES as u16;
 
@@ -54,7 +54,8 @@ fn entry(left: &mut Left, before: Option<Name>) -> Result<(Name, u16), Fault>
     Ok((name, generation))
 }
 
-fn counts_of<'a>(left: &mut Left<'a>, len: u8) -> Result<Counts<'a>, Fault>
+/// So many sites with their counts, which stay where they are.
+pub(crate) fn counts_of<'a>(left: &mut Left<'a>, len: u8) -> Result<Counts<'a>, Fault>
     ensures { after result left.new ≡ many count_at site_after len 0 left.old }
 {
     let bytes = left.bytes();
@@ -66,7 +67,7 @@ fn counts_of<'a>(left: &mut Left<'a>, len: u8) -> Result<Counts<'a>, Fault>
     Ok(Counts::new(len, bytes))
 }
 
-/// The sites with their counts, which stay where they are.
+/// The sites with their counts, and before them how many they are.
 #[tactic(auto, unfolding(crate::specs::Reading::counts_at))]
 pub(crate) fn counts<'a>(left: &mut Left<'a>) -> Result<Counts<'a>, Fault>
     ensures { after result left.new ≡ counts_at left.old }
@@ -75,9 +76,11 @@ pub(crate) fn counts<'a>(left: &mut Left<'a>) -> Result<Counts<'a>, Fault>
     counts_of(left, len)
 }
 
-fn entries_of<'a>(left: &mut Left<'a>, len: u16) -> Result<Entries<'a>, Fault>
+/// So many undone names with their generations, which stay where they are.
+pub(crate) fn entries_of<'a>(left: &mut Left<'a>, len: u32) -> Result<Entries<'a>, Fault>
     ensures { after result left.new ≡ many entry_at name_of len None left.old }
 {
+    left.known();
     let bytes = left.bytes();
     let mut before = None;
     for _ in 0..len {
@@ -87,11 +90,11 @@ fn entries_of<'a>(left: &mut Left<'a>, len: u16) -> Result<Entries<'a>, Fault>
     Ok(Entries::new(len, bytes))
 }
 
-/// The undone names with their generations, which stay where they are.
+/// The undone names with their generations, and before them how many they are.
 #[tactic(auto, unfolding(crate::specs::Reading::entries_at))]
 pub(crate) fn entries<'a>(left: &mut Left<'a>) -> Result<Entries<'a>, Fault>
     ensures { after result left.new ≡ entries_at left.old }
 {
     let len = left.bounded16(0, MOST_ENTRIES, Cause::Range)?;
-    entries_of(left, len)
+    entries_of(left, u32::from(len))
 }

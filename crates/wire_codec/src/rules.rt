@@ -120,8 +120,8 @@ fn target(op: &LentOp) -> bool
     }
 }
 
-// Whether each undo entry names an original of the context; the first one begins at `begin`.
-fn originals(context: &LentContext, begin: u32) -> Result<(), Fault>
+/// Whether each undo entry names an original of the context; the first one begins at `begin`.
+pub(crate) fn originals(context: &LentContext, begin: u32) -> Result<(), Fault>
     requires { begin + entry_len * length context.now.entries < 2 ^ 32 }
     ensures { result ≡ stray_from (context_seen context.now) begin context.now.entries }
 {
@@ -137,7 +137,7 @@ fn originals(context: &LentContext, begin: u32) -> Result<(), Fault>
 fn stray(op: &LentOp, stop: u32) -> Result<(), Fault>
     ensures { result ≡ stray_from (context_of (op_seen op.now)) (entries_begin (op_seen op.now) stop) (context_of (op_seen op.now)).entries }
 {
-    let entries = ENTRY_LEN as u32 * u32::from(op.context.entries.len());
+    let entries = ENTRY_LEN as u32 * op.context.entries.len();
     originals(&op.context, stop.saturating_sub(entries))
 }
 

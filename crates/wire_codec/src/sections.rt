@@ -1,6 +1,6 @@
 //! The two lists of a context, lent as they lie in a frame.
 
-ghost use Rattle.std.specs.Prelude.{◌≡◌, ◌*◌, ◌≤◌, length};
+ghost use Rattle.std.specs.Prelude.{◌≡◌, ◌*◌, ◌<◌, ◌^◌, ◌≤◌, length};
 ghost use Rattle.std.specs.Iterator.{YieldsFirst, item_count};
 ghost use Rattle.context_vector.specs.Contexts.{AreEntries};
 ghost use Rattle.wire_codec.specs.Judging.{count_len, entry_len};
@@ -77,12 +77,12 @@ impl<'a> Iterator for Counts<'a> {
 /// Undone names with their generations, seen as the list of those that are left.
 #[derive(Drop)]
 pub(crate) struct Entries<'a> {
-    len: u16,
+    len: u32,
     bytes: &'a [u8],
 }
 
 impl<'a> Model for Entries<'a> {
-    ghost use Rattle.std.specs.Prelude.{ℕ, List, ◌*◌, ◌≤◌, length};
+    ghost use Rattle.std.specs.Prelude.{ℕ, List, ◌*◌, ◌<◌, ◌^◌, ◌≤◌, length};
     ghost use Rattle.op_name.specs.NameData.{NameData};
     ghost use Rattle.context_vector.specs.Contexts.{AreEntries};
     ghost use Rattle.wire_codec.specs.Judging.{entry_len};
@@ -92,12 +92,13 @@ impl<'a> Model for Entries<'a> {
 
     ghost view = { λ e. elements raw_entry entry_len e.len e.bytes.now };
 
-    ghost invariant = { λ e. (entry_len * e.len ≤ length e.bytes.now) × AreEntries (elements raw_entry entry_len e.len e.bytes.now) };
+    ghost invariant = { λ e. (entry_len * e.len ≤ length e.bytes.now) × AreEntries (elements raw_entry entry_len e.len e.bytes.now) × (entry_len * e.len < 2 ^ 32) };
 }
 
 impl<'a> Entries<'a> {
-    pub(crate) fn new(len: u16, bytes: &'a [u8]) -> Entries<'a>
+    pub(crate) fn new(len: u32, bytes: &'a [u8]) -> Entries<'a>
         requires long { entry_len * len ≤ length bytes.now }
+        requires short { entry_len * len < 2 ^ 32 }
         requires named { AreEntries (elements raw_entry entry_len len bytes.now) }
         ensures { result ≡ elements raw_entry entry_len len bytes.now }
     {
@@ -116,8 +117,9 @@ impl<'a> Entries<'a> {
 
     /// How many are left.
     #[tactic(auto, using(crate::proofs::Elements::length_elements))]
-    pub(crate) fn len(&self) -> u16
-        ensures { result ≡ length self.now }
+    pub(crate) fn len(&self) -> u32
+        ensures value { result ≡ length self.now }
+        ensures short { entry_len * result < 2 ^ 32 }
     {
         self.len
     }

@@ -36,7 +36,8 @@ fn with_entries(vector: Vector, entries: &Entries) -> Result<Vector, Memory>
     Ok(vector)
 }
 
-fn vector_of(alloc: Global, context: &LentContext) -> Result<Vector, Memory>
+/// The context as a vector of its own.
+pub(crate) fn vector_of(alloc: Global, context: &LentContext) -> Result<Vector, Memory>
     requires { AreCounts 0 context.now.counts }
     ensures { IfOk result (λ v. v.set ≡ context_seen context.now) }
 {

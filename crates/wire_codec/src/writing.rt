@@ -9,6 +9,7 @@ ghost use Rattle.context_diff.specs.Ops.{data_of};
 ghost use Rattle.wire_codec.specs.declared.head.Head.TheVariants.{Insert, Delete, Undo};
 ghost use Rattle.wire_codec.specs.Spelling.{head_of, site_bytes, name_bytes, count_bytes, entry_bytes, counts_bytes, entries_bytes, head_bytes, body_bytes, frame};
 ghost use Rattle.wire_codec.specs.Judging.{count_len, entry_len};
+ghost use Rattle.wire_codec.specs.States.{named_bytes, state_bytes};
 ghost use Rattle.wire_codec.specs.Code.Puts.{HasRoom, Puts, HasAuthor, head_len};
 
 use crate::head::Head;
@@ -205,5 +206,32 @@ pub fn encode(op: &Op, out: &mut Vec<u8>) -> Result<(), Memory>
     put_head(out, head_of(op));
     put_counts(out, op.context());
     put_entries(out, op.context());
+    Ok(())
+}
+
+fn put_named(out: &mut Vec<u8>, members: &Vector)
+    requires { HasRoom out.old (4 + entry_len * length members.now.set.entries) }
+    ensures { Puts out.old out.new (named_bytes members.now.set.entries) }
+{
+    put(out, &members.entries().to_be_bytes());
+    put_each_entry(out, members.named());
+}
+
+fn state_len(members: &Vector) -> usize
+    ensures { result ≡ 5 + count_len * length members.now.set.counts + entry_len * length members.now.set.entries }
+{
+    5 + 5 * members.sites() as usize + 7 * members.entries() as usize
+}
+
+/// Appends the one spelling of a set of members as a state.
+///
+/// On `Memory` nothing is appended: room for all of it is made first.
+pub fn encode_state(members: &Vector, out: &mut Vec<u8>) -> Result<(), Memory>
+    ensures ok { OnOk result (out.new.items ≡ out.old.items ++ state_bytes members.now.set) }
+    ensures err { OnErr result (out.new.items ≡ out.old.items) }
+{
+    out.reserve(state_len(members))?;
+    put_counts(out, members);
+    put_named(out, members);
     Ok(())
 }

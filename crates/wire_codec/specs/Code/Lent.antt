@@ -4,6 +4,7 @@ use Rattle.context_vector.specs.Contexts.{ContextData}
 use Rattle.context_diff.specs.Operations.{OpData}
 use Rattle.wire_codec.specs.declared.fault.Fault.{Fault}
 use Rattle.wire_codec.specs.declared.fault.Refused.{Refused}
+use Rattle.wire_codec.specs.declared.fault.Unread.{Unread}
 use Rattle.wire_codec.specs.declared.rules.LentContext.{LentContext}
 use Rattle.wire_codec.specs.declared.rules.LentOp.{LentOp}
 use Rattle.wire_codec.specs.Spelling.{op_of}
@@ -27,3 +28,7 @@ seen_as view (Err e) = Err e
 abbrev pub judged_as : {X Y : Type 0} → (X → Y) → Result (X × ℕ) Refused → Result (Y × ℕ) Refused
 judged_as view (Ok x) = Ok (view x.0, x.1)
 judged_as view (Err e) = Err e
+
+abbrev pub state_as : Result (LentContext × ℕ) Unread → Result (ContextData × ℕ) Unread
+state_as (Ok x) = Ok (context_seen x.0, x.1)
+state_as (Err e) = Err e

@@ -38,3 +38,10 @@ new-requires-clause-named c =
     let whole : c.loop.counter ≡ c.args.len = omega arith in
     let are = entries_are c.args.len c.args.left.now c.loop.counter c.loop.before c.loop.left fits c.loop-test.false c.loop.invariant.0 in
     rw (c.bytes-bytes.ensures) (subst (λ (k : ℕ). AreEntries (elements raw_entry entry_len k c.args.left.now.bytes)) whole are)
+
+pub new-requires-clause-short : goal.new-requires-clause-short
+new-requires-clause-short c =
+    let whole : c.loop.counter ≡ c.args.len = omega arith in
+    let long = c.loop.invariant.0.long in
+    let few = c.known.ensures in
+    omega (arith, whole, long, few)

@@ -1,0 +1,403 @@
+-- The judgement of states is their spelling: what is judged good begins with the spelling of a state, and each is judged so.
+use Rattle.std.proofs.Common.{◌≡◌, ℕ, ◌+◌, ◌*◌, ◌<◌, ◌≤◌, ◌^◌, ltb, Bool, true, false, cond, List, [], ◌++◌, length, take, drop, None, Result, Ok, Err, refl, sym, ap, subst, ◌∙◌, append_assoc, arith, inl, inr, ◌⊎◌}
+use Rattle.std.specs.List.{flat_map}
+use Rattle.std.specs.Int.{w8, w32, to_be_bytes, from_be_bytes}
+use Rattle.std.proofs.lemmas.Bool.{ltb-true, ltb-false, le-ltb, cond-true, cond-false}
+use Rattle.std.proofs.lemmas.List.{append-nil, nil_from_length, length-append, length-take, length-drop, take-append-drop, take-append-le, drop-append-le, take_at, drop_at}
+use Rattle.op_name.specs.NameData.{NameData}
+use Rattle.op_name.specs.declared.name.TheConstants.{SITES}
+use Rattle.context_vector.specs.Contexts.{ContextData, AreCounts, AreEntries}
+use Rattle.wire_codec.specs.declared.cause.Cause.TheVariants.{Range}
+use Rattle.wire_codec.specs.declared.fault.Fault.{Fault}
+use Rattle.wire_codec.specs.declared.fault.Unread.{Unread}
+use Rattle.wire_codec.specs.declared.fault.Unread.TheVariants.{More, Bad}
+use Rattle.wire_codec.specs.Spelling.{count_bytes, entry_bytes, counts_bytes}
+use Rattle.wire_codec.specs.Reading.{LeftData, left_at, Found, fault, many, count_at, site_after, entry_at, name_of}
+use Rattle.wire_codec.specs.Judging.{count_len, entry_len, length_of, stray_from}
+use Rattle.wire_codec.specs.States.{named_bytes, state_bytes, IsState, unless_stray, judge_entries, judge_named, judge_counted, sites_of, judge_state, IsStateOf}
+use Rattle.wire_codec.proofs.Steps.{IsBytes, IsBytes-take, IsBytes-drop}
+use Rattle.wire_codec.proofs.TwoWays.{Reads}
+use Rattle.wire_codec.proofs.Numbers.{wide8, wide32}
+use Rattle.wire_codec.proofs.Lists.{Follow, many_reads}
+use Rattle.wire_codec.proofs.Contexts.{IsCount, count_reads, IsEntry, entry_reads, counts_in_order, counts_to, counts_few, entries_in_order, entries_in_turn}
+use Rattle.wire_codec.proofs.WellFormed.{AreOriginals, stray_keeps, has_no_stray, stray_ok, stray_again, stray_faults}
+use Rattle.wire_codec.proofs.Sizes.{length-counts, length-entries}
+
+-- ---- a test that fails at once, or lets the rest go on
+
+passed : {A E : Type 0} (b : Bool) (r : E) (x : Result A E) (y : A) → cond b (Err r) x ≡ Ok y → (b ≡ false) × (x ≡ Ok y)
+passed true r x y e = absurd (let no = e in cc)
+passed false r x y e = (refl, e)
+
+stopped : {A E : Type 0} (b : Bool) (r q : E) (x : Result A E) → cond b (Err r) x ≡ Err q → ((b ≡ true) × (r ≡ q)) ⊎ ((b ≡ false) × (x ≡ Err q))
+stopped true r q x e = let same : r ≡ q = cc in inl (refl, same)
+stopped false r q x e = inr (refl, e)
+
+-- ---- a list in its section of the bytes
+
+module _ {S A : Type 0} (step : S → LeftData → Found A) (next : A → S) (spell : A → List ℕ) (Is : S → A → Type 0) (one : (s : S) → Reads (step s) spell (Is s))
+    (size : ℕ) (long : (xs : List A) → length (flat_map spell xs) ≡ size * length xs) (first : S) where
+  -- what is read of a section of the right length is spelled there
+  section_takes : (n at : ℕ) (bytes : List ℕ) (xs : List A) (m : LeftData) → IsBytes bytes → size * n ≤ length bytes
+      → many step next n first (left_at at (take (size * n) bytes)) ≡ Ok (xs, m)
+      → (bytes ≡ flat_map spell xs ++ drop (size * n) bytes) × (length (flat_map spell xs) ≡ size * n) × (length xs ≡ n) × Follow Is next first xs
+  section_takes n at bytes xs m fits enough e =
+      let took = (many_reads step next spell Is one n first).takes (left_at at (take (size * n) bytes)) m xs (IsBytes-take (size * n) bytes fits) e in
+      let count : length xs ≡ n = took.1.0 in
+      let wide : length (flat_map spell xs) ≡ size * n = long xs ∙ ap (λ (k : ℕ). size * k) count in
+      let cut : length (take (size * n) bytes) ≡ size * n = omega (arith, enough, length-take (size * n) bytes) in
+      let parts : take (size * n) bytes ≡ flat_map spell xs ++ m.bytes = took.0.parts in
+      let total : length (take (size * n) bytes) ≡ length (flat_map spell xs) + length m.bytes = ap length parts ∙ length-append (flat_map spell xs) m.bytes in
+      let none : m.bytes ≡ [] = nil_from_length m.bytes (omega (arith, total, wide, cut)) in
+      let whole : take (size * n) bytes ≡ flat_map spell xs = parts ∙ ap (λ (t : List ℕ). flat_map spell xs ++ t) none ∙ append-nil (flat_map spell xs) in
+      let all : bytes ≡ flat_map spell xs ++ drop (size * n) bytes = sym (take-append-drop (size * n) bytes) ∙ ap (λ (t : List ℕ). t ++ drop (size * n) bytes) whole in
+      (all, wide, count, took.1.1)
+
+  section_again : (xs : List A) (n at : ℕ) (rest : List ℕ) → length xs ≡ n → Follow Is next first xs
+      → (m : LeftData) × (many step next n first (left_at at (take (size * n) (flat_map spell xs ++ rest))) ≡ Ok (xs, m))
+  section_again xs n at rest count are =
+      let wide : length (flat_map spell xs) ≡ size * n = long xs ∙ ap (λ (k : ℕ). size * k) count in
+      let text : take (size * n) (flat_map spell xs ++ rest) ≡ flat_map spell xs ++ [] = take_at (flat_map spell xs) rest (size * n) wide ∙ sym (append-nil (flat_map spell xs)) in
+      let read = (many_reads step next spell Is one n first).again xs at [] (count, are) in
+      (left_at (at + length (flat_map spell xs)) [], ap (λ (t : List ℕ). many step next n first (left_at at t)) text ∙ read)
+
+  section_faults : (n at : ℕ) (bytes : List ℕ) (f : Fault) → IsBytes bytes → many step next n first (left_at at (take (size * n) bytes)) ≡ Err f → f.offset ≤ at + size * n
+  section_faults n at bytes f fits e =
+      let inside = (many_reads step next spell Is one n first).faults (left_at at (take (size * n) bytes)) f (IsBytes-take (size * n) bytes fits) e in
+      omega (arith, inside, length-take (size * n) bytes)
+
+counts_section : (n at : ℕ) (bytes : List ℕ) (ps : List (ℕ × ℕ)) (m : LeftData) → IsBytes bytes → count_len * n ≤ length bytes
+    → many count_at site_after n 0 (left_at at (take (count_len * n) bytes)) ≡ Ok (ps, m)
+    → (bytes ≡ flat_map count_bytes ps ++ drop (count_len * n) bytes) × (length (flat_map count_bytes ps) ≡ count_len * n) × (length ps ≡ n) × Follow IsCount site_after 0 ps
+counts_section = section_takes count_at site_after count_bytes IsCount count_reads count_len length-counts 0
+
+entries_section : (n at : ℕ) (bytes : List ℕ) (es : List (NameData × ℕ)) (m : LeftData) → IsBytes bytes → entry_len * n ≤ length bytes
+    → many entry_at name_of n None (left_at at (take (entry_len * n) bytes)) ≡ Ok (es, m)
+    → (bytes ≡ flat_map entry_bytes es ++ drop (entry_len * n) bytes) × (length (flat_map entry_bytes es) ≡ entry_len * n) × (length es ≡ n) × Follow IsEntry name_of None es
+entries_section = section_takes entry_at name_of entry_bytes IsEntry entry_reads entry_len length-entries None
+
+pub entries_listed : (n : ℕ) (l m : LeftData) (es : List (NameData × ℕ)) → IsBytes l.bytes → many entry_at name_of n None l ≡ Ok (es, m) → length es ≡ n
+entries_listed n l m es fits e = ((many_reads entry_at name_of entry_bytes IsEntry entry_reads n None).takes l m es fits e).1.0
+
+-- ---- undone names
+
+-- the bytes begin with the undone names of this state
+record Named (counts : List (ℕ × ℕ)) (at : ℕ) (bytes : List ℕ) (c : ContextData) (used : ℕ) : Type 0 where
+  same : c.counts ≡ counts
+  entries : AreEntries c.entries
+  originals : AreOriginals c c.entries
+  few : length c.entries < 2 ^ 32
+  rest : List ℕ
+  parts : bytes ≡ named_bytes c.entries ++ rest
+  ends : used ≡ at + length (named_bytes c.entries)
+
+entries_read : List ℕ → ℕ → Found (List (NameData × ℕ))
+entries_read bytes at = many entry_at name_of (length_of bytes) None (left_at (at + 4) (take (entry_len * length_of bytes) (drop 4 bytes)))
+
+stray_done : (c d : ContextData) (stop used : ℕ) (r : Result (Unit {0}) Fault) → unless_stray c stop r ≡ Ok (d, used) → (r ≡ Ok tt) × (c ≡ d) × (stop ≡ used)
+stray_done c d stop used (Ok u) e =
+    let both : ◌≡◌ {A = ContextData × ℕ} (c, stop) (d, used) = cc in
+    (refl, ap (λ (p : ContextData × ℕ). p.0) both, ap (λ (p : ContextData × ℕ). p.1) both)
+stray_done c d stop used (Err f) e = absurd (let no = e in cc)
+
+entries_done : (counts : List (ℕ × ℕ)) (begin stop : ℕ) (d : ContextData) (used : ℕ) (r : Found (List (NameData × ℕ))) → judge_entries counts begin stop r ≡ Ok (d, used)
+    → (e : List (NameData × ℕ) × LeftData) × (r ≡ Ok e) × (unless_stray (record { counts = counts; entries = e.0 }) stop (stray_from (record { counts = counts; entries = e.0 }) begin e.0) ≡ Ok (d, used))
+entries_done counts begin stop d used (Ok e) is = (e, refl, is)
+entries_done counts begin stop d used (Err f) is = absurd (let no = is in cc)
+
+named_takes : (counts : List (ℕ × ℕ)) (at : ℕ) (bytes : List ℕ) (c : ContextData) (used : ℕ) → IsBytes bytes → judge_named counts at bytes ≡ Ok (c, used) → Named counts at bytes c used
+unfolding judge_named entries_read
+named_takes counts at bytes c used fits e =
+    let n = length_of bytes in
+    let stop = at + (4 + entry_len * n) in
+    let four = passed (ltb (length bytes) 4) (More (at + 4)) (cond (ltb (length bytes) (4 + entry_len * n)) (Err (More stop)) (judge_entries counts (at + 4) stop (entries_read bytes at))) (c, used) e in
+    let there = passed (ltb (length bytes) (4 + entry_len * n)) (More stop) (judge_entries counts (at + 4) stop (entries_read bytes at)) (c, used) four.1 in
+    let long = ltb-false _ _ four.0 in
+    let enough = ltb-false _ _ there.0 in
+    let read = entries_done counts (at + 4) stop c used (entries_read bytes at) there.1 in
+    let es = read.0.0 in
+    let d : ContextData = record { counts = counts; entries = es } in
+    let kept = stray_done d c stop used (stray_from d (at + 4) es) read.2 in
+    let rest_fits = IsBytes-drop 4 bytes fits in
+    let section = entries_section n (at + 4) (drop 4 bytes) es read.0.1 rest_fits (omega (arith, enough, length-drop 4 bytes)) read.1 in
+    let front_len : length (take 4 bytes) ≡ 4 = omega (arith, long, length-take 4 bytes) in
+    let front : to_be_bytes w32 n ≡ take 4 bytes = wide32.back (take 4 bytes) front_len (IsBytes-take 4 bytes fits) in
+    let number : to_be_bytes w32 (length es) ≡ take 4 bytes = ap (to_be_bytes w32) section.2 ∙ front in
+    let rest = drop (entry_len * n) (drop 4 bytes) in
+    let parts : bytes ≡ named_bytes es ++ rest =
+    sym (take-append-drop 4 bytes)
+    ∙ (ap (λ (t : List ℕ). take 4 bytes ++ t) section.0
+    ∙ (ap (λ (t : List ℕ). t ++ (flat_map entry_bytes es ++ rest)) (sym number)
+    ∙ sym (append_assoc (to_be_bytes w32 (length es)) (flat_map entry_bytes es) rest))) in
+    let size : length (named_bytes es) ≡ 4 + entry_len * n = omega (arith, section.1) in
+    let whole : Named counts at bytes d used = record {
+      same = refl;
+      entries = entries_in_order es section.3;
+      originals = stray_ok d (at + 4) es kept.0;
+      few = (let below = wide32.below (take 4 bytes) (IsBytes-take 4 bytes fits) in omega (arith, below, section.2));
+      rest = rest;
+      parts = parts;
+      ends = (let is = kept.2 in omega (arith, is, size));
+    } in
+    subst (λ (x : ContextData). Named counts at bytes x used) kept.1 whole
+
+named_again : (c : ContextData) (at : ℕ) (rest : List ℕ) → AreEntries c.entries → AreOriginals c c.entries → length c.entries < 2 ^ 32
+    → judge_named c.counts at (named_bytes c.entries ++ rest) ≡ Ok (c, at + length (named_bytes c.entries))
+unfolding judge_named entries_read
+named_again c at rest are originals few =
+    let es = c.entries in
+    let n = length es in
+    let bytes = named_bytes es ++ rest in
+    let size : length_of bytes ≡ n = wide32.again n few in
+    let listed : length (flat_map entry_bytes es) ≡ entry_len * n = length-entries es in
+    let total : length bytes ≡ 4 + (entry_len * n + length rest) = omega (arith, listed, length-append (flat_map entry_bytes es) rest) in
+    let named_len : length (named_bytes es) ≡ 4 + entry_len * n = omega (arith, listed) in
+    let four : ltb (length bytes) 4 ≡ false = le-ltb _ _ (omega (arith, total)) in
+    let there : ltb (length bytes) (4 + entry_len * length_of bytes) ≡ false = le-ltb _ _ (omega (arith, size, total)) in
+    let section = section_again entry_at name_of entry_bytes IsEntry entry_reads entry_len length-entries None es n (at + 4) rest refl (entries_in_turn es are) in
+    let read : entries_read bytes at ≡ Ok (es, section.0) = ap (λ (k : ℕ). many entry_at name_of k None (left_at (at + 4) (take (entry_len * k) (flat_map entry_bytes es ++ rest)))) size ∙ section.1 in
+    let kept : stray_from c (at + 4) es ≡ Ok tt = stray_again c (at + 4) es originals in
+    let stop = at + (4 + entry_len * length_of bytes) in
+    let good : judge_entries c.counts (at + 4) stop (entries_read bytes at) ≡ Ok (c, stop) = ap (judge_entries c.counts (at + 4) stop) read ∙ ap (unless_stray c stop) kept in
+    let ends : stop ≡ at + length (named_bytes es) = omega (arith, size, named_len) in
+    cond-false _ _ _ four ∙ (cond-false _ _ _ there ∙ (good ∙ ap (λ (k : ℕ). Ok (c, k)) ends))
+
+-- ---- whole states
+
+counts_read : List ℕ → Found (List (ℕ × ℕ))
+counts_read bytes = many count_at site_after (sites_of bytes) 0 (left_at 1 (take (count_len * sites_of bytes) (drop 1 bytes)))
+
+counted : List ℕ → Result (ContextData × ℕ) Unread
+counted bytes = judge_counted (1 + count_len * sites_of bytes) (drop (count_len * sites_of bytes) (drop 1 bytes)) (counts_read bytes)
+
+counts_done : (at : ℕ) (rest : List ℕ) (d : ContextData) (used : ℕ) (r : Found (List (ℕ × ℕ))) → judge_counted at rest r ≡ Ok (d, used)
+    → (x : List (ℕ × ℕ) × LeftData) × (r ≡ Ok x) × (judge_named x.0 at rest ≡ Ok (d, used))
+counts_done at rest d used (Ok x) e = (x, refl, e)
+counts_done at rest d used (Err f) e = absurd (let no = e in cc)
+
+pub state_takes : (bytes : List ℕ) (c : ContextData) (used : ℕ) → IsBytes bytes → judge_state bytes ≡ Ok (c, used) → IsStateOf bytes c used
+unfolding judge_state counts_read counted state_bytes
+state_takes bytes c used fits e =
+    let n = sites_of bytes in
+    let some = passed (ltb (length bytes) 1) (More 1) (cond (ltb SITES n) (Err (Bad (fault Range 0))) (cond (ltb (length bytes) (1 + count_len * n)) (Err (More (1 + count_len * n))) (counted bytes))) (c, used) e in
+    let few = passed (ltb SITES n) (Bad (fault Range 0)) (cond (ltb (length bytes) (1 + count_len * n)) (Err (More (1 + count_len * n))) (counted bytes)) (c, used) some.1 in
+    let there = passed (ltb (length bytes) (1 + count_len * n)) (More (1 + count_len * n)) (counted bytes) (c, used) few.1 in
+    let long = ltb-false _ _ some.0 in
+    let enough = ltb-false _ _ there.0 in
+    let rest = drop (count_len * n) (drop 1 bytes) in
+    let read = counts_done (1 + count_len * n) rest c used (counts_read bytes) there.1 in
+    let ps = read.0.0 in
+    let rest_fits = IsBytes-drop (count_len * n) (drop 1 bytes) (IsBytes-drop 1 bytes fits) in
+    let named = named_takes ps (1 + count_len * n) rest c used rest_fits read.2 in
+    let section = counts_section n 1 (drop 1 bytes) ps read.0.1 (IsBytes-drop 1 bytes fits) (omega (arith, enough, length-drop 1 bytes)) read.1 in
+    let front_len : length (take 1 bytes) ≡ 1 = omega (arith, long, length-take 1 bytes) in
+    let front : to_be_bytes w8 n ≡ take 1 bytes = wide8.back (take 1 bytes) front_len (IsBytes-take 1 bytes fits) in
+    let number : to_be_bytes w8 (length ps) ≡ take 1 bytes = ap (to_be_bytes w8) section.2 ∙ front in
+    let head : bytes ≡ counts_bytes ps ++ rest =
+    sym (take-append-drop 1 bytes)
+    ∙ (ap (λ (t : List ℕ). take 1 bytes ++ t) section.0
+    ∙ (ap (λ (t : List ℕ). t ++ (flat_map count_bytes ps ++ rest)) (sym number)
+    ∙ sym (append_assoc (to_be_bytes w8 (length ps)) (flat_map count_bytes ps) rest))) in
+    let all : bytes ≡ state_bytes c ++ named.rest =
+    head
+    ∙ (ap (λ (t : List ℕ). counts_bytes ps ++ t) named.parts
+    ∙ (ap (λ (t : List (ℕ × ℕ)). counts_bytes t ++ (named_bytes c.entries ++ named.rest)) (sym named.same)
+    ∙ sym (append_assoc (counts_bytes c.counts) (named_bytes c.entries) named.rest))) in
+    let counts_size : length (counts_bytes c.counts) ≡ 1 + count_len * n = ap (λ (t : List (ℕ × ℕ)). length (counts_bytes t)) named.same ∙ (let wide = section.1 in omega (arith, wide)) in
+    let size : length (state_bytes c) ≡ used = (let is = named.ends in omega (arith, is, counts_size, length-append (counts_bytes c.counts) (named_bytes c.entries))) in
+    let left : drop used bytes ≡ named.rest = ap (drop used) all ∙ drop_at (state_bytes c) named.rest used size in
+    record {
+      is = record {
+        is = record { counts = subst (AreCounts 0) (sym named.same) (counts_in_order ps section.3); entries = named.entries };
+        stray = stray_keeps c named.originals;
+        few = named.few;
+      };
+      size = sym size;
+      parts = all ∙ ap (λ (t : List ℕ). state_bytes c ++ t) (sym left);
+    }
+
+pub state_again : (c : ContextData) (rest : List ℕ) → IsState c → judge_state (state_bytes c ++ rest) ≡ Ok (c, length (state_bytes c))
+unfolding judge_state counts_read counted state_bytes
+state_again c rest is =
+    let ps = c.counts in
+    let n = length ps in
+    let behind = named_bytes c.entries ++ rest in
+    let bytes = counts_bytes ps ++ behind in
+    let same : state_bytes c ++ rest ≡ bytes = append_assoc (counts_bytes ps) (named_bytes c.entries) rest in
+    let few : n ≤ 64 = (let most = counts_few 0 ps is.is.counts (omega arith) in omega (arith, most)) in
+    let size : sites_of bytes ≡ n = wide8.again n (omega (arith, few)) in
+    let listed : length (flat_map count_bytes ps) ≡ count_len * n = length-counts ps in
+    let total : length bytes ≡ 1 + (count_len * n + length behind) = omega (arith, listed, length-append (flat_map count_bytes ps) behind) in
+    let some : ltb (length bytes) 1 ≡ false = le-ltb _ _ (omega (arith, total)) in
+    let not_many : ltb SITES (sites_of bytes) ≡ false = le-ltb _ _ (omega (arith, size, few)) in
+    let there : ltb (length bytes) (1 + count_len * sites_of bytes) ≡ false = le-ltb _ _ (omega (arith, size, total)) in
+    let section = section_again count_at site_after count_bytes IsCount count_reads count_len length-counts 0 ps n 1 behind refl (counts_to 0 ps is.is.counts) in
+    let read : counts_read bytes ≡ Ok (ps, section.0) = ap (λ (k : ℕ). many count_at site_after k 0 (left_at 1 (take (count_len * k) (flat_map count_bytes ps ++ behind)))) size ∙ section.1 in
+    let at = 1 + count_len * sites_of bytes in
+    let left : drop (count_len * sites_of bytes) (drop 1 bytes) ≡ behind = ap (λ (k : ℕ). drop (count_len * k) (flat_map count_bytes ps ++ behind)) size ∙ drop_at (flat_map count_bytes ps) behind (count_len * n) listed in
+    let named = named_again c at rest is.is.entries (has_no_stray c is.is.entries is.stray) is.few in
+    let good : counted bytes ≡ Ok (c, at + length (named_bytes c.entries)) =
+    ap (judge_counted at (drop (count_len * sites_of bytes) (drop 1 bytes))) read ∙ (ap (judge_named ps at) left ∙ named) in
+    let counts_size : length (counts_bytes ps) ≡ 1 + count_len * n = omega (arith, listed) in
+    let ends : at + length (named_bytes c.entries) ≡ length (state_bytes c) = omega (arith, size, counts_size, length-append (counts_bytes ps) (named_bytes c.entries)) in
+    ap judge_state same ∙ (cond-false _ _ _ some ∙ (cond-false _ _ _ not_many ∙ (cond-false _ _ _ there ∙ (good ∙ ap (λ (k : ℕ). Ok (c, k)) ends))))
+
+-- ---- what isn't there, and what is wrong
+
+-- what an answer other than More was judged on stays there, whatever follows
+split : {A E : Type 0} (b : Bool) (r : E) (x y : Result A E) → cond b (Err r) x ≡ y → ((b ≡ true) × (Err r ≡ y)) ⊎ ((b ≡ false) × (x ≡ y))
+split true r x y e = inl (refl, e)
+split false r x y e = inr (refl, e)
+
+IsTold : Result (ContextData × ℕ) Unread → Type 0
+IsTold y = (n : ℕ) → ¬ (Err (More n) ≡ y)
+
+named_stays : (counts : List (ℕ × ℕ)) (at : ℕ) (bytes more : List ℕ) (y : Result (ContextData × ℕ) Unread) → IsTold y → judge_named counts at bytes ≡ y → judge_named counts at (bytes ++ more) ≡ y
+unfolding judge_named entries_read IsTold
+named_stays counts at bytes more y told e =
+    let n = length_of bytes in
+    let all = bytes ++ more in
+    let total = length-append bytes more in
+    let stop = at + (4 + entry_len * n) in
+    let whole = judge_entries counts (at + 4) stop (entries_read bytes at) in
+    elim (split (ltb (length bytes) 4) (More (at + 4)) (cond (ltb (length bytes) (4 + entry_len * n)) (Err (More stop)) whole) y e) [
+      | inl short ↦ absurd (told (at + 4) short.1)
+      | inr four ↦ elim (split (ltb (length bytes) (4 + entry_len * n)) (More stop) whole y four.1) [
+        | inl short ↦ absurd (told stop short.1)
+        | inr there ↦
+            let long = ltb-false (length bytes) 4 four.0 in
+            let enough = ltb-false (length bytes) (4 + entry_len * n) there.0 in
+            let same : length_of all ≡ n = ap (from_be_bytes w32) (take-append-le 4 bytes more long) in
+            let four_all : ltb (length all) 4 ≡ false = le-ltb _ _ (omega (arith, long, total)) in
+            let there_all : ltb (length all) (4 + entry_len * length_of all) ≡ false = le-ltb _ _ (omega (arith, enough, total, same)) in
+            let section : entry_len * n ≤ length (drop 4 bytes) = omega (arith, enough, length-drop 4 bytes) in
+            let text : take (entry_len * n) (drop 4 all) ≡ take (entry_len * n) (drop 4 bytes) = ap (take (entry_len * n)) (drop-append-le 4 bytes more long) ∙ take-append-le (entry_len * n) (drop 4 bytes) more section in
+            let good : judge_entries counts (at + 4) (at + (4 + entry_len * length_of all)) (entries_read all at) ≡ whole =
+            ap (λ (k : ℕ). judge_entries counts (at + 4) (at + (4 + entry_len * k)) (many entry_at name_of k None (left_at (at + 4) (take (entry_len * k) (drop 4 all))))) same
+            ∙ ap (λ (t : List ℕ). judge_entries counts (at + 4) stop (many entry_at name_of n None (left_at (at + 4) t))) text in
+            cond-false _ _ _ four_all ∙ (cond-false _ _ _ there_all ∙ (good ∙ there.1))
+      ]
+    ]
+
+counted_stays : (at : ℕ) (rest more : List ℕ) (r : Found (List (ℕ × ℕ))) (y : Result (ContextData × ℕ) Unread) → IsTold y → judge_counted at rest r ≡ y → judge_counted at (rest ++ more) r ≡ y
+counted_stays at rest more (Ok x) y told e = named_stays x.0 at rest more y told e
+counted_stays at rest more (Err f) y told e = e
+
+pub state_stays : (bytes more : List ℕ) (y : Result (ContextData × ℕ) Unread) → ((n : ℕ) → ¬ (Err (More n) ≡ y)) → judge_state bytes ≡ y → judge_state (bytes ++ more) ≡ y
+unfolding judge_state counts_read counted IsTold
+state_stays bytes more y told e =
+    let n = sites_of bytes in
+    let all = bytes ++ more in
+    let total = length-append bytes more in
+    let behind = cond (ltb (length bytes) (1 + count_len * n)) (Err (More (1 + count_len * n))) (counted bytes) in
+    elim (split (ltb (length bytes) 1) (More 1) (cond (ltb SITES n) (Err (Bad (fault Range 0))) behind) y e) [
+      | inl short ↦ absurd (told 1 short.1)
+      | inr some ↦
+          let long = ltb-false (length bytes) 1 some.0 in
+          let same : sites_of all ≡ n = ap (from_be_bytes w8) (take-append-le 1 bytes more long) in
+          let some_all : ltb (length all) 1 ≡ false = le-ltb _ _ (omega (arith, long, total)) in
+          elim (split (ltb SITES n) (Bad (fault Range 0)) behind y some.1) [
+            | inl here ↦ cond-false _ _ _ some_all ∙ (cond-true _ _ _ (ap (λ (k : ℕ). ltb SITES k) same ∙ here.0) ∙ here.1)
+            | inr few ↦ elim (split (ltb (length bytes) (1 + count_len * n)) (More (1 + count_len * n)) (counted bytes) y few.1) [
+              | inl short ↦ absurd (told (1 + count_len * n) short.1)
+              | inr there ↦
+                  let enough = ltb-false (length bytes) (1 + count_len * n) there.0 in
+                  let few_all : ltb SITES (sites_of all) ≡ false = ap (λ (k : ℕ). ltb SITES k) same ∙ few.0 in
+                  let there_all : ltb (length all) (1 + count_len * sites_of all) ≡ false = le-ltb _ _ (omega (arith, enough, total, same)) in
+                  let section : count_len * n ≤ length (drop 1 bytes) = omega (arith, enough, length-drop 1 bytes) in
+                  let front : drop 1 all ≡ drop 1 bytes ++ more = drop-append-le 1 bytes more long in
+                  let text : take (count_len * n) (drop 1 all) ≡ take (count_len * n) (drop 1 bytes) = ap (take (count_len * n)) front ∙ take-append-le (count_len * n) (drop 1 bytes) more section in
+                  let left : drop (count_len * n) (drop 1 all) ≡ drop (count_len * n) (drop 1 bytes) ++ more = ap (drop (count_len * n)) front ∙ drop-append-le (count_len * n) (drop 1 bytes) more section in
+                  let good : counted all ≡ judge_counted (1 + count_len * n) (drop (count_len * n) (drop 1 bytes) ++ more) (counts_read bytes) =
+                  ap (λ (k : ℕ). judge_counted (1 + count_len * k) (drop (count_len * k) (drop 1 all)) (many count_at site_after k 0 (left_at 1 (take (count_len * k) (drop 1 all))))) same
+                  ∙ (ap (λ (t : List ℕ). judge_counted (1 + count_len * n) (drop (count_len * n) (drop 1 all)) (many count_at site_after n 0 (left_at 1 t))) text
+                  ∙ ap (λ (t : List ℕ). judge_counted (1 + count_len * n) t (counts_read bytes)) left) in
+                  cond-false _ _ _ some_all ∙ (cond-false _ _ _ few_all ∙ (cond-false _ _ _ there_all ∙ (good ∙ counted_stays (1 + count_len * n) (drop (count_len * n) (drop 1 bytes)) more (counts_read bytes) y told there.1)))
+            ]
+          ]
+    ]
+
+stray_bad : (c : ContextData) (stop : ℕ) (q : Unread) (r : Result (Unit {0}) Fault) → unless_stray c stop r ≡ Err q → (f : Fault) × (Bad f ≡ q) × (r ≡ Err f)
+stray_bad c stop q (Ok u) e = absurd (let no = e in cc)
+stray_bad c stop q (Err f) e = let same : Bad f ≡ q = cc in (f, same, refl)
+
+-- a fault of the undone names, or one that is no original
+entries_bad : (counts : List (ℕ × ℕ)) (begin stop : ℕ) (q : Unread) (r : Found (List (NameData × ℕ))) → judge_entries counts begin stop r ≡ Err q
+    → (f : Fault) × (Bad f ≡ q) × ((r ≡ Err f) ⊎ ((e : List (NameData × ℕ) × LeftData) × (r ≡ Ok e) × (stray_from (record { counts = counts; entries = e.0 }) begin e.0 ≡ Err f)))
+entries_bad counts begin stop q (Ok e) is =
+    let d : ContextData = record { counts = counts; entries = e.0 } in
+    let b = stray_bad d stop q (stray_from d begin e.0) is in
+    (b.0, b.1, inr (e, refl, b.2))
+entries_bad counts begin stop q (Err f) is = let same : Bad f ≡ q = cc in (f, same, inl refl)
+
+-- what an answer that refuses says of the offsets
+IsRefusedIn : ℕ → Unread → Type 0
+IsRefusedIn stop (More n) = stop < n
+IsRefusedIn stop (Bad f) = f.offset ≤ stop
+
+named_refused : (counts : List (ℕ × ℕ)) (at : ℕ) (bytes : List ℕ) (q : Unread) → IsBytes bytes → judge_named counts at bytes ≡ Err q → IsRefusedIn (at + length bytes) q
+unfolding judge_named entries_read IsRefusedIn
+named_refused counts at bytes q fits e =
+    let n = length_of bytes in
+    let stop = at + (4 + entry_len * n) in
+    let whole = judge_entries counts (at + 4) stop (entries_read bytes at) in
+    elim (stopped (ltb (length bytes) 4) (More (at + 4)) q (cond (ltb (length bytes) (4 + entry_len * n)) (Err (More stop)) whole) e) [
+      | inl here ↦ subst (IsRefusedIn (at + length bytes)) here.1 (omega (arith, ltb-true _ _ here.0))
+      | inr four ↦ elim (stopped (ltb (length bytes) (4 + entry_len * n)) (More stop) q whole four.1) [
+        | inl here ↦ subst (IsRefusedIn (at + length bytes)) here.1 (omega (arith, ltb-true _ _ here.0))
+        | inr there ↦
+            let enough = ltb-false _ _ there.0 in
+            let bad = entries_bad counts (at + 4) stop q (entries_read bytes at) there.1 in
+            let rest_fits = IsBytes-drop 4 bytes fits in
+            subst (IsRefusedIn (at + length bytes)) bad.1
+            (elim bad.2 [
+              | inl listed ↦
+                  let inside = section_faults entry_at name_of entry_bytes IsEntry entry_reads entry_len length-entries None n (at + 4) (drop 4 bytes) bad.0 rest_fits listed in
+                  omega (arith, inside, enough)
+              | inr stray ↦
+                  let section = entries_section n (at + 4) (drop 4 bytes) stray.0.0 stray.0.1 rest_fits (omega (arith, enough, length-drop 4 bytes)) stray.1 in
+                  let inside = stray_faults (record { counts = counts; entries = stray.0.0 }) (at + 4) stray.0.0 bad.0 stray.2 in
+                  omega (arith, inside, enough, section.2)
+            ])
+      ]
+    ]
+
+counted_refused : (n : ℕ) (bytes rest : List ℕ) (q : Unread) (r : Found (List (ℕ × ℕ))) → IsBytes rest → length bytes ≡ 1 + count_len * n + length rest → ((f : Fault) → r ≡ Err f → f.offset ≤ 1 + count_len * n)
+    → judge_counted (1 + count_len * n) rest r ≡ Err q → IsRefusedIn (length bytes) q
+unfolding IsRefusedIn
+counted_refused n bytes rest q (Ok x) fits long inside e =
+    let total : 1 + count_len * n + length rest ≡ length bytes = omega (arith, long) in
+    subst (λ (k : ℕ). IsRefusedIn k q) total (named_refused x.0 (1 + count_len * n) rest q fits e)
+counted_refused n bytes rest q (Err f) fits long inside e =
+    let same : Bad f ≡ q = cc in
+    subst (IsRefusedIn (length bytes)) same (omega (arith, long, inside f refl))
+
+state_refused : (bytes : List ℕ) (q : Unread) → IsBytes bytes → judge_state bytes ≡ Err q → IsRefusedIn (length bytes) q
+unfolding judge_state counts_read counted IsRefusedIn
+state_refused bytes q fits e =
+    let n = sites_of bytes in
+    let behind = cond (ltb (length bytes) (1 + count_len * n)) (Err (More (1 + count_len * n))) (counted bytes) in
+    elim (stopped (ltb (length bytes) 1) (More 1) q (cond (ltb SITES n) (Err (Bad (fault Range 0))) behind) e) [
+      | inl here ↦ subst (IsRefusedIn (length bytes)) here.1 (ltb-true _ _ here.0)
+      | inr some ↦ elim (stopped (ltb SITES n) (Bad (fault Range 0)) q behind some.1) [
+        | inl here ↦ subst (IsRefusedIn (length bytes)) here.1 (omega arith)
+        | inr few ↦ elim (stopped (ltb (length bytes) (1 + count_len * n)) (More (1 + count_len * n)) q (counted bytes) few.1) [
+          | inl here ↦ subst (IsRefusedIn (length bytes)) here.1 (ltb-true _ _ here.0)
+          | inr there ↦
+              let enough = ltb-false _ _ there.0 in
+              let front_fits = IsBytes-drop 1 bytes fits in
+              let rest = drop (count_len * n) (drop 1 bytes) in
+              let long : length bytes ≡ 1 + count_len * n + length rest = omega (arith, enough, length-drop 1 bytes, length-drop (count_len * n) (drop 1 bytes)) in
+              counted_refused n bytes rest q (counts_read bytes) (IsBytes-drop (count_len * n) (drop 1 bytes) front_fits) long
+              (λ f faulty. section_faults count_at site_after count_bytes IsCount count_reads count_len length-counts 0 n 1 (drop 1 bytes) f front_fits faulty) there.1
+        ]
+      ]
+    ]
+
+pub state_more : (bytes : List ℕ) (n : ℕ) → IsBytes bytes → judge_state bytes ≡ Err (More n) → length bytes < n
+unfolding IsRefusedIn
+state_more bytes n fits e = state_refused bytes (More n) fits e
+
+pub state_within : (bytes : List ℕ) (f : Fault) → IsBytes bytes → judge_state bytes ≡ Err (Bad f) → f.offset ≤ length bytes
+unfolding IsRefusedIn
+state_within bytes f fits e = state_refused bytes (Bad f) fits e
