@@ -132,7 +132,6 @@ impl Entries {
     pub fn share(&mut self)
         ensures { self.new.items ≡ self.old.items }
     {
-        self.settle();
         let alloc = match &self.list {
             EntryList::Own(list) if self.mark != 0 => list.allocator(),
             _ => return,
@@ -145,28 +144,6 @@ impl Entries {
             },
             EntryList::Shared(list) => EntryList::Shared(list),
         };
-    }
-
-    // Cuts the piece that was changed, where it has grown long.
-    fn settle(&mut self)
-        ensures { self.new.items ≡ self.old.items }
-    {
-        if let Some(list) = self.cut() {
-            self.list = EntryList::Own(list);
-        }
-    }
-
-    // The same entries without a long piece, if one has grown long and there is memory.
-    fn cut(&self) -> Option<Pieces>
-        ensures { IfSome result (λ p. p.items ≡ self.now.items) }
-    {
-        match &self.list {
-            EntryList::Own(list) if list.is_long() => match list.settled() {
-                Ok(list) => Some(list),
-                Err(_) => None,
-            },
-            _ => None,
-        }
     }
 
     /// Takes the list of `other` where that is shared and has the same entries; no entry comes or goes, and

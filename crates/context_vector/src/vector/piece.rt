@@ -9,7 +9,7 @@ use std::marker::Model;
 use std::rc::Rc;
 
 /// A longer list is cut into pieces of `CUT` entries.
-pub const LONGEST: usize = 64;
+const LONGEST: usize = 64;
 
 /// The number of entries in each piece of a list that is cut, but for the last: there is room to grow.
 const CUT: usize = 48;

@@ -7,7 +7,7 @@ ghost use lib.Pointwise.{pointwise};
 ghost use Rattle.context_vector.specs.Equality.{entry_eq};
 ghost use Rattle.context_vector.specs.Code.Pieces.{joined, NamesAbove, IsBetween, IsRun};
 
-use super::piece::{LONGEST, Piece, append, append_cut};
+use super::piece::{Piece, append, append_cut};
 use super::rising::{entry_among, place_of_name};
 use super::seats::{entry_in_pieces, piece_to_open, run_in_pieces, total_of};
 use op_name::{Memory, Name};
@@ -60,17 +60,13 @@ impl Pieces {
         *self.own.allocator()
     }
 
-    /// Whether the open piece is so long that it is cut where it becomes a piece.
-    pub fn is_long(&self) -> bool {
-        self.own.len() > LONGEST
-    }
-
     /// The number of entries.
     pub fn len(&self) -> usize
         requires { AreEntries self.now.items }
         ensures { result ≡ length self.now.items }
     {
-        total_of(self.before.as_slice()) + (self.own.as_slice().len() + total_of(self.after.as_slice()))
+        total_of(self.before.as_slice())
+            + (self.own.as_slice().len() + total_of(self.after.as_slice()))
     }
 
     /// The greatest generation of the name, 0 if it has no entry.
@@ -197,7 +193,10 @@ impl Pieces {
     {
         let mut all = Vec::with_capacity(
             self.allocator(),
-            self.before.len().saturating_add(self.after.len()).saturating_add(2),
+            self.before
+                .len()
+                .saturating_add(self.after.len())
+                .saturating_add(2),
         )?;
         append(&mut all, self.before.as_slice())?;
         append_cut(&mut all, self.own.as_slice())?;
@@ -246,7 +245,11 @@ impl Pieces {
 }
 
 // The entries from the i-th on in the open piece and those after it, as many as stand in one piece.
-fn run_from_open<'a>(own: &'a [(Name, u16)], after: &'a [Piece], i: usize) -> Option<&'a [(Name, u16)]>
+fn run_from_open<'a>(
+    own: &'a [(Name, u16)],
+    after: &'a [Piece],
+    i: usize,
+) -> Option<&'a [(Name, u16)]>
     ensures run { IfSome result (λ r. IsRun r.now (drop i (own.now ++ joined after.now))) }
     ensures none { IsNone result ↔ (length (own.now ++ joined after.now) ≤ i) }
 {
@@ -260,7 +263,13 @@ fn run_from_open<'a>(own: &'a [(Name, u16)], after: &'a [Piece], i: usize) -> Op
 }
 
 // The pieces with a copy of the list between them, in which the place of the name is, and a spare place.
-fn around(low: &[Piece], list: &[(Name, u16)], high: &[Piece], name: &Name, alloc: Global) -> Result<Pieces, Memory>
+fn around(
+    low: &[Piece],
+    list: &[(Name, u16)],
+    high: &[Piece],
+    name: &Name,
+    alloc: Global,
+) -> Result<Pieces, Memory>
     requires { IsBetween (joined low.now) (joined high.now) name.now }
     ensures items { IfOk result (λ p. p.items ≡ joined low.now ++ (list.now ++ joined high.now)) }
     ensures ready { IfOk result (λ p. p.ready ≡ Some name.now) }

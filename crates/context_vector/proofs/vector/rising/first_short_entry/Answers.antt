@@ -1,4 +1,4 @@
-use Rattle.std.proofs.Common.{◌≡◌, ◌≤◌, length, sym, ap, ◌∙◌, arith}
+use Rattle.std.proofs.Common.{length, sym, ap, ◌∙◌, arith}
 use Rattle.context_vector.specs.Contexts.{entry_in}
 use Rattle.context_vector.specs.Shortfalls.{first_short}
 use Rattle.context_vector.proofs.Entries.{length_at_most}
@@ -20,8 +20,7 @@ pub loop-run-preserved : goal.loop-run-preserved
 loop-run-preserved c =
     let had = entry_in c.args.mine.now.items in
     let run = c.in-Some.ensures.run in
-    let r = c.in-Some.run'.now in
-    (
+    let r = c.in-Some.run'.now in (
       run_fits r c.args.theirs.now.items c.loop-run.i (length r) run (omega arith),
       c.loop-run.invariant.1 ∙ (ap (first_short had) run.whole ∙ (short_past_run had r run.rest (sym c.first_short_name-short.ensures ∙ c.in_default-short.is) ∙ ap (first_short had) (sym (after_run r c.args.theirs.now.items c.loop-run.i run)))),
     )

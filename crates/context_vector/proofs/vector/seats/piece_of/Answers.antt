@@ -1,10 +1,8 @@
-use Rattle.std.proofs.Common.{◌≡◌, ◌+◌, ◌++◌, true, false, List, get_or, take, drop, length, sym, ap, subst, ◌∙◌, arith}
-use Rattle.std.specs.Prelude.{ℕ}
-use Rattle.op_name.specs.NameData.{NameData}
+use Rattle.std.proofs.Common.{◌+◌, ◌++◌, get_or, drop, sym, subst, arith}
 use Rattle.context_vector.specs.Contexts.{AreEntries}
 use Rattle.context_vector.specs.Vectors.{NamesBelow}
 use Rattle.context_vector.specs.Code.Pieces.{joined, NamesAbove}
-use Rattle.context_vector.proofs.Pieces.{above_none, below_further, entries_from, entries_left}
+use Rattle.context_vector.proofs.Pieces.{below_further, entries_from, entries_left}
 use Rattle.context_vector.proofs.vector.seats.piece_of.Goals as goal
 
 pub reaches-requires : goal.reaches-requires

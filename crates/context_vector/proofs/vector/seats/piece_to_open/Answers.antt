@@ -1,4 +1,4 @@
-use Rattle.std.proofs.Common.{◌≡◌, ◌-◌, sym, ap, ◌∙◌, arith}
+use Rattle.std.proofs.Common.{arith}
 use Rattle.context_vector.proofs.Pieces.{below_earlier}
 use Rattle.context_vector.proofs.vector.seats.piece_to_open.Goals as goal
 

@@ -1,8 +1,8 @@
-use Rattle.std.proofs.Common.{◌≡◌, ◌-◌, ◌<◌, suc, Bool, true, false, not, Some, List, length, sym, ap, subst, ◌∙◌, refl, arith}
+use Rattle.std.proofs.Common.{◌≡◌, ◌-◌, suc, Bool, true, false, not, Some, List, length, sym, ap, subst, ◌∙◌, refl, arith}
 use Rattle.std.specs.Prelude.{ℕ, slice_get}
 use Rattle.std.specs.Option.{option_copied}
 use Rattle.std.proofs.lemmas.Option.{slice_get_within}
-use Rattle.op_name.specs.NameData.{NameData, name_lt}
+use Rattle.op_name.specs.NameData.{NameData}
 use Rattle.context_vector.proofs.Pieces.{last_below, last_above}
 use Rattle.context_vector.proofs.vector.seats.reaches.Goals as goal
 

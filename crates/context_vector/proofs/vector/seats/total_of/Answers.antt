@@ -1,4 +1,4 @@
-use Rattle.std.proofs.Common.{◌≡◌, get_or, length, sym, ap, ◌∙◌, arith}
+use Rattle.std.proofs.Common.{◌≡◌, get_or, length, ap, ◌∙◌, arith}
 use Rattle.context_vector.proofs.Pieces.{total_further, total_within}
 use Rattle.context_vector.proofs.vector.seats.total_of.Goals as goal
 

@@ -1,5 +1,5 @@
-use Rattle.std.proofs.Common.{◌≡◌, ◌≤◌, ◌+◌, ◌-◌, subst, sym, ap, ◌∙◌, arith}
-use Rattle.context_vector.specs.Contexts.{entry_in, put_entry, AreEntries}
+use Rattle.std.proofs.Common.{◌≡◌, ◌+◌, ◌-◌, subst, sym, ap, ◌∙◌, arith}
+use Rattle.context_vector.specs.Contexts.{entry_in, AreEntries}
 use Rattle.context_vector.specs.Code.Pieces.{EntriesData}
 use Rattle.context_vector.specs.Code.Entries.{entries_of}
 use Rattle.context_vector.specs.Vectors.{lower_entry}

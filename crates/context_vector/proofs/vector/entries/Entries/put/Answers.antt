@@ -1,8 +1,7 @@
-use Rattle.std.proofs.Common.{◌≡◌, ◌≤◌, ◌+◌, ◌-◌, subst, sym, ap, ◌∙◌, arith}
+use Rattle.std.proofs.Common.{◌≡◌, ◌+◌, subst, sym, ap, ◌∙◌, arith}
 use Rattle.context_vector.specs.Contexts.{entry_in, put_entry, AreEntries}
 use Rattle.context_vector.specs.Code.Pieces.{EntriesData}
 use Rattle.context_vector.specs.Code.Entries.{entries_of}
-use Rattle.context_vector.specs.Vectors.{lower_entry}
 use Rattle.context_vector.specs.declared.vector.entries.EntryList.{EntryList}
 use Rattle.context_vector.specs.Marks.{weight, mark_of}
 use Rattle.context_vector.proofs.Marks.{weight_within, mark_below, mark_put}

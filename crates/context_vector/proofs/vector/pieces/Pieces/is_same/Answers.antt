@@ -1,7 +1,6 @@
-use Rattle.std.proofs.Common.{◌≡◌, ◌≤◌, length, take, drop, sym, ap, ◌∙◌, true, arith}
-use lib.Pointwise.{pointwise}
+use Rattle.std.proofs.Common.{◌≡◌, ◌≤◌, length, take, sym, ◌∙◌, arith}
 use mathlib.Core.Bool.{false≢true}
-use Rattle.context_vector.specs.Equality.{entry_eq, list_eq_decides}
+use Rattle.context_vector.specs.Equality.{list_eq_decides}
 use Rattle.context_vector.proofs.Entries.{length_at_most}
 use Rattle.context_vector.proofs.Pieces.{other_runs, run_fits, same_runs}
 use Rattle.context_vector.proofs.vector.pieces.Pieces.is_same.Goals as goal
@@ -27,8 +26,7 @@ loop-mine-preserved c =
     let short : n ≤ length r = omega (arith, c.split_at.ensures.back_len) in
     let short' : n ≤ length t = omega (arith, c.split_at-in-Some-run.ensures.back_len) in
     let fronts = (list_eq_decides c.split_at.result.0.now c.split_at-in-Some-run.result.0.now).0 (sym c.eq.ensures ∙ c.if-eq.true) in
-    let same : take n r ≡ take n t = sym c.split_at.ensures.front ∙ (fronts ∙ c.split_at-in-Some-run.ensures.front) in
-    (
+    let same : take n r ≡ take n t = sym c.split_at.ensures.front ∙ (fronts ∙ c.split_at-in-Some-run.ensures.front) in (
       run_fits r c.args.self.now.items i n c.in-Some.ensures.run short,
       c.loop-mine.invariant.1 ∙ same_runs n i c.args.self.now.items c.args.other.now.items r t c.in-Some.ensures.run c.in-Some-run.ensures.run short short' same,
     )

@@ -1,4 +1,4 @@
-use Rattle.std.proofs.Common.{◌≡◌, ◌+◌, ◌++◌, ◌∷◌, take, drop, sym, ap, subst, ◌∙◌}
+use Rattle.std.proofs.Common.{◌≡◌, ◌++◌, ◌∷◌, take, drop, sym, ap, subst, ◌∙◌}
 use Rattle.context_vector.specs.Vectors.{NamesBelow}
 use Rattle.context_vector.specs.Code.Pieces.{joined, NamesAbove}
 use Rattle.context_vector.proofs.Pieces.{joined_halves, ok_so, rest_after}
@@ -10,8 +10,7 @@ around-requires c =
     let all = c.as_slice.result.now in
     let same = c.as_slice-2.ensures.value ∙ sym c.as_slice.ensures.value in
     let low : c.split_at.result.0.now ≡ take at all = c.split_at.ensures.front ∙ ap (take at) same in
-    let high : drop at all ≡ c.in-Some.piece.now ∷ c.in-Some.others.now = sym (c.split_at.ensures.back ∙ ap (drop at) same) ∙ c.in-Some.ensures.cases.0 in
-    (
+    let high : drop at all ≡ c.in-Some.piece.now ∷ c.in-Some.others.now = sym (c.split_at.ensures.back ∙ ap (drop at) same) ∙ c.in-Some.ensures.cases.0 in (
       subst (λ ps. NamesBelow (joined ps) c.args.name.now) (sym low) c.piece_to_open-at.ensures.below,
       subst (λ ps. NamesAbove c.args.name.now (joined ps)) (rest_after all c.in-Some.others.now at c.in-Some.piece.now high) c.piece_to_open-at.ensures.above,
     )
