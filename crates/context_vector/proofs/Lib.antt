@@ -8,4 +8,5 @@ pub mod Sets
 pub mod Unions
 pub mod Rooms
 pub mod Marks
+pub mod Pieces
 pub mod CallerLemmas

@@ -1,5 +1,5 @@
 -- The mark of a list after each change of it.
-use Rattle.std.proofs.Common.{◌≡◌, ℕ, ◌+◌, ◌-◌, ◌*◌, ◌/◌, ◌<◌, ◌≤◌, ◌^◌, ◌≢◌, Bool, true, false, not, List, [], ◌∷◌, ◌++◌, length, if◌then◌else◌, refl, sym, ap, subst, ◌∙◌, inl, inr, arith}
+use Rattle.std.proofs.Common.{◌≡◌, ℕ, ◌+◌, ◌-◌, ◌*◌, ◌/◌, ◌<◌, ◌≤◌, ◌^◌, ◌≢◌, Bool, true, false, not, List, [], ◌∷◌, ◌++◌, length, refl, sym, ap, subst, ◌∙◌, inl, inr, arith}
 use Rattle.std.proofs.lemmas.Bool.{cases_order, eq-eqb, ne_eqb}
 use Rattle.std.proofs.lemmas.Nat.{mod_below, shr_below}
 use Rattle.op_name.specs.NameData.{NameData, name_eq, name_lt}
@@ -88,10 +88,6 @@ marks_differ es fs differ =
       | false ↦ λ e. refl
     ] refl
 
-not_false : (b : Bool) → false ≡ not b → b ≡ true
+pub not_false : (b : Bool) → false ≡ not b → b ≡ true
 not_false true e = refl
 not_false false e = e
-
--- lists that the test doesn't tell apart are the same
-pub same_entries : (es fs : List (NameData × ℕ)) → false ≡ not (pointwise entry_eq es fs) → es ≡ fs
-same_entries es fs e = (list_eq_decides es fs).0 (not_false _ e)

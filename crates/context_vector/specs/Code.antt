@@ -1,4 +1,5 @@
 -- Words that only the contracts of private functions use.
 pub mod Places
 pub mod Lists
+pub mod Pieces
 pub mod Entries

@@ -1,16 +1,17 @@
 -- Vectors as contracts see them: a context beside the room that its lists have left, and what the calls do to the context.
-use Rattle.std.specs.Prelude.{◌≡◌, ℕ, ◌+◌, ◌-◌, ◌<◌, ◌≤◌, Bool, true, false, List, [], ◌∷◌, ◌==◌, ◌&&◌, nat_le, if◌then◌else◌}
+use Rattle.std.specs.Prelude.{◌≡◌, ℕ, ◌+◌, ◌-◌, ◌<◌, ◌≤◌, Bool, true, false, Option, Some, List, [], ◌∷◌, ◌==◌, ◌&&◌, nat_le, if◌then◌else◌}
 use Rattle.op_name.specs.declared.member.Member.{Member}
 use Rattle.op_name.specs.declared.member.Member.TheVariants.{Original, Group}
 use Rattle.op_name.specs.NameData.{NameData, name_eq, name_lt}
 use Rattle.op_name.specs.Members.{member_lt}
 use Rattle.context_vector.specs.Contexts.{ContextData, count_of, entry_of, has, put_count, put_entry}
 
--- the spare places of the two lists, and whether that of the entries is the vector's own, so that it may be changed in place
+-- the spare places of the counts, and those of the part of the entries that may be changed in place, with the name whose place is
+-- in that part
 pub record Room : Type 0 where
   pub counts : ℕ
   pub entries : ℕ
-  pub own : Bool
+  pub ready : Option NameData
 
 -- a set of members, and room for more
 pub record VectorData : Type 0 where
@@ -18,10 +19,10 @@ pub record VectorData : Type 0 where
   pub room : Room
 
 -- the member can be added or taken out without memory: its site or name is there, or there is a spare place for it, and the
--- list in which a name is changed is the vector's own
+-- part of the list in which a name has its place may be changed in place
 abbrev pub HasRoomFor : VectorData → Member → Type 0
 HasRoomFor v (Original n) = count_of v.set n.site ≡ 0 → 1 ≤ v.room.counts
-HasRoomFor v (Group n g) = (v.room.own ≡ true) × (entry_of v.set n ≡ 0 → 1 ≤ v.room.entries)
+HasRoomFor v (Group n g) = (v.room.ready ≡ Some n) × (entry_of v.set n ≡ 0 → 1 ≤ v.room.entries)
 
 -- the member is the last of its site or its name
 abbrev pub IsLastMember : ContextData → Member → Type 0

@@ -15,7 +15,10 @@ mod changes;
 mod entries;
 mod equality;
 mod marks;
+mod piece;
+mod pieces;
 mod rising;
+mod seats;
 
 /// A set of members, closed downwards: with an original all earlier ones of its site, with an undo group all
 /// lower generations of its name (COT 2009 calls it a context).
@@ -38,7 +41,7 @@ impl Model for Vector {
 
     ghost view = { λ v. record {
       set = record { counts = v.counts.items; entries = v.entries.items };
-      room = record { counts = v.counts.capacity - length v.counts.items; entries = v.entries.spare; own = v.entries.own };
+      room = record { counts = v.counts.capacity - length v.counts.items; entries = v.entries.spare; ready = v.entries.ready };
     } };
 
     ghost invariant = { λ v. IsContext (record { counts = v.counts.items; entries = v.entries.items }) };
@@ -97,6 +100,8 @@ impl Vector {
     pub fn share_with(&mut self, other: &Vector)
         ensures { self.new.set ≡ self.old.set }
     {
+        self.known();
+        other.known();
         self.entries.share_with(&other.entries);
     }
 
@@ -121,7 +126,7 @@ impl Vector {
         ensures { result ≡ entry_of self.now.set name.now }
     {
         self.known();
-        rising::entry_among(self.named(), name)
+        self.entries.entry(name)
     }
 
     /// Whether the member is in the set.
@@ -159,10 +164,10 @@ impl Vector {
         if let Some((site, number)) = original {
             return Some(Member::Original(Name { site, number }));
         }
-        if self.entries == other.entries {
+        if self.entries.is_same(&other.entries) {
             return None;
         }
-        let group = rising::first_short_name(self.named(), other.named());
+        let group = rising::first_short_entry(&self.entries, &other.entries);
         if let Some(group) = group {
             return Some(Member::Group(group.0, group.1));
         }
@@ -184,14 +189,17 @@ impl Vector {
         ensures range { result ≤ SITES * NUMBERS }
     {
         self.known();
-        self.named().len() as u32
+        self.entries.len() as u32
     }
 
     /// The i-th undone name, in the order of names, with its greatest generation; None exactly past the end.
     pub fn entry_at(&self, i: u32) -> Option<(Name, u16)>
         ensures { result ≡ slice_get self.now.set.entries i }
     {
-        self.named().get(i as usize).copied()
+        match self.entries.run(i as usize) {
+            Some(run) => run.first().copied(),
+            None => None,
+        }
     }
 
     /// The number of sites that have originals in the set. Readers of a vector's listing use it.
@@ -218,10 +226,10 @@ impl Vector {
         self.counts.as_slice()
     }
 
-    /// Each undone name with its greatest generation, in the order of names.
-    pub fn named(&self) -> &[(Name, u16)]
-        ensures { result.now ≡ self.now.set.entries }
+    /// A copy of the list of undone names, each with its greatest generation, in the order of names.
+    pub fn named(&self) -> Result<Vec<(Name, u16)>, Memory>
+        ensures { IfOk result (λ v. v.items ≡ self.now.set.entries) }
     {
-        self.entries.as_slice()
+        self.entries.to_vec()
     }
 }

@@ -174,13 +174,13 @@ fn put_counts(out: &mut Vec<u8>, context: &Vector)
     put_each_count(out, context.counts());
 }
 
-fn put_entries(out: &mut Vec<u8>, context: &Vector)
-    requires room { HasRoom out.old (2 + entry_len * length context.now.set.entries) }
-    requires few { length context.now.set.entries ≤ UNDO_ENTRIES }
-    ensures { Puts out.old out.new (entries_bytes context.now.set.entries) }
+fn put_entries(out: &mut Vec<u8>, entries: &[(Name, u16)])
+    requires room { HasRoom out.old (2 + entry_len * length entries.now) }
+    requires few { length entries.now ≤ UNDO_ENTRIES }
+    ensures { Puts out.old out.new (entries_bytes entries.now) }
 {
-    put(out, &(context.entries() as u16).to_be_bytes());
-    put_each_entry(out, context.named());
+    put(out, &(entries.len() as u16).to_be_bytes());
+    put_each_entry(out, entries);
 }
 
 #[tactic(auto, using(crate::proofs::Sizes::body_size))]
@@ -200,12 +200,13 @@ pub fn encode(op: &Op, out: &mut Vec<u8>) -> Result<(), Memory>
     ensures ok { OnOk result (out.new.items ≡ out.old.items ++ frame (data_of op.now)) }
     ensures err { OnErr result (out.new.items ≡ out.old.items) }
 {
+    let entries = op.context().named()?;
     let body = body_len(op);
     out.reserve(4 + body as usize)?;
     put(out, &body.to_be_bytes());
     put_head(out, head_of(op));
     put_counts(out, op.context());
-    put_entries(out, op.context());
+    put_entries(out, entries.as_slice());
     Ok(())
 }
 

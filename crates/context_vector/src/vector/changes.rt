@@ -52,11 +52,8 @@ impl Vector {
                 }
             }
             Member::Group(name, _) => {
-                if self.entry(name) == 0 {
-                    self.entries.reserve()?;
-                } else {
-                    self.entries.own()?;
-                }
+                self.known();
+                self.entries.reserve(name)?;
             }
         }
         Ok(())
@@ -116,7 +113,7 @@ impl Vector {
         other.known();
         let mut union = self.try_clone()?;
         union.raise_sites(other.counts())?;
-        union.raise_names(other.named())?;
+        union.raise_names(other.named()?.as_slice())?;
         *self = union;
         Ok(())
     }
@@ -145,9 +142,7 @@ impl Vector {
     {
         name.known();
         self.known();
-        self.entries.reserve()?;
-        self.entries.push(name, generation);
-        Ok(())
+        self.entries.push(name, generation)
     }
 
     // Adds all originals that the counts tell.
@@ -177,7 +172,7 @@ impl Vector {
         requires member { IsMember m.now }
         requires room { HasRoomFor self.old m.now }
         ensures added { self.new.set ≡ raised self.old.set m.now }
-        ensures own { self.old.room.own ≡ true → self.new.room.own ≡ true }
+        ensures ready { self.new.room.ready ≡ self.old.room.ready }
     {
         match m {
             Member::Original(name) => put_site(&mut self.counts, name.site, name.number),

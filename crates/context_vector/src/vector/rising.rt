@@ -6,6 +6,7 @@ ghost use Rattle.op_name.specs.NameData.{name_lt};
 ghost use Rattle.context_vector.specs.Shortfalls.{first_short};
 ghost use Rattle.context_vector.specs.Code.Places.{IsPlace, IsGap};
 
+use super::entries::Entries;
 use op_name::{NUMBERS, Name, SITES};
 
 /// Where the pair of the site stands, or where it would go.
@@ -65,13 +66,29 @@ pub fn first_short_site(mine: &[(u16, u32)], theirs: &[(u16, u32)]) -> Option<(u
 }
 
 /// The first name of which `theirs` go higher than `mine`, with the least generation that `mine` lack.
-pub fn first_short_name(mine: &[(Name, u16)], theirs: &[(Name, u16)]) -> Option<(Name, u16)>
-    requires mine { AreEntries mine.now }
-    requires theirs { AreEntries theirs.now }
-    ensures { result ≡ first_short (entry_in mine.now) theirs.now }
+pub fn first_short_entry(mine: &Entries, theirs: &Entries) -> Option<(Name, u16)>
+    requires mine { AreEntries mine.now.items }
+    requires theirs { AreEntries theirs.now.items }
+    ensures { result ≡ first_short (entry_in mine.now.items) theirs.now.items }
+{
+    let mut i = 0;
+    while let Some(run) = theirs.run(i) {
+        let short = first_short_name(mine, run);
+        if let Some(found) = short {
+            return Some(found);
+        }
+        i += run.len();
+    }
+    None
+}
+
+// The same where `theirs` are a list.
+fn first_short_name(mine: &Entries, theirs: &[(Name, u16)]) -> Option<(Name, u16)>
+    requires { AreEntries mine.now.items }
+    ensures { result ≡ first_short (entry_in mine.now.items) theirs.now }
 {
     for &(name, greatest) in theirs {
-        let had = entry_among(mine, &name);
+        let had = mine.entry(&name);
         if had < greatest {
             return Some((name, had + 1));
         }

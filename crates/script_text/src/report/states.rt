@@ -18,13 +18,21 @@ pub fn state_line(site: u16, have: &Vector, waiting: u32, out: &mut Vec<u8>) -> 
     ensures ok { OnOk result (out.new.items ≡ out.old.items ++ state_text site have.now.set waiting) }
     ensures err { OnErr result (out.new.items ≡ out.old.items) }
 {
+    let groups = have.named()?;
     let start = out.len();
-    let done = state_parts(site, have, waiting, out);
+    let done = state_parts(site, have, groups.as_slice(), waiting, out);
     put::take_back(out, start, done)
 }
 
 // The same, but a refused call may leave some of it after what `out` held.
-fn state_parts(site: u16, have: &Vector, waiting: u32, out: &mut Vec<u8>) -> Result<(), Memory>
+fn state_parts(
+    site: u16,
+    have: &Vector,
+    groups: &[(Name, u16)],
+    waiting: u32,
+    out: &mut Vec<u8>,
+) -> Result<(), Memory>
+    requires { groups.now ≡ have.now.set.entries }
     ensures ok { OnOk result (out.new.items ≡ out.old.items ++ state_text site have.now.set waiting) }
     ensures err { OnErr result (take (length out.old.items) out.new.items ≡ out.old.items) }
 {
@@ -32,7 +40,7 @@ fn state_parts(site: u16, have: &Vector, waiting: u32, out: &mut Vec<u8>) -> Res
     put::text(out, b" have ")?;
     put_counts(have.counts(), out)?;
     put::text(out, b" groups ")?;
-    put_groups(have.named(), out)?;
+    put_groups(groups, out)?;
     put::number(out, b" waiting ", u64::from(waiting))?;
     put::text(out, b"\n")
 }

@@ -1,5 +1,6 @@
-use Rattle.std.proofs.Common.{◌≡◌, Some, None, refl, sym, ap, ◌∙◌}
+use Rattle.std.proofs.Common.{◌≡◌, ℕ, List, Some, None, refl, sym, ap, ◌∙◌}
 use mathlib.Core.Bool.{false≢true}
+use Rattle.op_name.specs.NameData.{NameData}
 use Rattle.context_vector.specs.Contexts.{count_in, entry_in}
 use Rattle.context_vector.specs.Equality.{list_eq_decides}
 use Rattle.context_vector.specs.Shortfalls.{first_short}
@@ -30,15 +31,18 @@ no_site c =
     let walked = rw (c.counts.ensures, c.counts-2.ensures) at c.first_short_site-original.ensures in
     sym walked ∙ c.in_default.is
 
+-- the same walk, over the entries as they are kept
+walked : (es fs : List (NameData × ℕ)) (v w : VectorData) → es ≡ v.set.entries → fs ≡ w.set.entries → first_short (entry_in es) fs ≡ first_short (entry_in v.set.entries) w.set.entries
+walked es fs v w mine theirs = ap (λ xs. first_short (entry_in xs) fs) mine ∙ ap (λ xs. first_short (entry_in v.set.entries) xs) theirs
+
 short_name : (c : goal.In-Some-group) → first_short (entry_in c.args.self.now.set.entries) c.args.other.now.set.entries ≡ Some c.in-Some-group.group
 short_name c =
-    let walked = rw (c.named.ensures, c.named-2.ensures) at c.first_short_name-group.ensures in
-    sym walked ∙ c.in-Some-group.is
+    sym (walked c.self.inside.entries.items c.other.inside.entries.items c.args.self.now c.args.other.now (ap (λ (v : VectorData). v.set.entries) c.self.view_is) (ap (λ (v : VectorData). v.set.entries) c.other.view_is)) ∙ (sym c.first_short_entry-group.ensures ∙ c.in-Some-group.is)
 
-pub returns-then-eq-clause-none : goal.returns-then-eq-clause-none
-returns-then-eq-clause-none c =
+pub returns-then-is_same-clause-none : goal.returns-then-is_same-clause-none
+returns-then-is_same-clause-none c =
     let sites = rw (c.counts.ensures, c.counts-2.ensures) at c.first_short_site-original.ensures in
-    let one = (list_eq_decides c.self.inside.entries.items c.other.inside.entries.items).0 (sym c.eq.ensures ∙ c.if-eq.true) in
+    let one = (list_eq_decides c.self.inside.entries.items c.other.inside.entries.items).0 (sym c.is_same.ensures ∙ c.if-is_same.true) in
     let same : c.args.self.now.set.entries ≡ c.args.other.now.set.entries =
     sym (ap (λ (v : VectorData). v.set.entries) c.self.view_is) ∙ (one ∙ ap (λ (v : VectorData). v.set.entries) c.other.view_is) in
     let within = no_group_missing c.args.self.now.set c.args.other.now.set (sym sites ∙ c.in_default.is) same in
@@ -60,6 +64,6 @@ returns-in-Some-group-clause-range c =
 pub returns-clause-none : goal.returns-clause-none
 returns-clause-none c =
     let sites = rw (c.counts.ensures, c.counts-2.ensures) at c.first_short_site-original.ensures in
-    let names = rw (c.named.ensures, c.named-2.ensures) at c.first_short_name-group.ensures in
-    let within = none_missing c.args.self.now.set c.args.other.now.set (sym sites ∙ c.in_default.is) (sym names ∙ c.in_default-group.is) in
+    let names = walked c.self.inside.entries.items c.other.inside.entries.items c.args.self.now c.args.other.now (ap (λ (v : VectorData). v.set.entries) c.self.view_is) (ap (λ (v : VectorData). v.set.entries) c.other.view_is) in
+    let within = none_missing c.args.self.now.set c.args.other.now.set (sym sites ∙ c.in_default.is) (sym names ∙ (sym c.first_short_entry-group.ensures ∙ c.in_default-group.is)) in
     (λ e. within, λ h. refl)

@@ -1,6 +1,7 @@
-use Rattle.std.proofs.Common.{◌≡◌, ◌≤◌, ◌+◌, ◌-◌, subst, sym, ap, ◌∙◌, arith}
-use Rattle.context_vector.specs.Contexts.{entry_in, put_entry, AreEntries}
-use Rattle.context_vector.specs.Code.Entries.{EntriesData, entries_of}
+use Rattle.std.proofs.Common.{◌≡◌, ◌+◌, ◌-◌, subst, sym, ap, ◌∙◌, arith}
+use Rattle.context_vector.specs.Contexts.{entry_in, AreEntries}
+use Rattle.context_vector.specs.Code.Pieces.{EntriesData}
+use Rattle.context_vector.specs.Code.Entries.{entries_of}
 use Rattle.context_vector.specs.Vectors.{lower_entry}
 use Rattle.context_vector.specs.declared.vector.entries.EntryList.{EntryList}
 use Rattle.context_vector.specs.Marks.{weight, mark_of}
@@ -35,4 +36,4 @@ invariant_of-self c =
     let rising = subst AreEntries same c.requires.rising in
     let had : c.weight.result ≡ weight n (entry_in es n) = c.weight.ensures.weight ∙ ap (weight n) (c.requires.last ∙ ap (λ xs. entry_in xs n) same) in
     let next : mark_of (lower_entry n c.args.generation es) + weight n (entry_in es n) ≡ mark_of es + weight n (c.args.generation - 1) = mark_lower n c.args.generation es rising c.requires.least in
-    rw c.lower_name.ensures (omega (arith, had, is, weight_within n es, next, c.weight-2.ensures.weight))
+    rw c.lower.ensures.items (omega (arith, had, is, weight_within n es, next, c.weight-2.ensures.weight))

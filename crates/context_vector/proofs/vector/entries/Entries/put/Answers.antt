@@ -1,7 +1,7 @@
-use Rattle.std.proofs.Common.{◌≡◌, ◌≤◌, ◌+◌, ◌-◌, subst, sym, ap, ◌∙◌, arith}
+use Rattle.std.proofs.Common.{◌≡◌, ◌+◌, subst, sym, ap, ◌∙◌, arith}
 use Rattle.context_vector.specs.Contexts.{entry_in, put_entry, AreEntries}
-use Rattle.context_vector.specs.Code.Entries.{EntriesData, entries_of}
-use Rattle.context_vector.specs.Vectors.{lower_entry}
+use Rattle.context_vector.specs.Code.Pieces.{EntriesData}
+use Rattle.context_vector.specs.Code.Entries.{entries_of}
 use Rattle.context_vector.specs.declared.vector.entries.EntryList.{EntryList}
 use Rattle.context_vector.specs.Marks.{weight, mark_of}
 use Rattle.context_vector.proofs.Marks.{weight_within, mark_below, mark_put}
@@ -14,7 +14,7 @@ overflow_sub-self c =
     let same : c.args.self.now.items ≡ es = sym (ap (λ (e : EntriesData). e.items) c.self.view_is) ∙ ap (λ (l : EntryList). (entries_of l).items) c.in-Own.is in
     let is : c.self.inside.mark ≡ mark_of es = c.self.invariant ∙ ap (λ (l : EntryList). mark_of (entries_of l).items) c.in-Own.is in
     let rising = subst AreEntries same c.requires.rising in
-    let had : c.weight-had.result ≡ weight n (entry_in es n) = c.weight-had.ensures.weight ∙ ap (weight n) (c.entry_among.ensures ∙ ap (λ xs. entry_in xs n) (c.as_slice.ensures ∙ same)) in
+    let had : c.weight-had.result ≡ weight n (entry_in es n) = c.weight-had.ensures.weight ∙ ap (weight n) (c.entry.ensures ∙ ap (λ xs. entry_in xs n) same) in
     omega (arith, had, is, weight_within n es)
 
 pub overflow_add-self : goal.overflow_add-self
@@ -33,6 +33,6 @@ invariant_of-self c =
     let same : c.args.self.now.items ≡ es = sym (ap (λ (e : EntriesData). e.items) c.self.view_is) ∙ ap (λ (l : EntryList). (entries_of l).items) c.in-Own.is in
     let is : c.self.inside.mark ≡ mark_of es = c.self.invariant ∙ ap (λ (l : EntryList). mark_of (entries_of l).items) c.in-Own.is in
     let rising = subst AreEntries same c.requires.rising in
-    let had : c.weight-had.result ≡ weight n (entry_in es n) = c.weight-had.ensures.weight ∙ ap (weight n) (c.entry_among.ensures ∙ ap (λ xs. entry_in xs n) (c.as_slice.ensures ∙ same)) in
+    let had : c.weight-had.result ≡ weight n (entry_in es n) = c.weight-had.ensures.weight ∙ ap (weight n) (c.entry.ensures ∙ ap (λ xs. entry_in xs n) same) in
     let next : mark_of (put_entry n c.args.generation es) + weight n (entry_in es n) ≡ mark_of es + weight n c.args.generation = mark_put n c.args.generation es rising in
-    rw c.put_name.ensures (omega (arith, had, is, weight_within n es, next, c.weight.ensures.weight))
+    rw c.put.ensures.items (omega (arith, had, is, weight_within n es, next, c.weight.ensures.weight))

@@ -2,7 +2,7 @@ use Rattle.std.proofs.Common.{subst, ◌∙◌, arith}
 use Rattle.context_vector.specs.Code.Places.{IsPlace, IsGap}
 use Rattle.op_name.specs.NameData.{name_lt}
 use Rattle.context_vector.proofs.Entries.{entry_in_gap, lower_at_place, remove_at_place}
-use Rattle.context_vector.proofs.vector.entries.lower_name.Goals as goal
+use Rattle.context_vector.proofs.vector.pieces.lower_name.Goals as goal
 
 -- a name with a generation has its entry
 pub unreachable-requires : goal.unreachable-requires

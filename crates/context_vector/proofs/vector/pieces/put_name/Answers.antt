@@ -2,7 +2,7 @@ use Rattle.std.proofs.Common.{subst, ◌∙◌, arith}
 use Rattle.context_vector.specs.Code.Places.{IsPlace, IsGap}
 use Rattle.op_name.specs.NameData.{name_lt}
 use Rattle.context_vector.proofs.Entries.{entry_in_gap, put_in_gap, put_at_place}
-use Rattle.context_vector.proofs.vector.entries.put_name.Goals as goal
+use Rattle.context_vector.proofs.vector.pieces.put_name.Goals as goal
 
 -- the room was made for a name that is not there
 pub unreachable-requires : goal.unreachable-requires
