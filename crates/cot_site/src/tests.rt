@@ -3,9 +3,11 @@
 mod calls;
 mod forms;
 mod laws;
+mod made;
 mod memory;
 mod odd;
 mod orders;
+mod rows;
 mod sessions;
 mod steps;
 
