@@ -53,11 +53,15 @@ command_formed sites messages now d i op x y w seen within formed pushed last ag
     let same : w ≡ y = read_back sites i w y (site_within sites messages d i seen within) again in
     made_formed messages now op x y formed pushed last (subst (λ (s : SiteData). IsValid s.history) same valid)
 
+-- the states of the sites, where that of one is as it was
+pub same_states : (sites : List SiteData) (i : ℕ) (x y : SiteData) → x ≡ slice_index_or sites i x → state_of y ≡ state_of x → map state_of (set sites i y) ≡ map state_of sites
+same_states sites i x y is same =
+    map-set state_of sites i y ∙ ap (λ s. set (map state_of sites) i s) same ∙ sym (map-set state_of sites i x) ∙ ap (λ s. map state_of (set sites i s)) is ∙ ap (map state_of) (set-get_or sites i x)
+
 -- a refused command left the session as it was
 pub refused_same : (sites : List SiteData) (messages now : List Op) (d : SessionData) (i : ℕ) (x y : SiteData) → session_of sites messages ≡ d → x ≡ slice_index_or sites i x → state_of y ≡ state_of x → now ≡ messages → session_of (set sites i y) now ≡ d
 refused_same sites messages now d i x y seen is same kept =
-    let states : map state_of (set sites i y) ≡ map state_of sites = map-set state_of sites i y ∙ ap (λ s. set (map state_of sites) i s) same ∙ sym (map-set state_of sites i x) ∙ ap (λ s. map state_of (set sites i s)) is ∙ ap (map state_of) (set-get_or sites i x) in
-    ap (λ (xs : List State). record { sites = xs; messages = map data_of now }) states ∙ ap (session_of sites) kept ∙ seen
+    ap (λ (xs : List State). record { sites = xs; messages = map data_of now }) (same_states sites i x y is same) ∙ ap (session_of sites) kept ∙ seen
 
 refusal_is : (r : Result OpData Local) (why : Local) → IsAnswer r (Err why) → why ≢ local.Memory → r ≡ Err why
 refusal_is r (local.PlaceOut p v) h other = h

@@ -21,3 +21,5 @@ mod Making
 mod Tallies
 mod Rounds
 mod Needed
+pub mod Knowing
+pub mod Noting

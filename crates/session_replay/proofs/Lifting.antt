@@ -94,7 +94,7 @@ given_done result d sites messages i many o x y old new seen within is h =
 
 -- ---- messages in memory
 
-message_at : (messages : List Op) (n : ℕ) (m : Op) → n < length messages → m ≡ slice_index_or messages n m → slice_get (map data_of messages) n ≡ Some (data_of m)
+pub message_at : (messages : List Op) (n : ℕ) (m : Op) → n < length messages → m ≡ slice_index_or messages n m → slice_get (map data_of messages) n ≡ Some (data_of m)
 message_at [] n m within is = absurd (omega (arith, within))
 message_at (x ∷ xs) zero m within is = ap (λ (p : Op). Some (data_of p)) (sym is)
 message_at (x ∷ xs) (suc n) m within is = message_at xs n m (omega arith) is
@@ -130,7 +130,7 @@ made_here result d i o now old new h =
     let up = lifted result d.sites ms i (settling (op_text (length d.messages) o) s) s now old new h in
     from_any result d (session_at d.sites ms i s) _ _ (session_at d.sites ms i now) old new refl up
 
-set_twice : {X : Type 0} (xs : List X) (i : ℕ) (x y : X) → set (set xs i x) i y ≡ set xs i y
+pub set_twice : {X : Type 0} (xs : List X) (i : ℕ) (x y : X) → set (set xs i x) i y ≡ set xs i y
 set_twice [] zero x y = refl
 set_twice [] (suc i) x y = refl
 set_twice (z ∷ zs) zero x y = refl

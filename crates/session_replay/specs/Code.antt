@@ -2,3 +2,4 @@
 pub mod Doing
 pub mod Endings
 pub mod Drawing
+pub mod Knowing

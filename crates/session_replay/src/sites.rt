@@ -1,6 +1,6 @@
 //! The sites of a session and their messages.
 
-ghost use Rattle.std.specs.Prelude.{◌≡◌, ◌≢◌, ◌++◌, ◌<◌, ◌≤◌, ℕ, IsTrue, OnOk, IfErr, IfOk, IfSome, length, map, nat_lt, slice_index};
+ghost use Rattle.std.specs.Prelude.{◌≡◌, ◌≢◌, ◌++◌, ◌<◌, ◌≤◌, ℕ, [], IsTrue, OnOk, IfErr, IfOk, IfSome, length, map, nat_lt, slice_index};
 ghost use Rattle.std.specs.Char.{IsScalar};
 ghost use Rattle.std.specs.Str.{all_scalars};
 ghost use Rattle.cot_site.specs.Sites.{state_of};
@@ -9,6 +9,7 @@ ghost use Rattle.session_replay.specs.Answers.{IsDone, HasStep};
 ghost use Rattle.session_replay.specs.LineSteps.{line_steps, commanded, at_site_of, steps_there, opening, AreValues};
 ghost use Rattle.session_replay.specs.Code.Doing.{IsPlace, IsLineDone, as_step, local_of};
 ghost use Rattle.session_replay.specs.Sessions.{unstarted, opened, new_sites, site_at};
+ghost use Rattle.session_replay.specs.Code.Knowing.{AreKnown};
 ghost use Rattle.session_replay.specs.Generating.{counts_of};
 ghost use Rattle.session_replay.specs.declared.generator.TheConstants.{MAX_EVENTS};
 ghost use Rattle.script_text.specs.declared.reading.line.Line.TheVariants.{Sync};
@@ -31,9 +32,13 @@ mod shows;
 
 /// The sites of a script, none before it makes them, and the messages, numbered from 0, that their local
 /// operations became.
+///
+/// Beside each site stands how many of the first messages it is known to have while none of its operations is
+/// ready: among many deliveries, theirs would tell nothing and change nothing, so they are passed over.
 #[derive(Drop)]
 pub(crate) struct Sites {
     sites: Vec<Site>,
+    known: Vec<usize>,
     messages: Vec<Op>,
 }
 
@@ -42,12 +47,13 @@ impl Model for Sites {
     ghost use Rattle.context_diff.specs.Ops.{data_of};
     ghost use Rattle.cot_site.specs.Sites.{AllFormed, state_of};
     ghost use Rattle.session_replay.specs.Sessions.{SessionData};
+    ghost use Rattle.session_replay.specs.Code.Knowing.{AreKnown};
 
     ghost Value = { SessionData };
 
     ghost view = { λ s. record { sites = map state_of s.sites.items; messages = map data_of s.messages.items } };
 
-    ghost invariant = { λ s. AllFormed (map data_of s.messages.items) };
+    ghost invariant = { λ s. AllFormed (map data_of s.messages.items) × AreKnown (map state_of s.sites.items) s.known.items (map data_of s.messages.items) };
 }
 
 impl Sites {
@@ -57,6 +63,7 @@ impl Sites {
     {
         Sites {
             sites: Vec::new(alloc),
+            known: Vec::new(alloc),
             messages: Vec::new(alloc),
         }
     }
@@ -66,9 +73,11 @@ impl Sites {
         requires { count ≤ SITES }
         ensures { IfOk result (λ s. s ≡ opened count) }
     {
+        let known = none_known(alloc, count)?;
         match new_sites(alloc, count) {
             Ok(sites) => Ok(Sites {
                 sites,
+                known,
                 messages: Vec::new(alloc),
             }),
             Err(memory) => Err(memory),
@@ -205,10 +214,9 @@ impl Sites {
         if count > SITES {
             return Err(StepBad::NoSite);
         }
-        match new_sites(*self.sites.allocator(), count) {
-            Ok(sites) => {
-                self.sites = sites;
-                self.messages.clear();
+        match Sites::opened(*self.sites.allocator(), count) {
+            Ok(opened) => {
+                *self = opened;
                 Ok(())
             }
             Err(_) => Err(StepBad::Memory),
@@ -233,6 +241,16 @@ fn new_sites(alloc: Global, count: u16) -> Result<Vec<Site>, Memory>
         }
     }
     Ok(sites)
+}
+
+// That no message is known to be at any of so many sites.
+fn none_known(alloc: Global, count: u16) -> Result<Vec<usize>, Memory>
+    ensures { IfOk result (λ known. AreKnown (new_sites 0 count) known.items []) }
+{
+    match vec![in alloc; 0usize; count as usize] {
+        Ok(known) => Ok(known),
+        Err(_) => Err(Memory),
+    }
 }
 
 // Whether steps of a line were done.

@@ -13,6 +13,7 @@ ghost use Rattle.session_replay.specs.Code.Doing.{AreDone, local_of};
 
 use crate::releases::tell_made;
 use crate::sites::Sites;
+use crate::sites::deliveries::still_known;
 use context_diff::Op;
 use cot_site::{Local, Site};
 use op_name::{Memory, Name};
@@ -76,6 +77,7 @@ impl Sites {
                 let number = self.messages.len() as u32;
                 let told = tell_made(alloc, number, &op, &mut self.sites[at], out);
                 self.messages.push_reserved(op);
+                self.known[at] = still_known(&told, self.known[at]);
                 match told {
                     Ok(()) => Ok(true),
                     Err(memory) => Err(memory),

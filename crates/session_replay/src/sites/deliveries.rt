@@ -1,16 +1,18 @@
 //! Deliveries of messages.
 
-ghost use Rattle.std.specs.Prelude.{◌≡◌, ◌<◌, false, Some, OnErr, length, slice_get};
+ghost use Rattle.std.specs.Prelude.{◌≡◌, ◌<◌, ◌+◌, ◌^◌, false, Some, OnErr, length, slice_get};
 ghost use Rattle.context_diff.specs.Operations.{OpData, IsWellFormed};
 ghost use Rattle.context_diff.specs.Ops.{data_of};
 ghost use Rattle.session_replay.specs.Sessions.{given, given_all, synced};
 ghost use Rattle.session_replay.specs.LineSteps.{given_message};
 ghost use Rattle.session_replay.specs.Code.Doing.{AreDone, IsLineDone};
+ghost use Rattle.session_replay.specs.Code.Knowing.{still_known, known_after};
 
 use crate::releases::take_in;
 use crate::session::StepBad;
 use crate::sites::Sites;
 use context_diff::Op;
+use cot_site::Verdict;
 use op_name::Memory;
 
 impl Sites {
@@ -29,7 +31,7 @@ impl Sites {
         }
     }
 
-    // Delivers every message to the site, by number.
+    // Delivers every message to the site, by number, but those that it is known to have.
     pub(super) fn give_all(&mut self, at: usize, out: &mut Vec<u8>) -> Result<(), Memory>
         requires { at < length self.old.sites }
         ensures done { AreDone result (given_all at self.old.messages self.old) self.old self.new out.old.items out.new.items }
@@ -37,7 +39,7 @@ impl Sites {
         ensures sites { length self.new.sites ≡ length self.old.sites }
         ensures messages { self.new.messages ≡ self.old.messages }
     {
-        for message in 0..self.messages.len() {
+        for message in self.known[at]..self.messages.len() {
             self.deliver_message(at, true, message, out)?;
         }
         Ok(())
@@ -70,13 +72,17 @@ impl Sites {
         ensures messages { self.new.messages ≡ self.old.messages }
     {
         let alloc = *self.messages.allocator();
-        take_in(
+        self.sites[at].known();
+        let taken = take_in(
             alloc,
             many,
             &self.messages[message],
             &mut self.sites[at],
             out,
-        )
+        );
+        let verdict = self.sites[at].check(&self.messages[message]);
+        self.known[at] = known_after(&taken, self.known[at], message, verdict);
+        taken
     }
 
     // Delivers an operation, which is well formed, to the site.
@@ -87,6 +93,31 @@ impl Sites {
         ensures sites { length self.new.sites ≡ length self.old.sites }
     {
         let alloc = *self.messages.allocator();
-        take_in(alloc, false, op, &mut self.sites[at], out)
+        self.sites[at].known();
+        let taken = take_in(alloc, false, op, &mut self.sites[at], out);
+        self.known[at] = still_known(&taken, self.known[at]);
+        taken
+    }
+}
+
+// How many of the first messages a site is known to have after an event that ended so: out of memory, an operation
+// may be ready there, and then a delivery would release it.
+pub(super) fn still_known(ended: &Result<(), Memory>, known: usize) -> usize
+    ensures { result ≡ still_known ended.now known }
+{
+    match ended {
+        Ok(()) => known,
+        Err(_) => 0,
+    }
+}
+
+// The same after a delivery of the message of this number, with the verdict that it would get now.
+fn known_after(taken: &Result<(), Memory>, known: usize, message: usize, verdict: Verdict) -> usize
+    requires { message + 1 < 2 ^ 64 }
+    ensures { result ≡ known_after taken.now known message verdict }
+{
+    match (taken, verdict) {
+        (Ok(()), Verdict::Repeat) if known == message => message + 1,
+        _ => still_known(taken, known),
     }
 }

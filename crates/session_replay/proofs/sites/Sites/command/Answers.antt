@@ -1,16 +1,21 @@
-use Rattle.std.proofs.Common.{◌∙◌, List, [], ◌∷◌, ◌++◌, ap, sym, subst, refl, map, length, arith}
+use Rattle.std.proofs.Common.{◌≡◌, ◌∙◌, List, [], ◌∷◌, ◌++◌, ap, sym, subst, refl, map, set, length, arith}
+use Rattle.std.specs.Prelude.{vec_len}
 use Rattle.std.proofs.lemmas.Result.{err_from_is_err_and}
 use Rattle.context_diff.specs.Ops.{data_of}
 use Rattle.context_diff.specs.declared.op.Op.{Op}
-use Rattle.cot_site.specs.Sites.{AllFormed}
+use Rattle.cot_site.specs.States.{State}
+use Rattle.cot_site.specs.Sites.{AllFormed, state_of}
+use Rattle.session_replay.specs.Code.Knowing.{AreKnown}
 use Rattle.session_replay.proofs.Steps.{stopped, done_nothing, ended_well, ended_short, all_done}
 use Rattle.session_replay.proofs.Lifting.{same_messages}
-use Rattle.session_replay.proofs.Commanding.{command_made, command_formed, refused_same, command_refused, command_told}
+use Rattle.session_replay.proofs.Noting.{command_noted, known_within}
+use Rattle.session_replay.proofs.Commanding.{command_made, same_states, refused_same, command_refused, command_told}
 use Rattle.session_replay.proofs.sites.Sites.command.Goals.{in-Ok-told, in-Err-told, in-Ok-refuse, in-Err-refuse}
 use Rattle.session_replay.proofs.sites.Sites.command.Goals as goal
 
 pub invariant_of-self : goal.invariant_of-self
-invariant_of-self c = subst (λ (ms : List Op). AllFormed (map data_of ms)) (sym c.make_room.ensures.same) c.self.invariant
+invariant_of-self c =
+    subst (λ (ms : List Op). AllFormed (map data_of ms) × AreKnown (map state_of c.self.inside.sites.items) c.self.inside.known.items (map data_of ms)) (sym c.make_room.ensures.same) c.self.invariant
 
 pub returns-in_err-make_room-clause-done : goal.returns-in_err-make_room-clause-done
 returns-in_err-make_room-clause-done c =
@@ -19,12 +24,25 @@ returns-in_err-make_room-clause-done c =
     stopped c.from_residual.result p.0 p.1 _ c.args.self.now _ _ _ (done_nothing _ c.args.self.now _ _ _ same refl)
 
 pub invariant_of-self-in-Err : goal.invariant_of-self-in-Err
-invariant_of-self-in-Err c = subst (λ (ms : List Op). AllFormed (map data_of ms)) (sym c.make_room.ensures.same) c.self.invariant
+invariant_of-self-in-Err c =
+    let sites = same_states c.self.inside.sites.items c.args.at c.index_mut.result.now c.make.new.site c.index_mut.ensures.value c.in-Err.ensures.err in
+    subst (λ (ms : List Op). AllFormed (map data_of ms) × AreKnown (map state_of (set c.self.inside.sites.items c.args.at c.make.new.site)) c.self.inside.known.items (map data_of ms)) (sym c.make_room.ensures.same)
+    (c.self.invariant.0, subst (λ (ss : List State). AreKnown ss c.self.inside.known.items (map data_of c.self.inside.messages.items)) (sym sites) c.self.invariant.1)
 
 pub invariant_of-self-in-Ok : goal.invariant_of-self-in-Ok
 invariant_of-self-in-Ok c =
     let pushed = c.push_reserved.ensures.items ∙ ap (λ (ms : List Op). ms ++ c.in-Ok.op ∷ []) c.make_room.ensures.same in
-    command_formed c.self.inside.sites.items c.self.inside.messages.items _ c.args.self.now c.args.at c.in-Ok.op c.index_mut.result.now c.make.new.site c.index.result.now c.self.view_is c.requires c.self.invariant pushed c.in-Ok.ensures.made c.index.ensures c.known.ensures.history
+    command_noted c.tell_made-told.result _ c.args.self.now c.self.inside.sites.items c.self.inside.known.items c.self.inside.messages.items _ c.args.at c.in-Ok.op c.index_mut.result.now c.make.new.site c.index.result.now c.index_mut-in-Ok.result.now c.tell_made-told.new.site c.args.out.now.items c.tell_made-told.new.out.items c.index-in-Ok.result.now c.still_known.result c.self.invariant c.self.view_is c.requires c.index_mut.ensures.value c.in-Ok.ensures.made c.index.ensures (record { number = c.known.ensures.number; history = c.known.ensures.history; waiting = c.known.ensures.waiting }) c.index_mut-in-Ok.ensures.value c.tell_made-told.ensures pushed c.index-in-Ok.ensures c.still_known.ensures
+
+pub index-requires-in-Ok : goal.index-requires-in-Ok
+index-requires-in-Ok c =
+    let counted : vec_len c.self.inside.known ≡ length c.self.inside.known.items = omega (arith, c.self.inside.known.ok.0) in
+    known_within c.self.inside.sites.items c.self.inside.known.items c.self.inside.messages.items c.args.self.now c.args.at (vec_len c.self.inside.known) counted c.self.invariant c.self.view_is c.requires
+
+pub index_mut-requires-in-Ok-2 : goal.index_mut-requires-in-Ok-2
+index_mut-requires-in-Ok-2 c =
+    let counted : vec_len c.self.inside.known ≡ length c.self.inside.known.items = omega (arith, c.self.inside.known.ok.0) in
+    known_within c.self.inside.sites.items c.self.inside.known.items c.self.inside.messages.items c.args.self.now c.args.at (vec_len c.self.inside.known) counted c.self.invariant c.self.view_is c.requires
 
 pub returns-after-told-clause-done : goal.returns-after-told-clause-done
 returns-after-told-clause-done c =
