@@ -210,12 +210,13 @@ pub fn encode(op: &Op, out: &mut Vec<u8>) -> Result<(), Memory>
     Ok(())
 }
 
-fn put_named(out: &mut Vec<u8>, members: &Vector)
-    requires { HasRoom out.old (4 + entry_len * length members.now.set.entries) }
-    ensures { Puts out.old out.new (named_bytes members.now.set.entries) }
+fn put_named(out: &mut Vec<u8>, len: u32, entries: &[(Name, u16)])
+    requires room { HasRoom out.old (4 + entry_len * length entries.now) }
+    requires len { len ≡ length entries.now }
+    ensures { Puts out.old out.new (named_bytes entries.now) }
 {
-    put(out, &members.entries().to_be_bytes());
-    put_each_entry(out, members.named());
+    put(out, &len.to_be_bytes());
+    put_each_entry(out, entries);
 }
 
 fn state_len(members: &Vector) -> usize
@@ -231,8 +232,9 @@ pub fn encode_state(members: &Vector, out: &mut Vec<u8>) -> Result<(), Memory>
     ensures ok { OnOk result (out.new.items ≡ out.old.items ++ state_bytes members.now.set) }
     ensures err { OnErr result (out.new.items ≡ out.old.items) }
 {
+    let entries = members.named()?;
     out.reserve(state_len(members))?;
     put_counts(out, members);
-    put_named(out, members);
+    put_named(out, members.entries(), entries.as_slice());
     Ok(())
 }
