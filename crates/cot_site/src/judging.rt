@@ -3,7 +3,6 @@
 ghost use Rattle.std.specs.Prelude.{◌≡◌, IfNone};
 ghost use Rattle.std.specs.List.{list_any};
 ghost use Rattle.op_name.specs.declared.member.Member.TheVariants.{Original};
-ghost use Rattle.context_vector.specs.Contexts.{Within};
 ghost use Rattle.context_diff.specs.Operations.{member_of, context_of, IsWellFormed};
 ghost use Rattle.context_diff.specs.Histories.{LacksNothing, inserts_in};
 ghost use Rattle.context_diff.specs.Ops.{data_of, op_eq};

@@ -3,6 +3,7 @@
 mod calls;
 mod forms;
 mod laws;
+mod made;
 mod memory;
 mod odd;
 mod orders;

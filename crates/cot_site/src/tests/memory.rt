@@ -4,6 +4,7 @@
 use super::steps::{Answer, Edit, Why, answer_of, edited};
 use crate::{Site, Verdict};
 use context_diff::Op;
+use op_name::SITES;
 use std::alloc::Global;
 use std::test::Fail;
 
@@ -17,7 +18,7 @@ fn changed() -> Fail {
 }
 
 fn new_site(alloc: Global, number: u16) -> Result<Site, Fail> {
-    if number >= 64 {
+    if number >= SITES {
         return Err(Fail::new("no site has this number"));
     }
     match Site::new(alloc, number) {

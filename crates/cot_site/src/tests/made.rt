@@ -1,0 +1,205 @@
+//! Sessions that are made from a number: sites hear of some of one another's operations in between, undo and redo what
+//! was sent, and hold what comes too early. The forms in which each executed its history are those that inclusion gives
+//! by plain recursion.
+
+ghost use Rattle.std.specs.Prelude.{◌<◌, IsTrue, IfOk};
+ghost use Rattle.op_name.specs.declared.name.TheConstants.{SITES};
+ghost use Rattle.context_diff.specs.Operations.{context_of};
+ghost use Rattle.context_diff.specs.Ops.{data_of};
+ghost use Rattle.transform_rec.specs.Histories.{MayBeAddedTo};
+
+use super::steps::{Edit, Named, edited};
+use super::take_in;
+use crate::Site;
+use context_diff::{Book, Op, base_context, closed};
+use context_vector::Vector;
+use op_name::{Member, Memory, Name, SITES};
+use std::alloc::Global;
+use std::test::Fail;
+use transform_rec::transform;
+use ttf_form::Form;
+use undo_group::TextBases;
+
+/// The greatest number of messages in a session: plain recursion doubles its work with each.
+const MESSAGES: u32 = 9;
+
+/// Numbers that look random, each made from the one before.
+#[derive(Drop)]
+struct Numbers {
+    last: u32,
+}
+
+impl Numbers {
+    fn below(&mut self, most: u32) -> u32
+        requires { 0 < most }
+        ensures { result < most }
+    {
+        let next = self
+            .last
+            .wrapping_mul(1_664_525)
+            .wrapping_add(1_013_904_223);
+        self.last = next;
+        (next / 256) % most
+    }
+}
+
+/// The original that some message is, or undoes.
+fn some_name(numbers: &mut Numbers, messages: &[Op]) -> Named {
+    let number = numbers.below(MESSAGES) as usize;
+    match messages.get(number) {
+        Some(Op::Insert { name, .. }) => (name.site, name.number),
+        Some(Op::Delete { name, .. }) => (name.site, name.number),
+        Some(Op::Undo { target, .. }) => (target.site, target.number),
+        None => (0, 1),
+    }
+}
+
+/// A command at a site that shows so many characters.
+fn some_edit(numbers: &mut Numbers, visible: u32, messages: &[Op]) -> Edit {
+    let named = some_name(numbers, messages);
+    let place = numbers.below(visible.saturating_add(1));
+    match numbers.below(8) {
+        0 => Edit::Undo(named),
+        1 => Edit::Undo(named),
+        2 => Edit::Redo(named),
+        3 => Edit::Delete(place),
+        _ => Edit::Insert(place, 'x'),
+    }
+}
+
+/// A site makes an operation, which becomes a message, unless it refuses the command.
+fn writes(numbers: &mut Numbers, site: &mut Site, messages: &mut Vec<Op>) -> Result<(), Fail> {
+    let edit = some_edit(numbers, site.visible_len(), messages.as_slice());
+    if messages.len() < MESSAGES as usize {
+        if let Ok(op) = edited(site, &edit) {
+            messages.push(op)?;
+        }
+    }
+    Ok(())
+}
+
+/// A site takes two messages in, of any number.
+fn reads(numbers: &mut Numbers, site: &mut Site, messages: &[Op]) -> Result<(), Fail> {
+    for _ in 0..2 {
+        let number = numbers.below(MESSAGES) as usize;
+        if let Some(op) = messages.get(number) {
+            take_in(site, op)?;
+        }
+    }
+    Ok(())
+}
+
+/// New sites with the numbers below `count`.
+fn new_sites(alloc: Global, count: u16) -> Result<Vec<Site>, Fail>
+    requires { count < SITES }
+{
+    let mut sites = Vec::new(alloc);
+    for number in 0..count {
+        sites.push(Site::new(alloc, number)?)?;
+    }
+    Ok(sites)
+}
+
+/// A session of three to five sites, each of which has all messages in the end, in an order of its own.
+fn session(alloc: Global, seed: u32) -> Result<Vec<Site>, Fail> {
+    let mut numbers = Numbers { last: seed };
+    let mut messages = Vec::new(alloc);
+    let count = 3 + numbers.below(3);
+    let mut sites = new_sites(alloc, count as u16)?;
+    for _ in 0..32 {
+        let place = numbers.below(count) as usize;
+        if let Some(site) = sites.get_mut(place) {
+            if numbers.below(2) == 0 {
+                writes(&mut numbers, site, &mut messages)?;
+            } else {
+                reads(&mut numbers, site, messages.as_slice())?;
+            }
+        }
+    }
+    for site in sites.iter_mut() {
+        for op in messages.iter().rev() {
+            take_in(site, op)?;
+        }
+    }
+    Ok(sites)
+}
+
+/// Whether the member may be added to the context of this operation.
+fn may_be_added(alloc: Global, book: &Book, m: &Member, op: &Op) -> Result<bool, Memory>
+    ensures { IfOk result (λ added. IsTrue added → MayBeAddedTo book.now.ops (context_of (data_of op.now)) m.now) }
+{
+    book.known();
+    let to = op.context();
+    if !book.have().contains(m) || !book.have().covers(to) {
+        return Ok(false);
+    }
+    let base = base_context(alloc, book, m)?;
+    if closed(book, to).is_some() || op.fault().is_some() {
+        return Ok(false);
+    }
+    if !to.covers(&base) || to.contains(m) {
+        return Ok(false);
+    }
+    Ok(true)
+}
+
+/// Whether this is the form of the member at the context of the operation, to which the member may be added.
+fn is_form(alloc: Global, book: &Book, m: &Member, op: &Op, form: &Form) -> Result<bool, Memory> {
+    if !may_be_added(alloc, book, m, op)? {
+        return Ok(false);
+    }
+    match transform(alloc, book, &TextBases::new(book), m, op.context()) {
+        Ok(found) => Ok(found == *form),
+        Err(Memory) => Err(Memory),
+    }
+}
+
+/// Adds the member to the context.
+fn add(context: &mut Vector, member: &Member) -> Result<(), Memory> {
+    match member {
+        Member::Original(name) => context.raise(&Member::Original(*name)),
+        Member::Group(name, generation) if *generation > 0 => {
+            context.raise(&Member::Group(*name, *generation))
+        }
+        Member::Group(_, _) => Ok(()),
+    }
+}
+
+/// Whether the site executed its i-th operation in the form of its member at these members.
+fn is_executed_at(alloc: Global, site: &Site, i: u32, before: &Vector) -> Result<bool, Fail> {
+    let (Some(member), Some(form)) = (site.book().member(i), site.executed(i)) else {
+        return Ok(false);
+    };
+    let at = Op::Delete {
+        name: Name::new(SITES - 1, 1)?,
+        place: 0,
+        context: before.try_clone()?,
+    };
+    Ok(is_form(alloc, site.book(), &member, &at, form)?)
+}
+
+/// Whether the site executed each operation in its form at the members before it.
+fn all_derived(alloc: Global, site: &Site) -> Result<bool, Fail> {
+    let mut before = Vector::new(alloc);
+    for i in 0..site.book().len() {
+        if !is_executed_at(alloc, site, i, &before)? {
+            return Ok(false);
+        }
+        if let Some(member) = site.book().member(i) {
+            add(&mut before, &member)?;
+        }
+    }
+    Ok(true)
+}
+
+#[test]
+fn forms_of_made_sessions(rt: HostRuntime) -> Result<(), Fail> {
+    let alloc = rt.alloc();
+    for seed in 0..100 {
+        let sites = session(alloc, seed)?;
+        for site in sites.iter() {
+            assert!(rt; all_derived(alloc, site)?, "session {seed}");
+        }
+    }
+    Ok(())
+}
