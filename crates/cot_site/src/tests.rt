@@ -7,7 +7,6 @@ mod made;
 mod memory;
 mod odd;
 mod orders;
-mod rows;
 mod sessions;
 mod steps;
 

@@ -49,7 +49,7 @@ const ROWS: [Row; 4] = [
 ];
 
 /// An insert in front of all cells.
-pub(super) fn in_front(alloc: Global, of: Named, ch: char, last: &[Named]) -> Result<Op, Fail> {
+fn in_front(alloc: Global, of: Named, ch: char, last: &[Named]) -> Result<Op, Fail> {
     Ok(Op::Insert {
         name: Name::new(of.0, of.1)?,
         place: 0,

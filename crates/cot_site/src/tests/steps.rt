@@ -234,7 +234,7 @@ fn releases(alloc: Global, site: &mut Site, members: &[(Named, u16)]) -> Result<
 }
 
 /// The place of the form in which the i-th operation of a site was executed.
-pub(super) fn executed_place(site: &Site, i: u32) -> Option<u32> {
+fn executed_place(site: &Site, i: u32) -> Option<u32> {
     match site.executed(i) {
         Some(Form::Ins(ins)) => Some(ins.place),
         Some(Form::Cover(cover)) => Some(cover.place),
