@@ -1,8 +1,8 @@
 -- A message that was read no further than it asked for is read to no byte past its end.
-use Rattle.std.proofs.Common.{◌≡◌, ℕ, suc, zero, ◌+◌, ◌-◌, ◌<◌, ◌≤◌, ltb, eqb, Bool, true, false, cond, List, [], ◌++◌, length, take, drop, Result, Ok, Err, refl, sym, ap, subst, ◌∙◌, arith, inl, inr, ◌⊎◌}
+use Rattle.std.proofs.Common.{◌≡◌, ℕ, suc, zero, ◌+◌, ◌-◌, ◌<◌, ◌≤◌, ltb, eqb, Bool, true, false, cond, List, [], ◌++◌, length, take, drop, Result, Ok, Err, refl, sym, ap, subst, ◌∙◌, arith, inl, inr}
 use Rattle.std.specs.List.{starts_with}
 use Rattle.std.specs.Int.{w32, from_be_bytes}
-use Rattle.std.proofs.lemmas.Bool.{cases_Bool, ltb-true, ltb-false, le-ltb, lt-ltb}
+use Rattle.std.proofs.lemmas.Bool.{cases_Bool, ltb-true, ltb-false, le-ltb}
 use Rattle.std.proofs.lemmas.List.{length-append, length-drop, take-append-drop, take_at, nil_from_length, take-append-le, drop-append-le}
 use Rattle.std.proofs.lemmas.Nat.{from_be_bytes-to_be_bytes_4}
 use Rattle.context_vector.specs.Contexts.{ContextData}
@@ -20,7 +20,6 @@ use Rattle.wire_codec.specs.declared.fault.Unread.TheVariants as unread
 use Rattle.wire_codec.specs.States.{state_bytes, judge_state, state_scan_of}
 use Rattle.wire_codec.proofs.CallerLemmas.{IsBytes, IsBytes-drop, IsBytes-take, body_short, judge_takes, judge_more, cond_err, state_takes, state_more, state_needs}
 use Rattle.peer_exchange.specs.declared.messages.Which.{Which}
-use Rattle.peer_exchange.specs.declared.messages.Which.TheVariants.{First, Second, Third}
 use Rattle.peer_exchange.specs.declared.stages.Stage.{Stage}
 use Rattle.peer_exchange.specs.declared.stages.Stage.TheVariants.{Head, State, Frames}
 use Rattle.peer_exchange.specs.declared.stages.Piece.{Piece}
@@ -28,9 +27,9 @@ use Rattle.peer_exchange.specs.declared.stages.Piece.TheVariants as part
 use Rattle.peer_exchange.specs.declared.messages.PeerCause.TheVariants as causes
 use Rattle.peer_exchange.specs.declared.messages.Measure.{Measure}
 use Rattle.peer_exchange.specs.declared.messages.Measure.TheVariants as whole
-use Rattle.peer_exchange.specs.Measuring.{start, head, head_piece, stated, state_piece, framed, frame_piece, piece_of, after_piece, pieces, measured, measure_of}
+use Rattle.peer_exchange.specs.Measuring.{start, head, head_piece, stated, state_piece, framed, frame_piece, piece_of, after_piece, pieces, measure_of}
 use Rattle.peer_exchange.specs.Measuring.{NotPast}
-use Rattle.peer_exchange.proofs.Staying.{is_there, first_no, first_yes, by_false, by_true, framed_got}
+use Rattle.peer_exchange.proofs.Staying.{is_there, first_no, first_yes, by_false, by_true}
 use Rattle.peer_exchange.proofs.Going.{enough}
 
 -- the frame that bytes begin with is as long as its first four bytes say

@@ -1,6 +1,6 @@
 -- What a message says doesn't depend on where its parts were judged.
-use Rattle.std.proofs.Common.{◌≡◌, ℕ, suc, zero, ◌+◌, ◌-◌, ◌<◌, ◌≤◌, List, [], ◌++◌, length, drop, refl, sym, ap, ◌∙◌, arith}
-use Rattle.std.proofs.lemmas.List.{length-append, length-drop, drop-append-le, drop-drop, append-nil}
+use Rattle.std.proofs.Common.{◌≡◌, ℕ, suc, zero, ◌+◌, ◌<◌, ◌≤◌, List, [], ◌++◌, length, drop, refl, sym, ap, ◌∙◌, arith}
+use Rattle.std.proofs.lemmas.List.{length-drop, drop-append-le, drop-drop, append-nil}
 use Rattle.wire_codec.proofs.CallerLemmas.{IsBytes, IsBytes-drop}
 use Rattle.peer_exchange.specs.declared.messages.Which.{Which}
 use Rattle.peer_exchange.specs.declared.stages.Place.{Place}
@@ -8,7 +8,7 @@ use Rattle.peer_exchange.specs.declared.stages.Stage.{Stage}
 use Rattle.peer_exchange.specs.declared.stages.Piece.{Piece}
 use Rattle.peer_exchange.specs.declared.stages.Piece.TheVariants as part
 use Rattle.peer_exchange.specs.declared.messages.Measure.{Measure}
-use Rattle.peer_exchange.specs.Measuring.{start, piece_of, after_piece, pieces, measured, measure_of}
+use Rattle.peer_exchange.specs.Measuring.{piece_of, after_piece, pieces, measured, measure_of}
 use Rattle.peer_exchange.specs.Code.Places.{GoesOn, Stands}
 use Rattle.peer_exchange.proofs.Staying.{is_there}
 

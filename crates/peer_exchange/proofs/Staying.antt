@@ -1,12 +1,10 @@
 -- A part that is there stays, whatever follows it, and has a byte.
-use Rattle.std.proofs.Common.{◌≡◌, ℕ, suc, zero, ◌+◌, ◌-◌, ◌<◌, ◌≤◌, ltb, eqb, Bool, true, false, cond, List, [], ◌++◌, length, take, drop, Result, Ok, Err, refl, sym, ap, subst, ◌∙◌, append_assoc, arith, inl, inr}
+use Rattle.std.proofs.Common.{◌≡◌, ℕ, ◌+◌, ◌≤◌, ltb, eqb, Bool, true, false, cond, List, ◌++◌, length, drop, Result, Ok, Err, refl, sym, ap, ◌∙◌, append_assoc, arith}
 use Rattle.std.specs.List.{starts_with}
-use Rattle.std.proofs.lemmas.Bool.{cases_Bool, ltb-true, ltb-false, le-ltb}
-use Rattle.std.proofs.lemmas.List.{length-append, length-drop, take-append-le, drop-append-le, drop-drop}
+use Rattle.std.proofs.lemmas.Bool.{ltb-false, le-ltb}
+use Rattle.std.proofs.lemmas.List.{length-append, take-append-le}
 use Rattle.context_vector.specs.Contexts.{ContextData}
 use Rattle.context_diff.specs.Operations.{OpData}
-use Rattle.wire_codec.specs.declared.answers.Scan.{Scan}
-use Rattle.wire_codec.specs.declared.answers.Scan.TheVariants as scanned
 use Rattle.wire_codec.specs.declared.fault.Refused.{Refused}
 use Rattle.wire_codec.specs.declared.fault.Refused.TheVariants.{More, Bad}
 use Rattle.wire_codec.specs.Spelling.{frame}
@@ -15,7 +13,7 @@ use Rattle.wire_codec.specs.Answers.{scan_of}
 use Rattle.wire_codec.specs.declared.fault.Unread.{Unread}
 use Rattle.wire_codec.specs.declared.fault.Unread.TheVariants as unread
 use Rattle.wire_codec.specs.States.{judge_state, state_bytes, state_scan_of}
-use Rattle.wire_codec.proofs.CallerLemmas.{IsBytes, IsBytes-drop, judge_takes, judge_again, state_bound, state_some, state_stays, state_takes, state_within}
+use Rattle.wire_codec.proofs.CallerLemmas.{IsBytes, judge_takes, judge_again, state_bound, state_some, state_stays, state_takes, state_within}
 use Rattle.peer_exchange.specs.declared.stages.Stage.{Stage}
 use Rattle.peer_exchange.specs.declared.stages.Stage.TheVariants.{Head, State, Frames}
 use Rattle.peer_exchange.specs.declared.stages.Piece.{Piece}

@@ -1,4 +1,4 @@
-use Rattle.std.proofs.Common.{sym, ◌∙◌, arith, List, ℕ}
+use Rattle.std.proofs.Common.{sym, ◌∙◌, arith}
 use Rattle.wire_codec.proofs.CallerLemmas.{IsBytes}
 use Rattle.peer_exchange.proofs.Going.{stands_says, stands_on}
 use Rattle.peer_exchange.proofs.measuring.go_on.Goals as goal

@@ -1,4 +1,4 @@
-use Rattle.std.proofs.Common.{sym, ◌∙◌, refl, ap, drop, arith, List, ℕ}
+use Rattle.std.proofs.Common.{sym, ◌∙◌, refl, ap, drop, arith}
 use Rattle.wire_codec.proofs.CallerLemmas.{IsBytes, IsBytes-drop}
 use Rattle.peer_exchange.specs.Measuring.{piece_of}
 use Rattle.peer_exchange.proofs.Staying.{is_there}

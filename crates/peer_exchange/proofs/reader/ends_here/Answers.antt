@@ -1,4 +1,4 @@
-use Rattle.std.proofs.Common.{arith, List, ℕ}
+use Rattle.std.proofs.Common.{arith}
 use Rattle.wire_codec.proofs.CallerLemmas.{IsBytes}
 use Rattle.peer_exchange.proofs.Asking.{not_past_at}
 use Rattle.peer_exchange.proofs.reader.ends_here.Goals as goal
