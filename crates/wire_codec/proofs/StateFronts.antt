@@ -1,5 +1,5 @@
 -- What the answers of `scan_state` and `decode_state` say of the bytes.
-use Rattle.std.proofs.Common.{◌≡◌, ℕ, ◌≤◌, List, ◌++◌, length, drop, Result, Ok, Err, refl, sym, ap, subst, ◌∙◌}
+use Rattle.std.proofs.Common.{◌≡◌, ℕ, List, ◌++◌, length, drop, Result, Ok, Err, refl, sym, ap, ◌∙◌}
 use Rattle.std.specs.Prelude.{IsOk, IfOk}
 use Rattle.context_vector.specs.Contexts.{ContextData, AreCounts}
 use Rattle.wire_codec.specs.declared.state_answers.DecodedState.{DecodedState}
@@ -10,7 +10,7 @@ use Rattle.wire_codec.specs.declared.fault.Unread.TheVariants.{More, Bad}
 use Rattle.wire_codec.specs.declared.rules.LentContext.{LentContext}
 use Rattle.wire_codec.specs.Reading.{fault}
 use Rattle.wire_codec.specs.Code.Lent.{state_as}
-use Rattle.wire_codec.specs.States.{state_bytes, IsState, judge_state, IsStateOf, HasState, IsBadState, state_scan_of, state_judgement_of, SaysOfState, TellsOfState}
+use Rattle.wire_codec.specs.States.{state_bytes, IsState, judge_state, HasState, IsBadState, state_scan_of, state_judgement_of, SaysOfState, TellsOfState}
 use Rattle.wire_codec.proofs.Steps.{IsBytes}
 use Rattle.wire_codec.proofs.StateJudgement.{state_takes, state_again, state_stays, state_more, state_within}
 

@@ -1,5 +1,5 @@
-use Rattle.std.proofs.Common.{◌≡◌, ◌*◌, length, None, Ok, sym, ap, subst, arith}
-use Rattle.wire_codec.specs.Reading.{LeftData, many, entry_at, name_of}
+use Rattle.std.proofs.Common.{◌≡◌, ◌*◌, length, sym, ap, subst, arith}
+use Rattle.wire_codec.specs.Reading.{LeftData}
 use Rattle.wire_codec.specs.Judging.{entry_len}
 use Rattle.wire_codec.proofs.Steps.{IsBytes, IsBytes-take, IsBytes-drop}
 use Rattle.wire_codec.proofs.StateJudgement.{entries_listed}

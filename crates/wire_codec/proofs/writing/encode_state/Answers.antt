@@ -1,4 +1,4 @@
-use Rattle.std.proofs.Common.{◌≡◌, List, ℕ, ◌++◌, length, ap, ◌∙◌, append_assoc, arith}
+use Rattle.std.proofs.Common.{◌≡◌, List, ℕ, ◌++◌, ap, ◌∙◌, append_assoc, arith}
 use Rattle.wire_codec.specs.Spelling.{counts_bytes}
 use Rattle.wire_codec.specs.States.{named_bytes, state_bytes}
 use Rattle.wire_codec.proofs.Sizes.{length-counts}
