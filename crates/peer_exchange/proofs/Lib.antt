@@ -5,3 +5,5 @@ pub mod BothSides
 pub mod Staying
 pub mod Going
 pub mod Asking
+pub mod TakenOps
+pub mod Unrefused
