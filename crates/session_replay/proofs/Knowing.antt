@@ -1,8 +1,8 @@
 -- Messages that a site is known to have: to deliver them again does nothing, and the site keeps them.
-use Rattle.std.proofs.Common.{◌≡◌, ℕ, zero, suc, ◌+◌, ◌≤◌, ◌<◌, ◌⊎◌, inl, inr, max, if◌then◌else◌, Bool, true, false, List, [], ◌∷◌, ◌++◌, refl, sym, ap, subst, ◌∙◌, length, map, set, take, drop, get_or, append-nil, length-append, take-append-drop, arith}
-use Rattle.std.specs.Prelude.{Option, Some, None, Result, Ok, Err, Contains, replicate, slice_get, slice_index_or, nat_eq, nat_le, ◌||◌}
+use Rattle.std.proofs.Common.{◌≡◌, ℕ, zero, suc, ◌+◌, ◌≤◌, ◌<◌, inl, inr, if◌then◌else◌, Bool, true, false, List, [], ◌∷◌, ◌++◌, refl, sym, ap, subst, ◌∙◌, length, map, set, take, drop, get_or, append-nil, length-append, take-append-drop, arith}
+use Rattle.std.specs.Prelude.{Option, Some, None, Result, Ok, Err, Contains, replicate, slice_get, slice_index_or, nat_eq}
 use Rattle.std.specs.List.{list_any}
-use Rattle.std.proofs.lemmas.Bool.{cases_Bool, cond-true, cond-false, or_left, leb-true, le-leb, eqb-true, false≢true}
+use Rattle.std.proofs.lemmas.Bool.{cases_Bool, cond-true, cond-false, or_left, leb-true, le-leb, eqb-true}
 use Rattle.std.proofs.lemmas.List.{set-get_or, take-append-le}
 use Rattle.std.proofs.lemmas.Grind.{take_at_read}
 use Rattle.std.proofs.lemmas.Option.{slice_get_within, slice_get-get_or}
@@ -15,9 +15,9 @@ use Rattle.context_diff.specs.Histories.{generation_in}
 use Rattle.context_diff.specs.Ops.{op_eq}
 use Rattle.context_diff.proofs.CallerLemmas.{contains_here, contains_later, contains_none}
 use Rattle.op_name.specs.Members.{target_of}
-use Rattle.cot_site.specs.States.{State, IsSettled, judged, with_last, delivered, after_verdict}
+use Rattle.cot_site.specs.States.{State, IsSettled, judged, delivered, after_verdict}
 use Rattle.cot_site.specs.Releases.{IsSound, IsLater, all_releases, settled}
-use Rattle.cot_site.specs.Verdicts.{is_repeat, is_forged, verdict_of, placed_verdict, ready_verdict, waiting_verdict, lacked}
+use Rattle.cot_site.specs.Verdicts.{is_repeat, is_forged, placed_verdict, ready_verdict, waiting_verdict, lacked}
 use Rattle.cot_site.specs.declared.verdict.Verdict.{Verdict}
 use Rattle.cot_site.specs.declared.verdict.Verdict.TheVariants.{Repeat, Forged, Waits, NotClosed, PlaceOut, Integrated}
 use Rattle.cot_site.proofs.CallerLemmas.{settled_has_none, settled_settles, sound_along, sound_delivered}

@@ -1,5 +1,5 @@
 -- Which of the first messages each site is known to have: to deliver them again, among many, would do nothing.
-use Rattle.std.specs.Prelude.{◌≡◌, ℕ, suc, ◌≤◌, ◌+◌, Bool, true, List, [], ◌∷◌, Contains, Result, Ok, Err, length, take, if◌then◌else◌, nat_eq}
+use Rattle.std.specs.Prelude.{◌≡◌, ℕ, ◌≤◌, ◌+◌, true, List, [], ◌∷◌, Contains, Result, Ok, Err, length, take, if◌then◌else◌, nat_eq}
 use Rattle.context_diff.specs.Operations.{OpData}
 use Rattle.cot_site.specs.States.{State, IsSettled}
 use Rattle.cot_site.specs.Verdicts.{is_repeat}
