@@ -9,10 +9,10 @@ use std::marker::Model;
 use std::rc::Rc;
 
 /// A longer list is cut into pieces of `CUT` entries.
-const LONGEST: usize = 64;
+const LONGEST: usize = 128;
 
 /// The number of entries in each piece of a list that is cut, but for the last: there is room to grow.
-const CUT: usize = 48;
+const CUT: usize = 96;
 
 /// Entries that never change.
 #[derive(Debug, Drop)]

@@ -1,6 +1,6 @@
 //! Where names and places are among pieces.
 
-ghost use Rattle.std.specs.Prelude.{◌≡◌, ◌≤◌, ◌+◌, ◌++◌, ◌↔◌, ℕ, List, true, false, take, drop, length, IfOk, IfErr};
+ghost use Rattle.std.specs.Prelude.{◌≡◌, ◌≤◌, ◌+◌, ◌*◌, ◌++◌, ℕ, List, true, false, take, drop, length, IfOk, IfErr};
 ghost use Rattle.op_name.specs.NameData.{NameData};
 ghost use Rattle.context_vector.specs.Contexts.{entry_in, AreEntries};
 ghost use Rattle.context_vector.specs.Vectors.{NamesBelow};
@@ -8,9 +8,9 @@ ghost use Rattle.context_vector.specs.Code.Pieces.{joined, NamesAbove, IsRun};
 
 use super::piece::Piece;
 use super::rising::entry_among;
-use op_name::Name;
+use op_name::{NUMBERS, Name, SITES};
 
-/// The first piece that has the name or one after it; the number of pieces where none has.
+// The first piece that has the name or one after it; the number of pieces where none has.
 fn piece_of(pieces: &[Piece], name: &Name) -> usize
     requires { AreEntries (joined pieces.now) }
     ensures bound { result ≤ length pieces.now }
@@ -66,7 +66,7 @@ pub fn entry_in_pieces(pieces: &[Piece], name: &Name) -> u16
 
 /// The number of entries.
 pub fn total_of(pieces: &[Piece]) -> usize
-    requires { length (joined pieces.now) ≤ 64000000 }
+    requires { length (joined pieces.now) ≤ SITES * NUMBERS }
     ensures { result ≡ length (joined pieces.now) }
 {
     let mut sum = 0;
