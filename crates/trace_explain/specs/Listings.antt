@@ -1,0 +1,68 @@
+-- The listing rule: which lines the trace of a member has, and in which order.
+use Rattle.std.specs.Prelude.{◌≡◌, ◌≢◌, ℕ, ◌+◌, List, [], ◌∷◌, ◌++◌, length, Option, Some, None, if◌then◌else◌}
+use Rattle.op_name.specs.declared.member.Member.{Member}
+use Rattle.context_vector.specs.Contexts.{ContextData, raised}
+use Rattle.context_vector.specs.Vectors.{lowered}
+use Rattle.context_diff.specs.Operations.{OpData}
+use Rattle.context_diff.specs.Bases.{base_context_of}
+use Rattle.context_diff.specs.Differences.{difference_of}
+use Rattle.ttf_form.specs.declared.form.Form.{Form}
+use Rattle.ttf_form.specs.Forms.{form_over}
+use Rattle.form_cache.specs.Keys.{KeyData, key_eq}
+use Rattle.undo_group.specs.BaseForms.{base_form}
+use Rattle.trace_explain.specs.declared.line.TraceLine.{TraceLine}
+use Rattle.trace_explain.specs.declared.line.TraceLine.TheVariants.{Base, Step}
+use Rattle.trace_explain.specs.declared.listing.Listed.{Listed}
+use Rattle.trace_explain.specs.Traces.{pair, context_before}
+
+-- the lines so far, and of each pair of a member and a context that is listed, its line's number and form
+pub record ListingData : Type 0 where
+  pub lines : List TraceLine
+  pub at : KeyData → Option Listed
+
+-- the listing without lines
+abbrev pub no_lines : ListingData
+no_lines = record { lines = []; at = λ k. None }
+
+-- the number and the form of the line that comes next
+abbrev pub listed_next : ListingData → Form → Listed
+listed_next l f = record { number = length l.lines + 1; form = f }
+
+-- the listing with one line more, which has this form and serves this pair from now on
+abbrev pub with_line : ListingData → KeyData → TraceLine → Form → ListingData
+with_line l k line f = record {
+  lines = l.lines ++ line ∷ [];
+  at = λ q. if key_eq k q then Some (listed_next l f) else l.at q;
+}
+
+-- x is the last member, in the history's order, of the pair's context that its member's base context lacks, and d is the context
+-- without x
+pub record IsLastBetween (h : List OpData) (k : KeyData) (x : Member) (d : ContextData) : Type 0 where
+  pub earlier : List Member
+  pub last : difference_of h (base_context_of h k.member) k.context ≡ earlier ++ x ∷ []
+  pub without : d ≡ lowered k.context x
+  pub again : k.context ≡ raised d x
+
+module _ (h : List OpData) where
+  -- the line of a pair's base form
+  abbrev pub base_line : KeyData → TraceLine
+  base_line k = Base k.member (base_form h k.member)
+
+  -- the line of the step that includes the form of one listed line in that of another
+  abbrev pub step_line : KeyData → Listed → Listed → TraceLine
+  step_line k left over = Step left.number over.number k.member (form_over left.form over.form)
+
+  -- from the one listing, the pair is listed, which gives the other, and its line is this one: its line serves if it is listed; at
+  -- its base context it gets a line of its base form; else it is listed without the last member x, then x is listed there, and then
+  -- comes the step of the two
+  pub data Lists : ListingData → KeyData → ListingData → Listed → Type 0 where
+    there : {l : ListingData} {k : KeyData} {n : ListingData} {a : Listed} → l.at k ≡ Some a → n ≡ l → Lists l k n a
+    at_base : {l : ListingData} {k : KeyData} {n : ListingData} {a : Listed} → l.at k ≡ None → k.context ≡ base_context_of h k.member → n ≡ with_line l k (base_line k) (base_form h k.member) → a ≡ listed_next l (base_form h k.member) → Lists l k n a
+    by_step : {l : ListingData} {k : KeyData} {n : ListingData} {a : Listed} (x : Member) (d : ContextData) (one two : ListingData) (left over : Listed) → l.at k ≡ None → k.context ≢ base_context_of h k.member → IsLastBetween h k x d → Lists l (pair k.member d) one left → Lists one (pair x d) two over → n ≡ with_line two k (step_line k left over) (form_over left.form over.form) → a ≡ listed_next two (form_over left.form over.form) → Lists l k n a
+
+-- the lines that the listing rule gives for m at all members that the history holds before m
+pub record IsTraceOf (h : List OpData) (m : Member) (lines : List TraceLine) : Type 0 where
+  pub whole : ListingData
+  pub last : Listed
+  pub listed : Lists h no_lines (pair m (context_before h m)) whole last
+  pub lines_are : lines ≡ whole.lines
