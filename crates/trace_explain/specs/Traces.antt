@@ -12,11 +12,7 @@ use Rattle.form_cache.specs.Keys.{KeyData}
 use Rattle.undo_group.specs.BaseForms.{base_form}
 use Rattle.trace_explain.specs.declared.line.TraceLine.{TraceLine}
 use Rattle.trace_explain.specs.declared.line.TraceLine.TheVariants.{Base, Step}
-
--- what a line is about: a member at a context, with its form there
-pub record Row : Type 0 where
-  pub at : KeyData
-  pub form : Form
+use Rattle.trace_explain.specs.declared.row.Row.{Row}
 
 -- a member at a context
 abbrev pub pair : Member → ContextData → KeyData

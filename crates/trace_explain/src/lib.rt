@@ -10,6 +10,8 @@ mod contexts;
 mod laws;
 mod line;
 mod listing;
+mod row;
+mod same;
 mod tasks;
 mod tracing;
 mod work;

@@ -10,7 +10,7 @@ use crate::contexts::context_before;
 use crate::line::TraceLine;
 use crate::listing::Listing;
 use crate::tasks::list;
-use context_diff::Book;
+use context_diff::{Book, last_may_be_taken_out};
 use form_cache::Key;
 use op_name::{Member, Memory};
 use std::alloc::Global;
@@ -48,8 +48,11 @@ pub fn trace(
 // The listing of a member of the book at all members that the book holds before it.
 fn listed(alloc: Global, book: &Book, m: &Member) -> Result<Listing, Memory>
     requires { is_known book.now.ops m.now ≡ true }
-    ensures { IfOk result (λ l. IsTraceOf book.now.ops m.now l.lines) }
+    ensures listed { IfOk result (λ l. IsTraceOf book.now.ops m.now l.lines.items) }
+    ensures trace { IfOk result (λ l. IsTrace book.now.ops m.now l.lines.items) }
 {
+    book.known();
+    last_may_be_taken_out();
     let mut context = context_before(alloc, book, m)?;
     context.share();
     let mut listing = Listing::new(alloc);

@@ -7,6 +7,7 @@ use form_cache::Key;
 use op_name::{Member, Memory};
 use std::alloc::Global;
 use std::marker::Model;
+use ttf_form::Form;
 
 /// Something to be done, once the tasks before it are.
 #[derive(Drop)]
@@ -63,12 +64,15 @@ impl Work {
         self.tasks.pop()
     }
 
-    /// Puts a line before the others.
-    pub fn put(&mut self, line: Listed) -> Result<(), Memory>
-        ensures { OnOk result (self.new ≡ record { tasks = self.old.tasks; done = line ∷ self.old.done }) }
+    /// Puts a line, with its number and its form, before the others.
+    pub fn put(&mut self, number: u64, form: &Form) -> Result<(), Memory>
+        ensures { OnOk result (self.new ≡ record { tasks = self.old.tasks; done = record { number = number; form = form.now } ∷ self.old.done }) }
     {
         self.done.reserve(1)?;
-        self.done.push_reserved(line);
+        self.done.push_reserved(Listed {
+            number,
+            form: *form,
+        });
         Ok(())
     }
 

@@ -5,8 +5,9 @@ use Rattle.context_vector.specs.Contexts.{has, raised}
 use Rattle.context_diff.specs.Operations.{OpData}
 use Rattle.ttf_form.specs.declared.form.Form.{Form}
 use Rattle.ttf_form.specs.Families.{IsIn}
-use Rattle.trace_explain.specs.Traces.{Row, IsInclusionOf, pair, context_before}
-use Rattle.trace_explain.specs.Code.Tasks.{IsFormAt, IsPair}
+use Rattle.trace_explain.specs.declared.row.Row.{Row}
+use Rattle.trace_explain.specs.Traces.{IsInclusionOf, pair, context_before}
+use Rattle.trace_explain.specs.Code.Tasks.{IsFormAt}
 
 -- the row has a derived form of its member
 abbrev pub IsDerivedRow : List OpData → Row → Type 0
