@@ -100,8 +100,8 @@ smaller law h v k is a x l =
     let known : is_known h x ≡ true = a.ready x taken.0.there in
     let members : (y : Member) → has (lowered k.context x) y ≡ (has k.context y && not (member_eq x y)) = λ (y : Member). has_lowered k.context x is taken.0.last (least_known h w x known) y in
     let whole : SameSet (has k.context) (plus (has (lowered k.context x)) x) = λ (y : Member).
-        put_back (has k.context y) (member_eq x y) (λ e. subst (λ (z : Member). has k.context z ≡ true) (member_same x y e) taken.0.there)
-        ∙ ap (λ (b : Bool). b || member_eq x y) (sym (members y)) in
+    put_back (has k.context y) (member_eq x y) (λ e. subst (λ (z : Member). has k.context z ≡ true) (member_same x y e) taken.0.there)
+    ∙ ap (λ (b : Bool). b || member_eq x y) (sym (members y)) in
     let set = closed_set h w k.context closed in
     let over : IsPair h (over_of k x) = record {
       known = known;

@@ -65,12 +65,7 @@ fn is_executed(alloc: Global, book: &Book, m: &Member, last: &Row) -> Result<boo
 }
 
 // What the line says after lines with these rows, if it is right.
-fn row_of(
-    alloc: Global,
-    book: &Book,
-    rows: &[Row],
-    line: &TraceLine,
-) -> Result<Option<Row>, Memory>
+fn row_of(alloc: Global, book: &Book, rows: &[Row], line: &TraceLine) -> Result<Option<Row>, Memory>
     requires { AreDerivedRows book.now.ops rows.now }
     ensures right { IfOk result (λ o. IfSome o (IsLine book.now.ops rows.now line.now)) }
     ensures wrong { IfOk result (λ o. IsNone o → (r : Row) → IsLine book.now.ops rows.now line.now r → ⊥) }

@@ -73,12 +73,7 @@ pub fn last_between(
 }
 
 /// The context without x, its last member beyond the base context of m.
-pub fn without_last(
-    book: &Book,
-    m: &Member,
-    context: &Vector,
-    x: &Member,
-) -> Result<Vector, Memory>
+pub fn without_last(book: &Book, m: &Member, context: &Vector, x: &Member) -> Result<Vector, Memory>
     requires added { MayBeAddedTo book.now.ops context.now.set m.now }
     requires last { IsLastBetween book.now.ops (pair m.now context.now.set) x.now }
     ensures { IfOk result (λ d. d.set ≡ lowered context.now.set x.now) }

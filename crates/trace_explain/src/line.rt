@@ -7,7 +7,10 @@ use ttf_form::Form;
 #[derive(Clone, Copy, Debug, PartialEq, Eq)]
 pub enum TraceLine {
     /// The base form of the member, at its base context.
-    Base { member: Member, form: Form },
+    Base {
+        member: Member,
+        form: Form,
+    },
     /// The form of the member after the inclusion of the form of line `over` in that of line `left`, which is about the
     /// same member. The two have equal contexts, and this one's is that context with the member of `over`.
     Step {

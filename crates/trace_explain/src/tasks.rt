@@ -11,8 +11,8 @@ ghost use Rattle.trace_explain.specs.Code.Tasks.{AreDerived, CanBeDone, IsPair, 
 use crate::contexts::{base_of, last_between, without_last};
 use crate::line::TraceLine;
 use crate::listing::{Listed, Listing};
-use crate::work::{Task, Work};
 use crate::row::{are_equal, context_in, member_in};
+use crate::work::{Task, Work};
 use context_diff::{Book, base_context, last_may_be_taken_out};
 use context_vector::Vector;
 use form_cache::Key;
@@ -28,10 +28,12 @@ pub fn list(alloc: Global, book: &Book, listing: &mut Listing, key: Key) -> Resu
 {
     let mut work = Work::new(alloc);
     work.add(Task::List(key))?;
-    while let Some(task) = work.next() {
-        turn(alloc, book, listing, &mut work, task)?;
+    loop {
+        match work.next() {
+            Some(task) => turn(alloc, book, listing, &mut work, task)?,
+            None => return Ok(()),
+        }
     }
-    Ok(())
 }
 
 // Does a task, which was taken from the work.

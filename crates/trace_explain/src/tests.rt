@@ -106,22 +106,57 @@ fn damaged_traces_are_refused(rt: HostRuntime) -> Result<(), Fail> {
     let m = Member::Original(q);
     let a = base(q, 'q');
     let b = base(p, 'p');
-    assert!(rt; check_trace(alloc, &book, &m, &[b, a, step(2, 1, q, 1, 'q')])?, "another order");
-    assert!(rt; !check_trace(alloc, &book, &m, &[a, step(1, 2, q, 1, 'q')])?, "without the second line");
-    assert!(rt; !check_trace(alloc, &book, &m, &[a, b, step(1, 1, q, 1, 'q')])?, "over itself");
-    assert!(rt; !check_trace(alloc, &book, &m, &[a, step(1, 3, q, 1, 'q'), b])?, "forward");
-    assert!(rt; !check_trace(alloc, &book, &m, &[a, b, step(1, 3, q, 1, 'q')])?, "its own line");
-    assert!(rt; !check_trace(alloc, &book, &m, &[a, b, step(0, 1, q, 1, 'q')])?, "line 0");
-    assert!(rt; !check_trace(alloc, &book, &m, &[a, b, step(1, 2, q, 0, 'q')])?, "a wrong form");
-    assert!(rt; !check_trace(alloc, &book, &m, &[a, b, step(1, 2, q, 1, 'q'), step(2, 3, p, 0, 'p')])?, "unequal contexts");
-    assert!(rt; !check_trace(alloc, &book, &m, &[a, b])?, "another last line");
+    assert!(rt;
+        check_trace(alloc, &book, &m, &[b, a, step(2, 1, q, 1, 'q')])?,
+        "another order"
+    );
+    assert!(rt;
+        !check_trace(alloc, &book, &m, &[a, step(1, 2, q, 1, 'q')])?,
+        "without the second line"
+    );
+    assert!(rt;
+        !check_trace(alloc, &book, &m, &[a, b, step(1, 1, q, 1, 'q')])?,
+        "over itself"
+    );
+    assert!(rt;
+        !check_trace(alloc, &book, &m, &[a, step(1, 3, q, 1, 'q'), b])?,
+        "forward"
+    );
+    assert!(rt;
+        !check_trace(alloc, &book, &m, &[a, b, step(1, 3, q, 1, 'q')])?,
+        "its own line"
+    );
+    assert!(rt;
+        !check_trace(alloc, &book, &m, &[a, b, step(0, 1, q, 1, 'q')])?,
+        "line 0"
+    );
+    assert!(rt;
+        !check_trace(alloc, &book, &m, &[a, b, step(1, 2, q, 0, 'q')])?,
+        "a wrong form"
+    );
+    assert!(rt;
+        !check_trace(
+            alloc,
+            &book,
+            &m,
+            &[a, b, step(1, 2, q, 1, 'q'), step(2, 3, p, 0, 'p')]
+        )?,
+        "unequal contexts"
+    );
+    assert!(rt;
+        !check_trace(alloc, &book, &m, &[a, b])?,
+        "another last line"
+    );
     assert!(rt; !check_trace(alloc, &book, &m, &[])?, "no line");
     Ok(())
 }
 
 fn marked(generation: u16, name: Name) -> (Member, Form) {
     let mark = Mark::Own { generation };
-    (Member::Group(name, generation), Form::Cover(Cover { place: 0, mark }))
+    (
+        Member::Group(name, generation),
+        Form::Cover(Cover { place: 0, mark }),
+    )
 }
 
 // Site 0 inserts a character, undoes and redoes it, and site 1 inserts another without knowing of it. The redo steps over
@@ -139,13 +174,33 @@ fn a_redo_steps_over_an_insert(rt: HostRuntime) -> Result<(), Fail> {
     let mut lines = Vec::new(alloc);
     assert!(rt; trace(alloc, &book, &redone, &mut lines)?);
     assert_eq!(rt; lines.len(), 7);
-    assert_eq!(rt; lines.get(0).copied(), Some(TraceLine::Base { member: redone, form: again }));
+    assert_eq!(rt;
+        lines.get(0).copied(),
+        Some(TraceLine::Base {
+            member: redone,
+            form: again
+        })
+    );
     assert_eq!(rt; lines.get(1).copied(), Some(base(x, 'x')));
     assert_eq!(rt; lines.get(2).copied(), Some(base(a, 'a')));
     assert_eq!(rt; lines.get(3).copied(), Some(step(2, 3, x, 1, 'x')));
-    assert_eq!(rt; lines.get(4).copied(), Some(TraceLine::Base { member: undone, form: own }));
+    assert_eq!(rt;
+        lines.get(4).copied(),
+        Some(TraceLine::Base {
+            member: undone,
+            form: own
+        })
+    );
     assert_eq!(rt; lines.get(5).copied(), Some(step(4, 5, x, 1, 'x')));
-    assert_eq!(rt; lines.get(6).copied(), Some(TraceLine::Step { left: 1, over: 6, member: redone, form: again }));
+    assert_eq!(rt;
+        lines.get(6).copied(),
+        Some(TraceLine::Step {
+            left: 1,
+            over: 6,
+            member: redone,
+            form: again
+        })
+    );
     assert!(rt; check_trace(alloc, &book, &redone, &lines)?);
     Ok(())
 }
