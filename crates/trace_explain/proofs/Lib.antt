@@ -1,0 +1,9 @@
+pub mod Smaller
+pub mod DerivedForms
+pub mod Turned
+pub mod OneTrace
+pub mod Rows
+pub mod Executed
+pub mod ExecutedForms
+pub mod CheckedLines
+pub mod SameForms

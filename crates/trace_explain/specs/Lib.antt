@@ -1,0 +1,4 @@
+pub mod Traces
+pub mod Listings
+pub mod Laws
+pub mod Code
