@@ -159,38 +159,3 @@ fn a_read_listing_makes_the_vector_that_was_listed(rt: HostRuntime) -> Result<()
     assert!(rt; read == v);
     Ok(())
 }
-
-/// A shared vector that has a group of each `step`-th name of the site from `first` on, `count` of them, put in by turns from both ends.
-fn undone_names(alloc: Global, first: u32, step: u32, count: u32) -> Result<Vector, Fail> {
-    let mut v = Vector::new(alloc);
-    for i in 0..count {
-        let at = if i % 2 == 0 { i / 2 } else { count - 1 - i / 2 };
-        let number = first.saturating_add(at.saturating_mul(step));
-        v.raise(&Member::Group(Name::new(0, number)?, 1))?;
-        v.share();
-    }
-    Ok(v)
-}
-
-#[test]
-fn names_in_several_pieces(rt: HostRuntime) -> Result<(), Fail> {
-    let even = undone_names(rt.alloc(), 2, 2, 150)?;
-    let mut all = even.try_clone()?;
-    all.join(&undone_names(rt.alloc(), 1, 2, 150)?)?;
-    assert_eq!(rt; (even.entries(), all.entries()), (150, 300));
-    assert_eq!(rt;
-        (
-            even.entry(&Name::new(0, 99)?),
-            all.entry(&Name::new(0, 99)?)
-        ),
-        (0, 1)
-    );
-    assert_eq!(rt; all.entry_at(299), Some((Name::new(0, 300)?, 1)));
-    assert_eq!(rt;
-        even.first_missing(&all),
-        Some(Member::Group(Name::new(0, 1)?, 1))
-    );
-    let other = undone_names(rt.alloc(), 1, 1, 300)?;
-    assert!(rt; all == other);
-    Ok(())
-}
