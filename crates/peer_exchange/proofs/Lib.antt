@@ -5,3 +5,6 @@ pub mod BothSides
 pub mod Staying
 pub mod Going
 pub mod Asking
+pub mod Fronts
+pub mod Lacked
+pub mod FirstMessages
