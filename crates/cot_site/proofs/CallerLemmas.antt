@@ -5,5 +5,5 @@ pub use Rattle.cot_site.proofs.Lacking.{first_lacked_is}
 pub use Rattle.cot_site.proofs.LocalOps.{few_cells, in_context_made, local_delete_next, local_insert_next, local_redo_next, local_undo_next}
 pub use Rattle.cot_site.proofs.Releases.{settled_none}
 pub use Rattle.cot_site.proofs.Settling.{delivered_number, release_number, settled_has_none, settled_settles, settled_stays, sound_delivered, sound_more, sound_released}
-pub use Rattle.cot_site.proofs.Verdicts.{formed_context, group_reached, next_integrated, unknown_no_repeat, verdict_only, verdicts_exact}
+pub use Rattle.cot_site.proofs.Verdicts.{formed_context, group_reached, integrated_next, next_integrated, unknown_no_repeat, verdict_only, verdicts_exact}
 pub use Rattle.cot_site.proofs.Waiting.{formed_at, held_formed}

@@ -8,3 +8,5 @@ pub mod Asking
 pub mod Fronts
 pub mod Lacked
 pub mod FirstMessages
+pub mod TakenOps
+pub mod Unrefused

@@ -1,6 +1,7 @@
 //! Laws of joins, and of taking in: each says what its definitions give, and does nothing.
 
 ghost use Rattle.peer_exchange.specs.Joins.{JoinsAreValid, LackedOperationsAreNext, EqualMembersAreAlike, BothSidesAreJoined, JoinsCommute, JoinsAssociate, JoinsAreIdempotent, AnyExchangesMeet};
+ghost use Rattle.peer_exchange.specs.Taking.{NextOperationsAreTaken, BothSidesTakeAll, NewOperationsAreAppended, UnrefusedExchangesJoin};
 
 /// The join of valid histories that agree is valid.
 pub fn joins_are_valid()
@@ -40,4 +41,24 @@ pub fn joins_are_idempotent()
 /// After any exchanges between any sites, those with the same members have the same operations and the same text.
 pub fn any_exchanges_meet()
     ensures { AnyExchangesMeet }
+{}
+
+/// Where nothing waits, operations that come next one after the other are all integrated.
+pub fn next_operations_are_taken()
+    ensures { NextOperationsAreTaken }
+{}
+
+/// Two sites that agree and at which nothing waits take in all that they lack, and then have the join.
+pub fn both_sides_take_all()
+    ensures { BothSidesTakeAll }
+{}
+
+/// Where nothing waits, operations of new members that are taken in without refusal are all integrated.
+pub fn new_operations_are_appended()
+    ensures { NewOperationsAreAppended }
+{}
+
+/// Two sites at which nothing waits, and which refuse nothing of each other, then have the join, whether they agree or not.
+pub fn unrefused_exchanges_join()
+    ensures { UnrefusedExchangesJoin }
 {}

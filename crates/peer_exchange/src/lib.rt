@@ -17,8 +17,10 @@ mod reader;
 mod stages;
 
 pub use laws::{
-    any_exchanges_meet, both_sides_are_joined, equal_members_are_alike, joins_are_idempotent,
-    joins_are_valid, joins_associate, joins_commute, lacked_operations_are_next,
+    any_exchanges_meet, both_sides_are_joined, both_sides_take_all, equal_members_are_alike,
+    joins_are_idempotent, joins_are_valid, joins_associate, joins_commute,
+    lacked_operations_are_next, new_operations_are_appended, next_operations_are_taken,
+    unrefused_exchanges_join,
 };
 pub use measuring::measure;
 pub use messages::{Measure, PeerCause, Which};

@@ -1,0 +1,68 @@
+-- Taking in operations that a peer sent: each is judged; one that is integrated or a repeat is delivered, and what it frees is released.
+use Rattle.std.specs.Prelude.{◌≡◌, false, List, [], ◌∷◌, ◌++◌, Result, Ok, Err}
+use Rattle.op_name.specs.declared.member.Member.{Member}
+use Rattle.context_diff.specs.Operations.{OpData, member_of, IsWellFormed}
+use Rattle.context_diff.specs.Histories.{IsValid, IsValidAfter, is_known}
+use Rattle.cot_site.specs.declared.verdict.Verdict.{Verdict}
+use Rattle.cot_site.specs.declared.verdict.Verdict.TheVariants.{Repeat, Forged, Waits, NotClosed, PlaceOut, Integrated}
+use Rattle.cot_site.specs.States.{State, judged, delivered}
+use Rattle.cot_site.specs.Releases.{settled}
+use Rattle.peer_exchange.specs.Joins.{unseen, joined, Agree}
+
+-- why an operation isn't taken in: its member, and its verdict
+pub record Refusal : Type 0 where
+  pub member : Member
+  pub verdict : Verdict
+
+abbrev pub refused : OpData → Verdict → Refusal
+refused o v = record { member = member_of o; verdict = v }
+
+-- an operation by its verdict, and the state before what follows
+abbrev pub by_verdict : Verdict → OpData → State → (State → Result State Refusal) → Result State Refusal
+by_verdict Repeat o s next = next (settled (delivered s o))
+by_verdict (Forged n) o s next = Err (refused o (Forged n))
+by_verdict (Waits m) o s next = Err (refused o (Waits m))
+by_verdict (NotClosed k) o s next = Err (refused o (NotClosed k))
+by_verdict (PlaceOut p k) o s next = Err (refused o (PlaceOut p k))
+by_verdict Integrated o s next = next (settled (delivered s o))
+
+-- TakenIn: the state after these operations were taken in, one after the other, or the first refusal
+unfoldable pub taken_in : State → List OpData → Result State Refusal
+taken_in s [] = Ok s
+taken_in s (o ∷ os) = by_verdict (judged s o) o s (λ t. taken_in t os)
+
+-- a site at which nothing waits
+abbrev pub with_history : State → List OpData → State
+with_history s h = record s { history = h }
+
+-- at a site at which nothing waits, operations that are next one after the other are all integrated
+abbrev pub NextOperationsAreTaken : Type 0
+NextOperationsAreTaken =
+    (s : State) (os : List OpData) → IsValid s.history → s.waiting ≡ [] → IsValidAfter s.history os
+    → taken_in s os ≡ Ok (with_history s (s.history ++ os))
+
+-- two sites at which nothing waits and which agree: what each lacks is taken in without refusal, and each then has the join
+abbrev pub BothSidesTakeAll : Type 0
+BothSidesTakeAll =
+    (s t : State) → IsValid s.history → IsValid t.history → s.waiting ≡ [] → t.waiting ≡ [] → Agree s.history t.history
+    → (taken_in t (unseen (is_known t.history) s.history) ≡ Ok (with_history t (joined t.history s.history)))
+    × (taken_in s (unseen (is_known s.history) (joined t.history s.history)) ≡ Ok (with_history s (joined s.history t.history)))
+
+-- each operation is well formed and no member of the history or of one before it
+abbrev pub AreNew : List OpData → List OpData → Type 0
+AreNew h [] = Unit {0}
+AreNew h (o ∷ os) = IsWellFormed o × (is_known h (member_of o) ≡ false) × AreNew (h ++ o ∷ []) os
+
+-- frames of new members that were taken in without refusal, at a site at which nothing waits, were all integrated
+abbrev pub NewOperationsAreAppended : Type 0
+NewOperationsAreAppended =
+    (s t : State) (os : List OpData) → IsValid s.history → s.waiting ≡ [] → AreNew s.history os → taken_in s os ≡ Ok t
+    → t ≡ with_history s (s.history ++ os)
+
+-- the four calls between two sites at which nothing waits: where none refuses, each side has the join
+abbrev pub UnrefusedExchangesJoin : Type 0
+UnrefusedExchangesJoin =
+    (s t s' t' : State) → IsValid s.history → IsValid t.history → s.waiting ≡ [] → t.waiting ≡ []
+    → taken_in t (unseen (is_known t.history) s.history) ≡ Ok t'
+    → taken_in s (unseen (is_known s.history) t'.history) ≡ Ok s'
+    → (t' ≡ with_history t (joined t.history s.history)) × (s' ≡ with_history s (joined s.history t.history))
