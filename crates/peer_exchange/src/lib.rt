@@ -4,12 +4,15 @@
 //! agree, that is, know no name by different contents, each takes in all that it lacks, and both then have the join.
 //!
 //! An exchange is three messages. `measure` says of the bytes of one how long it is, as far as they tell, and a
-//! `MessageReader` does so as they come in.
+//! `MessageReader` does so as they come in. `offer` writes the first message and `answer` the second.
 #![tactic(auto)]
 
+mod lacking;
 mod laws;
 mod measuring;
 mod messages;
+mod offering;
+mod peer;
 mod reader;
 mod stages;
 
@@ -21,4 +24,6 @@ pub use laws::{
 };
 pub use measuring::measure;
 pub use messages::{Measure, PeerCause, Which};
+pub use offering::{answer, offer};
+pub use peer::Peer;
 pub use reader::MessageReader;
