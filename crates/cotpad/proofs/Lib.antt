@@ -6,3 +6,4 @@ pub mod Logs
 pub mod Alike
 pub mod Choosing
 pub mod Session
+pub mod OneReply

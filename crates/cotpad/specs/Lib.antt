@@ -7,4 +7,5 @@ pub mod Editing
 pub mod Replies
 pub mod Generating
 pub mod Answers
+pub mod Laws
 pub mod Code

@@ -12,13 +12,14 @@ ghost use Rattle.cotpad.specs.Statuses.{IsReported};
 ghost use Rattle.cotpad.specs.Outside.{told, AreWrongWords};
 ghost use Rattle.cotpad.specs.Answers.{IsAnswered, IsMade};
 ghost use Rattle.cotpad.specs.Generating.{gen_text, IsCounted};
+ghost use Rattle.cotpad.specs.Laws.{OneReply};
 ghost use Rattle.cotpad.specs.Replies.{IsScriptReport, IsShown, IsEdited};
 
 use crate::answer::answer;
 use crate::command::{Command, command_of};
 use crate::edit::Editing;
 use crate::generator::answer_generated;
-use crate::laws::same_operations;
+use crate::laws::{one_reply, same_operations};
 use crate::replay::Replay;
 use crate::show::Show;
 use crate::status::Status;
@@ -59,6 +60,8 @@ pub fn run<S: Source, K: Sink, W: Wire>(
     ensures counted { (start events window : ℕ) → Spells words.now (asked.Gen start events window) → result ≡ Status.Done → IsCounted start events window }
     // Histories of the same operations, in whatever order they came, show the same text.
     ensures same { (h k : List OpData) → IsValid h → IsValid k → Same h k → text_of h ≡ text_of k }
+    // The bytes of a log decide what `show` and `edit` reply.
+    ensures one_reply { OneReply }
 
     // Words that spell no command.
     ensures words { SpellNothing words.now → AreWrongWords
@@ -81,6 +84,7 @@ pub fn run<S: Source, K: Sink, W: Wire>(
         → IsReported result ⊎ (result ≡ Status.Memory) }
 {
     same_operations();
+    one_reply();
     match command_of(words) {
         Some(Command::Replay) => answer(alloc, &Replay, source, sink),
         Some(Command::Show) => answer(alloc, &Show, source, sink),

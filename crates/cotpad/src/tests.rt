@@ -321,6 +321,22 @@ fn a_session_is_generated(rt: HostRuntime) -> Result<(), Fail> {
 }
 
 #[test]
+fn sites_of_long_sessions_show_the_same_text(rt: HostRuntime) -> Result<(), Fail> {
+    let alloc = rt.alloc();
+    for words in ["gen 1 1000 8", "gen 1 400 32"] {
+        let (ended, held) = called(alloc, words, b"not read", 8, &[0], &[])?;
+        assert_eq!(rt; ended, Status::Done, "{words}");
+        let Ok(reply) = std::str::from_utf8(&held) else {
+            return Err(Fail::new("the reply isn't UTF-8"));
+        };
+        let mut lines = reply.split('\n');
+        lines.next();
+        assert_eq!(rt; lines.next(), Some("equal 4"), "{words}");
+    }
+    Ok(())
+}
+
+#[test]
 fn exit_statuses_are_in_order(rt: HostRuntime) {
     let statuses = [
         Status::Done,

@@ -1,0 +1,9 @@
+-- The laws that stand beside replies.
+use Rattle.std.specs.Prelude.{◌≡◌, ℕ, List}
+use Rattle.cot_site.specs.States.{State}
+use Rattle.session_replay.specs.Scripts.{Report}
+use Rattle.cotpad.specs.Replies.{RepliesToLog}
+
+-- the bytes decide the reply: a command that loads its input as a log, and then replies to the state, has one reply at most
+abbrev pub OneReply : Type 0
+OneReply = (site : ℕ) (to_state : State → Report) (bytes : List ℕ) (a b : Report) → RepliesToLog site to_state bytes a → RepliesToLog site to_state bytes b → a ≡ b
