@@ -119,6 +119,3 @@ pub fn answer(alloc: Global, site: &Site, first: &[u8], out: &mut Vec<u8>) -> Re
         }
     }
 }
-
-#[cfg(test)]
-mod tests;
