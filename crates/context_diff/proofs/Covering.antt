@@ -31,7 +31,7 @@ covers_from h w v s within o n at is site number =
     let inner : Within (original_context h n) v = subst (λ (x : NameData). Within (original_context h x) v) same (within (omega arith)) in
     subst (λ (c : ContextData). Within c v) (context_is h w o n at is known) inner
 
-covers_to : (h : List OpData) (v : ContextData) (n : NameData) → CoversSite h v n.site → is_known h (Original n) ≡ true → n.number ≡ count_of v n.site → Within (original_context h n) v
+pub covers_to : (h : List OpData) (v : ContextData) (n : NameData) → CoversSite h v n.site → is_known h (Original n) ≡ true → n.number ≡ count_of v n.site → Within (original_context h n) v
 covers_to h v n covers known last =
     let held = original_holder h n known in
     subst (λ (c : ContextData). Within c v) (sym held.context) (covers held.op n held.there held.is refl last)

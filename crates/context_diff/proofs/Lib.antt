@@ -16,6 +16,7 @@ pub mod Kept
 pub mod Listings
 pub mod PlaceSteps
 pub mod Covering
+pub mod ClosedParts
 pub mod GapEnds
 pub mod Replaying
 pub mod Derived

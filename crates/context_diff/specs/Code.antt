@@ -3,3 +3,4 @@ pub mod Kept
 pub mod Places
 pub mod Counting
 pub mod GapEnds
+pub mod ClosedParts

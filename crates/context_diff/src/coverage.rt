@@ -7,9 +7,10 @@ ghost use Rattle.context_vector.specs.Contexts.{Within, has};
 ghost use Rattle.context_diff.specs.Histories.{is_known, IsClosed};
 ghost use Rattle.context_diff.specs.Bases.{base_has, base_context_of, original_context};
 ghost use Rattle.context_diff.specs.Books.{IsFirstOpenSite};
-ghost use Rattle.context_diff.specs.Differences.{difference_of};
+ghost use Rattle.context_diff.specs.Code.ClosedParts.{IsClosedPart};
 
 use crate::book::Book;
+use crate::closed_part::{closed_part, count_near};
 use context_vector::Vector;
 use op_name::{Member, Memory, Name};
 use std::alloc::Global;
@@ -23,11 +24,14 @@ pub fn closed(book: &Book, v: &Vector) -> Option<u16>
 {
     v.known();
     book.known();
+    let part = closed_part(book, v);
     for i in 0..v.sites() {
         if let Some(counted) = v.site_at(i) {
-            if !covers_context(
+            if !is_covered(
                 book,
                 v,
+                part,
+                i,
                 &Name {
                     site: counted.0,
                     number: counted.1,
@@ -38,6 +42,21 @@ pub fn closed(book: &Book, v: &Vector) -> Option<u16>
         }
     }
     None
+}
+
+// Whether `v` has all that the original of this name was made after, which is the last one in `v` of the site at the
+// place `i`. Where a closed context within `v` counts as many of the site, it has.
+fn is_covered(book: &Book, v: &Vector, part: Option<&Vector>, i: u32, name: &Name) -> bool
+    requires known { is_known book.now.ops (Original name.now) ≡ true }
+    requires part { IfSome part (λ c. IsClosedPart book.now.ops v.now.set c.now.set) }
+    ensures { IsTrue result ↔ Within (original_context book.now.ops name.now) v.now.set }
+{
+    if let Some(closed) = part {
+        if count_near(closed, i, name.site) == name.number {
+            return true;
+        }
+    }
+    covers_context(book, v, name)
 }
 
 // Whether `v` has all that the original of this name was made after.

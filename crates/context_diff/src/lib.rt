@@ -5,6 +5,7 @@
 #![tactic(auto)]
 
 mod book;
+mod closed_part;
 mod coverage;
 mod gathering;
 mod laws;

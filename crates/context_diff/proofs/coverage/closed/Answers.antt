@@ -9,35 +9,35 @@ use Rattle.context_diff.proofs.Covering.{named_known, all_covered, covered_below
 use Rattle.context_diff.proofs.Books.{covered_ready}
 use Rattle.context_diff.proofs.coverage.closed.Goals as goal
 
-pub invariant_of-covers_context : goal.invariant_of-covers_context
-invariant_of-covers_context c =
+pub invariant_of-is_covered : goal.invariant_of-is_covered
+invariant_of-is_covered c =
     let at : slice_get c.args.v.now.set.counts c.loop-i.i ≡ Some c.in-Some.counted = sym c.site_at.ensures ∙ c.in-Some.is in
     let here = count_at 0 c.args.v.now.set.counts c.known.ensures.counts c.loop-i.i c.in-Some.counted at in
     (here.site, here.least, here.greatest)
 
-pub covers_context-requires : goal.covers_context-requires
-covers_context-requires c =
+pub is_covered-requires-clause-known : goal.is_covered-requires-clause-known
+is_covered-requires-clause-known c =
     let h = c.args.book.now.ops in
     let v = c.args.v.now.set in
     let at : slice_get v.counts c.loop-i.i ≡ Some c.in-Some.counted = sym c.site_at.ensures ∙ c.in-Some.is in
     named_known h v (covered_ready h c.args.book.now.have.set v c.known-2.ensures.valid c.known-2.ensures.have c.requires) c.known.ensures.counts c.loop-i.i c.in-Some.counted at
 
-pub returns-then-not-covers_context-clause-none : goal.returns-then-not-covers_context-clause-none
-returns-then-not-covers_context-clause-none c =
+pub returns-then-not-is_covered-clause-none : goal.returns-then-not-is_covered-clause-none
+returns-then-not-is_covered-clause-none c =
     let h = c.args.book.now.ops in
     let v = c.args.v.now.set in
     let at : slice_get v.counts c.loop-i.i ≡ Some c.in-Some.counted = sym c.site_at.ensures ∙ c.in-Some.is in
     let ready = covered_ready h c.args.book.now.have.set v c.known-2.ensures.valid c.known-2.ensures.have c.requires in
-    let fails : Within (original_context h (record { site = c.in-Some.counted.0; number = c.in-Some.counted.1 })) v → ⊥ = λ within. false≢true (sym c.if-not-covers_context.true ∙ c.covers_context.ensures.1 within) in
+    let fails : Within (original_context h (record { site = c.in-Some.counted.0; number = c.in-Some.counted.1 })) v → ⊥ = λ within. false≢true (sym c.if-not-is_covered.true ∙ c.is_covered.ensures.1 within) in
     (λ no. absurd (true≢false no), λ closed. absurd (not_covered h v ready c.known.ensures.counts c.loop-i.i c.in-Some.counted at fails (closed c.in-Some.counted.0)))
 
-pub returns-then-not-covers_context-clause-first : goal.returns-then-not-covers_context-clause-first
-returns-then-not-covers_context-clause-first c =
+pub returns-then-not-is_covered-clause-first : goal.returns-then-not-is_covered-clause-first
+returns-then-not-is_covered-clause-first c =
     let h = c.args.book.now.ops in
     let v = c.args.v.now.set in
     let at : slice_get v.counts c.loop-i.i ≡ Some c.in-Some.counted = sym c.site_at.ensures ∙ c.in-Some.is in
     let ready = covered_ready h c.args.book.now.have.set v c.known-2.ensures.valid c.known-2.ensures.have c.requires in
-    let fails : Within (original_context h (record { site = c.in-Some.counted.0; number = c.in-Some.counted.1 })) v → ⊥ = λ within. false≢true (sym c.if-not-covers_context.true ∙ c.covers_context.ensures.1 within) in
+    let fails : Within (original_context h (record { site = c.in-Some.counted.0; number = c.in-Some.counted.1 })) v → ⊥ = λ within. false≢true (sym c.if-not-is_covered.true ∙ c.is_covered.ensures.1 within) in
     record {
       open_site = not_covered h v ready c.known.ensures.counts c.loop-i.i c.in-Some.counted at fails;
       first = covered_below h (complete h c.known-2.ensures.valid) v c.known.ensures.counts c.loop-i.i c.in-Some.counted at c.loop-i.invariant;
