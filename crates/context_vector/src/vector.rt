@@ -14,6 +14,7 @@ use std::marker::Model;
 mod changes;
 mod entries;
 mod equality;
+mod marked;
 mod marks;
 mod piece;
 mod pieces;

@@ -1,4 +1,4 @@
-//! The entries of a vector: a list of its own, or one that other vectors have too.
+//! The entries of a vector: none, a list of its own, or one that other vectors have too.
 
 ghost use Rattle.std.specs.Prelude.{◌≡◌, ◌≤◌, ◌++◌, ◌∷◌, ◌↔◌, [], Some, drop, length, IfOk, IfSome, IsNone, IsTrue, OnOk, OnErr};
 ghost use Rattle.context_vector.specs.Contexts.{entry_in, put_entry, AreEntries};
@@ -9,27 +9,28 @@ ghost use Rattle.context_vector.specs.Equality.{entry_eq};
 ghost use Rattle.context_vector.specs.Code.Pieces.{IsRun};
 ghost use Rattle.context_vector.specs.Code.Entries.{entries_of};
 
-use super::marks::weight;
-use super::pieces::Pieces;
+use super::marked::Marked;
 use op_name::{Memory, Name};
 use std::alloc::Global;
 use std::marker::Model;
 use std::rc::Rc;
 
-/// Each undone name with its greatest generation, names rising.
+/// Each undone name with its greatest generation, names rising. It stands behind one pointer, so that a vector
+/// without undone names pays no more for them than that.
 #[derive(Debug, Drop)]
 pub struct Entries {
+    alloc: Global,
     list: EntryList,
-    /// The mark of the list, by which most other lists are told apart at a look.
-    mark: u64,
 }
 
 #[derive(Debug, Drop)]
 enum EntryList {
+    /// No entries, and no memory.
+    Nothing,
     /// No other vector has this list, so it may be changed in place.
-    Own(Pieces),
+    Own(Box<Marked>),
     /// Other vectors may have this list too, so it stays as it is.
-    Shared(Rc<Pieces>),
+    Shared(Rc<Marked>),
 }
 
 impl Model for Entries {
@@ -38,12 +39,7 @@ impl Model for Entries {
 
     ghost Value = { EntriesData };
 
-    ghost use Rattle.std.specs.Prelude.{◌≡◌};
-    ghost use Rattle.context_vector.specs.Marks.{mark_of};
-
     ghost view = { λ e. entries_of e.list };
-
-    ghost invariant = { λ e. e.mark ≡ mark_of (entries_of e.list).items };
 }
 
 impl Entries {
@@ -52,23 +48,31 @@ impl Entries {
         ensures { result.items ≡ [] }
     {
         Entries {
-            list: EntryList::Own(Pieces::new(alloc)),
-            mark: 0,
+            alloc,
+            list: EntryList::Nothing,
         }
     }
 
-    // The list in its pieces.
-    fn pieces(&self) -> &Pieces
-        ensures { result.now.items ≡ self.now.items }
+    // The list; None only if there are no entries.
+    fn list(&self) -> Option<&Marked>
+        ensures items { IfSome result (λ l. l.now.items ≡ self.now.items) }
+        ensures none { IsNone result → self.now.items ≡ [] }
     {
-        pieces_of(&self.list)
+        match &self.list {
+            EntryList::Nothing => None,
+            EntryList::Own(list) => Some(list),
+            EntryList::Shared(list) => Some(list.as_ref()),
+        }
     }
 
     /// The mark of the list: equal lists have equal marks.
     pub fn mark(&self) -> u64
         ensures { result ≡ mark_of self.now.items }
     {
-        self.mark
+        match self.list() {
+            Some(list) => list.mark(),
+            None => 0,
+        }
     }
 
     /// The number of entries.
@@ -76,7 +80,10 @@ impl Entries {
         requires { AreEntries self.now.items }
         ensures { result ≡ length self.now.items }
     {
-        self.pieces().len()
+        match self.list() {
+            Some(list) => list.pieces().len(),
+            None => 0,
+        }
     }
 
     /// The greatest generation of the name, 0 if it has no entry.
@@ -84,7 +91,10 @@ impl Entries {
         requires { AreEntries self.now.items }
         ensures { result ≡ entry_in self.now.items name.now }
     {
-        self.pieces().entry(name)
+        match self.list() {
+            Some(list) => list.pieces().entry(name),
+            None => 0,
+        }
     }
 
     /// The entries from the i-th on, as many as stand in one piece; None exactly past the end.
@@ -92,14 +102,21 @@ impl Entries {
         ensures run { IfSome result (λ r. IsRun r.now (drop i self.now.items)) }
         ensures none { IsNone result ↔ (length self.now.items ≤ i) }
     {
-        self.pieces().run(i)
+        match self.list() {
+            Some(list) => list.pieces().run(i),
+            None => None,
+        }
     }
 
     /// A copy of the entries in one list.
     pub fn to_vec(&self) -> Result<Vec<(Name, u16)>, Memory>
         ensures { IfOk result (λ v. v.items ≡ self.now.items) }
     {
-        self.pieces().to_vec()
+        let mut all = Vec::new(self.alloc);
+        while let Some(run) = self.run(all.len()) {
+            all.extend_from_slice(run)?;
+        }
+        Ok(all)
     }
 
     /// Whether both have the same entries.
@@ -108,10 +125,35 @@ impl Entries {
         requires theirs { AreEntries other.now.items }
         ensures { result ≡ pointwise entry_eq self.now.items other.now.items }
     {
-        if self.mark != other.mark {
+        let mine = self.mark();
+        let theirs = other.mark();
+        if mine != theirs {
             return false;
         }
-        self.pieces().is_same(other.pieces())
+        self.has_runs_of(other)
+    }
+
+    // Whether both have the same entries, run by run.
+    fn has_runs_of(&self, other: &Entries) -> bool
+        requires mine { AreEntries self.now.items }
+        requires theirs { AreEntries other.now.items }
+        ensures { result ≡ pointwise entry_eq self.now.items other.now.items }
+    {
+        let mut i = 0;
+        while let Some(mine) = self.run(i) {
+            match other.run(i) {
+                Some(theirs) => {
+                    let n = mine.len().min(theirs.len());
+                    if mine.split_at(n).0 == theirs.split_at(n).0 {
+                        i += n;
+                    } else {
+                        return false;
+                    }
+                }
+                None => return false,
+            }
+        }
+        other.run(i).is_none()
     }
 
     /// The same entries once more. No entry of a shared list is copied.
@@ -119,12 +161,15 @@ impl Entries {
         ensures { IfOk result (λ e. e.items ≡ self.now.items) }
     {
         let list = match &self.list {
-            EntryList::Own(list) => EntryList::Own(list.settled()?),
+            EntryList::Nothing => EntryList::Nothing,
+            EntryList::Own(list) => {
+                EntryList::Own(Box::new(self.alloc, list.settled(self.alloc)?)?)
+            }
             EntryList::Shared(list) => EntryList::Shared(list.clone()?),
         };
         Ok(Entries {
+            alloc: self.alloc,
             list,
-            mark: self.mark,
         })
     }
 
@@ -132,18 +177,25 @@ impl Entries {
     pub fn share(&mut self)
         ensures { self.new.items ≡ self.old.items }
     {
-        let alloc = match &self.list {
-            EntryList::Own(list) if self.mark != 0 => list.allocator(),
-            _ => return,
-        };
-        let own = std::mem::replace(&mut self.list, EntryList::Own(Pieces::new(alloc)));
-        self.list = match own {
-            EntryList::Own(list) => match Rc::new(alloc, list) {
-                Ok(list) => EntryList::Shared(list),
-                Err(refused) => EntryList::Own(refused.value),
+        if let Some(shared) = self.to_share() {
+            *self = shared;
+        }
+    }
+
+    // The same entries in a list that several vectors may have, if this has a list of its own and there is memory.
+    fn to_share(&self) -> Option<Entries>
+        ensures { IfSome result (λ e. e.items ≡ self.now.items) }
+    {
+        match &self.list {
+            EntryList::Own(list) if list.mark() != 0 => match shared(self.alloc, list) {
+                Ok(list) => Some(Entries {
+                    alloc: self.alloc,
+                    list: EntryList::Shared(list),
+                }),
+                Err(_) => None,
             },
-            EntryList::Shared(list) => EntryList::Shared(list),
-        };
+            _ => None,
+        }
     }
 
     /// Takes the list of `other` where that is shared and has the same entries; no entry comes or goes, and
@@ -188,12 +240,12 @@ impl Entries {
         match &self.list {
             EntryList::Shared(list) => match list.clone() {
                 Ok(list) => Some(Entries {
+                    alloc: self.alloc,
                     list: EntryList::Shared(list),
-                    mark: self.mark,
                 }),
                 Err(_) => None,
             },
-            EntryList::Own(_) => None,
+            _ => None,
         }
     }
 
@@ -203,8 +255,8 @@ impl Entries {
         ensures { IsTrue result ↔ ((self.now.ready ≡ Some name.now) × (entry_in self.now.items name.now ≡ 0 → 1 ≤ self.now.spare)) }
     {
         match &self.list {
-            EntryList::Own(list) => list.has_room_for(name),
-            EntryList::Shared(_) => false,
+            EntryList::Own(list) => list.pieces().has_room_for(name),
+            EntryList::Nothing | EntryList::Shared(_) => false,
         }
     }
 
@@ -218,9 +270,23 @@ impl Entries {
         if self.has_room_for(name) {
             return Ok(());
         }
-        let opened = self.pieces().opened(name)?;
+        let opened = self.opened(name)?;
         self.list = EntryList::Own(opened);
         Ok(())
+    }
+
+    // A list of its own with the same entries, which has room for the name.
+    fn opened(&self, name: &Name) -> Result<Box<Marked>, Memory>
+        requires { AreEntries self.now.items }
+        ensures items { IfOk result (λ m. m.value.items ≡ self.now.items) }
+        ensures ready { IfOk result (λ m. m.value.ready ≡ Some name.now) }
+        ensures spare { IfOk result (λ m. 1 ≤ m.value.spare) }
+    {
+        let opened = match self.list() {
+            Some(list) => list.opened(self.alloc, name)?,
+            None => Marked::new(self.alloc).opened(self.alloc, name)?,
+        };
+        Ok(Box::new(self.alloc, opened)?)
     }
 
     /// Makes the generation the greatest of the name, which was made ready.
@@ -231,12 +297,10 @@ impl Entries {
         ensures items { self.new.items ≡ put_entry name.now generation self.old.items }
         ensures ready { self.new.ready ≡ self.old.ready }
     {
-        let had = weight(name, self.entry(name));
         match &mut self.list {
             EntryList::Own(list) => list.put(name, generation),
-            EntryList::Shared(_) => unreachable!(),
+            _ => unreachable!(),
         }
-        self.mark = self.mark - had + weight(name, generation);
     }
 
     /// Takes one from the greatest generation of the name, which was made ready.
@@ -250,9 +314,8 @@ impl Entries {
     {
         match &mut self.list {
             EntryList::Own(list) => list.lower(name, generation),
-            EntryList::Shared(_) => unreachable!(),
+            _ => unreachable!(),
         }
-        self.mark = self.mark - weight(name, generation) + weight(name, generation - 1);
     }
 
     /// Appends an entry. Out of memory, nothing changes.
@@ -261,31 +324,30 @@ impl Entries {
         ensures pushed { OnOk result (self.new.items ≡ self.old.items ++ (name, generation) ∷ []) }
         ensures kept { OnErr result (self.new.items ≡ self.old.items) }
     {
-        grow(&mut self.list, name, generation)?;
-        self.mark += weight(&name, generation);
+        if let EntryList::Own(list) = &mut self.list {
+            return list.push(self.alloc, name, generation);
+        }
+        let more = self.with_last(name, generation)?;
+        self.list = EntryList::Own(more);
         Ok(())
     }
-}
 
-// The list in its pieces.
-fn pieces_of(list: &EntryList) -> &Pieces
-    ensures { result.now.items ≡ (entries_of list.now).items }
-{
-    match list {
-        EntryList::Own(list) => list,
-        EntryList::Shared(list) => list.as_ref(),
+    // A list of its own with the same entries and one more after them.
+    fn with_last(&self, name: Name, generation: u16) -> Result<Box<Marked>, Memory>
+        requires { AreEntries self.now.items }
+        ensures { IfOk result (λ m. m.value.items ≡ self.now.items ++ (name, generation) ∷ []) }
+    {
+        let more = match self.list() {
+            Some(list) => list.with_last(self.alloc, name, generation)?,
+            None => Marked::new(self.alloc).with_last(self.alloc, name, generation)?,
+        };
+        Ok(Box::new(self.alloc, more)?)
     }
 }
 
-// Appends an entry. Out of memory, nothing changes.
-fn grow(list: &mut EntryList, name: Name, generation: u16) -> Result<(), Memory>
-    ensures pushed { OnOk result ((entries_of list.new).items ≡ (entries_of list.old).items ++ (name, generation) ∷ []) }
-    ensures kept { OnErr result ((entries_of list.new).items ≡ (entries_of list.old).items) }
+// The same entries in a list that several vectors may have.
+fn shared(alloc: Global, list: &Marked) -> Result<Rc<Marked>, Memory>
+    ensures { IfOk result (λ m. m.value.items ≡ list.now.items) }
 {
-    if let EntryList::Own(pieces) = list {
-        return pieces.push(name, generation);
-    }
-    let more = pieces_of(&*list).with_last(name, generation)?;
-    *list = EntryList::Own(more);
-    Ok(())
+    Ok(Rc::new(alloc, list.settled(alloc)?)?)
 }

@@ -3,8 +3,6 @@
 ghost use Rattle.std.specs.Prelude.{◌≡◌, ◌≤◌, ◌+◌, ◌++◌, ◌∷◌, ◌↔◌, [], Some, None, take, drop, length, IfOk, IfSome, vec_len, vec_capacity, ◌<◌, IsNone, IsTrue, OnOk, OnErr};
 ghost use Rattle.context_vector.specs.Contexts.{entry_in, put_entry, AreEntries};
 ghost use Rattle.context_vector.specs.Vectors.{lower_entry, NamesBelow};
-ghost use lib.Pointwise.{pointwise};
-ghost use Rattle.context_vector.specs.Equality.{entry_eq};
 ghost use Rattle.context_vector.specs.Code.Pieces.{joined, NamesAbove, IsBetween, IsRun};
 
 use super::piece::{Piece, append, append_cut};
@@ -55,11 +53,6 @@ impl Pieces {
         }
     }
 
-    /// The allocator.
-    pub fn allocator(&self) -> Global {
-        *self.own.allocator()
-    }
-
     /// The number of entries.
     pub fn len(&self) -> usize
         requires { AreEntries self.now.items }
@@ -96,40 +89,6 @@ impl Pieces {
         }
     }
 
-    /// Whether both have the same entries.
-    pub fn is_same(&self, other: &Pieces) -> bool
-        requires mine { AreEntries self.now.items }
-        requires theirs { AreEntries other.now.items }
-        ensures { result ≡ pointwise entry_eq self.now.items other.now.items }
-    {
-        let mut i = 0;
-        while let Some(mine) = self.run(i) {
-            match other.run(i) {
-                Some(theirs) => {
-                    let n = mine.len().min(theirs.len());
-                    if mine.split_at(n).0 == theirs.split_at(n).0 {
-                        i += n;
-                    } else {
-                        return false;
-                    }
-                }
-                None => return false,
-            }
-        }
-        other.run(i).is_none()
-    }
-
-    /// A copy of the entries in one list.
-    pub fn to_vec(&self) -> Result<Vec<(Name, u16)>, Memory>
-        ensures { IfOk result (λ v. v.items ≡ self.now.items) }
-    {
-        let mut all = Vec::new(self.allocator());
-        while let Some(run) = self.run(all.len()) {
-            all.extend_from_slice(run)?;
-        }
-        Ok(all)
-    }
-
     /// Whether the name can be put or lowered without memory.
     pub fn has_room_for(&self, name: &Name) -> bool
         requires { AreEntries self.now.items }
@@ -144,28 +103,27 @@ impl Pieces {
     }
 
     /// The same entries, where the place of the name is in the open piece, which has a spare place.
-    pub fn opened(&self, name: &Name) -> Result<Pieces, Memory>
+    pub fn opened(&self, alloc: Global, name: &Name) -> Result<Pieces, Memory>
         requires { AreEntries self.now.items }
         ensures items { IfOk result (λ p. p.items ≡ self.now.items) }
         ensures ready { IfOk result (λ p. p.ready ≡ Some name.now) }
         ensures spare { IfOk result (λ p. 1 ≤ p.spare) }
     {
-        let all = self.closed()?;
+        let all = self.closed(alloc)?;
         let at = piece_to_open(all.as_slice(), name);
         let (low, high) = all.as_slice().split_at(at);
         match high.split_first() {
-            Some((piece, others)) => around(low, piece.as_slice(), others, name, self.allocator()),
-            None => around(low, &[], high, name, self.allocator()),
+            Some((piece, others)) => around(alloc, low, piece.as_slice(), others, name),
+            None => around(alloc, low, &[], high, name),
         }
     }
 
     /// The same entries, none of them in the open piece.
-    pub fn settled(&self) -> Result<Pieces, Memory>
+    pub fn settled(&self, alloc: Global) -> Result<Pieces, Memory>
         ensures { IfOk result (λ p. p.items ≡ self.now.items) }
     {
-        let alloc = self.allocator();
         Ok(Pieces {
-            before: self.closed()?,
+            before: self.closed(alloc)?,
             own: Vec::new(alloc),
             after: Vec::new(alloc),
             ready: None,
@@ -173,14 +131,13 @@ impl Pieces {
     }
 
     /// The same entries and one more after them.
-    pub fn with_last(&self, name: Name, generation: u16) -> Result<Pieces, Memory>
+    pub fn with_last(&self, alloc: Global, name: Name, generation: u16) -> Result<Pieces, Memory>
         ensures { IfOk result (λ p. p.items ≡ self.now.items ++ (name, generation) ∷ []) }
     {
-        let alloc = self.allocator();
         let mut own = Vec::with_capacity(alloc, 1)?;
         own.push_reserved((name, generation));
         Ok(Pieces {
-            before: self.closed()?,
+            before: self.closed(alloc)?,
             own,
             after: Vec::new(alloc),
             ready: None,
@@ -188,11 +145,11 @@ impl Pieces {
     }
 
     // All entries in pieces that may be shared.
-    fn closed(&self) -> Result<Vec<Piece>, Memory>
+    fn closed(&self, alloc: Global) -> Result<Vec<Piece>, Memory>
         ensures { IfOk result (λ v. joined v.items ≡ self.now.items) }
     {
         let mut all = Vec::with_capacity(
-            self.allocator(),
+            alloc,
             self.before
                 .len()
                 .saturating_add(self.after.len())
@@ -205,7 +162,7 @@ impl Pieces {
     }
 
     /// Appends an entry. Out of memory, nothing changes.
-    pub fn push(&mut self, name: Name, generation: u16) -> Result<(), Memory>
+    pub fn push(&mut self, alloc: Global, name: Name, generation: u16) -> Result<(), Memory>
         ensures pushed { OnOk result (self.new.items ≡ self.old.items ++ (name, generation) ∷ []) }
         ensures kept { OnErr result (self.new.items ≡ self.old.items) }
     {
@@ -215,7 +172,7 @@ impl Pieces {
             self.own.push_reserved((name, generation));
             return Ok(());
         }
-        let more = self.with_last(name, generation)?;
+        let more = self.with_last(alloc, name, generation)?;
         *self = more;
         Ok(())
     }
@@ -264,11 +221,11 @@ fn run_from_open<'a>(
 
 // The pieces with a copy of the list between them, in which the place of the name is, and a spare place.
 fn around(
+    alloc: Global,
     low: &[Piece],
     list: &[(Name, u16)],
     high: &[Piece],
     name: &Name,
-    alloc: Global,
 ) -> Result<Pieces, Memory>
     requires { IsBetween (joined low.now) (joined high.now) name.now }
     ensures items { IfOk result (λ p. p.items ≡ joined low.now ++ (list.now ++ joined high.now)) }
@@ -279,15 +236,15 @@ fn around(
     own.extend_from_slice(list)?;
     own.reserve(1)?;
     Ok(Pieces {
-        before: copied(low, alloc)?,
+        before: copied(alloc, low)?,
         own,
-        after: copied(high, alloc)?,
+        after: copied(alloc, high)?,
         ready: Some(*name),
     })
 }
 
 // The same pieces once more.
-fn copied(pieces: &[Piece], alloc: Global) -> Result<Vec<Piece>, Memory>
+fn copied(alloc: Global, pieces: &[Piece]) -> Result<Vec<Piece>, Memory>
     ensures { IfOk result (λ v. v.items ≡ pieces.now) }
 {
     let mut all = Vec::with_capacity(alloc, pieces.len())?;

@@ -1,5 +1,5 @@
 use Rattle.std.proofs.Common.{◌≡◌, ◌++◌, ◌-◌, length, drop, vec_len}
-use Rattle.context_vector.proofs.vector.pieces.Pieces.to_vec.Given as goal
+use Rattle.context_vector.proofs.vector.entries.Entries.to_vec.Given as goal
 
 -- what is copied and the rest make the list
 abbrev pub invariant-loop-run : goal.invariant-loop-run

@@ -3,7 +3,7 @@ use mathlib.Core.Bool.{false≢true}
 use Rattle.context_vector.specs.Equality.{list_eq_decides}
 use Rattle.context_vector.proofs.Entries.{length_at_most}
 use Rattle.context_vector.proofs.Pieces.{other_runs, run_fits, same_runs}
-use Rattle.context_vector.proofs.vector.pieces.Pieces.is_same.Goals as goal
+use Rattle.context_vector.proofs.vector.entries.Entries.has_runs_of.Goals as goal
 
 pub returns-else-eq : goal.returns-else-eq
 returns-else-eq c =

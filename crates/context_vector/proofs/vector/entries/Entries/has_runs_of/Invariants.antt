@@ -1,7 +1,7 @@
 use Rattle.std.proofs.Common.{◌≡◌, ◌≤◌, ◌-◌, length, drop}
 use lib.Pointwise.{pointwise}
 use Rattle.context_vector.specs.Equality.{entry_eq}
-use Rattle.context_vector.proofs.vector.pieces.Pieces.is_same.Given as goal
+use Rattle.context_vector.proofs.vector.entries.Entries.has_runs_of.Given as goal
 
 -- both lists are the same so far
 abbrev pub invariant-loop-mine : goal.invariant-loop-mine
