@@ -1,5 +1,5 @@
 -- The mark of a list after each change of it.
-use Rattle.std.proofs.Common.{◌≡◌, ℕ, ◌+◌, ◌-◌, ◌*◌, ◌/◌, ◌<◌, ◌≤◌, ◌^◌, ◌≢◌, Bool, true, false, not, List, [], ◌∷◌, ◌++◌, length, refl, sym, ap, subst, ◌∙◌, inl, inr, arith}
+use Rattle.std.proofs.Common.{◌≡◌, ℕ, zero, suc, ◌+◌, ◌-◌, ◌*◌, ◌/◌, ◌%◌, ◌<◌, ◌≤◌, ◌^◌, ◌≢◌, Bool, true, false, not, List, [], ◌∷◌, ◌++◌, length, get_or, drop, add-one, refl, sym, ap, subst, ◌∙◌, inl, inr, arith}
 use Rattle.std.proofs.lemmas.Bool.{cases_order, eq-eqb, ne_eqb}
 use Rattle.std.proofs.lemmas.Nat.{mod_below, shr_below}
 use Rattle.op_name.specs.NameData.{NameData, name_eq, name_lt}
@@ -8,7 +8,7 @@ use Rattle.context_vector.specs.Contexts.{entry_in, put_entry, AreEntries}
 use Rattle.context_vector.specs.Vectors.{without_name, lower_entry}
 use Rattle.context_vector.specs.Equality.{entry_eq, list_eq_decides}
 use lib.Pointwise.{pointwise}
-use Rattle.context_vector.specs.Marks.{spread, folded, weight, mark_of}
+use Rattle.context_vector.specs.Marks.{spread, folded, weight, mark_of, laid, counts_mark}
 use Rattle.context_vector.proofs.Keyed.{value_after}
 use Rattle.context_vector.proofs.Entries.{entry_is, entries_after, length_at_most}
 
@@ -91,3 +91,22 @@ marks_differ es fs differ =
 pub not_false : (b : Bool) → false ≡ not b → b ≡ true
 not_false true e = refl
 not_false false e = e
+
+-- the marks of counts from a place on
+counts_mark_drop_suc : (m : ℕ) (ps : List (ℕ × ℕ)) (i : ℕ) (d : ℕ × ℕ) → i < length ps → counts_mark m (drop i ps) ≡ counts_mark (laid m (get_or ps i d)) (drop (suc i) ps)
+counts_mark_drop_suc m [] i d within = absurd (omega arith)
+counts_mark_drop_suc m (p ∷ ps) zero d within = refl
+counts_mark_drop_suc m (p ∷ ps) (suc i) d within = counts_mark_drop_suc m ps i d (omega arith)
+
+pub counts_mark_drop : (m : ℕ) (ps : List (ℕ × ℕ)) (i : ℕ) (d : ℕ × ℕ) → i < length ps → counts_mark m (drop i ps) ≡ counts_mark (laid m (get_or ps i d)) (drop (i + 1) ps)
+counts_mark_drop m ps i d within = rw (add-one i) (counts_mark_drop_suc m ps i d within)
+
+pub counts_mark_drop_all : (m : ℕ) (ps : List (ℕ × ℕ)) (i : ℕ) → length ps ≤ i → counts_mark m (drop i ps) ≡ m
+counts_mark_drop_all m [] zero past = refl
+counts_mark_drop_all m [] (suc i) past = refl
+counts_mark_drop_all m (p ∷ ps) zero past = absurd (omega arith)
+counts_mark_drop_all m (p ∷ ps) (suc i) past = counts_mark_drop_all m ps i (omega arith)
+
+pub laid_is : (m site count : ℕ) → laid m (site, count) ≡ (spread (folded m) + (site * 2 ^ 32 + count)) % 2 ^ 64
+unfolding laid
+laid_is m site count = refl

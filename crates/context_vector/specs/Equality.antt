@@ -9,7 +9,7 @@ use lib.Pointwise.{pointwise, pointwise_decides}
 use Rattle.op_name.specs.NameData.{NameData, name_eq}
 use Rattle.context_vector.specs.Contexts.{ContextData}
 use Rattle.op_name.proofs.CallerLemmas.{name_same, name_itself, number_order}
-use Rattle.context_vector.specs.Marks.{mark_of}
+use Rattle.context_vector.specs.Marks.{mark_of, counts_mark}
 use Rattle.context_vector.specs.Vectors.{VectorData}
 
 abbrev pub count_eq : ℕ × ℕ → ℕ × ℕ → Bool
@@ -67,9 +67,9 @@ vector_equiv = on_equiv (λ (v : VectorData). v.set) (decided context_eq context
 pub vector_per : IsPartialEquivalence vector_eq
 vector_per = on_per (λ (v : VectorData). v.set) (partial_equiv_from_equiv (decided context_eq context_eq_decides))
 
--- the counts, then the mark of the entries
+-- the mark of the counts, then the mark of the entries
 abbrev pub context_input : ContextData → HashWrites
-context_input c = fed.slice (λ (p : ℕ × ℕ). fed.u16 p.0 ++ fed.u32 p.1) c.counts ++ fed.u64 (mark_of c.entries)
+context_input c = fed.u64 (counts_mark 0 c.counts) ++ fed.u64 (mark_of c.entries)
 
 abbrev pub vector_input : VectorData → HashWrites
 vector_input v = context_input v.set

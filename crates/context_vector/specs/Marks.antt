@@ -18,3 +18,12 @@ weight n g = if g == 0 then 0 else spread (folded (spread (n.site * 68719476736 
 abbrev pub mark_of : List (NameData × ℕ) → ℕ
 mark_of [] = 0
 mark_of (e ∷ es) = weight e.0 e.1 + mark_of es
+
+-- a mark with a site and its count laid over it, so that no bit of what was there before is lost from sight
+unfoldable pub laid : ℕ → ℕ × ℕ → ℕ
+laid m p = (spread (folded m) + (p.0 * 2 ^ 32 + p.1)) % 2 ^ 64
+
+-- the mark of the counts of sites, laid over an earlier one
+abbrev pub counts_mark : ℕ → List (ℕ × ℕ) → ℕ
+counts_mark m [] = m
+counts_mark m (p ∷ ps) = counts_mark (laid m p) ps

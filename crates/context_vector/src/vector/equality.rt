@@ -3,6 +3,7 @@
 ghost use Rattle.context_vector.specs.Equality.{vector_eq, vector_per, vector_equiv, vector_input, vector_alike};
 
 use super::Vector;
+use super::marks::counts_mark;
 use std::hash::{Hash, Hasher};
 
 impl PartialEq for Vector {
@@ -26,9 +27,9 @@ impl Hash for Vector {
 
     ghost respects_eq = { vector_alike };
 
-    // The mark in the place of the entries, so that a hash costs by the sites.
+    // Marks in the place of the counts and of the entries, so that the hasher is fed two numbers.
     fn hash<H: Hasher>(&self, state: &mut H) {
-        self.counts().hash(state);
+        counts_mark(self.counts()).hash(state);
         self.entries.mark().hash(state);
     }
 }

@@ -1,7 +1,7 @@
 //! Marks of lists of undone names: sums that are kept up with each change.
 
 ghost use Rattle.std.specs.Prelude.{◌≡◌, ◌<◌, ◌^◌};
-ghost use Rattle.context_vector.specs.Marks.{spread, folded, weight};
+ghost use Rattle.context_vector.specs.Marks.{spread, folded, weight, laid, counts_mark};
 
 use op_name::Name;
 
@@ -19,6 +19,24 @@ pub fn weight(name: &Name, generation: u16) -> u64
         + u64::from(name.number) * 65_536
         + u64::from(generation);
     spread(folded(spread(bits))) >> 27
+}
+
+/// The mark of the counts of sites: a few steps of a processor for each.
+pub fn counts_mark(counts: &[(u16, u32)]) -> u64
+    ensures { result ≡ counts_mark 0 counts.now }
+{
+    let mut mark = 0;
+    for &(site, count) in counts {
+        mark = laid(mark, site, count);
+    }
+    mark
+}
+
+// The mark with a site and its count laid over it.
+fn laid(mark: u64, site: u16, count: u32) -> u64
+    ensures { result ≡ laid mark (site, count) }
+{
+    spread(folded(mark)).wrapping_add(u64::from(site) * 4_294_967_296 + u64::from(count))
 }
 
 // The product with 2^64 over the golden ratio: its high bits depend on all bits of x.
