@@ -7,6 +7,7 @@ use Rattle.op_name.specs.NameData.{NameData}
 use Rattle.context_vector.specs.Contexts.{ContextData, IsContext, AreCounts, AreEntries, IsBefore}
 use Rattle.context_diff.specs.Operations.{OpData, inserting, deleting, undoing, context_of, IsInRange}
 use Rattle.op_name.specs.declared.name.TheConstants.{NUMBERS, SITES}
+use Rattle.op_name.specs.declared.member.TheConstants.{GENERATIONS}
 use Rattle.context_diff.specs.declared.op.TheConstants.{UNDO_ENTRIES}
 use Rattle.wire_codec.specs.declared.cause.Cause.TheVariants.{Range, Order, Zero}
 use Rattle.wire_codec.specs.declared.head.Head.{Head}
@@ -22,9 +23,9 @@ use Rattle.wire_codec.proofs.Fields.{IsSite, IsNamed, IsHead, site_reads, name_r
 
 pub record IsCount (low : ℕ) (p : ℕ × ℕ) : Type 0 where
   pub rises : low ≤ p.0
-  pub site : p.0 < 64
+  pub site : p.0 < SITES
   pub some : 1 ≤ p.1
-  pub most : p.1 ≤ 1000000
+  pub most : p.1 ≤ NUMBERS
 
 pub count_reads : (low : ℕ) → Reads (count_at low) count_bytes (IsCount low)
 unfolding count_at
@@ -52,7 +53,7 @@ pub record IsEntry (before : Option NameData) (e : NameData × ℕ) : Type 0 whe
   pub rises : is_above before e.0 ≡ true
   pub named : IsNamed e.0
   pub some : 1 ≤ e.1
-  pub most : e.1 ≤ 65535
+  pub most : e.1 ≤ GENERATIONS
 
 pub entry_reads : (before : Option NameData) → Reads (entry_at before) entry_bytes (IsEntry before)
 unfolding entry_at
@@ -86,8 +87,8 @@ counts_to low (p ∷ ps) h = (record { rises = h.0; site = h.1; some = h.2; most
 pub counts_in_order : (ps : List (ℕ × ℕ)) → Follow IsCount site_after 0 ps → AreCounts 0 ps
 counts_in_order ps h = counts_from 0 ps h
 
--- sites rise below 64, so there are few of them
-pub counts_few : (low : ℕ) (ps : List (ℕ × ℕ)) → AreCounts low ps → low ≤ 64 → low + length ps ≤ 64
+-- sites rise below `SITES`, so there are few of them
+pub counts_few : (low : ℕ) (ps : List (ℕ × ℕ)) → AreCounts low ps → low ≤ SITES → low + length ps ≤ SITES
 counts_few low [] h le = omega arith
 counts_few low (p ∷ ps) h le = let rest = counts_few (p.0 + 1) ps h.4 (omega (arith, h.1)) in omega (arith, rest, h.0)
 

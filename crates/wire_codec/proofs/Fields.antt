@@ -6,6 +6,7 @@ use Rattle.std.proofs.lemmas.Bool.{ltb-true, lt-ltb, cases_eq}
 use Rattle.std.proofs.Math.Utf8.{scalar, scalar_fits}
 use Rattle.op_name.specs.NameData.{NameData, IsName}
 use Rattle.op_name.specs.declared.name.TheConstants.{NUMBERS}
+use Rattle.op_name.specs.declared.member.TheConstants.{GENERATIONS}
 use Rattle.context_diff.specs.declared.op.TheConstants.{PLACES}
 use Rattle.wire_codec.specs.declared.cause.Cause.TheVariants.{Range, Kind, Char}
 use Rattle.wire_codec.specs.declared.head.Head.{Head}
@@ -22,7 +23,7 @@ abbrev pub IsPlace : ℕ → Type 0
 IsPlace p = (0 ≤ p) × (p ≤ PLACES)
 
 abbrev pub IsGeneration : ℕ → Type 0
-IsGeneration g = (1 ≤ g) × (g ≤ 65535)
+IsGeneration g = (1 ≤ g) × (g ≤ GENERATIONS)
 
 abbrev pub IsNamed : NameData → Type 0
 IsNamed n = IsName n.site n.number

@@ -8,7 +8,7 @@ use Rattle.std.proofs.lemmas.List.Concat.{flat_map-append}
 use Rattle.std.proofs.lemmas.Option.{slice_get_within, get_or_from_slice_get}
 use Rattle.std.specs.Prelude.{slice_index_or}
 use Rattle.op_name.specs.NameData.{NameData}
-use Rattle.op_name.specs.declared.name.TheConstants.{SITES}
+use Rattle.op_name.specs.declared.name.TheConstants.{SITES, NUMBERS}
 use Rattle.context_vector.specs.Contexts.{AreCounts, AreEntries}
 use Rattle.op_name.proofs.CallerLemmas.{name_transitive}
 use Rattle.context_vector.specs.Vectors.{SitesBelow, NamesBelow}
@@ -17,9 +17,9 @@ use Rattle.wire_codec.specs.Code.Puts.{HasRoom, Puts}
 -- a site with its count in the middle of a list
 pub record FollowsCounts (before : List (ℕ × ℕ)) (p : ℕ × ℕ) : Type 0 where
   pub last : SitesBelow before p.0
-  pub site : p.0 < 64
+  pub site : p.0 < SITES
   pub least : 1 ≤ p.1
-  pub greatest : p.1 ≤ 1000000
+  pub greatest : p.1 ≤ NUMBERS
 
 counts_from_low : (low : ℕ) (xs : List (ℕ × ℕ)) (p : ℕ × ℕ) (ys : List (ℕ × ℕ)) → AreCounts low (xs ++ p ∷ ys) → (low ≤ p.0) × FollowsCounts xs p
 counts_from_low low [] p ys h = (h.0, record { last = tt; site = h.1; least = h.2; greatest = h.3 })

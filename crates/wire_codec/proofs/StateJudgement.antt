@@ -224,7 +224,7 @@ state_again c rest is =
     let behind = named_bytes c.entries ++ rest in
     let bytes = counts_bytes ps ++ behind in
     let same : state_bytes c ++ rest ≡ bytes = append_assoc (counts_bytes ps) (named_bytes c.entries) rest in
-    let few : n ≤ 64 = (let most = counts_few 0 ps is.is.counts (omega arith) in omega (arith, most)) in
+    let few : n ≤ SITES = (let most = counts_few 0 ps is.is.counts (omega arith) in omega (arith, most)) in
     let size : sites_of bytes ≡ n = wide8.again n (omega (arith, few)) in
     let listed : length (flat_map count_bytes ps) ≡ count_len * n = length-counts ps in
     let total : length bytes ≡ 1 + (count_len * n + length behind) = omega (arith, listed, length-append (flat_map count_bytes ps) behind) in
