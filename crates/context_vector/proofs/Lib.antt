@@ -9,4 +9,5 @@ pub mod Unions
 pub mod Rooms
 pub mod Marks
 pub mod Pieces
+pub mod Readers
 pub mod CallerLemmas

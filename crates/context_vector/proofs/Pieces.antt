@@ -30,7 +30,7 @@ entries_right [] fs are = are
 entries_right (e ∷ es) fs are = entries_right es fs are.4
 
 -- a lesser name is another, and not after
-less_differs : (m n : NameData) → name_lt m n ≡ true → name_eq m n ≡ false
+pub less_differs : (m n : NameData) → name_lt m n ≡ true → name_eq m n ≡ false
 less_differs m n less =
     cases_by_order name_eq name_lt name_order m n _
     (λ is e e' l l'. absurd (false≢true (sym l ∙ less)))
@@ -133,7 +133,7 @@ pub below_left : (es fs : List (NameData × ℕ)) (n : NameData) → NamesBelow 
 below_left [] fs n below = tt
 below_left (e ∷ es) fs n below = (below.0, below_left es fs n below.1)
 
-same_some : (x y : NameData × ℕ) → Some x ≡ Some y → x ≡ y
+pub same_some : (x y : NameData × ℕ) → Some x ≡ Some y → x ≡ y
 same_some x y e = cc
 
 -- a list whose last name is before a name is so wholly
@@ -203,38 +203,6 @@ run_more r es fs i run = record {
 
 pub run_past : (r es fs : List (NameData × ℕ)) (i n : ℕ) → i ≡ length es + n → IsRun r (drop n fs) → IsRun r (drop i (es ++ fs))
 run_past r es fs i n is run = subst (λ xs. IsRun r xs) (sym (ap (λ k. drop k (es ++ fs)) is ∙ drop-append-add es fs n)) run
-
--- what is left after a run
-pub after_run : (r es : List (NameData × ℕ)) (i : ℕ) (run : IsRun r (drop i es)) → drop (i + length r) es ≡ run.rest
-after_run r es i run = sym (drop-drop (length r) i es) ∙ (ap (drop (length r)) run.whole ∙ drop-append_seam r run.rest)
-
--- how a list that is copied run by run grows
-pub copied_run : (done es r : List (NameData × ℕ)) (run : IsRun r (drop (length done) es)) → done ++ drop (length done) es ≡ es → (done ++ r) ++ drop (length done + length r) es ≡ es
-copied_run done es r run so_far =
-    ap (λ xs. (done ++ r) ++ xs) (after_run r es (length done) run) ∙ (append_assoc done r run.rest ∙ (ap (λ xs. done ++ xs) (sym run.whole) ∙ so_far))
-
--- a run without a short name is passed, and a short name in it is the first
-pub short_in_run : (had : NameData → ℕ) (r rest : List (NameData × ℕ)) (s : NameData × ℕ) → first_short had r ≡ Some s → first_short had (r ++ rest) ≡ Some s
-short_in_run had [] rest s is = none_some s is
-  where
-    none_some : {P : Type 0} (s : NameData × ℕ) → ◌≡◌ {A = Option (NameData × ℕ)} None (Some s) → P
-    none_some s e = cc
-short_in_run had (e ∷ r) rest s is =
-    elim (nat_lt (had e.0) e.1) as (λ t. (if t then Some (e.0, had e.0 + 1) else first_short had r) ≡ Some s → (if t then Some (e.0, had e.0 + 1) else first_short had (r ++ rest)) ≡ Some s) [
-      | true ↦ λ found. found
-      | false ↦ λ found. short_in_run had r rest s found
-    ] is
-
-pub short_past_run : (had : NameData → ℕ) (r rest : List (NameData × ℕ)) → first_short had r ≡ None → first_short had (r ++ rest) ≡ first_short had rest
-short_past_run had [] rest is = refl
-short_past_run had (e ∷ r) rest is =
-    elim (nat_lt (had e.0) e.1) as (λ t. (if t then Some (e.0, had e.0 + 1) else first_short had r) ≡ None → (if t then Some (e.0, had e.0 + 1) else first_short had (r ++ rest)) ≡ first_short had rest) [
-      | true ↦ λ found. some_none (e.0, had e.0 + 1) found
-      | false ↦ λ found. short_past_run had r rest found
-    ] is
-  where
-    some_none : {P : Type 0} (s : NameData × ℕ) → Some s ≡ None → P
-    some_none s e = cc
 
 -- a comparison of two lists goes on after a part that both have
 entry_itself : (e : NameData × ℕ) → entry_eq e e ≡ true
@@ -339,20 +307,3 @@ joined_halves ps k = sym (joined_append (take k ps) (drop k ps)) ∙ ap joined (
 pub pushed_are : {T E : Type 0} (r : Result T E) (es fs more : List (NameData × ℕ)) → OnOk r (fs ≡ more) → OnErr r (fs ≡ es) → AreEntries more → AreEntries es → AreEntries fs
 pushed_are (Ok x) es fs more pushed kept are_more are = subst AreEntries (sym pushed) are_more
 pushed_are (Err e) es fs more pushed kept are_more are = subst AreEntries (sym kept) are
-
--- the first entries of a run are those of the list, and there are so many
-pub run_front : (n : ℕ) (r es : List (NameData × ℕ)) → IsRun r es → n ≤ length r → take n es ≡ take n r
-run_front n r es run short = ap (take n) run.whole ∙ take-append-le n r run.rest short
-
-pub run_fits : (r es : List (NameData × ℕ)) (i n : ℕ) → IsRun r (drop i es) → n ≤ length r → i + n ≤ length es
-run_fits r es i n run short = omega (arith, run_within r es i run, length-drop i es, ap length run.whole, length-append r run.rest, short)
-
--- two lists from a place on, whose runs there begin alike or not
-pub same_runs : (n i : ℕ) (xs ys r t : List (NameData × ℕ)) → IsRun r (drop i xs) → IsRun t (drop i ys) → n ≤ length r → n ≤ length t → take n r ≡ take n t → pointwise entry_eq (drop i xs) (drop i ys) ≡ pointwise entry_eq (drop (i + n) xs) (drop (i + n) ys)
-same_runs n i xs ys r t run run' short short' same =
-    same_further n (drop i xs) (drop i ys) (run_front n r (drop i xs) run short ∙ (same ∙ sym (run_front n t (drop i ys) run' short')))
-    ∙ (ap (λ zs. pointwise entry_eq zs (drop n (drop i ys))) (drop-drop n i xs) ∙ ap (λ zs. pointwise entry_eq (drop (i + n) xs) zs) (drop-drop n i ys))
-
-pub other_runs : (n i : ℕ) (xs ys r t : List (NameData × ℕ)) → IsRun r (drop i xs) → IsRun t (drop i ys) → n ≤ length r → n ≤ length t → (take n r ≡ take n t → ⊥) → pointwise entry_eq (drop i xs) (drop i ys) ≡ false
-other_runs n i xs ys r t run run' short short' apart =
-    same_apart (drop i xs) (drop i ys) (λ same. apart (sym (run_front n r (drop i xs) run short) ∙ (ap (take n) same ∙ run_front n t (drop i ys) run' short')))

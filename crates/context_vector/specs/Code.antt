@@ -3,3 +3,4 @@ pub mod Places
 pub mod Lists
 pub mod Pieces
 pub mod Entries
+pub mod Readers

@@ -18,6 +18,7 @@ mod marked;
 mod marks;
 mod piece;
 mod pieces;
+mod reader;
 mod rising;
 mod seats;
 
@@ -101,8 +102,6 @@ impl Vector {
     pub fn share_with(&mut self, other: &Vector)
         ensures { self.new.set ≡ self.old.set }
     {
-        self.known();
-        other.known();
         self.entries.share_with(&other.entries);
     }
 
@@ -168,7 +167,7 @@ impl Vector {
         if self.entries.is_same(&other.entries) {
             return None;
         }
-        let group = rising::first_short_entry(&self.entries, &other.entries);
+        let group = rising::first_short_entry(self.entries.reader(), other.entries.reader());
         if let Some(group) = group {
             return Some(Member::Group(group.0, group.1));
         }

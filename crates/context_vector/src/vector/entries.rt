@@ -8,8 +8,11 @@ ghost use lib.Pointwise.{pointwise};
 ghost use Rattle.context_vector.specs.Equality.{entry_eq};
 ghost use Rattle.context_vector.specs.Code.Pieces.{IsRun};
 ghost use Rattle.context_vector.specs.Code.Entries.{entries_of};
+ghost use Rattle.context_vector.specs.Code.Readers.{left_of};
 
 use super::marked::Marked;
+use super::reader::Reader;
+use super::rising::are_same;
 use op_name::{Memory, Name};
 use std::alloc::Global;
 use std::marker::Model;
@@ -108,21 +111,34 @@ impl Entries {
         }
     }
 
+    /// A reader of the entries.
+    pub fn reader(&self) -> Reader<'_>
+        ensures { left_of result ≡ self.now.items }
+    {
+        match self.list() {
+            Some(list) => list.pieces().reader(),
+            None => Reader::empty(),
+        }
+    }
+
     /// A copy of the entries in one list.
     pub fn to_vec(&self) -> Result<Vec<(Name, u16)>, Memory>
         ensures { IfOk result (λ v. v.items ≡ self.now.items) }
     {
         let mut all = Vec::new(self.alloc);
-        while let Some(run) = self.run(all.len()) {
-            all.extend_from_slice(run)?;
+        let mut left = self.reader();
+        loop {
+            let part = left.front();
+            if part.is_empty() {
+                return Ok(all);
+            }
+            all.extend_from_slice(part)?;
+            left.pass(part.len());
         }
-        Ok(all)
     }
 
     /// Whether both have the same entries.
     pub fn is_same(&self, other: &Entries) -> bool
-        requires mine { AreEntries self.now.items }
-        requires theirs { AreEntries other.now.items }
         ensures { result ≡ pointwise entry_eq self.now.items other.now.items }
     {
         let mine = self.mark();
@@ -130,30 +146,7 @@ impl Entries {
         if mine != theirs {
             return false;
         }
-        self.has_runs_of(other)
-    }
-
-    // Whether both have the same entries, run by run.
-    fn has_runs_of(&self, other: &Entries) -> bool
-        requires mine { AreEntries self.now.items }
-        requires theirs { AreEntries other.now.items }
-        ensures { result ≡ pointwise entry_eq self.now.items other.now.items }
-    {
-        let mut i = 0;
-        while let Some(mine) = self.run(i) {
-            match other.run(i) {
-                Some(theirs) => {
-                    let n = mine.len().min(theirs.len());
-                    if mine.split_at(n).0 == theirs.split_at(n).0 {
-                        i += n;
-                    } else {
-                        return false;
-                    }
-                }
-                None => return false,
-            }
-        }
-        other.run(i).is_none()
+        are_same(self.reader(), other.reader())
     }
 
     /// The same entries once more. No entry of a shared list is copied.
@@ -201,8 +194,6 @@ impl Entries {
     /// Takes the list of `other` where that is shared and has the same entries; no entry comes or goes, and
     /// no memory is taken.
     pub fn share_with(&mut self, other: &Entries)
-        requires mine { AreEntries self.old.items }
-        requires theirs { AreEntries other.now.items }
         ensures { self.new.items ≡ self.old.items }
     {
         if self.has_list_of(other) {
@@ -223,8 +214,6 @@ impl Entries {
 
     // The same entries in the list of `other`, if that is shared and has them.
     fn shared_by(&self, other: &Entries) -> Option<Entries>
-        requires mine { AreEntries self.now.items }
-        requires theirs { AreEntries other.now.items }
         ensures { IfSome result (λ e. e.items ≡ self.now.items) }
     {
         if self.is_same(other) {

@@ -4,8 +4,10 @@ ghost use Rattle.std.specs.Prelude.{◌≡◌, ◌≤◌, ◌+◌, ◌++◌, ◌
 ghost use Rattle.context_vector.specs.Contexts.{entry_in, put_entry, AreEntries};
 ghost use Rattle.context_vector.specs.Vectors.{lower_entry, NamesBelow};
 ghost use Rattle.context_vector.specs.Code.Pieces.{joined, NamesAbove, IsBetween, IsRun};
+ghost use Rattle.context_vector.specs.Code.Readers.{left_of};
 
 use super::piece::{Piece, append, append_cut};
+use super::reader::Reader;
 use super::rising::{entry_among, place_of_name};
 use super::seats::{entry_in_pieces, piece_to_open, run_in_pieces, total_of};
 use op_name::{Memory, Name};
@@ -87,6 +89,17 @@ impl Pieces {
             Ok(run) => Some(run),
             Err(past) => run_from_open(self.own.as_slice(), self.after.as_slice(), past),
         }
+    }
+
+    /// A reader of the entries.
+    pub fn reader(&self) -> Reader<'_>
+        ensures { left_of result ≡ self.now.items }
+    {
+        Reader::new(
+            self.before.as_slice(),
+            self.own.as_slice(),
+            self.after.as_slice(),
+        )
     }
 
     /// Whether the name can be put or lowered without memory.

@@ -3,10 +3,13 @@
 ghost use Rattle.std.specs.Prelude.{◌≡◌, ◌*◌, ◌≤◌, nat_lt, IfOk, IfErr};
 ghost use Rattle.context_vector.specs.Contexts.{count_in, entry_in, sum_of_counts, AreCounts, AreEntries};
 ghost use Rattle.op_name.specs.NameData.{name_lt};
+ghost use lib.Pointwise.{pointwise};
+ghost use Rattle.context_vector.specs.Equality.{entry_eq};
 ghost use Rattle.context_vector.specs.Shortfalls.{first_short};
+ghost use Rattle.context_vector.specs.Code.Readers.{left_of};
 ghost use Rattle.context_vector.specs.Code.Places.{IsPlace, IsGap};
 
-use super::entries::Entries;
+use super::reader::Reader;
 use op_name::{NUMBERS, Name, SITES};
 
 /// Where the pair of the site stands, or where it would go.
@@ -65,35 +68,54 @@ pub fn first_short_site(mine: &[(u16, u32)], theirs: &[(u16, u32)]) -> Option<(u
     None
 }
 
-/// The first name of which `theirs` go higher than `mine`, with the least generation that `mine` lack.
-pub fn first_short_entry(mine: &Entries, theirs: &Entries) -> Option<(Name, u16)>
-    requires mine { AreEntries mine.now.items }
-    requires theirs { AreEntries theirs.now.items }
-    ensures { result ≡ first_short (entry_in mine.now.items) theirs.now.items }
+/// The first name of which `theirs` go higher than `mine`, with the least generation that `mine` lack. Both are
+/// read side by side.
+pub fn first_short_entry(mine: Reader<'_>, theirs: Reader<'_>) -> Option<(Name, u16)>
+    requires mine { AreEntries (left_of mine) }
+    requires theirs { AreEntries (left_of theirs) }
+    ensures { result ≡ first_short (entry_in (left_of mine.entry)) (left_of theirs.entry) }
 {
-    let mut i = 0;
-    while let Some(run) = theirs.run(i) {
-        let short = first_short_name(mine, run);
-        if let Some(found) = short {
-            return Some(found);
+    let mut left = mine;
+    let mut right = theirs;
+    while let Some(wanted) = right.first() {
+        match left.first() {
+            Some(had) if had.0.is_before(&wanted.0) => left.pass(1),
+            Some(had) if had.0 == wanted.0 => {
+                if had.1 < wanted.1 {
+                    return Some((wanted.0, had.1 + 1));
+                }
+                left.pass(1);
+                right.pass(1);
+            }
+            _ => return Some((wanted.0, 1)),
         }
-        i += run.len();
     }
     None
 }
 
-// The same where `theirs` are a list.
-fn first_short_name(mine: &Entries, theirs: &[(Name, u16)]) -> Option<(Name, u16)>
-    requires { AreEntries mine.now.items }
-    ensures { result ≡ first_short (entry_in mine.now.items) theirs.now }
+/// Whether both have the same entries left.
+pub fn are_same(mine: Reader<'_>, theirs: Reader<'_>) -> bool
+    ensures { result ≡ pointwise entry_eq (left_of mine.entry) (left_of theirs.entry) }
 {
-    for &(name, greatest) in theirs {
-        let had = mine.entry(&name);
-        if had < greatest {
-            return Some((name, had + 1));
+    let mut left = mine;
+    let mut right = theirs;
+    loop {
+        let one = left.front();
+        let other = right.front();
+        if one.is_empty() {
+            return other.is_empty();
+        }
+        if other.is_empty() {
+            return false;
+        }
+        let n = one.len().min(other.len());
+        if one.split_at(n).0 == other.split_at(n).0 {
+            left.pass(n);
+            right.pass(n);
+        } else {
+            return false;
         }
     }
-    None
 }
 
 /// The sum of the counts.

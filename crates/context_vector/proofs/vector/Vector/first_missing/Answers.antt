@@ -5,6 +5,7 @@ use Rattle.context_vector.specs.Contexts.{count_in, entry_in}
 use Rattle.context_vector.specs.Equality.{list_eq_decides}
 use Rattle.context_vector.specs.Shortfalls.{first_short}
 use Rattle.context_vector.specs.Vectors.{VectorData}
+use Rattle.context_vector.specs.Code.Readers.{left_of}
 use Rattle.context_vector.proofs.Sets.{short_original, short_group, none_missing, no_group_missing, missing_not_within}
 use Rattle.context_vector.proofs.vector.Vector.first_missing.Goals as goal
 
@@ -31,13 +32,13 @@ no_site c =
     let walked = rw (c.counts.ensures, c.counts-2.ensures) at c.first_short_site-original.ensures in
     sym walked ∙ c.in_default.is
 
--- the same walk, over the entries as they are kept
+-- the same walk, over the entries as they are read
 walked : (es fs : List (NameData × ℕ)) (v w : VectorData) → es ≡ v.set.entries → fs ≡ w.set.entries → first_short (entry_in es) fs ≡ first_short (entry_in v.set.entries) w.set.entries
 walked es fs v w mine theirs = ap (λ xs. first_short (entry_in xs) fs) mine ∙ ap (λ xs. first_short (entry_in v.set.entries) xs) theirs
 
 short_name : (c : goal.In-Some-group) → first_short (entry_in c.args.self.now.set.entries) c.args.other.now.set.entries ≡ Some c.in-Some-group.group
 short_name c =
-    sym (walked c.self.inside.entries.items c.other.inside.entries.items c.args.self.now c.args.other.now (ap (λ (v : VectorData). v.set.entries) c.self.view_is) (ap (λ (v : VectorData). v.set.entries) c.other.view_is)) ∙ (sym c.first_short_entry-group.ensures ∙ c.in-Some-group.is)
+    sym (walked (left_of c.reader.result) (left_of c.reader-2.result) c.args.self.now c.args.other.now (c.reader.ensures ∙ ap (λ (v : VectorData). v.set.entries) c.self.view_is) (c.reader-2.ensures ∙ ap (λ (v : VectorData). v.set.entries) c.other.view_is)) ∙ (sym c.first_short_entry-group.ensures ∙ c.in-Some-group.is)
 
 pub returns-then-is_same-clause-none : goal.returns-then-is_same-clause-none
 returns-then-is_same-clause-none c =
@@ -64,6 +65,6 @@ returns-in-Some-group-clause-range c =
 pub returns-clause-none : goal.returns-clause-none
 returns-clause-none c =
     let sites = rw (c.counts.ensures, c.counts-2.ensures) at c.first_short_site-original.ensures in
-    let names = walked c.self.inside.entries.items c.other.inside.entries.items c.args.self.now c.args.other.now (ap (λ (v : VectorData). v.set.entries) c.self.view_is) (ap (λ (v : VectorData). v.set.entries) c.other.view_is) in
+    let names = walked (left_of c.reader.result) (left_of c.reader-2.result) c.args.self.now c.args.other.now (c.reader.ensures ∙ ap (λ (v : VectorData). v.set.entries) c.self.view_is) (c.reader-2.ensures ∙ ap (λ (v : VectorData). v.set.entries) c.other.view_is) in
     let within = none_missing c.args.self.now.set c.args.other.now.set (sym sites ∙ c.in_default.is) (sym names ∙ (sym c.first_short_entry-group.ensures ∙ c.in_default-group.is)) in
     (λ e. within, λ h. refl)

@@ -1,9 +1,10 @@
-use Rattle.std.proofs.Common.{◌≡◌, ◌++◌, ◌-◌, length, drop, vec_len}
+use Rattle.std.proofs.Common.{◌≡◌, ◌++◌, length}
+use Rattle.context_vector.specs.Code.Readers.{left_of}
 use Rattle.context_vector.proofs.vector.entries.Entries.to_vec.Given as goal
 
--- what is copied and the rest make the list
-abbrev pub invariant-loop-run : goal.invariant-loop-run
-invariant-loop-run l = (vec_len l.all ≡ length l.all.items) × (l.all.items ++ drop (length l.all.items) l.self.items ≡ l.self.items)
+-- what is copied and what is left make the list
+abbrev pub invariant-loop-left : goal.invariant-loop-left
+invariant-loop-left l = l.all.items ++ left_of l.left ≡ l.self.items
 
-abbrev pub decreases-loop-run : goal.decreases-loop-run
-decreases-loop-run l = length l.self.items - length l.all.items
+abbrev pub decreases-loop-left : goal.decreases-loop-left
+decreases-loop-left l = length (left_of l.left)
