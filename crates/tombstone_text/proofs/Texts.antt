@@ -142,6 +142,13 @@ cut_text cs ls ss f i n k len low high was lower upper t lt next some less read 
       shown = omega arith;
     }
 
+-- the same, where the chunks are seen as those
+pub cut_seen : {seen cs : List (List CellData)} {ls ss : List ℕ} {f : Option (List CellData)} {i n k len low high : ℕ} {was lower upper : List CellData}
+    → cs ≡ seen → IsText cs ls ss f → i < length seen → n ≡ suc i → 1 ≤ k → k < length (get_or seen i []) → was ≡ get_or cs i was → lower ≡ take k was → upper ≡ drop k was
+    → len ≡ get_or ls i 0 → low ≡ shown_in lower → high ≡ shown_in upper → IsCut cs ls ss i n k (len - k) low high lower upper
+cut_seen {seen} {cs} {ls} {ss} {f} {i} {n} {k} {len} {low} {high} {was} {lower} {upper} is t lt next some less =
+    cut_text cs ls ss f i n k len low high was lower upper t (subst (λ ds. i < length ds) (sym is) lt) next some (subst (λ ds. k < length (get_or ds i [])) (sym is) less)
+
 -- where a place of a text lies, found in the column of lengths
 pub text-spot : (cs : List (List CellData)) (ls ss : List ℕ) (f : Option (List CellData)) (i o p : ℕ) → IsText cs ls ss f → IsPart ls i o p → IsSpot cs i o p
 text-spot cs ls ss f i o p t part = spot cs i o p (subst (λ (l : List ℕ). IsPart l i o p) t.lens_are part)

@@ -1,5 +1,6 @@
 -- A text as contracts see it: its cells, the chunks that they are kept in, and the room that its lists have to spare.
 use Rattle.std.specs.Prelude.{ℕ, ◌<◌, ◌≤◌, List, length, slice_get, IfSome}
+use Rattle.ttf_form.specs.declared.include.TheConstants.{CELLS}
 use Rattle.ttf_form.specs.Cells.{CellData}
 use Rattle.ttf_form.specs.declared.cover.Mark.{Mark}
 use Rattle.ttf_form.specs.declared.cover.Mark.TheVariants.{Own, By}
@@ -25,5 +26,5 @@ HasRoomOn (By d g) c places = length c.deleters < places
 -- there is room to apply the form: a place for the cell that an insert adds, below the greatest number of cells, or one
 -- for the deleter that a cover may add
 abbrev pub HasRoomFor : CellsData → Form → Type 0
-HasRoomFor t (Insert a) = (1 ≤ t.room.places) × (length t.cells < 4294967295)
+HasRoomFor t (Insert a) = (1 ≤ t.room.places) × (length t.cells < CELLS)
 HasRoomFor t (Covered c) = IfSome (slice_get t.cells c.place) (λ d. HasRoomOn c.mark d t.room.deleters)

@@ -4,6 +4,7 @@ ghost use Rattle.std.specs.Prelude.{◌≡◌, ℕ, ◌+◌, ◌-◌, ◌<◌, �
 ghost use Rattle.op_name.specs.NameData.{name_eq};
 ghost use Rattle.ttf_form.specs.Names.{LacksName};
 ghost use Rattle.ttf_form.specs.Cells.{CellData, cell_shown, cells_of, put_in, bare_cells, change_at, marked, applied, FitsCells};
+ghost use Rattle.ttf_form.specs.declared.include.TheConstants.{CELLS};
 ghost use Rattle.ttf_form.specs.declared.form.Form.TheVariants.{Cover as Covered};
 ghost use Rattle.tombstone_text.specs.Cells.{CellsData, HasRoomFor};
 ghost use Rattle.tombstone_text.specs.Chunks.{flat, flag_of, shown_in};
@@ -18,10 +19,7 @@ use crate::sums::Sums;
 use op_name::{Memory, Name};
 use std::alloc::Global;
 use std::marker::Model;
-use ttf_form::{Cover, Form, Ins, Mark};
-
-/// More cells than this are never held.
-const MAX_CELLS: u32 = 4_294_967_295;
+use ttf_form::{CELLS, Cover, Form, Ins, Mark};
 
 /// The first place at which a cell has the name.
 fn position_of(list: &[Cell], name: &Name) -> Option<usize>
@@ -203,7 +201,7 @@ impl Cells {
     {
         match form {
             Form::Ins(_) => {
-                if self.len() >= MAX_CELLS {
+                if self.len() >= CELLS {
                     return Err(Memory);
                 }
                 self.reserve_place()
@@ -258,7 +256,7 @@ impl Cells {
     /// Puts the new cell of an insert at its place.
     fn put(&mut self, ins: &Ins)
         requires room { 1 ≤ self.old.room.places }
-        requires bound { length self.old.cells < 4294967295 }
+        requires bound { length self.old.cells < CELLS }
         requires place { ins.now.place ≤ length self.old.cells }
         ensures { self.new.cells ≡ put_in ins.now.place (bare_cells ins.now) self.old.cells }
     {
@@ -330,7 +328,7 @@ impl Cells {
         requires chunk { i < length self.old.chunks }
         requires within { at ≤ length (slice_index_or self.old.chunks i []) }
         requires room { length (slice_index_or self.old.chunks i []) < FULL }
-        requires bound { length self.old.cells < 4294967295 }
+        requires bound { length self.old.cells < CELLS }
         requires shown { cell_shown cell ≡ true }
         ensures { (p : ℕ) → IsSeat self.old.chunks i at p → self.new.cells ≡ insert self.old.cells p cell }
     {
@@ -348,7 +346,7 @@ impl Cells {
         requires chunk { i < length self.old.chunks }
         requires some { 1 ≤ keep }
         requires less { keep < length (slice_index_or self.old.chunks i []) }
-        requires bound { length self.old.cells < 4294967295 }
+        requires bound { length self.old.cells < CELLS }
         ensures chunks { self.new.chunks ≡ cut self.old.chunks i keep }
         ensures cells { self.new.cells ≡ self.old.cells }
     {

@@ -21,7 +21,7 @@ cover-requires-clause-room c =
     let i = c.find-i.result.0 in
     let o = c.find-i.result.1 in
     let p = c.args.cover.now.place in
-    let spot = texts.text-spot _ _ _ _ c.find-i.result.0 c.find-i.result.1 c.args.cover.now.place c.self.invariant c.find-i.ensures in
+    let spot = texts.text-spot _ _ _ _ _ _ _ c.self.invariant c.find-i.ensures in
     let read : c.index_mut-chunk.result.now ≡ get_or cs i [] = get_or_read cs i c.index_mut-chunk.result.now spot.chunk c.index_mut-chunk.ensures.value [] in
     let there = ap (λ v. slice_get v.cells p) (sym c.self.view_is) ∙ chunked.flat_get cs i o p spot ∙ chunked.some_at (get_or cs i []) o blank spot.within in
     let room : HasRoomOn c.args.cover.now.mark (get_or (get_or cs i []) o blank) c.args.self.now.room.deleters =
@@ -31,7 +31,7 @@ cover-requires-clause-room c =
 
 pub flag_at-after-requires : goal.flag_at-after-requires
 flag_at-after-requires c =
-    let spot = texts.text-spot _ _ _ _ c.find-i.result.0 c.find-i.result.1 c.args.cover.now.place c.self.invariant c.find-i.ensures in
+    let spot = texts.text-spot _ _ _ _ _ _ _ c.self.invariant c.find-i.ensures in
     let within = spot.within in
     let read = get_or_read c.self.inside.chunks.items c.find-i.result.0 c.index_mut-chunk.result.now spot.chunk c.index_mut-chunk.ensures.value [] in
     let new = c.cover.ensures.cells ∙ ap (λ (s : List CellData). change_at c.find-i.result.1 (marked c.args.cover.now.mark) s) read in
@@ -42,46 +42,46 @@ flag_at-after-requires c =
 
 pub overflow_sub-shown : goal.overflow_sub-shown
 overflow_sub-shown c =
-    let spot = texts.text-spot _ _ _ _ c.find-i.result.0 c.find-i.result.1 c.args.cover.now.place c.self.invariant c.find-i.ensures in
+    let spot = texts.text-spot _ _ _ _ _ _ _ c.self.invariant c.find-i.ensures in
     let changed =
-    texts.changed_text (marked c.args.cover.now.mark) _ _ _ _ c.find-i.result.0 c.find-i.result.1 c.part-shown.result c.flag_at-before.result c.flag_at-after.result c.index_mut-chunk.result.now c.cover.new.self blank
-    c.self.invariant spot.chunk spot.within c.index_mut-chunk.ensures.value c.cover.ensures.cells c.part-shown.ensures c.flag_at-before.ensures c.flag_at-after.ensures in
+    texts.changed_text (marked c.args.cover.now.mark) _ _ _ _ _ _ _ _ _ _ _ blank c.self.invariant spot.chunk spot.within c.index_mut-chunk.ensures.value
+    c.cover.ensures.cells c.part-shown.ensures c.flag_at-before.ensures c.flag_at-after.ensures in
     changed.low
 
 pub overflow_add-shown : goal.overflow_add-shown
 overflow_add-shown c =
-    let spot = texts.text-spot _ _ _ _ c.find-i.result.0 c.find-i.result.1 c.args.cover.now.place c.self.invariant c.find-i.ensures in
+    let spot = texts.text-spot _ _ _ _ _ _ _ c.self.invariant c.find-i.ensures in
     let changed =
-    texts.changed_text (marked c.args.cover.now.mark) _ _ _ _ c.find-i.result.0 c.find-i.result.1 c.part-shown.result c.flag_at-before.result c.flag_at-after.result c.index_mut-chunk.result.now c.cover.new.self blank
-    c.self.invariant spot.chunk spot.within c.index_mut-chunk.ensures.value c.cover.ensures.cells c.part-shown.ensures c.flag_at-before.ensures c.flag_at-after.ensures in
+    texts.changed_text (marked c.args.cover.now.mark) _ _ _ _ _ _ _ _ _ _ _ blank c.self.invariant spot.chunk spot.within c.index_mut-chunk.ensures.value
+    c.cover.ensures.cells c.part-shown.ensures c.flag_at-before.ensures c.flag_at-after.ensures in
     let all = chunked.text-len _ _ _ _ c.self.invariant in
     let low = c.total.ensures.low in
     record { fits = omega (arith, changed.shown) }
 
 pub set-requires-clause-low : goal.set-requires-clause-low
 set-requires-clause-low c =
-    let spot = texts.text-spot _ _ _ _ c.find-i.result.0 c.find-i.result.1 c.args.cover.now.place c.self.invariant c.find-i.ensures in
+    let spot = texts.text-spot _ _ _ _ _ _ _ c.self.invariant c.find-i.ensures in
     let changed =
-    texts.changed_text (marked c.args.cover.now.mark) _ _ _ _ c.find-i.result.0 c.find-i.result.1 c.part-shown.result c.flag_at-before.result c.flag_at-after.result c.index_mut-chunk.result.now c.cover.new.self blank
-    c.self.invariant spot.chunk spot.within c.index_mut-chunk.ensures.value c.cover.ensures.cells c.part-shown.ensures c.flag_at-before.ensures c.flag_at-after.ensures in
+    texts.changed_text (marked c.args.cover.now.mark) _ _ _ _ _ _ _ _ _ _ _ blank c.self.invariant spot.chunk spot.within c.index_mut-chunk.ensures.value
+    c.cover.ensures.cells c.part-shown.ensures c.flag_at-before.ensures c.flag_at-after.ensures in
     let all = chunked.text-len _ _ _ _ c.self.invariant in
     let low = c.total.ensures.low in
     omega (arith, changed.all)
 
 pub invariant_of-self : goal.invariant_of-self
 invariant_of-self c =
-    let spot = texts.text-spot _ _ _ _ c.find-i.result.0 c.find-i.result.1 c.args.cover.now.place c.self.invariant c.find-i.ensures in
+    let spot = texts.text-spot _ _ _ _ _ _ _ c.self.invariant c.find-i.ensures in
     let changed =
-    texts.changed_text (marked c.args.cover.now.mark) _ _ _ _ c.find-i.result.0 c.find-i.result.1 c.part-shown.result c.flag_at-before.result c.flag_at-after.result c.index_mut-chunk.result.now c.cover.new.self blank
-    c.self.invariant spot.chunk spot.within c.index_mut-chunk.ensures.value c.cover.ensures.cells c.part-shown.ensures c.flag_at-before.ensures c.flag_at-after.ensures in
+    texts.changed_text (marked c.args.cover.now.mark) _ _ _ _ _ _ _ _ _ _ _ blank c.self.invariant spot.chunk spot.within c.index_mut-chunk.ensures.value
+    c.cover.ensures.cells c.part-shown.ensures c.flag_at-before.ensures c.flag_at-after.ensures in
     rw c.set.ensures.parts changed.text
 
 pub returns : goal.returns
 returns c =
-    let spot = texts.text-spot _ _ _ _ c.find-i.result.0 c.find-i.result.1 c.args.cover.now.place c.self.invariant c.find-i.ensures in
+    let spot = texts.text-spot _ _ _ _ _ _ _ c.self.invariant c.find-i.ensures in
     let changed =
-    texts.changed_text (marked c.args.cover.now.mark) _ _ _ _ c.find-i.result.0 c.find-i.result.1 c.part-shown.result c.flag_at-before.result c.flag_at-after.result c.index_mut-chunk.result.now c.cover.new.self blank
-    c.self.invariant spot.chunk spot.within c.index_mut-chunk.ensures.value c.cover.ensures.cells c.part-shown.ensures c.flag_at-before.ensures c.flag_at-after.ensures in
+    texts.changed_text (marked c.args.cover.now.mark) _ _ _ _ _ _ _ _ _ _ _ blank c.self.invariant spot.chunk spot.within c.index_mut-chunk.ensures.value
+    c.cover.ensures.cells c.part-shown.ensures c.flag_at-before.ensures c.flag_at-after.ensures in
     ap (λ d. flat (set c.self.inside.chunks.items c.find-i.result.0 d)) changed.chunk
     ∙ chunked.flat_change (marked c.args.cover.now.mark) c.self.inside.chunks.items c.find-i.result.0 c.find-i.result.1 c.args.cover.now.place spot
     ∙ ap (λ v. change_at c.args.cover.now.place (marked c.args.cover.now.mark) v.cells) c.self.view_is
