@@ -24,7 +24,7 @@ use Rattle.transform_rec.specs.Histories.{family_in}
 use Rattle.transform_rec.proofs.CallerLemmas.{history_causal}
 use Rattle.fixed_replay.proofs.Families.{HasRanks, HasGroups}
 use Rattle.undo_group.specs.BaseForms.{AreBaseForms}
-use Rattle.undo_group.specs.Laws.Inserts.{context_of_original, IsInsertOp, insert_op, forms_apart}
+use Rattle.undo_group.specs.Laws.Inserts.{context_of_original, insert_op, forms_apart}
 use Rattle.undo_group.specs.Laws.Places.{forms_bounded}
 use Rattle.fixed_replay.proofs.HistoryFamilies.{IsFamilyOf}
 use Rattle.fixed_replay.proofs.ValidOriginals.{rank_in, rank_is, rank_grows, ranks_apart}
@@ -49,11 +49,8 @@ module _ (h : List OpData) (v : IsValid h) (form : Member → Form) (forms : Are
   listed_known : (m : Member) → IsIn m (members_in h) → is_known h m ≡ true
   listed_known m i = in_known h m i
 
-  insert_at : (m : Member) (a : Ins) → IsIn m (members_in h) → form m ≡ Insert a → IsInsertOp h m a
-  insert_at m a i e = insert_op h v form forms m a i e
-
   own_by : (x : Member) (n : NameData) → IsIn x (members_in h) → x ≢ Original n → (f : Form) → form x ≡ f → LacksName (added_by f) n
-  own_by x n i ne (Insert a) e = let r = insert_at x a i e in (λ (q : a.name ≡ n). ne (r.is ∙ ap Original (sym r.named ∙ q)), tt)
+  own_by x n i ne (Insert a) e = let r = insert_op h v form forms x a i e in (λ (q : a.name ≡ n). ne (r.is ∙ ap Original (sym r.named ∙ q)), tt)
   own_by x n i ne (Covered d) e = tt
 
   pub valid_own_names : HasOwnNames form_table b
@@ -113,7 +110,7 @@ module _ (h : List OpData) (v : IsValid h) (form : Member → Form) (forms : Are
         subst (λ (x : Insertion). IsIn x (insertions_of b (rank_in h v) (members_in h))) (put_is r.name r.place r.character r.context f.ins r.there f.name f.place ∙ sym r.is) there;
     back = λ z i.
         let r = in-insertions_of b (rank_in h v) (members_in h) z i in
-        let o = insert_at r.member r.ins r.there r.form in
+        let o = insert_op h v form forms r.member r.ins r.there r.form in
         let same : z ≡ insertion o.name o.place o.context = r.is ∙ (ap (λ (m : Member). put_of m r.ins) o.is ∙ put_is o.name o.place o.character o.context r.ins o.there o.named o.placed) in
         subst (λ (x : Insertion). IsIn x (fixed_order h)) (sym same) (sort_by-in is_earlier (insertion o.name o.place o.context) (insertions_in h) (insertions-in o.name o.place o.character o.context h o.there));
   }
