@@ -14,13 +14,12 @@ use Rattle.cot_site.proofs.CallerLemmas.{computed_of, computed_lists, lists_show
 use Rattle.script_text.specs.declared.reading.line.Line.{Line}
 use Rattle.script_text.specs.declared.reading.line.Line.TheVariants as line
 use Rattle.script_text.specs.declared.report.refusal.Refusal.{Refusal}
-use Rattle.session_replay.specs.declared.session.StepBad.{StepBad}
-use Rattle.session_replay.specs.declared.session.StepBad.TheVariants.{NoSite}
+use Rattle.script_text.specs.declared.report.refusal.Refusal.TheVariants.{NoSite}
 use Rattle.script_text.specs.Lines.{line_site}
 use Rattle.session_replay.specs.Steps.{Step, last_of, written_by}
 use Rattle.session_replay.specs.Sessions.{SessionData, site_at, made, unstarted}
 use Rattle.session_replay.specs.LineSteps.{told, commanded, typed, typed_in, typed_on, show_text_in, once_started, at_site_of, steps_there, steps_there_in, line_steps, line_steps_in, AreValues}
-use Rattle.session_replay.specs.Scripts.{Report, Piece, prepended, line_read, pieces_of, steps_or, steps_of_read, steps_of_read_in, piece_steps, piece_steps_in, report_on, report_from, report_from_in, script_report, script_report_in}
+use Rattle.session_replay.specs.Scripts.{Report, Piece, prepended, line_read, pieces_of, steps_of_read, steps_of_read_in, piece_steps, piece_steps_in, report_on, report_from, report_from_in, script_report, script_report_in}
 use Rattle.session_replay.specs.Derivation.{IsDerivedReport}
 use Rattle.session_replay.specs.Soundness.{IsSound}
 use Rattle.session_replay.proofs.Sound.{Kept, good_made, good_last, site_sound}
@@ -53,11 +52,11 @@ module _ (view : State → View) (agrees : (s : State) → IsValid s.history →
 
   -- ---- lines
 
-  guarded_same : (o : Option ℕ) (d : SessionData) (r q : Result (List (Step SessionData)) StepBad) → (IfSome o (λ i. i < length d.sites) → r ≡ q) → at_site_of o d r ≡ at_site_of o d q
+  guarded_same : (o : Option ℕ) (d : SessionData) (r q : Result (List (Step SessionData)) Refusal) → (IfSome o (λ i. i < length d.sites) → r ≡ q) → at_site_of o d r ≡ at_site_of o d q
   guarded_same None d r q same = same tt
   guarded_same (Some i) d r q same =
       elim (cases_Bool (nat_lt i (length d.sites))) [
-        | inl less ↦ ap (λ (x : Result (List (Step SessionData)) StepBad). at_site_of (Some i) d x) (same (ltb-true i (length d.sites) less))
+        | inl less ↦ ap (λ (x : Result (List (Step SessionData)) Refusal). at_site_of (Some i) d x) (same (ltb-true i (length d.sites) less))
         | inr not ↦ ap (λ (b : Bool). once_started d (if b then r else Err NoSite)) not ∙ sym (ap (λ (b : Bool). once_started d (if b then q else Err NoSite)) not)
       ]
 
@@ -84,7 +83,7 @@ module _ (view : State → View) (agrees : (s : State) → IsValid s.history →
     where
       from : (r : Result Line Refusal) → line_read p ≡ r → steps_of_read_in view r d ≡ steps_of_read r d
       from (Err why) is = refl
-      from (Ok l) is = ap (λ (r : Result (List (Step SessionData)) StepBad). steps_or r) (line_same l d sound (read_values p l is))
+      from (Ok l) is = line_same l d sound (read_values p l is)
 
   -- ---- reports
 

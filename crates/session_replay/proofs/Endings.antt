@@ -13,10 +13,11 @@ use Rattle.script_text.specs.declared.report.refusal.Refusal.{Refusal}
 use Rattle.script_text.specs.declared.report.refusal.Refusal.TheVariants as refusal
 use Rattle.script_text.specs.Answers.{Answers}
 use Rattle.script_text.specs.Report.{refused_text}
+use Rattle.script_text.specs.declared.reading.parse.TheConstants.{LONGEST}
 use Rattle.session_replay.specs.declared.script.TheConstants.{MAX_SCRIPT}
 use Rattle.session_replay.specs.Sessions.{SessionData, unstarted}
 use Rattle.session_replay.specs.LineSteps.{line_steps}
-use Rattle.session_replay.specs.Scripts.{Piece, Whole, Past, Report, prepended, lines_of, pieces_of, cut_off, line_read, steps_or, report_on, report_from, report_from_in, script_report}
+use Rattle.session_replay.specs.Scripts.{Piece, Whole, Past, Report, prepended, lines_of, pieces_of, cut_off, line_read, report_on, report_from, report_from_in, script_report}
 use Rattle.session_replay.specs.Code.Endings.{ended, followed}
 
 -- ---- the lines of a script
@@ -79,16 +80,16 @@ past_report bytes tail full more =
 -- ---- a line that is read
 
 pub line_found : (bytes : List ℕ) (line : Line) → Answers bytes (Ok line) → line_read (Whole bytes) ≡ Ok line
-line_found bytes line a = rw (le-leb (length bytes) 262144 a.0.0, is_utf8-from_IsUtf8 bytes a.0.1, a.1) refl
+line_found bytes line a = rw (le-leb (length bytes) LONGEST a.0.0, is_utf8-from_IsUtf8 bytes a.0.1, a.1) refl
 
 pub line_no_text : (bytes : List ℕ) → Answers bytes (Err reading.Utf8) → line_read (Whole bytes) ≡ Err refusal.Utf8
-line_no_text bytes a = rw (le-leb (length bytes) 262144 a.0) (elim (cases_Bool (is_utf8 bytes)) [
+line_no_text bytes a = rw (le-leb (length bytes) LONGEST a.0) (elim (cases_Bool (is_utf8 bytes)) [
   | inl text ↦ absurd (a.1 (IsUtf8-from_is_utf8 bytes text))
   | inr no_text ↦ rw no_text refl
 ])
 
 pub line_no_row : (bytes : List ℕ) → Answers bytes (Err reading.Form) → line_read (Whole bytes) ≡ Err refusal.Form
-line_no_row bytes a = rw (le-leb (length bytes) 262144 a.0.0, is_utf8-from_IsUtf8 bytes a.0.1, a.1) refl
+line_no_row bytes a = rw (le-leb (length bytes) LONGEST a.0.0, is_utf8-from_IsUtf8 bytes a.0.1, a.1) refl
 
 -- ---- what stands when a line is done
 
@@ -102,7 +103,7 @@ piece_refused piece cause out new n pieces d is written = rw is (λ i. record { 
 -- it is read, and the rest is left to its steps
 pub piece_read : (piece : Piece) (line : Line) (n : ℕ) (pieces : List Piece) (d : SessionData)
     → line_read piece ≡ Ok line
-    → report_from n (piece ∷ pieces) d ≡ report_on (report_from (n + 1) pieces) n (steps_or (line_steps line d)) d
+    → report_from n (piece ∷ pieces) d ≡ report_on (report_from (n + 1) pieces) n (line_steps line d) d
 unfolding report_from_in
 piece_read piece line n pieces d is = rw is refl
 
@@ -137,7 +138,7 @@ at_end f g bytes rest h = ap f (sym (append-nil bytes)) ∙ (h [] ∙ ap g (appe
 -- what an answer says of the steps of a line, said of the line
 pub read_along : {E : Type 0} (result : Result Bool E) (bytes : List ℕ) (line : Line) (out new : List ℕ) (n m : ℕ) (d now : SessionData)
     → line_read (Whole bytes) ≡ Ok line
-    → IfOk result (λ refused. (pieces : List Piece) → prepended out (report_on (report_from (n + 1) pieces) n (steps_or (line_steps line d)) d) ≡ followed refused new (report_from m pieces now))
+    → IfOk result (λ refused. (pieces : List Piece) → prepended out (report_on (report_from (n + 1) pieces) n (line_steps line d) d) ≡ followed refused new (report_from m pieces now))
     → IfOk result (λ refused. (pieces : List Piece) → prepended out (report_from n (Whole bytes ∷ pieces) d) ≡ followed refused new (report_from m pieces now))
 read_along (Ok refused) bytes line out new n m d now is h = λ pieces. ap (λ (r : Report). prepended out r) (piece_read (Whole bytes) line n pieces d is) ∙ h pieces
 read_along (Err e) bytes line out new n m d now is h = h

@@ -10,6 +10,7 @@ pub mod Transcripts
 pub mod Derivation
 pub mod Lifting
 pub mod Commanding
+pub mod ShownPlaces
 pub mod Loops
 pub mod Lines
 pub mod Characters
@@ -23,3 +24,4 @@ mod Rounds
 mod Needed
 pub mod Knowing
 pub mod Noting
+pub mod CallerLemmas

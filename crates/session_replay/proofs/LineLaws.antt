@@ -4,6 +4,7 @@ use Rattle.std.specs.Prelude.{Contains, Option, Some, None, IfSome, slice_get, d
 use Rattle.std.specs.Char.{IsScalar}
 use Rattle.std.specs.Str.{all_scalars}
 use Rattle.std.proofs.lemmas.Bool.{cases_Bool, and_parts, ltb-true, leb-true}
+use Rattle.op_name.specs.declared.name.TheConstants.{SITES}
 use Rattle.context_diff.specs.Operations.{OpData, IsWellFormed}
 use Rattle.context_diff.specs.Histories.{IsNext, IsValid}
 use Rattle.context_diff.proofs.CallerLemmas.{contains_cases, contains_here, contains_later, contains_none}
@@ -21,8 +22,8 @@ use Rattle.script_text.specs.Report.{raw_more_text, raw_bad_text}
 use Rattle.script_text.specs.Verdicts.{local_text}
 use Rattle.script_text.specs.declared.reading.line.Line.{Line}
 use Rattle.script_text.specs.declared.reading.line.Line.TheVariants as line
-use Rattle.session_replay.specs.declared.session.StepBad.{StepBad}
-use Rattle.session_replay.specs.declared.session.StepBad.TheVariants.{NoSites, Twice, NoSite, NoMessage}
+use Rattle.script_text.specs.declared.report.refusal.Refusal.{Refusal}
+use Rattle.script_text.specs.declared.report.refusal.Refusal.TheVariants.{NoSites, Twice, NoSite, NoMessage}
 use Rattle.script_text.specs.Lines.{line_site}
 use Rattle.session_replay.specs.Steps.{Step, last_of}
 use Rattle.session_replay.specs.Sessions.{SessionData, site_at, new_site, new_sites, opened, made, given, given_all, synced}
@@ -111,10 +112,10 @@ fresh_sites (suc n) i m few s at =
       | inr later ↦ fresh_sites n (suc i) m (omega (arith, few)) s later
     ]
 
-opened_sound : (n : ℕ) → n ≤ 64 → IsSound (opened n)
+opened_sound : (n : ℕ) → n ≤ SITES → IsSound (opened n)
 opened_sound n few = record {
   sites = λ s at.
-      let fresh = fresh_sites n 0 64 (omega (arith, few)) s at in
+      let fresh = fresh_sites n 0 SITES (omega (arith, few)) s at in
       record {
         number = fresh.number;
         history = subst IsValid (sym fresh.history) tt;
@@ -123,8 +124,8 @@ opened_sound n few = record {
   messages = λ o at. absurd (contains_none o at);
 }
 
-opened_settled : (n : ℕ) → n ≤ 64 → AreSettled (opened n)
-opened_settled n few s at = (settled_none s).1 (λ o there. absurd (contains_none o (subst (λ w. Contains w o) (fresh_sites n 0 64 (omega (arith, few)) s at).waiting there)))
+opened_settled : (n : ℕ) → n ≤ SITES → AreSettled (opened n)
+opened_settled n few s at = (settled_none s).1 (λ o there. absurd (contains_none o (subst (λ w. Contains w o) (fresh_sites n 0 SITES (omega (arith, few)) s at).waiting there)))
 
 -- ---- lines
 
@@ -141,18 +142,18 @@ nothing_lasts : (d : SessionData) → Lasting d []
 unfolding last_of
 nothing_lasts d = record { all = tt; settles = λ s. s; events = eventless d }
 
-ok_steps : (es fs : List (Step SessionData)) → ◌≡◌ {A = Result (List (Step SessionData)) StepBad} (Ok es) (Ok fs) → es ≡ fs
+ok_steps : (es fs : List (Step SessionData)) → ◌≡◌ {A = Result (List (Step SessionData)) Refusal} (Ok es) (Ok fs) → es ≡ fs
 ok_steps es fs e = cc
 
-err_steps : (why : StepBad) (fs : List (Step SessionData)) → ◌≡◌ {A = Result (List (Step SessionData)) StepBad} (Err why) (Ok fs) → ⊥
+err_steps : (why : Refusal) (fs : List (Step SessionData)) → ◌≡◌ {A = Result (List (Step SessionData)) Refusal} (Err why) (Ok fs) → ⊥
 err_steps why fs e = cc
 
 -- these steps are good
-good_lasts : (d : SessionData) (fs es : List (Step SessionData)) → ◌≡◌ {A = Result (List (Step SessionData)) StepBad} (Ok fs) (Ok es) → Good d fs → Lasting d es
+good_lasts : (d : SessionData) (fs es : List (Step SessionData)) → ◌≡◌ {A = Result (List (Step SessionData)) Refusal} (Ok fs) (Ok es) → Good d fs → Lasting d es
 good_lasts d fs es is good = subst (Lasting d) (ok_steps fs es is) (from_good d fs good)
 
 -- steps of a started session
-started_ok : (d : SessionData) (r : Result (List (Step SessionData)) StepBad) (es : List (Step SessionData)) → once_started d r ≡ Ok es → r ≡ Ok es
+started_ok : (d : SessionData) (r : Result (List (Step SessionData)) Refusal) (es : List (Step SessionData)) → once_started d r ≡ Ok es → r ≡ Ok es
 started_ok d r es is =
     elim (cases_Bool (nat_lt 0 (length d.sites))) [
       | inl some ↦ sym (ap (λ (b : Bool). if b then r else Err NoSites) some) ∙ is
@@ -160,7 +161,7 @@ started_ok d r es is =
     ]
 
 -- steps at a site that is there, if they speak of one
-pub site_there : (o : Option ℕ) (d : SessionData) (r : Result (List (Step SessionData)) StepBad) (es : List (Step SessionData)) → at_site_of o d r ≡ Ok es → IfSome o (λ i. i < length d.sites) × (r ≡ Ok es)
+pub site_there : (o : Option ℕ) (d : SessionData) (r : Result (List (Step SessionData)) Refusal) (es : List (Step SessionData)) → at_site_of o d r ≡ Ok es → IfSome o (λ i. i < length d.sites) × (r ≡ Ok es)
 site_there None d r es is = (tt, is)
 site_there (Some i) d r es is =
     let inner = started_ok d (if nat_lt i (length d.sites) then r else Err NoSite) es is in
@@ -170,7 +171,7 @@ site_there (Some i) d r es is =
     ]
 
 -- the sites that were just made
-opened_lasts : (n : ℕ) (d : SessionData) → n ≤ 64 → Lasting d (told [] (opened n))
+opened_lasts : (n : ℕ) (d : SessionData) → n ≤ SITES → Lasting d (told [] (opened n))
 unfolding last_of
 opened_lasts n d few = record {
   all = (opened_sound n few, tt);
@@ -181,15 +182,15 @@ opened_lasts n d few = record {
 opening_lasts : (n : ℕ) (d : SessionData) (es : List (Step SessionData)) → opening n d ≡ Ok es → Lasting d es
 opening_lasts n d es is =
     elim (cases_Bool (nat_lt 0 (length d.sites))) [
-      | inl some ↦ absurd (err_steps Twice es (sym (ap (λ (b : Bool). if b then Err Twice else if nat_le n 64 then Ok (told [] (opened n)) else Err NoSite) some) ∙ is))
-      | inr none ↦ first (sym (ap (λ (b : Bool). if b then Err Twice else if nat_le n 64 then Ok (told [] (opened n)) else Err NoSite) none) ∙ is)
+      | inl some ↦ absurd (err_steps Twice es (sym (ap (λ (b : Bool). if b then Err Twice else if nat_le n SITES then Ok (told [] (opened n)) else Err NoSite) some) ∙ is))
+      | inr none ↦ first (sym (ap (λ (b : Bool). if b then Err Twice else if nat_le n SITES then Ok (told [] (opened n)) else Err NoSite) none) ∙ is)
     ]
   where
-    first : (if nat_le n 64 then Ok (told [] (opened n)) else Err NoSite) ≡ Ok es → Lasting d es
+    first : (if nat_le n SITES then Ok (told [] (opened n)) else Err NoSite) ≡ Ok es → Lasting d es
     first same =
-        elim (cases_Bool (nat_le n 64)) [
+        elim (cases_Bool (nat_le n SITES)) [
           | inl few ↦
-              subst (Lasting d) (ok_steps (told [] (opened n)) es (sym (ap (λ (b : Bool). if b then Ok (told [] (opened n)) else Err NoSite) few) ∙ same)) (opened_lasts n d (leb-true n 64 few))
+              subst (Lasting d) (ok_steps (told [] (opened n)) es (sym (ap (λ (b : Bool). if b then Ok (told [] (opened n)) else Err NoSite) few) ∙ same)) (opened_lasts n d (leb-true n SITES few))
           | inr many ↦ absurd (err_steps NoSite es (sym (ap (λ (b : Bool). if b then Ok (told [] (opened n)) else Err NoSite) many) ∙ same))
         ]
 

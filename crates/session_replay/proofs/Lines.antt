@@ -5,9 +5,12 @@ use Rattle.std.specs.Result.{is_err, is_ok}
 use Rattle.std.proofs.Math.Seq.{take-append_seam}
 use Rattle.std.proofs.lemmas.Bool.{true≢false, lt-ltb}
 use Rattle.std.proofs.lemmas.Bool.Decides.{nat_tests}
+use Rattle.op_name.specs.declared.name.TheConstants.{SITES}
 use Rattle.cot_site.specs.States.{State as SiteState}
 use Rattle.script_text.specs.declared.reading.line.Line.{Line}
 use Rattle.script_text.specs.declared.reading.line.Line.TheVariants.{Blank, Sites}
+use Rattle.script_text.specs.declared.report.refusal.Refusal.{Refusal}
+use Rattle.script_text.specs.declared.report.refusal.Refusal.TheVariants as refusal
 use Rattle.session_replay.specs.declared.session.StepBad.{StepBad}
 use Rattle.session_replay.specs.declared.session.StepBad.TheVariants.{NoSites, NoSite, NoMessage, Twice, Memory}
 use Rattle.script_text.specs.Lines.{line_site}
@@ -16,7 +19,7 @@ use Rattle.session_replay.specs.Sessions.{SessionData, opened}
 use Rattle.session_replay.specs.LineSteps.{line_steps, at_site_of, opening, steps_there, AreValues, told}
 use Rattle.session_replay.specs.Answers.{IsDone}
 use Rattle.session_replay.specs.Soundness.{IsSound, AreSettled}
-use Rattle.session_replay.specs.Code.Doing.{IsPlace, AreDone, IsFront, IsLineDone, as_step, cut_after}
+use Rattle.session_replay.specs.Code.Doing.{IsPlace, AreDone, IsFront, IsLineDone, IsRefusedFor, as_step, cut_after}
 use Rattle.session_replay.proofs.Every.{every_last, every_reached}
 use Rattle.session_replay.proofs.LineLaws.{line_lasts}
 use Rattle.session_replay.proofs.Steps.{none_reached, told_done, done_nothing, front_same, front_at}
@@ -29,33 +32,37 @@ went_well (Err e) fine = absurd (true≢false fine)
 -- ---- the site of a line
 
 -- it is there
-pub site_found : (o : Option ℕ) (i at : ℕ) (d : SessionData) (steps : Result (List (Step SessionData)) StepBad) → o ≡ Some i → IsPlace d i (Ok at) → at_site_of o d steps ≡ steps
+pub site_found : (o : Option ℕ) (i at : ℕ) (d : SessionData) (steps : Result (List (Step SessionData)) Refusal) → o ≡ Some i → IsPlace d i (Ok at) → at_site_of o d steps ≡ steps
 site_found o i at d steps is place =
     let some : nat_lt 0 (length d.sites) ≡ true = lt-ltb 0 (length d.sites) (omega (arith, place.1)) in
     ap (λ x. at_site_of x d steps) is
-    ∙ ap (λ b. if b then (if nat_lt i (length d.sites) then steps else Err NoSite) else Err NoSites) some
-    ∙ ap (λ b. if b then steps else Err NoSite) (lt-ltb i (length d.sites) place.1)
+    ∙ ap (λ b. if b then (if nat_lt i (length d.sites) then steps else Err refusal.NoSite) else Err refusal.NoSites) some
+    ∙ ap (λ b. if b then steps else Err refusal.NoSite) (lt-ltb i (length d.sites) place.1)
 
 pub site_within : (o : Option ℕ) (i at : ℕ) (d : SessionData) → o ≡ Some i → IsPlace d i (Ok at) → IfSome o (λ k. k < length d.sites)
 site_within o i at d is place = subst (λ x. IfSome x (λ k. k < length d.sites)) (sym is) place.1
 
 -- it isn't there
-pub site_missing : (o : Option ℕ) (i : ℕ) (why : StepBad) (d : SessionData) (steps : Result (List (Step SessionData)) StepBad) → o ≡ Some i → IsPlace d i (Err why) → at_site_of o d steps ≡ Err why
+pub site_missing : (o : Option ℕ) (i : ℕ) (why : StepBad) (d : SessionData) (steps : Result (List (Step SessionData)) Refusal) → o ≡ Some i → IsPlace d i (Err why) → IsRefusedFor (at_site_of o d steps) why
 site_missing o i NoSites d steps is none =
     let none_there : nat_lt 0 (length d.sites) ≡ false = ap (λ (xs : List SiteState). nat_lt 0 (length xs)) none in
-    ap (λ x. at_site_of x d steps) is ∙ ap (λ b. if b then (if nat_lt i (length d.sites) then steps else Err NoSite) else Err NoSites) none_there
+    let refused : at_site_of o d steps ≡ Err refusal.NoSites =
+    ap (λ x. at_site_of x d steps) is ∙ ap (λ b. if b then (if nat_lt i (length d.sites) then steps else Err refusal.NoSite) else Err refusal.NoSites) none_there in
+    subst (λ r. IsRefusedFor r NoSites) (sym refused) refl
 site_missing o i NoSite d steps is past =
     let some : nat_lt 0 (length d.sites) ≡ true = lt-ltb 0 (length d.sites) past.1 in
     let beyond : nat_lt i (length d.sites) ≡ false = grind (arith, nat_tests, past.0) in
+    let refused : at_site_of o d steps ≡ Err refusal.NoSite =
     ap (λ x. at_site_of x d steps) is
-    ∙ ap (λ b. if b then (if nat_lt i (length d.sites) then steps else Err NoSite) else Err NoSites) some
-    ∙ ap (λ b. if b then steps else Err NoSite) beyond
+    ∙ ap (λ b. if b then (if nat_lt i (length d.sites) then steps else Err refusal.NoSite) else Err refusal.NoSites) some
+    ∙ ap (λ b. if b then steps else Err refusal.NoSite) beyond in
+    subst (λ r. IsRefusedFor r NoSite) (sym refused) refl
 site_missing o i Twice d steps is never = absurd never
 site_missing o i NoMessage d steps is never = absurd never
 site_missing o i Memory d steps is never = absurd never
 
 -- a line that speaks of no site
-pub site_none : (o : Option ℕ) (d : SessionData) (steps : Result (List (Step SessionData)) StepBad) → o ≡ None → at_site_of o d steps ≡ steps
+pub site_none : (o : Option ℕ) (d : SessionData) (steps : Result (List (Step SessionData)) Refusal) → o ≡ None → at_site_of o d steps ≡ steps
 site_none o d steps is = ap (λ x. at_site_of x d steps) is
 
 -- the site of this line
@@ -69,14 +76,18 @@ pub line_there : {T : Type 0} (l : Line) (q : Result T StepBad) (d now : Session
 line_there l q d now old new same h = subst (λ r. IsLineDone r q d now old new) (sym same) h
 
 -- at a site that isn't
-pub line_missing : {T : Type 0} (l : Line) (q : Result T StepBad) (why : StepBad) (d : SessionData) (old : List ℕ) → at_site_of (line_site l) d (steps_there l d) ≡ Err why → q ≡ Err why → IsLineDone (line_steps l d) q d d old old
-line_missing l q why d old missing is = subst (λ r. IsLineDone r q d d old old) (sym missing) (subst (λ x. IsLineDone (Err why) x d d old old) (sym is) (refl, refl, refl))
+pub line_missing : {T : Type 0} (l : Line) (q : Result T StepBad) (why : StepBad) (d : SessionData) (old : List ℕ) → IsRefusedFor (at_site_of (line_site l) d (steps_there l d)) why → q ≡ Err why → IsLineDone (line_steps l d) q d d old old
+line_missing {T} l q why d old missing is = subst (λ x. IsLineDone (line_steps l d) x d d old old) (sym is) (from (line_steps l d) missing)
+  where
+    from : (r : Result (List (Step SessionData)) Refusal) → IsRefusedFor r why → IsLineDone {T = T} r (Err why) d d old old
+    from (Ok es) h = absurd h
+    from (Err cause) h = (h, refl, refl)
 
 -- a line leaves a sound session
 pub line_sound : {T : Type 0} (l : Line) (q : Result T StepBad) (d now : SessionData) (old new : List ℕ) → AreValues l → IsSound d → IsLineDone (line_steps l d) q d now old new → IsSound now
 line_sound {T} l q d now old new values sound done = from (line_steps l d) refl q done
   where
-    from : (r : Result (List (Step SessionData)) StepBad) → line_steps l d ≡ r → (q : Result T StepBad) → IsLineDone r q d now old new → IsSound now
+    from : (r : Result (List (Step SessionData)) Refusal) → line_steps l d ≡ r → (q : Result T StepBad) → IsLineDone r q d now old new → IsSound now
     from (Ok es) is (Ok t) h = subst IsSound (sym h.0) (every_last IsSound d es sound (line_lasts l d es sound values is).all)
     from (Ok es) is (Err why) h = every_reached IsSound d now es sound (line_lasts l d es sound values is).all h.1
     from (Err why) is (Ok t) h = absurd h
@@ -86,7 +97,7 @@ line_sound {T} l q d now old new values sound done = from (line_steps l d) refl 
 pub line_settled : {T : Type 0} (l : Line) (q : Result T StepBad) (d now : SessionData) (old new : List ℕ) → AreValues l → IsSound d → AreSettled d → ¬ (q ≡ Err Memory) → IsLineDone (line_steps l d) q d now old new → AreSettled now
 line_settled {T} l q d now old new values sound settled other done = from (line_steps l d) refl q other done
   where
-    from : (r : Result (List (Step SessionData)) StepBad) → line_steps l d ≡ r → (q : Result T StepBad) → ¬ (q ≡ Err Memory) → IsLineDone r q d now old new → AreSettled now
+    from : (r : Result (List (Step SessionData)) Refusal) → line_steps l d ≡ r → (q : Result T StepBad) → ¬ (q ≡ Err Memory) → IsLineDone r q d now old new → AreSettled now
     from (Ok es) is (Ok t) other h = subst AreSettled (sym h.0) ((line_lasts l d es sound values is).settles settled)
     from (Ok es) is (Err why) other h = absurd (other (ap (λ x. Err x) h.0))
     from (Err why) is (Ok t) other h = absurd h
@@ -115,7 +126,7 @@ uncut_memory cut Memory uncut = absurd (true≢false uncut)
 pub line_front : {T : Type 0} (l : Line) (q : Result T StepBad) (why : StepBad) (d now : SessionData) (old new : List ℕ) → q ≡ Err why → IsLineDone (line_steps l d) q d now old new → IsFront old new
 line_front {T} l q why d now old new is done = from (line_steps l d) (subst (λ x. IsLineDone (line_steps l d) x d now old new) is done)
   where
-    from : (r : Result (List (Step SessionData)) StepBad) → IsLineDone {T = T} r (Err why) d now old new → IsFront old new
+    from : (r : Result (List (Step SessionData)) Refusal) → IsLineDone {T = T} r (Err why) d now old new → IsFront old new
     from (Ok es) h = h.2
     from (Err cause) h = front_at old new h.2
 
@@ -149,19 +160,19 @@ blank_answer line d old is = line_is line Blank (Ok tt) d d old old is (refl, sy
 
 -- ---- the making of sites
 
-pub opening_steps : (n : ℕ) (d : SessionData) → nat_lt 0 (length d.sites) ≡ false → nat_le n 64 ≡ true → opening n d ≡ Ok (told [] (opened n))
+pub opening_steps : (n : ℕ) (d : SessionData) → nat_lt 0 (length d.sites) ≡ false → nat_le n SITES ≡ true → opening n d ≡ Ok (told [] (opened n))
 opening_steps n d none few =
-    ap (λ b. if b then Err Twice else if nat_le n 64 then Ok (told [] (opened n)) else Err NoSite) none ∙ ap (λ b. if b then Ok (told [] (opened n)) else Err NoSite) few
+    ap (λ b. if b then Err refusal.Twice else if nat_le n SITES then Ok (told [] (opened n)) else Err refusal.NoSite) none ∙ ap (λ b. if b then Ok (told [] (opened n)) else Err refusal.NoSite) few
 
-pub sites_made : (steps : Result (List (Step SessionData)) StepBad) (n : ℕ) (d now : SessionData) → steps ≡ Ok (told [] (opened n)) → now ≡ opened n → IsDone {T = Unit {0}} steps (Ok tt) d now
+pub sites_made : (steps : Result (List (Step SessionData)) Refusal) (n : ℕ) (d now : SessionData) → steps ≡ Ok (told [] (opened n)) → now ≡ opened n → IsDone {T = Unit {0}} steps (Ok tt) d now
 unfolding last_of
 sites_made steps n d now is at = subst (λ r. IsDone {T = Unit {0}} r (Ok tt) d now) (sym is) at
 
-pub sites_short : (steps : Result (List (Step SessionData)) StepBad) (es : List (Step SessionData)) (d : SessionData) → steps ≡ Ok es → IsDone {T = Unit {0}} steps (Err Memory) d d
+pub sites_short : (steps : Result (List (Step SessionData)) Refusal) (es : List (Step SessionData)) (d : SessionData) → steps ≡ Ok es → IsDone {T = Unit {0}} steps (Err Memory) d d
 sites_short steps es d is = subst (λ r. IsDone {T = Unit {0}} r (Err Memory) d d) (sym is) (refl, none_reached d es)
 
 -- steps that write nothing
-quiet_answer : (steps : Result (List (Step SessionData)) StepBad) (q : Result (Unit {0}) StepBad) (d now : SessionData) (old : List ℕ)
+quiet_answer : (steps : Result (List (Step SessionData)) Refusal) (q : Result (Unit {0}) StepBad) (d now : SessionData) (old : List ℕ)
     → ((es : List (Step SessionData)) → steps ≡ Ok es → written_by es ≡ []) → IsDone steps q d now → IsLineDone steps q d now old old
 quiet_answer (Ok es) (Ok t) d now old quiet h = (h, sym (ap (λ w. old ++ w) (quiet es refl) ∙ append-nil old))
 quiet_answer (Ok es) (Err why) d now old quiet h = (h.0, h.1, front_same old)
@@ -169,7 +180,7 @@ quiet_answer (Err why) (Ok t) d now old quiet h = h
 quiet_answer (Err why) (Err cause) d now old quiet h = (h.0, h.1, refl)
 
 sites_quiet : (a b : Bool) (n : ℕ) (es : List (Step SessionData))
-    → ◌≡◌ {A = Result (List (Step SessionData)) StepBad} (if a then Err Twice else if b then Ok (told [] (opened n)) else Err NoSite) (Ok es) → written_by es ≡ []
+    → ◌≡◌ {A = Result (List (Step SessionData)) Refusal} (if a then Err refusal.Twice else if b then Ok (told [] (opened n)) else Err refusal.NoSite) (Ok es) → written_by es ≡ []
 unfolding written_by
 sites_quiet true b n es e = absurd cc
 sites_quiet false true n es e = let same : told [] (opened n) ≡ es = cc in ap (λ (xs : List (Step SessionData)). written_by xs) (sym same)
@@ -177,4 +188,4 @@ sites_quiet false false n es e = absurd cc
 
 pub sites_answer : (line : Line) (n : ℕ) (q : Result (Unit {0}) StepBad) (d now : SessionData) (old : List ℕ) → line ≡ Sites n → IsDone (opening n d) q d now → IsLineDone (steps_there line d) q d now old old
 sites_answer line n q d now old is h =
-    line_is line (Sites n) q d now old old is (quiet_answer (opening n d) q d now old (λ es e. sites_quiet (nat_lt 0 (length d.sites)) (nat_le n 64) n es e) h)
+    line_is line (Sites n) q d now old old is (quiet_answer (opening n d) q d now old (λ es e. sites_quiet (nat_lt 0 (length d.sites)) (nat_le n SITES) n es e) h)

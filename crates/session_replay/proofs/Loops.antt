@@ -1,21 +1,19 @@
 -- Steps of a line that go over a text, over messages, or over sites: the first part and the rest.
-use Rattle.std.proofs.Common.{◌≡◌, ℕ, zero, suc, ◌+◌, ◌-◌, ◌<◌, ◌≤◌, inl, inr, if◌then◌else◌, Bool, true, false, List, [], ◌∷◌, ◌++◌, refl, sym, ap, subst, ◌∙◌, length, map, drop, get_or, append-nil, length-drop, arith}
+use Rattle.std.proofs.Common.{◌≡◌, ℕ, zero, suc, ◌+◌, ◌-◌, ◌<◌, ◌≤◌, if◌then◌else◌, Bool, true, false, List, [], ◌∷◌, ◌++◌, refl, sym, ap, ◌∙◌, length, drop, get_or, append-nil, length-drop, arith}
 use Rattle.std.specs.Prelude.{Option, Some, None, Result, Ok, Err, slice_get, nat_lt}
 use Rattle.std.specs.Result.{is_ok}
 use Rattle.std.proofs.Math.Seq.{drop-cons}
-use Rattle.std.proofs.lemmas.List.{length-map}
+use Rattle.std.proofs.lemmas.List.{drop_all}
 use Rattle.std.proofs.lemmas.Option.{slice_get_within, slice_get-get_or, none-some}
-use Rattle.std.proofs.lemmas.Bool.{true≢false, false≢true, cases_Bool}
+use Rattle.std.proofs.lemmas.Bool.{true≢false, false≢true}
 use Rattle.context_diff.specs.Operations.{OpData, inserting}
 use Rattle.context_diff.specs.Histories.{IsValid, context_of_all}
-use Rattle.context_diff.specs.Replays.{Cell, replay_of, is_shown, characters_of}
+use Rattle.context_diff.specs.declared.op.TheConstants.{PLACES}
+use Rattle.context_diff.specs.Replays.{characters_of}
 use Rattle.cot_site.specs.States.{State}
-use Rattle.cot_site.specs.Views.{shown_places_of}
-use Rattle.op_name.specs.Lists.{places_from}
 use Rattle.cot_site.specs.Commands.{local_insert, place_behind, numbered, next_name}
 use Rattle.cot_site.specs.declared.local.Local.{Local}
 use Rattle.cot_site.specs.declared.local.Local.TheVariants.{PlaceOut}
-use Rattle.cot_site.proofs.CallerLemmas.{few_cells}
 use Rattle.script_text.specs.Report.{raw_bad_text, raw_more_text}
 use Rattle.wire_codec.specs.Causes.{cause_word}
 use Rattle.wire_codec.specs.Judging.{judge, judged, longest, length_of}
@@ -25,6 +23,7 @@ use Rattle.wire_codec.specs.declared.fault.Refused.TheVariants.{More, Bad}
 use Rattle.session_replay.specs.Steps.{Step, last_of}
 use Rattle.session_replay.specs.Sessions.{SessionData, site_at, given, given_all, synced, new_site, new_sites}
 use Rattle.session_replay.specs.Code.Doing.{frame_bytes}
+use Rattle.session_replay.proofs.ShownPlaces.{behind_few}
 use Rattle.session_replay.specs.LineSteps.{commanded, typed, typed_in, typed_on, framed, framed_on, told}
 
 -- the line of bytes that begin with no frame
@@ -72,25 +71,13 @@ typed_part i v k text d ch within is =
     let any = typed_any i v (drop (k + 1) text) d (local_insert (site_at d i) v ch) in
     (any.0, typed_at i v k text d ch within is ∙ any.1)
 
-pub places_few : (test : Cell → Bool) (n : ℕ) (cs : List Cell) → length (places_from test n cs) ≤ length cs
-places_few test n [] = omega arith
-places_few test n (c ∷ cs) = elim (cases_Bool (test c)) [
-  | inl so ↦
-      subst (λ (b : Bool). length (if b then n ∷ places_from test (suc n) cs else places_from test (suc n) cs) ≤ suc (length cs)) (sym so) (omega (arith, places_few test (suc n) cs))
-  | inr isnt ↦
-      subst (λ (b : Bool). length (if b then n ∷ places_from test (suc n) cs else places_from test (suc n) cs) ≤ suc (length cs)) (sym isnt) (omega (arith, places_few test (suc n) cs))
-]
-
--- a character was inserted after at most 64,000,000 others
-pub place_small : (s : State) (v ch : ℕ) → IsValid s.history → true ≡ is_ok (local_insert s v ch) → v ≤ 64000000
+-- a character was inserted after at most `PLACES` others
+pub place_small : (s : State) (v ch : ℕ) → IsValid s.history → true ≡ is_ok (local_insert s v ch) → v ≤ PLACES
 place_small s v ch valid ok = from (place_behind s.history v) refl ok
   where
-    from : (r : Option ℕ) → place_behind s.history v ≡ r → true ≡ is_ok (elim r as (λ _. Result OpData Local) [ None ↦ Err (PlaceOut v (length (characters_of s.history))) | Some p ↦ numbered s (inserting (next_name s) p ch (context_of_all s.history)) ]) → v ≤ 64000000
+    from : (r : Option ℕ) → place_behind s.history v ≡ r → true ≡ is_ok (elim r as (λ _. Result OpData Local) [ None ↦ Err (PlaceOut v (length (characters_of s.history))) | Some p ↦ numbered s (inserting (next_name s) p ch (context_of_all s.history)) ]) → v ≤ PLACES
     from None at ok = absurd (true≢false ok)
-    from (Some p) at ok =
-        let places = shown_places_of s.history in
-        let within : v < suc (length (map suc places)) = slice_get_within (0 ∷ map suc places) v p at in
-        omega (arith, within, length-map places suc, places_few (is_shown s.history) 0 (replay_of s.history), few_cells s.history valid)
+    from (Some p) at ok = behind_few s.history valid v p at
 
 -- ---- messages
 
@@ -105,19 +92,13 @@ given_more i k os d o at =
     let cut : drop k os ≡ o ∷ drop (k + 1) os = drop-cons os k o within ∙ ap (λ p. p ∷ drop (suc k) os) here ∙ ap (λ n. o ∷ drop n os) next in
     ap (λ ps. given_all i ps d) cut
 
-pub drop_past : {X : Type 0} (xs : List X) (n : ℕ) → length xs ≤ n → drop n xs ≡ []
-drop_past [] zero le = refl
-drop_past [] (suc n) le = refl
-drop_past (x ∷ xs) zero le = absurd (omega (arith, le))
-drop_past (x ∷ xs) (suc n) le = drop_past xs n (omega (arith, le))
-
 pub typed_none : (i v : ℕ) (text : List ℕ) (d : SessionData) (k : ℕ) → length text ≤ k → typed i v (drop k text) d ≡ []
 unfolding typed_in
-typed_none i v text d k past = ap (λ cs. typed i v cs d) (drop_past text k past)
+typed_none i v text d k past = ap (λ cs. typed i v cs d) (drop_all k text past)
 
 pub given_none : (i : ℕ) (os : List OpData) (d : SessionData) (k : ℕ) → length os ≤ k → given_all i (drop k os) d ≡ []
 unfolding given_all
-given_none i os d k past = ap (λ ps. given_all i ps d) (drop_past os k past)
+given_none i os d k past = ap (λ ps. given_all i ps d) (drop_all k os past)
 
 -- the message of a number
 pub message_there : (os : List OpData) (k : ℕ) → k < length os → (o : OpData) × (slice_get os k ≡ Some o)

@@ -10,11 +10,14 @@ use Rattle.std.proofs.lemmas.Option.{slice_get-get_or}
 use Rattle.std.proofs.lemmas.List.{length-map}
 use Rattle.op_name.specs.NameData.{NameData}
 use Rattle.op_name.specs.declared.member.Member.TheVariants.{Original}
+use Rattle.op_name.specs.declared.name.TheConstants.{SITES, NUMBERS}
+use Rattle.op_name.specs.declared.member.TheConstants.{GENERATIONS}
 use Rattle.context_vector.proofs.CallerLemmas.{has_original}
 use Rattle.context_diff.specs.Operations.{OpData, inserting, deleting, undoing, member_of}
 use Rattle.op_name.specs.Members.{is_even}
 use Rattle.context_diff.specs.Histories.{is_known, generation_in, context_of_all, IsNext, IsValid}
 use Rattle.context_diff.specs.Replays.{Cell, replay_of, is_shown, shown, characters_of}
+use Rattle.context_diff.specs.declared.op.TheConstants.{PLACES}
 use Rattle.context_diff.proofs.CallerLemmas.{complete, all_is_context}
 use Rattle.cot_site.specs.declared.local.Local.{Local}
 use Rattle.cot_site.specs.declared.local.Local.TheVariants.{PlaceOut, Unknown, NotInForce, InForce, GenerationFull, NumberFull}
@@ -22,11 +25,12 @@ use Rattle.cot_site.specs.States.{State}
 use Rattle.op_name.specs.Lists.{places_from}
 use Rattle.cot_site.specs.Views.{shown_places_of}
 use Rattle.cot_site.specs.Commands.{place_of_shown, place_behind, count_made, next_name, in_context, numbered, turned, local_insert, local_delete, local_undo, local_redo}
-use Rattle.cot_site.proofs.CallerLemmas.{local_insert_next, local_delete_next, local_undo_next, local_redo_next, few_cells, in_context_made}
+use Rattle.cot_site.proofs.CallerLemmas.{local_insert_next, local_delete_next, local_undo_next, local_redo_next, in_context_made}
 use Rattle.session_replay.specs.declared.draws.Draw.{Draw}
+use Rattle.session_replay.specs.declared.generator.TheConstants.{MAX_EVENTS}
 use Rattle.session_replay.specs.Generating.{names_of, drawn_target, drawn_turn, drawn_insert, drawn_operation}
-use Rattle.session_replay.proofs.Loops.{places_few}
 use Rattle.session_replay.proofs.Names.{name_counted}
+use Rattle.session_replay.proofs.ShownPlaces.{shown_few}
 use Rattle.session_replay.proofs.Room.{few_entries, few_numbers, few_generations}
 
 -- an operation that may come next at the site; an original of it has the site's number
@@ -39,8 +43,8 @@ pub record Makes (s : State) (r : Result OpData Local) : Type 0 where
 -- a site with a valid history of at most 10,000 operations
 pub record HasRoom (s : State) : Type 0 where
   pub valid : IsValid s.history
-  pub site : s.number < 64
-  pub few : length s.history ≤ 10000
+  pub site : s.number < SITES
+  pub few : length s.history ≤ MAX_EVENTS
 
 -- ---- shown places
 
@@ -56,14 +60,14 @@ shown_number : (h : List OpData) → length (shown_places_of h) ≡ length (show
 shown_number h = places_number (is_shown h) 0 (replay_of h)
 
 -- so few that a place after each of them is a number of 32 bits
-pub shown_few : (h : List OpData) → IsValid h → length (shown h) ≤ 64000000
-shown_few h valid = omega (arith, shown_number h, places_few (is_shown h) 0 (replay_of h), few_cells h valid)
+pub characters_few : (h : List OpData) → IsValid h → length (shown h) ≤ PLACES
+characters_few h valid = omega (arith, shown_number h, shown_few h valid)
 
 -- ---- inserts and deletes
 
 numbered_made : (s : State) (o : OpData) → HasRoom s → numbered s o ≡ Ok o
 numbered_made s o room =
-    ap (λ (b : Bool). if b then in_context (context_of_all s.history) o else Err NumberFull) (lt-ltb (count_made s) 1000000 (omega (arith, few_numbers s.history room.valid s.number, room.few)))
+    ap (λ (b : Bool). if b then in_context (context_of_all s.history) o else Err NumberFull) (lt-ltb (count_made s) NUMBERS (omega (arith, few_numbers s.history room.valid s.number, room.few)))
     ∙ in_context_made (context_of_all s.history) o (omega (arith, few_entries s.history, room.few))
 
 own_name : (s : State) (n : NameData) → Original (next_name s) ≡ Original n → n.site ≡ s.number
@@ -137,12 +141,12 @@ module _ (s : State) (room : HasRoom s) (t : NameData) (known : is_known s.histo
       ∙ (ap (λ (b : Bool). if b then turned s t else Err (NotInForce reached)) even
       ∙ turn_made)
 
-  below_limit : (reached == 65535) ≡ false
+  below_limit : (reached == GENERATIONS) ≡ false
   below_limit = grind (arith, nat_tests, few_generations s.history room.valid t, room.few)
 
   redo_made : is_even reached ≡ false → local_redo s t ≡ Ok turn
   redo_made odd =
-      let last : Result OpData Local = if reached == 65535 then Err GenerationFull else turned s t in
+      let last : Result OpData Local = if reached == GENERATIONS then Err GenerationFull else turned s t in
       ap (λ (b : Bool). if b then (if is_even reached then Err (InForce reached) else last) else Err (Unknown t)) known
       ∙ (ap (λ (b : Bool). if b then Err (InForce reached) else last) odd
       ∙ (ap (λ (b : Bool). if b then Err GenerationFull else turned s t) below_limit

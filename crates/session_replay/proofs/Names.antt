@@ -4,14 +4,15 @@ use Rattle.std.specs.Prelude.{Some, None, slice_get, option_map, ◌==◌}
 use Rattle.std.specs.List.{range_with_len}
 use Rattle.std.proofs.lemmas.Bool.{cases_lt}
 use Rattle.std.proofs.Math.Seq.{drop-cons}
+use Rattle.std.proofs.lemmas.List.{drop_all}
 use Rattle.std.proofs.lemmas.Bool.Decides.{nat_tests}
 use Rattle.std.proofs.lemmas.Option.{slice_get-get_or, slice_get-map, slice_get_past}
 use Rattle.std.proofs.lemmas.List.FromFn.{length-range_with_len, get_or-range_with_len, length-map-range_with_len}
 use Rattle.op_name.specs.NameData.{NameData}
+use Rattle.op_name.specs.declared.name.TheConstants.{SITES, NUMBERS}
 use Rattle.context_vector.specs.Contexts.{AreCounts, count_in, sum_of_counts}
 use Rattle.context_diff.proofs.CallerLemmas.{count_at}
 use Rattle.session_replay.specs.Generating.{first_names, names_in}
-use Rattle.session_replay.proofs.Loops.{drop_past}
 
 name_of : ℕ → ℕ → NameData
 name_of s k = record { site = s; number = k }
@@ -111,10 +112,10 @@ pub found_later : (ps : List (ℕ × ℕ)) (k : ℕ) (p : ℕ × ℕ) (left : �
 found_later ps k p left within is past = ap (λ qs. slice_get (names_in qs) left) (there ps k p within is) ∙ name_later p (drop (k + 1) ps) left past
 
 pub found_none : (ps : List (ℕ × ℕ)) (k left : ℕ) → length ps ≤ k → slice_get (names_in (drop k ps)) left ≡ None
-found_none ps k left past = ap (λ qs. slice_get (names_in qs) left) (drop_past ps k past) ∙ slice_get_past [] left (omega arith)
+found_none ps k left past = ap (λ qs. slice_get (names_in qs) left) (drop_all k ps past) ∙ slice_get_past [] left (omega arith)
 
 -- the name is in range
-pub found_range : (ps : List (ℕ × ℕ)) (k : ℕ) (p : ℕ × ℕ) → AreCounts 0 ps → k < length ps → p ≡ get_or ps k (0, 0) → (p.0 < 64) × (p.1 ≤ 1000000)
+pub found_range : (ps : List (ℕ × ℕ)) (k : ℕ) (p : ℕ × ℕ) → AreCounts 0 ps → k < length ps → p ≡ get_or ps k (0, 0) → (p.0 < SITES) × (p.1 ≤ NUMBERS)
 found_range ps k p are within is =
     let at : slice_get ps k ≡ Some p = slice_get-get_or ps k (0, 0) within ∙ ap Some (sym is) in
     let it = count_at 0 ps are k p at in

@@ -1,17 +1,20 @@
 -- A line that has something to do has a step; so a line without one is never cut short.
-use Rattle.std.proofs.Common.{◌≡◌, ℕ, zero, suc, ◌+◌, ◌<◌, Bool, true, false, List, [], ◌∷◌, ◌++◌, length, refl, sym, ap, subst, ◌∙◌, arith}
-use Rattle.std.specs.Prelude.{Option, Some, None, Result, Ok, Err, OnErr, nat_lt, nat_le, slice_get, if◌then◌else◌}
+use Rattle.std.proofs.Common.{◌≡◌, ℕ, zero, suc, ◌+◌, ◌<◌, Bool, true, false, List, [], ◌∷◌, ◌++◌, length, sym, subst, ◌∙◌, arith}
+use Rattle.std.specs.Prelude.{Option, Some, None, Result, Ok, Err, OnErr, nat_lt, nat_le, if◌then◌else◌}
+use Rattle.op_name.specs.declared.name.TheConstants.{SITES}
 use Rattle.context_diff.specs.Operations.{OpData}
 use Rattle.cot_site.specs.declared.local.Local.{Local}
 use Rattle.cot_site.specs.Commands.{local_insert}
 use Rattle.wire_codec.specs.Judging.{judge}
 use Rattle.wire_codec.specs.declared.fault.Refused.{Refused}
 use Rattle.wire_codec.specs.declared.fault.Refused.TheVariants.{More, Bad}
+use Rattle.script_text.specs.declared.report.refusal.Refusal.{Refusal}
+use Rattle.script_text.specs.declared.report.refusal.Refusal.TheVariants.{NoSites, Twice, NoSite, NoMessage}
 use Rattle.script_text.specs.declared.reading.line.Line.{Line}
 use Rattle.session_replay.specs.declared.session.StepBad.{StepBad}
-use Rattle.session_replay.specs.declared.session.StepBad.TheVariants.{NoSites, Twice, NoSite, NoMessage, Memory}
+use Rattle.session_replay.specs.declared.session.StepBad.TheVariants.{Memory}
 use Rattle.session_replay.specs.Steps.{Step, last_of}
-use Rattle.session_replay.specs.Sessions.{SessionData, site_at, opened, made, given, given_all, synced}
+use Rattle.session_replay.specs.Sessions.{SessionData, site_at, opened, given_all, synced}
 use Rattle.session_replay.specs.LineSteps.{told, commanded, typed, typed_on, framed, framed_on, given_message, opening, once_started, steps_there, typed_in}
 use Rattle.session_replay.specs.Answers.{IsDone, HasStep}
 use Rattle.session_replay.specs.Code.Doing.{IsLineDone, as_step}
@@ -76,16 +79,16 @@ as_needed (Ok t) q is err memory = let both = sym is ∙ memory in absurd cc
 as_needed (Err e) q is err memory = err
 
 pub opening_needed : (n : ℕ) (d now : SessionData) (q : Result (Unit {0}) StepBad) → IsDone (opening n d) q d now → q ≡ Err Memory → HasStep (opening n d)
-opening_needed n d now q done memory = from (nat_lt 0 (length d.sites)) (nat_le n 64) (subst (λ x. IsDone (opening n d) x d now) memory done)
+opening_needed n d now q done memory = from (nat_lt 0 (length d.sites)) (nat_le n SITES) (subst (λ x. IsDone (opening n d) x d now) memory done)
   where
     from : (a b : Bool) → IsDone {T = Unit {0}} (if a then Err Twice else if b then Ok (told [] (opened n)) else Err NoSite) (Err Memory) d now → HasStep (if a then Err Twice else if b then Ok (told [] (opened n)) else Err NoSite)
-    from true b h = let same = h.0 in absurd cc
+    from true b h = let same : ◌≡◌ {A = Option Refusal} None (Some Twice) = h.0 in absurd cc
     from false true h = tt
-    from false false h = let same = h.0 in absurd cc
+    from false false h = let same : ◌≡◌ {A = Option Refusal} None (Some NoSite) = h.0 in absurd cc
 
 pub given_needed : (i : ℕ) (o : Option OpData) (d now : SessionData) (old new : List ℕ) (q : Result (Unit {0}) StepBad) → IsLineDone (given_message i o d) q d now old new → q ≡ Err Memory → HasStep (given_message i o d)
 given_needed i None d now old new q done memory =
     let h = subst (λ x. IsLineDone (given_message i None d) x d now old new) memory done in
-    let same = h.0 in
+    let same : ◌≡◌ {A = Option Refusal} None (Some NoMessage) = h.0 in
     absurd cc
 given_needed i (Some o) d now old new q done memory = tt

@@ -17,12 +17,12 @@ use Rattle.script_text.specs.declared.report.refusal.Refusal.{Refusal}
 use Rattle.script_text.specs.declared.report.refusal.Refusal.TheVariants as refusal
 use Rattle.script_text.specs.Lines.{IsInRange}
 use Rattle.script_text.specs.Answers.{line_in}
+use Rattle.script_text.specs.declared.reading.parse.TheConstants.{LONGEST}
 use Rattle.script_text.proofs.CallerLemmas.{line_found}
-use Rattle.session_replay.specs.declared.session.StepBad.{StepBad}
 use Rattle.session_replay.specs.Steps.{Step, last_of}
 use Rattle.session_replay.specs.Sessions.{SessionData, unstarted}
 use Rattle.session_replay.specs.LineSteps.{line_steps, AreValues}
-use Rattle.session_replay.specs.Scripts.{Piece, Whole, Past, line_read, read_form, refusal_of, steps_or, steps_of_read, piece_steps}
+use Rattle.session_replay.specs.Scripts.{Piece, Whole, Past, line_read, read_form, steps_of_read, piece_steps}
 use Rattle.session_replay.specs.Soundness.{IsSound, AreSettled, WaitsFor}
 use Rattle.session_replay.proofs.Every.{every_last}
 use Rattle.session_replay.proofs.LineLaws.{line_lasts}
@@ -42,7 +42,7 @@ read_range Past l is = absurd (none l is)
     none : (l : Line) → ◌≡◌ {A = Result Line Refusal} (Err refusal.Limit) (Ok l) → ⊥
     none l e = cc
 read_range (Whole bytes) l is =
-    elim (cases_Bool (nat_le (length bytes) 262144)) [
+    elim (cases_Bool (nat_le (length bytes) LONGEST)) [
       | inr long ↦ absurd (no_line refusal.Long (sym (ap (λ (b : Bool). if b then (if is_utf8 bytes then read_form (line_in bytes) else Err refusal.Utf8) else Err refusal.Long) long) ∙ is))
       | inl short ↦
           elim (cases_Bool (is_utf8 bytes)) [
@@ -54,7 +54,7 @@ read_range (Whole bytes) l is =
     no_line : (why : Refusal) → ◌≡◌ {A = Result Line Refusal} (Err why) (Ok l) → ⊥
     no_line why e = cc
 
-    inner : nat_le (length bytes) 262144 ≡ true → ◌≡◌ {A = Result Line Refusal} (if is_utf8 bytes then read_form (line_in bytes) else Err refusal.Utf8) (Ok l)
+    inner : nat_le (length bytes) LONGEST ≡ true → ◌≡◌ {A = Result Line Refusal} (if is_utf8 bytes then read_form (line_in bytes) else Err refusal.Utf8) (Ok l)
     inner short = sym (ap (λ (b : Bool). if b then (if is_utf8 bytes then read_form (line_in bytes) else Err refusal.Utf8) else Err refusal.Long) short) ∙ is
 
     formed : (o : Option Line) → line_in bytes ≡ o → read_form o ≡ Ok l → IsInRange l
@@ -91,15 +91,8 @@ pub record Reads (p : Piece) (d : SessionData) (es : List (Step SessionData)) : 
 pub piece_reads : (p : Piece) (d : SessionData) (es : List (Step SessionData)) → piece_steps p d ≡ Ok es → Reads p d es
 piece_reads p d es is = from (line_read p) refl is
   where
-    steps : (r : Result (List (Step SessionData)) StepBad) → steps_or r ≡ Ok es → r ≡ Ok es
-    steps (Ok fs) e = let same : fs ≡ es = cc in ap (λ xs. Ok xs) same
-    steps (Err why) e = absurd (no_steps e)
-      where
-        no_steps : ◌≡◌ {A = Result (List (Step SessionData)) Refusal} (Err (refusal_of why)) (Ok es) → ⊥
-        no_steps e = cc
-
     from : (r : Result Line Refusal) → line_read p ≡ r → steps_of_read r d ≡ Ok es → Reads p d es
-    from (Ok l) at e = record { line = l; read = at; values = read_values p l at; steps = steps (line_steps l d) e }
+    from (Ok l) at e = record { line = l; read = at; values = read_values p l at; steps = e }
     from (Err why) at e = absurd (no_read e)
       where
         no_read : ◌≡◌ {A = Result (List (Step SessionData)) Refusal} (Err why) (Ok es) → ⊥

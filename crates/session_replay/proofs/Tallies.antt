@@ -2,12 +2,12 @@
 use Rattle.std.proofs.Common.{◌≡◌, ℕ, suc, ◌+◌, ◌<◌, ◌≤◌, Bool, true, false, List, [], ◌∷◌, length, map, drop, get_or, refl, ap, sym, ◌∙◌, arith}
 use Rattle.std.specs.Prelude.{if◌then◌else◌}
 use Rattle.std.proofs.Math.Seq.{drop-cons}
+use Rattle.std.proofs.lemmas.List.{drop_all}
 use Rattle.context_diff.specs.Operations.{OpData, inserting, deleting, undoing}
 use Rattle.op_name.specs.Members.{is_even}
 use Rattle.context_diff.specs.declared.op.Op.{Op}
 use Rattle.context_diff.specs.Ops.{data_of}
 use Rattle.session_replay.specs.Generating.{Counts, one_more, counts_of, all_counted}
-use Rattle.session_replay.proofs.Loops.{drop_past}
 
 abbrev pub added : Counts → Counts → Counts
 added a b = record { inserts = a.inserts + b.inserts; deletes = a.deletes + b.deletes; undos = a.undos + b.undos; redos = a.redos + b.redos }
@@ -70,7 +70,7 @@ tally_next ms i op a within is tally =
 pub tally_last : (ms : List Op) (i : ℕ) (a : Counts) → length ms ≤ i → IsTally ms i a → a ≡ counts_of (map data_of ms)
 tally_last ms i a past tally =
     (λ j. record { inserts = none a.inserts j; deletes = none a.deletes j; undos = none a.undos j; redos = none a.redos j })
-    ∙ (ap (λ os. added a (counts_of (map data_of os))) (sym (drop_past ms i past))
+    ∙ (ap (λ os. added a (counts_of (map data_of os))) (sym (drop_all i ms past))
     ∙ tally)
   where
     none : (n : ℕ) → n ≡ n + 0

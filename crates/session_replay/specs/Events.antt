@@ -5,7 +5,8 @@ use Rattle.session_replay.specs.Steps.{Step, last_of, and_then}
 use Rattle.session_replay.specs.Sessions.{SessionData, opened, made, given}
 use Rattle.session_replay.specs.LineSteps.{told}
 
--- a local operation at a site; a delivery to a site, alone or among many; a line that is only told; or the sites are made
+-- a local operation at a site; a delivery to a site, alone or among many; or what else a line may do at once: it is only
+-- told, or the sites are made
 pub data Event : Type 0 where
   Making : ℕ → OpData → Event
   Giving : Bool → ℕ → OpData → Event

@@ -16,10 +16,10 @@ use Rattle.wire_codec.specs.Causes.{cause_word}
 use Rattle.script_text.specs.Report.{shown_text, state_text, raw_bad_text, raw_more_text}
 use Rattle.script_text.specs.Lines.{line_site}
 use Rattle.script_text.specs.Verdicts.{local_text}
+use Rattle.script_text.specs.declared.report.refusal.Refusal.{Refusal}
+use Rattle.script_text.specs.declared.report.refusal.Refusal.TheVariants.{NoSites, Twice, NoSite, NoMessage}
 use Rattle.script_text.specs.declared.reading.line.Line.{Line}
 use Rattle.script_text.specs.declared.reading.line.Line.TheVariants.{Blank, Sites, Ins, Nl, Del, Undo, Redo, Give, All, Sync, Raw, Show, State}
-use Rattle.session_replay.specs.declared.session.StepBad.{StepBad}
-use Rattle.session_replay.specs.declared.session.StepBad.TheVariants.{NoSites, Twice, NoSite, NoMessage}
 use Rattle.session_replay.specs.Steps.{Step, and_then}
 use Rattle.session_replay.specs.Sessions.{SessionData, site_at, opened, made, given, given_all, synced}
 
@@ -71,25 +71,25 @@ abbrev pub have_text : ℕ → SessionData → List ℕ
 have_text i d = let s = site_at d i in state_text i (context_of_all s.history) (length s.waiting)
 
 -- the message of a number, if it was made, to the site
-abbrev pub given_message : ℕ → Option OpData → SessionData → Result (List (Step SessionData)) StepBad
+abbrev pub given_message : ℕ → Option OpData → SessionData → Result (List (Step SessionData)) Refusal
 given_message i None d = Err NoMessage
 given_message i (Some o) d = Ok (given false i o d)
 
 -- steps once sites are made
-abbrev pub once_started : SessionData → Result (List (Step SessionData)) StepBad → Result (List (Step SessionData)) StepBad
+abbrev pub once_started : SessionData → Result (List (Step SessionData)) Refusal → Result (List (Step SessionData)) Refusal
 once_started d steps = if nat_lt 0 (length d.sites) then steps else Err NoSites
 
 -- steps at a site, if they speak of one: where it is there
-abbrev pub at_site_of : Option ℕ → SessionData → Result (List (Step SessionData)) StepBad → Result (List (Step SessionData)) StepBad
+abbrev pub at_site_of : Option ℕ → SessionData → Result (List (Step SessionData)) Refusal → Result (List (Step SessionData)) Refusal
 at_site_of None d steps = steps
 at_site_of (Some i) d steps = once_started d (if nat_lt i (length d.sites) then steps else Err NoSite)
 
 -- the making of n sites, if there can be so many and none are made yet
-abbrev pub opening : ℕ → SessionData → Result (List (Step SessionData)) StepBad
+abbrev pub opening : ℕ → SessionData → Result (List (Step SessionData)) Refusal
 opening n d = if nat_lt 0 (length d.sites) then Err Twice else if nat_le n SITES then Ok (told [] (opened n)) else Err NoSite
 
 -- what a line does at its site, which is there if it speaks of one
-abbrev pub steps_there_in : (SiteState → View) → Line → SessionData → Result (List (Step SessionData)) StepBad
+abbrev pub steps_there_in : (SiteState → View) → Line → SessionData → Result (List (Step SessionData)) Refusal
 steps_there_in view Blank d = Ok []
 steps_there_in view (Sites n) d = opening n d
 steps_there_in view (Ins i v text) d = Ok (typed_in view i v text d)
@@ -105,15 +105,15 @@ steps_there_in view (Show i) d = Ok (told (show_text_in view i d) d)
 steps_there_in view (State i) d = Ok (told (have_text i d) d)
 
 -- the same where each site sees what its history shows
-abbrev pub steps_there : Line → SessionData → Result (List (Step SessionData)) StepBad
+abbrev pub steps_there : Line → SessionData → Result (List (Step SessionData)) Refusal
 steps_there line d = steps_there_in history_view line d
 
 -- the steps of a line, or why it is refused
-abbrev pub line_steps_in : (SiteState → View) → Line → SessionData → Result (List (Step SessionData)) StepBad
+abbrev pub line_steps_in : (SiteState → View) → Line → SessionData → Result (List (Step SessionData)) Refusal
 line_steps_in view line d = at_site_of (line_site line) d (steps_there_in view line d)
 
 -- the same where each site sees what its history shows
-abbrev pub line_steps : Line → SessionData → Result (List (Step SessionData)) StepBad
+abbrev pub line_steps : Line → SessionData → Result (List (Step SessionData)) Refusal
 line_steps line d = line_steps_in history_view line d
 
 -- what the types of a line's parts say: its text is characters, its bytes are bytes

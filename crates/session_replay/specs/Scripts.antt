@@ -11,8 +11,6 @@ use Rattle.script_text.specs.declared.reading.parse.TheConstants.{LONGEST}
 use Rattle.script_text.specs.Answers.{line_in}
 use Rattle.script_text.specs.Report.{refused_text}
 use Rattle.session_replay.specs.declared.script.TheConstants.{MAX_SCRIPT}
-use Rattle.session_replay.specs.declared.session.StepBad.{StepBad}
-use Rattle.session_replay.specs.declared.session.StepBad.TheVariants.{NoSites, Twice, NoSite, NoMessage, Memory}
 use Rattle.session_replay.specs.Steps.{Step, last_of, written_by}
 use Rattle.session_replay.specs.Sessions.{SessionData, unstarted}
 use Rattle.session_replay.specs.LineSteps.{line_steps_in}
@@ -51,22 +49,10 @@ line_read (Whole bytes) =
     if nat_le (length bytes) LONGEST then (if is_utf8 bytes then read_form (line_in bytes) else Err refusal.Utf8)
     else Err refusal.Long
 
--- the cause of a line that a session refuses
-abbrev pub refusal_of : StepBad → Refusal
-refusal_of NoSites = refusal.NoSites
-refusal_of Twice = refusal.Twice
-refusal_of NoSite = refusal.NoSite
-refusal_of NoMessage = refusal.NoMessage
-refusal_of Memory = refusal.Form
-
-abbrev pub steps_or : Result (List (Step SessionData)) StepBad → Result (List (Step SessionData)) Refusal
-steps_or (Ok es) = Ok es
-steps_or (Err why) = Err (refusal_of why)
-
 -- the steps of what was read, or the first cause why there are none
 abbrev pub steps_of_read_in : (State → View) → Result Line Refusal → SessionData → Result (List (Step SessionData)) Refusal
 steps_of_read_in view (Err why) d = Err why
-steps_of_read_in view (Ok line) d = steps_or (line_steps_in view line d)
+steps_of_read_in view (Ok line) d = line_steps_in view line d
 
 -- the same where each site sees what its history shows
 abbrev pub steps_of_read : Result Line Refusal → SessionData → Result (List (Step SessionData)) Refusal

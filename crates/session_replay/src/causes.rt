@@ -1,8 +1,9 @@
 //! Words for causes.
 
-ghost use Rattle.std.specs.Prelude.{◌≡◌, ℕ, List, Err, IfOk};
+ghost use Rattle.std.specs.Prelude.{◌≡◌, ℕ, List, Some, Err, IfOk, OnErr};
 ghost use Rattle.script_text.specs.Answers.{Answers};
-ghost use Rattle.session_replay.specs.Scripts.{Whole, line_read, refusal_of};
+ghost use Rattle.session_replay.specs.Answers.{refusal_by};
+ghost use Rattle.session_replay.specs.Scripts.{Whole, line_read};
 
 use crate::session::StepBad;
 use op_name::Memory;
@@ -10,7 +11,8 @@ use script_text::{LineBad, Refusal};
 
 /// Why a script ends at a line whose bytes can't be read.
 pub(crate) fn reading_refused(why: LineBad) -> Result<Refusal, Memory>
-    ensures { IfOk result (λ cause. (bytes : List ℕ) → Answers bytes (Err why) → line_read (Whole bytes) ≡ Err cause) }
+    ensures cause { IfOk result (λ cause. (bytes : List ℕ) → Answers bytes (Err why) → line_read (Whole bytes) ≡ Err cause) }
+    ensures memory { OnErr result (why ≡ LineBad.Memory) }
 {
     match why {
         LineBad::Long => Ok(Refusal::Long),
@@ -22,8 +24,9 @@ pub(crate) fn reading_refused(why: LineBad) -> Result<Refusal, Memory>
 
 /// Why a script ends at a line that a session refuses.
 pub(crate) fn step_refused(why: StepBad) -> Result<Refusal, Memory>
-    ensures cause { IfOk result (λ cause. cause ≡ refusal_of why) }
-    ensures memory { IfOk result (λ cause. why ≡ StepBad.Memory → ⊥) }
+    ensures cause { IfOk result (λ cause. refusal_by why ≡ Some cause) }
+    ensures refused { IfOk result (λ cause. why ≡ StepBad.Memory → ⊥) }
+    ensures memory { OnErr result (why ≡ StepBad.Memory) }
 {
     match why {
         StepBad::NoSites => Ok(Refusal::NoSites),

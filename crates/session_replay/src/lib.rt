@@ -1,8 +1,8 @@
 //! Sessions of many sites: a script is done line by line, and its report is written.
 //!
 //! A session *is* the states of its sites and the list of messages that their local operations became. Each
-//! line of a script is a list of steps, and each step is one event at one site: a local operation, a delivery
-//! or a release. The report is what the steps of all lines write.
+//! line of a script is a list of steps, and each step is what one site does at once: a local operation, a
+//! delivery or a release. The report is what the steps of all lines write.
 #![tactic(auto)]
 
 mod causes;

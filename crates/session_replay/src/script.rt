@@ -3,7 +3,7 @@
 ghost use Rattle.std.specs.Prelude.{◌≡◌, ◌≤◌, ◌<◌, ◌+◌, ◌^◌, ◌++◌, ◌∷◌, [], ℕ, List, true, IfOk, IfSome, IfNone, OnOk, OnErr, length, ◌==◌, position};
 ghost use Rattle.session_replay.specs.LineSteps.{line_steps};
 ghost use Rattle.session_replay.specs.Code.Endings.{ended, followed};
-ghost use Rattle.session_replay.specs.Scripts.{Piece, Whole, Past, script_report, report_from, report_on, steps_or, prepended, lines_of};
+ghost use Rattle.session_replay.specs.Scripts.{Piece, Whole, Past, script_report, report_from, report_on, prepended, lines_of};
 ghost use Rattle.session_replay.specs.Sessions.{unstarted};
 ghost use Rattle.session_replay.specs.Code.Doing.{IsFront};
 
@@ -158,7 +158,7 @@ fn do_line(
 fn do_read(progress: &mut Progress, line: &Line, out: &mut Vec<u8>) -> Result<bool, Memory>
     requires { progress.old.number + 1 < 2 ^ 32 }
     ensures report { IfOk result (λ refused. (pieces : List Piece) →
-        prepended out.old.items (report_on (report_from (progress.old.number + 1) pieces) progress.old.number (steps_or (line_steps line.now progress.old.running.session)) progress.old.running.session)
+        prepended out.old.items (report_on (report_from (progress.old.number + 1) pieces) progress.old.number (line_steps line.now progress.old.running.session) progress.old.running.session)
         ≡ followed refused out.new.items (report_from progress.new.number pieces progress.new.running.session)) }
     ensures number { progress.new.number ≤ progress.old.number + 1 }
     ensures front { IsFront out.old.items out.new.items }

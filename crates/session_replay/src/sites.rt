@@ -7,7 +7,7 @@ ghost use Rattle.cot_site.specs.Sites.{state_of};
 ghost use Rattle.script_text.specs.Lines.{line_site};
 ghost use Rattle.session_replay.specs.Answers.{IsDone, HasStep};
 ghost use Rattle.session_replay.specs.LineSteps.{line_steps, commanded, at_site_of, steps_there, opening, AreValues};
-ghost use Rattle.session_replay.specs.Code.Doing.{IsPlace, IsLineDone, as_step, local_of};
+ghost use Rattle.session_replay.specs.Code.Doing.{IsPlace, IsLineDone, IsRefusedFor, as_step, local_of};
 ghost use Rattle.session_replay.specs.Sessions.{unstarted, opened, new_sites, site_at};
 ghost use Rattle.session_replay.specs.Code.Knowing.{AreKnown};
 ghost use Rattle.session_replay.specs.Generating.{counts_of};
@@ -110,7 +110,7 @@ impl Sites {
     fn check_site(&self, line: &Line) -> Result<(), StepBad>
         ensures there { OnOk result (IfSome (line_site line.now) (λ i. i < length self.now.sites)) }
         ensures ok { OnOk result (at_site_of (line_site line.now) self.now (steps_there line.now self.now) ≡ steps_there line.now self.now) }
-        ensures refused { IfErr result (λ why. at_site_of (line_site line.now) self.now (steps_there line.now self.now) ≡ Err why) }
+        ensures refused { IfErr result (λ why. IsRefusedFor (at_site_of (line_site line.now) self.now (steps_there line.now self.now)) why) }
         ensures known { IfErr result (λ why. why ≢ StepBad.Memory) }
     {
         match line.site() {

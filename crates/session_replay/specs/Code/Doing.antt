@@ -7,12 +7,14 @@ use Rattle.cot_site.specs.declared.local.Local.{Local}
 use Rattle.cot_site.specs.declared.release.Release.{Release}
 use Rattle.script_text.specs.declared.report.event.Event.TheVariants.{Free}
 use Rattle.script_text.specs.Verdicts.{verdict_line_text}
+use Rattle.script_text.specs.declared.report.refusal.Refusal.{Refusal}
 use Rattle.wire_codec.specs.declared.fault.Refused.{Refused}
 use Rattle.session_replay.specs.declared.session.StepBad.{StepBad}
 use Rattle.session_replay.specs.declared.session.StepBad.TheVariants.{NoSites, Twice, NoSite, NoMessage, Memory}
 use Rattle.session_replay.specs.declared.sites.commands.Command.{Command}
 use Rattle.session_replay.specs.declared.sites.commands.Command.TheVariants.{Insert, Delete, Undo, Redo}
 use Rattle.session_replay.specs.Steps.{Step, last_of, written_by, IsReached}
+use Rattle.session_replay.specs.Answers.{refusal_by}
 use Rattle.session_replay.specs.Sessions.{SessionData}
 
 -- bytes after those that were there
@@ -35,11 +37,16 @@ local_of (Redo t) s = local_redo s t
 
 -- the answer of a line with these steps, or with this refusal: all steps are done and written; or, out of memory, the first
 -- few are done; or the line is refused, and nothing changed; what was written before is there
-abbrev pub IsLineDone : {T : Type 0} → Result (List (Step SessionData)) StepBad → Result T StepBad → SessionData → SessionData → List ℕ → List ℕ → Type 0
+abbrev pub IsLineDone : {T : Type 0} → Result (List (Step SessionData)) Refusal → Result T StepBad → SessionData → SessionData → List ℕ → List ℕ → Type 0
 IsLineDone (Ok es) (Ok t) d now old new = (now ≡ last_of d es) × (new ≡ old ++ written_by es)
 IsLineDone (Ok es) (Err why) d now old new = (why ≡ Memory) × IsReached d es now × IsFront old new
 IsLineDone (Err why) (Ok t) d now old new = ⊥
-IsLineDone (Err why) (Err cause) d now old new = (cause ≡ why) × (now ≡ d) × (new ≡ old)
+IsLineDone (Err why) (Err cause) d now old new = (refusal_by cause ≡ Some why) × (now ≡ d) × (new ≡ old)
+
+-- the line has no steps, but is refused for this cause
+abbrev pub IsRefusedFor : Result (List (Step SessionData)) Refusal → StepBad → Type 0
+IsRefusedFor (Ok es) bad = ⊥
+IsRefusedFor (Err why) bad = refusal_by bad ≡ Some why
 
 -- out of memory, as the cause of a line
 abbrev pub as_step : {T E : Type 0} → Result T E → Result T StepBad

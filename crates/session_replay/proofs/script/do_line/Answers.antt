@@ -9,5 +9,5 @@ returns-in-Ok-clause-report c =
 
 pub returns-in_ok-refused_line-in-Err-clause-report : goal.returns-in_ok-refused_line-in-Err-clause-report
 returns-in_ok-refused_line-in-Err-clause-report c = λ pieces.
-    let is = c.in_ok-cause-in-Err.ensures c.args.bytes.now c.in-Err.ensures.exact in
+    let is = c.in_ok-cause-in-Err.ensures.cause c.args.bytes.now c.in-Err.ensures.exact in
     piece_refused (Whole c.args.bytes.now) c.in_ok-cause-in-Err.cause _ _ _ pieces _ is c.in_ok-refused_line-in-Err.ensures.ok

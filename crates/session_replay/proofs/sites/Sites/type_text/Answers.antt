@@ -1,6 +1,7 @@
 use Rattle.std.proofs.Common.{◌∙◌, ◌≤◌, sym, subst, refl, arith}
 use Rattle.std.proofs.lemmas.Result.{err_from_is_err_and}
 use Rattle.context_diff.specs.Histories.{IsValid}
+use Rattle.context_diff.specs.declared.op.TheConstants.{PLACES}
 use Rattle.cot_site.specs.States.{State}
 use Rattle.session_replay.specs.Sessions.{site_at}
 use Rattle.session_replay.proofs.Steps.{along_first, along_part, along_end, along_short, done_short, reached_in, stopped}
@@ -26,7 +27,7 @@ pub overflow_add-place : goal.overflow_add-place
 overflow_add-place c =
     let at = site_is c.self.inside.sites.items c.self.inside.messages.items c.loop-ch.self c.args.at c.index.result.now c.self.view_is (omega (arith, c.requires, c.loop-ch.invariant.sites)) c.index.ensures in
     let valid = subst (λ (s : State). IsValid s.history) at c.known.ensures.history in
-    let small : c.loop-ch.place ≤ 64000000 = place_small (site_at c.loop-ch.self c.args.at) c.loop-ch.place c.ch-item.result valid (sym c.if-not-branch.false ∙ c.in_ok-command.ensures.made) in
+    let small : c.loop-ch.place ≤ PLACES = place_small (site_at c.loop-ch.self c.args.at) c.loop-ch.place c.ch-item.result valid (sym c.if-not-branch.false ∙ c.in_ok-command.ensures.made) in
     omega arith
 
 pub loop-ch-preserved : goal.loop-ch-preserved
