@@ -4,4 +4,5 @@ pub mod Found
 pub mod HintLists
 pub mod Turns
 pub mod Named
+pub mod UndoIndex
 pub mod CallerLemmas

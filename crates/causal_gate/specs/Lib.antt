@@ -1,3 +1,4 @@
 pub mod Waiting
 pub mod Hints
 pub mod Names
+pub mod Undos

@@ -7,6 +7,7 @@
 mod names;
 mod pool;
 mod rows;
+mod undos;
 
 pub use pool::Pool;
 

@@ -4,19 +4,20 @@ ghost use Rattle.std.specs.Prelude.{◌≡◌, ◌↔◌, ◌<◌, ◌++◌, ◌
 ghost use Rattle.op_name.specs.declared.member.Member.TheVariants.{Original};
 ghost use Rattle.op_name.specs.Members.{IsMember, member_eq};
 ghost use Rattle.context_vector.specs.Contexts.{Within, count_of, has};
-ghost use Rattle.context_diff.specs.Operations.{OpData, member_of};
+ghost use Rattle.context_diff.specs.Operations.{OpData, is_original, member_of};
 ghost use Rattle.context_diff.specs.Histories.{is_known};
 ghost use Rattle.context_vector.specs.Vectors.{IsFirstMissing};
-ghost use Rattle.context_diff.specs.Ops.{data_of, op_eq};
+ghost use Rattle.context_diff.specs.Ops.{data_of};
 ghost use Rattle.causal_gate.specs.Waiting.{IsReady, IsFirstReady, NoneReady, IsPool, NamesAgree, context_at};
 ghost use Rattle.causal_gate.specs.Hints.{IsHint};
 ghost use Rattle.causal_gate.specs.Names.{op_in};
 
 use crate::names::{forget, note};
 use crate::rows::{Seen, before_in};
+use crate::undos::{forget_undo, note_undo};
 use context_diff::Op;
 use context_vector::Vector;
-use indexmap::IndexMap;
+use indexmap::{IndexMap, IndexSet};
 use op_name::{Member, Memory, Name};
 use std::alloc::Global;
 use std::marker::Model;
@@ -35,11 +36,13 @@ const OPS: usize = 4_294_967_295;
 /// and looks at an operation only after its turn in the row of its site has come.
 ///
 /// Arrivals are numbered. An index has the number of each insert and delete by its name, and the place of a number
-/// is found by bisection among those of the operations that wait.
+/// is found by bisection among those of the operations that wait. Several undos may be one member, so the index of
+/// undos has them whole.
 #[derive(Drop)]
 pub struct Pool {
     ops: Vec<Box<Op>>,
     names: IndexMap<Name, u64>,
+    undos: IndexSet<Op>,
     numbers: Vec<u64>,
     next: u64,
     befores: Vec<Option<Name>>,
@@ -52,12 +55,13 @@ impl Model for Pool {
     ghost use Rattle.causal_gate.specs.Waiting.{IsPool};
     ghost use Rattle.causal_gate.specs.Hints.{AreHints, AreBefore};
     ghost use Rattle.causal_gate.specs.Names.{op_in, AreNamed};
+    ghost use Rattle.causal_gate.specs.Undos.{AreUndos};
 
     ghost Value = { List OpData };
 
     ghost view = { λ p. map op_in p.ops.items };
 
-    ghost invariant = { λ p. IsPool (map op_in p.ops.items) × AreHints (map op_in p.ops.items) p.hints.items × AreBefore (map op_in p.ops.items) p.befores.items × AreNamed p.names.entries (map op_in p.ops.items) × (length p.numbers.items ≡ length p.ops.items) };
+    ghost invariant = { λ p. IsPool (map op_in p.ops.items) × AreHints (map op_in p.ops.items) p.hints.items × AreBefore (map op_in p.ops.items) p.befores.items × AreNamed p.names.entries (map op_in p.ops.items) × (length p.numbers.items ≡ length p.ops.items) × AreUndos p.undos.keys (map op_in p.ops.items) };
 }
 
 impl Pool {
@@ -68,6 +72,7 @@ impl Pool {
         Pool {
             ops: Vec::new(alloc),
             names: IndexMap::new(alloc),
+            undos: IndexSet::new(alloc),
             numbers: Vec::new(alloc),
             next: 0,
             befores: Vec::new(alloc),
@@ -183,6 +188,7 @@ impl Pool {
         self.befores.reserve(1)?;
         let copy = op.try_clone()?;
         let boxed = Box::new(*self.ops.allocator(), copy)?;
+        note_undo(&mut self.undos, op)?;
         note(&mut self.names, op, self.next);
         self.ops.push_reserved(boxed);
         self.numbers.push_reserved(self.next);
@@ -192,14 +198,14 @@ impl Pool {
         Ok(true)
     }
 
-    // Whether an equal operation waits. Of an insert or a delete the name tells it.
+    // Whether an equal operation waits: of an insert or a delete the name tells it.
     fn has(&self, op: &Op) -> bool
         requires { NamesAgree self.now (data_of op.now) }
         ensures { IsTrue result ↔ Contains self.now (data_of op.now) }
     {
         match op {
             Op::Insert { name, .. } | Op::Delete { name, .. } => self.has_name(name),
-            Op::Undo { .. } => self.has_equal(op),
+            Op::Undo { .. } => self.has_undo(op),
         }
     }
 
@@ -210,18 +216,12 @@ impl Pool {
         self.names.contains_key(name)
     }
 
-    // Whether an equal operation waits, found by a walk.
-    fn has_equal(&self, op: &Op) -> bool
+    // Whether an undo waits.
+    fn has_undo(&self, op: &Op) -> bool
+        requires { is_original (data_of op.now) ≡ false }
         ensures { IsTrue result ↔ Contains self.now (data_of op.now) }
     {
-        for i in 0..self.len() {
-            if let Some(other) = self.get(i) {
-                if is_equal(other, op) {
-                    return true;
-                }
-            }
-        }
-        false
+        self.undos.contains(op)
     }
 
     /// Sets the hint of each operation that has none, or whose hint is in `have`, to the first member of its
@@ -270,6 +270,7 @@ impl Pool {
         let boxed = self.ops.remove(i as usize);
         let taken = Box::into_inner(boxed);
         forget(&mut self.names, &taken);
+        forget_undo(&mut self.undos, &taken);
         taken
     }
 
@@ -365,13 +366,6 @@ fn renewed(op: &Op, hint: Option<Member>, have: &Vector) -> Option<Member>
         }
     }
     have.first_missing(op.context())
-}
-
-// Whether both are the same operation.
-fn is_equal(a: &Op, b: &Op) -> bool
-    ensures { result ≡ op_eq (data_of a.now) (data_of b.now) }
-{
-    a == b
 }
 
 // Whether the operation is the insert or delete of this name.

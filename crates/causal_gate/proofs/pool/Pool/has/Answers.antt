@@ -1,6 +1,6 @@
-use Rattle.std.proofs.Common.{◌≡◌, ap, sym, ◌∙◌, rules}
+use Rattle.std.proofs.Common.{◌≡◌, false, ap, sym, ◌∙◌, rules}
 use Rattle.op_name.specs.declared.member.Member.TheVariants.{Original}
-use Rattle.context_diff.specs.Operations.{member_of}
+use Rattle.context_diff.specs.Operations.{member_of, is_original}
 use Rattle.context_diff.specs.Histories.{is_known}
 use Rattle.context_diff.specs.Ops.{data_of}
 use Rattle.context_diff.proofs.CallerLemmas.{known_member}
@@ -15,3 +15,8 @@ returns-in-Insert c =
       λ waits. named_waits os o c.in-Insert.name c.requires is (sym c.has_name.ensures ∙ waits),
       λ there. c.has_name.ensures ∙ ap (is_known os) (sym is) ∙ known_member os o there,
     )
+
+pub has_undo-requires : goal.has_undo-requires
+has_undo-requires c =
+    let undo : is_original (data_of c.args.op.now) ≡ false = search rules in
+    undo

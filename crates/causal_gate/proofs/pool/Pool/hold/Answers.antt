@@ -9,6 +9,7 @@ use Rattle.context_diff.specs.Ops.{data_of}
 use Rattle.causal_gate.specs.Waiting.{IsPool, NamesAgree}
 use Rattle.causal_gate.specs.Hints.{AreHints, AreBefore}
 use Rattle.causal_gate.specs.Names.{op_in, AreNamed}
+use Rattle.causal_gate.specs.Undos.{AreUndos}
 use Rattle.causal_gate.proofs.Apart.{pool_push}
 use Rattle.causal_gate.proofs.HintLists.{hints_push}
 use Rattle.causal_gate.proofs.Turns.{befores_push}
@@ -39,4 +40,5 @@ invariant_of-self-2 c =
       subst₂ (λ (xs : List OpData) (ns : List (Option NameData)). AreBefore xs ns) (sym put) (sym befores) (befores_push os c.self.inside.befores.items o c.before_in.result c.self.invariant.2 c.before_in.ensures),
       subst (λ (xs : List OpData). AreNamed c.note.new.names.entries xs) (sym put) (c.note.ensures os named),
       omega (arith, c.push_reserved-2.ensures.len, c.reserve-3.ensures.len, c.push_reserved.ensures.len, c.reserve.ensures.len, c.self.invariant.4),
+      subst (λ (xs : List OpData). AreUndos c.note_undo.new.undos.keys xs) (sym put) ((c.in_ok-note_undo.ensures).noted os c.self.invariant.5),
     )

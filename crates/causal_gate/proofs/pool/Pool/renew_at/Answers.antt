@@ -17,4 +17,4 @@ pub invariant_of-self : goal.invariant_of-self
 invariant_of-self c =
     let h = c.fresh_hint-hint.result in
     let there = subst (λ (os : List OpData). IfSome h (λ (m : Member). has (context_at os c.args.i) m ≡ true)) (sym c.self.view_is) c.fresh_hint-hint.ensures in
-    (c.self.invariant.0, hints_put (map op_in c.self.inside.ops.items) c.self.inside.hints.items c.args.i h c.self.invariant.1 there, c.self.invariant.2, c.self.invariant.3, c.self.invariant.4)
+    (c.self.invariant.0, hints_put (map op_in c.self.inside.ops.items) c.self.inside.hints.items c.args.i h c.self.invariant.1 there, c.self.invariant.2, c.self.invariant.3, c.self.invariant.4, c.self.invariant.5)

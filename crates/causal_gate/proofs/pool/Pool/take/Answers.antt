@@ -7,6 +7,7 @@ use Rattle.context_diff.specs.Operations.{OpData}
 use Rattle.causal_gate.specs.Waiting.{IsPool}
 use Rattle.causal_gate.specs.Hints.{AreHints, AreBefore}
 use Rattle.causal_gate.specs.Names.{op_in, AreNamed}
+use Rattle.causal_gate.specs.Undos.{AreUndos}
 use Rattle.causal_gate.proofs.Apart.{pool_remove}
 use Rattle.causal_gate.proofs.HintLists.{hints_length, hints_remove}
 use Rattle.causal_gate.proofs.Turns.{befores_length, befores_remove}
@@ -37,6 +38,7 @@ invariant_of-self c =
       subst₂ (λ (os : List OpData) (ns : List (Option NameData)). AreBefore os ns) (sym left) (sym c.remove-2.ensures.items) (befores_remove (map op_in boxes) c.self.inside.befores.items i c.self.invariant.2),
       subst (λ (os : List OpData). AreNamed c.forget.new.names.entries os) (sym left) (c.forget.ensures (map op_in boxes) i c.self.invariant.0.apart at c.self.invariant.3),
       omega (arith, c.remove-3.ensures.len, c.remove-boxed.ensures.len, c.self.invariant.4),
+      subst (λ (os : List OpData). AreUndos c.forget_undo.new.undos.keys os) (sym left) (c.forget_undo.ensures (map op_in boxes) i c.self.invariant.0.apart at c.self.invariant.5),
     )
 
 pub returns-clause-taken : goal.returns-clause-taken
