@@ -4,3 +4,5 @@ pub mod Listings
 pub mod CallerLemmas
 pub mod HexLaws
 pub mod WordLaws
+pub mod MemberLaws
+pub mod HexDigits

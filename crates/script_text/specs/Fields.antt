@@ -5,8 +5,11 @@ use Rattle.std.specs.Result.{result_ok}
 use Rattle.hex.specs.Hex.{decode_of}
 use Rattle.op_name.specs.NameData.{NameData, IsName}
 use Rattle.op_name.specs.declared.name.TheConstants.{SITES, NUMBERS}
+use Rattle.op_name.specs.declared.member.TheConstants.{GENERATIONS}
+use Rattle.op_name.specs.declared.member.Member.{Member}
+use Rattle.op_name.specs.declared.member.Member.TheVariants.{Original, Group}
 use Rattle.script_text.specs.declared.reading.parse.TheConstants.{LONGEST}
-use Rattle.script_text.specs.Names.{name_text}
+use Rattle.script_text.specs.Names.{name_text, member_text}
 use Rattle.std.specs.Str.Parse.{digits_value}
 
 infixl 10 ◌>>=◌
@@ -67,6 +70,22 @@ name_of bs = do
   x ← pair_by 46 site_of number_of bs
   named x
 
+-- a generation of undos and redos: 1 to GENERATIONS
+unfoldable pub generation_of : List ℕ → Option ℕ
+generation_of bs = tested (λ g. nat_le 1 g && nat_le g GENERATIONS) number_of bs
+
+-- the member of a field that was cut at its first slash, or has none
+abbrev pub member_by : Option (List ℕ × List ℕ) → List ℕ → Option Member
+member_by None bs = option_map (λ n. Original n) (name_of bs)
+member_by (Some p) bs = do
+  n ← name_of p.0
+  g ← generation_of p.1
+  Some (Group n g)
+
+-- a member: `S.N` for an original, `S.N/G` for a group
+unfoldable pub member_of : List ℕ → Option Member
+member_of bs = member_by (cut 47 bs) bs
+
 -- bytes in hexadecimal, two digits each in either case, of which there is one at least
 unfoldable pub octets_of : List ℕ → Option (List ℕ)
 octets_of hex = if length hex == 0 then None else result_ok (decode_of hex)
@@ -98,6 +117,19 @@ IsCount bs n = (bs ≡ decimal n) × (1 ≤ n) × (n ≤ SITES)
 -- the field spells the name
 abbrev pub IsNameText : List ℕ → NameData → Type 0
 IsNameText bs n = (bs ≡ name_text n) × IsName n.site n.number
+
+-- the field spells the generation
+abbrev pub IsGeneration : List ℕ → ℕ → Type 0
+IsGeneration bs g = (bs ≡ decimal g) × (1 ≤ g) × (g ≤ GENERATIONS)
+
+-- the parts of a member are in range
+abbrev pub IsMemberInRange : Member → Type 0
+IsMemberInRange (Original n) = IsName n.site n.number
+IsMemberInRange (Group n g) = IsName n.site n.number × (1 ≤ g) × (g ≤ GENERATIONS)
+
+-- the field spells the member
+abbrev pub IsMemberText : List ℕ → Member → Type 0
+IsMemberText bs m = (bs ≡ member_text m) × IsMemberInRange m
 
 -- the field spells the bytes
 abbrev pub IsHex : List ℕ → List ℕ → Type 0

@@ -5,3 +5,4 @@ pub mod Rows
 pub mod Answers
 pub mod Report
 pub mod Verdicts
+pub mod Explained

@@ -9,11 +9,12 @@ mod report;
 
 pub use reading::{
     Chars, LONGEST, Line, LineBad, Octets, each_line_has_a_spelling, parse_line, parse_long,
-    parse_name, parse_number, parse_site,
+    parse_member, parse_name, parse_number, parse_site,
 };
 pub use report::{
-    Event, Refusal, local_line, op_line, put_group, put_made, put_member, put_name, put_reason,
-    put_verdict, raw_bad_line, raw_more_line, refused_line, shown_lines, state_line, verdict_line,
+    Event, Refusal, base_line, local_line, op_line, put_form, put_group, put_made, put_member,
+    put_name, put_reason, put_verdict, raw_bad_line, raw_more_line, refused_line, shown_lines,
+    state_line, step_line, verdict_line,
 };
 
 #[cfg(test)]

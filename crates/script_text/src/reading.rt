@@ -12,4 +12,4 @@ pub use chars::Chars;
 pub use line::{Line, LineBad};
 pub use octets::Octets;
 pub use parse::{LONGEST, each_line_has_a_spelling, parse_line};
-pub use words::{parse_long, parse_name, parse_number, parse_site};
+pub use words::{parse_long, parse_member, parse_name, parse_number, parse_site};

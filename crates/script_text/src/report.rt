@@ -1,6 +1,7 @@
 //! Writing the lines of reports.
 
 mod event;
+mod explained;
 mod made;
 mod members;
 mod put;
@@ -12,6 +13,7 @@ mod states;
 mod verdicts;
 
 pub use event::{Event, verdict_line};
+pub use explained::{base_line, put_form, step_line};
 pub use made::{op_line, put_made};
 pub use members::{put_group, put_member, put_name};
 pub use raw::{raw_bad_line, raw_more_line};

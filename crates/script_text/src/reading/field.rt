@@ -1,9 +1,9 @@
 //! Fields: what stands between the blanks of a line.
 
 ghost use Rattle.std.specs.Prelude.{◌≡◌, Some, None, MatchOption, IfSome, chars, ◌<◌};
-ghost use Rattle.script_text.specs.Fields.{cut, number_of, long_of, site_of, count_of, name_of, text_of, starts_numeral};
+ghost use Rattle.script_text.specs.Fields.{cut, number_of, long_of, site_of, count_of, name_of, generation_of, member_of, text_of, starts_numeral};
 
-use op_name::{Name, SITES};
+use op_name::{GENERATIONS, Member, Name, SITES};
 
 /// What stands before the first blank and after it.
 pub(crate) fn cut_at_blank(text: &str) -> Option<(&str, &str)>
@@ -85,6 +85,41 @@ fn cut_at_point(text: &str) -> Option<(&str, &str)>
     ensures { MatchOption result (cut 46 text.now ≡ None) (λ p. cut 46 text.now ≡ Some (p.0.now, p.1.now)) }
 {
     text.split_once('.')
+}
+
+/// The generation that the field spells: 1 to `GENERATIONS`.
+#[tactic(auto, unfolding(crate::specs::Fields::generation_of))]
+fn generation(field: &str) -> Option<u16>
+    ensures { result ≡ generation_of field.now }
+{
+    let generation = number(field)?;
+    if 1 <= generation && generation <= u32::from(GENERATIONS) {
+        Some(generation as u16)
+    } else {
+        None
+    }
+}
+
+/// The member that the field spells: a name, which a slash and a generation follow for a group.
+#[tactic(auto, unfolding(crate::specs::Fields::member_of))]
+pub(crate) fn member(field: &str) -> Option<Member>
+    ensures { result ≡ member_of field.now }
+{
+    match cut_at_slash(field) {
+        None => Some(Member::Original(name(field)?)),
+        Some((first, second)) => {
+            let name = name(first)?;
+            let generation = generation(second)?;
+            Some(Member::Group(name, generation))
+        }
+    }
+}
+
+/// What stands before the first slash and after it.
+fn cut_at_slash(text: &str) -> Option<(&str, &str)>
+    ensures { MatchOption result (cut 47 text.now ≡ None) (λ p. cut 47 text.now ≡ Some (p.0.now, p.1.now)) }
+{
+    text.split_once('/')
 }
 
 /// The field as the text of a line, which has one character at least.

@@ -1,12 +1,13 @@
-//! Numbers, sites and names that stand alone, spelled as in lines.
+//! Numbers, sites, names and members that stand alone, spelled as in lines.
 
 ghost use Rattle.std.specs.Prelude.{◌≡◌, ◌<◌, ◌^◌, ℕ, Some, IfSome, decimal};
 ghost use Rattle.op_name.specs.NameData.{NameData};
 ghost use Rattle.op_name.specs.declared.name.TheConstants.{SITES};
-ghost use Rattle.script_text.specs.Fields.{number_of, long_of, site_of, name_of, IsNumber, IsLong, IsSite, IsNameText};
+ghost use Rattle.op_name.specs.declared.member.Member as declared;
+ghost use Rattle.script_text.specs.Fields.{number_of, long_of, site_of, name_of, member_of, IsNumber, IsLong, IsSite, IsNameText, IsMemberText};
 
-use crate::reading::field::{long, name, number, site};
-use op_name::Name;
+use crate::reading::field::{long, member, name, number, site};
+use op_name::{Member, Name};
 
 /// The number that the text spells: `0`, or decimal digits that don't start with 0, below 2^32. None exactly where it
 /// spells none.
@@ -48,4 +49,15 @@ pub fn parse_name(text: &str) -> Option<Name>
     ensures only { (n : NameData) → IsNameText text.now n → result ≡ Some n }
 {
     name(text)
+}
+
+/// The member that the text spells: its name for an original; for a group the name of its original, a slash and a
+/// generation from 1 to `GENERATIONS`. None exactly where it spells none.
+#[tactic(auto, using(crate::proofs::MemberLaws::member_found, crate::proofs::MemberLaws::member_only))]
+pub fn parse_member(text: &str) -> Option<Member>
+    ensures read { result ≡ member_of text.now }
+    ensures found { IfSome result (λ m. IsMemberText text.now m) }
+    ensures only { (m : declared.Member) → IsMemberText text.now m → result ≡ Some m }
+{
+    member(text)
 }
