@@ -18,6 +18,7 @@ demo: bin/cotpad
 	@for log in examples/*.log; do \
 		echo "== $$log, shown"; bin/cotpad show < $$log; \
 	done
+	@echo "== examples/explain.log, 1.1/2 explained"; bin/cotpad explain 1.1/2 < examples/explain.log
 
 # Compares what the program writes of each example with its report, and its answers to the frames and logs of
 # docs/vectors.txt with theirs. Reports and answers were worked out by hand from docs/FORMATS.md.
@@ -28,6 +29,7 @@ check-examples: bin/cotpad
 	@for log in examples/*.log; do \
 		bin/cotpad show < $$log | cmp - $${log%.log}.report || exit 1; \
 	done
+	@bin/cotpad explain 1.1/2 < examples/explain.log | cmp - examples/explain.steps
 	@echo "each example writes its report"
 	@tools/check-vectors
 

@@ -1,16 +1,18 @@
 -- The command that the words spell is the one that is done.
 use Rattle.std.proofs.Common.{◌≡◌, ◌⊎◌, ℕ, Option, Some, None, List, sym, ap, subst, ◌∙◌, refl, inl, inr}
+use Rattle.op_name.specs.declared.member.Member.{Member}
 use Rattle.outside_io.specs.Faults.{Rose}
 use Rattle.cotpad.specs.declared.command.Command.{Command}
 use Rattle.cotpad.specs.declared.command.Command.TheVariants as command
 use Rattle.cotpad.specs.declared.command.Edit as declared
 use Rattle.cotpad.specs.declared.status.Status.{Status}
 use Rattle.cotpad.specs.declared.status.Status.TheVariants.{Done, Refused, Words, ReadFault, WriteFault, Memory, LinkFault, PeerRefused}
-use Rattle.cotpad.specs.Commands.{CommandData, Replay, Show, Edit, Gen, EditData, edit_data, command_data}
+use Rattle.cotpad.specs.Commands.{CommandData, Replay, Show, Edit, Gen, Explain, EditData, edit_data, command_data}
 use Rattle.cotpad.specs.Outside.{Outside}
 use Rattle.cotpad.specs.Answers.{IsAnswered, IsMade}
 use Rattle.cotpad.specs.Replies.{IsEdited}
 use Rattle.cotpad.specs.Generating.{gen_text, IsCounted}
+use Rattle.cotpad.specs.Explaining.{IsExplained}
 use Rattle.cotpad.specs.Statuses.{IsReported}
 
 same_edit : (s t : ℕ) (e d : EditData) → Some (Edit s e) ≡ Some (Edit t d) → (s ≡ t) × (e ≡ d)
@@ -25,6 +27,15 @@ pub edit_answered : (k : Command) (s site : ℕ) (e : declared.Edit) (edit : Edi
 edit_answered k s site e edit old new r is said answered =
     let same = same_edit s site (edit_data e) edit (ap (λ x. Some (command_data x)) (sym is) ∙ said) in
     subst (λ x. IsAnswered (IsEdited site x) old new r) same.1 (subst (λ x. IsAnswered (IsEdited x (edit_data e)) old new r) same.0 answered)
+
+same_member : (m n : Member) → Some (Explain m) ≡ Some (Explain n) → m ≡ n
+same_member m n is = cc
+
+-- the member that is explained is the one that was asked for
+pub explain_answered : (k : Command) (m wanted : Member) (old new : Outside) (r : Status)
+    → k ≡ command.Explain m → Some (command_data k) ≡ Some (Explain wanted) → IsAnswered (IsExplained m) old new r → IsAnswered (IsExplained wanted) old new r
+explain_answered k m wanted old new r is said answered =
+    subst (λ x. IsAnswered (IsExplained x) old new r) (same_member m wanted (ap (λ x. Some (command_data x)) (sym is) ∙ said)) answered
 
 -- the session that is generated is the one that was asked for
 pub gen_made : (k : Command) (s start e events w window : ℕ) (old new : Outside) (r : Status)

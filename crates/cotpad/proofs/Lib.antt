@@ -7,3 +7,4 @@ pub mod Alike
 pub mod Choosing
 pub mod Session
 pub mod OneReply
+pub mod Traces

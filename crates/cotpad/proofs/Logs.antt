@@ -10,7 +10,7 @@ use Rattle.session_log.specs.declared.log_bad.LogBad.TheVariants as bad
 use Rattle.session_log.specs.Loadings.{IsLoaded, IsUnloaded}
 use Rattle.session_log.specs.Words.{refused_log_text}
 use Rattle.cotpad.specs.Answers.{IsTakenOf, IsAppended}
-use Rattle.cotpad.specs.Replies.{IsRefusal, IsLoadedAs, RepliesToLog, accepting, refusing, limit_line, IsEdited, edit_reply}
+use Rattle.cotpad.specs.Replies.{IsRefusal, IsLoadedAs, RepliesToLog, RepliesToLogBy, accepting, refusing, limit_line, IsEdited, edit_reply}
 use Rattle.cotpad.specs.Code.Refusing.{IsRefusedInto}
 use Rattle.cotpad.specs.Commands.{EditData}
 use Rattle.cotpad.specs.Editing.{edited}
@@ -31,13 +31,16 @@ past_limit End site bytes all old new is added taken = cc
 past_limit Past site bytes all old new is added taken = (limit_line, inl (taken.1, refl), added)
 
 -- a refused input is replied by its line
-pub line_replied : (to_state : State → Report) (site : ℕ) (all old new : List ℕ) → IsRefusedInto site all old new → IsAppended (RepliesToLog site to_state) true all old new
-line_replied to_state site all old new h = record {
+pub line_replied_by : (ToState : State → Report → Type 0) (site : ℕ) (all old new : List ℕ) → IsRefusedInto site all old new → IsAppended (RepliesToLogBy site ToState) true all old new
+line_replied_by ToState site all old new h = record {
   reply = refusing h.0;
   right = inl (h.0, h.1, refl);
   told = refl;
   appended = h.2;
 }
+
+pub line_replied : (to_state : State → Report) (site : ℕ) (all old new : List ℕ) → IsRefusedInto site all old new → IsAppended (RepliesToLog site to_state) true all old new
+line_replied to_state site all old new h = line_replied_by (λ s reply. reply ≡ to_state s) site all old new h
 
 -- a loaded site is replied to
 pub state_replied : (to_state : State → Report) (site : ℕ) (s : State) (all old middle new : List ℕ) (refused : Bool) → IsLoadedAs site all s → middle ≡ old → new ≡ middle ++ (to_state s).written → (to_state s).refused ≡ refused

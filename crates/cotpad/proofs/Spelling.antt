@@ -4,14 +4,15 @@ use Rattle.std.specs.Prelude.{IfSome, if◌then◌else◌}
 use Rattle.std.proofs.lemmas.Bool.{cond_both, and_parts, true≢false}
 use Rattle.std.proofs.lemmas.Slice.Eq.{bytes_eq-Decides}
 use Rattle.op_name.specs.NameData.{NameData}
-use Rattle.script_text.specs.Names.{name_text}
-use Rattle.script_text.specs.Fields.{number_of, long_of, site_of, name_of, ◌>>=◌}
-use Rattle.script_text.proofs.CallerLemmas.{long_reads, number_reads, site_reads, name_reads, and_then_some, some_is}
+use Rattle.op_name.specs.declared.member.Member.{Member}
+use Rattle.script_text.specs.Names.{name_text, member_text}
+use Rattle.script_text.specs.Fields.{number_of, long_of, site_of, name_of, member_of, ◌>>=◌}
+use Rattle.script_text.proofs.CallerLemmas.{long_reads, number_reads, site_reads, name_reads, member_reads, and_then_some, some_is}
 use Rattle.session_replay.specs.declared.generator.TheConstants.{MAX_EVENTS, MAX_WINDOW}
 use Rattle.cotpad.specs.declared.command.Command.{Command}
-use Rattle.cotpad.specs.Commands.{CommandData, Replay, Show, Edit, Gen, EditData, Ins, Nl, Del, Undo, Redo, command_data}
+use Rattle.cotpad.specs.Commands.{CommandData, Replay, Show, Edit, Gen, Explain, EditData, Ins, Nl, Del, Undo, Redo, command_data}
 use Rattle.cotpad.specs.Words.{edit_words, command_words, IsEditInRange, IsInRange, Spells}
-use Rattle.cotpad.specs.Code.Reading.{first_in, one_in, alone_in, text_in, ins_in, nl_in, del_in, undo_in, redo_in, edit_row, edit_in, gen_in, gen_of, command_row, command_in}
+use Rattle.cotpad.specs.Code.Reading.{first_in, one_in, alone_in, text_in, ins_in, nl_in, del_in, undo_in, redo_in, edit_row, edit_in, gen_in, gen_of, explain_in, command_row, command_in}
 
 first_some : (ws : List (List ℕ)) (p : List ℕ × List (List ℕ)) → first_in ws ≡ Some p → ws ≡ p.0 ∷ p.1
 first_some [] p e = cc
@@ -155,6 +156,15 @@ gen_from parts c h =
     ∙ ap (λ xs. decimal s.0 ∷ xs) (first_some p.0.1 q.0 q.1 ∙ ap (λ x. x ∷ q.0.1) events.0 ∙ ap (λ xs. decimal e.0 ∷ xs) (one_some q.0.1 w.0 w.1 ∙ ap (λ x. x ∷ []) window.0)) in
     subst (λ x. (codes "gen" ∷ parts ≡ command_words x) × IsInRange x) parts_in.3 (ap (λ xs. codes "gen" ∷ xs) spelled, (start.1, parts_in.0, parts_in.1, parts_in.2))
 
+explain_from : (parts : List (List ℕ)) (c : CommandData) → explain_in parts ≡ Some c → IsCommand (codes "explain" ∷ parts) c
+unfolding explain_in IsCommand
+explain_from parts c h =
+    let w = and_then_some (one_in parts) _ c h in
+    let m = and_then_some (member_of w.0) _ c w.2 in
+    let member = member_reads.from w.0 m.0 m.1 in
+    let spelled : parts ≡ member_text m.0 ∷ [] = one_some parts w.0 w.1 ∙ ap (λ x. x ∷ []) member.0 in
+    subst (λ x. (codes "explain" ∷ parts ≡ command_words x) × IsInRange x) (some_is (Explain m.0) c m.2) (ap (λ xs. codes "explain" ∷ xs) spelled, member.1)
+
 gen_of_to : (start events window : ℕ) → events ≤ MAX_EVENTS → 1 ≤ window → window ≤ MAX_WINDOW → gen_of start events window ≡ Some (Gen start events window)
 gen_of_to start events window few some small = rw (le-leb _ _ few, le-leb _ _ some, le-leb _ _ small) refl
 
@@ -179,15 +189,17 @@ command_from ws c h =
     (row_or IsCommand p.0.0 (codes "replay") parts c (alone_in Replay parts) _ (replay_from parts c)
     (row_or IsCommand p.0.0 (codes "show") parts c (alone_in Show parts) _ (show_from parts c)
     (row_or IsCommand p.0.0 (codes "edit") parts c (edit_in parts) _ (editing_from parts c)
-    (row_or IsCommand p.0.0 (codes "gen") parts c (gen_in parts) None (gen_from parts c) (λ never. cc))))
+    (row_or IsCommand p.0.0 (codes "gen") parts c (gen_in parts) _ (gen_from parts c)
+    (row_or IsCommand p.0.0 (codes "explain") parts c (explain_in parts) None (explain_from parts c) (λ never. cc)))))
     p.2)
 
 command_to : (c : CommandData) → IsInRange c → command_in (command_words c) ≡ Some c
-unfolding command_in command_row edit_in edit_row ins_in nl_in del_in undo_in redo_in gen_in
+unfolding command_in command_row edit_in edit_row ins_in nl_in del_in undo_in redo_in gen_in explain_in
 command_to Replay r = refl
 command_to Show r = refl
 command_to (Gen start events window) r =
     rw (long_reads.to (decimal start) start (refl, r.0), number_reads.to (decimal events) events (refl, omega (arith, r.1)), number_reads.to (decimal window) window (refl, omega (arith, r.3))) (gen_of_to start events window r.1 r.2 r.3)
+command_to (Explain m) r = rw (member_reads.to (member_text m) m (refl, r)) refl
 command_to (Edit site (Ins place text)) r = rw (site_reads.to (decimal site) site (refl, r.0), number_reads.to (decimal place) place (refl, r.1.0), text_to text r.1.1) refl
 command_to (Edit site (Nl place)) r = rw (site_reads.to (decimal site) site (refl, r.0), number_reads.to (decimal place) place (refl, r.1)) refl
 command_to (Edit site (Del place)) r = rw (site_reads.to (decimal site) site (refl, r.0), number_reads.to (decimal place) place (refl, r.1)) refl

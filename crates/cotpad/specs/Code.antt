@@ -3,3 +3,4 @@ pub mod Reading
 pub mod Refusing
 pub mod Editing
 pub mod Generated
+pub mod Explaining

@@ -1,6 +1,7 @@
 -- Commands: what the program is asked to do.
 use Rattle.std.specs.Prelude.{ℕ, List}
 use Rattle.op_name.specs.NameData.{NameData}
+use Rattle.op_name.specs.declared.member.Member.{Member}
 use Rattle.cotpad.specs.declared.command.Command.{Command}
 use Rattle.cotpad.specs.declared.command.Command.TheVariants as command
 use Rattle.cotpad.specs.declared.command.Edit as declared
@@ -15,12 +16,14 @@ pub data EditData : Type 0 where
   Undo : NameData → EditData
   Redo : NameData → EditData
 
--- a script is replayed; the text of a log is shown; a log is loaded as a site and edited there; a session is generated
+-- a script is replayed; the text of a log is shown; a log is loaded as a site and edited there; a session is generated; the form of an
+-- operation of a log is derived step by step
 pub data CommandData : Type 0 where
   Replay : CommandData
   Show : CommandData
   Edit : ℕ → EditData → CommandData
   Gen : ℕ → ℕ → ℕ → CommandData
+  Explain : Member → CommandData
 
 -- what contracts see of an edit, whose text is its bytes
 abbrev pub edit_data : declared.Edit → EditData
@@ -36,3 +39,4 @@ command_data command.Replay = Replay
 command_data command.Show = Show
 command_data (command.Edit site e) = Edit site (edit_data e)
 command_data (command.Gen start events window) = Gen start events window
+command_data (command.Explain m) = Explain m

@@ -6,6 +6,7 @@ pub mod Outside
 pub mod Editing
 pub mod Replies
 pub mod Generating
+pub mod Explaining
 pub mod Answers
 pub mod Laws
 pub mod Code

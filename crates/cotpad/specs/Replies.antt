@@ -53,10 +53,14 @@ IsRefusal site bytes line =
 abbrev pub IsLoadedAs : ℕ → List ℕ → State → Type 0
 IsLoadedAs site bytes s = (length bytes ≤ MAX_INPUT) × IsLoaded site bytes s
 
--- the reply of a command that loads its input as this site, and then replies to the state
+-- the reply of a command that loads its input as this site, and then replies to the state in one of these ways
+abbrev pub RepliesToLogBy : ℕ → (State → Report → Type 0) → List ℕ → Report → Type 0
+RepliesToLogBy site ToState bytes reply =
+    ((line : List ℕ) × IsRefusal site bytes line × (reply ≡ refusing line)) ⊎ ((s : State) × IsLoadedAs site bytes s × ToState s reply)
+
+-- the same where the state has one reply
 abbrev pub RepliesToLog : ℕ → (State → Report) → List ℕ → Report → Type 0
-RepliesToLog site to_state bytes reply =
-    ((line : List ℕ) × IsRefusal site bytes line × (reply ≡ refusing line)) ⊎ ((s : State) × IsLoadedAs site bytes s × (reply ≡ to_state s))
+RepliesToLog site to_state = RepliesToLogBy site (λ s reply. reply ≡ to_state s)
 
 -- `show`: the lines of the text that the history shows
 abbrev pub shown_reply : State → Report

@@ -3,9 +3,10 @@ use Rattle.std.specs.Prelude.{◌≡◌, ◌≢◌, ◌<◌, ◌≤◌, ◌^◌,
 use Rattle.std.specs.Str.{IsUtf8}
 use Rattle.op_name.specs.NameData.{IsName}
 use Rattle.op_name.specs.declared.name.TheConstants.{SITES}
-use Rattle.script_text.specs.Names.{name_text}
+use Rattle.script_text.specs.Names.{name_text, member_text}
+use Rattle.script_text.specs.Fields.{IsMemberInRange}
 use Rattle.session_replay.specs.declared.generator.TheConstants.{MAX_EVENTS, MAX_WINDOW}
-use Rattle.cotpad.specs.Commands.{CommandData, Replay, Show, Edit, Gen, EditData, Ins, Nl, Del, Undo, Redo}
+use Rattle.cotpad.specs.Commands.{CommandData, Replay, Show, Edit, Gen, Explain, EditData, Ins, Nl, Del, Undo, Redo}
 
 -- the words of an edit, behind its site: a row for each. A text is one word
 abbrev pub edit_words : EditData → List (List ℕ)
@@ -21,6 +22,7 @@ command_words Replay = codes "replay" ∷ []
 command_words Show = codes "show" ∷ []
 command_words (Edit site edit) = codes "edit" ∷ decimal site ∷ edit_words edit
 command_words (Gen start events window) = codes "gen" ∷ decimal start ∷ decimal events ∷ decimal window ∷ []
+command_words (Explain m) = codes "explain" ∷ member_text m ∷ []
 
 -- the parts of an edit are in range; a text isn't empty
 abbrev pub IsEditInRange : EditData → Type 0
@@ -36,6 +38,7 @@ IsInRange Replay = Unit {0}
 IsInRange Show = Unit {0}
 IsInRange (Edit site edit) = (site < SITES) × IsEditInRange edit
 IsInRange (Gen start events window) = (start < 2 ^ 64) × (events ≤ MAX_EVENTS) × (1 ≤ window) × (window ≤ MAX_WINDOW)
+IsInRange (Explain m) = IsMemberInRange m
 
 -- the words spell the command, in the one way in which it is spelled
 abbrev pub Spells : {A : Type 0} → List (String A) → CommandData → Type 0

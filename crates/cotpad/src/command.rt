@@ -4,10 +4,10 @@ ghost use Rattle.std.specs.Prelude.{◌≡◌, Some, None, IfSome, MatchOption, 
 ghost use Rattle.cotpad.specs.Commands.{CommandData, command_data, edit_data};
 ghost use Rattle.cotpad.specs.Commands as asked;
 ghost use Rattle.cotpad.specs.Words.{Spells};
-ghost use Rattle.cotpad.specs.Code.Reading.{command_in, command_row, edit_in, edit_row, gen_in, ins_in, nl_in, del_in, undo_in, redo_in, first_in, one_in, alone_in};
+ghost use Rattle.cotpad.specs.Code.Reading.{command_in, command_row, edit_in, edit_row, explain_in, gen_in, ins_in, nl_in, del_in, undo_in, redo_in, first_in, one_in, alone_in};
 
-use op_name::Name;
-use script_text::{parse_long, parse_name, parse_number, parse_site};
+use op_name::{Member, Name};
+use script_text::{parse_long, parse_member, parse_name, parse_number, parse_site};
 use session_replay::{MAX_EVENTS, MAX_WINDOW};
 
 /// What the program is asked to do.
@@ -27,6 +27,10 @@ pub enum Command<'a> {
         start: u64,
         events: u32,
         window: u32,
+    },
+    /// `explain MEMBER`: reads a log, and writes the steps that derive the form in which the operation was executed.
+    Explain {
+        member: Member,
     },
 }
 
@@ -67,6 +71,7 @@ fn command_row<'a>(word: &str, parts: &'a [String]) -> Option<Command<'a>>
         "show" => show_of(parts),
         "edit" => edit_of(parts),
         "gen" => gen_of(parts),
+        "explain" => explain_of(parts),
         _ => None,
     }
 }
@@ -186,6 +191,14 @@ fn gen_of(parts: &[String]) -> Option<Command<'_>>
     } else {
         None
     }
+}
+
+#[tactic(auto, unfolding(crate::specs::Code::Reading::explain_in))]
+fn explain_of(parts: &[String]) -> Option<Command<'_>>
+    ensures { option_map command_data result ≡ explain_in (map string_bytes parts.now) }
+{
+    let member = parse_member(one(parts)?)?;
+    Some(Command::Explain { member })
 }
 
 // The first word and the others, if there is one.

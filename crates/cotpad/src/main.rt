@@ -8,6 +8,7 @@
 mod answer;
 mod command;
 mod edit;
+mod explain;
 mod generator;
 mod laws;
 mod loaded;

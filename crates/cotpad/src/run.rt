@@ -2,6 +2,7 @@
 
 ghost use Rattle.std.specs.Prelude.{◌≡◌, ◌⊎◌, ℕ, List, Option};
 ghost use Rattle.outside_io.specs.Faults.{Rose};
+ghost use Rattle.op_name.specs.declared.member.Member.{Member};
 ghost use Rattle.context_diff.specs.Operations.{OpData};
 ghost use Rattle.context_diff.specs.Histories.{IsValid, Same};
 ghost use Rattle.context_diff.specs.Replays.{text_of};
@@ -12,14 +13,16 @@ ghost use Rattle.cotpad.specs.Statuses.{IsReported};
 ghost use Rattle.cotpad.specs.Outside.{told, AreWrongWords};
 ghost use Rattle.cotpad.specs.Answers.{IsAnswered, IsMade};
 ghost use Rattle.cotpad.specs.Generating.{gen_text, IsCounted};
-ghost use Rattle.cotpad.specs.Laws.{OneReply};
+ghost use Rattle.cotpad.specs.Explaining.{IsExplained};
+ghost use Rattle.cotpad.specs.Laws.{OneReply, OneExplanation};
 ghost use Rattle.cotpad.specs.Replies.{IsScriptReport, IsShown, IsEdited};
 
 use crate::answer::answer;
 use crate::command::{Command, command_of};
 use crate::edit::Editing;
+use crate::explain::Explaining;
 use crate::generator::answer_generated;
-use crate::laws::{one_reply, same_operations};
+use crate::laws::{one_explanation, one_reply, same_operations};
 use crate::replay::Replay;
 use crate::show::Show;
 use crate::status::Status;
@@ -30,6 +33,7 @@ use std::alloc::Global;
 /// its session. `show` reads a log, and writes its text. `edit SITE ins V TEXT`, `edit SITE nl V`, `edit SITE del V`,
 /// `edit SITE undo NAME` and `edit SITE redo NAME` read a log, edit it as this site, and write the log of the result.
 /// `gen START EVENTS WINDOW` reads nothing, generates a session of four sites, and writes what it did and what site 0 shows.
+/// `explain MEMBER` reads a log, and writes the steps that derive the form in which the operation of this member was executed.
 /// Any other words write `cotpad: words`, and nothing is read.
 pub fn run<S: Source, K: Sink, W: Wire>(
     alloc: Global,
@@ -52,6 +56,10 @@ pub fn run<S: Source, K: Sink, W: Wire>(
         (told (S.left source.old) (S.faults source.old) (K.held sink.old) (K.faults sink.old))
         (told (S.left source.new) (S.faults source.new) (K.held sink.new) (K.faults sink.new))
         result }
+    ensures explain { (m : Member) → Spells words.now (asked.Explain m) → IsAnswered (IsExplained m)
+        (told (S.left source.old) (S.faults source.old) (K.held sink.old) (K.faults sink.old))
+        (told (S.left source.new) (S.faults source.new) (K.held sink.new) (K.faults sink.new))
+        result }
     ensures generated { (start events window : ℕ) → Spells words.now (asked.Gen start events window) → IsMade (gen_text start events window)
         (told (S.left source.old) (S.faults source.old) (K.held sink.old) (K.faults sink.old))
         (told (S.left source.new) (S.faults source.new) (K.held sink.new) (K.faults sink.new))
@@ -60,8 +68,9 @@ pub fn run<S: Source, K: Sink, W: Wire>(
     ensures counted { (start events window : ℕ) → Spells words.now (asked.Gen start events window) → result ≡ Status.Done → IsCounted start events window }
     // Histories of the same operations, in whatever order they came, show the same text.
     ensures same { (h k : List OpData) → IsValid h → IsValid k → Same h k → text_of h ≡ text_of k }
-    // The bytes of a log decide what `show` and `edit` reply.
+    // The bytes of a log decide what `show`, `edit` and `explain` reply.
     ensures one_reply { OneReply }
+    ensures one_explanation { OneExplanation }
 
     // Words that spell no command.
     ensures words { SpellNothing words.now → AreWrongWords
@@ -85,10 +94,12 @@ pub fn run<S: Source, K: Sink, W: Wire>(
 {
     same_operations();
     one_reply();
+    one_explanation();
     match command_of(words) {
         Some(Command::Replay) => answer(alloc, &Replay, source, sink),
         Some(Command::Show) => answer(alloc, &Show, source, sink),
         Some(Command::Edit { site, edit }) => answer(alloc, &Editing { site, edit }, source, sink),
+        Some(Command::Explain { member }) => answer(alloc, &Explaining { member }, source, sink),
         Some(
             Command::Gen {
                 start,

@@ -1,8 +1,8 @@
 -- The table of words, as it is read.
 use Rattle.std.specs.Prelude.{ℕ, ◌==◌, ◌&&◌, nat_le, List, [], ◌∷◌, codes, bytes_eq, length, Option, Some, None, option_and_then, if◌then◌else◌}
 use Rattle.session_replay.specs.declared.generator.TheConstants.{MAX_EVENTS, MAX_WINDOW}
-use Rattle.script_text.specs.Fields.{number_of, long_of, site_of, name_of, ◌>>=◌}
-use Rattle.cotpad.specs.Commands.{CommandData, Replay, Show, Edit, Gen, EditData, Ins, Nl, Del, Undo, Redo}
+use Rattle.script_text.specs.Fields.{number_of, long_of, site_of, name_of, member_of, ◌>>=◌}
+use Rattle.cotpad.specs.Commands.{CommandData, Replay, Show, Edit, Gen, Explain, EditData, Ins, Nl, Del, Undo, Redo}
 
 -- the first word and the others, if there is one
 abbrev pub first_in : List (List ℕ) → Option (List ℕ × List (List ℕ))
@@ -88,6 +88,12 @@ gen_in ws = do
   window ← number_of word
   gen_of start events window
 
+unfoldable pub explain_in : List (List ℕ) → Option CommandData
+explain_in ws = do
+  word ← one_in ws
+  m ← member_of word
+  Some (Explain m)
+
 -- the command of this word and these parts
 unfoldable pub command_row : List ℕ → List (List ℕ) → Option CommandData
 command_row word parts =
@@ -95,7 +101,8 @@ command_row word parts =
     else (if bytes_eq word (codes "show") then alone_in Show parts
     else (if bytes_eq word (codes "edit") then edit_in parts
     else (if bytes_eq word (codes "gen") then gen_in parts
-    else None)))
+    else (if bytes_eq word (codes "explain") then explain_in parts
+    else None))))
 
 -- the command that these words spell, if they spell one
 unfoldable pub command_in : List (List ℕ) → Option CommandData

@@ -3,7 +3,7 @@ use Rattle.cotpad.specs.Commands as asked
 use Rattle.cotpad.specs.declared.command.Command.TheVariants as command
 use Rattle.cotpad.specs.Outside.{told}
 use Rattle.cotpad.specs.Generating.{gen_text}
-use Rattle.cotpad.proofs.Choosing.{edit_answered, gen_made, gen_counted, made_reported}
+use Rattle.cotpad.proofs.Choosing.{edit_answered, explain_answered, gen_made, gen_counted, made_reported}
 use Rattle.cotpad.proofs.run.run.Goals as goal
 
 pub returns-in-Some-Edit-clause-edit : goal.returns-in-Some-Edit-clause-edit
@@ -12,6 +12,13 @@ returns-in-Some-Edit-clause-edit g c = λ site edit spelled.
     let f = k.field-0-is in
     let is : k.field-0 ≡ command.Edit k.site k.edit = cc in
     edit_answered k.field-0 k.site site k.edit edit _ _ _ is (k.ensures.only (asked.Edit site edit) spelled) c.answer-in-Some-Edit.ensures.answer
+
+pub returns-in-Some-Explain-clause-explain : goal.returns-in-Some-Explain-clause-explain
+returns-in-Some-Explain-clause-explain g c = λ m spelled.
+    let k = c.in-Some-Explain in
+    let f = k.field-0-is in
+    let is : k.field-0 ≡ command.Explain k.member = cc in
+    explain_answered k.field-0 k.member m _ _ _ is (k.ensures.only (asked.Explain m) spelled) c.answer-in-Some-Explain.ensures.answer
 
 pub returns-in-Some-Gen-clause-generated : goal.returns-in-Some-Gen-clause-generated
 returns-in-Some-Gen-clause-generated g c = λ start events window spelled.
@@ -49,6 +56,9 @@ returns-in-None-clause-edit g c = λ site edit spelled. let wrong = c.in-None.en
 
 pub returns-in-None-clause-generated : goal.returns-in-None-clause-generated
 returns-in-None-clause-generated g c = λ start events window spelled. let wrong = c.in-None.ensures.only (asked.Gen start events window) spelled in absurd cc
+
+pub returns-in-None-clause-explain : goal.returns-in-None-clause-explain
+returns-in-None-clause-explain g c = λ m spelled. let wrong = c.in-None.ensures.only (asked.Explain m) spelled in absurd cc
 
 pub returns-in-None-clause-words : goal.returns-in-None-clause-words
 returns-in-None-clause-words g c = λ none. c.refuse_words.ensures.answer (g.S.Source.left c.args.source.now) (g.S.Source.faults c.args.source.now)
