@@ -23,7 +23,7 @@ pub use laws::{
     unrefused_exchanges_join,
 };
 pub use measuring::measure;
-pub use messages::{Measure, PeerCause, Which};
+pub use messages::{MAX_MESSAGE, Measure, PeerCause, Which};
 pub use offering::{answer, offer};
 pub use peer::Peer;
 pub use reader::MessageReader;

@@ -1,6 +1,7 @@
 //! How long a message is, as far as its bytes tell.
 
 ghost use Rattle.std.specs.Prelude.{◌≡◌, ℕ, ◌≤◌, ◌<◌, length};
+ghost use Rattle.peer_exchange.specs.declared.messages.TheConstants.{MAX_MESSAGE};
 ghost use Rattle.peer_exchange.specs.Measuring.{start, head_piece, stated, state_piece, frame_piece, piece_of, measure_of};
 ghost use Rattle.peer_exchange.specs.Code.Places.{Stands, Fits, IsJudged};
 
@@ -59,7 +60,7 @@ fn stated(frames: bool, scan: StateScan) -> Piece
 }
 
 fn state_piece(frames: bool, bytes: &[u8]) -> Piece
-    requires { length bytes.now ≤ 67108864 }
+    requires { length bytes.now ≤ MAX_MESSAGE }
     ensures value { result ≡ state_piece frames bytes.now }
     ensures fits { Fits (length bytes.now) result }
 {
@@ -92,7 +93,7 @@ fn frame_piece(bytes: &[u8]) -> Piece
 }
 
 fn piece_of(stage: Stage, bytes: &[u8]) -> Piece
-    requires { length bytes.now ≤ 67108864 }
+    requires { length bytes.now ≤ MAX_MESSAGE }
     ensures value { result ≡ piece_of stage bytes.now }
     ensures fits { Fits (length bytes.now) result }
 {
@@ -106,7 +107,7 @@ fn piece_of(stage: Stage, bytes: &[u8]) -> Piece
 // Judges the part at a place.
 fn judged(place: Place, bytes: &[u8]) -> Judged
     requires within { place.at ≤ length bytes.now }
-    requires short { length bytes.now ≤ 67108864 }
+    requires short { length bytes.now ≤ MAX_MESSAGE }
     ensures { IsJudged bytes.now place result }
 {
     let (_, rest) = bytes.split_at(place.at);
@@ -131,7 +132,7 @@ fn judged(place: Place, bytes: &[u8]) -> Judged
 /// Judges a message from a place on, as far as its bytes go: the place that was reached, and what the bytes say.
 pub(crate) fn go_on(which: Which, from: Place, bytes: &[u8]) -> (Place, Measure)
     requires stands { Stands which bytes.now from }
-    requires short { length bytes.now ≤ 67108864 }
+    requires short { length bytes.now ≤ MAX_MESSAGE }
     ensures value { result.1 ≡ measure_of which bytes.now }
     ensures stands { Stands which bytes.now result.0 }
 {
@@ -146,7 +147,7 @@ pub(crate) fn go_on(which: Which, from: Place, bytes: &[u8]) -> (Place, Measure)
 
 /// What the bytes say of the message that they begin. It takes no memory.
 pub fn measure(which: Which, bytes: &[u8]) -> Measure
-    requires { length bytes.now ≤ 67108864 }
+    requires { length bytes.now ≤ MAX_MESSAGE }
     ensures { result ≡ measure_of which bytes.now }
 {
     let (_, measure) = go_on(which, start(which), bytes);

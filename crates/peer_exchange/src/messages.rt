@@ -2,6 +2,9 @@
 
 use wire_codec::Cause;
 
+/// The most bytes that a message may have: 64 MiB.
+pub const MAX_MESSAGE: usize = 67_108_864;
+
 /// Which message of an exchange.
 #[derive(Clone, Copy, Debug, PartialEq, Eq)]
 pub enum Which {

@@ -2,6 +2,7 @@
 
 ghost use Rattle.std.specs.Prelude.{◌≡◌, ◌++◌, ◌≤◌, length, take, IfOk, IfErr, OnOk, OnErr};
 ghost use Rattle.context_vector.specs.Contexts.{has};
+ghost use Rattle.peer_exchange.specs.declared.messages.TheConstants.{MAX_MESSAGE};
 ghost use Rattle.peer_exchange.specs.Joins.{unseen};
 ghost use Rattle.peer_exchange.specs.Messages.{telling, first_message, third_message, second_message, IsFirst, IsAnswered};
 ghost use Rattle.peer_exchange.specs.Refusals.{IsWhole, IsUnread};
@@ -67,7 +68,7 @@ fn put_second(site: &Site, state: &Vector, out: &mut Vec<u8>) -> Result<u32, Mem
 
 /// Tells whether bytes are one whole message, and if not, why.
 pub(crate) fn whole(which: Which, bytes: &[u8]) -> Result<(), Peer>
-    requires { length bytes.now ≤ 67108864 }
+    requires { length bytes.now ≤ MAX_MESSAGE }
     ensures whole { OnOk result (IsWhole which bytes.now) }
     ensures refused { IfErr result (IsUnread which bytes.now) }
 {
@@ -88,7 +89,7 @@ pub(crate) fn whole(which: Which, bytes: &[u8]) -> Result<(), Peer>
 // The state that a whole first message tells.
 fn told(alloc: Global, first: &[u8]) -> Result<Vector, Memory>
     requires whole { IsWhole Which.First first.now }
-    requires short { length first.now ≤ 67108864 }
+    requires short { length first.now ≤ MAX_MESSAGE }
     ensures { IfOk result (λ v. IsFirst first.now v.set) }
 {
     let (_, state) = first.split_at(HEAD.len());
@@ -101,15 +102,13 @@ fn told(alloc: Global, first: &[u8]) -> Result<Vector, Memory>
 /// Appends the second message, which answers the first one of a joiner: what the site has, and the frames of what the
 /// joiner lacks. It answers how many frames they are.
 pub fn answer(alloc: Global, site: &Site, first: &[u8], out: &mut Vec<u8>) -> Result<u32, Peer>
-    requires { length first.now ≤ 67108864 }
+    requires { length first.now ≤ MAX_MESSAGE }
     ensures answered { IfOk result (IsAnswered site.now.history first.now out.old.items out.new.items) }
     ensures refused { IfErr result (IsUnread Which.First first.now) }
     ensures err { OnErr result (out.new.items ≡ out.old.items) }
 {
     whole(Which::First, first)?;
-    let Ok(state) = told(alloc, first) else {
-        return Err(Peer::Memory);
-    };
+    let state = told(alloc, first)?;
     let start = out.len();
     match put_second(site, &state, out) {
         Ok(count) => Ok(count),

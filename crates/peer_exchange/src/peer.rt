@@ -2,7 +2,7 @@
 
 use crate::messages::PeerCause;
 use cot_site::Verdict;
-use op_name::Member;
+use op_name::{Member, Memory};
 
 /// Why a call didn't take a message.
 #[derive(Clone, Copy, Debug, PartialEq, Eq, Drop)]
@@ -13,4 +13,15 @@ pub enum Peer {
     Op { member: Member, verdict: Verdict },
     /// There was no memory.
     Memory,
+}
+
+impl From<Memory> for Peer {
+    ghost use Rattle.std.specs.Prelude.{◌≡◌};
+    ghost use Rattle.peer_exchange.specs.declared.peer.Peer.TheVariants as peer;
+
+    ghost from_gives = { λ _ e. e ≡ peer.Memory };
+
+    fn from(_: Memory) -> Peer {
+        Peer::Memory
+    }
 }

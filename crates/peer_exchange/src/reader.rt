@@ -1,6 +1,7 @@
 //! A message that comes in piece by piece.
 
 ghost use Rattle.std.specs.Prelude.{◌≡◌, ℕ, [], ◌++◌, ◌≤◌, ◌<◌, length, take, OnOk, OnErr};
+ghost use Rattle.peer_exchange.specs.declared.messages.TheConstants.{MAX_MESSAGE};
 ghost use Rattle.peer_exchange.specs.Measuring.{measure_of, NotPast};
 
 use crate::measuring::{go_on, start};
@@ -80,7 +81,7 @@ impl MessageReader {
     /// What the bytes so far say of the message, as `measure` of all of them; only those are looked at that no earlier
     /// call judged.
     pub fn measure(&mut self) -> Measure
-        requires { length self.old.bytes ≤ 67108864 }
+        requires { length self.old.bytes ≤ MAX_MESSAGE }
         ensures value { result ≡ measure_of self.old.which self.old.bytes }
         ensures same { self.new ≡ self.old }
         ensures asks { (k : ℕ) → result ≡ Measure.More k → length self.old.bytes < k }
