@@ -426,6 +426,25 @@ fn a_stream_stays_at_a_fault(rt: HostRuntime) -> Result<(), Fail> {
 }
 
 #[test]
+fn a_state_is_read_and_written_again(rt: HostRuntime) -> Result<(), Fail> {
+    let bytes = b"\x01\x00\x00\x00\x00\x02\x00\x00\x00\x01\x00\x00\x00\x00\x02\x00\x01".as_slice();
+    let mut out = Vec::new(rt.alloc());
+    match decode_state(rt.alloc(), bytes) {
+        Ok(DecodedState::Got { vector, used }) => {
+            assert_eq!(rt; used, 17);
+            assert_eq!(rt; vector.rank(), 2);
+            encode_state(&vector, &mut out)
+                .ok()
+                .ok_or("there is memory")?;
+        }
+        Ok(_) => return Err("it is a state".into()),
+        Err(_) => return Err("there is memory".into()),
+    }
+    assert_eq!(rt; out.as_slice(), bytes);
+    Ok(())
+}
+
+#[test]
 fn causes_have_words(rt: HostRuntime) {
     let words = [
         (Cause::TooLong, "toolong"),
