@@ -1,5 +1,6 @@
-# `make` leaves the proved program at bin/cotpad; `make demo` replays and shows the examples with it.
-.PHONY: all demo check-examples doors trust clean
+# `make` leaves the proved program at bin/cotpad; `make demo` replays and shows the examples with it. `make lib` leaves the
+# library for hosts in lib/, and `make check-hosts` runs hosts in C and in Python over it.
+.PHONY: all lib demo check-examples check-hosts doors trust clean
 
 SOURCES := $(shell find crates -name out -prune -o -type f \( -name '*.rt' -o -name '*.antt' \) -print) crates.txt
 
@@ -10,6 +11,42 @@ bin/cotpad: $(SOURCES)
 	mkdir -p bin
 	cd crates/cotpad && rt run -- replay < /dev/null
 	cp crates/cotpad/out/cotpad bin/cotpad
+
+# The kit's library that hands allocations on to malloc.
+KIT_C := $(dir $(shell rt doc))c
+
+lib: lib/libcotpad.a lib/libcotpad.so.1 lib/cotpad.pc
+
+# One object whose only global names are the calls of the header, so that it meets no other Rattle library in a program.
+lib/libcotpad.a: $(SOURCES) include/cotpad.h tools/check-header
+	mkdir -p lib
+	cd crates/cotpad_c && rt lib
+	ld -r -o lib/whole.o --whole-archive crates/cotpad_c/out/libcotpad_c.a --no-whole-archive $(KIT_C)/liblibc_c.a
+	objcopy --wildcard --keep-global-symbol='cotpad_*' lib/whole.o lib/cotpad.o
+	rm -f $@
+	ar rcs $@ lib/cotpad.o
+	rm lib/whole.o lib/cotpad.o
+	tools/check-header $@
+
+lib/libcotpad.so.1: lib/libcotpad.a
+	$(CC) -shared -o $@ -Wl,-soname,libcotpad.so.1 -Wl,-z,defs -Wl,--whole-archive lib/libcotpad.a -Wl,--no-whole-archive
+	ln -sf libcotpad.so.1 lib/libcotpad.so
+
+lib/cotpad.pc: Makefile
+	mkdir -p lib
+	printf '%s\n' 'prefix=$(CURDIR)' 'Name: cotpad' 'Description: the core of a group text editor' 'Version: 1' \
+		'Cflags: -I$${prefix}/include' 'Libs: -L$${prefix}/lib -lcotpad' > $@
+
+HOST_FLAGS := -std=c99 -Wall -Wextra -Wpedantic -O2 -Iinclude
+
+# Three people in C and in Python, compared with what they have to write, and a session in which each allocation is refused in turn.
+check-hosts: lib
+	mkdir -p bin
+	$(CC) $(HOST_FLAGS) -o bin/notes examples/embed/notes.c lib/libcotpad.a
+	bin/notes | diff - examples/embed/notes.c.out
+	python3 examples/embed/notes.py | diff - examples/embed/notes.py.out
+	$(CC) $(HOST_FLAGS) -Wl,--wrap=malloc,--wrap=realloc -o bin/no_memory tools/hosts/no_memory.c lib/libcotpad.a
+	bin/no_memory
 
 demo: bin/cotpad
 	@for script in examples/*.script; do \
@@ -42,4 +79,4 @@ doors:
 	@tools/doors
 
 clean:
-	rm -rf bin
+	rm -rf bin lib

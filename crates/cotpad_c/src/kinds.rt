@@ -1,0 +1,37 @@
+//! The numbers by which a host is told what an operation is, and what became of a delivery.
+
+/// An operation that inserts a character.
+pub const INSERT: u32 = 1;
+
+/// An operation that deletes a character.
+pub const DELETE: u32 = 2;
+
+/// An operation that undoes an insert or a delete.
+pub const UNDO: u32 = 3;
+
+/// An operation that redoes an insert or a delete.
+pub const REDO: u32 = 4;
+
+/// It is part of the site's history now.
+pub const INTEGRATED: u32 = 1;
+
+/// It was made after something that the site lacks, and is held until that comes.
+pub const WAITS: u32 = 2;
+
+/// The site has it already.
+pub const REPEAT: u32 = 3;
+
+/// The site knows another operation of its name.
+pub const FORGED: u32 = 4;
+
+/// Its context can't be.
+pub const NOT_CLOSED: u32 = 5;
+
+/// Its place can't be.
+pub const PLACE_OUT: u32 = 6;
+
+/// The bytes end before the frame that they begin with.
+pub const INCOMPLETE: u32 = 7;
+
+/// The bytes begin with no frame, whatever follows them.
+pub const MALFORMED: u32 = 8;

@@ -1,0 +1,19 @@
+//! The site behind a handle.
+
+ghost use Rattle.std.specs.Prelude.{◌≡◌, Some, IsSome};
+ghost use Rattle.cotpad_c.specs.Lending.{LendsSite};
+ghost use types.Logic.{sem};
+
+use crate::handle::CotpadSite;
+use cot_site::Site;
+
+impl CotpadSite {
+    /// Lends the site; the handle ends with what becomes of it.
+    pub(crate) fn inner(&mut self) -> &mut Site
+        requires { IsSome self.old.site }
+        ensures* writes_back { sem 𝓛 (LendsSite self.entry result) }
+        ensures value { self.old.site ≡ Some result.now }
+    {
+        unsafe { &mut *(self.at as *mut Site) }
+    }
+}

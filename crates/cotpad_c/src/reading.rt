@@ -1,0 +1,77 @@
+//! What a site shows and has, as bytes in a buffer of the host's.
+
+ghost use Rattle.std.specs.Prelude.{◌≡◌, ◌⊎◌, Some, None, slice_get};
+ghost use Rattle.context_diff.specs.Operations.{OpData};
+ghost use Rattle.context_diff.specs.Replays.{text_of};
+ghost use Rattle.wire_codec.specs.Spelling.{frame};
+ghost use Rattle.cotpad_c.specs.declared.status.TheConstants.{OK, NO_MEMORY, NONE};
+ghost use Rattle.cotpad_c.specs.Operations.{operation_told};
+ghost use Rattle.cotpad_c.specs.Statuses.{Wrote};
+
+use crate::operation::{CotpadOperation, operation_told};
+use crate::status::{NO_MEMORY, NONE, OK, TOO_SHORT};
+use cot_site::Site;
+use std::alloc::Global;
+use wire_codec::encode;
+
+// Copies the bytes, if there is room for all, and answers their number.
+fn hand_out(bytes: &[u8], out: &mut [u8], needed: &mut usize) -> u32
+    ensures { Wrote result bytes.now out.old out.new needed.new }
+{
+    let n = bytes.len();
+    *needed = n;
+    if out.len() < n {
+        return TOO_SHORT;
+    }
+    let (front, _) = out.split_at_mut(n);
+    front.copy_from_slice(bytes);
+    OK
+}
+
+/// The shown text in UTF-8.
+pub(crate) fn text(alloc: Global, site: &Site, out: &mut [u8], needed: &mut usize) -> u32
+    ensures wrote { (result ≡ NO_MEMORY) ⊎ Wrote result (text_of site.now.history) out.old out.new needed.new }
+    ensures err { result ≡ NO_MEMORY → (out.new ≡ out.old) × (needed.new ≡ needed.old) }
+{
+    let mut bytes = Vec::new(alloc);
+    match site.text(&mut bytes) {
+        Ok(()) => hand_out(bytes.as_slice(), out, needed),
+        Err(_) => NO_MEMORY,
+    }
+}
+
+/// The frame of the operation at this place of the history.
+pub(crate) fn frame_at(
+    alloc: Global,
+    site: &Site,
+    index: u32,
+    out: &mut [u8],
+    needed: &mut usize,
+) -> u32
+    ensures wrote { (o : OpData) → slice_get site.now.history index ≡ Some o → (result ≡ NO_MEMORY) ⊎ Wrote result (frame o) out.old out.new needed.new }
+    ensures none { slice_get site.now.history index ≡ None → (result ≡ NONE) × (out.new ≡ out.old) × (needed.new ≡ needed.old) }
+    ensures err { result ≡ NO_MEMORY → (out.new ≡ out.old) × (needed.new ≡ needed.old) }
+{
+    site.known();
+    let Some(op) = site.book().op(index) else {
+        return NONE;
+    };
+    let mut bytes = Vec::new(alloc);
+    match encode(op, &mut bytes) {
+        Ok(()) => hand_out(bytes.as_slice(), out, needed),
+        Err(_) => NO_MEMORY,
+    }
+}
+
+/// What the operation at this place of the history is, and who made it.
+pub(crate) fn operation_at(site: &Site, index: u32, operation: &mut CotpadOperation) -> u32
+    ensures found { (o : OpData) → slice_get site.now.history index ≡ Some o → result ≡ OK }
+    ensures told { (o : OpData) → slice_get site.now.history index ≡ Some o → operation.new ≡ operation_told o }
+    ensures none { slice_get site.now.history index ≡ None → (result ≡ NONE) × (operation.new ≡ operation.old) }
+{
+    let Some(op) = site.book().op(index) else {
+        return NONE;
+    };
+    *operation = operation_told(op);
+    OK
+}

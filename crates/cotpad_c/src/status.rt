@@ -1,0 +1,43 @@
+//! What a call answers: 0 where it did what was asked, or a number that says why not.
+
+/// Done.
+pub const OK: u32 = 0;
+
+/// Out of memory.
+pub const NO_MEMORY: u32 = 1;
+
+/// There is no site of this number.
+pub const SITE_OUT: u32 = 2;
+
+/// The text has no such place.
+pub const PLACE_OUT: u32 = 3;
+
+/// The number is no Unicode scalar value (RFC 3629).
+pub const NO_CHARACTER: u32 = 4;
+
+/// The site has integrated no insert or delete of this name.
+pub const UNKNOWN: u32 = 5;
+
+/// It is undone already.
+pub const NOT_IN_FORCE: u32 = 6;
+
+/// It isn't undone.
+pub const IN_FORCE: u32 = 7;
+
+/// It was undone and redone as often as can be.
+pub const GENERATION_FULL: u32 = 8;
+
+/// The site has made as many inserts and deletes as can be.
+pub const NUMBER_FULL: u32 = 9;
+
+/// More names are undone than the context of an operation carries.
+pub const CONTEXT_FULL: u32 = 10;
+
+/// No insert or delete can have this name.
+pub const NO_NAME: u32 = 11;
+
+/// There is nothing to tell: no operation at this index, none that is ready, no character at this place.
+pub const NONE: u32 = 12;
+
+/// The buffer is too short.
+pub const TOO_SHORT: u32 = 13;

@@ -1,0 +1,127 @@
+//! What hosts are answered. The frames are the examples of the format, written by hand.
+
+ghost use Rattle.std.specs.Prelude.{IfOk, IsSome};
+
+use crate::handle::CotpadSite;
+use crate::operation::no_operation;
+use crate::verdict::incomplete;
+use crate::{exports, kinds, status};
+use std::alloc::Global;
+use std::test::Fail;
+
+/// Insert 0.1 at place 0 of `a`, with an empty context.
+const FIRST: &[u8] = &[
+    0, 0, 0, 17, 1, 0, 0, 0, 0, 1, 0, 0, 0, 0, 0, 0, 0, 97, 0, 0, 0,
+];
+
+/// Insert 0.2 at place 1 of `b`, after 0.1.
+const SECOND: &[u8] = &[
+    0, 0, 0, 22, 1, 0, 0, 0, 0, 2, 0, 0, 0, 1, 0, 0, 0, 98, 1, 0, 0, 0, 0, 1, 0, 0,
+];
+
+#[test]
+fn a_handle_is_opened_and_closed(rt: HostRuntime) {
+    let alloc = rt.alloc();
+    let mut site = CotpadSite::empty(alloc);
+    assert_eq!(rt;
+        exports::cotpad_open(alloc, &mut site, 64),
+        status::SITE_OUT
+    );
+    assert_eq!(rt; exports::cotpad_open(alloc, &mut site, 3), status::OK);
+    assert_eq!(rt; exports::cotpad_insert(&mut site, 0, 104), status::OK);
+    assert_eq!(rt; exports::cotpad_delete(&mut site, 7), status::PLACE_OUT);
+    assert_eq!(rt; exports::cotpad_characters(&mut site), 1);
+    exports::cotpad_close(alloc, &mut site);
+    site.let_go();
+}
+
+/// A site that has done nothing.
+fn opened(alloc: Global) -> Result<CotpadSite, Fail>
+    ensures { IfOk result (λ s. IsSome s.site) }
+{
+    let mut site = CotpadSite::empty(alloc);
+    if exports::cotpad_open(alloc, &mut site, 5) != status::OK {
+        site.let_go();
+        return Err(Fail::new("out of memory"));
+    }
+    Ok(site)
+}
+
+#[test]
+fn an_insert_is_undone_and_redone(rt: HostRuntime) -> Result<(), Fail> {
+    let alloc = rt.alloc();
+    let mut told = no_operation();
+    let mut site = opened(alloc)?;
+    assert_eq!(rt; exports::cotpad_insert(&mut site, 0, 104), status::OK);
+    assert_eq!(rt; exports::cotpad_undo(&mut site, 5, 1), status::OK);
+    assert_eq!(rt; exports::cotpad_undo(&mut site, 5, 1), status::NOT_IN_FORCE);
+    assert_eq!(rt; exports::cotpad_redo(&mut site, 5, 1), status::OK);
+    assert_eq!(rt; exports::cotpad_redo(&mut site, 5, 0), status::NO_NAME);
+    assert_eq!(rt; exports::cotpad_operations(&mut site), 3);
+    assert_eq!(rt;
+        exports::cotpad_operation_at(&mut site, 1, &mut told),
+        status::OK
+    );
+    assert_eq!(rt; told.kind, kinds::UNDO);
+    assert_eq!(rt; told.author, 5);
+    exports::cotpad_close(alloc, &mut site);
+    site.let_go();
+    Ok(())
+}
+
+#[test]
+fn a_frame_that_comes_early_waits_and_is_released(rt: HostRuntime) -> Result<(), Fail> {
+    let alloc = rt.alloc();
+    let mut site = opened(alloc)?;
+    let mut verdict = incomplete(0);
+    assert_eq!(rt;
+        exports::cotpad_receive(alloc, &mut site, SECOND, &mut verdict),
+        status::OK
+    );
+    assert_eq!(rt; verdict.kind, kinds::WAITS);
+    assert_eq!(rt; verdict.missing.number, 1);
+    assert_eq!(rt; exports::cotpad_waiting(&mut site), 1);
+    assert_eq!(rt;
+        exports::cotpad_receive(alloc, &mut site, FIRST, &mut verdict),
+        status::OK
+    );
+    assert_eq!(rt; verdict.kind, kinds::INTEGRATED);
+    assert_eq!(rt;
+        exports::cotpad_release(&mut site, &mut verdict),
+        status::OK
+    );
+    assert_eq!(rt; verdict.operation.scalar, 98);
+    assert_eq!(rt;
+        exports::cotpad_release(&mut site, &mut verdict),
+        status::NONE
+    );
+    exports::cotpad_close(alloc, &mut site);
+    site.let_go();
+    Ok(())
+}
+
+#[test]
+fn bytes_are_handed_out_where_there_is_room(rt: HostRuntime) -> Result<(), Fail> {
+    let alloc = rt.alloc();
+    let mut site = opened(alloc)?;
+    let mut needed = 0;
+    let mut room = [0u8; 21];
+    assert_eq!(rt; exports::cotpad_insert(&mut site, 0, 97), status::OK);
+    assert_eq!(rt;
+        exports::cotpad_frame(alloc, &mut site, 0, &mut room, &mut needed),
+        status::OK
+    );
+    assert_eq!(rt; needed, 21);
+    assert_eq!(rt;
+        exports::cotpad_frame(alloc, &mut site, 1, &mut room, &mut needed),
+        status::NONE
+    );
+    assert_eq!(rt;
+        exports::cotpad_text(alloc, &mut site, &mut room, &mut needed),
+        status::OK
+    );
+    assert_eq!(rt; needed, 1);
+    exports::cotpad_close(alloc, &mut site);
+    site.let_go();
+    Ok(())
+}

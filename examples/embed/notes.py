@@ -1,0 +1,72 @@
+"""Three people write one note: what notes.c does, from Python."""
+from cotpad import CotpadError, Kind, Site
+
+
+def send(frames, inboxes, author):
+    for number, inbox in enumerate(inboxes):
+        if number != author:
+            inbox.extend(frames)
+
+
+def sync(sites, inboxes):
+    for number, (site, inbox) in enumerate(zip(sites, inboxes)):
+        for delivered in site.receive(b"".join(inbox)):
+            tell(number, delivered)
+        inbox.clear()
+    for number, site in enumerate(sites):
+        print(f"site {number}: {site.characters} characters: {site.text}")
+
+
+def tell(number, delivered):
+    operation = delivered.operation
+    if operation.kind in (Kind.UNDO, Kind.REDO):
+        name = f"{operation.name.site}.{operation.name.number}"
+        print(f"  site {number}: {operation.kind.name.lower()} of {name} by site {operation.author} {delivered.became.name.lower()}")
+
+
+def refused(what, call, *args):
+    try:
+        call(*args)
+    except CotpadError as why:
+        print(f"refused: {what}: {why}")
+    else:
+        raise AssertionError(f"{what} was done")
+
+
+def main():
+    sites, inboxes = [Site(number) for number in range(3)], [[], [], []]
+    send(sites[0].insert(0, "tea"), inboxes, 0)
+    sync(sites, inboxes)
+    print("-- at once: 0 deletes t, 1 deletes e and types o, 2 types !")
+    send(sites[0].delete(0), inboxes, 0)
+    send(sites[1].delete(1), inboxes, 1)
+    send(sites[1].insert(1, "o"), inboxes, 1)
+    send(sites[2].insert(3, "!"), inboxes, 2)
+    sync(sites, inboxes)
+    print("-- each undoes what another did")
+    for author, name in enumerate([(1, 1), (0, 4), (1, 2)]):
+        send(sites[author].undo(name), inboxes, author)
+    sync(sites, inboxes)
+    print("-- and 0 undoes the last insert or delete that it has")
+    last = next(o for o in sites[0].latest() if o.kind in (Kind.INSERT, Kind.DELETE))
+    send(sites[0].undo(last.name), inboxes, 0)
+    sync(sites, inboxes)
+    refused("a place", sites[0].delete, 99)
+    refused("a character", sites[0].insert, 0, "\ud800")
+    refused("a site", Site, 64)
+    refused("an unknown name", sites[0].undo, (9, 9))
+    refused("no name", sites[0].undo, (64, 1))
+    refused("what is in force", sites[0].redo, (0, 1))
+    refused("bad bytes", sites[0].receive, bytes([0, 0, 0, 4, 9, 9, 9, 9]))
+    pieces = sites[1].frame(0)
+    print("a frame in two pieces:", sites[0].receive(pieces[:5]), sites[0].receive(pieces[5:])[0].became.name.lower())
+    late = Site(5)
+    waits = late.receive(sites[0].frame(2))[0]
+    print(f"a late site waits for {waits.missing.site}.{waits.missing.number}, {late.waiting} waiting")
+    late.receive(b"".join(sites[0].frames()))
+    print(f"and then shows {late.text}, {late.waiting} waiting")
+    for site in [late, *sites]:
+        site.close()
+
+
+main()

@@ -1,0 +1,163 @@
+/* cotpad.h - the core of a group text editor, for hosts in C and in languages that call C.
+ *
+ * A cotpad_site is one participant's copy of a group text. A host makes one, calls it for what its user does, sends the
+ * frames of the operations that came of it to the other sites, and hands it the frames that come from them, in any order
+ * and as often as they come. Sites that integrated the same operations show the same text.
+ *
+ * What a host owes, which no call looks at:
+ *  - Each pointer is not null and aligned for its type, points to memory that may be read and written, and no two of one
+ *    call overlap. That holds for a buffer of no bytes too. A struct or number that a call writes has a value before:
+ *    declare it with = {0}.
+ *  - A cotpad_site begins as COTPAD_SITE_EMPTY. cotpad_open wants an empty one, and fills it where it answers COTPAD_OK;
+ *    cotpad_close wants a filled one, and empties it; every other call wants a filled one. The host reads and
+ *    writes nothing in it, and uses no copy of it.
+ *  - A site is used by one call at a time, and on the thread that made it.
+ *  - No call is made from a signal handler, or in the child of a fork of a process with threads.
+ *  - The process has one malloc, realloc and free, and stack enough.
+ *
+ * No call ends the process, prints, waits, or keeps a pointer of the host's. What a site has on the heap goes by
+ * cotpad_close; a host frees nothing else. A call that answers anything but COTPAD_OK leaves the history, what waits and
+ * the text as they were, and writes nothing but what is said of that answer.
+ */
+#ifndef COTPAD_H
+#define COTPAD_H
+
+#include <stddef.h>
+#include <stdint.h>
+
+#ifdef __cplusplus
+extern "C" {
+#endif
+
+/* The version of this header. cotpad_version() tells that of the library: begin by comparing them. */
+#define COTPAD_VERSION 1u
+
+/* What a call answers. */
+typedef uint32_t cotpad_status;
+#define COTPAD_OK 0u
+#define COTPAD_NO_MEMORY 1u       /* out of memory; the call may be made again */
+#define COTPAD_SITE_OUT 2u        /* the number of the site is above 63 */
+#define COTPAD_PLACE_OUT 3u       /* the text has no such place */
+#define COTPAD_NO_CHARACTER 4u    /* the number is no Unicode scalar value */
+#define COTPAD_UNKNOWN 5u         /* the site has integrated no insert or delete of this name */
+#define COTPAD_NOT_IN_FORCE 6u    /* it is undone already */
+#define COTPAD_IN_FORCE 7u        /* it isn't undone */
+#define COTPAD_GENERATION_FULL 8u /* it was undone and redone 65,535 times, as often as can be */
+#define COTPAD_NUMBER_FULL 9u     /* the site has made 1,000,000 inserts and deletes */
+#define COTPAD_CONTEXT_FULL 10u   /* more than 16,384 inserts and deletes were undone */
+#define COTPAD_NO_NAME 11u        /* a site above 63, or a number that is 0 or above 1,000,000 */
+#define COTPAD_NONE 12u           /* there is none: no operation at this index, none to release */
+#define COTPAD_TOO_SHORT 13u      /* the buffer is too short: *needed says how many bytes it takes */
+
+/* An insert or delete, by the site that made it and the number that it gave, from 1, at generation 0; or all undos (odd
+ * generation) or redos (even generation) of it at that generation. */
+typedef struct {
+    uint32_t site;
+    uint32_t number;
+    uint32_t generation;
+} cotpad_member;
+
+/* What an operation is. */
+#define COTPAD_OPERATION_INSERT 1u
+#define COTPAD_OPERATION_DELETE 2u
+#define COTPAD_OPERATION_UNDO 3u
+#define COTPAD_OPERATION_REDO 4u
+
+typedef struct {
+    uint32_t kind;
+    uint32_t author;      /* the site that made it */
+    uint32_t scalar;      /* the character of an insert, else 0 */
+    cotpad_member member; /* undo and redo take its site and number */
+} cotpad_operation;
+
+/* What became of a delivery or a release. */
+#define COTPAD_VERDICT_INTEGRATED 1u /* it is part of the text */
+#define COTPAD_VERDICT_WAITS 2u      /* it was made after `missing`, and is held until that comes */
+#define COTPAD_VERDICT_REPEAT 3u     /* the site has it */
+#define COTPAD_VERDICT_FORGED 4u     /* the site knows another operation of this name */
+#define COTPAD_VERDICT_NOT_CLOSED 5u /* its context lacks what the last operation of `site` in it was made after */
+#define COTPAD_VERDICT_PLACE_OUT 6u  /* it names `place`, and there are `cells` */
+#define COTPAD_VERDICT_INCOMPLETE 7u /* more bytes are wanted: at least `offset` in all */
+#define COTPAD_VERDICT_MALFORMED 8u  /* no frame, whatever follows: `cause` at the byte `offset` */
+
+/* The causes of COTPAD_VERDICT_MALFORMED. */
+#define COTPAD_CAUSE_TOO_LONG 1u
+#define COTPAD_CAUSE_KIND 2u
+#define COTPAD_CAUSE_RANGE 3u
+#define COTPAD_CAUSE_CHARACTER 4u
+#define COTPAD_CAUSE_ORDER 5u
+#define COTPAD_CAUSE_ZERO 6u
+#define COTPAD_CAUSE_LENGTH 7u
+#define COTPAD_CAUSE_OWN 8u
+#define COTPAD_CAUSE_TARGET 9u
+#define COTPAD_CAUSE_STRAY 10u
+
+/* A field that the kind doesn't speak of is 0. */
+typedef struct {
+    uint32_t kind;
+    uint32_t cause;
+    uint32_t offset;
+    uint32_t used; /* the bytes of the frame that was delivered; of a release 0 */
+    cotpad_operation operation;
+    cotpad_member missing;
+    uint32_t site;
+    uint32_t place;
+    uint32_t cells;
+} cotpad_verdict;
+
+typedef struct {
+    void *inside;
+} cotpad_site;
+#define COTPAD_SITE_EMPTY {0}
+
+uint32_t cotpad_version(void);
+
+/* Makes a site of this number, 0 to 63, that has done nothing, in an empty handle; no two sites of a session have one
+ * number. Else COTPAD_SITE_OUT or COTPAD_NO_MEMORY, and the handle stays empty. */
+cotpad_status cotpad_open(cotpad_site *site, uint16_t number);
+
+/* Ends a site, frees all of it, and leaves the handle empty. */
+void cotpad_close(cotpad_site *site);
+
+/* What the user of the site does. A place counts shown characters: an insert goes after so many of them, a delete takes the
+ * one at the place, from 0. An undo or a redo names an insert or a delete, whoever made it. On COTPAD_OK the new operation
+ * is the last of the history: fetch its frame by cotpad_frame(site, cotpad_operations(site) - 1, ..) and send it to all
+ * other sites. Else, of insert and delete: COTPAD_PLACE_OUT, COTPAD_NUMBER_FULL; of insert COTPAD_NO_CHARACTER; of undo
+ * and redo: COTPAD_NO_NAME, COTPAD_UNKNOWN; of undo COTPAD_NOT_IN_FORCE; of redo COTPAD_IN_FORCE, COTPAD_GENERATION_FULL; of
+ * all COTPAD_CONTEXT_FULL, COTPAD_NO_MEMORY. */
+cotpad_status cotpad_insert(cotpad_site *site, uint32_t place, uint32_t scalar);
+cotpad_status cotpad_delete(cotpad_site *site, uint32_t place);
+cotpad_status cotpad_undo(cotpad_site *site, uint16_t author, uint32_t number);
+cotpad_status cotpad_redo(cotpad_site *site, uint16_t author, uint32_t number);
+
+/* How many operations are integrated, how many wait, and how many characters are shown. */
+uint32_t cotpad_operations(cotpad_site *site);
+uint32_t cotpad_waiting(cotpad_site *site);
+uint32_t cotpad_characters(cotpad_site *site);
+
+/* What the integrated operation at this index is, and who made it. Operations stand in the order of integration, from 0,
+ * so what was done last stands at cotpad_operations(site) - 1. Else COTPAD_NONE. */
+cotpad_status cotpad_operation_at(cotpad_site *site, uint32_t index, cotpad_operation *operation);
+
+/* The frame of the integrated operation at this index; *needed is the number of its bytes. Else COTPAD_TOO_SHORT, which
+ * writes *needed alone, COTPAD_NONE or COTPAD_NO_MEMORY. A site that comes late is sent all frames, from index 0 on. */
+cotpad_status cotpad_frame(cotpad_site *site, uint32_t index, uint8_t *out, size_t room, size_t *needed);
+
+/* Delivers the operation of the frame that the bytes begin with: its verdict, and of it what it is, who made it and what it
+ * waits for. COTPAD_OK is answered to bytes without a frame too: then the verdict is INCOMPLETE or MALFORMED, and the site
+ * is as it was. After INTEGRATED, call cotpad_release until it answers COTPAD_NONE. Else COTPAD_NO_MEMORY: *verdict is as
+ * it was. */
+cotpad_status cotpad_receive(cotpad_site *site, const uint8_t *bytes, size_t length, cotpad_verdict *verdict);
+
+/* Takes out the first waiting operation whose time has come, and gives it its verdict. Else COTPAD_NONE or
+ * COTPAD_NO_MEMORY: *verdict is as it was. */
+cotpad_status cotpad_release(cotpad_site *site, cotpad_verdict *verdict);
+
+/* The shown text in UTF-8, with no byte after it; *needed is the number of its bytes. Else COTPAD_TOO_SHORT, which writes
+ * *needed alone, or COTPAD_NO_MEMORY. */
+cotpad_status cotpad_text(cotpad_site *site, uint8_t *out, size_t room, size_t *needed);
+
+#ifdef __cplusplus
+}
+#endif
+#endif
