@@ -30,7 +30,7 @@ record IsTold (bytes : List ℕ) : Type 0 where
   heads : bytes ≡ head ++ drop 8 bytes
   read : judge_state (drop 8 bytes) ≡ Ok (state, length bytes - 8)
 
-head_only : (frames : Bool) (bytes : List ℕ) (p : Piece) → head_piece frames bytes ≡ p → ((p ≡ part.Got (State frames) 8) × (8 ≤ length bytes) × (bytes ≡ head ++ drop 8 bytes)) ⊎ ((p ≡ part.More 8) ⊎ (p ≡ part.Bad 0 causes.Head))
+pub head_only : (frames : Bool) (bytes : List ℕ) (p : Piece) → head_piece frames bytes ≡ p → ((p ≡ part.Got (State frames) 8) × (8 ≤ length bytes) × (bytes ≡ head ++ drop 8 bytes)) ⊎ ((p ≡ part.More 8) ⊎ (p ≡ part.Bad 0 causes.Head))
 head_only frames bytes p e =
     elim (cases_Bool (ltb (length bytes) 8)) [
       | inl few ↦ inr (inl (sym e ∙ by_true (ltb (length bytes) 8) _ _ few))

@@ -10,3 +10,12 @@ pub mod Lacked
 pub mod FirstMessages
 pub mod TakenOps
 pub mod Unrefused
+pub mod Receivings
+pub mod WholeFrames
+pub mod SecondMessages
+pub mod Later
+pub mod Origins
+pub mod LackedTaken
+pub mod Wholes
+pub mod OneThing
+pub mod Exchanging

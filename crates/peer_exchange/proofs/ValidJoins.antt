@@ -42,23 +42,29 @@ placed_by g q (inserting n p ch c) same fits = omega arith
 placed_by g q (deleting n p c) same fits = omega arith
 placed_by g q (undoing a t g' c) same fits = tt
 
--- what is next in the second, and lacking in the first, is next in the join so far
-next_in_join : (h q : List OpData) (o : OpData) → IsValid q → Agree h q → IsValid (joined h q) → IsNext q o → is_known h (member_of o) ≡ false → IsNext (joined h q) o
-next_in_join h q o w agree v next new =
-    let g = joined h q in
+-- what is next after one history is next after any other that agrees with it, has the context, and hasn't the member
+pub next_elsewhere : (g q : List OpData) (o : OpData) → IsValid g → IsValid q → Agree g q → LacksNothing g (context_of o) → is_known g (member_of o) ≡ false → IsNext q o → IsNext g o
+next_elsewhere g q o v w agree ready new next =
     let c = context_of o in
-    let ready : LacksNothing g c = λ m e. known_joined h q m ∙ or_right (is_known h m) (is_known q m) (next.ready m e) in
     record {
       formed = next.formed;
-      new = known_joined h q (member_of o) ∙ or_from (is_known h (member_of o)) (is_known q (member_of o)) new next.new;
+      new = new;
       ready = ready;
       closed = λ original s x n at is site number.
           let there : has c (Original n) ≡ true = has_original c n (formed_number x ((complete g v).formed x at) n is) (omega (arith, number, ap (count_of c) site)) in
           let held = holder q (Original n) (next.ready (Original n) there) in
-          let same : x ≡ held.op = joined_agrees h q w agree x held.op n at held.there is held.is in
+          let same : x ≡ held.op = agree x held.op n at held.there is held.is in
           subst (λ (y : OpData). Within (context_of y) c) (sym same) (next.closed original s held.op n held.there held.is site number);
-      placed = placed_by g q o (same_inserts g q v w (joined_agrees h q w agree) c (counts_of o next.formed) ready next.ready) next.placed;
+      placed = placed_by g q o (same_inserts g q v w agree c (counts_of o next.formed) ready next.ready) next.placed;
     }
+
+-- what is next in the second, and lacking in the first, is next in the join so far
+next_in_join : (h q : List OpData) (o : OpData) → IsValid q → Agree h q → IsValid (joined h q) → IsNext q o → is_known h (member_of o) ≡ false → IsNext (joined h q) o
+next_in_join h q o w agree v next new =
+    next_elsewhere (joined h q) q o v w (joined_agrees h q w agree)
+    (λ m e. known_joined h q m ∙ or_right (is_known h m) (is_known q m) (next.ready m e))
+    (known_joined h q (member_of o) ∙ or_from (is_known h (member_of o)) (is_known q (member_of o)) new next.new)
+    next
 
 join_push : (h q : List OpData) (o : OpData) → IsValid q → Agree h q → IsValid (joined h q) → IsNext q o → IsValid (joined h (q ++ o ∷ []))
 join_push h q o w agree v next =

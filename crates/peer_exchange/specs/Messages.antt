@@ -4,6 +4,7 @@ use Rattle.std.specs.List.{flat_map}
 use Rattle.context_vector.specs.Contexts.{ContextData, has}
 use Rattle.context_diff.specs.Operations.{OpData}
 use Rattle.context_diff.specs.Histories.{context_of_all}
+use Rattle.cot_site.specs.Sites.{AllFormed}
 use Rattle.wire_codec.specs.Spelling.{frame}
 use Rattle.wire_codec.specs.States.{IsState, state_bytes}
 use Rattle.peer_exchange.specs.Joins.{unseen}
@@ -37,6 +38,17 @@ second_message h state = first_message h ++ third_message h state
 pub record IsFirst (bytes : List ℕ) (state : ContextData) : Type 0 where
   pub is : IsState state
   pub parts : bytes ≡ telling state
+
+-- the bytes are the second message that tells this state and has the frames of these operations
+pub record IsSecond (bytes : List ℕ) (state : ContextData) (os : List OpData) : Type 0 where
+  pub is : IsState state
+  pub formed : AllFormed os
+  pub parts : bytes ≡ telling state ++ (flat_map frame os ++ end_mark)
+
+-- the bytes are the third message that has the frames of these operations
+pub record IsThird (bytes : List ℕ) (os : List OpData) : Type 0 where
+  pub formed : AllFormed os
+  pub parts : bytes ≡ flat_map frame os ++ end_mark
 
 -- the second message for the state that the first one tells is appended, and has so many frames
 pub record IsAnswered (h : List OpData) (first before now : List ℕ) (count : ℕ) : Type 0 where

@@ -1,12 +1,13 @@
 -- Taking in operations that a peer sent: each is judged; one that is integrated or a repeat is delivered, and what it frees is released.
-use Rattle.std.specs.Prelude.{◌≡◌, false, List, [], ◌∷◌, ◌++◌, Result, Ok, Err}
+use Rattle.std.specs.Prelude.{◌≡◌, ◌⊎◌, false, List, [], ◌∷◌, ◌++◌, Result, Ok, Err}
 use Rattle.op_name.specs.declared.member.Member.{Member}
 use Rattle.context_diff.specs.Operations.{OpData, member_of, IsWellFormed}
 use Rattle.context_diff.specs.Histories.{IsValid, IsValidAfter, is_known}
 use Rattle.cot_site.specs.declared.verdict.Verdict.{Verdict}
 use Rattle.cot_site.specs.declared.verdict.Verdict.TheVariants.{Repeat, Forged, Waits, NotClosed, PlaceOut, Integrated}
-use Rattle.cot_site.specs.States.{State, judged, delivered}
-use Rattle.cot_site.specs.Releases.{settled}
+use Rattle.cot_site.specs.States.{State, Released, judged, delivered}
+use Rattle.cot_site.specs.Releases.{IsSound, IsLater, all_releases, state_after, settled}
+use Rattle.cot_site.specs.Sites.{AllFormed}
 use Rattle.peer_exchange.specs.Joins.{unseen, joined, Agree}
 
 -- why an operation isn't taken in: its member, and its verdict
@@ -30,6 +31,37 @@ by_verdict Integrated o s next = next (settled (delivered s o))
 unfoldable pub taken_in : State → List OpData → Result State Refusal
 taken_in s [] = Ok s
 taken_in s (o ∷ os) = by_verdict (judged s o) o s (λ t. taken_in t os)
+
+-- the first refusal: the operations before it were taken in, and it changed nothing
+pub record IsRefusedAt (s : State) (os : List OpData) (t : State) (why : Refusal) : Type 0 where
+  pub before : List OpData
+  pub op : OpData
+  pub behind : List OpData
+  pub parts : os ≡ before ++ op ∷ behind
+  pub taken : taken_in s before ≡ Ok t
+  pub refused : taken_in t (op ∷ []) ≡ Err why
+
+-- the operation was delivered, integrated or a repeat, and some of the releases after it are done
+pub record IsPartlyTaken (s : State) (o : OpData) (t : State) : Type 0 where
+  pub accepted : (judged s o ≡ Integrated) ⊎ (judged s o ≡ Repeat)
+  pub done : List Released
+  pub left : List Released
+  pub releases : all_releases (delivered s o) ≡ done ++ left
+  pub state : t ≡ state_after (delivered s o) done
+
+-- none of these operations was taken in, or the first of them in part
+abbrev pub IsBefore : State → List OpData → State → Type 0
+IsBefore s [] t = t ≡ s
+IsBefore s (o ∷ os) t = (t ≡ s) ⊎ IsPartlyTaken s o t
+
+-- on the way through these operations: some were taken in, and of the others the first one perhaps in part
+pub record IsOnTheWay (s : State) (os : List OpData) (t : State) : Type 0 where
+  pub before : List OpData
+  pub behind : List OpData
+  pub parts : os ≡ before ++ behind
+  pub at : State
+  pub taken : taken_in s before ≡ Ok at
+  pub reached : IsBefore at behind t
 
 -- a site at which nothing waits
 abbrev pub with_history : State → List OpData → State
@@ -66,3 +98,14 @@ UnrefusedExchangesJoin =
     → taken_in t (unseen (is_known t.history) s.history) ≡ Ok t'
     → taken_in s (unseen (is_known s.history) t'.history) ≡ Ok s'
     → (t' ≡ with_history t (joined t.history s.history)) × (s' ≡ with_history s (joined s.history t.history))
+
+-- taking in leaves a sound state of the same site, where what was integrated stays so
+abbrev pub TakingInKeepsHistories : Type 0
+TakingInKeepsHistories = (s t : State) (os : List OpData) → IsSound s → AllFormed os → taken_in s os ≡ Ok t → IsSound t × IsLater s t
+
+-- a site takes in without refusal what it lacks of a valid history that agrees with it, and in which no operation that it lacks has
+-- other content than one of the same name that waits there
+abbrev pub LackedOperationsAreTaken : Type 0
+LackedOperationsAreTaken =
+    (s : State) (p : List OpData) → IsSound s → IsValid p → Agree s.history p → Agree s.waiting (unseen (is_known s.history) p)
+    → (t : State) × (taken_in s (unseen (is_known s.history) p) ≡ Ok t)

@@ -1,7 +1,8 @@
-//! Laws of joins, and of taking in: each says what its definitions give, and does nothing.
+//! Laws of joins, of taking in, and of whole exchanges: each says what its definitions give, and does nothing.
 
 ghost use Rattle.peer_exchange.specs.Joins.{JoinsAreValid, LackedOperationsAreNext, EqualMembersAreAlike, BothSidesAreJoined, JoinsCommute, JoinsAssociate, JoinsAreIdempotent, AnyExchangesMeet};
-ghost use Rattle.peer_exchange.specs.Taking.{NextOperationsAreTaken, BothSidesTakeAll, NewOperationsAreAppended, UnrefusedExchangesJoin};
+ghost use Rattle.peer_exchange.specs.Taking.{NextOperationsAreTaken, BothSidesTakeAll, NewOperationsAreAppended, UnrefusedExchangesJoin, TakingInKeepsHistories, LackedOperationsAreTaken};
+ghost use Rattle.peer_exchange.specs.Exchanges.{MessagesAreWhole, MessagesTellOneThing, UnrefusedCallsJoin, AgreeingSitesMeet, AgreeingSitesAreNotRefused, SecondExchangesAreEmpty};
 
 /// The join of valid histories that agree is valid.
 pub fn joins_are_valid()
@@ -61,4 +62,47 @@ pub fn new_operations_are_appended()
 /// Two sites at which nothing waits, and which refuse nothing of each other, then have the join, whether they agree or not.
 pub fn unrefused_exchanges_join()
     ensures { UnrefusedExchangesJoin }
+{}
+
+/// Taking in keeps what a site integrated as the first part of its history.
+pub fn taking_in_keeps_histories()
+    ensures { TakingInKeepsHistories }
+{}
+
+/// A site takes in without refusal what it lacks of a history that agrees with all that it has and holds, also where operations
+/// wait.
+pub fn lacked_operations_are_taken()
+    ensures { LackedOperationsAreTaken }
+{}
+
+/// Each message that a call writes is whole, as `measure` says.
+pub fn messages_are_whole()
+    ensures { MessagesAreWhole }
+{}
+
+/// A message tells one state, and has one list of operations.
+pub fn messages_tell_one_thing()
+    ensures { MessagesTellOneThing }
+{}
+
+/// Where nothing waits at either site, and none of the four calls refuses, each site has its old history and after it what it
+/// lacked of the other, so the join of both.
+pub fn unrefused_calls_join()
+    ensures { UnrefusedCallsJoin }
+{}
+
+/// Where they agree besides, both then have the same operations and show the same text.
+pub fn agreeing_sites_meet()
+    ensures { AgreeingSitesMeet }
+{}
+
+/// Where no name has one content at the one site and other content at the other, among what is integrated and what waits,
+/// each of the four calls refuses for want of memory alone.
+pub fn agreeing_sites_are_not_refused()
+    ensures { AgreeingSitesAreNotRefused }
+{}
+
+/// A second exchange at once sends no frame in either direction, and changes neither site.
+pub fn second_exchanges_are_empty()
+    ensures { SecondExchangesAreEmpty }
 {}

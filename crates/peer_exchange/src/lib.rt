@@ -5,6 +5,7 @@
 //!
 //! An exchange is three messages. `measure` says of the bytes of one how long it is, as far as they tell, and a
 //! `MessageReader` does so as they come in. `offer` writes the first message and `answer` the second.
+//! The laws over whole exchanges speak of what closing and finishing one mean; no call does either yet.
 #![tactic(auto)]
 
 mod lacking;
@@ -17,10 +18,12 @@ mod reader;
 mod stages;
 
 pub use laws::{
-    any_exchanges_meet, both_sides_are_joined, both_sides_take_all, equal_members_are_alike,
-    joins_are_idempotent, joins_are_valid, joins_associate, joins_commute,
-    lacked_operations_are_next, new_operations_are_appended, next_operations_are_taken,
-    unrefused_exchanges_join,
+    agreeing_sites_are_not_refused, agreeing_sites_meet, any_exchanges_meet, both_sides_are_joined,
+    both_sides_take_all, equal_members_are_alike, joins_are_idempotent, joins_are_valid,
+    joins_associate, joins_commute, lacked_operations_are_next, lacked_operations_are_taken,
+    messages_are_whole, messages_tell_one_thing, new_operations_are_appended,
+    next_operations_are_taken, second_exchanges_are_empty, taking_in_keeps_histories,
+    unrefused_calls_join, unrefused_exchanges_join,
 };
 pub use measuring::measure;
 pub use messages::{MAX_MESSAGE, Measure, PeerCause, Which};

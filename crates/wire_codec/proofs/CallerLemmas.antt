@@ -1,6 +1,6 @@
 -- What the proofs of other crates cite of this crate's lemmas.
 pub use Rattle.wire_codec.proofs.Judgement.{cond_err, frame_once, judge_again, judge_more, judge_takes}
 pub use Rattle.wire_codec.proofs.Needing.{state_bound, state_needs, state_some}
-pub use Rattle.wire_codec.proofs.Sizes.{body_short}
-pub use Rattle.wire_codec.proofs.StateJudgement.{state_more, state_stays, state_takes, state_within}
+pub use Rattle.wire_codec.proofs.Sizes.{body_long, body_short}
+pub use Rattle.wire_codec.proofs.StateJudgement.{state_again, state_more, state_stays, state_takes, state_within}
 pub use Rattle.wire_codec.proofs.Steps.{IsBytes, IsBytes-drop, IsBytes-take}

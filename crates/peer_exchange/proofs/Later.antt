@@ -1,0 +1,99 @@
+-- Taking in keeps a site sound, and what it integrated stays the first part of its history.
+use Rattle.std.proofs.Common.{◌≡◌, ◌≤◌, inl, inr, List, [], ◌∷◌, ◌++◌, length, take, Result, Ok, Err, refl, sym, ap, subst, ◌∙◌, append-nil, arith}
+use Rattle.std.specs.Prelude.{Contains, ◌⊎◌}
+use Rattle.std.proofs.lemmas.List.{take-take, length-take}
+use Rattle.std.proofs.Math.Seq.{take-append_seam, take-length}
+use Rattle.std.proofs.lemmas.List.Elements.{Contains-append_left, Contains-append_right}
+use Rattle.context_diff.specs.Operations.{OpData, IsWellFormed}
+use Rattle.context_diff.proofs.CallerLemmas.{contains_here, contains_later}
+use Rattle.cot_site.specs.declared.verdict.Verdict.{Verdict}
+use Rattle.cot_site.specs.declared.verdict.Verdict.TheVariants.{Repeat, Forged, Waits, NotClosed, PlaceOut, Integrated}
+use Rattle.cot_site.specs.States.{State, Released, judged, delivered, after_verdict}
+use Rattle.cot_site.specs.Releases.{IsSound, IsLater, all_releases, state_after, settled}
+use Rattle.cot_site.specs.Sites.{AllFormed}
+use Rattle.cot_site.proofs.CallerLemmas.{delivered_number, sound_along, sound_delivered}
+use Rattle.peer_exchange.specs.declared.peer.Peer.{Peer}
+use Rattle.peer_exchange.specs.declared.peer.Peer.TheVariants as peer
+use Rattle.peer_exchange.specs.Taking.{Refusal, by_verdict, taken_in, IsPartlyTaken, IsBefore, TakingInKeepsHistories}
+use Rattle.peer_exchange.specs.Code.Receiving.{AreUntaken}
+
+pub later_same : (s : State) → IsLater s s
+later_same s = record { number = refl; history = take-length s.history }
+
+later_on : (s t u : State) → IsLater s t → IsLater t u → IsLater s u
+later_on s t u a b =
+    let old = s.history in
+    let now = t.history in
+    let shorter : length old ≤ length now = omega (arith, ap length a.history, length-take (length old) now) in
+    record {
+      number = b.number ∙ a.number;
+      history = sym (take-take (length old) (length now) u.history shorter) ∙ (ap (take (length old)) b.history ∙ a.history);
+    }
+
+after_history : (v : Verdict) (o : OpData) (s : State) → take (length s.history) (after_verdict v o s).history ≡ s.history
+after_history Repeat o s = take-length s.history
+after_history (Forged n) o s = take-length s.history
+after_history (Waits m) o s = take-length s.history
+after_history (NotClosed k) o s = take-length s.history
+after_history (PlaceOut p k) o s = take-length s.history
+after_history Integrated o s = take-append_seam s.history (o ∷ [])
+
+later_delivered : (s : State) (o : OpData) → IsLater s (delivered s o)
+later_delivered s o = record { number = delivered_number s o; history = after_history (judged s o) o s }
+
+-- after the delivery, some releases
+later_released : (s : State) (o : OpData) (done left : List Released) → IsSound s → IsWellFormed o → all_releases (delivered s o) ≡ done ++ left
+    → IsSound (state_after (delivered s o) done) × IsLater s (state_after (delivered s o) done)
+later_released s o done left sound formed parts =
+    let d = delivered s o in
+    let along = sound_along (length d.waiting) d done left (sound_delivered s o sound formed) parts in
+    (along.0, later_on s d (state_after d done) (later_delivered s o) along.1)
+
+-- the releases alone
+pub settled_later : (s : State) (o : OpData) → IsSound s → IsWellFormed o → IsLater (delivered s o) (settled (delivered s o))
+settled_later s o sound formed =
+    let d = delivered s o in
+    (sound_along (length d.waiting) d (all_releases d) [] (sound_delivered s o sound formed) (sym (append-nil (all_releases d)))).1
+
+pub later_settled : (s : State) (o : OpData) → IsSound s → IsWellFormed o → IsSound (settled (delivered s o)) × IsLater s (settled (delivered s o))
+later_settled s o sound formed = later_released s o (all_releases (delivered s o)) [] sound formed (sym (append-nil (all_releases (delivered s o))))
+
+pub taking_in_keeps_histories : TakingInKeepsHistories
+unfolding taken_in
+taking_in_keeps_histories s t [] sound formed e = let same : s ≡ t = cc in subst (λ (x : State). IsSound x × IsLater s x) same (sound, later_same s)
+taking_in_keeps_histories s t (o ∷ os) sound formed e =
+    go (λ next got. taking_in_keeps_histories (settled (delivered s o)) t os next (λ p at. formed p (contains_later o os p at)) got) (judged s o) e
+  where
+    first : IsSound (settled (delivered s o)) × IsLater s (settled (delivered s o))
+    first = later_settled s o sound (formed o (contains_here o os))
+
+    on : IsSound t × IsLater (settled (delivered s o)) t → IsSound t × IsLater s t
+    on rest = (rest.0, later_on s (settled (delivered s o)) t first.1 rest.1)
+
+    go : (IsSound (settled (delivered s o)) → taken_in (settled (delivered s o)) os ≡ Ok t → IsSound t × IsLater (settled (delivered s o)) t)
+        → (v : Verdict) → by_verdict v o s (λ x. taken_in x os) ≡ Ok t → IsSound t × IsLater s t
+    go again Repeat got = on (again first.0 got)
+    go again (Forged n) got = absurd (let never = got in cc)
+    go again (Waits m) got = absurd (let never = got in cc)
+    go again (NotClosed k) got = absurd (let never = got in cc)
+    go again (PlaceOut p k) got = absurd (let never = got in cc)
+    go again Integrated got = on (again first.0 got)
+
+formed_front : (before behind : List OpData) → AllFormed (before ++ behind) → AllFormed before
+formed_front before behind formed o at = formed o (Contains-append_left before behind o at)
+
+later_before : (s t : State) (os : List OpData) → IsSound s → AllFormed os → IsBefore s os t → IsLater s t
+later_before s t [] sound formed is = subst (IsLater s) (sym is) (later_same s)
+later_before s t (o ∷ os) sound formed (inl is) = subst (IsLater s) (sym is) (later_same s)
+later_before s t (o ∷ os) sound formed (inr p) = subst (IsLater s) (sym p.state) (later_released s o p.done p.left sound (formed o (contains_here o os)) p.releases).1
+
+-- also where they aren't all taken in
+pub untaken_later : (s t : State) (os : List OpData) (why : Peer) → IsSound s → AllFormed os → AreUntaken s os t why → IsLater s t
+untaken_later s t os (peer.Bytes offset cause) sound formed never = absurd never
+untaken_later s t os (peer.Op member verdict) sound formed r =
+    let all : AllFormed (r.before ++ r.op ∷ r.behind) = subst AllFormed r.parts formed in
+    (taking_in_keeps_histories s t r.before sound (formed_front r.before (r.op ∷ r.behind) all) r.taken).1
+untaken_later s t os peer.Memory sound formed w =
+    let all : AllFormed (w.before ++ w.behind) = subst AllFormed w.parts formed in
+    let front = taking_in_keeps_histories s w.at w.before sound (formed_front w.before w.behind all) w.taken in
+    later_on s w.at t front.1 (later_before w.at t w.behind front.0 (λ o at. all o (Contains-append_right w.before w.behind o at)) w.reached)
