@@ -27,14 +27,20 @@ const A: &str = "000000110100000000010000000000000061000000";
 /// The frame of insert 0.2: `b` at place 1, with 0.1 as context.
 const B: &str = "0000001601000000000200000001000000620100000000010000";
 
+/// The frame of insert 1.1: `p` at place 0, with an empty context.
+const P: &str = "000000110101000000010000000000000070000000";
+
+/// The frame of insert 2.1: `q` at place 0, with an empty context.
+const Q: &str = "000000110102000000010000000000000071000000";
+
 /// Another insert 0.1: `b` at place 0.
 const FORGED: &str = "000000110100000000010000000000000062000000";
 
 /// The front of a frame.
 const CUT: &str = "0000001101000000000100000000000000610000";
 
-/// The bytes of a log that is spelled in letters: `h` the header, `a` and `b` the frames of these inserts, `f` that of
-/// another operation of the first name, `c` one that is cut.
+/// The bytes of a log that is spelled in letters: `h` the header, `a`, `b`, `p` and `q` the frames of these inserts, `f` that
+/// of another operation of the first name, `c` one that is cut.
 fn bytes_of(alloc: Global, letters: &str) -> Result<Vec<u8>, Fail> {
     let mut bytes = Vec::new(alloc);
     for letter in letters.chars() {
@@ -42,6 +48,8 @@ fn bytes_of(alloc: Global, letters: &str) -> Result<Vec<u8>, Fail> {
             'h' => HEADER,
             'a' => A,
             'b' => B,
+            'p' => P,
+            'q' => Q,
             'f' => FORGED,
             _ => CUT,
         };
@@ -147,6 +155,11 @@ fn other_words_read_nothing(rt: HostRuntime) -> Result<(), Fail> {
         "gen 0 1 0",
         "gen 0 1 65",
         "gen 18446744073709551616 0 1",
+        "explain",
+        "explain 0.0",
+        "explain 0.1/0",
+        "explain 0.1/65536",
+        "explain 0.1 0.2",
     ] {
         let (ended, held) = called(rt.alloc(), words, b"sites 1\nshow 0\n", 8, &[0], &[])?;
         assert_eq!(rt; ended, Status::Words, "{words}");
@@ -235,6 +248,44 @@ fn a_log_is_shown_or_refused(rt: HostRuntime) -> Result<(), Fail> {
         let (ended, held) = called(alloc, "show", &log, 16, &[], &[])?;
         assert_eq!(rt; ended, status, "{why}");
         assert_eq!(rt; held.as_slice(), reply.as_bytes(), "{why}");
+    }
+    Ok(())
+}
+
+#[test]
+fn a_member_is_explained_or_refused(rt: HostRuntime) -> Result<(), Fail> {
+    let alloc = rt.alloc();
+    let cases: [(&str, &str, Status, &str); 4] = [
+        (
+            "explain 2.1",
+            "hpq",
+            Status::Done,
+            "1 base 2.1 ins 0 U+0071\n2 base 1.1 ins 0 U+0070\n3 step 1 2 2.1 ins 1 U+0071\n",
+        ),
+        (
+            "explain 3.1",
+            "hpq",
+            Status::Refused,
+            "refused unknown 3.1\n",
+        ),
+        (
+            "explain 0.1/1",
+            "hba",
+            Status::Refused,
+            "refused unknown 0.1/1\n",
+        ),
+        (
+            "explain 0.1",
+            "haf",
+            Status::Refused,
+            "refused log op 29 forged 0.1\n",
+        ),
+    ];
+    for (words, pieces, status, reply) in cases {
+        let log = bytes_of(alloc, pieces)?;
+        let (ended, held) = called(alloc, words, &log, 16, &[], &[])?;
+        assert_eq!(rt; ended, status, "{words}");
+        assert_eq!(rt; held.as_slice(), reply.as_bytes(), "{words}");
     }
     Ok(())
 }

@@ -1,6 +1,7 @@
 //! Every row of the table of lines, and what is no row.
 
-use crate::{LONGEST, Line, LineBad, each_line_has_a_spelling, parse_line};
+use crate::{LONGEST, Line, LineBad, each_line_has_a_spelling, parse_line, parse_member};
+use op_name::Member;
 use std::alloc::Global;
 
 /// The word of the line, with two of its numbers: the site or the number of sites; the place, the message or the
@@ -129,6 +130,35 @@ fn characters_names_and_bytes(rt: HostRuntime) -> Result<(), LineBad> {
         assert!(rt; false, "a line of bytes");
     }
     Ok(())
+}
+
+/// The site, the number and the generation of the member that the word spells, 0 for an original.
+fn member(word: &str) -> Option<(u16, u32, u16)> {
+    match parse_member(word)? {
+        Member::Original(name) => Some((name.site, name.number, 0)),
+        Member::Group(name, generation) => Some((name.site, name.number, generation)),
+    }
+}
+
+#[test]
+fn members(rt: HostRuntime) {
+    let cases: [(&str, Option<(u16, u32, u16)>); 12] = [
+        ("0.1", Some((0, 1, 0))),
+        ("63.1000000", Some((63, 1_000_000, 0))),
+        ("12.345/1", Some((12, 345, 1))),
+        ("0.1/65535", Some((0, 1, 65_535))),
+        ("0.1/0", None),
+        ("0.1/65536", None),
+        ("0.1/01", None),
+        ("0.1/", None),
+        ("0.1/1/1", None),
+        ("64.1/1", None),
+        ("/1", None),
+        ("", None),
+    ];
+    for (word, wanted) in cases {
+        assert!(rt; member(word) == wanted, "{word}");
+    }
 }
 
 fn comment(alloc: Global, len: usize) -> Result<Vec<u8>, LineBad> {

@@ -4,14 +4,15 @@ ghost use Rattle.std.specs.Prelude.{IfOk};
 ghost use Rattle.op_name.specs.Members.{IsMember};
 
 use crate::{
-    Event, Refusal, local_line, op_line, raw_bad_line, raw_more_line, refused_line, shown_lines,
-    state_line, verdict_line,
+    Event, Refusal, base_line, local_line, op_line, put_form, raw_bad_line, raw_more_line,
+    refused_line, shown_lines, state_line, step_line, verdict_line,
 };
 use context_diff::Op;
 use context_vector::Vector;
 use cot_site::{Local, Verdict};
 use op_name::{Member, Memory, Name};
 use std::alloc::Global;
+use ttf_form::{Cover, Form, Ins, Mark};
 
 #[test]
 fn refused_lines(rt: HostRuntime) -> Result<(), Memory> {
@@ -278,6 +279,48 @@ fn raw_lines(rt: HostRuntime) -> Result<(), Memory> {
     assert!(rt;
         out.as_slice()
             == "raw 0 bad char 14\nraw 0 more 21\nraw 0 bad own 6\nraw 0 bad toolong 0\n".as_bytes()
+    );
+    Ok(())
+}
+
+/// The form of the insert 0.1 of a character.
+fn ins(place: u32, ch: char) -> Result<Form, Memory> {
+    let name = name(0, 1)?;
+    Ok(Form::Ins(Ins {
+        place,
+        site: 0,
+        ch,
+        name,
+    }))
+}
+
+#[test]
+fn forms(rt: HostRuntime) -> Result<(), Memory> {
+    let cases: [(char, &str); 6] = [
+        ('\n', "ins 7 U+000A"),
+        ('q', "ins 7 U+0071"),
+        ('\u{ffff}', "ins 7 U+FFFF"),
+        ('\u{1f600}', "ins 7 U+1F600"),
+        ('\u{fffff}', "ins 7 U+FFFFF"),
+        ('\u{10ffff}', "ins 7 U+10FFFF"),
+    ];
+    for (ch, wanted) in cases {
+        let mut out = Vec::new(rt.alloc());
+        put_form(&ins(7, ch)?, &mut out)?;
+        assert!(rt; out.as_slice() == wanted.as_bytes(), "{wanted}");
+    }
+    Ok(())
+}
+
+#[test]
+fn explained_lines(rt: HostRuntime) -> Result<(), Memory> {
+    let mut out = Vec::new(rt.alloc());
+    base_line(1, member(2, 1, 0)?, &ins(0, 'q')?, &mut out)?;
+    let mark = Mark::Own { generation: 2 };
+    let cover = Form::Cover(Cover { place: 10, mark });
+    step_line(12, 1, 11, member(2, 1, 2)?, &cover, &mut out)?;
+    assert!(rt;
+        out.as_slice() == b"1 base 2.1 ins 0 U+0071\n12 step 1 11 2.1/2 cover 10\n".as_slice()
     );
     Ok(())
 }
