@@ -4,10 +4,11 @@
 //! agree, that is, know no name by different contents, each takes in all that it lacks, and both then have the join.
 //!
 //! An exchange is three messages. `measure` says of the bytes of one how long it is, as far as they tell, and a
-//! `MessageReader` does so as they come in. `offer` writes the first message and `answer` the second.
-//! The laws over whole exchanges speak of what closing and finishing one mean; no call does either yet.
+//! `MessageReader` does so as they come in. `offer` writes the joiner's first message, and `answer` the server's second one;
+//! `close` takes that in at the joiner and writes the third, which `finish` takes in at the server.
 #![tactic(auto)]
 
+mod closing;
 mod lacking;
 mod laws;
 mod measuring;
@@ -15,8 +16,10 @@ mod messages;
 mod offering;
 mod peer;
 mod reader;
+mod receiving;
 mod stages;
 
+pub use closing::{close, finish};
 pub use laws::{
     agreeing_sites_are_not_refused, agreeing_sites_meet, any_exchanges_meet, both_sides_are_joined,
     both_sides_take_all, equal_members_are_alike, joins_are_idempotent, joins_are_valid,
