@@ -8,22 +8,21 @@ use Rattle.op_name.specs.NameData.{NameData}
 use Rattle.op_name.specs.declared.member.Member.{Member}
 use Rattle.op_name.specs.declared.member.Member.TheVariants.{Original, Group}
 use Rattle.op_name.specs.Members.{member_eq, IsMember}
-use Rattle.context_vector.specs.Contexts.{ContextData, Within, AreCounts, count_in, entry_in, raised, count_of, has, empty}
-use Rattle.context_diff.specs.Operations.{OpData, inserting, deleting, undoing, member_of, context_of, is_insert, IsWellFormed}
+use Rattle.context_vector.specs.Contexts.{ContextData, Within, AreCounts, count_in, entry_in, raised, count_of, has}
+use Rattle.context_diff.specs.Operations.{OpData, inserting, deleting, undoing, member_of, is_insert, IsWellFormed}
 use Rattle.context_diff.specs.Histories.{is_known, members_in, context_of_all, inserts_in, LacksNothing, IsNext, IsValid}
 use Rattle.op_name.specs.contracts.member.MemberPartialEq.TheImpl.{eq-value}
 use Rattle.context_diff.specs.Ops.{data_of}
-use Rattle.context_diff.specs.Books.{kept_op, kept_notes}
-use Rattle.context_diff.specs.Code.Kept.{ops_in, AreKept, IsBook, notes, notes_of}
-use Rattle.context_diff.specs.Code.Counting.{inserts_of, inserts_listed, inserts_shared, inserts_among}
-use Rattle.context_diff.proofs.Inserts.{inserts_all, inserts_in_on, none_bit, inserts_of_new, inserts_by_site, inserts_by_shared, inserts_at_most, no_inserts}
+use Rattle.context_diff.specs.Books.{kept_op, kept_inserts}
+use Rattle.context_diff.specs.Code.Kept.{ops_in, AreKept, IsBook, inserts_up_to}
+use Rattle.context_diff.specs.Code.Counting.{inserts_of, inserts_listed}
+use Rattle.context_diff.proofs.Inserts.{inserts_of_new, inserts_by_site, inserts_at_most, no_inserts}
 use Rattle.context_diff.specs.declared.book.Kept.{Kept}
 use Rattle.context_vector.specs.Vectors.{IsLastMember}
 use Rattle.context_diff.proofs.Names.{member_same, member_itself, name_itself}
-use Rattle.context_diff.proofs.Raising.{count_put, entry_put, has_original, has_number, has_empty}
+use Rattle.context_diff.proofs.Raising.{count_put, entry_put, has_original}
 use Rattle.std.proofs.lemmas.Bool.{eq-eqb}
-use Rattle.context_diff.proofs.Known.{known_member, context_behind, context_here}
-use Rattle.context_diff.specs.Bases.{original_context}
+use Rattle.context_diff.proofs.Known.{known_member}
 use Rattle.context_diff.proofs.Derived.{derived_eq}
 use Rattle.context_diff.proofs.Complete.{complete, next_member}
 use Rattle.context_diff.proofs.Kept.{found_none, found_some, kept_at, kept_last, book_pop}
@@ -33,14 +32,14 @@ pub record FindAnswer (es : List (Member × Kept)) (m : Member) (r : Option (Bor
   pub none : IsNone r ↔ (is_known (ops_in kept_op es) m ≡ false)
   pub there : IfSome r (λ k. Contains (ops_in kept_op es) (data_of k.now.op))
   pub is : IfSome r (λ k. member_of (data_of k.now.op) ≡ m)
-  pub count : IfSome r (λ k. kept_notes k.now ≡ notes_of (ops_in kept_op es) m)
+  pub count : IfSome r (λ k. kept_inserts k.now ≡ inserts_up_to (ops_in kept_op es) m)
 
-pub find_answer : (es : List (Member × Kept)) (have : ContextData) → IsBook kept_op kept_notes es have → (m : Member) (r : Option (Bor Kept)) → option_copied r ≡ lookup (eq-value.it m) es → FindAnswer es m r
+pub find_answer : (es : List (Member × Kept)) (have : ContextData) → IsBook kept_op kept_inserts es have → (m : Member) (r : Option (Bor Kept)) → option_copied r ≡ lookup (eq-value.it m) es → FindAnswer es m r
 find_answer es have book m None found =
-    let unknown = found_none kept_op kept_notes (ops_in kept_op es) es book.kept m (eq-value.it m) (derived_eq m) (sym found) in
+    let unknown = found_none kept_op kept_inserts (ops_in kept_op es) es book.kept m (eq-value.it m) (derived_eq m) (sym found) in
     record { none = (λ e. unknown, λ e. refl); there = tt; is = tt; count = tt }
 find_answer es have book m (Some k) found =
-    let at = found_some kept_op kept_notes (ops_in kept_op es) es book.kept m (eq-value.it m) (derived_eq m) k.now (sym found) in
+    let at = found_some kept_op kept_inserts (ops_in kept_op es) es book.kept m (eq-value.it m) (derived_eq m) k.now (sym found) in
     let known : is_known (ops_in kept_op es) m ≡ true = ap (is_known (ops_in kept_op es)) (sym at.is) ∙ known_member (ops_in kept_op es) (kept_op k.now) at.there in
     record {
       none = (λ e. absurd (true≢false e), λ e. absurd (false≢true (sym e ∙ known)));
@@ -75,11 +74,11 @@ key_none test (e ∷ es) none =
     ]
 
 -- an entry that was read by its place
-pub entry_read : (es : List (Member × Kept)) (have : ContextData) → IsBook kept_op kept_notes es have → (i : ℕ) (r : Option (Bor Member × Bor Kept)) (e : Bor Member × Bor Kept) → option_map (λ p. (p.0.now, p.1.now)) r ≡ slice_get es i → r ≡ Some e
+pub entry_read : (es : List (Member × Kept)) (have : ContextData) → IsBook kept_op kept_inserts es have → (i : ℕ) (r : Option (Bor Member × Bor Kept)) (e : Bor Member × Bor Kept) → option_map (λ p. (p.0.now, p.1.now)) r ≡ slice_get es i → r ≡ Some e
     → (slice_get (ops_in kept_op es) i ≡ Some (data_of e.1.now.op)) × (slice_get (members_in (ops_in kept_op es)) i ≡ Some e.0.now)
 entry_read es have book i r e read some =
     let at : slice_get es i ≡ Some (e.0.now, e.1.now) = sym read ∙ ap (option_map (λ (p : Bor Member × Bor Kept). (p.0.now, p.1.now))) some in
-    kept_at kept_op kept_notes (ops_in kept_op es) es book.kept i (e.0.now, e.1.now) at
+    kept_at kept_op kept_inserts (ops_in kept_op es) es book.kept i (e.0.now, e.1.now) at
 
 pub entry_past : (es : List (Member × Kept)) (i : ℕ) (r : Option (Bor Member × Bor Kept)) → option_map (λ p. (p.0.now, p.1.now)) r ≡ slice_get es i → r ≡ None
     → (slice_get (ops_in kept_op es) i ≡ None) × (slice_get (members_in (ops_in kept_op es)) i ≡ None)
@@ -87,23 +86,23 @@ entry_past es i r read none =
     entry_none es i (sym read ∙ ap (option_map (λ (p : Bor Member × Bor Kept). (p.0.now, p.1.now))) none)
 
 -- the place that was found for a member
-pub place_read : (es : List (Member × Kept)) (have : ContextData) → IsBook kept_op kept_notes es have → (m : Member) (r : Option (ℕ × Bor Member × Bor Kept)) (e : ℕ × Bor Member × Bor Kept)
+pub place_read : (es : List (Member × Kept)) (have : ContextData) → IsBook kept_op kept_inserts es have → (m : Member) (r : Option (ℕ × Bor Member × Bor Kept)) (e : ℕ × Bor Member × Bor Kept)
     → option_map (λ p. p.1.now) r ≡ lookup_key (eq-value.it m) es → slice_get es e.0 ≡ Some (e.1.now, e.2.now) → r ≡ Some e → slice_get (members_in (ops_in kept_op es)) e.0 ≡ Some m
 place_read es have book m r e key at some =
     let found : lookup_key (eq-value.it m) es ≡ Some e.1.now = sym key ∙ ap (option_map (λ (p : ℕ × Bor Member × Bor Kept). p.1.now)) some in
     let is : m ≡ e.1.now = member_same m e.1.now (sym (derived_eq m e.1.now) ∙ key_found (eq-value.it m) es e.1.now found) in
-    (kept_at kept_op kept_notes (ops_in kept_op es) es book.kept e.0 (e.1.now, e.2.now) at).1 ∙ ap (λ (x : Member). Some x) (sym is)
+    (kept_at kept_op kept_inserts (ops_in kept_op es) es book.kept e.0 (e.1.now, e.2.now) at).1 ∙ ap (λ (x : Member). Some x) (sym is)
 
-pub place_missing : (es : List (Member × Kept)) (have : ContextData) → IsBook kept_op kept_notes es have → (m : Member) (r : Option (ℕ × Bor Member × Bor Kept)) → option_map (λ p. p.1.now) r ≡ lookup_key (eq-value.it m) es → r ≡ None → is_known (ops_in kept_op es) m ≡ false
+pub place_missing : (es : List (Member × Kept)) (have : ContextData) → IsBook kept_op kept_inserts es have → (m : Member) (r : Option (ℕ × Bor Member × Bor Kept)) → option_map (λ p. p.1.now) r ≡ lookup_key (eq-value.it m) es → r ≡ None → is_known (ops_in kept_op es) m ≡ false
 place_missing es have book m r key none =
-    found_none kept_op kept_notes (ops_in kept_op es) es book.kept m (eq-value.it m) (derived_eq m)
+    found_none kept_op kept_inserts (ops_in kept_op es) es book.kept m (eq-value.it m) (derived_eq m)
     (key_none (eq-value.it m) es (sym key ∙ ap (option_map (λ (p : ℕ × Bor Member × Bor Kept). p.1.now)) none))
 
 -- the last operation of a book
-pub pop_member : (es : List (Member × Kept)) (have : ContextData) (e : Member × Kept) → IsBook kept_op kept_notes (es ++ e ∷ []) have → IsMember e.0
+pub pop_member : (es : List (Member × Kept)) (have : ContextData) (e : Member × Kept) → IsBook kept_op kept_inserts (es ++ e ∷ []) have → IsMember e.0
 pop_member es have e book =
-    let parts = book_pop kept_op kept_notes es have e book in
-    subst IsMember (sym (kept_last kept_op kept_notes (ops_in kept_op (es ++ e ∷ [])) es e book.kept)) (formed_member (kept_op e.1) parts.1.formed)
+    let parts = book_pop kept_op kept_inserts es have e book in
+    subst IsMember (sym (kept_last kept_op kept_inserts (ops_in kept_op (es ++ e ∷ [])) es e book.kept)) (formed_member (kept_op e.1) parts.1.formed)
   where
     formed_member : (o : OpData) → IsWellFormed o → IsMember (member_of o)
     formed_member (inserting n p ch c) f = tt
@@ -111,13 +110,13 @@ pop_member es have e book =
     formed_member (undoing a t g c) f = f.in_range.2
 
 -- it is the last of its site or its original
-pub pop_last : (es : List (Member × Kept)) (have : ContextData) (e : Member × Kept) → IsBook kept_op kept_notes (es ++ e ∷ []) have → IsLastMember have e.0
+pub pop_last : (es : List (Member × Kept)) (have : ContextData) (e : Member × Kept) → IsBook kept_op kept_inserts (es ++ e ∷ []) have → IsLastMember have e.0
 pop_last es have e book =
     let h = ops_in kept_op es in
-    let parts = book_pop kept_op kept_notes es have e book in
+    let parts = book_pop kept_op kept_inserts es have e book in
     let w = complete h parts.0.valid in
     let next = next_member h (context_of_all h) (kept_op e.1) w.holds parts.1 in
-    let key = kept_last kept_op kept_notes (ops_in kept_op (es ++ e ∷ [])) es e book.kept in
+    let key = kept_last kept_op kept_inserts (ops_in kept_op (es ++ e ∷ [])) es e book.kept in
     subst (λ (c : ContextData). IsLastMember c e.0) (sym parts.2) (subst (λ (m : Member). IsLastMember (raised (context_of_all h) (member_of (kept_op e.1))) m) (sym key) (raised_last (context_of_all h) (member_of (kept_op e.1))))
   where
     raised_last : (c : ContextData) (m : Member) → IsLastMember (raised c m) m
@@ -125,7 +124,7 @@ pop_last es have e book =
     raised_last c (Group n g) = sym (entry_put n g c.entries n ∙ ap (λ b. if b then g else entry_in c.entries n) (name_itself n))
 
 -- a member that a book hasn't is found at no key
-pub absent : (es : List (Member × Kept)) (h : List OpData) → AreKept kept_op kept_notes h es → (m : Member) → is_known (ops_in kept_op es) m ≡ false → lookup (eq-value.it m) es ≡ None
+pub absent : (es : List (Member × Kept)) (h : List OpData) → AreKept kept_op kept_inserts h es → (m : Member) → is_known (ops_in kept_op es) m ≡ false → lookup (eq-value.it m) es ≡ None
 absent [] h kept m new = refl
 absent (e ∷ es) h kept m new =
     let parts = or_parts (member_eq (member_of (kept_op e.1)) m) (is_known (ops_in kept_op es) m) new in
@@ -138,17 +137,14 @@ absent (e ∷ es) h kept m new =
       | false ↦ λ f. refl
     ] refl
 
--- what is noted beside a next original: the inserts before it, and itself if it is one; and those that it was made after
-pub noted_new : (h : List OpData) (o : OpData) (n : NameData) → IsNext h o → member_of o ≡ Original n → 1 ≤ n.number → notes (inserts_of h n.site (n.number - 1) + (if is_insert o then 1 else 0)) (inserts_in h (context_of o)) ≡ notes_of (h ++ o ∷ []) (member_of o)
+-- what is noted beside a next original: the inserts before it, and itself if it is one
+pub noted_new : (h : List OpData) (o : OpData) (n : NameData) → IsNext h o → member_of o ≡ Original n → 1 ≤ n.number → inserts_of h n.site (n.number - 1) + (if is_insert o then 1 else 0) ≡ inserts_up_to (h ++ o ∷ []) (member_of o)
 noted_new h o n next is low =
     let new : is_known h (Original n) ≡ false = ap (is_known h) (sym is) ∙ next.new in
-    let inserts = inserts_of_new h o n (n.number - 1) is new (omega arith) in
-    let context : original_context (h ++ o ∷ []) n ≡ context_of o = context_behind h (o ∷ []) n new ∙ context_here o [] n is in
-    let cells : inserts_in (h ++ o ∷ []) (original_context (h ++ o ∷ []) n) ≡ inserts_in h (context_of o) = ap (inserts_in (h ++ o ∷ [])) context ∙ inserts_in_on h o (context_of o) next.new next.ready in
-    sym (ap (notes_of (h ++ o ∷ [])) is ∙ (λ i. notes (inserts i) (cells i)))
+    sym (ap (inserts_up_to (h ++ o ∷ [])) is ∙ inserts_of_new h o n (n.number - 1) is new (omega arith))
 
-pub noted_group : (h : List OpData) (o : OpData) (t : NameData) (g : ℕ) → member_of o ≡ Group t g → notes_of (h ++ o ∷ []) (member_of o) ≡ notes 0 0
-noted_group h o t g is = ap (notes_of (h ++ o ∷ [])) is
+pub noted_group : (h : List OpData) (o : OpData) (t : NameData) (g : ℕ) → member_of o ≡ Group t g → inserts_up_to (h ++ o ∷ []) (member_of o) ≡ 0
+noted_group h o t g is = ap (inserts_up_to (h ++ o ∷ [])) is
 
 -- the original before a next one is there
 pub before_known : (h : List OpData) (o : OpData) (n : NameData) → IsNext h o → member_of o ≡ Original n → 1 < n.number → is_known h (Original (record { site = n.site; number = n.number - 1 })) ≡ true
@@ -192,18 +188,6 @@ listed_bound h v valid are i =
 pub listed_all : (h : List OpData) (v : ContextData) → IsValid h → AreCounts 0 v.counts → (i : ℕ) → length v.counts ≤ i → inserts_listed h (take i v.counts) ≡ inserts_in h v
 listed_all h v valid are i past = ap (inserts_listed h) (take_all i v.counts past) ∙ inserts_by_site h v are (complete h valid).formed
 
--- the same of the inserts that a context within the vector shares with it
-pub shared_more : (h : List OpData) (c : ContextData) (ps : List (ℕ × ℕ)) (i : ℕ) (p : ℕ × ℕ) → slice_get ps i ≡ Some p → inserts_shared h c (take (suc i) ps) ≡ inserts_shared h c (take i ps) + inserts_of h p.0 (count_of c p.0)
-shared_more h c [] i p at = let none : None ≡ Some p = at in cc
-shared_more h c (q ∷ qs) zero p at =
-    let is : q ≡ p = cc in
-    let one : inserts_of h q.0 (count_of c q.0) ≡ inserts_of h p.0 (count_of c p.0) = ap (λ (x : ℕ × ℕ). inserts_of h x.0 (count_of c x.0)) is in
-    omega arith
-shared_more h c (q ∷ qs) (suc i) p at = let rest = shared_more h c qs i p at in omega arith
-
-pub shared_all : (h : List OpData) (c v : ContextData) → IsValid h → AreCounts 0 v.counts → Within c v → (i : ℕ) → length v.counts ≤ i → inserts_shared h c (take i v.counts) ≡ inserts_in h c
-shared_all h c v valid are within i past = ap (inserts_shared h c) (take_all i v.counts past) ∙ inserts_by_shared h c v are within (complete h valid).formed
-
 pub not_past : {A : Type 0} (xs : List A) (i : ℕ) → i < length xs → slice_get xs i ≡ None → ⊥
 not_past [] i less none = omega arith
 not_past (x ∷ xs) zero less none = cc
@@ -217,27 +201,3 @@ insert_entry-absent eq m k (e ∷ es) none =
       | inl passes ↦ let here : Some e.1 ≡ None = rw passes at none in cc
       | inr fails ↦ rw fails (ap (λ ds. e ∷ ds) (insert_entry-absent eq m k es (rw fails at none)))
     ]
-
--- the number of inserts of a book is that of its members
-pub inserts_of_book : (es : List (Member × Kept)) (have : ContextData) → IsBook kept_op kept_notes es have → inserts_in (ops_in kept_op es) have ≡ inserts_among (ops_in kept_op es)
-inserts_of_book es have book =
-    let h = ops_in kept_op es in
-    inserts_all h have (λ o there. ap (λ (c : ContextData). has c (member_of o)) book.members ∙ ((complete h book.valid).holds (member_of o) ∙ known_member h o there))
-
--- nothing has no inserts
-pub inserts_of_nothing : (h : List OpData) → inserts_in h empty ≡ 0
-inserts_of_nothing [] = refl
-inserts_of_nothing (o ∷ os) =
-    let here = none_bit (is_insert o) (has empty (member_of o)) (has_empty (member_of o)) in
-    let rest = inserts_of_nothing os in
-    omega (arith, here, rest)
-
-pub nothing_within : (v : ContextData) → Within empty v
-nothing_within v m there = absurd (false≢true (sym (has_empty m) ∙ there))
-
--- an original before one that is there is there
-pub earlier_known : (h : List OpData) → IsValid h → (n : NameData) → is_known h (Original n) ≡ true → (k : ℕ) → 1 ≤ k → k ≤ n.number → is_known h (Original (record { site = n.site; number = k })) ≡ true
-earlier_known h valid n known k low high =
-    let w = complete h valid in
-    let most = (has_number (context_of_all h) n (w.holds (Original n) ∙ known)).1 in
-    sym (w.holds (Original (record { site = n.site; number = k }))) ∙ has_original (context_of_all h) (record { site = n.site; number = k }) low (omega (arith, most))

@@ -8,20 +8,19 @@ use Rattle.op_name.specs.Members.{member_eq}
 use Rattle.context_vector.specs.Contexts.{ContextData, raised}
 use Rattle.context_diff.specs.Operations.{OpData, member_of}
 use Rattle.context_diff.specs.Histories.{is_known, members_in, IsValid, IsNext, context_of_all}
-use Rattle.context_diff.specs.declared.book.Notes.{Notes}
-use Rattle.context_diff.specs.Code.Kept.{ops_in, AreKept, IsBook, notes_of}
+use Rattle.context_diff.specs.Code.Kept.{ops_in, AreKept, IsBook, inserts_up_to}
 use Rattle.context_diff.proofs.Names.{member_same, member_itself}
 use Rattle.context_diff.proofs.Known.{contains_here, contains_later}
 use Rattle.context_diff.proofs.Valid.{valid_push, valid_pop}
 use Rattle.context_diff.proofs.Complete.{complete, context_push}
-use Rattle.context_diff.proofs.Inserts.{notes_on}
+use Rattle.context_diff.proofs.Inserts.{up_to_on}
 
-module _ {X : Type 0} (op : X → OpData) (noted : X → Notes) where
+module _ {X : Type 0} (op : X → OpData) (noted : X → ℕ) where
   -- what a look-up found: an operation of the book that is the member, and its count
   pub record Found (h : List OpData) (es : List (Member × X)) (m : Member) (x : X) : Type 0 where
     pub there : Contains (ops_in op es) (op x)
     pub is : member_of (op x) ≡ m
-    pub count : noted x ≡ notes_of h m
+    pub count : noted x ≡ inserts_up_to h m
 
   pub found_none : (h : List OpData) (es : List (Member × X)) → AreKept op noted h es → (m : Member) (test : Member → Bool) → ((k : Member) → test k ≡ member_eq m k) → lookup test es ≡ None → is_known (ops_in op es) m ≡ false
   found_none h [] kept m test tells none = refl
@@ -51,7 +50,7 @@ module _ {X : Type 0} (op : X → OpData) (noted : X → Notes) where
             record {
               there = subst (λ (y : X). Contains (op e.1 ∷ ops_in op es) (op y)) one (contains_here (op e.1) (ops_in op es));
               is = ap (λ (y : X). member_of (op y)) (sym one) ∙ (sym kept.0 ∙ sym is);
-              count = ap noted (sym one) ∙ (kept.1 ∙ ap (notes_of h) (sym is));
+              count = ap noted (sym one) ∙ (kept.1 ∙ ap (inserts_up_to h) (sym is));
             }
         | inr fails ↦
             let rest : lookup test es ≡ Some x = sym (ap (λ b. cond b (Some e.1) (lookup test es)) fails) ∙ some in
@@ -74,7 +73,7 @@ module _ {X : Type 0} (op : X → OpData) (noted : X → Notes) where
   ops_length [] = refl
   ops_length (d ∷ ds) = ap suc (ops_length ds)
 
-  kept_join : (h : List OpData) (es : List (Member × X)) (e : Member × X) → AreKept op noted h es → e.0 ≡ member_of (op e.1) → noted e.1 ≡ notes_of h e.0 → AreKept op noted h (es ++ e ∷ [])
+  kept_join : (h : List OpData) (es : List (Member × X)) (e : Member × X) → AreKept op noted h es → e.0 ≡ member_of (op e.1) → noted e.1 ≡ inserts_up_to h e.0 → AreKept op noted h (es ++ e ∷ [])
   kept_join h [] e kept key count = (key, count, tt)
   kept_join h (d ∷ ds) e kept key count = (kept.0, kept.1, kept_join h ds e kept.2 key count)
 
@@ -87,7 +86,7 @@ module _ {X : Type 0} (op : X → OpData) (noted : X → Notes) where
   kept_last h (d ∷ ds) e kept = kept_last h ds e kept.2
 
   -- the counts are those of another history, which agrees on the members of the entries
-  kept_moved : (h k : List OpData) (es : List (Member × X)) → ((m : Member) → is_known (ops_in op es) m ≡ true → notes_of k m ≡ notes_of h m) → AreKept op noted h es → AreKept op noted k es
+  kept_moved : (h k : List OpData) (es : List (Member × X)) → ((m : Member) → is_known (ops_in op es) m ≡ true → inserts_up_to k m ≡ inserts_up_to h m) → AreKept op noted h es → AreKept op noted k es
   kept_moved h k [] same kept = tt
   kept_moved h k (d ∷ ds) same kept =
       let here : is_known (ops_in op (d ∷ ds)) d.0 ≡ true = first d.0 (member_of (op d.1)) (is_known (ops_in op ds) d.0) kept.0 in
@@ -101,11 +100,11 @@ module _ {X : Type 0} (op : X → OpData) (noted : X → Notes) where
 
   -- a next operation, noted, at the end of a book
   pub book_push : (es : List (Member × X)) (have : ContextData) (e : Member × X) → IsBook op noted es have → IsNext (ops_in op es) (op e.1) → e.0 ≡ member_of (op e.1)
-      → noted e.1 ≡ notes_of (ops_in op es ++ op e.1 ∷ []) e.0 → length es + 1 < 4294967296 → IsBook op noted (es ++ e ∷ []) (raised have e.0)
+      → noted e.1 ≡ inserts_up_to (ops_in op es ++ op e.1 ∷ []) e.0 → length es + 1 < 4294967296 → IsBook op noted (es ++ e ∷ []) (raised have e.0)
   book_push es have e book next key count short =
       let h = ops_in op es in
       let w = complete h book.valid in
-      let moved : AreKept op noted (h ++ op e.1 ∷ []) es = kept_moved h (h ++ op e.1 ∷ []) es (λ m known. notes_on h w (op e.1) next m known) book.kept in
+      let moved : AreKept op noted (h ++ op e.1 ∷ []) es = kept_moved h (h ++ op e.1 ∷ []) es (λ m known. up_to_on h w (op e.1) next m known) book.kept in
       record {
         valid = subst IsValid (sym (ops_push es e)) (valid_push h (op e.1) book.valid next);
         kept = subst (λ (k : List OpData). AreKept op noted k (es ++ e ∷ [])) (sym (ops_push es e)) (kept_join (h ++ op e.1 ∷ []) es e moved key count);
@@ -128,7 +127,7 @@ module _ {X : Type 0} (op : X → OpData) (noted : X → Notes) where
       let short : length es + 1 < 4294967296 = simp length-append at book.short in (
         record {
           valid = parts.0;
-          kept = kept_moved (h ++ op e.1 ∷ []) h es (λ m known. sym (notes_on h w (op e.1) parts.1 m known)) front;
+          kept = kept_moved (h ++ op e.1 ∷ []) h es (λ m known. sym (up_to_on h w (op e.1) parts.1 m known)) front;
           members = refl;
           short = omega arith;
         },

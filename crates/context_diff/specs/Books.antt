@@ -6,7 +6,6 @@ use Rattle.context_diff.specs.Histories.{CoversSite}
 use Rattle.context_vector.specs.Vectors.{VectorData, HasRoomFor}
 use Rattle.context_diff.specs.Ops.{data_of}
 use Rattle.context_diff.specs.declared.book.Kept.{Kept}
-use Rattle.context_diff.specs.declared.book.Notes.{Notes}
 
 pub record BookData : Type 0 where
   pub ops : List OpData
@@ -23,12 +22,12 @@ pub record HasRoom (b : BookData) (o : OpData) : Type 0 where
 abbrev pub HasRoomToPop : BookData → Type 0
 HasRoomToPop b = (h : List OpData) (o : OpData) → b.ops ≡ h ++ o ∷ [] → HasRoomFor b.have (member_of o)
 
--- the operation that is kept, and the notes beside it
+-- the operation that is kept, and the count beside it
 abbrev pub kept_op : Kept → OpData
 kept_op k = data_of k.op
 
-abbrev pub kept_notes : Kept → Notes
-kept_notes k = k.notes
+abbrev pub kept_inserts : Kept → ℕ
+kept_inserts k = k.inserts
 
 -- the least site whose last named original knows something that the context hasn't
 pub record IsFirstOpenSite (h : List OpData) (v : ContextData) (s : ℕ) : Type 0 where

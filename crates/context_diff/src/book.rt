@@ -1,18 +1,16 @@
 //! The book: a valid history, with its members and an index of them.
 
-ghost use Rattle.std.specs.Prelude.{◌≡◌, ◌↔◌, ◌+◌, ◌-◌, ◌<◌, ◌≤◌, ◌++◌, ◌∷◌, [], true, false, Contains, IsNone, OnOk, IfSome, if◌then◌else◌, length, option_map, slice_get};
+ghost use Rattle.std.specs.Prelude.{◌≡◌, ◌↔◌, ◌+◌, ◌-◌, ◌<◌, ◌≤◌, ◌++◌, ◌∷◌, [], true, false, Contains, IsNone, OnOk, IfSome, length, option_map, slice_get};
 ghost use Rattle.std.specs.Option.{option_to_list};
 ghost use Rattle.op_name.specs.declared.member.Member.TheVariants.{Original};
 ghost use Rattle.context_vector.specs.Contexts.{Within};
-ghost use Rattle.context_diff.specs.Operations.{is_insert, member_of};
+ghost use Rattle.context_diff.specs.Operations.{member_of};
 ghost use Rattle.context_diff.specs.Histories.{is_known, members_in, inserts_in, context_of_all, IsNext, IsValid};
 ghost use Rattle.context_diff.specs.Ops.{data_of};
-ghost use Rattle.context_diff.specs.Books.{HasRoom, HasRoomToPop, kept_notes};
-ghost use Rattle.context_diff.specs.Code.Kept.{notes_of};
+ghost use Rattle.context_diff.specs.Books.{HasRoom, HasRoomToPop, kept_inserts};
+ghost use Rattle.context_diff.specs.Code.Kept.{inserts_up_to};
 ghost use Rattle.context_diff.specs.Code.Counting.{inserts_of};
-ghost use Rattle.context_diff.specs.Code.ClosedParts.{IsPartOf};
 
-use crate::closed_part::{closed_part, count_near};
 use crate::op::Op;
 use context_vector::Vector;
 use indexmap::IndexMap;
@@ -23,20 +21,12 @@ use std::marker::Model;
 /// The greatest number of operations that a book holds.
 const OPS: usize = 4_294_967_295;
 
-// What is noted beside an operation; nothing beside an undo.
-#[derive(Clone, Copy)]
-pub struct Notes {
-    // Of an original: how many inserts its site made up to it.
-    inserts: u32,
-    // Of an original: how many inserts its context has.
-    pub(crate) cells: u32,
-}
-
 // An operation of a book, with what is noted beside it.
 #[derive(Drop)]
 pub struct Kept {
-    pub(crate) op: Op,
-    pub(crate) notes: Notes,
+    op: Op,
+    // Of an original: how many inserts its site made up to it. Of an undo: 0.
+    inserts: u32,
 }
 
 /// A valid history: operations in the order in which a site integrated them, each well formed, and next
@@ -48,22 +38,18 @@ pub struct Kept {
 pub struct Book {
     kept: IndexMap<Member, Kept>,
     have: Vector,
-    /// The number of inserts among the operations.
-    inserts: u32,
 }
 
 impl Model for Book {
-    ghost use Rattle.std.specs.Prelude.{◌≡◌};
     ghost use Rattle.indexmap.specs.IndexMap.{spare};
-    ghost use Rattle.context_diff.specs.Books.{BookData, kept_op, kept_notes};
+    ghost use Rattle.context_diff.specs.Books.{BookData, kept_op, kept_inserts};
     ghost use Rattle.context_diff.specs.Code.Kept.{ops_in, IsBook};
-    ghost use Rattle.context_diff.specs.Code.Counting.{inserts_among};
 
     ghost Value = { BookData };
 
     ghost view = { λ b. record { ops = ops_in kept_op b.kept.entries; have = b.have; spare = spare b.kept } };
 
-    ghost invariant = { λ b. IsBook kept_op kept_notes b.kept.entries b.have.set × (b.inserts ≡ inserts_among (ops_in kept_op b.kept.entries)) };
+    ghost invariant = { λ b. IsBook kept_op kept_inserts b.kept.entries b.have.set };
 }
 
 impl Book {
@@ -74,7 +60,6 @@ impl Book {
         Book {
             kept: IndexMap::new(alloc),
             have: Vector::new(alloc),
-            inserts: 0,
         }
     }
 
@@ -161,10 +146,9 @@ impl Book {
         ensures back { HasRoomToPop self.new }
     {
         let member = op.member();
-        let notes = self.notes_with(&op);
-        self.inserts += inserts_of(&op);
+        let inserts = self.inserts_with(&op);
         self.have.add_reserved(&member);
-        match self.kept.insert(member, Kept { op, notes }) {
+        match self.kept.insert(member, Kept { op, inserts }) {
             Ok(_) => {}
             Err(_) => unreachable!(),
         }
@@ -178,73 +162,28 @@ impl Book {
         ensures ops { self.old.ops ≡ self.new.ops ++ option_to_list (option_map data_of result) }
     {
         let (member, kept) = self.kept.pop()?;
-        self.inserts -= inserts_of(&kept.op);
         self.have.drop_last(&member);
         self.have.known();
         Some(kept.op)
     }
 
-    /// The number of inserts among the operations.
-    pub fn inserts(&self) -> u32
-        ensures { result ≡ inserts_in self.now.ops self.now.have.set }
-    {
-        self.inserts
-    }
-
-    /// The number of inserts among the originals of `v`, whose members the book has. It costs by the sites of which `v`
-    /// counts more than a context within it that the book knows.
+    /// The number of inserts among the originals of `v`, whose members the book has.
     pub fn inserts_in(&self, v: &Vector) -> u32
         requires { Within v.now.set self.now.have.set }
         ensures { result ≡ inserts_in self.now.ops v.now.set }
     {
-        match closed_part(self, v) {
-            Some(part) => self.inserts_from(part, v),
-            None => self.inserts_one_by_one(v),
-        }
-    }
-
-    // The same, from the number for a context within `v`.
-    fn inserts_from(&self, part: &Kept, v: &Vector) -> u32
-        requires part { IsPartOf self.now.ops v.now.set (data_of part.now.op) part.now.notes.cells }
-        requires there { Within v.now.set self.now.have.set }
-        ensures { result ≡ inserts_in self.now.ops v.now.set }
-    {
-        self.known();
-        let more = self.inserts_beyond(part.op.context(), v);
-        part.notes.cells + more
-    }
-
-    // The same, site by site.
-    fn inserts_one_by_one(&self, v: &Vector) -> u32
-        requires { Within v.now.set self.now.have.set }
-        ensures { result ≡ inserts_in self.now.ops v.now.set }
-    {
-        let nothing = Vector::new(*self.kept.allocator());
-        self.inserts_beyond(&nothing, v)
-    }
-
-    // The number of inserts among the originals of `v` that `part`, which lies within it, hasn't.
-    fn inserts_beyond(&self, part: &Vector, v: &Vector) -> u32
-        requires within { Within part.now.set v.now.set }
-        requires there { Within v.now.set self.now.have.set }
-        ensures { result + inserts_in self.now.ops part.now.set ≡ inserts_in self.now.ops v.now.set }
-    {
         v.known();
         self.known();
-        let mut more = 0;
+        let mut total = 0;
         for i in 0..v.sites() {
             if let Some(counted) = v.site_at(i) {
-                let had = count_near(part, i, counted.0);
-                more += self.inserts_after(
-                    had,
-                    &Name {
-                        site: counted.0,
-                        number: counted.1,
-                    },
-                );
+                total += self.inserts_up_to(&Name {
+                    site: counted.0,
+                    number: counted.1,
+                });
             }
         }
-        more
+        total
     }
 
     /// The place of the member in the order of integration, from 0; None exactly where the book lacks it.
@@ -269,11 +208,11 @@ impl Book {
     }
 
     // The operation that is the member, with what is noted beside it.
-    pub(crate) fn find(&self, m: &Member) -> Option<&Kept>
+    fn find(&self, m: &Member) -> Option<&Kept>
         ensures none { IsNone result ↔ (is_known self.now.ops m.now ≡ false) }
         ensures there { IfSome result (λ k. Contains self.now.ops (data_of k.now.op)) }
         ensures is { IfSome result (λ k. member_of (data_of k.now.op) ≡ m.now) }
-        ensures notes { IfSome result (λ k. kept_notes k.now ≡ notes_of self.now.ops m.now) }
+        ensures count { IfSome result (λ k. kept_inserts k.now ≡ inserts_up_to self.now.ops m.now) }
     {
         self.kept.get(m)
     }
@@ -284,49 +223,22 @@ impl Book {
         ensures { result ≡ inserts_of self.now.ops name.now.site name.now.number }
     {
         match self.find(&Member::Original(*name)) {
-            Some(kept) => kept.notes.inserts,
+            Some(kept) => kept.inserts,
             None => unreachable!(),
         }
     }
 
-    // How many inserts the name's site made after the first `had` of its originals up to the name, which the book has.
-    fn inserts_after(&self, had: u32, name: &Name) -> u32
-        requires known { is_known self.now.ops (Original name.now) ≡ true }
-        requires had { had ≤ name.now.number }
-        ensures { result + inserts_of self.now.ops name.now.site had ≡ inserts_of self.now.ops name.now.site name.now.number }
-    {
-        self.known();
-        name.known();
-        if had == name.number {
-            return 0;
-        }
-        let next = Name {
-            site: name.site,
-            number: had + 1,
-        };
-        self.inserts_up_to(name) - self.inserts_before(&next)
-    }
-
     // What is to be noted beside a next operation.
-    fn notes_with(&self, op: &Op) -> Notes
+    fn inserts_with(&self, op: &Op) -> u32
         requires next { IsNext self.now.ops (data_of op.now) }
         requires short { length self.now.ops + 1 < 4294967296 }
-        ensures { result ≡ notes_of (self.now.ops ++ data_of op.now ∷ []) (member_of (data_of op.now)) }
+        ensures { result ≡ inserts_up_to (self.now.ops ++ data_of op.now ∷ []) (member_of (data_of op.now)) }
     {
-        self.known();
         let Member::Original(name) = op.member() else {
-            return Notes {
-                inserts: 0,
-                cells: 0,
-            };
+            return 0;
         };
         let before = self.inserts_before(&name);
-        let cells = self.inserts_in(op.context());
-        let own = inserts_of(op);
-        Notes {
-            inserts: before + own,
-            cells,
-        }
+        if op.is_insert() { before + 1 } else { before }
     }
 
     // How many inserts the name's site made before the name; the book has the original before it.
@@ -346,12 +258,4 @@ impl Book {
             0
         }
     }
-}
-
-// 1 for an insert, 0 for another operation.
-fn inserts_of(op: &Op) -> u32
-    ensures number { result ≡ (if is_insert (data_of op.now) then 1 else 0) }
-    ensures few { result ≤ 1 }
-{
-    if op.is_insert() { 1 } else { 0 }
 }

@@ -1,45 +1,39 @@
 //! A closed context that a book has within another one: what is closed by it needs no second look.
 
-ghost use Rattle.std.specs.Prelude.{◌≡◌, ◌≤◌, ◌+◌, IfSome};
-ghost use Rattle.op_name.specs.declared.member.Member.TheVariants.{Original};
-ghost use Rattle.op_name.specs.Members.{member_eq};
+ghost use Rattle.std.specs.Prelude.{◌≡◌, true, Contains, IfSome};
 ghost use Rattle.context_vector.specs.Contexts.{count_of};
-ghost use Rattle.context_diff.specs.Operations.{member_of};
+ghost use Rattle.context_diff.specs.Operations.{is_original};
 ghost use Rattle.context_diff.specs.Ops.{data_of};
-ghost use Rattle.context_diff.specs.Code.ClosedParts.{author_of, IsPartOf};
+ghost use Rattle.context_diff.specs.Code.ClosedParts.{author_of, IsClosedPart};
 
-use crate::book::{Book, Kept};
+use crate::book::Book;
 use crate::op::Op;
 use context_vector::Vector;
-use op_name::{Member, Name};
+use op_name::Name;
 
-/// An operation of the book whose context is closed and lies within `v`, where one is found at once: the first original that
-/// `v` lacks of the author of the last operation, or that author's last one. Where many sites write at the same time, its
-/// context is what all of them knew.
-pub(crate) fn closed_part<'a>(book: &'a Book, v: &Vector) -> Option<&'a Kept>
-    ensures { IfSome result (λ k. IsPartOf book.now.ops v.now.set (data_of k.now.op) k.now.notes.cells) }
+/// A closed context of the book within `v`, where one is found at once: what the author of the last operation knew when it
+/// made the first original that `v` lacks, or its last one. Where many sites write at the same time, all of them knew this.
+pub(crate) fn closed_part<'a>(book: &'a Book, v: &Vector) -> Option<&'a Vector>
+    ensures { IfSome result (λ c. IsClosedPart book.now.ops v.now.set c.now.set) }
 {
     book.known();
-    let name = first_beyond(book, v)?;
-    let kept = book.find(&Member::Original(name))?;
-    if v.covers(kept.op.context()) {
-        Some(kept)
-    } else {
-        None
-    }
+    let op = first_beyond(book, v)?;
+    let part = op.context();
+    if v.covers(part) { Some(part) } else { None }
 }
 
-// The first original that `v` lacks of the author of the last operation, or that author's last one, if it has one.
-fn first_beyond(book: &Book, v: &Vector) -> Option<Name>
-    ensures { IfSome result (λ n. n.number ≤ count_of v.now.set n.site + 1) }
+// The first original that `v` lacks of the author of the last operation, or that author's last one.
+fn first_beyond<'a>(book: &'a Book, v: &Vector) -> Option<&'a Op>
+    ensures there { IfSome result (λ o. Contains book.now.ops (data_of o.now)) }
+    ensures original { IfSome result (λ o. is_original (data_of o.now) ≡ true) }
 {
     let last = book.len().checked_sub(1)?;
     let site = author(book.op(last)?);
     let number = book.have().count(site).min(v.count(site) + 1);
-    match Name::new(site, number) {
-        Ok(name) => Some(name),
-        Err(_) => None,
-    }
+    let Ok(name) = Name::new(site, number) else {
+        return None;
+    };
+    book.original(&name)
 }
 
 // The site that made the operation.
@@ -49,16 +43,6 @@ fn author(op: &Op) -> u16
     match op {
         Op::Insert { name, .. } | Op::Delete { name, .. } => name.site,
         Op::Undo { author, .. } => *author,
-    }
-}
-
-/// Whether the operation is the insert or delete of this name.
-pub(crate) fn is_named(op: &Op, name: &Name) -> bool
-    ensures { result ≡ member_eq (member_of (data_of op.now)) (Original name.now) }
-{
-    match op {
-        Op::Insert { name: own, .. } | Op::Delete { name: own, .. } => own == name,
-        Op::Undo { .. } => false,
     }
 }
 

@@ -7,11 +7,10 @@ ghost use Rattle.context_vector.specs.Contexts.{Within, has};
 ghost use Rattle.context_diff.specs.Histories.{is_known, IsClosed};
 ghost use Rattle.context_diff.specs.Bases.{base_has, base_context_of, original_context};
 ghost use Rattle.context_diff.specs.Books.{IsFirstOpenSite};
-ghost use Rattle.context_diff.specs.Ops.{data_of};
-ghost use Rattle.context_diff.specs.Code.ClosedParts.{IsPartOf};
+ghost use Rattle.context_diff.specs.Code.ClosedParts.{IsClosedPart};
 
-use crate::book::{Book, Kept};
-use crate::closed_part::{closed_part, count_near, is_named};
+use crate::book::Book;
+use crate::closed_part::{closed_part, count_near};
 use context_vector::Vector;
 use op_name::{Member, Memory, Name};
 use std::alloc::Global;
@@ -46,18 +45,14 @@ pub fn closed(book: &Book, v: &Vector) -> Option<u16>
 }
 
 // Whether `v` has all that the original of this name was made after, which is the last one in `v` of the site at the
-// place `i`. It has where the closed context within it is that of this original, or counts as many of the site.
-fn is_covered(book: &Book, v: &Vector, part: Option<&Kept>, i: u32, name: &Name) -> bool
+// place `i`. Where a closed context within `v` counts as many of the site, it has.
+fn is_covered(book: &Book, v: &Vector, part: Option<&Vector>, i: u32, name: &Name) -> bool
     requires known { is_known book.now.ops (Original name.now) ≡ true }
-    requires part { IfSome part (λ k. IsPartOf book.now.ops v.now.set (data_of k.now.op) k.now.notes.cells) }
+    requires part { IfSome part (λ c. IsClosedPart book.now.ops v.now.set c.now.set) }
     ensures { IsTrue result ↔ Within (original_context book.now.ops name.now) v.now.set }
 {
-    book.known();
-    if let Some(kept) = part {
-        if is_named(&kept.op, name) {
-            return true;
-        }
-        if count_near(kept.op.context(), i, name.site) == name.number {
+    if let Some(closed) = part {
+        if count_near(closed, i, name.site) == name.number {
             return true;
         }
     }

@@ -1,7 +1,6 @@
 -- How inserts are counted site by site.
 use Rattle.std.specs.Prelude.{ℕ, ◌+◌, Bool, false, List, [], ◌∷◌, ◌==◌, ◌&&◌, nat_le, if◌then◌else◌}
-use Rattle.context_vector.specs.Contexts.{ContextData, count_of}
-use Rattle.context_diff.specs.Operations.{OpData, inserting, deleting, undoing, is_insert}
+use Rattle.context_diff.specs.Operations.{OpData, inserting, deleting, undoing}
 
 -- an insert of the site, at most the k-th original of it
 abbrev pub is_insert_of : ℕ → ℕ → OpData → Bool
@@ -18,13 +17,3 @@ inserts_of (o ∷ os) s k = (if is_insert_of s k o then 1 else 0) + inserts_of o
 abbrev pub inserts_listed : List OpData → List (ℕ × ℕ) → ℕ
 inserts_listed h [] = 0
 inserts_listed h (p ∷ ps) = inserts_of h p.0 p.1 + inserts_listed h ps
-
--- the inserts of the sites of a list that a context counts
-abbrev pub inserts_shared : List OpData → ContextData → List (ℕ × ℕ) → ℕ
-inserts_shared h c [] = 0
-inserts_shared h c (p ∷ ps) = inserts_of h p.0 (count_of c p.0) + inserts_shared h c ps
-
--- the number of inserts of a history
-abbrev pub inserts_among : List OpData → ℕ
-inserts_among [] = 0
-inserts_among (o ∷ os) = (if is_insert o then 1 else 0) + inserts_among os

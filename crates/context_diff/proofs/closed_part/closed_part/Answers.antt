@@ -1,12 +1,15 @@
-use Rattle.std.proofs.Common.{subst}
-use Rattle.context_vector.specs.Contexts.{ContextData, Within}
+use Rattle.std.proofs.Common.{sym, subst}
+use Rattle.context_vector.specs.Contexts.{ContextData}
+use Rattle.context_diff.specs.Histories.{IsClosed}
 use Rattle.context_diff.specs.Ops.{data_of}
-use Rattle.context_diff.proofs.ClosedParts.{part_of}
+use Rattle.context_diff.proofs.Complete.{complete}
 use Rattle.context_diff.proofs.closed_part.closed_part.Goals as goal
 
 pub returns-then-covers : goal.returns-then-covers
 returns-then-covers c =
-    let k = c.in_ok-kept.kept.now in
-    let found = c.in_ok-kept.ensures in
-    let within = subst (λ (d : ContextData). Within d c.args.v.now.set) c.context.ensures (c.covers.ensures.0 c.if-covers.true) in
-    part_of c.args.book.now.ops c.known.ensures.valid c.args.v.now.set (data_of k.op) c.in_ok-name.name k.notes found.there found.is found.notes within
+    let h = c.args.book.now.ops in
+    let o = data_of c.in_ok-op.op.now in
+    record {
+      within = c.covers.ensures.0 c.if-covers.true;
+      closed = subst (λ (d : ContextData). IsClosed h d) (sym c.context-part.ensures) ((complete h c.known.ensures.valid).closed o c.in_ok-op.ensures.there c.in_ok-op.ensures.original);
+    }

@@ -1,5 +1,5 @@
 use Rattle.std.proofs.Common.{◌≡◌, ap, arith, length}
-use Rattle.context_diff.specs.Books.{BookData, kept_op, kept_notes}
+use Rattle.context_diff.specs.Books.{BookData, kept_op, kept_inserts}
 use Rattle.context_diff.specs.Code.Kept.{ops_in}
 use Rattle.context_diff.proofs.Kept.{ops_length}
 use Rattle.context_diff.proofs.book.Book.known.Goals as goal
@@ -8,4 +8,4 @@ pub returns-clause-short : goal.returns-clause-short
 returns-clause-short c =
     let ops : ops_in kept_op c.self.inside.kept.entries ≡ c.args.self.now.ops = ap (λ (b : BookData). b.ops) c.self.view_is in
     let size : length (ops_in kept_op c.self.inside.kept.entries) ≡ length c.args.self.now.ops = ap length ops in
-    omega (arith, ops_length kept_op kept_notes c.self.inside.kept.entries, c.self.invariant.0.short)
+    omega (arith, ops_length kept_op kept_inserts c.self.inside.kept.entries, c.self.invariant.short)

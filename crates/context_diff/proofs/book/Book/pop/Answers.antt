@@ -1,7 +1,7 @@
 use Rattle.std.proofs.Common.{◌≡◌, ◌+◌, List, [], ◌∷◌, ◌++◌, ap, sym, subst, ◌∙◌, arith, length}
 use Rattle.std.specs.Prelude.{Option, Some}
 use Rattle.op_name.specs.declared.member.Member.{Member}
-use Rattle.context_diff.specs.Books.{BookData, HasRoomToPop, kept_op, kept_notes}
+use Rattle.context_diff.specs.Books.{BookData, HasRoomToPop, kept_op, kept_inserts}
 use Rattle.context_vector.specs.Vectors.{HasRoomFor}
 use Rattle.context_diff.specs.Code.Kept.{ops_in, IsBook}
 use Rattle.context_diff.proofs.Kept.{ops_length}
@@ -12,8 +12,6 @@ use Rattle.context_vector.specs.Contexts.{ContextData}
 use Rattle.context_diff.specs.declared.book.Kept.{Kept}
 use Rattle.context_diff.proofs.Kept.{ops_push, book_pop, kept_last}
 use Rattle.context_diff.proofs.Books.{pop_member, pop_last}
-use Rattle.context_diff.specs.Code.Counting.{inserts_among}
-use Rattle.context_diff.proofs.Inserts.{among_push}
 use Rattle.context_diff.proofs.Members.{lowered_back}
 use Rattle.context_diff.proofs.book.Book.pop.Goals as goal
 
@@ -22,19 +20,19 @@ whole : (es ds : List (Member × Kept)) (r : Option (Member × Kept)) (e : Membe
 whole es ds r e p some = p ∙ ap (λ (x : Option (Member × Kept)). ds ++ option_to_list x) some
 
 -- the book before, over its entries
-before : (es ds : List (Member × Kept)) (have : ContextData) (r : Option (Member × Kept)) (e : Member × Kept) → IsBook kept_op kept_notes es have → es ≡ ds ++ option_to_list r → r ≡ Some e → IsBook kept_op kept_notes (ds ++ e ∷ []) have
-before es ds have r e book p some = subst (λ (xs : List (Member × Kept)). IsBook kept_op kept_notes xs have) (whole es ds r e p some) book
+before : (es ds : List (Member × Kept)) (have : ContextData) (r : Option (Member × Kept)) (e : Member × Kept) → IsBook kept_op kept_inserts es have → es ≡ ds ++ option_to_list r → r ≡ Some e → IsBook kept_op kept_inserts (ds ++ e ∷ []) have
+before es ds have r e book p some = subst (λ (xs : List (Member × Kept)). IsBook kept_op kept_inserts xs have) (whole es ds r e p some) book
 
 pub drop_last-requires-clause-member : goal.drop_last-requires-clause-member
 drop_last-requires-clause-member c =
     let e : Member × Kept = (c.in_ok-member.member, c.in_ok-member.kept) in
-    let book = before c.self.inside.kept.entries c.pop.new.self.entries c.self.inside.have.set c.pop.result e c.self.invariant.0 c.pop.ensures.entries c.in_ok-member.was in
+    let book = before c.self.inside.kept.entries c.pop.new.self.entries c.self.inside.have.set c.pop.result e c.self.invariant c.pop.ensures.entries c.in_ok-member.was in
     pop_member c.pop.new.self.entries c.self.inside.have.set e book
 
 pub drop_last-requires-clause-last : goal.drop_last-requires-clause-last
 drop_last-requires-clause-last c =
     let e : Member × Kept = (c.in_ok-member.member, c.in_ok-member.kept) in
-    let book = before c.self.inside.kept.entries c.pop.new.self.entries c.self.inside.have.set c.pop.result e c.self.invariant.0 c.pop.ensures.entries c.in_ok-member.was in
+    let book = before c.self.inside.kept.entries c.pop.new.self.entries c.self.inside.have.set c.pop.result e c.self.invariant c.pop.ensures.entries c.in_ok-member.was in
     pop_last c.pop.new.self.entries c.self.inside.have.set e book
 
 pub drop_last-requires-clause-room : goal.drop_last-requires-clause-room
@@ -42,33 +40,21 @@ drop_last-requires-clause-room c =
     let e : Member × Kept = (c.in_ok-member.member, c.in_ok-member.kept) in
     let es = c.pop.new.self.entries in
     let all = whole c.self.inside.kept.entries es c.pop.result e c.pop.ensures.entries c.in_ok-member.was in
-    let book = before c.self.inside.kept.entries es c.self.inside.have.set c.pop.result e c.self.invariant.0 c.pop.ensures.entries c.in_ok-member.was in
-    let key = kept_last kept_op kept_notes (ops_in kept_op (es ++ e ∷ [])) es e book.kept in
+    let book = before c.self.inside.kept.entries es c.self.inside.have.set c.pop.result e c.self.invariant c.pop.ensures.entries c.in_ok-member.was in
+    let key = kept_last kept_op kept_inserts (ops_in kept_op (es ++ e ∷ [])) es e book.kept in
     let roomy = subst HasRoomToPop (sym c.self.view_is) c.requires in
-    let room = roomy (ops_in kept_op es) (kept_op e.1) (ap (ops_in kept_op) all ∙ ops_push kept_op kept_notes es e) in
+    let room = roomy (ops_in kept_op es) (kept_op e.1) (ap (ops_in kept_op) all ∙ ops_push kept_op kept_inserts es e) in
     subst (λ (m : Member). HasRoomFor c.self.inside.have m) (sym key) room
-
-pub overflow_sub-self : goal.overflow_sub-self
-overflow_sub-self c =
-    let e : Member × Kept = (c.in_ok-member.member, c.in_ok-member.kept) in
-    let es = c.pop.new.self.entries in
-    let all = whole c.self.inside.kept.entries es c.pop.result e c.pop.ensures.entries c.in_ok-member.was in
-    let among = ap inserts_among (ap (ops_in kept_op) all ∙ ops_push kept_op kept_notes es e) ∙ among_push (ops_in kept_op es) (kept_op e.1) in
-    omega (arith, among, c.inserts_of.ensures.number, c.self.invariant.1)
 
 pub invariant_of-self-2 : goal.invariant_of-self-2
 invariant_of-self-2 c =
     let e : Member × Kept = (c.in_ok-member.member, c.in_ok-member.kept) in
     let es = c.pop.new.self.entries in
-    let book = before c.self.inside.kept.entries es c.self.inside.have.set c.pop.result e c.self.invariant.0 c.pop.ensures.entries c.in_ok-member.was in
-    let parts = book_pop kept_op kept_notes es c.self.inside.have.set e book in
-    let key = kept_last kept_op kept_notes (ops_in kept_op (es ++ e ∷ [])) es e book.kept in
+    let book = before c.self.inside.kept.entries es c.self.inside.have.set c.pop.result e c.self.invariant c.pop.ensures.entries c.in_ok-member.was in
+    let parts = book_pop kept_op kept_inserts es c.self.inside.have.set e book in
+    let key = kept_last kept_op kept_inserts (ops_in kept_op (es ++ e ∷ [])) es e book.kept in
     let back = lowered_back (ops_in kept_op es) (kept_op e.1) c.self.inside.have.set c.drop_last.new.self.set e.0 parts.0.valid parts.1 key parts.2 c.known.ensures c.drop_last.ensures.members in
-    let all = whole c.self.inside.kept.entries es c.pop.result e c.pop.ensures.entries c.in_ok-member.was in
-    let among = ap inserts_among (ap (ops_in kept_op) all ∙ ops_push kept_op kept_notes es e) ∙ among_push (ops_in kept_op es) (kept_op e.1) in (
-      subst (λ (d : ContextData). IsBook kept_op kept_notes es d) (sym back) parts.0,
-      omega (arith, among, c.inserts_of.ensures.number, c.self.invariant.1),
-    )
+    subst (λ (d : ContextData). IsBook kept_op kept_inserts es d) (sym back) parts.0
 
 pub returns-clause-none : goal.returns-clause-none
 returns-clause-none c =
@@ -76,7 +62,7 @@ returns-clause-none c =
     let es = c.pop.new.self.entries in
     let all = whole c.self.inside.kept.entries es c.pop.result e c.pop.ensures.entries c.in_ok-member.was in
     let ops = ap (λ (b : BookData). b.ops) c.self.view_is in
-    let size : length c.args.self.now.ops ≡ length es + 1 = ap length (sym ops) ∙ (ops_length kept_op kept_notes c.self.inside.kept.entries ∙ (ap length all ∙ simp length-append (omega arith))) in
+    let size : length c.args.self.now.ops ≡ length es + 1 = ap length (sym ops) ∙ (ops_length kept_op kept_inserts c.self.inside.kept.entries ∙ (ap length all ∙ simp length-append (omega arith))) in
     (λ no. absurd (true≢false no), λ none. absurd (omega arith))
 
 pub returns-clause-ops : goal.returns-clause-ops
@@ -85,4 +71,4 @@ returns-clause-ops c =
     let es = c.pop.new.self.entries in
     let all = whole c.self.inside.kept.entries es c.pop.result e c.pop.ensures.entries c.in_ok-member.was in
     let ops = ap (λ (b : BookData). b.ops) c.self.view_is in
-    sym ops ∙ (ap (ops_in kept_op) all ∙ ops_push kept_op kept_notes es e)
+    sym ops ∙ (ap (ops_in kept_op) all ∙ ops_push kept_op kept_inserts es e)

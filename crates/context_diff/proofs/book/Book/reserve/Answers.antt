@@ -2,7 +2,7 @@ use Rattle.std.proofs.Common.{◌≡◌, ◌+◌, ◌<◌, ap, subst, arith, len
 use Rattle.op_name.specs.declared.member.Member.{Member}
 use Rattle.context_diff.specs.Operations.{OpData, member_of}
 use Rattle.context_diff.specs.Ops.{data_of}
-use Rattle.context_diff.specs.Books.{BookData, HasRoom, kept_op, kept_notes}
+use Rattle.context_diff.specs.Books.{BookData, HasRoom, kept_op, kept_inserts}
 use Rattle.context_diff.specs.Code.Kept.{ops_in}
 use Rattle.context_diff.proofs.Kept.{ops_length}
 use Rattle.std.specs.Result.{OnOk}
@@ -19,6 +19,6 @@ roomy b o m (Err e) place short is room = tt
 pub returns-clause-room : goal.returns-clause-room
 returns-clause-room c =
     let es = c.reserve.new.self.entries in
-    let size : length (ops_in kept_op es) ≡ length es = ops_length kept_op kept_notes es in
+    let size : length (ops_in kept_op es) ≡ length es = ops_length kept_op kept_inserts es in
     let same : length es ≡ length c.self.inside.kept.entries = ap length c.reserve.ensures.entries in
     roomy _ (data_of c.args.op.now) c.as_member.result c.reserve-2.result (c.in_ok-reserve.ensures).ok (omega (arith, c.len.ensures.len)) c.as_member.ensures c.reserve-2.ensures.room

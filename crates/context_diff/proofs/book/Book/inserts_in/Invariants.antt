@@ -1,0 +1,7 @@
+use Rattle.std.proofs.Common.{◌≡◌, take}
+use Rattle.context_diff.specs.Code.Counting.{inserts_listed}
+use Rattle.context_diff.proofs.book.Book.inserts_in.Given as goal
+
+-- the inserts of the sites so far
+abbrev pub invariant-loop-i : goal.invariant-loop-i
+invariant-loop-i l = l.total ≡ inserts_listed l.self.ops (take l.i l.v.set.counts)
