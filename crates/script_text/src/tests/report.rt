@@ -284,14 +284,14 @@ fn raw_lines(rt: HostRuntime) -> Result<(), Memory> {
 }
 
 /// The form of the insert 0.1 of a character.
-fn ins(place: u32, ch: char) -> Result<Form, Memory> {
-    let name = name(0, 1)?;
-    Ok(Form::Ins(Ins {
+fn ins(place: u32, ch: char) -> Form {
+    let name = Name { site: 0, number: 1 };
+    Form::Ins(Ins {
         place,
         site: 0,
         ch,
         name,
-    }))
+    })
 }
 
 #[test]
@@ -306,7 +306,7 @@ fn forms(rt: HostRuntime) -> Result<(), Memory> {
     ];
     for (ch, wanted) in cases {
         let mut out = Vec::new(rt.alloc());
-        put_form(&ins(7, ch)?, &mut out)?;
+        put_form(&ins(7, ch), &mut out)?;
         assert!(rt; out.as_slice() == wanted.as_bytes(), "{wanted}");
     }
     Ok(())
@@ -315,7 +315,7 @@ fn forms(rt: HostRuntime) -> Result<(), Memory> {
 #[test]
 fn explained_lines(rt: HostRuntime) -> Result<(), Memory> {
     let mut out = Vec::new(rt.alloc());
-    base_line(1, member(2, 1, 0)?, &ins(0, 'q')?, &mut out)?;
+    base_line(1, member(2, 1, 0)?, &ins(0, 'q'), &mut out)?;
     let mark = Mark::Own { generation: 2 };
     let cover = Form::Cover(Cover { place: 10, mark });
     step_line(12, 1, 11, member(2, 1, 2)?, &cover, &mut out)?;
