@@ -1,6 +1,7 @@
 -- What is shown of the cells of a history is what the history shows.
-use Rattle.std.proofs.Common.{◌≡◌, ℕ, suc, Bool, inl, inr, List, [], ◌∷◌, length, map, refl, ap, sym, ◌∙◌}
-use Rattle.std.specs.Prelude.{filter, if◌then◌else◌}
+use Rattle.std.proofs.Common.{◌≡◌, ◌<◌, ◌≤◌, ◌↔◌, ℕ, suc, Bool, inl, inr, List, [], ◌∷◌, Option, Some, None, IsSome, IsNone, is_some, length, map, option_map, refl, ap, sym, ◌∙◌, true≢false}
+use Rattle.std.proofs.lemmas.Option.{slice_get-map, slice_get_cases, slice_get_past}
+use Rattle.std.specs.Prelude.{filter, if◌then◌else◌, slice_get}
 use Rattle.context_diff.specs.Operations.{OpData}
 use Rattle.context_diff.specs.Replays.{Cell, is_shown, shown, character_in, characters_of, text_of}
 use Rattle.ttf_form.specs.Cells.{CellData, cell_key, cell_shown}
@@ -43,3 +44,30 @@ view_is s cs is =
 -- as many characters are shown as cells
 pub character_count : (h : List OpData) → length (shown h) ≡ length (characters_of h)
 character_count h = sym (length_mapped (character_in h) (shown h))
+
+same_name : (o : Option CellData) → option_map (λ (c : CellData). c.name) o ≡ option_map (λ (d : Cell). d.0) (option_map cell_key o)
+same_name None = refl
+same_name (Some c) = refl
+
+-- the v-th shown cell has the name that the history shows there
+pub shown_name : (h : List OpData) (cs : List CellData) (v : ℕ) → IsReplayed h cs
+    → option_map (λ (c : CellData). c.name) (slice_get (shown_cells cs) v) ≡ option_map (λ (d : Cell). d.0) (slice_get (shown h) v)
+shown_name h cs v is =
+    same_name (slice_get (shown_cells cs) v)
+    ∙ ap (λ (o : Option Cell). option_map (λ (d : Cell). d.0) o) (sym (slice_get-map cell_key (shown_cells cs) v) ∙ ap (λ (ds : List Cell). slice_get ds v) (replayed_shown h cs is))
+
+-- nothing stands at a place exactly from the end on
+pub none_past : {A B : Type 0} (f : A → B) (xs : List A) (v : ℕ) (o : Option B) → o ≡ option_map f (slice_get xs v) → IsNone o ↔ (length xs ≤ v)
+none_past {A} {B} f xs v o e = (
+  λ none. elim (slice_get_cases xs v).1 [
+    | inl there ↦ absurd (true≢false (sym (ap (λ (r : Option B). is_some r) (e ∙ ap (λ (r : Option A). option_map f r) there.2)) ∙ none))
+    | inr past ↦ past.0
+  ],
+  λ past. ap (λ (r : Option B). is_some r) (e ∙ ap (λ (r : Option A). option_map f r) (slice_get_past xs v past)),
+)
+
+pub no_name : (cs : List CellData) (v : ℕ) (o : Option ℕ) → IsSome o ↔ (v < length (shown_cells cs)) → o ≡ None → None ≡ option_map (λ (c : CellData). c.name) (slice_get (shown_cells cs) v)
+no_name cs v o found none = elim (slice_get_cases (shown_cells cs) v).1 [
+  | inl there ↦ absurd (true≢false (sym (found.1 there.1) ∙ ap (λ (r : Option ℕ). is_some r) none))
+  | inr past ↦ sym (ap (λ (r : Option CellData). option_map (λ (c : CellData). c.name) r) past.1)
+]

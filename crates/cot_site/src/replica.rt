@@ -5,13 +5,14 @@ ghost use Rattle.op_name.specs.declared.member.Member.{Member};
 ghost use Rattle.op_name.specs.declared.member.Member.TheVariants.{Original};
 ghost use Rattle.context_diff.specs.Bases.{base_has};
 ghost use Rattle.context_vector.specs.Contexts.{has};
-ghost use Rattle.context_diff.specs.Operations.{OpData, is_original};
+ghost use Rattle.context_diff.specs.Operations.{OpData, context_of, is_original};
 ghost use Rattle.context_diff.specs.Histories.{context_of_all, is_known, IsNext, IsValid};
 ghost use Rattle.context_diff.specs.Replays.{shown, text_of};
 ghost use Rattle.context_diff.specs.Books.{HasRoomToPop};
 ghost use Rattle.context_diff.specs.Ops.{data_of};
 ghost use Rattle.ttf_form.specs.Forms.{form_over};
 ghost use Rattle.tombstone_text.specs.Cells.{HasRoomFor};
+ghost use Rattle.visible_view.specs.View.{shown_cells};
 ghost use Rattle.form_cache.specs.Entries.{form_at, used};
 ghost use Rattle.ttf_form.specs.Cells.{FitsCells};
 ghost use Rattle.ttf_form.specs.declared.form.Form.{Form};
@@ -24,6 +25,7 @@ ghost use Rattle.transform_rec.specs.Histories.{family_in, MayBeAddedTo};
 ghost use Rattle.undo_group.specs.BaseForms.{base_form};
 ghost use Rattle.form_rows.specs.Names.{insert_of};
 ghost use Rattle.form_rows.specs.Kept.{IsFormWith};
+ghost use Rattle.form_rows.specs.Stretches.{AreNoted};
 ghost use Rattle.cot_site.specs.Commands.{place_of_shown, place_behind};
 ghost use Rattle.cot_site.specs.Sites.{AreExecuted, AreCached, IsFormOf, KeepsForms};
 ghost use Rattle.cot_site.specs.Code.Replicas.{AreRowsOf, IsBefore, IsExecutedAsBefore, IsKeptBefore, IsStep, IsNextAfter, before_last};
@@ -31,7 +33,7 @@ ghost use Rattle.cot_site.specs.Code.Replicas.{AreRowsOf, IsBefore, IsExecutedAs
 use context_diff::{Book, Op};
 use context_vector::Vector;
 use form_cache::{Cache, Key};
-use form_rows::{Rows, executed_group, executed_original};
+use form_rows::{Passages, Rows, executed_group, executed_original};
 use op_name::{Member, Memory, Name};
 use std::alloc::Global;
 use std::marker::Model;
@@ -43,13 +45,14 @@ use visible_view::{cell_of_visible, model_place, visible_len, write_text};
 /// The greatest number of forms in a site's cache.
 pub const CACHED_FORMS: u32 = 512;
 
-/// A valid history, the form in which each of its operations was executed, the cells that these forms gave, the rows
-/// out of which the next forms are found, and forms that were computed on the way. A site hands its calls on what it has
+/// A valid history, the form in which each of its operations was executed, the cells that these forms gave, the passages
+/// and rows out of which the next forms are found, and forms that were computed on the way. A site hands its calls on what it has
 /// integrated to it: what ties these parts together is kept here, and a site adds its number and what waits.
 #[derive(Drop)]
 pub struct Replica {
     book: Book,
     forms: Vec<Form>,
+    passages: Passages,
     cells: Cells,
     rows: Rows<Form>,
     cache: Cache<Form>,
@@ -57,6 +60,7 @@ pub struct Replica {
 
 impl Model for Replica {
     ghost use Rattle.std.specs.Prelude.{◌≡◌};
+    ghost use Rattle.form_rows.specs.Stretches.{AreNoted};
     ghost use Rattle.cot_site.specs.Sites.{AreCached};
     ghost use Rattle.cot_site.specs.Code.Replicas.{ReplicaData, IsExecuted, AreRowsOf};
     ghost use Rattle.cot_site.specs.declared.replica.TheConstants.{CACHED_FORMS};
@@ -65,7 +69,7 @@ impl Model for Replica {
 
     ghost view = { λ r. record { history = r.book.ops; forms = r.forms.items; entries = r.cache.entries } };
 
-    ghost invariant = { λ r. IsExecuted r.book.ops r.forms.items r.cells.cells × AreCached r.book.ops r.cache.entries × (r.cache.capacity ≡ CACHED_FORMS) × AreRowsOf r.book.ops r.rows.kept.items };
+    ghost invariant = { λ r. IsExecuted r.book.ops r.forms.items r.cells.cells × AreCached r.book.ops r.cache.entries × (r.cache.capacity ≡ CACHED_FORMS) × AreRowsOf r.book.ops r.rows.kept.items × AreNoted r.passages r.forms.items };
 }
 
 impl Replica {
@@ -77,6 +81,7 @@ impl Replica {
         Ok(Replica {
             book: Book::new(alloc),
             forms: Vec::new(alloc),
+            passages: Passages::new(alloc),
             cells: Cells::new(alloc),
             rows: Rows::new(alloc),
             cache,
@@ -146,6 +151,16 @@ impl Replica {
         cell_of_visible(&self.cells, v)
     }
 
+    /// The name of the insert by which the v-th shown character stands in the text, from 0; None exactly where there are no
+    /// more than v.
+    pub fn name_at(&self, v: u32) -> Option<Name>
+        ensures name { result ≡ option_map (λ c. c.0) (slice_get (shown self.now.history) v) }
+        ensures none { IsNone result ↔ (length (shown self.now.history) ≤ v) }
+    {
+        self.book.known();
+        name_of_visible(&self.cells, v)
+    }
+
     /// The place for a character after v shown ones; None exactly where there are fewer than v.
     pub fn place_behind(&self, v: u32) -> Option<u32>
         ensures { result ≡ place_behind self.now.history v }
@@ -175,6 +190,30 @@ impl Replica {
         self.book.known();
         let op = with_shared_names(&self.book, op);
         let before = members_before(&self.book, &op)?;
+        self.integrate_after(op, before)
+    }
+
+    /// The same of an operation whose context is all members: one that was made here. So contexts aren't compared, and
+    /// the operation has the book's own list of undone names already.
+    pub fn integrate_own(&mut self, op: Op) -> Result<(), Memory>
+        requires next { IsNext self.old.history (data_of op) }
+        requires own { context_of (data_of op) ≡ context_of_all self.old.history }
+        ensures history { OnOk result (self.new.history ≡ self.old.history ++ data_of op ∷ []) }
+        ensures forms { OnOk result (KeepsForms self.old.forms self.new.forms) }
+        ensures err { OnErr result (IsExecutedAsBefore self.old self.new) }
+    {
+        self.integrate_after(op, None)
+    }
+
+    // The same, with what is kept of the members before the operation.
+    fn integrate_after(&mut self, op: Op, before: Option<Vector>) -> Result<(), Memory>
+        requires next { IsNext self.old.history (data_of op) }
+        requires before { IsKeptBefore (context_of_all self.old.history) (data_of op) before }
+        ensures history { OnOk result (self.new.history ≡ self.old.history ++ data_of op ∷ []) }
+        ensures forms { OnOk result (KeepsForms self.old.forms self.new.forms) }
+        ensures err { OnErr result (IsExecutedAsBefore self.old self.new) }
+    {
+        self.book.known();
         let member = op.member();
         self.forms.reserve(1)?;
         self.book.reserve(&op)?;
@@ -184,6 +223,7 @@ impl Replica {
             &mut self.cache,
             &mut self.rows,
             &mut self.forms,
+            &mut self.passages,
             &mut self.cells,
             &member,
             before,
@@ -197,6 +237,26 @@ impl Replica {
                 Err(want)
             }
         }
+    }
+}
+
+// The name of the v-th shown cell, from 0, if there is one.
+fn name_of_visible(cells: &Cells, v: u32) -> Option<Name>
+    ensures { result ≡ option_map (λ c. c.name) (slice_get (shown_cells cells.now.cells) v) }
+{
+    match cell_of_visible(cells, v) {
+        Some(place) => name_of(cells, place),
+        None => None,
+    }
+}
+
+// The name of the cell at a place, if there is one.
+fn name_of(cells: &Cells, place: u32) -> Option<Name>
+    ensures { result ≡ option_map (λ c. c.name) (slice_get cells.now.cells place) }
+{
+    match cells.cell(place) {
+        Some(cell) => Some(cell.name()),
+        None => None,
     }
 }
 
@@ -249,6 +309,7 @@ fn execute(
     cache: &mut Cache<Form>,
     rows: &mut Rows<Form>,
     forms: &mut Vec<Form>,
+    passages: &mut Passages,
     cells: &mut Cells,
     member: &Member,
     before: Option<Vector>,
@@ -257,16 +318,27 @@ fn execute(
     requires added { MayBeAddedTo book.now.ops (before_last book.now.ops) member.now }
     requires next { IsNextAfter book.now.ops member.now (has (before_last book.now.ops)) forms.old.items rows.old.kept.items }
     requires before { IsBefore book.now.ops member.now before }
+    requires noted { AreNoted passages.old forms.old.items }
     requires cached { AreCached book.now.ops cache.old.entries }
     requires fits { (f : Form) → Derived form_over (family_in book.now.ops (base_form book.now.ops)) member.now (has (before_last book.now.ops)) f → FitsCells cells.old.cells f }
     ensures step { OnOk result (IsStep book.now.ops member.now (has (before_last book.now.ops)) forms.old.items forms.new.items cells.old.cells cells.new.cells) }
     ensures rows { OnOk result (AreRowsOf book.now.ops rows.new.kept.items) }
     ensures forms { OnErr result (forms.new.items ≡ forms.old.items) }
     ensures cells { OnErr result (cells.new.cells ≡ cells.old.cells) }
+    ensures noted { AreNoted passages.new forms.new.items }
     ensures cached { AreCached book.now.ops cache.new.entries }
     ensures capacity { cache.new.capacity ≡ cache.old.capacity }
 {
-    match form_with_room(book, cache, rows, cells, forms.as_slice(), member, before) {
+    match form_with_room(
+        book,
+        cache,
+        rows,
+        cells,
+        forms.as_slice(),
+        passages,
+        member,
+        before,
+    ) {
         Ok(form) => {
             cells.apply(&form);
             append(forms, &form);
@@ -297,9 +369,11 @@ fn form_with_room(
     rows: &mut Rows<Form>,
     cells: &mut Cells,
     forms: &[Form],
+    passages: &mut Passages,
     member: &Member,
     before: Option<Vector>,
 ) -> Result<Form, Memory>
+    requires noted { AreNoted passages.old forms.now }
     requires added { MayBeAddedTo book.now.ops (before_last book.now.ops) member.now }
     requires next { IsNextAfter book.now.ops member.now (has (before_last book.now.ops)) forms.now rows.old.kept.items }
     requires before { IsBefore book.now.ops member.now before }
@@ -308,10 +382,11 @@ fn form_with_room(
     ensures rows { OnOk result (AreRowsOf book.now.ops rows.new.kept.items) }
     ensures room { IfOk result (HasRoomFor cells.new) }
     ensures cells { cells.new.cells ≡ cells.old.cells }
+    ensures noted { AreNoted passages.new forms.now }
     ensures cached { AreCached book.now.ops cache.new.entries }
     ensures capacity { cache.new.capacity ≡ cache.old.capacity }
 {
-    let form = form_at(book, cache, rows, forms, member, before)?;
+    let form = form_at(book, cache, rows, forms, passages, member, before)?;
     cells.reserve(&form)?;
     Ok(form)
 }
@@ -323,21 +398,30 @@ fn form_at(
     cache: &mut Cache<Form>,
     rows: &mut Rows<Form>,
     forms: &[Form],
+    passages: &mut Passages,
     member: &Member,
     before: Option<Vector>,
 ) -> Result<Form, Memory>
+    requires noted { AreNoted passages.old forms.now }
     requires added { MayBeAddedTo book.now.ops (before_last book.now.ops) member.now }
     requires next { IsNextAfter book.now.ops member.now (has (before_last book.now.ops)) forms.now rows.old.kept.items }
     requires before { IsBefore book.now.ops member.now before }
     requires cached { AreCached book.now.ops cache.old.entries }
     ensures form { IfOk result (Derived form_over (family_in book.now.ops (base_form book.now.ops)) member.now (has (before_last book.now.ops))) }
     ensures rows { OnOk result (AreRowsOf book.now.ops rows.new.kept.items) }
+    ensures noted { AreNoted passages.new forms.now }
     ensures cached { AreCached book.now.ops cache.new.entries }
     ensures capacity { cache.new.capacity ≡ cache.old.capacity }
 {
     match member {
         Member::Original(name) => original_form(book, cache, rows, forms, name, before),
-        Member::Group(target, generation) => Ok(executed_group(book, target, *generation, forms)),
+        Member::Group(target, generation) => Ok(executed_group(
+            book,
+            target,
+            *generation,
+            forms,
+            passages,
+        )),
     }
 }
 

@@ -16,7 +16,7 @@ use causal_gate::Pool;
 use context_diff::{Book, Op};
 use context_vector::Vector;
 use form_cache::Key;
-use op_name::{Memory, SITES};
+use op_name::{Memory, Name, SITES};
 use std::alloc::Global;
 use std::marker::Model;
 use ttf_form::Form;
@@ -131,6 +131,16 @@ impl Site {
         ensures { result ≡ length (shown self.now.history) }
     {
         self.replica.visible_len()
+    }
+
+    /// The name of the insert by which the `v`-th shown character, from 0, stands in the text: what undoes that insert, or
+    /// whatever else is said of this character on all sites, names it so. None exactly where `v` isn't below `visible_len`.
+    /// It costs what finding the character's place does: no history is looked through.
+    pub fn name_at(&self, v: u32) -> Option<Name>
+        ensures name { result ≡ option_map (λ c. c.0) (slice_get (shown self.now.history) v) }
+        ensures none { IsNone result ↔ (length (shown self.now.history) ≤ v) }
+    {
+        self.replica.name_at(v)
     }
 
     /// Appends the shown text in UTF-8: the characters, in the order of the one fixed replay of the inserts of

@@ -6,6 +6,7 @@ mod laws;
 mod made;
 mod memory;
 mod odd;
+mod old_undos;
 mod orders;
 mod sessions;
 mod steps;

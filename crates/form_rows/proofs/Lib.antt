@@ -16,5 +16,6 @@ pub mod Takes
 pub mod Firsts
 pub mod TextForms
 pub mod BlockPasses
+pub mod Thresholds
 pub mod Turns
 pub mod CallerLemmas

@@ -54,6 +54,24 @@ module _ {F : Type 0} (IsInert : F → Type 0) (forms : List F) (from : ℕ) (ol
     whole = a.whole;
   }
 
+-- a list has one list of forms that aren't inert
+pub kept_once : {F : Type 0} (IsInert : F → Type 0) (fs gs hs : List F) → IsKept IsInert fs gs → IsKept IsInert fs hs → gs ≡ hs
+kept_once IsInert [] [] [] k l = refl
+kept_once IsInert [] [] (h ∷ hs) k l = absurd l
+kept_once IsInert [] (g ∷ gs) hs k l = absurd k
+kept_once IsInert (f ∷ fs) [] [] k l = refl
+kept_once IsInert (f ∷ fs) [] (h ∷ hs) k (inl l) = kept_once IsInert fs [] (h ∷ hs) k.1 l.1
+kept_once IsInert (f ∷ fs) [] (h ∷ hs) k (inr l) = absurd (l.0 k.0)
+kept_once IsInert (f ∷ fs) (g ∷ gs) [] (inl k) l = kept_once IsInert fs (g ∷ gs) [] k.1 l.1
+kept_once IsInert (f ∷ fs) (g ∷ gs) [] (inr k) l = absurd (k.0 l.0)
+kept_once IsInert (f ∷ fs) (g ∷ gs) (h ∷ hs) (inl k) (inl l) = kept_once IsInert fs (g ∷ gs) (h ∷ hs) k.1 l.1
+kept_once IsInert (f ∷ fs) (g ∷ gs) (h ∷ hs) (inl k) (inr l) = absurd (l.0 k.0)
+kept_once IsInert (f ∷ fs) (g ∷ gs) (h ∷ hs) (inr k) (inl l) = absurd (k.0 l.0)
+kept_once IsInert (f ∷ fs) (g ∷ gs) (h ∷ hs) (inr k) (inr l) =
+    let rest = kept_once IsInert fs gs hs k.1.1 l.1.1 in
+    let here : g ≡ h = k.1.0 ∙ sym l.1.0 in
+    λ i. here i ∷ rest i
+
 -- ---- sets
 
 -- a part of a list's members adds nothing to them

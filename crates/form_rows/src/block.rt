@@ -7,7 +7,7 @@ ghost use Rattle.ttf_form.specs.declared.include.TheConstants.{CELLS};
 ghost use Rattle.ttf_form.specs.Families.{IsIn};
 ghost use Rattle.form_rows.specs.Names.{had_by};
 ghost use Rattle.form_rows.specs.RowSets.{form_after, row_after, PassFits};
-ghost use Rattle.form_rows.specs.Code.Blocks.{AreWithin, AreCounted, AreFrom};
+ghost use Rattle.form_rows.specs.Code.Blocks.{first_site, AreWithin, AreCounted, AreFrom};
 
 use crate::had::has_none;
 use crate::named::Named;
@@ -197,8 +197,10 @@ fn cells_of<F: Placed>(forms: &[F]) -> u32
     cells
 }
 
-// The site of the first insert.
-fn site_of<F: Named>(forms: &[F]) -> u16 {
+// The site of the first form's insert; 0 where there is none.
+fn site_of<F: Named>(forms: &[F]) -> u16
+    ensures { result ≡ first_site F.named forms.now }
+{
     match forms.get(0) {
         Some(form) => match form.name() {
             Some(name) => name.site,

@@ -68,9 +68,11 @@ impl<F: Named + Copy> Blocks<F> {
         self.len
     }
 
-    /// Where it has its memory.
-    pub(crate) fn alloc(&self) -> Global {
-        *self.rest.allocator()
+    /// A list without forms, which takes its memory where this one does.
+    pub(crate) fn no_forms(&self) -> Vec<F>
+        ensures { result.items ≡ [] }
+    {
+        Vec::new(*self.rest.allocator())
     }
 
     /// The first form.

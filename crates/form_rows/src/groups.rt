@@ -13,8 +13,9 @@ ghost use Rattle.transform_rec.specs.Histories.{family_in};
 ghost use Rattle.undo_group.specs.BaseForms.{original_form, base_form};
 ghost use Rattle.undo_group.specs.Following.{mark_of, following};
 ghost use Rattle.form_rows.specs.RowSets.{form_after, AfterFits, leader_of};
+ghost use Rattle.form_rows.specs.Stretches.{AreNoted};
 
-use crate::passes::after;
+use crate::passages::Passages;
 use context_diff::Book;
 use op_name::{Member, Name};
 use ttf_form::{Bases, Form, Mark};
@@ -22,25 +23,36 @@ use undo_group::{TextBases, followed};
 
 /// The form of an undo group, the last member of the book, at the members before it, which were executed in these
 /// forms: a mark on the cell of the group before it, or of its original, wherever the forms since have moved that. It
-/// takes no memory, and costs by what was executed since.
-pub fn executed_group(book: &Book, target: &Name, generation: u16, executed: &[Form]) -> Form
-    requires { (before : List Member) × ((members_in book.now.ops ≡ before ++ Group target.now generation ∷ []) × AreFormsFrom form_over (family_in book.now.ops (base_form book.now.ops)) none before executed.now) }
-    ensures { (before : List Member) → members_in book.now.ops ≡ before ++ Group target.now generation ∷ [] → Derived form_over (family_in book.now.ops (base_form book.now.ops)) (Group target.now generation) (plus_all none before) result }
+/// costs by what was executed since, one search for each stretch of it over which there is a passage; where stretches have
+/// come to be whole since the last call, their passages are made before, if there is memory for them.
+pub fn executed_group(
+    book: &Book,
+    target: &Name,
+    generation: u16,
+    executed: &[Form],
+    passages: &mut Passages,
+) -> Form
+    requires noted { AreNoted passages.old executed.now }
+    requires last { (before : List Member) × ((members_in book.now.ops ≡ before ++ Group target.now generation ∷ []) × AreFormsFrom form_over (family_in book.now.ops (base_form book.now.ops)) none before executed.now) }
+    ensures noted { AreNoted passages.new executed.now }
+    ensures form { (before : List Member) → members_in book.now.ops ≡ before ++ Group target.now generation ∷ [] → Derived form_over (family_in book.now.ops (base_form book.now.ops)) (Group target.now generation) (plus_all none before) result }
 {
     book.known();
     let place = leader_place(book, target, generation);
     let mark = group_mark(book, target, generation);
-    mark_after(mark, executed, place)
+    let _ = passages.note(executed);
+    mark_after(mark, executed, place, passages)
 }
 
 // A mark on the cell of the form at a place, after the inclusion of the forms after that one.
-fn mark_after(mark: Mark, executed: &[Form], place: usize) -> Form
+fn mark_after(mark: Mark, executed: &[Form], place: usize, passages: &Passages) -> Form
+    requires noted { AreNoted passages.now executed.now }
     requires place { place < length executed.now }
     requires fits { (f : Form) → AfterFits form_over place_of extent_of (following mark (get_or executed.now place f)) (drop (place + 1) executed.now) }
     ensures { (f : Form) → result ≡ form_after form_over (following mark (get_or executed.now place f)) (drop (place + 1) executed.now) }
 {
     let form = followed(mark, &executed[place]);
-    after(form, executed, place + 1)
+    passages.after(form, executed, place + 1)
 }
 
 // The place of the member that a group of the book follows: the group before it, or its original.

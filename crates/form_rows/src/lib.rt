@@ -18,6 +18,7 @@ mod had;
 mod laws;
 mod named;
 mod originals;
+mod passages;
 mod passes;
 mod placed;
 mod row;
@@ -30,6 +31,7 @@ pub use laws::{
 };
 pub use named::Named;
 pub use originals::executed_original;
+pub use passages::{Passages, STRETCH};
 pub use passes::{after, front, pass};
 pub use placed::Placed;
 pub use row::Row;

@@ -1,6 +1,6 @@
 //! The row of one set of members.
 
-ghost use Rattle.std.specs.Prelude.{◌≡◌, ◌≢◌, ◌<◌, ◌≤◌, ◌++◌, ◌∷◌, [], Bool, false, List, IsTrue, OnOk, OnErr, IfOk, length, drop, slice_get};
+ghost use Rattle.std.specs.Prelude.{◌≡◌, ◌≢◌, ◌<◌, ◌≤◌, ◌++◌, ◌∷◌, ◌⊎◌, [], Bool, false, List, IsTrue, OnOk, OnErr, IfOk, length, drop, slice_get};
 ghost use Rattle.op_name.specs.declared.member.Member.{Member};
 ghost use Rattle.context_vector.specs.Contexts.{has, count_of};
 ghost use Rattle.ttf_form.specs.Families.{IsIn};
@@ -9,7 +9,7 @@ ghost use Rattle.transform_rec.specs.Family.{IsCausalFamily};
 ghost use Rattle.transform_rec.specs.Derived.{Derived};
 ghost use Rattle.transform_rec.specs.Laws.{family_of};
 ghost use Rattle.form_rows.specs.Names.{had_by, AreNamed};
-ghost use Rattle.form_rows.specs.RowSets.{form_after, row_after, front_of, taken_out, PassFits, TakingFits, IsAdded, IsRowAt, IsSource};
+ghost use Rattle.form_rows.specs.RowSets.{form_after, row_after, front_of, taken_out, PassFits, TakingFits, IsAdded, IsKept, IsRowAt, IsSource};
 
 use crate::blocks::Blocks;
 use crate::had::is_had;
@@ -68,11 +68,11 @@ impl<F: Named + Copy> Row<F> {
         self.forms.len()
     }
 
-    /// How many forms it has once it has looked at the forms in which the members since were executed.
-    pub(crate) fn len_after(&self, executed: &[F]) -> usize {
-        self.forms
-            .len()
-            .saturating_add(kept_number(executed, self.upto))
+    /// How many forms come to it once it looks at the forms in which the members since were executed.
+    pub(crate) fn coming(&self, executed: &[F]) -> usize
+        ensures { (ks : List F) → IsKept F.IsInert (drop self.now.upto executed.now) ks → result ≡ length ks }
+    {
+        kept_number(executed, self.upto)
     }
 
     /// The first of its forms.
@@ -83,7 +83,8 @@ impl<F: Named + Copy> Row<F> {
     }
 
     /// The form of m at all executed members, out of the row of a set whose inserts its context has. The row becomes that
-    /// of the context with m over the executed members with m. After out of memory it is lost.
+    /// of the context with m over the executed members with m. After out of memory it is as it was, or has looked at the
+    /// forms in which the members since were executed.
     pub fn execute<B: Bases<F>>(
         &mut self,
         bases: &B,
@@ -98,6 +99,7 @@ impl<F: Named + Copy> Row<F> {
         requires ready { (C : Member → Bool) × ((xs : List Member) × IsSource F.over F.IsInert (family_of ⟦<B as Bases<F>>⟧ bases.now) m.now C xs executed.now self.old) }
         ensures form { IfOk result (λ f. (C : Member → Bool) (xs : List Member) → IsSource F.over F.IsInert (family_of ⟦<B as Bases<F>>⟧ bases.now) m.now C xs executed.now self.old → Derived F.over (family_of ⟦<B as Bases<F>>⟧ bases.now) m.now (plus_all none xs) f) }
         ensures row { OnOk result ((C : Member → Bool) (xs : List Member) → IsSource F.over F.IsInert (family_of ⟦<B as Bases<F>>⟧ bases.now) m.now C xs executed.now self.old → IsRowAt F.over F.IsInert (family_of ⟦<B as Bases<F>>⟧ bases.now) (plus (B.base_context bases.now m.now) m.now) (xs ++ m.now ∷ []) self.new) }
+        ensures err { OnErr result ((self.new ≡ self.old) ⊎ (IsAdded F.IsInert (drop self.old.upto executed.now) self.old.forms self.new.forms × (self.new.upto ≡ length executed.now))) }
     {
         bases.known();
         derives::<F, B>(bases);
@@ -131,7 +133,7 @@ fn add_kept<F: Named + Copy>(out: &mut Blocks<F>, forms: &[F], from: usize) -> R
     ensures ok { OnOk result (IsAdded F.IsInert (drop from forms.now) out.old out.new) }
     ensures err { OnErr result (out.new ≡ out.old) }
 {
-    let mut kept = Vec::new(out.alloc());
+    let mut kept = out.no_forms();
     collect_kept(&mut kept, forms, from)?;
     out.append(kept.as_slice())
 }
@@ -153,10 +155,13 @@ fn collect_kept<F: Include + Copy>(out: &mut Vec<F>, forms: &[F], from: usize) -
 }
 
 // How many forms from a place on aren't inert.
-fn kept_number<F: Include>(forms: &[F], from: usize) -> usize {
+fn kept_number<F: Include + Copy>(forms: &[F], from: usize) -> usize
+    ensures { (ks : List F) → IsKept F.IsInert (drop from forms.now) ks → result ≡ length ks }
+{
     let mut number = 0;
     for i in from..forms.len() {
-        if !forms[i].inert() {
+        let one = forms[i];
+        if !one.inert() {
             number += 1;
         }
     }

@@ -247,7 +247,10 @@ fn nearer_row<F: Named + Copy>(
     requires { lacked ≡ lacking book.now.ops context.now.set }
     ensures { (result ≡ own) ⊎ IsFirstRow book.now.ops context.now.set (length executed.now) result }
 {
-    let moves = own.len_after(executed).saturating_sub(lacked as usize);
+    let moves = own
+        .len()
+        .saturating_add(own.coming(executed))
+        .saturating_sub(lacked as usize);
     if moves == 0 {
         return own;
     }

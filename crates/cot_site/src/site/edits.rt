@@ -1,6 +1,7 @@
 //! Local commands: what the user of a site does.
 
 ghost use Rattle.std.specs.Prelude.{◌≡◌, ◌≢◌, ◌<◌, true, Err, IfOk, OnOk, OnErr, length};
+ghost use Rattle.context_diff.specs.Operations.{context_of};
 ghost use Rattle.context_diff.specs.Histories.{IsNext, context_of_all, is_known, generation_in};
 ghost use Rattle.context_diff.specs.Replays.{characters_of};
 ghost use Rattle.op_name.specs.declared.member.Member.TheVariants.{Original};
@@ -15,7 +16,7 @@ use crate::local::Local;
 use crate::site::Site;
 use context_diff::{Op, UNDO_ENTRIES};
 use context_vector::Vector;
-use op_name::{GENERATIONS, NUMBERS, Name};
+use op_name::{GENERATIONS, Memory, NUMBERS, Name};
 use undo_group::generation;
 
 impl Site {
@@ -189,9 +190,11 @@ impl Site {
         })
     }
 
-    // Integrates an operation of the site's own, which is next, and answers a copy.
+    // Integrates an operation of the site's own, which is next and has all members of the history as context, and answers
+    // a copy.
     fn make(&mut self, op: Op) -> Result<Op, Local>
-        requires { IsNext self.old.history (data_of op) }
+        requires next { IsNext self.old.history (data_of op) }
+        requires own { context_of (data_of op) ≡ context_of_all self.old.history }
         ensures op { IfOk result (λ o. data_of o ≡ data_of op) }
         ensures memory { OnErr result (result ≡ Err Local.Memory) }
         ensures made { OnOk result (state_of self.new ≡ with_last (state_of self.old) (data_of op)) }
@@ -202,9 +205,22 @@ impl Site {
             Ok(copy) => copy,
             Err(_) => return Err(Local::Memory),
         };
-        match self.integrate(op) {
+        match self.integrate_own(op) {
             Ok(()) => Ok(copy),
             Err(_) => Err(Local::Memory),
         }
+    }
+
+    // Integrates the operation, which is next and has all members of the history as context.
+    fn integrate_own(&mut self, op: Op) -> Result<(), Memory>
+        requires next { IsNext self.old.history (data_of op) }
+        requires own { context_of (data_of op) ≡ context_of_all self.old.history }
+        ensures state { OnOk result (state_of self.new ≡ with_last (state_of self.old) (data_of op)) }
+        ensures forms { OnOk result (KeepsForms self.old.forms self.new.forms) }
+        ensures err { OnErr result (IsAsBefore self.old self.new) }
+    {
+        self.replica.integrate_own(op)?;
+        self.pool.renew(self.replica.vector());
+        Ok(())
     }
 }

@@ -44,3 +44,25 @@ fn an_insert_is_undone_and_redone_up_to_the_last_generation(rt: HostRuntime) -> 
     assert_eq!(rt; site.visible_len(), 0);
     Ok(())
 }
+
+/// The site and the number of the name at which a shown character stands.
+fn named_at(site: &Site, v: u32) -> Option<Named> {
+    match site.name_at(v) {
+        Some(name) => Some((name.site, name.number)),
+        None => None,
+    }
+}
+
+// `ab` was typed, then `x` in front of it, and the `a` deleted: `xb` is shown.
+#[test]
+fn a_shown_character_is_named_by_its_insert(rt: HostRuntime) -> Result<(), Fail> {
+    let mut site = Site::new(rt.alloc(), 0)?;
+    site.insert(0, 'a')?;
+    site.insert(1, 'b')?;
+    site.insert(0, 'x')?;
+    site.delete(1)?;
+    assert!(rt; named_at(&site, 0) == Some((0, 3)));
+    assert!(rt; named_at(&site, 1) == Some((0, 2)));
+    assert!(rt; named_at(&site, 2).is_none());
+    Ok(())
+}

@@ -1,5 +1,6 @@
 -- Blocks of forms, with what is known of all forms of one.
-use Rattle.std.specs.Prelude.{◌≡◌, ℕ, ◌<◌, ◌≤◌, List, [], ◌∷◌, ◌++◌, Option, Some, length}
+use Rattle.std.specs.Prelude.{◌≡◌, ℕ, ◌<◌, ◌≤◌, List, [], ◌∷◌, ◌++◌, Option, Some, length, slice_get}
+use Rattle.std.specs.Option.{option_map_or}
 use Rattle.op_name.specs.NameData.{NameData}
 use Rattle.ttf_form.specs.Families.{IsIn, total_by}
 
@@ -15,6 +16,10 @@ AreWithin {F} place low high ks = (k : F) → IsIn k ks → (low ≤ place k) ×
 -- the number of cells that the forms add, if that is below the greatest number of cells
 abbrev pub AreCounted : {F : Type 0} → (F → ℕ) → ℕ → List F → Type 0
 AreCounted extent cells ks = cells < 4294967295 → total_by extent ks ≡ cells
+
+-- the site of the first form's insert, and 0 where there is none
+abbrev pub first_site : {F : Type 0} → (F → Option NameData) → List F → ℕ
+first_site named ks = option_map_or (λ k. option_map_or (λ n. n.site) (named k) 0) (slice_get ks 0) 0
 
 -- the forms that have a name are inserts of one site, from a number on, unless that is 0
 abbrev pub AreFrom : {F : Type 0} → (F → Option NameData) → ℕ → ℕ → List F → Type 0

@@ -27,8 +27,8 @@ returns-in-Original-clause-form c =
     let h = c.args.book.now.ops in
     subst (λ (x : Member). IfOk c.original_form.result (Derived form_over (family_in h (base_form h)) x (has (before_last c.args.book.now.ops)))) (sym c.in-Original.is) c.original_form.ensures.form
 
-pub executed_group-requires : goal.executed_group-requires
-executed_group-requires c =
+pub executed_group-requires-clause-last : goal.executed_group-requires-clause-last
+executed_group-requires-clause-last c =
     let n = c.requires.next in
     (n.before, (n.executed.whole ∙ ap (λ (x : Member). n.before ++ x ∷ []) c.in-Group.is, n.executed.forms))
 
@@ -36,7 +36,7 @@ pub returns-in-Group-clause-form : goal.returns-in-Group-clause-form
 returns-in-Group-clause-form c =
     let n = c.requires.next in
     let h = c.args.book.now.ops in
-    let made = c.executed_group.ensures n.before (n.executed.whole ∙ ap (λ (x : Member). n.before ++ x ∷ []) c.in-Group.is) in
+    let made = c.executed_group.ensures.form n.before (n.executed.whole ∙ ap (λ (x : Member). n.before ++ x ∷ []) c.in-Group.is) in
     subst (λ (C : Member → Bool). Derived form_over (family_in h (base_form h)) c.args.member.now C c.executed_group.result) (same_set (plus_all none n.before) (has (before_last c.args.book.now.ops)) n.set)
     (subst (λ (x : Member). Derived form_over (family_in h (base_form h)) x (plus_all none n.before) c.executed_group.result) (sym c.in-Group.is) made)
 
