@@ -1,4 +1,5 @@
 -- What the proofs of other crates cite of this crate's lemmas.
+pub use Rattle.wire_codec.proofs.Growth.{bad_stays}
 pub use Rattle.wire_codec.proofs.Judgement.{cond_err, frame_once, judge_again, judge_more, judge_takes}
 pub use Rattle.wire_codec.proofs.Needing.{state_bound, state_needs, state_some}
 pub use Rattle.wire_codec.proofs.Sizes.{body_long, body_short}

@@ -120,14 +120,53 @@ fn target(op: &LentOp) -> bool
     }
 }
 
+// How many originals of a site a context has.
+#[derive(Clone, Copy)]
+struct SiteCount {
+    site: u16,
+    count: u32,
+}
+
+// That of this site, which isn't looked up again where it is the one before.
+fn count_after(context: &LentContext, before: SiteCount, site: u16) -> SiteCount
+    requires { before.count ≡ count_in context.now.counts before.site }
+    ensures site { result.site ≡ site }
+    ensures count { result.count ≡ count_in context.now.counts site }
+{
+    if before.site == site {
+        before
+    } else {
+        SiteCount {
+            site,
+            count: count_of(context, site),
+        }
+    }
+}
+
+// Whether the count reaches the name, one of its site.
+fn reaches(context: &LentContext, known: SiteCount, name: &Name) -> bool
+    requires { known.count ≡ count_in context.now.counts name.now.site }
+    ensures { result ≡ has (context_seen context.now) (Original name.now) }
+{
+    let _ = context;
+    1 <= name.number && name.number <= known.count
+}
+
 /// Whether each undo entry names an original of the context; the first one begins at `begin`.
+///
+/// The names rise, so each count is looked up once.
 pub(crate) fn originals(context: &LentContext, begin: u32) -> Result<(), Fault>
     requires { begin + entry_len * length context.now.entries < 2 ^ 32 }
     ensures { result ≡ stray_from (context_seen context.now) begin context.now.entries }
 {
     let mut at = begin;
+    let mut known = SiteCount {
+        site: 0,
+        count: count_of(context, 0),
+    };
     for (name, _) in context.entries.again() {
-        check(has_original(context, &name), Cause::Stray, at)?;
+        known = count_after(context, known, name.site);
+        check(reaches(context, known, &name), Cause::Stray, at)?;
         at += ENTRY_LEN as u32;
     }
     Ok(())

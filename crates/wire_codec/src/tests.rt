@@ -5,6 +5,8 @@ use context_vector::Vector;
 use op_name::Name;
 use std::test::*;
 
+mod limits;
+
 const FIRST: &[u8] =
     b"\x00\x00\x00\x11\x01\x00\x00\x00\x00\x01\x00\x00\x00\x00\x00\x00\x00\x61\x00\x00\x00";
 
