@@ -4,3 +4,4 @@ pub mod Written
 pub mod Read
 pub mod Linked
 pub mod Brought
+pub mod CallerLemmas
