@@ -27,12 +27,12 @@ use Rattle.peer_exchange.proofs.Later.{later_settled, settled_later, taking_in_k
 use Rattle.peer_exchange.proofs.Origins.{comes_taken}
 
 -- a later site has what the site had
-known_later : (s t : State) → IsLater s t → (m : Member) → is_known s.history m ≡ true → is_known t.history m ≡ true
+pub known_later : (s t : State) → IsLater s t → (m : Member) → is_known s.history m ≡ true → is_known t.history m ≡ true
 known_later s t later m known =
     let parts : s.history ++ drop (length s.history) t.history ≡ t.history = ap (λ (xs : List OpData). xs ++ drop (length s.history) t.history) (sym later.history) ∙ take-append-drop (length s.history) t.history in
     ap (λ (h : List OpData). is_known h m) (sym parts) ∙ known_on s.history (drop (length s.history) t.history) m known
 
-has_later : (s t : State) → IsLater s t → (x : OpData) → Contains s.history x → Contains t.history x
+pub has_later : (s t : State) → IsLater s t → (x : OpData) → Contains s.history x → Contains t.history x
 has_later s t later x at =
     let parts : s.history ++ drop (length s.history) t.history ≡ t.history = ap (λ (xs : List OpData). xs ++ drop (length s.history) t.history) (sym later.history) ∙ take-append-drop (length s.history) t.history in
     subst (λ (h : List OpData). Contains h x) parts (Contains-append_left s.history (drop (length s.history) t.history) x at)

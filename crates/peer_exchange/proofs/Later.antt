@@ -14,13 +14,13 @@ use Rattle.cot_site.specs.Sites.{AllFormed}
 use Rattle.cot_site.proofs.CallerLemmas.{delivered_number, sound_along, sound_delivered}
 use Rattle.peer_exchange.specs.declared.peer.Peer.{Peer}
 use Rattle.peer_exchange.specs.declared.peer.Peer.TheVariants as peer
-use Rattle.peer_exchange.specs.Taking.{Refusal, by_verdict, taken_in, IsPartlyTaken, IsBefore, TakingInKeepsHistories}
+use Rattle.peer_exchange.specs.Taking.{Refusal, by_verdict, taken_in, IsPartlyTaken, IsBefore, IsOnTheWay, TakingInKeepsHistories}
 use Rattle.peer_exchange.specs.Code.Receiving.{AreUntaken}
 
 pub later_same : (s : State) → IsLater s s
 later_same s = record { number = refl; history = take-length s.history }
 
-later_on : (s t u : State) → IsLater s t → IsLater t u → IsLater s u
+pub later_on : (s t u : State) → IsLater s t → IsLater t u → IsLater s u
 later_on s t u a b =
     let old = s.history in
     let now = t.history in
@@ -38,7 +38,7 @@ after_history (NotClosed k) o s = take-length s.history
 after_history (PlaceOut p k) o s = take-length s.history
 after_history Integrated o s = take-append_seam s.history (o ∷ [])
 
-later_delivered : (s : State) (o : OpData) → IsLater s (delivered s o)
+pub later_delivered : (s : State) (o : OpData) → IsLater s (delivered s o)
 later_delivered s o = record { number = delivered_number s o; history = after_history (judged s o) o s }
 
 -- after the delivery, some releases
@@ -97,3 +97,15 @@ untaken_later s t os peer.Memory sound formed w =
     let all : AllFormed (w.before ++ w.behind) = subst AllFormed w.parts formed in
     let front = taking_in_keeps_histories s w.at w.before sound (formed_front w.before w.behind all) w.taken in
     later_on s w.at t front.1 (later_before w.at t w.behind front.0 (λ o at. all o (Contains-append_right w.before w.behind o at)) w.reached)
+
+sound_before : (s t : State) (os : List OpData) → IsSound s → AllFormed os → IsBefore s os t → IsSound t
+sound_before s t [] sound formed is = subst IsSound (sym is) sound
+sound_before s t (o ∷ os) sound formed (inl is) = subst IsSound (sym is) sound
+sound_before s t (o ∷ os) sound formed (inr p) = subst IsSound (sym p.state) (later_released s o p.done p.left sound (formed o (contains_here o os)) p.releases).0
+
+-- a state on the way is sound
+pub way_sound : (s t : State) (os : List OpData) → IsSound s → AllFormed os → IsOnTheWay s os t → IsSound t
+way_sound s t os sound formed w =
+    let all : AllFormed (w.before ++ w.behind) = subst AllFormed w.parts formed in
+    let front = taking_in_keeps_histories s w.at w.before sound (formed_front w.before w.behind all) w.taken in
+    sound_before w.at t w.behind front.0 (λ o at. all o (Contains-append_right w.before w.behind o at)) w.reached

@@ -19,3 +19,9 @@ pub mod LackedTaken
 pub mod Wholes
 pub mod OneThing
 pub mod Exchanging
+pub mod Again
+pub mod GoingOn
+pub mod Faults
+pub mod Stable
+pub mod Sent
+pub mod CallerLemmas

@@ -113,7 +113,7 @@ framed_got (Ok x) next used e =
 framed_got (Err (More n)) next used e = absurd cc
 framed_got (Err (Bad f)) next used e = absurd cc
 
-judge_stays : (bytes : List ℕ) (o : OpData) (used : ℕ) → IsBytes bytes → judge bytes ≡ Ok (o, used) → (tail : List ℕ) → judge (bytes ++ tail) ≡ Ok (o, used)
+pub judge_stays : (bytes : List ℕ) (o : OpData) (used : ℕ) → IsBytes bytes → judge bytes ≡ Ok (o, used) → (tail : List ℕ) → judge (bytes ++ tail) ≡ Ok (o, used)
 judge_stays bytes o used fits e tail =
     let is = judge_takes bytes o used fits e in
     ap (λ (t : List ℕ). judge (t ++ tail)) is.parts

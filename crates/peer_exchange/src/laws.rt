@@ -2,6 +2,7 @@
 
 ghost use Rattle.peer_exchange.specs.Joins.{JoinsAreValid, LackedOperationsAreNext, EqualMembersAreAlike, BothSidesAreJoined, JoinsCommute, JoinsAssociate, JoinsAreIdempotent, AnyExchangesMeet};
 ghost use Rattle.peer_exchange.specs.Taking.{NextOperationsAreTaken, BothSidesTakeAll, NewOperationsAreAppended, UnrefusedExchangesJoin, TakingInKeepsHistories, LackedOperationsAreTaken};
+ghost use Rattle.peer_exchange.specs.GoingOn.{GoingOnAfterMemory};
 ghost use Rattle.peer_exchange.specs.Exchanges.{MessagesAreWhole, MessagesTellOneThing, UnrefusedCallsJoin, AgreeingSitesMeet, AgreeingSitesAreNotRefused, SecondExchangesAreEmpty};
 
 /// The join of valid histories that agree is valid.
@@ -105,4 +106,10 @@ pub fn agreeing_sites_are_not_refused()
 /// A second exchange at once sends no frame in either direction, and changes neither site.
 pub fn second_exchanges_are_empty()
     ensures { SecondExchangesAreEmpty }
+{}
+
+/// However often `close` or `finish` is out of memory, the same call with the same bytes then takes in, refuses, answers and
+/// writes what it would have at first.
+pub fn going_on_after_memory()
+    ensures { GoingOnAfterMemory }
 {}
