@@ -1,0 +1,2 @@
+-- The words of private functions' contracts; no public contract uses them.
+pub mod Carrying

@@ -1,0 +1,136 @@
+-- What an exchange does at an end of a wire and with a site.
+use Rattle.std.specs.Prelude.{◌≡◌, ◌⊎◌, ℕ, List, [], ◌++◌, Option, length, Ok}
+use Rattle.std.specs.Io.KnownBytes.{Appends, Consumes}
+use Rattle.outside_io.specs.Ends.{End}
+use Rattle.context_vector.specs.Contexts.{ContextData, has}
+use Rattle.context_diff.specs.Operations.{OpData}
+use Rattle.cot_site.specs.States.{State}
+use Rattle.peer_exchange.specs.declared.messages.Which.TheVariants.{First, Second, Third}
+use Rattle.peer_exchange.specs.declared.peer.Peer.{Peer}
+use Rattle.peer_exchange.specs.Closing.{IsUnclosed, IsUnfinished}
+use Rattle.peer_exchange.specs.Joins.{unseen}
+use Rattle.peer_exchange.specs.Messages.{first_message, second_message, third_message, IsFirst, IsSecond, IsThird}
+use Rattle.peer_exchange.specs.Refusals.{IsWhole}
+use Rattle.peer_exchange.specs.Taking.{taken_in}
+use Rattle.site_node.specs.declared.node.Node.{Node}
+use Rattle.site_node.specs.declared.node.Node.TheVariants as node
+use Rattle.site_node.specs.Stops.{node_of, Explains}
+
+-- ---- at an end
+
+-- at the end these bytes were received, which the bytes of the peer begin with, and these were sent
+pub record Talks (old new : End) (peer : Option (List ℕ)) (came gone : List ℕ) : Type 0 where
+  pub received : Appends old.received new.received came
+  pub sent : Appends old.sent new.sent gone
+  pub left : Option (List ℕ)
+  pub front : Consumes peer left came
+
+-- the bytes received and sent in a call stand in this relation
+pub record Exchanges (old new : End) (peer : Option (List ℕ)) (says : List ℕ → List ℕ → Type 0) : Type 0 where
+  pub came : List ℕ
+  pub gone : List ℕ
+  pub talks : Talks old new peer came gone
+  pub said : says came gone
+
+-- a list begins with these bytes
+abbrev pub IsFrontOf : List ℕ → List ℕ → Type 0
+IsFrontOf front bytes = (rest : List ℕ) × (bytes ≡ front ++ rest)
+
+-- ---- a server, whose state is `s` before and `t` after
+
+-- a whole first message came, which tells a state; the second message for it went; a whole third message came, and the operations
+-- that it has were taken in
+pub record IsServed (s t : State) (counts : ℕ × ℕ) (came gone : List ℕ) : Type 0 where
+  pub first : List ℕ
+  pub third : List ℕ
+  pub theirs : ContextData
+  pub ops : List OpData
+  pub parts : came ≡ first ++ third
+  pub first_whole : IsWhole First first
+  pub told : IsFirst first theirs
+  pub answered : gone ≡ second_message s.history theirs
+  pub third_whole : IsWhole Third third
+  pub read : IsThird third ops
+  pub taken : taken_in s ops ≡ Ok t
+  pub frames_sent : counts.0 ≡ length (unseen (has theirs) s.history)
+  pub frames_taken : counts.1 ≡ length ops
+
+-- it stopped at the first message: no byte went, and the site is as it was
+pub record StopsAtFirst (s t : State) (why : Node) (came gone : List ℕ) : Type 0 where
+  pub same : t ≡ s
+  pub silent : gone ≡ []
+  pub explained : Explains First came why
+
+-- it stopped after a whole first message and before a whole third one: a front of the second one went, and the site is as it was
+pub record StopsAtThird (s t : State) (why : Node) (came gone : List ℕ) : Type 0 where
+  pub first : List ℕ
+  pub rest : List ℕ
+  pub theirs : ContextData
+  pub parts : came ≡ first ++ rest
+  pub first_whole : IsWhole First first
+  pub told : IsFirst first theirs
+  pub answered : IsFrontOf gone (second_message s.history theirs)
+  pub same : t ≡ s
+  pub explained : Explains Third rest why
+
+-- it stopped while the operations of a whole third message were taken in
+pub record StopsServing (s t : State) (why : Node) (came gone : List ℕ) : Type 0 where
+  pub first : List ℕ
+  pub third : List ℕ
+  pub theirs : ContextData
+  pub parts : came ≡ first ++ third
+  pub first_whole : IsWhole First first
+  pub told : IsFirst first theirs
+  pub answered : gone ≡ second_message s.history theirs
+  pub third_whole : IsWhole Third third
+  pub refusal : Peer
+  pub refused : IsUnfinished s third t refusal
+  pub cause : why ≡ node_of refusal
+
+-- a server's exchange that stopped
+abbrev pub IsUnserved : State → State → Node → List ℕ → List ℕ → Type 0
+IsUnserved s t why came gone = StopsAtFirst s t why came gone ⊎ (StopsAtThird s t why came gone ⊎ StopsServing s t why came gone)
+
+-- ---- a joiner, whose state is `s` before and `t` after
+
+-- the first message went; a whole second message came, which tells a state, and the operations that it has were taken in; the third
+-- message for that state went
+pub record IsBrought (s t : State) (counts : ℕ × ℕ) (came gone : List ℕ) : Type 0 where
+  pub theirs : ContextData
+  pub ops : List OpData
+  pub whole : IsWhole Second came
+  pub read : IsSecond came theirs ops
+  pub taken : taken_in s ops ≡ Ok t
+  pub sent : gone ≡ first_message s.history ++ third_message t.history theirs
+  pub frames_sent : counts.0 ≡ length (unseen (has theirs) t.history)
+  pub frames_taken : counts.1 ≡ length ops
+
+-- it stopped before a whole second message: a front of the first one went, and the site is as it was
+pub record StopsAtSecond (s t : State) (why : Node) (came gone : List ℕ) : Type 0 where
+  pub same : t ≡ s
+  pub offered : IsFrontOf gone (first_message s.history)
+  pub explained : Explains Second came why
+
+-- it stopped while the operations of a whole second message were taken in, or before the third one was made
+pub record StopsClosing (s t : State) (why : Node) (came gone : List ℕ) : Type 0 where
+  pub whole : IsWhole Second came
+  pub offered : gone ≡ first_message s.history
+  pub refusal : Peer
+  pub refused : IsUnclosed s came t refusal
+  pub cause : why ≡ node_of refusal
+
+-- the wire failed while the third message went
+pub record StopsSending (s t : State) (why : Node) (came gone : List ℕ) : Type 0 where
+  pub theirs : ContextData
+  pub ops : List OpData
+  pub whole : IsWhole Second came
+  pub read : IsSecond came theirs ops
+  pub taken : taken_in s ops ≡ Ok t
+  pub third : List ℕ
+  pub sent : gone ≡ first_message s.history ++ third
+  pub front : IsFrontOf third (third_message t.history theirs)
+  pub cause : why ≡ node.Link
+
+-- a joiner's exchange that stopped
+abbrev pub IsUnjoined : State → State → Node → List ℕ → List ℕ → Type 0
+IsUnjoined s t why came gone = StopsAtSecond s t why came gone ⊎ (StopsClosing s t why came gone ⊎ StopsSending s t why came gone)

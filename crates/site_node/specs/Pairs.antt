@@ -1,0 +1,78 @@
+-- What an exchange over the pair of a wire does at both ends.
+use Rattle.std.specs.Prelude.{◌≡◌, ◌≢◌, ◌⊎◌, ℕ, List, ◌++◌, Some}
+use Rattle.std.specs.Io.KnownBytes.{Appends}
+use Rattle.outside_io.specs.Ends.{End}
+use Rattle.op_name.specs.declared.member.Member.{Member}
+use Rattle.cot_site.specs.States.{State}
+use Rattle.cot_site.specs.declared.verdict.Verdict.{Verdict}
+use Rattle.peer_exchange.specs.declared.messages.PeerCause.TheVariants.{Head, Frame, Cut, Extra, Limit}
+use Rattle.peer_exchange.specs.declared.peer.Peer.TheVariants as refused
+use Rattle.peer_exchange.specs.Exchanges.{Talk, IsExchange, AgreeInAll}
+use Rattle.site_node.specs.declared.node.Node.{Node}
+use Rattle.site_node.specs.declared.node.Node.TheVariants as node
+use Rattle.site_node.specs.Exchanges.{IsFrontOf, IsServed, IsUnserved, IsBrought, IsUnjoined}
+
+-- the wire tells what is to come at either end
+abbrev pub IsTelling : (ℕ → End) → Type 0
+IsTelling ends = ((bytes : List ℕ) × ((ends 0).to_come ≡ Some bytes)) × ((bytes : List ℕ) × ((ends 1).to_come ≡ Some bytes))
+
+-- no bytes are at fault, but that they may be more than a message has
+abbrev pub IsUnspoilt : Node → Type 0
+IsUnspoilt node.Link = Unit {0}
+IsUnspoilt (node.Peer (refused.Bytes offset Head)) = ⊥
+IsUnspoilt (node.Peer (refused.Bytes offset (Frame cause))) = ⊥
+IsUnspoilt (node.Peer (refused.Bytes offset Cut)) = ⊥
+IsUnspoilt (node.Peer (refused.Bytes offset Extra)) = ⊥
+IsUnspoilt (node.Peer (refused.Bytes offset Limit)) = Unit {0}
+IsUnspoilt (node.Peer (refused.Op member verdict)) = Unit {0}
+IsUnspoilt (node.Peer refused.Memory) = ⊥
+IsUnspoilt node.Memory = Unit {0}
+
+-- at either end of the pair these bytes were received, and these sent
+pub record Speaks (old new : ℕ → End) (to_server from_server to_joiner from_joiner : List ℕ) : Type 0 where
+  pub server_received : Appends (old 0).received (new 0).received to_server
+  pub server_sent : Appends (old 0).sent (new 0).sent from_server
+  pub joiner_received : Appends (old 1).received (new 1).received to_joiner
+  pub joiner_sent : Appends (old 1).sent (new 1).sent from_joiner
+
+-- the bytes that went from either end are the messages of an exchange of four calls, in which each site sent so many frames
+pub record AreMessages (s t j k : State) (counts : ℕ × ℕ) (from_server from_joiner : List ℕ) : Type 0 where
+  pub talk : Talk
+  pub calls : IsExchange s j t k talk
+  pub server_side : from_server ≡ talk.second
+  pub joiner_side : from_joiner ≡ talk.first ++ talk.third
+  pub server_sent : talk.server_sent ≡ counts.0
+  pub joiner_sent : talk.joiner_sent ≡ counts.1
+
+-- the server at end 0, whose state was `s`, and the joiner at end 1, whose state was `j`, each had an exchange; where the wire tells
+-- its bytes, each received what the other sent, these bytes are the messages of their exchange, and it tells them afterwards too
+pub record IsLooped (s t j k : State) (counts : ℕ × ℕ) (old new : ℕ → End) : Type 0 where
+  pub to_server : List ℕ
+  pub from_server : List ℕ
+  pub to_joiner : List ℕ
+  pub from_joiner : List ℕ
+  pub speaks : Speaks old new to_server from_server to_joiner from_joiner
+  pub server_taken : ℕ
+  pub served : IsServed s t (counts.0, server_taken) to_server from_server
+  pub joiner_taken : ℕ
+  pub brought : IsBrought j k (counts.1, joiner_taken) to_joiner from_joiner
+  pub carried : IsTelling old → (to_server ≡ from_joiner) × (to_joiner ≡ from_server)
+  pub messages : IsTelling old → AreMessages s t j k counts from_server from_joiner
+  pub telling : IsTelling old → IsTelling new
+
+-- the exchange stopped, at one of them for this reason; where the wire tells its bytes, each received a front of what the other sent,
+-- no bytes were at fault, and no operation was refused if the two agreed
+pub record IsUnlooped (s t j k : State) (why : Node) (old new : ℕ → End) : Type 0 where
+  pub to_server : List ℕ
+  pub from_server : List ℕ
+  pub to_joiner : List ℕ
+  pub from_joiner : List ℕ
+  pub speaks : Speaks old new to_server from_server to_joiner from_joiner
+  pub server_why : Node
+  pub unserved : IsUnserved s t server_why to_server from_server
+  pub joiner_why : Node
+  pub unjoined : IsUnjoined j k joiner_why to_joiner from_joiner
+  pub cause : (why ≡ server_why) ⊎ (why ≡ joiner_why)
+  pub carried : IsTelling old → IsFrontOf to_server from_joiner × IsFrontOf to_joiner from_server
+  pub unspoilt : IsTelling old → IsUnspoilt why
+  pub agreed : IsTelling old → AgreeInAll s j → (member : Member) (verdict : Verdict) → why ≢ node.Peer (refused.Op member verdict)
