@@ -4,5 +4,9 @@ pub mod Listings
 pub mod CallerLemmas
 pub mod HexLaws
 pub mod WordLaws
+pub mod Joins
+pub mod KeptLines
+pub mod InputLaws
+pub mod Takings
 pub mod MemberLaws
 pub mod HexDigits

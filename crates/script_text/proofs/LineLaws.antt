@@ -12,7 +12,7 @@ use Rattle.hex.proofs.HexLemmas.{decode_of-encode_lower, decode_of-ok, IsAscii-e
 use Rattle.script_text.specs.declared.reading.line.Line.{Line}
 use Rattle.script_text.specs.declared.reading.line.Line.TheVariants.{Blank, Sites, Ins, Nl, Del, Undo, Redo, Give, All, Sync, Raw, Show, State}
 use Rattle.script_text.specs.declared.reading.line.LineBad.{LineBad}
-use Rattle.script_text.specs.declared.reading.line.LineBad.TheVariants.{Long, Utf8, Form, Memory}
+use Rattle.script_text.specs.declared.reading.line.LineBad.TheVariants.{Limit, Long, Utf8, Form, Memory}
 use Rattle.op_name.specs.NameData.{NameData, IsName}
 use Rattle.script_text.specs.Names.{name_text}
 use Rattle.script_text.specs.Fields.{IsText, cut, pair_by, number_of, site_of, count_of, name_of, text_of, octets_of, IsNumber, IsSite, IsNameText, IsCharacters, IsHex, IsPair}
@@ -199,6 +199,7 @@ pub answers_line : (bs text : List ℕ) (r : Result Line LineBad) → length bs 
 answers_line bs text (Ok l) short t h = ((short, t.1), ap line_in (sym t.0) ∙ h)
 answers_line bs text (Err Form) short t h = ((short, t.1), ap line_in (sym t.0) ∙ h)
 answers_line bs text (Err Memory) short t h = ((short, t.1), subst (λ (o : Option Line). IsSomeAnd o HasContent) (ap line_in t.0) h)
+answers_line bs text (Err Limit) short t h = absurd h
 answers_line bs text (Err Long) short t h = absurd h
 answers_line bs text (Err Utf8) short t h = absurd h
 
@@ -210,6 +211,7 @@ pub answers_only : (bs : List ℕ) (r : Result Line LineBad) → Answers bs r �
 answers_only bs (Ok k) h l text is = some_is k l (sym h.1 ∙ line_only bs l is)
 answers_only bs (Err Form) h l text is = let e : None ≡ Some l = sym h.1 ∙ line_only bs l is in cc
 answers_only bs (Err Memory) h l text is = tt
+answers_only bs (Err Limit) h l text is = absurd h
 answers_only bs (Err Long) h l text is = absurd (omega arith)
 answers_only bs (Err Utf8) h l text is = absurd (h.1 text.1)
 
@@ -217,6 +219,7 @@ pub answers_form : (bs : List ℕ) (r : Result Line LineBad) → Answers bs r �
 answers_form bs (Ok k) h e = cc
 answers_form bs (Err Form) h e = (h.0, λ l is. let f : None ≡ Some l = sym h.1 ∙ line_only bs l is in cc)
 answers_form bs (Err Memory) h e = cc
+answers_form bs (Err Limit) h e = absurd h
 answers_form bs (Err Long) h e = cc
 answers_form bs (Err Utf8) h e = cc
 
@@ -228,6 +231,7 @@ pub answers_memory : (bs : List ℕ) (r : Result Line LineBad) → Answers bs r 
 answers_memory bs (Ok k) h e = cc
 answers_memory bs (Err Form) h e = cc
 answers_memory bs (Err Memory) h e = let c = content_of bs (line_in bs) refl h.1 in (c.0, h.0, c.1, c.2)
+answers_memory bs (Err Limit) h e = absurd h
 answers_memory bs (Err Long) h e = cc
 answers_memory bs (Err Utf8) h e = cc
 

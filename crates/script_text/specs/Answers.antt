@@ -4,7 +4,7 @@ use Rattle.std.specs.Str.{IsUtf8}
 use Rattle.script_text.specs.declared.reading.line.Line.{Line}
 use Rattle.script_text.specs.declared.reading.line.Line.TheVariants.{Blank, Sync}
 use Rattle.script_text.specs.declared.reading.line.LineBad.{LineBad}
-use Rattle.script_text.specs.declared.reading.line.LineBad.TheVariants.{Long, Utf8, Form, Memory}
+use Rattle.script_text.specs.declared.reading.line.LineBad.TheVariants.{Limit, Long, Utf8, Form, Memory}
 use Rattle.script_text.specs.declared.reading.parse.TheConstants.{LONGEST}
 use Rattle.script_text.specs.Fields.{cut, IsText, ◌>>=◌}
 use Rattle.script_text.specs.Lines.{HasContent}
@@ -23,6 +23,7 @@ abbrev pub FormAnswers : {X : Type 0} → Result X LineBad → Option X → Type
 FormAnswers (Ok x) o = o ≡ Some x
 FormAnswers (Err Form) o = o ≡ None
 FormAnswers (Err Memory) o = IsSome o
+FormAnswers (Err Limit) o = ⊥
 FormAnswers (Err Long) o = ⊥
 FormAnswers (Err Utf8) o = ⊥
 
@@ -31,11 +32,13 @@ abbrev pub LineAnswers : Result Line LineBad → Option Line → Type 0
 LineAnswers (Ok x) o = o ≡ Some x
 LineAnswers (Err Form) o = o ≡ None
 LineAnswers (Err Memory) o = IsSomeAnd o HasContent
+LineAnswers (Err Limit) o = ⊥
 LineAnswers (Err Long) o = ⊥
 LineAnswers (Err Utf8) o = ⊥
 
--- the answer for these bytes: the first cause that holds, else the line
+-- the answer for these bytes: the first cause that holds, else the line; no limit of an input is known here
 abbrev pub Answers : List ℕ → Result Line LineBad → Type 0
+Answers bs (Err Limit) = ⊥
 Answers bs (Err Long) = LONGEST < length bs
 Answers bs (Err Utf8) = (length bs ≤ LONGEST) × (IsUtf8 bs → ⊥)
 Answers bs (Err Form) = IsText bs × (line_in bs ≡ None)
@@ -46,6 +49,7 @@ Answers bs (Ok line) = IsText bs × (line_in bs ≡ Some line)
 abbrev pub IsReadAs : Result Line LineBad → Line → Type 0
 IsReadAs (Ok l) line = l ≡ line
 IsReadAs (Err Memory) line = Unit {0}
+IsReadAs (Err Limit) line = ⊥
 IsReadAs (Err Long) line = ⊥
 IsReadAs (Err Utf8) line = ⊥
 IsReadAs (Err Form) line = ⊥

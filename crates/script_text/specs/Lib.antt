@@ -6,3 +6,7 @@ pub mod Answers
 pub mod Report
 pub mod Verdicts
 pub mod Explained
+pub mod LeftLines
+pub mod KeptData
+pub mod Streams
+pub mod Code

@@ -8,8 +8,9 @@ mod reading;
 mod report;
 
 pub use reading::{
-    Chars, LONGEST, Line, LineBad, Octets, each_line_has_a_spelling, parse_line, parse_long,
-    parse_member, parse_name, parse_number, parse_site,
+    Chars, LONGEST, Line, LineBad, LineStream, MAX_SCRIPT, Octets, each_line_has_a_spelling,
+    lines_stay_the_same, parse_line, parse_long, parse_member, parse_name, parse_number,
+    parse_site,
 };
 pub use report::{
     Event, Refusal, base_line, local_line, op_line, put_form, put_group, put_made, put_member,

@@ -63,6 +63,8 @@ impl Line {
 /// Why bytes aren't a line; the first cause that holds, in this order.
 #[derive(Clone, Copy, Debug, PartialEq, Eq)]
 pub enum LineBad {
+    /// The line holds the byte after the first `MAX_SCRIPT` of an input, or would begin with it.
+    Limit,
     /// More than `LONGEST` bytes.
     Long,
     /// Not UTF-8 (RFC 3629).

@@ -1,6 +1,6 @@
 //! Reading a line.
 
-ghost use Rattle.std.specs.Prelude.{◌≡◌, ℕ, List, ◌<◌, ◌≤◌, ◌↔◌, length, Some, Err, IfOk};
+ghost use Rattle.std.specs.Prelude.{◌≡◌, ◌≢◌, ℕ, List, ◌<◌, ◌≤◌, ◌↔◌, length, Some, Err, IfOk};
 ghost use Rattle.std.specs.Str.{IsUtf8};
 ghost use Rattle.script_text.specs.Fields.{IsText};
 ghost use Rattle.script_text.specs.Lines.{IsLine, IsInRange, HasContent, spelling};
@@ -25,6 +25,9 @@ pub fn parse_line(alloc: Global, bytes: &[u8]) -> Result<Line, LineBad>
     // Both ways: what is read is spelled so, and what is spelled so is read.
     ensures found { IfOk result (λ line. IsText bytes.now × IsLine bytes.now line) }
     ensures only { (line : Line) → IsText bytes.now → IsLine bytes.now line → IsReadAs result line }
+
+    // How long an input is plays no part here.
+    ensures limit { result ≢ Err LineBad.Limit }
 
     ensures long { (result ≡ Err LineBad.Long) ↔ (LONGEST < length bytes.now) }
     ensures utf8 { (result ≡ Err LineBad.Utf8) ↔ ((length bytes.now ≤ LONGEST) × (IsUtf8 bytes.now → ⊥)) }
