@@ -38,7 +38,7 @@ use Rattle.session_replay.proofs.Making.{Makes, drawn_makes}
 -- ---- messages
 
 -- the operation was made next after a valid history whose operations are all in this list
-record Origin (before : List OpData) (o : OpData) : Type 0 where
+pub record Origin (before : List OpData) (o : OpData) : Type 0 where
   history : List OpData
   valid : IsValid history
   part : (x : OpData) → Contains history x → Contains before x
@@ -63,12 +63,12 @@ knows_none h x at = absurd (contains_none x at)
 -- ---- one site
 
 -- the site of this number: nothing waits, all that it has are messages, and it has all of its own
-record Keeps (ms : List OpData) (i : ℕ) (s : State) : Type 0 where
-  number : s.number ≡ i
-  sound : IsSoundSite s
-  quiet : s.waiting ≡ []
-  part : (x : OpData) → Contains s.history x → Contains ms x
-  own : (x : OpData) (n : NameData) → Contains ms x → member_of x ≡ Original n → n.site ≡ i → Contains s.history x
+pub record Keeps (ms : List OpData) (i : ℕ) (s : State) : Type 0 where
+  pub number : s.number ≡ i
+  pub sound : IsSoundSite s
+  pub quiet : s.waiting ≡ []
+  pub part : (x : OpData) → Contains s.history x → Contains ms x
+  pub own : (x : OpData) (n : NameData) → Contains ms x → member_of x ≡ Original n → n.site ≡ i → Contains s.history x
 
 -- a message was delivered: the site has its member, and what it had
 record Took (ms : List OpData) (i : ℕ) (s : State) (o : OpData) (t : State) : Type 0 where
@@ -137,16 +137,16 @@ event_leaves d ms i w s none =
     last_at d.sites ms i s (map free_step (all_releases s)) ∙ ap (λ (x : State). record { sites = set d.sites i x; messages = ms }) (last_freed s (all_releases s) ∙ quiet_settled s none)
 
 -- so many sites; no two messages have one name; each was made after those before it
-record Steady (n : ℕ) (d : SessionData) : Type 0 where
-  count : length d.sites ≡ n
-  sites : (i : ℕ) → i < n → Keeps d.messages i (site_at d i)
-  one : Agree d.messages d.messages
-  made : AreMade [] d.messages
+pub record Steady (n : ℕ) (d : SessionData) : Type 0 where
+  pub count : length d.sites ≡ n
+  pub sites : (i : ℕ) → i < n → Keeps d.messages i (site_at d i)
+  pub one : Agree d.messages d.messages
+  pub made : AreMade [] d.messages
 
-site_here : (d : SessionData) (ms : List OpData) (i : ℕ) (s : State) → i < length d.sites → site_at (record { sites = set d.sites i s; messages = ms }) i ≡ s
+pub site_here : (d : SessionData) (ms : List OpData) (i : ℕ) (s : State) → i < length d.sites → site_at (record { sites = set d.sites i s; messages = ms }) i ≡ s
 site_here d ms i s within = get_or-set_same d.sites i s (new_site i) within
 
-site_other : (d : SessionData) (ms : List OpData) (i j : ℕ) (s : State) → j ≢ i → site_at (record { sites = set d.sites i s; messages = ms }) j ≡ site_at d j
+pub site_other : (d : SessionData) (ms : List OpData) (i j : ℕ) (s : State) → j ≢ i → site_at (record { sites = set d.sites i s; messages = ms }) j ≡ site_at d j
 site_other d ms i j s apart = get_or-set_other d.sites i j s (new_site j) apart
 
 -- one site is in another state, and there are other messages
@@ -268,7 +268,7 @@ record Grown (n : ℕ) (d e : SessionData) : Type 0 where
   steady : Steady n e
   more : length e.messages ≡ length d.messages + 1
 
-acted_leaves : (i : ℕ) (r : Draw) (d : SessionData) (m : Makes (site_at d i) (drawn_operation (site_at d i) r)) → (site_at d i).waiting ≡ [] → acted i r d ≡ record { sites = set d.sites i (with_last (site_at d i) m.op); messages = d.messages ++ m.op ∷ [] }
+pub acted_leaves : (i : ℕ) (r : Draw) (d : SessionData) (m : Makes (site_at d i) (drawn_operation (site_at d i) r)) → (site_at d i).waiting ≡ [] → acted i r d ≡ record { sites = set d.sites i (with_last (site_at d i) m.op); messages = d.messages ++ m.op ∷ [] }
 acted_leaves i r d m none =
     ap (λ (q : Result OpData Local). last_of d (commanded i q d)) m.is
     ∙ event_leaves d (d.messages ++ m.op ∷ []) i (op_text (length d.messages) m.op) (with_last (site_at d i) m.op) none
@@ -343,7 +343,7 @@ grown n i r d within steady few = subst (Grown n d) (sym (acted_leaves i r d m k
 
 -- ---- the whole session
 
-new_at : (b n i : ℕ) (x : State) → i < n → get_or (new_sites b n) i x ≡ new_site (b + i)
+pub new_at : (b n i : ℕ) (x : State) → i < n → get_or (new_sites b n) i x ≡ new_site (b + i)
 unfolding new_sites
 new_at b zero i x less = absurd (omega (arith, less))
 new_at b (suc n) zero x less = let same : b ≡ b + 0 = omega arith in ap new_site same
@@ -385,10 +385,10 @@ pub record IsPlan (p : Plan) : Type 0 where
   pub most_sites : p.sites ≤ MAX_SITES
 
 -- the session after the first k events
-record Progress (p : Plan) (k : ℕ) (d : SessionData) : Type 0 where
-  steady : Steady p.sites d
-  count : length d.messages ≡ k
-  known : is_due p k ≡ true → AllKnow p.sites d
+pub record Progress (p : Plan) (k : ℕ) (d : SessionData) : Type 0 where
+  pub steady : Steady p.sites d
+  pub count : length d.messages ≡ k
+  pub known : is_due p k ≡ true → AllKnow p.sites d
 
 synced_progress : (p : Plan) (k : ℕ) (d : SessionData) → Steady p.sites d → length d.messages ≡ k → (due : Bool) → is_due p k ≡ due → Progress p k (synced_if due d)
 synced_progress p k d steady count true due =
@@ -396,7 +396,7 @@ synced_progress p k d steady count true due =
     record { steady = it.steady; count = ap length it.messages ∙ count; known = λ e. it.has }
 synced_progress p k d steady count false due = record { steady = steady; count = count; known = λ e. absurd (true≢false (sym e ∙ due)) }
 
-progress : (p : Plan) → IsPlan p → (k : ℕ) → k ≤ p.events → Progress p k (generating p k).session
+pub progress : (p : Plan) → IsPlan p → (k : ℕ) → k ≤ p.events → Progress p k (generating p k).session
 unfolding generating
 progress p is zero within = record {
   steady = open_new p.sites is.most_sites;

@@ -18,6 +18,7 @@ mod Agreeing
 mod Names
 mod Room
 mod Gathering
+mod Alone
 mod Making
 mod Tallies
 mod Rounds

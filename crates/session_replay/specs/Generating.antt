@@ -1,15 +1,18 @@
 -- Generated sessions: which site acts is counted, and what it does is drawn from a number.
-use Rattle.std.specs.Prelude.{◌≡◌, ℕ, zero, suc, ◌+◌, ◌*◌, ◌/◌, ◌%◌, ◌^◌, Bool, List, [], ◌∷◌, ◌++◌, ◌&&◌, ◌||◌, ◌==◌, Contains, Option, Some, None, Result, if◌then◌else◌, length, map, nat_lt, slice_get}
+use Rattle.std.specs.Prelude.{◌≡◌, ℕ, zero, suc, ◌+◌, ◌*◌, ◌/◌, ◌%◌, ◌^◌, ◌≤◌, ◌<◌, Bool, false, List, [], ◌∷◌, ◌++◌, ◌&&◌, ◌||◌, ◌==◌, Contains, Option, Some, None, Result, if◌then◌else◌, length, map, nat_lt, slice_get}
 use Rattle.std.specs.List.{range_with_len}
 use Rattle.op_name.specs.NameData.{NameData}
-use Rattle.context_diff.specs.Operations.{OpData, inserting, deleting, undoing}
-use Rattle.op_name.specs.Members.{is_even}
+use Rattle.op_name.specs.declared.member.Member.TheVariants.{Original}
+use Rattle.context_diff.specs.Operations.{OpData, inserting, deleting, undoing, member_of}
+use Rattle.op_name.specs.Members.{is_even, target_of}
 use Rattle.context_diff.specs.Histories.{context_of_all, in_force, Same}
 use Rattle.context_diff.specs.Replays.{shown, text_of}
 use Rattle.cot_site.specs.States.{State}
+use Rattle.cot_site.specs.Releases.{IsSound}
 use Rattle.cot_site.specs.Commands.{local_insert, local_delete, local_undo, local_redo}
 use Rattle.cot_site.specs.declared.local.Local.{Local}
 use Rattle.session_replay.specs.declared.draws.Draw.{Draw}
+use Rattle.session_replay.specs.declared.generator.TheConstants.{MAX_EVENTS, MAX_SITES}
 use Rattle.session_replay.specs.Steps.{last_of}
 use Rattle.session_replay.specs.Sessions.{SessionData, opened, site_at, synced}
 use Rattle.session_replay.specs.LineSteps.{commanded}
@@ -160,3 +163,26 @@ ShowTheSame sites = (s t : State) → Contains sites s → Contains sites t → 
 -- at no site does an operation wait
 abbrev pub NothingWaits : List State → Type 0
 NothingWaits sites = (s : State) → Contains sites s → s.waiting ≡ []
+
+-- ---- sessions without deliveries
+
+-- how many of the first k events are at this site
+unfoldable pub turns : Plan → ℕ → ℕ → ℕ
+turns p i zero = 0
+turns p i (suc k) = if turn_of p k == i then suc (turns p i k) else turns p i k
+
+-- the site of this number has the operations that its own events made, one for each, and no others; they are of originals of its own, no
+-- two of which have one name
+pub record IsAlone (p : Plan) (i : ℕ) (s : State) : Type 0 where
+  pub number : s.number ≡ i
+  pub sound : IsSound s
+  pub quiet : s.waiting ≡ []
+  pub made : length s.history ≡ turns p i p.events
+  pub own : (o : OpData) → Contains s.history o → (target_of (member_of o)).site ≡ i
+  pub one : (o q : OpData) (n : NameData) → Contains s.history o → Contains s.history q → member_of o ≡ Original n → member_of q ≡ Original n → o ≡ q
+
+-- where no message is delivered, each site has its own operations alone
+abbrev pub SitesStayAlone : Type 0
+SitesStayAlone =
+    (p : Plan) → p.events ≤ MAX_EVENTS → 0 < p.sites → p.sites ≤ MAX_SITES → p.syncs ≡ false
+    → (i : ℕ) → i < p.sites → IsAlone p i (site_at (generated p) i)

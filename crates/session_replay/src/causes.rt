@@ -15,6 +15,7 @@ pub(crate) fn reading_refused(why: LineBad) -> Result<Refusal, Memory>
     ensures memory { OnErr result (why ≡ LineBad.Memory) }
 {
     match why {
+        LineBad::Limit => Ok(Refusal::Limit),
         LineBad::Long => Ok(Refusal::Long),
         LineBad::Utf8 => Ok(Refusal::Utf8),
         LineBad::Form => Ok(Refusal::Form),

@@ -1,6 +1,7 @@
 //! The laws of sessions: each says what its definitions give, and does nothing.
 
 ghost use Rattle.session_replay.specs.Laws.{SessionsStaySound, LocalOperationsSettle, DeliveriesSettle, TranscriptsAreThere, OneTranscript};
+ghost use Rattle.session_replay.specs.Generating.{SitesStayAlone};
 ghost use Rattle.session_replay.specs.Derivation.{DerivedReportsAreThere, OneDerivedReport};
 
 /// Each step of a line leaves a sound session: histories are valid, and what waits and all messages are well
@@ -41,4 +42,10 @@ pub fn derived_reports_are_there()
 /// No other report of the script can be read so, whichever derived forms stand beside the histories.
 pub fn one_derived_report()
     ensures { OneDerivedReport }
+{}
+
+/// Where no message is delivered, each site of a generated session has the operations of its own events, one for each
+/// event, and no others; they are of originals of its own.
+pub fn sites_stay_alone()
+    ensures { SitesStayAlone }
 {}

@@ -19,7 +19,7 @@ pub use generated::Generated;
 pub use generator::{MAX_EVENTS, MAX_WINDOW, generate};
 pub use laws::{
     deliveries_settle, derived_reports_are_there, local_operations_settle, one_derived_report,
-    one_transcript, sessions_stay_sound, transcripts_are_there,
+    one_transcript, sessions_stay_sound, sites_stay_alone, transcripts_are_there,
 };
 pub use script::{MAX_SCRIPT, replay, replay_past};
 pub use session::{Session, StepBad};

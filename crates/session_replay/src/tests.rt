@@ -7,6 +7,7 @@ use std::alloc::Global;
 use std::process::Abort;
 use std::test::Fail;
 
+mod bad_bytes;
 mod drawn;
 
 /// The report of a script, whose lines are separated by `; `, and whether it is refused.
