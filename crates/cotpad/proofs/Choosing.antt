@@ -1,18 +1,24 @@
 -- The command that the words spell is the one that is done.
-use Rattle.std.proofs.Common.{◌≡◌, ◌⊎◌, ℕ, Option, Some, None, List, sym, ap, subst, ◌∙◌, refl, inl, inr}
+use Rattle.std.proofs.Common.{◌≡◌, ◌⊎◌, ℕ, ◌+◌, ◌≤◌, Option, Some, None, List, sym, ap, subst, ◌∙◌, refl, inl, inr, arith}
+use Rattle.std.proofs.Math.Nat.{min-le_left}
 use Rattle.op_name.specs.declared.member.Member.{Member}
-use Rattle.outside_io.specs.Faults.{Rose}
+use Rattle.outside_io.specs.Faults.{Rose, last_count}
+use Rattle.outside_io.specs.declared.link.Asked.TheVariants as link
+use Rattle.outside_io.specs.declared.link.Role.TheVariants.{Listen, Connect}
 use Rattle.cotpad.specs.declared.command.Command.{Command}
 use Rattle.cotpad.specs.declared.command.Command.TheVariants as command
 use Rattle.cotpad.specs.declared.command.Edit as declared
 use Rattle.cotpad.specs.declared.status.Status.{Status}
 use Rattle.cotpad.specs.declared.status.Status.TheVariants.{Done, Refused, Words, ReadFault, WriteFault, Memory, LinkFault, PeerRefused}
-use Rattle.cotpad.specs.Commands.{CommandData, Replay, Show, Edit, Gen, Explain, EditData, edit_data, command_data}
+use Rattle.cotpad.specs.Commands.{CommandData, Replay, Show, Edit, Gen, Explain, Serve, Join, Loop, IsOffline, EditData, edit_data, command_data}
 use Rattle.cotpad.specs.Outside.{Outside}
 use Rattle.cotpad.specs.Answers.{IsAnswered, IsMade}
 use Rattle.cotpad.specs.Replies.{IsEdited}
 use Rattle.cotpad.specs.Generating.{gen_text, IsCounted}
 use Rattle.cotpad.specs.Explaining.{IsExplained}
+use Rattle.cotpad.specs.Meeting.{Side, serving, joining, IsLinkedOnce, IsMeeting}
+use Rattle.cotpad.specs.Looping.{AreLinked, IsLooping, IsLoopTold}
+use Rattle.cotpad.specs.Wired.{Wired, IsAskedFor}
 use Rattle.cotpad.specs.Statuses.{IsReported}
 
 same_edit : (s t : ℕ) (e d : EditData) → Some (Edit s e) ≡ Some (Edit t d) → (s ≡ t) × (e ≡ d)
@@ -59,3 +65,93 @@ made_reported text old new WriteFault made faultless = absurd (faultless made.fa
 made_reported text old new Memory made faultless = inr refl
 made_reported text old new LinkFault made faultless = absurd made
 made_reported text old new PeerRefused made faultless = absurd made
+
+-- ---- the commands that exchange
+
+same_serve : (p q : ℕ) → Some (Serve p) ≡ Some (Serve q) → p ≡ q
+same_serve p q is = cc
+
+same_join : (p q : ℕ) → Some (Join p) ≡ Some (Join q) → p ≡ q
+same_join p q is = cc
+
+same_loop : (p q : ℕ) → Some (Loop p) ≡ Some (Loop q) → p ≡ q
+same_loop p q is = cc
+
+-- the port and the number are those that were asked for
+serve_port : (k : Command) (p port : ℕ) → k ≡ command.Serve p → Some (command_data k) ≡ Some (Serve port) → p ≡ port
+serve_port k p port is said = same_serve p port (ap (λ x. Some (command_data x)) (sym is) ∙ said)
+
+join_port : (k : Command) (p port : ℕ) → k ≡ command.Join p → Some (command_data k) ≡ Some (Join port) → p ≡ port
+join_port k p port is said = same_join p port (ap (λ x. Some (command_data x)) (sym is) ∙ said)
+
+loop_start : (k : Command) (s start : ℕ) → k ≡ command.Loop s → Some (command_data k) ≡ Some (Loop start) → s ≡ start
+loop_start k s start is said = same_loop s start (ap (λ x. Some (command_data x)) (sym is) ∙ said)
+
+pub serve_met : (k : Command) (p port : ℕ) (old new : Outside) (before after : Wired) (r : Status) → k ≡ command.Serve p → Some (command_data k) ≡ Some (Serve port)
+    → IsMeeting serving p old new before after r → IsMeeting serving port old new before after r
+serve_met k p port old new before after r is said met = subst (λ q. IsMeeting serving q old new before after r) (serve_port k p port is said) met
+
+pub join_met : (k : Command) (p port : ℕ) (old new : Outside) (before after : Wired) (r : Status) → k ≡ command.Join p → Some (command_data k) ≡ Some (Join port)
+    → IsMeeting joining p old new before after r → IsMeeting joining port old new before after r
+join_met k p port old new before after r is said met = subst (λ q. IsMeeting joining q old new before after r) (join_port k p port is said) met
+
+pub looped_as : (k : Command) (s start : ℕ) (old new : Outside) (before after : Wired) (r : Status) → k ≡ command.Loop s → Some (command_data k) ≡ Some (Loop start)
+    → IsLooping s old new before after r → IsLooping start old new before after r
+looped_as k s start old new before after r is said looped = subst (λ q. IsLooping q old new before after r) (loop_start k s start is said) looped
+
+pub looped_told : (k : Command) (s start : ℕ) (old new : Outside) (before after : Wired) (r : Status) → k ≡ command.Loop s → Some (command_data k) ≡ Some (Loop start)
+    → IsLoopTold s old new before after r → IsLoopTold start old new before after r
+looped_told k s start old new before after r is said looped = subst (λ q. IsLoopTold q old new before after r) (loop_start k s start is said) looped
+
+some_same : (c d : CommandData) → Some c ≡ Some d → c ≡ d
+some_same c d is = cc
+
+-- a command that exchanges calls the wire
+pub serves_online : (k : Command) (p : ℕ) (asked : CommandData) → k ≡ command.Serve p → Some (command_data k) ≡ Some asked → IsOffline asked → ⊥
+serves_online k p asked is said offline = subst IsOffline (sym (some_same (Serve p) asked (ap (λ x. Some (command_data x)) (sym is) ∙ said))) offline
+
+pub joins_online : (k : Command) (p : ℕ) (asked : CommandData) → k ≡ command.Join p → Some (command_data k) ≡ Some asked → IsOffline asked → ⊥
+joins_online k p asked is said offline = subst IsOffline (sym (some_same (Join p) asked (ap (λ x. Some (command_data x)) (sym is) ∙ said))) offline
+
+pub loops_online : (k : Command) (s : ℕ) (asked : CommandData) → k ≡ command.Loop s → Some (command_data k) ≡ Some asked → IsOffline asked → ⊥
+loops_online k s asked is said offline = subst IsOffline (sym (some_same (Loop s) asked (ap (λ x. Some (command_data x)) (sym is) ∙ said))) offline
+
+-- ---- the link that was asked for
+
+linked : (side : Side) (port : ℕ) (before after : Wired) → IsLinkedOnce side.role port before after → IsAskedFor (link.Peer side.role port) 1 before after
+linked side port before after l = inr (l.asked, omega (arith, l.asks, min-le_left (before.asks + 1) last_count))
+
+paired : (before after : Wired) → AreLinked before after → IsAskedFor link.Pair 2 before after
+paired before after l = inr (l.asked, l.asks)
+
+meeting_asked : (side : Side) (port : ℕ) (old new : Outside) (before after : Wired) (status : Status) → IsMeeting side port old new before after status → IsAskedFor (link.Peer side.role port) 1 before after
+meeting_asked side port old new before after Done m = linked side port before after m.met.link
+meeting_asked side port old new before after Refused m = inl m.1
+meeting_asked side port old new before after Words m = absurd m
+meeting_asked side port old new before after ReadFault m = inl m.1
+meeting_asked side port old new before after WriteFault (inl m) = inl m.1
+meeting_asked side port old new before after WriteFault (inr (inl m)) = linked side port before after m.met.link
+meeting_asked side port old new before after WriteFault (inr (inr m)) = linked side port before after m.met.link
+meeting_asked side port old new before after Memory (m, inl same) = inl same
+meeting_asked side port old new before after Memory (m, inr short) = linked side port before after short.0.link
+meeting_asked side port old new before after LinkFault m = linked side port before after m.met.link
+meeting_asked side port old new before after PeerRefused m = linked side port before after m.met.link
+
+pub looping_asked : (start : ℕ) (old new : Outside) (before after : Wired) (status : Status) → IsLooping start old new before after status → IsAskedFor link.Pair 2 before after
+looping_asked start old new before after Done m = paired before after m.joined.link
+looping_asked start old new before after Refused m = absurd m
+looping_asked start old new before after Words m = absurd m
+looping_asked start old new before after ReadFault m = absurd m
+looping_asked start old new before after WriteFault (inl m) = paired before after m.joined.link
+looping_asked start old new before after WriteFault (inr m) = paired before after m.link
+looping_asked start old new before after Memory m = elim m.link [ inl same ↦ inl same | inr once ↦ paired before after once ]
+looping_asked start old new before after LinkFault m = paired before after m.link
+looping_asked start old new before after PeerRefused m = paired before after m.link
+
+pub serve_asked : (k : Command) (p port : ℕ) (old new : Outside) (before after : Wired) (r : Status) → k ≡ command.Serve p → Some (command_data k) ≡ Some (Serve port)
+    → IsMeeting serving p old new before after r → IsAskedFor (link.Peer Listen port) 1 before after
+serve_asked k p port old new before after r is said met = meeting_asked serving port old new before after r (serve_met k p port old new before after r is said met)
+
+pub join_asked : (k : Command) (p port : ℕ) (old new : Outside) (before after : Wired) (r : Status) → k ≡ command.Join p → Some (command_data k) ≡ Some (Join port)
+    → IsMeeting joining p old new before after r → IsAskedFor (link.Peer Connect port) 1 before after
+join_asked k p port old new before after r is said met = meeting_asked joining port old new before after r (join_met k p port old new before after r is said met)

@@ -1,24 +1,18 @@
 -- An edit as it is done makes what is defined.
-use Rattle.std.proofs.Common.{◌≡◌, ℕ, zero, suc, ◌+◌, ◌<◌, ◌≤◌, Bool, true, false, if◌then◌else◌, List, [], ◌∷◌, ◌++◌, refl, sym, ap, subst, ◌∙◌, inl, inr, arith, length, map, drop, get_or, chars}
-use Rattle.std.specs.Prelude.{⊤, OnOk, OnErr, Option, Some, None, Result, Ok, Err, slice_get, IsOk}
-use Rattle.std.specs.Result.{is_ok}
+use Rattle.std.proofs.Common.{◌≡◌, ℕ, suc, ◌+◌, ◌<◌, ◌≤◌, true, List, [], ◌∷◌, ◌++◌, refl, sym, ap, subst, ◌∙◌, arith, length, drop, get_or}
+use Rattle.std.specs.Prelude.{⊤, OnOk, OnErr, Option, Some, None, Result, Ok, Err}
 use Rattle.std.proofs.Math.Seq.{drop-cons}
-use Rattle.std.proofs.lemmas.List.{length-map}
-use Rattle.std.proofs.lemmas.Option.{slice_get_within}
-use Rattle.std.proofs.lemmas.Bool.{true≢false, cases_Bool}
+use Rattle.std.proofs.lemmas.List.{drop_all}
 use Rattle.context_diff.specs.Operations.{OpData, inserting}
-use Rattle.context_diff.specs.declared.op.Op.{Op}
-use Rattle.context_diff.specs.Ops.{data_of}
+use Rattle.context_diff.specs.declared.op.TheConstants.{PLACES}
 use Rattle.context_diff.specs.Histories.{IsValid, context_of_all}
-use Rattle.context_diff.specs.Replays.{Cell, replay_of, is_shown, characters_of}
+use Rattle.context_diff.specs.Replays.{characters_of}
 use Rattle.cot_site.specs.States.{State, with_last}
 use Rattle.cot_site.specs.Releases.{settled}
-use Rattle.op_name.specs.Lists.{places_from}
-use Rattle.cot_site.specs.Views.{shown_places_of}
 use Rattle.cot_site.specs.Commands.{local_insert, place_behind, numbered, next_name, IsAnswer}
 use Rattle.cot_site.specs.declared.local.Local.{Local}
 use Rattle.cot_site.specs.declared.local.Local.TheVariants as local
-use Rattle.cot_site.proofs.CallerLemmas.{few_cells}
+use Rattle.session_replay.proofs.CallerLemmas.{behind_few}
 use Rattle.cotpad.specs.Editing.{made, then_next, typed}
 use Rattle.cotpad.specs.Code.Editing.{IsDone, IsEditReply}
 use Rattle.cotpad.specs.Replies.{edit_reply, refused_edit_text}
@@ -75,35 +69,17 @@ typed_refused v k text s t ch local.NumberFull within is never = typed_at v k te
 typed_refused v k text s t ch (local.ContextFull entries) within is never = typed_at v k text s ch within is ∙ ap (then_next (typed (v + 1) (drop (k + 1) text))) never
 typed_refused v k text s t ch local.Memory within is never = tt
 
-drop_past : {X : Type 0} (xs : List X) (n : ℕ) → length xs ≤ n → drop n xs ≡ []
-drop_past [] zero le = refl
-drop_past [] (suc n) le = refl
-drop_past (x ∷ xs) zero le = absurd (omega (arith, le))
-drop_past (x ∷ xs) (suc n) le = drop_past xs n (omega (arith, le))
-
 pub typed_none : (v k : ℕ) (text : List ℕ) (s : State) → length text ≤ k → typed v (drop k text) s ≡ Ok s
 unfolding typed
-typed_none v k text s past = ap (λ cs. typed v cs s) (drop_past text k past)
+typed_none v k text s past = ap (λ cs. typed v cs s) (drop_all k text past)
 
-places_few : (test : Cell → Bool) (n : ℕ) (cs : List Cell) → length (places_from test n cs) ≤ length cs
-places_few test n [] = omega arith
-places_few test n (c ∷ cs) = elim (cases_Bool (test c)) [
-  | inl so ↦
-      subst (λ (b : Bool). length (if b then n ∷ places_from test (suc n) cs else places_from test (suc n) cs) ≤ suc (length cs)) (sym so) (omega (arith, places_few test (suc n) cs))
-  | inr isnt ↦
-      subst (λ (b : Bool). length (if b then n ∷ places_from test (suc n) cs else places_from test (suc n) cs) ≤ suc (length cs)) (sym isnt) (omega (arith, places_few test (suc n) cs))
-]
-
--- a character was inserted after at most 64,000,000 others
-pub place_small : (s t : State) (v ch : ℕ) → IsValid s.history → made s (local_insert s v ch) ≡ Ok t → v ≤ 64000000
+-- a character was inserted after at most PLACES others
+pub place_small : (s t : State) (v ch : ℕ) → IsValid s.history → made s (local_insert s v ch) ≡ Ok t → v ≤ PLACES
 place_small s t v ch valid ok = from (place_behind s.history v) refl ok
   where
-    from : (r : Option ℕ) → place_behind s.history v ≡ r → made s (elim r as (λ _. Result OpData Local) [ None ↦ Err (local.PlaceOut v (length (characters_of s.history))) | Some p ↦ numbered s (inserting (next_name s) p ch (context_of_all s.history)) ]) ≡ Ok t → v ≤ 64000000
+    from : (r : Option ℕ) → place_behind s.history v ≡ r → made s (elim r as (λ _. Result OpData Local) [ None ↦ Err (local.PlaceOut v (length (characters_of s.history))) | Some p ↦ numbered s (inserting (next_name s) p ch (context_of_all s.history)) ]) ≡ Ok t → v ≤ PLACES
     from None at ok = cc
-    from (Some p) at ok =
-        let places = shown_places_of s.history in
-        let within : v < suc (length (map suc places)) = slice_get_within (0 ∷ map suc places) v p at in
-        omega (arith, within, length-map places suc, places_few (is_shown s.history) 0 (replay_of s.history), few_cells s.history valid)
+    from (Some p) at ok = behind_few s.history valid v p at
 
 -- a refused edit is replied by its reason
 pub refused_reply : (edit : Result State Local) (why : Local) (t : State) (old new : List ℕ) → IsDone edit (Err why) t → (why ≡ local.Memory → ⊥) → new ≡ old ++ refused_edit_text why → IsEditReply edit old new true

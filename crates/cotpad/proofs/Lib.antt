@@ -8,3 +8,7 @@ pub mod Choosing
 pub mod Session
 pub mod OneReply
 pub mod Traces
+pub mod Meetings
+pub mod Looping
+pub mod Pairs
+pub mod Peers

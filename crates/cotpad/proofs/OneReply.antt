@@ -20,7 +20,7 @@ one_line refusal site bytes a b (inr (short, (why, known, unloaded, line))) (inr
     line ∙ ap refused_log_text (refusal site bytes why other known said unloaded unread) ∙ sym text
 
 -- bytes that are refused aren't loaded
-not_both : OneLoading → (site : ℕ) (bytes line : List ℕ) (s : State) → IsRefusal site bytes line → IsLoadedAs site bytes s → ⊥
+pub not_both : OneLoading → (site : ℕ) (bytes line : List ℕ) (s : State) → IsRefusal site bytes line → IsLoadedAs site bytes s → ⊥
 not_both loading site bytes line s (inl x) loaded = omega (arith, x.0, loaded.0)
 not_both loading site bytes line s (inr (short, (why, known, unloaded, text))) loaded = (loading site bytes s loaded.1).1 why known unloaded
 

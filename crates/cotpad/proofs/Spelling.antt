@@ -10,9 +10,10 @@ use Rattle.script_text.specs.Fields.{number_of, long_of, site_of, name_of, membe
 use Rattle.script_text.proofs.CallerLemmas.{long_reads, number_reads, site_reads, name_reads, member_reads, and_then_some, some_is}
 use Rattle.session_replay.specs.declared.generator.TheConstants.{MAX_EVENTS, MAX_WINDOW}
 use Rattle.cotpad.specs.declared.command.Command.{Command}
-use Rattle.cotpad.specs.Commands.{CommandData, Replay, Show, Edit, Gen, Explain, EditData, Ins, Nl, Del, Undo, Redo, command_data}
-use Rattle.cotpad.specs.Words.{edit_words, command_words, IsEditInRange, IsInRange, Spells}
-use Rattle.cotpad.specs.Code.Reading.{first_in, one_in, alone_in, text_in, ins_in, nl_in, del_in, undo_in, redo_in, edit_row, edit_in, gen_in, gen_of, explain_in, command_row, command_in}
+use Rattle.cotpad.specs.declared.command.TheConstants.{MAX_PORT}
+use Rattle.cotpad.specs.Commands.{CommandData, Replay, Show, Edit, Gen, Explain, Serve, Join, Loop, EditData, Ins, Nl, Del, Undo, Redo, command_data}
+use Rattle.cotpad.specs.Words.{edit_words, command_words, IsEditInRange, IsPort, IsInRange, Spells}
+use Rattle.cotpad.specs.Code.Reading.{first_in, one_in, alone_in, text_in, ins_in, nl_in, del_in, undo_in, redo_in, edit_row, edit_in, gen_in, gen_of, explain_in, port_of, port_in, loop_in, command_row, command_in}
 
 first_some : (ws : List (List ℕ)) (p : List ℕ × List (List ℕ)) → first_in ws ≡ Some p → ws ≡ p.0 ∷ p.1
 first_some [] p e = cc
@@ -165,6 +166,60 @@ explain_from parts c h =
     let spelled : parts ≡ member_text m.0 ∷ [] = one_some parts w.0 w.1 ∙ ap (λ x. x ∷ []) member.0 in
     subst (λ x. (codes "explain" ∷ parts ≡ command_words x) × IsInRange x) (some_is (Explain m.0) c m.2) (ap (λ xs. codes "explain" ∷ xs) spelled, member.1)
 
+port_of_some : (n p : ℕ) → port_of n ≡ Some p → IsPort p × (n ≡ p)
+port_of_some n p h =
+    cond_both (nat_le 1 n && nat_le n MAX_PORT) (Some n) None (λ o. o ≡ Some p → IsPort p × (n ≡ p))
+    (λ t e.
+    let is = some_is n p e in
+    let both = and_parts (nat_le 1 n) (nat_le n MAX_PORT) t in
+    (subst IsPort is (leb-true _ _ both.0, leb-true _ _ both.1), is))
+    (λ t e. cc)
+    h
+
+-- the one word is a port
+port_from : (parts : List (List ℕ)) (port : ℕ) → port_in parts ≡ Some port → (parts ≡ decimal port ∷ []) × IsPort port
+unfolding port_in
+port_from parts port h =
+    let w = and_then_some (one_in parts) _ port h in
+    let n = and_then_some (number_of w.0) _ port w.2 in
+    let number = number_reads.from w.0 n.0 n.1 in
+    let is = port_of_some n.0 port n.2 in
+    (one_some parts w.0 w.1 ∙ ap (λ x. x ∷ []) (number.0 ∙ ap decimal is.1), is.0)
+
+mapped_from : (make : ℕ → CommandData) (o : Option ℕ) (c : CommandData) → option_map make o ≡ Some c → (n : ℕ) × (o ≡ Some n) × (make n ≡ c)
+mapped_from make None c h = cc
+mapped_from make (Some n) c h = (n, refl, some_is (make n) c h)
+
+serve_from : (parts : List (List ℕ)) (c : CommandData) → option_map Serve (port_in parts) ≡ Some c → IsCommand (codes "serve" ∷ parts) c
+unfolding IsCommand
+serve_from parts c h =
+    let p = mapped_from Serve (port_in parts) c h in
+    let port = port_from parts p.0 p.1 in
+    subst (λ x. (codes "serve" ∷ parts ≡ command_words x) × IsInRange x) p.2 (ap (λ xs. codes "serve" ∷ xs) port.0, port.1)
+
+join_from : (parts : List (List ℕ)) (c : CommandData) → option_map Join (port_in parts) ≡ Some c → IsCommand (codes "join" ∷ parts) c
+unfolding IsCommand
+join_from parts c h =
+    let p = mapped_from Join (port_in parts) c h in
+    let port = port_from parts p.0 p.1 in
+    subst (λ x. (codes "join" ∷ parts ≡ command_words x) × IsInRange x) p.2 (ap (λ xs. codes "join" ∷ xs) port.0, port.1)
+
+loop_from : (parts : List (List ℕ)) (c : CommandData) → loop_in parts ≡ Some c → IsCommand (codes "loop" ∷ parts) c
+unfolding loop_in IsCommand
+loop_from parts c h =
+    let w = and_then_some (one_in parts) _ c h in
+    let s = and_then_some (long_of w.0) _ c w.2 in
+    let start = long_reads.from w.0 s.0 s.1 in
+    let spelled : parts ≡ decimal s.0 ∷ [] = one_some parts w.0 w.1 ∙ ap (λ x. x ∷ []) start.0 in
+    subst (λ x. (codes "loop" ∷ parts ≡ command_words x) × IsInRange x) (some_is (Loop s.0) c s.2) (ap (λ xs. codes "loop" ∷ xs) spelled, start.1)
+
+port_of_to : (port : ℕ) → IsPort port → port_of port ≡ Some port
+port_of_to port in_range = rw (le-leb _ _ in_range.0, le-leb _ _ in_range.1) refl
+
+port_to : (port : ℕ) → IsPort port → port_in (decimal port ∷ []) ≡ Some port
+unfolding port_in
+port_to port in_range = rw (number_reads.to (decimal port) port (refl, omega (arith, in_range.1))) (port_of_to port in_range)
+
 gen_of_to : (start events window : ℕ) → events ≤ MAX_EVENTS → 1 ≤ window → window ≤ MAX_WINDOW → gen_of start events window ≡ Some (Gen start events window)
 gen_of_to start events window few some small = rw (le-leb _ _ few, le-leb _ _ some, le-leb _ _ small) refl
 
@@ -190,16 +245,22 @@ command_from ws c h =
     (row_or IsCommand p.0.0 (codes "show") parts c (alone_in Show parts) _ (show_from parts c)
     (row_or IsCommand p.0.0 (codes "edit") parts c (edit_in parts) _ (editing_from parts c)
     (row_or IsCommand p.0.0 (codes "gen") parts c (gen_in parts) _ (gen_from parts c)
-    (row_or IsCommand p.0.0 (codes "explain") parts c (explain_in parts) None (explain_from parts c) (λ never. cc)))))
+    (row_or IsCommand p.0.0 (codes "explain") parts c (explain_in parts) _ (explain_from parts c)
+    (row_or IsCommand p.0.0 (codes "serve") parts c (option_map Serve (port_in parts)) _ (serve_from parts c)
+    (row_or IsCommand p.0.0 (codes "join") parts c (option_map Join (port_in parts)) _ (join_from parts c)
+    (row_or IsCommand p.0.0 (codes "loop") parts c (loop_in parts) None (loop_from parts c) (λ never. cc))))))))
     p.2)
 
 command_to : (c : CommandData) → IsInRange c → command_in (command_words c) ≡ Some c
-unfolding command_in command_row edit_in edit_row ins_in nl_in del_in undo_in redo_in gen_in explain_in
+unfolding command_in command_row edit_in edit_row ins_in nl_in del_in undo_in redo_in gen_in explain_in loop_in
 command_to Replay r = refl
 command_to Show r = refl
 command_to (Gen start events window) r =
     rw (long_reads.to (decimal start) start (refl, r.0), number_reads.to (decimal events) events (refl, omega (arith, r.1)), number_reads.to (decimal window) window (refl, omega (arith, r.3))) (gen_of_to start events window r.1 r.2 r.3)
 command_to (Explain m) r = rw (member_reads.to (member_text m) m (refl, r)) refl
+command_to (Serve port) r = rw (port_to port r) refl
+command_to (Join port) r = rw (port_to port r) refl
+command_to (Loop start) r = rw (long_reads.to (decimal start) start (refl, r)) refl
 command_to (Edit site (Ins place text)) r = rw (site_reads.to (decimal site) site (refl, r.0), number_reads.to (decimal place) place (refl, r.1.0), text_to text r.1.1) refl
 command_to (Edit site (Nl place)) r = rw (site_reads.to (decimal site) site (refl, r.0), number_reads.to (decimal place) place (refl, r.1)) refl
 command_to (Edit site (Del place)) r = rw (site_reads.to (decimal site) site (refl, r.0), number_reads.to (decimal place) place (refl, r.1)) refl

@@ -4,3 +4,6 @@ pub mod Refusing
 pub mod Editing
 pub mod Generated
 pub mod Explaining
+pub mod Stopping
+pub mod Meeting
+pub mod Looping

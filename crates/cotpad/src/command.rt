@@ -4,11 +4,14 @@ ghost use Rattle.std.specs.Prelude.{◌≡◌, Some, None, IfSome, MatchOption, 
 ghost use Rattle.cotpad.specs.Commands.{CommandData, command_data, edit_data};
 ghost use Rattle.cotpad.specs.Commands as asked;
 ghost use Rattle.cotpad.specs.Words.{Spells};
-ghost use Rattle.cotpad.specs.Code.Reading.{command_in, command_row, edit_in, edit_row, explain_in, gen_in, ins_in, nl_in, del_in, undo_in, redo_in, first_in, one_in, alone_in};
+ghost use Rattle.cotpad.specs.Code.Reading.{command_in, command_row, edit_in, edit_row, explain_in, gen_in, loop_in, port_in, ins_in, nl_in, del_in, undo_in, redo_in, first_in, one_in, alone_in};
 
 use op_name::{Member, Name};
 use script_text::{parse_long, parse_member, parse_name, parse_number, parse_site};
 use session_replay::{MAX_EVENTS, MAX_WINDOW};
+
+/// The greatest port.
+pub const MAX_PORT: u32 = 65_535;
 
 /// What the program is asked to do.
 #[derive(Clone, Copy, Debug)]
@@ -31,6 +34,19 @@ pub enum Command<'a> {
     /// `explain MEMBER`: reads a log, and writes the steps that derive the form in which the operation was executed.
     Explain {
         member: Member,
+    },
+    /// `serve PORT`: reads a log, waits for a peer at the port, exchanges with it, and writes the log of the result.
+    Serve {
+        port: u16,
+    },
+    /// `join PORT`: reads a log, goes to a peer that waits at the port, exchanges with it, and writes the log of the result.
+    Join {
+        port: u16,
+    },
+    /// `loop START`: generates a session of two sites, which exchange twice over a pair, and writes what went and whether
+    /// they show the same text.
+    Loop {
+        start: u64,
     },
 }
 
@@ -72,6 +88,9 @@ fn command_row<'a>(word: &str, parts: &'a [String]) -> Option<Command<'a>>
         "edit" => edit_of(parts),
         "gen" => gen_of(parts),
         "explain" => explain_of(parts),
+        "serve" => serve_of(parts),
+        "join" => join_of(parts),
+        "loop" => loop_of(parts),
         _ => None,
     }
 }
@@ -199,6 +218,41 @@ fn explain_of(parts: &[String]) -> Option<Command<'_>>
 {
     let member = parse_member(one(parts)?)?;
     Some(Command::Explain { member })
+}
+
+fn serve_of(parts: &[String]) -> Option<Command<'_>>
+    ensures { option_map command_data result ≡ option_map asked.Serve (port_in (map string_bytes parts.now)) }
+{
+    let port = port_of(parts)?;
+    Some(Command::Serve { port })
+}
+
+fn join_of(parts: &[String]) -> Option<Command<'_>>
+    ensures { option_map command_data result ≡ option_map asked.Join (port_in (map string_bytes parts.now)) }
+{
+    let port = port_of(parts)?;
+    Some(Command::Join { port })
+}
+
+// The one word is a port.
+#[tactic(auto, unfolding(crate::specs::Code::Reading::port_in))]
+fn port_of(parts: &[String]) -> Option<u16>
+    ensures { result ≡ port_in (map string_bytes parts.now) }
+{
+    let port = parse_number(one(parts)?)?;
+    if 1 <= port && port <= MAX_PORT {
+        Some(port as u16)
+    } else {
+        None
+    }
+}
+
+#[tactic(auto, unfolding(crate::specs::Code::Reading::loop_in))]
+fn loop_of(parts: &[String]) -> Option<Command<'_>>
+    ensures { option_map command_data result ≡ loop_in (map string_bytes parts.now) }
+{
+    let start = parse_long(one(parts)?)?;
+    Some(Command::Loop { start })
 }
 
 // The first word and the others, if there is one.

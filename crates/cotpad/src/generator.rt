@@ -36,7 +36,7 @@ pub(crate) fn answer_generated<K: Sink>(
         (told left faults (K.held sink.new) (K.faults sink.new))
         result }
     ensures counted { result ≡ Status.Done → IsCounted start events window }
-    ensures untouched { (result ≡ Status.ReadFault) ⊎ (result ≡ Status.Memory) → sink.new ≡ sink.old }
+    ensures untouched { (result ≡ Status.ReadFault) ⊎ ((result ≡ Status.Memory) ⊎ (result ≡ Status.LinkFault)) → sink.new ≡ sink.old }
 {
     let mut out = Vec::new(alloc);
     match put_generated(alloc, start, events, window, &mut out) {
@@ -134,8 +134,8 @@ fn count_alike(alloc: Global, site: &Site, generated: &Generated) -> Result<u8, 
     Ok(equal)
 }
 
-// Whether the site shows this text.
-fn shows(alloc: Global, site: &Site, text: &[u8]) -> Result<bool, Memory>
+/// Whether the site shows this text.
+pub(crate) fn shows(alloc: Global, site: &Site, text: &[u8]) -> Result<bool, Memory>
     ensures { IfOk result (λ same. same ≡ bytes_eq (text_of site.now.history) text.now) }
 {
     let mut own = Vec::new(alloc);
@@ -143,8 +143,8 @@ fn shows(alloc: Global, site: &Site, text: &[u8]) -> Result<bool, Memory>
     Ok(own.as_slice() == text)
 }
 
-// Appends a text and a number.
-fn put_number(before: &[u8], number: u64, out: &mut Vec<u8>) -> Result<(), Memory>
+/// Appends a text and a number.
+pub(crate) fn put_number(before: &[u8], number: u64, out: &mut Vec<u8>) -> Result<(), Memory>
     ensures { OnOk result (out.new.items ≡ out.old.items ++ (before.now ++ decimal number)) }
 {
     let mut digits = Buffer::new();

@@ -12,12 +12,15 @@ mod explain;
 mod generator;
 mod laws;
 mod loaded;
+mod looped;
+mod meeting;
+mod refusals;
 mod replay;
 mod run;
 mod show;
 mod status;
 
-use outside_io::{NoWire, StdinSource, StdoutSink};
+use outside_io::{StdinSource, StdoutSink, TcpWire};
 use run::run;
 use status::{Status, code_of};
 use std::env;
@@ -40,7 +43,7 @@ fn main(rt: HostRuntime) -> ExitCode {
     };
     let mut source = StdinSource::new(rt.stdin());
     let mut sink = StdoutSink::new(rt.stdout());
-    let mut wire = NoWire::new();
+    let mut wire = TcpWire::new(&rt);
     let status = run(alloc, &words, &mut source, &mut sink, &mut wire);
     ExitCode::from(code_of(status))
 }

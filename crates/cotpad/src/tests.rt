@@ -2,7 +2,7 @@ ghost use Rattle.std.specs.Prelude.{◌≤◌};
 
 use crate::run::run;
 use crate::status::{Status, code_of};
-use outside_io::{NoWire, SinkMem, SourceMem};
+use outside_io::{NoWire, SinkMem, SourceMem, WireMem};
 use std::alloc::Global;
 use std::test::Fail;
 
@@ -160,6 +160,13 @@ fn other_words_read_nothing(rt: HostRuntime) -> Result<(), Fail> {
         "explain 0.1/0",
         "explain 0.1/65536",
         "explain 0.1 0.2",
+        "serve",
+        "serve 0",
+        "serve 65536",
+        "join 07000",
+        "join 7000 7001",
+        "loop",
+        "loop 18446744073709551616",
     ] {
         let (ended, held) = called(rt.alloc(), words, b"sites 1\nshow 0\n", 8, &[0], &[])?;
         assert_eq!(rt; ended, Status::Words, "{words}");
@@ -384,6 +391,121 @@ fn sites_of_long_sessions_show_the_same_text(rt: HostRuntime) -> Result<(), Fail
         lines.next();
         assert_eq!(rt; lines.next(), Some("equal 4"), "{words}");
     }
+    Ok(())
+}
+
+/// The head of an exchange message.
+const HEAD: &str = "434f54564543310a";
+
+/// The bytes of messages that are spelled in letters: `m` the head, `0` a state of nothing, `1` one with 0.1 alone, `e` an end
+/// mark; other letters as in logs.
+fn messages_of(alloc: Global, letters: &str) -> Result<Vec<u8>, Fail> {
+    let mut bytes = Vec::new(alloc);
+    for letter in letters.chars() {
+        let piece = match letter {
+            'm' => HEAD,
+            '0' => "0000000000",
+            '1' => "01000000000100000000",
+            'e' => "00000000",
+            'a' => A,
+            _ => FORGED,
+        };
+        match hex::decode(alloc, piece) {
+            Ok(part) => bytes.extend_from_slice(&part)?,
+            Err(_) => return Err(Fail::new("no hexadecimal digits")),
+        }
+    }
+    Ok(bytes)
+}
+
+/// What a call over a wire in memory left: its status, what the sink holds, and what was sent at end 0.
+#[derive(Drop)]
+struct Exchanged {
+    status: Status,
+    held: Vec<u8>,
+    sent: Vec<u8>,
+}
+
+fn run_over_memory(
+    alloc: Global,
+    words: &str,
+    log: &[u8],
+    peer: &[u8],
+    failing: &[u32],
+) -> Result<Exchanged, Fail> {
+    let words = words_of(alloc, words)?;
+    let mut source = SourceMem::new(log.to_vec(alloc)?, 16, Vec::new(alloc));
+    let mut sink = SinkMem::new(alloc, Vec::new(alloc));
+    let mut wire = WireMem::new(alloc, peer.to_vec(alloc)?, failing.to_vec(alloc)?);
+    let status = run(alloc, &words, &mut source, &mut sink, &mut wire);
+    Ok(Exchanged {
+        status,
+        held: sink.held().to_vec(alloc)?,
+        sent: wire.sent(0).to_vec(alloc)?,
+    })
+}
+
+#[test]
+fn a_copy_gets_what_the_other_has(rt: HostRuntime) -> Result<(), Fail> {
+    let alloc = rt.alloc();
+    // The words, the log, what the peer sends, the log that is written, and what is sent.
+    let cases: [(&str, &str, &str, &str, &str); 2] = [
+        ("serve 7000", "ha", "m0e", "ha", "m1ae"),
+        ("join 7000", "h", "m1ae", "ha", "m0e"),
+    ];
+    for (words, log, peer, written, sent) in cases {
+        let log = bytes_of(alloc, log)?;
+        let peer = messages_of(alloc, peer)?;
+        let ended = run_over_memory(alloc, words, &log, &peer, &[])?;
+        assert_eq!(rt; ended.status, Status::Done, "{words}");
+        let written = bytes_of(alloc, written)?;
+        assert_eq!(rt; ended.held.as_slice(), written.as_slice(), "{words}");
+        let sent = messages_of(alloc, sent)?;
+        assert_eq!(rt; ended.sent.as_slice(), sent.as_slice(), "{words}");
+    }
+    Ok(())
+}
+
+#[test]
+fn what_a_peer_sends_is_refused_by_a_line(rt: HostRuntime) -> Result<(), Fail> {
+    let alloc = rt.alloc();
+    let cases: [(&str, &str, &str); 2] = [
+        ("h", "m1a", "refused peer bytes 39 cut\n"),
+        ("hf", "m1ae", "refused peer op forged 0.1\n"),
+    ];
+    for (log, peer, line) in cases {
+        let log = bytes_of(alloc, log)?;
+        let peer = messages_of(alloc, peer)?;
+        let ended = run_over_memory(alloc, "join 7000", &log, &peer, &[])?;
+        assert_eq!(rt; ended.status, Status::PeerRefused, "{line}");
+        assert_eq!(rt; ended.held.as_slice(), line.as_bytes(), "{line}");
+    }
+    Ok(())
+}
+
+#[test]
+fn a_failed_link_writes_nothing(rt: HostRuntime) -> Result<(), Fail> {
+    let alloc = rt.alloc();
+    let log = bytes_of(alloc, "h")?;
+    let peer = messages_of(alloc, "m0e")?;
+    for call in [0, 2] {
+        let ended = run_over_memory(alloc, "serve 7000", &log, &peer, &[call])?;
+        assert_eq!(rt; ended.status, Status::LinkFault);
+        assert_eq!(rt; ended.held.len(), 0);
+        assert_eq!(rt; ended.sent.len(), 0);
+    }
+    Ok(())
+}
+
+#[test]
+fn two_made_sites_exchange_twice(rt: HostRuntime) -> Result<(), Fail> {
+    let alloc = rt.alloc();
+    let ended = run_over_memory(alloc, "loop 7", b"not read", b"not read", &[])?;
+    assert_eq!(rt; ended.status, Status::Done);
+    assert_eq!(rt;
+        ended.held.as_slice(),
+        b"joined 8 8\njoined 0 0\nequal 2\n".as_slice()
+    );
     Ok(())
 }
 

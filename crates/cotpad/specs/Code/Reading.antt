@@ -1,8 +1,9 @@
 -- The table of words, as it is read.
-use Rattle.std.specs.Prelude.{ℕ, ◌==◌, ◌&&◌, nat_le, List, [], ◌∷◌, codes, bytes_eq, length, Option, Some, None, option_and_then, if◌then◌else◌}
+use Rattle.std.specs.Prelude.{ℕ, ◌==◌, ◌&&◌, nat_le, List, [], ◌∷◌, codes, bytes_eq, length, Option, Some, None, option_and_then, option_map, if◌then◌else◌}
 use Rattle.session_replay.specs.declared.generator.TheConstants.{MAX_EVENTS, MAX_WINDOW}
 use Rattle.script_text.specs.Fields.{number_of, long_of, site_of, name_of, member_of, ◌>>=◌}
-use Rattle.cotpad.specs.Commands.{CommandData, Replay, Show, Edit, Gen, Explain, EditData, Ins, Nl, Del, Undo, Redo}
+use Rattle.cotpad.specs.declared.command.TheConstants.{MAX_PORT}
+use Rattle.cotpad.specs.Commands.{CommandData, Replay, Show, Edit, Gen, Explain, Serve, Join, Loop, EditData, Ins, Nl, Del, Undo, Redo}
 
 -- the first word and the others, if there is one
 abbrev pub first_in : List (List ℕ) → Option (List ℕ × List (List ℕ))
@@ -94,6 +95,22 @@ explain_in ws = do
   m ← member_of word
   Some (Explain m)
 
+-- a number that is a port
+abbrev pub port_of : ℕ → Option ℕ
+port_of n = if nat_le 1 n && nat_le n MAX_PORT then Some n else None
+
+unfoldable pub port_in : List (List ℕ) → Option ℕ
+port_in ws = do
+  word ← one_in ws
+  n ← number_of word
+  port_of n
+
+unfoldable pub loop_in : List (List ℕ) → Option CommandData
+loop_in ws = do
+  word ← one_in ws
+  start ← long_of word
+  Some (Loop start)
+
 -- the command of this word and these parts
 unfoldable pub command_row : List ℕ → List (List ℕ) → Option CommandData
 command_row word parts =
@@ -102,7 +119,10 @@ command_row word parts =
     else (if bytes_eq word (codes "edit") then edit_in parts
     else (if bytes_eq word (codes "gen") then gen_in parts
     else (if bytes_eq word (codes "explain") then explain_in parts
-    else None))))
+    else (if bytes_eq word (codes "serve") then option_map Serve (port_in parts)
+    else (if bytes_eq word (codes "join") then option_map Join (port_in parts)
+    else (if bytes_eq word (codes "loop") then loop_in parts
+    else None)))))))
 
 -- the command that these words spell, if they spell one
 unfoldable pub command_in : List (List ℕ) → Option CommandData

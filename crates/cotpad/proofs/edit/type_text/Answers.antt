@@ -3,6 +3,7 @@ use Rattle.std.specs.Prelude.{Err}
 use Rattle.std.proofs.lemmas.Iterator.{YieldsList-from_chars}
 use Rattle.std.proofs.lemmas.Iterator.Consumers.{YieldsList-turn, YieldsList-end}
 use Rattle.std.proofs.lemmas.List.{length_push}
+use Rattle.context_diff.specs.declared.op.TheConstants.{PLACES}
 use Rattle.cot_site.specs.Sites.{state_of}
 use Rattle.cotpad.specs.Editing.{typed}
 use Rattle.cotpad.specs.Code.Editing.{IsDone}
@@ -14,7 +15,7 @@ loop-ch-init c = refl
 
 pub overflow_add-place : goal.overflow_add-place
 overflow_add-place c =
-    let small : c.loop-ch.place ≤ 64000000 = place_small (state_of c.loop-ch.site) (state_of c.insert.new.site) c.loop-ch.place c.in-Some.ch c.known.ensures.history c.in-Ok.ensures in
+    let small : c.loop-ch.place ≤ PLACES = place_small (state_of c.loop-ch.site) (state_of c.insert.new.site) c.loop-ch.place c.in-Some.ch c.known.ensures.history c.in-Ok.ensures in
     omega arith
 
 pub loop-ch-preserved : goal.loop-ch-preserved

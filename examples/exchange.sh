@@ -1,0 +1,36 @@
+#!/bin/sh
+# Two people have copies of one log, edit them apart, and exchange over a connection of this machine: both then show the same text.
+# Run it at the top of the repository, once `make` left the program at bin/cotpad. A port may be given, else it is 7000.
+set -e
+port=${1:-7000}
+work=$(mktemp -d)
+server=
+trap 'test -z "$server" || kill "$server" 2> /dev/null || true; rm -rf "$work"' EXIT
+
+printf 'COTLOG1\n' > "$work/empty"
+bin/cotpad edit 0 ins 0 'Agenda: budget' < "$work/empty" > "$work/shared"
+
+# Ann, site 0, and Bob, site 1, know nothing of each other's edit.
+bin/cotpad edit 0 ins 8 'draft ' < "$work/shared" > "$work/ann"
+bin/cotpad edit 1 ins 14 ', staff' < "$work/shared" > "$work/bob"
+
+bin/cotpad serve "$port" < "$work/ann" > "$work/ann.new" &
+server=$!
+
+# Ann's program waits a moment later; until then nobody listens, and `join` ends with status 6.
+tries=0
+status=6
+while [ "$status" -eq 6 ] && [ "$tries" -lt 50 ]; do
+    sleep 0.1
+    tries=$((tries + 1))
+    status=0
+    bin/cotpad join "$port" < "$work/bob" > "$work/bob.new" || status=$?
+done
+test "$status" -eq 0
+wait "$server"
+server=
+
+echo 'Ann:'
+bin/cotpad show < "$work/ann.new"
+echo 'Bob:'
+bin/cotpad show < "$work/bob.new"
