@@ -9,15 +9,17 @@
  *    call overlap. That holds for a buffer of no bytes too. A struct or number that a call writes has a value before:
  *    declare it with = {0}.
  *  - A cotpad_site begins as COTPAD_SITE_EMPTY. cotpad_open wants an empty one, and fills it where it answers COTPAD_OK;
- *    cotpad_close wants a filled one, and empties it; every other call wants a filled one. The host reads and
- *    writes nothing in it, and uses no copy of it.
+ *    cotpad_load does as cotpad_open; cotpad_close wants a filled one, and empties it; every other call wants a filled
+ *    one. The host reads and writes nothing in it, and uses no copy of it.
  *  - A site is used by one call at a time, and on the thread that made it.
  *  - No call is made from a signal handler, or in the child of a fork of a process with threads.
  *  - The process has one malloc, realloc and free, and stack enough.
  *
  * No call ends the process, prints, waits, or keeps a pointer of the host's. What a site has on the heap goes by
  * cotpad_close; a host frees nothing else. A call that answers anything but COTPAD_OK leaves the history, what waits and
- * the text as they were, and writes nothing but what is said of that answer.
+ * the text as they were, and writes nothing but what is said of that answer. Four calls do many things one after the
+ * other, and may have done the first of them: cotpad_insert_text and cotpad_delete_range tell how many,
+ * cotpad_exchange_close and cotpad_exchange_finish take no operation back.
  */
 #ifndef COTPAD_H
 #define COTPAD_H
@@ -38,7 +40,7 @@ typedef uint32_t cotpad_status;
 #define COTPAD_NO_MEMORY 1u       /* out of memory; the call may be made again */
 #define COTPAD_SITE_OUT 2u        /* the number of the site is above 63 */
 #define COTPAD_PLACE_OUT 3u       /* the text has no such place */
-#define COTPAD_NO_CHARACTER 4u    /* the number is no Unicode scalar value */
+#define COTPAD_NO_CHARACTER 4u    /* the number is no Unicode scalar value, or the bytes are no UTF-8 */
 #define COTPAD_UNKNOWN 5u         /* the site has integrated no insert or delete of this name */
 #define COTPAD_NOT_IN_FORCE 6u    /* it is undone already */
 #define COTPAD_IN_FORCE 7u        /* it isn't undone */
@@ -46,8 +48,17 @@ typedef uint32_t cotpad_status;
 #define COTPAD_NUMBER_FULL 9u     /* the site has made 1,000,000 inserts and deletes */
 #define COTPAD_CONTEXT_FULL 10u   /* more than 16,384 inserts and deletes were undone */
 #define COTPAD_NO_NAME 11u        /* a site above 63, or a number that is 0 or above 1,000,000 */
-#define COTPAD_NONE 12u           /* there is none: no operation at this index, none to release */
+#define COTPAD_NONE 12u           /* there is none: no operation at this index, none to release, no character at this place */
 #define COTPAD_TOO_SHORT 13u      /* the buffer is too short: *needed says how many bytes it takes */
+
+/* Of the bytes of a log or of a message of an exchange; then a verdict says where, and why. */
+#define COTPAD_TOO_LONG 14u  /* more than 67,108,864 bytes; nothing is written */
+#define COTPAD_NO_HEAD 15u   /* the first eight bytes aren't those of a log, or of this message */
+#define COTPAD_CUT 16u       /* they end early: of a log, within the frame at `offset`; of a message, at `offset` */
+#define COTPAD_MALFORMED 17u /* no frame or state: `cause` at the byte `offset` */
+#define COTPAD_EXTRA 18u     /* bytes follow the message, from `offset` on */
+#define COTPAD_REFUSED 19u   /* an operation isn't taken: `kind` is its verdict, and of `operation` the member is told. Of a log, its
+                              * frame, or that of the operation that freed it, begins at `offset` */
 
 /* An insert or delete, by the site that made it and the number that it gave, from 1, at generation 0; or all undos (odd
  * generation) or redos (even generation) of it at that generation. */
@@ -113,8 +124,21 @@ typedef struct {
 uint32_t cotpad_version(void);
 
 /* Makes a site of this number, 0 to 63, that has done nothing, in an empty handle; no two sites of a session have one
- * number. Else COTPAD_SITE_OUT or COTPAD_NO_MEMORY, and the handle stays empty. */
+ * number: what two such sites make under one name is forged where it is delivered, and an exchange doesn't notice it. Else
+ * COTPAD_SITE_OUT or COTPAD_NO_MEMORY, and the handle stays empty. */
 cotpad_status cotpad_open(cotpad_site *site, uint16_t number);
+
+/* Makes a site of this number from the bytes of a log, as cotpad_save writes them, in an empty handle: its operations are
+ * delivered in their order, each with the releases after it, and none of them is refused. Else COTPAD_SITE_OUT,
+ * COTPAD_TOO_LONG, COTPAD_NO_MEMORY, or of the first fault COTPAD_NO_HEAD, COTPAD_CUT, COTPAD_MALFORMED or, where all bytes
+ * are a log, COTPAD_REFUSED; the handle stays empty, and *why is written by these last four. The log doesn't tell the number:
+ * keep it beside the log. Load the newest log: a site that goes on from an older one gives names that others know already. */
+cotpad_status cotpad_load(cotpad_site *site, uint16_t number, const uint8_t *bytes, size_t length, cotpad_verdict *why);
+
+/* The log of a site: its history, and what waits. *needed is the number of its bytes. Else COTPAD_TOO_SHORT, which writes
+ * *needed alone, or COTPAD_NO_MEMORY. A log of more than 67,108,864 bytes can't be loaded. Release until COTPAD_NONE
+ * before you save: then the loaded site has the same history, and the same waits. */
+cotpad_status cotpad_save(cotpad_site *site, uint8_t *out, size_t room, size_t *needed);
 
 /* Ends a site, frees all of it, and leaves the handle empty. */
 void cotpad_close(cotpad_site *site);
@@ -130,10 +154,26 @@ cotpad_status cotpad_delete(cotpad_site *site, uint32_t place);
 cotpad_status cotpad_undo(cotpad_site *site, uint16_t author, uint32_t number);
 cotpad_status cotpad_redo(cotpad_site *site, uint16_t author, uint32_t number);
 
+/* Inserts the characters of a text in UTF-8, the first after `place` shown ones, each next one after it. *made is how many
+ * were inserted, each by an operation: their frames are the last *made ones of the history. COTPAD_OK: all of them. Else
+ * COTPAD_NO_CHARACTER (no UTF-8) or COTPAD_PLACE_OUT, and *made is 0; or COTPAD_NUMBER_FULL, COTPAD_CONTEXT_FULL or
+ * COTPAD_NO_MEMORY, where the first *made characters are inserted, and no more: go on with the rest, or undo these. */
+cotpad_status cotpad_insert_text(cotpad_site *site, uint32_t place, const uint8_t *text, size_t length, uint32_t *made);
+
+/* Deletes `count` shown characters, from the one at `place` on. *made is how many were deleted, as above. COTPAD_OK: all of
+ * them. Else COTPAD_PLACE_OUT, where they aren't all there, and *made is 0; or COTPAD_NUMBER_FULL, COTPAD_CONTEXT_FULL or
+ * COTPAD_NO_MEMORY, where the first *made characters are deleted, and no more. To take a text or a range back, read the names
+ * of the last *made operations by cotpad_operation_at, right after the call, and give each to cotpad_undo. */
+cotpad_status cotpad_delete_range(cotpad_site *site, uint32_t place, uint32_t count, uint32_t *made);
+
 /* How many operations are integrated, how many wait, and how many characters are shown. */
 uint32_t cotpad_operations(cotpad_site *site);
 uint32_t cotpad_waiting(cotpad_site *site);
 uint32_t cotpad_characters(cotpad_site *site);
+
+/* The insert by which the shown character at `place` stands there, counted from 0: undo and redo take its site and number.
+ * Else COTPAD_NONE. */
+cotpad_status cotpad_name_at(cotpad_site *site, uint32_t place, cotpad_member *name);
 
 /* What the integrated operation at this index is, and who made it. Operations stand in the order of integration, from 0,
  * so what was done last stands at cotpad_operations(site) - 1. Else COTPAD_NONE. */
@@ -156,6 +196,24 @@ cotpad_status cotpad_release(cotpad_site *site, cotpad_verdict *verdict);
 /* The shown text in UTF-8, with no byte after it; *needed is the number of its bytes. Else COTPAD_TOO_SHORT, which writes
  * *needed alone, or COTPAD_NO_MEMORY. */
 cotpad_status cotpad_text(cotpad_site *site, uint8_t *out, size_t room, size_t *needed);
+
+/* An exchange: two sites tell each other what they have, and send what the other lacks, by three messages. The joiner
+ * offers the first; the server answers it by the second; the joiner takes that in, and closes with the third, which the
+ * server takes in and is finished. Where the two agree (no name is known to them by different contents) and nothing waits,
+ * both have the same operations then. Each message is a whole buffer of at most 67,108,864 bytes.
+ *
+ * Those that write a message answer COTPAD_OK, or COTPAD_TOO_SHORT, which writes *needed alone, or COTPAD_NO_MEMORY. Those
+ * that read one answer COTPAD_TOO_LONG or, with *why written, COTPAD_NO_HEAD (not of the third message), COTPAD_CUT,
+ * COTPAD_MALFORMED or COTPAD_EXTRA, and the site is as it was; or, of close and finish, with *why written, COTPAD_REFUSED, or
+ * COTPAD_NO_MEMORY: then the operations of the message before that place are taken in, and the call may be made again after
+ * COTPAD_NO_MEMORY. What is in the message already is a repeat, so cotpad_exchange_close may be made again after
+ * COTPAD_TOO_SHORT too, when the operations are in and only the third message wants room. */
+cotpad_status cotpad_exchange_offer(cotpad_site *site, uint8_t *out, size_t room, size_t *needed);
+cotpad_status cotpad_exchange_answer(cotpad_site *site, const uint8_t *first, size_t length, uint8_t *out, size_t room,
+    size_t *needed, cotpad_verdict *why);
+cotpad_status cotpad_exchange_close(cotpad_site *site, const uint8_t *second, size_t length, uint8_t *out, size_t room,
+    size_t *needed, cotpad_verdict *why);
+cotpad_status cotpad_exchange_finish(cotpad_site *site, const uint8_t *third, size_t length, cotpad_verdict *why);
 
 #ifdef __cplusplus
 }

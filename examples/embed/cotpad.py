@@ -6,6 +6,9 @@
         print(bob.text)
 
 Edits answer the frames to send to all other sites; receive takes bytes as they come, and answers what became of each operation.
+save and load keep a site as the bytes of a log, and two sites that were apart exchange what they lack:
+
+    bob.finish(ann.join(bob.answer(ann.offer())))
 The library is the file that COTPAD_LIB names, else lib/libcotpad.so.1 of the repository that this file stands in.
 """
 import ctypes
@@ -53,18 +56,25 @@ _site, _verdict, _needed = ctypes.POINTER(_Handle), ctypes.POINTER(_Verdict), ct
 _version = _call("version", _u32)
 _open = _call("open", _u32, _site, _u16)
 _close = _call("close", None, _site)
-_insert = _call("insert", _u32, _site, _u32, _u32)
-_delete = _call("delete", _u32, _site, _u32)
+_load = _call("load", _u32, _site, _u16, _bytes, _size, _verdict)
+_save = _call("save", _u32, _site, _bytes, _size, _needed)
+_insert_text = _call("insert_text", _u32, _site, _u32, _bytes, _size, ctypes.POINTER(_u32))
+_delete_range = _call("delete_range", _u32, _site, _u32, _u32, ctypes.POINTER(_u32))
 _undo = _call("undo", _u32, _site, _u16, _u32)
 _redo = _call("redo", _u32, _site, _u16, _u32)
 _operations = _call("operations", _u32, _site)
 _waiting = _call("waiting", _u32, _site)
 _characters = _call("characters", _u32, _site)
+_name_at = _call("name_at", _u32, _site, _u32, ctypes.POINTER(_Member))
 _operation_at = _call("operation_at", _u32, _site, _u32, ctypes.POINTER(_Operation))
 _frame = _call("frame", _u32, _site, _u32, _bytes, _size, _needed)
 _receive = _call("receive", _u32, _site, _bytes, _size, _verdict)
 _release = _call("release", _u32, _site, _verdict)
 _text = _call("text", _u32, _site, _bytes, _size, _needed)
+_offer = _call("exchange_offer", _u32, _site, _bytes, _size, _needed)
+_answer = _call("exchange_answer", _u32, _site, _bytes, _size, _bytes, _size, _needed, _verdict)
+_join = _call("exchange_close", _u32, _site, _bytes, _size, _bytes, _size, _needed, _verdict)
+_finish = _call("exchange_finish", _u32, _site, _bytes, _size, _verdict)
 
 if _version() != VERSION:
     raise ImportError(f"the library has version {_version()} of the interface, and this module is for {VERSION}")
@@ -87,6 +97,12 @@ class Status(enum.IntEnum):
     NO_NAME = 11
     NONE = 12
     TOO_SHORT = 13
+    TOO_LONG = 14
+    NO_HEAD = 15
+    CUT = 16
+    MALFORMED = 17
+    EXTRA = 18
+    REFUSED = 19
 
 
 class Kind(enum.IntEnum):
@@ -128,7 +144,7 @@ class Cause(enum.IntEnum):
 
 
 class CotpadError(Exception):
-    """A call that wasn't done; the site is as it was."""
+    """A call that wasn't done; the site is as it was, where nothing else is said."""
 
 
 class Refused(CotpadError):
@@ -137,6 +153,19 @@ class Refused(CotpadError):
     def __init__(self, status):
         self.status = Status(status)
         super().__init__(self.status.name.lower().replace("_", " "))
+
+
+class NotTaken(Refused):
+    """A log or a message of an exchange that isn't taken: by its status, the offset, and the cause where it is malformed. Where an
+    operation is refused, `became` says what became of it, and `name` which it is: of a message, those before it are in."""
+
+    def __init__(self, status, why):
+        super().__init__(status)
+        self.offset = why.offset
+        self.cause = Cause(why.cause) if why.cause else None
+        refused = status == Status.REFUSED
+        self.became = Became(why.kind) if refused else None
+        self.name = Name(why.operation.member.site, why.operation.member.number) if refused else None
 
 
 class BadBytes(CotpadError):
@@ -190,6 +219,12 @@ def _must(status):
         raise Refused(status)
 
 
+def _taken(status, why):
+    if status in (Status.NO_HEAD, Status.CUT, Status.MALFORMED, Status.EXTRA, Status.REFUSED):
+        raise NotTaken(status, why)
+    _must(status)
+
+
 def _lent(data):
     """The bytes as C reads them; a buffer of no bytes has an address too."""
     return (ctypes.c_uint8 * max(1, len(data))).from_buffer_copy(data or b"\0")
@@ -204,6 +239,18 @@ class Site:
 
     def _begin(self):
         self._handle, self._pieces = _Handle(), b""
+
+    @classmethod
+    def load(cls, number, data):
+        """The site of this number that a log makes, as save answers it."""
+        site, why = cls.__new__(cls), _Verdict()
+        site._begin()
+        _taken(_load(site._handle, cls._number(number), _lent(data), len(data), why), why)
+        return site
+
+    def save(self):
+        """The log: the bytes from which load makes a site with the same history, in which the same waits."""
+        return self._written(_save)
 
     @staticmethod
     def _number(number):
@@ -251,30 +298,29 @@ class Site:
     def _last(self):
         return self.frame(self.operations - 1)
 
+    def _made(self, status, made):
+        """The frames of the last operations."""
+        last = self.operations
+        frames = [self.frame(index) for index in range(last - made, last)]
+        if status != Status.OK:
+            why = Refused(status)
+            why.frames = frames
+            raise why
+        return frames
+
     def insert(self, place, text):
         """Inserts a text after so many characters, one operation a character, and answers their frames. Where a character is
         refused, those before it stand in the text: `frames` of the exception has theirs."""
-        frames = []
-        try:
-            for offset, character in enumerate(text):
-                _must(_insert(self._at, self._place(place + offset), ord(character)))
-                frames.append(self._last())
-        except Refused as why:
-            why.frames = frames
-            raise
-        return frames
+        data, made = text.encode("utf-8", "surrogatepass"), _u32()
+        status = _insert_text(self._at, self._place(place), _lent(data), len(data), made)
+        return self._made(status, made.value)
 
     def delete(self, place, count=1):
-        """Deletes the characters from this place on, from 0, and answers the frames, as insert does."""
-        frames = []
-        try:
-            for _ in range(count):
-                _must(_delete(self._at, self._place(place)))
-                frames.append(self._last())
-        except Refused as why:
-            why.frames = frames
-            raise
-        return frames
+        """Deletes the characters from this place on, from 0, and answers the frames, as insert does. Where they aren't all
+        there, none is deleted."""
+        made = _u32()
+        status = _delete_range(self._at, self._place(place), self._place(count), made)
+        return self._made(status, made.value)
 
     def _turn(self, call, name):
         site, number = name
@@ -339,6 +385,12 @@ class Site:
         _must(_operation_at(self._at, index, operation))
         return _operation(operation)
 
+    def name_at(self, place):
+        """The insert by which the character at this place stands there, from 0: what to undo from a cursor."""
+        name = _Member()
+        _must(_name_at(self._at, self._place(place), name))
+        return Name(name.site, name.number)
+
     def latest(self):
         """All operations, what was integrated last first."""
         return (self.operation(index) for index in reversed(range(self.operations)))
@@ -362,3 +414,31 @@ class Site:
     def text(self):
         """The shown text."""
         return self._written(_text).decode()
+
+    def offer(self):
+        """The first message of an exchange: what this site has."""
+        return self._written(_offer)
+
+    def _replied(self, call, message):
+        """The message that a call answers another one with."""
+        data, room, needed, why = _lent(message), 256, _size(), _Verdict()
+        while True:
+            buffer = (ctypes.c_uint8 * room)()
+            status = call(self._at, data, len(message), buffer, room, needed, why)
+            if status != Status.TOO_SHORT:
+                _taken(status, why)
+                return ctypes.string_at(buffer, needed.value)
+            room = needed.value
+
+    def answer(self, first):
+        """The second message, which answers the first one of another site: what this site has, and what that one lacks."""
+        return self._replied(_answer, first)
+
+    def join(self, second):
+        """Takes in the second message, and answers the third: what the other site lacks."""
+        return self._replied(_join, second)
+
+    def finish(self, third):
+        """Takes in the third message: both sites have the same operations then."""
+        why = _Verdict()
+        _taken(_finish(self._at, _lent(third), len(third), why), why)

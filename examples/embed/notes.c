@@ -49,24 +49,27 @@ static uint8_t *bytes_of(cotpad_site *site, writer *write, size_t *count) {
     return bytes;
 }
 
-static cotpad_status last_frame(cotpad_site *site, uint8_t *out, size_t room, size_t *needed) {
-    return cotpad_frame(site, cotpad_operations(site) - 1, out, room, needed);
-}
-
-/* Sends the frame of what a person just did to everybody else. */
-static void send_last(person *people, int from) {
-    size_t count = 0;
-    uint8_t *frame = bytes_of(&people[from].site, last_frame, &count);
-    for (int to = 0; to < PEOPLE; to++)
-        if (to != from) put(&people[to], frame, count);
-    free(frame);
-}
-
-static void type(person *people, int who, uint32_t place, const char *word) {
-    for (; *word != 0; word++) {
-        must(cotpad_insert(&people[who].site, place++, (unsigned char)*word), "insert");
-        send_last(people, who);
+/* Sends the frames of the last operations of a person to everybody else. */
+static void send_last(person *people, int from, uint32_t made) {
+    static uint8_t frame[115029]; /* the longest frame */
+    cotpad_site *site = &people[from].site;
+    uint32_t end = cotpad_operations(site);
+    for (uint32_t i = end - made; i < end; i++) {
+        size_t count = 0;
+        must(cotpad_frame(site, i, frame, sizeof frame, &count), "frame");
+        for (int to = 0; to < PEOPLE; to++)
+            if (to != from) put(&people[to], frame, count);
     }
+}
+
+static uint32_t type_alone(cotpad_site *site, uint32_t place, const char *text) {
+    uint32_t made = 0;
+    must(cotpad_insert_text(site, place, (const uint8_t *)text, strlen(text), &made), "insert_text");
+    return made;
+}
+
+static void type(person *people, int who, uint32_t place, const char *text) {
+    send_last(people, who, type_alone(&people[who].site, place, text));
 }
 
 static void tell(int who, const char *how, const cotpad_verdict *v) {
@@ -123,7 +126,70 @@ static cotpad_operation original_from_end(cotpad_site *site, uint32_t back) {
 
 static void undo(person *people, int who, cotpad_member of) {
     must(cotpad_undo(&people[who].site, (uint16_t)of.site, of.number), "undo");
-    send_last(people, who);
+    send_last(people, who, 1);
+}
+
+/* Two sites exchange what they lack, each message in a buffer that is large enough for this text. */
+static void exchange(cotpad_site *joiner, cotpad_site *server) {
+    static uint8_t first[4096], second[4096], third[4096];
+    size_t one = 0, two = 0, three = 0;
+    cotpad_verdict why = {0};
+    must(cotpad_exchange_offer(joiner, first, sizeof first, &one), "offer");
+    must(cotpad_exchange_answer(server, first, one, second, sizeof second, &two, &why), "answer");
+    must(cotpad_exchange_close(joiner, second, two, third, sizeof third, &three, &why), "close");
+    must(cotpad_exchange_finish(server, third, three, &why), "finish");
+}
+
+/* Ends a site, and goes on from its log. */
+static void leave_and_come_back(cotpad_site *site, uint16_t number) {
+    size_t count = 0;
+    uint8_t *log = bytes_of(site, cotpad_save, &count);
+    cotpad_verdict why = {0};
+    cotpad_close(site);
+    must(cotpad_load(site, number, log, count, &why), "load");
+    free(log);
+}
+
+/* The frame of the insert 0.1 of a letter at the front of an empty text. */
+#define FIRST(letter) 0, 0, 0, 17, 1, 0, 0, 0, 0, 1, 0, 0, 0, 0, 0, 0, 0, letter, 0, 0, 0
+
+static void tell_load(const char *what, const uint8_t *bytes, size_t count) {
+    cotpad_site site = COTPAD_SITE_EMPTY;
+    cotpad_verdict why = {0};
+    cotpad_status status = cotpad_load(&site, 0, bytes, count, &why);
+    printf("a log %s: status %u, offset %u, cause %u, kind %u\n", what, status, why.offset, why.cause, why.kind);
+    if (status == COTPAD_OK) cotpad_close(&site);
+}
+
+static void refused_logs(void) {
+    const uint8_t head[] = "COTLOG2\n", good[] = {'C', 'O', 'T', 'L', 'O', 'G', '1', '\n', FIRST('a')};
+    const uint8_t bad[] = {'C', 'O', 'T', 'L', 'O', 'G', '1', '\n', FIRST('a'), 0, 0, 0, 4, 9, 9, 9, 9};
+    const uint8_t forged[] = {'C', 'O', 'T', 'L', 'O', 'G', '1', '\n', FIRST('a'), FIRST('b')};
+    tell_load("of an operation", good, sizeof good);
+    tell_load("of another kind", head, sizeof head - 1);
+    tell_load("that is cut", good, sizeof good - 1);
+    tell_load("with a bad frame", bad, sizeof bad);
+    tell_load("with two inserts of one name", forged, sizeof forged);
+}
+
+static void refused_messages(cotpad_site *site) {
+    const uint8_t other[] = {'C', 'O', 'T', 'L', 'O', 'G', '1', '\n', 0, 0, 0, 0, 0};
+    const uint8_t none[] = {'C', 'O', 'T', 'V', 'E', 'C', '1', '\n', 0, 0, 0, 0, 0}; /* of a site that has nothing */
+    const uint8_t more[] = {'C', 'O', 'T', 'V', 'E', 'C', '1', '\n', 0, 0, 0, 0, 0, 0};
+    const uint8_t forged[] = {FIRST('b'), 0, 0, 0, 0};
+    static uint8_t out[4096];
+    size_t needed = 0;
+    cotpad_verdict why = {0};
+    cotpad_status status = cotpad_exchange_answer(site, none, sizeof none, out, 1, &needed, &why);
+    printf("answered: status %u\n", status);
+    status = cotpad_exchange_answer(site, other, sizeof other, out, sizeof out, &needed, &why);
+    printf("no first message: status %u, offset %u\n", status, why.offset);
+    status = cotpad_exchange_answer(site, none, sizeof none - 1, out, sizeof out, &needed, &why);
+    printf("a cut one: status %u, offset %u\n", status, why.offset);
+    status = cotpad_exchange_answer(site, more, sizeof more, out, sizeof out, &needed, &why);
+    printf("a byte too many: status %u, offset %u\n", status, why.offset);
+    status = cotpad_exchange_finish(site, forged, sizeof forged, &why);
+    printf("another 0.1: status %u, kind %u, %u.%u\n", status, why.kind, why.operation.member.site, why.operation.member.number);
 }
 
 static void refusals(person *people) {
@@ -133,6 +199,12 @@ static void refusals(person *people) {
     cotpad_status unknown = cotpad_undo(site, 9, 9), name = cotpad_undo(site, 64, 1), force = cotpad_redo(site, 0, 1);
     printf("refused: place %u %u, character %u, site %u, unknown %u, name %u, in force %u\n", place, after, character,
         site_out, unknown, name, force);
+    const uint8_t latin[] = {'c', 0xE9}, *text = (const uint8_t *)"x";
+    uint32_t made = 9;
+    cotpad_member at = {0, 0, 0};
+    cotpad_status utf8 = cotpad_insert_text(site, 0, latin, sizeof latin, &made), far = cotpad_insert_text(site, 99, text, 1, &made);
+    cotpad_status range = cotpad_delete_range(site, 1, 99, &made), nobody = cotpad_name_at(site, 99, &at);
+    printf("refused: text %u, its place %u, range %u, made %u, name at a place %u\n", utf8, far, range, made, nobody);
     const uint8_t bad[] = {0, 0, 0, 4, 9, 9, 9, 9};
     cotpad_verdict v = {0};
     must(cotpad_receive(site, bad, sizeof bad, &v), "receive");
@@ -149,9 +221,9 @@ int main(void) {
     sync_and_show(people);
     printf("-- at once: 0 deletes t, 1 deletes e and types o, 2 types !\n");
     must(cotpad_delete(&people[0].site, 0), "delete");
-    send_last(people, 0);
+    send_last(people, 0, 1);
     must(cotpad_delete(&people[1].site, 1), "delete");
-    send_last(people, 1);
+    send_last(people, 1, 1);
     type(people, 1, 1, "o");
     type(people, 2, 3, "!");
     sync_and_show(people);
@@ -163,7 +235,22 @@ int main(void) {
     printf("-- and 0 undoes the last insert or delete that it has\n");
     undo(people, 0, original_from_end(&people[0].site, 0).member);
     sync_and_show(people);
+    printf("-- apart: 0 types, 2 deletes, and each exchanges with the other\n");
+    type_alone(&people[0].site, 3, " at 4, caf\xC3\xA9");
+    uint32_t made = 0;
+    must(cotpad_delete_range(&people[2].site, 0, 2, &made), "delete_range");
+    exchange(&people[2].site, &people[0].site);
+    exchange(&people[1].site, &people[0].site);
+    sync_and_show(people);
+    printf("-- 1 leaves, comes back, and undoes the character at the front\n");
+    leave_and_come_back(&people[1].site, 1);
+    cotpad_member name = {0, 0, 0};
+    must(cotpad_name_at(&people[1].site, 0, &name), "name_at");
+    undo(people, 1, name);
+    sync_and_show(people);
     refusals(people);
+    refused_logs();
+    refused_messages(&people[0].site);
     for (int who = 0; who < PEOPLE; who++) {
         cotpad_close(&people[who].site);
         free(people[who].inbox);

@@ -1,5 +1,12 @@
 """Three people write one note: what notes.c does, from Python."""
-from cotpad import CotpadError, Kind, Site
+from cotpad import CotpadError, Kind, NotTaken, Site
+
+LOG, MESSAGE = b"COTLOG1\n", b"COTVEC1\n"
+
+
+def first(letter):
+    """The frame of the insert 0.1 of a letter at the front of an empty text."""
+    return bytes([0, 0, 0, 17, 1, 0, 0, 0, 0, 1, 0, 0, 0, 0, 0, 0, 0, ord(letter), 0, 0, 0])
 
 
 def send(frames, inboxes, author):
@@ -27,6 +34,9 @@ def tell(number, delivered):
 def refused(what, call, *args):
     try:
         call(*args)
+    except NotTaken as why:
+        became = f", {why.name.site}.{why.name.number} {why.became.name.lower()}" if why.became else ""
+        print(f"refused: {what}: {why} at byte {why.offset}{became}")
     except CotpadError as why:
         print(f"refused: {what}: {why}")
     else:
@@ -51,13 +61,36 @@ def main():
     last = next(o for o in sites[0].latest() if o.kind in (Kind.INSERT, Kind.DELETE))
     send(sites[0].undo(last.name), inboxes, 0)
     sync(sites, inboxes)
+    print("-- apart: 0 types, 2 deletes, and each exchanges with the other")
+    sites[0].insert(3, " at 4, caf\u00e9")
+    sites[2].delete(0, 2)
+    for joiner in (2, 1):
+        sites[0].finish(sites[joiner].join(sites[0].answer(sites[joiner].offer())))
+    sync(sites, inboxes)
+    print("-- 1 leaves, comes back, and undoes the character at the front")
+    log = sites[1].save()
+    sites[1].close()
+    sites[1] = Site.load(1, log)
+    send(sites[1].undo(sites[1].name_at(0)), inboxes, 1)
+    sync(sites, inboxes)
     refused("a place", sites[0].delete, 99)
+    refused("a range", sites[0].delete, 1, 99)
+    refused("a place for a text", sites[0].insert, 99, "x")
+    refused("a name at a place", sites[0].name_at, 99)
     refused("a character", sites[0].insert, 0, "\ud800")
     refused("a site", Site, 64)
     refused("an unknown name", sites[0].undo, (9, 9))
     refused("no name", sites[0].undo, (64, 1))
     refused("what is in force", sites[0].redo, (0, 1))
     refused("bad bytes", sites[0].receive, bytes([0, 0, 0, 4, 9, 9, 9, 9]))
+    refused("a log of another kind", Site.load, 0, b"COTLOG2\n")
+    refused("a log that is cut", Site.load, 0, (LOG + first("a"))[:-1])
+    refused("a log with a bad frame", Site.load, 0, LOG + first("a") + bytes([0, 0, 0, 4, 9, 9, 9, 9]))
+    refused("a log with two inserts of one name", Site.load, 0, LOG + first("a") + first("b"))
+    refused("no first message", sites[0].answer, LOG + bytes(5))
+    refused("a cut one", sites[0].answer, MESSAGE + bytes(4))
+    refused("a byte too many", sites[0].answer, MESSAGE + bytes(6))
+    refused("another 0.1", sites[0].finish, first("b") + bytes(4))
     pieces = sites[1].frame(0)
     print("a frame in two pieces:", sites[0].receive(pieces[:5]), sites[0].receive(pieces[5:])[0].became.name.lower())
     late = Site(5)

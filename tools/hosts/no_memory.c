@@ -55,18 +55,60 @@ static void send(cotpad_site *from, uint32_t index, cotpad_site *to) {
     release(to);
 }
 
-static void same_text(cotpad_site *a, cotpad_site *b) {
+/* Goes on after what was inserted or deleted before memory ran out. */
+static void type(cotpad_site *site, uint32_t place, const char *text) {
+    size_t left = strlen(text);
+    for (;;) {
+        uint32_t made = 0;
+        cotpad_status answer = cotpad_insert_text(site, place, (const uint8_t *)text, left, &made);
+        place += made, text += made, left -= made;
+        if (answer == COTPAD_OK) return;
+        if (answer != COTPAD_NO_MEMORY) stop("insert_text");
+        again++;
+    }
+}
+
+static void cut(cotpad_site *site, uint32_t place, uint32_t count) {
+    for (;;) {
+        uint32_t made = 0;
+        cotpad_status answer = cotpad_delete_range(site, place, count, &made);
+        count -= made;
+        if (answer == COTPAD_OK) return;
+        if (answer != COTPAD_NO_MEMORY) stop("delete_range");
+        again++;
+    }
+}
+
+static void exchange(cotpad_site *joiner, cotpad_site *server) {
+    static uint8_t first[1024], second[1024], third[1024];
+    size_t one = 0, two = 0, three = 0;
+    cotpad_verdict why = {0};
+    DO(cotpad_exchange_offer(joiner, first, sizeof first, &one));
+    DO(cotpad_exchange_answer(server, first, one, second, sizeof second, &two, &why));
+    DO(cotpad_exchange_close(joiner, second, two, third, sizeof third, &three, &why));
+    DO(cotpad_exchange_finish(server, third, three, &why));
+}
+
+static void load(cotpad_site *from, cotpad_site *site) {
+    static uint8_t log[4096];
+    size_t count = 0;
+    cotpad_verdict why = {0};
+    DO(cotpad_save(from, log, sizeof log, &count));
+    DO(cotpad_load(site, 2, log, count, &why));
+}
+
+static void same_text(cotpad_site *a, cotpad_site *b, size_t characters) {
     uint8_t one[64], other[64];
     size_t count = 0, others = 0;
     DO(cotpad_text(a, one, sizeof one, &count));
     DO(cotpad_text(b, other, sizeof other, &others));
     if (count != others || memcmp(one, other, count) != 0) stop("the texts differ");
-    if (count != 11) stop("a character is missing");
+    if (count != characters) stop("a character is missing");
 }
 
 static void session(void) {
-    cotpad_site first = COTPAD_SITE_EMPTY, second = COTPAD_SITE_EMPTY;
-    cotpad_site *a = &first, *b = &second;
+    cotpad_site first = COTPAD_SITE_EMPTY, second = COTPAD_SITE_EMPTY, third = COTPAD_SITE_EMPTY;
+    cotpad_site *a = &first, *b = &second, *c = &third;
     DO(cotpad_open(a, 0));
     DO(cotpad_open(b, 1));
     for (uint32_t i = 0; i < 6; i++) {
@@ -78,7 +120,14 @@ static void session(void) {
     DO(cotpad_delete(b, 1));
     DO(cotpad_redo(b, 0, 3));
     for (uint32_t i = 0; i < cotpad_operations(b); i++) send(b, i, a);
-    same_text(a, b);
+    same_text(a, b, 11);
+    type(a, 3, "xyz");
+    cut(b, 0, 2);
+    exchange(b, a);
+    same_text(a, b, 12);
+    load(a, c);
+    same_text(a, c, 12);
+    cotpad_close(c);
     cotpad_close(a);
     cotpad_close(b);
 }

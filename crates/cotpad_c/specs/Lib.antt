@@ -1,6 +1,9 @@
+pub mod Exchanges
 pub mod Handles
 pub mod Held
 pub mod Lending
 pub mod Operations
+pub mod Refusals
+pub mod Runs
 pub mod Statuses
 pub mod Verdicts

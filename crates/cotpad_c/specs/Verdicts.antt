@@ -1,5 +1,6 @@
 -- Verdicts as a host reads them.
 use Rattle.std.specs.Prelude.{◌≡◌, Option, Some, None, ℕ, Result, Ok, Err}
+use Rattle.op_name.specs.declared.member.Member.{Member}
 use Rattle.context_diff.specs.Operations.{OpData}
 use Rattle.cot_site.specs.declared.verdict.Verdict.{Verdict}
 use Rattle.cot_site.specs.declared.verdict.Verdict.TheVariants.{Repeat, Forged, Waits, NotClosed, PlaceOut, Integrated}
@@ -47,6 +48,14 @@ incomplete n = record blank { kind = kind.INCOMPLETE; offset = n }
 -- a fault of this cause is at the offset
 abbrev pub malformed : Cause → ℕ → CotpadVerdict
 malformed why n = record blank { kind = kind.MALFORMED; cause = cause_number why; offset = n }
+
+-- a place among bytes, and nothing else
+abbrev pub at_offset : ℕ → CotpadVerdict
+at_offset n = record blank { offset = n }
+
+-- the verdict for which an operation isn't taken, and the offset at which it stands; of the operation the member alone is told
+abbrev pub unfit : Member → Verdict → ℕ → CotpadVerdict
+unfit m v n = let o : CotpadOperation = record no_operation { member = member_told m } in record (told o 0 v) { offset = n }
 
 -- what the judged bytes are answered with
 abbrev pub answered : State → Result (OpData × ℕ) Refused → CotpadVerdict

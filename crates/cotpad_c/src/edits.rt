@@ -41,7 +41,8 @@ pub(crate) fn insert(site: &mut Site, place: u32, scalar: u32) -> u32
     insert_character(site, place, ch)
 }
 
-fn insert_character(site: &mut Site, place: u32, ch: char) -> u32
+/// The same, of a character.
+pub(crate) fn insert_character(site: &mut Site, place: u32, ch: char) -> u32
     ensures { Did result (local_insert (state_of site.old) place ch) (state_of site.old) (state_of site.new) }
 {
     status_of(&site.insert(place, ch))

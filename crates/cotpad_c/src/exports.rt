@@ -1,28 +1,44 @@
 //! What a host calls.
 
-ghost use Rattle.std.specs.Prelude.{◌≡◌, ◌≢◌, ◌⊎◌, ◌<◌, ◌≤◌, IsSome, Some, None, length, slice_get};
+ghost use Rattle.std.specs.Prelude.{◌≡◌, ◌≢◌, ◌⊎◌, ◌+◌, ◌<◌, ◌≤◌, ℕ, IsSome, IsUtf8, Some, None, chars, length, slice_get};
 ghost use Rattle.std.specs.Char.{IsScalar};
 ghost use Rattle.op_name.specs.NameData.{NameData, IsName};
 ghost use Rattle.op_name.specs.declared.name.TheConstants.{SITES};
+ghost use Rattle.op_name.specs.declared.member.Member.TheVariants.{Original};
 ghost use Rattle.context_diff.specs.Operations.{OpData};
-ghost use Rattle.context_diff.specs.Replays.{shown, text_of};
+ghost use Rattle.context_diff.specs.Replays.{Cell, shown, text_of};
 ghost use Rattle.wire_codec.specs.Spelling.{frame};
 ghost use Rattle.wire_codec.specs.Judging.{judge};
 ghost use Rattle.cot_site.specs.Commands.{local_insert, local_delete, local_undo, local_redo};
 ghost use Rattle.cot_site.specs.States.{released, after_release};
-ghost use Rattle.cotpad_c.specs.declared.status.TheConstants.{OK, NO_MEMORY, SITE_OUT, NO_CHARACTER, NO_NAME, NONE};
+ghost use Rattle.cot_site.specs.Releases.{IsLater};
+ghost use Rattle.session_log.specs.declared.reading.TheConstants.{MAX_LOG};
+ghost use Rattle.session_log.specs.Logs.{log_of};
+ghost use Rattle.session_log.specs.Loadings.{IsLoaded};
+ghost use Rattle.peer_exchange.specs.declared.messages.TheConstants.{MAX_MESSAGE};
+ghost use Rattle.peer_exchange.specs.declared.messages.Which.TheVariants.{First};
+ghost use Rattle.peer_exchange.specs.Messages.{first_message};
+ghost use Rattle.peer_exchange.specs.Refusals.{IsUnread};
+ghost use Rattle.peer_exchange.specs.Closing.{IsFinished, IsUnclosed, IsUnfinished};
+ghost use Rattle.cotpad_c.specs.declared.status.TheConstants.{OK, NO_MEMORY, SITE_OUT, PLACE_OUT, NO_CHARACTER, NO_NAME, NONE, TOO_LONG};
 ghost use Rattle.cotpad_c.specs.declared.exports.TheConstants.{VERSION};
-ghost use Rattle.cotpad_c.specs.Operations.{operation_told};
+ghost use Rattle.cotpad_c.specs.Operations.{member_told, operation_told};
+ghost use Rattle.cotpad_c.specs.Exchanges.{IsMade, Answers, Closes};
+ghost use Rattle.cotpad_c.specs.Refusals.{IsLogRefused, IsRefused};
+ghost use Rattle.cotpad_c.specs.Runs.{IsTyped, IsCut};
 ghost use Rattle.cotpad_c.specs.Statuses.{Did, Wrote};
 ghost use Rattle.cotpad_c.specs.Verdicts.{answered, taken, IsReleased};
 ghost use Rattle.cotpad_c.specs.Held.{fresh, held, held_state};
 
 use crate::handle::CotpadSite;
-use crate::operation::CotpadOperation;
-use crate::status::{NO_MEMORY, OK, SITE_OUT};
+use crate::operation::{CotpadMember, CotpadOperation};
+use crate::refusals::log_refused;
+use crate::status::{NO_MEMORY, OK, SITE_OUT, TOO_LONG};
 use crate::verdict::CotpadVerdict;
-use crate::{edits, making, reading, receiving};
+use crate::{edits, exchange, making, reading, receiving, runs};
 use op_name::SITES;
+use peer_exchange::MAX_MESSAGE;
+use session_log::MAX_LOG;
 use std::alloc::Global;
 use std::mem::replace;
 
@@ -67,6 +83,38 @@ pub extern "C" fn cotpad_close(alloc: Global, site: &mut CotpadSite)
     drop(replace(site, CotpadSite::empty(alloc)).emptied().into_box());
 }
 
+/// Makes the site of this number from the bytes of a log in an empty handle, or tells why the log is refused.
+#[unsafe(no_mangle)]
+pub extern "C" fn cotpad_load(
+    alloc: Global,
+    site: &mut CotpadSite,
+    number: u16,
+    bytes: &[u8],
+    why: &mut CotpadVerdict,
+) -> u32
+    requires { site.old.site ≡ None }
+    ensures range { SITES ≤ number → (result ≡ SITE_OUT) × (why.new ≡ why.old) }
+    ensures limit { number < SITES → MAX_LOG < length bytes.now → (result ≡ TOO_LONG) × (why.new ≡ why.old) }
+    ensures live { result ≡ OK → IsSome site.new.site }
+    ensures loaded { result ≡ OK → IsLoaded number bytes.now (held_state site.new.site) × (why.new ≡ why.old) }
+    ensures refused { number < SITES → length bytes.now ≤ MAX_LOG → result ≢ OK → IsLogRefused number bytes.now result why.old why.new }
+    ensures empty { result ≢ OK → site.new.site ≡ None }
+{
+    if number >= SITES {
+        return SITE_OUT;
+    }
+    if bytes.len() > MAX_LOG {
+        return TOO_LONG;
+    }
+    match making::load(alloc, number, bytes) {
+        Ok(parts) => {
+            replace(site, CotpadSite::filled(parts)).let_go();
+            OK
+        }
+        Err(bad) => log_refused(bad, why),
+    }
+}
+
 /// Inserts a character after so many shown ones.
 #[unsafe(no_mangle)]
 pub extern "C" fn cotpad_insert(site: &mut CotpadSite, place: u32, scalar: u32) -> u32
@@ -86,6 +134,39 @@ pub extern "C" fn cotpad_delete(site: &mut CotpadSite, place: u32) -> u32
     ensures done { Did result (local_delete (held_state site.old.site) place) (held_state site.old.site) (held_state site.new.site) }
 {
     edits::delete(site.inner(), place)
+}
+
+/// Inserts the characters of a text in UTF-8 after so many shown ones, one after the other, and answers how many it inserted.
+#[unsafe(no_mangle)]
+pub extern "C" fn cotpad_insert_text(
+    site: &mut CotpadSite,
+    place: u32,
+    text: &[u8],
+    made: &mut u32,
+) -> u32
+    requires { IsSome site.old.site }
+    ensures live { IsSome site.new.site }
+    ensures no_text { ¬ IsUtf8 text.now → (result ≡ NO_CHARACTER) × (made.new ≡ 0) × (site.new.site ≡ site.old.site) }
+    ensures past { IsUtf8 text.now → length (shown (held site.old.site).history) < place → (result ≡ PLACE_OUT) × (made.new ≡ 0) × (site.new.site ≡ site.old.site) }
+    ensures typed { IsUtf8 text.now → place ≤ length (shown (held site.old.site).history) → IsTyped result (held_state site.old.site) place (chars text.now) (held_state site.new.site) made.new }
+{
+    runs::insert_text(site.inner(), place, text, made)
+}
+
+/// Deletes so many shown characters from a place on, one after the other, and answers how many it deleted.
+#[unsafe(no_mangle)]
+pub extern "C" fn cotpad_delete_range(
+    site: &mut CotpadSite,
+    place: u32,
+    count: u32,
+    made: &mut u32,
+) -> u32
+    requires { IsSome site.old.site }
+    ensures live { IsSome site.new.site }
+    ensures past { length (shown (held site.old.site).history) < place + count → (result ≡ PLACE_OUT) × (made.new ≡ 0) × (site.new.site ≡ site.old.site) }
+    ensures cut { place + count ≤ length (shown (held site.old.site).history) → IsCut result (held_state site.old.site) place count (held_state site.new.site) made.new }
+{
+    runs::delete_range(site.inner(), place, count, made)
 }
 
 /// Undoes the insert or delete of this name, whoever made it.
@@ -138,6 +219,17 @@ pub extern "C" fn cotpad_characters(site: &mut CotpadSite) -> u32
     ensures same { site.new.site ≡ site.old.site }
 {
     site.inner().visible_len()
+}
+
+/// The insert by which the shown character at this place stands there, from 0.
+#[unsafe(no_mangle)]
+pub extern "C" fn cotpad_name_at(site: &mut CotpadSite, place: u32, name: &mut CotpadMember) -> u32
+    requires { IsSome site.old.site }
+    ensures found { (c : Cell) → slice_get (shown (held site.old.site).history) place ≡ Some c → (result ≡ OK) × (name.new ≡ member_told (Original c.0)) }
+    ensures none { slice_get (shown (held site.old.site).history) place ≡ None → (result ≡ NONE) × (name.new ≡ name.old) }
+    ensures same { site.new.site ≡ site.old.site }
+{
+    reading::name_at(site.inner(), place, name)
 }
 
 /// What the integrated operation at this index is, and who made it. They stand in the order of integration, from 0.
@@ -219,4 +311,104 @@ pub extern "C" fn cotpad_text(
     ensures same { site.new.site ≡ site.old.site }
 {
     reading::text(alloc, site.inner(), out, needed)
+}
+
+/// The log of the site.
+#[unsafe(no_mangle)]
+pub extern "C" fn cotpad_save(
+    alloc: Global,
+    site: &mut CotpadSite,
+    out: &mut [u8],
+    needed: &mut usize,
+) -> u32
+    requires { IsSome site.old.site }
+    ensures wrote { (result ≡ NO_MEMORY) ⊎ Wrote result (log_of (held site.old.site).history (held site.old.site).waiting) out.old out.new needed.new }
+    ensures err { result ≡ NO_MEMORY → (out.new ≡ out.old) × (needed.new ≡ needed.old) }
+    ensures same { site.new.site ≡ site.old.site }
+{
+    reading::log(alloc, site.inner(), out, needed)
+}
+
+/// The first message of an exchange, by which a site asks another for what it lacks.
+#[unsafe(no_mangle)]
+pub extern "C" fn cotpad_exchange_offer(
+    alloc: Global,
+    site: &mut CotpadSite,
+    out: &mut [u8],
+    needed: &mut usize,
+) -> u32
+    requires { IsSome site.old.site }
+    ensures wrote { (result ≡ NO_MEMORY) ⊎ Wrote result (first_message (held site.old.site).history) out.old out.new needed.new }
+    ensures err { result ≡ NO_MEMORY → (out.new ≡ out.old) × (needed.new ≡ needed.old) }
+    ensures same { site.new.site ≡ site.old.site }
+{
+    exchange::offer(alloc, site.inner(), out, needed)
+}
+
+/// The second message, which answers the first one of another site, or why that isn't one.
+#[unsafe(no_mangle)]
+pub extern "C" fn cotpad_exchange_answer(
+    alloc: Global,
+    site: &mut CotpadSite,
+    first: &[u8],
+    out: &mut [u8],
+    needed: &mut usize,
+    why: &mut CotpadVerdict,
+) -> u32
+    requires { IsSome site.old.site }
+    ensures limit { MAX_MESSAGE < length first.now → (result ≡ TOO_LONG) × (why.new ≡ why.old) }
+    ensures made { IsMade result → Answers (held site.old.site).history first.now result out.old out.new needed.new × (why.new ≡ why.old) }
+    ensures refused { length first.now ≤ MAX_MESSAGE → ¬ IsMade result → IsRefused (IsUnread First first.now) result why.old why.new }
+    ensures err { ¬ IsMade result → (out.new ≡ out.old) × (needed.new ≡ needed.old) }
+    ensures same { site.new.site ≡ site.old.site }
+{
+    if first.len() > MAX_MESSAGE {
+        return TOO_LONG;
+    }
+    exchange::answer(alloc, site.inner(), first, out, needed, why)
+}
+
+/// Takes in the operations of the second message, and hands out the third, which answers it; or tells why it isn't taken.
+#[unsafe(no_mangle)]
+pub extern "C" fn cotpad_exchange_close(
+    alloc: Global,
+    site: &mut CotpadSite,
+    second: &[u8],
+    out: &mut [u8],
+    needed: &mut usize,
+    why: &mut CotpadVerdict,
+) -> u32
+    requires { IsSome site.old.site }
+    ensures live { IsSome site.new.site }
+    ensures limit { MAX_MESSAGE < length second.now → (result ≡ TOO_LONG) × (why.new ≡ why.old) × (site.new.site ≡ site.old.site) }
+    ensures made { IsMade result → Closes (held_state site.old.site) second.now (held_state site.new.site) result out.old out.new needed.new × (why.new ≡ why.old) }
+    ensures refused { length second.now ≤ MAX_MESSAGE → ¬ IsMade result → IsRefused (IsUnclosed (held_state site.old.site) second.now (held_state site.new.site)) result why.old why.new }
+    ensures later { IsLater (held_state site.old.site) (held_state site.new.site) }
+    ensures err { ¬ IsMade result → (out.new ≡ out.old) × (needed.new ≡ needed.old) }
+{
+    if second.len() > MAX_MESSAGE {
+        return TOO_LONG;
+    }
+    exchange::close(alloc, site.inner(), second, out, needed, why)
+}
+
+/// Takes in the operations of the third message, or tells why it isn't taken.
+#[unsafe(no_mangle)]
+pub extern "C" fn cotpad_exchange_finish(
+    alloc: Global,
+    site: &mut CotpadSite,
+    third: &[u8],
+    why: &mut CotpadVerdict,
+) -> u32
+    requires { IsSome site.old.site }
+    ensures live { IsSome site.new.site }
+    ensures limit { MAX_MESSAGE < length third.now → (result ≡ TOO_LONG) × (why.new ≡ why.old) × (site.new.site ≡ site.old.site) }
+    ensures finished { result ≡ OK → ((count : ℕ) × IsFinished (held_state site.old.site) third.now (held_state site.new.site) count) × (why.new ≡ why.old) }
+    ensures refused { length third.now ≤ MAX_MESSAGE → result ≢ OK → IsRefused (IsUnfinished (held_state site.old.site) third.now (held_state site.new.site)) result why.old why.new }
+    ensures later { IsLater (held_state site.old.site) (held_state site.new.site) }
+{
+    if third.len() > MAX_MESSAGE {
+        return TOO_LONG;
+    }
+    exchange::finish(alloc, site.inner(), third, why)
 }

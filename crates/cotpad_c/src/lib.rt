@@ -6,6 +6,7 @@
 
 mod cause;
 mod edits;
+mod exchange;
 mod exports;
 mod handle;
 mod kinds;
@@ -15,6 +16,8 @@ mod operation;
 mod parts;
 mod reading;
 mod receiving;
+mod refusals;
+mod runs;
 mod status;
 #[cfg(test)]
 mod tests;

@@ -1,21 +1,25 @@
 //! What a site shows and has, as bytes in a buffer of the host's.
 
 ghost use Rattle.std.specs.Prelude.{◌≡◌, ◌⊎◌, Some, None, slice_get};
+ghost use Rattle.op_name.specs.declared.member.Member.TheVariants.{Original};
 ghost use Rattle.context_diff.specs.Operations.{OpData};
-ghost use Rattle.context_diff.specs.Replays.{text_of};
+ghost use Rattle.context_diff.specs.Replays.{Cell, shown, text_of};
 ghost use Rattle.wire_codec.specs.Spelling.{frame};
 ghost use Rattle.cotpad_c.specs.declared.status.TheConstants.{OK, NO_MEMORY, NONE};
-ghost use Rattle.cotpad_c.specs.Operations.{operation_told};
+ghost use Rattle.session_log.specs.Logs.{log_of};
+ghost use Rattle.cotpad_c.specs.Operations.{member_told, operation_told};
 ghost use Rattle.cotpad_c.specs.Statuses.{Wrote};
 
-use crate::operation::{CotpadOperation, operation_told};
+use crate::operation::{CotpadMember, CotpadOperation, member_told, operation_told};
 use crate::status::{NO_MEMORY, NONE, OK, TOO_SHORT};
 use cot_site::Site;
+use op_name::Member;
+use session_log::write_log;
 use std::alloc::Global;
 use wire_codec::encode;
 
-// Copies the bytes, if there is room for all, and answers their number.
-fn hand_out(bytes: &[u8], out: &mut [u8], needed: &mut usize) -> u32
+/// Copies the bytes, if there is room for all, and answers their number.
+pub(crate) fn hand_out(bytes: &[u8], out: &mut [u8], needed: &mut usize) -> u32
     ensures { Wrote result bytes.now out.old out.new needed.new }
 {
     let n = bytes.len();
@@ -35,6 +39,18 @@ pub(crate) fn text(alloc: Global, site: &Site, out: &mut [u8], needed: &mut usiz
 {
     let mut bytes = Vec::new(alloc);
     match site.text(&mut bytes) {
+        Ok(()) => hand_out(bytes.as_slice(), out, needed),
+        Err(_) => NO_MEMORY,
+    }
+}
+
+/// The log of the site.
+pub(crate) fn log(alloc: Global, site: &Site, out: &mut [u8], needed: &mut usize) -> u32
+    ensures wrote { (result ≡ NO_MEMORY) ⊎ Wrote result (log_of site.now.history site.now.waiting) out.old out.new needed.new }
+    ensures err { result ≡ NO_MEMORY → (out.new ≡ out.old) × (needed.new ≡ needed.old) }
+{
+    let mut bytes = Vec::new(alloc);
+    match write_log(site, &mut bytes) {
         Ok(()) => hand_out(bytes.as_slice(), out, needed),
         Err(_) => NO_MEMORY,
     }
@@ -74,4 +90,18 @@ pub(crate) fn operation_at(site: &Site, index: u32, operation: &mut CotpadOperat
     };
     *operation = operation_told(op);
     OK
+}
+
+/// The insert by which the character at this place stands there, from 0.
+pub(crate) fn name_at(site: &Site, place: u32, name: &mut CotpadMember) -> u32
+    ensures found { (c : Cell) → slice_get (shown site.now.history) place ≡ Some c → (result ≡ OK) × (name.new ≡ member_told (Original c.0)) }
+    ensures none { slice_get (shown site.now.history) place ≡ None → (result ≡ NONE) × (name.new ≡ name.old) }
+{
+    match site.name_at(place) {
+        Some(insert) => {
+            *name = member_told(Member::Original(insert));
+            OK
+        }
+        None => NONE,
+    }
 }

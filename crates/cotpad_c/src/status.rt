@@ -12,7 +12,7 @@ pub const SITE_OUT: u32 = 2;
 /// The text has no such place.
 pub const PLACE_OUT: u32 = 3;
 
-/// The number is no Unicode scalar value (RFC 3629).
+/// The number is no Unicode scalar value, or the bytes are no UTF-8 (RFC 3629).
 pub const NO_CHARACTER: u32 = 4;
 
 /// The site has integrated no insert or delete of this name.
@@ -41,3 +41,21 @@ pub const NONE: u32 = 12;
 
 /// The buffer is too short.
 pub const TOO_SHORT: u32 = 13;
+
+/// The bytes are more than are read at a time.
+pub const TOO_LONG: u32 = 14;
+
+/// The bytes don't begin as a log or as this message does.
+pub const NO_HEAD: u32 = 15;
+
+/// The bytes end before the log or the message does.
+pub const CUT: u32 = 16;
+
+/// There is a fault in the bytes.
+pub const MALFORMED: u32 = 17;
+
+/// Bytes follow the message.
+pub const EXTRA: u32 = 18;
+
+/// An operation of the log or of the message isn't taken.
+pub const REFUSED: u32 = 19;

@@ -3,7 +3,7 @@
 ghost use Rattle.std.specs.Prelude.{IfOk, IsSome};
 
 use crate::handle::CotpadSite;
-use crate::operation::no_operation;
+use crate::operation::{no_member, no_operation};
 use crate::verdict::incomplete;
 use crate::{exports, kinds, status};
 use std::alloc::Global;
@@ -124,4 +124,139 @@ fn bytes_are_handed_out_where_there_is_room(rt: HostRuntime) -> Result<(), Fail>
     exports::cotpad_close(alloc, &mut site);
     site.let_go();
     Ok(())
+}
+
+#[test]
+fn a_text_is_inserted_and_a_range_deleted(rt: HostRuntime) -> Result<(), Fail> {
+    let alloc = rt.alloc();
+    let mut made = 9;
+    let mut site = opened(alloc)?;
+    assert_eq!(rt;
+        exports::cotpad_insert_text(&mut site, 0, b"t\xC3\xA9a", &mut made),
+        status::OK
+    );
+    assert_eq!(rt; made, 3);
+    assert_eq!(rt;
+        exports::cotpad_insert_text(&mut site, 0, b"\xC3", &mut made),
+        status::NO_CHARACTER
+    );
+    assert_eq!(rt;
+        exports::cotpad_delete_range(&mut site, 2, 2, &mut made),
+        status::PLACE_OUT
+    );
+    assert_eq!(rt;
+        exports::cotpad_delete_range(&mut site, 0, 2, &mut made),
+        status::OK
+    );
+    assert_eq!(rt; made, 2);
+    assert_eq!(rt; exports::cotpad_characters(&mut site), 1);
+    exports::cotpad_close(alloc, &mut site);
+    site.let_go();
+    Ok(())
+}
+
+#[test]
+fn the_name_at_a_place_is_that_of_the_insert(rt: HostRuntime) -> Result<(), Fail> {
+    let alloc = rt.alloc();
+    let mut name = no_member();
+    let mut site = opened(alloc)?;
+    assert_eq!(rt; exports::cotpad_insert(&mut site, 0, 98), status::OK);
+    assert_eq!(rt; exports::cotpad_insert(&mut site, 0, 97), status::OK);
+    assert_eq!(rt;
+        exports::cotpad_name_at(&mut site, 1, &mut name),
+        status::OK
+    );
+    assert_eq!(rt; name.site, 5);
+    assert_eq!(rt; name.number, 1);
+    assert_eq!(rt;
+        exports::cotpad_name_at(&mut site, 2, &mut name),
+        status::NONE
+    );
+    exports::cotpad_close(alloc, &mut site);
+    site.let_go();
+    Ok(())
+}
+
+#[test]
+fn a_log_is_saved_and_loaded(rt: HostRuntime) -> Result<(), Fail> {
+    let alloc = rt.alloc();
+    let mut needed = 0;
+    let mut why = incomplete(0);
+    let mut log = [0u8; 29];
+    let mut site = opened(alloc)?;
+    assert_eq!(rt; exports::cotpad_insert(&mut site, 0, 97), status::OK);
+    assert_eq!(rt;
+        exports::cotpad_save(alloc, &mut site, &mut log, &mut needed),
+        status::OK
+    );
+    assert_eq!(rt; needed, 29);
+    exports::cotpad_close(alloc, &mut site);
+    let answer = exports::cotpad_load(alloc, &mut site, 3, &log, &mut why);
+    if answer == status::OK {
+        assert_eq!(rt; exports::cotpad_operations(&mut site), 1);
+        exports::cotpad_close(alloc, &mut site);
+    }
+    site.let_go();
+    assert_eq!(rt; answer, status::OK);
+    Ok(())
+}
+
+#[test]
+fn a_log_that_is_cut_is_refused(rt: HostRuntime) {
+    let alloc = rt.alloc();
+    let mut why = incomplete(0);
+    let mut site = CotpadSite::empty(alloc);
+    let answer = exports::cotpad_load(alloc, &mut site, 3, b"COTLOG1\n\0\0", &mut why);
+    if answer == status::OK {
+        exports::cotpad_close(alloc, &mut site);
+    }
+    site.let_go();
+    assert_eq!(rt; answer, status::CUT);
+    assert_eq!(rt; why.offset, 8);
+}
+
+#[test]
+fn an_exchange_sends_what_is_lacked(rt: HostRuntime) {
+    let alloc = rt.alloc();
+    let mut needed = 0;
+    let mut why = incomplete(0);
+    let mut first = [0u8; 18];
+    let mut second = [0u8; 17];
+    let mut third = [0u8; 25];
+    let mut joiner = CotpadSite::empty(alloc);
+    let mut server = CotpadSite::empty(alloc);
+    assert_eq!(rt; exports::cotpad_open(alloc, &mut joiner, 5), status::OK);
+    assert_eq!(rt; exports::cotpad_open(alloc, &mut server, 6), status::OK);
+    assert_eq!(rt; exports::cotpad_insert(&mut joiner, 0, 97), status::OK);
+    assert_eq!(rt;
+        exports::cotpad_exchange_offer(alloc, &mut joiner, &mut first, &mut needed),
+        status::OK
+    );
+    let answer = exports::cotpad_exchange_answer(
+        alloc,
+        &mut server,
+        &first,
+        &mut second,
+        &mut needed,
+        &mut why,
+    );
+    assert_eq!(rt; answer, status::OK);
+    let answer = exports::cotpad_exchange_close(
+        alloc,
+        &mut joiner,
+        &second,
+        &mut third,
+        &mut needed,
+        &mut why,
+    );
+    assert_eq!(rt; answer, status::OK);
+    assert_eq!(rt;
+        exports::cotpad_exchange_finish(alloc, &mut server, &third, &mut why),
+        status::OK
+    );
+    assert_eq!(rt; exports::cotpad_characters(&mut server), 1);
+    exports::cotpad_close(alloc, &mut server);
+    exports::cotpad_close(alloc, &mut joiner);
+    server.let_go();
+    joiner.let_go();
 }

@@ -1,7 +1,7 @@
 //! Verdicts as a host reads them.
 
 ghost use Rattle.std.specs.Prelude.{◌≡◌};
-ghost use Rattle.cotpad_c.specs.Verdicts.{blank, told, incomplete, malformed};
+ghost use Rattle.cotpad_c.specs.Verdicts.{blank, told, incomplete, malformed, at_offset, unfit};
 
 use crate::cause::cause_number;
 use crate::kinds::{
@@ -9,6 +9,7 @@ use crate::kinds::{
 };
 use crate::operation::{CotpadMember, CotpadOperation, member_told, no_member, no_operation};
 use cot_site::Verdict;
+use op_name::Member;
 use wire_codec::Cause;
 
 /// What became of a delivery.
@@ -87,6 +88,26 @@ pub(crate) fn malformed(cause: Cause, offset: u32) -> CotpadVerdict
     let mut out = blank();
     out.kind = MALFORMED;
     out.cause = cause_number(cause);
+    out.offset = offset;
+    out
+}
+
+/// A place among bytes, and nothing else.
+pub(crate) fn at_offset(offset: u32) -> CotpadVerdict
+    ensures { result ≡ at_offset offset }
+{
+    let mut out = blank();
+    out.offset = offset;
+    out
+}
+
+/// The verdict for which an operation isn't taken, and its place among the bytes.
+pub(crate) fn unfit(member: Member, verdict: Verdict, offset: u32) -> CotpadVerdict
+    ensures { result ≡ unfit member verdict offset }
+{
+    let mut operation = no_operation();
+    operation.member = member_told(member);
+    let mut out = told(operation, 0, verdict);
     out.offset = offset;
     out
 }

@@ -1,0 +1,84 @@
+//! Why a log or a message isn't taken, as a host is told.
+
+ghost use Rattle.std.specs.Prelude.{◌≡◌, ◌≢◌};
+ghost use Rattle.cotpad_c.specs.declared.status.TheConstants.{OK, TOO_SHORT};
+ghost use Rattle.cotpad_c.specs.Refusals.{log_status, log_told, bytes_status, bytes_told, peer_status, peer_told};
+
+use crate::status;
+use crate::verdict::{CotpadVerdict, at_offset, malformed, unfit};
+use peer_exchange::{Peer, PeerCause};
+use session_log::LogBad;
+
+/// Tells why a log isn't loaded.
+pub(crate) fn log_refused(bad: LogBad, why: &mut CotpadVerdict) -> u32
+    ensures status { result ≡ log_status bad }
+    ensures told { why.new ≡ log_told why.old bad }
+    ensures not_done { result ≢ OK }
+{
+    match bad {
+        LogBad::Header => {
+            *why = at_offset(0);
+            status::NO_HEAD
+        }
+        LogBad::Cut { offset } => {
+            *why = at_offset(offset);
+            status::CUT
+        }
+        LogBad::Bad { offset, cause } => {
+            *why = malformed(cause, offset);
+            status::MALFORMED
+        }
+        LogBad::Refused {
+            offset,
+            member,
+            verdict,
+        } => {
+            *why = unfit(member, verdict, offset);
+            status::REFUSED
+        }
+        LogBad::Memory => status::NO_MEMORY,
+    }
+}
+
+/// Tells why a message isn't taken.
+pub(crate) fn peer_refused(refusal: Peer, why: &mut CotpadVerdict) -> u32
+    ensures status { result ≡ peer_status refusal }
+    ensures told { why.new ≡ peer_told why.old refusal }
+    ensures not_done { result ≢ OK }
+    ensures not_short { result ≢ TOO_SHORT }
+{
+    match refusal {
+        Peer::Bytes { offset, cause } => {
+            *why = bytes_told(offset, cause);
+            bytes_status(cause)
+        }
+        Peer::Op { member, verdict } => {
+            *why = unfit(member, verdict, 0);
+            status::REFUSED
+        }
+        Peer::Memory => status::NO_MEMORY,
+    }
+}
+
+fn bytes_status(cause: PeerCause) -> u32
+    ensures status { result ≡ bytes_status cause }
+    ensures not_done { result ≢ OK }
+    ensures not_short { result ≢ TOO_SHORT }
+{
+    match cause {
+        PeerCause::Head => status::NO_HEAD,
+        PeerCause::Frame(_) => status::MALFORMED,
+        PeerCause::Cut => status::CUT,
+        PeerCause::Extra => status::EXTRA,
+        PeerCause::Limit => status::TOO_LONG,
+    }
+}
+
+fn bytes_told(offset: u32, cause: PeerCause) -> CotpadVerdict
+    ensures { result ≡ bytes_told offset cause }
+{
+    match cause {
+        PeerCause::Frame(why) => malformed(why, offset),
+        PeerCause::Head | PeerCause::Cut | PeerCause::Extra | PeerCause::Limit => at_offset(offset),
+    }
+}
