@@ -1,6 +1,6 @@
-# `make` leaves the proved program at bin/cotpad; `make demo` replays and shows the examples with it. `make lib` leaves the
+# `make` leaves the proved program at bin/cotpad; `make demo` replays and shows the examples with it, and lets two copies exchange. `make lib` leaves the
 # library for hosts in lib/, and `make check-hosts` runs hosts in C and in Python over it.
-.PHONY: all lib demo check-examples check-hosts doors trust clean
+.PHONY: all lib demo check-examples check-bytes check-memory check-hosts doors trust clean
 
 SOURCES := $(shell find crates -name out -prune -o -type f \( -name '*.rt' -o -name '*.antt' \) -print) crates.txt
 
@@ -39,7 +39,8 @@ lib/cotpad.pc: Makefile
 
 HOST_FLAGS := -std=c99 -Wall -Wextra -Wpedantic -O2 -Iinclude
 
-# Three people in C and in Python, compared with what they have to write, and a session in which each allocation is refused in turn.
+# Three people in C and in Python, compared with what they have to write, and a session in which each allocation is refused in
+# turn; where valgrind is there, it has to find no bad access and no block left.
 check-hosts: lib
 	mkdir -p bin
 	$(CC) $(HOST_FLAGS) -o bin/notes examples/embed/notes.c lib/libcotpad.a
@@ -47,6 +48,11 @@ check-hosts: lib
 	python3 examples/embed/notes.py | diff - examples/embed/notes.py.out
 	$(CC) $(HOST_FLAGS) -Wl,--wrap=malloc,--wrap=realloc -o bin/no_memory tools/hosts/no_memory.c lib/libcotpad.a
 	bin/no_memory
+	@if command -v valgrind > /dev/null; then \
+		valgrind -q --leak-check=full --error-exitcode=1 bin/notes > /dev/null && echo "valgrind finds nothing in bin/notes"; \
+	else \
+		echo "no valgrind here: bin/notes wasn't run with it"; \
+	fi
 
 demo: bin/cotpad
 	@for script in examples/*.script; do \
@@ -56,6 +62,7 @@ demo: bin/cotpad
 		echo "== $$log, shown"; bin/cotpad show < $$log; \
 	done
 	@echo "== examples/explain.log, 1.1/2 explained"; bin/cotpad explain 1.1/2 < examples/explain.log
+	@echo "== examples/exchange.sh"; examples/exchange.sh
 
 # Compares what the program writes of each example with its report, and its answers to the frames and logs of
 # docs/vectors.txt with theirs. Reports and answers were worked out by hand from docs/FORMATS.md.
@@ -67,10 +74,19 @@ check-examples: bin/cotpad
 		bin/cotpad show < $$log | cmp - $${log%.log}.report || exit 1; \
 	done
 	@bin/cotpad explain 1.1/2 < examples/explain.log | cmp - examples/explain.steps
+	@examples/exchange.sh | cmp - examples/exchange.report
 	@echo "each example writes its report"
 	@tools/check-vectors
 
-# Says whether docs/TRUST.md lists what the contract of `run` reaches; `tools/trust --write` writes it.
+# Frames that nobody should send, compared with the answers of a grammar that is written a second time.
+check-bytes: bin/cotpad
+	@tools/judge-frames
+
+# Sessions in which each allocation is refused in turn: each run is out of memory and wrote a front of its answer, or goes well.
+check-memory: bin/cotpad
+	@tools/refuse-allocations
+
+# Says whether docs/TRUST.md lists what the contracts of `run` and of the exports reach; `tools/trust --write` writes it.
 trust:
 	@tools/trust
 
