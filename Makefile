@@ -1,6 +1,6 @@
 # `make` leaves the proved program at bin/cotpad; `make demo` replays and shows the examples with it, and lets two copies exchange. `make lib` leaves the
 # library for hosts in lib/, and `make check-hosts` runs hosts in C and in Python over it.
-.PHONY: all lib demo check-examples check-bytes check-memory check-hosts doors trust clean
+.PHONY: all lib demo check-examples check-bytes check-memory check-hosts check-edits doors trust clean
 
 SOURCES := $(shell find crates -name out -prune -o -type f \( -name '*.rt' -o -name '*.antt' \) -print) crates.txt
 
@@ -85,6 +85,10 @@ check-bytes: bin/cotpad
 # Sessions in which each allocation is refused in turn: each run is out of memory and wrote a front of its answer, or goes well.
 check-memory: bin/cotpad
 	@tools/refuse-allocations
+
+# The must-fail edits that the gate leaves out, each of which has to be refused.
+check-edits:
+	@tools/check-edits
 
 # Says whether docs/TRUST.md lists what the contracts of `run` and of the exports reach; `tools/trust --write` writes it.
 trust:
