@@ -33,7 +33,7 @@ use Rattle.cotpad.specs.Peers.{AreOfJoiner, AreOfServer}
 
 -- ---- a front of two lists
 
--- it lies within the first one, and isn't all of it; or it goes on behind it
+-- it lies within the first one, and isn't all of it; or it goes on after it
 abbrev pub Within : List ℕ → List ℕ → List ℕ → List ℕ → Type 0
 Within a b came rest = ((length came < length a) × IsFrontOf came a) ⊎ ((x : List ℕ) × (came ≡ a ++ x) × (b ≡ x ++ rest))
 
@@ -50,7 +50,7 @@ within (y ∷ a) b (z ∷ came) rest e =
       | inr behind ↦ inr (behind.0, (λ i. sym both.0 i ∷ behind.1 i), behind.2)
     ]
 
--- what stands behind the same is the same
+-- what stands after the same is the same
 behind_same : (a x y : List ℕ) → a ++ x ≡ a ++ y → x ≡ y
 behind_same [] x y e = e
 behind_same (z ∷ a) x y e = behind_same a x y (tails z z (a ++ x) (a ++ y) e).1

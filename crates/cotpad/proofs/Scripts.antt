@@ -14,7 +14,7 @@ use Rattle.cotpad.specs.Replies.{IsScriptReport}
 some_left : (n : ℕ) (all : List ℕ) → n < length all → 0 < length (drop n all)
 some_left n all more = let left : length (drop n all) ≡ length all - n = length-drop n all in omega (arith, left, more)
 
--- the report of all is what stands behind the old bytes
+-- the report of all is what stands after the old bytes
 appended : (all old new : List ℕ) (refused : Bool) → IsTranscript all (script_report all) → IsDerivedReport all (script_report all) → ((r : Report) → IsDerivedReport all r → r ≡ script_report all)
     → prepended old (script_report all) ≡ record { written = new; refused = refused }
     → IsAppended IsScriptReport refused all old new

@@ -91,7 +91,7 @@ abbrev pub IsTakenOf : Taken → List ℕ → List ℕ → Type 0
 IsTakenOf End bytes all = (bytes ≡ all) × (length all ≤ MAX_INPUT)
 IsTakenOf Past bytes all = (bytes ≡ take MAX_INPUT all) × (MAX_INPUT < length all)
 
--- a reply to all, which refuses something or not, stands behind what was there
+-- a reply to all, which refuses something or not, stands after what was there
 pub record IsAppended (replies : Replies) (refused : Bool) (all old new : List ℕ) : Type 0 where
   pub reply : Report
   pub right : replies all reply

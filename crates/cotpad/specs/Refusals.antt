@@ -15,7 +15,7 @@ peer_cause_word Cut = codes "cut"
 peer_cause_word Extra = codes "extra"
 peer_cause_word Limit = codes "limit"
 
--- why what a peer sent is refused, in words; want of memory is no reason to print
+-- why what a peer sent is refused, in words; out of memory is no reason to print
 abbrev pub peer_words : Peer → List ℕ
 peer_words (Bytes offset cause) = codes "bytes " ++ (decimal offset ++ (codes " " ++ peer_cause_word cause))
 peer_words (Op member verdict) = codes "op " ++ verdict_text member verdict

@@ -9,7 +9,7 @@ use Rattle.session_replay.specs.declared.generator.TheConstants.{MAX_EVENTS, MAX
 use Rattle.cotpad.specs.declared.command.TheConstants.{MAX_PORT}
 use Rattle.cotpad.specs.Commands.{CommandData, IsOffline, Replay, Show, Edit, Gen, Explain, Serve, Join, Loop, EditData, Ins, Nl, Del, Undo, Redo}
 
--- the words of an edit, behind its site: a row for each. A text is one word
+-- the words of an edit, after its site: a row for each. A text is one word
 abbrev pub edit_words : EditData → List (List ℕ)
 edit_words (Ins place text) = codes "ins" ∷ decimal place ∷ text ∷ []
 edit_words (Nl place) = codes "nl" ∷ decimal place ∷ []

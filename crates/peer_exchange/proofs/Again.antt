@@ -213,7 +213,7 @@ taken_again s at (o ∷ before) behind sound formed e =
     (settled_settles (delivered s o) (sound_delivered s o sound fine)) first.1 in
     repeats_pass at (o ∷ before) behind later.0 settles formed (taken_has s at (o ∷ before) sound formed e)
 
--- an accepted operation is taken in, and those behind it
+-- an accepted operation is taken in, and those after it
 accepted_first : (at : State) (o : OpData) (os : List OpData) → (judged at o ≡ Integrated) ⊎ (judged at o ≡ Repeat)
     → taken_in at (o ∷ os) ≡ taken_in (settled (delivered at o)) os
 unfolding taken_in
@@ -227,7 +227,7 @@ front_again t [] o os sound formed has = repeats_settle t o [] os sound formed h
 front_again t (p ∷ before) o os sound formed has =
     ap (taken_in t) (sym (append_assoc (p ∷ before) (o ∷ []) os)) ∙ repeats_settle t p (before ++ o ∷ []) os sound formed has
 
--- the first of those behind was taken in in part
+-- the first of those after it was taken in in part
 partly_again : (s at t : State) (before : List OpData) (o : OpData) (os : List OpData) → IsSound s → AllFormed (before ++ o ∷ os) → taken_in s before ≡ Ok at
     → IsPartlyTaken at o t → taken_in t (before ++ o ∷ os) ≡ taken_in at (o ∷ os)
 partly_again s at t before o os sound formed e p =

@@ -236,7 +236,7 @@ not_past_at which all before fits k more few =
     let size : length (take before all ++ drop before all) ≤ k = subst (λ (t : List ℕ). length t ≤ k) (sym parts) few in
     subst (NotPast which) parts (not_past which (take before all) (drop before all) k (IsBytes-take before all fits) (subst IsBytes (sym parts) fits) more size)
 
--- the same of bytes that a piece was put behind
+-- the same of bytes that a piece was appended to
 pub fed_past : (which : Which) (old now all piece : List ℕ) (before : ℕ) → all ≡ now → now ≡ old ++ piece → length old ≡ before
     → ((k : ℕ) → measure_of which (take before all) ≡ whole.More k → length all ≤ k → NotPast which all)
     → (k : ℕ) → measure_of which old ≡ whole.More k → length now ≤ k → NotPast which now

@@ -12,7 +12,7 @@ use Rattle.peer_exchange.specs.Measuring.{piece_of, after_piece, pieces, measure
 use Rattle.peer_exchange.specs.Code.Places.{GoesOn, Stands}
 use Rattle.peer_exchange.proofs.Staying.{is_there}
 
--- two ways to follow that agree behind a part that is there
+-- two ways to follow that agree after a part that is there
 follow_alike : (f g : Stage → ℕ → Measure) (at : ℕ) (p : Piece) → ((next : Stage) (used : ℕ) → p ≡ part.Got next used → f next used ≡ g next used) → after_piece f at p ≡ after_piece g at p
 follow_alike f g at (part.Got next used) same = same next used refl
 follow_alike f g at (part.Whole used) same = refl
@@ -31,7 +31,7 @@ enough (suc n) (suc m) s at bytes fits few many =
     let within = there.within in
     enough n m next (at + used) (drop used bytes) (IsBytes-drop used bytes fits) (omega (arith, few, some, within, length-drop used bytes)) (omega (arith, many, some, within, length-drop used bytes)))
 
--- behind a part that is there the message says what follows says
+-- after a part that is there the message says what follows says
 pub step : (s : Stage) (at : ℕ) (bytes : List ℕ) (next : Stage) (used : ℕ) → IsBytes bytes → piece_of s bytes ≡ part.Got next used → measured s at bytes ≡ measured next (at + used) (drop used bytes)
 unfolding pieces
 step s at bytes next used fits e =
@@ -45,7 +45,7 @@ pub stop : (s : Stage) (at : ℕ) (bytes : List ℕ) (p : Piece) → piece_of s 
 unfolding pieces
 stop s at bytes p e = ap (after_piece (λ next used. pieces (length bytes) next (at + used) (drop used bytes)) at) e
 
--- a place may go on behind a part that is there
+-- a place may go on after a part that is there
 pub one_on : (bytes : List ℕ) (from to : Place) (next : Stage) (used : ℕ) → IsBytes bytes → from.at ≤ length bytes → piece_of from.stage (drop from.at bytes) ≡ part.Got next used → to.stage ≡ next → to.at ≡ from.at + used → GoesOn bytes from to
 one_on bytes from to next used fits inside e stage at =
     let rest = drop from.at bytes in
@@ -68,7 +68,7 @@ on_trans bytes a b c first second = record { within = second.within; says = λ t
 pub on_itself : (bytes : List ℕ) (a : Place) → a.at ≤ length bytes → GoesOn bytes a a
 on_itself bytes a inside = record { within = inside; says = λ tail fits. refl }
 
--- with nothing behind the bytes
+-- with nothing after the bytes
 pub says_here : (bytes : List ℕ) (a b : Place) → IsBytes bytes → GoesOn bytes a b → measured a.stage a.at (drop a.at bytes) ≡ measured b.stage b.at (drop b.at bytes)
 says_here bytes a b fits on =
     let none = append-nil bytes in

@@ -1,4 +1,4 @@
--- A whole second message tells a state, and has frames behind it.
+-- A whole second message tells a state, and has frames after it.
 use Rattle.std.proofs.Common.{◌≡◌, ℕ, zero, suc, ◌+◌, ◌≤◌, List, [], ◌++◌, length, drop, Result, Ok, Err, refl, sym, ap, subst, ◌∙◌, append_assoc, append-nil, arith, inl, inr, true, ◌-◌}
 use Rattle.std.proofs.lemmas.List.{length-append, length-drop, drop-drop}
 use Rattle.context_vector.specs.Contexts.{ContextData}
@@ -67,7 +67,7 @@ whole_told bytes e =
 pub second_long : (bytes : List ℕ) → IsWhole Second bytes → 8 ≤ length bytes
 second_long bytes e = (whole_told bytes e).long
 
--- whatever is read behind the head is that state, and the rest is frames
+-- whatever is read after the head is that state, and the rest is frames
 pub second_tells : (bytes : List ℕ) (c : ContextData) (used : ℕ) → IsBytes bytes → IsWhole Second bytes → judge_state (drop 8 bytes) ≡ Ok (c, used) → IsToldUpTo bytes c (8 + used)
 second_tells bytes c used fits e read =
     let told = whole_told bytes e in

@@ -81,7 +81,7 @@ piece_stays Frames bytes more p fits says e = frame_part_stays bytes more p fits
 abbrev Decides : Measure → Type 0
 Decides m = (n : ℕ) → ¬ (message.More n ≡ m)
 
--- more steps than bytes, with more bytes behind
+-- more steps than bytes, with more bytes after them
 pieces_stay : (n m : ℕ) (s : Stage) (at : ℕ) (bytes more : List ℕ) (y : Measure) → IsBytes bytes → Decides y → length bytes < n → length (bytes ++ more) < m → pieces n s at bytes ≡ y → pieces m s at (bytes ++ more) ≡ y
 unfolding pieces
 pieces_stay zero m s at bytes more y fits decides few many e = absurd (omega (arith, few))

@@ -17,7 +17,7 @@ unseen_append k (o ∷ os) ps =
       | inr new ↦ rw new (ap (λ xs. o ∷ xs) (unseen_append k os ps))
     ]
 
--- behind one more operation
+-- after one more operation
 pub unseen_old : (k : Member → Bool) (os : List OpData) (o : OpData) → k (member_of o) ≡ true → unseen k (os ++ o ∷ []) ≡ unseen k os ++ []
 unseen_old k os o seen = unseen_append k os (o ∷ []) ∙ rw seen refl
 

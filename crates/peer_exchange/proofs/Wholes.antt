@@ -78,7 +78,7 @@ head_got frames rest =
     by_false (ltb (length (head ++ rest)) 8) _ _ (le-ltb _ _ (omega arith))
     ∙ by_true (starts_with (λ (x : ℕ) (y : ℕ). eqb x y) (head ++ rest) head) (part.Got (stage.State frames) 8) (part.Bad 0 causes.Head) refl
 
--- behind the head and the state
+-- after the head and the state
 module _ (bytes : List ℕ) (c : ContextData) (rest : List ℕ) (is : IsState c) (parts : bytes ≡ telling c ++ rest) where
   told_size : length bytes ≡ 8 + (length (state_bytes c) + length rest)
   told_size = ap length parts ∙ (ap length (append_assoc head (state_bytes c) rest) ∙ omega (arith, length-append (state_bytes c) rest))

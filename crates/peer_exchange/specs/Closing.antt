@@ -31,7 +31,7 @@ pub record IsFinished (s : State) (third : List ℕ) (t : State) (count : ℕ) :
   pub received : count ≡ length ops
 
 -- why the second message wasn't answered, and what that leaves: bytes that aren't one whole message change nothing, a refused
--- operation leaves those before it taken in, and want of memory a state on the way
+-- operation leaves those before it taken in, and running out of memory a state on the way
 abbrev pub IsUnclosed : State → List ℕ → State → Peer → Type 0
 IsUnclosed s second t (Bytes offset cause) = (t ≡ s) × Spoils (length second) (measure_of Second second) offset cause
 IsUnclosed s second t (Op member verdict) =

@@ -76,7 +76,7 @@ AgreeingSitesMeet =
 abbrev pub AgreeInAll : State → State → Type 0
 AgreeInAll s t = Agree (s.history ++ s.waiting) (t.history ++ t.waiting)
 
--- each of the calls between a server s and a joiner t refuses for want of memory alone
+-- each of the calls between a server s and a joiner t refuses only when it is out of memory
 pub record OnlyMemoryRefuses (s t : State) : Type 0 where
   pub answering : (why : Peer) → IsUnread First (first_message t.history) why → why ≡ peer.Memory
   pub closing : (second : List ℕ) (n : ℕ) (t' : State) (why : Peer) → IsAnswered s.history (first_message t.history) [] second n → IsUnclosed t second t' why → why ≡ peer.Memory

@@ -1,4 +1,4 @@
--- Going on after want of memory: the same call with the same bytes does what it would have done at first.
+-- Going on after running out of memory: the same call with the same bytes does what it would have done at first.
 use Rattle.std.specs.Prelude.{◌≡◌, ℕ, List, [], ◌∷◌}
 use Rattle.context_vector.specs.Contexts.{ContextData}
 use Rattle.context_diff.specs.Operations.{OpData}

@@ -98,7 +98,7 @@ pub fn agreeing_sites_meet()
 {}
 
 /// Where no name has one content at the one site and other content at the other, among what is integrated and what waits,
-/// each of the four calls refuses for want of memory alone.
+/// each of the four calls refuses only when it is out of memory.
 pub fn agreeing_sites_are_not_refused()
     ensures { AgreeingSitesAreNotRefused }
 {}

@@ -18,7 +18,7 @@ OneReading = (bytes : List ℕ) (a b : List OpData) → IsLogOf bytes a → IsLo
 abbrev pub LogsHaveNoFault : Type 0
 LogsHaveNoFault = (bytes : List ℕ) (os : List OpData) (why : LogBad) → IsLogOf bytes os → why ≢ bad.Memory → ¬ IsUnread bytes why
 
--- one reason not to read the bytes holds at most, beside want of memory
+-- at most one reason not to read the bytes holds, apart from memory
 abbrev pub OneFault : Type 0
 OneFault = (bytes : List ℕ) (a b : LogBad) → a ≢ bad.Memory → b ≢ bad.Memory → IsUnread bytes a → IsUnread bytes b → a ≡ b
 

@@ -33,7 +33,7 @@ pub record IsListed (bytes : List ℕ) (old new : List Placed) : Type 0 where
   pub listed : new ≡ old ++ more
   pub placed : map placed_data more ≡ placed_from (length header) ops
 
--- a frame begins at this offset, behind the frames of well-formed operations, and the bytes end before it does
+-- a frame begins at this offset, after the frames of well-formed operations, and the bytes end before it does
 pub record IsCutAt (bytes : List ℕ) (offset : ℕ) : Type 0 where
   pub before : List OpData
   pub rest : List ℕ
@@ -43,7 +43,7 @@ pub record IsCutAt (bytes : List ℕ) (offset : ℕ) : Type 0 where
   pub judged : judge rest ≡ Err (More needed)
   pub place : offset ≡ offset_after before
 
--- behind the frames of well-formed operations stands what begins with no frame, and this is its first fault
+-- after the frames of well-formed operations comes what begins with no frame, and this is its first fault
 pub record IsFaultyAt (bytes : List ℕ) (offset : ℕ) (cause : Cause) : Type 0 where
   pub before : List OpData
   pub rest : List ℕ
@@ -52,7 +52,7 @@ pub record IsFaultyAt (bytes : List ℕ) (offset : ℕ) (cause : Cause) : Type 0
   pub judged : judge rest ≡ Err (Bad (fault cause within))
   pub place : offset ≡ offset_after before + within
 
--- the header stands first, and the frame of an operation is there, behind those of others
+-- the header stands first, and the frame of an operation is there, after those of others
 pub record HasOperation (bytes : List ℕ) : Type 0 where
   pub before : List OpData
   pub op : OpData

@@ -5,7 +5,7 @@ use Rattle.script_text.specs.Verdicts.{verdict_text}
 use Rattle.session_log.specs.declared.log_bad.LogBad.{LogBad}
 use Rattle.session_log.specs.declared.log_bad.LogBad.TheVariants as bad
 
--- why a log was refused, in words; want of memory is no reason to print
+-- why a log was refused, in words; out of memory is no reason to print
 abbrev pub log_bad_words : LogBad → List ℕ
 log_bad_words bad.Header = codes "header"
 log_bad_words (bad.Cut offset) = codes "cut " ++ decimal offset

@@ -12,12 +12,12 @@ pub fn logs_have_no_fault()
     ensures { LogsHaveNoFault }
 {}
 
-/// One reason at most not to read bytes holds, beside want of memory.
+/// At most one reason not to read bytes holds, apart from memory.
 pub fn one_fault()
     ensures { OneFault }
 {}
 
-/// One reason at most not to load bytes holds, beside want of memory.
+/// At most one reason not to load bytes holds, apart from memory.
 pub fn one_refusal()
     ensures { OneRefusal }
 {}

@@ -62,7 +62,7 @@ front_of_rest a b bytes rest piece at n left is written = record {
 
 -- ---- bytes under way
 
--- all that was sent has come, or is to come, behind what was to come at first
+-- all that was sent has come, or is to come, after what was to come at first
 abbrev pub IsUnderWay : (first now : Option (List ℕ)) (sent came : List ℕ) → Type 0
 IsUnderWay first now sent came = Consumes (append_known first sent) now came
 

@@ -152,7 +152,7 @@ heard_by w v j first asked quiet offer whole carried goes sent = record {
       (is.0, record { first = is.1; second = goes.to_come ∙ q.second });
 }
 
--- want of memory refuses no operation
+-- running out of memory refuses no operation
 no_refusal : (why : Peer) → why ≡ refused.Memory → (member : Member) (verdict : Verdict) → node_of why ≡ node.Peer (refused.Op member verdict) → ⊥
 no_refusal why memory member verdict is =
     let never : ◌≡◌ {A = Node} node.Memory (node.Peer (refused.Op member verdict)) = sym (ap node_of memory) ∙ is in cc

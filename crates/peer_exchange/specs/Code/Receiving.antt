@@ -17,7 +17,7 @@ use Rattle.peer_exchange.specs.Taking.{taken_in, IsRefusedAt, IsBefore, IsOnTheW
 abbrev pub no_frame : List ℕ → Bool
 no_frame bytes = nat_lt (length bytes) 4 || (length_of bytes == 0)
 
--- why one operation wasn't taken in, and what that leaves: a refusal nothing, want of memory perhaps some of it
+-- why one operation wasn't taken in, and what that leaves: a refusal leaves nothing of it, running out of memory perhaps some of it
 abbrev pub IsUntaken : State → OpData → State → Peer → Type 0
 IsUntaken s o t (peer.Bytes offset cause) = ⊥
 IsUntaken s o t (peer.Op member verdict) = (t ≡ s) × (taken_in s (o ∷ []) ≡ Err (record { member = member; verdict = verdict }))
