@@ -9,8 +9,8 @@ use std::io;
 pub(crate) enum Stop {
     /// Out of memory.
     Memory,
-    /// A site refused what its user asked for, and changed nothing.
-    Edit(Local),
+    /// A site refused what its user asked for, and changed nothing. (`Local` says why.)
+    Edit,
     /// What came is no frame.
     NoFrame,
     /// What came is another operation than the one that the site knows by this name, or can't be one of this text.
@@ -29,7 +29,10 @@ impl From<Memory> for Stop {
 
 impl From<Local> for Stop {
     fn from(why: Local) -> Stop {
-        Stop::Edit(why)
+        match why {
+            Local::Memory => Stop::Memory,
+            _ => Stop::Edit,
+        }
     }
 }
 

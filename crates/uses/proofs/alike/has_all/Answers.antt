@@ -17,4 +17,4 @@ pub loop-i-preserved : goal.loop-i-preserved
 loop-i-preserved c =
     let repeat = IsRepeat c.args.site.now.history in
     let os = c.args.book.now.ops in
-    AllWithin-more repeat os 0 c.loop-i.i c.loop-i.invariant (λ d. subst repeat (sym (get_or_from_slice_get os c.loop-i.i (data_of c.in-Some.op.now) d (sym c.in-Some.ensures))) (c.has.ensures.0 ?))
+    AllWithin-more repeat os 0 c.loop-i.i c.loop-i.invariant (λ d. subst repeat (sym (get_or_from_slice_get os c.loop-i.i (data_of c.in-Some.op.now) d (sym c.in-Some.ensures))) (c.has.ensures.0 c.if-not-has.false))
