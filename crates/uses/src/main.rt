@@ -1,8 +1,8 @@
 //! Two people write one text: how a program in Rattle calls `cot_site` and `wire_codec`.
 //!
 //! Ann is site 0 and Bob is site 1. Each edits a copy of their own and sends frames (`mail`), bytes that may come in any
-//! order and more than once. Either may undo what the other did. Where both have the same operations, both show the same
-//! text: that is proved of what is printed (`alike`).
+//! order and more than once; either may undo what the other did. What is proved (`alike`): `have_the_same` tells whether
+//! both have the same operations, and where they have, the two texts of `texts_of_both` are equal.
 #![tactic(auto)]
 
 mod alike;

@@ -1,9 +1,6 @@
-use Rattle.std.proofs.Common.{◌≡◌, ◌<◌, ℕ, true, sym, refl, subst, length, arith}
-use Rattle.std.specs.Prelude.{Some, slice_get}
-use Rattle.std.proofs.lemmas.Bool.{true≢false}
+use Rattle.std.proofs.Common.{sym, subst}
 use Rattle.std.proofs.lemmas.List.Elements.{AllWithin-more}
-use Rattle.std.proofs.lemmas.Option.{get_or_from_slice_get, slice_get_within}
-use Rattle.context_diff.specs.Operations.{OpData}
+use Rattle.std.proofs.lemmas.Option.{get_or_from_slice_get}
 use Rattle.context_diff.specs.Ops.{data_of}
 use Rattle.context_diff.proofs.CallerLemmas.{complete}
 use Rattle.cot_site.specs.Verdicts.{IsRepeat}
@@ -17,4 +14,6 @@ pub loop-i-preserved : goal.loop-i-preserved
 loop-i-preserved c =
     let repeat = IsRepeat c.args.site.now.history in
     let os = c.args.book.now.ops in
-    AllWithin-more repeat os 0 c.loop-i.i c.loop-i.invariant (λ d. subst repeat (sym (get_or_from_slice_get os c.loop-i.i (data_of c.in-Some.op.now) d (sym c.in-Some.ensures))) (c.has.ensures.0 c.if-not-has.false))
+    let o = data_of c.in-Some.op.now in
+    AllWithin-more repeat os 0 c.loop-i.i c.loop-i.invariant (λ d.
+    subst repeat (sym (get_or_from_slice_get os c.loop-i.i o d (sym c.in-Some.ensures))) (c.has.ensures.0 c.if-not-has.false))
