@@ -13,7 +13,7 @@ use fixed_replay::{originals_are_told_apart, same_operations_same_text};
 use op_name::Memory;
 use std::alloc::Global;
 
-/// The text of each site: it is the same, since both have the same operations.
+/// The text that each of two sites shows. Since both have the same operations it is one text, that of the definition.
 pub(crate) fn texts_of_both(
     alloc: Global,
     ann: &Site,
@@ -23,6 +23,7 @@ pub(crate) fn texts_of_both(
     ensures alike { IfOk result (λ texts. texts.0.items ≡ texts.1.items) }
     ensures text { IfOk result (λ texts. texts.0.items ≡ text_of ann.now.history) }
 {
+    // Laws: calls that do nothing, and by which the proof knows what they ensure.
     originals_are_told_apart();
     same_operations_same_text();
     ann.known();
@@ -34,7 +35,7 @@ pub(crate) fn texts_of_both(
     Ok((anns, bobs))
 }
 
-/// Whether both sites have the same operations.
+/// Whether both sites have the same operations: the same inserts and deletes, each undone and redone as often.
 pub(crate) fn have_the_same(ann: &Site, bob: &Site) -> bool
     ensures { IsTrue result ↔ Same ann.now.history bob.now.history }
 {

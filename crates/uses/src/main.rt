@@ -38,7 +38,7 @@ fn main(rt: HostRuntime) -> Result<(), Stop> {
     type_at_end(&mut bob, "s")?; // 1.2, where Ann's m is too
     send_all(alloc, &ann, &mut bob)?;
     send_all(alloc, &bob, &mut ann)?;
-    print_both(&rt, alloc, &ann, &bob)?; // a, then m in front of s: ams
+    print_both(&rt, alloc, &ann, &bob)?; // t and e are hidden, and m stands in front of s: ams
 
     // Each takes back what the other deleted, again without knowing of it.
     ann.undo(Name { site: 1, number: 1 })?;
