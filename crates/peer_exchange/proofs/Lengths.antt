@@ -1,5 +1,5 @@
 -- Sites with few operations have no message that is too long.
-use Rattle.std.proofs.Common.{◌≡◌, ℕ, ◌+◌, ◌*◌, ◌≤◌, inl, inr, Bool, List, [], ◌++◌, length, ap, subst, ◌∙◌, arith}
+use Rattle.std.proofs.Common.{ℕ, ◌+◌, ◌*◌, ◌≤◌, inl, inr, Bool, List, length, ap, arith}
 use Rattle.std.specs.Prelude.{not}
 use Rattle.std.specs.List.{flat_map}
 use Rattle.std.proofs.lemmas.List.{length-append}
@@ -14,7 +14,7 @@ use Rattle.cot_site.specs.States.{State}
 use Rattle.wire_codec.specs.Spelling.{frame}
 use Rattle.wire_codec.specs.Judging.{count_len, entry_len}
 use Rattle.wire_codec.specs.States.{state_bytes}
-use Rattle.peer_exchange.specs.Joins.{unseen, joined}
+use Rattle.peer_exchange.specs.Joins.{unseen}
 use Rattle.peer_exchange.specs.Measuring.{head}
 use Rattle.peer_exchange.specs.Messages.{end_mark, first_message, third_message, second_message}
 use Rattle.peer_exchange.specs.Exchanges.{IsQuiet}

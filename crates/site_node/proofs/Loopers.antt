@@ -4,10 +4,8 @@ use Rattle.std.specs.Prelude.{Option, Some, None, Result, Ok, Err, IfOk, IfErr}
 use Rattle.std.proofs.KnownBytes.{Appends-nil, Appends-trans}
 use Rattle.std.specs.Io.KnownBytes.{Appends}
 use Rattle.outside_io.specs.Ends.{End, nothing_of, linked_to, shut_of}
-use Rattle.op_name.specs.declared.member.Member.{Member}
 use Rattle.context_diff.specs.Histories.{IsValid}
 use Rattle.cot_site.specs.States.{State}
-use Rattle.cot_site.specs.declared.verdict.Verdict.{Verdict}
 use Rattle.peer_exchange.specs.declared.messages.Which.{Which}
 use Rattle.peer_exchange.specs.declared.messages.Which.TheVariants.{First, Second, Third}
 use Rattle.peer_exchange.specs.declared.messages.PeerCause.{PeerCause}
