@@ -103,6 +103,18 @@ pub looped_told : (k : Command) (s start : ℕ) (old new : Outside) (before afte
     → IsLoopTold s old new before after r → IsLoopTold start old new before after r
 looped_told k s start old new before after r is said looped = subst (λ q. IsLoopTold q old new before after r) (loop_start k s start is said) looped
 
+-- without a fault of the sink or the wire the summary is written, unless out of memory
+pub loop_done : (start : ℕ) (old new : Outside) (before after : Wired) (r : Status) → IsLooping start old new before after r → IsLoopTold start old new before after r
+    → (Rose old.write_faults new.write_faults → ⊥) → (Rose before.faults after.faults → ⊥) → (r ≡ Done) ⊎ (r ≡ Memory)
+loop_done start old new before after Done looped told sink wire = inl refl
+loop_done start old new before after Refused looped told sink wire = absurd looped
+loop_done start old new before after Words looped told sink wire = absurd looped
+loop_done start old new before after ReadFault looped told sink wire = absurd looped
+loop_done start old new before after WriteFault looped told sink wire = absurd (sink told.fault)
+loop_done start old new before after Memory looped told sink wire = inr refl
+loop_done start old new before after LinkFault looped told sink wire = absurd (wire looped.fault)
+loop_done start old new before after PeerRefused looped told sink wire = absurd told
+
 some_same : (c d : CommandData) → Some c ≡ Some d → c ≡ d
 some_same c d is = cc
 

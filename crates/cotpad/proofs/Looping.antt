@@ -3,11 +3,10 @@ use Rattle.std.proofs.Common.{◌≡◌, ◌⊎◌, ℕ, ◌+◌, ◌≤◌, Lis
 use Rattle.std.specs.Prelude.{Result, Ok, Err, IfOk, IfErr}
 use Rattle.outside_io.specs.Ends.{End}
 use Rattle.cot_site.specs.States.{State}
-use Rattle.peer_exchange.specs.declared.messages.PeerCause.TheVariants.{Limit}
 use Rattle.peer_exchange.specs.declared.peer.Peer.{Peer}
-use Rattle.peer_exchange.specs.declared.peer.Peer.TheVariants as refused
 use Rattle.peer_exchange.specs.Joins.{AnyExchangesMeet}
 use Rattle.peer_exchange.specs.Exchanges.{UnrefusedCallsJoin, AgreeingSitesMeet, SecondExchangesAreEmpty}
+use Rattle.peer_exchange.specs.Lengths.{ShortHistoriesHaveShortMessages}
 use Rattle.session_replay.specs.Sessions.{site_at}
 use Rattle.session_replay.specs.Generating.{SitesStayAlone}
 use Rattle.site_node.specs.declared.node.Node.{Node}
@@ -19,12 +18,11 @@ use Rattle.cotpad.specs.declared.status.Status.TheVariants.{Done, Refused, Words
 use Rattle.cotpad.specs.Generating.{alike}
 use Rattle.cotpad.specs.Looping.{server_of, joiner_of, pair_of, AreLooped, AreLinked, AreJoined, IsParted, IsLooping, IsLoopTold, loop_text}
 use Rattle.cotpad.specs.Outside.{Outside, IsWritten, IsCutOff}
-use Rattle.cotpad.specs.Refusals.{refused_peer_text}
 use Rattle.cotpad.specs.Wired.{Wired}
 use Rattle.cotpad.specs.Code.Looping.{AreBothLooped, IsLeftAfter, IsLoopEnded}
 use Rattle.cotpad.specs.Code.Stopping.{IsStopTold}
 use Rattle.cotpad.proofs.Meetings.{no_link}
-use Rattle.cotpad.proofs.Pairs.{outcome, pair_apart, talks, left_at_limit}
+use Rattle.cotpad.proofs.Pairs.{outcome, pair_apart, talks, never_left}
 
 -- the sites of the generated session
 pub first_is : (start : ℕ) (sites : List State) (s t : State) → sites ≡ (pair_of start).sites → sites ≡ s ∷ t ∷ [] → s ≡ server_of start
@@ -124,46 +122,43 @@ of_pair : (start : ℕ) (s t j k : State) (counts : (ℕ × ℕ) × (ℕ × ℕ)
 of_pair start s t j k counts before after m =
     subst (λ x. AreBothLooped x t (joiner_of start) k counts.0 counts.1 before.ends after.ends) m.server (subst (λ y. AreBothLooped s t y k counts.0 counts.1 before.ends after.ends) m.joiner m.looped)
 
-at_limit : SitesStayAlone → UnrefusedCallsJoin → AnyExchangesMeet → (start : ℕ) (s t j k : State) (why : Node) (refusal : Peer) (before after : Wired)
-    → Loop start s t j k (Err why) before after → why ≡ node.Peer refusal → IsTelling before.ends → (offset : ℕ) × (refusal ≡ refused.Bytes offset Limit)
-at_limit stay join any start s t j k why refusal before after m is telling =
-    left_at_limit join any (server_of start) t (joiner_of start) k refusal before.ends after.ends (pair_apart stay start) telling
+-- over a wire that tells its bytes nothing is refused
+never_refused : SitesStayAlone → UnrefusedCallsJoin → AnyExchangesMeet → ShortHistoriesHaveShortMessages → (start : ℕ) (s t j k : State) (why : Node) (refusal : Peer) (before after : Wired)
+    → Loop start s t j k (Err why) before after → why ≡ node.Peer refusal → IsTelling before.ends → ⊥
+never_refused stay join any short start s t j k why refusal before after m is telling =
+    never_left join any short (server_of start) t (joiner_of start) k refusal before.ends after.ends (pair_apart stay start) telling
     (subst (λ x. IsLeftAfter x t (joiner_of start) k (node.Peer refusal) before.ends after.ends) m.server
     (subst (λ y. IsLeftAfter s t y k (node.Peer refusal) before.ends after.ends) m.joiner
     (subst (λ n. IsLeftAfter s t j k n before.ends after.ends) is m.stopped)))
 
--- over a wire that tells its bytes the summary is of all that each site made
-pub loop_told : SitesStayAlone → UnrefusedCallsJoin → AgreeingSitesMeet → SecondExchangesAreEmpty → AnyExchangesMeet
+-- and the summary is of all that each site made
+pub loop_told : SitesStayAlone → UnrefusedCallsJoin → AgreeingSitesMeet → SecondExchangesAreEmpty → AnyExchangesMeet → ShortHistoriesHaveShortMessages
     → (start : ℕ) (s t j k : State) (r : Result ((ℕ × ℕ) × (ℕ × ℕ)) Node) (old new : Outside) (before after : Wired) (status : Status)
     → Loop start s t j k r before after → IsLoopEnded t k r old new status → IsTelling before.ends → IsLoopTold start old new before after status
-loop_told stay join meet empty any start s t j k (Ok counts) old new before after Done m told telling =
+loop_told stay join meet empty any short start s t j k (Ok counts) old new before after Done m told telling =
     let both = of_pair start s t j k counts before after m in
     let is = outcome join meet empty (server_of start) (joiner_of start) t k counts.0 counts.1 before.ends after.ends (pair_apart stay start) telling both in
     record {
       talks = talks start t k counts.0 counts.1 before.ends after.ends telling both;
       written = subst (λ text. IsWritten text old new) (λ i. loop_text (is.once_is i) (is.twice_is i) (is.shown i)) told;
     }
-loop_told stay join meet empty any start s t j k (Ok counts) old new before after Refused m told telling = tt
-loop_told stay join meet empty any start s t j k (Ok counts) old new before after Words m told telling = tt
-loop_told stay join meet empty any start s t j k (Ok counts) old new before after ReadFault m told telling = tt
-loop_told stay join meet empty any start s t j k (Ok counts) old new before after WriteFault m told telling =
+loop_told stay join meet empty any short start s t j k (Ok counts) old new before after Refused m told telling = tt
+loop_told stay join meet empty any short start s t j k (Ok counts) old new before after Words m told telling = tt
+loop_told stay join meet empty any short start s t j k (Ok counts) old new before after ReadFault m told telling = tt
+loop_told stay join meet empty any short start s t j k (Ok counts) old new before after WriteFault m told telling =
     let is = outcome join meet empty (server_of start) (joiner_of start) t k counts.0 counts.1 before.ends after.ends (pair_apart stay start) telling (of_pair start s t j k counts before after m) in
-    inl (subst (λ text. IsCutOff text old new) (λ i. loop_text (is.once_is i) (is.twice_is i) (is.shown i)) told)
-loop_told stay join meet empty any start s t j k (Ok counts) old new before after Memory m told telling = tt
-loop_told stay join meet empty any start s t j k (Ok counts) old new before after LinkFault m told telling = tt
-loop_told stay join meet empty any start s t j k (Ok counts) old new before after PeerRefused m told telling = absurd told
-loop_told stay join meet empty any start s t j k (Err why) old new before after Done m told telling = absurd told
-loop_told stay join meet empty any start s t j k (Err why) old new before after Refused m told telling = tt
-loop_told stay join meet empty any start s t j k (Err why) old new before after Words m told telling = tt
-loop_told stay join meet empty any start s t j k (Err why) old new before after ReadFault m told telling = tt
-loop_told stay join meet empty any start s t j k (Err why) old new before after WriteFault m (refusal, is, cut_off) telling =
-    let limit = at_limit stay join any start s t j k why refusal before after m is telling in
-    inr (limit.0, subst (λ x. IsCutOff (refused_peer_text x) old new) limit.1 cut_off)
-loop_told stay join meet empty any start s t j k (Err why) old new before after Memory m told telling = tt
-loop_told stay join meet empty any start s t j k (Err why) old new before after LinkFault m told telling = tt
-loop_told stay join meet empty any start s t j k (Err why) old new before after PeerRefused m (refusal, is, written) telling =
-    let limit = at_limit stay join any start s t j k why refusal before after m is telling in
-    (limit.0, subst (λ x. IsWritten (refused_peer_text x) old new) limit.1 written)
+    subst (λ text. IsCutOff text old new) (λ i. loop_text (is.once_is i) (is.twice_is i) (is.shown i)) told
+loop_told stay join meet empty any short start s t j k (Ok counts) old new before after Memory m told telling = tt
+loop_told stay join meet empty any short start s t j k (Ok counts) old new before after LinkFault m told telling = tt
+loop_told stay join meet empty any short start s t j k (Ok counts) old new before after PeerRefused m told telling = absurd told
+loop_told stay join meet empty any short start s t j k (Err why) old new before after Done m told telling = absurd told
+loop_told stay join meet empty any short start s t j k (Err why) old new before after Refused m told telling = tt
+loop_told stay join meet empty any short start s t j k (Err why) old new before after Words m told telling = tt
+loop_told stay join meet empty any short start s t j k (Err why) old new before after ReadFault m told telling = tt
+loop_told stay join meet empty any short start s t j k (Err why) old new before after WriteFault m (refusal, is, cut_off) telling = absurd (never_refused stay join any short start s t j k why refusal before after m is telling)
+loop_told stay join meet empty any short start s t j k (Err why) old new before after Memory m told telling = tt
+loop_told stay join meet empty any short start s t j k (Err why) old new before after LinkFault m told telling = tt
+loop_told stay join meet empty any short start s t j k (Err why) old new before after PeerRefused m (refusal, is, written) telling = never_refused stay join any short start s t j k why refusal before after m is telling
 
 pub told_of_stop : (server joiner : State) (r : Result ((ℕ × ℕ) × (ℕ × ℕ)) Node) (why : Node) (old new : Outside) (status : Status) → r ≡ Err why → IsStopTold why old new status
     → IsLoopEnded server joiner r old new status

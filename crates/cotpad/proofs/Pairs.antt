@@ -1,8 +1,9 @@
 -- The two sites of a generated session, over a pair that tells its bytes: they send each other all that they made, and meet.
-use Rattle.std.proofs.Common.{◌≡◌, ◌⊎◌, ℕ, suc, Bool, true, false, Option, List, [], ◌∷◌, ◌++◌, length, refl, sym, ap, subst, ◌∙◌, inl, inr, arith, append-nil, bytes_eq}
+use Rattle.std.proofs.Common.{◌≡◌, ◌⊎◌, ℕ, suc, ◌+◌, ◌≤◌, Bool, true, false, Option, List, [], ◌∷◌, ◌++◌, length, refl, sym, ap, subst, ◌∙◌, inl, inr, arith, append-nil, bytes_eq}
 use Rattle.std.specs.Prelude.{Contains, ◌≢◌}
 use Rattle.std.specs.Io.KnownBytes.{Appends}
 use Rattle.std.proofs.lemmas.Bool.{cases_Bool}
+use Rattle.std.proofs.lemmas.List.{length-append}
 use Rattle.std.proofs.lemmas.Slice.Eq.{bytes_eq-Decides}
 use Rattle.outside_io.specs.Ends.{End}
 use Rattle.op_name.specs.NameData.{NameData}
@@ -20,9 +21,11 @@ use Rattle.peer_exchange.specs.declared.peer.Peer.{Peer}
 use Rattle.peer_exchange.specs.declared.peer.Peer.TheVariants as refused
 use Rattle.peer_exchange.specs.Joins.{unseen, joined, Agree, AreAlike, AreSound, IsExchanged, AnyExchangesMeet}
 use Rattle.peer_exchange.specs.Exchanges.{Talk, IsExchange, IsQuiet, AgreeInAll, HaveJoined, UnrefusedCallsJoin, AgreeingSitesMeet, SecondExchangesAreEmpty, IsEmptyExchange}
+use Rattle.peer_exchange.specs.Lengths.{few_operations, ShortHistoriesHaveShortMessages}
+use Rattle.peer_exchange.specs.Taking.{with_history}
 use Rattle.session_replay.specs.Generating.{turns, IsAlone, SitesStayAlone}
 use Rattle.site_node.specs.declared.node.Node.TheVariants as node
-use Rattle.site_node.specs.Pairs.{IsTelling, IsLooped, AreMessages, IsUnspoilt}
+use Rattle.site_node.specs.Pairs.{IsTelling, IsLooped, IsUnlooped, AreMessages, IsUnspoilt}
 use Rattle.cotpad.specs.Generating.{alike}
 use Rattle.cotpad.specs.Looping.{pair_plan, server_of, joiner_of, AreTwoTalks}
 use Rattle.cotpad.specs.Code.Looping.{AreBothLooped, IsLeftAfter}
@@ -61,6 +64,8 @@ pub record Pair (s j : State) : Type 0 where
   pub sound : AreSound (s.history ∷ j.history ∷ [])
   pub to_joiner : length (unseen (is_known j.history) s.history) ≡ 8
   pub to_server : length (unseen (is_known s.history) j.history) ≡ 8
+  pub server_made : length s.history ≡ 8
+  pub joiner_made : length j.history ≡ 8
 
 -- one of two
 two_cases : {X : Type 0} (a b x : X) → Contains (a ∷ b ∷ []) x → (a ≡ x) ⊎ (b ≡ x)
@@ -104,20 +109,56 @@ eight_second : (start : ℕ) → turns (pair_plan start) 1 16 ≡ 8
 unfolding turns
 eight_second start = refl
 
--- the two agree at first, and after an exchange
-pub agree_at_first : (s j : State) → Pair s j → AgreeInAll s j
-agree_at_first s j pair = quiet_agree s j pair.server.none pair.joiner.none pair.agree
+-- two sites at which nothing waits, that agree, and have few operations
+record AreReady (s j : State) : Type 0 where
+  server : IsQuiet s
+  joiner : IsQuiet j
+  agree : AgreeInAll s j
+  few : length s.history + length j.history ≤ few_operations
 
-pub agree_then : UnrefusedCallsJoin → AnyExchangesMeet → (s j server joiner : State) (x : Talk) → Pair s j → IsExchange s j server joiner x → AgreeInAll server joiner
-agree_then join any s j server joiner x pair calls =
+-- so they are at first, and after an exchange
+ready_at_first : (s j : State) → Pair s j → AreReady s j
+ready_at_first s j pair = record {
+  server = pair.server;
+  joiner = pair.joiner;
+  agree = quiet_agree s j pair.server.none pair.joiner.none pair.agree;
+  few = omega (arith, pair.server_made, pair.joiner_made);
+}
+
+quiet_with : (s t : State) (h : List OpData) → IsQuiet s → IsValid h → t ≡ with_history s h → IsQuiet t
+quiet_with s t h quiet valid is =
+    subst IsQuiet (sym is) (record { sound = record { number = quiet.sound.number; history = valid; waiting = quiet.sound.waiting }; none = quiet.none })
+
+ready_then : UnrefusedCallsJoin → AnyExchangesMeet → (s j server joiner : State) (x : Talk) → Pair s j → IsExchange s j server joiner x → AreReady server joiner
+ready_then join any s j server joiner x pair calls =
     let joined_both : HaveJoined s j server joiner x = join s j server joiner x pair.server pair.joiner calls in
     let h = s.history in
     let p = j.history in
     let js = joined h p ∷ joined p h ∷ [] in
+    let here : Contains js (joined h p) = contains_here (joined h p) (joined p h ∷ []) in
+    let there : Contains js (joined p h) = contains_later (joined h p) (joined p h ∷ []) (joined p h) (contains_here (joined p h) []) in
     let sound = (any (h ∷ p ∷ []) (js ∷ []) pair.sound (exchanged h p, tt)).0 in
-    let agree : Agree (joined h p) (joined p h) = sound.agree (joined h p) (joined p h) (contains_here (joined h p) (joined p h ∷ [])) (contains_later (joined h p) (joined p h ∷ []) (joined p h) (contains_here (joined p h) [])) in
-    quiet_agree server joiner (ap (λ (q : State). q.waiting) joined_both.server ∙ pair.server.none) (ap (λ (q : State). q.waiting) joined_both.joiner ∙ pair.joiner.none)
-    (subst (λ (q : State). Agree q.history joiner.history) (sym joined_both.server) (subst (λ (q : State). Agree (joined h p) q.history) (sym joined_both.joiner) agree))
+    let server_quiet = quiet_with s server (joined h p) pair.server (sound.valid (joined h p) here) joined_both.server in
+    let joiner_quiet = quiet_with j joiner (joined p h) pair.joiner (sound.valid (joined p h) there) joined_both.joiner in
+    let server_is : server.history ≡ joined h p = ap (λ (q : State). q.history) joined_both.server in
+    let joiner_is : joiner.history ≡ joined p h = ap (λ (q : State). q.history) joined_both.joiner in
+    let agree : Agree server.history joiner.history = subst (Agree server.history) (sym joiner_is) (subst (λ (k : List OpData). Agree k (joined p h)) (sym server_is) (sound.agree (joined h p) (joined p h) here there)) in
+    record {
+      server = server_quiet;
+      joiner = joiner_quiet;
+      agree = quiet_agree server joiner server_quiet.none joiner_quiet.none agree;
+      few = omega (
+        arith,
+        ap length server_is,
+        ap length joiner_is,
+        length-append h (unseen (is_known h) p),
+        length-append p (unseen (is_known p) h),
+        pair.server_made,
+        pair.joiner_made,
+        pair.to_server,
+        pair.to_joiner,
+      );
+    }
   where
     exchanged : (h p : List OpData) → IsExchanged (h ∷ p ∷ []) (joined h p ∷ joined p h ∷ [])
     exchanged h p k at = elim (two_cases (joined h p) (joined p h) k at) [
@@ -137,6 +178,8 @@ pair_apart stay start =
       sound = pair_sound (server_of start) (joiner_of start) a.sound.history b.sound.history a.one b.one (agree_apart 0 1 (server_of start).history (joiner_of start).history (λ e. absurd (omega (arith, e))) a.own b.own);
       to_joiner = all_pass (is_known (joiner_of start).history) (server_of start).history (apart 1 0 (joiner_of start).history (server_of start).history (λ e. absurd (omega (arith, e))) b.own a.own) ∙ (a.made ∙ eight_first start);
       to_server = all_pass (is_known (server_of start).history) (joiner_of start).history (apart 0 1 (server_of start).history (joiner_of start).history (λ e. absurd (omega (arith, e))) a.own b.own) ∙ (b.made ∙ eight_second start);
+      server_made = a.made ∙ eight_first start;
+      joiner_made = b.made ∙ eight_second start;
     }
 
 -- ---- both exchanges
@@ -195,20 +238,22 @@ talks start t k once twice old new telling both =
 
 -- ---- exchanges that stopped
 
--- of what came over such a pair nothing is refused but a message that is too long
-only_limit : (why : Peer) → IsUnspoilt (node.Peer why) → ((member : Member) (verdict : Verdict) → node.Peer why ≢ node.Peer (refused.Op member verdict)) → (offset : ℕ) × (why ≡ refused.Bytes offset Limit)
-only_limit (refused.Bytes offset Head) unspoilt agreed = absurd unspoilt
-only_limit (refused.Bytes offset (Frame cause)) unspoilt agreed = absurd unspoilt
-only_limit (refused.Bytes offset Cut) unspoilt agreed = absurd unspoilt
-only_limit (refused.Bytes offset Extra) unspoilt agreed = absurd unspoilt
-only_limit (refused.Bytes offset Limit) unspoilt agreed = (offset, refl)
-only_limit (refused.Op member verdict) unspoilt agreed = absurd (agreed member verdict refl)
-only_limit refused.Memory unspoilt agreed = absurd unspoilt
+-- of what came over such a pair nothing is refused
+none_refused : (why : Peer) → IsUnspoilt (node.Peer why) → ((offset : ℕ) → node.Peer why ≢ node.Peer (refused.Bytes offset Limit)) → ((member : Member) (verdict : Verdict) → node.Peer why ≢ node.Peer (refused.Op member verdict)) → ⊥
+none_refused (refused.Bytes offset Head) unspoilt short agreed = unspoilt
+none_refused (refused.Bytes offset (Frame cause)) unspoilt short agreed = unspoilt
+none_refused (refused.Bytes offset Cut) unspoilt short agreed = unspoilt
+none_refused (refused.Bytes offset Extra) unspoilt short agreed = unspoilt
+none_refused (refused.Bytes offset Limit) unspoilt short agreed = short offset refl
+none_refused (refused.Op member verdict) unspoilt short agreed = agreed member verdict refl
+none_refused refused.Memory unspoilt short agreed = unspoilt
 
-pub left_at_limit : UnrefusedCallsJoin → AnyExchangesMeet → (s t j k : State) (why : Peer) (old new : ℕ → End) → Pair s j → IsTelling old → IsLeftAfter s t j k (node.Peer why) old new
-    → (offset : ℕ) × (why ≡ refused.Bytes offset Limit)
-left_at_limit join any s t j k why old new pair telling (inl first) = only_limit why (first.unspoilt telling) (first.agreed telling (agree_at_first s j pair))
-left_at_limit join any s t j k why old new pair telling (inr midway) =
-    let between = midway.first.telling telling in
-    only_limit why (midway.second.unspoilt between)
-    (midway.second.agreed between (agree_then join any s j midway.server midway.joiner (midway.first.messages telling).talk pair (midway.first.messages telling).calls))
+never_stopped : ShortHistoriesHaveShortMessages → (s t j k : State) (why : Peer) (old new : ℕ → End) → AreReady s j → IsTelling old → IsUnlooped s t j k (node.Peer why) old new → ⊥
+never_stopped short s t j k why old new ready telling stopped =
+    none_refused why (stopped.unspoilt telling) (λ offset is. short s j ready.server ready.joiner ready.few (stopped.limited telling offset is)) (stopped.agreed telling ready.agree)
+
+pub never_left : UnrefusedCallsJoin → AnyExchangesMeet → ShortHistoriesHaveShortMessages → (s t j k : State) (why : Peer) (old new : ℕ → End) → Pair s j → IsTelling old → IsLeftAfter s t j k (node.Peer why) old new → ⊥
+never_left join any short s t j k why old new pair telling (inl first) = never_stopped short s t j k why old new (ready_at_first s j pair) telling first
+never_left join any short s t j k why old new pair telling (inr midway) =
+    let messages = midway.first.messages telling in
+    never_stopped short midway.server t midway.joiner k why midway.between new (ready_then join any s j midway.server midway.joiner messages.talk pair messages.calls) (midway.first.telling telling) midway.second

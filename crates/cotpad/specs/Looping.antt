@@ -6,9 +6,7 @@ use Rattle.outside_io.specs.Faults.{Rose}
 use Rattle.outside_io.specs.declared.link.Asked.TheVariants.{Pair}
 use Rattle.cot_site.specs.States.{State}
 use Rattle.peer_exchange.specs.Exchanges.{Talk, IsExchange}
-use Rattle.peer_exchange.specs.declared.messages.PeerCause.TheVariants.{Limit}
 use Rattle.peer_exchange.specs.declared.peer.Peer.{Peer}
-use Rattle.peer_exchange.specs.declared.peer.Peer.TheVariants.{Bytes}
 use Rattle.session_replay.specs.Sessions.{SessionData, site_at}
 use Rattle.session_replay.specs.Generating.{Plan, generated}
 use Rattle.site_node.specs.declared.node.Node.{Node}
@@ -172,14 +170,13 @@ pub record IsLoopWhole (start : ℕ) (old new : Outside) (before after : Wired) 
   pub talks : AreTwoTalks start before.ends after.ends
   pub written : IsWritten (loop_text (8, 8) (0, 0) 2) old new
 
--- so it is where the answer is Done; and nothing of what came is refused, unless a message is longer than messages may be
+-- so it is where the answer is Done, and nothing of what came is refused
 abbrev pub IsLoopTold : ℕ → Outside → Outside → Wired → Wired → Status → Type 0
 IsLoopTold start old new before after Done = IsLoopWhole start old new before after
 IsLoopTold start old new before after Refused = Unit {0}
 IsLoopTold start old new before after Words = Unit {0}
 IsLoopTold start old new before after ReadFault = Unit {0}
-IsLoopTold start old new before after WriteFault =
-    IsCutOff (loop_text (8, 8) (0, 0) 2) old new ⊎ ((offset : ℕ) × IsCutOff (refused_peer_text (Bytes offset Limit)) old new)
+IsLoopTold start old new before after WriteFault = IsCutOff (loop_text (8, 8) (0, 0) 2) old new
 IsLoopTold start old new before after Memory = Unit {0}
 IsLoopTold start old new before after LinkFault = Unit {0}
-IsLoopTold start old new before after PeerRefused = (offset : ℕ) × IsWritten (refused_peer_text (Bytes offset Limit)) old new
+IsLoopTold start old new before after PeerRefused = ⊥

@@ -19,7 +19,8 @@ use cot_site::Site;
 use op_name::Memory;
 use outside_io::{Failed, Sink, Wire, write_whole};
 use peer_exchange::{
-    agreeing_sites_meet, any_exchanges_meet, second_exchanges_are_empty, unrefused_calls_join,
+    agreeing_sites_meet, any_exchanges_meet, second_exchanges_are_empty,
+    short_histories_have_short_messages, unrefused_calls_join,
 };
 use session_replay::{generate, sites_stay_alone};
 use site_node::{Node, loop_run};
@@ -60,6 +61,7 @@ pub(crate) fn answer_looped<K: Sink, W: Wire>(
     agreeing_sites_meet();
     second_exchanges_are_empty();
     any_exchanges_meet();
+    short_histories_have_short_messages();
     match generate(alloc, start, LOOP_EVENTS, 1, LOOP_SITES, false) {
         Ok(generated) => {
             let (mut server, mut joiner) = generated.into_pair();

@@ -146,6 +146,11 @@ pub fn run<S: Source, K: Sink, W: Wire>(
         → (Rose (S.faults source.old) (S.faults source.new) → ⊥)
         → (Rose (K.faults sink.old) (K.faults sink.new) → ⊥)
         → IsReported result ⊎ (result ≡ Status.Memory) }
+    // Over a pair that tells its bytes, and without a fault, the summary is written, unless out of memory.
+    ensures loop_complete { (start : ℕ) → Spells words.now (asked.Loop start) → IsTelling (W.ends wire.old)
+        → (Rose (K.faults sink.old) (K.faults sink.new) → ⊥)
+        → (Rose (W.faults wire.old) (W.faults wire.new) → ⊥)
+        → (result ≡ Status.Done) ⊎ (result ≡ Status.Memory) }
     // With a peer that agrees, and whose messages come whole, the log is written.
     ensures serve_complete { (port : ℕ) → Spells words.now (asked.Serve port) → AgreesWithPeer serving
         (told (S.left source.old) (S.faults source.old) (K.held sink.old) (K.faults sink.old))

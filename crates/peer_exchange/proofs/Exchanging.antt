@@ -45,7 +45,7 @@ formed_unseen : (k : Member → Bool) (h : List OpData) → IsValid h → AllFor
 formed_unseen k h v o at = (complete h v).formed o (unseen_contains k h o at)
 
 -- the server's answer tells its own state, and has what the joiner lacks
-answered_is : (h p : List OpData) (second : List ℕ) (n : ℕ) → IsValid h → IsValid p → IsAnswered h (first_message p) [] second n
+pub answered_is : (h p : List OpData) (second : List ℕ) (n : ℕ) → IsValid h → IsValid p → IsAnswered h (first_message p) [] second n
     → IsSecond second (context_of_all h) (unseen (is_known p) h) × (n ≡ length (unseen (is_known p) h))
 answered_is h p second n v w a =
     let state : a.state ≡ context_of_all p = messages_tell_one_thing.first (first_message p) a.state (context_of_all p) a.told (first_of p w) in
@@ -59,14 +59,14 @@ answered_is h p second n v w a =
     )
 
 -- what the joiner takes in and sends
-record IsReplied (s t t' : State) (third : List ℕ) (took sent : ℕ) : Type 0 where
-  takes : taken_in t (unseen (is_known t.history) s.history) ≡ Ok t'
-  valid : IsValid t'.history
-  sends : IsThird third (unseen (is_known s.history) t'.history)
-  received : took ≡ length (unseen (is_known t.history) s.history)
-  replied : sent ≡ length (unseen (is_known s.history) t'.history)
+pub record IsReplied (s t t' : State) (third : List ℕ) (took sent : ℕ) : Type 0 where
+  pub takes : taken_in t (unseen (is_known t.history) s.history) ≡ Ok t'
+  pub valid : IsValid t'.history
+  pub sends : IsThird third (unseen (is_known s.history) t'.history)
+  pub received : took ≡ length (unseen (is_known t.history) s.history)
+  pub replied : sent ≡ length (unseen (is_known s.history) t'.history)
 
-closed_is : (s t t' : State) (second third : List ℕ) (took sent : ℕ) → IsSound s → IsSound t → IsSecond second (context_of_all s.history) (unseen (is_known t.history) s.history)
+pub closed_is : (s t t' : State) (second third : List ℕ) (took sent : ℕ) → IsSound s → IsSound t → IsSecond second (context_of_all s.history) (unseen (is_known t.history) s.history)
     → IsClosed t second t' [] third (took, sent) → IsReplied s t t' third took sent
 closed_is s t t' second third took sent ss st is c =
     let h = s.history in

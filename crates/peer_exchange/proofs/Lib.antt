@@ -24,4 +24,6 @@ pub mod GoingOn
 pub mod Faults
 pub mod Stable
 pub mod Sent
+pub mod Sizes
+pub mod Lengths
 pub mod CallerLemmas

@@ -14,7 +14,7 @@ use Rattle.peer_exchange.proofs.Unseen.{unseen_contains}
 use Rattle.peer_exchange.proofs.Wholes.{messages_are_whole}
 use Rattle.peer_exchange.proofs.OneThing.{first_of, history_is_state}
 
-lacked_formed : (c : ContextData) (h : List OpData) → IsValid h → AllFormed (unseen (has c) h)
+pub lacked_formed : (c : ContextData) (h : List OpData) → IsValid h → AllFormed (unseen (has c) h)
 lacked_formed c h v o at = (complete h v).formed o (unseen_contains (has c) h o at)
 
 pub offered_whole : (h : List OpData) (bytes : List ℕ) → IsValid h → bytes ≡ first_message h → IsWhole First bytes

@@ -4,6 +4,7 @@ ghost use Rattle.peer_exchange.specs.Joins.{JoinsAreValid, LackedOperationsAreNe
 ghost use Rattle.peer_exchange.specs.Taking.{NextOperationsAreTaken, BothSidesTakeAll, NewOperationsAreAppended, UnrefusedExchangesJoin, TakingInKeepsHistories, LackedOperationsAreTaken};
 ghost use Rattle.peer_exchange.specs.GoingOn.{GoingOnAfterMemory};
 ghost use Rattle.peer_exchange.specs.Exchanges.{MessagesAreWhole, MessagesTellOneThing, UnrefusedCallsJoin, AgreeingSitesMeet, AgreeingSitesAreNotRefused, SecondExchangesAreEmpty};
+ghost use Rattle.peer_exchange.specs.Lengths.{ShortHistoriesHaveShortMessages};
 
 /// The join of valid histories that agree is valid.
 pub fn joins_are_valid()
@@ -106,6 +107,12 @@ pub fn agreeing_sites_are_not_refused()
 /// A second exchange at once sends no frame in either direction, and changes neither site.
 pub fn second_exchanges_are_empty()
     ensures { SecondExchangesAreEmpty }
+{}
+
+/// Two sites at which nothing waits, and which have at most 256 operations together, have no message that is longer than
+/// messages may be.
+pub fn short_histories_have_short_messages()
+    ensures { ShortHistoriesHaveShortMessages }
 {}
 
 /// However often `close` or `finish` is out of memory, the same call with the same bytes then takes in, refuses, answers and

@@ -26,7 +26,8 @@ pub use laws::{
     joins_are_valid, joins_associate, joins_commute, lacked_operations_are_next,
     lacked_operations_are_taken, messages_are_whole, messages_tell_one_thing,
     new_operations_are_appended, next_operations_are_taken, second_exchanges_are_empty,
-    taking_in_keeps_histories, unrefused_calls_join, unrefused_exchanges_join,
+    short_histories_have_short_messages, taking_in_keeps_histories, unrefused_calls_join,
+    unrefused_exchanges_join,
 };
 pub use measuring::measure;
 pub use messages::{MAX_MESSAGE, Measure, PeerCause, Which};

@@ -17,6 +17,7 @@ use Rattle.peer_exchange.specs.declared.messages.Measure.TheVariants as message
 use Rattle.peer_exchange.specs.declared.messages.PeerCause.{PeerCause}
 use Rattle.peer_exchange.specs.declared.messages.PeerCause.TheVariants.{Cut, Limit}
 use Rattle.peer_exchange.specs.declared.peer.Peer.TheVariants as refused
+use Rattle.peer_exchange.specs.Lengths.{IsTooLong}
 use Rattle.peer_exchange.specs.Measuring.{measure_of}
 use Rattle.peer_exchange.specs.Refusals.{IsWhole}
 use Rattle.peer_exchange.proofs.CallerLemmas.{says_still}
@@ -25,7 +26,7 @@ use Rattle.site_node.specs.declared.node.Node.TheVariants as node
 use Rattle.site_node.specs.Exchanges.{IsFrontOf}
 use Rattle.site_node.specs.Moves.{Receives, Gains}
 use Rattle.site_node.specs.Pairs.{IsUnspoilt}
-use Rattle.site_node.specs.Stops.{Explains}
+use Rattle.site_node.specs.Stops.{Explains, IsSpoilt}
 use Rattle.site_node.specs.Code.Carrying.{SendsOn, IsCarried, IsUncarried}
 use Rattle.site_node.proofs.Explaining.{bad_spoils}
 use Rattle.site_node.proofs.Moving.{received_none}
@@ -281,6 +282,19 @@ read_failed which a b c d o p q x bytes came at next why r s same lost other cau
     unspoilt : (why ≡ node.Link) ⊎ (why ≡ node.Memory) → IsUnspoilt why
     unspoilt (inl link) = subst IsUnspoilt (sym link) tt
     unspoilt (inr memory) = subst IsUnspoilt (sym memory) tt
+
+-- ---- the most bytes of a message
+
+front_then : (a b c : List ℕ) → IsFrontOf a b → IsFrontOf b c → IsFrontOf a c
+front_then a b c one two = (one.0 ++ two.0, two.1 ∙ (ap (λ (t : List ℕ). t ++ two.0) one.1 ∙ append_assoc a one.0 two.0))
+
+-- where they came without an end, the message that was sent is longer
+pub limit_too_long : (which : Which) (a b o p : End) (bytes : List ℕ) (why : Node) (offset : ℕ) → IsUncarried a b o p which bytes why → IsWhole which bytes → o.to_come ≡ Some []
+    → why ≡ node.Peer (refused.Bytes offset Limit) → IsTooLong bytes
+limit_too_long which a b o p bytes why offset un whole none is =
+    let spoilt : IsSpoilt which un.came offset Limit = subst (Explains which un.came) is un.explains in
+    let fewer = more_front which bytes un.came spoilt.0.0 whole (front_then un.came un.gone bytes (un.carried none) un.front) spoilt.0.1 in
+    omega (arith, fewer, spoilt.1)
 
 -- ---- the ends of a pair
 

@@ -4,25 +4,27 @@ use Rattle.std.specs.Prelude.{Option, Some, None, Result, Ok, Err, IfOk, IfErr}
 use Rattle.std.proofs.KnownBytes.{Appends-nil, Appends-trans}
 use Rattle.std.specs.Io.KnownBytes.{Appends}
 use Rattle.outside_io.specs.Ends.{End, nothing_of, linked_to, shut_of}
-use Rattle.op_name.specs.declared.member.Member.{Member}
 use Rattle.context_diff.specs.Histories.{IsValid}
 use Rattle.cot_site.specs.States.{State}
-use Rattle.cot_site.specs.declared.verdict.Verdict.{Verdict}
 use Rattle.peer_exchange.specs.declared.messages.Which.{Which}
 use Rattle.peer_exchange.specs.declared.messages.Which.TheVariants.{First, Second, Third}
+use Rattle.peer_exchange.specs.declared.messages.PeerCause.{PeerCause}
+use Rattle.peer_exchange.specs.declared.messages.PeerCause.TheVariants.{Limit}
 use Rattle.peer_exchange.specs.declared.peer.Peer.{Peer}
 use Rattle.peer_exchange.specs.declared.peer.Peer.TheVariants as refused
 use Rattle.peer_exchange.specs.Closing.{IsClosed, IsUnclosed, IsFinished, IsUnfinished}
 use Rattle.peer_exchange.specs.Exchanges.{AgreeInAll, OnlyMemoryRefuses}
+use Rattle.peer_exchange.specs.Lengths.{IsTooLong}
 use Rattle.peer_exchange.specs.Messages.{first_message, IsAnswered}
 use Rattle.peer_exchange.specs.Refusals.{IsWhole, IsUnread}
 use Rattle.peer_exchange.proofs.CallerLemmas.{offered_whole, answered_whole, closing_whole}
 use Rattle.site_node.specs.declared.node.Node.{Node}
 use Rattle.site_node.specs.declared.node.Node.TheVariants as node
-use Rattle.site_node.specs.Stops.{node_of, Explains}
+use Rattle.site_node.specs.Stops.{node_of, Explains, IsSpoilt}
 use Rattle.site_node.specs.Exchanges.{IsFrontOf}
 use Rattle.site_node.specs.Pairs.{IsTelling, IsUnspoilt, Speaks, IsLooped, IsUnlooped}
 use Rattle.site_node.specs.Code.Carrying.{IsCarried, IsUncarried}
+use Rattle.site_node.proofs.Carriages.{limit_too_long}
 use Rattle.site_node.proofs.Explaining.{unread_memory, whole_unspoilt}
 
 -- nothing is to come at either end
@@ -98,6 +100,9 @@ unstarted w v s j why first second explained unspoilt = record {
   cause = inl refl;
   carried = λ tells. (no_front [], no_front []);
   unspoilt = λ tells. unspoilt;
+  limited = λ tells offset is.
+      let spoilt : IsSpoilt First [] offset Limit = subst (Explains First []) is (explained First) in
+      absurd (omega (arith, spoilt.1));
   agreed = λ tells agree member verdict is. subst (Explains First []) is (explained First);
 }
 
@@ -130,6 +135,8 @@ unasked w v s j first why quiet offer un received to_come sent = record {
   cause = inl refl;
   carried = λ tells. (un.carried (quiet tells).first, no_front []);
   unspoilt = λ tells. un.unspoilt offer.whole (quiet tells).first;
+  limited = λ tells offset is.
+      inl (subst IsTooLong offer.is (limit_too_long First (w 1) (v 1) (w 0) (v 0) first why offset un offer.whole (quiet tells).first is));
   agreed = λ tells agree member verdict is. subst (Explains First un.came) is un.explains;
 }
 
@@ -152,10 +159,9 @@ heard_by w v j first asked quiet offer whole carried goes sent = record {
       (is.0, record { first = is.1; second = goes.to_come ∙ q.second });
 }
 
--- running out of memory refuses no operation
-no_refusal : (why : Peer) → why ≡ refused.Memory → (member : Member) (verdict : Verdict) → node_of why ≡ node.Peer (refused.Op member verdict) → ⊥
-no_refusal why memory member verdict is =
-    let never : ◌≡◌ {A = Node} node.Memory (node.Peer (refused.Op member verdict)) = sym (ap node_of memory) ∙ is in cc
+-- out of memory is no refusal
+no_refusal : (why refusal : Peer) → why ≡ refused.Memory → node_of why ≡ node.Peer refusal → ⊥
+no_refusal why refusal memory is = let never : ◌≡◌ {A = Node} node.Memory (node.Peer refusal) = sym (ap node_of memory) ∙ is in cc
 
 -- there was no memory for the second one
 pub unanswered : (w v : ℕ → End) (s j : State) (first asked : List ℕ) (why : Peer) → Heard w v j first asked → IsUnread First asked why → IsUnlooped s s j j (node_of why) w v
@@ -174,7 +180,8 @@ unanswered w v s j first asked why h unread =
       cause = inl refl;
       carried = λ tells. (([], sym ((h.same tells).0) ∙ sym (append-nil asked)), no_front []);
       unspoilt = λ tells. subst (λ (p : Peer). IsUnspoilt (node_of p)) (sym memory) tt;
-      agreed = λ tells agree member verdict is. no_refusal why memory member verdict is;
+      limited = λ tells offset is. absurd (no_refusal why (refused.Bytes offset Limit) memory is);
+      agreed = λ tells agree member verdict is. no_refusal why (refused.Op member verdict) memory is;
     }
 
 -- ---- the second message
@@ -216,6 +223,14 @@ unbrought w v u s j first asked second count why h answer un received to_come se
   cause = inr refl;
   carried = λ tells. (([], sym ((h.same tells).0) ∙ sym (append-nil asked)), un.carried (h.same tells).1.second);
   unspoilt = λ tells. un.unspoilt answer.whole (h.same tells).1.second;
+  limited = λ tells offset is.
+      let same = h.same tells in
+      inr (inl (record {
+        second = second;
+        count = count;
+        answered = subst (λ (x : List ℕ). IsAnswered s.history x [] second count) (same.0 ∙ h.offer.is) answer.is;
+        long = limit_too_long Second (v 0) (u 0) (v 1) (u 1) second why offset un answer.whole same.1.second is;
+      }));
   agreed = λ tells agree member verdict is. subst (Explains Second un.came) is un.explains;
 }
 
@@ -253,6 +268,16 @@ unfinished_unspoilt s t bytes (refused.Bytes offset cause) whole un = absurd (wh
 unfinished_unspoilt s t bytes (refused.Op member verdict) whole un = tt
 unfinished_unspoilt s t bytes refused.Memory whole un = tt
 
+unclosed_bytes : (s t : State) (bytes : List ℕ) (why : Peer) (offset : ℕ) (cause : PeerCause) → IsWhole Second bytes → IsUnclosed s bytes t why → node_of why ≡ node.Peer (refused.Bytes offset cause) → ⊥
+unclosed_bytes s t bytes (refused.Bytes at why) offset cause whole un is = whole_unspoilt Second bytes at why whole un.1
+unclosed_bytes s t bytes (refused.Op member verdict) offset cause whole un is = cc
+unclosed_bytes s t bytes refused.Memory offset cause whole un is = cc
+
+unfinished_bytes : (s t : State) (bytes : List ℕ) (why : Peer) (offset : ℕ) (cause : PeerCause) → IsWhole Third bytes → IsUnfinished s bytes t why → node_of why ≡ node.Peer (refused.Bytes offset cause) → ⊥
+unfinished_bytes s t bytes (refused.Bytes at why) offset cause whole un is = whole_unspoilt Third bytes at why whole un.1
+unfinished_bytes s t bytes (refused.Op member verdict) offset cause whole un is = cc
+unfinished_bytes s t bytes refused.Memory offset cause whole un is = cc
+
 -- what the joiner was told is the server's answer to its own message
 own_answer : (s j : State) (first asked second answered : List ℕ) (count : ℕ) → Offer j first → Answer s asked second count → asked ≡ first → answered ≡ second
     → IsAnswered s.history (first_message j.history) [] answered count
@@ -286,10 +311,11 @@ unclosed w u s j k first asked second answered count why only r untaken = record
   cause = inr refl;
   carried = λ tells. (([], sym ((r.same tells).0) ∙ sym (append-nil asked)), ([], sym ((r.same tells).1) ∙ sym (append-nil answered)));
   unspoilt = λ tells. unclosed_unspoilt j k answered why r.whole untaken;
+  limited = λ tells offset is. absurd (unclosed_bytes j k answered why offset Limit r.whole untaken is);
   agreed = λ tells agree member verdict is.
       let same = r.same tells in
       let memory = (only agree).closing answered count k why (own_answer s j first asked second answered count r.offer r.answer same.0 same.1) untaken in
-      no_refusal why memory member verdict is;
+      no_refusal why (refused.Op member verdict) memory is;
 }
 
 -- ---- the third message
@@ -343,6 +369,18 @@ unheard w u t s j k first asked second answered third count counts why r closing
       let is = r.same tells in
       (subst (λ (x : List ℕ). IsFrontOf (x ++ un.came) (first ++ un.gone)) (sym is.0) (front_behind first un.came un.gone (un.carried is.2.first)), ([], sym is.1 ∙ sym (append-nil answered)));
   unspoilt = λ tells. un.unspoilt closing.whole (r.same tells).2.first;
+  limited = λ tells offset is.
+      let same = r.same tells in
+      inr (inr (record {
+        second = answered;
+        count = count;
+        answered = own_answer s j first asked second answered count r.offer r.answer same.0 same.1;
+        after = k;
+        third = third;
+        counts = counts;
+        closed = closing.is;
+        long = limit_too_long Third (u 1) (t 1) (u 0) (t 0) third why offset un closing.whole same.2.first is;
+      }));
   agreed = λ tells agree member verdict is. subst (Explains Third un.came) is un.explains;
 }
 
@@ -414,12 +452,13 @@ unserved w t s v j k first asked second answered third closed count counts why o
       let all : first ++ third ≡ asked ++ closed = (λ i. sym is.0 i ++ sym is.2 i) in
       (([], all ∙ sym (append-nil (asked ++ closed))), ([], sym is.1 ∙ sym (append-nil answered)));
   unspoilt = λ tells. unfinished_unspoilt s v closed why r.whole untaken;
+  limited = λ tells offset is. absurd (unfinished_bytes s v closed why offset Limit r.whole untaken is);
   agreed = λ tells agree member verdict is.
       let same = r.same tells in
       let answer = own_answer s j first asked second answered count r.offer r.answer same.0 same.1 in
       let closing = subst (λ (x : List ℕ). IsClosed j answered k [] x counts) (sym same.2) r.closing.is in
       let memory = (only agree).finishing answered closed count counts.0 counts.1 k v why answer closing untaken in
-      no_refusal why memory member verdict is;
+      no_refusal why (refused.Op member verdict) memory is;
 }
 
 -- it did
@@ -544,6 +583,7 @@ unlooped_between w v u x s t j k why b r = record {
   cause = r.cause;
   carried = λ tells. r.carried (b.telling tells);
   unspoilt = λ tells. r.unspoilt (b.telling tells);
+  limited = λ tells. r.limited (b.telling tells);
   agreed = λ tells. r.agreed (b.telling tells);
 }
 

@@ -8,6 +8,7 @@ use Rattle.cot_site.specs.declared.verdict.Verdict.{Verdict}
 use Rattle.peer_exchange.specs.declared.messages.PeerCause.TheVariants.{Head, Frame, Cut, Extra, Limit}
 use Rattle.peer_exchange.specs.declared.peer.Peer.TheVariants as refused
 use Rattle.peer_exchange.specs.Exchanges.{Talk, IsExchange, AgreeInAll}
+use Rattle.peer_exchange.specs.Lengths.{HasLongMessage}
 use Rattle.site_node.specs.declared.node.Node.{Node}
 use Rattle.site_node.specs.declared.node.Node.TheVariants as node
 use Rattle.site_node.specs.Exchanges.{IsFrontOf, IsServed, IsUnserved, IsBrought, IsUnjoined}
@@ -61,7 +62,8 @@ pub record IsLooped (s t j k : State) (counts : ℕ × ℕ) (old new : ℕ → E
   pub telling : IsTelling old → IsTelling new
 
 -- the exchange stopped, at one of them for this reason; where the wire tells its bytes, each received a front of what the other sent,
--- no bytes were at fault, and no operation was refused if the two agreed
+-- no bytes were at fault, bytes were more than a message has only if a message of their exchange is too long, and no operation was
+-- refused if the two agreed
 pub record IsUnlooped (s t j k : State) (why : Node) (old new : ℕ → End) : Type 0 where
   pub to_server : List ℕ
   pub from_server : List ℕ
@@ -75,4 +77,5 @@ pub record IsUnlooped (s t j k : State) (why : Node) (old new : ℕ → End) : T
   pub cause : (why ≡ server_why) ⊎ (why ≡ joiner_why)
   pub carried : IsTelling old → IsFrontOf to_server from_joiner × IsFrontOf to_joiner from_server
   pub unspoilt : IsTelling old → IsUnspoilt why
+  pub limited : IsTelling old → (offset : ℕ) → why ≡ node.Peer (refused.Bytes offset Limit) → HasLongMessage s j
   pub agreed : IsTelling old → AgreeInAll s j → (member : Member) (verdict : Verdict) → why ≢ node.Peer (refused.Op member verdict)

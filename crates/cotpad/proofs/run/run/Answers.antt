@@ -4,7 +4,7 @@ use Rattle.cotpad.specs.Commands.{command_data, IsOffline}
 use Rattle.cotpad.specs.declared.command.Command.TheVariants as command
 use Rattle.cotpad.specs.Outside.{told}
 use Rattle.cotpad.specs.Generating.{gen_text}
-use Rattle.cotpad.proofs.Choosing.{edit_answered, explain_answered, gen_made, gen_counted, made_reported, serve_met, join_met, looped_as, looped_told, serves_online, joins_online, loops_online, serve_asked, join_asked, looping_asked}
+use Rattle.cotpad.proofs.Choosing.{edit_answered, explain_answered, gen_made, gen_counted, made_reported, serve_met, join_met, looped_as, looped_told, loop_done, serves_online, joins_online, loops_online, serve_asked, join_asked, looping_asked}
 use Rattle.cotpad.proofs.run.run.Goals as goal
 
 pub returns-in-Some-Edit-clause-edit : goal.returns-in-Some-Edit-clause-edit
@@ -134,6 +134,12 @@ returns-in-Some-Loop-clause-loop_told g c = λ start spelled telling.
     let is : k.field-0 ≡ command.Loop k.start = cc in
     looped_told k.field-0 k.start start _ _ _ _ _ is (k.ensures.only (asked.Loop start) spelled) (c.answer_looped.ensures.told (g.S.Source.left c.args.source.now) (g.S.Source.faults c.args.source.now) telling)
 
+pub returns-in-Some-Loop-clause-loop_complete : goal.returns-in-Some-Loop-clause-loop_complete
+returns-in-Some-Loop-clause-loop_complete g c = λ start spelled telling sink wire.
+    let left = g.S.Source.left c.args.source.now in
+    let faults = g.S.Source.faults c.args.source.now in
+    loop_done c.in-Some-Loop.start _ _ _ _ c.answer_looped.result (c.answer_looped.ensures.answer left faults) (c.answer_looped.ensures.told left faults telling) sink wire
+
 pub returns-in-Some-Loop-clause-pairs : goal.returns-in-Some-Loop-clause-pairs
 returns-in-Some-Loop-clause-pairs g c = λ start spelled. looping_asked c.in-Some-Loop.start _ _ _ _ _ (c.answer_looped.ensures.answer (g.S.Source.left c.args.source.now) (g.S.Source.faults c.args.source.now))
 
@@ -162,6 +168,9 @@ returns-in-None-clause-looping g c = λ start spelled. let wrong = c.in-None.ens
 
 pub returns-in-None-clause-loop_told : goal.returns-in-None-clause-loop_told
 returns-in-None-clause-loop_told g c = λ start spelled telling. let wrong = c.in-None.ensures.only (asked.Loop start) spelled in absurd cc
+
+pub returns-in-None-clause-loop_complete : goal.returns-in-None-clause-loop_complete
+returns-in-None-clause-loop_complete g c = λ start spelled telling sink wire. let wrong = c.in-None.ensures.only (asked.Loop start) spelled in absurd cc
 
 pub returns-in-None-clause-listens : goal.returns-in-None-clause-listens
 returns-in-None-clause-listens g c = λ port spelled. let wrong = c.in-None.ensures.only (asked.Serve port) spelled in absurd cc
