@@ -23,29 +23,46 @@ const AND_MORE: &[u8] = b"COTVEC1\n\x01\x00\x00\x00\x00\x01\x00\x00\x00\x00\
 /// What came of an exchange, and whether these bytes were sent.
 type Outcome = (Result<(u32, u32), Node>, bool);
 
+// Each function below makes one thing that has to be dropped: a proof goes through all of them at each early return.
+
+/// Types a character in front of all others; answers whether memory was there.
+pub(crate) fn types(site: &mut Site, ch: char) -> bool {
+    site.insert(0, ch).is_ok()
+}
+
+/// Serves a peer that sends these bytes.
+fn served(alloc: Global, site: &mut Site, to_come: &[u8], sent: &[u8]) -> Result<Outcome, Fail> {
+    let mut wire = WireMem::new(alloc, to_come.to_vec(alloc)?, Vec::new(alloc));
+    let answer = serve(alloc, site, &mut wire, 7000);
+    Ok((answer, wire.sent(0) == sent))
+}
+
 /// Serves from a site with an insert of `a` to a peer that sends these bytes.
 fn serve_one(alloc: Global, to_come: &[u8], sent: &[u8]) -> Result<Outcome, Fail> {
-    let mut wire = WireMem::new(alloc, to_come.to_vec(alloc)?, Vec::new(alloc));
     let mut site = match Site::new(alloc, 0) {
         Ok(site) => site,
         Err(_) => return Err(Fail::new("no memory for a site")),
     };
-    if site.insert(0, 'a').is_err() {
+    if !types(&mut site, 'a') {
         return Err(Fail::new("no memory for an insert"));
     }
-    let answer = serve(alloc, &mut site, &mut wire, 7000);
+    served(alloc, &mut site, to_come, sent)
+}
+
+/// Joins a peer that sends these bytes.
+fn joined(alloc: Global, site: &mut Site, to_come: &[u8], sent: &[u8]) -> Result<Outcome, Fail> {
+    let mut wire = WireMem::new(alloc, to_come.to_vec(alloc)?, Vec::new(alloc));
+    let answer = join(alloc, site, &mut wire, 7000);
     Ok((answer, wire.sent(0) == sent))
 }
 
 /// Joins with a site that has nothing a peer that sends these bytes.
 fn join_one(alloc: Global, to_come: &[u8], sent: &[u8]) -> Result<Outcome, Fail> {
-    let mut wire = WireMem::new(alloc, to_come.to_vec(alloc)?, Vec::new(alloc));
     let mut site = match Site::new(alloc, 1) {
         Ok(site) => site,
         Err(_) => return Err(Fail::new("no memory for a site")),
     };
-    let answer = join(alloc, &mut site, &mut wire, 7000);
-    Ok((answer, wire.sent(0) == sent))
+    joined(alloc, &mut site, to_come, sent)
 }
 
 fn bad(offset: u32, cause: PeerCause) -> Result<(u32, u32), Node> {
