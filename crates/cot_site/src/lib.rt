@@ -25,6 +25,3 @@ pub use release::Release;
 pub use replica::CACHED_FORMS;
 pub use site::Site;
 pub use verdict::Verdict;
-
-#[cfg(test)]
-mod tests;

@@ -10,9 +10,9 @@ ghost use Rattle.transform_rec.specs.Histories.{MayBeAddedTo};
 
 use super::steps::{Edit, Named, edited};
 use super::take_in;
-use crate::Site;
 use context_diff::{Book, Op, base_context, closed};
 use context_vector::Vector;
+use cot_site::Site;
 use op_name::{Member, Memory, Name, SITES};
 use std::alloc::Global;
 use std::test::Fail;

@@ -1,7 +1,7 @@
 //! Calls that read a site, and the greatest generation.
 
 use super::steps::{Edit, Named, Why, done, refuses};
-use crate::Site;
+use cot_site::Site;
 use std::test::Fail;
 
 #[test]

@@ -1,9 +1,9 @@
 //! Sessions as lists of steps, each at one site.
 
 use super::{deliver, give, shows};
-use crate::{Local, Release, Site, Verdict};
 use context_diff::Op;
 use context_vector::Vector;
+use cot_site::{Local, Release, Site, Verdict};
 use op_name::{Member, Name};
 use std::alloc::Global;
 use std::test::Fail;

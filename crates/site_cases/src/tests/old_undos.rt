@@ -1,7 +1,7 @@
 //! Undos of inserts that lie hundreds of operations back, against a plain list of characters.
 
 use super::steps::{Edit, edited};
-use crate::Site;
+use cot_site::Site;
 use std::alloc::Global;
 use std::test::Fail;
 

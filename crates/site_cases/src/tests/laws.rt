@@ -1,6 +1,6 @@
 //! Each law once, as a caller has it.
 
-use crate::{
+use cot_site::{
     each_release_is_the_first, executed_forms_show_the_history, form_lists_are_there,
     form_lists_show_the_histories, form_lists_stay, integrated_operations_are_next,
     local_operations_are_next, no_release_waits, one_list_of_forms, releases_are_exact,

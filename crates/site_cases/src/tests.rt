@@ -11,8 +11,8 @@ mod orders;
 mod sessions;
 mod steps;
 
-use crate::{Site, Verdict};
 use context_diff::Op;
+use cot_site::{Site, Verdict};
 use std::alloc::Global;
 use std::test::Fail;
 

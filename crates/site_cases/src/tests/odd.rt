@@ -2,9 +2,9 @@
 //! what the definition of the text says.
 
 use super::{deliver, shows};
-use crate::{Site, Verdict};
 use context_diff::Op;
 use context_vector::Vector;
+use cot_site::{Site, Verdict};
 use fixed_replay::plain_text;
 use op_name::{Member, Name};
 use std::alloc::Global;

@@ -1,8 +1,8 @@
 //! The same messages in each order.
 
 use super::{give, shows};
-use crate::Site;
 use context_diff::Op;
+use cot_site::Site;
 use std::alloc::Global;
 use std::test::Fail;
 

@@ -2,8 +2,8 @@
 
 use super::give;
 use super::steps::{Named, context};
-use crate::Site;
 use context_diff::Op;
+use cot_site::Site;
 use form_cache::Key;
 use op_name::{Member, Name};
 use std::alloc::Global;

@@ -2,8 +2,8 @@
 //! allocation is made to fail, the session has to end just so.
 
 use super::steps::{Answer, Edit, Why, answer_of, edited};
-use crate::{Site, Verdict};
 use context_diff::Op;
+use cot_site::{Site, Verdict};
 use op_name::SITES;
 use std::alloc::Global;
 use std::test::Fail;
