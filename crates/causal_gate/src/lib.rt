@@ -10,6 +10,3 @@ mod rows;
 mod undos;
 
 pub use pool::Pool;
-
-#[cfg(test)]
-mod tests;

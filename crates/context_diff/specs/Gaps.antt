@@ -1,4 +1,4 @@
--- The open stretch in which a place is searched, as three lists. A deleted cell stays and counts (tombstones, TTF 2006).
+-- A gap is the interval between two neighbours in which a place is searched, as three lists. A deleted cell stays and counts (tombstones, TTF 2006).
 use Rattle.std.specs.Prelude.{ℕ, zero, suc, Bool, List, [], ◌∷◌, ◌++◌, ◌||◌, if◌then◌else◌}
 use Rattle.std.specs.List.{list_any}
 
@@ -27,14 +27,14 @@ unfoldable pub beyond : {K : Type 0} → (K → Bool) → List K → List K
 beyond p [] = []
 beyond p (c ∷ cs) = if p c || list_any p cs then beyond p cs else c ∷ cs
 
--- the stretch between the n-th cell that passes (counted from 1; the front of the text for 0) and the next one; with fewer
+-- the interval between the n-th cell that passes (counted from 1; the front of the text for 0) and the next one; with fewer
 -- than n such cells, the end of the text
 unfoldable pub gap : {K : Type 0} → (K → Bool) → ℕ → List K → Gap K
 gap p zero cs = record { before = []; between = until p cs; behind = onward p cs }
 gap p (suc n) [] = record { before = []; between = []; behind = [] }
 gap p (suc n) (c ∷ cs) = let g = gap p (if p c then n else suc n) cs in record g { before = c ∷ g.before }
 
--- on the left, the last cell of the stretch that passes becomes the left neighbour; else the first one becomes the right
+-- on the left, the last cell of the interval that passes becomes the left neighbour; else the first one becomes the right
 -- neighbour; without such a cell the gap stays
 abbrev pub narrow : {K : Type 0} → Bool → (K → Bool) → Gap K → Gap K
 narrow left p g =

@@ -17,6 +17,3 @@ pub use coverage::{base_context, closed};
 pub use gathering::difference;
 pub use laws::{difference_is_ready, last_may_be_taken_out, two_may_be_taken_out};
 pub use op::{Op, OpFault, PLACES, UNDO_ENTRIES};
-
-#[cfg(test)]
-mod tests;

@@ -8,6 +8,3 @@
 mod vector;
 
 pub use vector::{AddBad, Vector};
-
-#[cfg(test)]
-mod tests;

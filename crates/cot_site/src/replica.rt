@@ -499,7 +499,7 @@ fn computed_form(
     }
 }
 
-// Keeps the form of an original at a context, if there is memory for it.
+// Keeps the form of an original at a context, if memory suffices.
 fn keep_form(cache: &mut Cache<Form>, name: &Name, context: Vector, form: Form)
     ensures forms { (b : Family Form) → AreForms form_over b cache.old.entries → IsOnlyFormAt form_over b (Original name.now) (has context.set) form → AreForms form_over b cache.new.entries }
     ensures capacity { cache.new.capacity ≡ cache.old.capacity }

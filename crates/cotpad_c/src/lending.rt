@@ -1,4 +1,4 @@
-//! The site behind a handle.
+//! The site that a handle holds.
 
 ghost use Rattle.std.specs.Prelude.{◌≡◌, Some, IsSome};
 ghost use Rattle.cotpad_c.specs.Lending.{LendsSite};

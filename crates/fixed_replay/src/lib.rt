@@ -1,7 +1,7 @@
 //! The laws of the fixed replay.
 //!
 //! A history of inserts, deletes and undos has one fixed replay: its inserts in the order of rank and
-//! site, each put into its open stretch. This crate has no value of its own: it shows that whatever order
+//! site, each put into its interval between two neighbours. This crate has no value of its own: it shows that whatever order
 //! a site executes its operations in, as long as causes come first, the cells are those of that replay,
 //! and that two histories of the same operations show the same text. `plain_text` computes that text from
 //! the operations, in the words of the definition.
@@ -16,8 +16,3 @@ pub use laws::{
     replay_shows_the_text, same_operations_same_text,
 };
 pub use plain::{plain_characters, plain_text};
-
-#[cfg(test)]
-mod form_tests;
-#[cfg(test)]
-mod tests;

@@ -14,8 +14,6 @@ use std::alloc::Global;
 mod order;
 mod places;
 mod shown;
-#[cfg(test)]
-mod tests;
 
 use order::fixed_order;
 use places::replay;

@@ -33,7 +33,7 @@ FollowersFollow {F} i b =
     → plus_all C before x ≡ false → ((z : Member) → IsIn z after → x ≢ z) → AreFormsFrom i.over b (plus_all C before) (m ∷ after) (f ∷ gs)
     → Derived i.over b x (plus_all C (before ++ (m ∷ after))) (form_after i.over (follow f) gs)
 
--- a member behind a list may be moved in front of it, if its base context is in the set
+-- a member after a list may be moved in front of it, if its base context is in the set
 abbrev pub MembersMoveToTheFront : {F : Type 0} → Inclusion F → (F → Type 0) → (F → F → F) → Family F → Type 0
 MembersMoveToTheFront {F} i IsInert back b =
     (y : Member) (xs ys : List Member) (C : Member → Bool) (f : F) (fs gs : List F) → ((z : Member) → IsIn z xs → y ≢ z) → IsSound b y C → Derived i.over b y (plus_all C xs) f

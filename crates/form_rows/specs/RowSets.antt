@@ -78,7 +78,7 @@ module _ {F : Type 0} (over : F → F → F) (IsInert : F → Type 0) (b : Famil
     pub part : IsSubset C (plus_all none (take r.upto xs))
     pub row : IsRow over IsInert b C (take r.upto xs) r.forms
 
-  -- the list was executed in these forms, and m is to be executed behind it; the row is that of m's base context
+  -- the list was executed in these forms, and m is to be executed after it; the row is that of m's base context
   pub record IsReady (m : Member) (C : Member → Bool) (xs : List Member) (forms : List F) (r : RowData F) : Type 0 where
     pub executed : AreFormsFrom over b none xs forms
     pub row : IsRowAt C xs r

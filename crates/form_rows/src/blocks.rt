@@ -194,7 +194,7 @@ fn pass_rest<F: Named + Copy>(form: F, rest: &mut Vec<F>) -> F
     pass(form, rest)
 }
 
-// Makes blocks of the last forms, if these are enough for one and there is memory for it. The list stays.
+// Makes blocks of the last forms, if these are enough for one and memory suffices. The list stays.
 fn settle<F: Named + Copy>(blocks: &mut Vec<Block<F>>, rest: &mut Vec<F>)
     ensures { joined blocks.new.items ++ rest.new.items ≡ joined blocks.old.items ++ rest.old.items }
 {
@@ -207,7 +207,7 @@ fn settle<F: Named + Copy>(blocks: &mut Vec<Block<F>>, rest: &mut Vec<F>)
     }
 }
 
-// Puts the blocks of the last forms behind the others, if there is memory for it.
+// Puts the blocks of the last forms after the others, if memory suffices.
 fn move_blocks<F: Named + Copy>(blocks: &mut Vec<Block<F>>, more: Vec<Block<F>>, rest: &mut Vec<F>)
     requires { joined more.items ≡ rest.old.items }
     ensures { joined blocks.new.items ++ rest.new.items ≡ joined blocks.old.items ++ rest.old.items }

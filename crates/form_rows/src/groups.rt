@@ -24,7 +24,7 @@ use undo_group::{TextBases, followed};
 /// The form of an undo group, the last member of the book, at the members before it, which were executed in these
 /// forms: a mark on the cell of the group before it, or of its original, wherever the forms since have moved that. It
 /// costs by what was executed since, one search for each stretch of it over which there is a passage; where stretches have
-/// come to be whole since the last call, their passages are made before, if there is memory for them.
+/// come to be whole since the last call, their passages are made before, if memory suffices.
 pub fn executed_group(
     book: &Book,
     target: &Name,

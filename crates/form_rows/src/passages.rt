@@ -2,7 +2,7 @@
 //!
 //! Over forms that were executed one after the other, a mark moves by one cell for each place up to its own in front of
 //! which they have put a cell, told at the state before all of them. So a sorted list of these places brings a mark over
-//! all the forms by one search. One more insert adds one place: the least that is brought to the insert's or behind it.
+//! all the forms by one search. One more insert adds one place: the least that is brought to the insert's place or past it.
 
 ghost use Rattle.std.specs.Prelude.{◌≡◌, ◌+◌, ◌*◌, ◌<◌, ◌≤◌, ◌++◌, ◌∷◌, [], ℕ, List, IfOk, OnOk, OnErr, drop, length, take, if◌then◌else◌};
 ghost use Rattle.std.specs.List.{insert};
@@ -215,7 +215,7 @@ fn push(over: &mut Vec<Passage>, passage: Passage) -> Result<(), Memory>
     }
 }
 
-// The first stretch that begins at a place or behind it.
+// The first stretch that begins at a place or after it.
 fn first_stretch(from: usize) -> usize
     ensures from { from ≤ STRETCH * result }
     ensures least { STRETCH * result < from + STRETCH }
@@ -228,7 +228,7 @@ fn first_stretch(from: usize) -> usize
     }
 }
 
-// Brings a mark that has come to a stretch over this one and all forms behind it.
+// Brings a mark that has come to a stretch over this one and all forms after it.
 fn from_stretch(over: &[Passage], near: Form, executed: &[Form], first: usize) -> Form
     requires noted { AreNoted over.now executed.now }
     requires first { first ≤ length over.now }

@@ -83,7 +83,7 @@ fn place_of<F: Named + Copy>(kept: &[AuthorRow<F>], site: u16) -> Option<usize>
     None
 }
 
-// Keeps a row, if there is memory for it. Where the rows have too many forms then, all are dropped.
+// Keeps a row, if memory suffices. Where the rows have too many forms then, all are dropped.
 fn put_row<F: Named + Copy>(kept: &mut Vec<AuthorRow<F>>, row: AuthorRow<F>)
     ensures rows { (k : AuthorRow F) → Contains kept.new.items k → Contains kept.old.items k ⊎ (row ≡ k) }
     ensures bound { forms_in kept.new.items ≤ ENTRIES }

@@ -38,6 +38,3 @@ pub use tcp_wire::TcpWire;
 pub use wire::Wire;
 pub use wire_mem::WireMem;
 pub use writing::write_whole;
-
-#[cfg(test)]
-mod tests;

@@ -115,19 +115,3 @@ impl Wire for NoWire {
         ensures { self.new ≡ self.old }
     {}
 }
-
-#[cfg(test)]
-mod tests {
-    use super::*;
-
-    #[test]
-    fn a_missing_wire_keeps_what_was_asked(rt: HostRuntime) {
-        let mut wire = NoWire::new();
-        assert_eq!(rt; wire.link(Role::Connect, 7000), Err(Failed));
-        assert_eq!(rt; wire.asked, Asked::Peer(Role::Connect, 7000));
-        assert_eq!(rt; (wire.asks, wire.faults), (1, 1));
-        assert_eq!(rt; wire.link_pair(), Err(Failed));
-        assert_eq!(rt; wire.asked, Asked::Pair);
-        assert_eq!(rt; (wire.asks, wire.faults), (2, 2));
-    }
-}

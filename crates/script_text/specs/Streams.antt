@@ -17,7 +17,7 @@ seen bytes = take (LONGEST + 1) bytes
 abbrev pub line_of : List ℕ → Bool → LeftLine
 line_of bytes ended = record { bytes = seen bytes; len = length bytes; ended = ended }
 
--- what stands behind the last line feed: a line that none ended, if it has a byte
+-- what stands after the last line feed: a line that is not ended, if it has a byte
 abbrev pub open_line : List ℕ → List LeftLine
 open_line [] = []
 open_line (b ∷ bs) = line_of (b ∷ bs) false ∷ []
@@ -73,7 +73,7 @@ pub record IsNext (s : InputData) (l : LeftLine) (rest : List LeftLine) : Type 0
   pub whole : (l.ended ≡ true) ⊎ (s.over ≡ true)
   pub within : ¬ IsPastLimit s
 
--- the next line is read with this answer; behind it stand the lines of the rest
+-- the next line is read with this answer; after it stand the lines of the rest
 pub record Reads (s : InputData) (answer : Result Line LineBad) : Type 0 where
   pub line : LeftLine
   pub rest : List LeftLine
@@ -100,7 +100,7 @@ abbrev pub refused_for : LineBad → InputData → InputData
 refused_for why s = record s { refusal = Some why }
 
 -- what a take answers and what it leaves: the next line, and the lines after it; or, with nothing taken, no line, a refusal,
--- which stays, or want of memory for a line
+-- which stays, or out of memory for a line
 abbrev pub TakesLine : InputData → Result (Option Line) LineBad → InputData → Type 0
 TakesLine old (Ok (Some line)) new = (old.refusal ≡ None) × ((r : Reads old (Ok line)) × (new ≡ record old { lines = r.rest }))
 TakesLine old (Ok None) new = HasNoLine old × (new ≡ old)

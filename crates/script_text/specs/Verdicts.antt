@@ -36,7 +36,7 @@ event_text event site words = event_word event ++ (codes " " ++ (decimal site ++
 abbrev pub verdict_line_text : Event → ℕ → Member → Verdict → List ℕ
 verdict_line_text event site member verdict = event_text event site (verdict_text member verdict)
 
--- why a local operation was refused; want of memory is no reason of a report
+-- why a local operation was refused; out of memory is no reason of a report
 abbrev pub reason_text : Local → List ℕ
 reason_text (local.PlaceOut place visible) = codes "place " ++ (decimal place ++ (codes " " ++ decimal visible))
 reason_text (local.Unknown name) = codes "unknown " ++ name_text name

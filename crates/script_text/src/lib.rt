@@ -17,6 +17,3 @@ pub use report::{
     put_name, put_reason, put_verdict, raw_bad_line, raw_more_line, refused_line, shown_lines,
     state_line, step_line, verdict_line,
 };
-
-#[cfg(test)]
-mod tests;

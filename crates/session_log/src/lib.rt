@@ -21,6 +21,3 @@ pub use placed::Placed;
 pub use reading::{MAX_LOG, read_log};
 pub use words::refused_log_line;
 pub use writing::write_log;
-
-#[cfg(test)]
-mod tests;

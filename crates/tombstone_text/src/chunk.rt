@@ -1,4 +1,4 @@
-//! A stretch of the cells of a text.
+//! A chunk: some of the cells of a text that stand side by side.
 
 ghost use Rattle.std.specs.Prelude.{◌≡◌, ℕ, ◌+◌, ◌<◌, ◌≤◌, List, [], length, map, take, drop, insert, sum, vec_len, vec_capacity, slice_index_or, slice_get, slice_set, option_map, IfOk, if◌then◌else◌};
 ghost use Rattle.ttf_form.specs.Cells.{CellData, cell_shown, change_at, marked};

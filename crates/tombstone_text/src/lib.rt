@@ -16,6 +16,3 @@ mod sums;
 
 pub use cell::Cell;
 pub use cells::Cells;
-
-#[cfg(test)]
-mod tests;

@@ -14,6 +14,3 @@ mod text_bases;
 pub use following::{followed, groups_follow};
 pub use generations::{generation, in_force, next_generation};
 pub use text_bases::TextBases;
-
-#[cfg(test)]
-mod tests;

@@ -32,6 +32,3 @@ pub use state_answers::{DecodedState, StateScan};
 pub use states::{decode_state, scan_state};
 pub use stream::{FrameStream, StreamBad};
 pub use writing::{encode, encode_state};
-
-#[cfg(test)]
-mod tests;

@@ -18,7 +18,7 @@ use std::alloc::Global;
 use std::marker::Model;
 use std::rc::Rc;
 
-/// Each undone name with its greatest generation, names rising. It stands behind one pointer, so that a vector
+/// Each undone name with its greatest generation, names rising. It takes one pointer, so that a vector
 /// without undone names pays no more for them than that.
 #[derive(Debug, Drop)]
 pub struct Entries {
@@ -175,7 +175,7 @@ impl Entries {
         }
     }
 
-    // The same entries in a list that several vectors may have, if this has a list of its own and there is memory.
+    // The same entries in a list that several vectors may have, if this has a list of its own and memory suffices.
     fn to_share(&self) -> Option<Entries>
         ensures { IfSome result (λ e. e.items ≡ self.now.items) }
     {

@@ -1,4 +1,4 @@
-//! The places of cells: the stretch into which an insert goes, and the replay of all inserts.
+//! The places of cells: the interval into which an insert goes, and the replay of all inserts.
 
 ghost use Rattle.std.specs.Prelude.{◌≡◌, ◌≤◌, IfOk, OnOk, [], length, map};
 ghost use Rattle.std.specs.List.{insert};
@@ -11,7 +11,7 @@ use super::order::Inserted;
 use op_name::{Memory, Name};
 use std::alloc::Global;
 
-/// A stretch of a list of cells: what stands between two places, of which the first is not the greater.
+/// An interval of a list of cells: what stands between two places, of which the first is not the greater.
 #[derive(Clone, Copy)]
 struct Stretch {
     left: usize,
@@ -88,8 +88,8 @@ fn first_known(inserted: &Inserted, cells: &[Name]) -> usize
     cells.len()
 }
 
-// The part of the stretch on the insert's side of another, which it doesn't know: of the two, that of the smaller
-// site stands in front. All of the stretch where the other doesn't lie in it.
+// The part of the interval on the insert's side of another, which it doesn't know: of the two, that of the smaller
+// site stands in front. All of the interval where the other doesn't lie in it.
 fn narrowed_by(inserted: &Inserted, other: &Name, stretch: Stretch, cells: &[Name]) -> Stretch
     requires rising { stretch.left ≤ stretch.right }
     requires within { stretch.right ≤ length cells.now }

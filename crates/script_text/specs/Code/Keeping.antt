@@ -72,7 +72,7 @@ FrontIs s (Err Utf8) = IsCause s Utf8
 FrontIs s (Err Form) = IsCause s Form
 FrontIs s (Err Memory) = Reads s (Err Memory)
 
--- a front line of which as many bytes are kept as should be; other lines stand behind it only where it is ended
+-- a front line of which as many bytes are kept as should be; other lines stand after it only where it is ended
 pub record IsFrontLine (l : LeftLine) (rest : List LeftLine) : Type 0 where
   pub kept : length l.bytes ≡ kept_of l.len
   pub alone : l.ended ≡ false → rest ≡ []

@@ -21,7 +21,7 @@ pub(crate) struct Kept {
     bytes: BytesMut,
     // the length of each line that a line feed ended
     ended: VecDeque<u32>,
-    // the length of the line behind them, which none ended; 0 where there is none
+    // the length of the line after them, which no line feed ended; 0 where there is none
     last: u32,
 }
 
@@ -73,7 +73,7 @@ impl Kept {
         done
     }
 
-    // The same, but a refused call may leave some of the piece behind what was there.
+    // The same, but a refused call may leave some of the piece after what was there.
     fn add_lines(&mut self, piece: &[u8]) -> Result<(), Memory>
         requires { self.old.last + length piece.now < 2 ^ 32 }
         ensures ok { OnOk result (lines_kept self.new ≡ followed_by (lines_kept self.old) (lines_in piece.now)) }
@@ -112,7 +112,7 @@ impl Kept {
         Ok(())
     }
 
-    // Takes back what was added behind so many bytes and lines.
+    // Takes back what was added after so many bytes and lines.
     fn cut_back(&mut self, bytes: usize, ended: usize, last: u32)
         requires { AreKept (record { bytes = take bytes self.old.bytes; ended = take ended self.old.ended; last = last }) }
         ensures { self.new ≡ record { bytes = take bytes self.old.bytes; ended = take ended self.old.ended; last = last } }

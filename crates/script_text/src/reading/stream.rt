@@ -126,7 +126,7 @@ impl LineStream {
         }
     }
 
-    // Keeps the cause for which the front line is refused; want of memory is none.
+    // Keeps the cause for which the front line is refused; out of memory is no such cause.
     fn refuse(&mut self, why: LineBad)
         requires fresh { self.old.refusal ≡ None }
         requires cause { FrontIs self.old (Err why) }

@@ -1,4 +1,4 @@
-//! Local commands: an operation becomes the next message, and a refusal is told.
+//! Local commands: an operation becomes the next message, and a refusal is reported.
 
 ghost use Rattle.std.specs.Prelude.{◌≡◌, ◌≢◌, ◌++◌, ◌<◌, IfOk, OnOk, OnErr, length, vec_len, vec_capacity};
 ghost use Rattle.std.specs.Result.{is_ok};

@@ -12,7 +12,7 @@ use wire_codec::{Decoded, decode};
 
 impl Sites {
     // Delivers frame after frame of the bytes to the site of this number. The first bytes that begin with no frame
-    // are told, and end it.
+    // are reported, and end it.
     pub(super) fn give_frames(
         &mut self,
         site: u16,
@@ -38,7 +38,7 @@ impl Sites {
     }
 
     // Delivers the frame that the bytes, of which there is one at least, begin with, and answers how many bytes it
-    // has. Bytes that begin with no frame are told.
+    // has. Bytes that begin with no frame are reported.
     fn deliver_frame(
         &mut self,
         site: u16,

@@ -1,4 +1,4 @@
-//! Calls that are made once more after want of memory. In an ordinary run memory is never wanting; where an
+//! Calls that are made once more after out of memory. In an ordinary run memory always suffices; where an
 //! allocation is made to fail, the session has to end just so.
 
 use super::steps::{Answer, Edit, Why, answer_of, edited};
@@ -41,7 +41,7 @@ fn makes(site: &mut Site, edit: &Edit) -> Result<Op, Fail> {
     }
 }
 
-/// The answer on an operation that is well formed; None after want of memory.
+/// The answer on an operation that is well formed; None after out of memory.
 fn answer(site: &mut Site, op: &Op) -> Option<Answer> {
     if op.fault().is_some() {
         return None;
@@ -70,7 +70,7 @@ fn integrates(site: &mut Site, op: &Op) -> Result<bool, Fail> {
     Ok(judges(site, op)? == Answer::Integrated)
 }
 
-/// Whether an operation is released and integrated; None after want of memory.
+/// Whether an operation is released and integrated; None after out of memory.
 fn release(site: &mut Site) -> Option<bool> {
     match site.release_next() {
         Ok(Some(pair)) => Some(pair.1 == Verdict::Integrated),

@@ -28,7 +28,7 @@ struct Made(Act, &'static [(u16, u32)], &'static [((u16, u32), u16)]);
 
 use Act::{Delete, Insert, Undo};
 
-/// Operations, two of their orders in which each stands behind its context, and the text of both.
+/// Operations, two of their orders in which each stands after its context, and the text of both.
 struct Odd {
     what: &'static str,
     made: &'static [Made],
@@ -86,7 +86,7 @@ const ODD: [Odd; 8] = [
         text: "eabfcd",
     },
     Odd {
-        what: "one goes behind what the other doesn't know",
+        what: "one goes after what the other doesn't know",
         made: &[
             Made(Insert((1, 1), 0, 'a'), &[], &[]),
             Made(Insert((0, 1), 1, 'b'), &[(1, 1)], &[]),

@@ -18,7 +18,7 @@ fn letter(number: u32) -> u8 {
     }
 }
 
-/// The place of an insert behind some of those before it, which looks random.
+/// The place of an insert after some of those before it, which looks random.
 fn place_of(number: u32, before: u32) -> u32 {
     number.wrapping_mul(2_654_435_761) / 7 % before.saturating_add(1)
 }

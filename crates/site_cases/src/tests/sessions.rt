@@ -235,7 +235,7 @@ const SESSIONS: [Session; 20] = [
         text: "",
     },
     Session {
-        what: "a place behind the cells",
+        what: "a place after the cells",
         steps: &[
             (0, Step::Sends(A, 1, 'a', &[])),
             (0, Step::Judges(0, Answer::PlaceOut(1, 0))),
@@ -275,7 +275,7 @@ const SESSIONS: [Session; 20] = [
         text: "a",
     },
     Session {
-        what: "an insert behind a hidden character",
+        what: "an insert after a hidden character",
         steps: &[
             (0, Step::Types(0, "abc")),
             (0, Step::Makes(Edit::Delete(1))),

@@ -48,7 +48,7 @@ pub(super) enum Answer {
 /// What a site does. The operations of a session are its messages, counted from 0 in the order of their making.
 #[derive(Clone, Copy)]
 pub(super) enum Step {
-    /// Types a text behind so many shown characters.
+    /// Types a text after so many shown characters.
     Types(u32, &'static str),
     Makes(Edit),
     Refuses(Edit, Why),
@@ -334,7 +334,7 @@ fn with_one(
     with_two(alloc, steps, messages, first, &mut second)
 }
 
-/// Plays a session of sites 0 to 3, whose messages go behind `messages`; answers the first step, from 0, that
+/// Plays a session of sites 0 to 3, whose messages go after `messages`; answers the first step, from 0, that
 /// a site doesn't take as it says.
 pub(super) fn first_wrong(
     alloc: Global,

@@ -1,0 +1,186 @@
+//! Texts of more cells than a chunk holds, each beside a plain list.
+
+use super::{Step, execute, form_of, next_names};
+use tombstone_text::{Cell, Cells};
+use lane_rank::ones;
+use std::alloc::Global;
+use std::test::Fail;
+
+/// Where the inserts of a text go.
+#[derive(Clone, Copy)]
+enum Spot {
+    Front,
+    Middle,
+    End,
+    /// At the end of the text up to its 511th cell; then by turns at places 511 and 512, which are before and
+    /// after the last cell of a full chunk.
+    Seam,
+    Anywhere,
+}
+
+/// The place of the insert of a number in a text of so many cells.
+fn place_in(spot: Spot, number: u32, len: u32) -> u32 {
+    match spot {
+        Spot::Front => 0,
+        Spot::Middle => len / 2,
+        Spot::End => len,
+        Spot::Seam => { if len < 511 { len } else { 512 - number % 2 } }
+        Spot::Anywhere => {
+            if len == 0 {
+                0
+            } else {
+                number.wrapping_mul(2_654_435_761) % len
+            }
+        }
+    }
+}
+
+fn letter(number: u32) -> char {
+    (b'a' + (number % 26) as u8) as char
+}
+
+/// A text beside the plain list of its characters, each with whether it is shown.
+#[derive(Drop)]
+struct Beside {
+    cells: Cells,
+    plain: Vec<(char, bool)>,
+}
+
+fn is_seen(cell: &Cell, wanted: &(char, bool)) -> bool {
+    cell.ch() == wanted.0 && cell.shown() == wanted.1
+}
+
+/// Whether the cells, found one by one, are those of the plain list.
+fn cells_agree(cells: &Cells, plain: &[(char, bool)]) -> bool {
+    for place in 0..cells.len() {
+        match (cells.cell(place), plain.get(place as usize)) {
+            (Some(cell), Some(wanted)) if is_seen(cell, wanted) => {}
+            _ => return false,
+        }
+    }
+    cells.len() as usize == plain.len()
+}
+
+/// Whether the chunks have the cells of the plain list, one after the other.
+fn chunks_agree(cells: &Cells, plain: &[(char, bool)]) -> bool {
+    let mut place = 0;
+    for i in 0..cells.chunk_count() {
+        if cells.chunk_start(i) as usize != place {
+            return false;
+        }
+        for cell in cells.chunk_cells(i) {
+            match plain.get(place) {
+                Some(wanted) if is_seen(cell, wanted) => {}
+                _ => return false,
+            }
+            place = place.saturating_add(1);
+        }
+    }
+    place == plain.len()
+}
+
+/// Whether each chunk has as many flags of shown cells as it tells.
+fn flags_agree(cells: &Cells) -> bool {
+    for i in 0..cells.chunk_count() {
+        if ones(cells.chunk_flags(i)) != cells.chunk_shown(i) {
+            return false;
+        }
+    }
+    true
+}
+
+/// Whether each chunk but the last has at least 256 cells.
+fn are_half_full(cells: &Cells) -> bool {
+    let count = cells.chunk_count();
+    for i in 0..count {
+        if i + 1 < count && cells.chunk_flags(i).len() < 256 {
+            return false;
+        }
+    }
+    true
+}
+
+/// Takes a step. When out of memory the cells must still be those of the plain list, and the second try finds
+/// it.
+fn take(both: &mut Beside, step: &Step) -> Result<(), Fail> {
+    let names = next_names(&both.cells, step)?;
+    let form = form_of(step, names.0, names.1);
+    if both.cells.reserve(&form).is_err() && !cells_agree(&both.cells, both.plain.as_slice()) {
+        return Err(Fail::new("out of memory changed a cell"));
+    }
+    execute(&mut both.cells, &form)
+}
+
+fn put(both: &mut Beside, place: u32, ch: char) -> Result<(), Fail> {
+    take(both, &Step::Put(place, ch))?;
+    if place as usize > both.plain.len() {
+        return Err(Fail::new("the plain list is too short"));
+    }
+    both.plain.insert(place as usize, (ch, true))?;
+    Ok(())
+}
+
+fn hide(both: &mut Beside, place: u32) -> Result<(), Fail> {
+    take(both, &Step::Del(place, 1, 0))?;
+    let Some(one) = both.plain.get_mut(place as usize) else {
+        return Err(Fail::new("the plain list is too short"));
+    };
+    one.1 = false;
+    Ok(())
+}
+
+/// A text of 1,200 cells, of which one in three inserts hid one.
+fn long_text(alloc: Global, spot: Spot) -> Result<Beside, Fail> {
+    let mut both = Beside {
+        cells: Cells::new(alloc),
+        plain: Vec::new(alloc),
+    };
+    for number in 0..1200 {
+        let len = both.cells.len();
+        put(&mut both, place_in(spot, number, len), letter(number))?;
+        if number % 3 == 0 {
+            hide(&mut both, number / 2)?;
+        }
+    }
+    Ok(both)
+}
+
+#[test]
+fn long_texts(rt: HostRuntime) -> Result<(), Fail> {
+    let rows = [
+        ("inserts at the front", Spot::Front),
+        ("inserts in the middle", Spot::Middle),
+        ("inserts at the end", Spot::End),
+        ("inserts by turns at a chunk's end", Spot::Seam),
+        ("inserts anywhere", Spot::Anywhere),
+    ];
+    for (why, spot) in rows {
+        let both = long_text(rt.alloc(), spot)?;
+        assert!(rt; both.cells.chunk_count() > 2, "{why}");
+        assert!(rt; cells_agree(&both.cells, both.plain.as_slice()), "{why}");
+        assert!(rt; chunks_agree(&both.cells, both.plain.as_slice()), "{why}");
+        assert!(rt; flags_agree(&both.cells), "{why}");
+        assert!(rt; are_half_full(&both.cells), "{why}");
+    }
+    Ok(())
+}
+
+// Nothing but the cells takes memory from the 512th insert on, so that a refusal of any allocation there is one of
+// `reserve`, for the insert that cuts the full chunk.
+#[test]
+fn out_of_memory_at_a_split(rt: HostRuntime) -> Result<(), Fail> {
+    let mut both = Beside {
+        cells: Cells::new(rt.alloc()),
+        plain: Vec::with_capacity(rt.alloc(), 600)?,
+    };
+    for number in 0..512 {
+        put(&mut both, number, letter(number))?;
+    }
+    assert!(rt; both.cells.chunk_count() == 1);
+    put(&mut both, 200, '-')?;
+    assert!(rt; both.cells.chunk_count() == 2);
+    assert!(rt; cells_agree(&both.cells, both.plain.as_slice()));
+    assert!(rt; chunks_agree(&both.cells, both.plain.as_slice()));
+    assert!(rt; flags_agree(&both.cells));
+    Ok(())
+}

@@ -1,0 +1,23 @@
+use Rattle.std.proofs.Common.{◌≡◌, ◌∙◌, false, sym, subst, refl, rules}
+use Rattle.std.specs.Prelude.{Contains}
+use Rattle.op_name.specs.declared.member.Member.{Member}
+use Rattle.op_name.specs.declared.member.Member.TheVariants.{Original}
+use Rattle.context_diff.specs.Operations.{OpData, member_of}
+use Rattle.context_diff.specs.Histories.{is_known}
+use Rattle.context_diff.specs.Ops.{data_of}
+use Rattle.context_diff.proofs.CallerLemmas.{op_same, derived_op}
+use Rattle.causal_gate.proofs.Apart.{agree_unknown, agree_same}
+use Rattle.pool_cases.proofs.tests.agrees.Goals as goal
+
+pub returns-in-Some : goal.returns-in-Some
+returns-in-Some c equal =
+    let other = c.in-Some.other.now in
+    let o = c.args.op.now in
+    let same : data_of other ≡ data_of o = op_same (data_of other) (data_of o) (sym (derived_op other o) ∙ sym c.eq.ensures ∙ equal) in
+    agree_same c.args.pool.now (data_of o) c.known.ensures.apart (subst (λ (x : OpData). Contains c.args.pool.now x) same c.in-Some.ensures.there)
+
+pub returns-in-None : goal.returns-in-None
+returns-in-None c alone =
+    let o = c.args.op.now in
+    let is : member_of (data_of o) ≡ Original c.in-Insert.name = search rules in
+    agree_unknown c.args.pool.now (data_of o) (subst (λ (m : Member). is_known c.args.pool.now m ≡ false) (sym is) (c.in-None.ensures.none.0 refl))
