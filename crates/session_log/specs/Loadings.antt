@@ -65,7 +65,7 @@ pub record IsRefusedAt (site : ℕ) (bytes : List ℕ) (offset : ℕ) (r : Relea
   pub taken : AreTakenIn (new_state site) before
   pub first : first_refusal (verdicts_after (after_all (new_state site) before) op) ≡ Some r
 
--- why no site was loaded: the bytes are no log, or else an operation is refused; memory is wanted only for what is a log
+-- why no site was loaded: the bytes are no log, or else an operation is refused; out of memory comes only where the bytes are a log
 abbrev pub IsUnloaded : ℕ → List ℕ → LogBad → Type 0
 IsUnloaded site bytes bad.Header = IsUnread bytes bad.Header
 IsUnloaded site bytes (bad.Cut offset) = IsUnread bytes (bad.Cut offset)

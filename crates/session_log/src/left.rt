@@ -15,7 +15,7 @@ use std::marker::Model;
 use wire_codec::{Cause, Decoded, Scan, decode, scan};
 
 /// What each log begins with.
-pub(crate) const HEADER: &[u8] = b"COTLOG1\n";
+pub const HEADER: &[u8] = b"COTLOG1\n";
 
 /// The bytes that are left of a log, and the offset of the first of them, at which a frame begins.
 #[derive(Drop)]

@@ -15,7 +15,8 @@ mod words;
 mod writing;
 
 pub use laws::{logs_have_no_fault, one_fault, one_loading, one_reading, one_refusal, round_trip};
-pub use loading::load;
+pub use left::HEADER;
+pub use loading::{load, take_in};
 pub use log_bad::LogBad;
 pub use placed::Placed;
 pub use reading::{MAX_LOG, read_log};
