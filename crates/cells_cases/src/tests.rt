@@ -2,10 +2,10 @@
 
 mod long;
 
-use tombstone_text::{Cell, Cells};
 use op_name::Name;
 use std::alloc::Global;
 use std::test::Fail;
+use tombstone_text::{Cell, Cells};
 use ttf_form::{Cover, Form, Ins, Mark};
 
 /// One form of a row of the table.

@@ -1,9 +1,9 @@
 // Tests of frames: examples written by hand, faults one by one, streams cut anywhere.
-use wire_codec::*;
 use context_diff::Op;
 use context_vector::Vector;
 use op_name::Name;
 use std::test::*;
+use wire_codec::*;
 
 mod limits;
 
@@ -435,9 +435,7 @@ fn a_state_is_read_and_written_again(rt: HostRuntime) -> Result<(), Fail> {
         Ok(DecodedState::Got { vector, used }) => {
             assert_eq!(rt; used, 17);
             assert_eq!(rt; vector.rank(), 2);
-            encode_state(&vector, &mut out)
-                .ok()
-                .ok_or("out of memory")?;
+            encode_state(&vector, &mut out).ok().ok_or("out of memory")?;
         }
         Ok(_) => return Err("it is a state".into()),
         Err(_) => return Err("out of memory".into()),

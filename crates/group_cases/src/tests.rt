@@ -3,13 +3,13 @@
 ghost use Rattle.std.specs.Prelude.{◌≡◌};
 ghost use Rattle.ttf_form.specs.Families.{IsIn};
 
-use undo_group::{TextBases, followed, generation, groups_follow, in_force, next_generation};
 use context_diff::{Book, Op};
 use context_vector::Vector;
 use op_name::{Member, Name};
 use std::alloc::Global;
 use std::test::Fail;
 use ttf_form::{Bases, Cover, Form, Include, Ins, Mark};
+use undo_group::{TextBases, followed, generation, groups_follow, in_force, next_generation};
 
 /// The first originals of sites 0 and 1, and the groups of a name up to a generation.
 fn knowing(alloc: Global, counts: [u32; 2], name: Name, generation: u16) -> Result<Vector, Fail> {

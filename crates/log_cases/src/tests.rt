@@ -1,7 +1,7 @@
 //! Logs byte for byte: what is read, loaded and written, and each cause with its offset.
 
-use session_log::*;
 use cot_site::Site;
+use session_log::*;
 use std::alloc::Global;
 use std::test::Fail;
 

@@ -34,6 +34,3 @@ pub use messages::{MAX_MESSAGE, Measure, PeerCause, Which};
 pub use offering::{answer, offer};
 pub use peer::Peer;
 pub use reader::MessageReader;
-
-#[cfg(test)]
-mod tests;

@@ -153,6 +153,3 @@ pub fn measure(which: Which, bytes: &[u8]) -> Measure
     let (_, measure) = go_on(which, start(which), bytes);
     measure
 }
-
-#[cfg(test)]
-mod tests;

@@ -11,28 +11,31 @@ const INCREMENT: u64 = 1_442_695_040_888_963_407;
 
 /// The three draws of an event: what is done, where, and with which character.
 #[derive(Clone, Copy)]
-pub(crate) struct Draw {
-    pub(crate) kind: u32,
-    pub(crate) place: u32,
-    pub(crate) letter: u32,
+pub struct Draw {
+    /// Chooses what is done.
+    pub kind: u32,
+    /// Chooses where.
+    pub place: u32,
+    /// Chooses the character.
+    pub letter: u32,
 }
 
 /// Draws one after the other, from a first number on.
 #[derive(Drop)]
-pub(crate) struct Draws {
+pub struct Draws {
     number: u64,
 }
 
 impl Draws {
     /// Draws from this number on.
-    pub(crate) fn new(start: u64) -> Draws
+    pub fn new(start: u64) -> Draws
         ensures { result.number ≡ start }
     {
         Draws { number: start }
     }
 
     /// The draws of the next event.
-    pub(crate) fn event(&mut self) -> Draw
+    pub fn event(&mut self) -> Draw
         ensures draws { result ≡ draws_from self.old.number }
         ensures number { self.new.number ≡ number_after self.old.number }
     {

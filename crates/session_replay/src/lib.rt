@@ -15,6 +15,7 @@ mod script;
 mod session;
 mod sites;
 
+pub use draws::{Draw, Draws};
 pub use generated::Generated;
 pub use generator::{MAX_EVENTS, MAX_WINDOW, generate};
 pub use laws::{
@@ -23,6 +24,3 @@ pub use laws::{
 };
 pub use script::{MAX_SCRIPT, replay, replay_past};
 pub use session::{Session, StepBad};
-
-#[cfg(test)]
-mod tests;

@@ -1,10 +1,10 @@
 //! Texts of more cells than a chunk holds, each beside a plain list.
 
 use super::{Step, execute, form_of, next_names};
-use tombstone_text::{Cell, Cells};
 use lane_rank::ones;
 use std::alloc::Global;
 use std::test::Fail;
+use tombstone_text::{Cell, Cells};
 
 /// Where the inserts of a text go.
 #[derive(Clone, Copy)]

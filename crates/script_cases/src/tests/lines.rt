@@ -1,7 +1,7 @@
 //! Every row of the table of lines, and what is no row.
 
-use script_text::{LONGEST, Line, LineBad, each_line_has_a_spelling, parse_line, parse_member};
 use op_name::Member;
+use script_text::{LONGEST, Line, LineBad, each_line_has_a_spelling, parse_line, parse_member};
 use std::alloc::Global;
 
 /// The word of the line, with two of its numbers: the site or the number of sites; the place, the message or the

@@ -1,9 +1,9 @@
 //! An exchange of two sites, by the messages that they send. Each call is made once more where it was out of memory: in an
 //! ordinary run it never is, and where an allocation is made to fail, the exchange has to end just so.
 
-use crate::*;
 use cot_site::Site;
 use op_name::SITES;
+use peer_exchange::*;
 use std::alloc::Global;
 use std::test::*;
 

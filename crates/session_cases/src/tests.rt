@@ -1,8 +1,8 @@
 //! Scripts and their reports.
 
-use super::*;
 use op_name::Memory;
 use script_text::parse_line;
+use session_replay::*;
 use std::alloc::Global;
 use std::process::Abort;
 use std::test::Fail;

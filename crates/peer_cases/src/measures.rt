@@ -1,5 +1,6 @@
-use super::*;
-use crate::reader::MessageReader;
+//! What bytes say of the message that they begin.
+
+use peer_exchange::*;
 use std::test::Fail;
 use wire_codec::Cause;
 

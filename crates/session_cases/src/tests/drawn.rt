@@ -1,8 +1,7 @@
 //! Generated sessions.
 
-use super::super::draws::Draws;
-use super::super::*;
 use op_name::Memory;
+use session_replay::*;
 use std::alloc::Global;
 use std::test::Fail;
 
