@@ -168,7 +168,7 @@ fn raised(place: u32, generation: u16) -> Form {
 }
 
 /// Each law of the forms of the editor over the book, as a caller has it.
-#[tactic(auto, using(crate::proofs::TextFamilies::text_causal, crate::proofs::TextFamilies::text_own_names, crate::proofs::Editor::form_at_place))]
+#[tactic(auto, using(fixed_replay::proofs::TextFamilies::text_causal, fixed_replay::proofs::TextFamilies::text_own_names, fixed_replay::proofs::Editor::form_at_place))]
 fn laws_hold(book: &Book) {
     let bases = TextBases::new(book);
     bases.known();

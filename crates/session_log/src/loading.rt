@@ -57,7 +57,12 @@ fn deliver_all(alloc: Global, site: &mut Site, bytes: &[u8]) -> Result<(), LogBa
 ///
 /// Refused by Refused, with this offset and the first verdict of the delivery and the releases that is Forged, NotClosed or
 /// PlaceOut; or by Memory, after which the operation may already be delivered.
-pub fn take_in(site: &mut Site, offset: u32, op: Op, released: &mut Vec<Release>) -> Result<(), LogBad>
+pub fn take_in(
+    site: &mut Site,
+    offset: u32,
+    op: Op,
+    released: &mut Vec<Release>,
+) -> Result<(), LogBad>
     requires { IsWellFormed (data_of op) }
     ensures taken { OnOk result (first_refusal (verdicts_after (state_of site.old) (data_of op)) ≡ None) }
     ensures state { OnOk result (state_of site.new ≡ taken_in (state_of site.old) (data_of op)) }
