@@ -1,6 +1,6 @@
 use Rattle.std.proofs.Common.{sym, ◌∙◌}
 use Rattle.context_vector.specs.Contexts.{has}
-use Rattle.context_diff.proofs.Next.{have_known}
+use Rattle.context_diff.proofs.CallerLemmas.{have_known}
 use Rattle.book_cases.proofs.tests.holds.Goals as goal
 
 pub returns : goal.returns
