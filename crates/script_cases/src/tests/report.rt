@@ -63,149 +63,182 @@ fn member(site: u16, number: u32, generation: u16) -> Result<Member, Memory>
     })
 }
 
+const A1: Name = Name { site: 0, number: 1 };
+
+const A2: Name = Name { site: 0, number: 2 };
+
+const A3: Name = Name { site: 0, number: 3 };
+
+const NINTH: Name = Name { site: 0, number: 9 };
+
+const B1: Name = Name { site: 1, number: 1 };
+
+const C1: Name = Name { site: 2, number: 1 };
+
+const LAST: Name = Name {
+    site: 63,
+    number: 1_000_000,
+};
+
+/// What an operation does, in front of all cells.
+#[derive(Clone, Copy)]
+enum Does {
+    Insert(char),
+    Delete,
+    /// An undo or a redo of this generation.
+    Turn(u16),
+}
+
+/// The operation of this name, or site 0's undo or redo of it; a line tells neither its context nor an undo's author.
+fn op_of(alloc: Global, name: Name, does: Does) -> Op {
+    let context = Vector::new(alloc);
+    match does {
+        Does::Insert(ch) => Op::Insert {
+            name,
+            place: 0,
+            ch,
+            context,
+        },
+        Does::Delete => Op::Delete {
+            name,
+            place: 0,
+            context,
+        },
+        Does::Turn(generation) => Op::Undo {
+            author: 0,
+            target: name,
+            generation,
+            context,
+        },
+    }
+}
+
+/// The line of an operation.
+fn op_line_of(alloc: Global, message: u32, name: Name, does: Does) -> Result<Vec<u8>, Memory> {
+    let mut out = Vec::new(alloc);
+    op_line(message, &op_of(alloc, name, does), &mut out)?;
+    Ok(out)
+}
+
 #[test]
 fn op_lines(rt: HostRuntime) -> Result<(), Memory> {
-    let alloc = rt.alloc();
-    let cases: [(u32, Op, &str); 6] = [
-        (
-            0,
-            Op::Insert {
-                name: name(0, 1)?,
-                place: 0,
-                ch: 'a',
-                context: Vector::new(alloc),
-            },
-            "op 0 insert 0.1\n",
-        ),
+    for (message, name, does, wanted) in [
+        (0, A1, Does::Insert('a'), "op 0 insert 0.1\n"),
         (
             4_294_967_295,
-            Op::Delete {
-                name: name(63, 1_000_000)?,
-                place: 0,
-                context: Vector::new(alloc),
-            },
+            LAST,
+            Does::Delete,
             "op 4294967295 delete 63.1000000\n",
         ),
-        (3, turn(alloc, name(0, 2)?, 1), "op 3 undo 0.2/1\n"),
-        (5, turn(alloc, name(0, 2)?, 2), "op 5 redo 0.2/2\n"),
-        (9, turn(alloc, name(1, 1)?, 65_534), "op 9 redo 1.1/65534\n"),
-        (9, turn(alloc, name(1, 1)?, 65_535), "op 9 undo 1.1/65535\n"),
-    ];
-    for (message, op, wanted) in cases.iter() {
-        let mut out = Vec::new(alloc);
-        op_line(*message, op, &mut out)?;
-        assert!(rt; out.as_slice() == wanted.as_bytes(), "{wanted}");
+        (3, A2, Does::Turn(1), "op 3 undo 0.2/1\n"),
+        (5, A2, Does::Turn(2), "op 5 redo 0.2/2\n"),
+        (9, B1, Does::Turn(65_534), "op 9 redo 1.1/65534\n"),
+        (9, B1, Does::Turn(65_535), "op 9 undo 1.1/65535\n"),
+    ] {
+        let line = op_line_of(rt.alloc(), message, name, does)?;
+        assert!(rt; line.as_slice() == wanted.as_bytes(), "{wanted}");
     }
     Ok(())
 }
 
-/// An undo or a redo by site 0; its line tells neither its author nor its context.
-fn turn(alloc: Global, target: Name, generation: u16) -> Op {
-    Op::Undo {
-        author: 0,
-        target,
-        generation,
-        context: Vector::new(alloc),
-    }
-}
+/// Each verdict, given or of a release, with its line.
+const VERDICTS: [(Event, u16, Member, Verdict, &str); 12] = [
+    (
+        Event::Give,
+        1,
+        Member::Group(A2, 1),
+        Verdict::Repeat,
+        "give 1 repeat 0.2/1\n",
+    ),
+    (
+        Event::Give,
+        0,
+        Member::Original(A1),
+        Verdict::Repeat,
+        "give 0 repeat 0.1\n",
+    ),
+    (
+        Event::Give,
+        0,
+        Member::Group(A2, 2),
+        Verdict::Integrated,
+        "give 0 integrated 0.2/2\n",
+    ),
+    (
+        Event::Free,
+        1,
+        Member::Original(A2),
+        Verdict::Integrated,
+        "free 1 integrated 0.2\n",
+    ),
+    (
+        Event::Free,
+        1,
+        Member::Group(A1, 1),
+        Verdict::Integrated,
+        "free 1 integrated 0.1/1\n",
+    ),
+    (
+        Event::Give,
+        1,
+        Member::Original(A3),
+        Verdict::Waits {
+            missing: Member::Original(A1),
+        },
+        "give 1 waits 0.3 0.1\n",
+    ),
+    (
+        Event::Give,
+        1,
+        Member::Group(A1, 1),
+        Verdict::Waits {
+            missing: Member::Original(A1),
+        },
+        "give 1 waits 0.1/1 0.1\n",
+    ),
+    (
+        Event::Give,
+        1,
+        Member::Group(A1, 2),
+        Verdict::Waits {
+            missing: Member::Group(A1, 1),
+        },
+        "give 1 waits 0.1/2 0.1/1\n",
+    ),
+    (
+        Event::Give,
+        0,
+        Member::Original(A1),
+        Verdict::Forged { name: A1 },
+        "give 0 forged 0.1\n",
+    ),
+    (
+        Event::Give,
+        0,
+        Member::Original(A1),
+        Verdict::PlaceOut { place: 1, cells: 0 },
+        "give 0 placeout 0.1 1 0\n",
+    ),
+    (
+        Event::Give,
+        2,
+        Member::Original(C1),
+        Verdict::NotClosed { site: 1 },
+        "give 2 notclosed 2.1 1\n",
+    ),
+    (
+        Event::Free,
+        63,
+        Member::Group(LAST, 65_535),
+        Verdict::Repeat,
+        "free 63 repeat 63.1000000/65535\n",
+    ),
+];
 
 #[test]
 fn verdict_lines(rt: HostRuntime) -> Result<(), Memory> {
-    let alloc = rt.alloc();
-    let cases: [(Event, u16, Member, Verdict, &str); 12] = [
-        (
-            Event::Give,
-            1,
-            member(0, 2, 1)?,
-            Verdict::Repeat,
-            "give 1 repeat 0.2/1\n",
-        ),
-        (
-            Event::Give,
-            0,
-            member(0, 1, 0)?,
-            Verdict::Repeat,
-            "give 0 repeat 0.1\n",
-        ),
-        (
-            Event::Give,
-            0,
-            member(0, 2, 2)?,
-            Verdict::Integrated,
-            "give 0 integrated 0.2/2\n",
-        ),
-        (
-            Event::Free,
-            1,
-            member(0, 2, 0)?,
-            Verdict::Integrated,
-            "free 1 integrated 0.2\n",
-        ),
-        (
-            Event::Free,
-            1,
-            member(0, 1, 1)?,
-            Verdict::Integrated,
-            "free 1 integrated 0.1/1\n",
-        ),
-        (
-            Event::Give,
-            1,
-            member(0, 3, 0)?,
-            Verdict::Waits {
-                missing: member(0, 1, 0)?,
-            },
-            "give 1 waits 0.3 0.1\n",
-        ),
-        (
-            Event::Give,
-            1,
-            member(0, 1, 1)?,
-            Verdict::Waits {
-                missing: member(0, 1, 0)?,
-            },
-            "give 1 waits 0.1/1 0.1\n",
-        ),
-        (
-            Event::Give,
-            1,
-            member(0, 1, 2)?,
-            Verdict::Waits {
-                missing: member(0, 1, 1)?,
-            },
-            "give 1 waits 0.1/2 0.1/1\n",
-        ),
-        (
-            Event::Give,
-            0,
-            member(0, 1, 0)?,
-            Verdict::Forged { name: name(0, 1)? },
-            "give 0 forged 0.1\n",
-        ),
-        (
-            Event::Give,
-            0,
-            member(0, 1, 0)?,
-            Verdict::PlaceOut { place: 1, cells: 0 },
-            "give 0 placeout 0.1 1 0\n",
-        ),
-        (
-            Event::Give,
-            2,
-            member(2, 1, 0)?,
-            Verdict::NotClosed { site: 1 },
-            "give 2 notclosed 2.1 1\n",
-        ),
-        (
-            Event::Free,
-            63,
-            member(63, 1_000_000, 65_535)?,
-            Verdict::Repeat,
-            "free 63 repeat 63.1000000/65535\n",
-        ),
-    ];
-    for (event, site, member, verdict, wanted) in cases {
-        let mut out = Vec::new(alloc);
+    for (event, site, member, verdict, wanted) in VERDICTS {
+        let mut out = Vec::new(rt.alloc());
         verdict_line(event, site, member, verdict, &mut out)?;
         assert!(rt; out.as_slice() == wanted.as_bytes(), "{wanted}");
     }
@@ -218,7 +251,7 @@ fn local_lines(rt: HostRuntime) -> Result<(), Memory> {
     let mut out = Vec::new(alloc);
     local_line(Local::InForce { generation: 0 }, &mut out)?;
     local_line(Local::NotInForce { generation: 1 }, &mut out)?;
-    local_line(Local::Unknown { name: name(0, 9)? }, &mut out)?;
+    local_line(Local::Unknown { name: NINTH }, &mut out)?;
     local_line(
         Local::PlaceOut {
             place: 5,
@@ -315,10 +348,10 @@ fn forms(rt: HostRuntime) -> Result<(), Memory> {
 #[test]
 fn explained_lines(rt: HostRuntime) -> Result<(), Memory> {
     let mut out = Vec::new(rt.alloc());
-    base_line(1, member(2, 1, 0)?, &ins(0, 'q'), &mut out)?;
+    base_line(1, Member::Original(C1), &ins(0, 'q'), &mut out)?;
     let mark = Mark::Own { generation: 2 };
     let cover = Form::Cover(Cover { place: 10, mark });
-    step_line(12, 1, 11, member(2, 1, 2)?, &cover, &mut out)?;
+    step_line(12, 1, 11, Member::Group(C1, 2), &cover, &mut out)?;
     assert!(rt;
         out.as_slice() == b"1 base 2.1 ins 0 U+0071\n12 step 1 11 2.1/2 cover 10\n".as_slice()
     );
