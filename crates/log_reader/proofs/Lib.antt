@@ -1,0 +1,4 @@
+mod Fronts
+mod Steps
+mod Pieces
+mod Endings
