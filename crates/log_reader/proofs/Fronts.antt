@@ -1,7 +1,9 @@
 -- The front of a header, and a piece that goes on after it.
-use Rattle.std.proofs.Common.{◌≡◌, ◌≢◌, ℕ, ◌+◌, ◌-◌, ◌≤◌, List, [], ◌∷◌, ◌++◌, ◌⊎◌, inl, inr, refl, ap, sym, ◌∙◌, length, take, drop, append_assoc, append-nil, arith}
+use Rattle.std.proofs.Common.{◌≡◌, ◌≢◌, ℕ, zero, suc, subst, ◌+◌, ◌-◌, ◌≤◌, List, [], ◌∷◌, ◌++◌, ◌⊎◌, inl, inr, refl, ap, sym, ◌∙◌, length, take, drop, append_assoc, append-nil, arith}
 use Rattle.std.specs.Prelude.{min}
-use Rattle.std.proofs.lemmas.List.{length-append, length-take-le, nil_from_length, take-append-drop, take-append-le, take_all, take_at, append_cancel_left}
+use Rattle.std.proofs.lemmas.List.{length-append, length-take-le, nil_from_length, take-append-drop, take-append-le, take_all, take_at, drop_at, append_cancel_left}
+use Rattle.wire_codec.proofs.CallerLemmas.{IsBytes-drop}
+use Rattle.log_reader.specs.Code.Steps.{AreBytes}
 
 -- either nothing of the piece is left, or nothing of the header
 ends_one : (h w front rest : List ℕ) (come : ℕ) → length h ≡ come + (length front + length w) → length front ≡ min (length h - come) (length front + length rest) → (rest ≡ []) ⊎ (w ≡ [])
@@ -42,3 +44,13 @@ would_go_on come h piece front rest parts short more after e =
     (sym (append_assoc a piece more) ∙ e ∙ ap (λ (t : List ℕ). t ++ after) (sym (take-append-drop come h)) ∙ append_assoc a w after) in
     let split : front ++ (rest ++ more) ≡ w ++ after = sym (append_assoc front rest more) ∙ ap (λ (t : List ℕ). t ++ more) (sym parts) ∙ both in
     sym (take-append-le (length front) w after short) ∙ ap (take (length front)) (sym split) ∙ take_at front (rest ++ more) (length front) refl
+
+-- ---- bytes
+
+pub bytes_append : (a b : List ℕ) → AreBytes a → AreBytes b → AreBytes (a ++ b)
+bytes_append [] b all some i = some i
+bytes_append (x ∷ a) b all some zero = all zero
+bytes_append (x ∷ a) b all some (suc i) = bytes_append a b (λ j. all (suc j)) some i
+
+pub bytes_after : (a b all : List ℕ) → all ≡ a ++ b → AreBytes all → AreBytes b
+bytes_after a b all parts fits = subst AreBytes (ap (drop (length a)) parts ∙ drop_at a b (length a) refl) (IsBytes-drop (length a) all fits)

@@ -38,13 +38,13 @@ pub keeps_fault : (site before : ℕ) (left : List ℕ) (s : State) (refused : O
     → ((more rest : List ℕ) → (take (min before (length header)) header ++ piece) ++ more ≢ header ++ rest)
     → Keeps (reader_of site (before + length piece) left s refused (Some bad.Header) false) (all ++ piece)
 keeps_fault site before left s refused all piece k none = record {
-      live = refl;
-      fed = ap (λ (n : ℕ). n + length piece) k.fed ∙ sym (length-append all piece);
-      kept = elim k.kept [
-        | inl awaits ↦ (apart, λ more rest e. none more rest (ap (λ (t : List ℕ). (t ++ piece) ++ more) (awaited_front site before left s refused all k.fed awaits) ∙ e))
-        | inr has ↦ absurd (none [] piece (append-nil _ ∙ ap (λ (t : List ℕ). t ++ piece) (read_front before (long_read site before left s refused all k.fed has))))
-      ];
-    }
+  live = refl;
+  fed = ap (λ (n : ℕ). n + length piece) k.fed ∙ sym (length-append all piece);
+  kept = elim k.kept [
+    | inl awaits ↦ (apart, λ more rest e. none more rest (ap (λ (t : List ℕ). (t ++ piece) ++ more) (awaited_front site before left s refused all k.fed awaits) ∙ e))
+    | inr has ↦ absurd (none [] piece (append-nil _ ∙ ap (λ (t : List ℕ). t ++ piece) (read_front before (long_read site before left s refused all k.fed has))))
+  ];
+}
   where
     apart : bad.Header ≢ bad.Memory
     apart e = cc
@@ -56,27 +56,29 @@ pub keeps_front : (site before : ℕ) (left : List ℕ) (s : State) (refused : O
     → before + length piece < length header
     → Keeps (reader_of site (before + length piece) left s refused None false) (all ++ piece)
 keeps_front site before left s refused all piece rest k goes few = record {
-      live = refl;
-      fed = count;
-      kept = elim k.kept [
-        | inl awaits ↦
-            let here = awaited_front site before left s refused all k.fed awaits in
-            inl (record {
-              header = unread (before + length piece) few;
-              few = omega (arith, few, count);
-              front = is_front here;
-              left = awaits.left;
-              state = awaits.state;
-              accepted = awaits.accepted;
-            })
-        | inr has ↦ absurd (let long = long_read site before left s refused all k.fed has in omega (arith, long, few))
-      ];
-    }
+  live = refl;
+  fed = count;
+  kept = elim k.kept [
+    | inl awaits ↦
+        let here = awaited_front site before left s refused all k.fed awaits in
+        inl (record {
+          header = unread (before + length piece) few;
+          few = omega (arith, few, count);
+          front = is_front here;
+          left = awaits.left;
+          state = awaits.state;
+          accepted = awaits.accepted;
+        })
+    | inr has ↦ absurd (let long = long_read site before left s refused all k.fed has in omega (arith, long, few))
+  ];
+}
   where
     count : before + length piece ≡ length (all ++ piece)
     count = ap (λ (n : ℕ). n + length piece) k.fed ∙ sym (length-append all piece)
+
     unread : (fed : ℕ) → fed < length header → header_read fed None ≡ false
     unread fed less = lt-leb (length header) fed less
+
     is_front : take (min before (length header)) header ≡ all → all ++ piece ≡ take (length (all ++ piece)) header
     is_front here =
         let come : min before (length header) + length piece ≡ length (all ++ piece) = omega (arith, few, count) in
@@ -91,17 +93,18 @@ pub reads_on : (site before : ℕ) (left : List ℕ) (s : State) (refused : Opti
     → length header ≤ before + length piece
     → HasTaken site (all ++ piece) (left ++ rest) s refused
 reads_on site before left s refused all piece rest k goes enough = elim k.kept [
-      | inl awaits ↦
-          let here = awaited_front site before left s refused all k.fed awaits in
-          first awaits.left awaits.state awaits.accepted (ap (λ (t : List ℕ). t ++ piece) (sym here) ∙ past)
-      | inr has ↦
-          let here = read_front before (long_read site before left s refused all k.fed has) in
-          let same : piece ≡ rest = append_cancel_left header piece rest (ap (λ (t : List ℕ). t ++ piece) (sym here) ∙ past) in
-          subst (λ (t : List ℕ). HasTaken site (all ++ piece) (left ++ t) s refused) same (has_taken_on site all left s refused piece has.taken)
-    ]
+  | inl awaits ↦
+      let here = awaited_front site before left s refused all k.fed awaits in
+      first awaits.left awaits.state awaits.accepted (ap (λ (t : List ℕ). t ++ piece) (sym here) ∙ past)
+  | inr has ↦
+      let here = read_front before (long_read site before left s refused all k.fed has) in
+      let same : piece ≡ rest = append_cancel_left header piece rest (ap (λ (t : List ℕ). t ++ piece) (sym here) ∙ past) in
+      subst (λ (t : List ℕ). HasTaken site (all ++ piece) (left ++ t) s refused) same (has_taken_on site all left s refused piece has.taken)
+]
   where
     past : take (min before (length header)) header ++ piece ≡ header ++ rest
     past = goes ∙ ap (λ (t : List ℕ). t ++ rest) (take_all (min before (length header) + length piece) header (omega (arith, enough)))
+
     first : left ≡ [] → s ≡ new_state site → refused ≡ None → all ++ piece ≡ header ++ rest → HasTaken site (all ++ piece) (left ++ rest) s refused
     first none new accepted is = record {
       ops = [];
@@ -112,10 +115,10 @@ reads_on site before left s refused all piece rest k goes enough = elim k.kept [
 -- the whole frames were taken
 ends_one : (site fed : ℕ) (left : List ℕ) (s : State) (refused : Option LogBad) (all : List ℕ) → fed ≡ length all → length header ≤ fed → (why : Option LogBad) → Ends site all left s refused why → Keeps (reader_of site fed left s refused why false) all
 ends_one site fed left s refused all count enough None ends = record {
-      live = refl;
-      fed = count;
-      kept = inr (record { header = read fed enough; taken = ends.0; needs = ends.1 });
-    }
+  live = refl;
+  fed = count;
+  kept = inr (record { header = read fed enough; taken = ends.0; needs = ends.1 });
+}
   where
     read : (fed : ℕ) → length header ≤ fed → header_read fed None ≡ true
     read fed enough = le-leb (length header) fed enough

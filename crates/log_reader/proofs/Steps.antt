@@ -36,9 +36,12 @@ pub fault_on : (all more : List ℕ) (why : LogBad) → IsFaultOf all why → Is
 fault_on all more why f = (f.0, λ after. subst (λ (t : List ℕ). IsUnread t why) (sym (append_assoc all more after)) (f.1 (more ++ after)))
 
 refusal_on : (site : ℕ) (all more : List ℕ) (why : LogBad) → IsRefusalOf site all why → IsRefusalOf site (all ++ more) why
-refusal_on site all more why f = (f.0, λ after ops log.
-    let same = append_assoc all more after in
-    subst (λ (t : List ℕ). IsUnloaded site t why) (sym same) (f.1 (more ++ after) ops (subst (λ (t : List ℕ). IsLogOf t ops) same log)))
+refusal_on site all more why f = (
+  f.0,
+  λ after ops log.
+      let same = append_assoc all more after in
+      subst (λ (t : List ℕ). IsUnloaded site t why) (sym same) (f.1 (more ++ after) ops (subst (λ (t : List ℕ). IsLogOf t ops) same log)),
+)
 
 taken_to_on : (site : ℕ) (all more : List ℕ) (ops : List OpData) (s : State) (refused : Option LogBad) → AreTakenTo site all ops s refused → AreTakenTo site (all ++ more) ops s refused
 taken_to_on site all more ops s None t = t
@@ -69,28 +72,32 @@ refused_next : (site : ℕ) (all left next : List ℕ) (ops : List OpData) (o : 
 refused_next site all left next ops o s at bad.Header b is well taken place apart refusal = absurd refusal
 refused_next site all left next ops o s at (bad.Cut offset) b is well taken place apart refusal = absurd refusal
 refused_next site all left next ops o s at (bad.Bad offset cause) b is well taken place apart refusal = absurd refusal
-refused_next site all left next ops o s at (bad.Refused offset member verdict) b is well taken place apart refusal = (apart, λ more log is_log.
-    let begins = begins_on all next (ops ++ o ∷ []) more (begins_next all left next ops o b is well) in
-    let f = front (all ++ more) log (ops ++ o ∷ []) (next ++ more) is_log begins in
-    let parts : log ≡ ops ++ o ∷ f.others = f.parts ∙ append_assoc ops (o ∷ []) f.others in
-    record {
-      before = ops;
-      op = o;
-      behind = f.others;
-      log = subst (IsLogOf (all ++ more)) parts is_log;
-      place = refusal.0 ∙ place;
-      taken = taken.0;
-      first = ap (λ (x : State). first_refusal (verdicts_after x o)) (sym taken.1) ∙ refusal.1;
-    })
+refused_next site all left next ops o s at (bad.Refused offset member verdict) b is well taken place apart refusal = (
+  apart,
+  λ more log is_log.
+      let begins = begins_on all next (ops ++ o ∷ []) more (begins_next all left next ops o b is well) in
+      let f = front (all ++ more) log (ops ++ o ∷ []) (next ++ more) is_log begins in
+      let parts : log ≡ ops ++ o ∷ f.others = f.parts ∙ append_assoc ops (o ∷ []) f.others in
+      record {
+        before = ops;
+        op = o;
+        behind = f.others;
+        log = subst (IsLogOf (all ++ more)) parts is_log;
+        place = refusal.0 ∙ place;
+        taken = taken.0;
+        first = ap (λ (x : State). first_refusal (verdicts_after x o)) (sym taken.1) ∙ refusal.1;
+      },
+)
 refused_next site all left next ops o s at bad.Memory b is well taken place apart refusal = absurd (apart refl)
 
 taken_next : (site : ℕ) (all left next : List ℕ) (ops : List OpData) (o : OpData) (s t : State) (refused now : Option LogBad) (at : ℕ)
     → BeginsWith all ops left → left ≡ frame o ++ next → IsWellFormed o → AreTakenTo site all ops s refused → at ≡ offset_after ops → TakesIn s refused at o t now → AreTakenTo site all (ops ++ o ∷ []) t now
 taken_next site all left next ops o s t (Some why) now at b is well taken place takes = subst (λ (n : Option LogBad). AreTakenTo site all (ops ++ o ∷ []) t n) (sym takes) taken
 taken_next site all left next ops o s t None None at b is well taken place takes =
-    let none_at = ap (λ (x : State). first_refusal (verdicts_after x o)) (sym taken.1) ∙ takes.0 in
-    (taken-append (new_state site) ops (o ∷ []) taken.0 (none_at, tt),
-    takes.1 ∙ ap (λ (x : State). taken_in x o) taken.1 ∙ sym (after-append (new_state site) ops (o ∷ [])))
+    let none_at = ap (λ (x : State). first_refusal (verdicts_after x o)) (sym taken.1) ∙ takes.0 in (
+      taken-append (new_state site) ops (o ∷ []) taken.0 (none_at, tt),
+      takes.1 ∙ ap (λ (x : State). taken_in x o) taken.1 ∙ sym (after-append (new_state site) ops (o ∷ [])),
+    )
 taken_next site all left next ops o s t None (Some why) at b is well taken place takes = refused_next site all left next ops o s at why b is well taken place takes.0 takes.1
 
 -- a frame was taken, and its operation taken in
@@ -114,13 +121,16 @@ pub stops_for : (site : ℕ) (all : List ℕ) (fed : ℕ) (old : StreamData) (s 
     → fed ≡ length all → HasTaken site all old.left s refused → Stops fed old why → why ≢ bad.Memory → IsFaultOf all why
 stops_for site all fed old s refused bad.Header count h stops apart = absurd stops
 stops_for site all fed old s refused (bad.Cut offset) count h stops apart = absurd stops
-stops_for site all fed old s refused (bad.Bad offset cause) count h (within, judged, place) apart = (apart, λ more. record {
-      before = h.ops;
-      rest = old.left ++ more;
-      begins = begins_on all old.left h.ops more h.begins;
-      within = within;
-      judged = bad_stays old.left more (fault cause within) judged;
-      place = omega (arith, count, place, at_left all old.left h.ops h.begins);
-    })
+stops_for site all fed old s refused (bad.Bad offset cause) count h (within, judged, place) apart = (
+  apart,
+  λ more. record {
+    before = h.ops;
+    rest = old.left ++ more;
+    begins = begins_on all old.left h.ops more h.begins;
+    within = within;
+    judged = bad_stays old.left more (fault cause within) judged;
+    place = omega (arith, count, place, at_left all old.left h.ops h.begins);
+  },
+)
 stops_for site all fed old s refused (bad.Refused offset member verdict) count h stops apart = absurd stops
 stops_for site all fed old s refused bad.Memory count h stops apart = absurd (apart refl)

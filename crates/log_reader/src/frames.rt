@@ -19,6 +19,7 @@ pub(crate) fn take_frames(
     taking: &mut Taking,
 ) -> Result<Option<LogBad>, Memory>
     requires counted { IsCounted fed frames.old }
+    requires header { length header ≤ fed }
     requires limit { fed ≤ MAX_LOG }
     ensures ends { (site : ℕ) (all : List ℕ) → fed ≡ length all → HasTaken site all frames.old.left (state_of taking.old.site) taking.old.refused
         → IfOk result (Ends site all frames.new.left (state_of taking.new.site) taking.new.refused) }
@@ -37,6 +38,7 @@ pub(crate) fn take_frames(
 // Takes the next whole frame, if there is one.
 fn next(frames: &mut FrameStream, fed: u32) -> Result<Option<Placed>, LogBad>
     requires counted { IsCounted fed frames.old }
+    requires header { length header ≤ fed }
     requires limit { fed ≤ MAX_LOG }
     ensures takes { IfOk result (λ p. TakesFrame fed frames.old p frames.new) }
     ensures stops { IfErr result (Stops fed frames.old) }

@@ -1,11 +1,10 @@
 //! Loading a log that comes in pieces.
 
-ghost use Rattle.std.specs.Prelude.{◌≡◌, ◌≢◌, ◌+◌, ◌-◌, ◌<◌, ◌≤◌, ◌++◌, [], ℕ, List, true, false, None, Err, IfOk, IfErr, OnOk, OnErr, IsErr, length};
+ghost use Rattle.std.specs.Prelude.{◌≡◌, ◌≢◌, ◌+◌, ◌<◌, ◌≤◌, ◌++◌, [], ℕ, List, true, false, None, Err, IfOk, IfErr, OnOk, OnErr, IsErr, length};
 ghost use Rattle.cot_site.specs.Sites.{state_of};
-ghost use Rattle.session_log.specs.Logs.{header};
 ghost use Rattle.session_log.specs.Loadings.{IsLoaded, IsUnloaded};
 ghost use Rattle.log_reader.specs.Readers.{Keeps};
-ghost use Rattle.log_reader.specs.Code.Steps.{reader_of};
+ghost use Rattle.log_reader.specs.Code.Steps.{IsCounted, reader_of};
 
 use crate::frames::take_frames;
 use crate::front::after_header;
@@ -34,17 +33,16 @@ pub struct LogReader {
 }
 
 impl Model for LogReader {
-    ghost use Rattle.std.specs.Prelude.{◌≡◌, ◌+◌, ◌-◌, false, None, length};
+    ghost use Rattle.std.specs.Prelude.{◌≡◌, false, None};
     ghost use Rattle.cot_site.specs.Sites.{state_of};
-    ghost use Rattle.session_log.specs.Logs.{header};
     ghost use Rattle.log_reader.specs.ReaderData.{ReaderData};
-    ghost use Rattle.log_reader.specs.Code.Steps.{reader_of};
+    ghost use Rattle.log_reader.specs.Code.Steps.{IsCounted, reader_of};
 
     ghost Value = { ReaderData };
 
     ghost view = { λ r. reader_of r.number r.fed r.frames.left (state_of r.taking.site) r.taking.refused r.fault r.spent };
 
-    ghost invariant = { λ r. r.spent ≡ false → r.fault ≡ None → r.frames.taken + length r.frames.left ≡ r.fed - length header };
+    ghost invariant = { λ r. r.spent ≡ false → r.fault ≡ None → IsCounted r.fed r.frames };
 }
 
 impl LogReader {
@@ -97,6 +95,13 @@ impl LogReader {
         }
     }
 
+    /// How many bytes were fed.
+    pub fn fed(&self) -> u32
+        ensures { result ≡ self.now.fed }
+    {
+        self.fed
+    }
+
     /// Ends the log: answers its site, or why there is none, as `load` does for all bytes fed: a fault of the bytes before
     /// any verdict. It takes no memory.
     pub fn finish(self) -> Result<Site, LogBad>
@@ -136,10 +141,10 @@ fn read_piece(
     taking: &mut Taking,
 ) -> Result<Option<LogBad>, Memory>
     requires limit { before + length piece.now ≤ MAX_LOG }
-    requires counted { frames.old.taken + length frames.old.left ≡ before - length header }
+    requires counted { IsCounted before frames.old }
     ensures keeps { (site : ℕ) (all : List ℕ) → Keeps (reader_of site before frames.old.left (state_of taking.old.site) taking.old.refused None false) all
         → IfOk result (λ why. Keeps (reader_of site (before + length piece.now) frames.new.left (state_of taking.new.site) taking.new.refused why false) (all ++ piece.now)) }
-    ensures counted { IfOk result (λ why. why ≡ None → frames.new.taken + length frames.new.left ≡ (before + length piece.now) - length header) }
+    ensures counted { IfOk result (λ why. why ≡ None → IsCounted (before + length piece.now) frames.new) }
 {
     let fed = before + piece.len() as u32;
     match after_header((before as usize).min(HEADER.len()), piece) {

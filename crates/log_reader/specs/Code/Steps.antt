@@ -1,5 +1,5 @@
 -- The steps of a reader: over the header, over one frame, and taking in its operation.
-use Rattle.std.specs.Prelude.{◌≡◌, ◌≢◌, ℕ, ◌+◌, Bool, false, true, List, [], ◌++◌, Option, Some, None, Err, length, take, nat_le}
+use Rattle.std.specs.Prelude.{◌≡◌, ◌≢◌, ℕ, ◌+◌, ◌-◌, ◌<◌, Bool, false, true, List, [], ◌++◌, Option, Some, None, Err, length, nat_le, slice_index_or}
 use Rattle.context_diff.specs.Operations.{OpData}
 use Rattle.context_diff.specs.Ops.{data_of}
 use Rattle.wire_codec.specs.declared.fault.Refused.TheVariants.{Bad}
@@ -39,9 +39,13 @@ reader_of site fed left s refused why spent = record {
   spent = spent;
 }
 
--- the bytes fed are the header, what was taken, and what is left
+-- every element is a byte
+abbrev pub AreBytes : List ℕ → Type 0
+AreBytes bytes = (i : ℕ) → slice_index_or bytes i 0 < 256
+
+-- of the bytes fed, those after the header were taken, or are left
 abbrev pub IsCounted : ℕ → StreamData → Type 0
-IsCounted fed s = length header + (s.taken + length s.left) ≡ fed
+IsCounted fed s = (s.taken + length s.left ≡ fed - length header) × AreBytes s.left
 
 -- a frame was taken, which begins at the place of its operation; without one, more bytes are needed to tell
 abbrev pub TakesFrame : ℕ → StreamData → Option Placed → StreamData → Type 0
