@@ -15,7 +15,7 @@ use Rattle.log_reader.specs.Readers.{IsFaultOf, AreTakenTo, HasRead, KeepsOf, Ke
 use Rattle.log_reader.proofs.Steps.{fault_on, at_left}
 
 -- why bytes are not read is why they are not loaded
-unloaded : (site : ℕ) (all : List ℕ) (why : LogBad) → why ≢ bad.Memory → IsUnread all why → IsUnloaded site all why
+pub unloaded : (site : ℕ) (all : List ℕ) (why : LogBad) → why ≢ bad.Memory → IsUnread all why → IsUnloaded site all why
 unloaded site all bad.Header apart u = u
 unloaded site all (bad.Cut offset) apart u = u
 unloaded site all (bad.Bad offset cause) apart u = u
@@ -23,7 +23,7 @@ unloaded site all (bad.Refused offset member verdict) apart u = absurd u
 unloaded site all bad.Memory apart u = absurd (apart refl)
 
 -- what a reader keeps whose fault is this, or that has none
-kept_at : (r : ReaderData) (all : List ℕ) (fault : Option LogBad) → r.fault ≡ fault → Keeps r all → KeepsOf r all fault
+pub kept_at : (r : ReaderData) (all : List ℕ) (fault : Option LogBad) → r.fault ≡ fault → Keeps r all → KeepsOf r all fault
 kept_at r all fault is k = subst (KeepsOf r all) is k.kept
 
 -- a fault that was met stays the fault

@@ -2,3 +2,5 @@ mod Fronts
 mod Steps
 mod Pieces
 mod Endings
+mod Ones
+mod On

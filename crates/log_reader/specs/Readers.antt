@@ -1,5 +1,5 @@
 -- Reading a log that comes in pieces: what a reader keeps of the bytes fed, and what loading gives when others follow.
-use Rattle.std.specs.Prelude.{◌≡◌, ◌≢◌, ◌⊎◌, ℕ, ◌<◌, true, false, List, [], ◌++◌, Option, Some, None, Err, length, take}
+use Rattle.std.specs.Prelude.{◌≡◌, ◌≢◌, ◌⊎◌, ◌↔◌, ℕ, ◌<◌, true, false, List, [], ◌++◌, Option, Some, None, Err, length, take}
 use Rattle.context_diff.specs.Operations.{OpData}
 use Rattle.wire_codec.specs.declared.fault.Refused.TheVariants.{More}
 use Rattle.wire_codec.specs.Judging.{judge}
@@ -71,3 +71,25 @@ pub record IsUnloadedOn (r : ReaderData) (more : List ℕ) (why : LogBad) : Type
   pub all : List ℕ
   pub keeps : Keeps r all
   pub unloaded : IsUnloaded r.site (all ++ more) why
+
+-- a reader that keeps something was never out of memory
+abbrev pub KeepsSome : ReaderData → Type 0
+KeepsSome r = (all : List ℕ) × Keeps r all
+
+-- whatever follows is loaded, or refused, as what follows these bytes at the reader before
+pub record GoesOn (old : ReaderData) (piece : List ℕ) (new : ReaderData) : Type 0 where
+  pub loaded : (more : List ℕ) (s : State) → IsLoadedOn new more s ↔ IsLoadedOn old (piece ++ more) s
+  pub refused : (more : List ℕ) (why : LogBad) → IsUnloadedOn new more why ↔ IsUnloadedOn old (piece ++ more) why
+
+-- whatever follows is loaded, or refused, as a log at a site of this number
+pub record Begins (site : ℕ) (r : ReaderData) : Type 0 where
+  pub loaded : (bytes : List ℕ) (s : State) → IsLoadedOn r bytes s ↔ IsLoaded site bytes s
+  pub refused : (bytes : List ℕ) (why : LogBad) → IsUnloadedOn r bytes why ↔ IsUnloaded site bytes why
+
+-- what a reader keeps decides what loading gives: of any bytes of which it keeps that, whatever follows, the same
+abbrev pub OneLoadOn : Type 0
+OneLoadOn =
+    (r : ReaderData) (a b more : List ℕ)
+    → Keeps r a
+    → Keeps r b
+    → ((s : State) → IsLoaded r.site (a ++ more) s → IsLoaded r.site (b ++ more) s) × ((why : LogBad) → IsUnloaded r.site (a ++ more) why → IsUnloaded r.site (b ++ more) why)

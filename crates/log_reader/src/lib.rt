@@ -4,7 +4,9 @@
 
 mod frames;
 mod front;
+mod laws;
 mod reader;
 mod taking;
 
+pub use laws::what_is_kept_decides;
 pub use reader::LogReader;

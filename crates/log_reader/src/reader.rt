@@ -3,7 +3,7 @@
 ghost use Rattle.std.specs.Prelude.{◌≡◌, ◌≢◌, ◌+◌, ◌<◌, ◌≤◌, ◌++◌, [], ℕ, List, true, false, None, Err, IfOk, IfErr, OnOk, OnErr, IsErr, length};
 ghost use Rattle.cot_site.specs.Sites.{state_of};
 ghost use Rattle.session_log.specs.Loadings.{IsLoaded, IsUnloaded};
-ghost use Rattle.log_reader.specs.Readers.{Keeps};
+ghost use Rattle.log_reader.specs.Readers.{Keeps, KeepsSome, Begins, GoesOn, IsLoadedOn, IsUnloadedOn};
 ghost use Rattle.log_reader.specs.Code.Steps.{IsCounted, reader_of};
 
 use crate::frames::take_frames;
@@ -50,6 +50,7 @@ impl LogReader {
     pub fn new(alloc: Global, site: u16) -> Result<LogReader, Memory>
         requires { site < SITES }
         ensures keeps { IfOk result (λ r. Keeps r []) }
+        ensures load_on { IfOk result (Begins site) }
         ensures site { IfOk result (λ r. r.site ≡ site) }
     {
         let frames = FrameStream::new(alloc)?;
@@ -70,6 +71,7 @@ impl LogReader {
     pub fn feed(&mut self, piece: &[u8]) -> Result<(), Memory>
         requires { self.old.fed + length piece.now ≤ MAX_LOG }
         ensures keeps { (all : List ℕ) → Keeps self.old all → OnOk result (Keeps self.new (all ++ piece.now)) }
+        ensures load_on { KeepsSome self.old → OnOk result (GoesOn self.old piece.now self.new) }
         ensures fed { self.new.fed ≡ self.old.fed + length piece.now }
         ensures site { self.new.site ≡ self.old.site }
         ensures spent { OnErr result (self.new.spent ≡ true) }
@@ -107,6 +109,8 @@ impl LogReader {
     pub fn finish(self) -> Result<Site, LogBad>
         ensures loaded { (all : List ℕ) → Keeps self all → IfOk result (λ s. IsLoaded self.site all (state_of s)) }
         ensures refused { (all : List ℕ) → Keeps self all → IfErr result (IsUnloaded self.site all) }
+        ensures loaded_on { KeepsSome self → IfOk result (λ s. IsLoadedOn self [] (state_of s)) }
+        ensures refused_on { KeepsSome self → IfErr result (IsUnloadedOn self []) }
         ensures memory { (all : List ℕ) → Keeps self all → result ≢ Err LogBad.Memory }
         ensures spent { self.spent ≡ true → result ≡ Err LogBad.Memory }
     {

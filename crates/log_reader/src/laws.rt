@@ -1,0 +1,8 @@
+//! A law of readers: it says what the definitions give, and does nothing.
+
+ghost use Rattle.log_reader.specs.Readers.{OneLoadOn};
+
+/// What a reader keeps decides what loading gives, whatever follows.
+pub fn what_is_kept_decides()
+    ensures { OneLoadOn }
+{}
