@@ -1,4 +1,5 @@
 mod Fronts
+mod Logs
 mod Steps
 mod Pieces
 mod Endings

@@ -6,8 +6,7 @@ use Rattle.cot_site.specs.States.{State}
 use Rattle.session_log.specs.declared.log_bad.LogBad.{LogBad}
 use Rattle.session_log.specs.Loadings.{IsLoaded, IsUnloaded}
 use Rattle.log_reader.specs.ReaderData.{ReaderData}
-use Rattle.log_reader.specs.Readers.{Keeps, KeepsSome, GoesOn, Begins, IsLoadedOn, IsUnloadedOn}
-use Rattle.log_reader.proofs.Ones.{one_loaded_on, one_unloaded_on}
+use Rattle.log_reader.specs.Readers.{Keeps, KeepsSome, GoesOn, Begins, IsLoadedOn, IsUnloadedOn, OneLoadOn}
 
 -- of a new reader no byte was fed
 nothing : (r : ReaderData) (all : List ℕ) → Keeps r [] → Keeps r all → all ≡ []
@@ -26,14 +25,14 @@ begins site r is k = record {
 }
 
 -- a piece was fed, and what is kept of all bytes is kept
-pub goes_on_by : (old new : ReaderData) (piece : List ℕ) → new.site ≡ old.site → ((all : List ℕ) → Keeps old all → Keeps new (all ++ piece)) → KeepsSome old → GoesOn old piece new
-goes_on_by old new piece same keeps (a, k) = record {
+pub goes_on_by : OneLoadOn → (old new : ReaderData) (piece : List ℕ) → new.site ≡ old.site → ((all : List ℕ) → Keeps old all → Keeps new (all ++ piece)) → KeepsSome old → GoesOn old piece new
+goes_on_by one old new piece same keeps (a, k) = record {
   loaded = λ more s. (
     (λ on. record {
       all = a;
       keeps = k;
       loaded = subst (λ (t : List ℕ). IsLoaded old.site t s) (append_assoc a piece more)
-          (subst (λ (n : ℕ). IsLoaded n ((a ++ piece) ++ more) s) same (one_loaded_on new on.all (a ++ piece) more s on.keeps (keeps a k) on.loaded));
+          (subst (λ (n : ℕ). IsLoaded n ((a ++ piece) ++ more) s) same ((one new on.all (a ++ piece) more on.keeps (keeps a k)).0 s on.loaded));
     }),
     (λ on. record {
       all = on.all ++ piece;
@@ -46,7 +45,7 @@ goes_on_by old new piece same keeps (a, k) = record {
       all = a;
       keeps = k;
       unloaded = subst (λ (t : List ℕ). IsUnloaded old.site t why) (append_assoc a piece more)
-          (subst (λ (n : ℕ). IsUnloaded n ((a ++ piece) ++ more) why) same (one_unloaded_on new on.all (a ++ piece) more why on.keeps (keeps a k) on.unloaded));
+          (subst (λ (n : ℕ). IsUnloaded n ((a ++ piece) ++ more) why) same ((one new on.all (a ++ piece) more on.keeps (keeps a k)).1 why on.unloaded));
     }),
     (λ on. record {
       all = on.all ++ piece;

@@ -21,43 +21,15 @@ use Rattle.session_log.specs.declared.log_bad.LogBad.{LogBad}
 use Rattle.session_log.specs.declared.log_bad.LogBad.TheVariants as bad
 use Rattle.session_log.specs.Logs.{header, frames, BeginsWith, offset_after, IsLogOf}
 use Rattle.session_log.specs.Readings.{IsUnread, IsCutAt, IsFaultyAt}
+use Rattle.session_log.specs.Laws.{LogsHaveNoFault, OneRefusal, OneLoading}
 use Rattle.session_log.specs.Loadings.{first_refusal, verdicts_after, taken_in, after_all, AreTakenIn, new_state, IsLoaded, IsUnloaded, IsRefusedAt}
-use Rattle.session_log.proofs.Frames.{good_not_err, front, log_no_fault}
-use Rattle.session_log.proofs.TakingIn.{after-append, taken-append, loaded_not_refused}
-use Rattle.session_log.proofs.Refusals.{one_refusal}
 use Rattle.log_reader.specs.ReaderData.{ReaderData}
 use Rattle.log_reader.specs.Readers.{IsFaultOf, AreTakenTo, HasTaken, HasRead, AwaitsHeader, KeepsOf, Keeps}
+use Rattle.log_reader.proofs.Logs.{formed_back, formed_append, after-append, taken-append, taken_back, continues, log_continues}
 use Rattle.log_reader.proofs.Steps.{begins_on, at_left}
 use Rattle.log_reader.proofs.Endings.{kept_at, unloaded}
 
--- ---- what the operations that were taken in leave
-
-formed_back : (fs bs : List OpData) → AllFormed (fs ++ bs) → AllFormed bs
-formed_back [] bs all = all
-formed_back (a ∷ fs) bs all = formed_back fs bs (λ o c. all o (contains_later a (fs ++ bs) o c))
-
-taken_back : (s : State) (fs bs : List OpData) → AreTakenIn s (fs ++ bs) → AreTakenIn (after_all s fs) bs
-taken_back s [] bs all = all
-taken_back s (a ∷ fs) bs all = taken_back (taken_in s a) fs bs all.1
-
--- after these operations come the others, and then what begins with no frame
-record Continues (fs gs : List OpData) (q r : List ℕ) : Type 0 where
-  pub others : List OpData
-  pub parts : gs ≡ fs ++ others
-  pub left_is : q ≡ frames others ++ r
-
-continues : (fs gs : List OpData) (q r : List ℕ) (e : Refused) → AllFormed fs → AllFormed gs → frames fs ++ q ≡ frames gs ++ r → judge r ≡ Err e → Continues fs gs q r
-continues [] gs q r e all some is at_r = record { others = gs; parts = refl; left_is = is }
-continues (f ∷ fs) [] q r e all some is at_r = absurd (good_not_err f (frames fs ++ q) e (all f (contains_here f fs)) (ap judge (sym (append_assoc (frame f) (frames fs) q) ∙ is) ∙ at_r))
-continues (f ∷ fs) (g ∷ gs) q r e all some is at_r =
-    let whole : frame f ++ (frames fs ++ q) ≡ frame g ++ (frames gs ++ r) = sym (append_assoc (frame f) (frames fs) q) ∙ is ∙ append_assoc (frame g) (frames gs) r in
-    let same : f ≡ g = frame_once f g (frames fs ++ q) (frames gs ++ r) (all f (contains_here f fs)) (some g (contains_here g gs)) whole in
-    let later : frames fs ++ q ≡ frames gs ++ r = append_cancel_left (frame g) (frames fs ++ q) (frames gs ++ r) (ap (λ (x : OpData). frame x ++ (frames fs ++ q)) (sym same) ∙ whole) in
-    let c = continues fs gs q r e (λ x c. all x (contains_later f fs x c)) (λ x c. some x (contains_later g gs x c)) later at_r in
-    record { others = c.others; parts = ap (λ (x : OpData). x ∷ gs) (sym same) ∙ ap (λ (xs : List OpData). f ∷ xs) c.parts; left_is = c.left_is }
-
-continues_in : (bytes : List ℕ) (fs gs : List OpData) (q r : List ℕ) (e : Refused) → BeginsWith bytes fs q → BeginsWith bytes gs r → judge r ≡ Err e → Continues fs gs q r
-continues_in bytes fs gs q r e u v at_r = continues fs gs q r e u.formed v.formed (append_cancel_left header (frames fs ++ q) (frames gs ++ r) (sym u.parts ∙ v.parts)) at_r
+-- ---- two lists of bytes of which the same is kept
 
 -- the operation that is refused comes after those that were taken in
 record IsLater (fs before others : List OpData) (o : OpData) (after : List OpData) : Type 0 where
@@ -74,14 +46,6 @@ later s (f ∷ fs) (b ∷ before) others o after r all is first =
     let first_f = subst (λ (x : OpData). first_refusal (verdicts_after (after_all (taken_in s x) before) o) ≡ Some r) (sym same) first in
     let l = later (taken_in s f) fs before others o after r all.1 rest first_f in
     record { between = l.between; parts = ap (λ (x : OpData). x ∷ before) (sym same) ∙ ap (λ (xs : List OpData). f ∷ xs) l.parts; others_are = l.others_are }
-
-formed_append : (fs bs : List OpData) → AllFormed fs → AllFormed bs → AllFormed (fs ++ bs)
-formed_append fs bs all some o there = elim (Contains-append_cases fs bs o there) [
-  | inl here ↦ all o here
-  | inr there ↦ some o there
-]
-
--- ---- two lists of bytes of which the same is kept
 
 -- bytes that begin with these operations, and then with those that come after others elsewhere
 moved : (b left : List ℕ) (fs gs others : List OpData) (a rest : List ℕ) (more : List ℕ) → BeginsWith b gs left → BeginsWith a (fs ++ others) rest → left ++ more ≡ frames others ++ rest → BeginsWith (b ++ more) (gs ++ others) rest
@@ -113,15 +77,15 @@ record IsLogToo (b : List ℕ) (fs gs ops : List OpData) (more : List ℕ) : Typ
 
 log_too : (a b left : List ℕ) (fs gs ops : List OpData) (more : List ℕ) → BeginsWith a fs left → BeginsWith b gs left → IsLogOf (a ++ more) ops → IsLogToo b fs gs ops more
 log_too a b left fs gs ops more u v log =
-    let f = front (a ++ more) ops fs (left ++ more) log (begins_on a left fs more u) in
+    let f = log_continues (a ++ more) fs ops (left ++ more) (begins_on a left fs more u) log in
     record {
       others = f.others;
       parts = f.parts;
-      log = moved b left fs gs f.others (a ++ more) [] more v (subst (λ (os : List OpData). IsLogOf (a ++ more) os) f.parts log) (f.is_rest ∙ sym (append-nil (frames f.others)));
+      log = moved b left fs gs f.others (a ++ more) [] more v (subst (λ (os : List OpData). IsLogOf (a ++ more) os) f.parts log) f.left_is;
     }
 
-loaded_read : (site : ℕ) (a b left : List ℕ) (s : State) (refused : Option LogBad) (more : List ℕ) (t : State) → HasTaken site a left s refused → HasTaken site b left s refused → IsLoaded site (a ++ more) t → IsLoaded site (b ++ more) t
-loaded_read site a b left s refused more t x y l = from refused x.taken y.taken where
+loaded_read : OneLoading → (site : ℕ) (a b left : List ℕ) (s : State) (refused : Option LogBad) (more : List ℕ) (t : State) → HasTaken site a left s refused → HasTaken site b left s refused → IsLoaded site (a ++ more) t → IsLoaded site (b ++ more) t
+loaded_read one site a b left s refused more t x y l = from refused x.taken y.taken where
   too = log_too a b left x.ops y.ops l.ops more x.begins y.begins l.log
 
   from : (r : Option LogBad) → AreTakenTo site a x.ops s r → AreTakenTo site b y.ops s r → IsLoaded site (b ++ more) t
@@ -135,13 +99,13 @@ loaded_read site a b left s refused more t x y l = from refused x.taken y.taken 
         state = l.state ∙ ap (after_all (new_state site)) too.parts ∙ after-append (new_state site) x.ops too.others
             ∙ ap (λ (z : State). after_all z too.others) (sym p.1 ∙ q.1) ∙ sym (after-append (new_state site) y.ops too.others);
       }
-  from (Some why) p q = absurd (loaded_not_refused site (a ++ more) t l why p.0 (p.1 more l.ops l.log))
+  from (Some why) p q = absurd ((one site (a ++ more) t l).1 why p.0 (p.1 more l.ops l.log))
 
 -- why the one isn't loaded is why the other isn't
-unloaded_read : (site : ℕ) (a b left : List ℕ) (s : State) (refused : Option LogBad) (more : List ℕ) (w : LogBad) → length a ≡ length b → HasTaken site a left s refused → HasTaken site b left s refused → IsUnloaded site (a ++ more) w → IsUnloaded site (b ++ more) w
-unloaded_read site a b left s refused more bad.Header same x y u = absurd (u (frames x.ops ++ (left ++ more)) (begins_on a left x.ops more x.begins).parts)
-unloaded_read site a b left s refused more (bad.Cut offset) same x y u =
-    let c = continues_in (a ++ more) x.ops u.before (left ++ more) u.rest (More u.needed) (begins_on a left x.ops more x.begins) u.begins u.judged in
+unloaded_read : OneLoading → (site : ℕ) (a b left : List ℕ) (s : State) (refused : Option LogBad) (more : List ℕ) (w : LogBad) → length a ≡ length b → HasTaken site a left s refused → HasTaken site b left s refused → IsUnloaded site (a ++ more) w → IsUnloaded site (b ++ more) w
+unloaded_read one site a b left s refused more bad.Header same x y u = absurd (u (frames x.ops ++ (left ++ more)) (begins_on a left x.ops more x.begins).parts)
+unloaded_read one site a b left s refused more (bad.Cut offset) same x y u =
+    let c = continues (a ++ more) x.ops u.before (left ++ more) u.rest (More u.needed) (begins_on a left x.ops more x.begins) u.begins u.judged in
     record {
       before = y.ops ++ c.others;
       rest = u.rest;
@@ -151,8 +115,8 @@ unloaded_read site a b left s refused more (bad.Cut offset) same x y u =
       judged = u.judged;
       place = u.place ∙ ap offset_after c.parts ∙ same_offset a b left x.ops y.ops c.others same x.begins y.begins;
     }
-unloaded_read site a b left s refused more (bad.Bad offset cause) same x y u =
-    let c = continues_in (a ++ more) x.ops u.before (left ++ more) u.rest (Bad (fault cause u.within)) (begins_on a left x.ops more x.begins) u.begins u.judged in
+unloaded_read one site a b left s refused more (bad.Bad offset cause) same x y u =
+    let c = continues (a ++ more) x.ops u.before (left ++ more) u.rest (Bad (fault cause u.within)) (begins_on a left x.ops more x.begins) u.begins u.judged in
     record {
       before = y.ops ++ c.others;
       rest = u.rest;
@@ -161,7 +125,7 @@ unloaded_read site a b left s refused more (bad.Bad offset cause) same x y u =
       judged = u.judged;
       place = u.place ∙ ap (λ (n : ℕ). n + u.within) (ap offset_after c.parts ∙ same_offset a b left x.ops y.ops c.others same x.begins y.begins);
     }
-unloaded_read site a b left s refused more (bad.Refused offset member verdict) same x y u = from refused x.taken y.taken where
+unloaded_read one site a b left s refused more (bad.Refused offset member verdict) same x y u = from refused x.taken y.taken where
   too = log_too a b left x.ops y.ops (u.before ++ u.op ∷ u.behind) more x.begins y.begins u.log
 
   from : (r : Option LogBad) → AreTakenTo site a x.ops s r → AreTakenTo site b y.ops s r → IsUnloaded site (b ++ more) (bad.Refused offset member verdict)
@@ -181,9 +145,9 @@ unloaded_read site a b left s refused more (bad.Refused offset member verdict) s
       }
   from (Some why) p q =
       let w = bad.Refused offset member verdict in
-      let one : w ≡ why = one_refusal site (a ++ more) w why (λ e. let no : w ≡ bad.Memory = e in cc) p.0 u (p.1 more (u.before ++ u.op ∷ u.behind) u.log) in
-      subst (IsUnloaded site (b ++ more)) (sym one) (q.1 more (y.ops ++ too.others) too.log)
-unloaded_read site a b left s refused more bad.Memory same x y u =
+      let same : w ≡ why = one site (a ++ more) w why (λ e. let no : w ≡ bad.Memory = e in cc) p.0 u (p.1 more (u.before ++ u.op ∷ u.behind) u.log) in
+      subst (IsUnloaded site (b ++ more)) (sym same) (q.1 more (y.ops ++ too.others) too.log)
+unloaded_read one site a b left s refused more bad.Memory same x y u =
     let too = log_too a b left x.ops y.ops u.0 more x.begins y.begins u.1 in
     (y.ops ++ too.others, too.log)
 
@@ -193,33 +157,33 @@ same_front : (r : ReaderData) (a b : List ℕ) → length a ≡ length b → Awa
 same_front r a b same x y = x.front ∙ ap (λ (n : ℕ). take n header) same ∙ sym y.front
 
 apart_fronts : (r : ReaderData) (a b : List ℕ) → AwaitsHeader r a → HasRead r b → ⊥
-apart_fronts r a b x y = false≢true (sym x.header ∙ y.header)
+apart_fronts r a b x y = false≢true (sym x.unread ∙ y.read)
 
 same_length : (r : ReaderData) (a b : List ℕ) → Keeps r a → Keeps r b → length a ≡ length b
 same_length r a b x y = sym x.fed ∙ y.fed
 
-pub one_loaded_on : (r : ReaderData) (a b more : List ℕ) (s : State) → Keeps r a → Keeps r b → IsLoaded r.site (a ++ more) s → IsLoaded r.site (b ++ more) s
-one_loaded_on r a b more s ka kb l = from r.fault (kept_at r a r.fault refl ka) (kept_at r b r.fault refl kb) where
+pub one_loaded_on : LogsHaveNoFault → OneLoading → (r : ReaderData) (a b more : List ℕ) (s : State) → Keeps r a → Keeps r b → IsLoaded r.site (a ++ more) s → IsLoaded r.site (b ++ more) s
+one_loaded_on none one r a b more s ka kb l = from r.fault (kept_at r a r.fault refl ka) (kept_at r b r.fault refl kb) where
   from : (f : Option LogBad) → KeepsOf r a f → KeepsOf r b f → IsLoaded r.site (b ++ more) s
   from None (inl x) (inl y) = subst (λ (t : List ℕ). IsLoaded r.site (t ++ more) s) (same_front r a b (same_length r a b ka kb) x y) l
   from None (inl x) (inr y) = absurd (apart_fronts r a b x y)
   from None (inr x) (inl y) = absurd (apart_fronts r b a y x)
-  from None (inr x) (inr y) = loaded_read r.site a b r.left r.state r.refused more s x.taken y.taken l
-  from (Some why) f g = absurd (log_no_fault (a ++ more) l.ops why l.log f.0 (f.1 more))
+  from None (inr x) (inr y) = loaded_read one r.site a b r.left r.state r.refused more s x.taken y.taken l
+  from (Some why) f g = absurd (none (a ++ more) l.ops why l.log f.0 (f.1 more))
 
 -- bytes that have a fault are no log, so memory isn't why they are not loaded
-faulty_one : (site : ℕ) (a more : List ℕ) (why w : LogBad) → IsFaultOf a why → IsUnloaded site (a ++ more) w → w ≡ why
-faulty_one site a more why bad.Memory f u = absurd (log_no_fault (a ++ more) u.0 why u.1 f.0 (f.1 more))
-faulty_one site a more why bad.Header f u = one_refusal site (a ++ more) bad.Header why (λ e. let no : bad.Header ≡ bad.Memory = e in cc) f.0 u (unloaded site (a ++ more) why f.0 (f.1 more))
-faulty_one site a more why (bad.Cut o) f u = one_refusal site (a ++ more) (bad.Cut o) why (λ e. let no : bad.Cut o ≡ bad.Memory = e in cc) f.0 u (unloaded site (a ++ more) why f.0 (f.1 more))
-faulty_one site a more why (bad.Bad o c) f u = one_refusal site (a ++ more) (bad.Bad o c) why (λ e. let no : bad.Bad o c ≡ bad.Memory = e in cc) f.0 u (unloaded site (a ++ more) why f.0 (f.1 more))
-faulty_one site a more why (bad.Refused o m v) f u = one_refusal site (a ++ more) (bad.Refused o m v) why (λ e. let no : bad.Refused o m v ≡ bad.Memory = e in cc) f.0 u (unloaded site (a ++ more) why f.0 (f.1 more))
+faulty_one : LogsHaveNoFault → OneRefusal → (site : ℕ) (a more : List ℕ) (why w : LogBad) → IsFaultOf a why → IsUnloaded site (a ++ more) w → w ≡ why
+faulty_one none one site a more why bad.Memory f u = absurd (none (a ++ more) u.0 why u.1 f.0 (f.1 more))
+faulty_one none one site a more why bad.Header f u = one site (a ++ more) bad.Header why (λ e. let no : bad.Header ≡ bad.Memory = e in cc) f.0 u (unloaded site (a ++ more) why f.0 (f.1 more))
+faulty_one none one site a more why (bad.Cut o) f u = one site (a ++ more) (bad.Cut o) why (λ e. let no : bad.Cut o ≡ bad.Memory = e in cc) f.0 u (unloaded site (a ++ more) why f.0 (f.1 more))
+faulty_one none one site a more why (bad.Bad o c) f u = one site (a ++ more) (bad.Bad o c) why (λ e. let no : bad.Bad o c ≡ bad.Memory = e in cc) f.0 u (unloaded site (a ++ more) why f.0 (f.1 more))
+faulty_one none one site a more why (bad.Refused o m v) f u = one site (a ++ more) (bad.Refused o m v) why (λ e. let no : bad.Refused o m v ≡ bad.Memory = e in cc) f.0 u (unloaded site (a ++ more) why f.0 (f.1 more))
 
-pub one_unloaded_on : (r : ReaderData) (a b more : List ℕ) (w : LogBad) → Keeps r a → Keeps r b → IsUnloaded r.site (a ++ more) w → IsUnloaded r.site (b ++ more) w
-one_unloaded_on r a b more w ka kb u = from r.fault (kept_at r a r.fault refl ka) (kept_at r b r.fault refl kb) where
+pub one_unloaded_on : LogsHaveNoFault → OneRefusal → (r : ReaderData) (a b more : List ℕ) (w : LogBad) → Keeps r a → Keeps r b → IsUnloaded r.site (a ++ more) w → IsUnloaded r.site (b ++ more) w
+one_unloaded_on none one r a b more w ka kb u = from r.fault (kept_at r a r.fault refl ka) (kept_at r b r.fault refl kb) where
   from : (f : Option LogBad) → KeepsOf r a f → KeepsOf r b f → IsUnloaded r.site (b ++ more) w
   from None (inl x) (inl y) = subst (λ (t : List ℕ). IsUnloaded r.site (t ++ more) w) (same_front r a b (same_length r a b ka kb) x y) u
   from None (inl x) (inr y) = absurd (apart_fronts r a b x y)
   from None (inr x) (inl y) = absurd (apart_fronts r b a y x)
-  from None (inr x) (inr y) = unloaded_read r.site a b r.left r.state r.refused more w (same_length r a b ka kb) x.taken y.taken u
-  from (Some why) f g = subst (IsUnloaded r.site (b ++ more)) (sym (faulty_one r.site a more why w f u)) (unloaded r.site (b ++ more) why g.0 (g.1 more))
+  from None (inr x) (inr y) = unloaded_read one r.site a b r.left r.state r.refused more w (same_length r a b ka kb) x.taken y.taken u
+  from (Some why) f g = subst (IsUnloaded r.site (b ++ more)) (sym (faulty_one none one r.site a more why w f u)) (unloaded r.site (b ++ more) why g.0 (g.1 more))

@@ -8,15 +8,11 @@ use Rattle.cot_site.specs.States.{State}
 use Rattle.session_log.specs.declared.log_bad.LogBad.{LogBad}
 use Rattle.session_log.specs.declared.log_bad.LogBad.TheVariants as bad
 use Rattle.session_log.specs.Logs.{header, frames}
-use Rattle.context_diff.proofs.CallerLemmas.{contains_none}
-use Rattle.cot_site.specs.Sites.{AllFormed}
 use Rattle.session_log.specs.Loadings.{new_state}
 use Rattle.log_reader.specs.Readers.{AreTakenTo, HasTaken, HasRead, AwaitsHeader, Keeps}
 use Rattle.log_reader.specs.Code.Steps.{header_read, reader_of, Ends}
+use Rattle.log_reader.proofs.Logs.{none_formed}
 use Rattle.log_reader.proofs.Steps.{has_taken_on}
-
-none_formed : AllFormed []
-none_formed o there = absurd (contains_none o there)
 
 -- the bytes so far and the front of the header
 awaited_front : (site before : ℕ) (left : List ℕ) (s : State) (refused : Option LogBad) (all : List ℕ) → before ≡ length all → AwaitsHeader (reader_of site before left s refused None false) all → take (min before (length header)) header ≡ all
@@ -62,7 +58,7 @@ keeps_front site before left s refused all piece rest k goes few = record {
     | inl awaits ↦
         let here = awaited_front site before left s refused all k.fed awaits in
         inl (record {
-          header = unread (before + length piece) few;
+          unread = unread (before + length piece) few;
           few = omega (arith, few, count);
           front = is_front here;
           left = awaits.left;
@@ -117,7 +113,7 @@ ends_one : (site fed : ℕ) (left : List ℕ) (s : State) (refused : Option LogB
 ends_one site fed left s refused all count enough None ends = record {
   live = refl;
   fed = count;
-  kept = inr (record { header = read fed enough; taken = ends.0; needs = ends.1 });
+  kept = inr (record { read = read fed enough; taken = ends.0; needs = ends.1 });
 }
   where
     read : (fed : ℕ) → length header ≤ fed → header_read fed None ≡ true

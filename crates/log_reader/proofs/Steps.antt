@@ -1,15 +1,18 @@
 -- What one step of a reader keeps: a frame that is taken, a piece that follows, a fault and a refusal.
-use Rattle.std.proofs.Common.{◌≡◌, ◌≢◌, ℕ, ◌+◌, ◌<◌, List, [], ◌∷◌, ◌++◌, Err, refl, ap, sym, subst, ◌∙◌, length, append_assoc, append-nil, arith}
+use Rattle.std.proofs.Common.{◌≡◌, ◌≢◌, ℕ, ◌+◌, ◌<◌, ◌≤◌, List, [], ◌∷◌, ◌++◌, Err, refl, ap, sym, subst, ◌∙◌, length, append_assoc, append-nil, arith}
 use Rattle.std.specs.Prelude.{Option, Some, None}
 use Rattle.std.proofs.lemmas.List.{length-append}
 use Rattle.context_diff.specs.Operations.{OpData, IsWellFormed}
 use Rattle.context_diff.specs.Ops.{data_of}
+use Rattle.wire_codec.specs.declared.cause.Cause.{Cause}
 use Rattle.wire_codec.specs.declared.fault.Refused.TheVariants.{Bad}
 use Rattle.wire_codec.specs.Reading.{fault}
+use Rattle.wire_codec.specs.Judging.{judge}
 use Rattle.wire_codec.specs.Spelling.{frame}
 use Rattle.wire_codec.specs.StreamData.{StreamData}
 use Rattle.wire_codec.specs.Streams.{TakesOp}
 use Rattle.wire_codec.proofs.CallerLemmas.{bad_stays}
+use Rattle.wire_codec.proofs.Judgement.{judge_within}
 use Rattle.cot_site.specs.States.{State}
 use Rattle.cot_site.proofs.CallerLemmas.{held_formed}
 use Rattle.session_log.specs.declared.log_bad.LogBad.{LogBad}
@@ -19,10 +22,10 @@ use Rattle.session_log.specs.Logs.{header, frames, BeginsWith, offset_after, IsL
 use Rattle.session_log.specs.Readings.{IsUnread}
 use Rattle.session_log.specs.Loadings.{first_refusal, verdicts_after, taken_in, after_all, new_state, IsUnloaded}
 use Rattle.session_log.specs.Code.Taking.{IsRefusal}
-use Rattle.session_log.proofs.Frames.{frames_push, front}
-use Rattle.session_log.proofs.TakingIn.{after-append, taken-append}
 use Rattle.log_reader.specs.Readers.{IsFaultOf, IsRefusalOf, AreTakenTo, HasTaken, NeedsMore}
-use Rattle.log_reader.specs.Code.Steps.{TakesFrame, Stops, TakesIn}
+use Rattle.log_reader.specs.Code.Steps.{AreBytes, IsCounted, TakesFrame, Stops, TakesIn}
+use Rattle.log_reader.proofs.Fronts.{bytes_after}
+use Rattle.log_reader.proofs.Logs.{frames_push, after-append, taken-append, log_continues}
 
 -- ---- more bytes
 
@@ -76,7 +79,7 @@ refused_next site all left next ops o s at (bad.Refused offset member verdict) b
   apart,
   λ more log is_log.
       let begins = begins_on all next (ops ++ o ∷ []) more (begins_next all left next ops o b is well) in
-      let f = front (all ++ more) log (ops ++ o ∷ []) (next ++ more) is_log begins in
+      let f = log_continues (all ++ more) (ops ++ o ∷ []) log (next ++ more) begins is_log in
       let parts : log ≡ ops ++ o ∷ f.others = f.parts ∙ append_assoc ops (o ∷ []) f.others in
       record {
         before = ops;
@@ -134,3 +137,10 @@ stops_for site all fed old s refused (bad.Bad offset cause) count h (within, jud
 )
 stops_for site all fed old s refused (bad.Refused offset member verdict) count h stops apart = absurd stops
 stops_for site all fed old s refused bad.Memory count h stops apart = absurd (apart refl)
+
+-- a fault is within what is left
+pub within_left : (left : List ℕ) (cause : Cause) (place : ℕ) → AreBytes left → judge left ≡ Err (Bad (fault cause place)) → place ≤ length left
+within_left left cause place fits e = judge_within left (fault cause place) fits e
+
+pub counted_next : (fed : ℕ) (old new : StreamData) (o : OpData) → IsCounted fed old → TakesOp old o new → IsCounted fed new
+counted_next fed old new o counted takes = (omega (arith, counted.0, takes.taken, ap length takes.left, length-append (frame o) new.left), bytes_after (frame o) new.left old.left takes.left counted.1)

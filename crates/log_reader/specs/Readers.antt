@@ -36,13 +36,13 @@ NeedsMore left = (n : ℕ) × (judge left ≡ Err (More n))
 
 -- the header was read, and each whole frame after it
 pub record HasRead (r : ReaderData) (all : List ℕ) : Type 0 where
-  pub header : r.header ≡ true
+  pub read : r.header ≡ true
   pub taken : HasTaken r.site all r.left r.state r.refused
   pub needs : NeedsMore r.left
 
 -- the bytes are the front of the header, and not the whole of it
 pub record AwaitsHeader (r : ReaderData) (all : List ℕ) : Type 0 where
-  pub header : r.header ≡ false
+  pub unread : r.header ≡ false
   pub few : length all < length header
   pub front : all ≡ take (length all) header
   pub left : r.left ≡ []

@@ -8,6 +8,7 @@ ghost use Rattle.log_reader.specs.Code.Steps.{IsCounted, reader_of};
 
 use crate::frames::take_frames;
 use crate::front::after_header;
+use crate::laws::what_is_kept_decides;
 use crate::taking::Taking;
 use cot_site::Site;
 use op_name::{Memory, SITES};
@@ -77,6 +78,7 @@ impl LogReader {
         ensures spent { OnErr result (self.new.spent ≡ true) }
         ensures stays { self.old.spent ≡ true → IsErr result }
     {
+        what_is_kept_decides();
         let before = self.fed;
         self.fed += piece.len() as u32;
         if self.spent {
@@ -114,25 +116,28 @@ impl LogReader {
         ensures memory { (all : List ℕ) → Keeps self all → result ≢ Err LogBad.Memory }
         ensures spent { self.spent ≡ true → result ≡ Err LogBad.Memory }
     {
-        if self.spent {
+        let LogReader {
+            fed,
+            frames,
+            taking,
+            fault,
+            spent,
+            ..
+        } = self;
+        if spent {
             return Err(LogBad::Memory);
         }
-        if let Some(why) = self.fault {
+        if let Some(why) = fault {
             return Err(why);
         }
-        if self.fed < HEADER.len() as u32 {
+        if fed < HEADER.len() as u32 {
             return Err(LogBad::Header);
         }
-        let rest = self.frames.rest();
+        let rest = frames.rest();
         if rest > 0 {
-            return Err(LogBad::Cut {
-                offset: self.fed - rest,
-            });
+            return Err(LogBad::Cut { offset: fed - rest });
         }
-        match self.taking.refused {
-            Some(why) => Err(why),
-            None => Ok(self.taking.site),
-        }
+        taking.finish()
     }
 }
 

@@ -5,11 +5,11 @@ use Rattle.log_reader.specs.Code.Steps.{IsCounted}
 use Rattle.log_reader.proofs.frames.take_frames.Given as goal
 
 -- the bytes are counted, and the frames so far were taken
-abbrev pub invariant-loop : goal.invariant-loop
-invariant-loop l =
+abbrev pub invariant-loop-placed : goal.invariant-loop-placed
+invariant-loop-placed l =
     IsCounted l.fed l.frames
     × ((site : ℕ) (all : List ℕ) → l.fed ≡ length all → HasTaken site all l.fn.frames.left (state_of l.fn.taking.site) l.fn.taking.refused
     → HasTaken site all l.frames.left (state_of l.taking.site) l.taking.refused)
 
-abbrev pub decreases-loop : goal.decreases-loop
-decreases-loop l = length l.frames.left
+abbrev pub decreases-loop-placed : goal.decreases-loop-placed
+decreases-loop-placed l = length l.frames.left
