@@ -45,6 +45,10 @@ would_go_on come h piece front rest parts short more after e =
     let split : front ++ (rest ++ more) ≡ w ++ after = sym (append_assoc front rest more) ∙ ap (λ (t : List ℕ). t ++ more) (sym parts) ∙ both in
     sym (take-append-le (length front) w after short) ∙ ap (take (length front)) (sym split) ∙ take_at front (rest ++ more) (length front) refl
 
+-- what was split is the two parts
+pub parts_of : (k : ℕ) (piece front rest : List ℕ) → front ≡ take k piece → rest ≡ drop k piece → piece ≡ front ++ rest
+parts_of k piece front rest is_front is_rest = sym (take-append-drop k piece) ∙ ap (λ (t : List ℕ). t ++ drop k piece) (sym is_front) ∙ ap (λ (t : List ℕ). front ++ t) (sym is_rest)
+
 -- ---- bytes
 
 pub bytes_append : (a b : List ℕ) → AreBytes a → AreBytes b → AreBytes (a ++ b)

@@ -1,11 +1,12 @@
 -- What loading gives when bytes follow what a reader keeps.
-use Rattle.std.proofs.Common.{◌≡◌, ℕ, ◌+◌, List, [], ◌++◌, Result, Ok, Err, refl, ap, sym, subst, ◌∙◌, length, append_assoc, append-nil, arith}
-use Rattle.std.specs.Prelude.{IfOk, IfErr, OnOk}
+use Rattle.std.proofs.Common.{◌≡◌, ℕ, ◌+◌, List, [], ◌++◌, Result, Ok, Err, refl, ap, sym, subst, ◌∙◌, length, append_assoc, append-nil, arith, inl}
+use Rattle.std.specs.Prelude.{Option, None, false}
 use Rattle.std.proofs.lemmas.List.{length-append, nil_from_length}
 use Rattle.cot_site.specs.States.{State}
 use Rattle.session_log.specs.declared.log_bad.LogBad.{LogBad}
-use Rattle.session_log.specs.Loadings.{IsLoaded, IsUnloaded}
+use Rattle.session_log.specs.Loadings.{new_state, IsLoaded, IsUnloaded}
 use Rattle.log_reader.specs.ReaderData.{ReaderData}
+use Rattle.log_reader.specs.Code.Steps.{reader_of}
 use Rattle.log_reader.specs.Readers.{Keeps, KeepsSome, GoesOn, Begins, IsLoadedOn, IsUnloadedOn, OneLoadOn}
 
 -- of a new reader no byte was fed
@@ -23,6 +24,13 @@ begins site r is k = record {
     (λ u. record { all = []; keeps = k; unloaded = subst (λ (n : ℕ). IsUnloaded n bytes why) (sym is) u }),
   );
 }
+
+pub new_begins : (site : ℕ) (left : List ℕ) (s : State) (refused : Option LogBad) → left ≡ [] → s ≡ new_state site → refused ≡ None → Begins site (reader_of site 0 left s refused None false)
+new_begins site left s refused none new accepted = begins site (reader_of site 0 left s refused None false) refl (record {
+  live = refl;
+  fed = refl;
+  kept = inl (record { unread = refl; few = omega arith; front = refl; left = none; state = new; accepted = accepted });
+})
 
 -- a piece was fed, and what is kept of all bytes is kept
 pub goes_on_by : OneLoadOn → (old new : ReaderData) (piece : List ℕ) → new.site ≡ old.site → ((all : List ℕ) → Keeps old all → Keeps new (all ++ piece)) → KeepsSome old → GoesOn old piece new

@@ -86,6 +86,7 @@ log_too a b left fs gs ops more u v log =
 
 loaded_read : OneLoading → (site : ℕ) (a b left : List ℕ) (s : State) (refused : Option LogBad) (more : List ℕ) (t : State) → HasTaken site a left s refused → HasTaken site b left s refused → IsLoaded site (a ++ more) t → IsLoaded site (b ++ more) t
 loaded_read one site a b left s refused more t x y l = from refused x.taken y.taken where
+  too : IsLogToo b x.ops y.ops l.ops more
   too = log_too a b left x.ops y.ops l.ops more x.begins y.begins l.log
 
   from : (r : Option LogBad) → AreTakenTo site a x.ops s r → AreTakenTo site b y.ops s r → IsLoaded site (b ++ more) t
@@ -102,7 +103,7 @@ loaded_read one site a b left s refused more t x y l = from refused x.taken y.ta
   from (Some why) p q = absurd ((one site (a ++ more) t l).1 why p.0 (p.1 more l.ops l.log))
 
 -- why the one isn't loaded is why the other isn't
-unloaded_read : OneLoading → (site : ℕ) (a b left : List ℕ) (s : State) (refused : Option LogBad) (more : List ℕ) (w : LogBad) → length a ≡ length b → HasTaken site a left s refused → HasTaken site b left s refused → IsUnloaded site (a ++ more) w → IsUnloaded site (b ++ more) w
+unloaded_read : OneRefusal → (site : ℕ) (a b left : List ℕ) (s : State) (refused : Option LogBad) (more : List ℕ) (w : LogBad) → length a ≡ length b → HasTaken site a left s refused → HasTaken site b left s refused → IsUnloaded site (a ++ more) w → IsUnloaded site (b ++ more) w
 unloaded_read one site a b left s refused more bad.Header same x y u = absurd (u (frames x.ops ++ (left ++ more)) (begins_on a left x.ops more x.begins).parts)
 unloaded_read one site a b left s refused more (bad.Cut offset) same x y u =
     let c = continues (a ++ more) x.ops u.before (left ++ more) u.rest (More u.needed) (begins_on a left x.ops more x.begins) u.begins u.judged in
@@ -126,6 +127,7 @@ unloaded_read one site a b left s refused more (bad.Bad offset cause) same x y u
       place = u.place ∙ ap (λ (n : ℕ). n + u.within) (ap offset_after c.parts ∙ same_offset a b left x.ops y.ops c.others same x.begins y.begins);
     }
 unloaded_read one site a b left s refused more (bad.Refused offset member verdict) same x y u = from refused x.taken y.taken where
+  too : IsLogToo b x.ops y.ops (u.before ++ u.op ∷ u.behind) more
   too = log_too a b left x.ops y.ops (u.before ++ u.op ∷ u.behind) more x.begins y.begins u.log
 
   from : (r : Option LogBad) → AreTakenTo site a x.ops s r → AreTakenTo site b y.ops s r → IsUnloaded site (b ++ more) (bad.Refused offset member verdict)

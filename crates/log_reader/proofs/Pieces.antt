@@ -4,13 +4,16 @@ use Rattle.std.specs.Prelude.{Option, Some, None, Ok, Err, IfOk, true, false, mi
 use Rattle.std.proofs.lemmas.Bool.{le-leb, lt-leb}
 use Rattle.std.proofs.lemmas.List.{length-append, length-take-le, nil_from_length, take_all, append_cancel_left}
 use Rattle.op_name.specs.declared.memory.Memory.{Memory}
+use Rattle.wire_codec.specs.StreamData.{StreamData}
+use Rattle.wire_codec.specs.Streams.{Feeds}
 use Rattle.cot_site.specs.States.{State}
 use Rattle.session_log.specs.declared.log_bad.LogBad.{LogBad}
 use Rattle.session_log.specs.declared.log_bad.LogBad.TheVariants as bad
 use Rattle.session_log.specs.Logs.{header, frames}
 use Rattle.session_log.specs.Loadings.{new_state}
 use Rattle.log_reader.specs.Readers.{AreTakenTo, HasTaken, HasRead, AwaitsHeader, Keeps}
-use Rattle.log_reader.specs.Code.Steps.{header_read, reader_of, Ends}
+use Rattle.log_reader.specs.Code.Steps.{AreBytes, IsCounted, header_read, reader_of, Ends}
+use Rattle.log_reader.proofs.Fronts.{bytes_append}
 use Rattle.log_reader.proofs.Logs.{none_formed}
 use Rattle.log_reader.proofs.Steps.{has_taken_on}
 
@@ -124,3 +127,15 @@ pub ends_keep : (site fed : ℕ) (left : List ℕ) (s : State) (refused : Option
     → IfOk r (Ends site all left s refused) → IfOk r (λ why. Keeps (reader_of site fed left s refused why false) all)
 ends_keep site fed left s refused all (Ok why) count enough ends = ends_one site fed left s refused all count enough why ends
 ends_keep site fed left s refused all (Err e) count enough ends = tt
+
+-- the bytes of the piece after the header are counted
+pub counted_on : (before : ℕ) (old new : StreamData) (piece rest : List ℕ) → IsCounted before old → AreBytes rest → Feeds old rest new
+    → take (min before (length header)) header ++ piece ≡ take (min before (length header) + length piece) header ++ rest
+    → length header ≤ before + length piece
+    → IsCounted (before + length piece) new
+counted_on before old new piece rest counted fits feeds goes enough =
+    let come = min before (length header) in
+    let all_come : take (come + length piece) header ≡ header = take_all (come + length piece) header (omega (arith, enough)) in
+    let long : come + length piece ≡ length header + length rest =
+    omega (arith, ap length goes, length-append (take come header) piece, length-take-le come header (omega arith), length-append (take (come + length piece) header) rest, ap length all_come) in
+    (omega (arith, counted.0, feeds.taken, ap length feeds.left, length-append old.left rest, long, enough), subst AreBytes (sym feeds.left) (bytes_append old.left rest counted.1 fits))

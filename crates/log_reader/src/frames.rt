@@ -29,8 +29,8 @@ pub(crate) fn take_frames(
         match next(frames, fed) {
             Ok(Some(placed)) => taking.take(placed)?,
             Ok(None) => return Ok(None),
-            Err(LogBad::Memory) => return Err(Memory),
-            Err(why) => return Ok(Some(why)),
+            Err(LogBad::Bad { offset, cause }) => return Ok(Some(LogBad::Bad { offset, cause })),
+            Err(_) => return Err(Memory),
         }
     }
 }

@@ -4,7 +4,7 @@ ghost use Rattle.std.specs.Prelude.{◌≡◌, ◌≢◌, ◌+◌, ◌<◌, ◌�
 ghost use Rattle.cot_site.specs.Sites.{state_of};
 ghost use Rattle.session_log.specs.Loadings.{IsLoaded, IsUnloaded};
 ghost use Rattle.log_reader.specs.Readers.{Keeps, KeepsSome, Begins, GoesOn, IsLoadedOn, IsUnloadedOn};
-ghost use Rattle.log_reader.specs.Code.Steps.{IsCounted, reader_of};
+ghost use Rattle.log_reader.specs.Code.Steps.{IsCounted, end_fault, reader_of};
 
 use crate::frames::take_frames;
 use crate::front::after_header;
@@ -124,21 +124,28 @@ impl LogReader {
             spent,
             ..
         } = self;
-        if spent {
-            return Err(LogBad::Memory);
-        }
-        if let Some(why) = fault {
-            return Err(why);
-        }
-        if fed < HEADER.len() as u32 {
-            return Err(LogBad::Header);
-        }
-        let rest = frames.rest();
-        if rest > 0 {
-            return Err(LogBad::Cut { offset: fed - rest });
-        }
-        taking.finish()
+        taking.finish(fault_at_end(spent, fault, fed, frames.rest()))
     }
+}
+
+// Why bytes are no log that end where so many were fed, of which so many are left after the header; or that memory ran out.
+fn fault_at_end(spent: bool, fault: Option<LogBad>, fed: u32, rest: u32) -> Option<LogBad>
+    requires { spent ≡ false → fault ≡ None → rest ≤ fed }
+    ensures { result ≡ end_fault spent fault fed rest }
+{
+    if spent {
+        return Some(LogBad::Memory);
+    }
+    if fault.is_some() {
+        return fault;
+    }
+    if fed < HEADER.len() as u32 {
+        return Some(LogBad::Header);
+    }
+    if rest > 0 {
+        return Some(LogBad::Cut { offset: fed - rest });
+    }
+    None
 }
 
 // Reads on where so many bytes were fed before, which have no fault: takes in the operations of whole frames, and answers

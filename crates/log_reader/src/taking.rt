@@ -1,6 +1,6 @@
 //! A site that takes in the operations of a log as they come.
 
-ghost use Rattle.std.specs.Prelude.{◌≡◌, ◌<◌, Some, None, OnOk, IfOk, IfErr};
+ghost use Rattle.std.specs.Prelude.{◌≡◌, ◌⊎◌, ◌<◌, Some, None, OnOk, IfOk, IfErr};
 ghost use Rattle.context_diff.specs.Operations.{IsWellFormed};
 ghost use Rattle.context_diff.specs.Ops.{data_of};
 ghost use Rattle.cot_site.specs.Sites.{state_of};
@@ -54,13 +54,13 @@ impl Taking {
         }
     }
 
-    /// The site, or the first refusal.
-    pub(crate) fn finish(self) -> Result<Site, LogBad>
-        ensures refused { IfErr result (λ why. self.refused ≡ Some why) }
-        ensures accepted { IfOk result (λ s. (self.refused ≡ None) × (s ≡ self.site)) }
+    /// The site, unless the log has this fault, or an operation was refused.
+    pub(crate) fn finish(self, fault: Option<LogBad>) -> Result<Site, LogBad>
+        ensures refused { IfErr result (λ why. (fault ≡ Some why) ⊎ ((fault ≡ None) × (self.refused ≡ Some why))) }
+        ensures accepted { IfOk result (λ s. (fault ≡ None) × (self.refused ≡ None) × (s ≡ self.site)) }
     {
         let Taking { site, refused, .. } = self;
-        match refused {
+        match fault.or(refused) {
             Some(why) => Err(why),
             None => Ok(site),
         }

@@ -1,5 +1,5 @@
 -- The steps of a reader: over the header, over one frame, and taking in its operation.
-use Rattle.std.specs.Prelude.{◌≡◌, ◌≢◌, ℕ, ◌+◌, ◌-◌, ◌<◌, Bool, false, true, List, [], ◌++◌, Option, Some, None, Err, length, nat_le, slice_index_or}
+use Rattle.std.specs.Prelude.{◌≡◌, ◌≢◌, ℕ, ◌+◌, ◌-◌, ◌<◌, Bool, false, true, List, [], ◌++◌, Option, Some, None, Err, length, nat_le, nat_lt, if◌then◌else◌, slice_index_or}
 use Rattle.context_diff.specs.Operations.{OpData}
 use Rattle.context_diff.specs.Ops.{data_of}
 use Rattle.wire_codec.specs.declared.fault.Refused.TheVariants.{Bad}
@@ -46,6 +46,13 @@ AreBytes bytes = (i : ℕ) → slice_index_or bytes i 0 < 256
 -- of the bytes fed, those after the header were taken, or are left
 abbrev pub IsCounted : ℕ → StreamData → Type 0
 IsCounted fed s = (s.taken + length s.left ≡ fed - length header) × AreBytes s.left
+
+-- why the log ends where so many bytes were fed, and so many are left: out of memory, the first fault, no whole header, a
+-- frame that is cut; none of these at the end of a log
+abbrev pub end_fault : Bool → Option LogBad → ℕ → ℕ → Option LogBad
+end_fault true why fed rest = Some bad.Memory
+end_fault false (Some why) fed rest = Some why
+end_fault false None fed rest = if nat_lt fed (length header) then Some bad.Header else if nat_lt 0 rest then Some (bad.Cut (fed - rest)) else None
 
 -- a frame was taken, which begins at the place of its operation; without one, more bytes are needed to tell
 abbrev pub TakesFrame : ℕ → StreamData → Option Placed → StreamData → Type 0

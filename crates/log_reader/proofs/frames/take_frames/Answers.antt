@@ -1,0 +1,23 @@
+use Rattle.std.proofs.Common.{◌≡◌, ◌≢◌, ℕ, List, length, subst}
+use Rattle.std.specs.Prelude.{Option}
+use Rattle.context_diff.specs.Ops.{data_of}
+use Rattle.cot_site.specs.Sites.{state_of}
+use Rattle.session_log.specs.declared.placed.Placed.{Placed}
+use Rattle.session_log.specs.declared.log_bad.LogBad.{LogBad}
+use Rattle.session_log.specs.declared.log_bad.LogBad.TheVariants as bad
+use Rattle.log_reader.specs.Code.Steps.{TakesFrame, Stops}
+use Rattle.log_reader.proofs.Steps.{steps, stops_for, fewer}
+use Rattle.log_reader.proofs.frames.take_frames.Goals as goal
+
+pub loop-placed-preserved : goal.loop-placed-preserved
+loop-placed-preserved c =
+    let old = c.loop-placed.frames in
+    let new = c.next.new.frames in
+    let takes = subst (λ (p : Option Placed). TakesFrame c.args.fed old p new) c.in-Ok-Some.field-0-is c.in-Ok-Some.ensures.takes in (
+      c.in-Ok-Some.ensures.counted,
+      λ site all count h. steps site all c.args.fed old new c.in-Ok-Some.placed (state_of c.loop-placed.taking.site) (state_of c.take.new.self.site) c.loop-placed.taking.refused c.take.new.self.refused
+          count (c.loop-placed.invariant.1 site all count h) takes c.in_ok-take-in-Ok-Some.ensures,
+    )
+
+pub returns-in-Err-Bad : goal.returns-in-Err-Bad
+returns-in-Err-Bad c = ?
