@@ -8,19 +8,18 @@ use Rattle.wire_codec.specs.Streams.{IsAnswer, TakesAnswer}
 use Rattle.log_reader.specs.Code.Steps.{IsCounted}
 use Rattle.log_reader.proofs.Steps.{within_left, counted_next}
 use Rattle.log_reader.proofs.frames.next.Goals as goal
-use Rattle.log_reader.proofs.frames.next.Goals.{In-Err-Bad}
-
--- the fault's offset is within the bytes fed
-within : (c : In-Err-Bad) → c.in-Err-Bad.offset ≤ c.args.frames.now.taken + length c.args.frames.now.left
-within c =
-    let is = subst (λ (e : StreamBad). IsAnswer c.args.frames.now.taken (Err e) (judge c.args.frames.now.left)) c.in-Err-Bad.field-0-is c.in-Err-Bad.ensures.exact in
-    omega (arith, is.2, within_left c.args.frames.now.left c.in-Err-Bad.cause is.0 c.requires.counted.1 is.1)
 
 pub overflow_cast-result-in-Err-Bad : goal.overflow_cast-result-in-Err-Bad
-overflow_cast-result-in-Err-Bad c = omega (arith, within c, c.requires.counted.0, c.requires.limit)
+overflow_cast-result-in-Err-Bad c =
+    let old = c.args.frames.now in
+    let is = subst (λ (e : StreamBad). IsAnswer old.taken (Err e) (judge old.left)) c.in-Err-Bad.field-0-is c.in-Err-Bad.ensures.exact in
+    omega (arith, is.2, within_left old.left c.in-Err-Bad.cause is.0 c.requires.counted.1 is.1, c.requires.counted.0, c.requires.limit)
 
 pub overflow_add-result : goal.overflow_add-result
-overflow_add-result c = omega (arith, within c, c.requires.counted.0, c.requires.limit)
+overflow_add-result c =
+    let old = c.args.frames.now in
+    let is = subst (λ (e : StreamBad). IsAnswer old.taken (Err e) (judge old.left)) c.in-Err-Bad.field-0-is c.in-Err-Bad.ensures.exact in
+    omega (arith, is.2, within_left old.left c.in-Err-Bad.cause is.0 c.requires.counted.1 is.1, c.requires.counted.0, c.requires.limit)
 
 pub returns-in-Ok-Some-clause-counted : goal.returns-in-Ok-Some-clause-counted
 returns-in-Ok-Some-clause-counted c =

@@ -1,12 +1,11 @@
-use Rattle.std.proofs.Common.{◌≡◌, ◌≢◌, ℕ, List, length, subst}
+use Rattle.std.proofs.Common.{◌≡◌, ℕ, List, length, subst}
 use Rattle.std.specs.Prelude.{Option}
 use Rattle.context_diff.specs.Ops.{data_of}
 use Rattle.cot_site.specs.Sites.{state_of}
 use Rattle.session_log.specs.declared.placed.Placed.{Placed}
-use Rattle.session_log.specs.declared.log_bad.LogBad.{LogBad}
 use Rattle.session_log.specs.declared.log_bad.LogBad.TheVariants as bad
 use Rattle.log_reader.specs.Code.Steps.{TakesFrame, Stops}
-use Rattle.log_reader.proofs.Steps.{steps, stops_for, fewer}
+use Rattle.log_reader.proofs.Steps.{steps, stops_for}
 use Rattle.log_reader.proofs.frames.take_frames.Goals as goal
 
 pub loop-placed-preserved : goal.loop-placed-preserved
@@ -20,4 +19,12 @@ loop-placed-preserved c =
     )
 
 pub returns-in-Err-Bad : goal.returns-in-Err-Bad
-returns-in-Err-Bad c = ?
+returns-in-Err-Bad c =
+    let why = bad.Bad c.in-Err-Bad.offset c.in-Err-Bad.cause in
+    let s = state_of c.loop-placed.taking.site in
+    let stops = subst (Stops c.args.fed c.loop-placed.frames) c.in-Err-Bad.field-0-is c.in-Err-Bad.ensures.stops in
+    record {
+      ends = λ site all count h.
+          stops_for site all c.args.fed c.loop-placed.frames s c.loop-placed.taking.refused why count (c.loop-placed.invariant.1 site all count h) stops (λ e. let no : why ≡ bad.Memory = e in cc);
+      counted = c.in-Err-Bad.ensures.counted;
+    }

@@ -1,6 +1,5 @@
 use Rattle.std.proofs.Common.{◌≡◌, ◌≢◌, ℕ, ◌+◌, ◌≤◌, List, ◌++◌, refl, ap, sym, subst, ◌∙◌, length, take}
 use Rattle.std.specs.Prelude.{min}
-use Rattle.std.proofs.lemmas.Bool.{ltb-false}
 use Rattle.std.proofs.lemmas.List.{length-append}
 use Rattle.cot_site.specs.Sites.{state_of}
 use Rattle.session_log.specs.Logs.{header}
@@ -13,7 +12,7 @@ take_frames-requires-clause-counted c =
     let piece = c.args.piece.now in
     let rest = c.in-Some.field-0.now in
     let goes = subst (λ (n : ℕ). take n header ++ piece ≡ take (n + length piece) header ++ rest) c.min.ensures c.in-Some.ensures.some in
-    counted_on c.args.before c.args.frames.now c.feed.new.self piece rest c.requires.counted c.in-Some.ensures.bytes c.in_ok-feed-in-Some-2.ensures.ok goes (ltb-false _ _ c.if-fed.false)
+    counted_on c.args.before c.args.frames.now c.feed.new.self piece rest c.requires.counted c.in-Some.ensures.bytes c.in_ok-feed-in-Some-2.ensures.ok goes c.if-fed.false
 
 pub returns-in-None-clause-keeps : goal.returns-in-None-clause-keeps
 returns-in-None-clause-keeps c = λ site all k.
@@ -27,7 +26,7 @@ returns-in_ok-feed-in-Some-2-clause-keeps c = λ site all k.
     let rest = c.in-Some.field-0.now in
     let taking = c.args.taking.now in
     let goes = subst (λ (n : ℕ). take n header ++ piece ≡ take (n + length piece) header ++ rest) c.min.ensures c.in-Some.ensures.some in
-    let enough = ltb-false _ _ c.if-fed.false in
+    let enough = c.if-fed.false in
     let count : c.args.before + length piece ≡ length (all ++ piece) = ap (λ (n : ℕ). n + length piece) k.fed ∙ sym (length-append all piece) in
     let has : HasTaken site (all ++ piece) c.feed.new.self.left (state_of taking.site) taking.refused =
     subst (λ (t : List ℕ). HasTaken site (all ++ piece) t (state_of taking.site) taking.refused) (sym c.in_ok-feed-in-Some-2.ensures.ok.left)

@@ -1,4 +1,4 @@
-use Rattle.std.proofs.Common.{◌≡◌, ◌×◌, ap, List, ℕ, []}
+use Rattle.std.proofs.Common.{◌≡◌, ap, List, ℕ, []}
 use Rattle.std.specs.Prelude.{Option, Some, None, ◌⊎◌, IfOk, IfErr}
 use Rattle.std.proofs.lemmas.Result.{IfOk-weaker, IfErr-weaker}
 use Rattle.cot_site.specs.Sites.{SiteData, state_of}
