@@ -1,15 +1,14 @@
 -- The end of a log: why there is no site, or that there is.
-use Rattle.std.proofs.Common.{◌≡◌, ◌≢◌, ℕ, ◌+◌, ◌-◌, ◌<◌, ◌≤◌, List, [], ◌∷◌, ◌++◌, ◌⊎◌, inl, inr, Bool, cond, ltb, refl, ap, sym, subst, ◌∙◌, length, take, append-nil, arith}
+use Rattle.std.proofs.Common.{◌≡◌, ◌≢◌, ℕ, ◌+◌, ◌-◌, ◌<◌, ◌≤◌, List, [], ◌++◌, ◌⊎◌, inl, inr, Bool, cond, ltb, refl, ap, sym, subst, ◌∙◌, length, append-nil, arith}
 use Rattle.std.specs.Option.{is_some}
 use Rattle.std.specs.Prelude.{Option, Some, None, true, false}
 use Rattle.std.proofs.lemmas.Bool.{ltb-true, ltb-false, true≢false, false≢true}
-use Rattle.std.proofs.lemmas.List.{length-append, nil_from_length, take-append-le}
+use Rattle.std.proofs.lemmas.List.{length-append, nil_from_length}
 use Rattle.std.proofs.lemmas.Option.{none-some}
-use Rattle.context_diff.specs.Operations.{OpData}
 use Rattle.cot_site.specs.States.{State}
 use Rattle.session_log.specs.declared.log_bad.LogBad.{LogBad}
 use Rattle.session_log.specs.declared.log_bad.LogBad.TheVariants as bad
-use Rattle.session_log.specs.Logs.{header, frames, BeginsWith, IsLogOf}
+use Rattle.session_log.specs.Logs.{header, BeginsWith, IsLogOf}
 use Rattle.session_log.specs.Readings.{IsUnread}
 use Rattle.session_log.specs.Loadings.{IsLoaded, IsUnloaded}
 use Rattle.log_reader.specs.ReaderData.{ReaderData}

@@ -1,7 +1,7 @@
 -- The operations of a log, one after the other, and what may come after them.
-use Rattle.std.proofs.Common.{◌≡◌, ℕ, ◌+◌, List, [], ◌∷◌, ◌++◌, Result, Ok, Err, refl, ap, sym, subst, ◌∙◌, length, append_assoc, append-nil, arith, inl, inr}
+use Rattle.std.proofs.Common.{◌≡◌, ℕ, List, [], ◌∷◌, ◌++◌, Result, Ok, Err, refl, ap, sym, ◌∙◌, length, append_assoc, append-nil, inl, inr}
 use Rattle.std.proofs.lemmas.Grind.{flat_map-append}
-use Rattle.std.proofs.lemmas.List.{length-append, append_cancel_left}
+use Rattle.std.proofs.lemmas.List.{append_cancel_left}
 use Rattle.std.proofs.lemmas.List.Elements.{Contains-append_cases}
 use Rattle.context_diff.specs.Operations.{OpData, IsWellFormed}
 use Rattle.context_diff.proofs.CallerLemmas.{contains_here, contains_later, contains_none}
@@ -12,7 +12,7 @@ use Rattle.wire_codec.specs.Judging.{judge}
 use Rattle.wire_codec.proofs.CallerLemmas.{frame_once, judge_again}
 use Rattle.cot_site.specs.Sites.{AllFormed}
 use Rattle.cot_site.specs.States.{State}
-use Rattle.session_log.specs.Logs.{header, frames, BeginsWith, offset_after, IsLogOf}
+use Rattle.session_log.specs.Logs.{header, frames, BeginsWith, IsLogOf}
 use Rattle.session_log.specs.Loadings.{taken_in, after_all, AreTakenIn}
 
 -- ---- lists of operations

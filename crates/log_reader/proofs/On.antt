@@ -1,7 +1,7 @@
 -- What loading gives when bytes follow what a reader keeps.
-use Rattle.std.proofs.Common.{◌≡◌, ℕ, ◌+◌, List, [], ◌++◌, Result, Ok, Err, refl, ap, sym, subst, ◌∙◌, length, append_assoc, append-nil, arith, inl}
+use Rattle.std.proofs.Common.{◌≡◌, ℕ, List, [], ◌++◌, refl, sym, subst, ◌∙◌, append_assoc, append-nil, arith, inl}
 use Rattle.std.specs.Prelude.{Option, None, false}
-use Rattle.std.proofs.lemmas.List.{length-append, nil_from_length}
+use Rattle.std.proofs.lemmas.List.{nil_from_length}
 use Rattle.cot_site.specs.States.{State}
 use Rattle.session_log.specs.declared.log_bad.LogBad.{LogBad}
 use Rattle.session_log.specs.Loadings.{new_state, IsLoaded, IsUnloaded}

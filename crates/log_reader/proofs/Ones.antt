@@ -1,28 +1,21 @@
 -- What a reader keeps decides what loading gives: any bytes of which it keeps that give the same, whatever follows.
-use Rattle.std.proofs.Common.{◌≡◌, ◌≢◌, ℕ, ◌+◌, List, [], ◌∷◌, ◌++◌, ◌⊎◌, inl, inr, Err, refl, ap, sym, subst, ◌∙◌, length, take, append_assoc, append-nil, arith}
-use Rattle.std.specs.Prelude.{Option, Some, None, true, false}
+use Rattle.std.proofs.Common.{◌≡◌, ℕ, ◌+◌, List, [], ◌∷◌, ◌++◌, inl, inr, refl, ap, sym, subst, ◌∙◌, length, take, append_assoc, arith}
+use Rattle.std.specs.Prelude.{Option, Some, None}
 use Rattle.std.proofs.lemmas.Bool.{false≢true}
 use Rattle.std.proofs.lemmas.Grind.{flat_map-append}
-use Rattle.std.proofs.lemmas.List.{length-append, append_cancel_left}
-use Rattle.std.proofs.lemmas.List.Elements.{Contains-append_cases}
+use Rattle.std.proofs.lemmas.List.{length-append}
 use Rattle.std.proofs.lemmas.Option.{none-some}
 use Rattle.context_diff.specs.Operations.{OpData}
-use Rattle.context_diff.proofs.CallerLemmas.{contains_here, contains_later}
-use Rattle.wire_codec.specs.declared.fault.Refused.{Refused}
 use Rattle.wire_codec.specs.declared.fault.Refused.TheVariants.{More, Bad}
 use Rattle.wire_codec.specs.Reading.{fault}
 use Rattle.wire_codec.specs.Spelling.{frame}
-use Rattle.wire_codec.specs.Judging.{judge}
-use Rattle.wire_codec.proofs.CallerLemmas.{frame_once}
-use Rattle.cot_site.specs.Sites.{AllFormed}
 use Rattle.cot_site.specs.States.{State}
 use Rattle.cot_site.specs.declared.release.Release.{Release}
 use Rattle.session_log.specs.declared.log_bad.LogBad.{LogBad}
 use Rattle.session_log.specs.declared.log_bad.LogBad.TheVariants as bad
 use Rattle.session_log.specs.Logs.{header, frames, BeginsWith, offset_after, IsLogOf}
-use Rattle.session_log.specs.Readings.{IsUnread, IsCutAt, IsFaultyAt}
 use Rattle.session_log.specs.Laws.{LogsHaveNoFault, OneRefusal, OneLoading}
-use Rattle.session_log.specs.Loadings.{first_refusal, verdicts_after, taken_in, after_all, AreTakenIn, new_state, IsLoaded, IsUnloaded, IsRefusedAt}
+use Rattle.session_log.specs.Loadings.{first_refusal, verdicts_after, taken_in, after_all, AreTakenIn, new_state, IsLoaded, IsUnloaded}
 use Rattle.log_reader.specs.ReaderData.{ReaderData}
 use Rattle.log_reader.specs.Readers.{IsFaultOf, AreTakenTo, HasTaken, HasRead, AwaitsHeader, KeepsOf, Keeps}
 use Rattle.log_reader.proofs.Logs.{formed_back, formed_append, after-append, taken-append, taken_back, continues, log_continues}

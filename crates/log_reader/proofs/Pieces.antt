@@ -1,6 +1,6 @@
 -- What a reader keeps after a piece: of the header alone, of the frames after it, or of a fault.
-use Rattle.std.proofs.Common.{◌≡◌, ◌≢◌, ℕ, ◌+◌, ◌-◌, ◌<◌, ◌≤◌, List, [], ◌∷◌, ◌++◌, ◌⊎◌, inl, inr, Result, refl, ap, sym, subst, ◌∙◌, length, take, append_assoc, append-nil, arith}
-use Rattle.std.specs.Prelude.{Option, Some, None, Ok, Err, IfOk, true, false, min, nat_le}
+use Rattle.std.proofs.Common.{◌≡◌, ◌≢◌, ℕ, ◌+◌, ◌<◌, ◌≤◌, List, [], ◌++◌, inl, inr, Result, refl, ap, sym, subst, ◌∙◌, length, take, append-nil, arith}
+use Rattle.std.specs.Prelude.{Option, Some, None, Ok, Err, IfOk, true, false, min}
 use Rattle.std.proofs.lemmas.Bool.{le-leb, lt-leb}
 use Rattle.std.proofs.lemmas.List.{length-append, length-take-le, nil_from_length, take_all, append_cancel_left}
 use Rattle.op_name.specs.declared.memory.Memory.{Memory}

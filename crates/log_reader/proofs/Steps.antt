@@ -1,5 +1,5 @@
 -- What one step of a reader keeps: a frame that is taken, a piece that follows, a fault and a refusal.
-use Rattle.std.proofs.Common.{◌≡◌, ◌≢◌, ℕ, ◌+◌, ◌<◌, ◌≤◌, List, [], ◌∷◌, ◌++◌, Err, refl, ap, sym, subst, ◌∙◌, length, append_assoc, append-nil, arith}
+use Rattle.std.proofs.Common.{◌≡◌, ◌≢◌, ℕ, ◌+◌, ◌<◌, ◌≤◌, List, [], ◌∷◌, ◌++◌, Err, refl, ap, sym, subst, ◌∙◌, length, append_assoc, arith}
 use Rattle.std.specs.Prelude.{Option, Some, None}
 use Rattle.std.proofs.lemmas.List.{length-append}
 use Rattle.context_diff.specs.Operations.{OpData, IsWellFormed}
@@ -20,9 +20,9 @@ use Rattle.session_log.specs.declared.log_bad.LogBad.TheVariants as bad
 use Rattle.session_log.specs.declared.placed.Placed.{Placed}
 use Rattle.session_log.specs.Logs.{header, frames, BeginsWith, offset_after, IsLogOf}
 use Rattle.session_log.specs.Readings.{IsUnread}
-use Rattle.session_log.specs.Loadings.{first_refusal, verdicts_after, taken_in, after_all, new_state, IsUnloaded}
+use Rattle.session_log.specs.Loadings.{first_refusal, verdicts_after, taken_in, new_state, IsUnloaded}
 use Rattle.session_log.specs.Code.Taking.{IsRefusal}
-use Rattle.log_reader.specs.Readers.{IsFaultOf, IsRefusalOf, AreTakenTo, HasTaken, NeedsMore}
+use Rattle.log_reader.specs.Readers.{IsFaultOf, IsRefusalOf, AreTakenTo, HasTaken}
 use Rattle.log_reader.specs.Code.Steps.{AreBytes, IsCounted, TakesFrame, Stops, TakesIn}
 use Rattle.log_reader.proofs.Fronts.{bytes_after}
 use Rattle.log_reader.proofs.Logs.{frames_push, after-append, taken-append, log_continues}

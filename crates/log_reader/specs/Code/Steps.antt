@@ -1,5 +1,5 @@
 -- The steps of a reader: over the header, over one frame, and taking in its operation.
-use Rattle.std.specs.Prelude.{◌≡◌, ◌≢◌, ℕ, ◌+◌, ◌-◌, ◌<◌, Bool, false, true, List, [], ◌++◌, Option, Some, None, Err, length, nat_le, nat_lt, if◌then◌else◌, slice_index_or}
+use Rattle.std.specs.Prelude.{◌≡◌, ◌≢◌, ℕ, ◌+◌, ◌-◌, ◌<◌, Bool, false, true, List, Option, Some, None, Err, length, nat_le, nat_lt, if◌then◌else◌, slice_index_or}
 use Rattle.context_diff.specs.Operations.{OpData}
 use Rattle.context_diff.specs.Ops.{data_of}
 use Rattle.wire_codec.specs.declared.fault.Refused.TheVariants.{Bad}

@@ -1,11 +1,10 @@
-use Rattle.std.proofs.Common.{◌≡◌, ℕ, ◌+◌, ◌≤◌, List, Ok, Err, length, subst, arith}
-use Rattle.std.specs.Prelude.{Option, Some}
+use Rattle.std.proofs.Common.{Ok, Err, subst, arith}
+use Rattle.std.specs.Prelude.{Option}
 use Rattle.context_diff.specs.declared.op.Op.{Op}
 use Rattle.context_diff.specs.Ops.{data_of}
 use Rattle.wire_codec.specs.declared.stream.StreamBad.{StreamBad}
 use Rattle.wire_codec.specs.Judging.{judge}
 use Rattle.wire_codec.specs.Streams.{IsAnswer, TakesAnswer}
-use Rattle.log_reader.specs.Code.Steps.{IsCounted}
 use Rattle.log_reader.proofs.Steps.{within_left, counted_next}
 use Rattle.log_reader.proofs.frames.next.Goals as goal
 

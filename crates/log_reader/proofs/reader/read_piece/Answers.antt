@@ -1,5 +1,4 @@
-use Rattle.std.proofs.Common.{◌≡◌, ◌≢◌, ℕ, ◌+◌, ◌≤◌, List, ◌++◌, refl, ap, sym, subst, ◌∙◌, length, take}
-use Rattle.std.specs.Prelude.{min}
+use Rattle.std.proofs.Common.{◌≡◌, ◌≢◌, ℕ, ◌+◌, List, ◌++◌, refl, ap, sym, subst, ◌∙◌, length, take}
 use Rattle.std.proofs.lemmas.List.{length-append}
 use Rattle.cot_site.specs.Sites.{state_of}
 use Rattle.session_log.specs.Logs.{header}

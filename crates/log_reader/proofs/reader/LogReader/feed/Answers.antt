@@ -1,4 +1,4 @@
-use Rattle.std.proofs.Common.{◌≡◌, ◌+◌, ℕ, List, ap, sym, ◌∙◌, length}
+use Rattle.std.proofs.Common.{◌+◌, ap, sym, ◌∙◌, length}
 use Rattle.cot_site.specs.Sites.{state_of}
 use Rattle.log_reader.specs.ReaderData.{ReaderData}
 use Rattle.log_reader.specs.Code.Steps.{reader_of}

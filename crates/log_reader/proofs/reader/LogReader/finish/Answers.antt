@@ -1,10 +1,9 @@
-use Rattle.std.proofs.Common.{◌≡◌, ap, List, ℕ, []}
-use Rattle.std.specs.Prelude.{Option, Some, None, ◌⊎◌, IfOk, IfErr}
+use Rattle.std.proofs.Common.{◌≡◌, ap, []}
+use Rattle.std.specs.Prelude.{Some, None, ◌⊎◌}
 use Rattle.std.proofs.lemmas.Result.{IfOk-weaker, IfErr-weaker}
 use Rattle.cot_site.specs.Sites.{SiteData, state_of}
-use Rattle.session_log.specs.declared.log_bad.LogBad.{LogBad}
 use Rattle.session_log.specs.Loadings.{IsLoaded, IsUnloaded}
-use Rattle.log_reader.specs.Readers.{Keeps, KeepsSome, IsLoadedOn, IsUnloadedOn}
+use Rattle.log_reader.specs.Readers.{IsLoadedOn, IsUnloadedOn}
 use Rattle.log_reader.proofs.Endings.{finish_ok, finish_err}
 use Rattle.log_reader.proofs.On.{loaded_here, refused_here}
 use Rattle.log_reader.proofs.reader.LogReader.finish.Goals as goal
