@@ -1,8 +1,8 @@
 -- What a reader keeps after a piece: of the header alone, of the frames after it, or of a fault.
-use Rattle.std.proofs.Common.{◌≡◌, ◌≢◌, ℕ, ◌+◌, ◌<◌, ◌≤◌, List, [], ◌++◌, inl, inr, Result, refl, ap, sym, subst, ◌∙◌, length, take, append-nil, arith}
+use Rattle.std.proofs.Common.{◌≡◌, ◌≢◌, ℕ, ◌+◌, ◌≤◌, List, [], ◌++◌, inl, inr, Result, refl, ap, sym, subst, ◌∙◌, length, take, append-nil, arith}
 use Rattle.std.specs.Prelude.{Option, Some, None, Ok, Err, IfOk, true, false, min}
-use Rattle.std.proofs.lemmas.Bool.{le-leb, lt-leb}
-use Rattle.std.proofs.lemmas.List.{length-append, length-take-le, nil_from_length, take_all, append_cancel_left}
+use Rattle.std.proofs.lemmas.Bool.{le-leb}
+use Rattle.std.proofs.lemmas.List.{length-append, length-take-le, take_all, append_cancel_left}
 use Rattle.op_name.specs.declared.memory.Memory.{Memory}
 use Rattle.wire_codec.specs.StreamData.{StreamData}
 use Rattle.wire_codec.specs.Streams.{Feeds}
@@ -47,43 +47,6 @@ keeps_fault site before left s refused all piece k none = record {
   where
     apart : bad.Header ≢ bad.Memory
     apart e = cc
-
--- the header isn't whole yet
-pub keeps_front : (site before : ℕ) (left : List ℕ) (s : State) (refused : Option LogBad) (all piece rest : List ℕ)
-    → Keeps (reader_of site before left s refused None false) all
-    → take (min before (length header)) header ++ piece ≡ take (min before (length header) + length piece) header ++ rest
-    → before + length piece < length header
-    → Keeps (reader_of site (before + length piece) left s refused None false) (all ++ piece)
-keeps_front site before left s refused all piece rest k goes few = record {
-  live = refl;
-  fed = count;
-  kept = elim k.kept [
-    | inl awaits ↦
-        let here = awaited_front site before left s refused all k.fed awaits in
-        inl (record {
-          unread = unread (before + length piece) few;
-          few = omega (arith, few, count);
-          front = is_front here;
-          left = awaits.left;
-          state = awaits.state;
-          accepted = awaits.accepted;
-        })
-    | inr has ↦ absurd (let long = long_read site before left s refused all k.fed has in omega (arith, long, few))
-  ];
-}
-  where
-    count : before + length piece ≡ length (all ++ piece)
-    count = ap (λ (n : ℕ). n + length piece) k.fed ∙ sym (length-append all piece)
-
-    unread : (fed : ℕ) → fed < length header → header_read fed None ≡ false
-    unread fed less = lt-leb (length header) fed less
-
-    is_front : take (min before (length header)) header ≡ all → all ++ piece ≡ take (length (all ++ piece)) header
-    is_front here =
-        let come : min before (length header) + length piece ≡ length (all ++ piece) = omega (arith, few, count) in
-        let both : all ++ piece ≡ take (length (all ++ piece)) header ++ rest = ap (λ (t : List ℕ). t ++ piece) (sym here) ∙ goes ∙ ap (λ (n : ℕ). take n header ++ rest) come in
-        let none : rest ≡ [] = nil_from_length rest (omega (arith, ap length both, length-append (take (length (all ++ piece)) header) rest, length-take-le (length (all ++ piece)) header (omega (arith, few, count)))) in
-        both ∙ ap (λ (t : List ℕ). take (length (all ++ piece)) header ++ t) none ∙ append-nil (take (length (all ++ piece)) header)
 
 -- the header is whole: what comes after it follows what was left
 pub reads_on : (site before : ℕ) (left : List ℕ) (s : State) (refused : Option LogBad) (all piece rest : List ℕ)

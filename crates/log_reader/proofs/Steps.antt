@@ -1,5 +1,5 @@
 -- What one step of a reader keeps: a frame that is taken, a piece that follows, a fault and a refusal.
-use Rattle.std.proofs.Common.{◌≡◌, ◌≢◌, ℕ, ◌+◌, ◌<◌, ◌≤◌, List, [], ◌∷◌, ◌++◌, Err, refl, ap, sym, subst, ◌∙◌, length, append_assoc, arith}
+use Rattle.std.proofs.Common.{◌≡◌, ◌≢◌, ℕ, ◌+◌, ◌≤◌, List, [], ◌∷◌, ◌++◌, Err, refl, ap, sym, subst, ◌∙◌, length, append_assoc, arith}
 use Rattle.std.specs.Prelude.{Option, Some, None}
 use Rattle.std.proofs.lemmas.List.{length-append}
 use Rattle.context_diff.specs.Operations.{OpData, IsWellFormed}
@@ -114,10 +114,6 @@ steps site all fed old new p s t refused now count h takes taken =
       begins = begins_next all old.left new.left h.ops o h.begins takes.0.left takes.0.well;
       taken = taken_next site all old.left new.left h.ops o s t refused now p.offset h.begins takes.0.left takes.0.well h.taken place taken;
     }
-
--- a step leaves fewer bytes
-pub fewer : (fed : ℕ) (old new : StreamData) (p : Placed) → TakesFrame fed old (Some p) new → length new.left < length old.left
-fewer fed old new p takes = let o = data_of p.op in omega (arith, ap length takes.0.left, length-append (frame o) new.left)
 
 -- the fault of what is left is that of the log
 pub stops_for : (site : ℕ) (all : List ℕ) (fed : ℕ) (old : StreamData) (s : State) (refused : Option LogBad) (why : LogBad)
