@@ -51,21 +51,28 @@ fn is_same_in_pieces(alloc: Global, frames: &[&[u8]]) -> Result<bool, Fail> {
     Ok(is_same(alloc, bytes, 1)? && is_same(alloc, bytes, 3)? && is_same(alloc, bytes, 1000)?)
 }
 
-/// Takes in the first operation of the log, at a site that has done nothing; the text of the site.
-fn text_after_first(alloc: Global, bytes: &[u8]) -> Result<Vec<u8>, Fail> {
+/// The last operation of the log.
+fn last_of(alloc: Global, bytes: &[u8]) -> Result<Placed, Fail> {
+    if bytes.len() > MAX_LOG {
+        return Err(Fail::new("too long"));
+    }
     let mut placed = Vec::new(alloc);
-    if bytes.len() > MAX_LOG || read_log(bytes, &mut placed).is_err() {
-        return Err(Fail::new("the bytes are no log"));
+    match read_log(bytes, &mut placed) {
+        Ok(()) => placed.pop().ok_or(Fail::new("the log is empty")),
+        Err(_) => Err(Fail::new("the bytes are no log")),
+    }
+}
+
+/// Whether a site that has done nothing takes in the operation.
+fn is_taken_in(alloc: Global, placed: Placed) -> Result<bool, Fail> {
+    let Placed { offset, op } = placed;
+    if op.fault().is_some() {
+        return Err(Fail::new("the operation isn't well formed"));
     }
     let mut site = Site::new(alloc, 0)?;
-    if let Some(Placed { offset, op }) = placed.pop() {
-        if op.fault().is_some() || take_in(&mut site, offset, op, &mut Vec::new(alloc)).is_err() {
-            return Err(Fail::new("the operation is refused"));
-        }
-    }
-    let mut out = Vec::new(alloc);
-    site.text(&mut out)?;
-    Ok(out)
+    let mut released = Vec::new(alloc);
+    let taken = take_in(&mut site, offset, op, &mut released).is_ok();
+    Ok(taken && site.book().len() == 1)
 }
 
 #[test]
@@ -108,7 +115,7 @@ fn header_is_cut(rt: HostRuntime) -> Result<(), Fail> {
 fn one_operation_is_taken_in(rt: HostRuntime) -> Result<(), Fail> {
     let alloc = rt.alloc();
     let bytes = log(alloc, &[A])?;
-    let text = text_after_first(alloc, bytes.as_slice())?;
-    assert!(rt; text.as_slice() == b"a".as_slice());
+    let placed = last_of(alloc, bytes.as_slice())?;
+    assert!(rt; is_taken_in(alloc, placed)?);
     Ok(())
 }
