@@ -57,9 +57,12 @@ fn last_of(alloc: Global, bytes: &[u8]) -> Result<Placed, Fail> {
         return Err(Fail::new("too long"));
     }
     let mut placed = Vec::new(alloc);
-    match read_log(bytes, &mut placed) {
-        Ok(()) => placed.pop().ok_or(Fail::new("the log is empty")),
-        Err(_) => Err(Fail::new("the bytes are no log")),
+    if read_log(bytes, &mut placed).is_err() {
+        return Err(Fail::new("the bytes are no log"));
+    }
+    match placed.pop() {
+        Some(last) => Ok(last),
+        None => Err(Fail::new("the log is empty")),
     }
 }
 
