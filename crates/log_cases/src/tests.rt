@@ -6,32 +6,32 @@ use std::alloc::Global;
 use std::test::Fail;
 
 /// Insert 0.1 of `a` at place 0, empty context.
-const A: &[u8] = &[
+pub(crate) const A: &[u8] = &[
     0, 0, 0, 17, 1, 0, 0, 0, 0, 1, 0, 0, 0, 0, 0, 0, 0, 97, 0, 0, 0,
 ];
 
 /// Insert 0.2 of `b` at place 1, context 0:1.
-const B: &[u8] = &[
+pub(crate) const B: &[u8] = &[
     0, 0, 0, 22, 1, 0, 0, 0, 0, 2, 0, 0, 0, 1, 0, 0, 0, 98, 1, 0, 0, 0, 0, 1, 0, 0,
 ];
 
 /// The insert 0.1 again, of `b`.
-const OTHER: &[u8] = &[
+pub(crate) const OTHER: &[u8] = &[
     0, 0, 0, 17, 1, 0, 0, 0, 0, 1, 0, 0, 0, 0, 0, 0, 0, 98, 0, 0, 0,
 ];
 
 /// Insert 0.2 of `b` at place 5, context 0:1, which has one cell.
-const OUT: &[u8] = &[
+pub(crate) const OUT: &[u8] = &[
     0, 0, 0, 22, 1, 0, 0, 0, 0, 2, 0, 0, 0, 5, 0, 0, 0, 98, 1, 0, 0, 0, 0, 1, 0, 0,
 ];
 
 /// Insert 1.2 of `c` at place 0, context 1:1.
-const WAITS: &[u8] = &[
+pub(crate) const WAITS: &[u8] = &[
     0, 0, 0, 22, 1, 1, 0, 0, 0, 2, 0, 0, 0, 0, 0, 0, 0, 99, 1, 1, 0, 0, 0, 1, 0, 0,
 ];
 
 /// The header of a log, and these pieces after it.
-fn log(alloc: Global, pieces: &[&[u8]]) -> Result<Vec<u8>, Fail> {
+pub(crate) fn log(alloc: Global, pieces: &[&[u8]]) -> Result<Vec<u8>, Fail> {
     let mut bytes = Vec::new(alloc);
     bytes.extend_from_slice(b"COTLOG1\n")?;
     for piece in pieces {
@@ -41,7 +41,7 @@ fn log(alloc: Global, pieces: &[&[u8]]) -> Result<Vec<u8>, Fail> {
 }
 
 /// The site of this number that the bytes make.
-fn loaded(alloc: Global, site: u16, bytes: &[u8]) -> Result<Site, LogBad> {
+pub(crate) fn loaded(alloc: Global, site: u16, bytes: &[u8]) -> Result<Site, LogBad> {
     if site >= op_name::SITES || bytes.len() > MAX_LOG {
         return Err(LogBad::Memory);
     }

@@ -1,0 +1,3 @@
+pub mod ReaderData
+pub mod Readers
+pub mod Code
