@@ -5,6 +5,8 @@ pub mod LineSteps
 pub mod Events
 pub mod Soundness
 pub mod Scripts
+pub mod ReaderData
+pub mod Readers
 pub mod Transcripts
 pub mod Derivation
 pub mod Answers

@@ -22,5 +22,5 @@ pub use laws::{
     deliveries_settle, derived_reports_are_there, local_operations_settle, one_derived_report,
     one_transcript, sessions_stay_sound, sites_stay_alone, transcripts_are_there,
 };
-pub use script::{MAX_SCRIPT, replay, replay_past};
+pub use script::{Next, ScriptReader, replay};
 pub use session::{Session, StepBad};

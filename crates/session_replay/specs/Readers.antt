@@ -1,0 +1,50 @@
+-- Reading a script that comes in pieces: what a reader keeps of the bytes fed, and of what was written for them.
+use Rattle.std.specs.Prelude.{◌≡◌, ◌≢◌, ◌⊎◌, ℕ, ◌+◌, ◌-◌, ◌≤◌, false, List, [], ◌∷◌, ◌++◌, None, length, map, take, nat_le, if◌then◌else◌}
+use Rattle.std.specs.List.{All}
+use Rattle.script_text.specs.LeftLines.{InputData}
+use Rattle.script_text.specs.Streams.{fed_with}
+use Rattle.session_replay.specs.declared.script.TheConstants.{MAX_SCRIPT}
+use Rattle.session_replay.specs.Scripts.{Piece, Whole, lines_of, cut_off, prepended, report_from, script_report}
+use Rattle.session_replay.specs.ReaderData.{ReaderData}
+
+-- the lines of these bytes, where so many others stand before them in the script
+abbrev pub pieces_after : ℕ → List ℕ → List Piece
+pieces_after n bytes = if nat_le (n + length bytes) MAX_SCRIPT then map Whole (lines_of bytes) else cut_off (lines_of (take (MAX_SCRIPT - n) bytes))
+
+-- the bytes of lines, each of which a line feed ends
+abbrev pub AreWholeLines : List ℕ → Type 0
+AreWholeLines bytes = (bytes ≡ []) ⊎ ((front : List ℕ) × (bytes ≡ front ++ 10 ∷ []))
+
+-- an input of which nothing is left, and so many bytes were fed
+abbrev pub nothing_left : ℕ → InputData
+nothing_left fed = record { lines = []; fed = fed; over = false; refusal = None }
+
+-- of these bytes, all that were fed, some lines were done, and the others are left; what was written is the report of the lines
+-- done, and however the script goes on after them, the reader's session reports the rest of it
+pub record Keeps (r : ReaderData) (all written : List ℕ) : Type 0 where
+  pub done : List ℕ
+  pub left : List ℕ
+  pub parts : all ≡ done ++ left
+  pub whole : AreWholeLines done
+  pub within : length done ≤ MAX_SCRIPT
+  pub input : r.input ≡ fed_with (nothing_left (length done)) left
+  pub few : r.number ≤ 1 + length done
+  pub goes_on : (more : List ℕ) → script_report (done ++ more) ≡ prepended written (report_from r.number (pieces_after (length done) more) r.session)
+
+-- a reader that keeps what was done of some bytes
+pub record KeepsSome (r : ReaderData) : Type 0 where
+  pub all : List ℕ
+  pub written : List ℕ
+  pub keeps : Keeps r all written
+
+-- all whole lines are done: what is left has no line feed, and the script is within its limit so far
+pub record Awaits (r : ReaderData) (all written : List ℕ) : Type 0 where
+  pub keeps : Keeps r all written
+  pub open : All (λ b. b ≢ 10) keeps.left
+  pub within : length all ≤ MAX_SCRIPT
+
+-- a reader that has done all whole lines of some bytes
+pub record AwaitsSome (r : ReaderData) : Type 0 where
+  pub all : List ℕ
+  pub written : List ℕ
+  pub awaits : Awaits r all written
