@@ -64,8 +64,8 @@ demo: bin/cotpad
 	@echo "== examples/explain.log, 1.1/2 explained"; bin/cotpad explain 1.1/2 < examples/explain.log
 	@echo "== examples/exchange.sh"; examples/exchange.sh
 
-# Compares what the program writes of each example with its report, and its answers to the frames and logs of
-# docs/vectors.txt with theirs. Reports and answers were worked out by hand from docs/FORMATS.md.
+# Compares what the program writes of each example with its report, what a program that drives it through a pipe reads, and its
+# answers to the frames and logs of docs/vectors.txt. Reports and answers were worked out by hand from docs/FORMATS.md.
 check-examples: bin/cotpad
 	@for script in examples/*.script; do \
 		bin/cotpad replay < $$script | cmp - $${script%.script}.report || exit 1; \
@@ -75,6 +75,7 @@ check-examples: bin/cotpad
 	done
 	@bin/cotpad explain 1.1/2 < examples/explain.log | cmp - examples/explain.steps
 	@examples/exchange.sh | cmp - examples/exchange.report
+	@timeout 60 examples/drive.py bin/cotpad | cmp - examples/drive.out
 	@echo "each example writes its report"
 	@tools/check-vectors
 
