@@ -1,7 +1,7 @@
 //! Scripts and their reports.
 
 use op_name::Memory;
-use script_text::parse_line;
+use script_text::{MAX_SCRIPT, parse_line};
 use session_replay::*;
 use std::alloc::Global;
 use std::process::Abort;
@@ -9,6 +9,7 @@ use std::test::Fail;
 
 mod bad_bytes;
 mod drawn;
+mod pieces;
 
 /// The report of a script, whose lines are separated by `; `, and whether it is refused.
 fn report_of(alloc: Global, script: &str) -> Result<(Vec<u8>, bool), Memory> {
@@ -16,9 +17,6 @@ fn report_of(alloc: Global, script: &str) -> Result<(Vec<u8>, bool), Memory> {
     for line in script.split("; ") {
         bytes.extend_from_slice(line.as_bytes())?;
         bytes.extend_from_slice(b"\n")?;
-    }
-    if bytes.len() > MAX_SCRIPT {
-        return Err(Memory);
     }
     let mut out = Vec::new(alloc);
     let refused = replay(alloc, &bytes, &mut out)?;
@@ -313,8 +311,9 @@ fn a_script_past_the_limit_is_refused_there(rt: HostRuntime) -> Result<(), Fail>
         bytes.extend_from_slice(&line)?;
     }
     assert!(rt; bytes.len() == MAX_SCRIPT);
+    bytes.extend_from_slice(b"#")?;
     let mut out = Vec::new(alloc);
-    replay_past(alloc, &bytes, &mut out)?;
+    assert!(rt; replay(alloc, &bytes, &mut out)?);
     assert_eq!(rt; out.as_slice(), b"refused 257 limit\n".as_slice());
     Ok(())
 }

@@ -1,7 +1,7 @@
 pub mod Steps
 pub mod Releasing
-pub mod Splits
-pub mod Endings
+pub mod PiecesLaws
+pub mod Reading
 pub mod Every
 pub mod Sound
 pub mod LineLaws

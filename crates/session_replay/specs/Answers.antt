@@ -1,5 +1,7 @@
 -- What the calls of a session answer.
 use Rattle.std.specs.Prelude.{◌≡◌, ℕ, List, [], ◌∷◌, Option, Some, None, Result, Ok, Err}
+use Rattle.script_text.specs.declared.reading.line.LineBad.{LineBad}
+use Rattle.script_text.specs.declared.reading.line.LineBad.TheVariants as reading
 use Rattle.script_text.specs.declared.report.refusal.Refusal.{Refusal}
 use Rattle.script_text.specs.declared.report.refusal.Refusal.TheVariants as refusal
 use Rattle.session_replay.specs.declared.session.StepBad.{StepBad}
@@ -14,6 +16,14 @@ refusal_by Twice = Some refusal.Twice
 refusal_by NoSite = Some refusal.NoSite
 refusal_by NoMessage = Some refusal.NoMessage
 refusal_by Memory = None
+
+-- why a line is refused that isn't read for this cause; out of memory refuses none
+abbrev pub unread_by : LineBad → Option Refusal
+unread_by reading.Limit = Some refusal.Limit
+unread_by reading.Long = Some refusal.Long
+unread_by reading.Utf8 = Some refusal.Utf8
+unread_by reading.Form = Some refusal.Form
+unread_by reading.Memory = None
 
 -- the answer of a line with these steps, or with this refusal: all steps are done; or, out of memory, the first few are
 -- done; or the line is refused, and nothing changed

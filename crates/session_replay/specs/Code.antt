@@ -1,5 +1,5 @@
 -- The words of private functions' contracts; no public contract uses them.
 pub mod Doing
-pub mod Endings
+pub mod Reading
 pub mod Drawing
 pub mod Knowing

@@ -3,7 +3,7 @@ use Rattle.std.specs.Prelude.{◌≡◌, ◌≢◌, ◌⊎◌, ℕ, ◌+◌, ◌
 use Rattle.std.specs.List.{All}
 use Rattle.script_text.specs.LeftLines.{InputData}
 use Rattle.script_text.specs.Streams.{fed_with}
-use Rattle.session_replay.specs.declared.script.TheConstants.{MAX_SCRIPT}
+use Rattle.script_text.specs.declared.reading.stream.TheConstants.{MAX_SCRIPT}
 use Rattle.session_replay.specs.Scripts.{Piece, Whole, lines_of, cut_off, prepended, report_from, script_report}
 use Rattle.session_replay.specs.ReaderData.{ReaderData}
 
@@ -40,7 +40,7 @@ pub record KeepsSome (r : ReaderData) : Type 0 where
 -- all whole lines are done: what is left has no line feed, and the script is within its limit so far
 pub record Awaits (r : ReaderData) (all written : List ℕ) : Type 0 where
   pub keeps : Keeps r all written
-  pub open : All (λ b. b ≢ 10) keeps.left
+  pub no_feed : All (λ b. b ≢ 10) keeps.left
   pub within : length all ≤ MAX_SCRIPT
 
 -- a reader that has done all whole lines of some bytes

@@ -10,7 +10,7 @@ use Rattle.script_text.specs.declared.report.refusal.Refusal.TheVariants as refu
 use Rattle.script_text.specs.declared.reading.parse.TheConstants.{LONGEST}
 use Rattle.script_text.specs.Answers.{line_in}
 use Rattle.script_text.specs.Report.{refused_text}
-use Rattle.session_replay.specs.declared.script.TheConstants.{MAX_SCRIPT}
+use Rattle.script_text.specs.declared.reading.stream.TheConstants.{MAX_SCRIPT}
 use Rattle.session_replay.specs.Steps.{Step, last_of, written_by}
 use Rattle.session_replay.specs.Sessions.{SessionData, unstarted}
 use Rattle.session_replay.specs.LineSteps.{line_steps_in}

@@ -1,9 +1,7 @@
 //! Words for causes.
 
-ghost use Rattle.std.specs.Prelude.{◌≡◌, ℕ, List, Some, Err, IfOk, OnErr};
-ghost use Rattle.script_text.specs.Answers.{Answers};
-ghost use Rattle.session_replay.specs.Answers.{refusal_by};
-ghost use Rattle.session_replay.specs.Scripts.{Whole, line_read};
+ghost use Rattle.std.specs.Prelude.{◌≡◌, Some, IfOk, OnErr};
+ghost use Rattle.session_replay.specs.Answers.{refusal_by, unread_by};
 
 use crate::session::StepBad;
 use op_name::Memory;
@@ -11,7 +9,7 @@ use script_text::{LineBad, Refusal};
 
 /// Why a script ends at a line whose bytes can't be read.
 pub(crate) fn reading_refused(why: LineBad) -> Result<Refusal, Memory>
-    ensures cause { IfOk result (λ cause. (bytes : List ℕ) → Answers bytes (Err why) → line_read (Whole bytes) ≡ Err cause) }
+    ensures cause { IfOk result (λ cause. unread_by why ≡ Some cause) }
     ensures memory { OnErr result (why ≡ LineBad.Memory) }
 {
     match why {

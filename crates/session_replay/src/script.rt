@@ -1,32 +1,46 @@
 //! Scripts: line after line is done, and the report is written.
 
-ghost use Rattle.std.specs.Prelude.{◌≡◌, ◌≤◌, ◌<◌, ◌+◌, ◌^◌, ◌++◌, [], ℕ, List, true, IfOk, IfErr, OnOk, OnErr, length, Ok};
-ghost use Rattle.session_replay.specs.Scripts.{script_report, prepended};
+ghost use Rattle.std.specs.Prelude.{◌≡◌, ◌<◌, ◌+◌, ◌^◌, ◌++◌, [], ℕ, List, true, IfOk, OnOk, OnErr, length, Ok};
+ghost use Rattle.session_replay.specs.LineSteps.{line_steps};
+ghost use Rattle.session_replay.specs.Scripts.{Piece, script_report, report_from, report_on, prepended};
 ghost use Rattle.session_replay.specs.Readers.{Keeps, KeepsSome, Awaits, AwaitsSome};
+ghost use Rattle.session_replay.specs.Code.Reading.{Follows, TellsRefusal, is_refused};
 
 use crate::causes::{reading_refused, step_refused};
 use crate::session::Session;
 use op_name::Memory;
-use script_text::{Line, LineBad, LineStream, refused_line};
+use script_text::{Line, LineBad, LineStream, lines_stay_the_same, refused_line};
 use std::alloc::Global;
 use std::marker::Model;
 
-/// The most bytes of a script: 64 MiB.
-pub const MAX_SCRIPT: usize = 67_108_864;
-
 /// Appends the whole report of a script. `Ok(true)` exactly where the script is refused; then the last line of the report
-/// says at which line, and why. Out of memory, `out` is as it was.
+/// says at which line, and why. A line that isn't within the first `script_text::MAX_SCRIPT` bytes is refused by Limit.
+///
+/// Out of memory, `out` is as it was. The report is held apart until it is whole, so it takes memory twice for a while;
+/// `ScriptReader` writes straight into `out`.
 pub fn replay(alloc: Global, bytes: &[u8], out: &mut Vec<u8>) -> Result<bool, Memory>
     ensures report { IfOk result (λ refused.
         prepended out.old.items (script_report bytes.now) ≡ record { written = out.new.items; refused = refused }) }
     ensures err { OnErr result (out.new.items ≡ out.old.items) }
 {
-    let start = out.len();
-    match do_whole(alloc, bytes, out) {
-        Ok(refused) => Ok(refused),
-        Err(memory) => {
-            out.truncate(start);
-            Err(memory)
+    let mut report = Vec::new(alloc);
+    let refused = do_whole(alloc, bytes, &mut report)?;
+    out.extend_from_slice(&report)?;
+    Ok(refused)
+}
+
+// The same where nothing was written before.
+fn do_whole(alloc: Global, bytes: &[u8], out: &mut Vec<u8>) -> Result<bool, Memory>
+    requires { out.old.items ≡ [] }
+    ensures { IfOk result (λ refused. script_report bytes.now ≡ record { written = out.new.items; refused = refused }) }
+{
+    let mut reader = ScriptReader::new(alloc)?;
+    reader.feed(bytes)?;
+    loop {
+        match reader.advance(out)? {
+            Next::Done => {}
+            Next::Awaited => return reader.finish(out),
+            Next::Refused => return Ok(true),
         }
     }
 }
@@ -82,6 +96,7 @@ impl ScriptReader {
         ensures keeps { (all written : List ℕ) → Keeps self.old all written → OnOk result (Keeps self.new (all ++ piece.now) written) }
         ensures err { OnErr result (self.new ≡ self.old) }
     {
+        lines_stay_the_same();
         self.lines.feed(piece)
     }
 
@@ -101,7 +116,7 @@ impl ScriptReader {
     {
         match self.lines.take() {
             Ok(None) => Ok(Next::Awaited),
-            Ok(Some(line)) => do_line(&mut self.running, &mut self.number, &line, out),
+            Ok(Some(line)) => do_line(&mut self.running, &mut self.number, line, out),
             Err(why) => refuse(self.number, why, out),
         }
     }
@@ -120,11 +135,55 @@ impl ScriptReader {
             mut running,
         } = self;
         lines.end();
-        let next = match lines.take() {
-            Ok(None) => return Ok(false),
-            Ok(Some(line)) => do_line(&mut running, &mut number, &line, out)?,
-            Err(why) => refuse(number, why, out)?,
-        };
-        Ok(next == Next::Refused)
+        match lines.take() {
+            Ok(None) => Ok(false),
+            Ok(Some(line)) => Ok(is_refused(do_line(&mut running, &mut number, line, out)?)),
+            Err(why) => Ok(is_refused(refuse(number, why, out)?)),
+        }
     }
+}
+
+// One line, as it was read.
+fn do_line(
+    running: &mut Session,
+    number: &mut u32,
+    line: Line,
+    out: &mut Vec<u8>,
+) -> Result<Next, Memory>
+    requires { number.old + 1 < 2 ^ 32 }
+    ensures report { IfOk result (λ next. (pieces : List Piece) → Follows next
+        (prepended out.old.items (report_on (report_from (number.old + 1) pieces) number.old (line_steps line running.old.session) running.old.session))
+        out.new.items (report_from number.new pieces running.new.session)) }
+    ensures number { result ≡ Ok Next.Done → number.new ≡ number.old + 1 }
+    ensures err { OnErr result (out.new.items ≡ out.old.items) }
+{
+    match running.step(&line, out) {
+        Ok(()) => {
+            *number += 1;
+            Ok(Next::Done)
+        }
+        Err(why) => {
+            let cause = step_refused(why)?;
+            refused_line(*number, cause, out)?;
+            Ok(Next::Refused)
+        }
+    }
+}
+
+// Whether the script ends here refused.
+fn is_refused(next: Next) -> bool
+    ensures { result ≡ is_refused next }
+{
+    matches!(next, Next::Refused)
+}
+
+// A line that can't be read.
+fn refuse(number: u32, why: LineBad, out: &mut Vec<u8>) -> Result<Next, Memory>
+    ensures refused { IfOk result (λ next. next ≡ Next.Refused) }
+    ensures told { OnOk result (TellsRefusal why number out.old.items out.new.items) }
+    ensures err { OnErr result (out.new.items ≡ out.old.items) }
+{
+    let cause = reading_refused(why)?;
+    refused_line(number, cause, out)?;
+    Ok(Next::Refused)
 }

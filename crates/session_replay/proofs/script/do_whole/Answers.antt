@@ -1,26 +1,30 @@
-use Rattle.std.proofs.Common.{◌≡◌, ◌++◌, ◌∷◌, [], List, ℕ, true}
-use Rattle.session_replay.specs.Code.Endings.{ended}
-use Rattle.session_replay.specs.Scripts.{Piece, Whole, prepended, lines_of, report_from}
-use Rattle.session_replay.proofs.Endings.{from_start, from_start_refused, ending_along}
+use Rattle.std.proofs.Common.{◌≡◌, ◌∙◌, ◌++◌, ap, sym, [], List, ℕ, Bool, Ok, append-nil}
+use Rattle.std.proofs.lemmas.Result.{IfOk-weaker}
+use Rattle.session_replay.specs.declared.script.Next.{Next}
+use Rattle.session_replay.specs.Scripts.{script_report}
+use Rattle.session_replay.specs.Readers.{Keeps}
 use Rattle.session_replay.proofs.script.do_whole.Goals as goal
 
-pub returns-in-Some-clause-report : goal.returns-in-Some-clause-report
-returns-in-Some-clause-report c =
-    let last : List ℕ → Piece = λ line. Whole line in
-    let first = c.new-progress.result in
-    let now = c.do_lines.new.progress in
-    let on : (last : List ℕ → Piece) → (tail : List ℕ) →
-    prepended c.args.out.now.items (report_from first.number (ended last (lines_of (c.args.bytes.now ++ tail))) first.running.session)
-    ≡ prepended c.do_lines.new.out.items (report_from now.number (ended last (lines_of (c.in-Some.rest.now ++ tail))) now.running.session) = rw c.in-Some.is at c.in_ok-rest.ensures.goes_on in
-    let one : lines_of c.in-Some.rest.now ≡ c.in-Some.rest.now ∷ [] = rw c.in-Some.is at c.in_ok-rest.ensures.last in
-    let all = from_start c.args.out.now.items c.do_lines.new.out.items first.number now.number first.running.session now.running.session last c.args.bytes.now c.in-Some.rest.now c.new-progress.ensures.session c.new-progress.ensures.number (on last) one in
-    ending_along c.do_line.result _ c.in-Some.rest.now _ _ _ _ _ _ all c.do_line.ensures.report
+pub loop-reader-preserved : goal.loop-reader-preserved
+loop-reader-preserved c =
+    let was : c.advance.result ≡ Ok c.in_ok-advance.field-0 = c.in_ok-advance.was in
+    c.advance.ensures.done (was ∙ ap (λ (n : Next). Ok n) c.in-Done.is) c.args.bytes.now [] c.loop-reader.invariant
 
-pub returns-clause-report : goal.returns-clause-report
-returns-clause-report c =
-    let last : List ℕ → Piece = λ line. Whole line in
-    let first = c.new-progress.result in
-    let stop : (last : List ℕ → Piece) → (tail : List ℕ) →
-    prepended c.args.out.now.items (report_from first.number (ended last (lines_of (c.args.bytes.now ++ tail))) first.running.session)
-    ≡ record { written = c.do_lines.new.out.items; refused = true } = rw c.in-None.is at c.in_ok-rest.ensures.refused in
-    from_start_refused c.args.out.now.items c.do_lines.new.out.items first.number first.running.session last c.args.bytes.now c.new-progress.ensures.session c.new-progress.ensures.number (stop last)
+pub finish-requires : goal.finish-requires
+finish-requires c =
+    let was : c.advance.result ≡ Ok c.in_ok-advance.field-0 = c.in_ok-advance.was in
+    record { all = c.args.bytes.now; written = c.advance.new.out.items; awaits = c.advance.ensures.awaited (was ∙ ap (λ (n : Next). Ok n) c.in-Awaited.is) c.args.bytes.now [] c.loop-reader.invariant }
+
+pub returns-in-Awaited : goal.returns-in-Awaited
+returns-in-Awaited c =
+    let was : c.advance.result ≡ Ok c.in_ok-advance.field-0 = c.in_ok-advance.was in
+    let awaits = c.advance.ensures.awaited (was ∙ ap (λ (n : Next). Ok n) c.in-Awaited.is) c.args.bytes.now [] c.loop-reader.invariant in
+    IfOk-weaker c.finish.result
+    (λ (refused : Bool). (all before : List ℕ) → Keeps c.advance.new.self all (before ++ c.advance.new.out.items) → script_report all ≡ record { written = before ++ c.finish.new.out.items; refused = refused })
+    (λ refused. script_report c.args.bytes.now ≡ record { written = c.finish.new.out.items; refused = refused })
+    (λ refused report. report c.args.bytes.now [] awaits.keeps) c.finish.ensures.report
+
+pub returns-in-Refused : goal.returns-in-Refused
+returns-in-Refused c =
+    let was : c.advance.result ≡ Ok c.in_ok-advance.field-0 = c.in_ok-advance.was in
+    ap script_report (sym (append-nil c.args.bytes.now)) ∙ c.advance.ensures.refused (was ∙ ap (λ (n : Next). Ok n) c.in-Refused.is) c.args.bytes.now [] c.loop-reader.invariant []
