@@ -14,6 +14,7 @@ use Rattle.cotpad.specs.Commands.{CommandData, Replay, Show, Edit, Gen, Explain,
 use Rattle.cotpad.specs.Outside.{Outside}
 use Rattle.cotpad.specs.Answers.{IsAnswered, IsMade}
 use Rattle.cotpad.specs.Replies.{IsEdited}
+use Rattle.cotpad.specs.Replaying.{IsReplayed}
 use Rattle.cotpad.specs.Generating.{gen_text, IsCounted}
 use Rattle.cotpad.specs.Explaining.{IsExplained}
 use Rattle.cotpad.specs.Meeting.{Side, serving, joining, IsLinkedOnce, IsMeeting}
@@ -65,6 +66,17 @@ made_reported text old new WriteFault made faultless = absurd (faultless made.fa
 made_reported text old new Memory made faultless = inr refl
 made_reported text old new LinkFault made faultless = absurd made
 made_reported text old new PeerRefused made faultless = absurd made
+
+-- without a fault the report of a script is written, unless out of memory
+pub replay_reported : (old new : Outside) (r : Status) → IsReplayed old new r → (Rose old.read_faults new.read_faults → ⊥) → (Rose old.write_faults new.write_faults → ⊥) → IsReported r ⊎ (r ≡ Memory)
+replay_reported old new Done replayed read written = inl (inl refl)
+replay_reported old new Refused replayed read written = inl (inr refl)
+replay_reported old new Words replayed read written = absurd replayed
+replay_reported old new ReadFault replayed read written = absurd (read replayed.fault)
+replay_reported old new WriteFault replayed read written = absurd (written replayed.fault)
+replay_reported old new Memory replayed read written = inr refl
+replay_reported old new LinkFault replayed read written = absurd replayed
+replay_reported old new PeerRefused replayed read written = absurd replayed
 
 -- ---- the commands that exchange
 

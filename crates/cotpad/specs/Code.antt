@@ -1,5 +1,6 @@
 -- The words of private functions' contracts; no public contract uses them.
 pub mod Reading
+pub mod Replaying
 pub mod Refusing
 pub mod Editing
 pub mod Generated

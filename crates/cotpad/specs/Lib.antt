@@ -9,6 +9,7 @@ pub mod Replies
 pub mod Generating
 pub mod Explaining
 pub mod Answers
+pub mod Replaying
 pub mod Refusals
 pub mod Peers
 pub mod Meeting

@@ -1,7 +1,7 @@
 -- What `replay` answers, and what it leaves in the source and in the sink: a script is reported while it is read.
-use Rattle.std.specs.Prelude.{◌≡◌, ◌≢◌, ◌+◌, Bool, true, false, List, ℕ, ◌++◌, Option, IfSome}
+use Rattle.std.specs.Prelude.{◌≡◌, ◌≢◌, ◌+◌, Bool, true, false, List, ℕ, ◌++◌, IfSome}
 use Rattle.std.specs.List.{All}
-use Rattle.std.specs.Io.KnownBytes.{Appends, Consumes, IsAtEnd}
+use Rattle.std.specs.Io.KnownBytes.{Consumes, IsAtEnd}
 use Rattle.outside_io.specs.Faults.{Rose}
 use Rattle.outside_io.specs.Reading.{LosesFront}
 use Rattle.outside_io.specs.declared.reading.TheConstants.{MAX_INPUT}
@@ -34,10 +34,10 @@ pub record IsFrontOfReport (old new : Outside) : Type 0 where
 -- none of them is refused
 pub record IsReportSoFar (old new : Outside) (bytes : List ℕ) : Type 0 where
   pub whole : List ℕ
-  pub open : List ℕ
-  pub taken : Consumes old.left new.left (whole ++ open)
+  pub tail : List ℕ
+  pub taken : Consumes old.left new.left (whole ++ tail)
   pub lines : AreWholeLines whole
-  pub no_line : All (λ b. b ≢ 10) open
+  pub no_line : All (λ b. b ≢ 10) tail
   pub reply : IsReplied IsScriptReport false old.held new.held whole
 
 -- a read failed: the lines that ended before it are reported

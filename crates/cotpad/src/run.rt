@@ -22,7 +22,8 @@ ghost use Rattle.cotpad.specs.Meeting.{serving, joining, IsMeeting, AgreesWithPe
 ghost use Rattle.cotpad.specs.Looping.{IsLooping, IsLoopTold};
 ghost use Rattle.cotpad.specs.Wired.{wired, IsAskedFor};
 ghost use Rattle.cotpad.specs.Laws.{OneReply, OneExplanation};
-ghost use Rattle.cotpad.specs.Replies.{IsScriptReport, IsShown, IsEdited};
+ghost use Rattle.cotpad.specs.Replies.{IsShown, IsEdited};
+ghost use Rattle.cotpad.specs.Replaying.{IsReplayed};
 
 use crate::answer::answer;
 use crate::command::{Command, command_of};
@@ -32,14 +33,14 @@ use crate::generator::answer_generated;
 use crate::laws::{one_explanation, one_reply, same_operations};
 use crate::looped::answer_looped;
 use crate::meeting::{Joining, Serving, answer_met};
-use crate::replay::Replay;
+use crate::replay::answer_replay;
 use crate::show::Show;
 use crate::status::Status;
 use outside_io::{Failed, Sink, Source, Wire, write_whole};
 use std::alloc::Global;
 
-/// Does what the words say, which are those after the program's name. `replay` reads a script, and writes the report of
-/// its session. `show` reads a log, and writes its text. `edit SITE ins V TEXT`, `edit SITE nl V`, `edit SITE del V`,
+/// Does what the words say, which are those after the program's name. `replay` reads a script, and writes the report of each
+/// line before it reads on. `show` reads a log, and writes its text. `edit SITE ins V TEXT`, `edit SITE nl V`, `edit SITE del V`,
 /// `edit SITE undo NAME` and `edit SITE redo NAME` read a log, edit it as this site, and write the log of the result.
 /// `gen START EVENTS WINDOW` reads nothing, generates a session of four sites, and writes what it did and what site 0 shows.
 /// `explain MEMBER` reads a log, and writes the steps that derive the form in which the operation of this member was executed.
@@ -60,7 +61,7 @@ pub fn run<S: Source, K: Sink, W: Wire>(
 
     // Each command: every answer, with its cause and what it leaves in the source and the sink. On Done and Refused what
     // is written is the reply to the bytes that the source had left.
-    ensures replay { Spells words.now asked.Replay → IsAnswered IsScriptReport
+    ensures replay { Spells words.now asked.Replay → IsReplayed
         (told (S.left source.old) (S.faults source.old) (K.held sink.old) (K.faults sink.old))
         (told (S.left source.new) (S.faults source.new) (K.held sink.new) (K.faults sink.new))
         result }
@@ -126,8 +127,8 @@ pub fn run<S: Source, K: Sink, W: Wire>(
     ensures unread_too { (start events window : ℕ) → Spells words.now (asked.Gen start events window) → source.new ≡ source.old }
     ensures unread_loop { (start : ℕ) → Spells words.now (asked.Loop start) → source.new ≡ source.old }
 
-    // After a fault of reading or of the wire, or out of memory, no write was tried.
-    ensures untouched { (result ≡ Status.ReadFault) ⊎ ((result ≡ Status.Memory) ⊎ (result ≡ Status.LinkFault)) → sink.new ≡ sink.old }
+    // After a fault of reading or of the wire, or out of memory, no write was tried, but by `replay`.
+    ensures untouched { (Spells words.now asked.Replay → ⊥) → (result ≡ Status.ReadFault) ⊎ ((result ≡ Status.Memory) ⊎ (result ≡ Status.LinkFault)) → sink.new ≡ sink.old }
     // The wire plays no part in the other commands.
     ensures wire { SpellNoExchange words.now → wire.new ≡ wire.old }
     // These ask for their link, if they ask for any.
@@ -175,7 +176,7 @@ pub fn run<S: Source, K: Sink, W: Wire>(
     one_reply();
     one_explanation();
     match command_of(words) {
-        Some(Command::Replay) => answer(alloc, &Replay, source, sink),
+        Some(Command::Replay) => answer_replay(alloc, source, sink),
         Some(Command::Show) => answer(alloc, &Show, source, sink),
         Some(Command::Edit { site, edit }) => answer(alloc, &Editing { site, edit }, source, sink),
         Some(Command::Explain { member }) => answer(alloc, &Explaining { member }, source, sink),

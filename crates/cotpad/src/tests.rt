@@ -178,21 +178,43 @@ fn other_words_read_nothing(rt: HostRuntime) -> Result<(), Fail> {
     Ok(())
 }
 
+/// A script whose 30 bytes are read 8 at a time, in four reads and one that finds the end. Its lines end after 8, 15, 23,
+/// 24 and 30 bytes; the last one has no line feed.
+const SCRIPT: &[u8] = b"sites 1\nshow 0\ndel 0 0\n\nshow 0";
+
 #[test]
-fn a_failed_read_writes_nothing(rt: HostRuntime) -> Result<(), Fail> {
-    let script = b"sites 1\nins 0 0 a\nshow 0\n";
-    let (ended, held) = called(rt.alloc(), "replay", script, 8, &[1], &[])?;
-    assert_eq!(rt; ended, Status::ReadFault);
-    assert_eq!(rt; held.len(), 0);
+fn lines_are_reported_before_more_is_read(rt: HostRuntime) -> Result<(), Fail> {
+    // The read that fails, the status, and what is held then.
+    let cases: [(u32, Status, &str); 6] = [
+        (0, Status::ReadFault, ""),
+        (1, Status::ReadFault, ""),
+        (2, Status::ReadFault, "text 0 0\n\n"),
+        (3, Status::ReadFault, "text 0 0\n\nno place 0 0\n"),
+        (4, Status::ReadFault, "text 0 0\n\nno place 0 0\n"),
+        (5, Status::Done, "text 0 0\n\nno place 0 0\ntext 0 0\n\n"),
+    ];
+    for (read, status, report) in cases {
+        let (ended, held) = called(rt.alloc(), "replay", SCRIPT, 8, &[read], &[])?;
+        assert_eq!(rt; ended, status, "{read}");
+        assert_eq!(rt; held.as_slice(), report.as_bytes(), "{read}");
+    }
     Ok(())
 }
 
 #[test]
-fn a_failed_write_holds_nothing(rt: HostRuntime) -> Result<(), Fail> {
-    let script = b"sites 1\nins 0 0 a\nshow 0\n";
-    let (ended, held) = called(rt.alloc(), "replay", script, 8, &[], &[0])?;
-    assert_eq!(rt; ended, Status::WriteFault);
-    assert_eq!(rt; held.len(), 0);
+fn a_failed_write_ends_the_report(rt: HostRuntime) -> Result<(), Fail> {
+    // The write that fails, the status, and what is held then.
+    let cases: [(u32, Status, &str); 4] = [
+        (0, Status::WriteFault, ""),
+        (1, Status::WriteFault, "text 0 0\n\n"),
+        (2, Status::WriteFault, "text 0 0\n\nno place 0 0\n"),
+        (3, Status::Done, "text 0 0\n\nno place 0 0\ntext 0 0\n\n"),
+    ];
+    for (write, status, report) in cases {
+        let (ended, held) = called(rt.alloc(), "replay", SCRIPT, 8, &[], &[write])?;
+        assert_eq!(rt; ended, status, "{write}");
+        assert_eq!(rt; held.as_slice(), report.as_bytes(), "{write}");
+    }
     Ok(())
 }
 

@@ -3,9 +3,20 @@ use Rattle.cotpad.specs.Commands as asked
 use Rattle.cotpad.specs.Commands.{command_data, IsOffline}
 use Rattle.cotpad.specs.declared.command.Command.TheVariants as command
 use Rattle.cotpad.specs.Outside.{told}
+use Rattle.cotpad.specs.Words.{Spells}
 use Rattle.cotpad.specs.Generating.{gen_text}
-use Rattle.cotpad.proofs.Choosing.{edit_answered, explain_answered, gen_made, gen_counted, made_reported, serve_met, join_met, looped_as, looped_told, loop_done, serves_online, joins_online, loops_online, serve_asked, join_asked, looping_asked}
+use Rattle.cotpad.proofs.Choosing.{edit_answered, explain_answered, gen_made, gen_counted, made_reported, replay_reported, serve_met, join_met, looped_as, looped_told, loop_done, serves_online, joins_online, loops_online, serve_asked, join_asked, looping_asked}
 use Rattle.cotpad.proofs.run.run.Goals as goal
+
+pub returns-in-Some-Replay-clause-untouched : goal.returns-in-Some-Replay-clause-untouched
+returns-in-Some-Replay-clause-untouched g c = λ other stopped.
+    let k = c.in-Some-Replay in
+    let f = k.field-0-is in
+    let is : k.field-0 ≡ command.Replay = cc in
+    absurd (other (subst (λ x. Spells c.args.words.now (command_data x)) is k.ensures.found))
+
+pub returns-in-Some-Replay-clause-complete : goal.returns-in-Some-Replay-clause-complete
+returns-in-Some-Replay-clause-complete g c = λ wanted offline spelled read written. replay_reported _ _ c.answer_replay.result c.answer_replay.ensures.answer read written
 
 pub returns-in-Some-Edit-clause-edit : goal.returns-in-Some-Edit-clause-edit
 returns-in-Some-Edit-clause-edit g c = λ site edit spelled.
