@@ -17,7 +17,7 @@ use Rattle.cotpad.specs.Outside.{Outside, told}
 use Rattle.cotpad.specs.Answers.{IsReplied, IsPartlyReplied}
 use Rattle.cotpad.specs.Replies.{IsScriptReport}
 use Rattle.cotpad.specs.Replaying.{IsReport, IsFrontOfReport, IsReportSoFar, IsUnreadReport, IsUnwrittenReport, IsReportOutOfMemory, IsReplayed}
-use Rattle.cotpad.specs.Code.Replaying.{IsPassed, KeepsBehind, IsReading, IsWaiting}
+use Rattle.cotpad.specs.Code.Replaying.{IsPassed, KeepsAfter, IsReading, IsWaiting}
 
 -- each script has its report
 abbrev pub ReportsAreThere : Type 0
@@ -79,12 +79,12 @@ without_rest bytes before rest front = (rest ++ front.0, front.1 ∙ append_asso
 -- ---- the lines that are there whole
 
 -- a reader that keeps anything keeps it behind nothing
-pub behind_none : (r : ReaderData) (out : List ℕ) → KeepsSome r → out ≡ [] → KeepsBehind r out
+pub behind_none : (r : ReaderData) (out : List ℕ) → KeepsSome r → out ≡ [] → KeepsAfter r out
 behind_none r out k none = record { all = k.all; before = k.written; keeps = subst (Keeps r k.all) (sym (append-nil k.written) ∙ ap (λ xs. k.written ++ xs) (sym none)) k.keeps }
 
 -- a line was done, and a front of what stands in `out` was written
-pub behind_on : (r s : ReaderData) (held now : Option (List ℕ)) (out mid new : List ℕ) → KeepsBehind r out
-    → ((all before : List ℕ) → Keeps r all (before ++ out) → Keeps s all (before ++ mid)) → IsPassed held now mid new → KeepsBehind s new
+pub behind_on : (r s : ReaderData) (held now : Option (List ℕ)) (out mid new : List ℕ) → KeepsAfter r out
+    → ((all before : List ℕ) → Keeps r all (before ++ out) → Keeps s all (before ++ mid)) → IsPassed held now mid new → KeepsAfter s new
 behind_on r s held now out mid new k on p = record {
   all = k.all;
   before = k.before ++ p.front;

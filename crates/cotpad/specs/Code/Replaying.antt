@@ -13,7 +13,7 @@ pub record IsPassed (held now : Option (List ℕ)) (piece rest : List ℕ) : Typ
   pub sent : Appends held now front
 
 -- a reader that keeps what was done of some bytes, of which `out` was reported last
-pub record KeepsBehind (r : ReaderData) (out : List ℕ) : Type 0 where
+pub record KeepsAfter (r : ReaderData) (out : List ℕ) : Type 0 where
   pub all : List ℕ
   pub before : List ℕ
   pub keeps : Keeps r all (before ++ out)

@@ -20,7 +20,7 @@ is_refused Done = false
 is_refused Awaited = false
 is_refused Refused = true
 
--- a line that isn't read for this cause was told as refused
+-- the refusal of a line that isn't read for this cause was written
 pub record TellsRefusal (why : LineBad) (number : ℕ) (old new : List ℕ) : Type 0 where
   pub cause : Refusal
   pub is : unread_by why ≡ Some cause
