@@ -17,7 +17,7 @@ bin/cotpad edit 1 ins 14 ', staff' < "$work/shared" > "$work/bob"
 bin/cotpad serve "$port" < "$work/ann" > "$work/ann.new" &
 server=$!
 
-# Ann's program waits a moment later; until then nobody listens, and `join` ends with status 6.
+# Until Ann's program waits at the port, `join` ends with status 6.
 tries=0
 status=6
 while [ "$status" -eq 6 ] && [ "$tries" -lt 50 ]; do
