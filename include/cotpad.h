@@ -8,8 +8,8 @@
  *  - Each pointer is not null and aligned for its type, points to memory that may be read and written, and no two of one
  *    call overlap. That holds for a buffer of no bytes too. A struct or number that a call writes has a value before:
  *    declare it with = {0}.
- *  - A cotpad_site begins as COTPAD_SITE_EMPTY. cotpad_open wants an empty one, and fills it where it answers COTPAD_OK;
- *    cotpad_load does as cotpad_open; cotpad_close wants a filled one, and empties it; every other call wants a filled
+ *  - A cotpad_site begins as COTPAD_SITE_EMPTY. cotpad_open needs an empty one, and fills it where it answers COTPAD_OK;
+ *    cotpad_load does as cotpad_open; cotpad_close needs a filled one, and empties it; every other call needs a filled
  *    one. The host reads and writes nothing in it, and uses no copy of it.
  *  - A site is used by one call at a time, and on the thread that made it.
  *  - No call is made from a signal handler, or in the child of a fork of a process with threads.
@@ -207,7 +207,7 @@ cotpad_status cotpad_text(cotpad_site *site, uint8_t *out, size_t room, size_t *
  * COTPAD_MALFORMED or COTPAD_EXTRA, and the site is as it was; or, of close and finish, with *why written, COTPAD_REFUSED, or
  * COTPAD_NO_MEMORY: then the operations of the message before that place are taken in, and the call may be made again after
  * COTPAD_NO_MEMORY. What is in the message already is a repeat, so cotpad_exchange_close may be made again after
- * COTPAD_TOO_SHORT too, when the operations are in and only the third message wants room. */
+ * COTPAD_TOO_SHORT too, when the operations are in and only the third message lacked room. */
 cotpad_status cotpad_exchange_offer(cotpad_site *site, uint8_t *out, size_t room, size_t *needed);
 cotpad_status cotpad_exchange_answer(cotpad_site *site, const uint8_t *first, size_t length, uint8_t *out, size_t room,
     size_t *needed, cotpad_verdict *why);

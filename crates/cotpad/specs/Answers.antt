@@ -1,4 +1,5 @@
--- What a command answers, and what it leaves in the source and in the sink: one table for all commands.
+-- What a command answers, and what it leaves in the source and in the sink: one table for the commands that read a log and reply
+-- to it, and one for those that read nothing.
 use Rattle.std.specs.Prelude.{◌≡◌, ◌≤◌, ◌<◌, ◌+◌, ◌++◌, Bool, true, false, List, ℕ, Option, Some, IfSome, drop, take, length}
 use Rattle.std.specs.Io.KnownBytes.{Appends, IsAtEnd}
 use Rattle.outside_io.specs.Faults.{Rose}

@@ -40,7 +40,7 @@ pub record IsReportSoFar (old new : Outside) (bytes : List ℕ) : Type 0 where
   pub no_line : All (λ b. b ≢ 10) tail
   pub reply : IsReplied IsScriptReport false old.held new.held whole
 
--- a read failed: the lines that ended before it are reported
+-- a read failed: the lines that ended before it are reported, whether before or after the failed read
 pub record IsUnreadReport (old new : Outside) : Type 0 where
   pub fault : Rose old.read_faults new.read_faults
   pub so_far : IfSome old.left (IsReportSoFar old new)

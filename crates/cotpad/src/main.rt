@@ -1,8 +1,8 @@
 //! The program: a script or a log comes in, and a report, a text or a log goes out.
 //!
 //! `run` is the whole program over any source, sink and wire. Each command has its row in the relation of words to
-//! commands, a definition of what it replies, and a file of its own; one table says of all of them which answer comes
-//! when, and what it leaves.
+//! commands, a definition of what it replies, and a file of its own; its table says which answer comes when, and what
+//! it leaves.
 #![tactic(auto)]
 
 mod answer;

@@ -25,8 +25,8 @@ const PIECE: usize = 65_536;
 /// A report of so many bytes is written before the next line is done.
 const ENOUGH: usize = 65_536;
 
-/// Reads a script as it comes, does its lines, and writes what they report: all that the lines there report before more is
-/// read. A script of more than `MAX_INPUT` bytes is refused at the line that passes these.
+/// Reads a script as it comes, does its lines, and writes what they report: before each read, all that the lines done so far
+/// report. A script of more than `MAX_INPUT` bytes is refused at the first line that doesn't end within these.
 ///
 /// A script is lines, each ended by a line feed, which the last one may lack. Lines that are empty or start
 /// with `#` do nothing. `sites N` comes first and makes N sites; then characters are inserted, deleted, undone

@@ -6,7 +6,7 @@ ghost use Rattle.cotpad.specs.Statuses.{code};
 /// How a call of `run` ended. The exit status is the variant's place, from 0.
 #[derive(Clone, Copy, Debug, PartialEq, Eq)]
 pub enum Status {
-    /// All was read and written, and nothing was refused.
+    /// The command was done, and nothing was refused.
     Done,
     /// What was read is refused; the last line written says why.
     Refused,

@@ -1,4 +1,4 @@
--- Reading a script that comes in pieces: what a reader keeps of the bytes fed, and of what was written for them.
+-- Reading a script that comes in pieces: what a reader knows of the bytes fed, and of the report written for them.
 use Rattle.std.specs.Prelude.{◌≡◌, ◌≢◌, ◌⊎◌, ℕ, ◌+◌, ◌-◌, ◌≤◌, false, List, [], ◌∷◌, ◌++◌, None, length, map, take, nat_le, if◌then◌else◌}
 use Rattle.std.specs.List.{All}
 use Rattle.script_text.specs.LeftLines.{InputData}

@@ -59,7 +59,7 @@ pub enum Next {
 /// A script that comes in pieces, which may be cut anywhere; its lines are done as they come.
 ///
 /// It *is* the lines that are left, the number of the next one, from 1, and the session that the lines before it left.
-/// `Keeps` says what that tells of all bytes fed. A line without an end costs no memory past its first `LONGEST + 1` bytes.
+/// `Keeps` relates these to all bytes fed. A line without an end costs no memory past its first `LONGEST + 1` bytes.
 #[derive(Drop)]
 pub struct ScriptReader {
     lines: LineStream,
@@ -100,8 +100,8 @@ impl ScriptReader {
         self.lines.feed(piece)
     }
 
-    /// Does the next line, if a line feed ended it, and appends what it reports. What was written before stands in front:
-    /// some bytes elsewhere, and then those of `out`.
+    /// Does the next line, if a line feed ended it, and appends what it reports. The report so far is what the caller has
+    /// written already, followed by `out`.
     ///
     /// Refused, the report is whole, however the script goes on. Out of memory, `out` is as it was. After either nothing
     /// is said of the reader.
