@@ -1,71 +1,72 @@
--- What a command read, and what it wrote, are what the source had and what the sink gained.
-use Rattle.std.proofs.Common.{◌≡◌, ℕ, ◌+◌, ◌≤◌, ◌<◌, ◌-◌, Bool, true, false, Option, None, Some, List, [], ◌++◌, refl, ap, sym, subst, ◌∙◌, arith, length, take, drop, length-drop}
-use Rattle.std.specs.Prelude.{Result, Ok, IfSome}
-use Rattle.std.proofs.lemmas.List.{take-append-drop, length-take}
-use Rattle.std.proofs.lemmas.Bool.{true≢false}
-use Rattle.std.specs.Io.KnownBytes.{Appends, IsAtEnd}
-use Rattle.outside_io.specs.Reading.{LosesFront}
+-- What a command appended to its output is written, and replies to what the source had.
+use Rattle.std.proofs.Common.{◌≡◌, Bool, true, Option, None, Some, List, ℕ, [], ◌++◌, refl, ap, subst, ◌∙◌, inl, inr}
+use Rattle.std.specs.Prelude.{IfSome}
+use Rattle.std.specs.Io.KnownBytes.{Appends}
 use Rattle.outside_io.specs.Writing.{WritesFront}
-use Rattle.outside_io.specs.declared.reading.Taken.{Taken}
-use Rattle.outside_io.specs.declared.reading.Taken.TheVariants.{End, Past}
-use Rattle.outside_io.specs.declared.reading.ReadBad.{ReadBad}
-use Rattle.outside_io.specs.declared.reading.TheConstants.{MAX_INPUT}
+use Rattle.cot_site.specs.States.{State}
 use Rattle.session_replay.specs.Scripts.{Report}
-use Rattle.cotpad.specs.Outside.{Grows}
-use Rattle.cotpad.specs.Answers.{IsTakenOf, IsAppended, IsReplied, IsPartlyReplied}
+use Rattle.cotpad.specs.Answers.{IsAppended, IsReplied, IsPartlyReplied}
+use Rattle.cotpad.specs.Replies.{IsLoadedAs, RepliesToLogBy, refusing}
+use Rattle.cotpad.specs.Code.Refusing.{IsRefusedInto}
 
--- the bytes are what was taken of those that the source had
-pub taken_of : (left : Option (List ℕ)) (result : Result Taken ReadBad) (t : Taken) (first input bytes : List ℕ)
-    → result ≡ Ok t → first ≡ [] → bytes ≡ input
-    → (result ≡ Ok End → IfSome left (λ all. (length all ≤ MAX_INPUT) × (input ≡ first ++ all)))
-    → (result ≡ Ok Past → IfSome left (λ all. (MAX_INPUT < length all) × (input ≡ first ++ take MAX_INPUT all)))
-    → IfSome left (IsTakenOf t bytes)
-taken_of None result t first input bytes is f same end past = tt
-taken_of (Some all) result End first input bytes is f same end past = let e = end is in (same ∙ e.1 ∙ ap (λ xs. xs ++ all) f, e.0)
-taken_of (Some all) result Past first input bytes is f same end past = let p = past is in (same ∙ p.1 ∙ ap (λ xs. xs ++ take MAX_INPUT all) f, p.0)
+-- ---- what is appended
 
--- the reply to what was taken was written
-pub replied : (replies : List ℕ → Report → Type 0) (held now left : Option (List ℕ)) (answer refused : Bool) (t : Taken) (bytes before piece new : List ℕ)
-    → refused ≡ answer → piece ≡ new → before ≡ [] → IfSome left (IsTakenOf t bytes)
-    → ((all : List ℕ) → IsTakenOf t bytes all → IsAppended replies refused all before new)
+-- where a state has one reply, this is appended
+pub once_replied : (to_state : State → Report) (s : State) (old new : List ℕ) (refused : Bool) → new ≡ old ++ (to_state s).written → (to_state s).refused ≡ refused
+    → IsAppended (λ t reply. reply ≡ to_state t) refused s old new
+once_replied to_state s old new refused added is = record { reply = to_state s; right = refl; told = is; appended = added }
+
+-- a site that was loaded from these bytes is replied to
+pub state_replied : (replies : List ℕ → Report → Type 0) (site : ℕ) (ToState : State → Report → Type 0) (s : State) (left : Option (List ℕ)) (old middle new : List ℕ) (refused : Bool)
+    → ((bytes : List ℕ) (reply : Report) → RepliesToLogBy site ToState bytes reply → replies bytes reply)
+    → IfSome left (λ bytes. IsLoadedAs site bytes s) → middle ≡ old → IsAppended ToState refused s middle new
+    → IfSome left (λ bytes. IsAppended replies refused bytes old new)
+state_replied replies site ToState s None old middle new refused by loaded same a = tt
+state_replied replies site ToState s (Some bytes) old middle new refused by loaded same a = record {
+  reply = a.reply;
+  right = by bytes a.reply (inr (s, loaded, a.right));
+  told = a.told;
+  appended = a.appended ∙ ap (λ xs. xs ++ a.reply.written) same;
+}
+
+-- bytes that are refused are replied by their line
+pub line_replied : (replies : List ℕ → Report → Type 0) (site : ℕ) (ToState : State → Report → Type 0) (left : Option (List ℕ)) (old new : List ℕ)
+    → ((bytes : List ℕ) (reply : Report) → RepliesToLogBy site ToState bytes reply → replies bytes reply)
+    → IfSome left (λ bytes. IsRefusedInto site bytes old new)
+    → IfSome left (λ bytes. IsAppended replies true bytes old new)
+line_replied replies site ToState None old new by refused = tt
+line_replied replies site ToState (Some bytes) old new by (line, is, added) = record {
+  reply = refusing line;
+  right = by bytes (refusing line) (inl (line, is, refl));
+  told = refl;
+  appended = added;
+}
+
+-- ---- what is written
+
+-- the reply to what the source had was written
+pub replied : (replies : List ℕ → Report → Type 0) (held now left : Option (List ℕ)) (answer refused : Bool) (before piece new : List ℕ)
+    → refused ≡ answer → piece ≡ new → before ≡ []
+    → IfSome left (λ bytes. IsAppended replies refused bytes before new)
     → Appends held now piece
     → IfSome left (IsReplied replies answer held now)
-replied replies held now None answer refused t bytes before piece new is same none taken right written = tt
-replied replies held now (Some all) answer refused t bytes before piece new is same none taken right written =
-    let a = right all taken in
-    record {
-      reply = a.reply;
-      right = a.right;
-      told = a.told ∙ is;
-      written = subst (Appends held now) (same ∙ a.appended ∙ ap (λ xs. xs ++ a.reply.written) none) written;
-    }
+replied replies held now None answer refused before piece new is same none a written = tt
+replied replies held now (Some bytes) answer refused before piece new is same none a written = record {
+  reply = a.reply;
+  right = a.right;
+  told = a.told ∙ is;
+  written = subst (Appends held now) (same ∙ a.appended ∙ ap (λ xs. xs ++ a.reply.written) none) written;
+}
 
 -- a front of it was
-pub partly_replied : (replies : List ℕ → Report → Type 0) (held now left : Option (List ℕ)) (refused : Bool) (t : Taken) (bytes before piece new : List ℕ)
-    → piece ≡ new → before ≡ [] → IfSome left (IsTakenOf t bytes)
-    → ((all : List ℕ) → IsTakenOf t bytes all → IsAppended replies refused all before new)
+pub partly_replied : (replies : List ℕ → Report → Type 0) (held now left : Option (List ℕ)) (refused : Bool) (before piece new : List ℕ)
+    → piece ≡ new → before ≡ []
+    → IfSome left (λ bytes. IsAppended replies refused bytes before new)
     → WritesFront held now piece
     → IfSome left (IsPartlyReplied replies held now)
-partly_replied replies held now None refused t bytes before piece new same none taken right written = tt
-partly_replied replies held now (Some all) refused t bytes before piece new same none taken right written =
-    let a = right all taken in
-    record {
-      reply = a.reply;
-      right = a.right;
-      front = subst (WritesFront held now) (same ∙ a.appended ∙ ap (λ xs. xs ++ a.reply.written) none) written;
-    }
-
--- a reply that refuses nothing answers an input that was read to its end
-pub at_end : (left : Option (List ℕ)) (result : Result Taken ReadBad) (t : Taken) (refused : Bool)
-    → result ≡ Ok t → (result ≡ Ok End → IsAtEnd left) → (t ≡ Past → refused ≡ true) → refused ≡ false → IsAtEnd left
-at_end left result End refused is end past not = end is
-at_end left result Past refused is end past not = absurd (true≢false (sym (past refl) ∙ not))
-
--- an input that was read is a front of what was left
-pub loses_input : (n : ℕ) (old new : Option (List ℕ)) → IfSome old (λ bytes. new ≡ Some (drop n bytes)) → LosesFront n old new
-loses_input n None new read = record { front = []; few = omega arith; lost = tt }
-loses_input n (Some bytes) new read = subst (LosesFront n (Some bytes)) (sym read) (record {
-  front = take n bytes;
-  few = let size = length-take n bytes in omega (arith, size);
-  lost = sym (take-append-drop n bytes);
-})
+partly_replied replies held now None refused before piece new same none a written = tt
+partly_replied replies held now (Some bytes) refused before piece new same none a written = record {
+  reply = a.reply;
+  right = a.right;
+  front = subst (WritesFront held now) (same ∙ a.appended ∙ ap (λ xs. xs ++ a.reply.written) none) written;
+}

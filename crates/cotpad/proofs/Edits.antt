@@ -1,6 +1,6 @@
 -- An edit as it is done makes what is defined.
-use Rattle.std.proofs.Common.{◌≡◌, ℕ, suc, ◌+◌, ◌<◌, ◌≤◌, true, List, [], ◌∷◌, ◌++◌, refl, sym, ap, subst, ◌∙◌, arith, length, drop, get_or}
-use Rattle.std.specs.Prelude.{⊤, OnOk, OnErr, Option, Some, None, Result, Ok, Err}
+use Rattle.std.proofs.Common.{◌≡◌, ℕ, suc, ◌+◌, ◌<◌, ◌≤◌, true, List, ◌∷◌, ◌++◌, refl, sym, ap, subst, ◌∙◌, arith, length, drop, get_or}
+use Rattle.std.specs.Prelude.{⊤, Bool, OnOk, OnErr, IfOk, Option, Some, None, Result, Ok, Err}
 use Rattle.std.proofs.Math.Seq.{drop-cons}
 use Rattle.std.proofs.lemmas.List.{drop_all}
 use Rattle.context_diff.specs.Operations.{OpData, inserting}
@@ -13,9 +13,12 @@ use Rattle.cot_site.specs.Commands.{local_insert, place_behind, numbered, next_n
 use Rattle.cot_site.specs.declared.local.Local.{Local}
 use Rattle.cot_site.specs.declared.local.Local.TheVariants as local
 use Rattle.session_replay.proofs.CallerLemmas.{behind_few}
-use Rattle.cotpad.specs.Editing.{made, then_next, typed}
+use Rattle.cotpad.specs.Answers.{IsAppended}
+use Rattle.cotpad.specs.Commands.{EditData}
+use Rattle.cotpad.specs.Editing.{edited, made, then_next, typed}
 use Rattle.cotpad.specs.Code.Editing.{IsDone, IsEditReply}
 use Rattle.cotpad.specs.Replies.{edit_reply, refused_edit_text}
+use Rattle.cotpad.proofs.Answering.{once_replied}
 
 -- an operation was made, and all was released
 pub made_is : (s : State) (r : Result OpData Local) (o : OpData) (after end : State) → r ≡ Ok o → after ≡ with_last s o → end ≡ settled after → made s r ≡ Ok end
@@ -96,3 +99,9 @@ refused_reply edit why t old new done never added =
     reason local.NumberFull done never = done
     reason (local.ContextFull entries) done never = done
     reason local.Memory done never = absurd (never refl)
+
+-- an edit that was replied to is a reply to the state
+pub edit_replied : {E : Type 0} (edit : EditData) (s : State) (old new : List ℕ) (r : Result Bool E) → IfOk r (IsEditReply (edited s edit) old new)
+    → IfOk r (λ refused. IsAppended (λ t reply. reply ≡ edit_reply (edited t edit)) refused s old new)
+edit_replied edit s old new (Ok refused) h = once_replied (λ t. edit_reply (edited t edit)) s old new refused h.written h.told
+edit_replied edit s old new (Err e) h = tt

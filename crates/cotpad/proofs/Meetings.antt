@@ -1,14 +1,11 @@
 -- What an exchange leaves, and what is written of it, is an answer.
 use Rattle.std.proofs.Common.{◌≡◌, ◌⊎◌, ℕ, ◌+◌, Option, None, Some, List, [], ◌++◌, refl, sym, ap, subst, ◌∙◌, inl, inr, true}
-use Rattle.std.specs.Prelude.{Result, Ok, Err, IfOk, IfErr, IfSome, drop}
+use Rattle.std.specs.Prelude.{Result, Ok, Err, IfOk, IfErr, IfSome}
 use Rattle.std.specs.Io.KnownBytes.{Appends, IsAtEnd}
 use Rattle.outside_io.specs.Ends.{End}
-use Rattle.outside_io.specs.Faults.{Rose}
-use Rattle.outside_io.specs.Reading.{LosesFront}
 use Rattle.outside_io.specs.Writing.{WritesFront}
 use Rattle.outside_io.specs.declared.reading.TheConstants.{MAX_INPUT}
 use Rattle.cot_site.specs.States.{State}
-use Rattle.cot_site.specs.Sites.{SiteData, state_of}
 use Rattle.peer_exchange.specs.declared.messages.PeerCause.TheVariants.{Cut}
 use Rattle.peer_exchange.specs.declared.peer.Peer.{Peer}
 use Rattle.peer_exchange.specs.declared.peer.Peer.TheVariants.{Bytes}
@@ -28,7 +25,7 @@ use Rattle.cotpad.specs.Wired.{Wired}
 use Rattle.cotpad.specs.Code.Meeting.{IsMetTold, IsRefusalWritten}
 use Rattle.cotpad.specs.Code.Stopping.{IsStopTold}
 use Rattle.cotpad.specs.Code.Refusing.{IsRefusedInto}
-use Rattle.cotpad.proofs.Answering.{loses_input}
+use Rattle.cotpad.proofs.Logs.{loses_input}
 use Rattle.cotpad.proofs.OneReply.{not_both}
 
 -- what the exchange of a loaded site left
@@ -195,13 +192,7 @@ not_refused one left log before line s is there given =
     let at : IsRefusedInto 0 log before line = subst (λ o. IfSome o (λ bytes. IsRefusedInto 0 bytes before line)) is there in
     not_both one 0 log at.0 s at.1 given
 
--- ---- what was loaded, and what was told
-
-pub loaded_of : (left : Option (List ℕ)) (r : Option SiteData) (P : List ℕ → Type 0) → IfSome left P → ((all : List ℕ) → P all → IfSome r (λ s. IsLoadedAs 0 all (state_of s)))
-    → IfSome r (λ s. IfSome left (λ bytes. IsLoadedAs 0 bytes (state_of s)))
-loaded_of None None P taken loads = tt
-loaded_of None (Some s) P taken loads = tt
-loaded_of (Some all) r P taken loads = loads all taken
+-- ---- what was told
 
 pub told_of_log : (r : Result (ℕ × ℕ) Node) (counts : ℕ × ℕ) (log : List ℕ) (old new : Outside) (status : Status) → r ≡ Ok counts → IsMade log old new status → IsMetTold r log old new status
 told_of_log r counts log old new status is made = subst (λ x. IsMetTold x log old new status) (sym is) made

@@ -1,6 +1,6 @@
 -- Explanations: what was appended is the reply of `explain`.
 use Rattle.std.proofs.Common.{◌≡◌, ℕ, suc, ◌+◌, ◌<◌, Bool, true, false, List, [], ◌∷◌, ◌++◌, refl, ap, sym, subst, ◌∙◌, inl, inr, arith, length, take, get_or, append_assoc}
-use Rattle.std.specs.Prelude.{Result, Ok, Err, IfOk, IsTrue, ◌↔◌}
+use Rattle.std.specs.Prelude.{IsTrue, ◌↔◌}
 use Rattle.std.proofs.lemmas.Bool.{false≢true, false_from_ne_true}
 use Rattle.std.proofs.lemmas.List.{append-nil, take_more, take_all, length-take}
 use Rattle.op_name.specs.declared.member.Member.{Member}
@@ -12,9 +12,8 @@ use Rattle.trace_explain.specs.Listings.{IsTraceOf}
 use Rattle.trace_explain.specs.Laws.{EndsInExecutedForm}
 use Rattle.cot_site.specs.States.{State}
 use Rattle.cotpad.specs.Answers.{IsAppended}
-use Rattle.cotpad.specs.Replies.{IsLoadedAs, accepting, refusing}
-use Rattle.cotpad.specs.Explaining.{IsExplained, IsExplainedIn, IsExplanation, line_text, lines_text, unknown_text}
-use Rattle.cotpad.specs.Code.Explaining.{IsExplainReply}
+use Rattle.cotpad.specs.Replies.{accepting, refusing}
+use Rattle.cotpad.specs.Explaining.{IsExplainedIn, IsExplanation, line_text, lines_text, unknown_text}
 
 lines_text-push : (n : ℕ) (ls : List TraceLine) (l : TraceLine) → lines_text n (ls ++ l ∷ []) ≡ lines_text n ls ++ line_text (n + length ls) l
 lines_text-push n [] l =
@@ -56,12 +55,12 @@ explanation h m lines valid short ends listed right = record {
 }
 
 -- the lines of the explanation were appended
-pub lines_replied : (m : Member) (s : State) (lines : List TraceLine) (old new : List ℕ) → is_known s.history m ≡ true → IsExplanation s.history m lines → new ≡ old ++ lines_text 1 lines → IsExplainReply m s old new false
+pub lines_replied : (m : Member) (s : State) (lines : List TraceLine) (old new : List ℕ) → is_known s.history m ≡ true → IsExplanation s.history m lines → new ≡ old ++ lines_text 1 lines → IsAppended (IsExplainedIn m) false s old new
 lines_replied m s lines old new known is written = record {
   reply = accepting (lines_text 1 lines);
   right = inr (known, (lines, is, refl));
   told = refl;
-  written = written;
+  appended = written;
 }
 
 -- the same of what `trace` gave
@@ -69,7 +68,7 @@ pub trace_replied : (h : List OpData) (m : Member) (s : State) (found : Bool) (f
     → h ≡ s.history → IsValid h → length h < 4294967296 → EndsInExecutedForm
     → found ≡ true → (IsTrue found ↔ (is_known h m ≡ true)) → first ≡ []
     → (found ≡ true → (lines : List TraceLine) × IsTraceOf h m lines × IsTrace h m lines × (items ≡ first ++ lines))
-    → given ≡ items → new ≡ old ++ lines_text 1 given → IsExplainReply m s old new false
+    → given ≡ items → new ≡ old ++ lines_text 1 given → IsAppended (IsExplainedIn m) false s old new
 trace_replied h m s found first items given old new of valid short ends there known none trace same written =
     let t = trace there in
     let lines : given ≡ t.0 = same ∙ t.3 ∙ ap (λ (ls : List TraceLine). ls ++ t.0) none in
@@ -79,29 +78,18 @@ trace_replied h m s found first items given old new of valid short ends there kn
     (written ∙ ap (λ (ls : List TraceLine). old ++ lines_text 1 ls) lines)
 
 -- the line of a member that isn't integrated was appended
-pub unknown_replied : (m : Member) (s : State) (old new : List ℕ) → is_known s.history m ≡ false → new ≡ old ++ unknown_text m → IsExplainReply m s old new true
+pub unknown_replied : (m : Member) (s : State) (old new : List ℕ) → is_known s.history m ≡ false → new ≡ old ++ unknown_text m → IsAppended (IsExplainedIn m) true s old new
 unknown_replied m s old new lacking written = record {
   reply = refusing (unknown_text m);
   right = inl (lacking, refl);
   told = refl;
-  written = written;
+  appended = written;
 }
 
 -- the same where `trace` gave nothing
 pub nothing_replied : (h : List OpData) (m : Member) (s : State) (found : Bool) (old new : List ℕ)
-    → h ≡ s.history → found ≡ false → (IsTrue found ↔ (is_known h m ≡ true)) → new ≡ old ++ unknown_text m → IsExplainReply m s old new true
+    → h ≡ s.history → found ≡ false → (IsTrue found ↔ (is_known h m ≡ true)) → new ≡ old ++ unknown_text m → IsAppended (IsExplainedIn m) true s old new
 nothing_replied h m s found old new of missing known written =
     unknown_replied m s old new
     (ap (λ (k : List OpData). is_known k m) (sym of) ∙ false_from_ne_true (is_known h m) (λ e. false≢true (sym missing ∙ known.1 e)))
     written
-
--- a loaded site is replied to
-pub explain_replied : {E : Type 0} (m : Member) (s : State) (all old middle new : List ℕ) (r : Result Bool E) → IsLoadedAs 0 all s → middle ≡ old → IfOk r (IsExplainReply m s middle new)
-    → IfOk r (λ refused. IsAppended (IsExplained m) refused all old new)
-explain_replied m s all old middle new (Ok refused) at same h = record {
-  reply = h.reply;
-  right = inr (s, at, h.right);
-  told = h.told;
-  appended = h.written ∙ ap (λ xs. xs ++ h.reply.written) same;
-}
-explain_replied m s all old middle new (Err e) at same h = tt

@@ -1,11 +1,9 @@
 -- What a command answers, and what it leaves in the source and in the sink: one table for all commands.
-use Rattle.std.specs.Prelude.{◌≡◌, ◌≤◌, ◌<◌, ◌+◌, ◌++◌, Bool, true, false, List, ℕ, Option, Some, IfSome, drop, take, length}
+use Rattle.std.specs.Prelude.{◌≡◌, ◌+◌, ◌++◌, Bool, true, false, List, ℕ, Option, Some, IfSome, drop}
 use Rattle.std.specs.Io.KnownBytes.{Appends, IsAtEnd}
 use Rattle.outside_io.specs.Faults.{Rose}
 use Rattle.outside_io.specs.Reading.{LosesFront}
 use Rattle.outside_io.specs.Writing.{WritesFront}
-use Rattle.outside_io.specs.declared.reading.Taken.{Taken}
-use Rattle.outside_io.specs.declared.reading.Taken.TheVariants.{End, Past}
 use Rattle.outside_io.specs.declared.reading.TheConstants.{MAX_INPUT}
 use Rattle.session_replay.specs.Scripts.{Report}
 use Rattle.cotpad.specs.declared.status.Status.{Status}
@@ -84,16 +82,11 @@ IsMade text old new Memory = (new.held ≡ old.held) × (new.write_faults ≡ ol
 IsMade text old new LinkFault = ⊥
 IsMade text old new PeerRefused = ⊥
 
--- ---- what was taken of an input
+-- ---- what commands append
 
--- these bytes were taken of all: they are all, or the first of too many
-abbrev pub IsTakenOf : Taken → List ℕ → List ℕ → Type 0
-IsTakenOf End bytes all = (bytes ≡ all) × (length all ≤ MAX_INPUT)
-IsTakenOf Past bytes all = (bytes ≡ take MAX_INPUT all) × (MAX_INPUT < length all)
-
--- a reply to all, which refuses something or not, stands after what was there
-pub record IsAppended (replies : Replies) (refused : Bool) (all old new : List ℕ) : Type 0 where
+-- a reply to this, an input or a state, which refuses something or not, stands after what was there
+pub record IsAppended {A : Type 0} (replies : A → Report → Type 0) (refused : Bool) (this : A) (old new : List ℕ) : Type 0 where
   pub reply : Report
-  pub right : replies all reply
+  pub right : replies this reply
   pub told : reply.refused ≡ refused
   pub appended : new ≡ old ++ reply.written

@@ -1,6 +1,6 @@
 //! The command `edit`.
 
-ghost use Rattle.std.specs.Prelude.{◌≡◌, ◌≢◌, ◌++◌, ◌<◌, ℕ, List, true, chars, Err, IfOk, OnOk, OnErr};
+ghost use Rattle.std.specs.Prelude.{◌≡◌, ◌≢◌, ◌++◌, ◌<◌, chars, Err, IfOk, OnOk, OnErr};
 ghost use Rattle.op_name.specs.declared.name.TheConstants.{SITES};
 ghost use Rattle.cot_site.specs.Sites.{state_of};
 ghost use Rattle.cot_site.specs.Releases.{settled};
@@ -12,10 +12,8 @@ ghost use Rattle.cotpad.specs.Code.Editing.{IsDone, IsEditReply};
 
 use crate::answer::Replies;
 use crate::command::Edit;
-use crate::loaded::load_or_refuse;
 use cot_site::{Local, Site};
 use op_name::{Memory, Name};
-use outside_io::Taken;
 use script_text::local_line;
 use session_log::write_log;
 use std::alloc::Global;
@@ -31,21 +29,22 @@ pub(crate) struct Editing<'a> {
 impl<'a> Replies for Editing<'a> {
     ghost replies = { λ e. IsEdited e.site (edit_data e.edit) };
 
+    ghost number = { λ e. e.site };
+
+    ghost replies_to = { λ e s reply. reply ≡ edit_reply (edited s (edit_data e.edit)) };
+
     ghost in_range = { λ e. e.site < SITES };
 
-    fn reply(
-        &self,
-        alloc: Global,
-        taken: Taken,
-        bytes: &[u8],
-        out: &mut Vec<u8>,
-    ) -> Result<bool, Memory> {
-        match load_or_refuse(alloc, self.site, taken, bytes, out) {
-            Ok(Some(mut site)) => edit_log(alloc, &mut site, &self.edit, out),
-            Ok(None) => Ok(true),
-            Err(memory) => Err(memory),
-        }
+    fn site(&self) -> u16 {
+        self.site
     }
+
+    fn reply(&self, alloc: Global, site: Site, out: &mut Vec<u8>) -> Result<bool, Memory> {
+        let mut site = site;
+        edit_log(alloc, &mut site, &self.edit, out)
+    }
+
+    ghost by_log = { λ _ bytes reply it. it };
 }
 
 // Edits the site, and appends its log, or why the edit is refused. Answers whether it is.

@@ -1,15 +1,13 @@
 //! The command `explain`.
 
-ghost use Rattle.std.specs.Prelude.{◌≡◌, ◌++◌, ℕ, List, true, IfOk, OnOk};
+ghost use Rattle.std.specs.Prelude.{◌≡◌, ◌++◌, IfOk, OnOk};
 ghost use Rattle.cot_site.specs.Sites.{state_of};
-ghost use Rattle.cotpad.specs.Explaining.{IsExplained, line_text, lines_text, unknown_text};
-ghost use Rattle.cotpad.specs.Code.Explaining.{IsExplainReply};
+ghost use Rattle.cotpad.specs.Answers.{IsAppended};
+ghost use Rattle.cotpad.specs.Explaining.{IsExplained, IsExplainedIn, line_text, lines_text, unknown_text};
 
 use crate::answer::Replies;
-use crate::loaded::load_or_refuse;
 use cot_site::Site;
 use op_name::{Member, Memory};
-use outside_io::Taken;
 use script_text::{base_line, put_member, step_line};
 use std::alloc::Global;
 use trace_explain::{TraceLine, ends_in_executed_form, trace};
@@ -23,21 +21,21 @@ pub(crate) struct Explaining {
 impl Replies for Explaining {
     ghost replies = { λ e. IsExplained e.member };
 
+    ghost number = { λ _. 0 };
+
+    ghost replies_to = { λ e. IsExplainedIn e.member };
+
     ghost in_range = { λ _. Unit {0} };
 
-    fn reply(
-        &self,
-        alloc: Global,
-        taken: Taken,
-        bytes: &[u8],
-        out: &mut Vec<u8>,
-    ) -> Result<bool, Memory> {
-        match load_or_refuse(alloc, 0, taken, bytes, out) {
-            Ok(Some(site)) => explain_member(alloc, &site, &self.member, out),
-            Ok(None) => Ok(true),
-            Err(memory) => Err(memory),
-        }
+    fn site(&self) -> u16 {
+        0
     }
+
+    fn reply(&self, alloc: Global, site: Site, out: &mut Vec<u8>) -> Result<bool, Memory> {
+        explain_member(alloc, &site, &self.member, out)
+    }
+
+    ghost by_log = { λ _ bytes reply it. it };
 }
 
 // Appends the steps of the member, or the line that it isn't integrated. Answers whether it isn't.
@@ -47,7 +45,7 @@ fn explain_member(
     member: &Member,
     out: &mut Vec<u8>,
 ) -> Result<bool, Memory>
-    ensures { IfOk result (IsExplainReply member.now (state_of site.now) out.old.items out.new.items) }
+    ensures { IfOk result (λ refused. IsAppended (IsExplainedIn member.now) refused (state_of site.now) out.old.items out.new.items) }
 {
     let book = site.book();
     book.known();

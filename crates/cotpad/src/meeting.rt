@@ -1,12 +1,10 @@
 //! The commands `serve` and `join`.
 
-ghost use Rattle.std.specs.Prelude.{◌≡◌, ◌≢◌, ◌⊎◌, ◌+◌, ◌≤◌, ℕ, List, Option, min, Ok, Err, drop, IfOk, IfErr, IfSome, IfNone, OnOk, OnErr, Some};
-ghost use Rattle.std.specs.Io.KnownBytes.{Appends, IsAtEnd};
+ghost use Rattle.std.specs.Prelude.{◌≡◌, ◌≢◌, ◌⊎◌, ◌+◌, ℕ, List, Option, min, Ok, Err, IfOk, IfErr, IfSome, Some};
+ghost use Rattle.std.specs.Io.KnownBytes.{Appends};
 ghost use Rattle.outside_io.specs.Ends.{IsUnlinked};
-ghost use Rattle.outside_io.specs.Faults.{Rose, last_count};
-ghost use Rattle.outside_io.specs.Reading.{LosesFront};
+ghost use Rattle.outside_io.specs.Faults.{last_count};
 ghost use Rattle.outside_io.specs.declared.link.Asked.TheVariants as link;
-ghost use Rattle.outside_io.specs.declared.reading.TheConstants.{MAX_INPUT};
 ghost use Rattle.cot_site.specs.Sites.{state_of};
 ghost use Rattle.cot_site.specs.States.{State};
 ghost use Rattle.peer_exchange.specs.declared.peer.Peer as declared;
@@ -16,17 +14,15 @@ ghost use Rattle.site_node.specs.Stops.{OnlyLinkFails};
 ghost use Rattle.cotpad.specs.Answers.{IsMade};
 ghost use Rattle.cotpad.specs.Meeting.{Side, serving, joining, IsMeeting, AgreesWithPeer, AreFaultless};
 ghost use Rattle.cotpad.specs.Outside.{told};
-ghost use Rattle.cotpad.specs.Replies.{IsLoadedAs};
 ghost use Rattle.cotpad.specs.Wired.{wired};
 ghost use Rattle.cotpad.specs.Code.Meeting.{IsMetTold, IsRefusalWritten};
-ghost use Rattle.cotpad.specs.Code.Refusing.{IsRefusedInto};
 
-use crate::loaded::load_or_refuse;
+use crate::loaded::load_input;
 use crate::refusals::tell_stop;
 use crate::status::Status;
 use cot_site::Site;
 use op_name::Memory;
-use outside_io::{Failed, ReadBad, Sink, Source, Wire, read_whole, write_whole};
+use outside_io::{Failed, ReadBad, Sink, Source, Wire, write_whole};
 use peer_exchange::{Peer, PeerCause, agreeing_sites_are_not_refused, taking_in_keeps_histories};
 use session_log::{one_loading, write_log};
 use site_node::{Node, join, serve};
@@ -145,7 +141,7 @@ pub(crate) fn answer_met<P: Meets, S: Source, K: Sink, W: Wire>(
 {
     one_loading();
     let mut out = Vec::new(alloc);
-    match load_input(alloc, source, &mut out) {
+    match load_input(alloc, 0, source, &mut out) {
         Ok(Some(mut site)) => {
             let met = peer.meet(alloc, &mut site, wire);
             tell_met(alloc, &site, met, sink)
@@ -153,31 +149,6 @@ pub(crate) fn answer_met<P: Meets, S: Source, K: Sink, W: Wire>(
         Ok(None) => write_refusal(&out, sink),
         Err(ReadBad::Fault) => Status::ReadFault,
         Err(ReadBad::Memory) => Status::Memory,
-    }
-}
-
-// The site that the input gives as a log. None where the input is refused; then the line that says why was appended.
-fn load_input<S: Source>(
-    alloc: Global,
-    source: &mut S,
-    out: &mut Vec<u8>,
-) -> Result<Option<Site>, ReadBad>
-    ensures loaded { IfOk result (λ r. IfSome r (λ s. IfSome (S.left source.old) (λ bytes. IsLoadedAs 0 bytes (state_of s)))) }
-    ensures refused { IfOk result (λ r. IfNone r (IfSome (S.left source.old) (λ bytes. IsRefusedInto 0 bytes out.old.items out.new.items))) }
-    ensures ended { IfOk result (λ r. IfSome r (λ s. IsAtEnd (S.left source.new))) }
-    ensures rest { OnOk result (IfSome (S.left source.old) (λ bytes. S.left source.new ≡ Some (drop (MAX_INPUT + 1) bytes))) }
-    ensures well { OnOk result (S.faults source.new ≡ S.faults source.old) }
-    ensures lost { OnErr result (LosesFront (MAX_INPUT + 1) (S.left source.old) (S.left source.new)) }
-    ensures fault { result ≡ Err ReadBad.Fault → Rose (S.faults source.old) (S.faults source.new) }
-    ensures memory { result ≡ Err ReadBad.Memory → S.faults source.new ≡ S.faults source.old }
-{
-    let mut input = Vec::new(alloc);
-    match read_whole(source, &mut input) {
-        Ok(taken) => match load_or_refuse(alloc, 0, taken, &input, out) {
-            Ok(loaded) => Ok(loaded),
-            Err(Memory) => Err(ReadBad::Memory),
-        },
-        Err(why) => Err(why),
     }
 }
 

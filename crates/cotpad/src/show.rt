@@ -1,14 +1,12 @@
 //! The command `show`.
 
-ghost use Rattle.std.specs.Prelude.{◌≡◌, ◌++◌, ℕ, List, true, IfOk, OnOk};
+ghost use Rattle.std.specs.Prelude.{◌≡◌, ◌++◌, OnOk};
 ghost use Rattle.cot_site.specs.Sites.{state_of};
 ghost use Rattle.cotpad.specs.Replies.{IsShown, shown_reply};
 
 use crate::answer::Replies;
-use crate::loaded::load_or_refuse;
 use cot_site::Site;
 use op_name::Memory;
-use outside_io::Taken;
 use script_text::shown_lines;
 use std::alloc::Global;
 
@@ -19,24 +17,22 @@ pub(crate) struct Show;
 impl Replies for Show {
     ghost replies = { λ _. IsShown };
 
+    ghost number = { λ _. 0 };
+
+    ghost replies_to = { λ _ s reply. reply ≡ shown_reply s };
+
     ghost in_range = { λ _. Unit {0} };
 
-    fn reply(
-        &self,
-        alloc: Global,
-        taken: Taken,
-        bytes: &[u8],
-        out: &mut Vec<u8>,
-    ) -> Result<bool, Memory> {
-        match load_or_refuse(alloc, 0, taken, bytes, out) {
-            Ok(Some(site)) => {
-                show_text(alloc, &site, out)?;
-                Ok(false)
-            }
-            Ok(None) => Ok(true),
-            Err(memory) => Err(memory),
-        }
+    fn site(&self) -> u16 {
+        0
     }
+
+    fn reply(&self, alloc: Global, site: Site, out: &mut Vec<u8>) -> Result<bool, Memory> {
+        show_text(alloc, &site, out)?;
+        Ok(false)
+    }
+
+    ghost by_log = { λ _ bytes reply it. it };
 }
 
 /// Appends the lines of the text that the site shows.

@@ -232,7 +232,7 @@ fn a_line_is_refused_that_is_too_long_or_no_text(rt: HostRuntime) -> Result<(), 
 #[test]
 fn a_log_is_shown_or_refused(rt: HostRuntime) -> Result<(), Fail> {
     let alloc = rt.alloc();
-    let cases: [(&str, &str, Status, &str); 6] = [
+    let cases: [(&str, &str, Status, &str); 7] = [
         ("two operations", "hab", Status::Done, "text 2 2\nab\n"),
         ("the later one first", "hba", Status::Done, "text 2 2\nab\n"),
         ("no operation", "h", Status::Done, "text 0 0\n\n"),
@@ -249,13 +249,32 @@ fn a_log_is_shown_or_refused(rt: HostRuntime) -> Result<(), Fail> {
             Status::Refused,
             "refused log op 29 forged 0.1\n",
         ),
+        (
+            "another operation of a name, and then a frame that is cut",
+            "hafc",
+            Status::Refused,
+            "refused log cut 50\n",
+        ),
     ];
     for (why, pieces, status, reply) in cases {
         let log = bytes_of(alloc, pieces)?;
         let (ended, held) = called(alloc, "show", &log, 16, &[], &[])?;
         assert_eq!(rt; ended, status, "{why}");
         assert_eq!(rt; held.as_slice(), reply.as_bytes(), "{why}");
+        let (ended, held) = called(alloc, "show", &log, 1, &[], &[])?;
+        assert_eq!(rt; ended, status, "{why}, byte by byte");
+        assert_eq!(rt; held.as_slice(), reply.as_bytes(), "{why}, byte by byte");
     }
+    Ok(())
+}
+
+#[test]
+fn a_log_whose_third_read_fails_is_not_shown(rt: HostRuntime) -> Result<(), Fail> {
+    let alloc = rt.alloc();
+    let log = bytes_of(alloc, "hab")?;
+    let (ended, held) = called(alloc, "show", &log, 16, &[2], &[])?;
+    assert_eq!(rt; ended, Status::ReadFault);
+    assert_eq!(rt; held.len(), 0);
     Ok(())
 }
 

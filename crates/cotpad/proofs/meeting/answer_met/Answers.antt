@@ -24,7 +24,7 @@ returns-in-Ok-Some-clause-answer g c =
       cut = m.cut;
       cause = m.cause;
       link = record { asked = m.asked; asks = m.asks; peer = m.peer; other_sent = m.other_sent; other_received = m.other_received };
-      input = record { read = k.ensures.rest; faultless = k.ensures.well };
+      input = record { read = k.ensures.rest; faultless = k.ensures.no_fault (λ e. absurd cc) };
       at_end = if_some k.field-0 k.site (λ s. IsAtEnd (g.S.Source.left c.load_input.new.source)) is k.ensures.ended;
     })
     (c.tell_met.ensures.told _ _ _ _)
@@ -52,7 +52,7 @@ returns-in-Ok-None-clause-answer g c =
     let refused = if_none k.field-0 (IfSome left (λ bytes. IsRefusedInto 0 bytes c.new-out.result.items c.load_input.new.out.items)) is k.ensures.refused in
     refused_answered (g.P.Meets.side c.args.peer.now) (g.P.Meets.port c.args.peer.now) c.new-out.result.items c.deref.result.now _ _ _ _ c.write_refusal.result c.new-out.ensures.items
     (subst (λ line. IfSome left (λ bytes. IsRefusedInto 0 bytes c.new-out.result.items line)) (sym c.deref.ensures.value) refused)
-    (record { read = k.ensures.rest; faultless = k.ensures.well }) refl
+    (record { read = k.ensures.rest; faultless = k.ensures.no_fault (λ e. absurd cc) }) refl
     (c.write_refusal.ensures.written _ _ _ _)
 
 pub returns-in-Ok-None-clause-complete : goal.returns-in-Ok-None-clause-complete
