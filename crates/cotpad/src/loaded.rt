@@ -114,8 +114,8 @@ fn feed_piece<S: Source>(
     }
 }
 
-// A function of its own, so that no goal spells out so long a list.
-fn empty_piece() -> [u8; PIECE] {
+/// Room for what is read at once. A function of its own, so that no goal spells out so long a list.
+pub(crate) fn empty_piece() -> [u8; PIECE] {
     [0; PIECE]
 }
 

@@ -19,9 +19,6 @@ use session_replay::{
 };
 use std::alloc::Global;
 
-/// How many bytes are read at once.
-const PIECE: usize = 65_536;
-
 /// A report of so many bytes is written before the next line is done.
 const ENOUGH: usize = 65_536;
 
@@ -179,9 +176,4 @@ fn flush<K: Sink>(sink: &mut K, out: &mut Vec<u8>, least: usize) -> Result<(), S
         }
         Err(Failed) => Err(Status::WriteFault),
     }
-}
-
-// A function of its own, so that no goal spells out so long a list.
-fn empty_piece() -> [u8; PIECE] {
-    [0; PIECE]
 }
