@@ -11,6 +11,7 @@ ghost use Rattle.cotpad.specs.Replies.{IsScriptReport};
 ghost use Rattle.cotpad.specs.Replaying.{IsReplayed};
 ghost use Rattle.cotpad.specs.Code.Replaying.{IsPassed, IsReading, IsWaiting};
 
+use crate::loaded::empty_piece;
 use crate::status::Status;
 use op_name::Memory;
 use outside_io::{Failed, MAX_INPUT, Sink, Source, write_whole};
