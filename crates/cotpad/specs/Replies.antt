@@ -39,7 +39,7 @@ accepting written = record { written = written; refused = false }
 abbrev pub refusing : List ℕ → Report
 refusing line = record { written = line; refused = true }
 
--- the line of an input that is too long: it is refused before it is looked at
+-- the line of an input that is too long: it is refused so, whatever stands in it
 abbrev pub limit_line : List ℕ
 limit_line = codes "refused limit\n"
 
