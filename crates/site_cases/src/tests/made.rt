@@ -195,7 +195,7 @@ fn all_derived(alloc: Global, site: &Site) -> Result<bool, Fail> {
 #[test]
 fn forms_of_made_sessions(rt: HostRuntime) -> Result<(), Fail> {
     let alloc = rt.alloc();
-    for seed in 0..100 {
+    for seed in 0..300 {
         let sites = session(alloc, seed)?;
         for site in sites.iter() {
             assert!(rt; all_derived(alloc, site)?, "session {seed}");
