@@ -392,6 +392,42 @@ fn a_context_is_judged_within_the_book(rt: HostRuntime) -> Result<(), Fail> {
     Ok(())
 }
 
+/// The first original of site 63: an insert after the first character of site 0, or a delete of that.
+fn of_last_site(alloc: Global, is_insert: bool) -> Result<Op, Fail> {
+    let name = Name::new(63, 1)?;
+    let context = known(alloc, &[(0, 1)])?;
+    if is_insert {
+        return Ok(insert(name, 1, 'z', context));
+    }
+    Ok(Op::Delete {
+        name,
+        place: 0,
+        context,
+    })
+}
+
+/// The number of inserts of site 0's first original and of site 63's, after another one of that name was there.
+fn counted_again(alloc: Global, is_insert: bool) -> Result<u32, Fail> {
+    let mut book = undone(alloc)?;
+    let other = of_last_site(alloc, !is_insert)?;
+    if !comes_back(&mut book, of_last_site(alloc, !is_insert)?, &other)? {
+        return Ok(0);
+    }
+    take_in(&mut book, of_last_site(alloc, is_insert)?)?;
+    Ok(inserts(&book, &known(alloc, &[(0, 1), (63, 1)])?))
+}
+
+#[test]
+fn what_was_taken_out_is_not_counted(rt: HostRuntime) -> Result<(), Fail> {
+    for (why, is_insert, count) in [
+        ("an insert in place of a delete", true, 2),
+        ("a delete in place of an insert", false, 1),
+    ] {
+        assert_eq!(rt; counted_again(rt.alloc(), is_insert)?, count, "{why}");
+    }
+    Ok(())
+}
+
 /// Whether, in a book of `undone`, the member's base context is so many originals of site 0 with the groups
 /// of the first up to a generation.
 fn has_base(alloc: Global, m: Member, count: u32, generation: u16) -> Result<bool, Fail> {

@@ -6,9 +6,9 @@ use Rattle.op_name.specs.declared.member.Member.{Member}
 use Rattle.op_name.specs.declared.member.Member.TheVariants.{Original, Group}
 use Rattle.op_name.specs.NameData.{NameData, name_eq}
 use Rattle.op_name.proofs.CallerLemmas.{same_parts}
-use Rattle.context_vector.specs.Contexts.{ContextData, Within, HasNoStray, has, count_of}
+use Rattle.context_vector.specs.Contexts.{ContextData, Within, has, count_of}
 use Rattle.context_diff.specs.Operations.{OpData}
-use Rattle.context_diff.specs.Histories.{is_known, LacksNothing, IsClosed}
+use Rattle.context_diff.specs.Histories.{is_known}
 use Rattle.context_diff.specs.Bases.{original_context, is_below, is_before, base_has}
 use Rattle.context_diff.specs.ClosedContexts.{IsClosedContext}
 use Rattle.context_diff.proofs.Names.{name_same, name_itself}

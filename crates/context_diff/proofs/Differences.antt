@@ -1,18 +1,18 @@
 -- The laws of members that may be taken out of closed contexts.
-use Rattle.std.proofs.Common.{◌≡◌, ◌≢◌, ℕ, ◌+◌, ◌<◌, ◌≤◌, Bool, true, false, inl, inr, List, [], ◌∷◌, ◌++◌, refl, ap, sym, subst, ◌∙◌, arith, not}
-use Rattle.std.specs.Prelude.{◌&&◌, filter, Contains}
+use Rattle.std.proofs.Common.{◌≡◌, ◌≢◌, ℕ, ◌+◌, ◌≤◌, Bool, true, false, inl, inr, List, [], ◌∷◌, refl, ap, sym, subst, ◌∙◌, arith, not}
+use Rattle.std.specs.Prelude.{◌&&◌, Contains}
 use Rattle.std.proofs.lemmas.Bool.{false≢true, and_parts, and_from, or_cases, false_from_ne_true, not_from_false, not-true, cases_Bool, cases_lt}
-use Rattle.op_name.specs.NameData.{NameData, IsName}
+use Rattle.op_name.specs.NameData.{NameData}
 use Rattle.op_name.specs.declared.member.Member.{Member}
 use Rattle.op_name.specs.declared.member.Member.TheVariants.{Original, Group}
 use Rattle.op_name.specs.Members.{member_eq}
-use Rattle.context_vector.specs.Contexts.{ContextData, IsContext, Within, has, count_of, entry_of}
+use Rattle.context_vector.specs.Contexts.{ContextData, IsContext, has, count_of, entry_of}
 use Rattle.context_vector.specs.Vectors.{IsLastMember, lowered}
 use Rattle.context_vector.proofs.CallerLemmas.{has_lowered, lowered_is_context, size_of, same_context}
 use Rattle.context_diff.specs.Operations.{OpData, inserting, deleting, undoing, member_of, IsWellFormed}
-use Rattle.context_diff.specs.Histories.{is_known, members_in, IsValid}
+use Rattle.context_diff.specs.Histories.{is_known, IsValid}
 use Rattle.context_diff.specs.Bases.{base_has}
-use Rattle.context_diff.specs.ClosedContexts.{IsClosedContext, MayBeTakenOut}
+use Rattle.context_diff.specs.ClosedContexts.{MayBeTakenOut}
 use Rattle.context_diff.specs.Differences.{LastMayBeTakenOut, TwoMayBeTakenOut}
 use Rattle.context_diff.proofs.Names.{member_same, member_itself, member_apart}
 use Rattle.context_diff.proofs.Raising.{has_number, has_original, has_generation, has_group}

@@ -3,16 +3,13 @@ use Rattle.std.proofs.Common.{◌≡◌, ℕ, ◌+◌, ◌<◌, ◌≤◌, true,
 use Rattle.std.specs.Prelude.{Contains, ◌==◌, ◌&&◌, nat_le, if◌then◌else◌}
 use Rattle.std.proofs.lemmas.Bool.Decides.{nat_tests}
 use Rattle.std.proofs.lemmas.Bool.{or_parts, false≢true, cases_Bool, eqb-true}
-use Rattle.op_name.specs.declared.member.Member.{Member}
 use Rattle.op_name.specs.declared.member.Member.TheVariants.{Original, Group}
 use Rattle.op_name.specs.NameData.{NameData, name_eq}
 use Rattle.context_vector.specs.Contexts.{ContextData, has, count_of, count_in, AreCounts}
 use Rattle.context_diff.specs.Operations.{OpData, inserting, deleting, undoing, member_of, is_insert, IsWellFormed}
 use Rattle.context_diff.specs.Histories.{is_known, inserts_in, IsNext, context_of_all}
 use Rattle.context_diff.specs.Code.Counting.{is_insert_of, inserts_of, inserts_listed}
-use Rattle.context_diff.specs.Code.Kept.{inserts_up_to}
 use Rattle.context_diff.proofs.Known.{contains_here, contains_later}
-use Rattle.context_diff.proofs.Raising.{has_number}
 use Rattle.context_diff.proofs.Complete.{IsComplete, next_member}
 
 -- the names of the operations of a list are in their ranges
@@ -169,8 +166,3 @@ bit_of (undoing a t g c) n is = refl
 pub inserts_of_new : (h : List OpData) (o : OpData) (n : NameData) (k : ℕ) → member_of o ≡ Original n → is_known h (Original n) ≡ false → n.number ≡ k + 1 → inserts_of (h ++ o ∷ []) n.site n.number ≡ inserts_of h n.site k + (if is_insert o then 1 else 0)
 inserts_of_new h o n k is new at =
     inserts_of_push h o n.site n.number ∙ (λ i. inserts_of_less h n k new at i + bit_of o n is i)
-
--- the note beside a member that is there stays when a next operation comes
-pub up_to_on : (h : List OpData) → IsComplete h → (o : OpData) → IsNext h o → (m : Member) → is_known h m ≡ true → inserts_up_to (h ++ o ∷ []) m ≡ inserts_up_to h m
-up_to_on h w o next (Original n) known = inserts_of_on h w o next n.site n.number (has_number (context_of_all h) n (w.holds (Original n) ∙ known)).1
-up_to_on h w o next (Group t g) known = refl

@@ -12,6 +12,7 @@ pub mod Inserts
 pub mod Ready
 pub mod BaseValues
 pub mod Places
+pub mod Tallies
 pub mod Kept
 pub mod Listings
 pub mod PlaceSteps

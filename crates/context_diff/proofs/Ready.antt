@@ -1,5 +1,5 @@
 -- Differences in a history's order: a member of one, with what stands before and after it, and that its base context comes first.
-use Rattle.std.proofs.Common.{◌≡◌, Bool, true, false, ◌⊎◌, inl, inr, List, [], ◌∷◌, ◌++◌, refl, ap, sym, subst, ◌∙◌, not}
+use Rattle.std.proofs.Common.{◌≡◌, Bool, true, false, inl, inr, List, [], ◌∷◌, ◌++◌, refl, ap, sym, subst, ◌∙◌, not}
 use Rattle.std.specs.Prelude.{◌&&◌, filter, if◌then◌else◌, Contains}
 use Rattle.std.proofs.lemmas.Bool.{false≢true, and_from, or_cases, not_from_false, cases_Bool, and_parts}
 use Rattle.op_name.specs.declared.member.Member.{Member}

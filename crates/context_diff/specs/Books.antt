@@ -1,33 +1,34 @@
 -- Books as contracts see them: a valid history beside its members and the room that is left.
-use Rattle.std.specs.Prelude.{◌≡◌, ℕ, ◌+◌, ◌<◌, List, [], ◌∷◌, ◌++◌, length}
+use Rattle.std.specs.Prelude.{◌≡◌, ℕ, ◌+◌, ◌<◌, List, [], ◌∷◌, ◌++◌, length, slice_index_or}
+use Rattle.op_name.specs.declared.member.Member.{Member}
+use Rattle.op_name.specs.declared.member.Member.TheVariants.{Original, Group}
 use Rattle.context_diff.specs.Operations.{OpData, member_of}
 use Rattle.context_vector.specs.Contexts.{ContextData}
 use Rattle.context_diff.specs.Histories.{CoversSite}
 use Rattle.context_vector.specs.Vectors.{VectorData, HasRoomFor}
-use Rattle.context_diff.specs.Ops.{data_of}
-use Rattle.context_diff.specs.declared.book.Kept.{Kept}
 
+-- the history, its members, the spare places for operations, and for each site those in the list of its counts of inserts
 pub record BookData : Type 0 where
   pub ops : List OpData
   pub have : VectorData
   pub spare : ℕ
+  pub site_spares : List ℕ
+
+-- an original needs a spare place in the list of its site
+abbrev pub HasSpareFor : List ℕ → Member → Type 0
+HasSpareFor spares (Original n) = 0 < slice_index_or spares n.site 0
+HasSpareFor spares (Group t g) = Unit {0}
 
 -- the operation can be appended without memory
 pub record HasRoom (b : BookData) (o : OpData) : Type 0 where
   pub place : 0 < b.spare
   pub member : HasRoomFor b.have (member_of o)
+  pub tally : HasSpareFor b.site_spares (member_of o)
   pub short : length b.ops + 1 < 4294967296
 
 -- the last operation can be taken out without memory: it was pushed in the room for it, and the members weren't shared since
 abbrev pub HasRoomToPop : BookData → Type 0
 HasRoomToPop b = (h : List OpData) (o : OpData) → b.ops ≡ h ++ o ∷ [] → HasRoomFor b.have (member_of o)
-
--- the operation that is kept, and the count beside it
-abbrev pub kept_op : Kept → OpData
-kept_op k = data_of k.op
-
-abbrev pub kept_inserts : Kept → ℕ
-kept_inserts k = k.inserts
 
 -- the least site whose last named original knows something that the context hasn't
 pub record IsFirstOpenSite (h : List OpData) (v : ContextData) (s : ℕ) : Type 0 where

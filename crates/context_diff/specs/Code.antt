@@ -2,5 +2,6 @@
 pub mod Kept
 pub mod Places
 pub mod Counting
+pub mod Tallies
 pub mod GapEnds
 pub mod ClosedParts

@@ -7,11 +7,10 @@ ghost use Rattle.context_vector.specs.Contexts.{Within};
 ghost use Rattle.context_diff.specs.Operations.{member_of};
 ghost use Rattle.context_diff.specs.Histories.{is_known, members_in, inserts_in, context_of_all, IsNext, IsValid};
 ghost use Rattle.context_diff.specs.Ops.{data_of};
-ghost use Rattle.context_diff.specs.Books.{HasRoom, HasRoomToPop, kept_inserts};
-ghost use Rattle.context_diff.specs.Code.Kept.{inserts_up_to};
-ghost use Rattle.context_diff.specs.Code.Counting.{inserts_of};
+ghost use Rattle.context_diff.specs.Books.{HasRoom, HasRoomToPop};
 
 use crate::op::Op;
+use crate::tally::Tallies;
 use context_vector::Vector;
 use indexmap::IndexMap;
 use op_name::{Member, Memory, Name};
@@ -21,35 +20,31 @@ use std::marker::Model;
 /// The greatest number of operations that a book holds.
 const OPS: usize = 4_294_967_295;
 
-// An operation of a book, with what is noted beside it.
-#[derive(Drop)]
-pub struct Kept {
-    op: Op,
-    // Of an original: how many inserts its site made up to it. Of an undo: 0.
-    inserts: u32,
-}
-
 /// A valid history: operations in the order in which a site integrated them, each well formed, and next
 /// after those before it.
 ///
-/// It is kept by members, so that an operation is found by its name at once. It has at most 4,294,967,295
-/// operations.
+/// It is kept by members, so that an operation is found by its name at once. Beside the operations it keeps, for
+/// each site, how many inserts the site had made with each of its originals, so that the inserts of a context are
+/// counted by one look at each of its sites. It has at most 4,294,967,295 operations.
 #[derive(Drop)]
 pub struct Book {
-    kept: IndexMap<Member, Kept>,
+    kept: IndexMap<Member, Op>,
     have: Vector,
+    tallies: Tallies,
 }
 
 impl Model for Book {
     ghost use Rattle.indexmap.specs.IndexMap.{spare};
-    ghost use Rattle.context_diff.specs.Books.{BookData, kept_op, kept_inserts};
+    ghost use Rattle.context_diff.specs.Books.{BookData};
+    ghost use Rattle.context_diff.specs.Ops.{data_of};
     ghost use Rattle.context_diff.specs.Code.Kept.{ops_in, IsBook};
+    ghost use Rattle.context_diff.specs.Code.Tallies.{counts_of, spares_of};
 
     ghost Value = { BookData };
 
-    ghost view = { λ b. record { ops = ops_in kept_op b.kept.entries; have = b.have; spare = spare b.kept } };
+    ghost view = { λ b. record { ops = ops_in data_of b.kept.entries; have = b.have; spare = spare b.kept; site_spares = spares_of b.tallies } };
 
-    ghost invariant = { λ b. IsBook kept_op kept_inserts b.kept.entries b.have.set };
+    ghost invariant = { λ b. IsBook data_of b.kept.entries b.have.set (counts_of b.tallies) };
 }
 
 impl Book {
@@ -60,6 +55,7 @@ impl Book {
         Book {
             kept: IndexMap::new(alloc),
             have: Vector::new(alloc),
+            tallies: Tallies::new(alloc),
         }
     }
 
@@ -84,7 +80,7 @@ impl Book {
         ensures { option_map (λ o. data_of o.now) result ≡ slice_get self.now.ops i }
     {
         match self.kept.get_index(i as usize) {
-            Some(entry) => Some(&entry.1.op),
+            Some(entry) => Some(entry.1),
             None => None,
         }
     }
@@ -103,8 +99,7 @@ impl Book {
         ensures there { IfSome result (λ o. Contains self.now.ops (data_of o.now)) }
         ensures named { IfSome result (λ o. member_of (data_of o.now) ≡ Original name.now) }
     {
-        let kept = self.find(&Member::Original(*name))?;
-        Some(&kept.op)
+        self.find(&Member::Original(*name))
     }
 
     /// The members of the book.
@@ -133,8 +128,10 @@ impl Book {
         if self.kept.len() >= OPS {
             return Err(Memory);
         }
+        let member = op.as_member();
         self.kept.reserve(1)?;
-        self.have.reserve(&op.as_member())
+        self.tallies.reserve(&member)?;
+        self.have.reserve(&member)
     }
 
     /// Appends the operation, which is next after those of the book, in the room that was made for it. It
@@ -146,9 +143,9 @@ impl Book {
         ensures back { HasRoomToPop self.new }
     {
         let member = op.member();
-        let inserts = self.inserts_with(&op);
+        self.tallies.push(&member, op.is_insert());
         self.have.add_reserved(&member);
-        match self.kept.insert(member, Kept { op, inserts }) {
+        match self.kept.insert(member, op) {
             Ok(_) => {}
             Err(_) => unreachable!(),
         }
@@ -161,10 +158,11 @@ impl Book {
         ensures none { IsNone result ↔ (length self.old.ops ≡ 0) }
         ensures ops { self.old.ops ≡ self.new.ops ++ option_to_list (option_map data_of result) }
     {
-        let (member, kept) = self.kept.pop()?;
+        let (member, op) = self.kept.pop()?;
+        self.tallies.pop(&member);
         self.have.drop_last(&member);
         self.have.known();
-        Some(kept.op)
+        Some(op)
     }
 
     /// The number of inserts among the originals of `v`, whose members the book has.
@@ -175,13 +173,8 @@ impl Book {
         v.known();
         self.known();
         let mut total = 0;
-        for i in 0..v.sites() {
-            if let Some(counted) = v.site_at(i) {
-                total += self.inserts_up_to(&Name {
-                    site: counted.0,
-                    number: counted.1,
-                });
-            }
+        for &(site, number) in v.counts() {
+            total += self.tallies.inserts(site, number);
         }
         total
     }
@@ -207,55 +200,12 @@ impl Book {
         }
     }
 
-    // The operation that is the member, with what is noted beside it.
-    fn find(&self, m: &Member) -> Option<&Kept>
+    // The operation that is the member.
+    fn find(&self, m: &Member) -> Option<&Op>
         ensures none { IsNone result ↔ (is_known self.now.ops m.now ≡ false) }
-        ensures there { IfSome result (λ k. Contains self.now.ops (data_of k.now.op)) }
-        ensures is { IfSome result (λ k. member_of (data_of k.now.op) ≡ m.now) }
-        ensures count { IfSome result (λ k. kept_inserts k.now ≡ inserts_up_to self.now.ops m.now) }
+        ensures there { IfSome result (λ o. Contains self.now.ops (data_of o.now)) }
+        ensures is { IfSome result (λ o. member_of (data_of o.now) ≡ m.now) }
     {
         self.kept.get(m)
-    }
-
-    // How many inserts the name's site made up to the name, which the book has.
-    fn inserts_up_to(&self, name: &Name) -> u32
-        requires { is_known self.now.ops (Original name.now) ≡ true }
-        ensures { result ≡ inserts_of self.now.ops name.now.site name.now.number }
-    {
-        match self.find(&Member::Original(*name)) {
-            Some(kept) => kept.inserts,
-            None => unreachable!(),
-        }
-    }
-
-    // What is to be noted beside a next operation.
-    fn inserts_with(&self, op: &Op) -> u32
-        requires next { IsNext self.now.ops (data_of op.now) }
-        requires short { length self.now.ops + 1 < 4294967296 }
-        ensures { result ≡ inserts_up_to (self.now.ops ++ data_of op.now ∷ []) (member_of (data_of op.now)) }
-    {
-        let Member::Original(name) = op.member() else {
-            return 0;
-        };
-        let before = self.inserts_before(&name);
-        if op.is_insert() { before + 1 } else { before }
-    }
-
-    // How many inserts the name's site made before the name; the book has the original before it.
-    fn inserts_before(&self, name: &Name) -> u32
-        requires { 1 < name.now.number → is_known self.now.ops (Original (record { site = name.now.site; number = name.now.number - 1 })) ≡ true }
-        ensures count { result ≡ inserts_of self.now.ops name.now.site (name.now.number - 1) }
-        ensures bound { result ≤ length self.now.ops }
-    {
-        self.known();
-        name.known();
-        if name.number > 1 {
-            self.inserts_up_to(&Name {
-                site: name.site,
-                number: name.number - 1,
-            })
-        } else {
-            0
-        }
     }
 }

@@ -11,6 +11,7 @@ mod gathering;
 mod laws;
 mod next_op;
 mod op;
+mod tally;
 
 pub use book::Book;
 pub use coverage::{base_context, closed};

@@ -5,7 +5,6 @@ use Rattle.op_name.specs.declared.member.Member.TheVariants.{Group}
 use Rattle.context_vector.specs.Contexts.{has}
 use Rattle.context_diff.proofs.Complete.{complete}
 use Rattle.context_diff.specs.Bases.{base_has}
-use Rattle.context_diff.proofs.Histories.{group_facts}
 use Rattle.context_diff.proofs.BaseSteps.{first_group, later_group, base_is}
 use Rattle.context_vector.specs.Vectors.{VectorData}
 use Rattle.context_diff.proofs.coverage.group_base.Goals as goal

@@ -1,48 +1,34 @@
-use Rattle.std.proofs.Common.{◌≡◌, suc, ◌+◌, ap, sym, ◌∙◌, arith, take}
+use Rattle.std.proofs.Common.{◌≡◌, ℕ, suc, ◌+◌, List, ap, sym, subst, ◌∙◌, arith, take, length, get_or}
 use Rattle.std.specs.Prelude.{Some, slice_get}
 use Rattle.std.proofs.Common.{add-one}
+use Rattle.std.proofs.lemmas.Option.{slice_get-get_or}
+use Rattle.context_diff.specs.Operations.{OpData}
+use Rattle.context_diff.specs.Books.{BookData}
 use Rattle.context_diff.specs.Code.Counting.{inserts_listed}
-use Rattle.context_diff.proofs.Listings.{count_at}
-use Rattle.context_diff.proofs.Covering.{named_known}
-use Rattle.context_diff.proofs.Books.{covered_ready, listed_more, listed_bound, listed_all, not_past}
+use Rattle.context_diff.specs.Code.Tallies.{AreTallies, counts_of}
+use Rattle.context_diff.proofs.Books.{listed_next, listed_bound, listed_all}
 use Rattle.context_diff.proofs.book.Book.inserts_in.Goals as goal
-use Rattle.context_diff.proofs.book.Book.inserts_in.Goals.{in-Some, in_default}
 
-pub invariant_of-inserts_up_to : goal.invariant_of-inserts_up_to
-invariant_of-inserts_up_to c =
-    let at : slice_get c.args.v.now.set.counts c.loop-i.i ≡ Some c.in-Some.counted = sym c.site_at.ensures ∙ c.in-Some.is in
-    let here = count_at 0 c.args.v.now.set.counts c.known.ensures.counts c.loop-i.i c.in-Some.counted at in
-    (here.site, here.least, here.greatest)
-
-pub inserts_up_to-total-requires : goal.inserts_up_to-total-requires
-inserts_up_to-total-requires c =
+-- the sum with the site at hand
+next : (c : goal.After-inserts-total) → inserts_listed c.args.self.now.ops (take (suc c.loop-site.site-index) c.args.v.now.set.counts) ≡ c.loop-site.total + c.inserts-total.result
+next c =
     let h = c.args.self.now.ops in
-    let v = c.args.v.now.set in
-    let at : slice_get v.counts c.loop-i.i ≡ Some c.in-Some.counted = sym c.site_at.ensures ∙ c.in-Some.is in
-    named_known h v (covered_ready h c.args.self.now.have.set v c.known-2.ensures.valid c.known-2.ensures.have c.requires) c.known.ensures.counts c.loop-i.i c.in-Some.counted at
+    let ps = c.counts-site-items.result.now in
+    let i = c.loop-site.site-index in
+    let tallies : AreTallies h (counts_of c.self.inside.tallies) = subst (λ (k : List OpData). AreTallies k (counts_of c.self.inside.tallies)) (ap (λ (b : BookData). b.ops) c.self.view_is) c.self.invariant.tallies in
+    let at : slice_get c.args.v.now.set.counts i ≡ Some (get_or ps i (0, 0)) = ap (λ (xs : List (ℕ × ℕ)). slice_get xs i) (sym c.counts-site-items.ensures) ∙ slice_get-get_or ps i (0, 0) c.loop-site-test.true in
+    listed_next h c.args.self.now.have.set c.args.v.now.set (counts_of c.self.inside.tallies) c.known-2.ensures.valid c.known-2.ensures.have c.requires c.known.ensures.counts tallies i (get_or ps i (0, 0)) at
+    ∙ (λ j. sym c.loop-site.invariant j + sym c.inserts-total.ensures j)
 
 pub overflow_add-total : goal.overflow_add-total
 overflow_add-total c =
-    let h = c.args.self.now.ops in
-    let v = c.args.v.now.set in
-    let at : slice_get v.counts c.loop-i.i ≡ Some c.in-Some.counted = sym c.site_at.ensures ∙ c.in-Some.is in
-    let more = listed_more h v.counts c.loop-i.i c.in-Some.counted at in
-    let bound = listed_bound h v c.known-2.ensures.valid c.known.ensures.counts (suc c.loop-i.i) in
-    omega (arith, c.loop-i.invariant, c.inserts_up_to-total.ensures, c.known-2.ensures.short)
+    let bound = listed_bound c.args.self.now.ops c.args.v.now.set c.known-2.ensures.valid c.known.ensures.counts (suc c.loop-site.site-index) in
+    record { fits = omega (arith, next c, bound, c.known-2.ensures.short) }
 
-pub loop-i-preserved : goal.loop-i-preserved
-loop-i-preserved c =
-    let h = c.args.self.now.ops in
-    let v = c.args.v.now.set in
-    elim c.match-site_at.branch [
-      | in-Some w ↦
-          let at : slice_get v.counts c.loop-i.i ≡ Some w.in-Some.counted = sym c.site_at.ensures ∙ w.in-Some.is in
-          let more = listed_more h v.counts c.loop-i.i w.in-Some.counted at in
-          let step : inserts_listed h (take (c.loop-i.i + 1) v.counts) ≡ inserts_listed h (take (suc c.loop-i.i) v.counts) = ap (λ n. inserts_listed h (take n v.counts)) (add-one c.loop-i.i) in
-          omega (arith, c.loop-i.invariant, w.inserts_up_to-total.ensures, w.total-is)
-      | in_default w ↦
-          absurd (not_past v.counts c.loop-i.i (omega (arith, c.sites-i-end.ensures.sites)) (sym c.site_at.ensures ∙ w.in_default.is))
-    ]
+pub loop-site-preserved : goal.loop-site-preserved
+loop-site-preserved c = sym (next c) ∙ ap (λ n. inserts_listed c.args.self.now.ops (take n c.args.v.now.set.counts)) (sym (add-one c.loop-site.site-index))
 
 pub returns : goal.returns
-returns c = c.loop-i.invariant ∙ listed_all c.args.self.now.ops c.args.v.now.set c.known-2.ensures.valid c.known.ensures.counts c.loop-i.i (omega (arith, c.sites-i-end.ensures.sites))
+returns c =
+    let long : length c.counts-site-items.result.now ≡ length c.args.v.now.set.counts = ap length c.counts-site-items.ensures in
+    c.loop-site.invariant ∙ listed_all c.args.self.now.ops c.args.v.now.set c.known-2.ensures.valid c.known.ensures.counts c.loop-site.site-index (omega (arith, c.loop-site-test.false))

@@ -9,7 +9,7 @@ use Rattle.context_diff.proofs.book.Book.member_at.Goals as goal
 pub returns-in-Some : goal.returns-in-Some
 returns-in-Some c =
     let ops = ap (λ (b : BookData). b.ops) c.self.view_is in
-    let read = entry_read c.self.inside.kept.entries c.self.inside.have.set c.self.invariant c.args.place c.get_index.result c.in-Some.entry c.get_index.ensures.entry c.in-Some.is in
+    let read = entry_read c.self.inside.kept.entries c.self.invariant.kept c.args.place c.get_index.result c.in-Some.entry c.get_index.ensures.entry c.in-Some.is in
     let e : Some c.in-Some.entry.0.now ≡ slice_get (members_in c.args.self.now.ops) c.args.place = sym read.1 ∙ ap (λ (h : List OpData). slice_get (members_in h) c.args.place) ops in
     e
 

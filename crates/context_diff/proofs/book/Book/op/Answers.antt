@@ -9,8 +9,8 @@ use Rattle.context_diff.proofs.book.Book.op.Goals as goal
 pub returns-in-Some : goal.returns-in-Some
 returns-in-Some c =
     let ops = ap (λ (b : BookData). b.ops) c.self.view_is in
-    let read = entry_read c.self.inside.kept.entries c.self.inside.have.set c.self.invariant c.args.i c.get_index.result c.in-Some.entry c.get_index.ensures.entry c.in-Some.is in
-    let e : Some (data_of c.in-Some.entry.1.now.op) ≡ slice_get c.args.self.now.ops c.args.i = sym read.0 ∙ ap (λ (h : List OpData). slice_get h c.args.i) ops in
+    let read = entry_read c.self.inside.kept.entries c.self.invariant.kept c.args.i c.get_index.result c.in-Some.entry c.get_index.ensures.entry c.in-Some.is in
+    let e : Some (data_of c.in-Some.entry.1.now) ≡ slice_get c.args.self.now.ops c.args.i = sym read.0 ∙ ap (λ (h : List OpData). slice_get h c.args.i) ops in
     e
 
 pub returns-in-None : goal.returns-in-None

@@ -13,7 +13,7 @@ found c =
     let ops = ap (λ (b : BookData). b.ops) c.self.view_is in
     let at = (c.in-Some.ensures).entry in
     subst (λ (h : List OpData). slice_get (members_in h) c.in-Some.entry.0 ≡ Some c.args.m.now) ops
-    (place_read c.self.inside.kept.entries c.self.inside.have.set c.self.invariant c.args.m.now c.get_full.result c.in-Some.entry c.get_full.ensures.key at c.in-Some.is)
+    (place_read c.self.inside.kept.entries c.self.invariant.kept c.args.m.now c.get_full.result c.in-Some.entry c.get_full.ensures.key at c.in-Some.is)
 
 pub returns-in-Some-clause-none : goal.returns-in-Some-clause-none
 returns-in-Some-clause-none c =
@@ -25,5 +25,5 @@ returns-in-Some-clause-place c = let e = found c in e
 pub returns-in-None-clause-none : goal.returns-in-None-clause-none
 returns-in-None-clause-none c =
     let ops = ap (λ (b : BookData). b.ops) c.self.view_is in
-    let unknown = place_missing c.self.inside.kept.entries c.self.inside.have.set c.self.invariant c.args.m.now c.get_full.result c.get_full.ensures.key c.in-None.is in
+    let unknown = place_missing c.self.inside.kept.entries c.self.invariant.kept c.args.m.now c.get_full.result c.get_full.ensures.key c.in-None.is in
     (λ _. subst (λ (h : List OpData). is_known h c.args.m.now ≡ false) ops unknown, λ _. refl)

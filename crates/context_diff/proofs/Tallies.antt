@@ -1,0 +1,189 @@
+-- The counts of inserts of each site, as operations come and go.
+use Rattle.std.proofs.Common.{◌≡◌, ℕ, zero, suc, ◌+◌, ◌-◌, ◌<◌, ◌≤◌, false, inl, inr, List, [], ◌∷◌, ◌++◌, refl, ap, sym, subst, ◌∙◌, arith, length, length-append, take, get_or, set}
+use Rattle.std.specs.Prelude.{Contains, ◌==◌, if◌then◌else◌}
+use Rattle.std.proofs.lemmas.Bool.{cases_Bool, cases_lt, eqb-true, eq-eqb}
+use Rattle.std.proofs.lemmas.List.{get_or_append_left, get_or_default, get_or-take, length-take-le}
+use Rattle.std.proofs.Math.Seq.{get_or-append_seam}
+use Rattle.op_name.specs.declared.member.Member.{Member}
+use Rattle.op_name.specs.declared.member.Member.TheVariants.{Original, Group}
+use Rattle.op_name.specs.NameData.{NameData}
+use Rattle.context_vector.specs.Contexts.{ContextData, IsNextMember, count_of, raised}
+use Rattle.context_diff.specs.Operations.{OpData, member_of, is_insert, IsWellFormed}
+use Rattle.context_diff.specs.Histories.{is_known, IsNext, context_of_all}
+use Rattle.context_diff.specs.Code.Counting.{inserts_of}
+use Rattle.context_diff.specs.Code.Tallies.{TallyData, no_tally, counts_of, spares_of, IsTally, AreTallies, entry_at, total, counted, uncounted}
+use Rattle.context_diff.proofs.Complete.{IsComplete, context_push, next_member}
+use Rattle.context_diff.proofs.Inserts.{inserts_of_on, inserts_of_new, inserts_of_at_most, no_inserts}
+use Rattle.context_diff.proofs.Raising.{count_put}
+
+-- no operations, and no counts
+pub tallies_none : AreTallies [] (λ s. [])
+tallies_none s = record { size = refl; entries = λ n low high. absurd (omega arith) }
+
+-- an empty list more changes no counts
+pub one_more_list : (ts : List TallyData) (t : TallyData) → t.counts ≡ [] → counts_of (ts ++ t ∷ []) ≡ counts_of ts
+one_more_list ts t none = λ i s. at ts s i
+  where
+    at : (xs : List TallyData) (s : ℕ) → counts_of (xs ++ t ∷ []) s ≡ counts_of xs s
+    at [] zero = none
+    at [] (suc s) = refl
+    at (x ∷ xs) zero = refl
+    at (x ∷ xs) (suc s) = at xs s
+
+-- nor does room in one of the lists
+pub list_with_room : (ts : List TallyData) (i : ℕ) (t : TallyData) → t.counts ≡ counts_of ts i → counts_of (set ts i t) ≡ counts_of ts
+list_with_room ts i t same = λ j s. at ts i same s j
+  where
+    at : (xs : List TallyData) (k : ℕ) → t.counts ≡ counts_of xs k → (s : ℕ) → counts_of (set xs k t) s ≡ counts_of xs s
+    at [] k same s = refl
+    at (x ∷ xs) zero same zero = same
+    at (x ∷ xs) zero same (suc s) = refl
+    at (x ∷ xs) (suc k) same zero = refl
+    at (x ∷ xs) (suc k) same (suc s) = at xs k same s
+
+-- the list at a place, as it is read there
+pub list_at : (ts : List TallyData) (i : ℕ) (t : TallyData) → i < length ts → t ≡ get_or ts i t → t.counts ≡ counts_of ts i
+list_at ts i t within at = ap (λ (x : TallyData). x.counts) (at ∙ get_or_default ts i t no_tally within)
+
+-- a place is spare only in a list that is there
+pub spare_within : (ts : List TallyData) (i : ℕ) → 0 < get_or (spares_of ts) i 0 → i < length ts
+spare_within [] i some = absurd (omega arith)
+spare_within (x ∷ xs) zero some = omega arith
+spare_within (x ∷ xs) (suc i) some = omega (arith, spare_within xs i some)
+
+-- the places of a list that was put
+pub spare_put : (ts : List TallyData) (i : ℕ) (t : TallyData) → i < length ts → get_or (spares_of (set ts i t)) i 0 ≡ t.spare
+spare_put [] i t within = absurd (omega arith)
+spare_put (x ∷ xs) zero t within = refl
+spare_put (x ∷ xs) (suc i) t within = spare_put xs i t (omega arith)
+
+-- the entry of a number, also of 0
+pub entry_is : (h : List OpData) → ((o : OpData) → Contains h o → IsWellFormed o) → (s : ℕ) (counts : List ℕ) → IsTally h s counts → (n : ℕ) → n ≤ length counts → entry_at counts n ≡ inserts_of h s n
+entry_is h formed s counts tally zero within = sym (no_inserts h s formed)
+entry_is h formed s counts tally (suc n) within = tally.entries (suc n) (omega arith) within
+
+total_entry : (counts : List ℕ) → total counts ≡ entry_at counts (length counts)
+total_entry [] = refl
+total_entry (x ∷ xs) =
+    let last : suc (length xs) - 1 ≡ length xs = omega arith in
+    ap (λ i. get_or (x ∷ xs) i 0) last
+
+-- the last entry counts all inserts of the site
+pub total_is : (h : List OpData) → ((o : OpData) → Contains h o → IsWellFormed o) → (s : ℕ) (counts : List ℕ) → IsTally h s counts → total counts ≡ inserts_of h s (length counts)
+total_is h formed s counts tally = total_entry counts ∙ entry_is h formed s counts tally (length counts) (omega arith)
+
+-- it is less than the number of operations
+pub total_short : (h : List OpData) → ((o : OpData) → Contains h o → IsWellFormed o) → (s : ℕ) (counts : List ℕ) → IsTally h s counts → length h + 1 < 4294967296 → total counts + 1 < 4294967296
+total_short h formed s counts tally short = omega (arith, total_is h formed s counts tally, inserts_of_at_most h s (length counts))
+
+module _ (h : List OpData) (o : OpData) (w : IsComplete h) (next : IsNext h o) where
+  -- the number of originals of a site with the operation more
+  count_of_push : (s : ℕ) → count_of (context_of_all (h ++ o ∷ [])) s ≡ count_of (raised (context_of_all h) (member_of o)) s
+  count_of_push s = ap (λ (c : ContextData). count_of c s) (context_push h o)
+
+  -- the list of a site that has no original more
+  same_push : (s : ℕ) (counts : List ℕ) → count_of (context_of_all (h ++ o ∷ [])) s ≡ count_of (context_of_all h) s → IsTally h s counts → IsTally (h ++ o ∷ []) s counts
+  same_push s counts same tally = record {
+    size = tally.size ∙ sym same;
+    entries = λ n low high. tally.entries n low high ∙ sym (inserts_of_on h w o next s n (omega (arith, tally.size)));
+  }
+
+  same_pop : (s : ℕ) (counts : List ℕ) → count_of (context_of_all (h ++ o ∷ [])) s ≡ count_of (context_of_all h) s → IsTally (h ++ o ∷ []) s counts → IsTally h s counts
+  same_pop s counts same tally = record {
+    size = tally.size ∙ same;
+    entries = λ n low high. tally.entries n low high ∙ inserts_of_on h w o next s n (omega (arith, tally.size));
+  }
+
+  module _ (n : NameData) (is : member_of o ≡ Original n) where
+    -- the number of originals of each site, where one comes
+    counts_put : (s : ℕ) → count_of (context_of_all (h ++ o ∷ [])) s ≡ (if n.site == s then n.number else count_of (context_of_all h) s)
+    counts_put s = count_of_push s ∙ (ap (λ (m : Member). count_of (raised (context_of_all h) m) s) is ∙ count_put n.site n.number (context_of_all h).counts s)
+
+    number_is : n.number ≡ count_of (context_of_all h) n.site + 1
+    number_is = subst (λ (m : Member). IsNextMember (context_of_all h) m) is (next_member h (context_of_all h) o w.holds next)
+
+    size_put : (s k : ℕ) → n.site ≡ s → n.number ≡ k → k ≡ count_of (context_of_all (h ++ o ∷ [])) s
+    size_put s k site number = sym (counts_put s ∙ (ap (λ b. if b then n.number else count_of (context_of_all h) s) (eq-eqb n.site s site) ∙ number))
+
+    -- the entries of the site's list with one more
+    entry_push : (counts : List ℕ) (new : ℕ) → IsTally h n.site counts → n.number ≡ length counts + 1 → new ≡ inserts_of (h ++ o ∷ []) n.site n.number
+        → (i : ℕ) → 1 ≤ i → i ≤ length counts + 1 → entry_at (counts ++ new ∷ []) i ≡ inserts_of (h ++ o ∷ []) n.site i
+    entry_push counts new tally number is_new zero low high = absurd (omega arith)
+    entry_push counts new tally number is_new (suc j) low high =
+        elim (cases_lt j (length counts)) [
+          | inl before ↦
+              get_or_append_left counts (new ∷ []) 0 j before
+              ∙ (tally.entries (suc j) low (omega arith) ∙ sym (inserts_of_on h w o next n.site (suc j) (omega (arith, tally.size))))
+          | inr last ↦
+              let at : j ≡ length counts = omega arith in
+              let here : n.number ≡ suc j = omega arith in
+              ap (λ k. get_or (counts ++ new ∷ []) k 0) at ∙ (get_or-append_seam counts new [] 0 ∙ (is_new ∙ ap (inserts_of (h ++ o ∷ []) n.site) here))
+        ]
+
+    here_push : (counts : List ℕ) → IsTally h n.site counts → IsTally (h ++ o ∷ []) n.site (counts ++ (total counts + (if is_insert o then 1 else 0)) ∷ [])
+    here_push counts tally =
+        let new : ℕ = total counts + (if is_insert o then 1 else 0) in
+        let number : n.number ≡ length counts + 1 = number_is ∙ ap (λ x. x + 1) (sym tally.size) in
+        let longer : length (counts ++ new ∷ []) ≡ length counts + 1 = simp length-append (omega arith) in
+        let unknown : is_known h (Original n) ≡ false = ap (is_known h) (sym is) ∙ next.new in
+        let is_new : new ≡ inserts_of (h ++ o ∷ []) n.site n.number =
+        ap (λ x. x + (if is_insert o then 1 else 0)) (total_is h w.formed n.site counts tally) ∙ sym (inserts_of_new h o n (length counts) is unknown number) in
+        record {
+          size = longer ∙ size_put n.site (length counts + 1) refl number;
+          entries = λ i low high. entry_push counts new tally number is_new i low (omega (arith, longer));
+        }
+
+    -- the entries of the site's list with one less
+    entry_pop : (counts : List ℕ) → IsTally (h ++ o ∷ []) n.site counts → (i : ℕ) → 1 ≤ i → i ≤ length counts - 1 → i ≤ count_of (context_of_all h) n.site → entry_at (take (length counts - 1) counts) i ≡ inserts_of h n.site i
+    entry_pop counts tally zero low high within = absurd (omega arith)
+    entry_pop counts tally (suc j) low high within =
+        get_or-take (length counts - 1) counts j 0 (omega arith)
+        ∙ (tally.entries (suc j) low (omega arith) ∙ inserts_of_on h w o next n.site (suc j) within)
+
+    here_pop : (counts : List ℕ) → IsTally (h ++ o ∷ []) n.site counts → IsTally h n.site (take (length counts - 1) counts)
+    here_pop counts tally =
+        let all : n.number ≡ length counts = size_put n.site n.number refl refl ∙ sym tally.size in
+        let number = number_is in
+        let less : length (take (length counts - 1) counts) ≡ length counts - 1 = length-take-le (length counts - 1) counts (omega arith) in
+        record {
+          size = less ∙ omega arith;
+          entries = λ i low high. entry_pop counts tally i low (omega (arith, less)) (omega (arith, less));
+        }
+
+    original_push : (s : ℕ) (counts : List ℕ) → IsTally h s counts → IsTally (h ++ o ∷ []) s (counted (Original n) (is_insert o) s counts)
+    original_push s counts tally =
+        elim (cases_Bool (n.site == s)) [
+          | inl same ↦
+              let at : n.site ≡ s = eqb-true n.site s same in
+              rw same (subst (λ t. IsTally h t counts → IsTally (h ++ o ∷ []) t (counts ++ (total counts + (if is_insert o then 1 else 0)) ∷ [])) at (here_push counts) tally)
+          | inr other ↦ rw other (same_push s counts (counts_put s ∙ rw other refl) tally)
+        ]
+
+    original_pop : (s : ℕ) (counts : List ℕ) → IsTally (h ++ o ∷ []) s counts → IsTally h s (uncounted (Original n) s counts)
+    original_pop s counts tally =
+        elim (cases_Bool (n.site == s)) [
+          | inl same ↦
+              let at : n.site ≡ s = eqb-true n.site s same in
+              rw same (subst (λ t. IsTally (h ++ o ∷ []) t counts → IsTally h t (take (length counts - 1) counts)) at (here_pop counts) tally)
+          | inr other ↦ rw other (same_pop s counts (counts_put s ∙ rw other refl) tally)
+        ]
+
+  -- a group is no original
+  group_same : (t : NameData) (g s : ℕ) → member_of o ≡ Group t g → count_of (context_of_all (h ++ o ∷ [])) s ≡ count_of (context_of_all h) s
+  group_same t g s is = count_of_push s ∙ ap (λ (m : Member). count_of (raised (context_of_all h) m) s) is
+
+  member_push : (m : Member) → member_of o ≡ m → (s : ℕ) (counts : List ℕ) → IsTally h s counts → IsTally (h ++ o ∷ []) s (counted m (is_insert o) s counts)
+  member_push (Original n) is s counts tally = original_push n is s counts tally
+  member_push (Group t g) is s counts tally = same_push s counts (group_same t g s is) tally
+
+  member_pop : (m : Member) → member_of o ≡ m → (s : ℕ) (counts : List ℕ) → IsTally (h ++ o ∷ []) s counts → IsTally h s (uncounted m s counts)
+  member_pop (Original n) is s counts tally = original_pop n is s counts tally
+  member_pop (Group t g) is s counts tally = same_pop s counts (group_same t g s is) tally
+
+  -- the lists with a next operation counted
+  pub tallies_push : (counts now : ℕ → List ℕ) → AreTallies h counts → ((s : ℕ) → now s ≡ counted (member_of o) (is_insert o) s (counts s)) → AreTallies (h ++ o ∷ []) now
+  tallies_push counts now tallies more s = subst (λ (t : List ℕ). IsTally (h ++ o ∷ []) s t) (sym (more s)) (member_push (member_of o) refl s (counts s) (tallies s))
+
+  -- and without it
+  pub tallies_pop : (counts now : ℕ → List ℕ) → AreTallies (h ++ o ∷ []) counts → ((s : ℕ) → now s ≡ uncounted (member_of o) s (counts s)) → AreTallies h now
+  tallies_pop counts now tallies less s = subst (λ (t : List ℕ). IsTally h s t) (sym (less s)) (member_pop (member_of o) refl s (counts s) (tallies s))

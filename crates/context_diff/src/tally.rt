@@ -1,0 +1,170 @@
+//! Counts of inserts, site by site: how many of the first originals of a site are inserts.
+
+ghost use Rattle.std.specs.Prelude.{◌≡◌, ℕ, ◌+◌, ◌-◌, ◌<◌, ◌++◌, ◌∷◌, [], length, take, slice_index_or, OnOk, if◌then◌else◌};
+ghost use Rattle.context_diff.specs.Books.{HasSpareFor};
+ghost use Rattle.context_diff.specs.Code.Tallies.{total, entry_at, counts_of, spares_of, counted, uncounted};
+
+use op_name::{Member, Memory};
+use std::alloc::Global;
+use std::marker::Model;
+
+/// The counts of one site: the n-th entry is the number of inserts among its first n originals.
+#[derive(Drop)]
+pub(crate) struct Tally {
+    counts: Vec<u32>,
+}
+
+impl Model for Tally {
+    ghost use Rattle.std.specs.Prelude.{◌-◌, length, vec_capacity};
+    ghost use Rattle.context_diff.specs.Code.Tallies.{TallyData};
+
+    ghost Value = { TallyData };
+
+    ghost view = { λ t. record { counts = t.counts.items; spare = vec_capacity t.counts - length t.counts.items } };
+}
+
+impl Tally {
+    // No counts. It takes no memory.
+    fn new(alloc: Global) -> Tally
+        ensures { result.counts ≡ [] }
+    {
+        Tally {
+            counts: Vec::new(alloc),
+        }
+    }
+
+    // The number of inserts among the first originals, up to this number; 0 past the end.
+    fn inserts(&self, number: u32) -> u32
+        ensures { result ≡ entry_at self.now.counts number }
+    {
+        if number == 0 {
+            return 0;
+        }
+        self.counts.get(number as usize - 1).copied().unwrap_or(0)
+    }
+
+    // Makes room for one more original.
+    fn reserve(&mut self) -> Result<(), Memory>
+        ensures counts { self.new.counts ≡ self.old.counts }
+        ensures room { OnOk result (0 < self.new.spare) }
+    {
+        self.counts.reserve(1)?;
+        Ok(())
+    }
+
+    // Counts one more original, in the room that was made for it.
+    fn push(&mut self, is_insert: bool)
+        requires room { 0 < self.old.spare }
+        requires short { total self.old.counts + 1 < 4294967296 }
+        ensures { self.new.counts ≡ self.old.counts ++ (total self.old.counts + (if is_insert then 1 else 0)) ∷ [] }
+    {
+        let before = self.counts.last().copied().unwrap_or(0);
+        self.counts.push_reserved(before + u32::from(is_insert));
+    }
+
+    // Forgets the last original.
+    fn pop(&mut self)
+        ensures { self.new.counts ≡ take (length self.old.counts - 1) self.old.counts }
+    {
+        let _ = self.counts.pop();
+    }
+}
+
+/// The counts of all sites, each in a list of its own, at the site's number.
+///
+/// There are lists up to the greatest site for which room was made.
+#[derive(Drop)]
+pub(crate) struct Tallies {
+    sites: Vec<Tally>,
+}
+
+impl Model for Tallies {
+    ghost use Rattle.std.specs.Prelude.{List};
+    ghost use Rattle.context_diff.specs.Code.Tallies.{TallyData};
+
+    ghost Value = { List TallyData };
+
+    ghost view = { λ t. t.sites.items };
+}
+
+impl Tallies {
+    /// No counts. It takes no memory.
+    pub(crate) fn new(alloc: Global) -> Tallies
+        ensures { result ≡ [] }
+    {
+        Tallies {
+            sites: Vec::new(alloc),
+        }
+    }
+
+    /// The number of inserts among the first originals of the site, up to this number; 0 where they aren't counted.
+    pub(crate) fn inserts(&self, site: u16, number: u32) -> u32
+        ensures { result ≡ entry_at (counts_of self.now site) number }
+    {
+        match self.sites.get(site as usize) {
+            Some(tally) => tally.inserts(number),
+            None => 0,
+        }
+    }
+
+    /// Makes room to count the member. Out of memory, no count is lost.
+    pub(crate) fn reserve(&mut self, m: &Member) -> Result<(), Memory>
+        ensures counts { counts_of self.new ≡ counts_of self.old }
+        ensures room { OnOk result (HasSpareFor (spares_of self.new) m.now) }
+    {
+        match m {
+            Member::Original(name) => self.reserve_at(name.site),
+            Member::Group(_, _) => Ok(()),
+        }
+    }
+
+    // Makes room for one more original of this site.
+    fn reserve_at(&mut self, site: u16) -> Result<(), Memory>
+        ensures counts { counts_of self.new ≡ counts_of self.old }
+        ensures room { OnOk result (0 < slice_index_or (spares_of self.new) site 0) }
+    {
+        self.grow(site)?;
+        self.sites[site as usize].reserve()
+    }
+
+    // Makes a list for each site up to this one.
+    fn grow(&mut self, site: u16) -> Result<(), Memory>
+        ensures counts { counts_of self.new ≡ counts_of self.old }
+        ensures there { OnOk result (site < length self.new) }
+    {
+        let alloc = *self.sites.allocator();
+        for _ in self.sites.len()..site as usize + 1 {
+            match self.sites.push(Tally::new(alloc)) {
+                Ok(()) => {}
+                Err(_) => return Err(Memory),
+            }
+        }
+        Ok(())
+    }
+
+    /// Counts the member, in the room that was made for it. It takes no memory.
+    pub(crate) fn push(&mut self, m: &Member, is_insert: bool)
+        requires room { HasSpareFor (spares_of self.old) m.now }
+        requires short { (s : ℕ) → total (counts_of self.old s) + 1 < 4294967296 }
+        ensures { (s : ℕ) → counts_of self.new s ≡ counted m.now is_insert s (counts_of self.old s) }
+    {
+        match m {
+            Member::Original(name) => self.sites[name.site as usize].push(is_insert),
+            Member::Group(_, _) => {}
+        }
+    }
+
+    /// Forgets the member, which is the last of its site. It takes no memory.
+    pub(crate) fn pop(&mut self, m: &Member)
+        ensures { (s : ℕ) → counts_of self.new s ≡ uncounted m.now s (counts_of self.old s) }
+    {
+        match m {
+            Member::Original(name) => {
+                if let Some(tally) = self.sites.get_mut(name.site as usize) {
+                    tally.pop();
+                }
+            }
+            Member::Group(_, _) => {}
+        }
+    }
+}
