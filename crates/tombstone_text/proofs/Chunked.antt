@@ -10,6 +10,7 @@ use Rattle.ttf_form.specs.Cells.{CellData, cell_shown, change_at}
 use Rattle.tombstone_text.specs.Chunks.{flat, flag_of, shown_in}
 use Rattle.tombstone_text.specs.Sums.{IsPart}
 use Rattle.tombstone_text.specs.Code.Cells.{cut, AreFilled, IsSeat, IsText}
+use Rattle.tombstone_text.specs.Code.Chunks.{ChunkData}
 
 -- the columns count the cells
 pub sum-lens : (cs : List (List CellData)) → sum (map (λ c. length c) cs) ≡ length (flat cs)
@@ -226,10 +227,10 @@ seat_behind cs i o q n p t e f =
     record { chunk = s.chunk; within = omega arith; place_is = omega arith }
 
 -- what the columns of a text sum up to
-pub text-len : (cs : List (List CellData)) (ls ss : List ℕ) (f : Option (List CellData)) → IsText cs ls ss f → sum ls ≡ length (flat cs)
+pub text-len : (cs : List (List CellData)) (ls ss : List ℕ) (f : Option ChunkData) → IsText cs ls ss f → sum ls ≡ length (flat cs)
 text-len cs ls ss f t = ap sum t.lens_are ∙ sum-lens cs
 
-pub text-shown : (cs : List (List CellData)) (ls ss : List ℕ) (f : Option (List CellData)) → IsText cs ls ss f → sum ss ≡ shown_in (flat cs)
+pub text-shown : (cs : List (List CellData)) (ls ss : List ℕ) (f : Option ChunkData) → IsText cs ls ss f → sum ss ≡ shown_in (flat cs)
 text-shown cs ls ss f t = ap sum t.shown_are ∙ sum-shown cs
 
 pub some_at : (xs : List CellData) (k : ℕ) (d : CellData) → k < length xs → slice_get xs k ≡ Some (get_or xs k d)

@@ -3,6 +3,8 @@ pub mod Entries
 pub mod Positions
 pub mod Named
 pub mod Flags
+pub mod Bodies
+pub mod Ways
 pub mod Chunked
 pub mod Texts
 pub mod Blocks

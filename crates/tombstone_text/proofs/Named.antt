@@ -13,6 +13,7 @@ use Rattle.std.proofs.lemmas.List.Sums.{fails_before_first, position_or_len_is, 
 use Rattle.std.proofs.lemmas.List.Concat.{get_or-flat_map}
 use Rattle.tombstone_text.specs.Chunks.{flat}
 use Rattle.tombstone_text.specs.Code.Cells.{IsText}
+use Rattle.tombstone_text.specs.Code.Chunks.{ChunkData}
 use Rattle.tombstone_text.specs.Code.Chunks.{blank}
 use Rattle.tombstone_text.proofs.Chunked.{text-len}
 use Rattle.tombstone_text.proofs.Positions.{unplaced_behind, unplaced_at, placed_at}
@@ -136,7 +137,7 @@ pub record IsSearched (cs : List (List CellData)) (i start : ℕ) (chunk : List 
   pub all : start + length chunk ≤ length (flat cs)
   pub low : start + length chunk < 2 ^ 32
 
-pub searched : (cs : List (List CellData)) (ls ss : List ℕ) (f : Option (List CellData)) (i start : ℕ) (was chunk : List CellData) → IsText cs ls ss f → sum ls < 2 ^ 32 → i < length cs
+pub searched : (cs : List (List CellData)) (ls ss : List ℕ) (f : Option ChunkData) (i start : ℕ) (was chunk : List CellData) → IsText cs ls ss f → sum ls < 2 ^ 32 → i < length cs
     → start ≡ length (flat (take i cs)) → was ≡ get_or cs i was → chunk ≡ was → IsSearched cs i start chunk
 searched cs ls ss f i start was chunk t low lt at read is =
     let same : chunk ≡ get_or cs i [] = is ∙ get_or_read cs i was lt read [] in

@@ -10,19 +10,20 @@ use Rattle.ttf_form.specs.Cells.{CellData, cell_shown, change_at}
 use Rattle.tombstone_text.specs.Chunks.{flat, flag_of, shown_in}
 use Rattle.tombstone_text.specs.Sums.{IsPart}
 use Rattle.tombstone_text.specs.Code.Cells.{cut, IsText}
+use Rattle.tombstone_text.specs.Code.Chunks.{ChunkData}
 use Rattle.tombstone_text.proofs.Flags.{map-insert}
 use Rattle.tombstone_text.proofs.Shown.{length-filter-insert, length-filter-le}
 use Rattle.tombstone_text.proofs.Chunked.{IsSpot, spot, text-len, text-shown, filled_set, filled_cut, cut_is, length-change, flag-le, shown-change}
 
-pub len_at : (cs : List (List CellData)) (ls ss : List ℕ) (f : Option (List CellData)) (i : ℕ) → IsText cs ls ss f → i < length cs
+pub len_at : (cs : List (List CellData)) (ls ss : List ℕ) (f : Option ChunkData) (i : ℕ) → IsText cs ls ss f → i < length cs
     → get_or ls i 0 ≡ length (get_or cs i [])
 len_at cs ls ss f i t lt = ap (λ (l : List ℕ). get_or l i 0) t.lens_are ∙ get_or-map (λ (c : List CellData). length c) cs i [] 0 lt
 
-pub shown_at : (cs : List (List CellData)) (ls ss : List ℕ) (f : Option (List CellData)) (i : ℕ) → IsText cs ls ss f → i < length cs
+pub shown_at : (cs : List (List CellData)) (ls ss : List ℕ) (f : Option ChunkData) (i : ℕ) → IsText cs ls ss f → i < length cs
     → get_or ss i 0 ≡ shown_in (get_or cs i [])
 shown_at cs ls ss f i t lt = ap (λ (l : List ℕ). get_or l i 0) t.shown_are ∙ get_or-map shown_in cs i [] 0 lt
 
-pub lens_long : (cs : List (List CellData)) (ls ss : List ℕ) (f : Option (List CellData)) → IsText cs ls ss f
+pub lens_long : (cs : List (List CellData)) (ls ss : List ℕ) (f : Option ChunkData) → IsText cs ls ss f
     → (length ls ≡ length cs) × (length ss ≡ length cs)
 lens_long cs ls ss f t =
     (ap (λ (l : List ℕ). length l) t.lens_are ∙ length-map cs (λ (c : List CellData). length c), ap (λ (l : List ℕ). length l) t.shown_are ∙ length-map cs shown_in)
@@ -38,7 +39,7 @@ set_both : (xs ys : List ℕ) (i a b : ℕ) → xs ≡ ys → a ≡ b → set xs
 set_both xs ys i a b e f = ap (λ l. set l i a) e ∙ ap (λ n. set ys i n) f
 
 -- one more shown cell in a chunk
-pub text_put : (cs : List (List CellData)) (ls ss : List ℕ) (f : Option (List CellData)) (i o : ℕ) (x : CellData) (d : List CellData) (a b : ℕ)
+pub text_put : (cs : List (List CellData)) (ls ss : List ℕ) (f : Option ChunkData) (i o : ℕ) (x : CellData) (d : List CellData) (a b : ℕ)
     → IsText cs ls ss f → i < length cs → o ≤ length (get_or cs i []) → d ≡ insert (get_or cs i []) o x → cell_shown x ≡ true
     → a ≡ get_or ls i 0 + 1 → b ≡ get_or ss i 0 + 1 → IsText (set cs i d) (set ls i a) (set ss i b) f
 text_put cs ls ss f i o x d a b t lt within new shows la sb =
@@ -55,7 +56,7 @@ text_put cs ls ss f i o x d a b t lt within new shows la sb =
     }
 
 -- a cell changed in a chunk
-pub text_change : (g : CellData → CellData) (cs : List (List CellData)) (ls ss : List ℕ) (f : Option (List CellData)) (i o : ℕ) (d : List CellData) (b : ℕ)
+pub text_change : (g : CellData → CellData) (cs : List (List CellData)) (ls ss : List ℕ) (f : Option ChunkData) (i o : ℕ) (d : List CellData) (b : ℕ)
     → IsText cs ls ss f → i < length cs → o < length (get_or cs i []) → d ≡ change_at o g (get_or cs i []) → b ≡ shown_in d
     → IsText (set cs i d) ls (set ss i b) f
 text_change g cs ls ss f i o d b t lt within new sb =
@@ -83,7 +84,7 @@ column_cut h cs ls i n k low high e lt next l u =
     ∙ sym (map-insert h (set cs i lower) n upper)
     ∙ ap (λ ds. map h ds) (cut_is cs i k n lt next)
 
-pub text_cut : (cs : List (List CellData)) (ls ss : List ℕ) (f : Option (List CellData)) (i n k up low high : ℕ)
+pub text_cut : (cs : List (List CellData)) (ls ss : List ℕ) (f : Option ChunkData) (i n k up low high : ℕ)
     → IsText cs ls ss f → i < length cs → n ≡ suc i → 1 ≤ k → up + k ≡ length (get_or cs i []) → 1 ≤ up
     → low ≡ shown_in (take k (get_or cs i [])) → high ≡ shown_in (drop k (get_or cs i []))
     → IsText (cut cs i k) (insert (set ls i k) n up) (insert (set ss i low) n high) None
@@ -117,7 +118,7 @@ pub record IsCut (cs : List (List CellData)) (ls ss : List ℕ) (i n k up low hi
   pub lens : sum (set ls i k) + up ≡ length (flat cs)
   pub shown : sum (set ss i low) + high ≤ length (flat cs)
 
-pub cut_text : (cs : List (List CellData)) (ls ss : List ℕ) (f : Option (List CellData)) (i n k len low high : ℕ) (was lower upper : List CellData)
+pub cut_text : (cs : List (List CellData)) (ls ss : List ℕ) (f : Option ChunkData) (i n k len low high : ℕ) (was lower upper : List CellData)
     → IsText cs ls ss f → i < length cs → n ≡ suc i → 1 ≤ k → k < length (get_or cs i []) → was ≡ get_or cs i was → lower ≡ take k was → upper ≡ drop k was
     → len ≡ get_or ls i 0 → low ≡ shown_in lower → high ≡ shown_in upper → IsCut cs ls ss i n k (len - k) low high lower upper
 cut_text cs ls ss f i n k len low high was lower upper t lt next some less read is_lower is_upper is_len is_low is_high =
@@ -143,25 +144,25 @@ cut_text cs ls ss f i n k len low high was lower upper t lt next some less read 
     }
 
 -- the same, where the chunks are seen as those
-pub cut_seen : {seen cs : List (List CellData)} {ls ss : List ℕ} {f : Option (List CellData)} {i n k len low high : ℕ} {was lower upper : List CellData}
+pub cut_seen : {seen cs : List (List CellData)} {ls ss : List ℕ} {f : Option ChunkData} {i n k len low high : ℕ} {was lower upper : List CellData}
     → cs ≡ seen → IsText cs ls ss f → i < length seen → n ≡ suc i → 1 ≤ k → k < length (get_or seen i []) → was ≡ get_or cs i was → lower ≡ take k was → upper ≡ drop k was
     → len ≡ get_or ls i 0 → low ≡ shown_in lower → high ≡ shown_in upper → IsCut cs ls ss i n k (len - k) low high lower upper
 cut_seen {seen} {cs} {ls} {ss} {f} {i} {n} {k} {len} {low} {high} {was} {lower} {upper} is t lt next some less =
     cut_text cs ls ss f i n k len low high was lower upper t (subst (λ ds. i < length ds) (sym is) lt) next some (subst (λ ds. k < length (get_or ds i [])) (sym is) less)
 
 -- where a place of a text lies, found in the column of lengths
-pub text-spot : (cs : List (List CellData)) (ls ss : List ℕ) (f : Option (List CellData)) (i o p : ℕ) → IsText cs ls ss f → IsPart ls i o p → IsSpot cs i o p
+pub text-spot : (cs : List (List CellData)) (ls ss : List ℕ) (f : Option ChunkData) (i o p : ℕ) → IsText cs ls ss f → IsPart ls i o p → IsSpot cs i o p
 text-spot cs ls ss f i o p t part = spot cs i o p (subst (λ (l : List ℕ). IsPart l i o p) t.lens_are part)
 
 -- what stays true when a cell of a chunk is changed, and the chunk is d then, of which n - before + after cells are shown
-pub record IsChangedIn (g : CellData → CellData) (cs : List (List CellData)) (ls ss : List ℕ) (f : Option (List CellData)) (i o n before after : ℕ) (d : List CellData) : Type 0 where
+pub record IsChangedIn (g : CellData → CellData) (cs : List (List CellData)) (ls ss : List ℕ) (f : Option ChunkData) (i o n before after : ℕ) (d : List CellData) : Type 0 where
   pub chunk : d ≡ change_at o g (get_or cs i [])
   pub low : before ≤ n
   pub shown : n - before + after ≤ length (flat cs)
   pub all : sum (set ss i (n - before + after)) ≤ length (flat cs)
   pub text : IsText (set cs i d) ls (set ss i (n - before + after)) f
 
-pub changed_text : (g : CellData → CellData) (cs : List (List CellData)) (ls ss : List ℕ) (f : Option (List CellData)) (i o n before after : ℕ) (was d : List CellData) (x : CellData)
+pub changed_text : (g : CellData → CellData) (cs : List (List CellData)) (ls ss : List ℕ) (f : Option ChunkData) (i o n before after : ℕ) (was d : List CellData) (x : CellData)
     → IsText cs ls ss f → i < length cs → o < length (get_or cs i []) → was ≡ get_or cs i was → d ≡ change_at o g was → n ≡ get_or ss i 0
     → before ≡ flag_of (get_or was o x) → after ≡ flag_of (get_or d o x) → IsChangedIn g cs ls ss f i o n before after d
 changed_text g cs ls ss f i o n before after was d x t lt within read change is_n is_before is_after =

@@ -1,5 +1,5 @@
 -- A text as contracts see it: its cells, the chunks that they are kept in, and the room that its lists have to spare.
-use Rattle.std.specs.Prelude.{ℕ, ◌<◌, ◌≤◌, List, length, slice_get, IfSome}
+use Rattle.std.specs.Prelude.{◌≡◌, ℕ, ◌<◌, Option, Some, List, length, slice_get, IfSome}
 use Rattle.ttf_form.specs.declared.include.TheConstants.{CELLS}
 use Rattle.ttf_form.specs.Cells.{CellData}
 use Rattle.ttf_form.specs.declared.cover.Mark.{Mark}
@@ -7,9 +7,9 @@ use Rattle.ttf_form.specs.declared.cover.Mark.TheVariants.{Own, By}
 use Rattle.ttf_form.specs.declared.form.Form.{Form}
 use Rattle.ttf_form.specs.declared.form.Form.TheVariants.{Ins as Insert, Cover as Covered}
 
--- how many cells may come in, and places for the deleters of one cell
+-- the place at which a cell may come in without memory, and places for the deleters of one cell
 pub record Room : Type 0 where
-  pub places : ℕ
+  pub ready : Option ℕ
   pub deleters : ℕ
 
 -- the cells in the order in which they stand, shown or hidden, the chunks that they are kept in, and the room beside them
@@ -23,8 +23,8 @@ abbrev pub HasRoomOn : Mark → CellData → ℕ → Type 0
 HasRoomOn (Own g) c places = Unit {0}
 HasRoomOn (By d g) c places = length c.deleters < places
 
--- there is room to apply the form: a place for the cell that an insert adds, below the greatest number of cells, or one
+-- there is room to apply the form: for the cell that an insert adds at its place, below the greatest number of cells, or
 -- for the deleter that a cover may add
 abbrev pub HasRoomFor : CellsData → Form → Type 0
-HasRoomFor t (Insert a) = (1 ≤ t.room.places) × (length t.cells < CELLS)
+HasRoomFor t (Insert a) = (t.room.ready ≡ Some a.place) × (length t.cells < CELLS)
 HasRoomFor t (Covered c) = IfSome (slice_get t.cells c.place) (λ d. HasRoomOn c.mark d t.room.deleters)

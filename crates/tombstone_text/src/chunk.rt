@@ -1,10 +1,11 @@
 //! A chunk: some of the cells of a text that stand side by side.
 
-ghost use Rattle.std.specs.Prelude.{◌≡◌, ℕ, ◌+◌, ◌<◌, ◌≤◌, List, [], length, map, take, drop, insert, sum, vec_len, vec_capacity, slice_index_or, slice_get, slice_set, option_map, IfOk, if◌then◌else◌};
+ghost use Rattle.std.specs.Prelude.{◌≡◌, ℕ, ◌+◌, ◌<◌, ◌≤◌, List, [], length, map, take, drop, insert, sum, min, vec_len, vec_capacity, slice_index_or, slice_get, slice_set, option_map, IfOk, OnOk, if◌then◌else◌};
 ghost use Rattle.ttf_form.specs.Cells.{CellData, cell_shown, change_at, marked};
 ghost use Rattle.tombstone_text.specs.Cells.{HasRoomOn};
 ghost use Rattle.tombstone_text.specs.Chunks.{flag_of, shown_in};
-ghost use Rattle.tombstone_text.specs.Code.Chunks.{IsChunk, blank};
+ghost use Rattle.tombstone_text.specs.Code.Chunks.{ChunkData, IsChunk, blank};
+ghost use Rattle.tombstone_text.specs.declared.chunk.TheConstants.{FULL};
 
 use crate::cell::Cell;
 use crate::deleters::Spare;
@@ -18,6 +19,28 @@ use ttf_form::Mark;
 /// more; with fewer, more chunks are searched and cut.
 pub(crate) const FULL: usize = 512;
 
+/// The least room that a chunk is made with.
+const LEAST: usize = 16;
+
+/// The room for a chunk of so many cells that has none left: half as much again, so that a chunk moves to more room
+/// a few times only while it fills.
+fn grown(len: usize) -> usize
+    requires { len < FULL }
+    ensures more { len < result }
+    ensures most { result ≤ FULL }
+{
+    (len + len / 2).max(LEAST).min(FULL)
+}
+
+/// The room for so many cells of a chunk that is cut in two: a quarter as much again.
+pub(crate) fn room_for(len: usize) -> usize
+    requires { len < FULL }
+    ensures more { len < result }
+    ensures most { result ≤ FULL }
+{
+    (len + len / 4).max(LEAST).min(FULL)
+}
+
 /// The flag of a cell: 1 if it is shown, else 0.
 fn flag(cell: &Cell) -> u8
     ensures { result ≡ flag_of cell.now }
@@ -25,8 +48,8 @@ fn flag(cell: &Cell) -> u8
     if cell.shown() { 1 } else { 0 }
 }
 
-/// Up to 512 cells, with a column of flags: 1 for a shown cell, 0 for a hidden one. A chunk is made with room
-/// for 512 of both, so that no other call of it takes memory.
+/// Up to 512 cells, with a column of flags: 1 for a shown cell, 0 for a hidden one. A chunk may have room for more
+/// cells than it has. Out of memory, only `with_room` and `grow` fail.
 #[derive(Drop)]
 pub(crate) struct Chunk {
     cells: Vec<Cell>,
@@ -34,49 +57,60 @@ pub(crate) struct Chunk {
 }
 
 impl Model for Chunk {
-    ghost Value = { List CellData };
+    ghost Value = { ChunkData };
 
-    ghost view = { λ c. c.cells.items };
+    ghost view = { λ c. record { cells = c.cells.items; room = min FULL (min (vec_capacity c.cells) (vec_capacity c.flags)) } };
 
-    ghost invariant = { λ c. IsChunk c.cells.items c.flags.items (vec_capacity c.cells) (vec_capacity c.flags) };
+    ghost invariant = { λ c. IsChunk c.cells.items c.flags.items };
 }
 
 impl Chunk {
-    /// No cells, with room for 512.
-    pub(crate) fn with_room(alloc: Global) -> Result<Chunk, Memory>
-        ensures { IfOk result (λ c. c ≡ []) }
+    /// No cells, with room for so many.
+    pub(crate) fn with_room(room: usize, alloc: Global) -> Result<Chunk, Memory>
+        requires { room ≤ FULL }
+        ensures cells { IfOk result (λ c. c.cells ≡ []) }
+        ensures room { IfOk result (λ c. c.room ≡ room) }
     {
-        let cells = Vec::with_capacity(alloc, FULL)?;
-        let flags = Vec::with_capacity(alloc, FULL)?;
+        let cells = Vec::with_capacity(alloc, room)?;
+        let flags = Vec::with_capacity(alloc, room)?;
         Ok(Chunk { cells, flags })
     }
 
     /// The number of cells.
     pub(crate) fn len(&self) -> usize
-        ensures len { result ≡ length self.now }
+        ensures len { result ≡ length self.now.cells }
         ensures most { result ≤ FULL }
     {
         let _ = &self.flags;
         self.cells.len()
     }
 
+    /// For how many cells there is room, those that it has among them.
+    pub(crate) fn room(&self) -> usize
+        ensures { result ≡ self.now.room }
+    {
+        FULL.min(self.cells.capacity().min(self.flags.capacity()))
+    }
+
     /// The cells.
     pub(crate) fn cells(&self) -> &[Cell]
-        ensures { result.now ≡ self.now }
+        ensures { result.now ≡ self.now.cells }
     {
+        let _ = &self.flags;
         self.cells.as_slice()
     }
 
     /// The cell at a place of the chunk; None exactly past the end.
     pub(crate) fn cell(&self, at: usize) -> Option<&Cell>
-        ensures { option_map (λ c. c.now) result ≡ slice_get self.now at }
+        ensures { option_map (λ c. c.now) result ≡ slice_get self.now.cells at }
     {
+        let _ = &self.flags;
         self.cells.get(at)
     }
 
     /// The flags of the cells, in their order.
     pub(crate) fn flags(&self) -> &[u8]
-        ensures flags { result.now ≡ map flag_of self.now }
+        ensures flags { result.now ≡ map flag_of self.now.cells }
         ensures most { length result.now ≤ FULL }
     {
         let _ = &self.cells;
@@ -85,16 +119,26 @@ impl Chunk {
 
     /// The number of shown cells, counted by the flags.
     pub(crate) fn shown(&self) -> u32
-        ensures { result ≡ shown_in self.now }
+        ensures { result ≡ shown_in self.now.cells }
     {
         ones(self.flags())
     }
 
+    /// Makes room for a cell more than the chunk has. No cell changes, also when out of memory.
+    pub(crate) fn grow(&mut self) -> Result<(), Memory>
+        requires { length self.old.cells < FULL }
+        ensures cells { self.new.cells ≡ self.old.cells }
+        ensures room { OnOk result (length self.new.cells < self.new.room) }
+    {
+        grow_list(&mut self.cells)?;
+        grow_list(&mut self.flags)
+    }
+
     /// Puts a cell at a place of the chunk.
     pub(crate) fn put(&mut self, at: usize, cell: Cell)
-        requires room { length self.old < FULL }
-        requires within { at ≤ length self.old }
-        ensures { self.new ≡ insert self.old at cell }
+        requires room { length self.old.cells < self.old.room }
+        requires within { at ≤ length self.old.cells }
+        ensures { self.new.cells ≡ insert self.old.cells at cell }
     {
         let mark = flag(&cell);
         match self.cells.insert(at, cell) {
@@ -109,33 +153,52 @@ impl Chunk {
 
     /// Marks the cell at a place of the chunk. A deleter that is added may take the list of `spare`.
     pub(crate) fn cover(&mut self, at: usize, mark: Mark, spare: &mut Spare)
-        requires within { at < length self.old }
-        requires room { HasRoomOn mark (slice_index_or self.old at blank) spare.old }
-        ensures cells { self.new ≡ change_at at (marked mark) self.old }
+        requires within { at < length self.old.cells }
+        requires room { HasRoomOn mark (slice_index_or self.old.cells at blank) spare.old }
+        ensures cells { self.new.cells ≡ change_at at (marked mark) self.old.cells }
     {
         let cell = &mut self.cells[at];
         cell.cover(mark, spare);
         self.flags[at] = flag(cell);
     }
 
-    /// Keeps the first `keep` cells and moves the others to another chunk, which was empty.
+    /// Keeps the first `keep` cells and moves the others to another chunk, which was empty. Of the room that the
+    /// moved cells leave a part is kept, for new cells, and the rest given back; where there is no memory for the move
+    /// to less room, all is kept.
     pub(crate) fn split(&mut self, keep: usize, upper: &mut Chunk)
-        requires within { keep ≤ length self.old }
-        requires empty { upper.old ≡ [] }
-        ensures lower { self.new ≡ take keep self.old }
-        ensures upper { upper.new ≡ drop keep self.old }
+        requires less { keep < length self.old.cells }
+        requires empty { upper.old.cells ≡ [] }
+        requires room { length self.old.cells ≤ keep + upper.old.room }
+        ensures lower { self.new.cells ≡ take keep self.old.cells }
+        ensures upper { upper.new.cells ≡ drop keep self.old.cells }
+        ensures lower_room { keep < self.new.room }
+        ensures upper_room { upper.old.room ≤ upper.new.room }
     {
         move_cells(&mut self.cells, keep, &mut upper.cells);
         move_flags(&mut self.flags, keep, &mut upper.flags);
+        self.cells.shrink_to(room_for(keep));
+        self.flags.shrink_to(room_for(keep));
     }
+}
+
+/// Makes room for an element more in a list of a chunk.
+fn grow_list<T>(list: &mut Vec<T>) -> Result<(), Memory>
+    requires { vec_len list.old < FULL }
+    ensures items { list.new.items ≡ list.old.items }
+    ensures room { OnOk result (vec_len list.new < vec_capacity list.new) }
+{
+    let len = list.len();
+    if len == list.capacity() {
+        list.reserve_exact(grown(len) - len)?;
+    }
+    Ok(())
 }
 
 /// Moves the cells from place `keep` on to an empty list, in their order.
 fn move_cells(from: &mut Vec<Cell>, keep: usize, to: &mut Vec<Cell>)
     requires within { keep ≤ vec_len from.old }
-    requires most { vec_len from.old ≤ FULL }
     requires empty { to.old.items ≡ [] }
-    requires room { FULL ≤ vec_capacity to.old }
+    requires room { vec_len from.old ≤ keep + vec_capacity to.old }
     ensures lower { from.new.items ≡ take keep from.old.items }
     ensures upper { to.new.items ≡ drop keep from.old.items }
     ensures from_room { vec_capacity from.old ≤ vec_capacity from.new }
@@ -153,9 +216,8 @@ fn move_cells(from: &mut Vec<Cell>, keep: usize, to: &mut Vec<Cell>)
 /// Moves the flags from place `keep` on to an empty list, in their order.
 fn move_flags(from: &mut Vec<u8>, keep: usize, to: &mut Vec<u8>)
     requires within { keep ≤ vec_len from.old }
-    requires most { vec_len from.old ≤ FULL }
     requires empty { to.old.items ≡ [] }
-    requires room { FULL ≤ vec_capacity to.old }
+    requires room { vec_len from.old ≤ keep + vec_capacity to.old }
     ensures lower { from.new.items ≡ take keep from.old.items }
     ensures upper { to.new.items ≡ drop keep from.old.items }
     ensures from_room { vec_capacity from.old ≤ vec_capacity from.new }

@@ -11,6 +11,7 @@
 mod cell;
 mod cells;
 mod chunk;
+mod chunks;
 mod deleters;
 mod sums;
 

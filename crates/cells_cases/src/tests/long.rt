@@ -165,22 +165,53 @@ fn long_texts(rt: HostRuntime) -> Result<(), Fail> {
     Ok(())
 }
 
-// Nothing but the cells takes memory from the 512th insert on, so that a refusal of any allocation there is one of
-// `reserve`, for the insert that cuts the full chunk.
-#[test]
-fn out_of_memory_at_a_split(rt: HostRuntime) -> Result<(), Fail> {
+/// Whether the cells, their chunks and their flags are those of the plain list.
+fn all_agree(both: &Beside) -> bool {
+    let plain = both.plain.as_slice();
+    cells_agree(&both.cells, plain) && chunks_agree(&both.cells, plain) && flags_agree(&both.cells)
+}
+
+/// A text of 512 cells, all in one chunk, with room in the plain list for 800.
+fn full_chunk(alloc: Global) -> Result<Beside, Fail> {
     let mut both = Beside {
-        cells: Cells::new(rt.alloc()),
-        plain: Vec::with_capacity(rt.alloc(), 600)?,
+        cells: Cells::new(alloc),
+        plain: Vec::with_capacity(alloc, 800)?,
     };
     for number in 0..512 {
         put(&mut both, number, letter(number))?;
     }
+    Ok(both)
+}
+
+// Nothing but the cells takes memory after the plain list, so that a refusal of any later allocation is one of
+// `reserve`: for the first chunk, for a chunk that grows, or for a full one that is cut, in the middle or at the end.
+#[test]
+fn out_of_memory_at_each_growth_and_split(rt: HostRuntime) -> Result<(), Fail> {
+    let mut both = full_chunk(rt.alloc())?;
     assert!(rt; both.cells.chunk_count() == 1);
     put(&mut both, 200, '-')?;
     assert!(rt; both.cells.chunk_count() == 2);
-    assert!(rt; cells_agree(&both.cells, both.plain.as_slice()));
-    assert!(rt; chunks_agree(&both.cells, both.plain.as_slice()));
-    assert!(rt; flags_agree(&both.cells));
+    for number in 513..769 {
+        put(&mut both, number, letter(number))?;
+    }
+    assert!(rt; both.cells.chunk_count() == 2);
+    put(&mut both, 769, '-')?;
+    assert!(rt; both.cells.chunk_count() == 3);
+    assert!(rt; all_agree(&both));
+    Ok(())
+}
+
+// Room is made at the front, in the middle, at the end and past it, and each time an insert follows elsewhere.
+#[test]
+fn room_for_one_place_then_for_another(rt: HostRuntime) -> Result<(), Fail> {
+    let mut both = full_chunk(rt.alloc())?;
+    for place in [0, 256, 512, 9000] {
+        let step = Step::Put(place, '!');
+        let names = next_names(&both.cells, &step)?;
+        both.cells.reserve(&form_of(&step, names.0, names.1))?;
+        assert!(rt; all_agree(&both));
+        put(&mut both, 300, '-')?;
+        assert!(rt; all_agree(&both));
+    }
     Ok(())
 }

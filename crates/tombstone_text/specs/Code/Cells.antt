@@ -2,6 +2,11 @@
 use Rattle.std.specs.Prelude.{◌≡◌, ℕ, zero, suc, ◌+◌, ◌<◌, ◌≤◌, min, Option, Some, None, IfSome, List, [], ◌∷◌, length, map, take, drop, slice_index_or}
 use Rattle.ttf_form.specs.Cells.{CellData}
 use Rattle.tombstone_text.specs.Chunks.{flat, shown_in}
+use Rattle.tombstone_text.specs.Code.Chunks.{ChunkData}
+use Rattle.tombstone_text.specs.declared.chunk.TheConstants.{FULL}
+use Rattle.tombstone_text.specs.declared.chunks.Way.{Way}
+use Rattle.tombstone_text.specs.declared.chunks.Way.TheVariants.{First, Into, Cut}
+use Rattle.tombstone_text.specs.declared.chunks.Ready.{Ready}
 
 -- each chunk has a cell
 abbrev pub AreFilled : List (List CellData) → Type 0
@@ -21,13 +26,43 @@ cut (c ∷ cs) zero k = take k c ∷ drop k c ∷ cs
 cut (c ∷ cs) (suc i) k = c ∷ cut cs i k
 
 -- the columns of a text are those of its chunks, each of which has a cell; what is kept to be used later is empty
-pub record IsText (chunks : List (List CellData)) (lens : List ℕ) (shown : List ℕ) (fresh : Option (List CellData)) : Type 0 where
+pub record IsText (chunks : List (List CellData)) (lens : List ℕ) (shown : List ℕ) (fresh : Option ChunkData) : Type 0 where
   pub lens_are : lens ≡ map length chunks
   pub shown_are : shown ≡ map shown_in chunks
   pub filled : AreFilled chunks
-  pub fresh_is : IfSome fresh (λ c. c ≡ [])
+  pub fresh_is : IfSome fresh (λ c. c.cells ≡ [])
 
--- how many cells may come in: one where there is a fresh chunk, and a place for it in each column
-abbrev pub places_in : Option (List CellData) → ℕ → ℕ → ℕ → ℕ
-places_in None a b c = 0
-places_in (Some s) a b c = min 1 (min a (min b c))
+-- the room of a chunk that waits to be used, 0 without one
+abbrev pub fresh_room : Option ChunkData → ℕ
+fresh_room None = 0
+fresh_room (Some c) = c.room
+
+-- the chunks of a text with its cells, the room of each, that of the fresh one, and how many chunks the lists have places for
+pub record ChunksData : Type 0 where
+  pub chunks : List (List CellData)
+  pub cells : List CellData
+  pub rooms : List ℕ
+  pub fresh : ℕ
+  pub spare : ℕ
+
+-- the i-th chunk has room for a cell more
+abbrev pub HasPlace : ChunksData → ℕ → Type 0
+HasPlace t i = length (slice_index_or t.chunks i []) < slice_index_or t.rooms i 0
+
+-- the i-th chunk is full, and may be cut to keep k cells: the fresh chunk has room for the others and one more
+pub record MayBeCut (t : ChunksData) (i : ℕ) (k : ℕ) : Type 0 where
+  pub full : length (slice_index_or t.chunks i []) ≡ FULL
+  pub some : 1 ≤ k
+  pub less : k < FULL
+  pub fresh : FULL < k + t.fresh
+  pub spare : 1 ≤ t.spare
+
+-- a new cell may come in at the place, this way, without memory
+abbrev pub IsWay : ChunksData → Way → ℕ → Type 0
+IsWay t First place = (t.chunks ≡ []) × (1 ≤ t.fresh) × (1 ≤ t.spare)
+IsWay t (Into i o) place = IsSeat t.chunks i o place × HasPlace t i
+IsWay t (Cut i o k) place = IsSeat t.chunks i o place × MayBeCut t i k
+
+-- a new cell may come in without memory at the place for which this was made ready, one past the end counting as the end
+abbrev pub IsReady : ChunksData → Ready → Type 0
+IsReady t r = IsWay t r.way (min r.place (length t.cells))

@@ -8,9 +8,20 @@ use Rattle.tombstone_text.specs.declared.chunk.TheConstants.{FULL}
 pub blank : CellData
 blank = record { name = record { site = 0; number = 0 }; ch = 0; generation = 0; deleters = [] }
 
--- at most FULL cells, with their flags, and room for so many of both
-pub record IsChunk (cells : List CellData) (flags : List ℕ) (room : ℕ) (flag_room : ℕ) : Type 0 where
+-- the cells of a chunk, and how many it has room for, these among them
+pub record ChunkData : Type 0 where
+  pub cells : List CellData
+  pub room : ℕ
+
+-- at most FULL cells, with their flags
+pub record IsChunk (cells : List CellData) (flags : List ℕ) : Type 0 where
   pub flags_are : flags ≡ map flag_of cells
   pub most : length cells ≤ FULL
-  pub room_is : FULL ≤ room
-  pub flag_room_is : FULL ≤ flag_room
+
+-- the cells of each chunk
+abbrev pub bodies : List ChunkData → List (List CellData)
+bodies cs = map (λ c. c.cells) cs
+
+-- the room of each chunk
+abbrev pub rooms_of : List ChunkData → List ℕ
+rooms_of cs = map (λ c. c.room) cs

@@ -1,6 +1,6 @@
 use Rattle.std.proofs.Common.{◌≡◌, ℕ, ◌<◌, List, length, set, sym, ap, ◌∙◌, arith}
 use Rattle.std.proofs.lemmas.List.{length-set, map-set}
-use Rattle.ttf_form.specs.Cells.{CellData, change_at, marked}
+use Rattle.ttf_form.specs.Cells.{change_at, marked}
 use Rattle.tombstone_text.specs.Chunks.{flag_of}
 use Rattle.tombstone_text.proofs.Shown.{set_change}
 use Rattle.tombstone_text.proofs.chunk.Chunk.cover.Goals as goal
@@ -17,19 +17,17 @@ invariant_of-self c =
           ∙ ap (λ (fs : List ℕ). set fs k (flag_of c.cover.new.self)) c.self.invariant.flags_are
           ∙ sym (map-set flag_of xs k c.cover.new.self);
       most = omega arith;
-      room_is = c.self.invariant.room_is;
-      flag_room_is = c.self.invariant.flag_room_is;
     }
 
 pub returns : goal.returns
 returns c =
     let xs = c.self.inside.cells.items in
     let k = c.args.at in
-    let seen : length xs ≡ length c.args.self.now = ap (λ (s : List CellData). length s) c.self.view_is in
+    let seen : length xs ≡ length c.args.self.now.cells = ap (λ s. length s.cells) c.self.view_is in
     let there : k < length xs = omega arith in
     record {
       cells =
           ap (λ y. set xs k y) c.cover.ensures.marked
           ∙ set_change (marked c.args.mark) xs k c.index_mut-cell.result.now there c.index_mut-cell.ensures.value
-          ∙ ap (λ s. change_at k (marked c.args.mark) s) c.self.view_is;
+          ∙ ap (λ s. change_at k (marked c.args.mark) s.cells) c.self.view_is;
     }

@@ -10,10 +10,11 @@ pub invariant_of-self : goal.invariant_of-self
 invariant_of-self c =
     let xs = c.self.inside.cells.items in
     let k = c.args.at in
-    let seen : length xs ≡ length c.args.self.now = ap (λ (s : List CellData). length s) c.self.view_is in
+    let seen : length xs ≡ length c.args.self.now.cells = ap (λ s. length s.cells) c.self.view_is in
     let now : c.insert.new.self.items ≡ insert xs k c.args.cell = c.in-Ok.ensures.items in
     let flags : c.insert-2.new.self.items ≡ insert c.self.inside.flags.items k c.flag-mark.result = c.in-Ok-insert.ensures.items in
     let long = length-insert xs k c.args.cell (omega arith) in
+    let room = ap (λ s. s.room) c.self.view_is in
     let most : length (insert xs k c.args.cell) ≤ FULL = omega arith in
     record {
       flags_are =
@@ -21,6 +22,4 @@ invariant_of-self c =
           ∙ ap (λ (fs : List ℕ). insert fs k (flag_of c.args.cell)) c.self.invariant.flags_are
           ∙ sym (map-insert flag_of xs k c.args.cell) ∙ ap (λ (s : List CellData). map flag_of s) (sym now);
       most = subst (λ (s : List CellData). length s ≤ FULL) (sym now) most;
-      room_is = omega (arith, c.in-Ok.ensures.capacity);
-      flag_room_is = omega (arith, c.in-Ok-insert.ensures.capacity);
     }

@@ -12,11 +12,9 @@ invariant_of-self c =
     let most : length (take c.args.keep xs) ≤ FULL = omega arith in
     record {
       flags_are =
-          c.move_flags.ensures.lower ∙ ap (λ (fs : List ℕ). take c.args.keep fs) c.self.invariant.flags_are
-          ∙ take-map flag_of c.args.keep xs ∙ ap (λ (s : List CellData). map flag_of s) (sym c.move_cells.ensures.lower);
-      most = subst (λ (s : List CellData). length s ≤ FULL) (sym c.move_cells.ensures.lower) most;
-      room_is = omega (arith, c.move_cells.ensures.from_room, c.self.invariant.room_is);
-      flag_room_is = omega (arith, c.move_flags.ensures.from_room, c.self.invariant.flag_room_is);
+          c.shrink_to-2.ensures.items ∙ c.move_flags.ensures.lower ∙ ap (λ (fs : List ℕ). take c.args.keep fs) c.self.invariant.flags_are
+          ∙ take-map flag_of c.args.keep xs ∙ ap (λ (s : List CellData). map flag_of s) (sym (c.shrink_to.ensures.items ∙ c.move_cells.ensures.lower));
+      most = subst (λ (s : List CellData). length s ≤ FULL) (sym (c.shrink_to.ensures.items ∙ c.move_cells.ensures.lower)) most;
     }
 
 pub invariant_of-upper : goal.invariant_of-upper
@@ -30,6 +28,4 @@ invariant_of-upper c =
           c.move_flags.ensures.upper ∙ ap (λ (fs : List ℕ). drop c.args.keep fs) c.self.invariant.flags_are
           ∙ drop-map flag_of c.args.keep xs ∙ ap (λ (s : List CellData). map flag_of s) (sym c.move_cells.ensures.upper);
       most = subst (λ (s : List CellData). length s ≤ FULL) (sym c.move_cells.ensures.upper) most;
-      room_is = omega (arith, c.move_cells.ensures.to_room, c.upper.invariant.room_is);
-      flag_room_is = omega (arith, c.move_flags.ensures.to_room, c.upper.invariant.flag_room_is);
     }

@@ -1,0 +1,77 @@
+use Rattle.std.proofs.Common.{◌≡◌, ◌+◌, ◌<◌, ◌≤◌, List, [], length, insert, set, get_or, sym, ap, ◌∙◌, subst, arith}
+use Rattle.ttf_form.specs.Cells.{CellData, cell_shown}
+use Rattle.tombstone_text.specs.Chunks.{flat}
+use Rattle.tombstone_text.specs.Code.Cells.{IsSeat}
+use Rattle.tombstone_text.specs.Code.Chunks.{bodies}
+use Rattle.tombstone_text.proofs.Shown.{length-filter-le}
+use Rattle.tombstone_text.proofs.Bodies as body
+use Rattle.tombstone_text.proofs.Chunked as chunked
+use Rattle.tombstone_text.proofs.Texts as texts
+use Rattle.tombstone_text.proofs.chunks.Chunks.put_at.Goals as goal
+
+pub set-requires-clause-low : goal.set-requires-clause-low
+set-requires-clause-low c =
+    let ls = c.self.inside.lens.parts in
+    let long = (texts.lens_long _ _ _ _ c.self.invariant).0 in
+    let n = ap (λ v. length v.chunks) c.self.view_is in
+    let all = chunked.text-len _ _ _ _ c.self.invariant in
+    let seen = ap (λ v. length v.cells) c.self.view_is in
+    let more = texts.set-sum ls c.args.i (c.part-len.result + 1) (omega arith) in
+    let part = c.part-len.ensures in
+    omega arith
+
+pub overflow_add-len : goal.overflow_add-len
+overflow_add-len c =
+    let lt : c.args.i < length (bodies c.self.inside.list.items) = let n = ap (λ v. length v.chunks) c.self.view_is in omega arith in
+    let long = (texts.lens_long _ _ _ _ c.self.invariant).0 in
+    let all = chunked.text-len _ _ _ _ c.self.invariant in
+    let seen = ap (λ v. length v.cells) c.self.view_is in
+    let one = texts.part-le c.self.inside.lens.parts c.args.i (omega arith) in
+    let part = c.part-len.ensures in
+    record { fits = omega arith }
+
+pub overflow_add-shown : goal.overflow_add-shown
+overflow_add-shown c =
+    let lt : c.args.i < length (bodies c.self.inside.list.items) = let n = ap (λ v. length v.chunks) c.self.view_is in omega arith in
+    let long = (texts.lens_long _ _ _ _ c.self.invariant).1 in
+    let all = chunked.text-shown _ _ _ _ c.self.invariant in
+    let most = length-filter-le cell_shown (flat (bodies c.self.inside.list.items)) in
+    let seen = ap (λ v. length v.cells) c.self.view_is in
+    let one = texts.part-le c.self.inside.shown.parts c.args.i (omega arith) in
+    let part = c.part-shown.ensures in
+    record { fits = omega arith }
+
+pub set-requires-2-clause-low : goal.set-requires-2-clause-low
+set-requires-2-clause-low c =
+    let ss = c.self.inside.shown.parts in
+    let long = (texts.lens_long _ _ _ _ c.self.invariant).1 in
+    let n = ap (λ v. length v.chunks) c.self.view_is in
+    let all = chunked.text-shown _ _ _ _ c.self.invariant in
+    let most = length-filter-le cell_shown (flat (bodies c.self.inside.list.items)) in
+    let seen = ap (λ v. length v.cells) c.self.view_is in
+    let more = texts.set-sum ss c.args.i (c.part-shown.result + 1) (omega arith) in
+    let part = c.part-shown.ensures in
+    omega arith
+
+pub invariant_of-self : goal.invariant_of-self
+invariant_of-self c =
+    let cs = (bodies c.self.inside.list.items) in
+    let lt : c.args.i < length cs = let n = ap (λ v. length v.chunks) c.self.view_is in omega arith in
+    let read : c.index_mut-chunk.result.now.cells ≡ get_or cs c.args.i [] = body.body_read c.self.inside.list.items c.args.i c.index_mut-chunk.result.now lt c.index_mut-chunk.ensures.value in
+    let within : c.args.at ≤ length (get_or cs c.args.i []) = let e = ap (λ v. length (get_or v.chunks c.args.i [])) c.self.view_is in omega arith in
+    let new : c.put.new.self.cells ≡ insert (get_or cs c.args.i []) c.args.at c.args.cell = c.put.ensures ∙ ap (λ (s : List CellData). insert s c.args.at c.args.cell) read in
+    let text = texts.text_put _ _ _ _ c.args.i c.args.at c.args.cell c.put.new.self.cells (c.part-len.result + 1) (c.part-shown.result + 1) c.self.invariant lt within new c.requires.shown
+    (ap (λ n. n + 1) c.part-len.ensures) (ap (λ n. n + 1) c.part-shown.ensures) in
+    rw (c.set.ensures.parts, c.set-2.ensures.parts, body.bodies_set c.self.inside.list.items c.args.i c.put.new.self) text
+
+pub returns : goal.returns
+returns c p s =
+    let cs = (bodies c.self.inside.list.items) in
+    let lt : c.args.i < length cs = let n = ap (λ v. length v.chunks) c.self.view_is in omega arith in
+    let read : c.index_mut-chunk.result.now.cells ≡ get_or cs c.args.i [] = body.body_read c.self.inside.list.items c.args.i c.index_mut-chunk.result.now lt c.index_mut-chunk.ensures.value in
+    let new : c.put.new.self.cells ≡ insert (get_or cs c.args.i []) c.args.at c.args.cell = c.put.ensures ∙ ap (λ (s : List CellData). insert s c.args.at c.args.cell) read in
+    let seat : IsSeat cs c.args.i c.args.at p = subst (λ ds. IsSeat ds c.args.i c.args.at p) (sym (ap (λ v. v.chunks) c.self.view_is)) s in
+    ap (λ ds. flat ds) (body.bodies_set c.self.inside.list.items c.args.i c.put.new.self)
+    ∙ ap (λ d. flat (set cs c.args.i d)) new
+    ∙ chunked.flat_put cs c.args.i c.args.at p c.args.cell seat
+    ∙ ap (λ v. insert v.cells p c.args.cell) c.self.view_is

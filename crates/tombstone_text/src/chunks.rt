@@ -1,0 +1,427 @@
+//! The chunks of a text, beside the columns of their lengths and of their numbers of shown cells.
+
+ghost use Rattle.std.specs.Prelude.{◌≡◌, ℕ, ◌+◌, ◌-◌, ◌<◌, ◌≤◌, ◌∷◌, ◌^◌, List, [], length, filter, map, take, insert, min, position, slice_get, slice_set, slice_index, slice_index_or, vec_len, vec_capacity, IfSome, IfOk, OnOk, IsTrue, IsFalse, true, option_map, if◌then◌else◌};
+ghost use Rattle.op_name.specs.NameData.{name_eq};
+ghost use Rattle.ttf_form.specs.Cells.{CellData, cell_shown, change_at, marked};
+ghost use Rattle.ttf_form.specs.declared.include.TheConstants.{CELLS};
+ghost use Rattle.tombstone_text.specs.Cells.{HasRoomOn};
+ghost use Rattle.tombstone_text.specs.Chunks.{flat, flag_of, shown_in};
+ghost use Rattle.tombstone_text.specs.Sums.{IsPart};
+ghost use Rattle.tombstone_text.specs.Code.Cells.{ChunksData, cut, fresh_room, HasPlace, IsReady, IsSeat, IsText};
+ghost use Rattle.tombstone_text.specs.Code.Chunks.{blank, bodies, rooms_of};
+
+use crate::cell::Cell;
+use crate::chunk::{Chunk, FULL, room_for};
+use crate::deleters::Spare;
+use crate::sums::Sums;
+use op_name::{Memory, Name};
+use std::alloc::Global;
+use std::marker::Model;
+use ttf_form::{CELLS, Cover};
+
+/// How a new cell may come in without memory.
+#[derive(Clone, Copy, Drop)]
+pub(crate) enum Way {
+    /// Into the fresh chunk, as the first cell of the text.
+    First,
+    /// Into a chunk that has room for it, at place `at` of that chunk.
+    Into {
+        chunk: usize,
+        at: usize,
+    },
+    /// At place `at` of a full chunk, which is cut in two first: its first `keep` cells stay, the others move.
+    Cut {
+        chunk: usize,
+        at: usize,
+        keep: usize,
+    },
+}
+
+/// The place for which a cell may come in without memory, and the way.
+#[derive(Clone, Copy, Drop)]
+pub(crate) struct Ready {
+    place: u32,
+    way: Way,
+}
+
+/// The first place at which a cell has the name.
+fn position_of(list: &[Cell], name: &Name) -> Option<usize>
+    ensures { result ≡ position (λ c. name_eq c.name name.now) list.now }
+{
+    list.iter().position(|cell| cell.name() == *name)
+}
+
+/// The cells of a text in chunks of 1 to 512 cells. The lengths of the chunks and their numbers of shown cells are two
+/// columns of sums, by which the chunk of a place is found; so an insert moves cells of one chunk alone. The room of a
+/// chunk grows as it fills. A full chunk is cut in two for the next insert into it, and the upper part goes to a fresh
+/// chunk, which is made before.
+#[derive(Drop)]
+pub(crate) struct Chunks {
+    list: Vec<Chunk>,
+    lens: Sums,
+    shown: Sums,
+    fresh: Option<Chunk>,
+}
+
+impl Model for Chunks {
+    ghost Value = { ChunksData };
+
+    ghost view = { λ c. record { chunks = bodies c.list.items; cells = flat (bodies c.list.items); rooms = rooms_of c.list.items; fresh = fresh_room c.fresh; spare = min (vec_capacity c.list - vec_len c.list) (min c.lens.spare c.shown.spare) } };
+
+    ghost invariant = { λ c. IsText (bodies c.list.items) c.lens.parts c.shown.parts c.fresh };
+}
+
+impl Chunks {
+    /// No cells; takes no memory.
+    pub(crate) fn new(alloc: Global) -> Chunks
+        ensures { result.cells ≡ [] }
+    {
+        Chunks {
+            list: Vec::new(alloc),
+            lens: Sums::new(alloc),
+            shown: Sums::new(alloc),
+            fresh: None,
+        }
+    }
+
+    /// Where the chunks take their memory.
+    pub(crate) fn allocator(&self) -> Global {
+        *self.list.allocator()
+    }
+
+    /// The number of cells, shown or hidden.
+    pub(crate) fn len(&self) -> u32
+        ensures { result ≡ length self.now.cells }
+    {
+        let _ = &self.list;
+        self.lens.total()
+    }
+
+    /// The number of shown cells.
+    pub(crate) fn shown_len(&self) -> u32
+        ensures { result ≡ length (filter cell_shown self.now.cells) }
+    {
+        let _ = &self.list;
+        self.shown.total()
+    }
+
+    /// Does nothing; its contract says what the chunks of a text keep.
+    pub(crate) fn known(&self)
+        ensures most { length self.now.cells < 2 ^ 32 }
+        ensures few { length self.now.chunks < 2 ^ 32 }
+        ensures chunks { flat self.now.chunks ≡ self.now.cells }
+    {
+        let _ = &self.list;
+        let _ = self.lens.total();
+    }
+
+    /// The cell at place `i`; None exactly past the end.
+    pub(crate) fn cell(&self, i: u32) -> Option<&Cell>
+        ensures { option_map (λ c. c.now) result ≡ slice_get self.now.cells i }
+    {
+        if i < self.lens.total() {
+            let (k, at) = self.lens.find(i);
+            self.list[k].cell(at as usize)
+        } else {
+            None
+        }
+    }
+
+    /// The number of chunks.
+    pub(crate) fn chunk_count(&self) -> u32
+        ensures { result ≡ length self.now.chunks }
+    {
+        let _ = self.lens.total();
+        self.list.len() as u32
+    }
+
+    /// The flags of the cells of chunk `i`.
+    pub(crate) fn chunk_flags(&self, i: u32) -> &[u8]
+        requires { i < length self.now.chunks }
+        ensures flags { result.now ≡ map flag_of (slice_index_or self.now.chunks i []) }
+        ensures least { 1 ≤ length result.now }
+        ensures most { length result.now ≤ FULL }
+    {
+        let _ = &self.lens;
+        self.list[i as usize].flags()
+    }
+
+    /// The number of shown cells of chunk `i`.
+    pub(crate) fn chunk_shown(&self, i: u32) -> u32
+        requires { i < length self.now.chunks }
+        ensures { result ≡ shown_in (slice_index_or self.now.chunks i []) }
+    {
+        let _ = &self.list;
+        self.shown.part(i as usize)
+    }
+
+    /// The cells of chunk `i`.
+    pub(crate) fn chunk_cells(&self, i: u32) -> &[Cell]
+        requires { i < length self.now.chunks }
+        ensures { result.now ≡ slice_index_or self.now.chunks i [] }
+    {
+        self.list[i as usize].cells()
+    }
+
+    /// The place of the first cell of chunk `i`; for `chunk_count` the number of all cells.
+    pub(crate) fn chunk_start(&self, i: u32) -> u32
+        requires { i ≤ length self.now.chunks }
+        ensures { result ≡ length (flat (take i self.now.chunks)) }
+    {
+        let _ = &self.list;
+        self.lens.start_of(i as usize)
+    }
+
+    /// The chunk that holds the `v`-th shown cell, and how many shown cells of that chunk come before it.
+    pub(crate) fn shown_chunk(&self, v: u32) -> (u32, u32)
+        requires { v < length (filter cell_shown self.now.cells) }
+        ensures { IsPart (map shown_in self.now.chunks) result.0 result.1 v }
+    {
+        let _ = self.lens.total();
+        let _ = &self.list;
+        let (i, before) = self.shown.find(v);
+        (i as u32, before)
+    }
+
+    /// The first place at which a cell has the name.
+    pub(crate) fn first_place(&self, name: &Name) -> Option<u32>
+        ensures { result ≡ position (λ c. name_eq c.name name.now) self.now.cells }
+    {
+        let _ = self.lens.total();
+        let mut start = 0;
+        let mut i = 0;
+        while i < self.list.len() {
+            let cells = self.list[i].cells();
+            match position_of(cells, name) {
+                Some(at) => return Some((start + at) as u32),
+                None => {}
+            }
+            start += cells.len();
+            i += 1;
+        }
+        None
+    }
+
+    /// Makes room for a new cell at a place, and answers the way by which it then comes in; a place past the end counts
+    /// as the end. No cell changes, also when out of memory.
+    pub(crate) fn reserve(&mut self, place: u32) -> Result<Ready, Memory>
+        ensures chunks { self.new.chunks ≡ self.old.chunks }
+        ensures cells { self.new.cells ≡ self.old.cells }
+        ensures place { IfOk result (λ r. r.place ≡ place) }
+        ensures ready { IfOk result (λ r. IsReady self.new r) }
+    {
+        if self.chunk_count() == 0 {
+            self.reserve_chunk(room_for(0))?;
+            return Ok(Ready {
+                place,
+                way: Way::First,
+            });
+        }
+        let len = self.len();
+        let (chunk, at) = self.seat(place.min(len));
+        if self.is_full(chunk) {
+            let keep = kept(place >= len);
+            self.reserve_chunk(room_for(FULL - keep))?;
+            Ok(Ready {
+                place,
+                way: Way::Cut { chunk, at, keep },
+            })
+        } else {
+            self.grow(chunk)?;
+            Ok(Ready {
+                place,
+                way: Way::Into { chunk, at },
+            })
+        }
+    }
+
+    /// The chunk for a new cell at a place, and the place in that chunk: right after the cell before it, or at
+    /// the front of the first chunk.
+    fn seat(&self, place: u32) -> (usize, usize)
+        requires some { 1 ≤ length self.now.chunks }
+        requires within { place ≤ length self.now.cells }
+        ensures { IsSeat self.now.chunks result.0 result.1 place }
+    {
+        let _ = &self.list;
+        if place == 0 {
+            (0, 0)
+        } else {
+            let (i, at) = self.lens.find(place - 1);
+            (i, at as usize + 1)
+        }
+    }
+
+    /// Whether chunk `i` has as many cells as a chunk may have.
+    fn is_full(&self, i: usize) -> bool
+        requires { i < length self.now.chunks }
+        ensures yes { IsTrue result → length (slice_index_or self.now.chunks i []) ≡ FULL }
+        ensures no { IsFalse result → length (slice_index_or self.now.chunks i []) < FULL }
+    {
+        self.list[i].len() == FULL
+    }
+
+    /// Makes room for one chunk more: a fresh one with room for so many cells, and a place for it in the list and in each
+    /// column.
+    fn reserve_chunk(&mut self, room: usize) -> Result<(), Memory>
+        requires { room ≤ FULL }
+        ensures chunks { self.new.chunks ≡ self.old.chunks }
+        ensures cells { self.new.cells ≡ self.old.cells }
+        ensures fresh { OnOk result (room ≤ self.new.fresh) }
+        ensures spare { OnOk result (1 ≤ self.new.spare) }
+    {
+        self.list.reserve(1)?;
+        self.lens.reserve()?;
+        self.shown.reserve()?;
+        if !has_room(&self.fresh, room) {
+            self.fresh = Some(Chunk::with_room(room, *self.list.allocator())?);
+        }
+        Ok(())
+    }
+
+    /// Makes room in chunk `i`, which isn't full, for a cell more.
+    fn grow(&mut self, i: usize) -> Result<(), Memory>
+        requires chunk { i < length self.old.chunks }
+        requires less { length (slice_index_or self.old.chunks i []) < FULL }
+        ensures chunks { self.new.chunks ≡ self.old.chunks }
+        ensures cells { self.new.cells ≡ self.old.cells }
+        ensures place { OnOk result (HasPlace self.new i) }
+    {
+        let _ = &self.lens;
+        self.list[i].grow()
+    }
+
+    /// Puts a shown cell at the place for which `reserve` made room.
+    pub(crate) fn put(&mut self, ready: Ready, cell: Cell)
+        requires ready { IsReady self.old ready }
+        requires place { ready.place ≤ length self.old.cells }
+        requires bound { length self.old.cells < CELLS }
+        requires shown { cell_shown cell ≡ true }
+        ensures { self.new.cells ≡ insert self.old.cells ready.place cell }
+    {
+        self.known();
+        match ready.way {
+            Way::First => self.put_first(cell),
+            Way::Into { chunk, at } => self.put_at(chunk, at, cell),
+            Way::Cut { chunk, at, keep } => {
+                self.split(chunk, keep);
+                if at <= keep {
+                    self.put_at(chunk, at, cell);
+                } else {
+                    self.put_at(chunk + 1, at - keep, cell);
+                }
+            }
+        }
+    }
+
+    /// Puts the first cell of a text into the fresh chunk.
+    fn put_first(&mut self, cell: Cell)
+        requires fresh { 1 ≤ self.old.fresh }
+        requires spare { 1 ≤ self.old.spare }
+        requires empty { self.old.chunks ≡ [] }
+        requires shown { cell_shown cell ≡ true }
+        ensures { self.new.cells ≡ cell ∷ [] }
+    {
+        match self.fresh.take() {
+            Some(mut chunk) => {
+                chunk.put(0, cell);
+                self.lens.insert(0, 1);
+                self.shown.insert(0, 1);
+                self.list.push_reserved(chunk);
+            }
+            None => unreachable!(),
+        }
+    }
+
+    /// Puts a shown cell into chunk `i`, which has room, at place `at` of the chunk.
+    fn put_at(&mut self, i: usize, at: usize, cell: Cell)
+        requires chunk { i < length self.old.chunks }
+        requires within { at ≤ length (slice_index_or self.old.chunks i []) }
+        requires room { HasPlace self.old i }
+        requires bound { length self.old.cells < CELLS }
+        requires shown { cell_shown cell ≡ true }
+        ensures { (p : ℕ) → IsSeat self.old.chunks i at p → self.new.cells ≡ insert self.old.cells p cell }
+    {
+        let len = self.lens.part(i);
+        let shown = self.shown.part(i);
+        let chunk = &mut self.list[i];
+        chunk.put(at, cell);
+        self.lens.set(i, len + 1);
+        self.shown.set(i, shown + 1);
+    }
+
+    /// Cuts chunk `i` in two: its first `keep` cells stay, the others become the next chunk. No cell changes.
+    fn split(&mut self, i: usize, keep: usize)
+        requires room { length (slice_index_or self.old.chunks i []) < keep + self.old.fresh }
+        requires spare { 1 ≤ self.old.spare }
+        requires chunk { i < length self.old.chunks }
+        requires some { 1 ≤ keep }
+        requires less { keep < length (slice_index_or self.old.chunks i []) }
+        requires bound { length self.old.cells < CELLS }
+        ensures chunks { self.new.chunks ≡ cut self.old.chunks i keep }
+        ensures cells { self.new.cells ≡ self.old.cells }
+        ensures lower { HasPlace self.new i }
+        ensures upper { HasPlace self.new (i + 1) }
+    {
+        let len = self.lens.part(i);
+        match self.fresh.take() {
+            Some(mut upper) => {
+                let lower = &mut self.list[i];
+                lower.split(keep, &mut upper);
+                let low = lower.shown();
+                let high = upper.shown();
+                self.lens.set(i, keep as u32);
+                self.lens.insert(i + 1, len - keep as u32);
+                self.shown.set(i, low);
+                self.shown.insert(i + 1, high);
+                match self.list.insert(i + 1, upper) {
+                    Ok(()) => {}
+                    Err(_) => unreachable!(),
+                }
+            }
+            None => unreachable!(),
+        }
+    }
+
+    /// Marks the cell at the place of a cover, and counts the shown cells of its chunk anew.
+    pub(crate) fn mark(&mut self, cover: &Cover, spare: &mut Spare)
+        requires room { IfSome (slice_get self.old.cells cover.now.place) (λ d. HasRoomOn cover.now.mark d spare.old) }
+        requires place { cover.now.place < length self.old.cells }
+        ensures { self.new.cells ≡ change_at cover.now.place (marked cover.now.mark) self.old.cells }
+    {
+        let _ = self.lens.total();
+        let (i, at) = self.lens.find(cover.place);
+        let shown = self.shown.part(i);
+        let chunk = &mut self.list[i];
+        let before = flag_at(chunk, at as usize);
+        chunk.cover(at as usize, cover.mark, spare);
+        let after = flag_at(chunk, at as usize);
+        self.shown.set(i, shown - before + after);
+    }
+}
+
+/// Whether there is a fresh chunk with room for so many cells.
+fn has_room(fresh: &Option<Chunk>, room: usize) -> bool
+    ensures { IsTrue result → room ≤ fresh_room fresh.now }
+{
+    match fresh {
+        Some(chunk) => room <= chunk.room(),
+        None => false,
+    }
+}
+
+/// How many cells a full chunk keeps when it is cut for a new cell: half of them, and all but one where the new
+/// cell is put at the end of the text, so that typing there leaves full chunks.
+fn kept(at_end: bool) -> usize
+    ensures some { 1 ≤ result }
+    ensures less { result < FULL }
+{
+    if at_end { FULL - 1 } else { FULL / 2 }
+}
+
+/// The flag of the cell at place `at` of a chunk.
+fn flag_at(chunk: &Chunk, at: usize) -> u32
+    requires { at < length chunk.now.cells }
+    ensures { result ≡ flag_of (slice_index_or chunk.now.cells at blank) }
+{
+    chunk.flags()[at] as u32
+}
