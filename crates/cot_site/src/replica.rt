@@ -43,7 +43,7 @@ use undo_group::TextBases;
 use visible_view::{cell_of_visible, model_place, visible_len, write_text};
 
 /// The greatest number of forms in a site's cache.
-pub const CACHED_FORMS: u32 = 512;
+pub const CACHED_FORMS: u32 = 64;
 
 /// A valid history, the form in which each of its operations was executed, the cells that these forms gave, the passages
 /// and rows out of which the next forms are found, and forms that were computed on the way. A site hands its calls on what it has
@@ -505,7 +505,18 @@ fn keep_form(cache: &mut Cache<Form>, name: &Name, context: Vector, form: Form)
     ensures capacity { cache.new.capacity ≡ cache.old.capacity }
 {
     let member = Member::Original(*name);
+    // A shared list keeps its mark, so the cache hashes it without a look at each site.
+    let context = shared(context);
     cache.keep(Key { member, context }, form);
+}
+
+// The same members, in lists that copies share.
+pub(crate) fn shared(context: Vector) -> Vector
+    ensures { result.set ≡ context.set }
+{
+    let mut context = context;
+    context.share();
+    context
 }
 
 // Keeps the first form of the row of an original, which is the form of its insert at the original's context with the

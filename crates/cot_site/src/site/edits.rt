@@ -13,6 +13,7 @@ ghost use Rattle.cot_site.specs.Code.Making.{IsNumber, IsContextAnswer, IsGenera
 ghost use Rattle.cot_site.specs.Sites.{KeepsForms, IsAsBefore, state_of};
 
 use crate::local::Local;
+use crate::replica::shared;
 use crate::site::Site;
 use context_diff::{Op, UNDO_ENTRIES};
 use context_vector::Vector;
@@ -153,7 +154,7 @@ impl Site {
             return Err(Local::ContextFull { entries });
         }
         match have.try_clone() {
-            Ok(context) => Ok(context),
+            Ok(context) => Ok(shared(context)),
             Err(_) => Err(Local::Memory),
         }
     }
