@@ -115,7 +115,7 @@ impl Book {
         ensures ops { self.new.ops ≡ self.old.ops }
         ensures have { self.new.have.set ≡ self.old.have.set }
     {
-        self.have.share();
+        self.have.share_names();
     }
 
     /// Makes room for the operation; no operation comes or goes. A book with 4,294,967,295 operations answers

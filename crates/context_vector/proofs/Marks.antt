@@ -6,7 +6,7 @@ use Rattle.op_name.specs.NameData.{NameData, name_eq, name_lt}
 use Rattle.op_name.proofs.CallerLemmas.{name_order, cases_by_order}
 use Rattle.context_vector.specs.Contexts.{entry_in, put_entry, AreEntries}
 use Rattle.context_vector.specs.Vectors.{without_name, lower_entry}
-use Rattle.context_vector.specs.Equality.{entry_eq, list_eq_decides}
+use Rattle.context_vector.specs.Equality.{count_eq, entry_eq, count_list_decides, list_eq_decides}
 use lib.Pointwise.{pointwise}
 use Rattle.context_vector.specs.Marks.{spread, folded, weight, mark_of, laid, counts_mark}
 use Rattle.context_vector.proofs.Keyed.{value_after}
@@ -85,6 +85,13 @@ pub marks_differ : (es fs : List (NameData × ℕ)) → mark_of es ≢ mark_of f
 marks_differ es fs differ =
     elim (pointwise entry_eq es fs) as (λ b. pointwise entry_eq es fs ≡ b → b ≡ false) [
       | true ↦ λ same. absurd (differ (ap mark_of ((list_eq_decides es fs).0 same)))
+      | false ↦ λ e. refl
+    ] refl
+
+pub counts_differ : (ps qs : List (ℕ × ℕ)) → ps ≢ qs → pointwise count_eq ps qs ≡ false
+counts_differ ps qs differ =
+    elim (pointwise count_eq ps qs) as (λ b. pointwise count_eq ps qs ≡ b → b ≡ false) [
+      | true ↦ λ same. absurd (differ ((count_list_decides ps qs).0 same))
       | false ↦ λ e. refl
     ] refl
 

@@ -1,9 +1,9 @@
 -- Lists of entries in pieces: names whose place is between two lists, and the entries from a place on.
 use Rattle.std.proofs.Common.{◌≡◌, ℕ, zero, suc, ◌+◌, ◌-◌, ◌<◌, ◌≤◌, ◌≢◌, true, false, List, [], ◌∷◌, ◌++◌, length, get_or, take, drop, if◌then◌else◌, Some, None, add-one, refl, sym, ap, subst, ◌∙◌, arith}
-use Rattle.std.specs.Prelude.{◌==◌, Option, IfSome, IfOk, OnOk, OnErr, Result, Ok, Err, nat_lt, slice_get}
+use Rattle.std.specs.Prelude.{◌==◌, Option, IfSome, IfOk, OnOk, OnErr, Result, Ok, Err, slice_get}
 use lib.Pointwise.{pointwise}
-use Rattle.std.proofs.Math.Seq.{drop-append-add, drop-append_seam}
-use Rattle.std.proofs.lemmas.List.{append_assoc, append-nil, drop_all, drop-append-le, drop-drop, length-append, length-drop, take_all, take-append-drop, take-append-le}
+use Rattle.std.proofs.Math.Seq.{drop-append-add}
+use Rattle.std.proofs.lemmas.List.{append_assoc, append-nil, drop_all, drop-append-le, drop-drop, length-append, length-drop, take_all, take-append-drop}
 use Rattle.std.proofs.lemmas.Bool.{eq-eqb, ne_eqb}
 use mathlib.Core.Bool.{false≢true}
 use Rattle.op_name.specs.NameData.{NameData, name_eq, name_lt}
@@ -11,7 +11,6 @@ use Rattle.op_name.proofs.CallerLemmas.{name_itself, name_order, name_transitive
 use Rattle.context_vector.specs.Contexts.{entry_in, put_entry, IsBefore, AreEntries}
 use Rattle.context_vector.specs.Vectors.{without_name, lower_entry, NamesBelow}
 use Rattle.context_vector.specs.Equality.{entry_eq, list_eq_decides}
-use Rattle.context_vector.specs.Shortfalls.{first_short}
 use Rattle.context_vector.specs.Code.Pieces.{joined, NamesAbove, IsBetween, IsRun}
 use Rattle.context_vector.proofs.Keyed.{AllAfter}
 use Rattle.context_vector.proofs.Entries.{entries_after}
@@ -303,7 +302,7 @@ rest_after ps qs k p is = sym (drop-drop 1 k ps) ∙ ap (drop 1) is
 pub joined_halves : (ps : List (List (NameData × ℕ))) (k : ℕ) → joined (take k ps) ++ joined (drop k ps) ≡ joined ps
 joined_halves ps k = sym (joined_append (take k ps) (drop k ps)) ∙ ap joined (take-append-drop k ps)
 
--- an entry that is appended, or not
-pub pushed_are : {T E : Type 0} (r : Result T E) (es fs more : List (NameData × ℕ)) → OnOk r (fs ≡ more) → OnErr r (fs ≡ es) → AreEntries more → AreEntries es → AreEntries fs
-pushed_are (Ok x) es fs more pushed kept are_more are = subst AreEntries (sym pushed) are_more
-pushed_are (Err e) es fs more pushed kept are_more are = subst AreEntries (sym kept) are
+-- a pair that is appended, or not: what holds of both lists holds of the one that is there
+pub pushed_are : {T E L : Type 0} (P : L → Type 0) (r : Result T E) (xs ys more : L) → OnOk r (ys ≡ more) → OnErr r (ys ≡ xs) → P more → P xs → P ys
+pushed_are P (Ok x) xs ys more pushed kept are_more are = subst P (sym pushed) are_more
+pushed_are P (Err e) xs ys more pushed kept are_more are = subst P (sym kept) are

@@ -2,5 +2,6 @@
 pub mod Places
 pub mod Lists
 pub mod Pieces
+pub mod Counts
 pub mod Entries
 pub mod Readers

@@ -46,13 +46,16 @@ entries_decide e f = (
   λ h. subst (λ x. entry_eq e x ≡ true) h (and_holds _ _ (name_itself e.0) (number_order.itself e.1)),
 )
 
+pub count_list_decides : (ps qs : List (ℕ × ℕ)) → Decides (pointwise count_eq ps qs) (ps ≡ qs)
+count_list_decides ps qs = pointwise_decides counts_decide ps qs
+
 pub list_eq_decides : (es fs : List (NameData × ℕ)) → Decides (pointwise entry_eq es fs) (es ≡ fs)
 list_eq_decides es fs = pointwise_decides entries_decide es fs
 
 -- the test decides equality of contexts
 pub context_eq_decides : (c d : ContextData) → Decides (context_eq c d) (c ≡ d)
 context_eq_decides c d =
-    let by_counts = pointwise_decides counts_decide c.counts d.counts in
+    let by_counts = count_list_decides c.counts d.counts in
     let by_entries = list_eq_decides c.entries d.entries in (
       λ e.
           let counts = by_counts.0 (first_so (pointwise count_eq c.counts d.counts) (pointwise entry_eq c.entries d.entries) e) in

@@ -6,9 +6,10 @@ use Rattle.op_name.specs.NameData.{NameData, name_eq, name_lt}
 use Rattle.op_name.specs.Members.{member_lt}
 use Rattle.context_vector.specs.Contexts.{ContextData, count_of, entry_of, has, put_count, put_entry}
 
--- the spare places of the counts, and those of the part of the entries that may be changed in place, with the name whose place is
--- in that part
+-- whether the counts may be changed in place, and their spare places; the spare places of the part of the entries that may be changed
+-- in place, with the name whose place is in that part
 pub record Room : Type 0 where
+  pub own : Bool
   pub counts : ℕ
   pub entries : ℕ
   pub ready : Option NameData
@@ -21,7 +22,7 @@ pub record VectorData : Type 0 where
 -- the member can be added or taken out without memory: its site or name is there, or there is a spare place for it, and the
 -- part of the list in which a name has its place may be changed in place
 abbrev pub HasRoomFor : VectorData → Member → Type 0
-HasRoomFor v (Original n) = count_of v.set n.site ≡ 0 → 1 ≤ v.room.counts
+HasRoomFor v (Original n) = (v.room.own ≡ true) × (count_of v.set n.site ≡ 0 → 1 ≤ v.room.counts)
 HasRoomFor v (Group n g) = (v.room.ready ≡ Some n) × (entry_of v.set n ≡ 0 → 1 ≤ v.room.entries)
 
 -- the member is the last of its site or its name

@@ -5,16 +5,18 @@ ghost use Rattle.op_name.specs.Members.{IsMember};
 ghost use Rattle.context_vector.specs.Contexts.{empty, count_of, entry_of, has, Within, rank_of, IsContext};
 ghost use Rattle.context_vector.specs.Vectors.{IsFirstMissing};
 
+use counts::Counts;
 use entries::Entries;
 use op_name::{Member, Memory, NUMBERS, Name, SITES};
-use smallvec::SmallVec;
 use std::alloc::Global;
 use std::marker::Model;
 
 mod changes;
+mod counts;
 mod entries;
 mod equality;
 mod marked;
+mod marked_counts;
 mod marks;
 mod piece;
 mod pieces;
@@ -29,13 +31,12 @@ mod seats;
 #[derive(Debug, Drop)]
 pub struct Vector {
     /// Each site that has originals in the set with their number, sites rising.
-    counts: SmallVec<(u16, u32), 4>,
+    counts: Counts,
     /// Each undone name with its greatest generation in the set, names rising.
     entries: Entries,
 }
 
 impl Model for Vector {
-    ghost use Rattle.std.specs.Prelude.{◌-◌, length};
     ghost use Rattle.context_vector.specs.Contexts.{IsContext};
     ghost use Rattle.context_vector.specs.Vectors.{VectorData};
 
@@ -43,7 +44,7 @@ impl Model for Vector {
 
     ghost view = { λ v. record {
       set = record { counts = v.counts.items; entries = v.entries.items };
-      room = record { counts = v.counts.capacity - length v.counts.items; entries = v.entries.spare; ready = v.entries.ready };
+      room = record { own = v.counts.own; counts = v.counts.spare; entries = v.entries.spare; ready = v.entries.ready };
     } };
 
     ghost invariant = { λ v. IsContext (record { counts = v.counts.items; entries = v.entries.items }) };
@@ -75,23 +76,34 @@ impl Vector {
         ensures { result.set ≡ empty }
     {
         Vector {
-            counts: SmallVec::new(alloc),
+            counts: Counts::new(alloc),
             entries: Entries::new(alloc),
         }
     }
 
-    /// The same set once more; a shared list of undone names isn't copied.
+    /// The same set once more; shared lists aren't copied.
     pub fn try_clone(&self) -> Result<Vector, Memory>
         ensures { IfOk result (λ v. v.set ≡ self.now.set) }
     {
-        let counts = SmallVec::from_slice(*self.counts.allocator(), self.counts.as_slice())?;
+        let counts = self.counts.try_clone()?;
         let entries = self.entries.try_clone()?;
         Ok(Vector { counts, entries })
     }
 
-    /// Lets copies share the list of undone names, so that they cost by the sites alone; no member comes or
-    /// goes. Out of memory, nothing changes.
+    /// Lets copies share the list of undone names, and the counts where more than four sites wrote, so that a
+    /// copy costs a few words; no member comes or goes. Out of memory, a list stays as it was. For a set that
+    /// is kept as it is, as the context of an operation: the next change copies what it changes.
     pub fn share(&mut self)
+        ensures { self.new.set ≡ self.old.set }
+    {
+        self.counts.share();
+        self.entries.share();
+    }
+
+    /// Lets copies share the list of undone names alone, so that they cost by the sites; no member comes or
+    /// goes. Out of memory, nothing changes. For a set to which originals are still added: its counts may be
+    /// changed in place.
+    pub fn share_names(&mut self)
         ensures { self.new.set ≡ self.old.set }
     {
         self.entries.share();

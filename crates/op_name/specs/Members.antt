@@ -1,5 +1,5 @@
 -- Members of contexts as contracts see them, and their order.
-use Rattle.std.specs.Prelude.{ℕ, ◌≤◌, ◌%◌, Bool, true, false, ◌&&◌, ◌||◌, ◌==◌, nat_lt}
+use Rattle.std.specs.Prelude.{ℕ, ◌+◌, ◌*◌, ◌^◌, ◌≤◌, ◌%◌, Bool, true, false, ◌&&◌, ◌||◌, ◌==◌, nat_lt}
 use Rattle.op_name.specs.declared.member.Member.{Member}
 use Rattle.op_name.specs.declared.member.Member.TheVariants.{Original, Group}
 use Rattle.op_name.specs.NameData.{NameData, name_eq, name_lt}
@@ -30,3 +30,8 @@ member_lt (Original n) (Original m) = name_lt n m
 member_lt (Original n) (Group m h) = true
 member_lt (Group n g) (Original m) = false
 member_lt (Group n g) (Group m h) = name_lt n m || (name_eq n m && nat_lt g h)
+
+-- the member in one number: its generation, 0 for an original, its site and its number side by side
+abbrev pub code_of : Member → ℕ
+code_of (Original n) = n.site * 2 ^ 32 + n.number
+code_of (Group n g) = (g * 2 ^ 16 + n.site) * 2 ^ 32 + n.number

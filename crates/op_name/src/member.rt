@@ -2,9 +2,11 @@
 
 ghost use Rattle.std.specs.Prelude.{◌≡◌};
 ghost use Rattle.op_name.specs.NameData.{IsName};
-ghost use Rattle.op_name.specs.Members.{target_of, IsMember, member_lt};
+ghost use Rattle.op_name.specs.Members.{target_of, IsMember, member_lt, code_of};
+ghost use Rattle.op_name.specs.Hashes.{member_input, member_alike};
 
 use crate::name::Name;
+use std::hash::{Hash, Hasher};
 
 /// The greatest generation of undos and redos of one original.
 pub const GENERATIONS: u16 = 65_535;
@@ -14,7 +16,7 @@ pub const GENERATIONS: u16 = 65_535;
 ///
 /// A generation is 1 to `GENERATIONS`. Originals come before groups; each kind is ordered by name, groups of one
 /// name by generation.
-#[derive(Clone, Copy, Debug, PartialEq, Eq, PartialOrd, Ord, Hash)]
+#[derive(Clone, Copy, Debug, PartialEq, Eq, PartialOrd, Ord)]
 pub enum Member {
     Original(Name),
     Group(Name, u16),
@@ -42,4 +44,27 @@ impl Member {
     {
         self < other
     }
+}
+
+impl Hash for Member {
+    ghost hash_input = { member_input };
+
+    ghost respects_eq = { member_alike _ (λ n m e. e) (λ n m h e. e) (λ n m g e. e) (λ n m g h e. e) };
+
+    // One number in the place of the parts, so that the hasher is fed once.
+    fn hash<H: Hasher>(&self, state: &mut H) {
+        code_of(self).hash(state)
+    }
+}
+
+// The member in one number: generation (0 for an original), site and number side by side.
+fn code_of(m: &Member) -> u64
+    ensures { result ≡ code_of m.now }
+{
+    let (generation, name) = match m {
+        Member::Original(name) => (0, name),
+        Member::Group(name, generation) => (*generation, name),
+    };
+    name.known();
+    (u64::from(generation) * 65_536 + u64::from(name.site)) * 4_294_967_296 + u64::from(name.number)
 }

@@ -1,6 +1,7 @@
 use context_vector::*;
 use op_name::{Member, Name};
 use std::alloc::Global;
+use std::hash::{DefaultHasher, Hash, Hasher};
 use std::test::Fail;
 
 /// A vector with the first `number` originals of the site.
@@ -133,6 +134,101 @@ fn out_of_memory_leaves_a_shared_list(rt: HostRuntime) -> Result<(), Fail> {
     }
     assert_eq!(rt; v.entry(&name), 2);
     Ok(())
+}
+
+/// A vector with the first original of each of the sites 0 to 5.
+fn of_six_sites(alloc: Global) -> Result<Vector, Fail> {
+    let mut v = Vector::new(alloc);
+    for site in 0..6 {
+        v.push_count(site, 1)?;
+    }
+    Ok(v)
+}
+
+#[test]
+fn vectors_that_share_counts_change_alone(rt: HostRuntime) -> Result<(), Fail> {
+    let mut v = of_six_sites(rt.alloc())?;
+    v.share();
+    let mut added = v.try_clone()?;
+    let mut lowered = v.try_clone()?;
+    let mut joined = v.try_clone()?;
+    let mut read = v.try_clone()?;
+    let last = Member::Original(Name::new(5, 1)?);
+    added.add(&Member::Original(Name::new(2, 2)?))?;
+    lowered.reserve(&last)?;
+    lowered.drop_last(&last);
+    joined.join(&counted(rt.alloc(), 8, 3)?)?;
+    read.push_count(9, 4)?;
+    let cases = [
+        ("shared", v, 6, 6),
+        ("added", added, 6, 7),
+        ("lowered", lowered, 5, 5),
+        ("joined", joined, 7, 9),
+        ("read", read, 7, 10),
+    ];
+    for (why, vector, sites, rank) in cases {
+        assert_eq!(rt; (vector.sites(), vector.rank()), (sites, rank), "{why}");
+    }
+    Ok(())
+}
+
+fn hash_of(v: &Vector) -> u64 {
+    let mut state = DefaultHasher::new();
+    v.hash(&mut state);
+    state.finish()
+}
+
+#[test]
+fn shared_counts_and_own_ones_of_one_set_are_equal(rt: HostRuntime) -> Result<(), Fail> {
+    let own = of_six_sites(rt.alloc())?;
+    let mut shared = of_six_sites(rt.alloc())?;
+    let mut also = of_six_sites(rt.alloc())?;
+    let mut other = of_six_sites(rt.alloc())?;
+    other.raise(&Member::Original(Name::new(5, 2)?))?;
+    shared.share();
+    also.share();
+    other.share();
+    assert!(rt; own == shared && shared == own && shared == also);
+    assert!(rt; other != shared && other != own);
+    assert_eq!(rt; hash_of(&own), hash_of(&shared));
+    assert_eq!(rt; shared.counts(), own.counts());
+    assert!(rt; other.covers(&shared) && !shared.covers(&other));
+    Ok(())
+}
+
+#[test]
+fn counts_of_which_the_names_alone_are_shared_change_in_place(rt: HostRuntime) -> Result<(), Fail> {
+    let mut v = of_six_sites(rt.alloc())?;
+    let next = Member::Original(Name::new(3, 2)?);
+    v.reserve(&next)?;
+    v.share_names();
+    v.add(&next)?;
+    assert_eq!(rt; (v.count(3), v.rank()), (2, 7));
+    Ok(())
+}
+
+#[test]
+fn out_of_memory_leaves_shared_counts(rt: HostRuntime) -> Result<(), Fail> {
+    let mut v = of_six_sites(rt.alloc())?;
+    v.share();
+    let copy = v.try_clone()?;
+    let next = Member::Original(Name::new(3, 2)?);
+    if v.add(&next).is_err() {
+        assert_eq!(rt; v.count(3), 1);
+        v.add(&next)?;
+    }
+    assert_eq!(rt; (v.count(3), copy.count(3)), (2, 1));
+    if v.push_count(9, 1).is_err() {
+        assert_eq!(rt; v.sites(), 6);
+        v.push_count(9, 1)?;
+    }
+    assert_eq!(rt; (v.sites(), copy.sites()), (7, 6));
+    Ok(())
+}
+
+#[test]
+fn a_vector_takes_eight_words(rt: HostRuntime) {
+    assert_eq!(rt; size_of::<Vector>(), 64);
 }
 
 #[test]

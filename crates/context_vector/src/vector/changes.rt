@@ -3,16 +3,13 @@
 ghost use Rattle.std.specs.Prelude.{◌≡◌, ◌∷◌, [], ◌++◌, ◌<◌, ◌≤◌, ◌||◌, ◌&&◌, not, true, false, OnOk, OnErr, IfErr};
 ghost use Rattle.op_name.specs.declared.member.Member.{Member};
 ghost use Rattle.op_name.specs.Members.{IsMember, member_eq};
-ghost use Rattle.context_vector.specs.Contexts.{has, raised, Within, IsNextMember, count_in, put_count, AreCounts, AreEntries};
-ghost use Rattle.context_vector.specs.Vectors.{HasRoomFor, IsLastMember, lowered, lower_count, up_to, SitesBelow, NamesBelow};
+ghost use Rattle.context_vector.specs.Contexts.{has, raised, Within, IsNextMember, AreCounts, AreEntries};
+ghost use Rattle.context_vector.specs.Vectors.{HasRoomFor, IsLastMember, lowered, up_to, SitesBelow, NamesBelow};
 ghost use Rattle.context_vector.specs.Code.Lists.{of_counts, of_entries};
 ghost use Rattle.context_vector.specs.AddBad.{IsCause};
-ghost use Rattle.smallvec.specs.SmallVec.{HasRoomFor as Spare};
 
-use super::rising::place_of_site;
 use super::{AddBad, Vector};
 use op_name::{Member, Memory, NUMBERS, Name, SITES};
-use smallvec::SmallVec;
 
 impl Vector {
     /// Adds the member, which has to be the next of its site or its name. A refusal changes nothing.
@@ -47,9 +44,8 @@ impl Vector {
     {
         match m {
             Member::Original(name) => {
-                if self.count(name.site) == 0 {
-                    self.counts.reserve(1)?;
-                }
+                self.known();
+                self.counts.reserve(name.site)?;
             }
             Member::Group(name, _) => {
                 self.known();
@@ -127,9 +123,7 @@ impl Vector {
         ensures pushed { OnOk result (self.new.set ≡ record self.old.set { counts = self.old.set.counts ++ (site, count) ∷ [] }) }
         ensures kept { OnErr result (self.new.set ≡ self.old.set) }
     {
-        self.counts.reserve(1)?;
-        self.counts.push_reserved((site, count));
-        Ok(())
+        self.counts.push(site, count)
     }
 
     /// Appends an undone name with its greatest generation to a vector that is being read in the order of
@@ -172,10 +166,11 @@ impl Vector {
         requires member { IsMember m.now }
         requires room { HasRoomFor self.old m.now }
         ensures added { self.new.set ≡ raised self.old.set m.now }
+        ensures own { self.new.room.own ≡ self.old.room.own }
         ensures ready { self.new.room.ready ≡ self.old.room.ready }
     {
         match m {
-            Member::Original(name) => put_site(&mut self.counts, name.site, name.number),
+            Member::Original(name) => self.counts.put(name.site, name.number),
             Member::Group(name, generation) => {
                 name.known();
                 self.entries.put(name, *generation);
@@ -191,42 +186,11 @@ impl Vector {
         ensures { self.new.set ≡ lowered self.old.set m.now }
     {
         match m {
-            Member::Original(name) => lower_site(&mut self.counts, name.site, name.number),
+            Member::Original(name) => self.counts.lower(name.site, name.number),
             Member::Group(name, generation) => {
                 name.known();
                 self.entries.lower(name, *generation);
             }
         }
-    }
-}
-
-// Makes the number the count of the site.
-fn put_site(counts: &mut SmallVec<(u16, u32), 4>, site: u16, number: u32)
-    requires rising { AreCounts 0 counts.old.items }
-    requires room { count_in counts.old.items site ≡ 0 → Spare counts.old 1 }
-    ensures { counts.new.items ≡ put_count site number counts.old.items }
-{
-    match place_of_site(counts.as_slice(), site) {
-        Ok(at) => counts.as_mut_slice()[at] = (site, number),
-        Err(at) => match counts.insert(at, (site, number)) {
-            Ok(()) => {}
-            Err(_) => unreachable!(),
-        },
-    }
-}
-
-// Takes one from the count of the site, which is the number.
-fn lower_site(counts: &mut SmallVec<(u16, u32), 4>, site: u16, number: u32)
-    requires rising { AreCounts 0 counts.old.items }
-    requires least { 1 ≤ number }
-    requires last { number ≡ count_in counts.old.items site }
-    ensures { counts.new.items ≡ lower_count site number counts.old.items }
-{
-    match place_of_site(counts.as_slice(), site) {
-        Ok(at) if number == 1 => {
-            counts.remove(at);
-        }
-        Ok(at) => counts.as_mut_slice()[at] = (site, number - 1),
-        Err(_) => unreachable!(),
     }
 }

@@ -3,7 +3,6 @@
 ghost use Rattle.context_vector.specs.Equality.{vector_eq, vector_per, vector_equiv, vector_input, vector_alike};
 
 use super::Vector;
-use super::marks::counts_mark;
 use std::hash::{Hash, Hasher};
 
 impl PartialEq for Vector {
@@ -12,7 +11,7 @@ impl PartialEq for Vector {
     ghost laws = { vector_per };
 
     fn eq(&self, other: &Vector) -> bool {
-        self.counts() == other.counts() && self.entries.is_same(&other.entries)
+        self.counts.is_same(&other.counts) && self.entries.is_same(&other.entries)
     }
 }
 
@@ -27,7 +26,7 @@ impl Hash for Vector {
 
     // Marks in the place of the counts and of the entries, so that the hasher is fed two numbers.
     fn hash<H: Hasher>(&self, state: &mut H) {
-        counts_mark(self.counts()).hash(state);
+        self.counts.mark().hash(state);
         self.entries.mark().hash(state);
     }
 }

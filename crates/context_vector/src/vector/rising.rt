@@ -53,19 +53,46 @@ pub fn entry_among(entries: &[(Name, u16)], name: &Name) -> u16
     }
 }
 
-/// The first site of which `theirs` count more than `mine`, with the least number that `mine` lack.
+/// The first site of which `theirs` count more than `mine`, with the least number that `mine` lack. Both are read
+/// side by side: where `mine` have the sites of `theirs` one after the other, nothing is searched.
 pub fn first_short_site(mine: &[(u16, u32)], theirs: &[(u16, u32)]) -> Option<(u16, u32)>
     requires mine { AreCounts 0 mine.now }
     requires theirs { AreCounts 0 theirs.now }
     ensures { result ≡ first_short (count_in mine.now) theirs.now }
 {
+    let mut guess = 0;
     for &(site, count) in theirs {
-        let had = count_among(mine, site);
+        let (had, next) = count_near(mine, guess, site);
         if had < count {
             return Some((site, had + 1));
         }
+        guess = next;
     }
     None
+}
+
+// The count of the site, 0 if it has no pair, and where the pair of the next site is likely to stand.
+fn count_near(counts: &[(u16, u32)], guess: usize, site: u16) -> (u32, usize)
+    requires { AreCounts 0 counts.now }
+    ensures count { result.0 ≡ count_in counts.now site }
+    ensures range { result.0 ≤ NUMBERS }
+{
+    match place_near(counts, guess, site) {
+        Ok(at) => (counts[at].1, at + 1),
+        Err(at) => (0, at),
+    }
+}
+
+// Where the pair of the site stands, or where it would go. A right guess spares the search.
+fn place_near(counts: &[(u16, u32)], guess: usize, site: u16) -> Result<usize, usize>
+    requires { AreCounts 0 counts.now }
+    ensures found { IfOk result (IsPlace counts.now site) }
+    ensures absent { IfErr result (IsGap nat_lt counts.now site) }
+{
+    match counts.get(guess) {
+        Some(pair) if pair.0 == site => Ok(guess),
+        _ => place_of_site(counts, site),
+    }
 }
 
 /// The first name of which `theirs` go higher than `mine`, with the least generation that `mine` lack. Both are

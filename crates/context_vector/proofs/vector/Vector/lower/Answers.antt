@@ -6,7 +6,7 @@ use Rattle.context_vector.proofs.vector.Vector.lower.Goals as goal
 
 pub invariant_of-self : goal.invariant_of-self
 invariant_of-self c = record {
-  counts = rw c.lower_site.ensures (counts_lower _ _ _ c.name.invariant.0 c.name.invariant.1 c.name.invariant.2 c.self.invariant.counts);
+  counts = rw c.lower.ensures.items (counts_lower _ _ _ c.name.invariant.0 c.name.invariant.1 c.name.invariant.2 c.self.invariant.counts);
   entries = c.self.invariant.entries;
 }
 
@@ -15,5 +15,5 @@ invariant_of-self-in-Group c =
     let least = subst IsMember c.in-Group.is c.requires.member in
     record {
       counts = c.self.invariant.counts;
-      entries = rw c.lower.ensures.items (entries_lower c.in-Group.name c.in-Group.generation _ c.known.ensures least (omega arith) c.self.invariant.entries);
+      entries = rw c.lower-in-Group.ensures.items (entries_lower c.in-Group.name c.in-Group.generation _ c.known.ensures least (omega arith) c.self.invariant.entries);
     }
