@@ -36,10 +36,8 @@ pub fn count_among(counts: &[(u16, u32)], site: u16) -> u32
     ensures count { result ≡ count_in counts.now site }
     ensures range { result ≤ NUMBERS }
 {
-    match place_of_site(counts, site) {
-        Ok(at) => counts[at].1,
-        Err(_) => 0,
-    }
+    // Where all lower sites wrote too, the pair stands at the place of the site's number.
+    count_near(counts, site as usize, site).0
 }
 
 /// The greatest generation of the name, 0 if it has no entry.
