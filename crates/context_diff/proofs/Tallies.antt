@@ -16,10 +16,6 @@ use Rattle.context_diff.proofs.Complete.{IsComplete, context_push, next_member}
 use Rattle.context_diff.proofs.Inserts.{inserts_of_on, inserts_of_new, inserts_of_at_most, no_inserts}
 use Rattle.context_diff.proofs.Raising.{count_put}
 
--- no operations, and no counts
-pub tallies_none : AreTallies [] (λ s. [])
-tallies_none s = record { size = refl; entries = λ n low high. absurd (omega arith) }
-
 -- an empty list more changes no counts
 pub one_more_list : (ts : List TallyData) (t : TallyData) → t.counts ≡ [] → counts_of (ts ++ t ∷ []) ≡ counts_of ts
 one_more_list ts t none = λ i s. at ts s i
