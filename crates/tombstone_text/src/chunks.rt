@@ -1,8 +1,8 @@
 //! The chunks of a text, beside the columns of their lengths and of their numbers of shown cells.
 
-ghost use Rattle.std.specs.Prelude.{◌≡◌, ℕ, ◌+◌, ◌-◌, ◌<◌, ◌≤◌, ◌∷◌, ◌^◌, List, [], length, filter, map, take, insert, min, position, slice_get, slice_set, slice_index, slice_index_or, vec_len, vec_capacity, IfSome, IfOk, OnOk, IsTrue, IsFalse, true, option_map, if◌then◌else◌};
+ghost use Rattle.std.specs.Prelude.{◌≡◌, ℕ, ◌+◌, ◌-◌, ◌<◌, ◌≤◌, ◌∷◌, ◌^◌, [], length, filter, map, take, insert, min, position, slice_get, slice_index_or, vec_len, vec_capacity, IfSome, IfOk, OnOk, IsTrue, IsFalse, true, option_map, if◌then◌else◌};
 ghost use Rattle.op_name.specs.NameData.{name_eq};
-ghost use Rattle.ttf_form.specs.Cells.{CellData, cell_shown, change_at, marked};
+ghost use Rattle.ttf_form.specs.Cells.{cell_shown, change_at, marked};
 ghost use Rattle.ttf_form.specs.declared.include.TheConstants.{CELLS};
 ghost use Rattle.tombstone_text.specs.Cells.{HasRoomOn};
 ghost use Rattle.tombstone_text.specs.Chunks.{flat, flag_of, shown_in};
