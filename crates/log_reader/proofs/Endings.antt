@@ -11,9 +11,9 @@ use Rattle.session_log.specs.declared.log_bad.LogBad.TheVariants as bad
 use Rattle.session_log.specs.Logs.{header, BeginsWith, IsLogOf}
 use Rattle.session_log.specs.Readings.{IsUnread}
 use Rattle.session_log.specs.Loadings.{IsLoaded, IsUnloaded}
-use Rattle.log_reader.specs.ReaderData.{ReaderData}
+use Rattle.log_reader.specs.ReaderData.{ReaderData, reader_of}
 use Rattle.log_reader.specs.Readers.{IsFaultOf, AreTakenTo, HasRead, KeepsOf, Keeps}
-use Rattle.log_reader.specs.Code.Steps.{end_fault, reader_of}
+use Rattle.log_reader.specs.Code.Steps.{end_fault}
 use Rattle.log_reader.proofs.Steps.{fault_on, at_left}
 
 -- why bytes are not read is why they are not loaded

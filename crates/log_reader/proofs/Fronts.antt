@@ -3,7 +3,7 @@ use Rattle.std.proofs.Common.{◌≡◌, ℕ, zero, suc, subst, ◌+◌, ◌-◌
 use Rattle.std.specs.Prelude.{min}
 use Rattle.std.proofs.lemmas.List.{length-append, length-take-le, nil_from_length, take-append-drop, take-append-le, take_all, take_at, drop_at, append_cancel_left}
 use Rattle.wire_codec.proofs.CallerLemmas.{IsBytes-drop}
-use Rattle.log_reader.specs.Code.Steps.{AreBytes}
+use Rattle.log_reader.specs.ReaderData.{AreBytes}
 
 -- either nothing of the piece is left, or nothing of the header
 ends_one : (h w front rest : List ℕ) (come : ℕ) → length h ≡ come + (length front + length w) → length front ≡ min (length h - come) (length front + length rest) → (rest ≡ []) ⊎ (w ≡ [])

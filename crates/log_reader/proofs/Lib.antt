@@ -1,5 +1,4 @@
 mod Fronts
-mod Logs
 mod Steps
 mod Pieces
 mod Endings

@@ -5,8 +5,7 @@ use Rattle.std.proofs.lemmas.List.{nil_from_length}
 use Rattle.cot_site.specs.States.{State}
 use Rattle.session_log.specs.declared.log_bad.LogBad.{LogBad}
 use Rattle.session_log.specs.Loadings.{new_state, IsLoaded, IsUnloaded}
-use Rattle.log_reader.specs.ReaderData.{ReaderData}
-use Rattle.log_reader.specs.Code.Steps.{reader_of}
+use Rattle.log_reader.specs.ReaderData.{ReaderData, reader_of}
 use Rattle.log_reader.specs.Readers.{Keeps, KeepsSome, GoesOn, Begins, IsLoadedOn, IsUnloadedOn, OneLoadOn}
 
 -- of a new reader no byte was fed
@@ -32,35 +31,26 @@ new_begins site left s refused none new accepted = begins site (reader_of site 0
   kept = inl (record { unread = refl; few = omega arith; front = refl; left = none; state = new; accepted = accepted });
 })
 
+-- what is said of a site of this number and of all bytes, with the piece before or after the cut
+cut_later : (Says : ℕ → List ℕ → Type 0) (n m : ℕ) (a piece more : List ℕ) → n ≡ m → Says n ((a ++ piece) ++ more) → Says m (a ++ (piece ++ more))
+cut_later Says n m a piece more same is = subst (Says m) (append_assoc a piece more) (subst (λ (k : ℕ). Says k ((a ++ piece) ++ more)) same is)
+
+cut_earlier : (Says : ℕ → List ℕ → Type 0) (n m : ℕ) (a piece more : List ℕ) → n ≡ m → Says m (a ++ (piece ++ more)) → Says n ((a ++ piece) ++ more)
+cut_earlier Says n m a piece more same is = subst (λ (k : ℕ). Says k ((a ++ piece) ++ more)) (sym same) (subst (Says m) (sym (append_assoc a piece more)) is)
+
 -- a piece was fed, and what is kept of all bytes is kept
 pub goes_on_by : OneLoadOn → (old new : ReaderData) (piece : List ℕ) → new.site ≡ old.site → ((all : List ℕ) → Keeps old all → Keeps new (all ++ piece)) → KeepsSome old → GoesOn old piece new
 goes_on_by one old new piece same keeps (a, k) = record {
-  loaded = λ more s. (
-    (λ on. record {
-      all = a;
-      keeps = k;
-      loaded = subst (λ (t : List ℕ). IsLoaded old.site t s) (append_assoc a piece more)
-          (subst (λ (n : ℕ). IsLoaded n ((a ++ piece) ++ more) s) same ((one new on.all (a ++ piece) more on.keeps (keeps a k)).0 s on.loaded));
-    }),
-    (λ on. record {
-      all = on.all ++ piece;
-      keeps = keeps on.all on.keeps;
-      loaded = subst (λ (n : ℕ). IsLoaded n ((on.all ++ piece) ++ more) s) (sym same) (subst (λ (t : List ℕ). IsLoaded old.site t s) (sym (append_assoc on.all piece more)) on.loaded);
-    }),
-  );
-  refused = λ more why. (
-    (λ on. record {
-      all = a;
-      keeps = k;
-      unloaded = subst (λ (t : List ℕ). IsUnloaded old.site t why) (append_assoc a piece more)
-          (subst (λ (n : ℕ). IsUnloaded n ((a ++ piece) ++ more) why) same ((one new on.all (a ++ piece) more on.keeps (keeps a k)).1 why on.unloaded));
-    }),
-    (λ on. record {
-      all = on.all ++ piece;
-      keeps = keeps on.all on.keeps;
-      unloaded = subst (λ (n : ℕ). IsUnloaded n ((on.all ++ piece) ++ more) why) (sym same) (subst (λ (t : List ℕ). IsUnloaded old.site t why) (sym (append_assoc on.all piece more)) on.unloaded);
-    }),
-  );
+  loaded = λ more s.
+      let Says : ℕ → List ℕ → Type 0 = λ n bytes. IsLoaded n bytes s in (
+        (λ on. record { all = a; keeps = k; loaded = cut_later Says new.site old.site a piece more same ((one new on.all (a ++ piece) more on.keeps (keeps a k)).0 s on.loaded) }),
+        (λ on. record { all = on.all ++ piece; keeps = keeps on.all on.keeps; loaded = cut_earlier Says new.site old.site on.all piece more same on.loaded }),
+      );
+  refused = λ more why.
+      let Says : ℕ → List ℕ → Type 0 = λ n bytes. IsUnloaded n bytes why in (
+        (λ on. record { all = a; keeps = k; unloaded = cut_later Says new.site old.site a piece more same ((one new on.all (a ++ piece) more on.keeps (keeps a k)).1 why on.unloaded) }),
+        (λ on. record { all = on.all ++ piece; keeps = keeps on.all on.keeps; unloaded = cut_earlier Says new.site old.site on.all piece more same on.unloaded }),
+      );
 }
 
 -- at the end nothing follows

@@ -1,44 +1,28 @@
 -- What a reader keeps decides what loading gives: any bytes of which it keeps that give the same, whatever follows.
-use Rattle.std.proofs.Common.{◌≡◌, ℕ, ◌+◌, List, [], ◌∷◌, ◌++◌, inl, inr, refl, ap, sym, subst, ◌∙◌, length, take, append_assoc, arith}
+use Rattle.std.proofs.Common.{◌≡◌, ℕ, ◌+◌, List, [], ◌∷◌, ◌++◌, Err, inl, inr, refl, ap, sym, subst, ◌∙◌, length, take, append_assoc, arith}
 use Rattle.std.specs.Prelude.{Option, Some, None}
 use Rattle.std.proofs.lemmas.Bool.{false≢true}
 use Rattle.std.proofs.lemmas.Grind.{flat_map-append}
 use Rattle.std.proofs.lemmas.List.{length-append}
-use Rattle.std.proofs.lemmas.Option.{none-some}
 use Rattle.context_diff.specs.Operations.{OpData}
+use Rattle.wire_codec.specs.declared.fault.Refused.{Refused}
 use Rattle.wire_codec.specs.declared.fault.Refused.TheVariants.{More, Bad}
 use Rattle.wire_codec.specs.Reading.{fault}
 use Rattle.wire_codec.specs.Spelling.{frame}
+use Rattle.wire_codec.specs.Judging.{judge}
 use Rattle.cot_site.specs.States.{State}
-use Rattle.cot_site.specs.declared.release.Release.{Release}
 use Rattle.session_log.specs.declared.log_bad.LogBad.{LogBad}
 use Rattle.session_log.specs.declared.log_bad.LogBad.TheVariants as bad
 use Rattle.session_log.specs.Logs.{header, frames, BeginsWith, offset_after, IsLogOf}
 use Rattle.session_log.specs.Laws.{LogsHaveNoFault, OneRefusal, OneLoading}
-use Rattle.session_log.specs.Loadings.{first_refusal, verdicts_after, taken_in, after_all, AreTakenIn, new_state, IsLoaded, IsUnloaded}
+use Rattle.session_log.specs.Loadings.{first_refusal, verdicts_after, after_all, AreTakenIn, new_state, IsLoaded, IsUnloaded}
 use Rattle.log_reader.specs.ReaderData.{ReaderData}
 use Rattle.log_reader.specs.Readers.{IsFaultOf, AreTakenTo, HasTaken, HasRead, AwaitsHeader, KeepsOf, Keeps}
-use Rattle.log_reader.proofs.Logs.{formed_back, formed_append, after-append, taken-append, taken_back, continues, log_continues}
+use Rattle.session_log.proofs.CallerLemmas.{formed_back, formed_append, continues, log_continues, after-append, taken-append, taken_back, comes_later}
 use Rattle.log_reader.proofs.Steps.{begins_on, at_left}
 use Rattle.log_reader.proofs.Endings.{kept_at, unloaded}
 
 -- ---- two lists of bytes of which the same is kept
-
--- the operation that is refused comes after those that were taken in
-record IsLater (fs before others : List OpData) (o : OpData) (after : List OpData) : Type 0 where
-  pub between : List OpData
-  pub parts : before ≡ fs ++ between
-  pub others_are : others ≡ between ++ o ∷ after
-
-later : (s : State) (fs before others : List OpData) (o : OpData) (after : List OpData) (r : Release) → AreTakenIn s fs → fs ++ others ≡ before ++ o ∷ after → first_refusal (verdicts_after (after_all s before) o) ≡ Some r → IsLater fs before others o after
-later s [] before others o after r all is first = record { between = before; parts = refl; others_are = is }
-later s (f ∷ fs) [] others o after r all is first = let same : f ≡ o = cc in absurd (none-some r (sym all.0 ∙ (ap (λ (x : OpData). first_refusal (verdicts_after s x)) same ∙ first)))
-later s (f ∷ fs) (b ∷ before) others o after r all is first =
-    let same : f ≡ b = cc in
-    let rest : fs ++ others ≡ before ++ o ∷ after = cc in
-    let first_f = subst (λ (x : OpData). first_refusal (verdicts_after (after_all (taken_in s x) before) o) ≡ Some r) (sym same) first in
-    let l = later (taken_in s f) fs before others o after r all.1 rest first_f in
-    record { between = l.between; parts = ap (λ (x : OpData). x ∷ before) (sym same) ∙ ap (λ (xs : List OpData). f ∷ xs) l.parts; others_are = l.others_are }
 
 -- bytes that begin with these operations, and then with those that come after others elsewhere
 moved : (b left : List ℕ) (fs gs others : List OpData) (a rest : List ℕ) (more : List ℕ) → BeginsWith b gs left → BeginsWith a (fs ++ others) rest → left ++ more ≡ frames others ++ rest → BeginsWith (b ++ more) (gs ++ others) rest
@@ -60,6 +44,16 @@ same_offset a b left fs gs others same u v =
       ap length (flat_map-append frame gs others),
       length-append (frames fs) (frames others),
       length-append (frames gs) (frames others),
+    )
+
+-- where the one goes on to what begins with no frame, the other does so at the same offset
+moved_to : (a b left : List ℕ) (fs gs before : List OpData) (more rest : List ℕ) (e : Refused) → length a ≡ length b → BeginsWith a fs left → BeginsWith b gs left → BeginsWith (a ++ more) before rest → judge rest ≡ Err e
+    → (there : List OpData) × BeginsWith (b ++ more) there rest × (offset_after before ≡ offset_after there)
+moved_to a b left fs gs before more rest e same u v begins stops =
+    let c = continues (a ++ more) fs before (left ++ more) rest e (begins_on a left fs more u) begins stops in (
+      gs ++ c.others,
+      moved b left fs gs c.others (a ++ more) rest more v (subst (λ (os : List OpData). BeginsWith (a ++ more) os rest) c.parts begins) c.left_is,
+      ap offset_after c.parts ∙ same_offset a b left fs gs c.others same u v,
     )
 
 -- the log of the one is the log of the other, with its own operations first
@@ -99,25 +93,25 @@ loaded_read one site a b left s refused more t x y l = from refused x.taken y.ta
 unloaded_read : OneRefusal → (site : ℕ) (a b left : List ℕ) (s : State) (refused : Option LogBad) (more : List ℕ) (w : LogBad) → length a ≡ length b → HasTaken site a left s refused → HasTaken site b left s refused → IsUnloaded site (a ++ more) w → IsUnloaded site (b ++ more) w
 unloaded_read one site a b left s refused more bad.Header same x y u = absurd (u (frames x.ops ++ (left ++ more)) (begins_on a left x.ops more x.begins).parts)
 unloaded_read one site a b left s refused more (bad.Cut offset) same x y u =
-    let c = continues (a ++ more) x.ops u.before (left ++ more) u.rest (More u.needed) (begins_on a left x.ops more x.begins) u.begins u.judged in
+    let m = moved_to a b left x.ops y.ops u.before more u.rest (More u.needed) same x.begins y.begins u.begins u.judged in
     record {
-      before = y.ops ++ c.others;
+      before = m.0;
       rest = u.rest;
-      begins = moved b left x.ops y.ops c.others (a ++ more) u.rest more y.begins (subst (λ (os : List OpData). BeginsWith (a ++ more) os u.rest) c.parts u.begins) c.left_is;
+      begins = m.1;
       some = u.some;
       needed = u.needed;
       judged = u.judged;
-      place = u.place ∙ ap offset_after c.parts ∙ same_offset a b left x.ops y.ops c.others same x.begins y.begins;
+      place = u.place ∙ m.2;
     }
 unloaded_read one site a b left s refused more (bad.Bad offset cause) same x y u =
-    let c = continues (a ++ more) x.ops u.before (left ++ more) u.rest (Bad (fault cause u.within)) (begins_on a left x.ops more x.begins) u.begins u.judged in
+    let m = moved_to a b left x.ops y.ops u.before more u.rest (Bad (fault cause u.within)) same x.begins y.begins u.begins u.judged in
     record {
-      before = y.ops ++ c.others;
+      before = m.0;
       rest = u.rest;
-      begins = moved b left x.ops y.ops c.others (a ++ more) u.rest more y.begins (subst (λ (os : List OpData). BeginsWith (a ++ more) os u.rest) c.parts u.begins) c.left_is;
+      begins = m.1;
       within = u.within;
       judged = u.judged;
-      place = u.place ∙ ap (λ (n : ℕ). n + u.within) (ap offset_after c.parts ∙ same_offset a b left x.ops y.ops c.others same x.begins y.begins);
+      place = u.place ∙ ap (λ (n : ℕ). n + u.within) m.2;
     }
 unloaded_read one site a b left s refused more (bad.Refused offset member verdict) same x y u = from refused x.taken y.taken where
   too : IsLogToo b x.ops y.ops (u.before ++ u.op ∷ u.behind) more
@@ -125,7 +119,7 @@ unloaded_read one site a b left s refused more (bad.Refused offset member verdic
 
   from : (r : Option LogBad) → AreTakenTo site a x.ops s r → AreTakenTo site b y.ops s r → IsUnloaded site (b ++ more) (bad.Refused offset member verdict)
   from None p q =
-      let l = later (new_state site) x.ops u.before too.others u.op u.behind (record { member = member; verdict = verdict }) p.0 (sym too.parts) u.first in
+      let l = comes_later (new_state site) x.ops u.before too.others u.op u.behind (record { member = member; verdict = verdict }) p.0 (sym too.parts) u.first in
       let rest = subst (λ (z : State). AreTakenIn z l.between) (sym p.1 ∙ q.1) (taken_back (new_state site) x.ops l.between (subst (AreTakenIn (new_state site)) l.parts u.taken)) in
       let there : after_all (new_state site) u.before ≡ after_all (new_state site) (y.ops ++ l.between) =
       ap (after_all (new_state site)) l.parts ∙ after-append (new_state site) x.ops l.between ∙ ap (λ (z : State). after_all z l.between) (sym p.1 ∙ q.1) ∙ sym (after-append (new_state site) y.ops l.between) in

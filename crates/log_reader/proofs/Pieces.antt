@@ -12,9 +12,10 @@ use Rattle.session_log.specs.declared.log_bad.LogBad.TheVariants as bad
 use Rattle.session_log.specs.Logs.{header, frames}
 use Rattle.session_log.specs.Loadings.{new_state}
 use Rattle.log_reader.specs.Readers.{AreTakenTo, HasTaken, HasRead, AwaitsHeader, Keeps}
-use Rattle.log_reader.specs.Code.Steps.{AreBytes, IsCounted, header_read, reader_of, Ends}
+use Rattle.log_reader.specs.ReaderData.{AreBytes, IsCounted, header_read, reader_of}
+use Rattle.log_reader.specs.Code.Steps.{Ends}
 use Rattle.log_reader.proofs.Fronts.{bytes_append}
-use Rattle.log_reader.proofs.Logs.{none_formed}
+use Rattle.session_log.proofs.CallerLemmas.{none_formed}
 use Rattle.log_reader.proofs.Steps.{has_taken_on}
 
 -- the bytes so far and the front of the header

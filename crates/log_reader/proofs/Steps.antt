@@ -11,21 +11,19 @@ use Rattle.wire_codec.specs.Judging.{judge}
 use Rattle.wire_codec.specs.Spelling.{frame}
 use Rattle.wire_codec.specs.StreamData.{StreamData}
 use Rattle.wire_codec.specs.Streams.{TakesOp}
-use Rattle.wire_codec.proofs.CallerLemmas.{bad_stays}
-use Rattle.wire_codec.proofs.Judgement.{judge_within}
+use Rattle.wire_codec.proofs.CallerLemmas.{bad_stays, judge_within}
 use Rattle.cot_site.specs.States.{State}
-use Rattle.cot_site.proofs.CallerLemmas.{held_formed}
 use Rattle.session_log.specs.declared.log_bad.LogBad.{LogBad}
 use Rattle.session_log.specs.declared.log_bad.LogBad.TheVariants as bad
 use Rattle.session_log.specs.declared.placed.Placed.{Placed}
 use Rattle.session_log.specs.Logs.{header, frames, BeginsWith, offset_after, IsLogOf}
 use Rattle.session_log.specs.Readings.{IsUnread}
-use Rattle.session_log.specs.Loadings.{first_refusal, verdicts_after, taken_in, new_state, IsUnloaded}
-use Rattle.session_log.specs.Code.Taking.{IsRefusal}
+use Rattle.session_log.specs.Loadings.{verdicts_after, IsRefusal, IsUnloaded}
+use Rattle.session_log.proofs.CallerLemmas.{begins_next, taken_more, refused_at}
 use Rattle.log_reader.specs.Readers.{IsFaultOf, IsRefusalOf, AreTakenTo, HasTaken}
-use Rattle.log_reader.specs.Code.Steps.{AreBytes, IsCounted, TakesFrame, Stops, TakesIn}
+use Rattle.log_reader.specs.ReaderData.{AreBytes, IsCounted}
+use Rattle.log_reader.specs.Code.Steps.{TakesFrame, Stops, TakesIn}
 use Rattle.log_reader.proofs.Fronts.{bytes_after}
-use Rattle.log_reader.proofs.Logs.{frames_push, after-append, taken-append, log_continues}
 
 -- ---- more bytes
 
@@ -59,12 +57,6 @@ has_taken_on site all left s refused more h = record {
 
 -- ---- one frame
 
-begins_next : (all left next : List ℕ) (ops : List OpData) (o : OpData) → BeginsWith all ops left → left ≡ frame o ++ next → IsWellFormed o → BeginsWith all (ops ++ o ∷ []) next
-begins_next all left next ops o b is well = record {
-  formed = held_formed ops o b.formed well;
-  parts = b.parts ∙ ap (λ (t : List ℕ). header ++ t) (ap (λ (t : List ℕ). frames ops ++ t) is ∙ sym (append_assoc (frames ops) (frame o) next) ∙ ap (λ (t : List ℕ). t ++ next) (sym (frames_push ops o)));
-}
-
 -- where so many bytes were fed, what is left begins where the operations end
 pub at_left : (all left : List ℕ) (ops : List OpData) → BeginsWith all ops left → length all ≡ offset_after ops + length left
 at_left all left ops b = omega (arith, ap length b.parts, length-append header (frames ops ++ left), length-append (frames ops) left)
@@ -79,28 +71,15 @@ refused_next site all left next ops o s at (bad.Refused offset member verdict) b
   apart,
   λ more log is_log.
       let begins = begins_on all next (ops ++ o ∷ []) more (begins_next all left next ops o b is well) in
-      let f = log_continues (all ++ more) (ops ++ o ∷ []) log (next ++ more) begins is_log in
-      let parts : log ≡ ops ++ o ∷ f.others = f.parts ∙ append_assoc ops (o ∷ []) f.others in
-      record {
-        before = ops;
-        op = o;
-        behind = f.others;
-        log = subst (IsLogOf (all ++ more)) parts is_log;
-        place = refusal.0 ∙ place;
-        taken = taken.0;
-        first = ap (λ (x : State). first_refusal (verdicts_after x o)) (sym taken.1) ∙ refusal.1;
-      },
+      refused_at site (all ++ more) (next ++ more) ops o log s offset (record { member = member; verdict = verdict })
+      begins is_log taken.0 taken.1 (refusal.0 ∙ place) refusal.1,
 )
 refused_next site all left next ops o s at bad.Memory b is well taken place apart refusal = absurd (apart refl)
 
 taken_next : (site : ℕ) (all left next : List ℕ) (ops : List OpData) (o : OpData) (s t : State) (refused now : Option LogBad) (at : ℕ)
     → BeginsWith all ops left → left ≡ frame o ++ next → IsWellFormed o → AreTakenTo site all ops s refused → at ≡ offset_after ops → TakesIn s refused at o t now → AreTakenTo site all (ops ++ o ∷ []) t now
 taken_next site all left next ops o s t (Some why) now at b is well taken place takes = subst (λ (n : Option LogBad). AreTakenTo site all (ops ++ o ∷ []) t n) (sym takes) taken
-taken_next site all left next ops o s t None None at b is well taken place takes =
-    let none_at = ap (λ (x : State). first_refusal (verdicts_after x o)) (sym taken.1) ∙ takes.0 in (
-      taken-append (new_state site) ops (o ∷ []) taken.0 (none_at, tt),
-      takes.1 ∙ ap (λ (x : State). taken_in x o) taken.1 ∙ sym (after-append (new_state site) ops (o ∷ [])),
-    )
+taken_next site all left next ops o s t None None at b is well taken place takes = taken_more site ops o s t taken.0 taken.1 takes.0 takes.1
 taken_next site all left next ops o s t None (Some why) at b is well taken place takes = refused_next site all left next ops o s at why b is well taken place takes.0 takes.1
 
 -- a frame was taken, and its operation taken in

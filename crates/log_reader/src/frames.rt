@@ -4,7 +4,8 @@ ghost use Rattle.std.specs.Prelude.{◌≡◌, ℕ, ◌+◌, ◌≤◌, List, le
 ghost use Rattle.cot_site.specs.Sites.{state_of};
 ghost use Rattle.session_log.specs.Logs.{header};
 ghost use Rattle.log_reader.specs.Readers.{HasTaken};
-ghost use Rattle.log_reader.specs.Code.Steps.{IsCounted, TakesFrame, Stops, Ends};
+ghost use Rattle.log_reader.specs.ReaderData.{IsCounted};
+ghost use Rattle.log_reader.specs.Code.Steps.{TakesFrame, Stops, Ends};
 
 use crate::taking::Taking;
 use op_name::Memory;

@@ -2,7 +2,7 @@
 
 ghost use Rattle.std.specs.Prelude.{◌≡◌, ◌≢◌, ◌+◌, ◌≤◌, ◌++◌, ℕ, List, IsNone, IfSome, length, take};
 ghost use Rattle.session_log.specs.Logs.{header};
-ghost use Rattle.log_reader.specs.Code.Steps.{AreBytes};
+ghost use Rattle.log_reader.specs.ReaderData.{AreBytes};
 
 use session_log::HEADER;
 

@@ -4,7 +4,8 @@ ghost use Rattle.std.specs.Prelude.{◌≡◌, ◌≢◌, ◌+◌, ◌<◌, ◌�
 ghost use Rattle.cot_site.specs.Sites.{state_of};
 ghost use Rattle.session_log.specs.Loadings.{IsLoaded, IsUnloaded};
 ghost use Rattle.log_reader.specs.Readers.{Keeps, KeepsSome, Begins, GoesOn, IsLoadedOn, IsUnloadedOn};
-ghost use Rattle.log_reader.specs.Code.Steps.{IsCounted, end_fault, reader_of};
+ghost use Rattle.log_reader.specs.ReaderData.{IsCounted, reader_of};
+ghost use Rattle.log_reader.specs.Code.Steps.{end_fault};
 
 use crate::frames::take_frames;
 use crate::front::after_header;
@@ -36,8 +37,7 @@ pub struct LogReader {
 impl Model for LogReader {
     ghost use Rattle.std.specs.Prelude.{◌≡◌, false, None};
     ghost use Rattle.cot_site.specs.Sites.{state_of};
-    ghost use Rattle.log_reader.specs.ReaderData.{ReaderData};
-    ghost use Rattle.log_reader.specs.Code.Steps.{IsCounted, reader_of};
+    ghost use Rattle.log_reader.specs.ReaderData.{ReaderData, IsCounted, reader_of};
 
     ghost Value = { ReaderData };
 

@@ -1,5 +1,5 @@
 -- What the proofs of other crates cite of this crate's lemmas.
-pub use Rattle.peer_exchange.proofs.Asking.{asks_more, nothing_past}
+pub use Rattle.peer_exchange.proofs.Asking.{nothing_past}
 pub use Rattle.peer_exchange.proofs.Faults.{IsInside, bad_inside}
+pub use Rattle.peer_exchange.proofs.Sent.{answered_whole, closing_whole, offered_whole}
 pub use Rattle.peer_exchange.proofs.Stable.{says_still}
-pub use Rattle.peer_exchange.proofs.Sent.{offered_whole, answered_whole, closing_whole}

@@ -1,5 +1,5 @@
 -- Readers of fields: each reads what is spelled so, and nothing else.
-use Rattle.std.proofs.Common.{◌≡◌, ℕ, zero, suc, ◌<◌, ◌^◌, Bool, true, false, ◌&&◌, not, nat_lt, nat_le, ◌==◌, ◌≢◌, List, [], ◌∷◌, ◌++◌, length, get_or, Option, Some, None, Result, Ok, Err, refl, sym, ap, ◌∙◌, arith, inl, inr, decimal, MatchOption, option_map, option_and_then, Bor, OkIff, eq-eqb, ne_eqb, encode_utf8_all, chars, subst, IsUtf8, if◌then◌else◌, lt-ltb, le-leb, leb-true, IsOk, IfOk, ◌↔◌, ap₂, ltb-true, eqb-true}
+use Rattle.std.proofs.Common.{◌≡◌, ℕ, zero, suc, ◌<◌, ◌≤◌, ◌^◌, Bool, true, false, ◌&&◌, not, nat_lt, nat_le, ◌==◌, ◌≢◌, List, [], ◌∷◌, ◌++◌, length, get_or, Option, Some, None, Result, Ok, Err, refl, sym, ap, ◌∙◌, arith, inl, inr, decimal, MatchOption, option_map, option_and_then, Bor, OkIff, eq-eqb, ne_eqb, encode_utf8_all, chars, subst, IsUtf8, if◌then◌else◌, lt-ltb, le-leb, leb-true, IsOk, IfOk, ◌↔◌, ap₂, ltb-true, eqb-true}
 use Rattle.std.proofs.lemmas.Str.Pattern.{IsSplitOnceResult, split_parts}
 use Rattle.std.proofs.lemmas.Str.Parse.{numerals_by_value, tells_all_ascii_digits, parse_plain, not_in_digits, IsNumeralModel}
 use Rattle.std.proofs.lemmas.Bool.{and_parts, and_from, cases_Bool}
@@ -16,7 +16,7 @@ use Rattle.hex.specs.Hex.{decode_of}
 use Rattle.hex.proofs.HexLemmas.{decode_of-ok}
 use Rattle.op_name.specs.NameData.{NameData, IsName}
 use Rattle.op_name.specs.declared.name.TheConstants.{SITES, NUMBERS}
-use Rattle.script_text.specs.Fields.{cut, number_of, text_of, site_of, count_of, name_of, named, octets_of, tested, starts_numeral, is_numeral, IsSite, IsCount, IsNameText, IsHex, IsNumber, IsCharacters, IsPair, pair_by}
+use Rattle.script_text.specs.Fields.{cut, number_below, number_of, long_of, text_of, site_of, count_of, name_of, named, octets_of, tested, starts_numeral, is_numeral, IsSite, IsCount, IsNameText, IsHex, IsNumber, IsLong, IsCharacters, IsPair, pair_by}
 
 -- the first field has no c
 abbrev pub Lacks : ℕ → List ℕ → Type 0
@@ -71,58 +71,69 @@ pub no_if : {A : Type 0} (t : Bool) (x : A) → (t ≡ true → ⊥) → (if t t
 no_if t x never = rw (not_true t never) refl
 
 -- what `parse` answers where a digit comes first is the number
-pub number_parsed : {E : Type 0} (bs : List ℕ) (r : Result ℕ E) → ParsesUnsigned 32 10 bs r → starts_numeral bs ≡ true → result_ok r ≡ number_of bs
-unfolding number_of
-number_parsed bs r h s = by r (parse_plain own 32 bs r h (starts bs s).no_plus)
+pub numeral_parsed : {E : Type 0} (width : ℕ) (bs : List ℕ) (r : Result ℕ E) → ParsesUnsigned width 10 bs r → starts_numeral bs ≡ true → result_ok r ≡ number_below (2 ^ width) bs
+numeral_parsed width bs r h s = by r (parse_plain own width bs r h (starts bs s).no_plus)
   where
-    by : {E : Type 0} (r : Result ℕ E) → OkIff r ((all_ascii_digits bs ≡ true) × (0 < length bs) × (digits_value 10 bs < 2 ^ 32)) (digits_value 10 bs)
-        → result_ok r ≡ number_of bs
+    by : {E : Type 0} (r : Result ℕ E) → OkIff r ((all_ascii_digits bs ≡ true) × (0 < length bs) × (digits_value 10 bs < 2 ^ width)) (digits_value 10 bs)
+        → result_ok r ≡ number_below (2 ^ width) bs
     by (Ok n) h = rw (s, h.0.0, lt-ltb _ _ h.0.2, h.1) refl
     by (Err e) h = rw (no_if _ _ (λ t. let p = and_parts _ _ t in h ((and_parts _ _ p.0).1, (starts bs s).nonempty, ltb-true _ _ p.1))) refl
 
+pub numeral_no : (limit : ℕ) (bs : List ℕ) → starts_numeral bs ≡ false → number_below limit bs ≡ None
+numeral_no limit bs s = rw s refl
+
+pub number_parsed : {E : Type 0} (bs : List ℕ) (r : Result ℕ E) → ParsesUnsigned 32 10 bs r → starts_numeral bs ≡ true → result_ok r ≡ number_of bs
+unfolding number_of
+number_parsed bs r h s = numeral_parsed 32 bs r h s
+
 pub number_no : (bs : List ℕ) → starts_numeral bs ≡ false → number_of bs ≡ None
 unfolding number_of
-number_no bs s = rw s refl
+number_no bs s = numeral_no (2 ^ 32) bs s
 
 -- a reader of fields reads what is spelled so, and nothing else
 pub record Reads {X : Type 0} (read : List ℕ → Option X) (Is : List ℕ → X → Type 0) : Type 0 where
   pub from : (bs : List ℕ) (x : X) → read bs ≡ Some x → Is bs x
   pub to : (bs : List ℕ) (x : X) → Is bs x → read bs ≡ Some x
 
-numeral_is : (bs : List ℕ) → is_numeral bs ≡ true → digits_value 10 bs < 2 ^ 32 → bs ≡ decimal (digits_value 10 bs)
+numeral_is : (bs : List ℕ) → is_numeral bs ≡ true → digits_value 10 bs < 2 ^ 64 → bs ≡ decimal (digits_value 10 bs)
 numeral_is bs t small =
     let p = and_parts (starts_numeral bs) (all_ascii_digits bs) t in
     let first = starts bs p.0 in
     sym (decimal-digits_value own bs p.1 first.nonempty first.alone (omega arith))
 
-pub digits_start : (ds : List ℕ) → 48 < get_or ds 0 0 → all_ascii_digits ds ≡ true → starts_numeral ds ≡ true
+digits_start : (ds : List ℕ) → 48 < get_or ds 0 0 → all_ascii_digits ds ≡ true → starts_numeral ds ≡ true
 digits_start [] more all = absurd (omega arith)
 digits_start (d ∷ ds) more all = let first = (and_parts (is_ascii_digit d) (all_ascii_digits ds) all).0 in grind (arith, nat_tests)
 
-decimal_starts : (n : ℕ) → n < 2 ^ 32 → starts_numeral (decimal n) ≡ true
+decimal_starts : (n : ℕ) → n < 2 ^ 64 → starts_numeral (decimal n) ≡ true
 decimal_starts zero small = rw (decimal_digit 0 (omega arith)) refl
 decimal_starts (suc n) small =
     digits_start (decimal (suc n)) (first_decimal (suc n) (omega arith) (omega arith)) (digits_decimal own (suc n) (omega arith))
 
-decimal_value : (n : ℕ) → n < 2 ^ 32 → number_of (decimal n) ≡ Some n
-unfolding number_of
-decimal_value n small =
-    let wide : n < 2 ^ 64 = omega arith in
+decimal_value : (limit n : ℕ) → n < 2 ^ 64 → n < limit → number_below limit (decimal n) ≡ Some n
+decimal_value limit n wide small =
     let value : digits_value 10 (decimal n) ≡ n = digits_value-decimal own n wide in
     let digits : all_ascii_digits (decimal n) ≡ true = digits_decimal own n wide in
-    let below : nat_lt n (2 ^ 32) ≡ true = lt-ltb n (2 ^ 32) small in
-    rw (decimal_starts n small, digits, value, below) refl
+    let below : nat_lt n limit ≡ true = lt-ltb n limit small in
+    rw (decimal_starts n wide, digits, value, below) refl
+
+pub numeral_reads : (limit : ℕ) → limit ≤ 2 ^ 64 → Reads (number_below limit) (λ bs n. (bs ≡ decimal n) × (n < limit))
+numeral_reads limit most = record {
+  from = λ bs n e.
+      let p = some_if (is_numeral bs && nat_lt (digits_value 10 bs) limit) (digits_value 10 bs) n e in
+      let t = and_parts (is_numeral bs) (nat_lt (digits_value 10 bs) limit) p.0 in
+      let small : digits_value 10 bs < limit = ltb-true _ _ t.1 in
+      (numeral_is bs t.0 (omega (arith, small, most)) ∙ ap decimal p.1, subst (λ k. k < limit) p.1 small);
+  to = λ bs n h. ap (number_below limit) h.0 ∙ decimal_value limit n (omega (arith, h.1, most)) h.1;
+}
 
 pub number_reads : Reads number_of IsNumber
 unfolding number_of
-number_reads = record {
-  from = λ bs n e.
-      let p = some_if (is_numeral bs && nat_lt (digits_value 10 bs) (2 ^ 32)) (digits_value 10 bs) n e in
-      let t = and_parts (is_numeral bs) (nat_lt (digits_value 10 bs) (2 ^ 32)) p.0 in
-      let small : digits_value 10 bs < 2 ^ 32 = ltb-true _ _ t.1 in
-      (numeral_is bs t.0 small ∙ ap decimal p.1, subst (λ k. k < 2 ^ 32) p.1 small);
-  to = λ bs n h. ap number_of h.0 ∙ decimal_value n h.1;
-}
+number_reads = let r = numeral_reads (2 ^ 32) (omega arith) in record { from = λ bs n e. r.from bs n e; to = λ bs n h. r.to bs n h }
+
+pub long_reads : Reads long_of IsLong
+unfolding long_of
+long_reads = let r = numeral_reads (2 ^ 64) (omega arith) in record { from = λ bs n e. r.from bs n e; to = λ bs n h. r.to bs n h }
 
 pub text_some : (bs : List ℕ) → IsUtf8 bs → (length bs == 0) ≡ false → text_of bs ≡ Some (chars bs)
 unfolding text_of
@@ -217,15 +228,19 @@ site_reads =
       to = λ bs x h. let wide : x < 2 ^ 32 = omega arith in t.to bs x ((h.0, wide), lt-ltb x SITES h.1);
     }
 
+-- a number from 1 on
+pub from_one_reads : (most : ℕ) → most < 2 ^ 32 → Reads (tested (λ n. nat_le 1 n && nat_le n most) number_of) (λ bs n. (bs ≡ decimal n) × (1 ≤ n) × (n ≤ most))
+from_one_reads most fits =
+    let t = tested_reads (λ n. nat_le 1 n && nat_le n most) number_of IsNumber number_reads in
+    record {
+      from = λ bs x e. let h = t.from bs x e in let p = and_parts (nat_le 1 x) (nat_le x most) h.1 in (h.0.0, leb-true 1 x p.0, leb-true x most p.1);
+      to = λ bs x h. let wide : x < 2 ^ 32 = omega (arith, h.2, fits) in
+          t.to bs x ((h.0, wide), and_from (nat_le 1 x) (nat_le x most) (le-leb 1 x h.1) (le-leb x most h.2));
+    }
+
 pub count_reads : Reads count_of IsCount
 unfolding count_of
-count_reads =
-    let t = tested_reads (λ n. nat_le 1 n && nat_le n SITES) number_of IsNumber number_reads in
-    record {
-      from = λ bs x e. let h = t.from bs x e in let p = and_parts (nat_le 1 x) (nat_le x SITES) h.1 in (h.0.0, leb-true 1 x p.0, leb-true x SITES p.1);
-      to = λ bs x h. let wide : x < 2 ^ 32 = omega arith in
-          t.to bs x ((h.0, wide), and_from (nat_le 1 x) (nat_le x SITES) (le-leb 1 x h.1) (le-leb x SITES h.2));
-    }
+count_reads = let r = from_one_reads SITES (omega arith) in record { from = λ bs n e. r.from bs n e; to = λ bs n h. r.to bs n h }
 
 pub site_lacks : (c : ℕ) → ¬ (IsInRange 48 57 c) → (bs : List ℕ) (n : ℕ) → IsSite bs n → Lacks c bs
 site_lacks c other bs n h = number_lacks c other bs n (h.0, omega arith)

@@ -14,6 +14,7 @@ use Rattle.script_text.specs.declared.reading.line.Line.TheVariants.{Blank, Site
 use Rattle.script_text.specs.declared.reading.line.LineBad.{LineBad}
 use Rattle.script_text.specs.declared.reading.line.LineBad.TheVariants.{Limit, Long, Utf8, Form, Memory}
 use Rattle.op_name.specs.NameData.{NameData, IsName}
+use Rattle.op_name.specs.declared.name.TheConstants.{SITES}
 use Rattle.script_text.specs.Names.{name_text}
 use Rattle.script_text.specs.Fields.{IsText, cut, pair_by, number_of, site_of, count_of, name_of, text_of, octets_of, IsNumber, IsSite, IsNameText, IsCharacters, IsHex, IsPair}
 use Rattle.script_text.specs.Rows.{Row, table, row_in, sites_row, ins_row, nl_row, del_row, undo_row, redo_row, give_row, all_row, raw_row, show_row, state_row}
@@ -55,66 +56,57 @@ sites_found bs l e =
     let h = count_reads.from bs m.0 m.1 in
     subst (IsLine (command (codes "sites") bs)) m.2 (ap (command (codes "sites")) h.0, (h.1, h.2))
 
+-- a row of a site and a second field, which has one spelling
+pair_found : {A : Type 0} (second : List ℕ → Option A) (Second : List ℕ → A → Type 0) (spell : A → List ℕ) → Reads (pair_by 32 site_of second) (IsPair 32 IsSite Second) → ((bs : List ℕ) (x : A) → Second bs x → bs ≡ spell x)
+    → (word : List ℕ) (make : ℕ → A → Line) → ((site : ℕ) (x : A) → site < SITES → Second (spell x) x → IsLine (command word (two (decimal site) (spell x))) (make site x))
+    → (bs : List ℕ) (l : Line) → option_map (λ (x : ℕ × A). make x.0 x.1) (pair_by 32 site_of second bs) ≡ Some l → IsLine (command word bs) l
+pair_found second Second spell reads back word make is bs l e =
+    let m = mapped_some _ (pair_by 32 site_of second bs) l e in
+    let h = reads.from bs m.0 m.1 in
+    let same = back h.1 m.0.1 h.4 in
+    let spelled = two_is bs h.0 h.1 (decimal m.0.0) (spell m.0.1) h.2 h.3.0 same in
+    subst (IsLine (command word bs)) m.2
+    (subst (λ (t : List ℕ). IsLine (command word t) (make m.0.0 m.0.1)) (sym spelled) (is m.0.0 m.0.1 h.3.1 (subst (λ (t : List ℕ). Second t m.0.1) same h.4)))
+
+-- a row of a site alone
+site_found : (word : List ℕ) (make : ℕ → Line) → ((site : ℕ) → site < SITES → IsLine (command word (decimal site)) (make site))
+    → (bs : List ℕ) (l : Line) → option_map (λ s. make s) (site_of bs) ≡ Some l → IsLine (command word bs) l
+site_found word make is bs l e =
+    let m = mapped_some _ (site_of bs) l e in
+    let h = site_reads.from bs m.0 m.1 in
+    subst (IsLine (command word bs)) m.2 (subst (λ (t : List ℕ). IsLine (command word t) (make m.0)) (sym h.0) (is m.0 h.1))
+
 nl_found : (bs : List ℕ) (l : Line) → nl_row bs ≡ Some l → IsLine (command (codes "nl") bs) l
 unfolding nl_row
-nl_found bs l e =
-    let m = mapped_some _ (pair_by 32 site_of number_of bs) l e in
-    let h = site_and_number.from bs m.0 m.1 in
-    let spelled = two_is bs h.0 h.1 (decimal m.0.0) (decimal m.0.1) h.2 h.3.0 h.4.0 in
-    subst (IsLine (command (codes "nl") bs)) m.2 (ap (command (codes "nl")) spelled, (h.3.1, h.4.1))
+nl_found = pair_found number_of IsNumber decimal site_and_number (λ bs n h. h.0) (codes "nl") (λ s n. Nl s n) (λ s n few h. (refl, (few, h.1)))
 
 del_found : (bs : List ℕ) (l : Line) → del_row bs ≡ Some l → IsLine (command (codes "del") bs) l
 unfolding del_row
-del_found bs l e =
-    let m = mapped_some _ (pair_by 32 site_of number_of bs) l e in
-    let h = site_and_number.from bs m.0 m.1 in
-    let spelled = two_is bs h.0 h.1 (decimal m.0.0) (decimal m.0.1) h.2 h.3.0 h.4.0 in
-    subst (IsLine (command (codes "del") bs)) m.2 (ap (command (codes "del")) spelled, (h.3.1, h.4.1))
-
-undo_found : (bs : List ℕ) (l : Line) → undo_row bs ≡ Some l → IsLine (command (codes "undo") bs) l
-unfolding undo_row
-undo_found bs l e =
-    let m = mapped_some _ (pair_by 32 site_of name_of bs) l e in
-    let h = site_and_name.from bs m.0 m.1 in
-    let spelled = two_is bs h.0 h.1 (decimal m.0.0) (name_text m.0.1) h.2 h.3.0 h.4.0 in
-    subst (IsLine (command (codes "undo") bs)) m.2 (ap (command (codes "undo")) spelled, (h.3.1, h.4.1))
-
-redo_found : (bs : List ℕ) (l : Line) → redo_row bs ≡ Some l → IsLine (command (codes "redo") bs) l
-unfolding redo_row
-redo_found bs l e =
-    let m = mapped_some _ (pair_by 32 site_of name_of bs) l e in
-    let h = site_and_name.from bs m.0 m.1 in
-    let spelled = two_is bs h.0 h.1 (decimal m.0.0) (name_text m.0.1) h.2 h.3.0 h.4.0 in
-    subst (IsLine (command (codes "redo") bs)) m.2 (ap (command (codes "redo")) spelled, (h.3.1, h.4.1))
+del_found = pair_found number_of IsNumber decimal site_and_number (λ bs n h. h.0) (codes "del") (λ s n. Del s n) (λ s n few h. (refl, (few, h.1)))
 
 give_found : (bs : List ℕ) (l : Line) → give_row bs ≡ Some l → IsLine (command (codes "give") bs) l
 unfolding give_row
-give_found bs l e =
-    let m = mapped_some _ (pair_by 32 site_of number_of bs) l e in
-    let h = site_and_number.from bs m.0 m.1 in
-    let spelled = two_is bs h.0 h.1 (decimal m.0.0) (decimal m.0.1) h.2 h.3.0 h.4.0 in
-    subst (IsLine (command (codes "give") bs)) m.2 (ap (command (codes "give")) spelled, (h.3.1, h.4.1))
+give_found = pair_found number_of IsNumber decimal site_and_number (λ bs n h. h.0) (codes "give") (λ s n. Give s n) (λ s n few h. (refl, (few, h.1)))
+
+undo_found : (bs : List ℕ) (l : Line) → undo_row bs ≡ Some l → IsLine (command (codes "undo") bs) l
+unfolding undo_row
+undo_found = pair_found name_of IsNameText name_text site_and_name (λ bs n h. h.0) (codes "undo") (λ s n. Undo s n) (λ s n few h. (refl, (few, h.1)))
+
+redo_found : (bs : List ℕ) (l : Line) → redo_row bs ≡ Some l → IsLine (command (codes "redo") bs) l
+unfolding redo_row
+redo_found = pair_found name_of IsNameText name_text site_and_name (λ bs n h. h.0) (codes "redo") (λ s n. Redo s n) (λ s n few h. (refl, (few, h.1)))
 
 all_found : (bs : List ℕ) (l : Line) → all_row bs ≡ Some l → IsLine (command (codes "all") bs) l
 unfolding all_row
-all_found bs l e =
-    let m = mapped_some _ (site_of bs) l e in
-    let h = site_reads.from bs m.0 m.1 in
-    subst (IsLine (command (codes "all") bs)) m.2 (ap (command (codes "all")) h.0, h.1)
+all_found = site_found (codes "all") (λ s. All s) (λ s few. (refl, few))
 
 show_found : (bs : List ℕ) (l : Line) → show_row bs ≡ Some l → IsLine (command (codes "show") bs) l
 unfolding show_row
-show_found bs l e =
-    let m = mapped_some _ (site_of bs) l e in
-    let h = site_reads.from bs m.0 m.1 in
-    subst (IsLine (command (codes "show") bs)) m.2 (ap (command (codes "show")) h.0, h.1)
+show_found = site_found (codes "show") (λ s. Show s) (λ s few. (refl, few))
 
 state_found : (bs : List ℕ) (l : Line) → state_row bs ≡ Some l → IsLine (command (codes "state") bs) l
 unfolding state_row
-state_found bs l e =
-    let m = mapped_some _ (site_of bs) l e in
-    let h = site_reads.from bs m.0 m.1 in
-    subst (IsLine (command (codes "state") bs)) m.2 (ap (command (codes "state")) h.0, h.1)
+state_found = site_found (codes "state") (λ s. State s) (λ s few. (refl, few))
 
 ins_found : (bs : List ℕ) (l : Line) → ins_row bs ≡ Some l → IsLine (command (codes "ins") bs) l
 unfolding ins_row

@@ -1,15 +1,15 @@
 -- Members that stand alone: each is read where it is spelled, and nothing else is.
-use Rattle.std.proofs.Common.{◌≡◌, ℕ, zero, suc, ◌<◌, ◌^◌, ◌≢◌, ◌&&◌, nat_le, List, [], ◌∷◌, ◌++◌, length, get_or, Option, Some, None, refl, sym, ap, ◌∙◌, arith, decimal, option_map, subst, append_assoc, leb-true, le-leb}
+use Rattle.std.proofs.Common.{◌≡◌, ℕ, zero, suc, ◌<◌, ◌≢◌, List, [], ◌∷◌, ◌++◌, length, get_or, Option, Some, None, refl, sym, ap, ◌∙◌, arith, decimal, option_map, subst, append_assoc}
 use Rattle.std.specs.Prelude.{IfSome}
 use Rattle.std.specs.Int.{IsInRange}
-use Rattle.std.proofs.lemmas.Bool.{and_parts, and_from}
 use Rattle.op_name.specs.NameData.{NameData}
 use Rattle.op_name.specs.declared.member.TheConstants.{GENERATIONS}
 use Rattle.op_name.specs.declared.member.Member.{Member}
 use Rattle.op_name.specs.declared.member.Member.TheVariants.{Original, Group}
 use Rattle.script_text.specs.Names.{name_text, group_text}
-use Rattle.script_text.specs.Fields.{cut, number_of, name_of, generation_of, member_of, member_by, tested, IsNumber, IsSite, IsNameText, IsGeneration, IsMemberText}
-use Rattle.script_text.proofs.FieldLaws.{Lacks, Reads, cut-append, cut-lacks, cut_some, some_is, and_then_some, number_lacks, tested_reads, number_reads, name_reads}
+use Rattle.script_text.specs.Fields.{cut, name_of, generation_of, member_of, member_by, IsNameText, IsGeneration, IsMemberText}
+use Rattle.script_text.proofs.FieldLaws.{Lacks, Reads, cut-append, cut-lacks, cut_some, some_is, and_then_some, number_lacks, from_one_reads, name_reads}
+use Rattle.script_text.proofs.WordLaws.{found, only}
 
 slash_no_digit : ¬ (IsInRange 48 57 47)
 slash_no_digit h = omega (arith, h)
@@ -35,13 +35,7 @@ name_lacks n is =
 
 generation_reads : Reads generation_of IsGeneration
 unfolding generation_of
-generation_reads =
-    let t = tested_reads (λ g. nat_le 1 g && nat_le g GENERATIONS) number_of IsNumber number_reads in
-    record {
-      from = λ bs x e. let h = t.from bs x e in let p = and_parts (nat_le 1 x) (nat_le x GENERATIONS) h.1 in (h.0.0, leb-true 1 x p.0, leb-true x GENERATIONS p.1);
-      to = λ bs x h. let wide : x < 2 ^ 32 = omega (arith, h.2) in
-          t.to bs x ((h.0, wide), and_from (nat_le 1 x) (nat_le x GENERATIONS) (le-leb 1 x h.1) (le-leb x GENERATIONS h.2));
-    }
+generation_reads = let r = from_one_reads GENERATIONS (omega arith) in record { from = λ bs g e. r.from bs g e; to = λ bs g h. r.to bs g h }
 
 -- the name, the slash and the generation
 spelled : (n : NameData) (g : ℕ) → name_text n ++ 47 ∷ decimal g ≡ group_text n g
@@ -80,8 +74,7 @@ member_reads = record {
 }
 
 pub member_found : (bs : List ℕ) (r : Option Member) → r ≡ member_of bs → IfSome r (λ m. IsMemberText bs m)
-member_found bs None e = tt
-member_found bs (Some m) e = member_reads.from bs m (sym e)
+member_found bs r e = found member_of IsMemberText member_reads bs r e
 
 pub member_only : (bs : List ℕ) (r : Option Member) → r ≡ member_of bs → (m : Member) → IsMemberText bs m → r ≡ Some m
-member_only bs r e m is = e ∙ member_reads.to bs m is
+member_only bs r e m is = only member_of IsMemberText member_reads bs r e m is

@@ -44,13 +44,17 @@ starts_numeral (d ∷ ds) = if d == 48 then length ds == 0 else (nat_le 49 d && 
 abbrev pub is_numeral : List ℕ → Bool
 is_numeral ds = starts_numeral ds && all_ascii_digits ds
 
--- the number that a field spells, if it is below 2 ^ 32
+-- the number that a field spells, if it is below the limit
+abbrev pub number_below : ℕ → List ℕ → Option ℕ
+number_below limit ds = if is_numeral ds && nat_lt (digits_value 10 ds) limit then Some (digits_value 10 ds) else None
+
+-- the same below 2 ^ 32
 unfoldable pub number_of : List ℕ → Option ℕ
-number_of ds = if is_numeral ds && nat_lt (digits_value 10 ds) (2 ^ 32) then Some (digits_value 10 ds) else None
+number_of ds = number_below (2 ^ 32) ds
 
 -- the same below 2 ^ 64
 unfoldable pub long_of : List ℕ → Option ℕ
-long_of ds = if is_numeral ds && nat_lt (digits_value 10 ds) (2 ^ 64) then Some (digits_value 10 ds) else None
+long_of ds = number_below (2 ^ 64) ds
 
 -- a site: from 0, below SITES
 unfoldable pub site_of : List ℕ → Option ℕ

@@ -1,36 +1,22 @@
 -- Frames that are appended one after the other.
-use Rattle.std.proofs.Common.{◌≡◌, ℕ, zero, suc, ◌+◌, ◌≤◌, List, [], ◌∷◌, ◌++◌, Result, OnErr, Ok, Err, refl, ap, sym, ◌∙◌, length, take, append_assoc, arith}
+use Rattle.std.proofs.Common.{◌≡◌, ℕ, ◌+◌, ◌≤◌, List, ◌++◌, Result, OnErr, Ok, Err, ap, sym, ◌∙◌, length, take, append_assoc, arith}
 use Rattle.std.specs.Prelude.{Some, slice_get}
-use Rattle.std.proofs.lemmas.List.{take-take, length-append}
+use Rattle.std.proofs.lemmas.List.{take-take, take_all, length-append}
 use Rattle.std.proofs.Math.Seq.{take-append_seam}
 use Rattle.context_diff.specs.Operations.{OpData}
 use Rattle.wire_codec.specs.Spelling.{frame}
 use Rattle.session_log.specs.Logs.{frames}
-use Rattle.session_log.proofs.Frames.{frames_push}
-
-take_next : {X : Type 0} (xs : List X) (i : ℕ) (x : X) → slice_get xs i ≡ Some x → take (suc i) xs ≡ take i xs ++ x ∷ []
-take_next [] zero x at = absurd (let none = at in cc)
-take_next [] (suc i) x at = absurd (let none = at in cc)
-take_next (y ∷ ys) zero x at = let same : y ≡ x = cc in ap (λ z. z ∷ []) same
-take_next (y ∷ ys) (suc i) x at = ap (λ zs. y ∷ zs) (take_next ys i x at)
+use Rattle.wire_codec.proofs.CallerLemmas.{pieces_more}
 
 pub appended_more : (old now new : List ℕ) (os : List OpData) (i : ℕ) (o : OpData) → now ≡ old ++ frames (take i os) → slice_get os i ≡ Some o → new ≡ now ++ frame o → new ≡ old ++ frames (take (i + 1) os)
 appended_more old now new os i o is at more =
-    let next : suc i ≡ i + 1 = omega arith in
     more
     ∙ ap (λ (t : List ℕ). t ++ frame o) is
     ∙ append_assoc old (frames (take i os)) (frame o)
-    ∙ ap (λ (t : List ℕ). old ++ t) (sym (ap frames (take_next os i o at) ∙ frames_push (take i os) o))
-    ∙ ap (λ (k : ℕ). old ++ frames (take k os)) next
-
-take_whole : {X : Type 0} (xs : List X) (i : ℕ) → length xs ≤ i → take i xs ≡ xs
-take_whole [] zero past = refl
-take_whole [] (suc i) past = refl
-take_whole (x ∷ xs) zero past = absurd (omega arith)
-take_whole (x ∷ xs) (suc i) past = ap (λ ys. x ∷ ys) (take_whole xs i (omega arith))
+    ∙ ap (λ (t : List ℕ). old ++ t) (sym (pieces_more frame os i o at))
 
 pub appended_all : (old now : List ℕ) (os : List OpData) (i : ℕ) → now ≡ old ++ frames (take i os) → length os ≤ i → now ≡ old ++ frames os
-appended_all old now os i is past = is ∙ ap (λ (xs : List OpData). old ++ frames xs) (take_whole os i past)
+appended_all old now os i is past = is ∙ ap (λ (xs : List OpData). old ++ frames xs) (take_all i os past)
 
 pub on_err : {A B P : Type 0} (r : Result A B) → P → OnErr r P
 on_err (Ok x) p = tt

@@ -1,10 +1,11 @@
 -- Passing over the frames of a log: what was passed over is the front of the log, and of one log only.
-use Rattle.std.proofs.Common.{◌≡◌, ◌≢◌, ℕ, ◌+◌, ◌<◌, List, [], ◌∷◌, ◌++◌, Result, Ok, Err, refl, ap, sym, subst, ◌∙◌, length, drop, append_assoc, append-nil, arith}
+use Rattle.std.proofs.Common.{◌≡◌, ◌≢◌, ℕ, ◌+◌, ◌<◌, List, [], ◌∷◌, ◌++◌, Result, Ok, Err, refl, ap, sym, subst, ◌∙◌, length, drop, append_assoc, append-nil, arith, inl, inr}
 use Rattle.std.specs.Prelude.{true, false, Option, Some, None}
 use Rattle.std.specs.Option.{is_some}
 use Rattle.std.proofs.lemmas.Bool.{true≢false, false≢true}
 use Rattle.std.proofs.lemmas.Grind.{flat_map-append}
 use Rattle.std.proofs.lemmas.List.{length-append, append_cancel_left}
+use Rattle.std.proofs.lemmas.List.Elements.{Contains-append_cases, Contains-append_right}
 use Rattle.context_diff.specs.Operations.{OpData, IsWellFormed}
 use Rattle.context_diff.proofs.CallerLemmas.{contains_here, contains_later, contains_none}
 use Rattle.wire_codec.specs.declared.fault.Fault.{Fault}
@@ -30,8 +31,23 @@ frames_push os o = flat_map-append frame os (o ∷ []) ∙ ap (λ (t : List ℕ)
 pub offset_push : (os : List OpData) (o : OpData) → offset_after (os ++ o ∷ []) ≡ offset_after os + length (frame o)
 offset_push os o = omega (arith, ap length (frames_push os o), length-append (frames os) (frame o))
 
-none_formed : AllFormed []
+pub none_formed : AllFormed []
 none_formed o there = absurd (contains_none o there)
+
+pub formed_back : (fs bs : List OpData) → AllFormed (fs ++ bs) → AllFormed bs
+formed_back fs bs all o there = all o (Contains-append_right fs bs o there)
+
+pub formed_append : (fs bs : List OpData) → AllFormed fs → AllFormed bs → AllFormed (fs ++ bs)
+formed_append fs bs all some o there = elim (Contains-append_cases fs bs o there) [
+  | inl here ↦ all o here
+  | inr there ↦ some o there
+]
+
+pub begins_next : (all left next : List ℕ) (ops : List OpData) (o : OpData) → BeginsWith all ops left → left ≡ frame o ++ next → IsWellFormed o → BeginsWith all (ops ++ o ∷ []) next
+begins_next all left next ops o b is well = record {
+  formed = held_formed ops o b.formed well;
+  parts = b.parts ∙ ap (λ (t : List ℕ). header ++ t) (ap (λ (t : List ℕ). frames ops ++ t) is ∙ sym (append_assoc (frames ops) (frame o) next) ∙ ap (λ (t : List ℕ). t ++ next) (sym (frames_push ops o)));
+}
 
 -- these operations were passed over
 pub record IsPassed (bytes : List ℕ) (os : List OpData) (left : LeftData) : Type 0 where
@@ -47,12 +63,8 @@ passed_first bytes left parts place = record {
 pub passed_more : (bytes : List ℕ) (os : List OpData) (o : OpData) (old new : LeftData) → IsPassed bytes os old → PassesOver old o new → IsPassed bytes (os ++ o ∷ []) new
 passed_more bytes os o old new w step =
     let f = step.is_frame in
-    let rest = drop step.used old.bytes in
-    let parts : bytes ≡ header ++ (frames (os ++ o ∷ []) ++ rest) =
-    w.begins.parts
-    ∙ ap (λ (t : List ℕ). header ++ t) (ap (λ (t : List ℕ). frames os ++ t) f.parts ∙ sym (append_assoc (frames os) (frame o) rest) ∙ ap (λ (t : List ℕ). t ++ rest) (sym (frames_push os o))) in
     record {
-      begins = subst (BeginsWith bytes (os ++ o ∷ [])) (sym step.bytes) (record { formed = held_formed os o w.begins.formed f.well; parts = parts });
+      begins = subst (BeginsWith bytes (os ++ o ∷ [])) (sym step.bytes) (begins_next bytes old.bytes (drop step.used old.bytes) os o w.begins f.parts f.well);
       place = omega (arith, step.offset, w.place, f.size, offset_push os o);
     }
 
@@ -107,42 +119,7 @@ unread bytes os left bad.Memory w (used, there) =
     let next : LeftData = record { offset = left.offset + used; bytes = drop used left.bytes } in
     has_operation bytes os there.op left next w (record { used = used; is_frame = there.is; offset = refl; bytes = refl })
 
--- ---- the front of a log
-
-frame_some : (o : OpData) (rest : List ℕ) → [] ≡ frame o ++ rest → ⊥
-frame_some o rest e = omega (arith, ap length e, length-append (frame o) rest)
-
--- of the operations of a log those that it begins with are the first
-pub record IsFront (os fs : List OpData) (rest : List ℕ) : Type 0 where
-  pub others : List OpData
-  pub parts : os ≡ fs ++ others
-  pub is_rest : rest ≡ frames others
-
-front_of : (os fs : List OpData) (rest : List ℕ) → AllFormed os → AllFormed fs → frames os ≡ frames fs ++ rest → IsFront os fs rest
-front_of os [] rest all some e = record { others = os; parts = refl; is_rest = sym e }
-front_of [] (a ∷ fs) rest all some e = absurd (frame_some a (frames fs ++ rest) (e ∙ append_assoc (frame a) (frames fs) rest))
-front_of (o ∷ os) (a ∷ fs) rest all some e =
-    let whole : frame o ++ frames os ≡ frame a ++ (frames fs ++ rest) = e ∙ append_assoc (frame a) (frames fs) rest in
-    let same : o ≡ a = frame_once o a (frames os) (frames fs ++ rest) (all o (contains_here o os)) (some a (contains_here a fs)) whole in
-    let later : frames os ≡ frames fs ++ rest = append_cancel_left (frame a) (frames os) (frames fs ++ rest) (ap (λ (x : OpData). frame x ++ frames os) (sym same) ∙ whole) in
-    let front = front_of os fs rest (λ x c. all x (contains_later o os x c)) (λ x c. some x (contains_later a fs x c)) later in
-    record { others = front.others; parts = ap (λ (x : OpData). x ∷ os) same ∙ ap (λ (xs : List OpData). a ∷ xs) front.parts; is_rest = front.is_rest }
-
-pub front : (bytes : List ℕ) (os fs : List OpData) (rest : List ℕ) → IsLogOf bytes os → BeginsWith bytes fs rest → IsFront os fs rest
-front bytes os fs rest log begins =
-    let whole : frames os ++ [] ≡ frames fs ++ rest = append_cancel_left header (frames os ++ []) (frames fs ++ rest) (sym log.parts ∙ begins.parts) in
-    front_of os fs rest log.formed begins.formed (sym (append-nil (frames os)) ∙ whole)
-
--- ---- the laws of reading
-
-pub one_log : (bytes : List ℕ) (a b : List OpData) → IsLogOf bytes a → IsLogOf bytes b → a ≡ b
-one_log bytes a b log_a log_b =
-    let f = front bytes a b [] log_a log_b in
-    f.parts ∙ (ap (λ (xs : List OpData). b ++ xs) (none f.others f.is_rest) ∙ append-nil b)
-  where
-    none : (os : List OpData) → [] ≡ frames os → os ≡ []
-    none [] e = refl
-    none (o ∷ os) e = absurd (frame_some o (frames os) e)
+-- ---- what comes after operations
 
 -- what begins with a frame is judged good
 pub good_not_err : (o : OpData) (rest : List ℕ) (why : Refused) → IsWellFormed o → judge (frame o ++ rest) ≡ Err why → ⊥
@@ -151,19 +128,54 @@ good_not_err o rest why well e = never (length (frame o)) (sym (judge_again o re
     never : (n : ℕ) → ◌≡◌ {A = Result (OpData × ℕ) Refused} (Ok (o, n)) (Err why) → ⊥
     never n both = cc
 
+-- after these operations come the others, and then what begins with no frame
+pub record Continues (fs gs : List OpData) (q r : List ℕ) : Type 0 where
+  pub others : List OpData
+  pub parts : gs ≡ fs ++ others
+  pub left_is : q ≡ frames others ++ r
+
+continues_by : (fs gs : List OpData) (q r : List ℕ) (e : Refused) → AllFormed fs → AllFormed gs → frames fs ++ q ≡ frames gs ++ r → judge r ≡ Err e → Continues fs gs q r
+continues_by [] gs q r e all some is at_r = record { others = gs; parts = refl; left_is = is }
+continues_by (f ∷ fs) [] q r e all some is at_r = absurd (good_not_err f (frames fs ++ q) e (all f (contains_here f fs)) (ap judge (sym (append_assoc (frame f) (frames fs) q) ∙ is) ∙ at_r))
+continues_by (f ∷ fs) (g ∷ gs) q r e all some is at_r =
+    let whole : frame f ++ (frames fs ++ q) ≡ frame g ++ (frames gs ++ r) = sym (append_assoc (frame f) (frames fs) q) ∙ is ∙ append_assoc (frame g) (frames gs) r in
+    let same : f ≡ g = frame_once f g (frames fs ++ q) (frames gs ++ r) (all f (contains_here f fs)) (some g (contains_here g gs)) whole in
+    let later : frames fs ++ q ≡ frames gs ++ r = append_cancel_left (frame g) (frames fs ++ q) (frames gs ++ r) (ap (λ (x : OpData). frame x ++ (frames fs ++ q)) (sym same) ∙ whole) in
+    let c = continues_by fs gs q r e (λ x c. all x (contains_later f fs x c)) (λ x c. some x (contains_later g gs x c)) later at_r in
+    record { others = c.others; parts = ap (λ (x : OpData). x ∷ gs) (sym same) ∙ ap (λ (xs : List OpData). f ∷ xs) c.parts; left_is = c.left_is }
+
+pub continues : (bytes : List ℕ) (fs gs : List OpData) (q r : List ℕ) (e : Refused) → BeginsWith bytes fs q → BeginsWith bytes gs r → judge r ≡ Err e → Continues fs gs q r
+continues bytes fs gs q r e u v at_r = continues_by fs gs q r e u.formed v.formed (append_cancel_left header (frames fs ++ q) (frames gs ++ r) (sym u.parts ∙ v.parts)) at_r
+
+-- nothing is no whole frame
+pub nothing_needs : judge [] ≡ Err (More 4)
+unfolding judge
+nothing_needs = refl
+
+-- a log goes on with the operations that it begins with
+pub log_continues : (bytes : List ℕ) (fs ops : List OpData) (q : List ℕ) → BeginsWith bytes fs q → IsLogOf bytes ops → Continues fs ops q []
+log_continues bytes fs ops q u log = continues bytes fs ops q [] (More 4) u log nothing_needs
+
+-- ---- the laws of reading
+
+pub one_log : (bytes : List ℕ) (a b : List OpData) → IsLogOf bytes a → IsLogOf bytes b → a ≡ b
+one_log bytes a b log_a log_b =
+    let f = log_continues bytes b a [] log_b log_a in
+    f.parts ∙ (ap (λ (xs : List OpData). b ++ xs) (none f.others f.left_is) ∙ append-nil b)
+  where
+    none : (os : List OpData) → [] ≡ frames os ++ [] → os ≡ []
+    none [] e = refl
+    none (o ∷ os) e = absurd (omega (arith, ap length e, length-append (frame o ++ frames os) [], length-append (frame o) (frames os)))
+
 -- what is left of a log, if there is something, begins with a frame
-left_good : (os : List OpData) (rest : List ℕ) (why : Refused) → AllFormed os → rest ≡ frames os → rest ≢ [] → judge rest ≡ Err why → ⊥
+left_good : (os : List OpData) (rest : List ℕ) (why : Refused) → AllFormed os → rest ≡ frames os ++ [] → rest ≢ [] → judge rest ≡ Err why → ⊥
 left_good [] rest why all is some e = some is
-left_good (o ∷ os) rest why all is some e = good_not_err o (frames os) why (all o (contains_here o os)) (ap judge (sym is) ∙ e)
+left_good (o ∷ os) rest why all is some e = good_not_err o (frames os ++ []) why (all o (contains_here o os)) (ap judge (sym (append_assoc (frame o) (frames os) []) ∙ sym is) ∙ e)
 
 -- nothing is no fault
 nothing_bad : (f : Fault) → judge [] ≡ Err (Bad f) → ⊥
 unfolding judge
 nothing_bad f e = cc
-
-formed_back : (fs bs : List OpData) → AllFormed (fs ++ bs) → AllFormed bs
-formed_back [] bs all = all
-formed_back (a ∷ fs) bs all = formed_back fs bs (λ o c. all o (contains_later a (fs ++ bs) o c))
 
 formed_rest : (os fs bs : List OpData) → os ≡ fs ++ bs → AllFormed os → AllFormed bs
 formed_rest os fs bs parts all = formed_back fs bs (subst AllFormed parts all)
@@ -171,11 +183,11 @@ formed_rest os fs bs parts all = formed_back fs bs (subst AllFormed parts all)
 pub log_no_fault : (bytes : List ℕ) (os : List OpData) (why : LogBad) → IsLogOf bytes os → why ≢ bad.Memory → ¬ IsUnread bytes why
 log_no_fault bytes os bad.Header log apart u = u (frames os ++ []) log.parts
 log_no_fault bytes os (bad.Cut offset) log apart u =
-    let f = front bytes os u.before u.rest log u.begins in
-    left_good f.others u.rest (More u.needed) (formed_rest os u.before f.others f.parts log.formed) f.is_rest u.some u.judged
+    let f = log_continues bytes u.before os u.rest u.begins log in
+    left_good f.others u.rest (More u.needed) (formed_rest os u.before f.others f.parts log.formed) f.left_is u.some u.judged
 log_no_fault bytes os (bad.Bad offset cause) log apart u =
-    let f = front bytes os u.before u.rest log u.begins in
-    left_good f.others u.rest (Bad (fault cause u.within)) (formed_rest os u.before f.others f.parts log.formed) f.is_rest
+    let f = log_continues bytes u.before os u.rest u.begins log in
+    left_good f.others u.rest (Bad (fault cause u.within)) (formed_rest os u.before f.others f.parts log.formed) f.left_is
     (λ none. nothing_bad (fault cause u.within) (ap judge (sym none) ∙ u.judged)) u.judged
 log_no_fault bytes os (bad.Refused offset member verdict) log apart u = u
 log_no_fault bytes os bad.Memory log apart u = apart refl

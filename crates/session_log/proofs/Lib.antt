@@ -1,7 +1,8 @@
 mod HandedOn
-mod Frames
+pub mod Frames
 mod Appending
 mod Listings
-mod TakingIn
+pub mod TakingIn
 mod RoundTrips
-mod Refusals
+pub mod Refusals
+pub mod CallerLemmas

@@ -1,10 +1,9 @@
 -- One reason at most refuses a log.
-use Rattle.std.proofs.Common.{◌≡◌, ◌≢◌, ℕ, List, [], ◌∷◌, ◌++◌, ◌⊎◌, inl, inr, Result, Ok, Err, refl, ap, sym, subst, ◌∙◌, append_assoc}
-use Rattle.std.specs.Prelude.{◌+◌, Option, Some, None}
-use Rattle.std.proofs.lemmas.List.{append_cancel_left}
+use Rattle.std.proofs.Common.{◌≡◌, ◌≢◌, ℕ, List, [], ◌∷◌, ◌++◌, ◌⊎◌, inl, inr, Result, Err, refl, ap, sym, subst, ◌∙◌, append_assoc, append-nil}
+use Rattle.std.specs.Prelude.{◌+◌, Option, Some}
 use Rattle.std.proofs.lemmas.Option.{none-some}
 use Rattle.context_diff.specs.Operations.{OpData}
-use Rattle.context_diff.proofs.CallerLemmas.{contains_here, contains_later}
+use Rattle.context_diff.proofs.CallerLemmas.{contains_here}
 use Rattle.wire_codec.specs.declared.cause.Cause.{Cause}
 use Rattle.wire_codec.specs.declared.fault.Fault.{Fault}
 use Rattle.wire_codec.specs.declared.fault.Refused.{Refused}
@@ -12,7 +11,6 @@ use Rattle.wire_codec.specs.declared.fault.Refused.TheVariants.{More, Bad}
 use Rattle.wire_codec.specs.Reading.{fault}
 use Rattle.wire_codec.specs.Spelling.{frame}
 use Rattle.wire_codec.specs.Judging.{judge}
-use Rattle.wire_codec.proofs.CallerLemmas.{frame_once}
 use Rattle.cot_site.specs.declared.release.Release.{Release}
 use Rattle.cot_site.specs.Sites.{AllFormed}
 use Rattle.cot_site.specs.States.{State}
@@ -21,7 +19,8 @@ use Rattle.session_log.specs.declared.log_bad.LogBad.TheVariants as bad
 use Rattle.session_log.specs.Logs.{header, frames, BeginsWith, offset_after}
 use Rattle.session_log.specs.Readings.{IsCutAt, IsFaultyAt, IsUnread}
 use Rattle.session_log.specs.Loadings.{first_refusal, verdicts_after, taken_in, after_all, AreTakenIn, new_state, IsRefusedAt, IsUnloaded}
-use Rattle.session_log.proofs.Frames.{good_not_err, log_no_fault, one_log}
+use Rattle.session_log.proofs.Frames.{formed_back, good_not_err, continues, log_no_fault, one_log}
+use Rattle.session_log.proofs.TakingIn.{taken_one}
 
 -- ---- faults
 
@@ -30,20 +29,16 @@ record IsSame (fs gs : List OpData) (r q : List ℕ) : Type 0 where
   pub ops : fs ≡ gs
   pub same_rest : r ≡ q
 
-stops_once : (fs gs : List OpData) (r q : List ℕ) (a b : Refused) → AllFormed fs → AllFormed gs → frames fs ++ r ≡ frames gs ++ q → judge r ≡ Err a → judge q ≡ Err b → IsSame fs gs r q
-stops_once [] [] r q a b all some e at_r at_q = record { ops = refl; same_rest = e }
-stops_once [] (g ∷ gs) r q a b all some e at_r at_q = absurd (good_not_err g (frames gs ++ q) a (some g (contains_here g gs)) (ap judge (sym (e ∙ append_assoc (frame g) (frames gs) q)) ∙ at_r))
-stops_once (f ∷ fs) [] r q a b all some e at_r at_q = absurd (good_not_err f (frames fs ++ r) b (all f (contains_here f fs)) (ap judge (sym (append_assoc (frame f) (frames fs) r) ∙ e) ∙ at_q))
-stops_once (f ∷ fs) (g ∷ gs) r q a b all some e at_r at_q =
-    let whole : frame f ++ (frames fs ++ r) ≡ frame g ++ (frames gs ++ q) = sym (append_assoc (frame f) (frames fs) r) ∙ e ∙ append_assoc (frame g) (frames gs) q in
-    let same : f ≡ g = frame_once f g (frames fs ++ r) (frames gs ++ q) (all f (contains_here f fs)) (some g (contains_here g gs)) whole in
-    let later : frames fs ++ r ≡ frames gs ++ q = append_cancel_left (frame g) (frames fs ++ r) (frames gs ++ q) (ap (λ (x : OpData). frame x ++ (frames fs ++ r)) (sym same) ∙ whole) in
-    let rest = stops_once fs gs r q a b (λ x c. all x (contains_later f fs x c)) (λ x c. some x (contains_later g gs x c)) later at_r at_q in
-    record { ops = ap (λ (x : OpData). x ∷ fs) same ∙ ap (λ (xs : List OpData). g ∷ xs) rest.ops; same_rest = rest.same_rest }
-
 stops : (bytes : List ℕ) (fs gs : List OpData) (r q : List ℕ) (a b : Refused) → BeginsWith bytes fs r → BeginsWith bytes gs q → judge r ≡ Err a → judge q ≡ Err b → IsSame fs gs r q
 stops bytes fs gs r q a b u v at_r at_q =
-    stops_once fs gs r q a b u.formed v.formed (append_cancel_left header (frames fs ++ r) (frames gs ++ q) (sym u.parts ∙ v.parts)) at_r at_q
+    let c = continues bytes fs gs r q b u v at_q in
+    from c.others c.parts c.left_is
+  where
+    from : (others : List OpData) → gs ≡ fs ++ others → r ≡ frames others ++ q → IsSame fs gs r q
+    from [] parts left = record { ops = sym (parts ∙ append-nil fs); same_rest = left }
+    from (o ∷ os) parts left =
+        let formed = formed_back fs (o ∷ os) (subst AllFormed parts v.formed) in
+        absurd (good_not_err o (frames os ++ q) a (formed o (contains_here o os)) (ap judge (sym (append_assoc (frame o) (frames os) q) ∙ sym left) ∙ at_r))
 
 -- of one rest one answer is given
 judged_same : (r q : List ℕ) (a b : Refused) → r ≡ q → judge r ≡ Err a → judge q ≡ Err b → a ≡ b
@@ -102,21 +97,32 @@ record IsSameStop (fs gs : List OpData) (f g : OpData) : Type 0 where
 abbrev refusal_at : State → OpData → Option Release
 refusal_at s o = first_refusal (verdicts_after s o)
 
+-- the operation that is refused comes after those that were taken in
+pub record ComesLater (fs before others : List OpData) (o : OpData) (after : List OpData) : Type 0 where
+  pub between : List OpData
+  pub parts : before ≡ fs ++ between
+  pub others_are : others ≡ between ++ o ∷ after
+
+pub comes_later : (s : State) (fs before others : List OpData) (o : OpData) (after : List OpData) (r : Release) → AreTakenIn s fs → fs ++ others ≡ before ++ o ∷ after → first_refusal (verdicts_after (after_all s before) o) ≡ Some r → ComesLater fs before others o after
+comes_later s [] before others o after r all is first = record { between = before; parts = refl; others_are = is }
+comes_later s (f ∷ fs) [] others o after r all is first = let same : f ≡ o = cc in absurd (none-some r (sym all.0 ∙ (ap (λ (x : OpData). first_refusal (verdicts_after s x)) same ∙ first)))
+comes_later s (f ∷ fs) (b ∷ before) others o after r all is first =
+    let same : f ≡ b = cc in
+    let rest : fs ++ others ≡ before ++ o ∷ after = cc in
+    let first_f = subst (λ (x : OpData). first_refusal (verdicts_after (after_all (taken_in s x) before) o) ≡ Some r) (sym same) first in
+    let l = comes_later (taken_in s f) fs before others o after r all.1 rest first_f in
+    record { between = l.between; parts = ap (λ (x : OpData). x ∷ before) (sym same) ∙ ap (λ (xs : List OpData). f ∷ xs) l.parts; others_are = l.others_are }
+
 refused_once : (s : State) (fs gs : List OpData) (f g : OpData) (xs ys : List OpData) (a b : Release) → fs ++ f ∷ xs ≡ gs ++ g ∷ ys → AreTakenIn s fs → refusal_at (after_all s fs) f ≡ Some a → AreTakenIn s gs → refusal_at (after_all s gs) g ≡ Some b → IsSameStop fs gs f g
-refused_once s [] [] f g xs ys a b e tf rf tg rg = let same : f ≡ g = cc in record { ops = refl; op = same }
-refused_once s [] (h ∷ gs) f g xs ys a b e tf rf tg rg =
-    let same : f ≡ h = cc in
-    absurd (none-some a (sym tg.0 ∙ (ap (refusal_at s) (sym same) ∙ rf)))
-refused_once s (h ∷ fs) [] f g xs ys a b e tf rf tg rg =
-    let same : h ≡ g = cc in
-    absurd (none-some b (sym tf.0 ∙ (ap (refusal_at s) same ∙ rg)))
-refused_once s (h ∷ fs) (k ∷ gs) f g xs ys a b e tf rf tg rg =
-    let same : h ≡ k = cc in
-    let later : fs ++ f ∷ xs ≡ gs ++ g ∷ ys = cc in
-    let tg_h : AreTakenIn (taken_in s h) gs = subst (λ (x : OpData). AreTakenIn (taken_in s x) gs) (sym same) tg.1 in
-    let rg_h : refusal_at (after_all (taken_in s h) gs) g ≡ Some b = subst (λ (x : OpData). refusal_at (after_all (taken_in s x) gs) g ≡ Some b) (sym same) rg in
-    let rest = refused_once (taken_in s h) fs gs f g xs ys a b later tf.1 rf tg_h rg_h in
-    record { ops = ap (λ (x : OpData). x ∷ fs) same ∙ ap (λ (zs : List OpData). k ∷ zs) rest.ops; op = rest.op }
+refused_once s fs gs f g xs ys a b e tf rf tg rg =
+    let l = comes_later s fs gs (f ∷ xs) g ys b tf e rg in
+    from l.between l.parts l.others_are
+  where
+    from : (between : List OpData) → gs ≡ fs ++ between → f ∷ xs ≡ between ++ g ∷ ys → IsSameStop fs gs f g
+    from [] parts are = let same : f ≡ g = cc in record { ops = sym (parts ∙ append-nil fs); op = same }
+    from (h ∷ bs) parts are =
+        let same : f ≡ h = cc in
+        absurd (none-some a (sym (taken_one s fs h bs (subst (AreTakenIn s) parts tg)) ∙ (ap (refusal_at (after_all s fs)) (sym same) ∙ rf)))
 
 -- which operation was refused, by its offset and release
 abbrev RefusedAs : ℕ → List ℕ → LogBad → Type 0

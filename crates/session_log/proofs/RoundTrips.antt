@@ -1,17 +1,18 @@
--- The log of a settled site is loaded fs the same history and the same waiting operations.
+-- The log of a settled site is loaded as the same history and the same waiting operations.
 use Rattle.std.proofs.Common.{◌≡◌, ◌≢◌, ℕ, false, ◌⊎◌, inl, inr, List, [], ◌∷◌, ◌++◌, refl, ap, sym, subst, ◌∙◌, append-nil, map}
 use Rattle.std.specs.Prelude.{Option, Some, None, Contains}
 use Rattle.std.specs.List.{list_any}
 use Rattle.std.specs.Option.{is_none}
 use Rattle.std.proofs.lemmas.Bool.{true≢false, cond-false, false_from_ne_true, or_left, or_right}
 use Rattle.std.proofs.lemmas.Grind.{flat_map-append}
+use Rattle.std.proofs.lemmas.List.Elements.{Contains-append_left, Contains-append_right}
 use Rattle.op_name.specs.declared.member.Member.{Member}
 use Rattle.op_name.specs.declared.member.Member.TheVariants.{Original}
 use Rattle.op_name.specs.NameData.{NameData}
-use Rattle.context_diff.specs.Operations.{OpData, member_of, context_of, IsWellFormed}
+use Rattle.context_diff.specs.Operations.{OpData, member_of, context_of}
 use Rattle.context_diff.specs.Histories.{is_known, IsNext, IsValid}
 use Rattle.context_diff.specs.Ops.{op_eq}
-use Rattle.context_diff.proofs.CallerLemmas.{by_pushes, complete, contains_cases, contains_here, contains_later, contains_none, known_member, shifted}
+use Rattle.context_diff.proofs.CallerLemmas.{by_pushes, complete, contains_cases, contains_here, contains_none, known_member, shifted}
 use Rattle.causal_gate.specs.Waiting.{AllDifferFrom, AreApart}
 use Rattle.causal_gate.proofs.CallerLemmas.{named_once}
 use Rattle.wire_codec.specs.Spelling.{frame}
@@ -24,6 +25,7 @@ use Rattle.cot_site.specs.Releases.{IsSound, all_releases, settled, release_of}
 use Rattle.cot_site.proofs.CallerLemmas.{formed_context, unknown_no_repeat, next_integrated, verdict_only, first_lacked_is, same_any, settled_none, settled_has_none, settled_stays}
 use Rattle.session_log.specs.Logs.{header, frames, log_of, IsLogOf}
 use Rattle.session_log.specs.Loadings.{is_refusal, first_refusal, verdicts_after, after_all, AreTakenIn, new_state, IsLoaded}
+use Rattle.session_log.proofs.Frames.{formed_append}
 use Rattle.session_log.proofs.TakingIn.{after-append, taken-append}
 
 -- these operations are taken in, and lead from the one state to the other
@@ -75,16 +77,7 @@ differs_in x (z ∷ zs) y all c =
     ]
 
 in_back : (fs : List OpData) (o : OpData) (bs : List OpData) → Contains (fs ++ o ∷ bs) o
-in_back [] o bs = contains_here o bs
-in_back (a ∷ fs) o bs = contains_later a (fs ++ o ∷ bs) o (in_back fs o bs)
-
-in_front : (fs bs : List OpData) (o : OpData) → Contains fs o → Contains (fs ++ bs) o
-in_front [] bs o c = absurd (contains_none o c)
-in_front (a ∷ fs) bs o c =
-    elim (contains_cases a fs o c) [
-      | inl same ↦ subst (λ (x : OpData). Contains (a ∷ (fs ++ bs)) x) same (contains_here a (fs ++ bs))
-      | inr later ↦ contains_later a (fs ++ bs) o (in_front fs bs o later)
-    ]
+in_back fs o bs = Contains-append_right fs (o ∷ bs) o (contains_here o bs)
 
 apart_new : (fs : List OpData) (o : OpData) (bs : List OpData) → AreApart (fs ++ o ∷ bs) → ¬ Contains fs o
 apart_new [] o bs apart c = contains_none o c
@@ -131,7 +124,7 @@ waits_next h fs o bs valid w =
   where
     no_other : is_known h (member_of o) ≡ false → (n : NameData) → member_of o ≡ Original n → HasOther h o n ⊎ HasOther fs o n → ⊥
     no_other unknown n name (inl other) = true≢false (sym (known_member h other.other other.there) ∙ (ap (is_known h) (other.same_name ∙ sym name) ∙ unknown))
-    no_other unknown n name (inr other) = other.differs (named_once (fs ++ o ∷ bs) w.apart other.other o n (in_front fs (o ∷ bs) other.other other.there) (in_back fs o bs) other.same_name name)
+    no_other unknown n name (inr other) = other.differs (named_once (fs ++ o ∷ bs) w.apart other.other o n (Contains-append_left fs (o ∷ bs) other.other other.there) (in_back fs o bs) other.same_name name)
 
 abbrev with_waiting : ℕ → List OpData → List OpData → State
 with_waiting k h w = record { number = k; history = h; waiting = w }
@@ -147,7 +140,7 @@ waiting_led k h fs (o ∷ bs) valid w =
     let now : held fs o ≡ fs ++ o ∷ [] = cond-false _ _ _ new in
     let same = shifted fs o bs in
     let more : CanWait h ((fs ++ o ∷ []) ++ bs) = subst (CanWait h) (sym same) w in
-    let settles = waiting_settles k h (fs ++ o ∷ []) (λ x c. more.unready x (in_front (fs ++ o ∷ []) bs x c)) in
+    let settles = waiting_settles k h (fs ++ o ∷ []) (λ x c. more.unready x (Contains-append_left (fs ++ o ∷ []) bs x c)) in
     let one = leads_one (with_waiting k h fs) (with_waiting k h (fs ++ o ∷ [])) o (Waits v.0) v.1 refl (ap (with_waiting k h) now) settles in
     let rest = waiting_led k h (fs ++ o ∷ []) bs valid more in
     let all = leads_on (with_waiting k h fs) (with_waiting k h (fs ++ o ∷ [])) (with_waiting k h ((fs ++ o ∷ []) ++ bs)) (o ∷ []) bs one rest in
@@ -155,18 +148,9 @@ waiting_led k h fs (o ∷ bs) valid w =
 
 -- ---- both
 
-formed_both : (h w : List OpData) → AllFormed h → AllFormed w → AllFormed (h ++ w)
-formed_both [] w fh fw = fw
-formed_both (o ∷ os) w fh fw =
-    λ x c.
-    elim (contains_cases o (os ++ w) x c) [
-      | inl same ↦ subst IsWellFormed same (fh o (contains_here o os))
-      | inr later ↦ formed_both os w (λ y d. fh y (contains_later o os y d)) fw x later
-    ]
-
 pub written_log : (h w : List OpData) → AllFormed h → AllFormed w → IsLogOf (log_of h w) (h ++ w)
 written_log h w fh fw = record {
-  formed = formed_both h w fh fw;
+  formed = formed_append h w fh fw;
   parts = ap (λ (t : List ℕ). header ++ t) (sym (append-nil (frames (h ++ w)) ∙ flat_map-append frame h w));
 }
 

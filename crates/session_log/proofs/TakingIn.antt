@@ -1,16 +1,16 @@
 -- Taking in the operations of a log, one after the other.
 use Rattle.std.proofs.Common.{◌≡◌, ◌≢◌, List, [], ◌∷◌, ◌++◌, refl, ap, sym, subst, ◌∙◌, append_assoc}
-use Rattle.std.specs.Prelude.{ℕ, None}
+use Rattle.std.specs.Prelude.{ℕ, Some, None}
 use Rattle.std.proofs.lemmas.Option.{none-some}
 use Rattle.context_diff.specs.Operations.{OpData}
 use Rattle.cot_site.specs.States.{State}
+use Rattle.cot_site.specs.declared.release.Release.{Release}
 use Rattle.session_log.specs.declared.log_bad.LogBad.{LogBad}
 use Rattle.session_log.specs.declared.log_bad.LogBad.TheVariants as bad
-use Rattle.session_log.specs.Logs.{IsLogOf}
-use Rattle.session_log.specs.Loadings.{first_refusal, verdicts_after, taken_in, after_all, AreTakenIn, new_state, IsLoaded, IsUnloaded}
+use Rattle.session_log.specs.Logs.{BeginsWith, offset_after, IsLogOf}
+use Rattle.session_log.specs.Loadings.{first_refusal, verdicts_after, taken_in, IsRefusal, after_all, AreTakenIn, new_state, IsLoaded, IsRefusedAt, IsUnloaded}
 use Rattle.session_log.specs.Code.Passing.{LeftData, PassesOver, HasNoStep}
-use Rattle.session_log.specs.Code.Taking.{IsRefusal}
-use Rattle.session_log.proofs.Frames.{IsPassed, passed_more, passed_end, unread, front, one_log, log_no_fault}
+use Rattle.session_log.proofs.Frames.{IsPassed, passed_more, passed_end, unread, log_continues, one_log, log_no_fault}
 
 pub after-append : (s : State) (fs bs : List OpData) → after_all s (fs ++ bs) ≡ after_all (after_all s fs) bs
 after-append s [] bs = refl
@@ -24,6 +24,36 @@ pub taken_one : (s : State) (fs : List OpData) (o : OpData) (bs : List OpData) �
 taken_one s [] o bs all = all.0
 taken_one s (a ∷ fs) o bs all = taken_one (taken_in s a) fs o bs all.1
 
+pub taken_back : (s : State) (fs bs : List OpData) → AreTakenIn s (fs ++ bs) → AreTakenIn (after_all s fs) bs
+taken_back s [] bs all = all
+taken_back s (a ∷ fs) bs all = taken_back (taken_in s a) fs bs all.1
+
+-- one more is taken in
+pub taken_more : (site : ℕ) (ops : List OpData) (o : OpData) (s t : State) → AreTakenIn (new_state site) ops → s ≡ after_all (new_state site) ops → first_refusal (verdicts_after s o) ≡ None → t ≡ taken_in s o
+    → AreTakenIn (new_state site) (ops ++ o ∷ []) × (t ≡ after_all (new_state site) (ops ++ o ∷ []))
+taken_more site ops o s t taken state none is =
+    let none_at : first_refusal (verdicts_after (after_all (new_state site) ops) o) ≡ None = ap (λ (x : State). first_refusal (verdicts_after x o)) (sym state) ∙ none in (
+      taken-append (new_state site) ops (o ∷ []) taken (none_at, tt),
+      is ∙ ap (λ (x : State). taken_in x o) state ∙ sym (after-append (new_state site) ops (o ∷ [])),
+    )
+
+-- the operation after these is refused
+pub refused_at : (site : ℕ) (bytes next : List ℕ) (ops : List OpData) (o : OpData) (log : List OpData) (s : State) (offset : ℕ) (r : Release)
+    → BeginsWith bytes (ops ++ o ∷ []) next → IsLogOf bytes log → AreTakenIn (new_state site) ops → s ≡ after_all (new_state site) ops → offset ≡ offset_after ops → first_refusal (verdicts_after s o) ≡ Some r
+    → IsRefusedAt site bytes offset r
+refused_at site bytes next ops o log s offset r begins is_log taken state place first =
+    let f = log_continues bytes (ops ++ o ∷ []) log next begins is_log in
+    let parts : log ≡ ops ++ o ∷ f.others = f.parts ∙ append_assoc ops (o ∷ []) f.others in
+    record {
+      before = ops;
+      op = o;
+      behind = f.others;
+      log = subst (IsLogOf bytes) parts is_log;
+      place = place;
+      taken = taken;
+      first = ap (λ (x : State). first_refusal (verdicts_after x o)) (sym state) ∙ first;
+    }
+
 -- ---- on the way
 
 -- these operations were passed over and taken in
@@ -35,12 +65,12 @@ pub record IsLoading (site : ℕ) (bytes : List ℕ) (left : LeftData) (s : Stat
 
 pub loading_more : (site : ℕ) (bytes : List ℕ) (left next : LeftData) (s t : State) (o : OpData) → IsLoading site bytes left s → PassesOver left o next → first_refusal (verdicts_after s o) ≡ None → t ≡ taken_in s o → IsLoading site bytes next t
 loading_more site bytes left next s t o w step none is =
-    let none_at : first_refusal (verdicts_after (after_all (new_state site) w.ops) o) ≡ None = ap (λ (x : State). first_refusal (verdicts_after x o)) (sym w.state) ∙ none in
+    let more = taken_more site w.ops o s t w.taken w.state none is in
     record {
       ops = w.ops ++ o ∷ [];
       passed = passed_more bytes w.ops o left next w.passed step;
-      taken = taken-append (new_state site) w.ops (o ∷ []) w.taken (none_at, tt);
-      state = is ∙ ap (λ (x : State). taken_in x o) w.state ∙ sym (after-append (new_state site) w.ops (o ∷ []));
+      taken = more.0;
+      state = more.1;
     }
 
 pub loading_end : (site : ℕ) (bytes : List ℕ) (left : LeftData) (s : State) → IsLoading site bytes left s → left.bytes ≡ [] → IsLoaded site bytes s
@@ -65,18 +95,8 @@ loading_refused site bytes left next s o bad.Header log w step refusal = absurd 
 loading_refused site bytes left next s o (bad.Cut offset) log w step refusal = absurd refusal
 loading_refused site bytes left next s o (bad.Bad offset cause) log w step refusal = absurd refusal
 loading_refused site bytes left next s o (bad.Refused offset member verdict) log w step (place, first) =
-    let more = passed_more bytes w.ops o left next w.passed step in
-    let f = front bytes log.0 (w.ops ++ o ∷ []) next.bytes log.1 more.begins in
-    let parts : log.0 ≡ w.ops ++ o ∷ f.others = f.parts ∙ append_assoc w.ops (o ∷ []) f.others in
-    record {
-      before = w.ops;
-      op = o;
-      behind = f.others;
-      log = subst (IsLogOf bytes) parts log.1;
-      place = place ∙ w.passed.place;
-      taken = w.taken;
-      first = ap (λ (x : State). first_refusal (verdicts_after x o)) (sym w.state) ∙ first;
-    }
+    refused_at site bytes next.bytes w.ops o log.0 s offset (record { member = member; verdict = verdict })
+    (passed_more bytes w.ops o left next w.passed step).begins log.1 w.taken w.state (place ∙ w.passed.place) first
 loading_refused site bytes left next s o bad.Memory log w step refusal = log
 
 -- ---- one loading

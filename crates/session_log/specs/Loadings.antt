@@ -1,12 +1,12 @@
 -- Loading a log: its operations are delivered one after the other, each with the releases after it.
-use Rattle.std.specs.Prelude.{◌≡◌, ℕ, Bool, true, false, List, [], ◌∷◌, ◌++◌, Option, Some, None, map}
+use Rattle.std.specs.Prelude.{◌≡◌, ◌≢◌, ◌⊎◌, ℕ, Bool, true, false, List, [], ◌∷◌, ◌++◌, Option, Some, None, map}
 use Rattle.std.specs.List.{find}
 use Rattle.context_diff.specs.Operations.{OpData, member_of}
 use Rattle.cot_site.specs.declared.release.Release.{Release}
 use Rattle.cot_site.specs.declared.verdict.Verdict.{Verdict}
 use Rattle.cot_site.specs.declared.verdict.Verdict.TheVariants.{Repeat, Forged, Waits, NotClosed, PlaceOut, Integrated}
 use Rattle.cot_site.specs.States.{State, judged, delivered}
-use Rattle.cot_site.specs.Releases.{all_releases, settled, release_of}
+use Rattle.cot_site.specs.Releases.{all_releases, settled, release_of, IsPartlySettled}
 use Rattle.session_log.specs.declared.log_bad.LogBad.{LogBad}
 use Rattle.session_log.specs.declared.log_bad.LogBad.TheVariants as bad
 use Rattle.session_log.specs.Logs.{offset_after, IsLogOf}
@@ -32,6 +32,21 @@ first_refusal rs = find (λ r. is_refusal r.verdict) rs
 -- the state after the operation was delivered, and all were released that are ready
 abbrev pub taken_in : State → OpData → State
 taken_in s o = settled (delivered s o)
+
+-- why an operation whose frame begins at this offset was not taken in: the first refusal among these verdicts, or out of memory
+abbrev pub IsRefusal : ℕ → List Release → LogBad → Type 0
+IsRefusal at rs bad.Header = ⊥
+IsRefusal at rs (bad.Cut offset) = ⊥
+IsRefusal at rs (bad.Bad offset cause) = ⊥
+IsRefusal at rs (bad.Refused offset member verdict) = (offset ≡ at) × (first_refusal rs ≡ Some (record { member = member; verdict = verdict }))
+IsRefusal at rs bad.Memory = Unit {0}
+
+-- the state where memory ran out: the old one, as the operation, which would change it, was not delivered; or the one after
+-- the delivery, which refuses nothing, and after the first releases, while an operation is ready yet
+abbrev pub IsCutShort : State → OpData → State → Type 0
+IsCutShort s o t =
+    ((t ≡ s) × (delivered s o ≢ s))
+    ⊎ ((is_refusal (judged s o) ≡ false) × ((listed : List Release) × IsPartlySettled (delivered s o) t [] listed))
 
 -- the state after these operations were taken in, one after the other
 abbrev pub after_all : State → List OpData → State

@@ -1,13 +1,13 @@
 //! Loading logs.
 
-ghost use Rattle.std.specs.Prelude.{◌≡◌, ◌<◌, ◌≤◌, List, Some, None, OnOk, IfOk, IfErr, length};
+ghost use Rattle.std.specs.Prelude.{◌≡◌, ◌≢◌, ◌<◌, ◌≤◌, true, false, List, Some, None, Err, OnOk, IfOk, IfErr, length};
 ghost use Rattle.context_diff.specs.Operations.{OpData, IsWellFormed};
 ghost use Rattle.context_diff.specs.Ops.{data_of};
 ghost use Rattle.cot_site.specs.Sites.{state_of};
+ghost use Rattle.cot_site.specs.States.{judged};
 ghost use Rattle.cot_site.specs.declared.release.Release.{Release};
 ghost use Rattle.session_log.specs.Logs.{IsLogOf};
-ghost use Rattle.session_log.specs.Loadings.{is_refusal, first_refusal, verdicts_after, taken_in, new_state, IsLoaded, IsUnloaded};
-ghost use Rattle.session_log.specs.Code.Taking.{IsRefusal};
+ghost use Rattle.session_log.specs.Loadings.{is_refusal, first_refusal, verdicts_after, taken_in, IsRefusal, IsCutShort, new_state, IsLoaded, IsUnloaded};
 
 use crate::left::Left;
 use crate::log_bad::LogBad;
@@ -56,7 +56,9 @@ fn deliver_all(alloc: Global, site: &mut Site, bytes: &[u8]) -> Result<(), LogBa
 /// after it. The list is only room for the releases; what it holds is lost.
 ///
 /// Refused by Refused, with this offset and the first verdict of the delivery and the releases that is Forged, NotClosed or
-/// PlaceOut; or by Memory, after which the operation may already be delivered.
+/// PlaceOut; or by Memory. Where the operation itself is refused, the site stays as it was. Where a release after it is, the
+/// operation is taken in all the same. Out of memory, either nothing is done, or the operation is delivered and the first of
+/// the releases are done.
 pub fn take_in(
     site: &mut Site,
     offset: u32,
@@ -67,6 +69,12 @@ pub fn take_in(
     ensures taken { OnOk result (first_refusal (verdicts_after (state_of site.old) (data_of op)) ≡ None) }
     ensures state { OnOk result (state_of site.new ≡ taken_in (state_of site.old) (data_of op)) }
     ensures refused { IfErr result (IsRefusal offset (verdicts_after (state_of site.old) (data_of op))) }
+
+    // What the site is after a refusal: of the operation itself, of a release after it, and out of memory.
+    ensures stays { is_refusal (judged (state_of site.old) (data_of op)) ≡ true → state_of site.new ≡ state_of site.old }
+    ensures released { IfErr result (λ why. why ≢ LogBad.Memory → is_refusal (judged (state_of site.old) (data_of op)) ≡ false
+        → state_of site.new ≡ taken_in (state_of site.old) (data_of op)) }
+    ensures memory { result ≡ Err LogBad.Memory → IsCutShort (state_of site.old) (data_of op) (state_of site.new) }
 {
     let op = with_shared_names(site, op);
     match site.deliver(&op) {

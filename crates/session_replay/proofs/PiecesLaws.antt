@@ -20,7 +20,7 @@ use Rattle.script_text.specs.declared.reading.stream.TheConstants.{MAX_SCRIPT}
 use Rattle.script_text.specs.Answers.{Answers, line_in}
 use Rattle.script_text.specs.Streams.{seen, line_of, lines_in, looked_at}
 use Rattle.script_text.specs.Code.Keeping.{HasNoFeed, size_of}
-use Rattle.script_text.proofs.Joins.{take_past, lines_in_feed, size-lines_in}
+use Rattle.script_text.proofs.CallerLemmas.{take_past, lines_in_feed, size-lines_in}
 use Rattle.session_replay.specs.Answers.{unread_by}
 use Rattle.session_replay.specs.Scripts.{Piece, Whole, Past, lines_of, cut_off, pieces_of, line_read}
 use Rattle.session_replay.specs.Readers.{pieces_after}

@@ -15,7 +15,7 @@ use Rattle.script_text.specs.LeftLines.{LeftLine, InputData}
 use Rattle.script_text.specs.Streams.{seen, line_of, open_line, all_but_last_ended, lines_in, followed_by, looked_at, fed_with, IsPastLimit, HasNoLine, IsNext, Reads, TakesLine}
 use Rattle.script_text.specs.Code.Keeping.{HasNoFeed}
 use Rattle.script_text.specs.Report.{refused_text}
-use Rattle.script_text.proofs.Joins.{lines_in_part}
+use Rattle.script_text.proofs.CallerLemmas.{lines_in_part}
 use Rattle.session_replay.specs.declared.script.Next.{Next}
 use Rattle.session_replay.specs.declared.script.Next.TheVariants.{Done, Awaited, Refused}
 use Rattle.session_replay.specs.Answers.{unread_by}

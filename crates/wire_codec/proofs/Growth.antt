@@ -10,7 +10,7 @@ use Rattle.wire_codec.specs.declared.fault.Refused.{Refused}
 use Rattle.wire_codec.specs.declared.fault.Refused.TheVariants.{More, Bad}
 use Rattle.wire_codec.specs.Reading.{left_at, fault}
 use Rattle.wire_codec.specs.Judging.{longest, length_of, body_at, judged, judge}
-use Rattle.wire_codec.proofs.Judgement.{cond_err}
+use Rattle.wire_codec.proofs.Steps.{cond_err}
 
 pub bad_stays : (bytes more : List ℕ) (f : Fault) → judge bytes ≡ Err (Bad f) → judge (bytes ++ more) ≡ Err (Bad f)
 unfolding judge

@@ -1,6 +1,6 @@
 -- The judgement is the frames: what is judged good begins with a frame of a well-formed operation, and each such frame
 -- is judged so.
-use Rattle.std.proofs.Common.{◌≡◌, ℕ, ◌+◌, ◌<◌, ◌≤◌, ltb, eqb, Bool, true, false, cond, List, [], ◌++◌, length, take, drop, Result, Ok, Err, refl, sym, ap, subst, ◌∙◌, append_assoc, arith, inl, inr, ◌⊎◌}
+use Rattle.std.proofs.Common.{◌≡◌, ℕ, ◌+◌, ◌<◌, ◌≤◌, ltb, eqb, false, cond, List, [], ◌++◌, length, take, drop, Result, Ok, Err, refl, sym, ap, subst, ◌∙◌, append_assoc, arith, inl, inr}
 use Rattle.std.specs.Int.{w32, to_be_bytes}
 use Rattle.std.proofs.lemmas.Bool.{ltb-true, ltb-false, le-ltb, eqb-true, cond-false}
 use Rattle.std.proofs.lemmas.List.{append-nil, nil_from_length, length-append, length-take, length-drop, take-append-drop, take_at, drop_at, append_cancel_left}
@@ -13,7 +13,7 @@ use Rattle.wire_codec.specs.declared.fault.Refused.TheVariants.{More, Bad}
 use Rattle.wire_codec.specs.Spelling.{body_bytes, frame}
 use Rattle.wire_codec.specs.Reading.{LeftData, left_at, fault, op_at}
 use Rattle.wire_codec.specs.Judging.{longest, own_at, is_own, has_target, stray_from, entries_begin, body_at, length_of, judged, judge, IsFrame}
-use Rattle.wire_codec.proofs.Steps.{IsBytes, IsBytes-take, IsBytes-drop, bind_ok, bind_err, want_ok, want_err}
+use Rattle.wire_codec.proofs.Steps.{IsBytes, IsBytes-take, IsBytes-drop, bind_ok, bind_err, want_ok, want_err, cond_ok, cond_err}
 use Rattle.wire_codec.proofs.TwoWays.{Takes-ends}
 use Rattle.wire_codec.proofs.Contexts.{context_in_range, op_reads}
 use Rattle.wire_codec.proofs.WellFormed.{own_from, own_to, target_from, target_to, stray_keeps, has_no_stray, stray_ok, stray_again, stray_faults}
@@ -85,14 +85,6 @@ body_faults l f fits start e =
     ]
 
 -- ---- whole inputs
-
-pub cond_ok : {A : Type 0} (b : Bool) (r : Refused) (x : Result A Refused) (y : A) → cond b (Err r) x ≡ Ok y → (b ≡ false) × (x ≡ Ok y)
-cond_ok true r x y e = absurd (let no = e in cc)
-cond_ok false r x y e = (refl, e)
-
-pub cond_err : {A : Type 0} (b : Bool) (r q : Refused) (x : Result A Refused) → cond b (Err r) x ≡ Err q → ((b ≡ true) × (r ≡ q)) ⊎ ((b ≡ false) × (x ≡ Err q))
-cond_err true r q x e = let same : r ≡ q = cc in inl (refl, same)
-cond_err false r q x e = inr (refl, e)
 
 judged_ok : (used n : ℕ) (r : Result OpData Fault) (o : OpData) → judged used r ≡ Ok (o, n) → (r ≡ Ok o) × (used ≡ n)
 judged_ok used n (Ok x) o e =

@@ -1,5 +1,5 @@
 -- What is asked for is needed: a state that the bytes begin with, once they go on, has at least as many bytes.
-use Rattle.std.proofs.Common.{◌≡◌, ℕ, ◌+◌, ◌*◌, ◌<◌, ◌≤◌, ◌^◌, ltb, Bool, true, false, cond, List, ◌++◌, length, take, drop, None, Result, Ok, Err, refl, sym, ap, ◌∙◌, arith, inl, inr, ◌⊎◌}
+use Rattle.std.proofs.Common.{◌≡◌, ℕ, ◌+◌, ◌*◌, ◌<◌, ◌≤◌, ◌^◌, ltb, cond, List, ◌++◌, length, take, drop, Ok, Err, sym, ap, ◌∙◌, arith, inl, inr, ◌⊎◌}
 use Rattle.std.specs.Int.{w8, w32, from_be_bytes}
 use Rattle.std.proofs.lemmas.Bool.{ltb-true, ltb-false}
 use Rattle.std.proofs.lemmas.List.{length-append, length-drop, take-append-le, drop-append-le}
@@ -7,58 +7,39 @@ use Rattle.op_name.specs.NameData.{NameData}
 use Rattle.op_name.specs.declared.name.TheConstants.{SITES}
 use Rattle.context_vector.specs.Contexts.{ContextData}
 use Rattle.wire_codec.specs.declared.cause.Cause.TheVariants.{Range}
-use Rattle.wire_codec.specs.declared.fault.Fault.{Fault}
-use Rattle.wire_codec.specs.declared.fault.Unread.{Unread}
 use Rattle.wire_codec.specs.declared.fault.Unread.TheVariants.{More, Bad}
 use Rattle.wire_codec.specs.Spelling.{counts_bytes}
-use Rattle.wire_codec.specs.Reading.{Found, left_at, fault, many, count_at, site_after, entry_at, name_of}
+use Rattle.wire_codec.specs.Reading.{Found, fault}
 use Rattle.wire_codec.specs.Judging.{count_len, entry_len, length_of, stray_from}
-use Rattle.wire_codec.specs.States.{unless_stray, judge_entries, judge_named, judge_counted, sites_of, judge_state, named_bytes, state_bytes}
-use Rattle.wire_codec.proofs.Steps.{IsBytes, IsBytes-drop, IsBytes-take}
+use Rattle.wire_codec.specs.States.{judge_entries, judge_named, judge_counted, sites_of, judge_state, named_bytes, state_bytes}
+use Rattle.wire_codec.proofs.Steps.{IsBytes, IsBytes-drop, IsBytes-take, cond_ok, cond_err}
 use Rattle.wire_codec.proofs.Numbers.{wide32}
-
--- a test that refuses at once, or lets the rest go on
-went_on : {A E : Type 0} (b : Bool) (r : E) (x : Result A E) (y : A) → cond b (Err r) x ≡ Ok y → (b ≡ false) × (x ≡ Ok y)
-went_on true r x y e = absurd (let no = e in cc)
-went_on false r x y e = (refl, e)
-
-refused : {A E : Type 0} (b : Bool) (r q : E) (x : Result A E) → cond b (Err r) x ≡ Err q → ((b ≡ true) × (r ≡ q)) ⊎ ((b ≡ false) × (x ≡ Err q))
-refused true r q x e = let same : r ≡ q = cc in inl (refl, same)
-refused false r q x e = inr (refl, e)
+use Rattle.wire_codec.proofs.StateJudgement.{entries_read, stray_done, entries_done, entries_bad, counts_read, counted}
 
 asked : (n m : ℕ) → More n ≡ More m → n ≡ m
 asked n m e = cc
 
 -- ---- the undone names
 
-stray_stops : (c d : ContextData) (stop used : ℕ) (r : Result (Unit {0}) Fault) → unless_stray c stop r ≡ Ok (d, used) → used ≡ stop
-stray_stops c d stop used (Ok u) e =
-    let both : ◌≡◌ {A = ContextData × ℕ} (c, stop) (d, used) = cc in
-    sym (ap (λ (p : ContextData × ℕ). p.1) both)
-stray_stops c d stop used (Err f) e = absurd (let no = e in cc)
-
 entries_stop : (counts : List (ℕ × ℕ)) (begin stop : ℕ) (d : ContextData) (used : ℕ) (r : Found (List (NameData × ℕ))) → judge_entries counts begin stop r ≡ Ok (d, used) → used ≡ stop
-entries_stop counts begin stop d used (Ok e) is = stray_stops (record { counts = counts; entries = e.0 }) d stop used (stray_from (record { counts = counts; entries = e.0 }) begin e.0) is
-entries_stop counts begin stop d used (Err f) is = absurd (let no = is in cc)
-
-stray_asks : (c : ContextData) (stop m : ℕ) (r : Result (Unit {0}) Fault) → unless_stray c stop r ≡ Err (More m) → ⊥
-stray_asks c stop m (Ok u) e = cc
-stray_asks c stop m (Err f) e = cc
+entries_stop counts begin stop d used r is =
+    let read = entries_done counts begin stop d used r is in
+    let c : ContextData = record { counts = counts; entries = read.0.0 } in
+    sym (stray_done c d stop used (stray_from c begin read.0.0) read.2).2
 
 entries_ask : (counts : List (ℕ × ℕ)) (begin stop m : ℕ) (r : Found (List (NameData × ℕ))) → judge_entries counts begin stop r ≡ Err (More m) → ⊥
-entries_ask counts begin stop m (Ok e) is = stray_asks (record { counts = counts; entries = e.0 }) stop m (stray_from (record { counts = counts; entries = e.0 }) begin e.0) is
-entries_ask counts begin stop m (Err f) is = cc
-
-entries_read : List ℕ → ℕ → Found (List (NameData × ℕ))
-entries_read bytes at = many entry_at name_of (length_of bytes) None (left_at (at + 4) (take (entry_len * length_of bytes) (drop 4 bytes)))
+entries_ask counts begin stop m r is =
+    let bad = entries_bad counts begin stop (More m) r is in
+    let never : Bad bad.0 ≡ More m = bad.1 in
+    cc
 
 -- they end where their number says
 named_stops : (counts : List (ℕ × ℕ)) (at : ℕ) (bytes : List ℕ) (d : ContextData) (used : ℕ) → judge_named counts at bytes ≡ Ok (d, used) → used ≡ at + (4 + entry_len * length_of bytes)
 unfolding judge_named entries_read
 named_stops counts at bytes d used e =
     let stop = at + (4 + entry_len * length_of bytes) in
-    let four = went_on (ltb (length bytes) 4) (More (at + 4)) (cond (ltb (length bytes) (4 + entry_len * length_of bytes)) (Err (More stop)) (judge_entries counts (at + 4) stop (entries_read bytes at))) (d, used) e in
-    let there = went_on (ltb (length bytes) (4 + entry_len * length_of bytes)) (More stop) (judge_entries counts (at + 4) stop (entries_read bytes at)) (d, used) four.1 in
+    let four = cond_ok (ltb (length bytes) 4) (More (at + 4)) (cond (ltb (length bytes) (4 + entry_len * length_of bytes)) (Err (More stop)) (judge_entries counts (at + 4) stop (entries_read bytes at))) (d, used) e in
+    let there = cond_ok (ltb (length bytes) (4 + entry_len * length_of bytes)) (More stop) (judge_entries counts (at + 4) stop (entries_read bytes at)) (d, used) four.1 in
     entries_stop counts (at + 4) stop d used (entries_read bytes at) there.1
 
 -- more bytes are asked for up to their number, or, once that is there, up to their end
@@ -68,9 +49,9 @@ unfolding judge_named entries_read
 named_asks counts at bytes m e =
     let stop = at + (4 + entry_len * length_of bytes) in
     let last = judge_entries counts (at + 4) stop (entries_read bytes at) in
-    elim (refused (ltb (length bytes) 4) (More (at + 4)) (More m) (cond (ltb (length bytes) (4 + entry_len * length_of bytes)) (Err (More stop)) last) e) [
+    elim (cond_err (ltb (length bytes) 4) (More (at + 4)) (More m) (cond (ltb (length bytes) (4 + entry_len * length_of bytes)) (Err (More stop)) last) e) [
       | inl few ↦ inl (ltb-true _ _ few.0, sym (asked (at + 4) m few.1))
-      | inr four ↦ elim (refused (ltb (length bytes) (4 + entry_len * length_of bytes)) (More stop) (More m) last four.1) [
+      | inr four ↦ elim (cond_err (ltb (length bytes) (4 + entry_len * length_of bytes)) (More stop) (More m) last four.1) [
         | inl short ↦ inr (ltb-false _ _ four.0, ltb-true _ _ short.0, sym (asked stop m short.1))
         | inr there ↦ absurd (entries_ask counts (at + 4) stop m (entries_read bytes at) there.1)
       ]
@@ -78,14 +59,8 @@ named_asks counts at bytes m e =
 
 -- ---- the whole state
 
-counts_read : List ℕ → Found (List (ℕ × ℕ))
-counts_read bytes = many count_at site_after (sites_of bytes) 0 (left_at 1 (take (count_len * sites_of bytes) (drop 1 bytes)))
-
 after_counts : List ℕ → List ℕ
 after_counts bytes = drop (count_len * sites_of bytes) (drop 1 bytes)
-
-counted : List ℕ → Result (ContextData × ℕ) Unread
-counted bytes = judge_counted (1 + count_len * sites_of bytes) (after_counts bytes) (counts_read bytes)
 
 counted_stops : (at : ℕ) (rest : List ℕ) (d : ContextData) (used : ℕ) (r : Found (List (ℕ × ℕ))) → judge_counted at rest r ≡ Ok (d, used) → used ≡ at + (4 + entry_len * length_of rest)
 counted_stops at rest d used (Ok x) e = named_stops x.0 at rest d used e
@@ -100,9 +75,9 @@ state_stops : (bytes : List ℕ) (d : ContextData) (used : ℕ) → judge_state 
 unfolding judge_state counts_read counted after_counts
 state_stops bytes d used e =
     let n = sites_of bytes in
-    let some = went_on (ltb (length bytes) 1) (More 1) (cond (ltb SITES n) (Err (Bad (fault Range 0))) (cond (ltb (length bytes) (1 + count_len * n)) (Err (More (1 + count_len * n))) (counted bytes))) (d, used) e in
-    let few = went_on (ltb SITES n) (Bad (fault Range 0)) (cond (ltb (length bytes) (1 + count_len * n)) (Err (More (1 + count_len * n))) (counted bytes)) (d, used) some.1 in
-    let there = went_on (ltb (length bytes) (1 + count_len * n)) (More (1 + count_len * n)) (counted bytes) (d, used) few.1 in
+    let some = cond_ok (ltb (length bytes) 1) (More 1) (cond (ltb SITES n) (Err (Bad (fault Range 0))) (cond (ltb (length bytes) (1 + count_len * n)) (Err (More (1 + count_len * n))) (counted bytes))) (d, used) e in
+    let few = cond_ok (ltb SITES n) (Bad (fault Range 0)) (cond (ltb (length bytes) (1 + count_len * n)) (Err (More (1 + count_len * n))) (counted bytes)) (d, used) some.1 in
+    let there = cond_ok (ltb (length bytes) (1 + count_len * n)) (More (1 + count_len * n)) (counted bytes) (d, used) few.1 in
     counted_stops (1 + count_len * n) (after_counts bytes) d used (counts_read bytes) there.1
 
 -- what the whole bytes begin with has what their front asks for
@@ -113,14 +88,14 @@ state_needs bytes tail d used m e good =
     let n = sites_of bytes in
     let stop = state_stops all d used good in
     let at = 1 + count_len * n in
-    elim (refused (ltb (length bytes) 1) (More 1) (More m) (cond (ltb SITES n) (Err (Bad (fault Range 0))) (cond (ltb (length bytes) at) (Err (More at)) (counted bytes))) e) [
+    elim (cond_err (ltb (length bytes) 1) (More 1) (More m) (cond (ltb SITES n) (Err (Bad (fault Range 0))) (cond (ltb (length bytes) at) (Err (More at)) (counted bytes))) e) [
       | inl none ↦ let one = asked 1 m none.1 in omega (arith, one, stop)
       | inr some ↦
           let long = ltb-false _ _ some.0 in
           let same : sites_of all ≡ n = ap (λ (t : List ℕ). from_be_bytes w8 t) (take-append-le 1 bytes tail long) in
-          elim (refused (ltb SITES n) (Bad (fault Range 0)) (More m) (cond (ltb (length bytes) at) (Err (More at)) (counted bytes)) some.1) [
+          elim (cond_err (ltb SITES n) (Bad (fault Range 0)) (More m) (cond (ltb (length bytes) at) (Err (More at)) (counted bytes)) some.1) [
             | inl bad ↦ absurd (let no = bad.1 in cc)
-            | inr few ↦ elim (refused (ltb (length bytes) at) (More at) (More m) (counted bytes) few.1) [
+            | inr few ↦ elim (cond_err (ltb (length bytes) at) (More at) (More m) (counted bytes) few.1) [
               | inl short ↦ let is = asked at m short.1 in omega (arith, is, stop, same)
               | inr there ↦
                   let enough = ltb-false _ _ there.0 in
@@ -145,13 +120,13 @@ unfolding judge_state counts_read counted after_counts
 state_bound bytes m fits e =
     let n = sites_of bytes in
     let at = 1 + count_len * n in
-    elim (refused (ltb (length bytes) 1) (More 1) (More m) (cond (ltb SITES n) (Err (Bad (fault Range 0))) (cond (ltb (length bytes) at) (Err (More at)) (counted bytes))) e) [
+    elim (cond_err (ltb (length bytes) 1) (More 1) (More m) (cond (ltb SITES n) (Err (Bad (fault Range 0))) (cond (ltb (length bytes) at) (Err (More at)) (counted bytes))) e) [
       | inl none ↦ let one = asked 1 m none.1 in omega (arith, one)
-      | inr some ↦ elim (refused (ltb SITES n) (Bad (fault Range 0)) (More m) (cond (ltb (length bytes) at) (Err (More at)) (counted bytes)) some.1) [
+      | inr some ↦ elim (cond_err (ltb SITES n) (Bad (fault Range 0)) (More m) (cond (ltb (length bytes) at) (Err (More at)) (counted bytes)) some.1) [
         | inl bad ↦ absurd (let no = bad.1 in cc)
         | inr few ↦
             let sites = ltb-false _ _ few.0 in
-            elim (refused (ltb (length bytes) at) (More at) (More m) (counted bytes) few.1) [
+            elim (cond_err (ltb (length bytes) at) (More at) (More m) (counted bytes) few.1) [
               | inl short ↦ let is = asked at m short.1 in omega (arith, is, sites)
               | inr there ↦
                   let names : length_of (after_counts bytes) < 4294967296 = wide32.below (take 4 (after_counts bytes)) (IsBytes-take 4 (after_counts bytes) (IsBytes-drop (count_len * n) (drop 1 bytes) (IsBytes-drop 1 bytes fits))) in

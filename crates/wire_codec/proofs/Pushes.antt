@@ -60,6 +60,9 @@ site_is_site low (q ∷ ps) (suc i) d h e = site_is_site (q.0 + 1) ps i d h.4 (o
 take_more_at : {A : Type 0} (xs : List A) (i : ℕ) (x : A) → slice_get xs i ≡ Some x → take (i + 1) xs ≡ take i xs ++ x ∷ []
 take_more_at {A = A} xs i x e = take_more xs i x (slice_get_within xs i x e) ∙ ap (λ (y : A). take i xs ++ y ∷ []) (get_or_from_slice_get xs i x x e)
 
+pub pieces_more : {A : Type 0} (piece : A → List ℕ) (xs : List A) (i : ℕ) (x : A) → slice_get xs i ≡ Some x → flat_map piece (take (i + 1) xs) ≡ flat_map piece (take i xs) ++ piece x
+pieces_more piece xs i x e = ap (flat_map piece) (take_more_at xs i x e) ∙ (flat_map-append piece (take i xs) (x ∷ []) ∙ ap (λ (t : List ℕ). flat_map piece (take i xs) ++ t) (append-nil (piece x)))
+
 -- the pieces of the first i elements stand there, and there is room for the others
 pub record IsPutUpTo {A : Type 0} (piece : A → List ℕ) (size : ℕ) (xs : List A) (old : Vec ℕ) (i : ℕ) (new : Vec ℕ) : Type 0 where
   pub puts : Puts old new (flat_map piece (take i xs))
@@ -79,7 +82,7 @@ module _ {A : Type 0} (piece : A → List ℕ) (size : ℕ) (sized : (x : A) →
       let within = slice_get_within xs i x e in
       let k : length xs - i ≡ suc (length xs - (i + 1)) = omega (arith, within) in
       let split : size * (length xs - i) ≡ size * (length xs - (i + 1)) + size = ap (λ (n : ℕ). size * n) k ∙ mul-suc size (length xs - (i + 1)) in
-      let text : flat_map piece (take (i + 1) xs) ≡ flat_map piece (take i xs) ++ piece x = ap (flat_map piece) (take_more_at xs i x e) ∙ (flat_map-append piece (take i xs) (x ∷ []) ∙ ap (λ (t : List ℕ). flat_map piece (take i xs) ++ t) (append-nil (piece x))) in
+      let text = pieces_more piece xs i x e in
       let items : new.items ≡ old.items ++ (flat_map piece (take i xs) ++ piece x) = put.items ∙ (ap (λ (t : List ℕ). t ++ piece x) up.puts.items ∙ append_assoc old.items (flat_map piece (take i xs)) (piece x)) in
       let long = length-append (flat_map piece (take i xs)) (piece x) in
       let text_len = ap length text in
@@ -94,7 +97,7 @@ module _ {A : Type 0} (piece : A → List ℕ) (size : ℕ) (sized : (x : A) →
         room = omega (arith, before, split, len_2, cap_2, wide);
       }
 
--- four pieces, one behind the other
+-- four pieces, one after the other
 pub four_pieces : (a b c d e w x y z : List ℕ) → b ≡ a ++ w → c ≡ b ++ x → d ≡ c ++ y → e ≡ d ++ z → e ≡ a ++ (w ++ (x ++ (y ++ z)))
 four_pieces a b c d e w x y z p q r s =
     s ∙ (ap (λ (t : List ℕ). t ++ z) (r ∙ ap (λ (t : List ℕ). t ++ y) (q ∙ ap (λ (t : List ℕ). t ++ x) p)) ∙ simp append_assoc)

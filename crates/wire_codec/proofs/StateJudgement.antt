@@ -15,23 +15,13 @@ use Rattle.wire_codec.specs.Spelling.{count_bytes, entry_bytes, counts_bytes}
 use Rattle.wire_codec.specs.Reading.{LeftData, left_at, Found, fault, many, count_at, site_after, entry_at, name_of}
 use Rattle.wire_codec.specs.Judging.{count_len, entry_len, length_of, stray_from}
 use Rattle.wire_codec.specs.States.{named_bytes, state_bytes, IsState, unless_stray, judge_entries, judge_named, judge_counted, sites_of, judge_state, IsStateOf}
-use Rattle.wire_codec.proofs.Steps.{IsBytes, IsBytes-take, IsBytes-drop}
+use Rattle.wire_codec.proofs.Steps.{IsBytes, IsBytes-take, IsBytes-drop, cond_ok, cond_err}
 use Rattle.wire_codec.proofs.TwoWays.{Reads}
 use Rattle.wire_codec.proofs.Numbers.{wide8, wide32}
 use Rattle.wire_codec.proofs.Lists.{Follow, many_reads}
 use Rattle.wire_codec.proofs.Contexts.{IsCount, count_reads, IsEntry, entry_reads, counts_in_order, counts_to, counts_few, entries_in_order, entries_in_turn}
 use Rattle.wire_codec.proofs.WellFormed.{AreOriginals, stray_keeps, has_no_stray, stray_ok, stray_again, stray_faults}
 use Rattle.wire_codec.proofs.Sizes.{length-counts, length-entries}
-
--- ---- a test that fails at once, or lets the rest go on
-
-passed : {A E : Type 0} (b : Bool) (r : E) (x : Result A E) (y : A) → cond b (Err r) x ≡ Ok y → (b ≡ false) × (x ≡ Ok y)
-passed true r x y e = absurd (let no = e in cc)
-passed false r x y e = (refl, e)
-
-stopped : {A E : Type 0} (b : Bool) (r q : E) (x : Result A E) → cond b (Err r) x ≡ Err q → ((b ≡ true) × (r ≡ q)) ⊎ ((b ≡ false) × (x ≡ Err q))
-stopped true r q x e = let same : r ≡ q = cc in inl (refl, same)
-stopped false r q x e = inr (refl, e)
 
 -- ---- a list in its section of the bytes
 
@@ -91,16 +81,16 @@ record Named (counts : List (ℕ × ℕ)) (at : ℕ) (bytes : List ℕ) (c : Con
   parts : bytes ≡ named_bytes c.entries ++ rest
   ends : used ≡ at + length (named_bytes c.entries)
 
-entries_read : List ℕ → ℕ → Found (List (NameData × ℕ))
+unfoldable pub entries_read : List ℕ → ℕ → Found (List (NameData × ℕ))
 entries_read bytes at = many entry_at name_of (length_of bytes) None (left_at (at + 4) (take (entry_len * length_of bytes) (drop 4 bytes)))
 
-stray_done : (c d : ContextData) (stop used : ℕ) (r : Result (Unit {0}) Fault) → unless_stray c stop r ≡ Ok (d, used) → (r ≡ Ok tt) × (c ≡ d) × (stop ≡ used)
+pub stray_done : (c d : ContextData) (stop used : ℕ) (r : Result (Unit {0}) Fault) → unless_stray c stop r ≡ Ok (d, used) → (r ≡ Ok tt) × (c ≡ d) × (stop ≡ used)
 stray_done c d stop used (Ok u) e =
     let both : ◌≡◌ {A = ContextData × ℕ} (c, stop) (d, used) = cc in
     (refl, ap (λ (p : ContextData × ℕ). p.0) both, ap (λ (p : ContextData × ℕ). p.1) both)
 stray_done c d stop used (Err f) e = absurd (let no = e in cc)
 
-entries_done : (counts : List (ℕ × ℕ)) (begin stop : ℕ) (d : ContextData) (used : ℕ) (r : Found (List (NameData × ℕ))) → judge_entries counts begin stop r ≡ Ok (d, used)
+pub entries_done : (counts : List (ℕ × ℕ)) (begin stop : ℕ) (d : ContextData) (used : ℕ) (r : Found (List (NameData × ℕ))) → judge_entries counts begin stop r ≡ Ok (d, used)
     → (e : List (NameData × ℕ) × LeftData) × (r ≡ Ok e) × (unless_stray (record { counts = counts; entries = e.0 }) stop (stray_from (record { counts = counts; entries = e.0 }) begin e.0) ≡ Ok (d, used))
 entries_done counts begin stop d used (Ok e) is = (e, refl, is)
 entries_done counts begin stop d used (Err f) is = absurd (let no = is in cc)
@@ -110,8 +100,8 @@ unfolding judge_named entries_read
 named_takes counts at bytes c used fits e =
     let n = length_of bytes in
     let stop = at + (4 + entry_len * n) in
-    let four = passed (ltb (length bytes) 4) (More (at + 4)) (cond (ltb (length bytes) (4 + entry_len * n)) (Err (More stop)) (judge_entries counts (at + 4) stop (entries_read bytes at))) (c, used) e in
-    let there = passed (ltb (length bytes) (4 + entry_len * n)) (More stop) (judge_entries counts (at + 4) stop (entries_read bytes at)) (c, used) four.1 in
+    let four = cond_ok (ltb (length bytes) 4) (More (at + 4)) (cond (ltb (length bytes) (4 + entry_len * n)) (Err (More stop)) (judge_entries counts (at + 4) stop (entries_read bytes at))) (c, used) e in
+    let there = cond_ok (ltb (length bytes) (4 + entry_len * n)) (More stop) (judge_entries counts (at + 4) stop (entries_read bytes at)) (c, used) four.1 in
     let long = ltb-false _ _ four.0 in
     let enough = ltb-false _ _ there.0 in
     let read = entries_done counts (at + 4) stop c used (entries_read bytes at) there.1 in
@@ -164,10 +154,10 @@ named_again c at rest are originals few =
 
 -- ---- whole states
 
-counts_read : List ℕ → Found (List (ℕ × ℕ))
+unfoldable pub counts_read : List ℕ → Found (List (ℕ × ℕ))
 counts_read bytes = many count_at site_after (sites_of bytes) 0 (left_at 1 (take (count_len * sites_of bytes) (drop 1 bytes)))
 
-counted : List ℕ → Result (ContextData × ℕ) Unread
+unfoldable pub counted : List ℕ → Result (ContextData × ℕ) Unread
 counted bytes = judge_counted (1 + count_len * sites_of bytes) (drop (count_len * sites_of bytes) (drop 1 bytes)) (counts_read bytes)
 
 counts_done : (at : ℕ) (rest : List ℕ) (d : ContextData) (used : ℕ) (r : Found (List (ℕ × ℕ))) → judge_counted at rest r ≡ Ok (d, used)
@@ -179,9 +169,9 @@ pub state_takes : (bytes : List ℕ) (c : ContextData) (used : ℕ) → IsBytes 
 unfolding judge_state counts_read counted state_bytes
 state_takes bytes c used fits e =
     let n = sites_of bytes in
-    let some = passed (ltb (length bytes) 1) (More 1) (cond (ltb SITES n) (Err (Bad (fault Range 0))) (cond (ltb (length bytes) (1 + count_len * n)) (Err (More (1 + count_len * n))) (counted bytes))) (c, used) e in
-    let few = passed (ltb SITES n) (Bad (fault Range 0)) (cond (ltb (length bytes) (1 + count_len * n)) (Err (More (1 + count_len * n))) (counted bytes)) (c, used) some.1 in
-    let there = passed (ltb (length bytes) (1 + count_len * n)) (More (1 + count_len * n)) (counted bytes) (c, used) few.1 in
+    let some = cond_ok (ltb (length bytes) 1) (More 1) (cond (ltb SITES n) (Err (Bad (fault Range 0))) (cond (ltb (length bytes) (1 + count_len * n)) (Err (More (1 + count_len * n))) (counted bytes))) (c, used) e in
+    let few = cond_ok (ltb SITES n) (Bad (fault Range 0)) (cond (ltb (length bytes) (1 + count_len * n)) (Err (More (1 + count_len * n))) (counted bytes)) (c, used) some.1 in
+    let there = cond_ok (ltb (length bytes) (1 + count_len * n)) (More (1 + count_len * n)) (counted bytes) (c, used) few.1 in
     let long = ltb-false _ _ some.0 in
     let enough = ltb-false _ _ there.0 in
     let rest = drop (count_len * n) (drop 1 bytes) in
@@ -322,7 +312,7 @@ stray_bad c stop q (Ok u) e = absurd (let no = e in cc)
 stray_bad c stop q (Err f) e = let same : Bad f ≡ q = cc in (f, same, refl)
 
 -- a fault of the undone names, or one that is no original
-entries_bad : (counts : List (ℕ × ℕ)) (begin stop : ℕ) (q : Unread) (r : Found (List (NameData × ℕ))) → judge_entries counts begin stop r ≡ Err q
+pub entries_bad : (counts : List (ℕ × ℕ)) (begin stop : ℕ) (q : Unread) (r : Found (List (NameData × ℕ))) → judge_entries counts begin stop r ≡ Err q
     → (f : Fault) × (Bad f ≡ q) × ((r ≡ Err f) ⊎ ((e : List (NameData × ℕ) × LeftData) × (r ≡ Ok e) × (stray_from (record { counts = counts; entries = e.0 }) begin e.0 ≡ Err f)))
 entries_bad counts begin stop q (Ok e) is =
     let d : ContextData = record { counts = counts; entries = e.0 } in
@@ -341,9 +331,9 @@ named_refused counts at bytes q fits e =
     let n = length_of bytes in
     let stop = at + (4 + entry_len * n) in
     let whole = judge_entries counts (at + 4) stop (entries_read bytes at) in
-    elim (stopped (ltb (length bytes) 4) (More (at + 4)) q (cond (ltb (length bytes) (4 + entry_len * n)) (Err (More stop)) whole) e) [
+    elim (cond_err (ltb (length bytes) 4) (More (at + 4)) q (cond (ltb (length bytes) (4 + entry_len * n)) (Err (More stop)) whole) e) [
       | inl here ↦ subst (IsRefusedIn (at + length bytes)) here.1 (omega (arith, ltb-true _ _ here.0))
-      | inr four ↦ elim (stopped (ltb (length bytes) (4 + entry_len * n)) (More stop) q whole four.1) [
+      | inr four ↦ elim (cond_err (ltb (length bytes) (4 + entry_len * n)) (More stop) q whole four.1) [
         | inl here ↦ subst (IsRefusedIn (at + length bytes)) here.1 (omega (arith, ltb-true _ _ here.0))
         | inr there ↦
             let enough = ltb-false _ _ there.0 in
@@ -377,11 +367,11 @@ unfolding judge_state counts_read counted IsRefusedIn
 state_refused bytes q fits e =
     let n = sites_of bytes in
     let behind = cond (ltb (length bytes) (1 + count_len * n)) (Err (More (1 + count_len * n))) (counted bytes) in
-    elim (stopped (ltb (length bytes) 1) (More 1) q (cond (ltb SITES n) (Err (Bad (fault Range 0))) behind) e) [
+    elim (cond_err (ltb (length bytes) 1) (More 1) q (cond (ltb SITES n) (Err (Bad (fault Range 0))) behind) e) [
       | inl here ↦ subst (IsRefusedIn (length bytes)) here.1 (ltb-true _ _ here.0)
-      | inr some ↦ elim (stopped (ltb SITES n) (Bad (fault Range 0)) q behind some.1) [
+      | inr some ↦ elim (cond_err (ltb SITES n) (Bad (fault Range 0)) q behind some.1) [
         | inl here ↦ subst (IsRefusedIn (length bytes)) here.1 (omega arith)
-        | inr few ↦ elim (stopped (ltb (length bytes) (1 + count_len * n)) (More (1 + count_len * n)) q (counted bytes) few.1) [
+        | inr few ↦ elim (cond_err (ltb (length bytes) (1 + count_len * n)) (More (1 + count_len * n)) q (counted bytes) few.1) [
           | inl here ↦ subst (IsRefusedIn (length bytes)) here.1 (ltb-true _ _ here.0)
           | inr there ↦
               let enough = ltb-false _ _ there.0 in

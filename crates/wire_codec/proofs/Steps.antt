@@ -44,6 +44,15 @@ pub want_err : {B : Type 0} (b : Bool) (cause : Cause) (offset : ℕ) (f : Unit 
 want_err true cause offset f d e = inr e
 want_err false cause offset f d e = let same : fault cause offset ≡ d = cc in inl (ap (λ (x : Fault). x.offset) (sym same))
 
+-- a test that refuses at once, or lets the rest go on
+pub cond_ok : {A E : Type 0} (b : Bool) (r : E) (x : Result A E) (y : A) → cond b (Err r) x ≡ Ok y → (b ≡ false) × (x ≡ Ok y)
+cond_ok true r x y e = absurd (let no = e in cc)
+cond_ok false r x y e = (refl, e)
+
+pub cond_err : {A E : Type 0} (b : Bool) (r q : E) (x : Result A E) → cond b (Err r) x ≡ Err q → ((b ≡ true) × (r ≡ q)) ⊎ ((b ≡ false) × (x ≡ Err q))
+cond_err true r q x e = let same : r ≡ q = cc in inl (refl, same)
+cond_err false r q x e = inr (refl, e)
+
 pub guard_ok : {A : Type 0} (b : Bool) (d : Fault) (x y : A) → cond b (Err d) (Ok x) ≡ Ok y → (b ≡ false) × (x ≡ y)
 guard_ok true d x y e = absurd cc
 guard_ok false d x y e = (refl, cc)

@@ -1,5 +1,5 @@
--- The steps of a reader: over the header, over one frame, and taking in its operation.
-use Rattle.std.specs.Prelude.{◌≡◌, ◌≢◌, ℕ, ◌+◌, ◌-◌, ◌<◌, Bool, false, true, List, Option, Some, None, Err, length, nat_le, nat_lt, if◌then◌else◌, slice_index_or}
+-- The steps of a reader: over one frame, taking in its operation, and the end.
+use Rattle.std.specs.Prelude.{◌≡◌, ◌≢◌, ℕ, ◌+◌, ◌-◌, Bool, false, true, List, Option, Some, None, Err, length, nat_lt, if◌then◌else◌}
 use Rattle.context_diff.specs.Operations.{OpData}
 use Rattle.context_diff.specs.Ops.{data_of}
 use Rattle.wire_codec.specs.declared.fault.Refused.TheVariants.{Bad}
@@ -12,40 +12,8 @@ use Rattle.session_log.specs.declared.log_bad.LogBad.{LogBad}
 use Rattle.session_log.specs.declared.log_bad.LogBad.TheVariants as bad
 use Rattle.session_log.specs.declared.placed.Placed.{Placed}
 use Rattle.session_log.specs.Logs.{header}
-use Rattle.session_log.specs.Loadings.{first_refusal, verdicts_after, taken_in}
-use Rattle.session_log.specs.Code.Taking.{IsRefusal}
-use Rattle.log_reader.specs.ReaderData.{ReaderData}
+use Rattle.session_log.specs.Loadings.{first_refusal, verdicts_after, taken_in, IsRefusal}
 use Rattle.log_reader.specs.Readers.{IsFaultOf, HasTaken, NeedsMore}
-
--- a header was read where so many bytes were fed and this is their first fault
-abbrev pub header_read : ℕ → Option LogBad → Bool
-header_read fed None = nat_le (length header) fed
-header_read fed (Some bad.Header) = false
-header_read fed (Some (bad.Cut offset)) = true
-header_read fed (Some (bad.Bad offset cause)) = true
-header_read fed (Some (bad.Refused offset member verdict)) = true
-header_read fed (Some bad.Memory) = true
-
--- a reader of these parts
-abbrev pub reader_of : ℕ → ℕ → List ℕ → State → Option LogBad → Option LogBad → Bool → ReaderData
-reader_of site fed left s refused why spent = record {
-  site = site;
-  state = s;
-  left = left;
-  fed = fed;
-  header = header_read fed why;
-  fault = why;
-  refused = refused;
-  spent = spent;
-}
-
--- every element is a byte
-abbrev pub AreBytes : List ℕ → Type 0
-AreBytes bytes = (i : ℕ) → slice_index_or bytes i 0 < 256
-
--- of the bytes fed, those after the header were taken, or are left
-abbrev pub IsCounted : ℕ → StreamData → Type 0
-IsCounted fed s = (s.taken + length s.left ≡ fed - length header) × AreBytes s.left
 
 -- why the log ends where so many bytes were fed, and so many are left: out of memory, the first fault, no whole header, a
 -- frame that is cut; none of these at the end of a log

@@ -1,7 +1,7 @@
 use Rattle.std.proofs.Common.{◌≡◌, ℕ, List, length}
 use Rattle.cot_site.specs.Sites.{state_of}
 use Rattle.log_reader.specs.Readers.{HasTaken}
-use Rattle.log_reader.specs.Code.Steps.{IsCounted}
+use Rattle.log_reader.specs.ReaderData.{IsCounted}
 use Rattle.log_reader.proofs.frames.take_frames.Given as goal
 
 -- the bytes are counted, and the frames so far were taken

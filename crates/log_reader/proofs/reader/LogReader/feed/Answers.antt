@@ -1,7 +1,6 @@
 use Rattle.std.proofs.Common.{◌+◌, ap, sym, ◌∙◌, length}
 use Rattle.cot_site.specs.Sites.{state_of}
-use Rattle.log_reader.specs.ReaderData.{ReaderData}
-use Rattle.log_reader.specs.Code.Steps.{reader_of}
+use Rattle.log_reader.specs.ReaderData.{ReaderData, reader_of}
 use Rattle.log_reader.proofs.Endings.{still_fault, fed_on}
 use Rattle.log_reader.proofs.On.{goes_on_by}
 use Rattle.log_reader.proofs.reader.LogReader.feed.Goals as goal
