@@ -1,19 +1,15 @@
 -- Reading a script that comes in pieces: what a reader knows of the bytes fed, and of the report written for them.
-use Rattle.std.specs.Prelude.{◌≡◌, ◌≢◌, ◌⊎◌, ℕ, ◌+◌, ◌-◌, ◌≤◌, false, List, [], ◌∷◌, ◌++◌, None, length, map, take, nat_le, if◌then◌else◌}
+use Rattle.std.specs.Prelude.{◌≡◌, ◌≢◌, ℕ, ◌+◌, ◌-◌, ◌≤◌, false, List, [], ◌∷◌, ◌++◌, None, length, map, take, nat_le, if◌then◌else◌}
 use Rattle.std.specs.List.{All}
 use Rattle.script_text.specs.LeftLines.{InputData}
 use Rattle.script_text.specs.Streams.{fed_with}
 use Rattle.script_text.specs.declared.reading.stream.TheConstants.{MAX_SCRIPT}
-use Rattle.session_replay.specs.Scripts.{Piece, Whole, lines_of, cut_off, prepended, report_from, script_report}
+use Rattle.session_replay.specs.Scripts.{Piece, Whole, lines_of, AreWholeLines, cut_off, prepended, report_from, script_report}
 use Rattle.session_replay.specs.ReaderData.{ReaderData}
 
 -- the lines of these bytes, where so many others stand before them in the script
 abbrev pub pieces_after : ℕ → List ℕ → List Piece
 pieces_after n bytes = if nat_le (n + length bytes) MAX_SCRIPT then map Whole (lines_of bytes) else cut_off (lines_of (take (MAX_SCRIPT - n) bytes))
-
--- the bytes of lines, each of which a line feed ends
-abbrev pub AreWholeLines : List ℕ → Type 0
-AreWholeLines bytes = (bytes ≡ []) ⊎ ((front : List ℕ) × (bytes ≡ front ++ 10 ∷ []))
 
 -- an input of which nothing is left, and so many bytes were fed
 abbrev pub nothing_left : ℕ → InputData
