@@ -16,7 +16,7 @@ use Rattle.cotpad.specs.declared.status.Status.TheVariants.{WriteFault}
 use Rattle.cotpad.specs.Outside.{Outside, told}
 use Rattle.cotpad.specs.Answers.{IsReplied, IsPartlyReplied}
 use Rattle.cotpad.specs.Replies.{IsScriptReport}
-use Rattle.cotpad.specs.Replaying.{IsReport, IsFrontOfReport, IsReportSoFar, IsUnreadReport, IsUnwrittenReport, IsReportOutOfMemory, IsReplayed}
+use Rattle.cotpad.specs.Replaying.{IsReport, IsFrontOfReport, IsUnreadReport, IsUnwrittenReport, IsReportOutOfMemory, IsReplayed}
 use Rattle.cotpad.specs.Code.Replaying.{IsPassed, KeepsAfter, IsReading, IsWaiting}
 
 -- each script has its report
@@ -271,14 +271,14 @@ unread_there old left now reads later held writes r fed reports i stays rose =
     let taken : Consumes old.left now i.all = Consumes-kept old.left left now i.all i.taken stays in
     record {
       fault = subst (λ n. Rose n later) i.read_faults rose;
-      so_far = of_all old.left now i.all (IsReportSoFar old (told now later held writes)) taken (λ more. record {
+      so_far = record {
         whole = k.done;
         tail = k.left;
         taken = subst (Consumes old.left now) k.parts taken;
         lines = k.whole;
         no_line = i.awaits.no_feed;
         reply = replied old.held held k.done i.written false reports (done_is_reported r i.all i.written k) i.sent;
-      });
+      };
       front = front_of_report old (told now later held writes) i.all i.written reports (kept_front r i.all i.written k) i.sent taken (few_waiting i.all fed i.count i.few);
       write_faults = i.write_faults;
     }

@@ -5,7 +5,7 @@ use Rattle.std.specs.Io.KnownBytes.{Consumes, IsAtEnd}
 use Rattle.outside_io.specs.Faults.{Rose}
 use Rattle.outside_io.specs.Reading.{LosesFront}
 use Rattle.outside_io.specs.declared.reading.TheConstants.{MAX_INPUT}
-use Rattle.session_replay.specs.Readers.{AreWholeLines}
+use Rattle.session_replay.specs.Scripts.{AreWholeLines}
 use Rattle.cotpad.specs.declared.status.Status.{Status}
 use Rattle.cotpad.specs.declared.status.Status.TheVariants.{Done, Refused, Words, ReadFault, WriteFault, Memory, LinkFault, PeerRefused}
 use Rattle.cotpad.specs.Outside.{Outside, Grows}
@@ -32,7 +32,7 @@ pub record IsFrontOfReport (old new : Outside) : Type 0 where
 
 -- these bytes were taken: whole lines, and then what no line feed ended yet. The report of the whole lines was written, and
 -- none of them is refused
-pub record IsReportSoFar (old new : Outside) (bytes : List ℕ) : Type 0 where
+pub record IsReportSoFar (old new : Outside) : Type 0 where
   pub whole : List ℕ
   pub tail : List ℕ
   pub taken : Consumes old.left new.left (whole ++ tail)
@@ -43,7 +43,7 @@ pub record IsReportSoFar (old new : Outside) (bytes : List ℕ) : Type 0 where
 -- a read failed: the lines that ended before it are reported, whether before or after the failed read
 pub record IsUnreadReport (old new : Outside) : Type 0 where
   pub fault : Rose old.read_faults new.read_faults
-  pub so_far : IfSome old.left (IsReportSoFar old new)
+  pub so_far : IsReportSoFar old new
   pub front : IsFrontOfReport old new
   pub write_faults : new.write_faults ≡ old.write_faults
 

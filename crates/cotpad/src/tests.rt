@@ -542,6 +542,12 @@ fn a_failed_call_of_the_wire_writes_nothing(rt: HostRuntime) -> Result<(), Fail>
     let alloc = rt.alloc();
     let log = bytes_of(alloc, "h")?;
     let peer = messages_of(alloc, "m0e")?;
+    // Nothing is sent before the first message came whole: the link, or a read of that message, failed.
+    for call in [0, 2] {
+        let ended = run_over_memory(alloc, "serve 7000", &log, &peer, &[call])?;
+        assert_eq!(rt; ended.status, Status::LinkFault, "{call}");
+        assert_eq!(rt; ended.sent.len(), 0, "{call}");
+    }
     // A link, a read of each message and a write at the least; and for `loop` the same at both ends.
     assert!(rt; calls_that_fail(alloc, "serve 7000", &log, &peer)? >= 4);
     assert!(rt; calls_that_fail(alloc, "loop 7", b"not read", b"not read")? >= 8);

@@ -100,21 +100,21 @@ entry_raised c (Group n g) k next most t =
           omega (arith, is, most t)
     ]
 
+-- what rises by one at the most where a member is added is at most as many as the operations
+few_by : (Few : ContextData → ℕ → Type 0) → Few empty 0 → ((c : ContextData) (m : Member) (k : ℕ) → IsNextMember c m → Few c k → Few (raised c m) (k + 1))
+    → (h : List OpData) → IsValid h → Few (context_of_all h) (length h)
+few_by Few none more h v =
+    by_pushes (λ k. Few (context_of_all k) (length k)) none
+    (λ k o valid was next.
+    let one = more (context_of_all k) (member_of o) (length k) (next_member k (context_of_all k) o (complete k valid).holds next) was in
+    let count : length k + 1 ≡ length (k ++ o ∷ []) = omega (arith, length-append k (o ∷ [])) in
+    subst (Few (context_of_all (k ++ o ∷ []))) count (subst (λ c. Few c (length k + 1)) (sym (context_push k o)) one)) h v
+
 pub few_numbers : (h : List OpData) → IsValid h → (s : ℕ) → count_of (context_of_all h) s ≤ length h
-few_numbers h v =
-    by_pushes (λ k. (s : ℕ) → count_of (context_of_all k) s ≤ length k)
-    (λ s. omega arith)
-    (λ k o valid was next s.
-    let more = count_raised (context_of_all k) (member_of o) (length k) (next_member k (context_of_all k) o (complete k valid).holds next) was s in
-    omega (arith, more, length-append k (o ∷ []), ap (λ c. count_of c s) (context_push k o))) h v
+few_numbers = few_by (λ c k. (s : ℕ) → count_of c s ≤ k) (λ s. omega arith) (λ c m k next most. count_raised c m k next most)
 
 few_raised : (h : List OpData) → IsValid h → (t : NameData) → entry_of (context_of_all h) t ≤ length h
-few_raised h v =
-    by_pushes (λ k. (t : NameData) → entry_of (context_of_all k) t ≤ length k)
-    (λ t. omega arith)
-    (λ k o valid was next t.
-    let more = entry_raised (context_of_all k) (member_of o) (length k) (next_member k (context_of_all k) o (complete k valid).holds next) was t in
-    omega (arith, more, length-append k (o ∷ []), ap (λ c. entry_of c t) (context_push k o))) h v
+few_raised = few_by (λ c k. (t : NameData) → entry_of c t ≤ k) (λ t. omega arith) (λ c m k next most. entry_raised c m k next most)
 
 pub few_generations : (h : List OpData) → IsValid h → (t : NameData) → generation_in h t ≤ length h
 few_generations h v t = omega (arith, generation_is h v t, few_raised h v t)

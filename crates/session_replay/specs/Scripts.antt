@@ -1,5 +1,5 @@
 -- Scripts: their lines, and the report of a script, by the view that a site in each state has of its text.
-use Rattle.std.specs.Prelude.{ℕ, ◌+◌, Bool, true, false, List, [], ◌∷◌, ◌++◌, ◌==◌, length, map, take, nat_le, Result, Ok, Err, Option, Some, None, if◌then◌else◌}
+use Rattle.std.specs.Prelude.{◌≡◌, ◌⊎◌, ℕ, ◌+◌, Bool, true, false, List, [], ◌∷◌, ◌++◌, ◌==◌, length, map, take, nat_le, Result, Ok, Err, Option, Some, None, if◌then◌else◌}
 use Rattle.std.specs.List.{slice_split}
 use Rattle.std.specs.Str.{is_utf8}
 use Rattle.cot_site.specs.States.{State}
@@ -28,6 +28,10 @@ pub data Piece : Type 0 where
 -- the lines of a script, without their line feeds; after the last line feed stands an empty line, which does nothing
 abbrev pub lines_of : List ℕ → List (List ℕ)
 lines_of bytes = slice_split (λ b. b == 10) bytes
+
+-- the bytes of lines, each of which a line feed ends
+abbrev pub AreWholeLines : List ℕ → Type 0
+AreWholeLines bytes = (bytes ≡ []) ⊎ ((front : List ℕ) × (bytes ≡ front ++ 10 ∷ []))
 
 -- these lines, of which the last is past the limit
 unfoldable pub cut_off : List (List ℕ) → List Piece

@@ -1,7 +1,6 @@
 -- How an exchange goes at a joiner, message by message.
 use Rattle.std.proofs.Common.{◌≡◌, ℕ, List, [], ◌++◌, refl, sym, ap, subst, ◌∙◌, append-nil, inl, inr}
 use Rattle.std.specs.Prelude.{Option}
-use Rattle.std.proofs.KnownBytes.{Appends-nil, Consumes-nil}
 use Rattle.std.specs.Io.KnownBytes.{Appends}
 use Rattle.outside_io.specs.Ends.{End}
 use Rattle.outside_io.specs.Writing.{WritesFront}
@@ -16,16 +15,11 @@ use Rattle.site_node.specs.declared.node.Node.TheVariants as node
 use Rattle.site_node.specs.Stops.{node_of}
 use Rattle.site_node.specs.Moves.{Receives, IsStopped}
 use Rattle.site_node.specs.Exchanges.{Exchanges, IsBrought, IsUnjoined}
-use Rattle.site_node.proofs.Talking.{Moves, moves_none, receives_then, sends_then, talks_of}
+use Rattle.site_node.proofs.Talking.{Moves, moves_none, receives_then, sends_then, talks_of, nothing_said}
 
 -- there was no memory for the first message
 pub unoffered : (a : End) (s : State) → Exchanges a a a.to_come (IsUnjoined s s node.Memory)
-unoffered a s = record {
-  came = [];
-  gone = [];
-  talks = talks_of a a [] [] (moves_none a);
-  said = inl (record { same = refl; offered = (first_message s.history, refl); explained = tt });
-}
+unoffered a s = nothing_said a a a.to_come (IsUnjoined s s node.Memory) refl (inl (record { same = refl; offered = (first_message s.history, refl); explained = tt }))
 
 -- the wire failed while it went
 pub unsent : (a b : End) (s : State) (before first : List ℕ) → before ≡ [] → first ≡ before ++ first_message s.history
@@ -125,9 +119,4 @@ joined a c d s t first second third counts r written received to_come = record {
 
 -- the wire failed to link
 pub unlinked : (a b : End) (peer : Option (List ℕ)) (s : State) → b ≡ a → Exchanges a b peer (IsUnjoined s s node.Link)
-unlinked a b peer s same = subst (λ (x : End). Exchanges a x peer (IsUnjoined s s node.Link)) (sym same) (record {
-  came = [];
-  gone = [];
-  talks = record { received = Appends-nil a.received; sent = Appends-nil a.sent; left = peer; front = Consumes-nil peer };
-  said = inl (record { same = refl; offered = (first_message s.history, refl); explained = tt });
-})
+unlinked a b peer s same = nothing_said a b peer (IsUnjoined s s node.Link) same (inl (record { same = refl; offered = (first_message s.history, refl); explained = tt }))

@@ -1,7 +1,6 @@
 -- How an exchange goes at a server, message by message.
 use Rattle.std.proofs.Common.{◌≡◌, ℕ, List, [], ◌++◌, refl, sym, ap, subst, ◌∙◌, append-nil, inl, inr}
 use Rattle.std.specs.Prelude.{Option}
-use Rattle.std.proofs.KnownBytes.{Appends-nil, Consumes-nil}
 use Rattle.std.specs.Io.KnownBytes.{Appends}
 use Rattle.outside_io.specs.Ends.{End}
 use Rattle.outside_io.specs.Writing.{WritesFront}
@@ -17,7 +16,7 @@ use Rattle.site_node.specs.Stops.{node_of, Explains}
 use Rattle.site_node.specs.Moves.{Receives, IsStopped}
 use Rattle.site_node.specs.Exchanges.{Exchanges, IsServed, IsUnserved}
 use Rattle.site_node.proofs.Explaining.{unread_memory}
-use Rattle.site_node.proofs.Talking.{Moves, moves_none, receives_then, sends_then, talks_of}
+use Rattle.site_node.proofs.Talking.{Moves, moves_none, receives_then, sends_then, talks_of, nothing_said}
 
 -- a whole first message came
 pub record Asked (a b : End) (first : List ℕ) : Type 0 where
@@ -146,9 +145,4 @@ served a c d s t first second third sent count r whole came done = record {
 
 -- the wire failed to link
 pub unlinked : (a b : End) (peer : Option (List ℕ)) (s : State) → b ≡ a → Exchanges a b peer (IsUnserved s s node.Link)
-unlinked a b peer s same = subst (λ (x : End). Exchanges a x peer (IsUnserved s s node.Link)) (sym same) (record {
-  came = [];
-  gone = [];
-  talks = record { received = Appends-nil a.received; sent = Appends-nil a.sent; left = peer; front = Consumes-nil peer };
-  said = inl (record { same = refl; silent = refl; explained = tt });
-})
+unlinked a b peer s same = nothing_said a b peer (IsUnserved s s node.Link) same (inl (record { same = refl; silent = refl; explained = tt }))

@@ -4,7 +4,7 @@ use Rattle.std.specs.Prelude.{Option, Some, None, IfSome}
 use Rattle.std.proofs.KnownBytes.{Appends-nil, Appends-trans, Consumes-nil, Consumes-trans}
 use Rattle.std.specs.Io.KnownBytes.{Appends, Consumes, IsAtEnd}
 use Rattle.outside_io.specs.Ends.{End}
-use Rattle.site_node.specs.Exchanges.{Talks}
+use Rattle.site_node.specs.Exchanges.{Talks, Exchanges}
 use Rattle.site_node.specs.Moves.{Receives}
 
 -- these bytes were to come and are received, and these were sent
@@ -32,6 +32,15 @@ sends_then a b c came gone bytes first written received to_come = record {
 
 pub talks_of : (a b : End) (came gone : List ℕ) → Moves a b came gone → Talks a b a.to_come came gone
 talks_of a b came gone m = record { received = m.received; sent = m.sent; left = b.to_come; front = m.consumed }
+
+-- nothing was received and sent
+pub nothing_said : (a b : End) (peer : Option (List ℕ)) (says : List ℕ → List ℕ → Type 0) → b ≡ a → says [] [] → Exchanges a b peer says
+nothing_said a b peer says same said = subst (λ (x : End). Exchanges a x peer says) (sym same) (record {
+  came = [];
+  gone = [];
+  talks = record { received = Appends-nil a.received; sent = Appends-nil a.sent; left = peer; front = Consumes-nil peer };
+  said = said;
+})
 
 -- all that was to come was received
 pub all_received : (a b : End) (came gone : List ℕ) → Moves a b came gone → IsAtEnd b.to_come → IfSome a.to_come (Appends a.received b.received)
