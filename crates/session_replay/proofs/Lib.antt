@@ -23,6 +23,7 @@ mod Making
 mod Tallies
 mod Rounds
 mod Needed
+mod NextLine
 pub mod Knowing
 pub mod Noting
 pub mod CallerLemmas

@@ -210,7 +210,7 @@ line_no_text bytes a = rw (le-leb (length bytes) LONGEST a.0) (elim (cases_Bool 
 line_no_row : (bytes : List ℕ) → Answers bytes (Err reading.Form) → line_read (Whole bytes) ≡ Err refusal.Form
 line_no_row bytes a = rw (le-leb (length bytes) LONGEST a.0.0, is_utf8-from_IsUtf8 bytes a.0.1, a.1) refl
 
-line_is : (bytes : List ℕ) (line : Line) → Answers bytes (Ok line) → line_read (Whole bytes) ≡ Ok line
+pub line_is : (bytes : List ℕ) (line : Line) → Answers bytes (Ok line) → line_read (Whole bytes) ≡ Ok line
 line_is bytes line a = rw (le-leb (length bytes) LONGEST a.0.0, is_utf8-from_IsUtf8 bytes a.0.1, a.1) refl
 
 -- a line that is read
@@ -218,15 +218,16 @@ pub line_found : (bytes kept : List ℕ) (line : Line) → kept ≡ seen bytes �
 line_found bytes kept line is a = line_is bytes line (answers_seen bytes (Ok line) (subst (λ bs. Answers bs (Ok line)) is a))
 
 -- a line that can't be read
+pub line_unread : (bytes : List ℕ) (why : LineBad) (cause : Refusal) → unread_by why ≡ Some cause → Answers bytes (Err why) → line_read (Whole bytes) ≡ Err cause
+line_unread bytes reading.Limit cause e a = absurd a
+line_unread bytes reading.Long cause e a = line_long bytes a ∙ ap (λ (r : Refusal). Err r) (some_same refusal.Long cause e)
+line_unread bytes reading.Utf8 cause e a = line_no_text bytes a ∙ ap (λ (r : Refusal). Err r) (some_same refusal.Utf8 cause e)
+line_unread bytes reading.Form cause e a = line_no_row bytes a ∙ ap (λ (r : Refusal). Err r) (some_same refusal.Form cause e)
+line_unread bytes reading.Memory cause e a = absurd (let none : None ≡ Some cause = e in cc)
+
+-- the same, by what is seen of the line
 pub line_refused : (bytes kept : List ℕ) (why : LineBad) (cause : Refusal) → kept ≡ seen bytes → Answers kept (Err why) → unread_by why ≡ Some cause → line_read (Whole bytes) ≡ Err cause
-line_refused bytes kept why cause is a e = of why e (answers_seen bytes (Err why) (subst (λ bs. Answers bs (Err why)) is a))
-  where
-    of : (why : LineBad) → unread_by why ≡ Some cause → Answers bytes (Err why) → line_read (Whole bytes) ≡ Err cause
-    of reading.Limit e a = absurd a
-    of reading.Long e a = line_long bytes a ∙ ap (λ (r : Refusal). Err r) (some_same refusal.Long cause e)
-    of reading.Utf8 e a = line_no_text bytes a ∙ ap (λ (r : Refusal). Err r) (some_same refusal.Utf8 cause e)
-    of reading.Form e a = line_no_row bytes a ∙ ap (λ (r : Refusal). Err r) (some_same refusal.Form cause e)
-    of reading.Memory e a = absurd (let none : None ≡ Some cause = e in cc)
+line_refused bytes kept why cause is a e = line_unread bytes why cause e (answers_seen bytes (Err why) (subst (λ bs. Answers bs (Err why)) is a))
 
 -- the empty line does nothing
 pub line_empty : line_read (Whole []) ≡ Ok Blank

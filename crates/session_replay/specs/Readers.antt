@@ -1,10 +1,13 @@
 -- Reading a script that comes in pieces: what a reader knows of the bytes fed, and of the report written for them.
-use Rattle.std.specs.Prelude.{◌≡◌, ◌≢◌, ℕ, ◌+◌, ◌-◌, ◌≤◌, false, List, [], ◌∷◌, ◌++◌, None, length, map, take, nat_le, if◌then◌else◌}
+use Rattle.std.specs.Prelude.{◌≡◌, ◌≢◌, ℕ, ◌+◌, ◌-◌, ◌≤◌, false, List, [], ◌∷◌, ◌++◌, None, Result, Ok, Err, length, map, take, nat_le, if◌then◌else◌}
 use Rattle.std.specs.List.{All}
-use Rattle.script_text.specs.LeftLines.{InputData}
-use Rattle.script_text.specs.Streams.{fed_with}
+use Rattle.script_text.specs.LeftLines.{LeftLine, InputData}
+use Rattle.script_text.specs.Streams.{fed_with, IsNext, IsPastLimit}
+use Rattle.script_text.specs.declared.report.refusal.Refusal.{Refusal}
 use Rattle.script_text.specs.declared.reading.stream.TheConstants.{MAX_SCRIPT}
-use Rattle.session_replay.specs.Scripts.{Piece, Whole, lines_of, AreWholeLines, cut_off, prepended, report_from, script_report}
+use Rattle.session_replay.specs.Steps.{Step}
+use Rattle.session_replay.specs.Sessions.{SessionData}
+use Rattle.session_replay.specs.Scripts.{Piece, Whole, Past, lines_of, AreWholeLines, cut_off, piece_steps, prepended, report_from, script_report}
 use Rattle.session_replay.specs.ReaderData.{ReaderData}
 
 -- the lines of these bytes, where so many others stand before them in the script
@@ -44,3 +47,20 @@ pub record AwaitsSome (r : ReaderData) : Type 0 where
   pub all : List ℕ
   pub written : List ℕ
   pub awaits : Awaits r all written
+
+-- the line has a step, or is refused; a comment has no step
+abbrev pub DoesSomething : Result (List (Step SessionData)) Refusal → Type 0
+DoesSomething (Ok []) = ⊥
+DoesSomething (Ok (e ∷ es)) = Unit {0}
+DoesSomething (Err why) = Unit {0}
+
+-- the line is next in an input: it is there whole, with these bytes as far as they are seen, or the byte past the limit is in it
+abbrev pub IsNextLine : InputData → Piece → Type 0
+IsNextLine i (Whole bytes) = (l : LeftLine) × (rest : List LeftLine) × IsNext i l rest × (l.bytes ≡ bytes)
+IsNextLine i Past = IsPastLimit i
+
+-- the next line has a step in this session, or is refused
+pub record NextDoesSomething (i : InputData) (d : SessionData) : Type 0 where
+  pub piece : Piece
+  pub next : IsNextLine i piece
+  pub something : DoesSomething (piece_steps piece d)

@@ -3,7 +3,7 @@
 ghost use Rattle.std.specs.Prelude.{◌≡◌, ◌<◌, ◌+◌, ◌^◌, ◌++◌, [], ℕ, List, true, IfOk, OnOk, OnErr, length, Ok};
 ghost use Rattle.session_replay.specs.LineSteps.{line_steps};
 ghost use Rattle.session_replay.specs.Scripts.{Piece, script_report, report_from, report_on, prepended};
-ghost use Rattle.session_replay.specs.Readers.{Keeps, KeepsSome, Awaits, AwaitsSome};
+ghost use Rattle.session_replay.specs.Readers.{Keeps, KeepsSome, Awaits, AwaitsSome, DoesSomething, NextDoesSomething};
 ghost use Rattle.session_replay.specs.Code.Reading.{Follows, TellsRefusal, is_refused};
 
 use crate::causes::{reading_refused, step_refused};
@@ -103,8 +103,8 @@ impl ScriptReader {
     /// Does the next line, if a line feed ended it, and appends what it reports. The report so far is what the caller has
     /// written already, followed by `out`.
     ///
-    /// Refused, the report is whole, however the script goes on. Out of memory, `out` is as it was. After either nothing
-    /// is said of the reader.
+    /// Refused, the report is whole, however the script goes on. Out of memory, which comes only where a line is next that
+    /// has a step or is refused, `out` is as it was. After either nothing is said of the reader.
     pub fn advance(&mut self, out: &mut Vec<u8>) -> Result<Next, Memory>
         requires { KeepsSome self.old }
         ensures done { result ≡ Ok Next.Done → (all before : List ℕ) → Keeps self.old all (before ++ out.old.items) → Keeps self.new all (before ++ out.new.items) }
@@ -113,6 +113,7 @@ impl ScriptReader {
         ensures refused { result ≡ Ok Next.Refused → (all before : List ℕ) → Keeps self.old all (before ++ out.old.items)
             → (more : List ℕ) → script_report (all ++ more) ≡ record { written = before ++ out.new.items; refused = true } }
         ensures err { OnErr result (out.new.items ≡ out.old.items) }
+        ensures needed { OnErr result (NextDoesSomething self.old.input self.old.session) }
     {
         match self.lines.take() {
             Ok(None) => Ok(Next::Awaited),
@@ -122,12 +123,14 @@ impl ScriptReader {
     }
 
     /// Ends the script: the last line, which no line feed ended, is done, if it has a byte, and what it reports is appended.
-    /// Answers whether it is refused. Out of memory, `out` is as it was.
+    /// Answers whether it is refused. Out of memory, which comes only where that line has a step or is refused, `out` is as
+    /// it was.
     pub fn finish(self, out: &mut Vec<u8>) -> Result<bool, Memory>
         requires { AwaitsSome self }
         ensures report { IfOk result (λ refused. (all before : List ℕ) → Keeps self all (before ++ out.old.items)
             → script_report all ≡ record { written = before ++ out.new.items; refused = refused }) }
         ensures err { OnErr result (out.new.items ≡ out.old.items) }
+        ensures needed { OnErr result (NextDoesSomething (record self.input { over = true }) self.session) }
     {
         let ScriptReader {
             mut lines,
@@ -156,6 +159,7 @@ fn do_line(
         out.new.items (report_from number.new pieces running.new.session)) }
     ensures number { result ≡ Ok Next.Done → number.new ≡ number.old + 1 }
     ensures err { OnErr result (out.new.items ≡ out.old.items) }
+    ensures needed { OnErr result (DoesSomething (line_steps line running.old.session)) }
 {
     match running.step(&line, out) {
         Ok(()) => {
