@@ -1,6 +1,6 @@
 -- Out of memory comes only where the next line of a script has a step or is refused.
 use Rattle.std.proofs.Common.{◌≡◌, ℕ, Bool, true, false, List, [], ◌∷◌, refl, sym, ap, subst, ◌∙◌, length}
-use Rattle.std.specs.Prelude.{Option, Some, None, IsSomeAnd, Result, Ok, Err, nat_lt, if◌then◌else◌}
+use Rattle.std.specs.Prelude.{Option, Some, None, IsSomeAnd, Result, Ok, Err, OnErr, nat_lt, if◌then◌else◌}
 use Rattle.script_text.specs.declared.reading.line.Line.{Line}
 use Rattle.script_text.specs.declared.reading.line.Line.TheVariants.{Ins, Raw}
 use Rattle.script_text.specs.declared.reading.line.LineBad.{LineBad}
@@ -18,10 +18,14 @@ use Rattle.session_replay.specs.Steps.{Step}
 use Rattle.session_replay.specs.Sessions.{SessionData}
 use Rattle.session_replay.specs.LineSteps.{at_site_of, line_steps, typed, framed}
 use Rattle.session_replay.specs.Answers.{IsDone, HasStep, unread_by}
-use Rattle.session_replay.specs.Scripts.{Whole, Past, line_read, steps_of_read, piece_steps}
+use Rattle.session_replay.specs.Scripts.{Whole, Past, steps_of_read, piece_steps}
 use Rattle.session_replay.specs.Readers.{DoesSomething, NextDoesSomething}
 use Rattle.session_replay.proofs.PiecesLaws.{line_is, line_unread}
 use Rattle.session_replay.proofs.Needed.{typed_some, framed_some}
+
+pub err_from : {T E X Y : Type 0} (r : Result T E) → (X → Y) → OnErr r X → OnErr r Y
+err_from (Ok t) f h = tt
+err_from (Err e) f h = f h
 
 step_does : (r : Result (List (Step SessionData)) Refusal) → HasStep r → DoesSomething r
 step_does (Ok []) some = some

@@ -2,9 +2,11 @@ use Rattle.std.proofs.Common.{◌≡◌, ◌∙◌, ◌++◌, Bool, true, ap, sy
 use Rattle.script_text.specs.LeftLines.{InputData}
 use Rattle.script_text.specs.Streams.{TakesLine}
 use Rattle.session_replay.specs.ReaderData.{ReaderData}
-use Rattle.session_replay.specs.Readers.{Keeps, AwaitsSome}
+use Rattle.session_replay.specs.Readers.{Keeps, AwaitsSome, NextDoesSomething}
 use Rattle.session_replay.specs.Code.Reading.{is_refused}
 use Rattle.session_replay.proofs.Reading.{open_of, ends_empty, ends_read, ends_unread}
+use Rattle.session_replay.proofs.Needed.{on_err}
+use Rattle.session_replay.proofs.NextLine.{read_does, unread_does}
 use Rattle.session_replay.proofs.script.ScriptReader.finish.Goals as goal
 
 pub returns-in-Ok-None-clause-report : goal.returns-in-Ok-None-clause-report
@@ -39,3 +41,19 @@ returns-clause-report c = λ all before k.
     (subst (λ (i : InputData). TakesLine i (Err why) c.take.new.self) c.end.ensures c.in-Err.ensures.taken) done.ensures.told all before
     (subst (λ (x : ReaderData). Keeps x all (before ++ c.args.out.now.items)) (sym c.self.view_is) k)
     ∙ ap (λ (b : Bool). record { written = before ++ c.refuse.new.out.items; refused = b }) (sym refused)
+
+pub returns-in_err-do_line-in-Ok-Some-clause-needed : goal.returns-in_err-do_line-in-Ok-Some-clause-needed
+returns-in_err-do_line-in-Ok-Some-clause-needed c =
+    let r = c.self.inside in
+    let line = c.in-Ok-Some.line in
+    let takes : TakesLine c.end.new.self (Ok (Some line)) c.take.new.self = rw c.in-Ok-Some.field-0-is at c.in-Ok-Some.ensures.taken in
+    on_err c.from_residual.result
+    (subst (λ (x : ReaderData). NextDoesSomething (record x.input { over = true }) x.session) c.self.view_is
+    (subst (λ (i : InputData). NextDoesSomething i r.running.session) c.end.ensures (read_does c.end.new.self line r.running.session takes.1.0 c.in_err-do_line-in-Ok-Some.ensures.needed)))
+
+pub returns-in_err-refuse-in-Err-clause-needed : goal.returns-in_err-refuse-in-Err-clause-needed
+returns-in_err-refuse-in-Err-clause-needed c =
+    let r = c.self.inside in
+    on_err c.from_residual-in_err-refuse-in-Err.result
+    (subst (λ (x : ReaderData). NextDoesSomething (record x.input { over = true }) x.session) c.self.view_is
+    (subst (λ (i : InputData). NextDoesSomething i r.running.session) c.end.ensures (unread_does c.end.new.self c.take.new.self c.in-Err.why r.running.session c.in-Err.ensures.taken)))
