@@ -89,6 +89,7 @@ fn a_copy_without_the_last_members_is_smaller(rt: HostRuntime) -> Result<(), Fai
     assert!(rt; copy == v);
     let last = Name::new(5, 2)?;
     assert!(rt; copy.contains(&Member::Original(last)));
+    copy.reserve(&Member::Original(last))?;
     assert_eq!(rt; copy.count(5), 2);
     copy.drop_last(&Member::Original(last));
     assert!(rt; !copy.contains(&Member::Original(last)));
@@ -140,7 +141,7 @@ fn out_of_memory_leaves_a_shared_list(rt: HostRuntime) -> Result<(), Fail> {
 fn of_six_sites(alloc: Global) -> Result<Vector, Fail> {
     let mut v = Vector::new(alloc);
     for site in 0..6 {
-        v.push_count(site, 1)?;
+        v.raise(&Member::Original(Name::new(site, 1)?))?;
     }
     Ok(v)
 }
@@ -157,9 +158,10 @@ fn vectors_that_share_counts_change_alone(rt: HostRuntime) -> Result<(), Fail> {
     let mut v = with_shared_counts(rt.alloc())?;
     let mut copy = v.try_clone()?;
     v.raise(&Member::Original(Name::new(2, 2)?))?;
-    let last = Member::Original(Name::new(5, 1)?);
-    copy.reserve(&last)?;
-    copy.drop_last(&last);
+    let last = Name::new(5, 1)?;
+    copy.reserve(&Member::Original(last))?;
+    assert_eq!(rt; copy.count(5), 1);
+    copy.drop_last(&Member::Original(last));
     assert_eq!(rt;
         (v.sites(), v.rank(), copy.sites(), copy.rank()),
         (6, 7, 5, 5)
@@ -203,11 +205,12 @@ fn counts_of_which_the_names_alone_are_shared_change_in_place(rt: HostRuntime) -
 fn out_of_memory_leaves_shared_counts(rt: HostRuntime) -> Result<(), Fail> {
     let mut v = with_shared_counts(rt.alloc())?;
     let copy = v.try_clone()?;
-    if v.push_count(9, 1).is_err() {
-        assert_eq!(rt; v.sites(), 6);
-        v.push_count(9, 1)?;
+    let next = Member::Original(Name::new(5, 2)?);
+    if v.add(&next).is_err() {
+        assert_eq!(rt; v.rank(), 6);
+        v.add(&next)?;
     }
-    assert_eq!(rt; (v.sites(), copy.sites()), (7, 6));
+    assert_eq!(rt; (v.rank(), copy.rank()), (7, 6));
     Ok(())
 }
 
