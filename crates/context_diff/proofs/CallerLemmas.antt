@@ -1,7 +1,7 @@
 -- What the proofs of other crates cite of this crate's lemmas.
+pub use Rattle.context_diff.proofs.Agreeing.{agree_back, agree_itself, next_elsewhere, same_by_members}
 pub use Rattle.context_diff.proofs.BaseValues.{base_value}
 pub use Rattle.context_diff.proofs.Books.{covered_ready, not_past}
-pub use Rattle.context_diff.proofs.ClosedParts.{closed_beyond, covered_alike}
 pub use Rattle.context_diff.proofs.ClosedSets.{IsClosedSet, base_closed, base_group, base_itself, base_listed, base_original, base_stray, below_group, closed_context, closed_set, group_has_target, holds_original, in_group_below, in_original}
 pub use Rattle.context_diff.proofs.Complete.{IsComplete, closed_on, complete, context_push, formed_number, next_member}
 pub use Rattle.context_diff.proofs.Covering.{all_covered, covered_below, named_known, not_covered}

@@ -39,6 +39,10 @@ context_after c (o ∷ os) = context_after (raised c (member_of o)) os
 abbrev pub context_of_all : List OpData → ContextData
 context_of_all h = context_after empty h
 
+-- Agree: no name has one content in the one and other content in the other
+abbrev pub Agree : List OpData → List OpData → Type 0
+Agree h p = (o q : OpData) (n : NameData) → Contains h o → Contains p q → member_of o ≡ Original n → member_of q ≡ Original n → o ≡ q
+
 -- two histories with the same inserts and deletes, each at the same generation: authors and contexts of undos play no part
 pub record Same (h k : List OpData) : Type 0 where
   pub originals : (o : OpData) → is_original o ≡ true → Contains h o ↔ Contains k o

@@ -11,15 +11,15 @@ use Rattle.op_name.specs.declared.member.Member.{Member}
 use Rattle.op_name.specs.declared.member.Member.TheVariants.{Original}
 use Rattle.op_name.specs.Members.{target_of}
 use Rattle.context_diff.specs.Operations.{OpData, member_of}
-use Rattle.context_diff.specs.Histories.{is_known, IsValid}
+use Rattle.context_diff.specs.Histories.{is_known, IsValid, Agree}
 use Rattle.context_diff.specs.Replays.{text_of}
-use Rattle.context_diff.proofs.CallerLemmas.{contains_cases, contains_here, contains_later, contains_none, holder}
+use Rattle.context_diff.proofs.CallerLemmas.{agree_back, contains_cases, contains_here, contains_later, contains_none, holder}
 use Rattle.cot_site.specs.States.{State}
 use Rattle.cot_site.specs.declared.verdict.Verdict.{Verdict}
 use Rattle.peer_exchange.specs.declared.messages.PeerCause.TheVariants.{Head, Frame, Cut, Extra, Limit}
 use Rattle.peer_exchange.specs.declared.peer.Peer.{Peer}
 use Rattle.peer_exchange.specs.declared.peer.Peer.TheVariants as refused
-use Rattle.peer_exchange.specs.Joins.{unseen, joined, Agree, AreAlike, AreSound, IsExchanged, AnyExchangesMeet}
+use Rattle.peer_exchange.specs.Joins.{unseen, joined, AreAlike, AreSound, IsExchanged, AnyExchangesMeet}
 use Rattle.peer_exchange.specs.Exchanges.{Talk, IsExchange, IsQuiet, AgreeInAll, HaveJoined, UnrefusedCallsJoin, AgreeingSitesMeet, SecondExchangesAreEmpty, IsEmptyExchange}
 use Rattle.peer_exchange.specs.Lengths.{few_operations, ShortHistoriesHaveShortMessages}
 use Rattle.peer_exchange.specs.Taking.{with_history}
@@ -73,9 +73,6 @@ two_cases a b x at = elim (contains_cases a (b ∷ []) x at) [
   | inl first ↦ inl first
   | inr later ↦ elim (contains_cases b [] x later) [ inl second ↦ inr second | inr none ↦ absurd (contains_none x none) ]
 ]
-
-agree_back : (h p : List OpData) → Agree h p → Agree p h
-agree_back h p agree o q n there here is same = sym (agree q o n here there same is)
 
 pair_sound : (s j : State) → IsValid s.history → IsValid j.history → Agree s.history s.history → Agree j.history j.history → Agree s.history j.history → AreSound (s.history ∷ j.history ∷ [])
 pair_sound s j valid_s valid_j own_s own_j agree = record {

@@ -2,28 +2,14 @@
 use Rattle.std.proofs.Common.{◌≡◌, Bool, true, false, ◌⊎◌, inl, inr, List, [], ◌∷◌, ◌++◌, refl, ap, sym, subst, ◌∙◌, append-nil}
 use Rattle.std.specs.Prelude.{Contains, ◌||◌}
 use Rattle.op_name.specs.declared.member.Member.{Member}
-use Rattle.op_name.specs.declared.member.Member.TheVariants.{Original}
-use Rattle.op_name.specs.NameData.{NameData}
-use Rattle.context_vector.specs.Contexts.{has, entry_of}
-use Rattle.context_vector.proofs.CallerLemmas.{same_context}
-use Rattle.context_diff.specs.Operations.{OpData, inserting, deleting, undoing, member_of, is_original}
-use Rattle.context_diff.specs.Histories.{is_known, context_of_all, IsValid, Same}
-use Rattle.context_diff.proofs.CallerLemmas.{holder, known_member, complete, all_is_context, generation_is}
+use Rattle.context_vector.specs.Contexts.{has}
+use Rattle.context_diff.specs.Operations.{OpData, member_of}
+use Rattle.context_diff.specs.Histories.{is_known, context_of_all, IsValid, Agree}
+use Rattle.context_diff.proofs.CallerLemmas.{agree_back, agree_itself, complete, known_member, same_by_members}
 use Rattle.fixed_replay.proofs.CallerLemmas.{same_text, told_apart}
-use Rattle.peer_exchange.specs.Joins.{unseen, joined, Agree, EqualMembersAreAlike, BothSidesAreJoined, JoinsCommute, JoinsAssociate, JoinsAreIdempotent, AreSound, IsExchanged, AreExchanged, latest, AnyExchangesMeet}
+use Rattle.peer_exchange.specs.Joins.{unseen, joined, EqualMembersAreAlike, BothSidesAreJoined, JoinsCommute, JoinsAssociate, JoinsAreIdempotent, AreSound, IsExchanged, AreExchanged, latest, AnyExchangesMeet}
 use Rattle.peer_exchange.proofs.Unseen.{known_joined, unseen_nothing, unseen_append, unseen_contains, unseen_same}
 use Rattle.peer_exchange.proofs.ValidJoins.{joined_cases, joined_is_valid}
-
-original_name : (o : OpData) → is_original o ≡ true → (n : NameData) × (member_of o ≡ Original n)
-original_name (inserting n p ch c) is = (n, refl)
-original_name (deleting n p c) is = (n, refl)
-original_name (undoing a t g c) is = cc
-
-pub agree_back : (h p : List OpData) → Agree h p → Agree p h
-agree_back h p agree x y n at bt is js = sym (agree y x n bt at js is)
-
-pub agree_itself : (h : List OpData) → IsValid h → Agree h h
-agree_itself h v x y n at bt is js = (complete h v).one x y at bt (is ∙ sym js)
 
 pub agree_joined : (h p l : List OpData) → Agree h l → Agree p l → Agree (joined h p) l
 agree_joined h p l first second x y n at bt is js =
@@ -34,28 +20,9 @@ agree_joined h p l first second x y n at bt is js =
 
 -- ---- same members
 
-moved : (h p : List OpData) → Agree h p → ((m : Member) → is_known h m ≡ true → is_known p m ≡ true) → (o : OpData) → is_original o ≡ true → Contains h o → Contains p o
-moved h p agree within o original at =
-    let name = original_name o original in
-    let held = holder p (Original name.0) (within (Original name.0) (ap (is_known h) (sym name.1) ∙ known_member h o at)) in
-    subst (λ (x : OpData). Contains p x) (sym (agree o held.op name.0 at held.there name.1 held.is)) held.there
-
-pub same_members : (h p : List OpData) → IsValid h → IsValid p → ((m : Member) → is_known h m ≡ is_known p m) → context_of_all h ≡ context_of_all p
-same_members h p v w same =
-    same_context (context_of_all h) (context_of_all p) (all_is_context h v) (all_is_context p w) (λ m. (complete h v).holds m ∙ (same m ∙ sym ((complete p w).holds m)))
-
-equal_members_are_same : (h p : List OpData) → IsValid h → IsValid p → Agree h p → ((m : Member) → is_known h m ≡ is_known p m) → Same h p
-equal_members_are_same h p v w agree same = record {
-  originals = λ o original. (
-    moved h p agree (λ m e. sym (same m) ∙ e) o original,
-    moved p h (agree_back h p agree) (λ m e. same m ∙ e) o original,
-  );
-  generations = λ t known. generation_is h v t ∙ (ap (λ c. entry_of c t) (same_members h p v w same) ∙ sym (generation_is p w t));
-}
-
 pub equal_members_are_alike : EqualMembersAreAlike
 equal_members_are_alike h p v w agree members =
-    let same = equal_members_are_same h p v w agree members in
+    let same = same_by_members h p v w agree (λ m e. sym (members m) ∙ e) (λ m e. members m ∙ e) in
     (same, same_text h p (told_apart h v) (told_apart p w) same)
 
 -- ---- both sides

@@ -22,7 +22,7 @@ use Rattle.peer_exchange.specs.declared.messages.Measure.TheVariants as message
 use Rattle.peer_exchange.specs.declared.messages.PeerCause.{PeerCause}
 use Rattle.peer_exchange.specs.declared.peer.Peer.{Peer}
 use Rattle.peer_exchange.specs.declared.peer.Peer.TheVariants as peer
-use Rattle.peer_exchange.specs.Joins.{unseen, joined, Agree, AreAlike, IsJoined}
+use Rattle.peer_exchange.specs.Joins.{unseen, joined, AreAlike, IsJoined}
 use Rattle.peer_exchange.specs.Measuring.{measure_of}
 use Rattle.peer_exchange.specs.Messages.{end_mark, telling, first_message, second_message, third_message, IsFirst, IsSecond, IsThird, IsAnswered}
 use Rattle.peer_exchange.specs.Refusals.{IsWhole, IsUnread, Spoils}

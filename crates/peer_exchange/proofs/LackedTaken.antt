@@ -9,8 +9,8 @@ use Rattle.op_name.specs.declared.member.Member.TheVariants.{Original, Group}
 use Rattle.op_name.specs.NameData.{NameData}
 use Rattle.op_name.specs.Members.{member_eq}
 use Rattle.context_diff.specs.Operations.{OpData, inserting, deleting, undoing, member_of, context_of, IsWellFormed}
-use Rattle.context_diff.specs.Histories.{is_known, LacksNothing, IsNext, IsValid}
-use Rattle.context_diff.proofs.CallerLemmas.{by_pushes, complete, contains_cases, contains_here, contains_later, contains_none, holder, known_member, known_on, known_push, member_same}
+use Rattle.context_diff.specs.Histories.{is_known, LacksNothing, IsNext, IsValid, Agree}
+use Rattle.context_diff.proofs.CallerLemmas.{by_pushes, complete, contains_cases, contains_here, contains_later, contains_none, holder, known_member, known_on, known_push, member_same, next_elsewhere}
 use Rattle.cot_site.specs.declared.verdict.Verdict.{Verdict}
 use Rattle.cot_site.specs.declared.verdict.Verdict.TheVariants.{Repeat, Integrated}
 use Rattle.cot_site.specs.Verdicts.{IsRepeat, HasOther}
@@ -18,10 +18,10 @@ use Rattle.cot_site.specs.States.{State, judged, delivered, after_verdict}
 use Rattle.cot_site.specs.Releases.{IsSound, IsLater, settled}
 use Rattle.cot_site.specs.Sites.{AllFormed}
 use Rattle.cot_site.proofs.CallerLemmas.{group_reached, next_integrated, verdicts_exact}
-use Rattle.peer_exchange.specs.Joins.{unseen, Agree}
+use Rattle.peer_exchange.specs.Joins.{unseen}
 use Rattle.peer_exchange.specs.Taking.{taken_in, LackedOperationsAreTaken}
 use Rattle.peer_exchange.proofs.Unseen.{unseen_append, unseen_contains, unseen_old, unseen_new}
-use Rattle.peer_exchange.proofs.ValidJoins.{agree_front, next_elsewhere}
+use Rattle.peer_exchange.proofs.ValidJoins.{agree_front}
 use Rattle.peer_exchange.proofs.Receivings.{taken_append, taken_by, taken_none}
 use Rattle.peer_exchange.proofs.Later.{later_settled, settled_later, taking_in_keeps_histories}
 use Rattle.peer_exchange.proofs.Origins.{comes_taken}

@@ -1,5 +1,4 @@
 pub mod Unseen
-mod SameInserts
 pub mod ValidJoins
 pub mod BothSides
 pub mod Staying

@@ -2,7 +2,7 @@
 use Rattle.std.proofs.Common.{◌≡◌, ℕ, List, [], ◌∷◌, ◌++◌, refl, ap, sym, ◌∙◌, append-nil, Result, Ok}
 use Rattle.context_diff.specs.Operations.{OpData}
 use Rattle.context_diff.specs.Histories.{is_known, IsNext, IsValid, IsValidAfter}
-use Rattle.context_diff.proofs.CallerLemmas.{contains_none, shifted, valid_push}
+use Rattle.context_diff.proofs.CallerLemmas.{agree_back, contains_none, shifted, valid_push}
 use Rattle.cot_site.specs.declared.verdict.Verdict.{Verdict}
 use Rattle.cot_site.specs.declared.verdict.Verdict.TheVariants.{Repeat, Forged, Waits, NotClosed, PlaceOut, Integrated}
 use Rattle.cot_site.specs.Verdicts.{verdict_of}
@@ -11,7 +11,7 @@ use Rattle.cot_site.specs.Releases.{settled}
 use Rattle.cot_site.proofs.CallerLemmas.{settled_stays, next_integrated, integrated_next, unknown_no_repeat, verdicts_exact}
 use Rattle.peer_exchange.specs.Joins.{unseen}
 use Rattle.peer_exchange.proofs.ValidJoins.{lacked_operations_are_next}
-use Rattle.peer_exchange.proofs.BothSides.{agree_back, third_is}
+use Rattle.peer_exchange.proofs.BothSides.{third_is}
 use Rattle.peer_exchange.specs.Taking.{Refusal, by_verdict, taken_in, NextOperationsAreTaken, BothSidesTakeAll, AreNew, NewOperationsAreAppended}
 
 abbrev state : ℕ → List OpData → State

@@ -2,13 +2,13 @@
 use Rattle.std.specs.Prelude.{◌≡◌, ℕ, List, [], ◌++◌, length}
 use Rattle.context_vector.specs.Contexts.{ContextData}
 use Rattle.context_diff.specs.Operations.{OpData}
-use Rattle.context_diff.specs.Histories.{is_known}
+use Rattle.context_diff.specs.Histories.{is_known, Agree}
 use Rattle.cot_site.specs.States.{State}
 use Rattle.cot_site.specs.Releases.{IsSound}
 use Rattle.peer_exchange.specs.declared.messages.Which.TheVariants.{First, Second, Third}
 use Rattle.peer_exchange.specs.declared.peer.Peer.{Peer}
 use Rattle.peer_exchange.specs.declared.peer.Peer.TheVariants as peer
-use Rattle.peer_exchange.specs.Joins.{unseen, joined, Agree, AreAlike, IsJoined}
+use Rattle.peer_exchange.specs.Joins.{unseen, joined, AreAlike, IsJoined}
 use Rattle.peer_exchange.specs.Messages.{first_message, IsFirst, IsSecond, IsThird, IsAnswered}
 use Rattle.peer_exchange.specs.Refusals.{IsWhole, IsUnread}
 use Rattle.peer_exchange.specs.Taking.{with_history}

@@ -4,7 +4,7 @@ use Rattle.op_name.specs.declared.member.Member.{Member}
 use Rattle.op_name.specs.declared.member.Member.TheVariants.{Original}
 use Rattle.op_name.specs.NameData.{NameData}
 use Rattle.context_diff.specs.Operations.{OpData, member_of, is_original}
-use Rattle.context_diff.specs.Histories.{is_known, IsValid, IsValidAfter, Same}
+use Rattle.context_diff.specs.Histories.{is_known, IsValid, IsValidAfter, Same, Agree}
 use Rattle.context_diff.specs.Replays.{text_of}
 
 -- the operations whose member isn't among those known, in their order
@@ -14,10 +14,6 @@ unseen knows os = filter (λ o. not (knows (member_of o))) os
 -- the first history, and after it what it lacks of the second
 abbrev pub joined : List OpData → List OpData → List OpData
 joined h p = h ++ unseen (is_known h) p
-
--- Agree: no name has one content in the one and other content in the other
-abbrev pub Agree : List OpData → List OpData → Type 0
-Agree h p = (o q : OpData) (n : NameData) → Contains h o → Contains p q → member_of o ≡ Original n → member_of q ≡ Original n → o ≡ q
 
 -- Joined: the members of both and no others, and each original one of the two
 pub record IsJoined (h p j : List OpData) : Type 0 where

@@ -2,13 +2,13 @@
 use Rattle.std.specs.Prelude.{◌≡◌, ◌⊎◌, false, List, [], ◌∷◌, ◌++◌, Result, Ok, Err}
 use Rattle.op_name.specs.declared.member.Member.{Member}
 use Rattle.context_diff.specs.Operations.{OpData, member_of, IsWellFormed}
-use Rattle.context_diff.specs.Histories.{IsValid, IsValidAfter, is_known}
+use Rattle.context_diff.specs.Histories.{IsValid, IsValidAfter, Agree, is_known}
 use Rattle.cot_site.specs.declared.verdict.Verdict.{Verdict}
 use Rattle.cot_site.specs.declared.verdict.Verdict.TheVariants.{Repeat, Forged, Waits, NotClosed, PlaceOut, Integrated}
 use Rattle.cot_site.specs.States.{State, Released, judged, delivered}
 use Rattle.cot_site.specs.Releases.{IsSound, IsLater, all_releases, state_after, settled}
 use Rattle.cot_site.specs.Sites.{AllFormed}
-use Rattle.peer_exchange.specs.Joins.{unseen, joined, Agree}
+use Rattle.peer_exchange.specs.Joins.{unseen, joined}
 
 -- why an operation isn't taken in: its member, and its verdict
 pub record Refusal : Type 0 where

@@ -11,8 +11,8 @@ use Rattle.op_name.specs.declared.member.Member.TheVariants.{Original}
 use Rattle.op_name.specs.declared.name.TheConstants.{SITES}
 use Rattle.op_name.specs.NameData.{NameData}
 use Rattle.context_diff.specs.Operations.{OpData, inserting, deleting, undoing, member_of, context_of}
-use Rattle.context_diff.specs.Histories.{is_known, LacksNothing, IsNext, IsValid, Same}
-use Rattle.context_diff.proofs.CallerLemmas.{contains_cases, contains_here, contains_none, holder, known_member, known_on, shifted}
+use Rattle.context_diff.specs.Histories.{is_known, LacksNothing, IsNext, IsValid, Same, Agree}
+use Rattle.context_diff.proofs.CallerLemmas.{contains_cases, contains_here, contains_none, holder, known_member, known_on, next_elsewhere, same_by_members, shifted}
 use Rattle.fixed_replay.proofs.CallerLemmas.{same_text, told_apart}
 use Rattle.cot_site.specs.declared.verdict.Verdict.{Verdict}
 use Rattle.cot_site.specs.declared.verdict.Verdict.TheVariants.{Repeat, Integrated}
@@ -31,7 +31,6 @@ use Rattle.session_replay.specs.Generating.{Plan, drawn_operation, draws_from, t
 use Rattle.session_replay.proofs.Steps.{last_append}
 use Rattle.session_replay.proofs.Releasing.{last_freed}
 use Rattle.session_replay.proofs.Sound.{last_at}
-use Rattle.session_replay.proofs.Agreeing.{Agree, next_elsewhere, same_by_members}
 use Rattle.session_replay.proofs.Room.{no_longer}
 use Rattle.session_replay.proofs.Making.{Makes, drawn_makes}
 

@@ -14,7 +14,6 @@ pub mod ShownPlaces
 pub mod Loops
 pub mod Lines
 pub mod Characters
-mod Agreeing
 mod Names
 mod Room
 mod Gathering

@@ -1,4 +1,4 @@
--- Histories that agree: an operation that is next in one is next in any other that has its context.
+-- Histories that agree: an operation that is next in one is next in any other that has its context, and two with the same members are the same.
 use Rattle.std.proofs.Common.{◌≡◌, ℕ, zero, suc, ◌+◌, ◌≤◌, Bool, true, false, inl, inr, List, [], ◌∷◌, ◌++◌, refl, ap, sym, subst, ◌∙◌, arith}
 use Rattle.std.specs.Prelude.{Contains, Some, slice_get, ◌&&◌, if◌then◌else◌}
 use Rattle.std.proofs.lemmas.Bool.{false≢true, or_parts}
@@ -11,14 +11,23 @@ use Rattle.op_name.specs.Members.{member_eq}
 use Rattle.context_vector.specs.Contexts.{ContextData, AreCounts, Within, has, count_of, entry_of}
 use Rattle.context_vector.proofs.CallerLemmas.{same_context}
 use Rattle.context_diff.specs.Operations.{OpData, inserting, deleting, undoing, member_of, context_of, is_insert, is_original, IsWellFormed}
-use Rattle.context_diff.specs.Histories.{is_known, inserts_in, context_of_all, LacksNothing, IsValid, IsNext, HasPlace, Same}
+use Rattle.context_diff.specs.Histories.{is_known, inserts_in, context_of_all, LacksNothing, IsValid, IsNext, HasPlace, Same, Agree}
 use Rattle.context_diff.specs.Code.Counting.{is_insert_of, inserts_of, inserts_listed}
-use Rattle.op_name.proofs.CallerLemmas.{member_itself, member_apart}
-use Rattle.context_diff.proofs.CallerLemmas.{contains_none, holder, known_member, by_pushes, complete, formed_number, has_original, inserts_by_site, no_inserts, count_at, all_is_context, generation_is}
+use Rattle.context_diff.proofs.Names.{member_itself, member_apart}
+use Rattle.context_diff.proofs.Known.{contains_none, holder, known_member}
+use Rattle.context_diff.proofs.Raising.{has_original}
+use Rattle.context_diff.proofs.Valid.{by_pushes}
+use Rattle.context_diff.proofs.Complete.{complete, formed_number}
+use Rattle.context_diff.proofs.Generations.{generation_is}
+use Rattle.context_diff.proofs.Inserts.{inserts_by_site, no_inserts}
+use Rattle.context_diff.proofs.Listings.{count_at}
+use Rattle.context_diff.proofs.Members.{all_is_context}
 
--- no name has one content in the one and other content in the other
-abbrev pub Agree : List OpData → List OpData → Type 0
-Agree h p = (o q : OpData) (n : NameData) → Contains h o → Contains p q → member_of o ≡ Original n → member_of q ≡ Original n → o ≡ q
+pub agree_back : (h p : List OpData) → Agree h p → Agree p h
+agree_back h p agree x y n at bt is js = sym (agree y x n bt at js is)
+
+pub agree_itself : (h : List OpData) → IsValid h → Agree h h
+agree_itself h v x y n at bt is js = (complete h v).one x y at bt (is ∙ sym js)
 
 -- ---- inserts of a context
 
@@ -150,9 +159,6 @@ moved h p agree within o original at =
     let name = original_name o original in
     let held = holder p (Original name.0) (within (Original name.0) (ap (is_known h) (sym name.1) ∙ known_member h o at)) in
     subst (λ (x : OpData). Contains p x) (sym (agree o held.op name.0 at held.there name.1 held.is)) held.there
-
-agree_back : (h p : List OpData) → Agree h p → Agree p h
-agree_back h p agree x y n at bt is js = sym (agree y x n bt at js is)
 
 both_ways : (a b : Bool) → (a ≡ true → b ≡ true) → (b ≡ true → a ≡ true) → a ≡ b
 both_ways true b to from = sym (to refl)
