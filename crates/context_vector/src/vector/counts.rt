@@ -287,7 +287,7 @@ fn grown(alloc: Global, list: &[(u16, u32)]) -> Result<Vec<(u16, u32)>, Memory>
     Ok(all)
 }
 
-// Makes the number the count of the site.
+// Makes the number the count of the site, among the few that stand in the vector itself.
 fn put_few(counts: &mut ArrayVec<(u16, u32), FEW>, site: u16, number: u32)
     requires rising { AreCounts 0 counts.old.items }
     requires room { count_in counts.old.items site ≡ 0 → length counts.old.items < FEW }
@@ -299,6 +299,7 @@ fn put_few(counts: &mut ArrayVec<(u16, u32), FEW>, site: u16, number: u32)
     }
 }
 
+// Makes the number the count of the site, in a list of its own.
 fn put_site(counts: &mut Vec<(u16, u32)>, site: u16, number: u32)
     requires rising { AreCounts 0 counts.old.items }
     requires room { count_in counts.old.items site ≡ 0 → vec_len counts.old < vec_capacity counts.old }
@@ -313,7 +314,7 @@ fn put_site(counts: &mut Vec<(u16, u32)>, site: u16, number: u32)
     }
 }
 
-// Takes one from the count of the site, which is the number.
+// Takes one from the count of the site, which is the number, among the few that stand in the vector itself.
 fn lower_few(counts: &mut ArrayVec<(u16, u32), FEW>, site: u16, number: u32)
     requires rising { AreCounts 0 counts.old.items }
     requires least { 1 ≤ number }
@@ -329,6 +330,7 @@ fn lower_few(counts: &mut ArrayVec<(u16, u32), FEW>, site: u16, number: u32)
     }
 }
 
+// Takes one from the count of the site, which is the number, in a list of its own.
 fn lower_site(counts: &mut Vec<(u16, u32)>, site: u16, number: u32)
     requires rising { AreCounts 0 counts.old.items }
     requires least { 1 ≤ number }
