@@ -10,14 +10,30 @@ use op_name::{Member, Memory, Name};
 use std::alloc::Global;
 use std::test::Fail;
 
+/// The target of most undos.
+const FIRST: Name = Name { site: 0, number: 1 };
+
+const SECOND: Name = Name { site: 0, number: 2 };
+
+fn raise(set: &mut Vector, site: u16, number: u32) -> Result<(), Fail> {
+    if number > 0 {
+        let name = Name::new(site, number)?;
+        set.raise(&Member::Original(name))?;
+    }
+    Ok(())
+}
+
+fn raise_all(set: &mut Vector, counts: &[(u16, u32)]) -> Result<(), Fail> {
+    for (site, number) in counts {
+        raise(set, *site, *number)?;
+    }
+    Ok(())
+}
+
 /// The set with the first originals of these sites.
 fn known(alloc: Global, counts: &[(u16, u32)]) -> Result<Vector, Fail> {
     let mut set = Vector::new(alloc);
-    for (site, number) in counts {
-        if *number > 0 {
-            set.raise(&Member::Original(Name::new(*site, *number)?))?;
-        }
-    }
+    raise_all(&mut set, counts)?;
     Ok(set)
 }
 
@@ -92,26 +108,50 @@ fn lacking(alloc: Global, book: &Book, from: &Vector, to: &Vector) -> Result<Vec
 
 /// An insert in front of all cells, of a site that has seen only its own.
 fn typed(alloc: Global, site: u16, number: u32, ch: char) -> Result<Op, Fail> {
+    let name = Name::new(site, number)?;
     let before = known(alloc, &[(site, number.saturating_sub(1))])?;
-    Ok(insert(Name::new(site, number)?, 0, ch, before))
+    Ok(insert(name, 0, ch, before))
+}
+
+fn type_three(alloc: Global, book: &mut Book) -> Result<(), Fail> {
+    for (site, number, ch) in [(2, 1, 'x'), (2, 2, 'y'), (1, 1, 'm'), (3, 1, 'n')] {
+        take_in(book, typed(alloc, site, number, ch)?)?;
+    }
+    Ok(())
 }
 
 /// Two inserts of site 2, and then one each of sites 1 and 3 that know neither.
 fn three_sites(alloc: Global) -> Result<Book, Fail> {
     let mut book = Book::new(alloc);
-    for (site, number, ch) in [(2, 1, 'x'), (2, 2, 'y'), (1, 1, 'm'), (3, 1, 'n')] {
-        take_in(&mut book, typed(alloc, site, number, ch)?)?;
-    }
+    type_three(alloc, &mut book)?;
     Ok(book)
 }
 
-/// The members that the second context of a book of `three_sites` has and the first lacks.
-fn between(alloc: Global, from: &[(u16, u32)], to: &[(u16, u32)]) -> Result<Vec<Member>, Fail> {
-    let book = three_sites(alloc)?;
+/// The members that the second context has and the first lacks.
+fn between(
+    alloc: Global,
+    book: &Book,
+    from: &[(u16, u32)],
+    to: &[(u16, u32)],
+) -> Result<Vec<Member>, Fail> {
     let from = known(alloc, from)?;
     let to = known(alloc, to)?;
-    let found = lacking(alloc, &book, &from, &to)?;
-    Ok(found)
+    Ok(lacking(alloc, book, &from, &to)?)
+}
+
+/// Whether these are the members that the second context of a book of `three_sites` has and the first lacks, in
+/// their order.
+fn differ_by(
+    alloc: Global,
+    from: &[(u16, u32)],
+    to: &[(u16, u32)],
+    members: &[Member],
+) -> Result<bool, Fail> {
+    let book = three_sites(alloc)?;
+    match between(alloc, &book, from, to) {
+        Ok(found) => Ok(found.as_slice() == members),
+        Err(why) => Err(why),
+    }
 }
 
 /// The originals of these sites and numbers.
@@ -146,54 +186,68 @@ fn a_difference_goes_in_the_order_of_integration(rt: HostRuntime) -> Result<(), 
             [(2, 2), (1, 1)],
         ),
     ] {
-        let found = between(rt.alloc(), &[(2, seen), (3, third)], &[(2, 2), (1, other)])?;
         let members = originals(members)?;
-        assert_eq!(rt; found.as_slice(), members.as_slice(), "{why}");
+        assert!(rt;
+            differ_by(
+                rt.alloc(),
+                &[(2, seen), (3, third)],
+                &[(2, 2), (1, other)],
+                &members
+            )?,
+            "{why}"
+        );
     }
     Ok(())
 }
 
 #[test]
 fn a_book_finds_what_was_pushed(rt: HostRuntime) -> Result<(), Fail> {
-    let alloc = rt.alloc();
-    let mut book = three_sites(alloc)?;
-    let second = typed(alloc, 2, 2, 'y')?;
+    let second = typed(rt.alloc(), 2, 2, 'y')?;
+    let mut book = three_sites(rt.alloc())?;
+    let name = Name { site: 2, number: 2 };
     assert_eq!(rt; book.len(), 4);
     assert!(rt; book.op(1) == Some(&second));
     assert!(rt; book.op(4).is_none());
-    assert_eq!(rt; book.member(1), Some(Member::Original(Name::new(2, 2)?)));
+    assert!(rt; book.member(1) == Some(Member::Original(name)));
     assert!(rt; book.member(4).is_none());
-    assert!(rt; book.original(&Name::new(2, 2)?) == Some(&second));
-    assert!(rt; book.original(&Name::new(2, 3)?).is_none());
+    assert!(rt; book.original(&name) == Some(&second));
+    assert!(rt; book.original(&Name { site: 2, number: 3 }).is_none());
     // it is there already
     assert!(rt; !take_in(&mut book, second)?);
     Ok(())
 }
 
-/// A book of so many inserts of site 0.
-fn long_book(alloc: Global, length: u32) -> Result<Book, Fail> {
-    let mut book = Book::new(alloc);
+fn type_on(alloc: Global, book: &mut Book, length: u32) -> Result<(), Fail> {
     for number in 1..=length {
-        take_in(&mut book, typed(alloc, 0, number, 'a')?)?;
+        take_in(book, typed(alloc, 0, number, 'a')?)?;
     }
-    Ok(book)
+    Ok(())
+}
+
+/// Whether a book of so many inserts of site 0 has this as its last.
+fn ends_with(alloc: Global, length: u32, last: Name) -> Result<bool, Fail> {
+    let mut book = Book::new(alloc);
+    type_on(alloc, &mut book, length)?;
+    Ok(
+        book.len() == length
+            && book.member(length.saturating_sub(1)) == Some(Member::Original(last)),
+    )
 }
 
 #[test]
 fn a_book_has_no_end_at_16_bits(rt: HostRuntime) -> Result<(), Fail> {
-    let book = long_book(rt.alloc(), 65_537)?;
-    assert_eq!(rt; book.len(), 65_537);
-    assert_eq!(rt;
-        book.member(65_536),
-        Some(Member::Original(Name::new(0, 65_537)?))
-    );
+    let last = Name {
+        site: 0,
+        number: 65_537,
+    };
+    assert!(rt; ends_with(rt.alloc(), 65_537, last)?);
     Ok(())
 }
 
 /// An insert 0.1 at this place, after so many originals of site 0, with an undo entry of 0.2.
 fn odd_insert(alloc: Global, place: u32, count: u32, entry: u16) -> Result<Op, Fail> {
-    let context = with_entry(known(alloc, &[(0, count)])?, Name::new(0, 2)?, entry)?;
-    Ok(insert(Name::new(0, 1)?, place, 'a', context))
+    let context = with_entry(known(alloc, &[(0, count)])?, SECOND, entry)?;
+    Ok(insert(FIRST, place, 'a', context))
 }
 
 #[test]
@@ -219,7 +273,7 @@ fn a_fault_of_an_insert_is_the_first_rule_that_it_breaks(rt: HostRuntime) -> Res
         ("own and stray", 0, 1, 1, Some(OpFault::Own)),
     ] {
         let op = odd_insert(rt.alloc(), place, count, entry)?;
-        assert_eq!(rt; op.fault(), fault, "{why}");
+        assert!(rt; op.fault() == fault, "{why}");
     }
     Ok(())
 }
@@ -233,12 +287,11 @@ fn odd_undo(
     count: u32,
     entries: (u16, u16),
 ) -> Result<Op, Fail> {
-    let target = Name::new(0, 1)?;
-    let context = with_entry(known(alloc, &[(0, count)])?, target, entries.0)?;
-    let context = with_entry(context, Name::new(0, 2)?, entries.1)?;
+    let context = with_entry(known(alloc, &[(0, count)])?, FIRST, entries.0)?;
+    let context = with_entry(context, SECOND, entries.1)?;
     Ok(Op::Undo {
         author,
-        target,
+        target: FIRST,
         generation,
         context,
     })
@@ -285,21 +338,21 @@ fn a_fault_of_an_undo_is_the_first_rule_that_it_breaks(rt: HostRuntime) -> Resul
         ("target and stray", 0, 1, 0, (0, 1), Some(OpFault::Target)),
     ] {
         let op = odd_undo(rt.alloc(), author, generation, count, entries)?;
-        assert_eq!(rt; op.fault(), fault, "{why}");
+        assert!(rt; op.fault() == fault, "{why}");
     }
     Ok(())
 }
 
 /// Site 1 writes after the first character of site 0.
 fn written_after(alloc: Global) -> Result<Op, Fail> {
-    let context = known(alloc, &[(0, 1)])?;
-    Ok(insert(Name::new(1, 1)?, 1, 'b', context))
+    let name = Name { site: 1, number: 1 };
+    Ok(insert(name, 1, 'b', known(alloc, &[(0, 1)])?))
 }
 
 /// Site 0 deletes its first character.
 fn deleted(alloc: Global) -> Result<Op, Fail> {
     Ok(Op::Delete {
-        name: Name::new(0, 2)?,
+        name: SECOND,
         place: 0,
         context: known(alloc, &[(0, 1)])?,
     })
@@ -307,12 +360,11 @@ fn deleted(alloc: Global) -> Result<Op, Fail> {
 
 /// Site 1 undoes or redoes the first character of site 0, after it was turned so often.
 fn turned(alloc: Global, before: u16) -> Result<Op, Fail> {
-    let target = Name::new(0, 1)?;
     Ok(Op::Undo {
         author: 1,
-        target,
+        target: FIRST,
         generation: before.saturating_add(1),
-        context: with_entry(known(alloc, &[(0, 1)])?, target, before)?,
+        context: with_entry(known(alloc, &[(0, 1)])?, FIRST, before)?,
     })
 }
 
@@ -326,13 +378,18 @@ fn step(alloc: Global, i: u16) -> Result<Op, Fail> {
     }
 }
 
+fn take_steps(alloc: Global, book: &mut Book) -> Result<(), Fail> {
+    for i in 0..5 {
+        take_in(book, step(alloc, i)?)?;
+    }
+    Ok(())
+}
+
 /// Site 0 writes a character and site 1 another after it; site 0 deletes its own, not having seen that of
 /// site 1, which undoes and redoes the first insert.
 fn undone(alloc: Global) -> Result<Book, Fail> {
     let mut book = Book::new(alloc);
-    for i in 0..5 {
-        take_in(&mut book, step(alloc, i)?)?;
-    }
+    take_steps(alloc, &mut book)?;
     Ok(book)
 }
 
@@ -349,14 +406,18 @@ fn comes_back(book: &mut Book, op: Op, again: &Op) -> Result<bool, Memory> {
     }
 }
 
+/// Whether a book of five gives an operation back, and takes it once more.
+fn gives_back(book: &mut Book, redone: Op, again: Op) -> Result<bool, Memory> {
+    Ok(comes_back(book, again, &redone)? && book.len() == 5 && take_in(book, redone)?)
+}
+
 #[test]
 fn a_book_gives_the_last_one_back(rt: HostRuntime) -> Result<(), Fail> {
+    let redone = turned(rt.alloc(), 2)?;
+    let again = turned(rt.alloc(), 2)?;
     let mut book = undone(rt.alloc())?;
     book.share();
-    let redone = turned(rt.alloc(), 2)?;
-    assert!(rt; comes_back(&mut book, turned(rt.alloc(), 2)?, &redone)?);
-    assert_eq!(rt; book.len(), 5);
-    assert!(rt; take_in(&mut book, redone)?);
+    assert!(rt; gives_back(&mut book, redone, again)?);
     assert!(rt; Book::new(rt.alloc()).pop().is_none());
     Ok(())
 }
@@ -370,11 +431,16 @@ fn a_copy_is_equal(rt: HostRuntime) -> Result<(), Fail> {
     Ok(())
 }
 
-/// The first open site of this context of a book of `undone`, and the number of its inserts.
+/// The first open site of this context, and the number of its inserts.
+fn judged_in(book: &Book, context: &Vector) -> (Option<u16>, u32) {
+    (open_site(book, context), inserts(book, context))
+}
+
+/// The same of a book of `undone`.
 fn judged(alloc: Global, ours: u32, theirs: u32) -> Result<(Option<u16>, u32), Fail> {
-    let book = undone(alloc)?;
     let context = known(alloc, &[(0, ours), (1, theirs)])?;
-    Ok((open_site(&book, &context), inserts(&book, &context)))
+    let book = undone(alloc)?;
+    Ok(judged_in(&book, &context))
 }
 
 #[test]
@@ -386,15 +452,17 @@ fn a_context_is_judged_within_the_book(rt: HostRuntime) -> Result<(), Fail> {
         ("a delete is no insert", 2, 1, None, 2),
     ] {
         let seen = judged(rt.alloc(), ours, theirs)?;
-        assert_eq!(rt; seen.0, open, "{why}");
-        assert_eq!(rt; seen.1, count, "{why}");
+        assert!(rt; seen.0 == open && seen.1 == count, "{why}");
     }
     Ok(())
 }
 
 /// The first original of site 63: an insert after the first character of site 0, or a delete of that.
 fn of_last_site(alloc: Global, is_insert: bool) -> Result<Op, Fail> {
-    let name = Name::new(63, 1)?;
+    let name = Name {
+        site: 63,
+        number: 1,
+    };
     let context = known(alloc, &[(0, 1)])?;
     if is_insert {
         return Ok(insert(name, 1, 'z', context));
@@ -406,15 +474,30 @@ fn of_last_site(alloc: Global, is_insert: bool) -> Result<Op, Fail> {
     })
 }
 
+/// Takes the one in after the other was there and was taken out; answers whether both went so.
+fn replaces(book: &mut Book, other: Op, again: Op, one: Op) -> Result<bool, Memory> {
+    Ok(comes_back(book, again, &other)? && take_in(book, one)?)
+}
+
+fn replace_last(alloc: Global, book: &mut Book, is_insert: bool) -> Result<bool, Fail> {
+    let other = of_last_site(alloc, !is_insert)?;
+    let again = of_last_site(alloc, !is_insert)?;
+    let one = of_last_site(alloc, is_insert)?;
+    Ok(replaces(book, other, again, one)?)
+}
+
+fn counted_in(alloc: Global, book: &mut Book, is_insert: bool) -> Result<u32, Fail> {
+    if !replace_last(alloc, book, is_insert)? {
+        return Ok(0);
+    }
+    let context = known(alloc, &[(0, 1), (63, 1)])?;
+    Ok(inserts(book, &context))
+}
+
 /// The number of inserts of site 0's first original and of site 63's, after another one of that name was there.
 fn counted_again(alloc: Global, is_insert: bool) -> Result<u32, Fail> {
     let mut book = undone(alloc)?;
-    let other = of_last_site(alloc, !is_insert)?;
-    if !comes_back(&mut book, of_last_site(alloc, !is_insert)?, &other)? {
-        return Ok(0);
-    }
-    take_in(&mut book, of_last_site(alloc, is_insert)?)?;
-    Ok(inserts(&book, &known(alloc, &[(0, 1), (63, 1)])?))
+    counted_in(alloc, &mut book, is_insert)
 }
 
 #[test]
@@ -428,33 +511,41 @@ fn what_was_taken_out_is_not_counted(rt: HostRuntime) -> Result<(), Fail> {
     Ok(())
 }
 
+fn is_base(alloc: Global, book: &Book, m: &Member, wanted: &Vector) -> Result<bool, Fail> {
+    match base(alloc, book, m) {
+        Ok(Some(found)) => Ok(found == *wanted),
+        Ok(None) => Ok(false),
+        Err(why) => Err(Fail::from(why)),
+    }
+}
+
 /// Whether, in a book of `undone`, the member's base context is so many originals of site 0 with the groups
 /// of the first up to a generation.
 fn has_base(alloc: Global, m: Member, count: u32, generation: u16) -> Result<bool, Fail> {
+    let wanted = with_entry(known(alloc, &[(0, count)])?, FIRST, generation)?;
     let book = undone(alloc)?;
-    let wanted = with_entry(known(alloc, &[(0, count)])?, Name::new(0, 1)?, generation)?;
-    let found = base(alloc, &book, &m)?;
-    Ok(found == Some(wanted))
+    is_base(alloc, &book, &m, &wanted)
 }
 
 /// Whether a book of `undone` lacks the member.
 fn lacks(alloc: Global, m: Member) -> Result<bool, Fail> {
     let book = undone(alloc)?;
-    let found = base(alloc, &book, &m)?;
-    Ok(found.is_none())
+    match base(alloc, &book, &m) {
+        Ok(found) => Ok(found.is_none()),
+        Err(why) => Err(Fail::from(why)),
+    }
 }
 
 #[test]
 fn a_base_context_is_what_a_member_was_made_after(rt: HostRuntime) -> Result<(), Fail> {
-    let first = Name::new(0, 1)?;
-    let after = Member::Original(Name::new(1, 1)?);
+    let after = Member::Original(Name { site: 1, number: 1 });
     for (why, member, count, generation) in [
         ("an insert after another", after, 1, 0),
-        ("an undo", Member::Group(first, 1), 1, 0),
-        ("a redo", Member::Group(first, 2), 1, 1),
+        ("an undo", Member::Group(FIRST, 1), 1, 0),
+        ("a redo", Member::Group(FIRST, 2), 1, 1),
     ] {
         assert!(rt; has_base(rt.alloc(), member, count, generation)?, "{why}");
     }
-    assert!(rt; lacks(rt.alloc(), Member::Group(first, 3))?);
+    assert!(rt; lacks(rt.alloc(), Member::Group(FIRST, 3))?);
     Ok(())
 }

@@ -33,22 +33,30 @@ fn name_of(named: Named) -> Result<Name, Fail> {
     Ok(Name::new(named.0, named.1)?)
 }
 
-fn knowing(alloc: Global, known: Known) -> Result<Vector, Fail> {
+fn raise_count(set: &mut Vector, site: u16, count: u32) -> Result<(), Fail> {
+    if count > 0 {
+        let name = Name::new(site, count)?;
+        set.raise(&Member::Original(name))?;
+    }
+    Ok(())
+}
+
+fn raise_all(set: &mut Vector, known: Known) -> Result<(), Fail> {
     let Known(counts, undone, generation) = known;
-    let mut set = Vector::new(alloc);
-    for (site, count) in [
-        (0, counts[0]),
-        (1, counts[1]),
-        (2, counts[2]),
-        (3, counts[3]),
-    ] {
-        if count > 0 {
-            set.raise(&Member::Original(Name::new(site, count)?))?;
-        }
-    }
+    let name = name_of(undone)?;
+    raise_count(set, 0, counts[0])?;
+    raise_count(set, 1, counts[1])?;
+    raise_count(set, 2, counts[2])?;
+    raise_count(set, 3, counts[3])?;
     if generation > 0 {
-        set.raise(&Member::Group(name_of(undone)?, generation))?;
+        set.raise(&Member::Group(name, generation))?;
     }
+    Ok(())
+}
+
+fn knowing(alloc: Global, known: Known) -> Result<Vector, Fail> {
+    let mut set = Vector::new(alloc);
+    raise_all(&mut set, known)?;
     Ok(set)
 }
 
@@ -195,12 +203,17 @@ const HISTORY: [Made; 8] = [
     Made((3, 1), Does::Insert(3, 'y'), Known([3, 0, 0, 0], (0, 2), 1)),
 ];
 
-/// The book of the first operations of the history, in this order.
-fn book_of(alloc: Global, ops: [Made; 8]) -> Result<Book, Fail> {
-    let mut book = Book::new(alloc);
-    for made in ops {
-        take_in(alloc, &mut book, made)?;
+fn take_all(alloc: Global, book: &mut Book, all: &[Made]) -> Result<(), Fail> {
+    for made in all {
+        take_in(alloc, book, *made)?;
     }
+    Ok(())
+}
+
+/// The book of these operations, in their order.
+fn book_of(alloc: Global, all: &[Made]) -> Result<Book, Fail> {
+    let mut book = Book::new(alloc);
+    take_all(alloc, &mut book, all)?;
     Ok(book)
 }
 
@@ -255,68 +268,74 @@ fn inserts_by_hand(x: Name, y: Name) -> [Row; 3] {
     ]
 }
 
-#[test]
-fn forms_of_a_small_history(rt: HostRuntime) -> Result<(), Fail> {
-    let alloc = rt.alloc();
-    let book = book_of(alloc, HISTORY)?;
-    assert_eq!(rt; book.len(), 8);
+/// The first row whose form isn't that of the book.
+fn first_other(alloc: Global, book: &Book, rows: &[Row]) -> Result<Option<&'static str>, Fail> {
+    for (why, member, known, form) in rows {
+        if !has_form(alloc, book, member, *known, form)? {
+            return Ok(Some(*why));
+        }
+    }
+    Ok(None)
+}
+
+/// The same of a book of these operations, all of which it takes in.
+fn first_other_of(alloc: Global, all: &[Made], rows: &[Row]) -> Result<Option<&'static str>, Fail> {
+    let book = book_of(alloc, all)?;
+    if book.len() as usize != all.len() {
+        return Ok(Some("an operation isn't next"));
+    }
     laws_hold(&book);
-    let marks = marks_by_hand(Name::new(0, 2)?, Name::new(2, 1)?);
-    let inserts = inserts_by_hand(Name::new(1, 1)?, Name::new(3, 1)?);
-    for (why, member, known, form) in marks {
-        assert!(rt; has_form(alloc, &book, &member, known, &form)?, "{why}");
-    }
-    for (why, member, known, form) in inserts {
-        assert!(rt; has_form(alloc, &book, &member, known, &form)?, "{why}");
-    }
-    Ok(())
+    first_other(alloc, &book, rows)
 }
 
 #[test]
+fn forms_of_a_small_history(rt: HostRuntime) -> Result<(), Fail> {
+    let marks = marks_by_hand(Name::new(0, 2)?, Name::new(2, 1)?);
+    let inserts = inserts_by_hand(Name::new(1, 1)?, Name::new(3, 1)?);
+    let other = first_other_of(rt.alloc(), &HISTORY, &marks)?;
+    assert!(rt; other.is_none(), "{}", other.unwrap_or(""));
+    let other = first_other_of(rt.alloc(), &HISTORY, &inserts)?;
+    assert!(rt; other.is_none(), "{}", other.unwrap_or(""));
+    Ok(())
+}
+
+const IN_FRONT: [Made; 4] = [
+    Made((2, 1), Does::Insert(0, 'x'), Known([0, 0, 0, 0], NONE, 0)),
+    Made((2, 2), Does::Insert(0, 'y'), Known([0, 0, 1, 0], NONE, 0)),
+    Made((1, 1), Does::Insert(0, 'm'), Known([0, 0, 0, 0], NONE, 0)),
+    Made((3, 1), Does::Insert(0, 'n'), Known([0, 0, 0, 0], NONE, 0)),
+];
+
+#[test]
 fn an_insert_goes_after_what_stands_in_front_of_it(rt: HostRuntime) -> Result<(), Fail> {
-    let alloc = rt.alloc();
-    let mut book = Book::new(alloc);
-    for made in [
-        Made((2, 1), Does::Insert(0, 'x'), Known([0, 0, 0, 0], NONE, 0)),
-        Made((2, 2), Does::Insert(0, 'y'), Known([0, 0, 1, 0], NONE, 0)),
-        Made((1, 1), Does::Insert(0, 'm'), Known([0, 0, 0, 0], NONE, 0)),
-        Made((3, 1), Does::Insert(0, 'n'), Known([0, 0, 0, 0], NONE, 0)),
-    ] {
-        take_in(alloc, &mut book, made)?;
-    }
-    assert_eq!(rt; book.len(), 4);
     let n = Name::new(3, 1)?;
-    let known = Known([0, 1, 2, 0], NONE, 0);
-    assert!(rt; has_form(alloc, &book, &Member::Original(n), known, &ins(3, 'n', n))?);
+    let row = (
+        "an insert among others",
+        Member::Original(n),
+        Known([0, 1, 2, 0], NONE, 0),
+        ins(3, 'n', n),
+    );
+    let other = first_other_of(rt.alloc(), &IN_FRONT, &[row])?;
+    assert!(rt; other.is_none(), "{}", other.unwrap_or(""));
     Ok(())
 }
 
 #[test]
 fn the_order_of_the_book_changes_no_form(rt: HostRuntime) -> Result<(), Fail> {
-    let alloc = rt.alloc();
     let p = Made((1, 1), Does::Insert(0, 'p'), Known([3, 0, 0, 0], NONE, 0));
     let q = Made((2, 1), Does::Insert(3, 'q'), Known([3, 0, 0, 0], NONE, 0));
     let r = Made((3, 1), Does::Insert(2, 'r'), Known([3, 0, 0, 0], NONE, 0));
-    for order in [[p, q, r], [r, q, p]] {
-        let mut book = Book::new(alloc);
-        for made in [HISTORY[0], HISTORY[1], HISTORY[2]] {
-            take_in(alloc, &mut book, made)?;
-        }
-        for made in order {
-            take_in(alloc, &mut book, made)?;
-        }
-        assert_eq!(rt; book.len(), 6);
-        let name = Name::new(2, 1)?;
-        let known = Known([3, 1, 0, 1], NONE, 0);
-        assert!(rt;
-            has_form(
-                alloc,
-                &book,
-                &Member::Original(name),
-                known,
-                &ins(5, 'q', name)
-            )?
-        );
+    let name = Name::new(2, 1)?;
+    let row = (
+        "an insert after the three",
+        Member::Original(name),
+        Known([3, 1, 0, 1], NONE, 0),
+        ins(5, 'q', name),
+    );
+    let [a, b, c] = [HISTORY[0], HISTORY[1], HISTORY[2]];
+    for order in [[a, b, c, p, q, r], [a, b, c, r, q, p]] {
+        let other = first_other_of(rt.alloc(), &order, &[row])?;
+        assert!(rt; other.is_none(), "{}", other.unwrap_or(""));
     }
     Ok(())
 }

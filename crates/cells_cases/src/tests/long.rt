@@ -129,19 +129,24 @@ fn hide(both: &mut Beside, place: u32) -> Result<(), Fail> {
     Ok(())
 }
 
+fn put_and_hide(both: &mut Beside, spot: Spot) -> Result<(), Fail> {
+    for number in 0..1200 {
+        let len = both.cells.len();
+        put(both, place_in(spot, number, len), letter(number))?;
+        if number % 3 == 0 {
+            hide(both, number / 2)?;
+        }
+    }
+    Ok(())
+}
+
 /// A text of 1,200 cells, of which one in three inserts hid one.
 fn long_text(alloc: Global, spot: Spot) -> Result<Beside, Fail> {
     let mut both = Beside {
         cells: Cells::new(alloc),
         plain: Vec::new(alloc),
     };
-    for number in 0..1200 {
-        let len = both.cells.len();
-        put(&mut both, place_in(spot, number, len), letter(number))?;
-        if number % 3 == 0 {
-            hide(&mut both, number / 2)?;
-        }
-    }
+    put_and_hide(&mut both, spot)?;
     Ok(both)
 }
 
@@ -171,16 +176,34 @@ fn all_agree(both: &Beside) -> bool {
     cells_agree(&both.cells, plain) && chunks_agree(&both.cells, plain) && flags_agree(&both.cells)
 }
 
+/// Puts a cell at each of these places.
+fn put_at_each(both: &mut Beside, from: u32, to: u32) -> Result<(), Fail> {
+    for number in from..to {
+        put(both, number, letter(number))?;
+    }
+    Ok(())
+}
+
 /// A text of 512 cells, all in one chunk, with room in the plain list for 800.
 fn full_chunk(alloc: Global) -> Result<Beside, Fail> {
     let mut both = Beside {
         cells: Cells::new(alloc),
         plain: Vec::with_capacity(alloc, 800)?,
     };
-    for number in 0..512 {
-        put(&mut both, number, letter(number))?;
-    }
+    put_at_each(&mut both, 0, 512)?;
     Ok(both)
+}
+
+/// Whether a full chunk is cut by an insert in its middle, and the second one of the two once it is full, by one at
+/// the end.
+fn is_cut_twice(both: &mut Beside) -> Result<bool, Fail> {
+    let one = both.cells.chunk_count();
+    put(both, 200, '-')?;
+    let two = both.cells.chunk_count();
+    put_at_each(both, 513, 769)?;
+    let still = both.cells.chunk_count();
+    put(both, 769, '-')?;
+    Ok(one == 1 && two == 2 && still == 2 && both.cells.chunk_count() == 3 && all_agree(both))
 }
 
 // Nothing but the cells takes memory after the plain list, so that a refusal of any later allocation is one of
@@ -188,30 +211,33 @@ fn full_chunk(alloc: Global) -> Result<Beside, Fail> {
 #[test]
 fn out_of_memory_at_each_growth_and_split(rt: HostRuntime) -> Result<(), Fail> {
     let mut both = full_chunk(rt.alloc())?;
-    assert!(rt; both.cells.chunk_count() == 1);
-    put(&mut both, 200, '-')?;
-    assert!(rt; both.cells.chunk_count() == 2);
-    for number in 513..769 {
-        put(&mut both, number, letter(number))?;
-    }
-    assert!(rt; both.cells.chunk_count() == 2);
-    put(&mut both, 769, '-')?;
-    assert!(rt; both.cells.chunk_count() == 3);
-    assert!(rt; all_agree(&both));
+    assert!(rt; is_cut_twice(&mut both)?);
     Ok(())
 }
 
-// Room is made at the front, in the middle, at the end and past it, and each time an insert follows elsewhere.
+/// Makes room at one place, and inserts at another; answers whether the cells agreed all along.
+fn makes_room(both: &mut Beside, place: u32) -> Result<bool, Fail> {
+    let step = Step::Put(place, '!');
+    let names = next_names(&both.cells, &step)?;
+    both.cells.reserve(&form_of(&step, names.0, names.1))?;
+    let agreed = all_agree(both);
+    put(both, 300, '-')?;
+    Ok(agreed && all_agree(both))
+}
+
+/// The same at the front, in the middle, at the end and past it.
+fn makes_room_everywhere(both: &mut Beside) -> Result<bool, Fail> {
+    for place in [0, 256, 512, 9000] {
+        if !makes_room(both, place)? {
+            return Ok(false);
+        }
+    }
+    Ok(true)
+}
+
 #[test]
 fn room_for_one_place_then_for_another(rt: HostRuntime) -> Result<(), Fail> {
     let mut both = full_chunk(rt.alloc())?;
-    for place in [0, 256, 512, 9000] {
-        let step = Step::Put(place, '!');
-        let names = next_names(&both.cells, &step)?;
-        both.cells.reserve(&form_of(&step, names.0, names.1))?;
-        assert!(rt; all_agree(&both));
-        put(&mut both, 300, '-')?;
-        assert!(rt; all_agree(&both));
-    }
+    assert!(rt; makes_room_everywhere(&mut both)?);
     Ok(())
 }

@@ -4,16 +4,21 @@ use super::steps::{Edit, Named, Why, done, refuses};
 use cot_site::Site;
 use std::test::Fail;
 
+/// Whether the site has what it has after one insert.
+fn has_one_character(site: &Site) -> bool {
+    site.known();
+    site.number() == 0
+        && site.visible_len() == 1
+        && site.book().len() == 1
+        && site.vector().count(0) == 1
+        && site.pool().len() == 0
+}
+
 #[test]
 fn what_a_site_has(rt: HostRuntime) -> Result<(), Fail> {
     let mut site = Site::new(rt.alloc(), 0)?;
-    site.insert(0, 'a')?;
-    site.known();
-    assert_eq!(rt; site.number(), 0);
-    assert_eq!(rt; site.visible_len(), 1);
-    assert_eq!(rt; site.book().len(), 1);
-    assert_eq!(rt; site.vector().count(0), 1);
-    assert_eq!(rt; site.pool().len(), 0);
+    assert!(rt; done(&mut site, &Edit::Insert(0, 'a')));
+    assert!(rt; has_one_character(&site));
     Ok(())
 }
 
@@ -57,10 +62,10 @@ fn named_at(site: &Site, v: u32) -> Option<Named> {
 #[test]
 fn a_shown_character_is_named_by_its_insert(rt: HostRuntime) -> Result<(), Fail> {
     let mut site = Site::new(rt.alloc(), 0)?;
-    site.insert(0, 'a')?;
-    site.insert(1, 'b')?;
-    site.insert(0, 'x')?;
-    site.delete(1)?;
+    assert!(rt; done(&mut site, &Edit::Insert(0, 'a')));
+    assert!(rt; done(&mut site, &Edit::Insert(1, 'b')));
+    assert!(rt; done(&mut site, &Edit::Insert(0, 'x')));
+    assert!(rt; done(&mut site, &Edit::Delete(1)));
     assert!(rt; named_at(&site, 0) == Some((0, 3)));
     assert!(rt; named_at(&site, 1) == Some((0, 2)));
     assert!(rt; named_at(&site, 2).is_none());

@@ -100,28 +100,45 @@ fn new_sites(alloc: Global, count: u16) -> Result<Vec<Site>, Fail>
     Ok(sites)
 }
 
-/// A session of three to five sites, each of which has all messages in the end, in an order of its own.
-fn session(alloc: Global, seed: u32) -> Result<Vec<Site>, Fail> {
-    let mut numbers = Numbers { last: seed };
-    let mut messages = Vec::new(alloc);
-    let count = 3 + numbers.below(3);
-    let mut sites = new_sites(alloc, count as u16)?;
+/// Sites write and read in turn.
+fn talk(numbers: &mut Numbers, sites: &mut Vec<Site>, messages: &mut Vec<Op>) -> Result<(), Fail> {
+    let count = sites.len() as u32;
     for _ in 0..32 {
-        let place = numbers.below(count) as usize;
+        let place = numbers.below(count.max(1)) as usize;
         if let Some(site) = sites.get_mut(place) {
             if numbers.below(2) == 0 {
-                writes(&mut numbers, site, &mut messages)?;
+                writes(numbers, site, messages)?;
             } else {
-                reads(&mut numbers, site, messages.as_slice())?;
+                reads(numbers, site, messages.as_slice())?;
             }
         }
     }
+    Ok(())
+}
+
+/// Each site takes all messages in, the last one first.
+fn take_in_all(sites: &mut Vec<Site>, messages: &[Op]) -> Result<(), Fail> {
     for site in sites.iter_mut() {
         for op in messages.iter().rev() {
             take_in(site, op)?;
         }
     }
-    Ok(sites)
+    Ok(())
+}
+
+fn talk_to_the_end(
+    numbers: &mut Numbers,
+    sites: &mut Vec<Site>,
+    messages: &mut Vec<Op>,
+) -> Result<(), Fail> {
+    talk(numbers, sites, messages)?;
+    take_in_all(sites, messages.as_slice())
+}
+
+/// A session, in which each site has all messages in the end, in an order of its own.
+fn session(alloc: Global, numbers: &mut Numbers, sites: &mut Vec<Site>) -> Result<(), Fail> {
+    let mut messages = Vec::new(alloc);
+    talk_to_the_end(numbers, sites, &mut messages)
 }
 
 /// Whether the member may be added to the context of this operation.
@@ -165,16 +182,22 @@ fn add(context: &mut Vector, member: &Member) -> Result<(), Memory> {
     }
 }
 
+/// An operation at a context.
+fn at_context(before: &Vector) -> Result<Op, Fail> {
+    let name = Name::new(SITES - 1, 1)?;
+    Ok(Op::Delete {
+        name,
+        place: 0,
+        context: before.try_clone()?,
+    })
+}
+
 /// Whether the site executed its i-th operation in the form of its member at these members.
 fn is_executed_at(alloc: Global, site: &Site, i: u32, before: &Vector) -> Result<bool, Fail> {
     let (Some(member), Some(form)) = (site.book().member(i), site.executed(i)) else {
         return Ok(false);
     };
-    let at = Op::Delete {
-        name: Name::new(SITES - 1, 1)?,
-        place: 0,
-        context: before.try_clone()?,
-    };
+    let at = at_context(before)?;
     Ok(is_form(alloc, site.book(), &member, &at, form)?)
 }
 
@@ -192,14 +215,32 @@ fn all_derived(alloc: Global, site: &Site) -> Result<bool, Fail> {
     Ok(true)
 }
 
+fn derive_all(alloc: Global, sites: &[Site]) -> Result<bool, Fail> {
+    for site in sites {
+        if !all_derived(alloc, site)? {
+            return Ok(false);
+        }
+    }
+    Ok(true)
+}
+
+fn play(alloc: Global, numbers: &mut Numbers, sites: &mut Vec<Site>) -> Result<bool, Fail> {
+    session(alloc, numbers, sites)?;
+    derive_all(alloc, sites.as_slice())
+}
+
+/// Whether all sites of a session of three to five executed each operation in its form.
+fn plays(alloc: Global, seed: u32) -> Result<bool, Fail> {
+    let mut numbers = Numbers { last: seed };
+    let count = 3 + numbers.below(3);
+    let mut sites = new_sites(alloc, count as u16)?;
+    play(alloc, &mut numbers, &mut sites)
+}
+
 #[test]
 fn forms_of_made_sessions(rt: HostRuntime) -> Result<(), Fail> {
-    let alloc = rt.alloc();
     for seed in 0..300 {
-        let sites = session(alloc, seed)?;
-        for site in sites.iter() {
-            assert!(rt; all_derived(alloc, site)?, "session {seed}");
-        }
+        assert!(rt; plays(rt.alloc(), seed)?, "session {seed}");
     }
     Ok(())
 }

@@ -111,15 +111,20 @@ const EDITS: [Edit; 4] = [
     Edit::Undo((0, 2)),
 ];
 
-/// The operations of these commands.
-fn written(alloc: Global, site: &mut Site) -> Result<Vec<Op>, Fail> {
-    let mut ops = Vec::new(alloc);
+fn write(site: &mut Site, ops: &mut Vec<Op>) -> Result<(), Fail> {
     if ops.reserve(EDITS.len()).is_err() {
         ops.reserve(EDITS.len())?;
     }
     for edit in &EDITS {
         ops.push(makes(site, edit)?)?;
     }
+    Ok(())
+}
+
+/// The operations of these commands.
+fn written(alloc: Global, site: &mut Site) -> Result<Vec<Op>, Fail> {
+    let mut ops = Vec::new(alloc);
+    write(site, &mut ops)?;
     Ok(ops)
 }
 
@@ -151,21 +156,32 @@ fn ends(alloc: Global, here: &mut Site, there: &mut Site, x: &Op) -> Result<bool
 }
 
 /// Whether another site with an insert of its own takes the operations in, and both end so.
-fn answers(alloc: Global, here: &mut Site, ops: &[Op]) -> Result<bool, Fail> {
-    let mut there = new_site(alloc, 1)?;
-    let x = makes(&mut there, &Edit::Insert(0, 'x'))?;
+fn meet(alloc: Global, here: &mut Site, there: &mut Site, ops: &[Op]) -> Result<bool, Fail> {
+    let x = makes(there, &Edit::Insert(0, 'x'))?;
     Ok(
-        takes_in_backwards(&mut there, ops)?
-            && shows(alloc, &there, "x")?
-            && ends(alloc, here, &mut there, &x)?,
+        takes_in_backwards(there, ops)?
+            && shows(alloc, there, "x")?
+            && ends(alloc, here, there, &x)?,
     )
+}
+
+fn meets_another(alloc: Global, here: &mut Site, ops: &[Op]) -> Result<bool, Fail> {
+    let mut there = new_site(alloc, 1)?;
+    meet(alloc, here, &mut there, ops)
+}
+
+fn writes_and_meets(alloc: Global, here: &mut Site) -> Result<bool, Fail> {
+    let ops = written(alloc, here)?;
+    meets_another(alloc, here, ops.as_slice())
+}
+
+fn ends_well(alloc: Global) -> Result<bool, Fail> {
+    let mut here = new_site(alloc, 0)?;
+    writes_and_meets(alloc, &mut here)
 }
 
 #[test]
 fn a_call_that_wanted_memory_is_made_again(rt: HostRuntime) -> Result<(), Fail> {
-    let alloc = rt.alloc();
-    let mut here = new_site(alloc, 0)?;
-    let ops = written(alloc, &mut here)?;
-    assert!(rt; answers(alloc, &mut here, ops.as_slice())?);
+    assert!(rt; ends_well(rt.alloc())?);
     Ok(())
 }

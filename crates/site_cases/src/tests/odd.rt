@@ -159,52 +159,83 @@ const ODD: [Odd; 8] = [
     },
 ];
 
+fn raise_count(context: &mut Vector, of: (u16, u32)) -> Result<(), Fail> {
+    let name = Name::new(of.0, of.1)?;
+    context.raise(&Member::Original(name))?;
+    Ok(())
+}
+
+fn raise_entry(context: &mut Vector, of: (u16, u32), generation: u16) -> Result<(), Fail> {
+    let name = Name::new(of.0, of.1)?;
+    if generation > 0 {
+        context.raise(&Member::Group(name, generation))?;
+    }
+    Ok(())
+}
+
+fn raise_all(context: &mut Vector, made: &Made) -> Result<(), Fail> {
+    for of in made.1 {
+        raise_count(context, *of)?;
+    }
+    for (of, generation) in made.2 {
+        raise_entry(context, *of, *generation)?;
+    }
+    Ok(())
+}
+
 /// The context of an operation.
 fn context(alloc: Global, made: &Made) -> Result<Vector, Fail> {
     let mut context = Vector::new(alloc);
-    for of in made.1 {
-        context.raise(&Member::Original(Name::new(of.0, of.1)?))?;
-    }
-    for (of, generation) in made.2 {
-        if *generation > 0 {
-            context.raise(&Member::Group(Name::new(of.0, of.1)?, *generation))?;
-        }
-    }
+    raise_all(&mut context, made)?;
     Ok(context)
 }
 
+/// The name of an insert or a delete, or the one that is undone.
+fn name_of(act: &Act) -> Result<Name, Fail> {
+    let of = match act {
+        Insert(of, _, _) | Delete(of, _) | Undo(of, _) => *of,
+    };
+    Ok(Name::new(of.0, of.1)?)
+}
+
 fn op(alloc: Global, made: &Made) -> Result<Op, Fail> {
+    let name = name_of(&made.0)?;
     let context = context(alloc, made)?;
     Ok(match made.0 {
-        Insert(of, place, ch) => Op::Insert {
-            name: Name::new(of.0, of.1)?,
+        Insert(_, place, ch) => Op::Insert {
+            name,
             place,
             ch,
             context,
         },
-        Delete(of, place) => Op::Delete {
-            name: Name::new(of.0, of.1)?,
+        Delete(_, place) => Op::Delete {
+            name,
             place,
             context,
         },
-        Undo(of, generation) => Op::Undo {
+        Undo(_, generation) => Op::Undo {
             author: 0,
-            target: Name::new(of.0, of.1)?,
+            target: name,
             generation,
             context,
         },
     })
 }
 
-/// The operations of these numbers, one after the other.
-fn in_order(alloc: Global, made: &[Made], numbers: &[usize]) -> Result<Vec<Op>, Fail> {
-    let mut ops = Vec::new(alloc);
+fn put(alloc: Global, made: &[Made], numbers: &[usize], ops: &mut Vec<Op>) -> Result<(), Fail> {
     for number in numbers {
         match made.get(*number) {
             Some(one) => ops.push(op(alloc, one)?)?,
             None => return Err(Fail::new("no operation has this number")),
         }
     }
+    Ok(())
+}
+
+/// The operations of these numbers, one after the other.
+fn in_order(alloc: Global, made: &[Made], numbers: &[usize]) -> Result<Vec<Op>, Fail> {
+    let mut ops = Vec::new(alloc);
+    put(alloc, made, numbers, &mut ops)?;
     Ok(ops)
 }
 
@@ -225,27 +256,34 @@ fn integrates_all(site: &mut Site, ops: &[Op]) -> Result<bool, Fail> {
     Ok(true)
 }
 
-/// Whether a new site integrates the operations, and then shows what their text is by its definition: this one.
-fn shows_its_text(alloc: Global, ops: &[Op], text: &str) -> Result<bool, Fail> {
+fn shows_after(alloc: Global, site: &mut Site, ops: &[Op], text: &str) -> Result<bool, Fail> {
+    Ok(integrates_all(site, ops)? && shows(alloc, site, text)?)
+}
+
+fn shows_at_a_new_site(alloc: Global, ops: &[Op], text: &str) -> Result<bool, Fail> {
     let mut site = Site::new(alloc, 63)?;
-    if !integrates_all(&mut site, ops)? {
-        return Ok(false);
-    }
+    shows_after(alloc, &mut site, ops, text)
+}
+
+fn has_plain_text(alloc: Global, ops: &[Op], text: &str) -> Result<bool, Fail> {
     let plain = plain_text(alloc, ops)?;
-    Ok(plain.as_str() == text && shows(alloc, &site, plain.as_str())?)
+    Ok(plain.as_str() == text)
+}
+
+/// Whether a new site integrates all operations in this order, and then shows what their text is by its definition:
+/// this one.
+fn shows_its_text(alloc: Global, odd: &Odd, numbers: &[usize]) -> Result<bool, Fail> {
+    let ops = in_order(alloc, odd.made, numbers)?;
+    Ok(
+        ops.len() == odd.made.len()
+            && has_plain_text(alloc, ops.as_slice(), odd.text)?
+            && shows_at_a_new_site(alloc, ops.as_slice(), odd.text)?,
+    )
 }
 
 /// Whether both orders have all operations and show the text.
 fn agrees(alloc: Global, odd: &Odd) -> Result<bool, Fail> {
-    let one = in_order(alloc, odd.made, odd.one)?;
-    let other = in_order(alloc, odd.made, odd.other)?;
-    let all = odd.made.len();
-    Ok(
-        one.len() == all
-            && other.len() == all
-            && shows_its_text(alloc, one.as_slice(), odd.text)?
-            && shows_its_text(alloc, other.as_slice(), odd.text)?,
-    )
+    Ok(shows_its_text(alloc, odd, odd.one)? && shows_its_text(alloc, odd, odd.other)?)
 }
 
 #[test]

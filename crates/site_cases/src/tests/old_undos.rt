@@ -51,14 +51,12 @@ fn letters(alloc: Global, typed: &[u32]) -> Result<Vec<u8>, Fail> {
     Ok(text)
 }
 
-/// A site that has made all inserts, and the numbers of these in the order of the text.
-fn all_typed(alloc: Global) -> Result<(Site, Vec<u32>), Fail> {
-    let mut site = Site::new(alloc, 0)?;
-    let mut typed = Vec::new(alloc);
+/// A site makes all inserts, whose numbers are noted in the order of the text.
+fn type_all(site: &mut Site, typed: &mut Vec<u32>) -> Result<(), Fail> {
     for number in 1..INSERTS + 1 {
-        types(&mut site, &mut typed, number)?;
+        types(site, typed, number)?;
     }
-    Ok((site, typed))
+    Ok(())
 }
 
 /// Undoes an insert.
@@ -76,12 +74,32 @@ fn shows(alloc: Global, site: &Site, typed: &[u32]) -> Result<bool, Fail> {
     Ok(text.as_slice() == wanted.as_slice())
 }
 
+const UNDONE: [u32; 11] = [1, 2, 88, 255, 256, 257, 300, 511, 512, 513, 600];
+
+/// Whether the site shows after each undo what is left.
+fn hide(alloc: Global, site: &mut Site, typed: &mut Vec<u32>) -> Result<bool, Fail> {
+    type_all(site, typed)?;
+    for number in &UNDONE {
+        undoes(site, typed, *number)?;
+        if !shows(alloc, site, typed.as_slice())? {
+            return Ok(false);
+        }
+    }
+    Ok(true)
+}
+
+fn hide_noted(alloc: Global, site: &mut Site) -> Result<bool, Fail> {
+    let mut typed = Vec::new(alloc);
+    hide(alloc, site, &mut typed)
+}
+
+fn hide_at_a_new_site(alloc: Global) -> Result<bool, Fail> {
+    let mut site = Site::new(alloc, 0)?;
+    hide_noted(alloc, &mut site)
+}
+
 #[test]
 fn undos_of_old_inserts_hide_their_letters(rt: HostRuntime) -> Result<(), Fail> {
-    let (mut site, mut typed) = all_typed(rt.alloc())?;
-    for number in [1, 2, 88, 255, 256, 257, 300, 511, 512, 513, 600] {
-        undoes(&mut site, &mut typed, number)?;
-        assert!(rt; shows(rt.alloc(), &site, typed.as_slice())?);
-    }
+    assert!(rt; hide_at_a_new_site(rt.alloc())?);
     Ok(())
 }

@@ -24,12 +24,21 @@ fn order(alloc: Global, count: usize, number: usize) -> Result<Vec<usize>, Fail>
     Ok(order)
 }
 
+fn ends(
+    alloc: Global,
+    site: &mut Site,
+    messages: &[Op],
+    order: &[usize],
+    text: &str,
+) -> Result<bool, Fail> {
+    give(site, messages, order)?;
+    Ok(shows(alloc, site, text)? && site.pool().len() == 0)
+}
+
 /// Whether a new site, given the messages in this order, shows the text, and nothing waits there.
 fn ends_so(alloc: Global, messages: &[Op], order: &[usize], text: &str) -> Result<bool, Fail> {
     let mut site = Site::new(alloc, 63)?;
-    give(&mut site, messages, order)?;
-    let shown = shows(alloc, &site, text)?;
-    Ok(shown && site.pool().len() == 0)
+    ends(alloc, &mut site, messages, order, text)
 }
 
 /// The first of so many orders of the messages after which a new site shows another text.

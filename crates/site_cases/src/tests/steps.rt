@@ -162,12 +162,18 @@ pub(super) fn refuses(site: &mut Site, edit: &Edit, why: &Why) -> bool {
     }
 }
 
+fn raise_all(context: &mut Vector, last: &[Named]) -> Result<(), Fail> {
+    for of in last {
+        let name = Name::new(of.0, of.1)?;
+        context.raise(&Member::Original(name))?;
+    }
+    Ok(())
+}
+
 /// The context of the last originals of some sites.
 pub(super) fn context(alloc: Global, last: &[Named]) -> Result<Vector, Fail> {
     let mut context = Vector::new(alloc);
-    for of in last {
-        context.raise(&Member::Original(Name::new(of.0, of.1)?))?;
-    }
+    raise_all(&mut context, last)?;
     Ok(context)
 }
 
