@@ -1,7 +1,10 @@
 // Tests of frames: examples written by hand, faults one by one, streams cut anywhere.
+ghost use Rattle.std.specs.Prelude.{◌≤◌, length};
+
 use context_diff::Op;
 use context_vector::Vector;
 use op_name::Name;
+use std::alloc::Global;
 use std::test::*;
 use wire_codec::*;
 
@@ -276,59 +279,81 @@ const JUDGED: [(&str, &[u8], Scan); 31] = [
 #[test]
 fn bytes_are_judged(rt: HostRuntime) {
     for (why, bytes, want) in JUDGED {
-        assert_eq!(rt; scan(bytes), want, "{why}");
+        assert!(rt; scan(bytes) == want, "{why}");
+    }
+}
+
+// What `decode` says, as `scan` would say it.
+fn decoded(alloc: Global, bytes: &[u8]) -> Result<Scan, Fail> {
+    match decode(alloc, bytes) {
+        Ok(Decoded::Got { used, .. }) => Ok(Scan::Frame { used }),
+        Ok(Decoded::More { at_least }) => Ok(Scan::More { at_least }),
+        Ok(Decoded::Bad { cause, offset }) => Ok(Scan::Bad { cause, offset }),
+        Err(_) => Err(Fail::new("out of memory")),
     }
 }
 
 #[test]
 fn scan_and_decode_agree(rt: HostRuntime) -> Result<(), Fail> {
     for (why, bytes, want) in JUDGED {
-        let answer = match decode(rt.alloc(), bytes).ok().ok_or("out of memory")? {
-            Decoded::Got { used, .. } => Scan::Frame { used },
-            Decoded::More { at_least } => Scan::More { at_least },
-            Decoded::Bad { cause, offset } => Scan::Bad { cause, offset },
-        };
-        assert_eq!(rt; answer, want, "{why}");
+        assert!(rt; decoded(rt.alloc(), bytes)? == want, "{why}");
     }
     Ok(())
+}
+
+// The operation of bytes that are one frame.
+fn op_of(alloc: Global, bytes: &[u8]) -> Result<Op, Fail> {
+    match decode(alloc, bytes) {
+        Ok(Decoded::Got { op, used }) if used as usize == bytes.len() => Ok(op),
+        _ => Err(Fail::new("the bytes are a frame")),
+    }
+}
+
+fn is_frame(alloc: Global, op: &Op, bytes: &[u8]) -> Result<bool, Fail> {
+    let mut out = Vec::new(alloc);
+    encode(op, &mut out)?;
+    Ok(out.as_slice() == bytes)
+}
+
+fn is_written_again(alloc: Global, bytes: &[u8]) -> Result<bool, Fail> {
+    let op = op_of(alloc, bytes)?;
+    if op.fault().is_some() {
+        return Ok(false);
+    }
+    is_frame(alloc, &op, bytes)
 }
 
 #[test]
 fn what_is_read_is_written_again(rt: HostRuntime) -> Result<(), Fail> {
     for (why, bytes) in GOOD {
-        let answer = decode(rt.alloc(), bytes).ok().ok_or("out of memory")?;
-        let Decoded::Got { op, used } = answer else {
-            return Err("the bytes are a frame".into());
-        };
-        assert_eq!(rt; used as usize, bytes.len(), "{why}");
-        let mut out = Vec::new(rt.alloc());
-        encode(&op, &mut out).ok().ok_or("out of memory")?;
-        assert_eq!(rt; out.as_slice(), bytes, "{why}");
+        assert!(rt; is_written_again(rt.alloc(), bytes)?, "{why}");
     }
     Ok(())
 }
 
+fn is_second(op: &Op) -> bool {
+    match op {
+        Op::Insert {
+            name,
+            place,
+            ch,
+            context,
+        } => {
+            *name == Name { site: 0, number: 2 }
+                && *place == 1
+                && *ch == 'b'
+                && context.count(0) == 1
+                && context.sites() == 1
+                && context.entries() == 0
+        }
+        _ => false,
+    }
+}
+
 #[test]
 fn fields_are_read(rt: HostRuntime) -> Result<(), Fail> {
-    let answer = decode(rt.alloc(), SECOND).ok().ok_or("out of memory")?;
-    let Decoded::Got { op, .. } = answer else {
-        return Err("the bytes are a frame".into());
-    };
-    let Op::Insert {
-        name,
-        place,
-        ch,
-        context,
-    } = op
-    else {
-        return Err("the kind is insert".into());
-    };
-    assert_eq!(rt; name, Name { site: 0, number: 2 });
-    assert_eq!(rt; place, 1);
-    assert_eq!(rt; ch, 'b');
-    assert_eq!(rt; context.count(0), 1);
-    assert_eq!(rt; context.sites(), 1);
-    assert_eq!(rt; context.entries(), 0);
+    let op = op_of(rt.alloc(), SECOND)?;
+    assert!(rt; is_second(&op));
     Ok(())
 }
 
@@ -340,12 +365,8 @@ fn an_operation_is_written(rt: HostRuntime) -> Result<(), Fail> {
         ch: 'a',
         context: Vector::new(rt.alloc()),
     };
-    if op.fault().is_some() {
-        return Err("the operation is well formed".into());
-    }
-    let mut out = Vec::new(rt.alloc());
-    encode(&op, &mut out).ok().ok_or("out of memory")?;
-    assert_eq!(rt; out.as_slice(), FIRST);
+    assert!(rt; op.fault().is_none());
+    assert!(rt; is_frame(rt.alloc(), &op, FIRST)?);
     Ok(())
 }
 
@@ -361,23 +382,55 @@ fn drain(stream: &mut FrameStream, out: &mut Vec<u8>) -> Result<(), Fail> {
     Ok(())
 }
 
+fn pass(stream: &mut FrameStream, piece: &[u8], out: &mut Vec<u8>) -> Result<(), Fail> {
+    stream.feed(piece)?;
+    drain(stream, out)
+}
+
+// Whether what a stream gives, fed by the one piece and then by the other, is both.
+fn comes_through(
+    alloc: Global,
+    stream: &mut FrameStream,
+    all: &[u8],
+    cut: usize,
+) -> Result<bool, Fail>
+    requires { cut ≤ length all.now }
+{
+    let (front, rest) = all.split_at(cut);
+    let mut out = Vec::new(alloc);
+    pass(stream, front, &mut out)?;
+    pass(stream, rest, &mut out)?;
+    Ok(out.as_slice() == all && stream.rest() == 0)
+}
+
+fn comes_through_cut(alloc: Global, all: &[u8], cut: usize) -> Result<bool, Fail>
+    requires { cut ≤ length all.now }
+{
+    let mut stream = FrameStream::new(alloc)?;
+    comes_through(alloc, &mut stream, all, cut)
+}
+
+fn comes_through_cut_anywhere(alloc: Global, all: &[u8]) -> Result<bool, Fail> {
+    for cut in 0..all.len() {
+        if !comes_through_cut(alloc, all, cut)? {
+            return Ok(false);
+        }
+    }
+    Ok(true)
+}
+
+fn append(frames: &[(&str, &[u8])], all: &mut Vec<u8>) -> Result<(), Fail> {
+    for (_, bytes) in frames {
+        all.extend_from_slice(*bytes)?;
+    }
+    Ok(())
+}
+
 #[test]
 fn a_stream_cut_at_each_place(rt: HostRuntime) -> Result<(), Fail> {
     let mut all = Vec::new(rt.alloc());
-    for (_, bytes) in GOOD[..3].iter() {
-        all.extend_from_slice(bytes).ok().ok_or("out of memory")?;
-    }
-    for cut in 0..all.len() {
-        let mut stream = FrameStream::new(rt.alloc()).ok().ok_or("out of memory")?;
-        let mut out = Vec::new(rt.alloc());
-        let (front, rest) = all.as_slice().split_at(cut);
-        stream.feed(front).ok().ok_or("out of memory")?;
-        drain(&mut stream, &mut out)?;
-        stream.feed(rest).ok().ok_or("out of memory")?;
-        drain(&mut stream, &mut out)?;
-        assert_eq!(rt; out.as_slice(), all.as_slice(), "{cut}");
-        assert_eq!(rt; stream.rest(), 0, "{cut}");
-    }
+    append(&GOOD[..3], &mut all)?;
+    assert!(rt; comes_through_cut_anywhere(rt.alloc(), all.as_slice())?);
     Ok(())
 }
 
@@ -440,7 +493,7 @@ fn a_state_is_read_and_written_again(rt: HostRuntime) -> Result<(), Fail> {
         Ok(_) => return Err("it is a state".into()),
         Err(_) => return Err("out of memory".into()),
     }
-    assert_eq!(rt; out.as_slice(), bytes);
+    assert!(rt; out.as_slice() == bytes);
     Ok(())
 }
 
@@ -459,7 +512,7 @@ fn causes_have_words(rt: HostRuntime) {
         (Cause::Stray, "stray"),
     ];
     for (cause, word) in words {
-        assert_eq!(rt; cause.word(), word);
+        assert!(rt; cause.word() == word);
     }
     assert_eq!(rt; LONGEST_BODY, 115_025);
 }

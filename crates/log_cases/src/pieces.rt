@@ -24,23 +24,40 @@ fn read(alloc: Global, bytes: &[u8], len: usize) -> Result<Site, LogBad>
     reader.finish()
 }
 
-/// The log of the site, or the line that says why there is none.
-fn told(alloc: Global, answer: Result<Site, LogBad>) -> Result<Vec<u8>, Fail> {
-    let mut out = Vec::new(alloc);
+fn tell(answer: &Result<Site, LogBad>, out: &mut Vec<u8>) -> Result<(), Fail> {
     match answer {
-        Ok(site) => write_log(&site, &mut out)?,
+        Ok(site) => write_log(site, out)?,
         Err(LogBad::Memory) => return Err(Fail::new("out of memory")),
-        Err(why) => refused_log_line(why, &mut out)?,
+        Err(why) => refused_log_line(*why, out)?,
     }
+    Ok(())
+}
+
+/// The log of the site, or the line that says why there is none.
+fn told(alloc: Global, answer: &Result<Site, LogBad>) -> Result<Vec<u8>, Fail> {
+    let mut out = Vec::new(alloc);
+    tell(answer, &mut out)?;
     Ok(out)
+}
+
+fn told_whole(alloc: Global, bytes: &[u8]) -> Result<Vec<u8>, Fail> {
+    let answer = loaded(alloc, 0, bytes);
+    told(alloc, &answer)
+}
+
+fn told_cut(alloc: Global, bytes: &[u8], len: usize) -> Result<Vec<u8>, Fail>
+    requires { 0 < len }
+{
+    let answer = read(alloc, bytes, len);
+    told(alloc, &answer)
 }
 
 /// Whether the bytes in pieces of this length give the same answer as whole.
 fn is_same(alloc: Global, bytes: &[u8], len: usize) -> Result<bool, Fail>
     requires { 0 < len }
 {
-    let whole = told(alloc, loaded(alloc, 0, bytes))?;
-    let cut = told(alloc, read(alloc, bytes, len))?;
+    let whole = told_whole(alloc, bytes)?;
+    let cut = told_cut(alloc, bytes, len)?;
     Ok(whole.as_slice() == cut.as_slice())
 }
 

@@ -48,15 +48,21 @@ pub(crate) fn loaded(alloc: Global, site: u16, bytes: &[u8]) -> Result<Site, Log
     load(alloc, site, bytes)
 }
 
+fn has_text(alloc: Global, site: &Site, text: &str) -> Result<bool, Fail> {
+    let mut out = Vec::new(alloc);
+    site.text(&mut out)?;
+    Ok(out.as_slice() == text.as_bytes())
+}
+
+fn is_so(alloc: Global, site: &Site, text: &str, waiting: u32) -> Result<bool, Fail> {
+    Ok(has_text(alloc, site, text)? && site.pool().len() == waiting)
+}
+
 /// Whether the log of these frames makes a site that shows the text, and has so many operations that wait.
 fn shows(alloc: Global, frames: &[&[u8]], text: &str, waiting: u32) -> Result<bool, Fail> {
     let bytes = log(alloc, frames)?;
     match loaded(alloc, 0, bytes.as_slice()) {
-        Ok(site) => {
-            let mut out = Vec::new(alloc);
-            site.text(&mut out)?;
-            Ok(out.as_slice() == text.as_bytes() && site.pool().len() == waiting)
-        }
+        Ok(site) => is_so(alloc, &site, text, waiting),
         Err(_) => Ok(false),
     }
 }
@@ -78,18 +84,24 @@ fn refuses(alloc: Global, frames: &[&[u8]], line: &str) -> Result<bool, Fail> {
     is_refused(alloc, bytes.as_slice(), line)
 }
 
+fn has_log(alloc: Global, site: &Site, expected: &[u8]) -> Result<bool, Fail> {
+    let mut out = Vec::new(alloc);
+    write_log(site, &mut out)?;
+    Ok(out.as_slice() == expected)
+}
+
+fn is_rewritten(alloc: Global, bytes: &[u8], expected: &[u8]) -> Result<bool, Fail> {
+    match loaded(alloc, 3, bytes) {
+        Ok(site) => has_log(alloc, &site, expected),
+        Err(_) => Ok(false),
+    }
+}
+
 /// Whether the log of these frames, loaded, is written as the log of those.
 fn is_written(alloc: Global, frames: &[&[u8]], written: &[&[u8]]) -> Result<bool, Fail> {
     let bytes = log(alloc, frames)?;
     let expected = log(alloc, written)?;
-    match loaded(alloc, 3, bytes.as_slice()) {
-        Ok(site) => {
-            let mut out = Vec::new(alloc);
-            write_log(&site, &mut out)?;
-            Ok(out.as_slice() == expected.as_slice())
-        }
-        Err(_) => Ok(false),
-    }
+    is_rewritten(alloc, bytes.as_slice(), expected.as_slice())
 }
 
 /// Appends the operations of the log of these frames, and answers whether that was refused by Cut at this offset.

@@ -22,12 +22,23 @@ pub(crate) enum Stop {
 }
 
 impl From<Memory> for Stop {
+    ghost use Rattle.std.specs.Prelude.{◌≡◌};
+    ghost use Rattle.uses.specs.declared.stop.Stop.TheVariants as stops;
+
+    ghost from_gives = { λ _ stop. stop ≡ stops.Memory };
+
     fn from(_: Memory) -> Stop {
         Stop::Memory
     }
 }
 
 impl From<Local> for Stop {
+    ghost use Rattle.std.specs.Prelude.{◌≡◌, ◌≢◌};
+    ghost use Rattle.uses.specs.declared.stop.Stop.TheVariants as stops;
+    ghost use Rattle.cot_site.specs.declared.local.Local.TheVariants as locals;
+
+    ghost from_gives = { λ why stop. (why ≡ locals.Memory → stop ≡ stops.Memory) × (why ≢ locals.Memory → stop ≡ stops.Edit) };
+
     fn from(why: Local) -> Stop {
         match why {
             Local::Memory => Stop::Memory,
@@ -37,6 +48,11 @@ impl From<Local> for Stop {
 }
 
 impl From<io::Error> for Stop {
+    ghost use Rattle.std.specs.Prelude.{◌≡◌};
+    ghost use Rattle.uses.specs.declared.stop.Stop.TheVariants as stops;
+
+    ghost from_gives = { λ why stop. stop ≡ stops.Output why };
+
     fn from(why: io::Error) -> Stop {
         Stop::Output(why)
     }

@@ -198,19 +198,19 @@ const AT_LIMITS: [(&str, &[u8], Scan); 28] = [
 #[test]
 fn fields_at_their_limits(rt: HostRuntime) {
     for (why, bytes, want) in AT_LIMITS {
-        assert_eq!(rt; scan(bytes), want, "{why}");
+        assert!(rt; scan(bytes) == want, "{why}");
     }
 }
 
-// The second insert of the last site, with a count for each site and so many undo entries.
-fn full(alloc: Global, length: u32, undone: u16) -> Result<Vec<u8>, Memory> {
-    let mut bytes = Vec::new(alloc);
-    bytes.extend_from_slice(&length.to_be_bytes())?;
-    bytes.extend_from_slice(b"\x01\x3f\x00\x00\x00\x02\x00\x00\x00\x00\x00\x00\x00\x61\x40")?;
+fn put_counts(bytes: &mut Vec<u8>) -> Result<(), Memory> {
     bytes.extend_from_slice(b"\x00\x00\x00\x40\x01")?;
     for site in 1..64u8 {
         bytes.extend_from_slice(&[site, 0, 0, 0, 1])?;
     }
+    Ok(())
+}
+
+fn put_entries(bytes: &mut Vec<u8>, undone: u16) -> Result<(), Memory> {
     bytes.extend_from_slice(&undone.to_be_bytes())?;
     for before in 0..undone {
         let number = u32::from(before) + 1;
@@ -218,6 +218,20 @@ fn full(alloc: Global, length: u32, undone: u16) -> Result<Vec<u8>, Memory> {
         bytes.extend_from_slice(&number.to_be_bytes())?;
         bytes.extend_from_slice(b"\x00\x01")?;
     }
+    Ok(())
+}
+
+fn put_full(bytes: &mut Vec<u8>, length: u32, undone: u16) -> Result<(), Memory> {
+    bytes.extend_from_slice(&length.to_be_bytes())?;
+    bytes.extend_from_slice(b"\x01\x3f\x00\x00\x00\x02\x00\x00\x00\x00\x00\x00\x00\x61\x40")?;
+    put_counts(bytes)?;
+    put_entries(bytes, undone)
+}
+
+// The second insert of the last site, with a count for each site and so many undo entries.
+fn full(alloc: Global, length: u32, undone: u16) -> Result<Vec<u8>, Memory> {
+    let mut bytes = Vec::new(alloc);
+    put_full(&mut bytes, length, undone)?;
     Ok(bytes)
 }
 
@@ -225,16 +239,8 @@ fn full(alloc: Global, length: u32, undone: u16) -> Result<Vec<u8>, Memory> {
 fn the_longest_frame_is_read_and_written_again(rt: HostRuntime) -> Result<(), Fail> {
     let bytes = full(rt.alloc(), LONGEST_BODY, 16_384)?;
     assert_eq!(rt; bytes.len(), 115_029);
-    assert_eq!(rt; scan(bytes.as_slice()), Scan::Frame { used: 115_029 });
-    let answer = decode(rt.alloc(), bytes.as_slice())
-        .ok()
-        .ok_or("out of memory")?;
-    let Decoded::Got { op, .. } = answer else {
-        return Err("the bytes are a frame".into());
-    };
-    let mut out = Vec::new(rt.alloc());
-    encode(&op, &mut out).ok().ok_or("out of memory")?;
-    assert_eq!(rt; out.as_slice(), bytes.as_slice());
+    assert!(rt; scan(bytes.as_slice()) == Scan::Frame { used: 115_029 });
+    assert!(rt; is_written_again(rt.alloc(), bytes.as_slice())?);
     Ok(())
 }
 
@@ -245,12 +251,12 @@ fn one_undo_entry_more_than_there_may_be(rt: HostRuntime) -> Result<(), Fail> {
         cause: Cause::TooLong,
         offset: 0,
     };
-    assert_eq!(rt; scan(longer.as_slice()), too_long);
+    assert!(rt; scan(longer.as_slice()) == too_long);
     let cut = full(rt.alloc(), LONGEST_BODY, 16_385)?;
     let too_many = Scan::Bad {
         cause: Cause::Range,
         offset: 339,
     };
-    assert_eq!(rt; scan(cut.as_slice()), too_many);
+    assert!(rt; scan(cut.as_slice()) == too_many);
     Ok(())
 }
