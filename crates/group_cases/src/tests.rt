@@ -11,17 +11,27 @@ use std::test::Fail;
 use ttf_form::{Bases, Cover, Form, Include, Ins, Mark};
 use undo_group::{TextBases, followed, generation, groups_follow, in_force, next_generation};
 
-/// The first originals of sites 0 and 1, and the groups of a name up to a generation.
-fn knowing(alloc: Global, counts: [u32; 2], name: Name, generation: u16) -> Result<Vector, Fail> {
-    let mut set = Vector::new(alloc);
-    for (site, count) in [(0, counts[0]), (1, counts[1])] {
-        if count > 0 {
-            set.raise(&Member::Original(Name::new(site, count)?))?;
-        }
+fn raise_count(set: &mut Vector, site: u16, count: u32) -> Result<(), Fail> {
+    if count > 0 {
+        let name = Name::new(site, count)?;
+        set.raise(&Member::Original(name))?;
     }
+    Ok(())
+}
+
+fn raise_all(set: &mut Vector, counts: [u32; 2], name: Name, generation: u16) -> Result<(), Fail> {
+    raise_count(set, 0, counts[0])?;
+    raise_count(set, 1, counts[1])?;
     if generation > 0 {
         set.raise(&Member::Group(name, generation))?;
     }
+    Ok(())
+}
+
+/// The first originals of sites 0 and 1, and the groups of a name up to a generation.
+fn knowing(alloc: Global, counts: [u32; 2], name: Name, generation: u16) -> Result<Vector, Fail> {
+    let mut set = Vector::new(alloc);
+    raise_all(&mut set, counts, name, generation)?;
     Ok(set)
 }
 
@@ -38,23 +48,20 @@ fn an_original_is_in_force_at_even_generations(rt: HostRuntime) -> Result<(), Fa
     ];
     for (why, greatest, force, next) in rows {
         let have = knowing(rt.alloc(), [0, 3], name, greatest)?;
-        assert_eq!(rt; generation(&have, &name), greatest, "{why}");
-        assert_eq!(rt; in_force(&have, &name), force, "{why}");
-        assert_eq!(rt; next_generation(&have, &name), next, "{why}");
+        assert!(rt; generation(&have, &name) == greatest, "{why}");
+        assert!(rt; in_force(&have, &name) == force, "{why}");
+        assert!(rt; next_generation(&have, &name) == next, "{why}");
     }
     Ok(())
 }
 
-/// The book of these operations; one that isn't next is left out.
-fn book_of(alloc: Global, ops: [Op; 6]) -> Result<Book, Fail> {
-    let mut book = Book::new(alloc);
-    for op in ops {
-        if book.is_next(&op) {
-            book.reserve(&op)?;
-            book.push(op);
-        }
+/// Takes an operation in; one that isn't next is left out.
+fn take_in(book: &mut Book, op: Op) -> Result<(), Fail> {
+    if book.is_next(&op) {
+        book.reserve(&op)?;
+        book.push(op);
     }
-    Ok(book)
+    Ok(())
 }
 
 /// A base form through the bound.
@@ -99,30 +106,38 @@ fn undo(target: Name, generation: u16, context: Vector) -> Op {
     }
 }
 
+fn insert(name: Name, place: u32, ch: char, context: Vector) -> Op {
+    Op::Insert {
+        name,
+        place,
+        ch,
+        context,
+    }
+}
+
+fn delete(name: Name, place: u32, context: Vector) -> Op {
+    Op::Delete {
+        name,
+        place,
+        context,
+    }
+}
+
+fn take_all(alloc: Global, book: &mut Book, a: Name, b: Name, d: Name) -> Result<(), Fail> {
+    take_in(book, insert(a, 0, 'a', knowing(alloc, [0, 0], a, 0)?))?;
+    take_in(book, insert(b, 1, 'b', knowing(alloc, [1, 0], a, 0)?))?;
+    take_in(book, delete(d, 1, knowing(alloc, [1, 1], a, 0)?))?;
+    take_in(book, undo(b, 1, knowing(alloc, [1, 1], b, 0)?))?;
+    take_in(book, undo(b, 2, knowing(alloc, [1, 1], b, 1)?))?;
+    take_in(book, undo(d, 1, knowing(alloc, [2, 1], d, 0)?))
+}
+
 /// Site 0 writes a character and site 1 another after it, which site 0 deletes; the second insert is undone
 /// and redone, the delete is undone.
 fn small_book(alloc: Global, a: Name, b: Name, d: Name) -> Result<Book, Fail> {
-    let insert_a = Op::Insert {
-        name: a,
-        place: 0,
-        ch: 'a',
-        context: knowing(alloc, [0, 0], a, 0)?,
-    };
-    let insert_b = Op::Insert {
-        name: b,
-        place: 1,
-        ch: 'b',
-        context: knowing(alloc, [1, 0], a, 0)?,
-    };
-    let delete = Op::Delete {
-        name: d,
-        place: 1,
-        context: knowing(alloc, [1, 1], a, 0)?,
-    };
-    let undo_b = undo(b, 1, knowing(alloc, [1, 1], b, 0)?);
-    let redo_b = undo(b, 2, knowing(alloc, [1, 1], b, 1)?);
-    let undo_d = undo(d, 1, knowing(alloc, [2, 1], d, 0)?);
-    book_of(alloc, [insert_a, insert_b, delete, undo_b, redo_b, undo_d])
+    let mut book = Book::new(alloc);
+    take_all(alloc, &mut book, a, b, d)?;
+    Ok(book)
 }
 
 #[test]
@@ -169,9 +184,12 @@ fn base_forms_of_a_small_book(rt: HostRuntime) -> Result<(), Fail> {
         ),
     ];
     for (why, member, form) in rows {
-        assert_eq!(rt; form_in(&book, &member), Some(form), "{why}");
+        assert!(rt; form_in(&book, &member) == Some(form), "{why}");
     }
-    assert_eq!(rt; form_in(&book, &Member::Group(a, 1)), None, "not undone");
+    assert!(rt;
+        form_in(&book, &Member::Group(a, 1)).is_none(),
+        "not undone"
+    );
     Ok(())
 }
 
@@ -186,7 +204,7 @@ fn a_mark_follows_the_cell_of_a_form(rt: HostRuntime) -> Result<(), Fail> {
     groups_follow();
     let first = cover(4, Mark::Own { generation: 1 });
     let next = cover(4, Mark::Own { generation: 2 });
-    assert_eq!(rt; undone(ins(4, 'a', name), 1), first);
-    assert_eq!(rt; undone(first, 2), next);
+    assert!(rt; undone(ins(4, 'a', name), 1) == first);
+    assert!(rt; undone(first, 2) == next);
     Ok(())
 }
