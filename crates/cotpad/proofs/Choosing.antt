@@ -1,5 +1,5 @@
 -- The command that the words spell is the one that is done.
-use Rattle.std.proofs.Common.{◌≡◌, ◌⊎◌, ℕ, ◌+◌, ◌≤◌, Option, Some, None, List, sym, ap, subst, ◌∙◌, refl, inl, inr, arith}
+use Rattle.std.proofs.Common.{◌≡◌, ◌⊎◌, ℕ, ◌+◌, Some, List, sym, ap, subst, ◌∙◌, refl, inl, inr, arith}
 use Rattle.std.proofs.Math.Nat.{min-le_left}
 use Rattle.op_name.specs.declared.member.Member.{Member}
 use Rattle.outside_io.specs.Faults.{Rose, last_count}
@@ -10,7 +10,7 @@ use Rattle.cotpad.specs.declared.command.Command.TheVariants as command
 use Rattle.cotpad.specs.declared.command.Edit as declared
 use Rattle.cotpad.specs.declared.status.Status.{Status}
 use Rattle.cotpad.specs.declared.status.Status.TheVariants.{Done, Refused, Words, ReadFault, WriteFault, Memory, LinkFault, PeerRefused}
-use Rattle.cotpad.specs.Commands.{CommandData, Replay, Show, Edit, Gen, Explain, Serve, Join, Loop, IsOffline, EditData, edit_data, command_data}
+use Rattle.cotpad.specs.Commands.{CommandData, Edit, Gen, Explain, Serve, Join, Loop, IsOffline, EditData, edit_data, command_data}
 use Rattle.cotpad.specs.Outside.{Outside}
 use Rattle.cotpad.specs.Answers.{IsAnswered, IsMade}
 use Rattle.cotpad.specs.Replies.{IsEdited}

@@ -1,14 +1,12 @@
 -- The two sites of a generated session, over a pair that tells its bytes: they send each other all that they made, and meet.
-use Rattle.std.proofs.Common.{◌≡◌, ◌⊎◌, ℕ, suc, ◌+◌, ◌≤◌, Bool, true, false, Option, List, [], ◌∷◌, ◌++◌, length, refl, sym, ap, subst, ◌∙◌, inl, inr, arith, append-nil, bytes_eq}
+use Rattle.std.proofs.Common.{◌≡◌, ◌⊎◌, ℕ, suc, ◌+◌, ◌≤◌, Bool, false, Option, List, [], ◌∷◌, ◌++◌, length, refl, sym, ap, subst, ◌∙◌, inl, inr, arith, append-nil, bytes_eq}
 use Rattle.std.specs.Prelude.{Contains, ◌≢◌}
 use Rattle.std.specs.Io.KnownBytes.{Appends}
 use Rattle.std.proofs.lemmas.Bool.{cases_Bool}
 use Rattle.std.proofs.lemmas.List.{length-append}
 use Rattle.std.proofs.lemmas.Slice.Eq.{bytes_eq-Decides}
 use Rattle.outside_io.specs.Ends.{End}
-use Rattle.op_name.specs.NameData.{NameData}
 use Rattle.op_name.specs.declared.member.Member.{Member}
-use Rattle.op_name.specs.declared.member.Member.TheVariants.{Original}
 use Rattle.op_name.specs.Members.{target_of}
 use Rattle.context_diff.specs.Operations.{OpData, member_of}
 use Rattle.context_diff.specs.Histories.{is_known, IsValid, Agree}
@@ -19,13 +17,13 @@ use Rattle.cot_site.specs.declared.verdict.Verdict.{Verdict}
 use Rattle.peer_exchange.specs.declared.messages.PeerCause.TheVariants.{Head, Frame, Cut, Extra, Limit}
 use Rattle.peer_exchange.specs.declared.peer.Peer.{Peer}
 use Rattle.peer_exchange.specs.declared.peer.Peer.TheVariants as refused
-use Rattle.peer_exchange.specs.Joins.{unseen, joined, AreAlike, AreSound, IsExchanged, AnyExchangesMeet}
+use Rattle.peer_exchange.specs.Joins.{unseen, joined, AreSound, IsExchanged, AnyExchangesMeet}
 use Rattle.peer_exchange.specs.Exchanges.{Talk, IsExchange, IsQuiet, AgreeInAll, HaveJoined, UnrefusedCallsJoin, AgreeingSitesMeet, SecondExchangesAreEmpty, IsEmptyExchange}
 use Rattle.peer_exchange.specs.Lengths.{few_operations, ShortHistoriesHaveShortMessages}
 use Rattle.peer_exchange.specs.Taking.{with_history}
 use Rattle.session_replay.specs.Generating.{turns, IsAlone, SitesStayAlone}
 use Rattle.site_node.specs.declared.node.Node.TheVariants as node
-use Rattle.site_node.specs.Pairs.{IsTelling, IsLooped, IsUnlooped, AreMessages, IsUnspoilt}
+use Rattle.site_node.specs.Pairs.{IsTelling, IsUnlooped, IsUnspoilt}
 use Rattle.cotpad.specs.Generating.{alike}
 use Rattle.cotpad.specs.Looping.{pair_plan, server_of, joiner_of, AreTwoTalks}
 use Rattle.cotpad.specs.Code.Looping.{AreBothLooped, IsLeftAfter}

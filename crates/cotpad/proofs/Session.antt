@@ -1,10 +1,9 @@
 -- What `gen` writes is the text of the generated session.
-use Rattle.std.proofs.Common.{◌≡◌, ℕ, List, ◌++◌, refl, sym, ap, ◌∙◌, append_assoc}
+use Rattle.std.proofs.Common.{◌≡◌, ℕ, List, ◌++◌, sym, ap, ◌∙◌, append_assoc}
 use Rattle.std.specs.Prelude.{Result, Ok, Err, OnOk}
 use Rattle.cot_site.specs.States.{State}
-use Rattle.session_replay.specs.Sessions.{SessionData}
 use Rattle.session_replay.specs.Generating.{Counts, counts_of, all_counted}
-use Rattle.cotpad.specs.Generating.{counts_text, alike, alike_in, gen_text, session_of, IsCounted}
+use Rattle.cotpad.specs.Generating.{counts_text, alike, gen_text, session_of, IsCounted}
 use Rattle.cotpad.specs.declared.generator.TheConstants.{GENERATED_SITES}
 use Rattle.cotpad.specs.Code.Generated.{first_of, shown_of}
 

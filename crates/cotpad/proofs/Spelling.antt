@@ -1,10 +1,8 @@
 -- Words are read as a command exactly where they spell it.
-use Rattle.std.proofs.Common.{◌≡◌, ℕ, Bool, true, false, List, [], ◌∷◌, length, codes, bytes_eq, decimal, map, string_bytes, String, Option, Some, None, refl, sym, ap, ◌∙◌, subst, option_map, ◌==◌, ◌≤◌, ◌&&◌, nat_le, leb-true, le-leb, eq-eqb, ne_eqb, arith}
+use Rattle.std.proofs.Common.{◌≡◌, ℕ, true, false, List, [], ◌∷◌, length, codes, bytes_eq, decimal, map, string_bytes, String, Option, Some, None, refl, sym, ap, ◌∙◌, subst, option_map, ◌==◌, ◌≤◌, ◌&&◌, nat_le, leb-true, le-leb, eq-eqb, ne_eqb, arith}
 use Rattle.std.specs.Prelude.{IfSome, if◌then◌else◌}
 use Rattle.std.proofs.lemmas.Bool.{cond_both, and_parts, true≢false}
 use Rattle.std.proofs.lemmas.Slice.Eq.{bytes_eq-Decides}
-use Rattle.op_name.specs.NameData.{NameData}
-use Rattle.op_name.specs.declared.member.Member.{Member}
 use Rattle.script_text.specs.Names.{name_text, member_text}
 use Rattle.script_text.specs.Fields.{number_of, long_of, site_of, name_of, member_of, ◌>>=◌}
 use Rattle.script_text.proofs.CallerLemmas.{long_reads, number_reads, site_reads, name_reads, member_reads, and_then_some, some_is}

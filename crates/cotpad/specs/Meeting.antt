@@ -1,8 +1,7 @@
 -- What `serve` and `join` answer, and what they leave in the source, in the sink and at the wire: one table for both.
-use Rattle.std.specs.Prelude.{◌≡◌, ◌⊎◌, ℕ, ◌+◌, min, true, List, Option, Some, IfSome}
+use Rattle.std.specs.Prelude.{◌≡◌, ◌⊎◌, ℕ, ◌+◌, min, true, List, Some, IfSome}
 use Rattle.std.specs.Io.KnownBytes.{Appends, IsAtEnd}
 use Rattle.outside_io.specs.Faults.{Rose, last_count}
-use Rattle.outside_io.specs.Writing.{WritesFront}
 use Rattle.outside_io.specs.declared.link.Role.{Role}
 use Rattle.outside_io.specs.declared.link.Role.TheVariants.{Listen, Connect}
 use Rattle.outside_io.specs.declared.link.Asked.TheVariants as asked

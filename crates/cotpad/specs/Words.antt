@@ -1,6 +1,5 @@
 -- The words that spell commands.
 use Rattle.std.specs.Prelude.{◌≡◌, ◌≢◌, ◌<◌, ◌≤◌, ◌^◌, ℕ, List, [], ◌∷◌, codes, decimal, map, string_bytes, String}
-use Rattle.std.specs.Str.{IsUtf8}
 use Rattle.op_name.specs.NameData.{IsName}
 use Rattle.op_name.specs.declared.name.TheConstants.{SITES}
 use Rattle.script_text.specs.Names.{name_text, member_text}

@@ -1,5 +1,5 @@
 -- What one exchange leaves, and what a second one does.
-use Rattle.std.proofs.Common.{◌≡◌, ℕ, Bool, false, inl, inr, List, [], ◌∷◌, ◌++◌, length, Result, Ok, Err, refl, ap, sym, subst, ◌∙◌, append-nil}
+use Rattle.std.proofs.Common.{◌≡◌, ℕ, Bool, false, inl, inr, List, [], ◌∷◌, ◌++◌, length, Ok, Err, refl, ap, sym, subst, ◌∙◌, append-nil}
 use Rattle.std.specs.Prelude.{Contains, ◌⊎◌}
 use Rattle.std.proofs.lemmas.Bool.{cases_Bool, false≢true}
 use Rattle.std.proofs.lemmas.List.Elements.{Contains-append_left, Contains-append_right}
@@ -15,7 +15,6 @@ use Rattle.cot_site.specs.States.{State}
 use Rattle.cot_site.specs.Releases.{IsSound}
 use Rattle.cot_site.specs.Sites.{AllFormed}
 use Rattle.wire_codec.specs.Spelling.{frame}
-use Rattle.peer_exchange.specs.declared.messages.Which.{Which}
 use Rattle.peer_exchange.specs.declared.messages.Which.TheVariants.{First, Second, Third}
 use Rattle.peer_exchange.specs.declared.messages.Measure.{Measure}
 use Rattle.peer_exchange.specs.declared.messages.Measure.TheVariants as message
@@ -24,11 +23,11 @@ use Rattle.peer_exchange.specs.declared.peer.Peer.{Peer}
 use Rattle.peer_exchange.specs.declared.peer.Peer.TheVariants as peer
 use Rattle.peer_exchange.specs.Joins.{unseen, joined, AreAlike, IsJoined}
 use Rattle.peer_exchange.specs.Measuring.{measure_of}
-use Rattle.peer_exchange.specs.Messages.{end_mark, telling, first_message, second_message, third_message, IsFirst, IsSecond, IsThird, IsAnswered}
+use Rattle.peer_exchange.specs.Messages.{end_mark, telling, first_message, IsSecond, IsThird, IsAnswered}
 use Rattle.peer_exchange.specs.Refusals.{IsWhole, IsUnread, Spoils}
 use Rattle.peer_exchange.specs.Taking.{Refusal, taken_in, with_history, IsRefusedAt}
-use Rattle.peer_exchange.specs.Closing.{IsClosed, IsFinished, IsUnclosed, IsUnfinished}
-use Rattle.peer_exchange.specs.Exchanges.{Talk, IsExchange, IsQuiet, HaveJoined, AgreeInAll, UnrefusedCallsJoin, AgreeingSitesMeet, OnlyMemoryRefuses, AgreeingSitesAreNotRefused, IsEmptyExchange, SecondExchangesAreEmpty}
+use Rattle.peer_exchange.specs.Closing.{IsClosed, IsUnclosed, IsUnfinished}
+use Rattle.peer_exchange.specs.Exchanges.{Talk, IsExchange, IsQuiet, AgreeInAll, UnrefusedCallsJoin, AgreeingSitesMeet, AgreeingSitesAreNotRefused, SecondExchangesAreEmpty}
 use Rattle.peer_exchange.proofs.BothSides.{both_sides_are_joined, joins_commute, nothing_more, third_is, unseen_by_state}
 use Rattle.peer_exchange.proofs.Unseen.{unseen_contains}
 use Rattle.peer_exchange.proofs.Unrefused.{unrefused_exchanges_join}

@@ -1,5 +1,5 @@
 -- A fault of a message is in its head or in a field: that it ends too early, or too late, is never said of its bytes alone.
-use Rattle.std.proofs.Common.{◌≡◌, ℕ, zero, suc, ◌+◌, ltb, eqb, Bool, true, false, cond, List, length, drop, Result, Ok, Err, refl, subst}
+use Rattle.std.proofs.Common.{◌≡◌, ℕ, zero, suc, ◌+◌, ltb, eqb, Bool, true, false, cond, List, length, drop, Result, Ok, Err, subst}
 use Rattle.std.specs.List.{starts_with}
 use Rattle.context_vector.specs.Contexts.{ContextData}
 use Rattle.context_diff.specs.Operations.{OpData}

@@ -1,9 +1,9 @@
 -- A whole first message tells a state.
-use Rattle.std.proofs.Common.{◌≡◌, ℕ, zero, suc, ◌+◌, ◌≤◌, ltb, eqb, Bool, true, false, cond, List, [], ◌++◌, length, drop, Result, Ok, Err, refl, sym, ap, subst, ◌∙◌, append-nil, arith, inl, inr, ◌⊎◌, ◌-◌}
+use Rattle.std.proofs.Common.{◌≡◌, ℕ, zero, suc, ◌+◌, ◌≤◌, ltb, eqb, Bool, true, false, cond, List, [], ◌++◌, length, drop, Result, Ok, Err, refl, sym, ap, ◌∙◌, append-nil, arith, inl, inr, ◌⊎◌, ◌-◌}
 use Rattle.std.specs.List.{starts_with}
 use Rattle.std.proofs.lemmas.Bool.{cases_Bool, ltb-false}
 use Rattle.std.proofs.lemmas.Bool.Decides.{Decides-eqb}
-use Rattle.std.proofs.lemmas.List.{length-append, length-drop, nil_from_length}
+use Rattle.std.proofs.lemmas.List.{length-drop, nil_from_length}
 use Rattle.std.proofs.lemmas.Slice.Eq.{starts_is}
 use Rattle.context_vector.specs.Contexts.{ContextData}
 use Rattle.wire_codec.specs.declared.fault.Unread.{Unread}
@@ -15,11 +15,11 @@ use Rattle.peer_exchange.specs.declared.messages.PeerCause.TheVariants as causes
 use Rattle.peer_exchange.specs.declared.messages.Measure.{Measure}
 use Rattle.peer_exchange.specs.declared.messages.Measure.TheVariants as message
 use Rattle.peer_exchange.specs.declared.stages.Stage.{Stage}
-use Rattle.peer_exchange.specs.declared.stages.Stage.TheVariants.{Head, State}
+use Rattle.peer_exchange.specs.declared.stages.Stage.TheVariants.{State}
 use Rattle.peer_exchange.specs.declared.stages.Piece.{Piece}
 use Rattle.peer_exchange.specs.declared.stages.Piece.TheVariants as part
-use Rattle.peer_exchange.specs.Measuring.{head, head_piece, stated, state_piece, piece_of, after_piece, pieces}
-use Rattle.peer_exchange.specs.Messages.{telling, IsFirst}
+use Rattle.peer_exchange.specs.Measuring.{head, head_piece, stated, after_piece, pieces}
+use Rattle.peer_exchange.specs.Messages.{IsFirst}
 use Rattle.peer_exchange.proofs.Staying.{by_false, by_true}
 use Rattle.peer_exchange.specs.Refusals.{IsWhole}
 

@@ -1,27 +1,25 @@
 -- A site takes in what it lacks of a history that agrees with all that it has and holds, also where operations wait.
-use Rattle.std.proofs.Common.{◌≡◌, ◌≤◌, Bool, true, false, inl, inr, List, [], ◌∷◌, ◌++◌, length, take, drop, Result, Ok, Err, refl, ap, sym, subst, ◌∙◌, append-nil}
-use Rattle.std.specs.Prelude.{Contains, ◌⊎◌, ◌||◌}
-use Rattle.std.proofs.lemmas.Bool.{cases_Bool, false≢true, or_left, or_right, or_cases}
+use Rattle.std.proofs.Common.{◌≡◌, Bool, true, false, inl, inr, List, [], ◌∷◌, ◌++◌, length, drop, Ok, refl, ap, sym, subst, ◌∙◌, append-nil}
+use Rattle.std.specs.Prelude.{Contains, ◌⊎◌}
+use Rattle.std.proofs.lemmas.Bool.{cases_Bool, false≢true, or_cases}
 use Rattle.std.proofs.lemmas.List.{take-append-drop}
-use Rattle.std.proofs.lemmas.List.Elements.{Contains-append_left, Contains-append_right, Contains-append_cases}
+use Rattle.std.proofs.lemmas.List.Elements.{Contains-append_left, Contains-append_right}
 use Rattle.op_name.specs.declared.member.Member.{Member}
-use Rattle.op_name.specs.declared.member.Member.TheVariants.{Original, Group}
+use Rattle.op_name.specs.declared.member.Member.TheVariants.{Original}
 use Rattle.op_name.specs.NameData.{NameData}
 use Rattle.op_name.specs.Members.{member_eq}
-use Rattle.context_diff.specs.Operations.{OpData, inserting, deleting, undoing, member_of, context_of, IsWellFormed}
-use Rattle.context_diff.specs.Histories.{is_known, LacksNothing, IsNext, IsValid, Agree}
+use Rattle.context_diff.specs.Operations.{OpData, inserting, deleting, undoing, member_of}
+use Rattle.context_diff.specs.Histories.{is_known, IsNext, IsValid, Agree}
 use Rattle.context_diff.proofs.CallerLemmas.{by_pushes, complete, contains_cases, contains_here, contains_later, contains_none, holder, known_member, known_on, known_push, member_same, next_elsewhere}
 use Rattle.cot_site.specs.declared.verdict.Verdict.{Verdict}
 use Rattle.cot_site.specs.declared.verdict.Verdict.TheVariants.{Repeat, Integrated}
 use Rattle.cot_site.specs.Verdicts.{IsRepeat, HasOther}
 use Rattle.cot_site.specs.States.{State, judged, delivered, after_verdict}
 use Rattle.cot_site.specs.Releases.{IsSound, IsLater, settled}
-use Rattle.cot_site.specs.Sites.{AllFormed}
 use Rattle.cot_site.proofs.CallerLemmas.{group_reached, next_integrated, verdicts_exact}
 use Rattle.peer_exchange.specs.Joins.{unseen}
 use Rattle.peer_exchange.specs.Taking.{taken_in, LackedOperationsAreTaken}
-use Rattle.peer_exchange.proofs.Unseen.{unseen_append, unseen_contains, unseen_old, unseen_new}
-use Rattle.peer_exchange.proofs.ValidJoins.{agree_front}
+use Rattle.peer_exchange.proofs.Unseen.{unseen_contains, unseen_old, unseen_new}
 use Rattle.peer_exchange.proofs.Receivings.{taken_append, taken_by, taken_none}
 use Rattle.peer_exchange.proofs.Later.{later_settled, settled_later, taking_in_keeps_histories}
 use Rattle.peer_exchange.proofs.Origins.{comes_taken}

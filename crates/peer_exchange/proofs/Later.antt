@@ -1,6 +1,5 @@
 -- Taking in keeps a site sound, and what it integrated stays the first part of its history.
-use Rattle.std.proofs.Common.{◌≡◌, ◌≤◌, inl, inr, List, [], ◌∷◌, ◌++◌, length, take, Result, Ok, Err, refl, sym, ap, subst, ◌∙◌, append-nil, arith}
-use Rattle.std.specs.Prelude.{Contains, ◌⊎◌}
+use Rattle.std.proofs.Common.{◌≡◌, ◌≤◌, inl, inr, List, [], ◌∷◌, ◌++◌, length, take, Ok, refl, sym, ap, subst, ◌∙◌, append-nil, arith}
 use Rattle.std.proofs.lemmas.List.{take-take, length-take}
 use Rattle.std.proofs.Math.Seq.{take-append_seam, take-length}
 use Rattle.std.proofs.lemmas.List.Elements.{Contains-append_left, Contains-append_right}
@@ -14,7 +13,7 @@ use Rattle.cot_site.specs.Sites.{AllFormed}
 use Rattle.cot_site.proofs.CallerLemmas.{delivered_number, sound_along, sound_delivered}
 use Rattle.peer_exchange.specs.declared.peer.Peer.{Peer}
 use Rattle.peer_exchange.specs.declared.peer.Peer.TheVariants as peer
-use Rattle.peer_exchange.specs.Taking.{Refusal, by_verdict, taken_in, IsPartlyTaken, IsBefore, IsOnTheWay, TakingInKeepsHistories}
+use Rattle.peer_exchange.specs.Taking.{by_verdict, taken_in, IsBefore, IsOnTheWay, TakingInKeepsHistories}
 use Rattle.peer_exchange.specs.Code.Receiving.{AreUntaken}
 
 pub later_same : (s : State) → IsLater s s

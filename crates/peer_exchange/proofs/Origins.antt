@@ -1,5 +1,5 @@
 -- Where the operations of a site come from after it took some in: it had them, they waited there, or they were taken in.
-use Rattle.std.proofs.Common.{◌≡◌, ℕ, zero, suc, inl, inr, List, [], ◌∷◌, ◌++◌, Result, Ok, Err, refl, sym, ap, subst, ◌∙◌, length}
+use Rattle.std.proofs.Common.{◌≡◌, ℕ, zero, suc, inl, inr, List, [], ◌∷◌, Ok, refl, subst, length}
 use Rattle.std.specs.Prelude.{Contains, ◌⊎◌, Option, Some, None, option_map, slice_get, remove}
 use Rattle.std.specs.List.{list_any}
 use Rattle.std.proofs.lemmas.Bool.{cases_Bool, cond-true, cond-false}
@@ -11,7 +11,7 @@ use Rattle.cot_site.specs.declared.verdict.Verdict.{Verdict}
 use Rattle.cot_site.specs.declared.verdict.Verdict.TheVariants.{Repeat, Forged, Waits, NotClosed, PlaceOut, Integrated}
 use Rattle.cot_site.specs.States.{State, Released, held, judged, delivered, after_verdict, first_ready, released, released_at, without_waiting, delivered_again}
 use Rattle.cot_site.specs.Releases.{and_more, releases, state_after, settled}
-use Rattle.peer_exchange.specs.Taking.{Refusal, by_verdict, taken_in}
+use Rattle.peer_exchange.specs.Taking.{by_verdict, taken_in}
 
 pub record ComesFrom (s t : State) (os : List OpData) : Type 0 where
   pub history : (x : OpData) → Contains t.history x → Contains s.history x ⊎ (Contains s.waiting x ⊎ Contains os x)

@@ -1,6 +1,6 @@
 -- Operations of a message are taken in one after the other.
-use Rattle.std.proofs.Common.{◌≡◌, ℕ, ◌+◌, ◌≤◌, ltb, eqb, Bool, true, false, inl, inr, List, [], ◌∷◌, ◌++◌, length, drop, refl, ap, sym, subst, ◌∙◌, append-nil, append_assoc, Result, Ok, Err, arith}
-use Rattle.std.specs.Prelude.{Contains, ◌⊎◌, Option, Some, None, ◌||◌}
+use Rattle.std.proofs.Common.{◌≡◌, ℕ, ◌+◌, ◌≤◌, ltb, eqb, true, false, inl, inr, List, [], ◌∷◌, ◌++◌, length, drop, refl, ap, sym, subst, ◌∙◌, append_assoc, Result, Ok, Err, arith}
+use Rattle.std.specs.Prelude.{Contains, ◌⊎◌, Some, None}
 use Rattle.std.proofs.lemmas.Bool.{cases_Bool, false≢true, le-ltb, eqb-true}
 use Rattle.std.proofs.lemmas.Nat.{from_be_bytes-to_be_bytes_4}
 use Rattle.std.specs.List.{flat_map}
@@ -15,7 +15,6 @@ use Rattle.cot_site.specs.declared.verdict.Verdict.TheVariants.{Repeat, Forged, 
 use Rattle.cot_site.specs.States.{State, judged, delivered}
 use Rattle.cot_site.specs.declared.release.Release.{Release}
 use Rattle.cot_site.specs.Releases.{all_releases, state_after, settled, IsPartlySettled}
-use Rattle.cot_site.specs.Sites.{AllFormed}
 use Rattle.wire_codec.specs.declared.fault.Refused.{Refused}
 use Rattle.wire_codec.specs.Spelling.{frame, body_bytes}
 use Rattle.wire_codec.specs.Judging.{length_of}

@@ -1,8 +1,7 @@
 -- What the calls write is whole, where the history is valid.
-use Rattle.std.proofs.Common.{◌≡◌, ℕ, List, [], ◌++◌}
-use Rattle.std.specs.List.{flat_map}
+use Rattle.std.proofs.Common.{◌≡◌, ℕ, List, []}
 use Rattle.context_vector.specs.Contexts.{ContextData, has}
-use Rattle.context_diff.specs.Operations.{OpData, member_of}
+use Rattle.context_diff.specs.Operations.{OpData}
 use Rattle.context_diff.specs.Histories.{context_of_all, IsValid}
 use Rattle.context_diff.proofs.CallerLemmas.{complete}
 use Rattle.cot_site.specs.Sites.{AllFormed}
@@ -12,7 +11,7 @@ use Rattle.peer_exchange.specs.Messages.{first_message, third_message, IsAnswere
 use Rattle.peer_exchange.specs.Refusals.{IsWhole}
 use Rattle.peer_exchange.proofs.Unseen.{unseen_contains}
 use Rattle.peer_exchange.proofs.Wholes.{messages_are_whole}
-use Rattle.peer_exchange.proofs.OneThing.{first_of, history_is_state}
+use Rattle.peer_exchange.proofs.OneThing.{history_is_state}
 
 pub lacked_formed : (c : ContextData) (h : List OpData) → IsValid h → AllFormed (unseen (has c) h)
 lacked_formed c h v o at = (complete h v).formed o (unseen_contains (has c) h o at)

@@ -1,6 +1,5 @@
 -- A whole third message is the frames of some well-formed operations, and an end mark.
-use Rattle.std.proofs.Common.{◌≡◌, ℕ, zero, suc, ◌+◌, ◌≤◌, ltb, eqb, cond, List, [], ◌∷◌, ◌++◌, length, take, drop, Result, Ok, Err, refl, ap, sym, subst, ◌∙◌, append_assoc, append-nil, arith, inl, inr}
-use Rattle.std.specs.Prelude.{Contains}
+use Rattle.std.proofs.Common.{◌≡◌, ℕ, zero, suc, ◌+◌, ltb, eqb, cond, List, [], ◌∷◌, ◌++◌, length, take, drop, Result, Ok, Err, refl, ap, sym, subst, ◌∙◌, append_assoc, append-nil, arith, inl, inr}
 use Rattle.std.specs.List.{flat_map}
 use Rattle.std.specs.Int.{w32, to_be_bytes}
 use Rattle.std.proofs.lemmas.Bool.{ltb-false, eqb-true}
@@ -17,13 +16,13 @@ use Rattle.wire_codec.specs.Judging.{judge, length_of}
 use Rattle.wire_codec.specs.Answers.{scan_of}
 use Rattle.wire_codec.proofs.CallerLemmas.{IsBytes, IsBytes-drop, IsBytes-take, judge_takes}
 use Rattle.peer_exchange.specs.declared.stages.Stage.{Stage}
-use Rattle.peer_exchange.specs.declared.stages.Stage.TheVariants.{Head, State, Frames}
+use Rattle.peer_exchange.specs.declared.stages.Stage.TheVariants.{Frames}
 use Rattle.peer_exchange.specs.declared.stages.Piece.{Piece}
 use Rattle.peer_exchange.specs.declared.stages.Piece.TheVariants as part
 use Rattle.peer_exchange.specs.declared.messages.Measure.{Measure}
 use Rattle.peer_exchange.specs.declared.messages.Measure.TheVariants as message
 use Rattle.peer_exchange.specs.declared.messages.Which.TheVariants.{Third}
-use Rattle.peer_exchange.specs.Measuring.{framed, frame_piece, piece_of, after_piece, pieces, measure_of}
+use Rattle.peer_exchange.specs.Measuring.{framed, frame_piece, after_piece, pieces}
 use Rattle.peer_exchange.specs.Messages.{end_mark, IsThird}
 use Rattle.peer_exchange.specs.Refusals.{IsWhole}
 use Rattle.peer_exchange.proofs.Staying.{first_no, first_yes, framed_got}

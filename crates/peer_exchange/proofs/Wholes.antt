@@ -9,18 +9,15 @@ use Rattle.context_diff.specs.Operations.{OpData}
 use Rattle.context_diff.proofs.CallerLemmas.{contains_here, contains_later}
 use Rattle.wire_codec.specs.declared.fault.Refused.{Refused}
 use Rattle.wire_codec.specs.declared.fault.Unread.{Unread}
-use Rattle.wire_codec.specs.Spelling.{frame, body_bytes}
+use Rattle.wire_codec.specs.Spelling.{frame}
 use Rattle.wire_codec.specs.Judging.{judge, length_of}
 use Rattle.wire_codec.specs.Answers.{scan_of}
 use Rattle.wire_codec.specs.States.{IsState, state_bytes, judge_state, state_scan_of}
-use Rattle.wire_codec.proofs.CallerLemmas.{judge_again, state_again, state_some}
-use Rattle.peer_exchange.specs.declared.messages.Measure.{Measure}
+use Rattle.wire_codec.proofs.CallerLemmas.{judge_again, state_again}
 use Rattle.peer_exchange.specs.declared.messages.Measure.TheVariants as message
 use Rattle.peer_exchange.specs.declared.messages.Which.TheVariants.{First, Second, Third}
 use Rattle.peer_exchange.specs.declared.messages.PeerCause.TheVariants as causes
-use Rattle.peer_exchange.specs.declared.stages.Piece.{Piece}
 use Rattle.peer_exchange.specs.declared.stages.Piece.TheVariants as part
-use Rattle.peer_exchange.specs.declared.stages.Stage.{Stage}
 use Rattle.peer_exchange.specs.declared.stages.Stage.TheVariants as stage
 use Rattle.peer_exchange.specs.Measuring.{head, head_piece, stated, framed, frame_piece, after_piece, pieces}
 use Rattle.peer_exchange.specs.Messages.{end_mark, telling, IsFirst, IsSecond, IsThird}

@@ -1,8 +1,6 @@
 -- Joins of histories: one history takes in what it lacks of another, in the other's order.
 use Rattle.std.specs.Prelude.{◌≡◌, ◌⊎◌, Bool, true, List, [], ◌∷◌, ◌++◌, ◌||◌, not, filter, Contains}
 use Rattle.op_name.specs.declared.member.Member.{Member}
-use Rattle.op_name.specs.declared.member.Member.TheVariants.{Original}
-use Rattle.op_name.specs.NameData.{NameData}
 use Rattle.context_diff.specs.Operations.{OpData, member_of, is_original}
 use Rattle.context_diff.specs.Histories.{is_known, IsValid, IsValidAfter, Same, Agree}
 use Rattle.context_diff.specs.Replays.{text_of}

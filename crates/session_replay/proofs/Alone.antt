@@ -1,6 +1,6 @@
 -- Generated sessions in which no message is delivered: each site has its own operations alone.
-use Rattle.std.proofs.Common.{◌≡◌, ◌≢◌, ℕ, zero, suc, ◌+◌, ◌<◌, ◌≤◌, Bool, true, false, inl, inr, List, [], ◌∷◌, ◌++◌, length, refl, ap, sym, subst, ◌∙◌, length-append, arith}
-use Rattle.std.specs.Prelude.{Contains, set, ◌==◌, ◌&&◌, ◌||◌, if◌then◌else◌}
+use Rattle.std.proofs.Common.{◌≡◌, ℕ, zero, suc, ◌+◌, ◌<◌, ◌≤◌, Bool, false, inl, inr, List, [], ◌∷◌, ◌++◌, length, refl, ap, sym, subst, ◌∙◌, length-append, arith}
+use Rattle.std.specs.Prelude.{Contains, set, if◌then◌else◌}
 use Rattle.std.proofs.Math.Nat.{mod-lt}
 use Rattle.std.proofs.lemmas.Bool.{cases_eq, eq-eqb, ne_eqb}
 use Rattle.std.proofs.lemmas.List.Elements.{Contains-push_cases}
@@ -11,10 +11,10 @@ use Rattle.context_diff.specs.Operations.{OpData, inserting, deleting, undoing, 
 use Rattle.context_diff.specs.Histories.{IsNext}
 use Rattle.context_diff.proofs.CallerLemmas.{contains_none, holder}
 use Rattle.cot_site.specs.States.{State, with_last}
-use Rattle.session_replay.specs.declared.generator.TheConstants.{MAX_EVENTS, MAX_SITES}
-use Rattle.session_replay.specs.Sessions.{SessionData, new_site, new_sites, opened, site_at}
-use Rattle.session_replay.specs.Generating.{Plan, drawn_operation, draws_from, turn_of, is_due, synced_if, acted, generating, generated, turns, IsAlone, SitesStayAlone}
-use Rattle.session_replay.proofs.Gathering.{IsPlan, Keeps, Steady, Progress, progress, acted_leaves, new_at, site_here, site_other}
+use Rattle.session_replay.specs.declared.generator.TheConstants.{MAX_EVENTS}
+use Rattle.session_replay.specs.Sessions.{SessionData, new_site, site_at}
+use Rattle.session_replay.specs.Generating.{Plan, drawn_operation, draws_from, turn_of, is_due, synced_if, acted, generating, turns, SitesStayAlone}
+use Rattle.session_replay.proofs.Gathering.{IsPlan, Keeps, Steady, progress, acted_leaves, new_at, site_here, site_other}
 use Rattle.session_replay.proofs.Making.{Makes, drawn_makes}
 use Rattle.session_replay.proofs.Room.{no_longer}
 

@@ -1,15 +1,13 @@
 -- Lines that are checked one after the other.
-use Rattle.std.proofs.Common.{◌≡◌, ◌≢◌, Bool, ℕ, ◌+◌, ◌-◌, ◌<◌, ◌≤◌, List, [], ◌∷◌, ◌++◌, length, get_or, drop, refl, sym, ap, subst, ◌∙◌}
-use Rattle.std.specs.Prelude.{Some, slice_get, Result, Ok, Err, IfOk}
+use Rattle.std.proofs.Common.{◌≡◌, Bool, ℕ, ◌+◌, ◌<◌, ◌≤◌, List, [], ◌∷◌, ◌++◌, length, get_or, drop, sym, ap, subst, ◌∙◌}
+use Rattle.std.specs.Prelude.{Result, Ok, Err, IfOk}
 use Rattle.std.proofs.lemmas.List.{drop_more, drop_all, length-append}
 use Rattle.op_name.specs.declared.member.Member.{Member}
-use Rattle.context_vector.specs.Contexts.{ContextData, has, raised}
+use Rattle.context_vector.specs.Contexts.{has, raised}
 use Rattle.context_vector.specs.Vectors.{VectorData}
 use Rattle.context_diff.specs.Operations.{OpData}
 use Rattle.context_diff.specs.Histories.{context_of_all, is_known, IsValid}
 use Rattle.context_diff.proofs.CallerLemmas.{have_known}
-use Rattle.form_cache.specs.Keys.{KeyData}
-use Rattle.undo_group.specs.Bounds.{IsShortHistory}
 use Rattle.trace_explain.specs.declared.line.TraceLine.{TraceLine}
 use Rattle.trace_explain.specs.declared.line.TraceLine.TheVariants.{Base, Step}
 use Rattle.trace_explain.specs.declared.row.Row.{Row}

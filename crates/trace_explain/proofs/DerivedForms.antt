@@ -1,24 +1,23 @@
 -- Lines that are listed have derived forms.
-use Rattle.std.proofs.Common.{◌≡◌, ◌≢◌, ℕ, ◌+◌, ◌<◌, ◌≤◌, Bool, true, false, List, inl, inr, refl, sym, ap, subst, ◌∙◌, arith}
+use Rattle.std.proofs.Common.{◌≡◌, ◌≢◌, ◌+◌, ◌<◌, ◌≤◌, Bool, true, List, refl, ap, ◌∙◌, arith}
 use Rattle.std.specs.Prelude.{length}
 use Rattle.op_name.specs.declared.member.Member.{Member}
-use Rattle.context_vector.specs.Contexts.{ContextData, has, raised}
+use Rattle.context_vector.specs.Contexts.{ContextData, has}
 use Rattle.context_vector.specs.Vectors.{lowered}
 use Rattle.context_diff.specs.Operations.{OpData}
-use Rattle.context_diff.specs.Histories.{is_known, members_in, IsValid}
+use Rattle.context_diff.specs.Histories.{is_known, IsValid}
 use Rattle.context_diff.specs.Bases.{base_context_of}
-use Rattle.context_diff.proofs.CallerLemmas.{known_in, in_known}
+use Rattle.context_diff.proofs.CallerLemmas.{known_in}
 use Rattle.form_cache.specs.Keys.{KeyData}
 use Rattle.ttf_form.specs.declared.form.Form.{Form}
 use Rattle.ttf_form.specs.declared.include.TheConstants.{CELLS}
 use Rattle.ttf_form.specs.Forms.{place_of, extent_of, IsBoundedForm, ApartForms, form_over}
 use Rattle.ttf_form.specs.Laws.Forms.{form_tp2, form_apart_sym, form_apart_over, form_extent_over, form_bound_place, form_bound_over}
 use Rattle.transform_rec.specs.Sets.{SameSet, plus}
-use Rattle.transform_rec.specs.Family.{IsSound}
 use Rattle.transform_rec.specs.Derived.{Derived, Deriving}
 use Rattle.transform_rec.specs.Derived.Derived.{at_base, by_step}
 use Rattle.transform_rec.specs.Histories.{family_in, MayBeAddedTo}
-use Rattle.transform_rec.proofs.CallerLemmas.{added_next, history_causal, derived_room, derived_sound, sound_added}
+use Rattle.transform_rec.proofs.CallerLemmas.{history_causal, derived_room, derived_sound, sound_added}
 use Rattle.undo_group.specs.BaseForms.{base_form}
 use Rattle.undo_group.specs.Bounds.{IsShortHistory}
 use Rattle.undo_group.specs.Laws.Texts.{base_forms_apart, base_forms_bounded, base_forms_total}

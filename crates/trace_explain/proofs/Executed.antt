@@ -1,5 +1,5 @@
 -- The context at which a member is executed, and the form that it is executed in.
-use Rattle.std.proofs.Common.{◌≡◌, ◌≢◌, ℕ, zero, suc, ◌+◌, ◌<◌, ◌≤◌, Bool, true, false, List, [], ◌∷◌, ◌++◌, ◌⊎◌, length, take, drop, inl, inr, refl, sym, ap, subst, ◌∙◌, arith, append_assoc}
+use Rattle.std.proofs.Common.{◌≡◌, ◌≢◌, ℕ, zero, suc, ◌+◌, ◌≤◌, Bool, true, false, List, [], ◌∷◌, ◌++◌, length, take, drop, inl, inr, refl, sym, ap, subst, ◌∙◌, append_assoc}
 use Rattle.std.specs.Prelude.{Some, slice_get, ◌||◌, if◌then◌else◌}
 use Rattle.std.proofs.lemmas.Bool.{cases_Bool, both_ways}
 use Rattle.std.proofs.lemmas.List.{drop_all, drop_more, take_more, take-append-drop}
@@ -9,20 +9,16 @@ use Rattle.op_name.specs.Members.{member_eq}
 use Rattle.op_name.proofs.CallerLemmas.{member_same, member_itself, member_apart}
 use Rattle.context_vector.specs.Contexts.{ContextData, IsContext, has, raised, empty, IsNextMember}
 use Rattle.context_diff.specs.Operations.{OpData, member_of}
-use Rattle.context_diff.specs.Histories.{is_known, members_in, context_of_all, IsNext, IsValid}
+use Rattle.context_diff.specs.Histories.{is_known, members_in, context_of_all, IsValid}
 use Rattle.context_diff.proofs.CallerLemmas.{all_is_context, complete, in_known, context_push, next_member, valid_parts, valid_pop}
-use Rattle.ttf_form.specs.declared.form.Form.{Form}
-use Rattle.ttf_form.specs.Forms.{form_over}
 use Rattle.ttf_form.specs.Families.{IsIn}
 use Rattle.transform_rec.specs.Sets.{none, SameSet, plus, plus_all}
-use Rattle.transform_rec.specs.Family.{Family, IsSound}
-use Rattle.transform_rec.specs.Derived.{Derived}
-use Rattle.transform_rec.specs.Executing.{AreFormsFrom, IsCausalFrom}
+use Rattle.transform_rec.specs.Family.{IsSound}
+use Rattle.transform_rec.specs.Executing.{IsCausalFrom}
 use Rattle.transform_rec.specs.Histories.{family_in, MayBeAddedTo}
-use Rattle.transform_rec.proofs.CallerLemmas.{added_next, book_run, causal_parts, derived_once, derived_sound, form_moves, history_causal, same_set, sound_added}
+use Rattle.transform_rec.proofs.CallerLemmas.{book_run, causal_parts, history_causal, same_set, sound_added}
 use Rattle.undo_group.specs.BaseForms.{base_form}
-use Rattle.undo_group.specs.Bounds.{IsShortHistory}
-use Rattle.trace_explain.specs.Traces.{before, context_before, pair}
+use Rattle.trace_explain.specs.Traces.{before, context_before}
 use Rattle.trace_explain.proofs.Turned.{same_Some}
 
 -- ---- the operations before a member

@@ -1,11 +1,11 @@
 -- The rows of right lines have derived forms, and a trace ends in the form that was executed.
-use Rattle.std.proofs.Common.{◌≡◌, ◌≢◌, ℕ, zero, suc, ◌-◌, ◌≤◌, Bool, true, false, List, [], ◌∷◌, ◌++◌, ◌⊎◌, take, inl, inr, refl, sym, ap, subst, ◌∙◌}
-use Rattle.std.specs.Prelude.{Some, slice_get, ◌||◌}
+use Rattle.std.proofs.Common.{◌≡◌, ℕ, zero, suc, ◌-◌, Bool, true, false, List, [], ◌∷◌, ◌++◌, ◌⊎◌, take, inl, inr, refl, sym, ap, subst, ◌∙◌}
+use Rattle.std.specs.Prelude.{Some, slice_get}
 use Rattle.std.proofs.lemmas.Bool.{or_parts}
 use Rattle.op_name.specs.declared.member.Member.{Member}
 use Rattle.op_name.specs.Members.{member_eq}
 use Rattle.op_name.proofs.CallerLemmas.{member_itself}
-use Rattle.context_vector.specs.Contexts.{ContextData, has, raised, IsNextMember}
+use Rattle.context_vector.specs.Contexts.{ContextData, has, raised}
 use Rattle.context_vector.proofs.CallerLemmas.{has_raised}
 use Rattle.context_diff.specs.Operations.{OpData, member_of}
 use Rattle.context_diff.specs.Histories.{is_known, members_in, IsValid}
@@ -15,7 +15,7 @@ use Rattle.form_cache.specs.Keys.{KeyData}
 use Rattle.ttf_form.specs.declared.form.Form.{Form}
 use Rattle.ttf_form.specs.Forms.{form_over}
 use Rattle.ttf_form.specs.Families.{IsIn}
-use Rattle.transform_rec.specs.Sets.{none, SameSet, plus, plus_all}
+use Rattle.transform_rec.specs.Sets.{none, plus, plus_all}
 use Rattle.transform_rec.specs.Family.{Family}
 use Rattle.transform_rec.specs.Derived.{Derived}
 use Rattle.transform_rec.specs.Executing.{AreFormsFrom}
@@ -29,7 +29,7 @@ use Rattle.trace_explain.specs.declared.row.Row.{Row}
 use Rattle.trace_explain.specs.Traces.{AreLines, IsInclusionOf, IsLine, IsRowOf, IsTrace, before, context_before, pair}
 use Rattle.trace_explain.specs.Laws.{EndsIn, form_of_line}
 use Rattle.trace_explain.specs.Code.Tasks.{IsFormAt}
-use Rattle.trace_explain.specs.Code.Checked.{AreDerivedRows, IsStepTo}
+use Rattle.trace_explain.specs.Code.Checked.{AreDerivedRows}
 use Rattle.trace_explain.proofs.Turned.{same_Some}
 use Rattle.trace_explain.proofs.OneTrace.{last_once}
 use Rattle.trace_explain.proofs.DerivedForms.{base_derived, form_added, step_derived, text_deriving}

@@ -1,14 +1,12 @@
 -- The listing rule leaves no choice.
-use Rattle.std.proofs.Common.{◌≡◌, List, [], ◌∷◌, ◌++◌, refl, sym, ap, subst, ◌∙◌}
+use Rattle.std.proofs.Common.{◌≡◌, List, [], ◌∷◌, ◌++◌, sym, ap, subst, ◌∙◌}
 use Rattle.std.specs.Prelude.{Option, Some, None}
 use Rattle.op_name.specs.declared.member.Member.{Member}
 use Rattle.context_diff.specs.Operations.{OpData}
 use Rattle.form_cache.specs.Keys.{KeyData}
-use Rattle.ttf_form.specs.Forms.{form_over}
 use Rattle.trace_explain.specs.declared.line.TraceLine.{TraceLine}
 use Rattle.trace_explain.specs.declared.listing.Listed.{Listed}
-use Rattle.trace_explain.specs.Traces.{pair, context_before}
-use Rattle.trace_explain.specs.Listings.{ListingData, IsLastBetween, IsTraceOf, Lists, based, left_of, over_of, stepped, with_base, with_step}
+use Rattle.trace_explain.specs.Listings.{ListingData, IsLastBetween, IsTraceOf, Lists, left_of, over_of, stepped, with_step}
 use Rattle.trace_explain.specs.Listings.Lists.{there, at_base, by_step}
 use Rattle.trace_explain.proofs.Turned.{same_Some}
 

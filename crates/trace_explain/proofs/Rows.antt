@@ -1,25 +1,21 @@
 -- Rows of lines: what the lines of a listing are about.
-use Rattle.std.proofs.Common.{◌≡◌, ◌≢◌, ℕ, zero, suc, ◌+◌, ◌-◌, ◌<◌, ◌≤◌, Bool, true, false, List, [], ◌∷◌, ◌++◌, length, inl, inr, refl, sym, ap, subst, ◌∙◌, arith, append_assoc}
+use Rattle.std.proofs.Common.{◌≡◌, ℕ, zero, suc, ◌+◌, ◌-◌, ◌≤◌, Bool, List, [], ◌∷◌, ◌++◌, length, inl, inr, refl, sym, ap, subst, ◌∙◌, arith, append_assoc}
 use Rattle.std.specs.Prelude.{Option, Some, None, slice_get, if◌then◌else◌}
 use Rattle.std.proofs.lemmas.Bool.{cases_Bool}
 use Rattle.std.proofs.lemmas.List.{length-append}
 use Rattle.op_name.specs.declared.member.Member.{Member}
-use Rattle.context_vector.specs.Contexts.{ContextData, IsContext, has, raised}
-use Rattle.context_vector.specs.Vectors.{lowered}
+use Rattle.context_vector.specs.Contexts.{ContextData, IsContext}
 use Rattle.context_diff.specs.Operations.{OpData}
-use Rattle.context_diff.specs.Histories.{is_known, IsValid}
-use Rattle.context_diff.specs.Bases.{base_context_of}
+use Rattle.context_diff.specs.Histories.{IsValid}
 use Rattle.context_diff.specs.Differences.{LastMayBeTakenOut}
 use Rattle.form_cache.specs.Keys.{KeyData, key_eq, key_eq_decides}
-use Rattle.ttf_form.specs.declared.form.Form.{Form}
 use Rattle.ttf_form.specs.Forms.{form_over}
 use Rattle.undo_group.specs.BaseForms.{base_form}
 use Rattle.trace_explain.specs.declared.line.TraceLine.{TraceLine}
-use Rattle.trace_explain.specs.declared.line.TraceLine.TheVariants.{Base, Step}
 use Rattle.trace_explain.specs.declared.listing.Listed.{Listed}
 use Rattle.trace_explain.specs.declared.row.Row.{Row}
 use Rattle.trace_explain.specs.Traces.{AreLines, IsLine, IsRowOf, IsTrace, pair, context_before}
-use Rattle.trace_explain.specs.Listings.{ListingData, IsLastBetween, IsTraceOf, Lists, base_line, based, left_of, no_lines, over_of, step_line, stepped, with_base, with_line, with_step}
+use Rattle.trace_explain.specs.Listings.{ListingData, IsTraceOf, Lists, base_line, based, left_of, no_lines, over_of, step_line, stepped, with_line}
 use Rattle.trace_explain.specs.Listings.Lists.{there, at_base, by_step}
 use Rattle.trace_explain.specs.Code.Tasks.{IsPair}
 use Rattle.trace_explain.proofs.Smaller.{IsSmaller, smaller}

@@ -1,7 +1,7 @@
 -- A pair that isn't at its member's base context, and the two pairs without the last member between.
-use Rattle.std.proofs.Common.{◌≡◌, ◌≢◌, ℕ, ◌+◌, ◌-◌, ◌<◌, ◌≤◌, Bool, true, false, not, ◌&&◌, List, [], ◌∷◌, ◌++◌, take, inl, inr, refl, sym, ap, subst, ◌∙◌, arith}
+use Rattle.std.proofs.Common.{◌≡◌, ◌≢◌, ℕ, ◌-◌, ◌<◌, ◌≤◌, Bool, true, false, not, ◌&&◌, List, [], ◌∷◌, ◌++◌, take, inl, inr, refl, sym, ap, subst, ◌∙◌, arith}
 use Rattle.std.specs.Prelude.{◌||◌, if◌then◌else◌}
-use Rattle.std.proofs.lemmas.Bool.{cases_Bool, both_ways, and_from, and_parts, or_left, or_right, not_from_false, false_from_ne_true}
+use Rattle.std.proofs.lemmas.Bool.{cases_Bool, both_ways, and_from, or_left, not_from_false}
 use Rattle.op_name.specs.declared.member.Member.{Member}
 use Rattle.op_name.specs.declared.member.Member.TheVariants.{Original, Group}
 use Rattle.op_name.specs.Members.{member_eq, IsMember}
@@ -12,7 +12,7 @@ use Rattle.context_vector.proofs.CallerLemmas.{same_context, has_raised, has_low
 use Rattle.context_diff.specs.Operations.{OpData, inserting, deleting, undoing, member_of, IsWellFormed}
 use Rattle.context_diff.specs.Histories.{is_known, members_in, IsValid}
 use Rattle.context_diff.specs.Bases.{base_has, base_context_of}
-use Rattle.context_diff.specs.ClosedContexts.{IsClosedContext, MayBeTakenOut}
+use Rattle.context_diff.specs.ClosedContexts.{IsClosedContext}
 use Rattle.context_diff.specs.Differences.{LastMayBeTakenOut, difference_of}
 use Rattle.context_diff.proofs.CallerLemmas.{base_value, base_closed, base_listed, base_itself, closed_context, closed_set, complete, IsComplete, holder, known_in}
 use Rattle.form_cache.specs.Keys.{KeyData}

@@ -1,7 +1,6 @@
 -- The listing rule: which lines the trace of a member has, and in which order.
-use Rattle.std.specs.Prelude.{◌≡◌, ◌≢◌, ℕ, ◌+◌, List, [], ◌∷◌, ◌++◌, length, Option, Some, None, if◌then◌else◌}
+use Rattle.std.specs.Prelude.{◌≡◌, ◌≢◌, ◌+◌, List, [], ◌∷◌, ◌++◌, length, Option, Some, None, if◌then◌else◌}
 use Rattle.op_name.specs.declared.member.Member.{Member}
-use Rattle.context_vector.specs.Contexts.{ContextData}
 use Rattle.context_vector.specs.Vectors.{lowered}
 use Rattle.context_diff.specs.Operations.{OpData}
 use Rattle.context_diff.specs.Bases.{base_context_of}

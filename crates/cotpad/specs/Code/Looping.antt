@@ -1,5 +1,5 @@
 -- Two exchanges in a row, as they are done.
-use Rattle.std.specs.Prelude.{◌≡◌, ◌⊎◌, ℕ, [], ◌∷◌, Result, Ok, Err}
+use Rattle.std.specs.Prelude.{◌⊎◌, ℕ, [], ◌∷◌, Result, Ok, Err}
 use Rattle.outside_io.specs.Ends.{End}
 use Rattle.cot_site.specs.States.{State}
 use Rattle.site_node.specs.declared.node.Node.{Node}

@@ -1,7 +1,7 @@
 use Rattle.std.proofs.Common.{◌≡◌, map, option_map, string_bytes, rules}
 use Rattle.cotpad.specs.Commands.{command_data}
 use Rattle.cotpad.specs.Code.Reading.{command_in}
-use Rattle.cotpad.proofs.Spelling.{only, read_row}
+use Rattle.cotpad.proofs.Spelling.{only}
 use Rattle.cotpad.proofs.command.command_of.Goals as goal
 
 pub returns-clause-only : goal.returns-clause-only

@@ -1,4 +1,4 @@
-use Rattle.std.proofs.Common.{◌≡◌, ℕ, ◌+◌, ◌≤◌, sym, ap, subst, refl, ◌∙◌, arith, length, drop, chars}
+use Rattle.std.proofs.Common.{◌+◌, ◌≤◌, sym, ap, subst, refl, ◌∙◌, arith, length, drop, chars}
 use Rattle.std.specs.Prelude.{Err}
 use Rattle.std.proofs.lemmas.Iterator.{YieldsList-from_chars}
 use Rattle.std.proofs.lemmas.Iterator.Consumers.{YieldsList-turn, YieldsList-end}

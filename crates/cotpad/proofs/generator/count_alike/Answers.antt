@@ -1,6 +1,5 @@
-use Rattle.std.proofs.Common.{◌≡◌, ℕ, ◌+◌, true, false, List, ◌++◌, sym, ap, ◌∙◌, arith, length, bytes_eq}
+use Rattle.std.proofs.Common.{◌≡◌, ◌+◌, true, false, ◌++◌, sym, ap, ◌∙◌, arith, length, bytes_eq}
 use Rattle.std.specs.Prelude.{Some, slice_get}
-use Rattle.std.proofs.lemmas.Bool.{true≢false}
 use Rattle.context_diff.specs.Replays.{text_of}
 use Rattle.cot_site.specs.Sites.{state_of}
 use Rattle.cotpad.proofs.Alike.{contains_at, same_texts, one_more_alike, all_alike}

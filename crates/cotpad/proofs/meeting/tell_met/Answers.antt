@@ -1,4 +1,3 @@
-use Rattle.std.proofs.Common.{◌≡◌}
 use Rattle.cotpad.proofs.Meetings.{told_of_log, told_of_stop}
 use Rattle.cotpad.proofs.meeting.tell_met.Goals as goal
 

@@ -1,4 +1,4 @@
-use Rattle.std.proofs.Common.{◌≡◌, ◌∙◌, sym, ap, drop, arith, List, ℕ, inl, inr}
+use Rattle.std.proofs.Common.{◌≡◌, ◌∙◌, sym, ap, drop, arith, inl, inr}
 use Rattle.wire_codec.specs.declared.fault.Unread.TheVariants as unread
 use Rattle.wire_codec.specs.Reading.{fault}
 use Rattle.wire_codec.specs.States.{judge_state, state_judgement_of}

@@ -1,8 +1,6 @@
-use Rattle.std.proofs.Common.{◌≡◌, inl, inr, sym, ◌∙◌, subst, ap}
-use Rattle.std.specs.Prelude.{IfOk}
-use Rattle.wire_codec.specs.declared.answers.Decoded.{Decoded}
+use Rattle.std.proofs.Common.{inl, inr, sym, ◌∙◌, ap}
 use Rattle.wire_codec.specs.Answers.{judgement_of}
-use Rattle.peer_exchange.proofs.Receivings.{none_at_end, decoded_first, decoded_within, decoded_never}
+use Rattle.peer_exchange.proofs.Receivings.{none_at_end, decoded_first, decoded_never}
 use Rattle.peer_exchange.proofs.receiving.first.Goals as goal
 
 pub returns-then-ends-clause-first : goal.returns-then-ends-clause-first

@@ -1,4 +1,4 @@
-use Rattle.std.proofs.Common.{◌≡◌, ◌+◌, ◌≤◌, length, sym, subst, arith, List, ℕ}
+use Rattle.std.proofs.Common.{◌+◌, ◌≤◌, length, sym, subst, arith, List, ℕ}
 use Rattle.std.specs.Prelude.{Option, IfSome}
 use Rattle.context_diff.specs.Operations.{OpData}
 use Rattle.context_diff.specs.declared.op.Op.{Op}

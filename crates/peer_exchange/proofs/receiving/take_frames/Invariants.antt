@@ -1,5 +1,5 @@
 -- The operations whose frames were passed over are taken in.
-use Rattle.std.proofs.Common.{length, ◌-◌}
+use Rattle.std.proofs.Common.{length}
 use Rattle.cot_site.specs.Sites.{state_of}
 use Rattle.peer_exchange.proofs.Receivings.{IsTaking}
 use Rattle.peer_exchange.proofs.receiving.take_frames.Given as goal

@@ -1,4 +1,4 @@
-use Rattle.std.proofs.Common.{refl, sym, ap, subst, ◌∙◌, ◌≡◌, arith}
+use Rattle.std.proofs.Common.{sym, ap, subst, ◌∙◌, arith}
 use Rattle.std.proofs.lemmas.Bool.{both_ways}
 use Rattle.context_vector.specs.Contexts.{ContextData, IsNextMember, raised}
 use Rattle.transform_rec.specs.Histories.{MayBeAddedTo}

@@ -1,4 +1,4 @@
-use Rattle.std.proofs.Common.{ap, sym, ◌∙◌}
+use Rattle.std.proofs.Common.{◌∙◌}
 use Rattle.std.specs.Prelude.{vec_len}
 use Rattle.context_diff.proofs.CallerLemmas.{have_known}
 use Rattle.trace_explain.proofs.Smaller.{none_left, nothing_between}

@@ -1,4 +1,3 @@
-use Rattle.std.proofs.Common.{refl, sym, subst}
 use Rattle.trace_explain.specs.Code.Listed.{data_of}
 use Rattle.trace_explain.proofs.Turned.{fewer_turns, taken_can, taken_gives, work_ended, work_first}
 use Rattle.trace_explain.proofs.tasks.list.Goals as goal

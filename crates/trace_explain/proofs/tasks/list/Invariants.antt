@@ -1,4 +1,3 @@
-use Rattle.std.proofs.Common.{◌≡◌}
 use Rattle.trace_explain.specs.declared.listing.Listed.{Listed}
 use Rattle.trace_explain.specs.Listings.{ListingData, Lists}
 use Rattle.trace_explain.specs.Code.Listed.{data_of}
