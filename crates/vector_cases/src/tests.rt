@@ -59,9 +59,16 @@ fn adds_missing(v: &mut Vector, other: &Vector, wanted: &Member) -> Result<bool,
     Ok(!covers && m == *wanted)
 }
 
-/// Adds all that is missing; answers whether these are the members, one after the other.
-fn adds_all_missing(v: &mut Vector, other: &Vector, wanted: &[Member]) -> Result<bool, Fail> {
+/// Adds all that is missing; answers whether these are the members, one after the other. A join with a set that has less
+/// changes nothing in between.
+fn adds_all_missing(
+    v: &mut Vector,
+    other: &Vector,
+    less: &Vector,
+    wanted: &[Member],
+) -> Result<bool, Fail> {
     for m in wanted {
+        v.join(less)?;
         if !adds_missing(v, other, m)? {
             return Ok(false);
         }
@@ -86,8 +93,9 @@ fn first_missing_goes_by_site_and_number_and_then_by_name(rt: HostRuntime) -> Re
         Member::Group(SECOND, 2),
     ];
     let other = with_a_group(rt.alloc())?;
+    let less = up_to(rt.alloc(), FIRST)?;
     let mut v = up_to(rt.alloc(), SECOND)?;
-    assert!(rt; adds_all_missing(&mut v, &other, &steps)?);
+    assert!(rt; adds_all_missing(&mut v, &other, &less, &steps)?);
     Ok(())
 }
 
@@ -218,7 +226,8 @@ fn shared_counts_of_different_sets_are_not_equal(rt: HostRuntime) -> Result<(), 
     let mut more = with_shared_counts(rt.alloc())?;
     more.raise(&Member::Original(Name { site: 5, number: 2 }))?;
     more.share();
-    assert!(rt; more != shared);
+    let own = of_six_sites(rt.alloc())?;
+    assert!(rt; more != shared && more != own);
     assert!(rt; more.covers(&shared) && !shared.covers(&more));
     Ok(())
 }
