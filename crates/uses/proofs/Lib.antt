@@ -1,1 +1,2 @@
 pub mod SameOperations
+pub mod Sending

@@ -9,15 +9,16 @@ use std::io;
 pub(crate) enum Stop {
     /// Out of memory.
     Memory,
-    /// A site refused what its user asked for, and changed nothing. (`Local` says why.)
+    /// A site refused what its user asked for, and changed nothing; `Local` lists the reasons.
     Edit,
-    /// What came is no frame.
+    /// The bytes that came don't begin with a frame.
     NoFrame,
-    /// What came is another operation than the one that the site knows by this name, or can't be one of this text.
+    /// A site refused an operation that came: it knows another of that name, or the operation's context or place doesn't
+    /// fit its history.
     Refused,
-    /// One of the two has what the other lacks.
+    /// One of the two sites has operations that the other lacks.
     Apart,
-    /// The text wasn't printed.
+    /// Writing the output failed.
     Output(io::Error),
 }
 
