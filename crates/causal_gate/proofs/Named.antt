@@ -49,11 +49,11 @@ undo_unnamed (inserting m p ch c) n undo = absurd (true≢false undo)
 undo_unnamed (deleting m p c) n undo = absurd (true≢false undo)
 undo_unnamed (undoing a t g c) n undo = refl
 
-or_none : (b : Bool) → (b || false) ≡ b
+pub or_none : (b : Bool) → (b || false) ≡ b
 or_none true = refl
 or_none false = refl
 
-chosen : {A : Type 0} (b c : Bool) (x y : A) → b ≡ c → (if b then x else y) ≡ (if c then x else y)
+pub chosen : {A : Type 0} (b c : Bool) (x y : A) → b ≡ c → (if b then x else y) ≡ (if c then x else y)
 chosen b c x y e = ap (λ v. if v then x else y) e
 
 -- an insert or delete comes

@@ -10,10 +10,11 @@ use Rattle.context_diff.specs.Operations.{OpData, inserting, deleting, undoing, 
 use Rattle.context_diff.specs.Ops.{data_of, op_eq}
 use Rattle.context_diff.specs.declared.op.Op.{Op}
 use Rattle.context_diff.specs.contracts.op.OpPartialEq.TheImpl.{eq-value}
-use Rattle.context_diff.proofs.CallerLemmas.{op_same, op_eq_decides, derived_op, contains_here, contains_later}
+use Rattle.context_diff.proofs.CallerLemmas.{op_same, op_eq_decides, derived_op}
 use Rattle.causal_gate.specs.Waiting.{AllDifferFrom, AreApart}
 use Rattle.causal_gate.specs.Undos.{AreUndos}
 use Rattle.causal_gate.proofs.Places.{contains_at}
+use Rattle.causal_gate.proofs.Named.{chosen, or_none}
 
 -- a look-up among the keys, by the equality of contracts
 seen : (q : Op) (ks : List Op) → list_any (eq-value.it q) ks ≡ list_any (op_eq (data_of q)) (map data_of ks)
@@ -41,13 +42,6 @@ turned a b =
       | inl same ↦ same ∙ sym ((op_eq_decides b a).1 (sym (op_same a b same)))
       | inr other ↦ other ∙ sym (false_from_ne_true (op_eq b a) (λ e. true≢false (sym ((op_eq_decides a b).1 (sym (op_same b a e))) ∙ other)))
     ]
-
-or_none : (b : Bool) → (b || false) ≡ b
-or_none true = refl
-or_none false = refl
-
-chosen : {A : Type 0} (b c : Bool) (x y : A) → b ≡ c → (if b then x else y) ≡ (if c then x else y)
-chosen b c x y e = ap (λ v. if v then x else y) e
 
 any_push : (d o : OpData) (os : List OpData) → list_any (op_eq d) (os ++ o ∷ []) ≡ (list_any (op_eq d) os || op_eq d o)
 any_push d o os = list_any-append (op_eq d) os (o ∷ []) ∙ ap (λ b. list_any (op_eq d) os || b) (or_none (op_eq d o))

@@ -21,7 +21,8 @@ use Rattle.context_diff.proofs.Complete.{complete, formed_number}
 use Rattle.context_diff.proofs.Generations.{generation_is}
 use Rattle.context_diff.proofs.Inserts.{inserts_by_site, no_inserts}
 use Rattle.context_diff.proofs.Listings.{count_at}
-use Rattle.context_diff.proofs.Members.{all_is_context}
+use Rattle.context_diff.proofs.Members.{all_is_context, original_name}
+use Rattle.std.specs.Cmp.{both_ways as same_bool}
 
 pub agree_back : (h p : List OpData) → Agree h p → Agree p h
 agree_back h p agree x y n at bt is js = sym (agree y x n bt at js is)
@@ -149,21 +150,11 @@ next_elsewhere g q o v w agree ready new next =
 
 -- ---- the same members
 
-original_name : (o : OpData) → is_original o ≡ true → (n : NameData) × (member_of o ≡ Original n)
-original_name (inserting n p ch c) is = (n, refl)
-original_name (deleting n p c) is = (n, refl)
-original_name (undoing a t g c) is = cc
-
 moved : (h p : List OpData) → Agree h p → ((m : Member) → is_known h m ≡ true → is_known p m ≡ true) → (o : OpData) → is_original o ≡ true → Contains h o → Contains p o
 moved h p agree within o original at =
     let name = original_name o original in
     let held = holder p (Original name.0) (within (Original name.0) (ap (is_known h) (sym name.1) ∙ known_member h o at)) in
     subst (λ (x : OpData). Contains p x) (sym (agree o held.op name.0 at held.there name.1 held.is)) held.there
-
-both_ways : (a b : Bool) → (a ≡ true → b ≡ true) → (b ≡ true → a ≡ true) → a ≡ b
-both_ways true b to from = sym (to refl)
-both_ways false true to from = from refl
-both_ways false false to from = refl
 
 -- valid histories that agree and have the same members are the same
 pub same_by_members : (h p : List OpData) → IsValid h → IsValid p → Agree h p → ((m : Member) → is_known h m ≡ true → is_known p m ≡ true) → ((m : Member) → is_known p m ≡ true → is_known h m ≡ true) → Same h p
@@ -173,7 +164,7 @@ same_by_members h p v w agree to from = record {
 }
   where
     members : (m : Member) → has (context_of_all h) m ≡ has (context_of_all p) m
-    members m = (complete h v).holds m ∙ (both_ways (is_known h m) (is_known p m) (to m) (from m) ∙ sym ((complete p w).holds m))
+    members m = (complete h v).holds m ∙ (same_bool (is_known h m) (is_known p m) (to m) (from m) ∙ sym ((complete p w).holds m))
 
     contexts : context_of_all h ≡ context_of_all p
     contexts = same_context (context_of_all h) (context_of_all p) (all_is_context h v) (all_is_context p w) members

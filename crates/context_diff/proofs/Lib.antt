@@ -22,6 +22,7 @@ pub mod GapEnds
 pub mod Replaying
 pub mod Derived
 pub mod Members
+pub mod FewEntries
 pub mod Agreeing
 pub mod BaseSteps
 pub mod Books

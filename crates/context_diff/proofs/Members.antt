@@ -1,17 +1,22 @@
 -- The members of a valid history are a context.
-use Rattle.std.proofs.Common.{◌≡◌, Bool, true, false, List, refl, ap, sym, subst, ◌∙◌, not}
+use Rattle.std.proofs.Common.{◌≡◌, Bool, true, false, List, refl, ap, sym, subst, ◌∙◌, not, ◌++◌, [], ◌∷◌}
 use Rattle.std.specs.Prelude.{◌&&◌, ◌||◌}
 use Rattle.op_name.specs.declared.member.Member.{Member}
 use Rattle.op_name.specs.declared.member.Member.TheVariants.{Original, Group}
 use Rattle.op_name.specs.Members.{member_eq, IsMember}
 use Rattle.context_vector.specs.Contexts.{ContextData, IsContext, raised, has}
-use Rattle.context_diff.specs.Operations.{OpData, inserting, deleting, undoing, member_of, IsWellFormed}
-use Rattle.context_diff.specs.Histories.{is_known, context_of_all, IsNext, IsValid}
+use Rattle.context_diff.specs.Operations.{OpData, inserting, deleting, undoing, member_of, IsWellFormed, is_original}
+use Rattle.context_diff.specs.Histories.{is_known, context_of_all, IsNext, IsValid, members_in}
 use Rattle.context_vector.proofs.CallerLemmas.{raised_is_context, same_context}
 use Rattle.context_diff.proofs.Names.{member_same}
 use Rattle.context_diff.proofs.Raising.{has_raised}
 use Rattle.context_diff.proofs.Valid.{by_pushes}
 use Rattle.context_diff.proofs.Complete.{complete, next_member, context_push}
+use Rattle.op_name.specs.NameData.{NameData}
+
+pub members-append : (h k : List OpData) → members_in (h ++ k) ≡ members_in h ++ members_in k
+members-append [] k = refl
+members-append (o ∷ os) k = ap (λ (ms : List Member). member_of o ∷ ms) (members-append os k)
 
 -- the member of a well formed operation is in its range
 pub formed_member : (o : OpData) → IsWellFormed o → IsMember (member_of o)
@@ -19,7 +24,19 @@ formed_member (inserting n p ch c) f = tt
 formed_member (deleting n p c) f = tt
 formed_member (undoing a t g c) f = f.in_range.2
 
-raised_by : (c : ContextData) (o : OpData) → IsContext c → IsWellFormed o → IsContext (raised c (member_of o))
+-- the member of an insert or of a delete is its own name
+pub original_name : (o : OpData) → is_original o ≡ true → (n : NameData) × (member_of o ≡ Original n)
+original_name (inserting n p ch c) is = (n, refl)
+original_name (deleting n p c) is = (n, refl)
+original_name (undoing a t g c) is = cc
+
+-- and an operation with such a member is an insert or a delete
+pub named_original : (o : OpData) (n : NameData) → member_of o ≡ Original n → is_original o ≡ true
+named_original (inserting m p ch c) n is = refl
+named_original (deleting m p c) n is = refl
+named_original (undoing a t g c) n is = cc
+
+pub raised_by : (c : ContextData) (o : OpData) → IsContext c → IsWellFormed o → IsContext (raised c (member_of o))
 raised_by c (inserting n p ch d) is f = raised_is_context c (Original n) is f.in_range.0 tt f.in_range.0.2
 raised_by c (deleting n p d) is f = raised_is_context c (Original n) is f.in_range.0 tt f.in_range.0.2
 raised_by c (undoing a t g d) is f = raised_is_context c (Group t g) is f.in_range.1 f.in_range.2 f.in_range.3

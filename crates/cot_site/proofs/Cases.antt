@@ -12,7 +12,7 @@ use Rattle.context_diff.specs.Operations.{OpData, inserting, deleting, undoing, 
 use Rattle.context_diff.specs.Histories.{generation_in}
 use Rattle.op_name.proofs.CallerLemmas.{member_same, member_itself}
 use Rattle.context_diff.specs.Ops.{op_eq}
-use Rattle.context_diff.proofs.CallerLemmas.{op_eq_decides, contains_cases, contains_here, contains_later, contains_none}
+use Rattle.context_diff.proofs.CallerLemmas.{op_eq_decides, contains_cases, contains_here, contains_later, contains_none, original_name, named_original}
 use Rattle.cot_site.specs.Verdicts.{is_repeat, is_other, is_forged, IsRepeat, HasOther, IsForgery}
 
 -- ---- tests on the elements of a list
@@ -77,16 +77,6 @@ other_any o os n is = (
     not_both true e f = false≢true f
     not_both false e f = false≢true e
 
-pub named_original : (o : OpData) (n : NameData) → member_of o ≡ Original n → is_original o ≡ true
-named_original (inserting m p ch c) n is = refl
-named_original (deleting m p c) n is = refl
-named_original (undoing a t g c) n is = absurd (cc)
-
-pub original_named : (o : OpData) → is_original o ≡ true → (n : NameData) × (member_of o ≡ Original n)
-original_named (inserting n p ch c) is = (n, refl)
-original_named (deleting n p c) is = (n, refl)
-original_named (undoing a t g c) is = absurd (false≢true is)
-
 pub forged_decides : (h w : List OpData) (o : OpData) (n : NameData) → member_of o ≡ Original n → Decides (is_forged h w o) (IsForgery h w o n)
 forged_decides h w o n is =
     let in_h = other_any o h n is in
@@ -113,7 +103,7 @@ pub not_forged : (h w : List OpData) (o : OpData) → ((n : NameData) → ¬ IsF
 not_forged h w o none =
     elim (cases_Bool (is_original o)) [
       | inl original ↦
-          let named = original_named o original in
+          let named = original_name o original in
           false_from_ne_true (is_forged h w o) (λ e. none named.0 ((forged_decides h w o named.0 named.1).0 e))
       | inr undo ↦ no_forgery_undo h w o undo
     ]

@@ -17,7 +17,7 @@ use Rattle.context_diff.proofs.CallerLemmas.{IsComplete, original_facts, named_k
 use Rattle.cot_site.specs.Verdicts.{first_lacked, is_covered, first_uncovered}
 use Rattle.cot_site.proofs.Lacking.{lacking, answer_none, none_within}
 
-none_true : (r : Option Member) → is_none r ≡ true → r ≡ None
+pub none_true : (r : Option Member) → is_none r ≡ true → r ≡ None
 none_true None e = refl
 none_true (Some m) e = absurd (false≢true e)
 

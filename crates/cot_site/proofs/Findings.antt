@@ -74,9 +74,6 @@ site_found h valid v is ready r closed first = from r closed first (uncovered h 
     from None c f answer = sym (none_closed h v (first_uncovered h v v.counts) answer (c.0 refl))
     from (Some s) c f answer = sym (some_open h v (first_uncovered h v v.counts) s answer f)
 
-pub covered_within : (h : List OpData) (have v : ContextData) → IsValid h → have ≡ context_of_all h → LacksNothing h v → Within v have
-covered_within h have v valid is ready m there = ap (λ (c : ContextData). has c m) is ∙ ((complete h valid).holds m ∙ ready m there)
-
 -- the first missing member that a vector finds is the first one that is lacked
 pub lacked_found : (h : List OpData) (have : ContextData) (o : OpData) → IsValid h → have ≡ context_of_all h → IsWellFormed o → (r : Option Member) → IfSome r (IsFirstMissing have (context_of o)) → (IsNone r ↔ Within (context_of o) have) → r ≡ lacked h (context_of o)
 lacked_found h have o valid is formed None first none =

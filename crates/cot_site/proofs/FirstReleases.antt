@@ -15,7 +15,8 @@ use Rattle.cot_site.specs.Releases.{IsSound}
 use Rattle.cot_site.proofs.Lacking.{nothing_lacked, lacked_none}
 use Rattle.cot_site.proofs.Verdicts.{formed_context, verdict_holds, verdict_only}
 use Rattle.cot_site.proofs.Releases.{FirstAnswer, IsFirstAt, first_answer, settled_none}
-use Rattle.cot_site.proofs.Waiting.{none_true, got_there, release_is}
+use Rattle.cot_site.proofs.Waiting.{got_there, release_is}
+use Rattle.cot_site.proofs.Covers.{none_true}
 
 pub words_ready : (h : List OpData) (o : OpData) → IsValid h → IsWellFormed o → Decides (is_ready h o) (IsReady h o)
 words_ready h o valid formed = (forth, back)

@@ -3,7 +3,7 @@ use Rattle.std.proofs.Common.{◌≡◌, List, [], ◌∷◌, ◌++◌, refl, su
 use Rattle.op_name.specs.declared.member.Member.{Member}
 use Rattle.context_diff.specs.Operations.{OpData}
 use Rattle.context_diff.specs.Histories.{members_in, IsValid}
-use Rattle.context_diff.proofs.CallerLemmas.{valid_pop}
+use Rattle.context_diff.proofs.CallerLemmas.{valid_pop, members-append}
 use Rattle.ttf_form.specs.declared.form.Form.{Form}
 use Rattle.ttf_form.specs.Forms.{form_over}
 use Rattle.ttf_form.specs.Cells.{CellData, applied}
@@ -13,7 +13,7 @@ use Rattle.transform_rec.specs.Histories.{family_in}
 use Rattle.transform_rec.proofs.CallerLemmas.{computed_forms, forms_once, forms_begin}
 use Rattle.undo_group.specs.BaseForms.{base_form}
 use Rattle.undo_group.specs.Laws.Forms.{base_forms_hold}
-use Rattle.fixed_replay.proofs.CallerLemmas.{setting_of, computed_executed, forms_on, holds_more, base_form_on, valid_family, valid_own_names, members-append}
+use Rattle.fixed_replay.proofs.CallerLemmas.{setting_of, computed_executed, forms_on, holds_more, base_form_on, valid_family, valid_own_names}
 use Rattle.cot_site.specs.States.{State}
 use Rattle.cot_site.specs.Sites.{AreExecuted, KeepsForms}
 use Rattle.cot_site.specs.Views.{history_view, forms_view, AreFormLists}

@@ -11,7 +11,7 @@ use Rattle.context_vector.specs.Vectors.{VectorData}
 use Rattle.context_diff.specs.Operations.{OpData, member_of}
 use Rattle.context_diff.specs.Histories.{context_of_all, IsNext, IsValid}
 use Rattle.context_diff.specs.Bases.{base_has}
-use Rattle.context_diff.proofs.CallerLemmas.{contains_here, contains_none, has_raised, valid_push}
+use Rattle.context_diff.proofs.CallerLemmas.{contains_here, contains_none, has_raised, valid_push, named_original}
 use Rattle.ttf_form.specs.declared.form.Form.{Form}
 use Rattle.ttf_form.specs.Forms.{form_over, IsInertForm}
 use Rattle.ttf_form.specs.Families.{IsIn}
@@ -32,7 +32,6 @@ use Rattle.form_rows.specs.Kept.{AreRows, IsFormWith}
 use Rattle.form_rows.specs.declared.rows.AuthorRow.{AuthorRow}
 use Rattle.form_rows.proofs.CallerLemmas.{original_base, rows_stay}
 use Rattle.cot_site.specs.Code.Replicas.{AreRowsOf, IsBefore, IsKeptBefore, IsNextAfter, before_last}
-use Rattle.cot_site.proofs.Cases.{named_original}
 
 pub no_rows : (h : List OpData) (kept : List (AuthorRow Form)) → kept ≡ [] → AreRowsOf h kept
 no_rows h kept e k i = absurd (contains_none k (subst (λ (l : List (AuthorRow Form)). Contains l k) e i))

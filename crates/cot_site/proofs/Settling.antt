@@ -118,7 +118,7 @@ release_number s r is =
     let t = taken_at s r is in
     ap (λ (x : Released). x.after.number) t.1.is ∙ delivered_number (without_waiting s t.0) r.op
 
-verdict_history : (v : Verdict) (o : OpData) (s : State) → take (length s.history) (after_verdict v o s).history ≡ s.history
+pub verdict_history : (v : Verdict) (o : OpData) (s : State) → take (length s.history) (after_verdict v o s).history ≡ s.history
 verdict_history Repeat o s = take-length s.history
 verdict_history (Forged n) o s = take-length s.history
 verdict_history (Waits m) o s = take-length s.history
@@ -158,11 +158,11 @@ unfolding state_after
 after_append s [] qs = refl
 after_append s (r ∷ rs) qs = after_append r.after rs qs
 
-after_none : (s : State) → state_after s [] ≡ s
+pub after_none : (s : State) → state_after s [] ≡ s
 unfolding state_after
 after_none s = refl
 
-after_more : (s : State) (r : Released) (rs : List Released) → state_after s (r ∷ rs) ≡ state_after r.after rs
+pub after_more : (s : State) (r : Released) (rs : List Released) → state_after s (r ∷ rs) ≡ state_after r.after rs
 unfolding state_after
 after_more s r rs = refl
 

@@ -11,14 +11,14 @@ use Rattle.op_name.specs.Members.{target_of}
 use Rattle.context_vector.specs.Contexts.{IsContext}
 use Rattle.context_diff.specs.Operations.{OpData, inserting, deleting, undoing, member_of, context_of, is_original, IsWellFormed}
 use Rattle.context_diff.specs.Histories.{is_known, generation_in, context_of_all, inserts_in, LacksNothing, HasPlace, IsNext, IsValid}
-use Rattle.context_diff.proofs.CallerLemmas.{complete, holder, known_member, generation_is, has_group, has_generation, op_eq_decides}
+use Rattle.context_diff.proofs.CallerLemmas.{complete, holder, known_member, generation_is, has_group, has_generation, op_eq_decides, original_name}
 use Rattle.context_diff.specs.Ops.{op_eq}
 use Rattle.cot_site.specs.declared.verdict.Verdict.{Verdict}
 use Rattle.cot_site.specs.declared.verdict.Verdict.TheVariants.{Repeat, Forged, Waits, NotClosed, PlaceOut, Integrated}
 use Rattle.cot_site.specs.Verdicts.{is_repeat, is_forged, lacked, first_uncovered, placed_verdict, ready_verdict, waiting_verdict, verdict_of, IsRepeat, HasOther, IsNew, place_in, IsVerdict}
 use Rattle.cot_site.proofs.Lacking.{nothing_lacked, lacked_none, first_lacked_is, lacked_some}
 use Rattle.cot_site.proofs.Covers.{SiteAnswer, uncovered, none_closed, some_open}
-use Rattle.cot_site.proofs.Cases.{repeat_decides, forged_decides, not_forged, forged_not, original_named}
+use Rattle.cot_site.proofs.Cases.{repeat_decides, forged_decides, not_forged, forged_not}
 
 -- ---- how the verdict computes
 
@@ -129,7 +129,7 @@ module _ (h w : List OpData) (valid : IsValid h) (o : OpData) (formed : IsWellFo
   forged_holds isnt e f =
       elim (cases_Bool (is_original o)) [
         | inl original ↦
-            let named = original_named o original in
+            let named = original_name o original in
             let name : Forged (target_of (member_of o)) ≡ Forged named.0 = ap (λ m. Forged (target_of m)) named.1 in
             subst (IsVerdict h w o) (sym (forged_is h w o e f ∙ name)) (isnt, (forged_decides h w o named.0 named.1).0 f)
         | inr undo ↦ absurd (never o undo f)

@@ -1,5 +1,5 @@
 -- What is shown of the cells of a history is what the history shows.
-use Rattle.std.proofs.Common.{◌≡◌, ◌<◌, ◌≤◌, ◌↔◌, ℕ, suc, Bool, inl, inr, List, [], ◌∷◌, Option, Some, None, IsSome, IsNone, is_some, length, map, option_map, refl, ap, sym, ◌∙◌, true≢false}
+use Rattle.std.proofs.Common.{◌≡◌, ◌<◌, ◌≤◌, ◌↔◌, ℕ, suc, Bool, inl, inr, List, [], ◌∷◌, Option, Some, None, IsSome, IsNone, is_some, true, false, length, map, option_map, refl, ap, sym, ◌∙◌, true≢false, arith}
 use Rattle.std.proofs.lemmas.Option.{slice_get-map, slice_get_cases, slice_get_past}
 use Rattle.std.specs.Prelude.{filter, if◌then◌else◌, slice_get}
 use Rattle.context_diff.specs.Operations.{OpData}
@@ -12,13 +12,10 @@ use Rattle.fixed_replay.proofs.CallerLemmas.{replayed_shown, replayed_characters
 use Rattle.cot_site.specs.States.{State}
 use Rattle.cot_site.specs.Views.{shown_places_of, cells_view, history_view}
 use Rattle.op_name.specs.Lists.{places_from}
-
-pub length_mapped : {A B : Type 0} (f : A → B) (xs : List A) → length (map f xs) ≡ length xs
-length_mapped f [] = refl
-length_mapped f (x ∷ xs) = ap suc (length_mapped f xs)
+use Rattle.std.proofs.lemmas.List.{length-map}
 
 pub shown_count : (h : List OpData) (cs : List CellData) → IsReplayed h cs → length (shown_cells cs) ≡ length (shown h)
-shown_count h cs is = sym (length_mapped cell_key (filter cell_shown cs)) ∙ ap length (replayed_shown h cs is)
+shown_count h cs is = sym (length-map (filter cell_shown cs) cell_key) ∙ ap length (replayed_shown h cs is)
 
 -- the places of what passes, cell by cell
 same_places : (p : Cell → Bool) (cs : List CellData) (n : ℕ) → ((d : CellData) → IsIn d cs → cell_shown d ≡ p (cell_key d)) → places_from cell_shown n cs ≡ places_from p n (map cell_key cs)
@@ -43,7 +40,7 @@ view_is s cs is =
 
 -- as many characters are shown as cells
 pub character_count : (h : List OpData) → length (shown h) ≡ length (characters_of h)
-character_count h = sym (length_mapped (character_in h) (shown h))
+character_count h = sym (length-map (shown h) (character_in h))
 
 same_name : (o : Option CellData) → option_map (λ (c : CellData). c.name) o ≡ option_map (λ (d : Cell). d.0) (option_map cell_key o)
 same_name None = refl
@@ -70,4 +67,12 @@ pub no_name : (cs : List CellData) (v : ℕ) (o : Option ℕ) → IsSome o ↔ (
 no_name cs v o found none = elim (slice_get_cases (shown_cells cs) v).1 [
   | inl there ↦ absurd (true≢false (sym (found.1 there.1) ∙ ap (λ (r : Option ℕ). is_some r) none))
   | inr past ↦ sym (ap (λ (r : Option CellData). option_map (λ (c : CellData). c.name) r) past.1)
+]
+
+-- there are no more places of cells that pass than cells
+pub places_few : (test : Cell → Bool) (n : ℕ) (cs : List Cell) → length (places_from test n cs) ≤ length cs
+places_few test n [] = omega arith
+places_few test n (c ∷ cs) = elim (test c) as (λ (b : Bool). length (if b then n ∷ places_from test (suc n) cs else places_from test (suc n) cs) ≤ suc (length cs)) [
+  | true ↦ omega (arith, places_few test (suc n) cs)
+  | false ↦ omega (arith, places_few test (suc n) cs)
 ]

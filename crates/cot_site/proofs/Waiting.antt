@@ -4,7 +4,7 @@ use Rattle.std.specs.Prelude.{Option, Some, None, Contains, not, ◌&&◌, ◌||
 use Rattle.std.specs.List.{list_any}
 use Rattle.std.specs.Option.{is_none}
 use Rattle.std.specs.Bool.{Decides}
-use Rattle.std.proofs.lemmas.Bool.{cases_Bool, cases_lt, or_cases, or_left, or_right, and_right, true≢false, false≢true, false_from_ne_true}
+use Rattle.std.proofs.lemmas.Bool.{cases_Bool, cases_lt, or_cases, or_left, or_right, and_right, true≢false, false_from_ne_true}
 use Rattle.std.proofs.lemmas.List.Elements.{Contains-push_cases}
 use Rattle.std.proofs.lemmas.Option.{none-some, slice_get_within}
 use Rattle.op_name.specs.declared.memory.Memory.{Memory}
@@ -26,6 +26,7 @@ use Rattle.cot_site.proofs.Lacking.{nothing_lacked, lacked_none}
 use Rattle.cot_site.proofs.Cases.{same_any}
 use Rattle.cot_site.proofs.Verdicts.{pick, formed_context, verdict_holds, integrated_next}
 use Rattle.cot_site.proofs.Releases.{IsFirstAt, FirstAnswer, first_answer, ready_not_waits}
+use Rattle.cot_site.proofs.Covers.{none_true}
 
 -- ---- without one of them
 
@@ -92,10 +93,6 @@ waits_agree h w o m valid formed e x n at named is =
     ]
 
 -- ---- what is ready
-
-pub none_true : (r : Option Member) → is_none r ≡ true → r ≡ None
-none_true None e = refl
-none_true (Some m) e = absurd (false≢true e)
 
 pub ready_decides : (h : List OpData) → IsValid h → (o : OpData) → IsWellFormed o → Decides (is_ready h o) (IsReady (context_of_all h) o)
 ready_decides h valid o formed =

@@ -4,7 +4,6 @@ use Rattle.std.specs.Prelude.{Option, Some, None, filter, slice_get}
 use Rattle.std.proofs.lemmas.Bool.{cases_Bool}
 use Rattle.std.proofs.lemmas.List.{length-map, length-take-le, take_more}
 use Rattle.std.proofs.lemmas.Option.{slice_get_within}
-use Rattle.op_name.specs.Lists.{places_from}
 use Rattle.op_name.specs.declared.name.TheConstants.{SITES, NUMBERS}
 use Rattle.context_diff.specs.Operations.{OpData, inserting}
 use Rattle.context_diff.specs.Histories.{IsValid, context_of_all}
@@ -14,7 +13,7 @@ use Rattle.cot_site.specs.declared.local.Local.TheVariants as local
 use Rattle.cot_site.specs.States.{State, with_last}
 use Rattle.cot_site.specs.Views.{shown_places_of}
 use Rattle.cot_site.specs.Commands.{local_insert, local_delete, numbered, next_name}
-use Rattle.cot_site.proofs.CallerLemmas.{few_cells}
+use Rattle.cot_site.proofs.CallerLemmas.{few_cells, places_few}
 use Rattle.cotpad_c.specs.declared.status.TheConstants.{OK}
 use Rattle.cotpad_c.specs.Statuses.{refusal, Did}
 use Rattle.cotpad_c.specs.Runs.{and_then, deleted_in, typed, cut}
@@ -104,15 +103,6 @@ cut_more s v k t u was done =
     next_is n = omega arith
 
 -- ---- places
-
-places_few : (test : Cell → Bool) (n : ℕ) (cs : List Cell) → length (places_from test n cs) ≤ length cs
-places_few test n [] = omega arith
-places_few test n (c ∷ cs) = elim (cases_Bool (test c)) [
-  | inl so ↦
-      subst (λ (b : Bool). length (if b then n ∷ places_from test (suc n) cs else places_from test (suc n) cs) ≤ suc (length cs)) (sym so) (omega (arith, places_few test (suc n) cs))
-  | inr isnt ↦
-      subst (λ (b : Bool). length (if b then n ∷ places_from test (suc n) cs else places_from test (suc n) cs) ≤ suc (length cs)) (sym isnt) (omega (arith, places_few test (suc n) cs))
-]
 
 -- a character was inserted after at most as many shown ones as a text can have
 pub insert_within : (s : State) (v ch : ℕ) (o : OpData) → IsValid s.history → local_insert s v ch ≡ Ok o → v ≤ SITES * NUMBERS

@@ -4,5 +4,5 @@ pub use Rattle.fixed_replay.proofs.ExecutedForms.{computed_executed, executed_re
 pub use Rattle.fixed_replay.proofs.Growth.{base_form_on, forms_grow, forms_on, holds_more, known_set}
 pub use Rattle.fixed_replay.proofs.Narrowing.{gap_of_whole}
 pub use Rattle.fixed_replay.proofs.SameText.{same_text}
-pub use Rattle.fixed_replay.proofs.ValidFamilies.{members-append, valid_family, valid_own_names}
+pub use Rattle.fixed_replay.proofs.ValidFamilies.{valid_family, valid_own_names}
 pub use Rattle.fixed_replay.proofs.ValidOriginals.{told_apart}

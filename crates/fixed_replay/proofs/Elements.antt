@@ -3,7 +3,6 @@ use Rattle.std.proofs.Common.{◌≡◌, Bool, true, false, List, [], ◌∷◌,
 use Rattle.std.proofs.lemmas.Bool.{cases_Bool}
 use Rattle.std.specs.List.{list_any}
 use Rattle.transform_rec.specs.Lists.{IsIn}
-pub use Rattle.transform_rec.proofs.CallerLemmas.{same_bool}
 pub use Rattle.undo_group.specs.Laws.Members.{in_contains, contains_in}
 
 pub not_both : {b : Bool} {P : Type 0} → b ≡ true → b ≡ false → P

@@ -5,7 +5,7 @@ use Rattle.op_name.specs.declared.member.Member.{Member}
 use Rattle.op_name.specs.declared.member.Member.TheVariants.{Original, Group}
 use Rattle.context_diff.specs.Operations.{OpData, member_of}
 use Rattle.context_diff.specs.Histories.{members_in, is_known, IsValid}
-use Rattle.context_diff.proofs.CallerLemmas.{valid_parts, complete, group_facts, base_on, known_in, in_known}
+use Rattle.context_diff.proofs.CallerLemmas.{valid_parts, complete, group_facts, base_on, known_in, in_known, members-append}
 use Rattle.ttf_form.specs.declared.form.Form.{Form}
 use Rattle.ttf_form.specs.Families.{IsIn}
 use Rattle.transform_rec.specs.Sets.{none, SameSet, plus, plus_all}
@@ -18,7 +18,6 @@ use Rattle.undo_group.specs.BaseForms.{original_form, group_form, base_form}
 use Rattle.fixed_replay.proofs.Elements.{not_both}
 use Rattle.fixed_replay.proofs.Operations.{listed_member}
 use Rattle.undo_group.specs.Laws.Forms.{form_at}
-use Rattle.fixed_replay.proofs.ValidFamilies.{members-append}
 
 -- the members of a history as a set
 pub known_set : (h : List OpData) → SameSet (plus_all none (members_in h)) (is_known h)

@@ -1,5 +1,5 @@
 -- Marking: executing the form of one member more leaves that member's mark and no other change.
-use Rattle.std.proofs.Common.{◌≡◌, ℕ, suc, ◌+◌, ◌<◌, ◌≤◌, Bool, true, false, if◌then◌else◌, List, [], ◌∷◌, ◌++◌, length, filter, map, ◌⊎◌, inl, inr, refl, ap, ap₂, sym, ◌∙◌, subst, arith, take-append-drop}
+use Rattle.std.proofs.Common.{◌≡◌, ℕ, ◌+◌, ◌<◌, ◌≤◌, Bool, true, false, if◌then◌else◌, List, [], ◌∷◌, ◌++◌, length, filter, map, ◌⊎◌, inl, inr, refl, ap, ap₂, sym, ◌∙◌, subst, arith, take-append-drop}
 use Rattle.std.proofs.lemmas.Bool.{both_ways, false_from_ne_true}
 use Rattle.op_name.specs.NameData.{name_eq}
 use Rattle.op_name.specs.declared.member.Member.{Member}
@@ -26,20 +26,17 @@ use Rattle.fixed_replay.proofs.Splits.{IsSplit, Split, split}
 use Rattle.fixed_replay.proofs.Editor.{form_inclusion, form_table, form_at_place, setting_of, derived_insert, insert_owner}
 use Rattle.fixed_replay.proofs.CoverStays.{cover_stays}
 use Rattle.fixed_replay.proofs.Marks.{same_cell, same_cell_self, stands_behind, stands_in, count_zero, mark_by, bare_at, hits_in, marks_of, marks_plus, marks_none}
+use Rattle.std.proofs.lemmas.List.{length-map}
 
 map-append : {A B : Type 0} (f : A → B) (xs ys : List A) → map f (xs ++ ys) ≡ map f xs ++ map f ys
 map-append f [] ys = refl
 map-append {A} {B} f (x ∷ xs) ys = ap (λ (zs : List B). f x ∷ zs) (map-append f xs ys)
 
-length-map : {A B : Type 0} (f : A → B) (xs : List A) → length (map f xs) ≡ length xs
-length-map f [] = refl
-length-map f (x ∷ xs) = ap suc (length-map f xs)
-
 -- a change at the one element where the functions differ
 change_one : {A B : Type 0} (f g : A → B) (h : B → B) (xs : List A) (x : A) (ys : List A) (n : ℕ) → length xs ≡ n → ((z : A) → IsIn z xs → g z ≡ f z) → g x ≡ h (f x) → ((z : A) → IsIn z ys → g z ≡ f z) → change_at n h (map f (xs ++ (x ∷ ys))) ≡ map g (xs ++ (x ∷ ys))
 change_one {A} {B} f g h xs x ys n l before here behind =
     ap (change_at n h) (map-append f xs (x ∷ ys))
-    ∙ (change_behind h 0 n (map f xs) (f x ∷ map f ys) (let m = length-map f xs in omega arith)
+    ∙ (change_behind h 0 n (map f xs) (f x ∷ map f ys) (let m = length-map xs f in omega arith)
     ∙ (ap₂ (λ (us : List B) (vs : List B). us ++ vs) (sym (map_same g f xs before)) (ap₂ (λ (u : B) (us : List B). u ∷ us) (sym here) (sym (map_same g f ys behind)))
     ∙ sym (map-append g xs (x ∷ ys))))
 

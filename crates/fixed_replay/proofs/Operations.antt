@@ -1,8 +1,6 @@
 -- Operations of a list and the members that they are.
-use Rattle.std.proofs.Common.{◌≡◌, true, List, [], ◌∷◌, inl, inr, refl, ap, sym, ◌∙◌}
-use Rattle.op_name.specs.NameData.{NameData}
-use Rattle.op_name.specs.declared.member.Member.TheVariants.{Original}
-use Rattle.context_diff.specs.Operations.{OpData, inserting, deleting, undoing, member_of, is_original}
+use Rattle.std.proofs.Common.{◌≡◌, List, [], ◌∷◌, inl, inr, ap, sym, ◌∙◌}
+use Rattle.context_diff.specs.Operations.{OpData, member_of}
 use Rattle.context_diff.specs.Histories.{members_in}
 use Rattle.ttf_form.specs.Families.{IsIn}
 use Rattle.transform_rec.specs.Lists.{AreApart}
@@ -15,8 +13,3 @@ one_operation (q ∷ qs) a o p (inl k) (inl l) e = k ∙ sym l
 one_operation (q ∷ qs) a o p (inl k) (inr j) e = absurd (a.0 (member_of p) (member_listed p qs j) (ap member_of (sym k) ∙ e))
 one_operation (q ∷ qs) a o p (inr i) (inl l) e = absurd (a.0 (member_of o) (member_listed o qs i) (ap member_of (sym l) ∙ sym e))
 one_operation (q ∷ qs) a o p (inr i) (inr j) e = one_operation qs a.1 o p i j e
-
-pub original_name : (o : OpData) → is_original o ≡ true → (n : NameData) × (member_of o ≡ Original n)
-original_name (inserting n p ch c) e = (n, refl)
-original_name (deleting n p c) e = (n, refl)
-original_name (undoing s n g c) e = absurd (cc)

@@ -1,6 +1,6 @@
 -- Reading the marks: a cell's generation is that of its insert in the history, and it is shown as the history says.
 use Rattle.std.proofs.Common.{◌≡◌, ◌↔◌, ℕ, suc, ◌≤◌, max, Bool, true, false, not, ◌&&◌, ◌==◌, if◌then◌else◌, List, [], ◌∷◌, ◌++◌, length, filter, map, take, drop, ◌⊎◌, inl, inr, refl, ap, ap₂, sym, ◌∙◌, subst, arith, length-take-le}
-use Rattle.std.proofs.lemmas.Bool.{both_ways, and_parts, and_from, false_from_ne_true, cases_Bool}
+use Rattle.std.proofs.lemmas.Bool.{and_parts, and_from, false_from_ne_true, cases_Bool, both_ways}
 use Rattle.std.specs.List.{list_any}
 use Rattle.op_name.specs.NameData.{NameData, name_eq}
 use Rattle.op_name.specs.declared.member.Member.{Member}
@@ -32,13 +32,14 @@ use Rattle.fixed_replay.proofs.Families.{HasGroups}
 use Rattle.fixed_replay.specs.Replayed.{IsDeleter, IsReplayed}
 use Rattle.undo_group.specs.BaseForms.{IsCoverForm}
 use Rattle.fixed_replay.proofs.HistoryFamilies.{IsFamilyOf}
-use Rattle.fixed_replay.proofs.Elements.{not_both, same_bool, map_same, any_in, in_any}
+use Rattle.fixed_replay.proofs.Elements.{not_both, map_same, any_in, in_any}
 use Rattle.fixed_replay.proofs.Operations.{member_listed, listed_member, one_operation}
 use Rattle.fixed_replay.proofs.SameText.{IsPut, in-replay_of, character_at}
 use Rattle.fixed_replay.proofs.Editor.{form_inclusion, form_table, form_at_place, setting_of}
 use Rattle.fixed_replay.proofs.Marks.{stands_behind, mark_by, bare_at, hits_in, marks_of, marks_same}
 use Rattle.fixed_replay.proofs.Marking.{state_marks}
 use Rattle.fixed_replay.proofs.DeleterLists.{Entry, in-raise, entry_best, best_entry, best_more}
+use Rattle.std.specs.Cmp.{both_ways as same_bool}
 
 offset_zero : (s : List CellData) (c : Cell) → IsIn c (cells_of s) → c.1 ≡ 0
 offset_zero [] c i = absurd i

@@ -13,11 +13,12 @@ use Rattle.op_name.specs.Members.{is_even}
 use Rattle.context_diff.specs.Replays.{Insertion, Cell, cells_from, insertions_in, is_earlier, fixed_order, replay, replay_of, stands_at, hits, covers, is_shown, shown, character_in, characters_of, text_of}
 use Rattle.fixed_replay.specs.Originals.{AreTold, AreToldFrom, AreToldApart}
 use Rattle.transform_rec.specs.Lists.{IsIn, SameElements}
-use Rattle.fixed_replay.proofs.Elements.{same_bool, contains_in, in_contains, any_in, in_any, map_same}
+use Rattle.fixed_replay.proofs.Elements.{contains_in, in_contains, any_in, in_any, map_same}
 use Rattle.fixed_replay.proofs.Sorting.{AreComparable, in-sort_by, sort_by-in, sort_by-sorted, sorted_once}
 use Rattle.fixed_replay.proofs.Narrowing.{in-replay}
 use Rattle.op_name.proofs.CallerLemmas.{name_itself, name_same}
 use Rattle.fixed_replay.proofs.Operations.{known_as}
+use Rattle.std.specs.Cmp.{both_ways as same_bool}
 
 -- what is told from all is told from each
 pub told_from : (o : OpData) (os : List OpData) → AreToldFrom o os → (p : OpData) → IsIn p os → AreTold o p

@@ -1,12 +1,12 @@
 -- A valid history is a family of the editor: unrelated base forms are apart, each is bounded by its base context, and its
 -- cells have its own name.
-use Rattle.std.proofs.Common.{◌≡◌, ◌≢◌, ℕ, ◌<◌, ◌≤◌, true, List, [], ◌∷◌, ◌++◌, ◌⊎◌, inl, inr, refl, ap, sym, ◌∙◌, subst}
+use Rattle.std.proofs.Common.{◌≡◌, ◌≢◌, ℕ, ◌<◌, ◌≤◌, true, List, ◌∷◌, ◌++◌, ◌⊎◌, inl, inr, refl, ap, sym, ◌∙◌, subst}
 use Rattle.op_name.specs.NameData.{NameData}
 use Rattle.op_name.specs.declared.member.Member.{Member}
 use Rattle.op_name.specs.declared.member.Member.TheVariants.{Original, Group}
 use Rattle.op_name.specs.Members.{target_of}
 use Rattle.context_vector.specs.Contexts.{ContextData, has}
-use Rattle.context_diff.specs.Operations.{OpData, inserting, member_of}
+use Rattle.context_diff.specs.Operations.{OpData, inserting}
 use Rattle.context_diff.specs.Histories.{members_in, is_known, IsValid}
 use Rattle.context_diff.specs.Replays.{Insertion, insertions_in, fixed_order, is_earlier}
 use Rattle.context_diff.specs.Bases.{original_context, base_has}
@@ -34,10 +34,6 @@ use Rattle.fixed_replay.proofs.Sorting.{in-sort_by, sort_by-in}
 use Rattle.fixed_replay.proofs.SameText.{in-insertions, insertions-in, insertion}
 use Rattle.fixed_replay.proofs.FixedList.{in-insertions_of, insertions_of-in}
 use Rattle.fixed_replay.proofs.Operations.{member_listed}
-
-pub members-append : (h k : List OpData) → members_in (h ++ k) ≡ members_in h ++ members_in k
-members-append [] k = refl
-members-append (o ∷ os) k = ap (λ (ms : List Member). member_of o ∷ ms) (members-append os k)
 
 module _ (h : List OpData) (v : IsValid h) (form : Member → Form) (forms : AreBaseForms h form) where
   abbrev b : Family Form

@@ -9,14 +9,14 @@ use Rattle.context_vector.specs.Contexts.{has, rank_of}
 use Rattle.context_diff.specs.Operations.{OpData, member_of, context_of}
 use Rattle.context_diff.specs.Histories.{members_in, is_known, IsValid}
 use Rattle.context_diff.specs.Bases.{original_context}
-use Rattle.context_diff.proofs.CallerLemmas.{IsComplete, complete, original_facts, context_is, own_alone, related, holds_original}
+use Rattle.context_diff.proofs.CallerLemmas.{IsComplete, complete, original_facts, context_is, own_alone, related, holds_original, original_name}
 use Rattle.context_diff.specs.ClosedContexts.{IsClosedContext}
 use Rattle.ttf_form.specs.Families.{IsIn}
 use Rattle.transform_rec.specs.Lists.{AreApart}
 use Rattle.transform_rec.proofs.CallerLemmas.{history_causal}
 use Rattle.fixed_replay.specs.Originals.{AreTold, AreToldFrom, AreToldApart, site_of}
 use Rattle.fixed_replay.proofs.Elements.{in_contains}
-use Rattle.fixed_replay.proofs.Operations.{member_listed, known_as, original_name}
+use Rattle.fixed_replay.proofs.Operations.{member_listed, known_as}
 use Rattle.context_vector.proofs.CallerLemmas.{rank_less}
 
 module _ (h : List OpData) (v : IsValid h) where

@@ -15,10 +15,10 @@ use Rattle.cot_site.specs.Verdicts.{IsRepeat}
 use Rattle.cot_site.specs.States.{State, Released, judged, delivered, after_verdict, released, released_at, IsSettled}
 use Rattle.cot_site.specs.Releases.{IsSound, IsLater, and_more, releases, all_releases, state_after, settled}
 use Rattle.cot_site.specs.Sites.{AllFormed}
-use Rattle.cot_site.proofs.CallerLemmas.{group_reached, settled_settles, settled_stays, sound_along, sound_delivered, unknown_no_repeat, verdicts_exact}
+use Rattle.cot_site.proofs.CallerLemmas.{group_reached, settled_settles, settled_stays, sound_along, sound_delivered, unknown_no_repeat, verdicts_exact, after_append, after_more, after_none, later_on}
 use Rattle.peer_exchange.specs.Taking.{by_verdict, taken_in, IsPartlyTaken, IsBefore, IsOnTheWay}
 use Rattle.peer_exchange.proofs.LackedTaken.{known_later, has_later}
-use Rattle.peer_exchange.proofs.Later.{later_delivered, later_on, later_settled, settled_later, taking_in_keeps_histories}
+use Rattle.peer_exchange.proofs.Later.{later_delivered, later_settled, settled_later, taking_in_keeps_histories}
 use Rattle.peer_exchange.proofs.Receivings.{taken_append}
 
 -- ---- what a site has is a repeat
@@ -147,19 +147,6 @@ repeats_settle t o xs os sound formed has =
 abbrev Follow : State → List Released → Type 0
 Follow s [] = Unit {0}
 Follow s (r ∷ rs) = (released s ≡ Some r) × Follow r.after rs
-
-after_none : (s : State) → state_after s [] ≡ s
-unfolding state_after
-after_none s = refl
-
-after_more : (s : State) (r : Released) (rs : List Released) → state_after s (r ∷ rs) ≡ state_after r.after rs
-unfolding state_after
-after_more s r rs = refl
-
-after_append : (s : State) (rs qs : List Released) → state_after s (rs ++ qs) ≡ state_after (state_after s rs) qs
-unfolding state_after
-after_append s [] qs = refl
-after_append s (r ∷ rs) qs = after_append r.after rs qs
 
 releases_follow : (n : ℕ) (s : State) (rs : List Released) → releases n s ≡ rs → Follow s rs
 unfolding releases

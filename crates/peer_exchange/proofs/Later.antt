@@ -1,16 +1,15 @@
 -- Taking in keeps a site sound, and what it integrated stays the first part of its history.
-use Rattle.std.proofs.Common.{◌≡◌, ◌≤◌, inl, inr, List, [], ◌∷◌, ◌++◌, length, take, Ok, refl, sym, ap, subst, ◌∙◌, append-nil, arith}
-use Rattle.std.proofs.lemmas.List.{take-take, length-take}
-use Rattle.std.proofs.Math.Seq.{take-append_seam, take-length}
+use Rattle.std.proofs.Common.{◌≡◌, ◌≤◌, inl, inr, List, [], ◌∷◌, ◌++◌, length, Ok, refl, sym, subst, ◌∙◌, append-nil}
+use Rattle.std.proofs.Math.Seq.{take-length}
 use Rattle.std.proofs.lemmas.List.Elements.{Contains-append_left, Contains-append_right}
 use Rattle.context_diff.specs.Operations.{OpData, IsWellFormed}
 use Rattle.context_diff.proofs.CallerLemmas.{contains_here, contains_later}
 use Rattle.cot_site.specs.declared.verdict.Verdict.{Verdict}
 use Rattle.cot_site.specs.declared.verdict.Verdict.TheVariants.{Repeat, Forged, Waits, NotClosed, PlaceOut, Integrated}
-use Rattle.cot_site.specs.States.{State, Released, judged, delivered, after_verdict}
+use Rattle.cot_site.specs.States.{State, Released, judged, delivered}
 use Rattle.cot_site.specs.Releases.{IsSound, IsLater, all_releases, state_after, settled}
 use Rattle.cot_site.specs.Sites.{AllFormed}
-use Rattle.cot_site.proofs.CallerLemmas.{delivered_number, sound_along, sound_delivered}
+use Rattle.cot_site.proofs.CallerLemmas.{delivered_number, sound_along, sound_delivered, verdict_history, later_on}
 use Rattle.peer_exchange.specs.declared.peer.Peer.{Peer}
 use Rattle.peer_exchange.specs.declared.peer.Peer.TheVariants as peer
 use Rattle.peer_exchange.specs.Taking.{by_verdict, taken_in, IsBefore, IsOnTheWay, TakingInKeepsHistories}
@@ -19,26 +18,8 @@ use Rattle.peer_exchange.specs.Code.Receiving.{AreUntaken}
 pub later_same : (s : State) → IsLater s s
 later_same s = record { number = refl; history = take-length s.history }
 
-pub later_on : (s t u : State) → IsLater s t → IsLater t u → IsLater s u
-later_on s t u a b =
-    let old = s.history in
-    let now = t.history in
-    let shorter : length old ≤ length now = omega (arith, ap length a.history, length-take (length old) now) in
-    record {
-      number = b.number ∙ a.number;
-      history = sym (take-take (length old) (length now) u.history shorter) ∙ (ap (take (length old)) b.history ∙ a.history);
-    }
-
-after_history : (v : Verdict) (o : OpData) (s : State) → take (length s.history) (after_verdict v o s).history ≡ s.history
-after_history Repeat o s = take-length s.history
-after_history (Forged n) o s = take-length s.history
-after_history (Waits m) o s = take-length s.history
-after_history (NotClosed k) o s = take-length s.history
-after_history (PlaceOut p k) o s = take-length s.history
-after_history Integrated o s = take-append_seam s.history (o ∷ [])
-
 pub later_delivered : (s : State) (o : OpData) → IsLater s (delivered s o)
-later_delivered s o = record { number = delivered_number s o; history = after_history (judged s o) o s }
+later_delivered s o = record { number = delivered_number s o; history = verdict_history (judged s o) o s }
 
 -- after the delivery, some releases
 later_released : (s : State) (o : OpData) (done left : List Released) → IsSound s → IsWellFormed o → all_releases (delivered s o) ≡ done ++ left

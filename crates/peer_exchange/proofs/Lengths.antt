@@ -9,7 +9,7 @@ use Rattle.op_name.specs.declared.name.TheConstants.{SITES}
 use Rattle.context_vector.specs.Contexts.{ContextData, has}
 use Rattle.context_diff.specs.Operations.{OpData, member_of}
 use Rattle.context_diff.specs.Histories.{context_of_all, is_known, IsValid}
-use Rattle.context_diff.proofs.CallerLemmas.{all_is_context}
+use Rattle.context_diff.proofs.CallerLemmas.{all_is_context, named_few}
 use Rattle.cot_site.specs.States.{State}
 use Rattle.wire_codec.specs.Spelling.{frame}
 use Rattle.wire_codec.specs.Judging.{count_len, entry_len}
@@ -21,7 +21,7 @@ use Rattle.peer_exchange.specs.Exchanges.{IsQuiet}
 use Rattle.peer_exchange.specs.Lengths.{few_operations, HasLongSecond, HasLongThird, ShortHistoriesHaveShortMessages}
 use Rattle.peer_exchange.proofs.Exchanging.{answered_is, closed_is, IsReplied}
 use Rattle.peer_exchange.proofs.Sent.{lacked_formed}
-use Rattle.peer_exchange.proofs.Sizes.{longest_frame, frames_short, state_short, named_few}
+use Rattle.peer_exchange.proofs.Sizes.{longest_frame, frames_short, state_short}
 use Rattle.peer_exchange.proofs.TakenOps.{new_operations_are_appended}
 use Rattle.peer_exchange.proofs.Unrefused.{lacked_are_new}
 

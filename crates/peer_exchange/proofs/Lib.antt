@@ -4,7 +4,6 @@ pub mod BothSides
 pub mod Staying
 pub mod Going
 pub mod Asking
-pub mod Fronts
 pub mod Lacked
 pub mod FirstMessages
 pub mod TakenOps

@@ -12,6 +12,7 @@ use Rattle.cot_site.specs.declared.verdict.Verdict.TheVariants.{Repeat, Forged, 
 use Rattle.cot_site.specs.States.{State, Released, held, judged, delivered, after_verdict, first_ready, released, released_at, without_waiting, delivered_again}
 use Rattle.cot_site.specs.Releases.{and_more, releases, state_after, settled}
 use Rattle.peer_exchange.specs.Taking.{by_verdict, taken_in}
+use Rattle.cot_site.proofs.CallerLemmas.{got_there}
 
 pub record ComesFrom (s t : State) (os : List OpData) : Type 0 where
   pub history : (x : OpData) → Contains t.history x → Contains s.history x ⊎ (Contains s.waiting x ⊎ Contains os x)
@@ -81,15 +82,6 @@ left_in (y ∷ ys) (suc i) x at =
       | inl here ↦ subst (λ (z : OpData). Contains (y ∷ ys) z) here (contains_here y ys)
       | inr later ↦ contains_later y ys x (left_in ys i x later)
     ]
-
-got_there : (w : List OpData) (i : ℕ) (o : OpData) → slice_get w i ≡ Some o → Contains w o
-got_there [] i o at = absurd (none_got i at)
-  where
-    none_got : (j : ℕ) → slice_get {X = OpData} [] j ≡ Some o → ⊥
-    none_got zero e = cc
-    none_got (suc j) e = cc
-got_there (x ∷ xs) zero o at = let same : x ≡ o = cc in subst (λ (z : OpData). Contains (x ∷ xs) z) same (contains_here x xs)
-got_there (x ∷ xs) (suc i) o at = contains_later x xs o (got_there xs i o at)
 
 comes_again : (s : State) (i : ℕ) (o : OpData) → Contains s.waiting o → ComesFrom s (delivered (without_waiting s i) o) []
 comes_again s i o there =

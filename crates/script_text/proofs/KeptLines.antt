@@ -1,6 +1,5 @@
 -- Lines by their kept bytes: what is added to them and taken from them.
 use Rattle.std.proofs.Common.{◌≡◌, ℕ, zero, suc, ◌+◌, ◌-◌, ◌^◌, ◌≤◌, ◌<◌, true, false, List, [], ◌∷◌, ◌++◌, refl, sym, ap, ◌∙◌, arith, length, take, drop, append-nil, length-append, subst, get_or, zero-add, add-zero, lit≤}
-use Rattle.std.specs.Prelude.{Result, Ok, Err, OnOk}
 use Rattle.std.proofs.lemmas.List.{take_all, take-take, length-take, length-drop, take-append-le, drop-append-le}
 use Rattle.script_text.specs.declared.reading.parse.TheConstants.{LONGEST}
 use Rattle.script_text.specs.LeftLines.{LeftLine}
@@ -246,10 +245,6 @@ empty_of (x ∷ xs) e = absurd (omega (arith, e))
 pub none_of : {A : Type 0} (xs : List A) (n : ℕ) → (0 < n → false ≡ true) → n ≡ length xs → xs ≡ []
 none_of xs zero never e = empty_of xs (sym e)
 none_of xs (suc n) never e = absurd (let f : false ≡ true = never (omega arith) in cc)
-
-pub ok_map : {T E P Q : Type 0} (r : Result T E) → (P → Q) → OnOk r P → OnOk r Q
-ok_map (Ok x) f h = f h
-ok_map (Err e) f h = h
 
 -- a line more of the piece
 pub adding_line : (old d now : KeptData) (piece rest p after : List ℕ) → AreKept d → HasNoFeed p → rest ≡ p ++ 10 ∷ after → now ≡ with_end (with_part p d) → Adding old piece d rest → Adding old piece now after

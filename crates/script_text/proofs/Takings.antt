@@ -143,7 +143,7 @@ input_over s h = record { fed = h.fed; size = h.size; past = h.past; cause = λ 
 
 -- ---- a piece is fed
 
-either : (m n : ℕ) → (m < n) ⊎ (n ≤ m)
+pub either : (m n : ℕ) → (m < n) ⊎ (n ≤ m)
 either m n = grind arith
 
 -- behind the limit nothing changes
@@ -254,7 +254,7 @@ limit_exact s new r h = (to r h, from r h)
     from (Err Form) h p = absurd (h.0.next.within p)
     from (Err Memory) h p = absurd (h.1.next.within p)
 
-first_same : (k l : LeftLine) (ks ls : List LeftLine) → k ∷ ks ≡ l ∷ ls → k ≡ l
+pub first_same : (k l : LeftLine) (ks ls : List LeftLine) → k ∷ ks ≡ l ∷ ls → k ≡ l
 first_same k l ks ls e = cc
 
 pub long_exact : (s new : InputData) (r : Result (Option Line) LineBad) → HasFrontLine s.lines → TakesLine s r new → (r ≡ Err Long) ↔ HasLongLine s

@@ -1,8 +1,7 @@
--- Frames that are appended one after the other.
-use Rattle.std.proofs.Common.{◌≡◌, ℕ, ◌+◌, ◌≤◌, List, ◌++◌, Result, OnErr, Ok, Err, ap, sym, ◌∙◌, length, take, append_assoc, arith}
+-- Frames and texts that are appended one after the other.
+use Rattle.std.proofs.Common.{◌≡◌, ℕ, ◌+◌, ◌≤◌, List, ◌++◌, Result, OnOk, Ok, Err, ap, sym, ◌∙◌, length, take, append_assoc}
 use Rattle.std.specs.Prelude.{Some, slice_get}
-use Rattle.std.proofs.lemmas.List.{take-take, take_all, length-append}
-use Rattle.std.proofs.Math.Seq.{take-append_seam}
+use Rattle.std.proofs.lemmas.List.{take_all}
 use Rattle.context_diff.specs.Operations.{OpData}
 use Rattle.wire_codec.specs.Spelling.{frame}
 use Rattle.session_log.specs.Logs.{frames}
@@ -18,19 +17,11 @@ appended_more old now new os i o is at more =
 pub appended_all : (old now : List ℕ) (os : List OpData) (i : ℕ) → now ≡ old ++ frames (take i os) → length os ≤ i → now ≡ old ++ frames os
 appended_all old now os i is past = is ∙ ap (λ (xs : List OpData). old ++ frames xs) (take_all i os past)
 
-pub on_err : {A B P : Type 0} (r : Result A B) → P → OnErr r P
-on_err (Ok x) p = tt
-on_err (Err e) p = p
-
--- what was there stays
-pub front_stays : (old more now : List ℕ) → now ≡ old ++ more → take (length old) now ≡ old
-front_stays old more now is = ap (take (length old)) is ∙ take-append_seam old more
-
-pub front_of_front : (old x z more : List ℕ) → x ≡ old ++ more → take (length x) z ≡ x → take (length old) z ≡ old
-front_of_front old x z more is stays =
-    let shorter : length old ≤ length x = omega (arith, ap length is, length-append old more) in
-    sym (take-take (length old) (length x) z shorter) ∙ ap (take (length old)) stays ∙ front_stays old more x is
-
-pub front_on : {A B : Type 0} (r : Result A B) (old x z more : List ℕ) → x ≡ old ++ more → OnErr r (take (length x) z ≡ x) → OnErr r (take (length old) z ≡ old)
-front_on (Ok v) old x z more is stays = tt
-front_on (Err e) old x z more is stays = front_of_front old x z more is stays
+-- three pieces after what was there
+pub in_three : {A B : Type 0} (r : Result A B) (old a b c x y z : List ℕ) → OnOk r (z ≡ y ++ c) → y ≡ x ++ b → x ≡ old ++ a → OnOk r (z ≡ old ++ (a ++ (b ++ c)))
+in_three (Err e) old a b c x y z last middle first = tt
+in_three (Ok v) old a b c x y z last middle first =
+    last
+    ∙ ap (λ (t : List ℕ). t ++ c) (middle ∙ ap (λ (t : List ℕ). t ++ b) first)
+    ∙ append_assoc (old ++ a) b c
+    ∙ append_assoc old a (b ++ c)

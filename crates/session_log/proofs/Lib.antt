@@ -1,4 +1,3 @@
-mod HandedOn
 pub mod Frames
 mod Appending
 mod Listings

@@ -12,7 +12,7 @@ use Rattle.op_name.specs.declared.name.TheConstants.{SITES}
 use Rattle.op_name.specs.NameData.{NameData}
 use Rattle.context_diff.specs.Operations.{OpData, inserting, deleting, undoing, member_of, context_of}
 use Rattle.context_diff.specs.Histories.{is_known, LacksNothing, IsNext, IsValid, Same, Agree}
-use Rattle.context_diff.proofs.CallerLemmas.{contains_cases, contains_here, contains_none, holder, known_member, known_on, next_elsewhere, same_by_members, shifted}
+use Rattle.context_diff.proofs.CallerLemmas.{contains_cases, contains_here, contains_none, holder, known_member, known_on, next_elsewhere, same_by_members, shifted, known_end}
 use Rattle.fixed_replay.proofs.CallerLemmas.{same_text, told_apart}
 use Rattle.cot_site.specs.declared.verdict.Verdict.{Verdict}
 use Rattle.cot_site.specs.declared.verdict.Verdict.TheVariants.{Repeat, Integrated}
@@ -93,9 +93,6 @@ keeps_last ms i s o keeps at next = record {
   own = λ x n there is site. Contains-append_left s.history (o ∷ []) x (keeps.own x n there is site);
 }
 
-last_has : (h : List OpData) (o : OpData) → is_known (h ++ o ∷ []) (member_of o) ≡ true
-last_has h o = known_member (h ++ o ∷ []) o (Contains-append_right h (o ∷ []) o (contains_here o []))
-
 took : (ms before : List OpData) (i : ℕ) (s : State) (o : OpData) → Keeps ms i s → Agree ms ms → Contains ms o → ((x : OpData) → Contains before x → Contains ms x) → Knows s.history before → Origin before o → Took ms i s o (delivered s o)
 took ms before i s o keeps one at earlier knows origin =
     elim (cases_Bool (is_known s.history (member_of o))) [
@@ -107,7 +104,7 @@ took ms before i s o keeps one at earlier knows origin =
           let is : judged s o ≡ Integrated = next_integrated s.history s.waiting o keeps.sound.history next.formed next (λ n e other. contains_none other.other (subst (λ w. Contains w other.other) keeps.quiet other.there)) in
           subst (λ (v : Verdict). Took ms i s o (after_verdict v o s)) (sym is) (record {
             keeps = keeps_last ms i s o keeps at next;
-            has = last_has s.history o;
+            has = known_end s.history o;
             stays = λ m e. known_on s.history (o ∷ []) m e;
           })
     ]

@@ -18,7 +18,7 @@ use Rattle.op_name.specs.Members.{is_even}
 use Rattle.context_diff.specs.Histories.{is_known, generation_in, context_of_all, IsNext, IsValid}
 use Rattle.context_diff.specs.Replays.{Cell, replay_of, is_shown, shown, characters_of}
 use Rattle.context_diff.specs.declared.op.TheConstants.{PLACES}
-use Rattle.context_diff.proofs.CallerLemmas.{complete, all_is_context}
+use Rattle.context_diff.proofs.CallerLemmas.{complete, all_is_context, named_few}
 use Rattle.cot_site.specs.declared.local.Local.{Local}
 use Rattle.cot_site.specs.declared.local.Local.TheVariants.{PlaceOut, Unknown, NotInForce, InForce, GenerationFull, NumberFull}
 use Rattle.cot_site.specs.States.{State}
@@ -31,7 +31,7 @@ use Rattle.session_replay.specs.declared.generator.TheConstants.{MAX_EVENTS}
 use Rattle.session_replay.specs.Generating.{names_of, drawn_target, drawn_turn, drawn_insert, drawn_operation}
 use Rattle.session_replay.proofs.Names.{name_counted}
 use Rattle.session_replay.proofs.ShownPlaces.{shown_few}
-use Rattle.session_replay.proofs.Room.{few_entries, few_numbers, few_generations}
+use Rattle.session_replay.proofs.Room.{few_numbers, few_generations}
 
 -- an operation that may come next at the site; an original of it has the site's number
 pub record Makes (s : State) (r : Result OpData Local) : Type 0 where
@@ -68,7 +68,7 @@ characters_few h valid = omega (arith, shown_number h, shown_few h valid)
 numbered_made : (s : State) (o : OpData) → HasRoom s → numbered s o ≡ Ok o
 numbered_made s o room =
     ap (λ (b : Bool). if b then in_context (context_of_all s.history) o else Err NumberFull) (lt-ltb (count_made s) NUMBERS (omega (arith, few_numbers s.history room.valid s.number, room.few)))
-    ∙ in_context_made (context_of_all s.history) o (omega (arith, few_entries s.history, room.few))
+    ∙ in_context_made (context_of_all s.history) o (omega (arith, named_few s.history, room.few))
 
 own_name : (s : State) (n : NameData) → Original (next_name s) ≡ Original n → n.site ≡ s.number
 own_name s n is = let same : next_name s ≡ n = cc in ap (λ (x : NameData). x.site) (sym same)
@@ -130,7 +130,7 @@ module _ (s : State) (room : HasRoom s) (t : NameData) (known : is_known s.histo
   turn = undoing s.number t (reached + 1) (context_of_all s.history)
 
   turn_made : turned s t ≡ Ok turn
-  turn_made = in_context_made (context_of_all s.history) turn (omega (arith, few_entries s.history, room.few))
+  turn_made = in_context_made (context_of_all s.history) turn (omega (arith, named_few s.history, room.few))
 
   turn_owns : (n : NameData) → member_of turn ≡ Original n → n.site ≡ s.number
   turn_owns n is = absurd cc

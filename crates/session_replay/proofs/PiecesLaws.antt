@@ -20,7 +20,7 @@ use Rattle.script_text.specs.declared.reading.stream.TheConstants.{MAX_SCRIPT}
 use Rattle.script_text.specs.Answers.{Answers, line_in}
 use Rattle.script_text.specs.Streams.{seen, line_of, lines_in, looked_at}
 use Rattle.script_text.specs.Code.Keeping.{HasNoFeed, size_of}
-use Rattle.script_text.proofs.CallerLemmas.{take_past, lines_in_feed, size-lines_in}
+use Rattle.script_text.proofs.CallerLemmas.{take_past, lines_in_feed, size-lines_in, either}
 use Rattle.session_replay.specs.Answers.{unread_by}
 use Rattle.session_replay.specs.Scripts.{Piece, Whole, Past, lines_of, cut_off, pieces_of, line_read}
 use Rattle.session_replay.specs.Readers.{pieces_after}
@@ -69,9 +69,6 @@ take_line m n line after h =
 
 none_taken : (k : ℕ) (line rest : List ℕ) → HasNoFeed line → k ≤ length line → HasNoFeed (take k (line ++ rest))
 none_taken k line rest none h = subst HasNoFeed (sym (take-append-le k line rest h)) (All-take (λ (b : ℕ). (b == 10) ≡ false) k line none)
-
-pub either : (m n : ℕ) → (m < n) ⊎ (n ≤ m)
-either m n = grind arith
 
 pub front_line : (n : ℕ) (bytes : List ℕ) → HasNoFeed (looked_at n bytes) ⊎ Front n bytes
 front_line n bytes = of (first_line bytes)

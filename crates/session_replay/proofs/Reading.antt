@@ -15,7 +15,7 @@ use Rattle.script_text.specs.LeftLines.{LeftLine, InputData}
 use Rattle.script_text.specs.Streams.{seen, line_of, open_line, all_but_last_ended, lines_in, followed_by, looked_at, fed_with, IsPastLimit, HasNoLine, IsNext, Reads, TakesLine}
 use Rattle.script_text.specs.Code.Keeping.{HasNoFeed}
 use Rattle.script_text.specs.Report.{refused_text}
-use Rattle.script_text.proofs.CallerLemmas.{lines_in_part}
+use Rattle.script_text.proofs.CallerLemmas.{lines_in_part, first_same, either}
 use Rattle.session_replay.specs.declared.script.Next.{Next}
 use Rattle.session_replay.specs.declared.script.Next.TheVariants.{Done, Awaited, Refused}
 use Rattle.session_replay.specs.Answers.{unread_by}
@@ -26,7 +26,7 @@ use Rattle.session_replay.specs.Scripts.{Piece, Whole, Past, Report, prepended, 
 use Rattle.session_replay.specs.ReaderData.{ReaderData}
 use Rattle.session_replay.specs.Readers.{pieces_after, nothing_left, Keeps, Awaits, AwaitsSome}
 use Rattle.session_replay.specs.Code.Reading.{Follows, TellsRefusal, is_refused}
-use Rattle.session_replay.proofs.PiecesLaws.{Front, front_line, either, all_looked, no_bytes, pieces_first, open_bytes, no_feed_in, pieces_line, pieces_end, pieces_past, line_found, line_refused, line_empty}
+use Rattle.session_replay.proofs.PiecesLaws.{Front, front_line, all_looked, no_bytes, pieces_first, open_bytes, no_feed_in, pieces_line, pieces_end, pieces_past, line_found, line_refused, line_empty}
 
 -- ---- reports
 
@@ -123,10 +123,6 @@ fed_keeps fed_twice r new all written piece input number session k =
       goes_on = λ more. k.goes_on more ∙ (λ i. prepended written (report_from (sym number i) (pieces_after (length k.done) more) (sym session i)));
     }
 
-pub ok_from : {T E P Q : Type 0} (r : Result T E) → (P → Q) → OnOk r P → OnOk r Q
-ok_from (Ok x) f h = f h
-ok_from (Err e) f h = h
-
 -- ---- a whole line is taken
 
 -- the front line of an input, by the bytes that are left
@@ -138,9 +134,6 @@ record Taken (done left : List ℕ) (l : LeftLine) (rest : List LeftLine) : Type
   within : length done + length line + 1 ≤ MAX_SCRIPT
   bytes : l.bytes ≡ seen line
   lines : rest ≡ lines_in (looked_at (length done + length line + 1) after)
-
-first_same : (k l : LeftLine) (ks ls : List LeftLine) → k ∷ ks ≡ l ∷ ls → k ≡ l
-first_same k l ks ls e = cc
 
 rest_same : (k l : LeftLine) (ks ls : List LeftLine) → k ∷ ks ≡ l ∷ ls → ks ≡ ls
 rest_same k l ks ls e = cc

@@ -1,15 +1,15 @@
 -- What a history of few operations has room for: no site of it runs out of numbers, generations or undo entries.
-use Rattle.std.proofs.Common.{◌≡◌, ℕ, suc, ◌+◌, ◌≤◌, Bool, inl, inr, List, [], ◌∷◌, ◌++◌, ap, sym, subst, ◌∙◌, arith, length, length-append}
+use Rattle.std.proofs.Common.{◌≡◌, ℕ, ◌+◌, ◌≤◌, Bool, inl, inr, List, [], ◌∷◌, ◌++◌, ap, sym, subst, ◌∙◌, arith, length, length-append}
 use Rattle.std.specs.Prelude.{Contains, ◌==◌, if◌then◌else◌}
 use Rattle.std.proofs.lemmas.Bool.{cases_Bool, false≢true}
 use Rattle.std.proofs.lemmas.List.Elements.{Contains-append_left, Contains-append_right, Contains-append_cases}
 use Rattle.op_name.specs.declared.member.Member.{Member}
 use Rattle.op_name.specs.declared.member.Member.TheVariants.{Original, Group}
-use Rattle.op_name.specs.NameData.{NameData, name_eq, name_lt}
+use Rattle.op_name.specs.NameData.{NameData, name_eq}
 use Rattle.context_vector.specs.Contexts.{ContextData, count_of, count_in, entry_of, entry_in, put_entry, put_count, raised, empty, IsNextMember}
 use Rattle.context_vector.proofs.CallerLemmas.{count_put, entry_put}
 use Rattle.context_diff.specs.Operations.{OpData, member_of}
-use Rattle.context_diff.specs.Histories.{is_known, generation_in, context_after, context_of_all, IsValid}
+use Rattle.context_diff.specs.Histories.{is_known, generation_in, context_of_all, IsValid}
 use Rattle.context_diff.proofs.CallerLemmas.{by_pushes, complete, context_push, next_member, generation_is, known_member, contains_here, contains_none, contains_cases}
 
 -- ---- a history within a list
@@ -51,28 +51,6 @@ no_longer h v =
     omega (arith, fewer, length-append k (o ∷ []), length-append cut.before (o ∷ cut.after), length-append cut.before cut.after, ap length cut.parts)) h v
 
 -- ---- entries
-
-put_entry_more : (n : NameData) (g : ℕ) (es : List (NameData × ℕ)) → length (put_entry n g es) ≤ suc (length es)
-put_entry_more n g [] = omega arith
-put_entry_more n g (e ∷ es) =
-    elim (cases_Bool (name_eq e.0 n)) [
-      | inl same ↦ rw same (omega arith)
-      | inr other ↦ elim (cases_Bool (name_lt n e.0)) [
-        | inl less ↦ rw (other, less) (omega arith)
-        | inr more ↦ rw (other, more) (omega (arith, put_entry_more n g es))
-      ]
-    ]
-
-raised_entries : (c : ContextData) (m : Member) → length (raised c m).entries ≤ suc (length c.entries)
-raised_entries c (Original n) = omega arith
-raised_entries c (Group n g) = put_entry_more n g c.entries
-
-entries_after : (c : ContextData) (h : List OpData) → length (context_after c h).entries ≤ length c.entries + length h
-entries_after c [] = omega arith
-entries_after c (o ∷ os) = omega (arith, entries_after (raised c (member_of o)) os, raised_entries c (member_of o))
-
-pub few_entries : (h : List OpData) → length (context_of_all h).entries ≤ length h
-few_entries h = omega (arith, entries_after empty h)
 
 -- ---- numbers and generations
 

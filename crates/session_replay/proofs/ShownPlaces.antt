@@ -1,26 +1,15 @@
 -- How many places a text has: places of shown cells, and those for a character after so many of them, stay in range.
-use Rattle.std.proofs.Common.{◌≡◌, ℕ, suc, ◌<◌, ◌≤◌, Bool, inl, inr, if◌then◌else◌, List, [], ◌∷◌, length, map, sym, subst, arith}
+use Rattle.std.proofs.Common.{◌≡◌, ℕ, suc, ◌<◌, ◌≤◌, if◌then◌else◌, List, ◌∷◌, length, map, arith}
 use Rattle.std.specs.Prelude.{Some}
-use Rattle.std.proofs.lemmas.Bool.{cases_Bool}
 use Rattle.std.proofs.lemmas.List.{length-map}
 use Rattle.std.proofs.lemmas.Option.{slice_get_within}
-use Rattle.op_name.specs.Lists.{places_from}
 use Rattle.context_diff.specs.declared.op.TheConstants.{PLACES}
 use Rattle.context_diff.specs.Operations.{OpData}
 use Rattle.context_diff.specs.Histories.{IsValid}
-use Rattle.context_diff.specs.Replays.{Cell, replay_of, is_shown}
+use Rattle.context_diff.specs.Replays.{replay_of, is_shown}
 use Rattle.cot_site.specs.Views.{shown_places_of}
 use Rattle.cot_site.specs.Commands.{place_behind}
-use Rattle.cot_site.proofs.CallerLemmas.{few_cells}
-
-places_few : (test : Cell → Bool) (n : ℕ) (cs : List Cell) → length (places_from test n cs) ≤ length cs
-places_few test n [] = omega arith
-places_few test n (c ∷ cs) = elim (cases_Bool (test c)) [
-  | inl so ↦
-      subst (λ (b : Bool). length (if b then n ∷ places_from test (suc n) cs else places_from test (suc n) cs) ≤ suc (length cs)) (sym so) (omega (arith, places_few test (suc n) cs))
-  | inr isnt ↦
-      subst (λ (b : Bool). length (if b then n ∷ places_from test (suc n) cs else places_from test (suc n) cs) ≤ suc (length cs)) (sym isnt) (omega (arith, places_few test (suc n) cs))
-]
+use Rattle.cot_site.proofs.CallerLemmas.{few_cells, places_few}
 
 pub shown_few : (h : List OpData) → IsValid h → length (shown_places_of h) ≤ PLACES
 shown_few h valid = omega (arith, places_few (is_shown h) 0 (replay_of h), few_cells h valid)

@@ -10,7 +10,7 @@ use Rattle.op_name.proofs.CallerLemmas.{member_same, member_itself, member_apart
 use Rattle.context_vector.specs.Contexts.{ContextData, IsContext, has, raised, empty, IsNextMember}
 use Rattle.context_diff.specs.Operations.{OpData, member_of}
 use Rattle.context_diff.specs.Histories.{is_known, members_in, context_of_all, IsValid}
-use Rattle.context_diff.proofs.CallerLemmas.{all_is_context, complete, in_known, context_push, next_member, valid_parts, valid_pop}
+use Rattle.context_diff.proofs.CallerLemmas.{all_is_context, complete, in_known, context_push, next_member, valid_parts, valid_pop, members-append}
 use Rattle.ttf_form.specs.Families.{IsIn}
 use Rattle.transform_rec.specs.Sets.{none, SameSet, plus, plus_all}
 use Rattle.transform_rec.specs.Family.{IsSound}
@@ -51,10 +51,6 @@ split (o ∷ os) m e =
           }
     ]
 
-members_append : (h k : List OpData) → members_in (h ++ k) ≡ members_in h ++ members_in k
-members_append [] k = refl
-members_append (o ∷ os) k = ap (λ (l : List Member). member_of o ∷ l) (members_append os k)
-
 or_assoc : (a b c : Bool) → ((a || b) || c) ≡ (a || (b || c))
 or_assoc true b c = refl
 or_assoc false b c = refl
@@ -77,7 +73,7 @@ before_set h v m known y = all_known (before h m) none y ∙ sym ((complete (bef
 pub before_sound : (h : List OpData) → IsValid h → (m : Member) → is_known h m ≡ true → IsSound (family_in h (base_form h)) m (has (context_before h m))
 before_sound h v m known =
     let r = split h m known in
-    let list : members_in h ≡ members_in (before h m) ++ member_of r.op ∷ members_in r.after = ap members_in r.whole ∙ members_append (before h m) (r.op ∷ r.after) in
+    let list : members_in h ≡ members_in (before h m) ++ member_of r.op ∷ members_in r.after = ap members_in r.whole ∙ members-append (before h m) (r.op ∷ r.after) in
     let run = book_run (family_in h (base_form h)) (history_causal h (base_form h) v) in
     let parts = causal_parts (family_in h (base_form h)) (members_in (before h m)) (member_of r.op ∷ members_in r.after) none (subst (λ (ms : List Member). IsCausalFrom (family_in h (base_form h)) none ms) list run) in
     subst (λ (C : Member → Bool). IsSound (family_in h (base_form h)) m C) (same_set _ _ (before_set h v m known))

@@ -3,39 +3,29 @@ use Rattle.std.proofs.Common.{◌≡◌, ◌≢◌, ℕ, ◌-◌, ◌<◌, ◌�
 use Rattle.std.specs.Prelude.{◌||◌, if◌then◌else◌}
 use Rattle.std.proofs.lemmas.Bool.{cases_Bool, both_ways, and_from, or_left, not_from_false}
 use Rattle.op_name.specs.declared.member.Member.{Member}
-use Rattle.op_name.specs.declared.member.Member.TheVariants.{Original, Group}
 use Rattle.op_name.specs.Members.{member_eq, IsMember}
 use Rattle.op_name.proofs.CallerLemmas.{member_same, member_itself, member_apart}
 use Rattle.context_vector.specs.Contexts.{ContextData, IsContext, has, raised}
 use Rattle.context_vector.specs.Vectors.{IsLastMember, lowered}
-use Rattle.context_vector.proofs.CallerLemmas.{same_context, has_raised, has_lowered, lowered_is_context, raised_is_context, size_of}
+use Rattle.context_vector.proofs.CallerLemmas.{same_context, has_raised, has_lowered, size_of}
 use Rattle.context_diff.specs.Operations.{OpData, inserting, deleting, undoing, member_of, IsWellFormed}
 use Rattle.context_diff.specs.Histories.{is_known, members_in, IsValid}
 use Rattle.context_diff.specs.Bases.{base_has, base_context_of}
 use Rattle.context_diff.specs.ClosedContexts.{IsClosedContext}
 use Rattle.context_diff.specs.Differences.{LastMayBeTakenOut, difference_of}
-use Rattle.context_diff.proofs.CallerLemmas.{base_value, base_closed, base_listed, base_itself, closed_context, closed_set, complete, IsComplete, holder, known_in}
+use Rattle.context_diff.proofs.CallerLemmas.{base_value, base_closed, base_listed, base_itself, closed_context, closed_set, complete, IsComplete, holder, known_in, lowered_by, raised_by}
 use Rattle.form_cache.specs.Keys.{KeyData}
 use Rattle.ttf_form.specs.Families.{IsIn, sum_where}
 use Rattle.transform_rec.specs.Sets.{SameSet, plus}
 use Rattle.transform_rec.specs.Family.{size}
 use Rattle.transform_rec.specs.Histories.{family_in, MayBeAddedTo}
-use Rattle.transform_rec.proofs.CallerLemmas.{added_next, in_filter, known_generation, same_bool}
+use Rattle.transform_rec.proofs.CallerLemmas.{added_next, in_filter, known_generation}
 use Rattle.undo_group.specs.BaseForms.{base_form}
 use Rattle.trace_explain.specs.Listings.{IsLastBetween, left_of, over_of}
 use Rattle.trace_explain.specs.Code.Tasks.{IsPair}
+use Rattle.std.specs.Cmp.{both_ways as same_bool}
 
 -- ---- members of a history are in range
-
-lowered_by : (c : ContextData) (o : OpData) → IsContext c → IsWellFormed o → IsContext (lowered c (member_of o))
-lowered_by c (inserting n p ch d) is f = lowered_is_context c (Original n) is f.in_range.0 tt f.in_range.0.2
-lowered_by c (deleting n p d) is f = lowered_is_context c (Original n) is f.in_range.0 tt f.in_range.0.2
-lowered_by c (undoing a t g d) is f = lowered_is_context c (Group t g) is f.in_range.1 f.in_range.2 f.in_range.3
-
-raised_by : (c : ContextData) (o : OpData) → IsContext c → IsWellFormed o → IsContext (raised c (member_of o))
-raised_by c (inserting n p ch d) is f = raised_is_context c (Original n) is f.in_range.0 tt f.in_range.0.2
-raised_by c (deleting n p d) is f = raised_is_context c (Original n) is f.in_range.0 tt f.in_range.0.2
-raised_by c (undoing a t g d) is f = raised_is_context c (Group t g) is f.in_range.1 f.in_range.2 f.in_range.3
 
 least_of : (o : OpData) → IsWellFormed o → 1 ≤ size_of (member_of o)
 least_of (inserting n p ch d) f = f.in_range.0.1

@@ -1,20 +1,18 @@
 -- A valid history is a causal family, and its closed contexts are closed sets of that family.
-use Rattle.std.proofs.Common.{◌≡◌, ℕ, zero, suc, ◌+◌, ◌<◌, ◌≤◌, Bool, true, false, List, [], ◌∷◌, ◌++◌, ◌⊎◌, inl, inr, refl, sym, subst, arith}
-use Rattle.std.proofs.lemmas.Bool.{both_ways, or_cases, or_left, or_right, cases_lt}
+use Rattle.std.proofs.Common.{◌≡◌, ℕ, zero, suc, ◌+◌, ◌<◌, ◌≤◌, Bool, true, List, [], ◌∷◌, ◌++◌, ◌⊎◌, inl, inr, refl, sym, subst, arith}
+use Rattle.std.proofs.lemmas.Bool.{both_ways, cases_lt}
 use Rattle.op_name.specs.NameData.{NameData}
 use Rattle.op_name.specs.declared.member.Member.{Member}
 use Rattle.op_name.specs.declared.member.Member.TheVariants.{Original, Group}
-use Rattle.op_name.specs.Members.{member_eq, IsMember}
+use Rattle.op_name.specs.Members.{IsMember}
 use Rattle.context_vector.specs.Contexts.{ContextData, has, count_of, entry_of, IsNextMember}
 use Rattle.context_diff.specs.Operations.{OpData, member_of}
 use Rattle.context_diff.specs.Histories.{members_in, is_known, IsValid}
 use Rattle.context_diff.specs.Bases.{original_context, base_has}
 use Rattle.context_diff.proofs.CallerLemmas.{known_in, in_known, IsClosedSet, has_number, has_original, has_generation, has_group, shifted, IsComplete, complete, original_facts, group_facts, own_earlier, base_closed, base_listed, closed_set, closed_context, in_original, in_group_below, below_group, members_apart, not_later}
-use Rattle.ttf_form.specs.Families.{IsIn}
 use Rattle.transform_rec.specs.Lists.{AreApart}
 use Rattle.transform_rec.specs.Family.{IsCausal, IsCausalFamily, IsClosed, IsSound}
 use Rattle.transform_rec.specs.Histories.{family_in, MayBeAddedTo}
-use Rattle.op_name.proofs.CallerLemmas.{member_itself, member_same}
 
 -- ---- a history as a family
 

@@ -1,24 +1,18 @@
 -- Histories with the same operations have the same members, base contexts and forms.
-use Rattle.std.proofs.Common.{◌≡◌, ℕ, Bool, true, false, ◌&&◌, ◌||◌, List, inl, inr, refl, sym, ap, ap₂, subst, ◌∙◌, arith}
+use Rattle.std.proofs.Common.{◌≡◌, ℕ, true, ◌&&◌, ◌||◌, List, inl, inr, sym, ap, ap₂, subst, ◌∙◌, arith}
 use Rattle.std.proofs.lemmas.Bool.{cases_Bool}
 use Rattle.op_name.specs.NameData.{NameData}
 use Rattle.op_name.specs.declared.member.Member.{Member}
 use Rattle.op_name.specs.declared.member.Member.TheVariants.{Original, Group}
 use Rattle.context_vector.specs.Contexts.{ContextData, has}
-use Rattle.context_diff.specs.Operations.{OpData, inserting, deleting, undoing, member_of, is_original}
+use Rattle.context_diff.specs.Operations.{OpData}
 use Rattle.context_diff.specs.Histories.{is_known, generation_in, context_of_all, IsValid, Same}
 use Rattle.context_diff.specs.Bases.{original_context, is_before, is_below, base_has}
-use Rattle.context_diff.proofs.CallerLemmas.{has_generation, has_group, known_member, original_holder, complete, generation_is, group_facts, context_is, known_in, in_known}
+use Rattle.context_diff.proofs.CallerLemmas.{has_generation, has_group, known_member, original_holder, complete, generation_is, group_facts, context_is, known_in, in_known, named_original}
 use Rattle.transform_rec.specs.Derived.{Holds}
 use Rattle.transform_rec.specs.Histories.{family_in, SameOperationsSameForm}
-use Rattle.transform_rec.proofs.Sets.{same_bool}
 use Rattle.transform_rec.proofs.Forms.{derived_moves}
-
--- the operation that is an original is an insert or a delete
-named_original : (o : OpData) (n : NameData) → member_of o ≡ Original n → is_original o ≡ true
-named_original (inserting m p ch c) n e = refl
-named_original (deleting m p c) n e = refl
-named_original (undoing a t g c) n e = cc
+use Rattle.std.specs.Cmp.{both_ways as same_bool}
 
 same_turned : (h k : List OpData) → Same h k → (t : NameData) → is_known h (Original t) ≡ true → generation_in k t ≡ generation_in h t
 same_turned h k s t e = sym (s.generations t e)

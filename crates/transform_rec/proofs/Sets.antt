@@ -1,6 +1,6 @@
 -- Facts on sets of members: one member more or less, and the members of a list more.
 use Rattle.std.proofs.Common.{◌≡◌, ◌≢◌, ℕ, ◌+◌, ◌≤◌, Bool, true, false, not, ◌&&◌, ◌||◌, List, [], ◌∷◌, ◌++◌, if◌then◌else◌, ◌⊎◌, inl, inr, refl, sym, ap, ap₂, subst, ◌∙◌, arith}
-use Rattle.std.proofs.lemmas.Bool.{cases_Bool, both_ways, or_right, or_left, or_cases, or_from, or_parts, and_parts, and_from, not-true, not_from_false, false_from_ne_true}
+use Rattle.std.proofs.lemmas.Bool.{cases_Bool, or_right, or_left, or_cases, or_from, or_parts, and_parts, and_from, not-true, not_from_false, false_from_ne_true, both_ways}
 use Rattle.op_name.specs.declared.member.Member.{Member}
 use Rattle.op_name.specs.Members.{member_eq}
 use Rattle.op_name.proofs.CallerLemmas.{member_itself, member_same, member_apart, member_other}
@@ -8,15 +8,10 @@ use Rattle.transform_rec.specs.Sets.{IsSubset, SameSet, plus, minus, plus_all}
 use Rattle.ttf_form.specs.Families.{IsIn, sum_where}
 use Rattle.transform_rec.specs.Lists.{AreApart}
 use Rattle.transform_rec.proofs.Lists.{sum_same}
+use Rattle.std.specs.Cmp.{both_ways as same_bool}
 
 pub same_set : (C D : Member → Bool) → SameSet C D → C ≡ D
 same_set C D h = λ i y. h y i
-
--- tests that pass alike are equal
-pub same_bool : (a b : Bool) → (a ≡ true → b ≡ true) → (b ≡ true → a ≡ true) → a ≡ b
-same_bool true b f g = sym (f refl)
-same_bool false true f g = g refl
-same_bool false false f g = refl
 
 pub same_from : (C D : Member → Bool) → IsSubset C D → IsSubset D C → SameSet C D
 same_from C D f g z = same_bool (C z) (D z) (f z) (g z)

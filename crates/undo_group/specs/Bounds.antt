@@ -1,5 +1,5 @@
 -- What the list of a book keeps.
-use Rattle.std.specs.Prelude.{ℕ, ◌≤◌, List, length}
+use Rattle.std.specs.Prelude.{◌≤◌, List, length}
 use Rattle.context_diff.specs.Operations.{OpData}
 use Rattle.ttf_form.specs.declared.include.TheConstants.{CELLS}
 use Rattle.context_diff.specs.Histories.{IsValid}

@@ -7,9 +7,9 @@ use Rattle.std.proofs.lemmas.List.Recursion.{max_bounds, max_least}
 use Rattle.op_name.specs.NameData.{NameData, name_eq}
 use Rattle.op_name.specs.declared.member.Member.TheVariants.{Original}
 use Rattle.op_name.proofs.CallerLemmas.{name_same, name_itself}
-use Rattle.context_diff.specs.Operations.{OpData, inserting, deleting, undoing, member_of, is_original}
+use Rattle.context_diff.specs.Operations.{OpData, inserting, deleting, undoing, is_original}
 use Rattle.context_diff.specs.Histories.{is_known, generation_at, generation_in, IsValid, Same}
-use Rattle.context_diff.proofs.CallerLemmas.{complete, holder, known_member}
+use Rattle.context_diff.proofs.CallerLemmas.{complete, holder, known_member, named_original}
 use Rattle.cot_site.specs.Verdicts.{IsRepeat}
 
 -- ---- from repeats to the same operations
@@ -48,17 +48,12 @@ same_from h k in_k in_h = record {
 
 -- ---- and back
 
-original_of : (o : OpData) (n : NameData) → member_of o ≡ Original n → is_original o ≡ true
-original_of (inserting m p ch c) n is = refl
-original_of (deleting m p c) n is = refl
-original_of (undoing a t g c) n is = cc
-
 same_back : (h k : List OpData) → Same h k → Same k h
 same_back h k same = record {
   originals = λ o original. ((same.originals o original).1, (same.originals o original).0);
   generations = λ t known.
       let held = holder k (Original t) known in
-      let at : Contains h held.op = (same.originals held.op (original_of held.op t held.is)).1 held.there in
+      let at : Contains h held.op = (same.originals held.op (named_original held.op t held.is)).1 held.there in
       sym (same.generations t (ap (is_known h) (sym held.is) ∙ known_member h held.op at));
 }
 

@@ -1,7 +1,6 @@
 -- What becomes of a site to which operations are sent, one after the other.
-use Rattle.std.proofs.Common.{◌≡◌, ℕ, suc, ◌+◌, true, false, List, [], ◌∷◌, ◌++◌, Result, Ok, Err, OnOk, refl, sym, ap, subst, ◌∙◌, length, take, drop, get_or, append-nil, IfErr, arith}
+use Rattle.std.proofs.Common.{◌≡◌, ℕ, suc, ◌+◌, true, false, List, [], ◌∷◌, ◌++◌, refl, sym, ap, subst, ◌∙◌, length, take, drop, get_or, append-nil, arith}
 use Rattle.std.specs.Prelude.{Some, slice_get}
-use Rattle.std.specs.Result.{IsErrAnd}
 use Rattle.std.proofs.Math.Seq.{drop-cons, drop-length}
 use Rattle.std.proofs.lemmas.List.{take-append-drop}
 use Rattle.std.proofs.lemmas.Option.{slice_get_within, get_or_from_slice_get}
@@ -15,16 +14,6 @@ use Rattle.cot_site.specs.Releases.{settled}
 use Rattle.uses.specs.declared.stop.Stop.{Stop}
 use Rattle.uses.specs.declared.stop.Stop.TheVariants as stop
 use Rattle.uses.specs.Mail.{is_taken, last_first, AreTaken, IsReceived, IsUnreceived, IsBrokenOff, IsOfRefused, IsUnsent, IsPartlySent}
-
--- what follows from a result follows where there is one
-pub on_ok : {A E : Type 0} {P Q : Type 0} (r : Result A E) → (P → Q) → OnOk r P → OnOk r Q
-on_ok (Ok x) f p = f p
-on_ok (Err e) f p = tt
-
--- an error that is handed on
-pub handed_on : {A E : Type 0} (P : E → Type 0) (r : Result A E) (e : E) → IsErrAnd r (λ x. x ≡ e) → P e → IfErr r P
-handed_on P (Ok x) e is p = absurd is
-handed_on P (Err y) e is p = subst P (sym is) p
 
 -- ---- one operation
 

@@ -1,4 +1,6 @@
 -- What the proofs of other crates cite of this crate's lemmas.
+pub use Rattle.wire_codec.proofs.Appended.{front_of_front, front_on, front_stays, on_err}
+pub use Rattle.wire_codec.proofs.Contexts.{counts_few}
 pub use Rattle.wire_codec.proofs.Growth.{bad_stays}
 pub use Rattle.wire_codec.proofs.Judgement.{frame_once, judge_again, judge_more, judge_takes, judge_within}
 pub use Rattle.wire_codec.proofs.Needing.{state_bound, state_needs, state_some}

@@ -14,6 +14,7 @@ pub mod Elements
 pub mod Loops
 pub mod Pushes
 pub mod Fronts
+pub mod Appended
 pub mod Streaming
 pub mod Growth
 pub mod CallerLemmas

@@ -8,7 +8,7 @@ use Rattle.context_vector.specs.Contexts.{ContextData, has}
 use Rattle.context_diff.specs.Operations.{OpData, inserting, deleting, undoing, member_of, context_of}
 use Rattle.context_diff.specs.Histories.{members_in, is_known, IsValid}
 use Rattle.context_diff.specs.Bases.{base_has}
-use Rattle.context_diff.proofs.CallerLemmas.{IsComplete, complete, context_is, related, in_original, in_known}
+use Rattle.context_diff.proofs.CallerLemmas.{complete, context_is, related, in_original, in_known}
 use Rattle.ttf_form.specs.declared.ins.Ins.{Ins}
 use Rattle.ttf_form.specs.declared.form.Form.{Form}
 use Rattle.ttf_form.specs.declared.form.Form.TheVariants.{Ins as Insert, Cover as Covered}

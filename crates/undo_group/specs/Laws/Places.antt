@@ -6,7 +6,7 @@ use Rattle.op_name.specs.declared.member.Member.{Member}
 use Rattle.op_name.specs.declared.member.Member.TheVariants.{Original, Group}
 use Rattle.context_vector.specs.Contexts.{ContextData, has}
 use Rattle.context_diff.specs.Operations.{OpData, inserting, deleting, undoing, member_of, context_of, is_insert}
-use Rattle.context_diff.specs.Histories.{members_in, is_known, inserts_in, IsValid}
+use Rattle.context_diff.specs.Histories.{members_in, inserts_in, IsValid}
 use Rattle.context_diff.specs.Bases.{base_has}
 use Rattle.context_diff.proofs.CallerLemmas.{IsComplete, complete, group_has_target, base_listed, base_closed, base_itself, known_in, in_known}
 use Rattle.ttf_form.specs.declared.ins.Ins.{Ins}
@@ -15,7 +15,7 @@ use Rattle.ttf_form.specs.declared.form.Form.TheVariants.{Ins as Insert, Cover a
 use Rattle.ttf_form.specs.Forms.{extent_of, IsBoundedForm}
 use Rattle.ttf_form.specs.Families.{IsIn, sum_where}
 use Rattle.undo_group.specs.BaseForms.{AreBaseForms}
-use Rattle.undo_group.specs.Laws.Members.{listed_member, IsPlacedIn, placed_in, inserts_behind}
+use Rattle.undo_group.specs.Laws.Members.{listed_member, placed_in, inserts_behind}
 use Rattle.undo_group.specs.Laws.Sums.{sum_within, sum_more}
 use Rattle.undo_group.specs.Laws.Inserts.{context_of_original}
 

@@ -1,7 +1,7 @@
 -- What a family of base forms keeps, for the base forms of one history.
-use Rattle.std.proofs.Common.{◌≡◌, ◌≢◌, ℕ, ◌≤◌, false, List, [], ◌∷◌, length, refl, ap, arith}
+use Rattle.std.proofs.Common.{◌≡◌, ◌≢◌, ◌≤◌, false, List, [], ◌∷◌, length, refl, arith}
 use Rattle.op_name.specs.declared.member.Member.{Member}
-use Rattle.context_diff.specs.Operations.{OpData, member_of}
+use Rattle.context_diff.specs.Operations.{OpData}
 use Rattle.context_diff.specs.Histories.{members_in}
 use Rattle.context_diff.specs.Bases.{base_has}
 use Rattle.ttf_form.specs.declared.include.TheConstants.{CELLS}

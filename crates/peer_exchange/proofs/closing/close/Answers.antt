@@ -3,7 +3,7 @@ use Rattle.wire_codec.proofs.CallerLemmas.{IsBytes}
 use Rattle.cot_site.specs.Releases.{IsSound}
 use Rattle.cot_site.specs.Sites.{state_of}
 use Rattle.peer_exchange.specs.Closing.{IsUnclosed}
-use Rattle.peer_exchange.proofs.Fronts.{handed_on}
+use Rattle.op_name.proofs.CallerLemmas.{handed_on}
 use Rattle.peer_exchange.proofs.Later.{taking_in_keeps_histories, untaken_later}
 use Rattle.peer_exchange.proofs.SecondMessages.{memory_unclosed, unread_unclosed}
 use Rattle.peer_exchange.proofs.closing.close.Goals as goal

@@ -3,7 +3,7 @@ use Rattle.wire_codec.proofs.CallerLemmas.{IsBytes}
 use Rattle.cot_site.specs.Releases.{IsSound}
 use Rattle.cot_site.specs.Sites.{state_of}
 use Rattle.peer_exchange.specs.Closing.{IsUnfinished}
-use Rattle.peer_exchange.proofs.Fronts.{handed_on}
+use Rattle.op_name.proofs.CallerLemmas.{handed_on}
 use Rattle.peer_exchange.proofs.WholeFrames.{whole_third}
 use Rattle.peer_exchange.proofs.SecondMessages.{unread_unfinished}
 use Rattle.peer_exchange.proofs.Later.{taking_in_keeps_histories, untaken_later}

@@ -3,8 +3,8 @@ use Rattle.context_diff.specs.Ops.{data_of}
 use Rattle.context_diff.proofs.CallerLemmas.{complete}
 use Rattle.cot_site.proofs.CallerLemmas.{formed_at}
 use Rattle.peer_exchange.proofs.Lacked.{count_more, count_all, frames_more, frames_all}
-use Rattle.peer_exchange.proofs.Fronts.{on_err, front_of_front, front_stays}
 use Rattle.peer_exchange.proofs.lacking.put_lacked.Goals as goal
+use Rattle.wire_codec.proofs.CallerLemmas.{on_err, front_of_front, front_stays}
 
 pub put_if_lacked-requires : goal.put_if_lacked-requires
 put_if_lacked-requires c = formed_at c.args.book.now.ops c.loop-i.i (data_of c.in-Some.op.now) (complete c.args.book.now.ops c.known.ensures.valid).formed (sym c.in-Some.ensures)

@@ -6,7 +6,7 @@ use Rattle.cot_site.specs.Sites.{state_of}
 use Rattle.peer_exchange.specs.declared.peer.Peer.{Peer}
 use Rattle.peer_exchange.specs.Messages.{IsThird}
 use Rattle.peer_exchange.specs.Code.Receiving.{AreUntaken, IsFirstOf}
-use Rattle.peer_exchange.proofs.Fronts.{handed_on}
+use Rattle.op_name.proofs.CallerLemmas.{handed_on}
 use Rattle.peer_exchange.proofs.Receivings.{IsTaking, taking_begins, next_formed, taking_more, taking_stops, taking_fails}
 use Rattle.peer_exchange.proofs.receiving.take_frames.Goals as goal
 

@@ -2,7 +2,7 @@ use Rattle.std.proofs.Common.{subst}
 use Rattle.context_diff.specs.Ops.{data_of}
 use Rattle.cot_site.specs.Sites.{state_of}
 use Rattle.session_log.specs.Loadings.{verdicts_after, IsRefusal, IsUnloaded}
-use Rattle.session_log.proofs.HandedOn.{handed_on}
+use Rattle.op_name.proofs.CallerLemmas.{handed_on}
 use Rattle.session_log.proofs.Listings.{passes_placed, at_placed}
 use Rattle.session_log.proofs.TakingIn.{loading_more, loading_refused}
 use Rattle.session_log.proofs.loading.deliver_all.Goals as goal

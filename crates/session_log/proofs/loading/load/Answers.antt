@@ -1,6 +1,6 @@
 use Rattle.std.proofs.Common.{ap, subst}
 use Rattle.session_log.specs.Loadings.{IsUnloaded}
-use Rattle.session_log.proofs.HandedOn.{handed_on}
+use Rattle.op_name.proofs.CallerLemmas.{handed_on}
 use Rattle.session_log.proofs.loading.load.Goals as goal
 
 pub returns-in_err-deliver_all-clause-refused : goal.returns-in_err-deliver_all-clause-refused

@@ -4,7 +4,7 @@ use Rattle.session_log.specs.declared.log_bad.LogBad.TheVariants as bad
 use Rattle.session_log.specs.declared.placed.Placed.{Placed}
 use Rattle.session_log.specs.Readings.{IsUnread}
 use Rattle.session_log.proofs.Frames.{unread, has_operation}
-use Rattle.session_log.proofs.HandedOn.{handed_on}
+use Rattle.op_name.proofs.CallerLemmas.{handed_on}
 use Rattle.session_log.proofs.Listings.{IsListing, listing_first, listing_more, passes_placed, at_placed}
 use Rattle.session_log.proofs.reading.read_into.Goals as goal
 

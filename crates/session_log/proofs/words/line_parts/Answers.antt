@@ -1,6 +1,6 @@
 use Rattle.std.specs.Prelude.{codes}
 use Rattle.session_log.specs.Words.{log_bad_words}
-use Rattle.session_log.proofs.HandedOn.{in_three}
+use Rattle.session_log.proofs.Appending.{in_three}
 use Rattle.session_log.proofs.words.line_parts.Goals as goal
 
 pub returns-clause-ok : goal.returns-clause-ok

@@ -1,8 +1,8 @@
 use Rattle.std.proofs.Common.{ℕ, List, ◌++◌, ap, sym, subst, ◌∙◌, append_assoc}
 use Rattle.cot_site.specs.Sites.{AllFormed}
 use Rattle.session_log.specs.Logs.{header, frames}
-use Rattle.session_log.proofs.Appending.{front_on}
 use Rattle.session_log.proofs.writing.log_parts.Goals as goal
+use Rattle.wire_codec.proofs.CallerLemmas.{front_on}
 
 pub put_waiting-requires : goal.put_waiting-requires
 put_waiting-requires c = subst AllFormed (sym c.pool.ensures) c.known.ensures.waiting

@@ -2,8 +2,9 @@ use Rattle.std.proofs.Common.{[], sym, ◌∙◌, append-nil, arith}
 use Rattle.context_diff.specs.Ops.{data_of}
 use Rattle.context_diff.proofs.CallerLemmas.{complete}
 use Rattle.cot_site.proofs.CallerLemmas.{formed_at}
-use Rattle.session_log.proofs.Appending.{appended_more, appended_all, on_err, front_of_front, front_stays}
+use Rattle.session_log.proofs.Appending.{appended_more, appended_all}
 use Rattle.session_log.proofs.writing.put_history.Goals as goal
+use Rattle.wire_codec.proofs.CallerLemmas.{on_err, front_of_front, front_stays}
 
 pub encode-requires : goal.encode-requires
 encode-requires c = formed_at c.args.book.now.ops c.loop-i.i (data_of c.in-Some.op.now) (complete c.args.book.now.ops c.known.ensures.valid).formed (sym c.in-Some.ensures)

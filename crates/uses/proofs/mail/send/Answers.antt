@@ -1,10 +1,10 @@
 use Rattle.std.proofs.Common.{◌≡◌, ℕ, List, ◌++◌, ap, ◌∙◌}
-use Rattle.std.proofs.lemmas.Result.{IfErr-weaker}
+use Rattle.std.proofs.lemmas.Result.{IfErr-weaker, on_ok_weaker}
 use Rattle.context_diff.specs.Ops.{data_of}
 use Rattle.cot_site.specs.Sites.{state_of}
 use Rattle.wire_codec.specs.Spelling.{frame}
 use Rattle.uses.specs.Mail.{IsUnreceived, IsUnsent}
-use Rattle.uses.proofs.Sending.{on_ok, received_is, unsent_is}
+use Rattle.uses.proofs.Sending.{received_is, unsent_is}
 use Rattle.uses.proofs.mail.send.Goals as goal
 
 pub returns-clause-state : goal.returns-clause-state
@@ -12,14 +12,14 @@ returns-clause-state c =
     let o = data_of c.args.op.now in
     let bytes = c.deref.result.now in
     let is : bytes ≡ frame o = c.deref.ensures.value ∙ c.in_ok-encode.ensures.ok ∙ ap (λ (b : List ℕ). b ++ frame o) c.new-frame.ensures.items in
-    on_ok c.receive.result (λ received. (received_is o c.requires bytes is (state_of c.args.to.now) (state_of c.receive.new.site) received).0) c.receive.ensures.taken
+    on_ok_weaker c.receive.result (λ received. (received_is o c.requires bytes is (state_of c.args.to.now) (state_of c.receive.new.site) received).0) c.receive.ensures.taken
 
 pub returns-clause-taken : goal.returns-clause-taken
 returns-clause-taken c =
     let o = data_of c.args.op.now in
     let bytes = c.deref.result.now in
     let is : bytes ≡ frame o = c.deref.ensures.value ∙ c.in_ok-encode.ensures.ok ∙ ap (λ (b : List ℕ). b ++ frame o) c.new-frame.ensures.items in
-    on_ok c.receive.result (λ received. (received_is o c.requires bytes is (state_of c.args.to.now) (state_of c.receive.new.site) received).1) c.receive.ensures.taken
+    on_ok_weaker c.receive.result (λ received. (received_is o c.requires bytes is (state_of c.args.to.now) (state_of c.receive.new.site) received).1) c.receive.ensures.taken
 
 pub returns-clause-refused : goal.returns-clause-refused
 returns-clause-refused c =

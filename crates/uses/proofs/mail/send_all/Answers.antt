@@ -8,7 +8,8 @@ use Rattle.context_diff.proofs.CallerLemmas.{complete, not_past}
 use Rattle.cot_site.specs.Sites.{state_of}
 use Rattle.cot_site.proofs.CallerLemmas.{formed_at}
 use Rattle.uses.specs.Mail.{IsPartlySent}
-use Rattle.uses.proofs.Sending.{AreSentFrom, sent_more, partly_sent, handed_on}
+use Rattle.uses.proofs.Sending.{AreSentFrom, sent_more, partly_sent}
+use Rattle.op_name.proofs.CallerLemmas.{handed_on}
 use Rattle.uses.proofs.mail.send_all.Goals as goal
 
 pub send-requires : goal.send-requires

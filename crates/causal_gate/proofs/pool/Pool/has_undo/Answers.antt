@@ -1,8 +1,5 @@
-use Rattle.std.proofs.Common.{◌≡◌, false, List, map, subst}
-use Rattle.std.specs.Prelude.{Contains}
+use Rattle.std.proofs.Common.{◌≡◌, List, subst}
 use Rattle.context_diff.specs.Operations.{OpData}
-use Rattle.context_diff.specs.Ops.{data_of}
-use Rattle.causal_gate.specs.Names.{op_in}
 use Rattle.causal_gate.specs.Undos.{AreUndos}
 use Rattle.causal_gate.proofs.UndoIndex.{undo_waits, undo_found}
 use Rattle.causal_gate.proofs.pool.Pool.has_undo.Goals as goal

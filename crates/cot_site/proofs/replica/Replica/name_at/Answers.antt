@@ -1,4 +1,4 @@
-use Rattle.std.proofs.Common.{◌∙◌, ap, sym, subst, Option, IsNone, option_map, length, ◌≤◌, ◌↔◌}
+use Rattle.std.proofs.Common.{◌∙◌, ap, subst, IsNone, option_map, length, ◌≤◌, ◌↔◌}
 use Rattle.std.specs.Prelude.{slice_get}
 use Rattle.context_diff.specs.Replays.{Cell, shown}
 use Rattle.cot_site.specs.Code.Replicas.{ReplicaData}

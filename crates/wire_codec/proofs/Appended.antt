@@ -1,6 +1,5 @@
--- What a call that went wrong hands on, and what stood before an append that did.
-use Rattle.std.proofs.Common.{◌≡◌, ◌≤◌, List, ◌++◌, ℕ, Result, OnErr, IfErr, Ok, Err, sym, ap, subst, ◌∙◌, length, take, arith}
-use Rattle.std.specs.Result.{IsErrAnd}
+-- What stood before bytes that were appended stays, and so it does where an append went wrong.
+use Rattle.std.proofs.Common.{◌≡◌, ◌≤◌, List, ◌++◌, ℕ, Result, OnErr, Ok, Err, sym, ap, ◌∙◌, length, take, arith}
 use Rattle.std.proofs.lemmas.List.{take-take, length-append}
 use Rattle.std.proofs.Math.Seq.{take-append_seam}
 
@@ -19,8 +18,3 @@ front_of_front old x z more is stays =
 pub front_on : {A B : Type 0} (r : Result A B) (old x z more : List ℕ) → x ≡ old ++ more → OnErr r (take (length x) z ≡ x) → OnErr r (take (length old) z ≡ old)
 front_on (Ok v) old x z more is stays = tt
 front_on (Err e) old x z more is stays = front_of_front old x z more is stays
-
--- an error that is handed on
-pub handed_on : {A E : Type 0} (P : E → Type 0) (r : Result A E) (e : E) → IsErrAnd r (λ x. x ≡ e) → P e → IfErr r P
-handed_on P (Ok x) e is p = absurd is
-handed_on P (Err y) e is p = subst P (sym is) p
