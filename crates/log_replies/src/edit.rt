@@ -9,7 +9,7 @@ ghost use Rattle.log_replies.specs.Editing.{edit_data, edited, typed, made};
 ghost use Rattle.log_replies.specs.Replies.{IsEdited, edit_reply, refused_edit_text};
 ghost use Rattle.log_replies.specs.Code.Editing.{IsDone, IsEditReply};
 
-use crate::answer::Replies;
+use crate::replying::Replies;
 use cot_site::{Local, Site};
 use op_name::{Memory, Name};
 use script_text::local_line;

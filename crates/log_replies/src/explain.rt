@@ -5,7 +5,7 @@ ghost use Rattle.cot_site.specs.Sites.{state_of};
 ghost use Rattle.log_replies.specs.Answers.{IsAppended};
 ghost use Rattle.log_replies.specs.Explaining.{IsExplained, IsExplainedIn, line_text, lines_text, unknown_text};
 
-use crate::answer::Replies;
+use crate::replying::Replies;
 use cot_site::Site;
 use op_name::{Member, Memory};
 use script_text::{base_line, put_member, step_line};

@@ -4,18 +4,18 @@
 //! writes, and its table says which answer comes when, and what it leaves. The bytes of the log decide the reply.
 #![tactic(auto)]
 
-mod answer;
 mod edit;
 mod explain;
 mod laws;
 mod loaded;
+mod replying;
 mod show;
 mod status;
 
-pub use answer::{Replies, answer};
 pub use edit::{Edit, Editing};
 pub use explain::Explaining;
 pub use laws::{one_explanation, one_reply};
 pub use loaded::{PIECE, empty_piece, load_input};
+pub use replying::{Replies, answer};
 pub use show::{Show, show_text};
 pub use status::{Status, code_of};

@@ -4,7 +4,7 @@ ghost use Rattle.std.specs.Prelude.{◌≡◌, ◌++◌, OnOk};
 ghost use Rattle.cot_site.specs.Sites.{state_of};
 ghost use Rattle.log_replies.specs.Replies.{IsShown, shown_reply};
 
-use crate::answer::Replies;
+use crate::replying::Replies;
 use cot_site::Site;
 use op_name::Memory;
 use script_text::shown_lines;

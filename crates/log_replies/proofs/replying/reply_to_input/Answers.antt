@@ -4,7 +4,7 @@ use Rattle.cot_site.specs.Sites.{state_of}
 use Rattle.log_replies.specs.Replies.{IsLoadedAs, IsRefusedInto}
 use Rattle.log_replies.proofs.Answering.{line_replied, state_replied}
 use Rattle.log_replies.proofs.Logs.{if_some, if_none, loses_input}
-use Rattle.log_replies.proofs.answer.reply_to_input.Goals as goal
+use Rattle.log_replies.proofs.replying.reply_to_input.Goals as goal
 
 pub returns-in-Err-reply-clause-lost : goal.returns-in-Err-reply-clause-lost
 returns-in-Err-reply-clause-lost g c = loses_input _ _ _ c.in-Ok-Some.ensures.rest

@@ -1,7 +1,7 @@
 use Rattle.std.proofs.Common.{true, false, refl, ap}
 use Rattle.std.specs.Prelude.{Ok}
 use Rattle.log_replies.proofs.Answering.{replied, partly_replied}
-use Rattle.log_replies.proofs.answer.answer.Goals as goal
+use Rattle.log_replies.proofs.replying.answer.Goals as goal
 
 pub returns-in-Ok-write_whole-clause-answer : goal.returns-in-Ok-write_whole-clause-answer
 returns-in-Ok-write_whole-clause-answer g c = record {
