@@ -3,7 +3,7 @@ use Rattle.context_vector.specs.Contexts.{ContextData, Within, HasNoStray, has}
 use Rattle.context_vector.specs.Vectors.{VectorData}
 use Rattle.context_diff.proofs.CallerLemmas.{covered_ready, have_known}
 use Rattle.transform_rec.specs.Histories.{MayBeAddedTo}
-use Rattle.site_cases.proofs.tests.made.may_be_added.Goals as goal
+use Rattle.site_cases.proofs.derived.may_be_added.Goals as goal
 
 pub base_context-requires : goal.base_context-requires
 base_context-requires c =

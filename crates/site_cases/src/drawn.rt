@@ -2,23 +2,18 @@
 //! was sent, and hold what comes too early. The forms in which each executed its history are those that inclusion gives
 //! by plain recursion.
 
-ghost use Rattle.std.specs.Prelude.{◌<◌, IsTrue, IfOk};
+ghost use Rattle.std.specs.Prelude.{◌<◌};
 ghost use Rattle.op_name.specs.declared.name.TheConstants.{SITES};
-ghost use Rattle.context_diff.specs.Operations.{context_of};
-ghost use Rattle.context_diff.specs.Ops.{data_of};
-ghost use Rattle.transform_rec.specs.Histories.{MayBeAddedTo};
 
-use super::steps::{Edit, Named, edited};
-use super::take_in;
-use context_diff::{Book, Op, base_context, closed};
+use crate::derived::is_form;
+use crate::edits::{Edit, edited, take_in};
+use crate::made::raise;
+use context_diff::Op;
 use context_vector::Vector;
 use cot_site::Site;
-use op_name::{Member, Memory, Name, SITES};
+use op_name::{Name, SITES};
 use std::alloc::Global;
 use std::test::Fail;
-use transform_rec::transform;
-use ttf_form::Form;
-use undo_group::TextBases;
 
 /// The greatest number of messages in a session: plain recursion doubles its work with each.
 const MESSAGES: u32 = 9;
@@ -44,24 +39,24 @@ impl Numbers {
 }
 
 /// The original that some message is, or undoes.
-fn some_name(numbers: &mut Numbers, messages: &[Op]) -> Named {
+fn some_name(numbers: &mut Numbers, messages: &[Op]) -> Name {
     let number = numbers.below(MESSAGES) as usize;
     match messages.get(number) {
-        Some(Op::Insert { name, .. }) => (name.site, name.number),
-        Some(Op::Delete { name, .. }) => (name.site, name.number),
-        Some(Op::Undo { target, .. }) => (target.site, target.number),
-        None => (0, 1),
+        Some(Op::Insert { name, .. }) => *name,
+        Some(Op::Delete { name, .. }) => *name,
+        Some(Op::Undo { target, .. }) => *target,
+        None => Name { site: 0, number: 1 },
     }
 }
 
 /// A command at a site that shows so many characters.
 fn some_edit(numbers: &mut Numbers, visible: u32, messages: &[Op]) -> Edit {
-    let named = some_name(numbers, messages);
+    let name = some_name(numbers, messages);
     let place = numbers.below(visible.saturating_add(1));
     match numbers.below(8) {
-        0 => Edit::Undo(named),
-        1 => Edit::Undo(named),
-        2 => Edit::Redo(named),
+        0 => Edit::Undo(name),
+        1 => Edit::Undo(name),
+        2 => Edit::Redo(name),
         3 => Edit::Delete(place),
         _ => Edit::Insert(place, 'x'),
     }
@@ -71,7 +66,7 @@ fn some_edit(numbers: &mut Numbers, visible: u32, messages: &[Op]) -> Edit {
 fn writes(numbers: &mut Numbers, site: &mut Site, messages: &mut Vec<Op>) -> Result<(), Fail> {
     let edit = some_edit(numbers, site.visible_len(), messages.as_slice());
     if messages.len() < MESSAGES as usize {
-        if let Ok(op) = edited(site, &edit) {
+        if let Some(op) = edited(site, &edit) {
             messages.push(op)?;
         }
     }
@@ -141,47 +136,6 @@ fn session(alloc: Global, numbers: &mut Numbers, sites: &mut Vec<Site>) -> Resul
     talk_to_the_end(numbers, sites, &mut messages)
 }
 
-/// Whether the member may be added to the context of this operation.
-fn may_be_added(alloc: Global, book: &Book, m: &Member, op: &Op) -> Result<bool, Memory>
-    ensures { IfOk result (λ added. IsTrue added → MayBeAddedTo book.now.ops (context_of (data_of op.now)) m.now) }
-{
-    book.known();
-    let to = op.context();
-    if !book.have().contains(m) || !book.have().covers(to) {
-        return Ok(false);
-    }
-    let base = base_context(alloc, book, m)?;
-    if closed(book, to).is_some() || op.fault().is_some() {
-        return Ok(false);
-    }
-    if !to.covers(&base) || to.contains(m) {
-        return Ok(false);
-    }
-    Ok(true)
-}
-
-/// Whether this is the form of the member at the context of the operation, to which the member may be added.
-fn is_form(alloc: Global, book: &Book, m: &Member, op: &Op, form: &Form) -> Result<bool, Memory> {
-    if !may_be_added(alloc, book, m, op)? {
-        return Ok(false);
-    }
-    match transform(alloc, book, &TextBases::new(book), m, op.context()) {
-        Ok(found) => Ok(found == *form),
-        Err(Memory) => Err(Memory),
-    }
-}
-
-/// Adds the member to the context.
-fn add(context: &mut Vector, member: &Member) -> Result<(), Memory> {
-    match member {
-        Member::Original(name) => context.raise(&Member::Original(*name)),
-        Member::Group(name, generation) if *generation > 0 => {
-            context.raise(&Member::Group(*name, *generation))
-        }
-        Member::Group(_, _) => Ok(()),
-    }
-}
-
 /// An operation at a context.
 fn at_context(before: &Vector) -> Result<Op, Fail> {
     let name = Name::new(SITES - 1, 1)?;
@@ -209,7 +163,7 @@ fn all_derived(alloc: Global, site: &Site) -> Result<bool, Fail> {
             return Ok(false);
         }
         if let Some(member) = site.book().member(i) {
-            add(&mut before, &member)?;
+            raise(&mut before, &member)?;
         }
     }
     Ok(true)

@@ -2,7 +2,7 @@ use Rattle.std.proofs.Common.{ap}
 use Rattle.context_diff.specs.Bases.{base_has}
 use Rattle.context_diff.specs.Books.{BookData}
 use Rattle.context_diff.specs.Histories.{members_in}
-use Rattle.site_cases.proofs.tests.made.is_form.Goals as goal
+use Rattle.site_cases.proofs.derived.is_form.Goals as goal
 
 pub transform-requires-clause-bases : goal.transform-requires-clause-bases
 transform-requires-clause-bases c = record {
