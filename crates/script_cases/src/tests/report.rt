@@ -5,12 +5,12 @@ ghost use Rattle.op_name.specs.Members.{IsMember};
 
 use context_diff::Op;
 use context_vector::Vector;
-use cot_site::{Local, Verdict};
 use op_name::{Member, Memory, Name};
 use script_text::{
     Event, Refusal, base_line, local_line, op_line, put_form, raw_bad_line, raw_more_line,
     refused_line, shown_lines, state_line, step_line, verdict_line,
 };
+use site_answers::{Local, Verdict};
 use std::alloc::Global;
 use ttf_form::{Cover, Form, Ins, Mark};
 
