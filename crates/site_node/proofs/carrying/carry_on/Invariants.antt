@@ -5,14 +5,14 @@ use Rattle.peer_exchange.specs.declared.messages.TheConstants.{MAX_MESSAGE}
 use Rattle.peer_exchange.specs.Measuring.{NotPast}
 use Rattle.site_node.specs.declared.carrying.TheConstants.{UNDER_WAY}
 use Rattle.site_node.proofs.Carriages.{Carrying}
-use Rattle.site_node.proofs.carrying.carry.Given as goal
+use Rattle.site_node.proofs.carrying.carry_on.Given as goal
 
 abbrev pub invariant-loop-rest : goal.invariant-loop-rest
 invariant-loop-rest g l = record {
   short : length l.reader.bytes ≤ MAX_MESSAGE;
   within : l.at ≤ length l.bytes;
   under_way : l.at ≤ length l.reader.bytes + UNDER_WAY;
-  which : l.reader.which ≡ l.fn.which;
+  which : l.reader.which ≡ l.fn.reader.which;
   carrying : Carrying (g.W.Wire.ends l.fn.wire l.fn.from) (g.W.Wire.ends l.wire l.fn.from) (g.W.Wire.ends l.fn.wire (1 - l.fn.from)) (g.W.Wire.ends l.wire (1 - l.fn.from)) l.bytes l.at l.reader.bytes;
   past : NotPast l.reader.which l.reader.bytes;
   kept : KeepLinked (g.W.Wire.ends l.fn.wire) (g.W.Wire.ends l.wire);

@@ -4,12 +4,12 @@ use Rattle.outside_io.specs.Ends.{KeepLinked}
 use Rattle.peer_exchange.specs.declared.messages.TheConstants.{MAX_MESSAGE}
 use Rattle.peer_exchange.specs.Measuring.{NotPast}
 use Rattle.site_node.specs.Moves.{Receives}
-use Rattle.site_node.proofs.receiving.receive.Given as goal
+use Rattle.site_node.proofs.receiving.fill.Given as goal
 
 abbrev pub invariant-loop-reader : goal.invariant-loop-reader
 invariant-loop-reader g l = record {
   short : length l.reader.bytes ≤ MAX_MESSAGE;
-  which : l.reader.which ≡ l.fn.which;
+  which : l.reader.which ≡ l.fn.reader.which;
   came : Receives (g.W.Wire.ends l.fn.wire l.fn.end) (g.W.Wire.ends l.wire l.fn.end) l.reader.bytes;
   past : NotPast l.reader.which l.reader.bytes;
   other_end : g.W.Wire.ends l.wire (1 - l.fn.end) ≡ g.W.Wire.ends l.fn.wire (1 - l.fn.end);

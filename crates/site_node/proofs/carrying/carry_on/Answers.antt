@@ -10,7 +10,7 @@ use Rattle.peer_exchange.specs.Measuring.{MessageData, measure_of}
 use Rattle.peer_exchange.specs.Refusals.{IsWhole}
 use Rattle.peer_exchange.proofs.CallerLemmas.{nothing_past}
 use Rattle.site_node.proofs.Carriages.{carrying_none, carrying_sent, carrying_gain, all_went, carried, wire_failed, bad_came, limit_reached, cut_short, read_failed, end_back}
-use Rattle.site_node.proofs.carrying.carry.Goals as goal
+use Rattle.site_node.proofs.carrying.carry_on.Goals as goal
 
 pub loop-rest-init : goal.loop-rest-init
 loop-rest-init g c = record {
@@ -18,8 +18,8 @@ loop-rest-init g c = record {
   within = search rules;
   under_way = search rules;
   which = search rules;
-  carrying = carrying_none _ _ _ _ (ap (λ (m : MessageData). m.bytes) c.new-reader.ensures);
-  past = rw c.new-reader.ensures (nothing_past c.args.which);
+  carrying = carrying_none _ _ _ _ c.requires.nothing;
+  past = rw c.requires.nothing (nothing_past c.args.reader.now.which);
   kept = record { first = refl; second = refl };
   received = refl;
   to_come = refl;
@@ -36,9 +36,9 @@ returns-in-Ok-clause-carried g c =
     let inv = c.loop-rest.invariant in
     let bytes = c.loop-rest.reader.bytes in
     let said : measure_of c.loop-rest.reader.which bytes ≡ message.Whole c.in-Whole.used = sym c.in-Whole.ensures.value in
-    let own : IsWhole c.args.which bytes = ap (λ (w : Which). measure_of w bytes) (sym inv.which) ∙ (said ∙ ap message.Whole (inv.past c.in-Whole.used said)) in
-    let is : c.into_bytes.result.items ≡ bytes = c.into_bytes.ensures ∙ ap (λ (m : MessageData). m.bytes) c.measure.ensures.same in
-    carried c.args.which _ _ _ _ _ c.args.bytes.now _ bytes c.into_bytes.result.items _ c.loop-rest.at fits inv.within inv.carrying own is c.split_at.ensures.back c.in-Ok.ensures.other_received (inv.asked ∙ c.requires.pair)
+    let own : IsWhole c.args.reader.now.which bytes = ap (λ (w : Which). measure_of w bytes) (sym inv.which) ∙ (said ∙ ap message.Whole (inv.past c.in-Whole.used said)) in
+    let is : c.measure.new.self.bytes ≡ bytes = ap (λ (m : MessageData). m.bytes) c.measure.ensures.same in
+    carried c.args.reader.now.which _ _ _ _ _ c.args.bytes.now _ bytes c.measure.new.self.bytes _ c.loop-rest.at fits inv.within inv.carrying own is c.split_at.ensures.back c.in-Ok.ensures.other_received (inv.asked ∙ c.requires.pair)
     (kept_other _ _ c.args.from c.requires.side inv.kept ∙ c.requires.other) c.in-Ok.ensures.brought
 
 pub returns-in-Ok-clause-sent : goal.returns-in-Ok-clause-sent
@@ -47,14 +47,14 @@ returns-in-Ok-clause-sent g c =
 
 pub returns-in-Err-clause-uncarried : goal.returns-in-Err-clause-uncarried
 returns-in-Err-clause-uncarried g c =
-    wire_failed c.args.which _ _ _ _ _ _ c.args.bytes.now _ c.loop-rest.reader.bytes c.loop-rest.at c.loop-rest.invariant.carrying c.split_at.ensures.back c.in-Err.ensures.front c.in-Err.ensures.other_received
+    wire_failed c.args.reader.now.which _ _ _ _ _ _ c.args.bytes.now _ c.loop-rest.reader.bytes c.loop-rest.at c.loop-rest.invariant.carrying c.split_at.ensures.back c.in-Err.ensures.front c.in-Err.ensures.other_received
 
 pub returns-in-Bad-clause-uncarried : goal.returns-in-Bad-clause-uncarried
 returns-in-Bad-clause-uncarried g c =
     let fits : IsBytes c.args.bytes.now = λ i. omega (arith, c.type_inv.bytes i) in
     let bytes = c.loop-rest.reader.bytes in
     let said = ap (λ (w : Which). measure_of w bytes) (sym c.loop-rest.invariant.which) ∙ sym c.in-Bad.ensures.value in
-    bad_came c.args.which _ _ _ _ c.args.bytes.now bytes c.loop-rest.at c.in-Bad.offset c.in-Bad.cause _ fits c.spoilt.ensures c.loop-rest.invariant.carrying said
+    bad_came c.args.reader.now.which _ _ _ _ c.args.bytes.now bytes c.loop-rest.at c.in-Bad.offset c.in-Bad.cause _ fits c.spoilt.ensures c.loop-rest.invariant.carrying said
 
 pub returns-then-len-eq-MAX_MESSAGE-clause-uncarried : goal.returns-then-len-eq-MAX_MESSAGE-clause-uncarried
 returns-then-len-eq-MAX_MESSAGE-clause-uncarried g c =
@@ -62,11 +62,11 @@ returns-then-len-eq-MAX_MESSAGE-clause-uncarried g c =
     let more = ap (λ (w : Which). measure_of w bytes) (sym c.loop-rest.invariant.which) ∙ sym c.in-More.ensures.value in
     let size : length bytes ≡ MAX_MESSAGE = search rules in
     let here : c.len-len.result ≡ MAX_MESSAGE = search rules in
-    limit_reached c.args.which _ _ _ _ c.args.bytes.now bytes c.loop-rest.at c.in-More.at_least c.len-len.result _ c.spoilt-then-len-eq-MAX_MESSAGE.ensures c.loop-rest.invariant.carrying more size here
+    limit_reached c.args.reader.now.which _ _ _ _ c.args.bytes.now bytes c.loop-rest.at c.in-More.at_least c.len-len.result _ c.spoilt-then-len-eq-MAX_MESSAGE.ensures c.loop-rest.invariant.carrying more size here
 
 pub returns-in-Err-send_on-clause-uncarried : goal.returns-in-Err-send_on-clause-uncarried
 returns-in-Err-send_on-clause-uncarried g c =
-    wire_failed c.args.which _ _ _ _ _ _ c.args.bytes.now (drop c.loop-rest.at c.args.bytes.now) c.loop-rest.reader.bytes c.loop-rest.at c.loop-rest.invariant.carrying refl c.in-Err-send_on.ensures.front c.in-Err-send_on.ensures.other_received
+    wire_failed c.args.reader.now.which _ _ _ _ _ _ c.args.bytes.now (drop c.loop-rest.at c.args.bytes.now) c.loop-rest.reader.bytes c.loop-rest.at c.loop-rest.invariant.carrying refl c.in-Err-send_on.ensures.front c.in-Err-send_on.ensures.other_received
 
 pub returns-in-Ok-eq0-clause-uncarried : goal.returns-in-Ok-eq0-clause-uncarried
 returns-in-Ok-eq0-clause-uncarried g c =
@@ -77,7 +77,7 @@ returns-in-Ok-eq0-clause-uncarried g c =
     let ended : IsAtEnd (g.W.Wire.ends c.read_on.new.wire (1 - c.args.from)).to_come = search rules in
     let other = end_back (g.W.Wire.ends c.send_on.new.wire) (g.W.Wire.ends c.read_on.new.wire) c.args.from c.requires.side c.in-Ok-eq0.ensures.other_end in
     let some = c.in-Ok-send_on.ensures.some in
-    cut_short c.args.which _ _ _ _ _ _ _ _ c.args.bytes.now bytes c.measure.new.self.bytes c.read_on.new.reader.bytes c.loop-rest.at c.in-Ok-send_on.next c.in-More.at_least c.len-len.result _ c.spoilt-in-Ok-eq0.ensures
+    cut_short c.args.reader.now.which _ _ _ _ _ _ _ _ c.args.bytes.now bytes c.measure.new.self.bytes c.read_on.new.reader.bytes c.loop-rest.at c.in-Ok-send_on.next c.in-More.at_least c.len-len.result _ c.spoilt-in-Ok-eq0.ensures
     c.loop-rest.invariant.carrying c.in-Ok-send_on.ensures.sends c.in-Ok-send_on.ensures.other_received some.1 some.0 (λ e. some.2 (c.len-len.ensures ∙ e)) c.in-Ok-eq0.ensures.gains none other ended more few c.len-len.ensures
 
 pub loop-rest-preserved : goal.loop-rest-preserved
@@ -108,5 +108,5 @@ loop-rest-preserved g c =
 pub returns-in-Err-read_on-clause-uncarried : goal.returns-in-Err-read_on-clause-uncarried
 returns-in-Err-read_on-clause-uncarried g c =
     let other = end_back (g.W.Wire.ends c.send_on.new.wire) (g.W.Wire.ends c.read_on.new.wire) c.args.from c.requires.side c.in-Err-read_on.ensures.other_end in
-    read_failed c.args.which _ _ _ _ _ _ _ _ c.args.bytes.now c.loop-rest.reader.bytes c.loop-rest.at c.in-Ok-send_on.next c.in-Err-read_on.why c.loop-rest.invariant.carrying c.in-Ok-send_on.ensures.sends
+    read_failed c.args.reader.now.which _ _ _ _ _ _ _ _ c.args.bytes.now c.loop-rest.reader.bytes c.loop-rest.at c.in-Ok-send_on.next c.in-Err-read_on.why c.loop-rest.invariant.carrying c.in-Ok-send_on.ensures.sends
     c.in-Ok-send_on.ensures.other_received c.in-Err-read_on.ensures.lost other c.in-Err-read_on.ensures.stops
