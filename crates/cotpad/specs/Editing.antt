@@ -4,7 +4,7 @@ use Rattle.context_diff.specs.Operations.{OpData}
 use Rattle.cot_site.specs.States.{State, with_last}
 use Rattle.cot_site.specs.Releases.{settled}
 use Rattle.cot_site.specs.Commands.{local_insert, local_delete, local_undo, local_redo}
-use Rattle.cot_site.specs.declared.local.Local.{Local}
+use Rattle.site_answers.specs.declared.local.Local.{Local}
 use Rattle.cotpad.specs.Commands.{EditData, Ins, Nl, Del, Undo, Redo}
 
 -- the state after an operation of the site's own and all releases that follow, or why there is no such operation. A release that

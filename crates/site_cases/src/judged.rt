@@ -6,9 +6,9 @@ ghost use Rattle.context_diff.specs.Ops.{data_of};
 use crate::edits::settle;
 use crate::made::op_of;
 use context_diff::Op;
-use cot_site::{Site, Verdict};
+use cot_site::Site;
 use op_name::{Member, Memory};
-use script_text::put_verdict;
+use site_answers::{Verdict, put_verdict};
 use std::alloc::Global;
 use std::test::Fail;
 

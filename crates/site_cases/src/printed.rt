@@ -1,9 +1,9 @@
 //! Report lines with numbers and members that no session of a row reaches.
 
 use crate::made::op_of;
-use cot_site::{Local, Verdict};
 use op_name::{Member, Memory, Name};
 use script_text::{Event, local_line, op_line, step_line, verdict_line};
+use site_answers::{Local, Verdict};
 use std::alloc::Global;
 use std::test::Fail;
 use ttf_form::{Cover, Form, Mark};
