@@ -203,7 +203,7 @@ fn show(alloc: Global, words: &str, text: &str) -> Result<bool, Fail> {
 
 #[test]
 fn histories_show_their_texts(rt: HostRuntime) -> Result<(), Fail> {
-    for (why, words, text) in HISTORIES {
+    for (why, words, text) in &HISTORIES {
         assert!(rt; show(rt.alloc(), words, text)?, "{why}");
     }
     Ok(())

@@ -114,7 +114,7 @@ fn gives(alloc: Global, letters: &str, written: &str, line: &str) -> Result<bool
 
 #[test]
 fn logs_are_loaded(rt: HostRuntime) -> Result<(), Memory> {
-    for (letters, written, line) in LOGS {
+    for (letters, written, line) in &LOGS {
         assert!(rt; gives(rt.alloc(), letters, written, line)?, "{letters}");
     }
     Ok(())
