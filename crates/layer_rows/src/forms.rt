@@ -80,7 +80,7 @@ fn over_insert(form: &Form, other: &Form) -> Option<Form> {
             added,
         ))),
         (Form::Cover(cover), Form::Ins(added)) if cover.place < MOST => Some(Form::Cover(
-            cover.over_ins_at(added.place),
+            cover.over_ins_at(added.place, added.extent()),
         )),
         _ => None,
     }

@@ -1,12 +1,11 @@
-//! Forms in a site's cache, and the places of forms in which a site executed.
+//! Forms in a site's cache.
 
-use crate::calls::is_executed;
 use crate::edits::take_in;
 use crate::made::{op_of, ops_of, set_of};
 use context_diff::Op;
 use cot_site::Site;
 use form_cache::Key;
-use op_name::Memory;
+use op_name::{Member, Memory};
 use std::alloc::Global;
 use std::test::Fail;
 use ttf_form::Form;
@@ -79,10 +78,15 @@ fn found(alloc: Global, ops: &[Op], key: &Key) -> Result<Option<Form>, Memory> {
     cached(&mut site, ops, key)
 }
 
-/// The key of an operation at what it knows.
+/// The key of an insert or a delete at what it knows.
 fn key_of(op: &Op) -> Result<Key, Memory> {
+    let name = match op {
+        Op::Insert { name, .. } => *name,
+        Op::Delete { name, .. } => *name,
+        Op::Undo { target, .. } => *target,
+    };
     Ok(Key {
-        member: op.member(),
+        member: Member::Original(name),
         context: op.context().try_clone()?,
     })
 }
@@ -100,19 +104,5 @@ fn forms_that_deliveries_computed_are_in_the_cache(rt: HostRuntime) -> Result<()
     for row in &ROWS {
         assert!(rt; answers(rt.alloc(), row)?, "{}", row.what);
     }
-    Ok(())
-}
-
-fn executes_all(site: &mut Site, ops: &[Op], places: &[u32]) -> Result<bool, Memory> {
-    take_all(site, ops)?;
-    Ok(is_executed(site, places))
-}
-
-#[test]
-fn an_insert_is_executed_after_what_stands_in_front_of_it(rt: HostRuntime) -> Result<(), Fail> {
-    let ops = ops_of(rt.alloc(), ALL)?;
-    let mut site = Site::new(rt.alloc(), 0)?;
-    let right = executes_all(&mut site, ops.as_slice(), &[0, 0, 0, 3])?;
-    assert!(rt; right);
     Ok(())
 }

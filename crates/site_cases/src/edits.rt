@@ -3,7 +3,6 @@
 use context_diff::Op;
 use cot_site::Site;
 use op_name::{Memory, Name};
-use std::alloc::Global;
 
 /// A local command.
 #[derive(Clone, Copy)]
@@ -48,11 +47,4 @@ pub(crate) fn take_in(site: &mut Site, op: &Op) -> Result<(), Memory> {
         site.deliver(op)?;
     }
     settle(site)
-}
-
-/// Whether the site shows the text.
-pub(crate) fn shows(alloc: Global, site: &Site, text: &str) -> Result<bool, Memory> {
-    let mut out = Vec::new(alloc);
-    site.text(&mut out)?;
-    Ok(out.as_slice() == text.as_bytes())
 }

@@ -28,48 +28,7 @@ struct Drawn {
     texts: &'static [&'static str],
 }
 
-const CASES: [Drawn; 6] = [
-    Drawn {
-        why: "no event",
-        start: 0,
-        events: 0,
-        window: 1,
-        syncs: true,
-        counts: [0, 0, 0, 0],
-        texts: &["", "", "", ""],
-    },
-    Drawn {
-        why: "one event",
-        start: 0,
-        events: 1,
-        window: 1,
-        syncs: true,
-        counts: [1, 0, 0, 0],
-        texts: &["e", "e", "e", "e"],
-    },
-    Drawn {
-        why: "a delivery after each round",
-        start: 1,
-        events: 24,
-        window: 4,
-        syncs: true,
-        counts: [14, 7, 3, 0],
-        texts: &["ehzumtx", "ehzumtx", "ehzumtx", "ehzumtx"],
-    },
-    Drawn {
-        why: "a last delivery within a window",
-        start: u64::MAX,
-        events: 24,
-        window: 7,
-        syncs: true,
-        counts: [18, 3, 3, 0],
-        texts: &[
-            "sgyakjovphpno",
-            "sgyakjovphpno",
-            "sgyakjovphpno",
-            "sgyakjovphpno",
-        ],
-    },
+const CASES: [Drawn; 2] = [
     Drawn {
         why: "a redo",
         start: 1,

@@ -1,10 +1,8 @@
-//! The texts of small histories, by their definition and as a site shows them: worked sessions, where sites worked at one
-//! time in a second order too, and closed contexts that no site which shows its text would have had.
+//! The texts of small histories, by their definition: worked sessions, where sites worked at one time in a second order too,
+//! and closed contexts that no site which shows its text would have had.
 
-use crate::edits::shows;
 use crate::made::ops_of;
 use context_diff::Op;
-use cot_site::{Site, Verdict};
 use fixed_replay::{plain_characters, plain_text};
 use op_name::Memory;
 use std::alloc::Global;
@@ -197,43 +195,15 @@ fn has_plain_text(alloc: Global, ops: &[Op], text: &str) -> Result<bool, Memory>
     Ok(plain.as_str() == text)
 }
 
-fn integrates(site: &mut Site, op: &Op) -> Result<bool, Memory> {
-    if op.fault().is_some() {
-        return Ok(false);
-    }
-    match site.deliver(op)? {
-        Verdict::Integrated => Ok(true),
-        _ => Ok(false),
-    }
-}
-
-/// Whether the site integrates each operation at its delivery, and shows the text then.
-fn shows_after(alloc: Global, site: &mut Site, ops: &[Op], text: &str) -> Result<bool, Memory> {
-    for op in ops {
-        if !integrates(site, op)? {
-            return Ok(false);
-        }
-    }
-    shows(alloc, site, text)
-}
-
-fn shows_at_a_new_site(alloc: Global, ops: &[Op], text: &str) -> Result<bool, Memory> {
-    let mut site = Site::new(alloc, 63)?;
-    shows_after(alloc, &mut site, ops, text)
-}
-
-/// Whether the operations that are spelled so show this text, by its definition and at a new site.
+/// Whether the operations that are spelled so show this text.
 fn show(alloc: Global, words: &str, text: &str) -> Result<bool, Fail> {
     let ops = ops_of(alloc, words)?;
-    Ok(
-        has_plain_text(alloc, ops.as_slice(), text)?
-            && shows_at_a_new_site(alloc, ops.as_slice(), text)?,
-    )
+    Ok(has_plain_text(alloc, ops.as_slice(), text)?)
 }
 
 #[test]
 fn histories_show_their_texts(rt: HostRuntime) -> Result<(), Fail> {
-    for (why, words, text) in HISTORIES {
+    for (why, words, text) in &HISTORIES {
         assert!(rt; show(rt.alloc(), words, text)?, "{why}");
     }
     Ok(())

@@ -1,11 +1,14 @@
 //! What a site says of an operation before it is delivered, and what the delivery answers then.
 
+ghost use Rattle.context_diff.specs.Operations.{IsWellFormed};
+ghost use Rattle.context_diff.specs.Ops.{data_of};
+
 use crate::edits::settle;
 use crate::made::op_of;
 use context_diff::Op;
-use cot_site::{Site, Verdict};
+use cot_site::Site;
 use op_name::{Member, Memory};
-use script_text::put_verdict;
+use site_answers::{Verdict, put_verdict};
 use std::alloc::Global;
 use std::test::Fail;
 
@@ -25,10 +28,9 @@ const DELIVERED: [(&str, &str); 11] = [
 ];
 
 /// The verdict that is given before the delivery, and that of the delivery; then what is ready is released.
-fn judged(site: &mut Site, op: &Op) -> Result<(Verdict, Verdict), Fail> {
-    if op.fault().is_some() {
-        return Err(Fail::new("the operation isn't well formed"));
-    }
+fn judged(site: &mut Site, op: &Op) -> Result<(Verdict, Verdict), Memory>
+    requires { IsWellFormed (data_of op.now) }
+{
     let before = site.check(op);
     let given = site.deliver(op)?;
     settle(site)?;
@@ -44,8 +46,11 @@ fn is_told(alloc: Global, member: Member, verdict: Verdict, wanted: &str) -> Res
 /// Whether both verdicts on the operation are the one that is wanted.
 fn answers(alloc: Global, site: &mut Site, words: &str, wanted: &str) -> Result<bool, Fail> {
     let op = op_of(alloc, words)?;
-    let (before, given) = judged(site, &op)?;
+    if op.fault().is_some() {
+        return Err(Fail::new("the operation isn't well formed"));
+    }
     let member = op.member();
+    let (before, given) = judged(site, &op)?;
     Ok(is_told(alloc, member, before, wanted)? && is_told(alloc, member, given, wanted)?)
 }
 

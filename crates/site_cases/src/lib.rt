@@ -25,15 +25,11 @@ mod judged;
 #[cfg(test)]
 mod laws;
 #[cfg(test)]
-mod lines;
-#[cfg(test)]
 mod logs;
 #[cfg(test)]
 mod made;
 #[cfg(test)]
 mod messages;
-#[cfg(test)]
-mod pieces;
 #[cfg(test)]
 mod printed;
 #[cfg(test)]

@@ -1,9 +1,6 @@
-//! Logs that are loaded whole, and read in pieces cut anywhere.
-
-ghost use Rattle.std.specs.Prelude.{◌<◌};
+//! Logs that are loaded whole, and listed.
 
 use cot_site::Site;
-use log_reader::LogReader;
 use op_name::Memory;
 use session_log::{LogBad, MAX_LOG, Placed, load, read_log, refused_log_line, write_log};
 use std::alloc::Global;
@@ -97,7 +94,8 @@ fn told(alloc: Global, answer: &Result<Site, LogBad>) -> Result<Vec<u8>, Memory>
     Ok(out)
 }
 
-fn told_whole(alloc: Global, bytes: &[u8]) -> Result<Vec<u8>, Memory> {
+/// The same of the site that the bytes make.
+fn told_of(alloc: Global, bytes: &[u8]) -> Result<Vec<u8>, Memory> {
     if bytes.len() > MAX_LOG {
         return Err(Memory);
     }
@@ -105,53 +103,18 @@ fn told_whole(alloc: Global, bytes: &[u8]) -> Result<Vec<u8>, Memory> {
     told(alloc, &answer)
 }
 
-/// Feeds the bytes in pieces of this length.
-fn feed(reader: &mut LogReader, bytes: &[u8], len: usize) -> Result<(), Memory>
-    requires { 0 < len }
-{
-    for piece in bytes.chunks(len) {
-        if reader.fed() as usize + piece.len() > MAX_LOG {
-            return Err(Memory);
-        }
-        reader.feed(piece)?;
-    }
-    Ok(())
-}
-
-fn told_cut(alloc: Global, bytes: &[u8], len: usize) -> Result<Vec<u8>, Memory>
-    requires { 0 < len }
-{
-    let mut reader = LogReader::new(alloc, 3)?;
-    feed(&mut reader, bytes, len)?;
-    let answer = reader.finish();
-    told(alloc, &answer)
-}
-
-/// Whether the bytes give this answer whole, byte by byte, in pieces of three bytes, and in one piece.
-fn is_so(alloc: Global, bytes: &[u8], wanted: &[u8]) -> Result<bool, Memory> {
-    let whole = told_whole(alloc, bytes)?;
-    let one = told_cut(alloc, bytes, 1)?;
-    let three = told_cut(alloc, bytes, 3)?;
-    let all = told_cut(alloc, bytes, 1000)?;
-    Ok(
-        whole.as_slice() == wanted
-            && one.as_slice() == wanted
-            && three.as_slice() == wanted
-            && all.as_slice() == wanted,
-    )
-}
-
 /// Whether the log gives the other log, or else the line.
 fn gives(alloc: Global, letters: &str, written: &str, line: &str) -> Result<bool, Memory> {
     let bytes = log_of(alloc, letters)?;
     let mut wanted = log_of(alloc, written)?;
     wanted.extend_from_slice(line.as_bytes())?;
-    is_so(alloc, bytes.as_slice(), wanted.as_slice())
+    let told = told_of(alloc, bytes.as_slice())?;
+    Ok(told.as_slice() == wanted.as_slice())
 }
 
 #[test]
-fn logs_are_read_whole_and_in_pieces(rt: HostRuntime) -> Result<(), Memory> {
-    for (letters, written, line) in LOGS {
+fn logs_are_loaded(rt: HostRuntime) -> Result<(), Memory> {
+    for (letters, written, line) in &LOGS {
         assert!(rt; gives(rt.alloc(), letters, written, line)?, "{letters}");
     }
     Ok(())

@@ -1,12 +1,8 @@
-//! The messages of an exchange: how long they are, as far as their bytes tell, and what two sites make of them.
+//! The messages of an exchange: how long they are, as far as their bytes tell, and one that is cut.
 
-use crate::edits::shows;
 use cot_site::Site;
 use op_name::Memory;
-use peer_exchange::{
-    MAX_MESSAGE, Measure, MessageReader, Peer, PeerCause, Which, answer, close, finish, measure,
-    offer,
-};
+use peer_exchange::{MAX_MESSAGE, Measure, MessageReader, Peer, PeerCause, Which, close, measure};
 use std::alloc::Global;
 use wire_codec::Cause;
 
@@ -172,82 +168,5 @@ fn a_message_that_is_cut_changes_nothing(rt: HostRuntime) -> Result<(), Memory> 
         && is_cut(alloc, &mut joiner, &SECOND[..8], &mut third)
         && takes_one(alloc, &mut joiner, &mut third);
     assert!(rt; right);
-    Ok(())
-}
-
-/// Types these characters, each in front of the others; answers whether all are typed.
-pub(crate) fn types(site: &mut Site, characters: &[char]) -> bool {
-    for ch in characters {
-        if site.insert(0, *ch).is_err() {
-            return false;
-        }
-    }
-    true
-}
-
-/// The numbers of frames of an exchange: sent by the server, taken in by the joiner, sent by the joiner, taken in by the
-/// server. The three messages are written into lists that are empty.
-fn exchanged(
-    alloc: Global,
-    server: &mut Site,
-    joiner: &mut Site,
-    first: &mut Vec<u8>,
-    second: &mut Vec<u8>,
-    third: &mut Vec<u8>,
-) -> Option<[u32; 4]> {
-    offer(joiner, first).ok()?;
-    if first.len() > MAX_MESSAGE {
-        return None;
-    }
-    let sent = answer(alloc, server, first.as_slice(), second).ok()?;
-    if second.len() > MAX_MESSAGE {
-        return None;
-    }
-    let (taken, back) = close(alloc, joiner, second.as_slice(), third).ok()?;
-    if third.len() > MAX_MESSAGE {
-        return None;
-    }
-    let closed = finish(alloc, server, third.as_slice()).ok()?;
-    Some([sent, taken, back, closed])
-}
-
-fn are(counts: Option<[u32; 4]>, wanted: &[u32; 4]) -> bool {
-    match counts {
-        Some(found) => {
-            found[0] == wanted[0]
-                && found[1] == wanted[1]
-                && found[2] == wanted[2]
-                && found[3] == wanted[3]
-        }
-        None => false,
-    }
-}
-
-/// Whether an exchange sends and takes in so many frames.
-fn exchange(alloc: Global, server: &mut Site, joiner: &mut Site, wanted: &[u32; 4]) -> bool {
-    let mut first = Vec::new(alloc);
-    let mut second = Vec::new(alloc);
-    let mut third = Vec::new(alloc);
-    let counts = exchanged(alloc, server, joiner, &mut first, &mut second, &mut third);
-    are(counts, wanted)
-}
-
-/// Whether a joiner that has done nothing and the server meet by one exchange.
-fn meets(alloc: Global, server: &mut Site) -> Result<bool, Memory> {
-    let mut joiner = Site::new(alloc, 1)?;
-    let met = types(server, &['b', 'a'])
-        && types(&mut joiner, &['z', 'y', 'x'])
-        && exchange(alloc, server, &mut joiner, &[2, 2, 3, 3])
-        && exchange(alloc, server, &mut joiner, &[0, 0, 0, 0])
-        && shows(alloc, server, "abxyz")?
-        && shows(alloc, &joiner, "abxyz")?;
-    Ok(met)
-}
-
-#[test]
-fn two_sites_meet(rt: HostRuntime) -> Result<(), Memory> {
-    let mut server = Site::new(rt.alloc(), 0)?;
-    let met = meets(rt.alloc(), &mut server)?;
-    assert!(rt; met);
     Ok(())
 }

@@ -2,7 +2,8 @@
 
 ghost use Rattle.std.specs.Prelude.{◌≤◌, length};
 
-use op_name::{Member, Memory, Name};
+use context_diff::Op;
+use op_name::{Memory, Name};
 use std::alloc::Global;
 use wire_codec::{Cause, FrameStream, StreamBad, encode};
 
@@ -67,7 +68,9 @@ fn a_stream_cut_at_each_place(rt: HostRuntime) -> Result<(), Memory> {
 #[derive(Clone, Copy)]
 enum Answer {
     Nothing,
-    Frame(Member),
+    /// An insert of this name.
+    Insert(Name),
+    Other,
     Bad(Cause, u64),
     Memory,
 }
@@ -75,7 +78,8 @@ enum Answer {
 fn given(stream: &mut FrameStream) -> Answer {
     match stream.take() {
         Ok(None) => Answer::Nothing,
-        Ok(Some(op)) => Answer::Frame(op.member()),
+        Ok(Some(Op::Insert { name, .. })) => Answer::Insert(name),
+        Ok(Some(_)) => Answer::Other,
         Err(StreamBad::Bad { cause, offset }) => Answer::Bad(cause, offset),
         Err(StreamBad::Memory) => Answer::Memory,
     }
@@ -91,7 +95,7 @@ fn is_nothing(answer: Answer) -> bool {
 /// Whether the stream gave insert 0.1.
 fn is_first(answer: Answer) -> bool {
     match answer {
-        Answer::Frame(member) => member == Member::Original(Name { site: 0, number: 1 }),
+        Answer::Insert(name) => name.site == 0 && name.number == 1,
         _ => false,
     }
 }

@@ -1,11 +1,11 @@
-//! The same exchange over two kinds of wire.
+//! An exchange of two sites over sockets of this process.
 
 ghost use Rattle.outside_io.specs.Ends.{IsUnlinked};
 
-use crate::messages::types;
+use crate::edits::{Edit, does_all};
 use cot_site::Site;
 use op_name::Memory;
-use outside_io::{TcpWire, Wire, WireMem};
+use outside_io::{TcpWire, Wire};
 use site_node::loop_run;
 use std::alloc::Global;
 
@@ -26,7 +26,7 @@ fn joins<W: Wire>(alloc: Global, server: &mut Site, wire: &mut W) -> Result<bool
     requires { IsUnlinked (W.ends wire.old) }
 {
     let mut joiner = Site::new(alloc, 1)?;
-    Ok(types(&mut joiner, &['p']) && meet(alloc, server, &mut joiner, wire))
+    Ok(does_all(&mut joiner, &[Edit::Insert(0, 'p')]) && meet(alloc, server, &mut joiner, wire))
 }
 
 /// The same of a server that has an insert too.
@@ -34,7 +34,7 @@ fn exchange_over<W: Wire>(alloc: Global, wire: &mut W) -> Result<bool, Memory>
     requires { IsUnlinked (W.ends wire.old) }
 {
     let mut server = Site::new(alloc, 0)?;
-    if types(&mut server, &['a']) {
+    if does_all(&mut server, &[Edit::Insert(0, 'a')]) {
         joins(alloc, &mut server, wire)
     } else {
         Ok(false)
@@ -45,15 +45,6 @@ fn exchange_over<W: Wire>(alloc: Global, wire: &mut W) -> Result<bool, Memory>
 fn two_sites_exchange_over_sockets(rt: HostRuntime) -> Result<(), Memory> {
     let mut wire = TcpWire::new(&rt);
     let met = exchange_over(rt.alloc(), &mut wire)?;
-    assert!(rt; met);
-    Ok(())
-}
-
-#[test]
-fn two_sites_exchange_in_memory(rt: HostRuntime) -> Result<(), Memory> {
-    let alloc = rt.alloc();
-    let mut wire = WireMem::new(alloc, Vec::new(alloc), Vec::new(alloc));
-    let met = exchange_over(alloc, &mut wire)?;
     assert!(rt; met);
     Ok(())
 }
