@@ -9,9 +9,9 @@ use Rattle.std.proofs.Math.Seq.{take-length}
 use Rattle.op_name.specs.declared.member.Member.{Member}
 use Rattle.context_diff.specs.Operations.{OpData}
 use Rattle.context_diff.specs.Ops.{op_eq}
-use Rattle.cot_site.specs.declared.release.Release.{Release}
-use Rattle.cot_site.specs.declared.verdict.Verdict.{Verdict}
-use Rattle.cot_site.specs.declared.verdict.Verdict.TheVariants.{Waits, Integrated}
+use Rattle.site_answers.specs.declared.release.Release.{Release}
+use Rattle.site_answers.specs.declared.verdict.Verdict.{Verdict}
+use Rattle.site_answers.specs.declared.verdict.Verdict.TheVariants.{Waits, Integrated}
 use Rattle.cot_site.specs.States.{State, Released, after_verdict, delivered, first_ready, judged, released, with_held, with_last, without_waiting}
 use Rattle.cot_site.specs.Sites.{SiteData, AreKeptOrGone, IsAsBefore}
 use Rattle.cot_site.specs.Code.Releasing.{IsReleasedInto}

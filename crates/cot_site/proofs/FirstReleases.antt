@@ -8,7 +8,7 @@ use Rattle.std.proofs.lemmas.Option.{none-some}
 use Rattle.context_diff.specs.Operations.{OpData, member_of, context_of, IsWellFormed}
 use Rattle.context_diff.specs.Histories.{is_known, IsValid}
 use Rattle.context_diff.proofs.CallerLemmas.{complete}
-use Rattle.cot_site.specs.declared.verdict.Verdict.{Verdict}
+use Rattle.site_answers.specs.declared.verdict.Verdict.{Verdict}
 use Rattle.cot_site.specs.Verdicts.{lacked}
 use Rattle.cot_site.specs.States.{State, Released, is_ready, first_ready, judged, delivered, after_verdict, without_waiting, delivered_again, released_at, released, IsSettled, IsReady, IsFirstRelease, NoneIsReady}
 use Rattle.cot_site.specs.Releases.{IsSound}

@@ -16,8 +16,8 @@ use Rattle.context_diff.specs.Replays.{Insertion, Cell, insertions_in, is_earlie
 use Rattle.context_vector.proofs.CallerLemmas.{sum_at_most, entry_at_most, rank_raised}
 use Rattle.context_diff.proofs.CallerLemmas.{IsComplete, complete, next_member, context_push, generation_is, group_facts, contains_here, contains_later, holder, known_member, all_is_context, has_number, has_generation, by_pushes}
 use Rattle.fixed_replay.proofs.CallerLemmas.{gap_of_whole}
-use Rattle.cot_site.specs.declared.local.Local.{Local}
-use Rattle.cot_site.specs.declared.local.Local.TheVariants.{PlaceOut, Unknown, NotInForce, InForce, GenerationFull, NumberFull, ContextFull}
+use Rattle.site_answers.specs.declared.local.Local.{Local}
+use Rattle.site_answers.specs.declared.local.Local.TheVariants.{PlaceOut, Unknown, NotInForce, InForce, GenerationFull, NumberFull, ContextFull}
 use Rattle.cot_site.specs.States.{State}
 use Rattle.cot_site.specs.Views.{shown_places_of}
 use Rattle.op_name.specs.Lists.{places_from}

@@ -11,8 +11,8 @@ use Rattle.context_diff.specs.Histories.{generation_in, context_of_all}
 use Rattle.context_diff.specs.Replays.{characters_of}
 use Rattle.context_diff.specs.declared.op.Op.{Op}
 use Rattle.context_diff.specs.Ops.{data_of}
-use Rattle.cot_site.specs.declared.local.Local.{Local}
-use Rattle.cot_site.specs.declared.local.Local.TheVariants.{PlaceOut, NumberFull, ContextFull, Memory}
+use Rattle.site_answers.specs.declared.local.Local.{Local}
+use Rattle.site_answers.specs.declared.local.Local.TheVariants.{PlaceOut, NumberFull, ContextFull, Memory}
 use Rattle.cot_site.specs.States.{State}
 use Rattle.cot_site.specs.Commands.{place_of_shown, place_behind, count_made, next_name, in_context, numbered, turned, local_insert, local_delete, IsAnswer}
 use Rattle.cot_site.specs.Code.Making.{IsContextAnswer}

@@ -8,7 +8,7 @@ use Rattle.op_name.specs.declared.member.Member.{Member}
 use Rattle.context_diff.specs.Operations.{OpData, member_of, context_of, IsWellFormed}
 use Rattle.context_diff.specs.Histories.{is_known, IsValid}
 use Rattle.context_diff.proofs.CallerLemmas.{complete, contains_cases, contains_here, contains_later, contains_none}
-use Rattle.cot_site.specs.declared.verdict.Verdict.TheVariants.{Waits}
+use Rattle.site_answers.specs.declared.verdict.Verdict.TheVariants.{Waits}
 use Rattle.cot_site.specs.Verdicts.{lacked, verdict_of, IsVerdict}
 use Rattle.cot_site.specs.States.{State, is_ready, first_ready, without_waiting, Released, delivered_again, released_at, released, IsSettled}
 use Rattle.cot_site.proofs.Lacking.{lacked_some}

@@ -13,9 +13,9 @@ use Rattle.context_diff.specs.Histories.{IsNext}
 use Rattle.context_diff.specs.Ops.{op_eq}
 use Rattle.context_diff.proofs.CallerLemmas.{contains_cases, contains_none, valid_push}
 use Rattle.ttf_form.specs.declared.form.Form.{Form}
-use Rattle.cot_site.specs.declared.release.Release.{Release}
-use Rattle.cot_site.specs.declared.verdict.Verdict.{Verdict}
-use Rattle.cot_site.specs.declared.verdict.Verdict.TheVariants.{Repeat, Forged, Waits, NotClosed, PlaceOut, Integrated}
+use Rattle.site_answers.specs.declared.release.Release.{Release}
+use Rattle.site_answers.specs.declared.verdict.Verdict.{Verdict}
+use Rattle.site_answers.specs.declared.verdict.Verdict.TheVariants.{Repeat, Forged, Waits, NotClosed, PlaceOut, Integrated}
 use Rattle.cot_site.specs.States.{State, Released, held, with_last, with_held, first_ready, released, released_at, after_verdict, without_waiting, delivered_again, delivered, judged, IsSettled}
 use Rattle.cot_site.specs.Sites.{AllFormed, KeepsForms}
 use Rattle.cot_site.specs.Releases.{IsSound, and_more, releases, all_releases, state_after, settled, release_of, IsLater, IsPartlySettled}

@@ -13,8 +13,8 @@ use Rattle.context_diff.specs.Operations.{OpData, inserting, deleting, undoing, 
 use Rattle.context_diff.specs.Histories.{is_known, generation_in, context_of_all, inserts_in, LacksNothing, HasPlace, IsNext, IsValid}
 use Rattle.context_diff.proofs.CallerLemmas.{complete, holder, known_member, generation_is, has_group, has_generation, op_eq_decides, original_name}
 use Rattle.context_diff.specs.Ops.{op_eq}
-use Rattle.cot_site.specs.declared.verdict.Verdict.{Verdict}
-use Rattle.cot_site.specs.declared.verdict.Verdict.TheVariants.{Repeat, Forged, Waits, NotClosed, PlaceOut, Integrated}
+use Rattle.site_answers.specs.declared.verdict.Verdict.{Verdict}
+use Rattle.site_answers.specs.declared.verdict.Verdict.TheVariants.{Repeat, Forged, Waits, NotClosed, PlaceOut, Integrated}
 use Rattle.cot_site.specs.Verdicts.{is_repeat, is_forged, lacked, first_uncovered, placed_verdict, ready_verdict, waiting_verdict, verdict_of, IsRepeat, HasOther, IsNew, place_in, IsVerdict}
 use Rattle.cot_site.proofs.Lacking.{nothing_lacked, lacked_none, first_lacked_is, lacked_some}
 use Rattle.cot_site.proofs.Covers.{SiteAnswer, uncovered, none_closed, some_open}

@@ -17,8 +17,8 @@ use Rattle.context_diff.specs.declared.op.Op.{Op}
 use Rattle.context_diff.specs.Ops.{data_of, op_eq}
 use Rattle.context_diff.proofs.CallerLemmas.{complete, op_eq_decides, contains_cases, contains_here, contains_later, contains_none}
 use Rattle.causal_gate.specs.Waiting.{IsReady, IsFirstReady, NoneReady, NamesAgree}
-use Rattle.cot_site.specs.declared.verdict.Verdict.{Verdict}
-use Rattle.cot_site.specs.declared.verdict.Verdict.TheVariants.{Repeat, Forged, Waits, NotClosed, PlaceOut, Integrated}
+use Rattle.site_answers.specs.declared.verdict.Verdict.{Verdict}
+use Rattle.site_answers.specs.declared.verdict.Verdict.TheVariants.{Repeat, Forged, Waits, NotClosed, PlaceOut, Integrated}
 use Rattle.cot_site.specs.Verdicts.{is_repeat, is_other, lacked, verdict_of, ready_verdict, IsVerdict}
 use Rattle.cot_site.specs.States.{State, held, after_verdict, is_ready, first_ready, without_waiting, delivered_again, released_at, released}
 use Rattle.cot_site.specs.Sites.{AllFormed}

@@ -3,9 +3,9 @@ use Rattle.std.proofs.Common.{◌≡◌, List, [], ◌∷◌, Result, Ok, Err, r
 use Rattle.op_name.specs.declared.member.Member.TheVariants.{Original, Group}
 use Rattle.context_diff.specs.Operations.{OpData, inserting, deleting, undoing}
 use Rattle.context_diff.proofs.CallerLemmas.{name, after, after_undos}
-use Rattle.cot_site.specs.declared.verdict.Verdict.TheVariants.{Repeat, Forged, Waits, NotClosed, PlaceOut, Integrated}
-use Rattle.cot_site.specs.declared.local.Local.{Local}
-use Rattle.cot_site.specs.declared.local.Local.TheVariants.{Unknown, InForce}
+use Rattle.site_answers.specs.declared.verdict.Verdict.TheVariants.{Repeat, Forged, Waits, NotClosed, PlaceOut, Integrated}
+use Rattle.site_answers.specs.declared.local.Local.{Local}
+use Rattle.site_answers.specs.declared.local.Local.TheVariants.{Unknown, InForce}
 use Rattle.cot_site.specs.Verdicts.{verdict_of}
 use Rattle.cot_site.specs.States.{State}
 use Rattle.cot_site.specs.Commands.{local_undo, local_redo}

@@ -11,8 +11,8 @@ use Rattle.context_diff.specs.Histories.{is_known, generation_in, context_of_all
 use Rattle.op_name.specs.Members.{is_even}
 use Rattle.context_diff.specs.declared.op.Op.{Op}
 use Rattle.context_diff.specs.Ops.{data_of}
-use Rattle.cot_site.specs.declared.local.Local.{Local}
-use Rattle.cot_site.specs.declared.local.Local.TheVariants.{PlaceOut, Unknown, NotInForce, InForce, GenerationFull, NumberFull, ContextFull, Memory}
+use Rattle.site_answers.specs.declared.local.Local.{Local}
+use Rattle.site_answers.specs.declared.local.Local.TheVariants.{PlaceOut, Unknown, NotInForce, InForce, GenerationFull, NumberFull, ContextFull, Memory}
 use Rattle.visible_view.specs.View.{places_after}
 use Rattle.cot_site.specs.States.{State}
 use Rattle.cot_site.specs.Views.{View, shown_places_of, history_view}

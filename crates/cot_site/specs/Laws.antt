@@ -6,8 +6,8 @@ use Rattle.op_name.specs.declared.name.TheConstants.{SITES}
 use Rattle.op_name.specs.NameData.{NameData}
 use Rattle.context_diff.specs.Operations.{OpData, member_of, IsWellFormed}
 use Rattle.context_diff.specs.Histories.{IsNext, IsValid}
-use Rattle.cot_site.specs.declared.verdict.Verdict.{Verdict}
-use Rattle.cot_site.specs.declared.verdict.Verdict.TheVariants.{Waits, Integrated}
+use Rattle.site_answers.specs.declared.verdict.Verdict.{Verdict}
+use Rattle.site_answers.specs.declared.verdict.Verdict.TheVariants.{Waits, Integrated}
 use Rattle.cot_site.specs.Verdicts.{verdict_of, IsVerdict, HasOther}
 use Rattle.cot_site.specs.States.{State, Released, released, IsSettled, IsFirstRelease, NoneIsReady}
 use Rattle.context_diff.specs.Replays.{shown, text_of}

@@ -3,7 +3,7 @@ use Rattle.std.specs.Prelude.{◌≡◌, ℕ, zero, suc, ◌<◌, List, [], ◌�
 use Rattle.op_name.specs.declared.name.TheConstants.{SITES}
 use Rattle.context_diff.specs.Operations.{member_of}
 use Rattle.context_diff.specs.Histories.{IsValid}
-use Rattle.cot_site.specs.declared.release.Release.{Release}
+use Rattle.site_answers.specs.declared.release.Release.{Release}
 use Rattle.cot_site.specs.States.{State, Released, released, IsSettled}
 use Rattle.cot_site.specs.Sites.{AllFormed}
 

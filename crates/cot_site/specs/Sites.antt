@@ -15,7 +15,7 @@ use Rattle.transform_rec.specs.Histories.{family_in}
 use Rattle.undo_group.specs.BaseForms.{base_form}
 use Rattle.context_diff.specs.declared.op.Op.{Op}
 use Rattle.context_diff.specs.Ops.{data_of}
-use Rattle.cot_site.specs.declared.verdict.Verdict.{Verdict}
+use Rattle.site_answers.specs.declared.verdict.Verdict.{Verdict}
 use Rattle.cot_site.specs.States.{State, Released}
 
 -- each operation's form is a derived form of it at the members before it (COT 2009: an operation is executed in its form at

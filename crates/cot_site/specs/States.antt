@@ -5,8 +5,8 @@ use Rattle.std.specs.Option.{is_none}
 use Rattle.context_diff.specs.Operations.{OpData, member_of, context_of}
 use Rattle.context_diff.specs.Histories.{is_known, LacksNothing}
 use Rattle.context_diff.specs.Ops.{op_eq}
-use Rattle.cot_site.specs.declared.verdict.Verdict.{Verdict}
-use Rattle.cot_site.specs.declared.verdict.Verdict.TheVariants.{Repeat, Forged, Waits, NotClosed, PlaceOut, Integrated}
+use Rattle.site_answers.specs.declared.verdict.Verdict.{Verdict}
+use Rattle.site_answers.specs.declared.verdict.Verdict.TheVariants.{Repeat, Forged, Waits, NotClosed, PlaceOut, Integrated}
 use Rattle.cot_site.specs.Verdicts.{verdict_of, lacked, IsVerdict}
 
 -- State: a site's number, the operations that it integrated in their order, and those that wait in the order of arrival

@@ -14,8 +14,8 @@ use Rattle.context_vector.specs.Shortfalls.{first_short}
 use Rattle.context_diff.specs.Ops.{op_eq}
 use Rattle.context_diff.specs.Bases.{original_context}
 use Rattle.context_diff.specs.Books.{IsFirstOpenSite}
-use Rattle.cot_site.specs.declared.verdict.Verdict.{Verdict}
-use Rattle.cot_site.specs.declared.verdict.Verdict.TheVariants.{Repeat, Forged, Waits, NotClosed, PlaceOut, Integrated}
+use Rattle.site_answers.specs.declared.verdict.Verdict.{Verdict}
+use Rattle.site_answers.specs.declared.verdict.Verdict.TheVariants.{Repeat, Forged, Waits, NotClosed, PlaceOut, Integrated}
 
 -- ---- what is asked
 

@@ -8,11 +8,11 @@ ghost use Rattle.context_diff.specs.Histories.{LacksNothing, inserts_in};
 ghost use Rattle.context_diff.specs.Ops.{data_of, op_eq};
 ghost use Rattle.cot_site.specs.Verdicts.{is_repeat, is_other, is_forged, lacked, first_uncovered, placed_verdict, ready_verdict, verdict_of};
 
-use crate::verdict::Verdict;
 use causal_gate::Pool;
 use context_diff::{Book, Op, closed};
 use context_vector::Vector;
 use op_name::{Member, Name};
+use site_answers::Verdict;
 use undo_group::generation;
 
 /// The verdict on a well-formed operation over a book and a pool: the first case that holds.

@@ -7,11 +7,8 @@
 
 mod judging;
 mod laws;
-mod local;
-mod release;
 mod replica;
 mod site;
-mod verdict;
 
 pub use laws::{
     each_release_is_the_first, executed_forms_show_the_history, form_lists_are_there,
@@ -20,8 +17,6 @@ pub use laws::{
     releases_are_few, releases_keep_histories, releases_never_wait, releases_settle,
     settled_states_have_none_ready, settled_states_stay, verdicts_are_exact,
 };
-pub use local::Local;
-pub use release::Release;
 pub use replica::CACHED_FORMS;
 pub use site::Site;
-pub use verdict::Verdict;
+pub use site_answers::{Local, Release, Verdict};

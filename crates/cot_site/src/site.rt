@@ -11,12 +11,12 @@ ghost use Rattle.cot_site.specs.Sites.{AreExecuted, AreCached, AllFormed, IsForm
 
 use crate::judging::verdict_on;
 use crate::replica::{CACHED_FORMS, Replica};
-use crate::verdict::Verdict;
 use causal_gate::Pool;
 use context_diff::{Book, Op};
 use context_vector::Vector;
 use form_cache::Key;
 use op_name::{Memory, Name, SITES};
+use site_answers::Verdict;
 use std::alloc::Global;
 use std::marker::Model;
 use ttf_form::Form;

@@ -8,8 +8,8 @@ use Rattle.op_name.specs.declared.name.TheConstants.{SITES, NUMBERS}
 use Rattle.context_diff.specs.Operations.{OpData, inserting}
 use Rattle.context_diff.specs.Histories.{IsValid, context_of_all}
 use Rattle.context_diff.specs.Replays.{Cell, replay_of, is_shown, shown, characters_of}
-use Rattle.cot_site.specs.declared.local.Local.{Local}
-use Rattle.cot_site.specs.declared.local.Local.TheVariants as local
+use Rattle.site_answers.specs.declared.local.Local.{Local}
+use Rattle.site_answers.specs.declared.local.Local.TheVariants as local
 use Rattle.cot_site.specs.States.{State, with_last}
 use Rattle.cot_site.specs.Views.{shown_places_of}
 use Rattle.cot_site.specs.Commands.{local_insert, local_delete, numbered, next_name}

@@ -1,7 +1,7 @@
 -- Runs of local edits: a text that is inserted, and a range that is deleted, one character after the other.
 use Rattle.std.specs.Prelude.{◌≡◌, ◌≢◌, ◌⊎◌, ◌<◌, ℕ, zero, suc, ◌+◌, List, [], ◌∷◌, Option, Some, None, Result, Ok, Err, IsOk, length, take, slice_get}
 use Rattle.context_diff.specs.Operations.{OpData}
-use Rattle.cot_site.specs.declared.local.Local.{Local}
+use Rattle.site_answers.specs.declared.local.Local.{Local}
 use Rattle.cot_site.specs.States.{State, with_last}
 use Rattle.cot_site.specs.Commands.{local_insert, local_delete}
 use Rattle.cotpad_c.specs.declared.status.TheConstants.{OK, NO_MEMORY}

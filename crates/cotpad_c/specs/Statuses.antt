@@ -1,8 +1,8 @@
 -- The numbers by which a call answers, and what it leaves.
 use Rattle.std.specs.Prelude.{◌≡◌, ◌≢◌, ◌⊎◌, ◌<◌, ℕ, List, ◌++◌, Result, Ok, Err, IsOk, length, drop}
 use Rattle.context_diff.specs.Operations.{OpData}
-use Rattle.cot_site.specs.declared.local.Local.{Local}
-use Rattle.cot_site.specs.declared.local.Local.TheVariants as local
+use Rattle.site_answers.specs.declared.local.Local.{Local}
+use Rattle.site_answers.specs.declared.local.Local.TheVariants as local
 use Rattle.cot_site.specs.States.{State, with_last}
 use Rattle.cotpad_c.specs.declared.status.TheConstants.{OK, NO_MEMORY, PLACE_OUT, UNKNOWN, NOT_IN_FORCE, IN_FORCE, GENERATION_FULL, NUMBER_FULL, CONTEXT_FULL, TOO_SHORT}
 

@@ -2,8 +2,8 @@
 use Rattle.std.specs.Prelude.{◌≡◌, Option, Some, None, ℕ, Result, Ok, Err}
 use Rattle.op_name.specs.declared.member.Member.{Member}
 use Rattle.context_diff.specs.Operations.{OpData}
-use Rattle.cot_site.specs.declared.verdict.Verdict.{Verdict}
-use Rattle.cot_site.specs.declared.verdict.Verdict.TheVariants.{Repeat, Forged, Waits, NotClosed, PlaceOut, Integrated}
+use Rattle.site_answers.specs.declared.verdict.Verdict.{Verdict}
+use Rattle.site_answers.specs.declared.verdict.Verdict.TheVariants.{Repeat, Forged, Waits, NotClosed, PlaceOut, Integrated}
 use Rattle.cot_site.specs.States.{State, Released, judged, delivered}
 use Rattle.wire_codec.specs.declared.cause.Cause.{Cause}
 use Rattle.wire_codec.specs.declared.cause.Cause.TheVariants as cause

@@ -13,7 +13,7 @@ use Rattle.context_diff.specs.Histories.{is_known, IsValid, Agree}
 use Rattle.context_diff.specs.Replays.{text_of}
 use Rattle.context_diff.proofs.CallerLemmas.{agree_back, contains_cases, contains_here, contains_later, contains_none, holder}
 use Rattle.cot_site.specs.States.{State}
-use Rattle.cot_site.specs.declared.verdict.Verdict.{Verdict}
+use Rattle.site_answers.specs.declared.verdict.Verdict.{Verdict}
 use Rattle.peer_exchange.specs.declared.messages.PeerCause.TheVariants.{Head, Frame, Cut, Extra, Limit}
 use Rattle.peer_exchange.specs.declared.peer.Peer.{Peer}
 use Rattle.peer_exchange.specs.declared.peer.Peer.TheVariants as refused

@@ -1,7 +1,7 @@
 -- The line that says why what a peer sent is refused.
 use Rattle.std.specs.Prelude.{ℕ, List, [], ◌++◌, codes, decimal}
 use Rattle.wire_codec.specs.Causes.{cause_word}
-use Rattle.script_text.specs.Verdicts.{verdict_text}
+use Rattle.site_answers.specs.Words.{verdict_text}
 use Rattle.peer_exchange.specs.declared.messages.PeerCause.{PeerCause}
 use Rattle.peer_exchange.specs.declared.messages.PeerCause.TheVariants.{Head, Frame, Cut, Extra, Limit}
 use Rattle.peer_exchange.specs.declared.peer.Peer.{Peer}

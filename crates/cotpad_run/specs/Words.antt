@@ -2,7 +2,7 @@
 use Rattle.std.specs.Prelude.{◌≡◌, ◌≢◌, ◌<◌, ◌≤◌, ◌^◌, ℕ, List, [], ◌∷◌, codes, decimal, map, string_bytes, String}
 use Rattle.op_name.specs.NameData.{IsName}
 use Rattle.op_name.specs.declared.name.TheConstants.{SITES}
-use Rattle.script_text.specs.Names.{name_text, member_text}
+use Rattle.site_answers.specs.Names.{name_text, member_text}
 use Rattle.script_text.specs.Fields.{IsMemberInRange}
 use Rattle.session_replay.specs.declared.generator.TheConstants.{MAX_EVENTS, MAX_WINDOW}
 use Rattle.log_replies.specs.Editing.{EditData, Ins, Nl, Del, Undo, Redo}

@@ -10,7 +10,7 @@ use log_replies::Status;
 use op_name::Memory;
 use outside_io::{Failed, Sink, write_whole};
 use peer_exchange::{Peer, PeerCause};
-use script_text::put_verdict;
+use site_answers::put_verdict;
 use site_node::Node;
 use std::alloc::Global;
 

@@ -10,8 +10,8 @@ use Rattle.context_diff.specs.Replays.{characters_of}
 use Rattle.cot_site.specs.States.{State, with_last}
 use Rattle.cot_site.specs.Releases.{settled}
 use Rattle.cot_site.specs.Commands.{local_insert, place_behind, numbered, next_name, IsAnswer}
-use Rattle.cot_site.specs.declared.local.Local.{Local}
-use Rattle.cot_site.specs.declared.local.Local.TheVariants as local
+use Rattle.site_answers.specs.declared.local.Local.{Local}
+use Rattle.site_answers.specs.declared.local.Local.TheVariants as local
 use Rattle.cot_site.proofs.CallerLemmas.{behind_few}
 use Rattle.log_replies.specs.Answers.{IsAppended}
 use Rattle.log_replies.specs.Editing.{EditData, edited, made, then_next, typed}

@@ -5,7 +5,7 @@ use Rattle.context_diff.specs.Operations.{OpData}
 use Rattle.cot_site.specs.States.{State, with_last}
 use Rattle.cot_site.specs.Releases.{settled}
 use Rattle.cot_site.specs.Commands.{local_insert, local_delete, local_undo, local_redo}
-use Rattle.cot_site.specs.declared.local.Local.{Local}
+use Rattle.site_answers.specs.declared.local.Local.{Local}
 use Rattle.log_replies.specs.declared.edit.Edit as declared
 use Rattle.log_replies.specs.declared.edit.Edit.TheVariants as edit
 

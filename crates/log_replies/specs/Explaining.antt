@@ -11,7 +11,7 @@ use Rattle.trace_explain.specs.Listings.{IsTraceOf}
 use Rattle.trace_explain.specs.Laws.{EndsIn}
 use Rattle.cot_site.specs.States.{State}
 use Rattle.cot_site.specs.Sites.{AreExecuted}
-use Rattle.script_text.specs.Names.{member_text}
+use Rattle.site_answers.specs.Names.{member_text}
 use Rattle.script_text.specs.Explained.{base_text, step_text}
 use Rattle.script_text.specs.Report.{Report}
 use Rattle.log_replies.specs.Replies.{RepliesToLogBy, accepting, refusing}

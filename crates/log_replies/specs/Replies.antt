@@ -2,7 +2,7 @@
 use Rattle.std.specs.Prelude.{◌≡◌, ◌≢◌, ◌⊎◌, ◌<◌, ◌≤◌, ℕ, true, false, List, ◌++◌, codes, length, Result, Ok, Err}
 use Rattle.context_diff.specs.Replays.{text_of, characters_of}
 use Rattle.cot_site.specs.States.{State}
-use Rattle.cot_site.specs.declared.local.Local.{Local}
+use Rattle.site_answers.specs.declared.local.Local.{Local}
 use Rattle.outside_io.specs.declared.reading.TheConstants.{MAX_INPUT}
 use Rattle.script_text.specs.Report.{Report, shown_text}
 use Rattle.script_text.specs.Verdicts.{local_text}

@@ -8,7 +8,8 @@ ghost use Rattle.log_replies.specs.Explaining.{IsExplained, IsExplainedIn, line_
 use crate::replying::Replies;
 use cot_site::Site;
 use op_name::{Member, Memory};
-use script_text::{base_line, put_member, step_line};
+use script_text::{base_line, step_line};
+use site_answers::put_member;
 use std::alloc::Global;
 use trace_explain::{TraceLine, ends_in_executed_form, trace};
 

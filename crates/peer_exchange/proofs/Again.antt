@@ -9,8 +9,8 @@ use Rattle.op_name.specs.NameData.{NameData}
 use Rattle.context_diff.specs.Operations.{OpData, inserting, deleting, undoing, member_of, IsWellFormed}
 use Rattle.context_diff.specs.Histories.{is_known, IsValid}
 use Rattle.context_diff.proofs.CallerLemmas.{contains_cases, contains_here, contains_later, contains_none, known_member}
-use Rattle.cot_site.specs.declared.verdict.Verdict.{Verdict}
-use Rattle.cot_site.specs.declared.verdict.Verdict.TheVariants.{Repeat, Forged, Waits, NotClosed, PlaceOut, Integrated}
+use Rattle.site_answers.specs.declared.verdict.Verdict.{Verdict}
+use Rattle.site_answers.specs.declared.verdict.Verdict.TheVariants.{Repeat, Forged, Waits, NotClosed, PlaceOut, Integrated}
 use Rattle.cot_site.specs.Verdicts.{IsRepeat}
 use Rattle.cot_site.specs.States.{State, Released, judged, delivered, after_verdict, released, released_at, IsSettled}
 use Rattle.cot_site.specs.Releases.{IsSound, IsLater, and_more, releases, all_releases, state_after, settled}

@@ -3,8 +3,8 @@ use Rattle.std.proofs.Common.{◌≡◌, ℕ, List, [], ◌∷◌, ◌++◌, ref
 use Rattle.context_diff.specs.Operations.{OpData}
 use Rattle.context_diff.specs.Histories.{is_known, IsNext, IsValid, IsValidAfter}
 use Rattle.context_diff.proofs.CallerLemmas.{agree_back, contains_none, shifted, valid_push}
-use Rattle.cot_site.specs.declared.verdict.Verdict.{Verdict}
-use Rattle.cot_site.specs.declared.verdict.Verdict.TheVariants.{Repeat, Forged, Waits, NotClosed, PlaceOut, Integrated}
+use Rattle.site_answers.specs.declared.verdict.Verdict.{Verdict}
+use Rattle.site_answers.specs.declared.verdict.Verdict.TheVariants.{Repeat, Forged, Waits, NotClosed, PlaceOut, Integrated}
 use Rattle.cot_site.specs.Verdicts.{verdict_of}
 use Rattle.cot_site.specs.States.{State, delivered, after_verdict}
 use Rattle.cot_site.specs.Releases.{settled}

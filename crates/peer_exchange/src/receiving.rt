@@ -3,7 +3,7 @@
 ghost use Rattle.std.specs.Prelude.{◌≡◌, ◌⊎◌, ◌≤◌, List, [], ◌∷◌, Ok, length, OnOk, OnErr, IfOk, IfErr, IfSome};
 ghost use Rattle.context_diff.specs.Operations.{OpData, IsWellFormed};
 ghost use Rattle.context_diff.specs.Ops.{data_of};
-ghost use Rattle.cot_site.specs.declared.verdict.Verdict.TheVariants.{Repeat, Integrated};
+ghost use Rattle.site_answers.specs.declared.verdict.Verdict.TheVariants.{Repeat, Integrated};
 ghost use Rattle.cot_site.specs.States.{judged, delivered};
 ghost use Rattle.cot_site.specs.Releases.{settled};
 ghost use Rattle.cot_site.specs.Sites.{state_of};

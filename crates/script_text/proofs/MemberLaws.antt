@@ -6,7 +6,7 @@ use Rattle.op_name.specs.NameData.{NameData}
 use Rattle.op_name.specs.declared.member.TheConstants.{GENERATIONS}
 use Rattle.op_name.specs.declared.member.Member.{Member}
 use Rattle.op_name.specs.declared.member.Member.TheVariants.{Original, Group}
-use Rattle.script_text.specs.Names.{name_text, group_text}
+use Rattle.site_answers.specs.Names.{name_text, group_text}
 use Rattle.script_text.specs.Fields.{cut, name_of, generation_of, member_of, member_by, IsNameText, IsGeneration, IsMemberText}
 use Rattle.script_text.proofs.FieldLaws.{Lacks, Reads, cut-append, cut-lacks, cut_some, some_is, and_then_some, number_lacks, from_one_reads, name_reads}
 use Rattle.script_text.proofs.WordLaws.{found, only}

@@ -4,7 +4,7 @@ use Rattle.hex.specs.Hex.{upper_digits}
 use Rattle.op_name.specs.declared.member.Member.{Member}
 use Rattle.ttf_form.specs.declared.form.Form.{Form}
 use Rattle.ttf_form.specs.declared.form.Form.TheVariants.{Ins, Cover}
-use Rattle.script_text.specs.Names.{member_text}
+use Rattle.site_answers.specs.Names.{member_text}
 
 -- the last so many digits of a number in base 16
 unfoldable pub hex_digits : ℕ → ℕ → List ℕ

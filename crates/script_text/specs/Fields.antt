@@ -9,7 +9,7 @@ use Rattle.op_name.specs.declared.member.TheConstants.{GENERATIONS}
 use Rattle.op_name.specs.declared.member.Member.{Member}
 use Rattle.op_name.specs.declared.member.Member.TheVariants.{Original, Group}
 use Rattle.script_text.specs.declared.reading.parse.TheConstants.{LONGEST}
-use Rattle.script_text.specs.Names.{name_text, member_text}
+use Rattle.site_answers.specs.Names.{name_text, member_text}
 use Rattle.std.specs.Str.Parse.{digits_value}
 
 infixl 10 ◌>>=◌

@@ -6,7 +6,7 @@ use Rattle.op_name.specs.NameData.{IsName}
 use Rattle.op_name.specs.declared.name.TheConstants.{SITES}
 use Rattle.script_text.specs.declared.reading.line.Line.{Line}
 use Rattle.script_text.specs.declared.reading.line.Line.TheVariants.{Blank, Sites, Ins, Nl, Del, Undo, Redo, Give, All, Sync, Raw, Show, State}
-use Rattle.script_text.specs.Names.{name_text}
+use Rattle.site_answers.specs.Names.{name_text}
 
 -- a word and its fields; two fields
 abbrev pub command : List ℕ → List ℕ → List ℕ

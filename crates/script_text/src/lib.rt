@@ -13,7 +13,6 @@ pub use reading::{
     parse_site,
 };
 pub use report::{
-    Event, Refusal, base_line, local_line, op_line, put_form, put_group, put_made, put_member,
-    put_name, put_reason, put_verdict, raw_bad_line, raw_more_line, refused_line, shown_lines,
-    state_line, step_line, verdict_line,
+    Event, Refusal, base_line, local_line, op_line, put_form, put_made, raw_bad_line,
+    raw_more_line, refused_line, shown_lines, state_line, step_line, verdict_line,
 };

@@ -11,7 +11,7 @@ use Rattle.wire_codec.specs.declared.fault.Refused.TheVariants.{More, Bad}
 use Rattle.wire_codec.specs.Reading.{fault}
 use Rattle.wire_codec.specs.Spelling.{frame}
 use Rattle.wire_codec.specs.Judging.{judge}
-use Rattle.cot_site.specs.declared.release.Release.{Release}
+use Rattle.site_answers.specs.declared.release.Release.{Release}
 use Rattle.cot_site.specs.Sites.{AllFormed}
 use Rattle.cot_site.specs.States.{State}
 use Rattle.session_log.specs.declared.log_bad.LogBad.{LogBad}

@@ -16,8 +16,8 @@ use Rattle.context_diff.proofs.CallerLemmas.{by_pushes, complete, contains_cases
 use Rattle.causal_gate.specs.Waiting.{AllDifferFrom, AreApart}
 use Rattle.causal_gate.proofs.CallerLemmas.{named_once}
 use Rattle.wire_codec.specs.Spelling.{frame}
-use Rattle.cot_site.specs.declared.verdict.Verdict.{Verdict}
-use Rattle.cot_site.specs.declared.verdict.Verdict.TheVariants.{Waits, Integrated}
+use Rattle.site_answers.specs.declared.verdict.Verdict.{Verdict}
+use Rattle.site_answers.specs.declared.verdict.Verdict.TheVariants.{Waits, Integrated}
 use Rattle.cot_site.specs.Verdicts.{HasOther, IsNew, lacked, verdict_of}
 use Rattle.cot_site.specs.States.{State, Released, held, after_verdict, judged, delivered, is_ready, IsSettled}
 use Rattle.cot_site.specs.Sites.{AllFormed}

@@ -4,7 +4,7 @@ use Rattle.std.specs.Prelude.{ℕ, Some, None}
 use Rattle.std.proofs.lemmas.Option.{none-some}
 use Rattle.context_diff.specs.Operations.{OpData}
 use Rattle.cot_site.specs.States.{State}
-use Rattle.cot_site.specs.declared.release.Release.{Release}
+use Rattle.site_answers.specs.declared.release.Release.{Release}
 use Rattle.session_log.specs.declared.log_bad.LogBad.{LogBad}
 use Rattle.session_log.specs.declared.log_bad.LogBad.TheVariants as bad
 use Rattle.session_log.specs.Logs.{BeginsWith, offset_after, IsLogOf}

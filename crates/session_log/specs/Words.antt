@@ -1,7 +1,7 @@
 -- The line that says why a log was refused.
 use Rattle.std.specs.Prelude.{ℕ, List, [], ◌++◌, codes, decimal}
 use Rattle.wire_codec.specs.Causes.{cause_word}
-use Rattle.script_text.specs.Verdicts.{verdict_text}
+use Rattle.site_answers.specs.Words.{verdict_text}
 use Rattle.session_log.specs.declared.log_bad.LogBad.{LogBad}
 use Rattle.session_log.specs.declared.log_bad.LogBad.TheVariants as bad
 

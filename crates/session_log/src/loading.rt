@@ -5,7 +5,7 @@ ghost use Rattle.context_diff.specs.Operations.{OpData, IsWellFormed};
 ghost use Rattle.context_diff.specs.Ops.{data_of};
 ghost use Rattle.cot_site.specs.Sites.{state_of};
 ghost use Rattle.cot_site.specs.States.{judged};
-ghost use Rattle.cot_site.specs.declared.release.Release.{Release};
+ghost use Rattle.site_answers.specs.declared.release.Release.{Release};
 ghost use Rattle.session_log.specs.Logs.{IsLogOf};
 ghost use Rattle.session_log.specs.Loadings.{is_refusal, first_refusal, verdicts_after, taken_in, IsRefusal, IsCutShort, new_state, IsLoaded, IsUnloaded};
 

@@ -5,7 +5,7 @@ ghost use Rattle.session_log.specs.Words.{log_bad_words, refused_log_text};
 
 use crate::log_bad::LogBad;
 use op_name::Memory;
-use script_text::put_verdict;
+use site_answers::put_verdict;
 
 /// Appends the line that says why a log was refused: `refused log header`, `refused log cut OFFSET`,
 /// `refused log bad OFFSET CAUSE` or `refused log op OFFSET VERDICT`, and a line feed. Out of memory is no reason to

@@ -9,8 +9,8 @@ use Rattle.context_diff.specs.Ops.{data_of}
 use Rattle.cot_site.specs.States.{State, with_last}
 use Rattle.cot_site.specs.Sites.{SiteData, state_of, AllFormed}
 use Rattle.cot_site.specs.Commands.{IsAnswer}
-use Rattle.cot_site.specs.declared.local.Local.{Local}
-use Rattle.cot_site.specs.declared.local.Local.TheVariants as local
+use Rattle.site_answers.specs.declared.local.Local.{Local}
+use Rattle.site_answers.specs.declared.local.Local.TheVariants as local
 use Rattle.script_text.specs.Report.{op_text}
 use Rattle.script_text.specs.Verdicts.{local_text}
 use Rattle.session_replay.specs.declared.sites.commands.Command.{Command}

@@ -9,7 +9,7 @@ use Rattle.context_diff.specs.Histories.{IsNext, IsValid}
 use Rattle.cot_site.specs.States.{State}
 use Rattle.cot_site.specs.Views.{View, history_view, forms_view}
 use Rattle.cot_site.specs.Commands.{insert_in, delete_in, local_insert}
-use Rattle.cot_site.specs.declared.local.Local.{Local}
+use Rattle.site_answers.specs.declared.local.Local.{Local}
 use Rattle.cot_site.proofs.CallerLemmas.{computed_of, computed_lists, lists_show}
 use Rattle.script_text.specs.declared.reading.line.Line.{Line}
 use Rattle.script_text.specs.declared.reading.line.Line.TheVariants as line

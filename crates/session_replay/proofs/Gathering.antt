@@ -14,9 +14,9 @@ use Rattle.context_diff.specs.Operations.{OpData, inserting, deleting, undoing, 
 use Rattle.context_diff.specs.Histories.{is_known, LacksNothing, IsNext, IsValid, Same, Agree}
 use Rattle.context_diff.proofs.CallerLemmas.{contains_cases, contains_here, contains_none, holder, known_member, known_on, next_elsewhere, same_by_members, shifted, known_end}
 use Rattle.fixed_replay.proofs.CallerLemmas.{same_text, told_apart}
-use Rattle.cot_site.specs.declared.verdict.Verdict.{Verdict}
-use Rattle.cot_site.specs.declared.verdict.Verdict.TheVariants.{Repeat, Integrated}
-use Rattle.cot_site.specs.declared.local.Local.{Local}
+use Rattle.site_answers.specs.declared.verdict.Verdict.{Verdict}
+use Rattle.site_answers.specs.declared.verdict.Verdict.TheVariants.{Repeat, Integrated}
+use Rattle.site_answers.specs.declared.local.Local.{Local}
 use Rattle.cot_site.specs.States.{State, judged, delivered, with_last, after_verdict}
 use Rattle.cot_site.specs.Verdicts.{IsRepeat}
 use Rattle.cot_site.specs.Releases.{IsSound as IsSoundSite, releases, all_releases, state_after, settled}

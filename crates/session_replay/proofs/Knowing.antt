@@ -18,8 +18,8 @@ use Rattle.op_name.specs.Members.{target_of}
 use Rattle.cot_site.specs.States.{State, IsSettled, judged, delivered, after_verdict}
 use Rattle.cot_site.specs.Releases.{IsSound, IsLater, all_releases, settled}
 use Rattle.cot_site.specs.Verdicts.{is_repeat, is_forged, placed_verdict, ready_verdict, waiting_verdict, lacked}
-use Rattle.cot_site.specs.declared.verdict.Verdict.{Verdict}
-use Rattle.cot_site.specs.declared.verdict.Verdict.TheVariants.{Repeat, Forged, Waits, NotClosed, PlaceOut, Integrated}
+use Rattle.site_answers.specs.declared.verdict.Verdict.{Verdict}
+use Rattle.site_answers.specs.declared.verdict.Verdict.TheVariants.{Repeat, Forged, Waits, NotClosed, PlaceOut, Integrated}
 use Rattle.cot_site.proofs.CallerLemmas.{settled_has_none, settled_settles, sound_along, sound_delivered}
 use Rattle.session_replay.specs.Steps.{Step, last_of, written_by}
 use Rattle.session_replay.specs.Sessions.{SessionData, site_at, new_site, new_sites, settling, taking_in, told_verdict, free_step, given, given_all}

@@ -12,7 +12,7 @@ use Rattle.cot_site.specs.States.{State}
 use Rattle.cot_site.proofs.CallerLemmas.{settled_none, local_insert_next, local_delete_next, local_undo_next, local_redo_next, formed_at}
 use Rattle.cot_site.specs.Sites.{AllFormed}
 use Rattle.cot_site.specs.Commands.{local_insert, local_delete, local_undo, local_redo}
-use Rattle.cot_site.specs.declared.local.Local.{Local}
+use Rattle.site_answers.specs.declared.local.Local.{Local}
 use Rattle.wire_codec.specs.Causes.{cause_word}
 use Rattle.wire_codec.specs.Judging.{judge}
 use Rattle.wire_codec.specs.declared.fault.Refused.{Refused}

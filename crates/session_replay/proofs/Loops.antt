@@ -12,8 +12,8 @@ use Rattle.context_diff.specs.declared.op.TheConstants.{PLACES}
 use Rattle.context_diff.specs.Replays.{characters_of}
 use Rattle.cot_site.specs.States.{State}
 use Rattle.cot_site.specs.Commands.{local_insert, place_behind, numbered, next_name}
-use Rattle.cot_site.specs.declared.local.Local.{Local}
-use Rattle.cot_site.specs.declared.local.Local.TheVariants.{PlaceOut}
+use Rattle.site_answers.specs.declared.local.Local.{Local}
+use Rattle.site_answers.specs.declared.local.Local.TheVariants.{PlaceOut}
 use Rattle.script_text.specs.Report.{raw_bad_text, raw_more_text}
 use Rattle.cot_site.proofs.CallerLemmas.{behind_few}
 use Rattle.wire_codec.specs.Causes.{cause_word}

@@ -19,8 +19,8 @@ use Rattle.context_diff.specs.Histories.{is_known, generation_in, context_of_all
 use Rattle.context_diff.specs.Replays.{Cell, replay_of, is_shown, shown, characters_of}
 use Rattle.context_diff.specs.declared.op.TheConstants.{PLACES}
 use Rattle.context_diff.proofs.CallerLemmas.{complete, all_is_context, named_few}
-use Rattle.cot_site.specs.declared.local.Local.{Local}
-use Rattle.cot_site.specs.declared.local.Local.TheVariants.{PlaceOut, Unknown, NotInForce, InForce, GenerationFull, NumberFull}
+use Rattle.site_answers.specs.declared.local.Local.{Local}
+use Rattle.site_answers.specs.declared.local.Local.TheVariants.{PlaceOut, Unknown, NotInForce, InForce, GenerationFull, NumberFull}
 use Rattle.cot_site.specs.States.{State}
 use Rattle.op_name.specs.Lists.{places_from}
 use Rattle.cot_site.specs.Views.{shown_places_of}

@@ -10,7 +10,7 @@ use Rattle.cot_site.specs.States.{State, judged, delivered, with_last}
 use Rattle.cot_site.specs.Sites.{SiteData, state_of, AllFormed}
 use Rattle.cot_site.specs.Releases.{IsSound}
 use Rattle.cot_site.specs.Verdicts.{is_repeat}
-use Rattle.cot_site.specs.declared.verdict.Verdict.{Verdict}
+use Rattle.site_answers.specs.declared.verdict.Verdict.{Verdict}
 use Rattle.cot_site.proofs.CallerLemmas.{formed_at, sound_delivered}
 use Rattle.session_replay.specs.Sessions.{SessionData, site_at, new_site, new_sites, settling, taking_in, told_verdict}
 use Rattle.session_replay.specs.Code.Doing.{AreDone}

@@ -4,7 +4,7 @@ use Rattle.std.proofs.lemmas.List.{map-append}
 use Rattle.std.specs.Prelude.{Result, Ok, Err, Option, Some, None, OnOk, OnErr}
 use Rattle.std.proofs.lemmas.List.{take_all}
 use Rattle.context_diff.specs.Operations.{member_of}
-use Rattle.cot_site.specs.declared.release.Release.{Release}
+use Rattle.site_answers.specs.declared.release.Release.{Release}
 use Rattle.cot_site.specs.States.{State, Released, released, IsSettled}
 use Rattle.cot_site.specs.Releases.{IsSound as IsSoundSite, and_more, releases, all_releases, state_after, settled, release_of, IsPartlySettled}
 use Rattle.cot_site.proofs.CallerLemmas.{release_number, sound_released, settled_settles}

@@ -11,8 +11,8 @@ use Rattle.cot_site.specs.States.{State, IsSettled, with_last, delivered, judged
 use Rattle.cot_site.specs.Sites.{AllFormed}
 use Rattle.cot_site.specs.Releases.{IsSound as IsSoundSite, all_releases}
 use Rattle.cot_site.proofs.CallerLemmas.{sound_more, sound_delivered, verdicts_exact}
-use Rattle.cot_site.specs.declared.verdict.Verdict.{Verdict}
-use Rattle.cot_site.specs.declared.verdict.Verdict.TheVariants.{Waits}
+use Rattle.site_answers.specs.declared.verdict.Verdict.{Verdict}
+use Rattle.site_answers.specs.declared.verdict.Verdict.TheVariants.{Waits}
 use Rattle.script_text.specs.Report.{op_text}
 use Rattle.session_replay.specs.Steps.{Step, last_of, written_by}
 use Rattle.session_replay.specs.Sessions.{SessionData, site_at, new_site, at_site, free_step, settling, made, given, told_verdict}

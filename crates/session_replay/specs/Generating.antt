@@ -10,7 +10,7 @@ use Rattle.context_diff.specs.Replays.{shown, text_of}
 use Rattle.cot_site.specs.States.{State}
 use Rattle.cot_site.specs.Releases.{IsSound}
 use Rattle.cot_site.specs.Commands.{local_insert, local_delete, local_undo, local_redo}
-use Rattle.cot_site.specs.declared.local.Local.{Local}
+use Rattle.site_answers.specs.declared.local.Local.{Local}
 use Rattle.session_replay.specs.declared.draws.Draw.{Draw}
 use Rattle.session_replay.specs.declared.generator.TheConstants.{MAX_EVENTS, MAX_SITES}
 use Rattle.session_replay.specs.Steps.{last_of}

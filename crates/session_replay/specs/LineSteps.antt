@@ -8,7 +8,7 @@ use Rattle.context_diff.specs.Histories.{context_of_all}
 use Rattle.cot_site.specs.States.{State as SiteState}
 use Rattle.cot_site.specs.Views.{View, history_view}
 use Rattle.cot_site.specs.Commands.{insert_in, delete_in, local_undo, local_redo}
-use Rattle.cot_site.specs.declared.local.Local.{Local}
+use Rattle.site_answers.specs.declared.local.Local.{Local}
 use Rattle.wire_codec.specs.Judging.{judge}
 use Rattle.wire_codec.specs.declared.fault.Refused.{Refused}
 use Rattle.wire_codec.specs.declared.fault.Refused.TheVariants.{More, Bad}

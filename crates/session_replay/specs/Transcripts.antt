@@ -6,8 +6,8 @@ use Rattle.context_diff.specs.Operations.{OpData, member_of, context_of}
 use Rattle.context_diff.specs.Histories.{LacksFirst}
 use Rattle.context_diff.specs.Replays.{characters_of, text_of}
 use Rattle.ttf_form.specs.declared.form.Form.{Form}
-use Rattle.cot_site.specs.declared.verdict.Verdict.{Verdict}
-use Rattle.cot_site.specs.declared.verdict.Verdict.TheVariants.{Waits}
+use Rattle.site_answers.specs.declared.verdict.Verdict.{Verdict}
+use Rattle.site_answers.specs.declared.verdict.Verdict.TheVariants.{Waits}
 use Rattle.cot_site.specs.States.{State, judged}
 use Rattle.cot_site.specs.Views.{forms_view, AreFormLists}
 use Rattle.script_text.specs.declared.report.event.Event.TheVariants.{Give}

@@ -5,7 +5,7 @@ use crate::made::op_of;
 use context_diff::Op;
 use cot_site::{Site, Verdict};
 use op_name::{Member, Memory};
-use script_text::put_verdict;
+use site_answers::put_verdict;
 use std::alloc::Global;
 use std::test::Fail;
 

@@ -4,7 +4,7 @@ use Rattle.std.specs.Io.KnownBytes.{Appends}
 use Rattle.outside_io.specs.Ends.{End}
 use Rattle.op_name.specs.declared.member.Member.{Member}
 use Rattle.cot_site.specs.States.{State}
-use Rattle.cot_site.specs.declared.verdict.Verdict.{Verdict}
+use Rattle.site_answers.specs.declared.verdict.Verdict.{Verdict}
 use Rattle.peer_exchange.specs.declared.messages.PeerCause.TheVariants.{Head, Frame, Cut, Extra, Limit}
 use Rattle.peer_exchange.specs.declared.peer.Peer.TheVariants as refused
 use Rattle.peer_exchange.specs.Exchanges.{Talk, IsExchange, AgreeInAll}

@@ -3,9 +3,9 @@ use Rattle.std.specs.Prelude.{◌≡◌, ◌⊎◌, ℕ, Bool, true, false, List
 use Rattle.context_diff.specs.Operations.{OpData}
 use Rattle.wire_codec.specs.Judging.{IsFrame}
 use Rattle.wire_codec.specs.Answers.{HasFrame}
-use Rattle.cot_site.specs.declared.release.Release.{Release}
-use Rattle.cot_site.specs.declared.verdict.Verdict.{Verdict}
-use Rattle.cot_site.specs.declared.verdict.Verdict.TheVariants.{Repeat, Forged, Waits, NotClosed, PlaceOut, Integrated}
+use Rattle.site_answers.specs.declared.release.Release.{Release}
+use Rattle.site_answers.specs.declared.verdict.Verdict.{Verdict}
+use Rattle.site_answers.specs.declared.verdict.Verdict.TheVariants.{Repeat, Forged, Waits, NotClosed, PlaceOut, Integrated}
 use Rattle.cot_site.specs.States.{State, judged, delivered}
 use Rattle.cot_site.specs.Releases.{settled, IsPartlySettled}
 use Rattle.uses.specs.declared.stop.Stop.{Stop}

@@ -36,7 +36,7 @@ impl From<Memory> for Stop {
 impl From<Local> for Stop {
     ghost use Rattle.std.specs.Prelude.{◌≡◌, ◌≢◌};
     ghost use Rattle.uses.specs.declared.stop.Stop.TheVariants as stops;
-    ghost use Rattle.cot_site.specs.declared.local.Local.TheVariants as locals;
+    ghost use Rattle.site_answers.specs.declared.local.Local.TheVariants as locals;
 
     ghost from_gives = { λ why stop. (why ≡ locals.Memory → stop ≡ stops.Memory) × (why ≢ locals.Memory → stop ≡ stops.Edit) };
 

@@ -7,8 +7,8 @@ use Rattle.context_vector.specs.Contexts.{ContextData}
 use Rattle.context_vector.specs.Vectors.{VectorData}
 use Rattle.context_diff.specs.declared.op.TheConstants.{UNDO_ENTRIES}
 use Rattle.context_diff.specs.Histories.{is_known, generation_in}
-use Rattle.cot_site.specs.declared.local.Local.{Local}
-use Rattle.cot_site.specs.declared.local.Local.TheVariants.{Unknown, NumberFull, ContextFull, Memory}
+use Rattle.site_answers.specs.declared.local.Local.{Local}
+use Rattle.site_answers.specs.declared.local.Local.TheVariants.{Unknown, NumberFull, ContextFull, Memory}
 use Rattle.cot_site.specs.States.{State}
 use Rattle.cot_site.specs.Commands.{count_made, next_name}
 

@@ -1,6 +1,6 @@
 -- One release on the way to the settled state.
 use Rattle.std.specs.Prelude.{◌≡◌, Bool, true, false, List, [], ◌∷◌, ◌++◌, Some, None}
-use Rattle.cot_site.specs.declared.release.Release.{Release}
+use Rattle.site_answers.specs.declared.release.Release.{Release}
 use Rattle.cot_site.specs.States.{State, Released, released}
 use Rattle.cot_site.specs.Releases.{release_of}
 

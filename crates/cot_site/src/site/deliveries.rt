@@ -5,14 +5,14 @@ ghost use Rattle.context_diff.specs.Operations.{IsWellFormed};
 ghost use Rattle.context_diff.specs.Histories.{IsNext};
 ghost use Rattle.context_diff.specs.Ops.{data_of};
 ghost use Rattle.causal_gate.specs.Waiting.{NamesAgree};
-ghost use Rattle.cot_site.specs.declared.verdict.Verdict.TheVariants.{Integrated};
+ghost use Rattle.site_answers.specs.declared.verdict.Verdict.TheVariants.{Integrated};
 ghost use Rattle.cot_site.specs.States.{delivered, judged, with_last, with_held};
 ghost use Rattle.cot_site.specs.Sites.{KeepsForms, IsAsBefore, state_of};
 
 use crate::site::Site;
-use crate::verdict::Verdict;
 use context_diff::Op;
 use op_name::Memory;
+use site_answers::Verdict;
 
 impl Site {
     /// Delivers an operation, which is well formed: answers its verdict, and does what the verdict says. An

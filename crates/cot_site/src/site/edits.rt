@@ -12,12 +12,12 @@ ghost use Rattle.cot_site.specs.Commands.{place_behind, place_of_shown, local_in
 ghost use Rattle.cot_site.specs.Code.Making.{IsNumber, IsContextAnswer, IsGeneration};
 ghost use Rattle.cot_site.specs.Sites.{KeepsForms, IsAsBefore, state_of};
 
-use crate::local::Local;
 use crate::replica::shared;
 use crate::site::Site;
 use context_diff::{Op, UNDO_ENTRIES};
 use context_vector::Vector;
 use op_name::{GENERATIONS, Memory, NUMBERS, Name};
+use site_answers::Local;
 use undo_group::generation;
 
 impl Site {

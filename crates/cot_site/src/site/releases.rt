@@ -3,17 +3,16 @@
 ghost use Rattle.std.specs.Prelude.{◌≡◌, ◌<◌, ◌↔◌, ◌++◌, IsTrue, IsNone, IsSomeAnd, true, Some, IfOk, OnOk, OnErr, length, map, slice_get};
 ghost use Rattle.context_diff.specs.Operations.{OpData};
 ghost use Rattle.context_diff.specs.Ops.{data_of};
-ghost use Rattle.cot_site.specs.declared.verdict.Verdict.TheVariants.{Integrated};
+ghost use Rattle.site_answers.specs.declared.verdict.Verdict.TheVariants.{Integrated};
 ghost use Rattle.cot_site.specs.States.{judged, released, is_ready, first_ready, after_release, after_verdict, without_waiting, IsSettled};
 ghost use Rattle.cot_site.specs.Sites.{KeepsForms, IsAsBefore, AreKeptOrGone, state_of, IsRelease};
 ghost use Rattle.cot_site.specs.Releases.{all_releases, settled, release_of, IsPartlySettled};
 ghost use Rattle.cot_site.specs.Code.Releasing.{IsReleasedInto};
 
-use crate::release::Release;
 use crate::site::Site;
-use crate::verdict::Verdict;
 use context_diff::Op;
 use op_name::Memory;
+use site_answers::{Release, Verdict};
 
 impl Site {
     /// Takes out the first waiting operation that is ready, and gives it its verdict over the history and the

@@ -1,8 +1,8 @@
 -- Edits, as they are done: some of a refused one may be done.
 use Rattle.std.specs.Prelude.{⊤, ◌≡◌, ◌++◌, Bool, List, ℕ, Result, Ok, Err}
 use Rattle.cot_site.specs.States.{State}
-use Rattle.cot_site.specs.declared.local.Local.{Local}
-use Rattle.cot_site.specs.declared.local.Local.TheVariants as local
+use Rattle.site_answers.specs.declared.local.Local.{Local}
+use Rattle.site_answers.specs.declared.local.Local.TheVariants as local
 use Rattle.log_replies.specs.Replies.{edit_reply}
 
 -- the edit was done, or refused for the reason that is defined, or memory ran out

@@ -3,10 +3,8 @@
 ghost use Rattle.std.specs.Prelude.{◌≡◌, ◌++◌, OnOk, OnErr, length, take};
 ghost use Rattle.script_text.specs.Verdicts.{verdict_line_text};
 
-use crate::report::put;
-use crate::report::verdicts::put_verdict;
-use cot_site::Verdict;
 use op_name::{Member, Memory};
+use site_answers::{Verdict, put, put_verdict};
 
 /// How an operation came to its verdict: delivered, or released after it had waited.
 #[derive(Clone, Copy, Debug, PartialEq, Eq)]

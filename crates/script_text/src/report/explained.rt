@@ -4,9 +4,8 @@ ghost use Rattle.std.specs.Prelude.{◌≡◌, ◌<◌, ◌∷◌, [], ◌++◌,
 ghost use Rattle.hex.specs.Hex.{upper_digits};
 ghost use Rattle.script_text.specs.Explained.{hex_digits, hex_width, scalar_text, form_text, about_text, base_text, step_text};
 
-use crate::report::members::put_member;
-use crate::report::put;
 use op_name::{Member, Memory};
+use site_answers::{put, put_member};
 use ttf_form::Form;
 
 /// The digits of base 16.

@@ -2,13 +2,12 @@
 
 ghost use Rattle.std.specs.Prelude.{◌≡◌, ◌++◌, OnOk, OnErr, length, take};
 ghost use Rattle.context_diff.specs.Ops.{data_of};
-ghost use Rattle.script_text.specs.Names.{name_text, group_text};
+ghost use Rattle.site_answers.specs.Names.{name_text, group_text};
 ghost use Rattle.script_text.specs.Report.{made_words, op_text, turn_word};
 
-use crate::report::members::{put_group, put_name};
-use crate::report::put;
 use context_diff::Op;
 use op_name::{Memory, Name};
+use site_answers::{put, put_group, put_name};
 
 /// Appends the report line of a local operation that became message `message`: `op M insert NAME`,
 /// `op M delete NAME`, `op M undo NAME/G` or `op M redo NAME/G`, and a line feed.

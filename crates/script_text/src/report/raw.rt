@@ -3,8 +3,8 @@
 ghost use Rattle.std.specs.Prelude.{◌≡◌, ◌++◌, OnOk, OnErr, length, take};
 ghost use Rattle.script_text.specs.Report.{raw_bad_text, raw_more_text};
 
-use crate::report::put;
 use op_name::Memory;
+use site_answers::put;
 
 /// Appends the report line of a frame that is bad: `raw S bad CAUSE OFFSET` and a line feed. The offset counts
 /// bytes from the start of the frame.

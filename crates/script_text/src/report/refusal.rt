@@ -3,8 +3,8 @@
 ghost use Rattle.std.specs.Prelude.{◌≡◌, ◌++◌, OnOk, OnErr, length, take};
 ghost use Rattle.script_text.specs.Report.{refused_text};
 
-use crate::report::put;
 use op_name::Memory;
+use site_answers::put;
 
 /// Why a line of a script is refused; the script ends there.
 #[derive(Clone, Copy, Debug, PartialEq, Eq)]

@@ -3,8 +3,8 @@
 ghost use Rattle.std.specs.Prelude.{◌≡◌, ◌++◌, OnOk, OnErr, length, take};
 ghost use Rattle.script_text.specs.Report.{shown_text};
 
-use crate::report::put;
 use op_name::Memory;
+use site_answers::put;
 
 /// Appends the report lines of a text of so many characters: `text CHARS BYTES`, a line feed, the text and a line feed.
 ///

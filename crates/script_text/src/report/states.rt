@@ -1,13 +1,12 @@
 //! The report line of what a site has.
 
 ghost use Rattle.std.specs.Prelude.{◌≡◌, ◌++◌, OnOk, OnErr, map, length, take};
-ghost use Rattle.script_text.specs.Names.{group_text};
+ghost use Rattle.site_answers.specs.Names.{group_text};
 ghost use Rattle.script_text.specs.Report.{count_text, listed, with_commas, state_text};
 
-use crate::report::members::put_group;
-use crate::report::put;
 use context_vector::Vector;
 use op_name::{Memory, Name};
+use site_answers::{put, put_group};
 
 /// Appends the report line of a site's state: `state S have LIST groups LIST waiting COUNT` and a line feed.
 ///

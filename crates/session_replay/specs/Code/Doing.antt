@@ -3,8 +3,8 @@ use Rattle.std.specs.Prelude.{◌≡◌, ℕ, Bool, true, List, [], ◌∷◌, �
 use Rattle.context_diff.specs.Operations.{OpData}
 use Rattle.cot_site.specs.States.{State}
 use Rattle.cot_site.specs.Commands.{local_insert, local_delete, local_undo, local_redo}
-use Rattle.cot_site.specs.declared.local.Local.{Local}
-use Rattle.cot_site.specs.declared.release.Release.{Release}
+use Rattle.site_answers.specs.declared.local.Local.{Local}
+use Rattle.site_answers.specs.declared.release.Release.{Release}
 use Rattle.script_text.specs.declared.report.event.Event.TheVariants.{Free}
 use Rattle.script_text.specs.Verdicts.{verdict_line_text}
 use Rattle.script_text.specs.declared.report.refusal.Refusal.{Refusal}

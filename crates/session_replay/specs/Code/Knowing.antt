@@ -3,8 +3,8 @@ use Rattle.std.specs.Prelude.{◌≡◌, ℕ, ◌≤◌, ◌+◌, true, List, []
 use Rattle.context_diff.specs.Operations.{OpData}
 use Rattle.cot_site.specs.States.{State, IsSettled}
 use Rattle.cot_site.specs.Verdicts.{is_repeat}
-use Rattle.cot_site.specs.declared.verdict.Verdict.{Verdict}
-use Rattle.cot_site.specs.declared.verdict.Verdict.TheVariants.{Repeat, Forged, Waits, NotClosed, PlaceOut, Integrated}
+use Rattle.site_answers.specs.declared.verdict.Verdict.{Verdict}
+use Rattle.site_answers.specs.declared.verdict.Verdict.TheVariants.{Repeat, Forged, Waits, NotClosed, PlaceOut, Integrated}
 
 -- the site has the operation, and none of those that wait is ready there
 abbrev pub Has : State → OpData → Type 0

@@ -1,5 +1,5 @@
 use Rattle.std.specs.Prelude.{codes}
-use Rattle.script_text.specs.Names.{member_text}
+use Rattle.site_answers.specs.Names.{member_text}
 use Rattle.log_replies.proofs.Traces.{three_written}
 use Rattle.log_replies.proofs.explain.refuse_unknown.Goals as goal
 

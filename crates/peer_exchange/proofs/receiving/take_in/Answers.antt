@@ -3,7 +3,7 @@ use Rattle.std.specs.Prelude.{IfErr}
 use Rattle.std.proofs.lemmas.Result.{on_ok_weaker}
 use Rattle.context_diff.specs.Operations.{OpData}
 use Rattle.context_diff.specs.Ops.{data_of}
-use Rattle.cot_site.specs.declared.verdict.Verdict.TheVariants.{Repeat, Integrated}
+use Rattle.site_answers.specs.declared.verdict.Verdict.TheVariants.{Repeat, Integrated}
 use Rattle.cot_site.specs.States.{judged, delivered}
 use Rattle.cot_site.specs.Releases.{settled}
 use Rattle.cot_site.specs.Sites.{state_of}

@@ -1,6 +1,6 @@
 use Rattle.std.proofs.Common.{refl, sym, ◌∙◌}
 use Rattle.context_diff.specs.Ops.{data_of}
-use Rattle.cot_site.specs.declared.verdict.Verdict.TheVariants.{Repeat}
+use Rattle.site_answers.specs.declared.verdict.Verdict.TheVariants.{Repeat}
 use Rattle.cot_site.proofs.CallerLemmas.{verdicts_exact}
 use Rattle.uses.proofs.alike.has.Goals as goal
 

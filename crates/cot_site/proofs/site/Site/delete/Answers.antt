@@ -1,7 +1,7 @@
 use Rattle.std.proofs.Common.{◌∙◌, sym, subst, Result, Err}
 use Rattle.context_diff.specs.Operations.{OpData, deleting}
 use Rattle.context_diff.specs.Histories.{context_of_all}
-use Rattle.cot_site.specs.declared.local.Local.{Local}
+use Rattle.site_answers.specs.declared.local.Local.{Local}
 use Rattle.cot_site.specs.Commands.{next_name, IsAnswer}
 use Rattle.cot_site.specs.Sites.{state_of}
 use Rattle.cot_site.proofs.LocalOps.{delete_ready}

@@ -1,5 +1,5 @@
 use Rattle.std.proofs.Common.{◌∙◌, ap}
-use Rattle.cot_site.specs.declared.local.Local.TheVariants.{PlaceOut}
+use Rattle.site_answers.specs.declared.local.Local.TheVariants.{PlaceOut}
 use Rattle.cot_site.proofs.Views.{character_count}
 use Rattle.cot_site.proofs.site.Site.place_out.Goals as goal
 

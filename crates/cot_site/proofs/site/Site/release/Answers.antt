@@ -3,7 +3,7 @@ use Rattle.std.specs.Prelude.{Some, slice_get}
 use Rattle.std.proofs.lemmas.Bool.{true≢false}
 use Rattle.context_diff.specs.Operations.{OpData}
 use Rattle.context_diff.specs.Ops.{data_of}
-use Rattle.cot_site.specs.declared.verdict.Verdict.TheVariants.{Integrated}
+use Rattle.site_answers.specs.declared.verdict.Verdict.TheVariants.{Integrated}
 use Rattle.cot_site.specs.States.{judged, without_waiting}
 use Rattle.cot_site.specs.Sites.{state_of}
 use Rattle.cot_site.proofs.Changes.{not_as_before, refused}

@@ -3,8 +3,8 @@ use Rattle.op_name.specs.declared.member.Member.{Member}
 use Rattle.context_diff.specs.Operations.{member_of}
 use Rattle.context_diff.specs.Ops.{data_of}
 use Rattle.context_diff.proofs.CallerLemmas.{formed_member}
-use Rattle.cot_site.specs.declared.release.Release.{Release}
-use Rattle.cot_site.specs.declared.verdict.Verdict.{Verdict}
+use Rattle.site_answers.specs.declared.release.Release.{Release}
+use Rattle.site_answers.specs.declared.verdict.Verdict.{Verdict}
 use Rattle.cot_site.specs.States.{delivered_again, without_waiting, after_verdict}
 use Rattle.cot_site.specs.Sites.{state_of}
 use Rattle.cot_site.proofs.Waiting.{release_is, first_within, first_is_ready, formed_at}

@@ -3,7 +3,7 @@ use Rattle.std.proofs.lemmas.Bool.{true≢false}
 use Rattle.std.proofs.lemmas.Option.{none-some}
 use Rattle.std.specs.Prelude.{Option, Some, None}
 use Rattle.context_diff.specs.Ops.{data_of}
-use Rattle.cot_site.specs.declared.verdict.Verdict.{Verdict}
+use Rattle.site_answers.specs.declared.verdict.Verdict.{Verdict}
 use Rattle.cot_site.specs.States.{Released, after_release, after_verdict, without_waiting}
 use Rattle.cot_site.specs.Sites.{state_of, IsRelease}
 use Rattle.cot_site.proofs.Changes.{first_integrates, refused}

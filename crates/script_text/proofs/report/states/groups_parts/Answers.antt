@@ -1,5 +1,5 @@
 use Rattle.std.proofs.lemmas.Result.{on_ok_weaker}
-use Rattle.script_text.specs.Names.{group_text}
+use Rattle.site_answers.specs.Names.{group_text}
 use Rattle.script_text.proofs.Listings.{listed_both}
 use Rattle.script_text.proofs.report.states.groups_parts.Goals as goal
 

@@ -1,4 +1,4 @@
-use Rattle.script_text.specs.Names.{group_text}
+use Rattle.site_answers.specs.Names.{group_text}
 use Rattle.script_text.proofs.Listings.{IsListedUpTo}
 use Rattle.script_text.proofs.report.states.more_groups_parts.Given as goal
 

@@ -6,7 +6,7 @@ use itoa::Buffer;
 use op_name::Memory;
 
 /// Appends the text. A refused call leaves `out` as it was.
-pub(crate) fn text(out: &mut Vec<u8>, text: &[u8]) -> Result<(), Memory>
+pub fn text(out: &mut Vec<u8>, text: &[u8]) -> Result<(), Memory>
     ensures ok { OnOk result (out.new.items ≡ out.old.items ++ text.now) }
     ensures err { OnErr result (out.new.items ≡ out.old.items) }
 {
@@ -15,7 +15,7 @@ pub(crate) fn text(out: &mut Vec<u8>, text: &[u8]) -> Result<(), Memory>
 }
 
 /// Appends the text and the number in decimal digits. A refused call leaves `out` as it was.
-pub(crate) fn number(out: &mut Vec<u8>, before: &[u8], number: u64) -> Result<(), Memory>
+pub fn number(out: &mut Vec<u8>, before: &[u8], number: u64) -> Result<(), Memory>
     ensures ok { OnOk result (out.new.items ≡ out.old.items ++ (before.now ++ decimal number)) }
     ensures err { OnErr result (out.new.items ≡ out.old.items) }
 {
@@ -36,11 +36,7 @@ fn text_and_number(out: &mut Vec<u8>, before: &[u8], number: u64) -> Result<(), 
 }
 
 /// Takes back what was appended after the first `start` bytes, where memory ran out on the way.
-pub(crate) fn take_back(
-    out: &mut Vec<u8>,
-    start: usize,
-    done: Result<(), Memory>,
-) -> Result<(), Memory>
+pub fn take_back(out: &mut Vec<u8>, start: usize, done: Result<(), Memory>) -> Result<(), Memory>
     ensures same { result ≡ done }
     ensures ok { OnOk result (out.new.items ≡ out.old.items) }
     ensures err { OnErr result (out.new.items ≡ take start out.old.items) }

@@ -1,12 +1,12 @@
 //! The words of verdicts on operations that others made.
 
 ghost use Rattle.std.specs.Prelude.{◌≡◌, ◌++◌, OnOk, OnErr, codes, decimal, length, take};
-ghost use Rattle.script_text.specs.Names.{member_text};
-ghost use Rattle.script_text.specs.Verdicts.{forged_text, verdict_text};
+ghost use Rattle.site_answers.specs.Names.{member_text};
+ghost use Rattle.site_answers.specs.Words.{forged_text, verdict_text};
 
-use crate::report::members::{put_member, put_name};
-use crate::report::put;
-use cot_site::Verdict;
+use crate::members::{put_member, put_name};
+use crate::put;
+use crate::verdict::Verdict;
 use op_name::{Member, Memory, Name};
 
 /// Appends a verdict and the operation's member, with what the verdict names; a forged operation is named by its

@@ -1,9 +1,9 @@
 //! Names and members as texts.
 
 ghost use Rattle.std.specs.Prelude.{◌≡◌, ◌++◌, OnOk, OnErr, length, take};
-ghost use Rattle.script_text.specs.Names.{name_text, group_text, member_text};
+ghost use Rattle.site_answers.specs.Names.{name_text, group_text, member_text};
 
-use crate::report::put;
+use crate::put;
 use op_name::{Member, Memory, Name};
 
 /// Appends a name: `S.N`. A refused call leaves `out` as it was.
