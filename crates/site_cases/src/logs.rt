@@ -131,7 +131,7 @@ fn cut_at(bytes: &[u8], out: &mut Vec<Placed>) -> Option<u32> {
     }
 }
 
-/// Whether a reading that goes well lists two operations, the last one at this offset, and one that is cut nothing more.
+/// Whether a reading that goes well lists two operations, the last one at offset 34, and one that is cut nothing more.
 fn lists_two(good: &[u8], cut: &[u8], out: &mut Vec<Placed>) -> bool {
     let listed = cut_at(good, out).is_none();
     let at = cut_at(cut, out).unwrap_or(0);
