@@ -1,6 +1,7 @@
 //! The pool: operations in the order of their arrival, and the calls that look for one of them.
 
-ghost use Rattle.std.specs.Prelude.{◌≡◌, ◌↔◌, ◌<◌, ◌++◌, ◌∷◌, [], Some, true, false, Contains, IsNone, IsTrue, IfOk, IfSome, OnErr, if◌then◌else◌, length, map, option_map, remove, slice_get};
+ghost use Rattle.std.specs.Prelude.{◌≡◌, ◌↔◌, ◌<◌, ◌++◌, ◌∷◌, [], Some, true, false, Contains, IsNone, IsTrue, IfOk, IfSome, OnOk, OnErr, if◌then◌else◌, length, map, option_map, remove, slice_get, vec_len, vec_capacity};
+ghost use Rattle.indexmap.specs.IndexMap.{spare};
 ghost use Rattle.op_name.specs.declared.member.Member.TheVariants.{Original};
 ghost use Rattle.op_name.specs.Members.{IsMember, member_eq};
 ghost use Rattle.context_vector.specs.Contexts.{Within, count_of, has};
@@ -181,13 +182,14 @@ impl Pool {
         if self.ops.len() >= OPS {
             return Err(Memory);
         }
-        self.ops.reserve(1)?;
-        self.names.reserve(1)?;
-        self.numbers.reserve(1)?;
-        self.hints.reserve(1)?;
-        self.befores.reserve(1)?;
-        let copy = op.try_clone()?;
-        let boxed = Box::new(*self.ops.allocator(), copy)?;
+        make_room(
+            &mut self.ops,
+            &mut self.names,
+            &mut self.numbers,
+            &mut self.hints,
+            &mut self.befores,
+        )?;
+        let boxed = boxed(*self.ops.allocator(), op)?;
         note_undo(&mut self.undos, op)?;
         note(&mut self.names, op, self.next);
         self.ops.push_reserved(boxed);
@@ -329,6 +331,41 @@ impl Pool {
         let hint = self.fresh_hint(i, have);
         self.hints[i as usize] = hint;
     }
+}
+
+// Makes room for one more in each column; what they have stays.
+fn make_room(
+    ops: &mut Vec<Box<Op>>,
+    names: &mut IndexMap<Name, u64>,
+    numbers: &mut Vec<u64>,
+    hints: &mut Vec<Option<Member>>,
+    befores: &mut Vec<Option<Name>>,
+) -> Result<(), Memory>
+    ensures ops { (ops.new.items ≡ ops.old.items) × (vec_len ops.new ≡ vec_len ops.old) }
+    ensures names { names.new.entries ≡ names.old.entries }
+    ensures numbers { (numbers.new.items ≡ numbers.old.items) × (vec_len numbers.new ≡ vec_len numbers.old) }
+    ensures hints { hints.new.items ≡ hints.old.items }
+    ensures befores { befores.new.items ≡ befores.old.items }
+    ensures ops_room { OnOk result (vec_len ops.new < vec_capacity ops.new) }
+    ensures names_room { OnOk result (0 < spare names.new) }
+    ensures numbers_room { OnOk result (vec_len numbers.new < vec_capacity numbers.new) }
+    ensures hints_room { OnOk result (vec_len hints.new < vec_capacity hints.new) }
+    ensures befores_room { OnOk result (vec_len befores.new < vec_capacity befores.new) }
+{
+    ops.reserve(1)?;
+    names.reserve(1)?;
+    numbers.reserve(1)?;
+    hints.reserve(1)?;
+    befores.reserve(1)?;
+    Ok(())
+}
+
+// A copy of the operation on the heap.
+fn boxed(alloc: Global, op: &Op) -> Result<Box<Op>, Memory>
+    ensures { IfOk result (λ b. op_in b ≡ data_of op.now) }
+{
+    let copy = op.try_clone()?;
+    Ok(Box::new(alloc, copy)?)
 }
 
 // The operation at this place of the list.

@@ -1,4 +1,4 @@
-use Rattle.std.proofs.Common.{◌≡◌, List, subst}
+use Rattle.std.proofs.Common.{List, subst}
 use Rattle.context_diff.specs.Operations.{OpData}
 use Rattle.causal_gate.specs.Undos.{AreUndos}
 use Rattle.causal_gate.proofs.UndoIndex.{undo_waits, undo_found}
