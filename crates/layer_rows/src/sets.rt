@@ -290,19 +290,20 @@ fn drop_last(set: &mut Vector, words: &mut Words<'_>, out: &mut String) -> Resul
 // `through MEMBER`: the member, which has to be next, comes into room that is made, and goes out again in that room. What
 // was the last of its site or its name in between.
 fn through(set: &mut Vector, words: &mut Words<'_>, out: &mut String) -> Result<bool, Memory> {
-    match words.member() {
-        Some(member) if is_next(set, &member) => {
-            set.reserve(&member)?;
-            set.add_reserved(&member);
-            let last = last_of(set, &member);
-            if is_last(set, &member) {
-                set.drop_last(&member);
-            }
-            put_number(out, u64::from(last))?;
-            Ok(true)
-        }
-        _ => Ok(false),
+    let Some(member) = words.member() else {
+        return Ok(false);
+    };
+    if !is_next(set, &member) {
+        return Ok(false);
     }
+    set.reserve(&member)?;
+    set.add_reserved(&member);
+    let last = last_of(set, &member);
+    if is_last(set, &member) {
+        set.drop_last(&member);
+    }
+    put_number(out, u64::from(last))?;
+    Ok(true)
 }
 
 fn call_reading(
