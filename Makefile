@@ -1,52 +1,108 @@
-# `make` leaves the proved program at bin/cotpad; `make demo` replays and shows the examples with it, and lets two copies exchange. `make lib` leaves the
-# library for hosts in lib/, and `make check-hosts` runs hosts in C and in Python over it.
-.PHONY: all lib demo check-examples check-bytes check-memory check-hosts check-edits doors trust clean
+# `make` proves and builds the program, and leaves it at bin/cotpad; `make lib` leaves the library for hosts in lib/. `make quick`
+# and `make quick-lib` leave the same in quick/ within two minutes, and prove nothing. `make demo` replays and shows the examples,
+# and lets two copies exchange; `make check-hosts` runs hosts in C and in Python over the library.
+.PHONY: all lib quick quick-lib demo check-examples check-bytes check-memory check-hosts check-edits doors trust clean
 
+# As many recipes at once as there are processors, where no -j says otherwise.
+ifeq ($(MAKELEVEL)$(filter -j%,$(MAKEFLAGS))$(filter clean,$(MAKECMDGOALS)),0)
+MAKEFLAGS += -j$(shell nproc)
+endif
+
+.DELETE_ON_ERROR:
+
+BEGAN := $(shell date +%s)
 SOURCES := $(shell find crates -name out -prune -o -type f \( -name '*.rt' -o -name '*.antt' \) -print) crates.txt
 
+# What crates.txt lists, as words CRATE:LIBRARY,LIBRARY, those first that the longest chain of others waits for.
+LISTED := $(shell tools/lib --list)
+
+comma := ,
+CRATES := $(foreach it,$(LISTED),$(firstword $(subst :, ,$(it))))
+below = $(subst $(comma), ,$(word 2,$(subst :, ,$(filter $(1):%,$(LISTED)))))
+files = $(filter crates/$(1)/src/% crates/$(1)/specs/% crates/$(1)/proofs/% crates.txt,$(SOURCES))
+# The marks that these libraries are built.
+made = $(patsubst %,crates/%/out/made,$(1))
+
+# How many of these libraries were built since make began, and how long ago that is.
+anew = $$(find $(patsubst %,crates/%/out/rlib/stamp,$(1)) -newermt @$(BEGAN) | wc -l)
+since = $$(( ($$(date +%s) - $(BEGAN)) / 60 )) min $$(( ($$(date +%s) - $(BEGAN)) % 60 )) s
+over = over $(words $(call below,$(1))) libraries, $(call anew,$(call below,$(1))) of them built just now, in $(since)
+
 all: bin/cotpad
+	@echo "bin/cotpad: proved and built $(call over,cotpad)"
+
+# Each library is built once those that it stands on are, independent ones side by side.
+$(foreach it,$(CRATES),$(eval crates/$(it)/out/made: $(call files,$(it)) $(call made,$(call below,$(it)))))
+crates/%/out/made:
+	@tools/lib $*
+	@touch $@
 
 # `rt run` proves, compiles and links; the empty script that it is run on shows nothing.
-bin/cotpad: $(SOURCES)
-	mkdir -p bin
+bin/cotpad: $(call files,cotpad) $(call made,$(call below,cotpad))
+	@mkdir -p bin
 	cd crates/cotpad && rt run -- replay < /dev/null
-	cp crates/cotpad/out/cotpad bin/cotpad
+	@cp crates/cotpad/out/cotpad bin/cotpad
 
 # The kit's library that hands allocations on to malloc.
-KIT_C := $(dir $(shell rt doc))c
+KIT_C = $(dir $(shell rt doc))c
+
+# One object whose only global names are the calls of the header, so that it meets no other Rattle library in a program: made of
+# the archive $(1) of the exports.
+define one-object
+	ld -r -o $(@D)/whole.o --whole-archive $(1) --no-whole-archive $(KIT_C)/liblibc_c.a
+	objcopy --wildcard --keep-global-symbol='cotpad_*' $(@D)/whole.o $(@D)/cotpad.o
+	rm -f $@
+	ar rcs $@ $(@D)/cotpad.o
+	rm $(@D)/whole.o $(@D)/cotpad.o
+	tools/check-header $@
+endef
 
 lib: lib/libcotpad.a lib/libcotpad.so.1 lib/cotpad.pc
+	@echo "lib/libcotpad.a, libcotpad.so.1 and cotpad.pc: proved and built $(call over,cotpad_c)"
 
-# One object whose only global names are the calls of the header, so that it meets no other Rattle library in a program.
-lib/libcotpad.a: $(SOURCES) include/cotpad.h tools/check-header
-	mkdir -p lib
+lib/libcotpad.a: $(call files,cotpad_c) $(call made,$(call below,cotpad_c)) include/cotpad.h tools/check-header
+	@mkdir -p lib
 	cd crates/cotpad_c && rt lib
-	ld -r -o lib/whole.o --whole-archive crates/cotpad_c/out/libcotpad_c.a --no-whole-archive $(KIT_C)/liblibc_c.a
-	objcopy --wildcard --keep-global-symbol='cotpad_*' lib/whole.o lib/cotpad.o
-	rm -f $@
-	ar rcs $@ lib/cotpad.o
-	rm lib/whole.o lib/cotpad.o
-	tools/check-header $@
+	$(call one-object,crates/cotpad_c/out/libcotpad_c.a)
 
-lib/libcotpad.so.1: lib/libcotpad.a
-	$(CC) -shared -o $@ -Wl,-soname,libcotpad.so.1 -Wl,-z,defs -Wl,--whole-archive lib/libcotpad.a -Wl,--no-whole-archive
-	ln -sf libcotpad.so.1 lib/libcotpad.so
+%/libcotpad.so.1: %/libcotpad.a
+	$(CC) -shared -o $@ -Wl,-soname,libcotpad.so.1 -Wl,-z,defs -Wl,--whole-archive $< -Wl,--no-whole-archive
+	ln -sf libcotpad.so.1 $*/libcotpad.so
 
-lib/cotpad.pc: Makefile
-	mkdir -p lib
+%/cotpad.pc: Makefile
+	@mkdir -p $*
 	printf '%s\n' 'prefix=$(CURDIR)' 'Name: cotpad' 'Description: the core of a group text editor' 'Version: 1' \
-		'Cflags: -I$${prefix}/include' 'Libs: -L$${prefix}/lib -lcotpad' > $@
+		'Cflags: -I$${prefix}/include' 'Libs: -L$${prefix}/$* -lcotpad' > $@
+
+# The program and the library for hosts, to try things: nothing is claimed of them.
+quick: quick/cotpad
+	@echo "quick/cotpad: built in $(since); nothing is proved of it (\`make\` proves the program)"
+
+quick-lib: quick/libcotpad.a quick/libcotpad.so.1 quick/cotpad.pc
+	@echo "quick/libcotpad.a, libcotpad.so.1 and cotpad.pc: built in $(since); nothing is proved of them (\`make lib\` proves them)"
+
+quick/cotpad: $(foreach it,cotpad $(call below,cotpad),$(call files,$(it))) tools/quick
+	@tools/quick cotpad $@
+
+quick/libcotpad.a: $(foreach it,cotpad_c $(call below,cotpad_c),$(call files,$(it))) include/cotpad.h tools/quick tools/check-header
+	@tools/quick cotpad_c quick/exports.a
+	$(call one-object,quick/exports.a)
+	@rm quick/exports.a
 
 HOST_FLAGS := -std=c99 -Wall -Wextra -Wpedantic -O2 -Iinclude
+# The folder of the library that hosts are linked with.
+LIB ?= $(patsubst %/libcotpad.a,%,$(firstword $(wildcard lib/libcotpad.a quick/libcotpad.a)))
 
 # Three people in C and in Python, compared with what they have to write, and a session in which each allocation is refused in
 # turn; where valgrind is there, it has to find no bad access and no block left.
-check-hosts: lib
-	mkdir -p bin
-	$(CC) $(HOST_FLAGS) -o bin/notes examples/embed/notes.c lib/libcotpad.a
+check-hosts:
+	@test -f "$(LIB)/libcotpad.a" || { echo "there is no library for hosts: call \`make quick-lib\` or \`make lib\` first" >&2; false; }
+	@echo "with $(LIB)/libcotpad.a"
+	@mkdir -p bin
+	$(CC) $(HOST_FLAGS) -o bin/notes examples/embed/notes.c $(LIB)/libcotpad.a
 	bin/notes | diff - examples/embed/notes.c.out
-	python3 examples/embed/notes.py | diff - examples/embed/notes.py.out
-	$(CC) $(HOST_FLAGS) -Wl,--wrap=malloc,--wrap=realloc -o bin/no_memory tools/hosts/no_memory.c lib/libcotpad.a
+	COTPAD_LIB=$(abspath $(LIB))/libcotpad.so.1 python3 examples/embed/notes.py | diff - examples/embed/notes.py.out
+	$(CC) $(HOST_FLAGS) -Wl,--wrap=malloc,--wrap=realloc -o bin/no_memory tools/hosts/no_memory.c $(LIB)/libcotpad.a
 	bin/no_memory
 	@if command -v valgrind > /dev/null; then \
 		valgrind -q --leak-check=full --error-exitcode=1 bin/notes > /dev/null && echo "valgrind finds nothing in bin/notes"; \
@@ -54,37 +110,43 @@ check-hosts: lib
 		echo "no valgrind here: bin/notes wasn't run with it"; \
 	fi
 
-demo: bin/cotpad
-	@for script in examples/*.script; do \
-		echo "== $$script"; cat $$script; echo "-- replayed"; bin/cotpad replay < $$script; echo; \
-	done
-	@for log in examples/*.log; do \
-		echo "== $$log, shown"; bin/cotpad show < $$log; \
-	done
-	@echo "== examples/explain.log, 1.1/2 explained"; bin/cotpad explain 1.1/2 < examples/explain.log
-	@echo "== examples/exchange.sh"; examples/exchange.sh
+# A port of this machine that nobody uses.
+FREE_PORT = $$(python3 -c 'import socket; it = socket.create_server(("127.0.0.1", 0)); print(it.getsockname()[1])')
+
+# The targets below run the program that PROGRAM names, else the one at bin/, else the one at quick/.
+demo:
+	@program=$$(tools/program) || exit 1; \
+	for script in examples/*.script; do \
+		echo "== $$script"; cat $$script; echo "-- replayed"; $$program replay < $$script; echo; \
+	done; \
+	for log in examples/*.log; do \
+		echo "== $$log, shown"; $$program show < $$log; \
+	done; \
+	echo "== examples/explain.log, 1.1/2 explained"; $$program explain 1.1/2 < examples/explain.log; \
+	echo "== examples/exchange.sh"; examples/exchange.sh $(FREE_PORT)
 
 # Compares what the program writes of each example with its report, what a program that drives it through a pipe reads, and its
 # answers to the frames and logs of docs/vectors.txt. Reports and answers were worked out by hand from docs/FORMATS.md.
-check-examples: bin/cotpad
-	@for script in examples/*.script; do \
-		bin/cotpad replay < $$script | cmp - $${script%.script}.report || exit 1; \
-	done
-	@for log in examples/*.log; do \
-		bin/cotpad show < $$log | cmp - $${log%.log}.report || exit 1; \
-	done
-	@bin/cotpad explain 1.1/2 < examples/explain.log | cmp - examples/explain.steps
-	@examples/exchange.sh | cmp - examples/exchange.report
-	@timeout 60 examples/drive.py bin/cotpad | cmp - examples/drive.out
-	@echo "each example writes its report"
-	@tools/check-vectors
+check-examples:
+	@set -e; program=$$(tools/program); \
+	for script in examples/*.script; do \
+		$$program replay < $$script | cmp - $${script%.script}.report; \
+	done; \
+	for log in examples/*.log; do \
+		$$program show < $$log | cmp - $${log%.log}.report; \
+	done; \
+	$$program explain 1.1/2 < examples/explain.log | cmp - examples/explain.steps; \
+	examples/exchange.sh $(FREE_PORT) | cmp - examples/exchange.report; \
+	timeout 60 examples/drive.py $$program | cmp - examples/drive.out; \
+	echo "each example writes its report with $$program"; \
+	tools/check-vectors
 
 # Frames that nobody should send, compared with the answers of a grammar that is written a second time.
-check-bytes: bin/cotpad
+check-bytes:
 	@tools/judge-frames
 
 # Sessions in which each allocation is refused in turn: each run is out of memory and wrote a front of its answer, or goes well.
-check-memory: bin/cotpad
+check-memory:
 	@tools/refuse-allocations
 
 # The must-fail edits that the gate leaves out, each of which has to be refused.
@@ -100,4 +162,4 @@ doors:
 	@tools/doors
 
 clean:
-	rm -rf bin lib
+	rm -rf bin lib quick

@@ -1,20 +1,22 @@
 #!/bin/sh
 # Two people have copies of one log, edit them apart, and exchange over a connection of this machine: both then show the same text.
-# Run it at the top of the repository, once `make` left the program at bin/cotpad. A port may be given, else it is 7000.
+# Run it at the top of the repository. It takes the program that PROGRAM names, else that of `make`, else that of `make quick`.
+# A port may be given, else it is 7000.
 set -e
+program=$("$(dirname "$0")/../tools/program")
 port=${1:-7000}
 work=$(mktemp -d)
 server=
 trap 'test -z "$server" || kill "$server" 2> /dev/null || true; rm -rf "$work"' EXIT
 
 printf 'COTLOG1\n' > "$work/empty"
-bin/cotpad edit 0 ins 0 'Agenda: budget' < "$work/empty" > "$work/shared"
+"$program" edit 0 ins 0 'Agenda: budget' < "$work/empty" > "$work/shared"
 
 # Ann, site 0, and Bob, site 1, know nothing of each other's edit.
-bin/cotpad edit 0 ins 8 'draft ' < "$work/shared" > "$work/ann"
-bin/cotpad edit 1 ins 14 ', staff' < "$work/shared" > "$work/bob"
+"$program" edit 0 ins 8 'draft ' < "$work/shared" > "$work/ann"
+"$program" edit 1 ins 14 ', staff' < "$work/shared" > "$work/bob"
 
-bin/cotpad serve "$port" < "$work/ann" > "$work/ann.new" &
+"$program" serve "$port" < "$work/ann" > "$work/ann.new" &
 server=$!
 
 # Until Ann's program waits at the port, `join` ends with status 6.
@@ -24,13 +26,13 @@ while [ "$status" -eq 6 ] && [ "$tries" -lt 50 ]; do
     sleep 0.1
     tries=$((tries + 1))
     status=0
-    bin/cotpad join "$port" < "$work/bob" > "$work/bob.new" || status=$?
+    "$program" join "$port" < "$work/bob" > "$work/bob.new" || status=$?
 done
 test "$status" -eq 0
 wait "$server"
 server=
 
 echo 'Ann:'
-bin/cotpad show < "$work/ann.new"
+"$program" show < "$work/ann.new"
 echo 'Bob:'
-bin/cotpad show < "$work/bob.new"
+"$program" show < "$work/bob.new"

@@ -1,15 +1,16 @@
 #!/bin/sh
 # Makes explain.log: site 1 typed x, site 0 typed a without knowing of it, and site 1 undid and redid its x.
 # A log takes frames of operations that were made apart: they are put one after the other, and the header stands once.
-# Run it at the top of the repository, once `make` left the program at bin/cotpad.
+# Run it at the top of the repository. It takes the program that PROGRAM names, else that of `make`, else that of `make quick`.
 set -e
+program=$("$(dirname "$0")/../tools/program")
 work=$(mktemp -d)
 trap 'rm -rf "$work"' EXIT
 printf 'COTLOG1\n' > "$work/empty"
-bin/cotpad edit 1 ins 0 x < "$work/empty" > "$work/x"
-bin/cotpad edit 0 ins 0 a < "$work/empty" > "$work/a"
-bin/cotpad edit 1 undo 1.1 < "$work/x" > "$work/undone"
-bin/cotpad edit 1 redo 1.1 < "$work/undone" > "$work/redone"
+"$program" edit 1 ins 0 x < "$work/empty" > "$work/x"
+"$program" edit 0 ins 0 a < "$work/empty" > "$work/a"
+"$program" edit 1 undo 1.1 < "$work/x" > "$work/undone"
+"$program" edit 1 redo 1.1 < "$work/undone" > "$work/redone"
 header=8
 x=$(wc -c < "$work/x")
 {

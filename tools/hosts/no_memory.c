@@ -1,6 +1,7 @@
-/* Out of memory at each allocation in turn: a session of two sites is run again and again, the first time with its first
- * allocation refused, then with its second, and so on. A call that answers COTPAD_NO_MEMORY is made again, and both sites
- * have to show the same text as in the session in which nothing is refused. Link with -Wl,--wrap=malloc,--wrap=realloc. */
+/* Out of memory at each allocation in turn: a session of sites is run again and again, the first time with its first allocation
+ * refused, then with its second, and so on. A call that answers COTPAD_NO_MEMORY has changed nothing that can be counted and
+ * written nothing, and is made again; all sites have to show the same text as in the session in which nothing is refused. Link
+ * with -Wl,--wrap=malloc,--wrap=realloc. */
 #include "cotpad.h"
 #include <stdio.h>
 #include <stdlib.h>
@@ -26,6 +27,7 @@ static void stop(const char *why) {
     exit(1);
 }
 
+/* Makes a call, and once more where it was out of memory. */
 #define DO(call) \
     do { \
         cotpad_status answer = (call); \
@@ -36,23 +38,74 @@ static void stop(const char *why) {
         if (answer != COTPAD_OK) stop(#call); \
     } while (0)
 
+/* The same at a site that has to be as before where the call was out of memory. */
+#define DO_AT(site, call) \
+    do { \
+        struct counts before = counts_of(site); \
+        cotpad_status answer = (call); \
+        if (answer == COTPAD_NO_MEMORY) { \
+            again++; \
+            if (!has_counts(site, before)) stop("a refused call changed the site: " #call); \
+            answer = (call); \
+        } \
+        if (answer != COTPAD_OK) stop(#call); \
+    } while (0)
+
+struct counts {
+    uint32_t operations, waiting, characters;
+};
+
+static struct counts counts_of(cotpad_site *site) {
+    struct counts counts = {cotpad_operations(site), cotpad_waiting(site), cotpad_characters(site)};
+    return counts;
+}
+
+static int has_counts(cotpad_site *site, struct counts counts) {
+    return counts.operations == cotpad_operations(site) && counts.waiting == cotpad_waiting(site)
+        && counts.characters == cotpad_characters(site);
+}
+
+static int is_blank(const cotpad_verdict *verdict) {
+    static const cotpad_verdict blank = {0};
+    return memcmp(verdict, &blank, sizeof blank) == 0;
+}
+
+/* Releases what is ready, all of which is integrated. */
 static void release(cotpad_site *site) {
     for (;;) {
+        struct counts before = counts_of(site);
         cotpad_verdict verdict = {0};
         cotpad_status answer = cotpad_release(site, &verdict);
-        if (answer == COTPAD_NO_MEMORY) again++, answer = cotpad_release(site, &verdict);
+        if (answer == COTPAD_NO_MEMORY) {
+            again++;
+            if (!has_counts(site, before) || !is_blank(&verdict)) stop("a refused release changed something");
+            answer = cotpad_release(site, &verdict);
+        }
         if (answer == COTPAD_NONE) return;
-        if (answer != COTPAD_OK) stop("release");
+        if (answer != COTPAD_OK || verdict.kind != COTPAD_VERDICT_INTEGRATED) stop("release");
     }
 }
 
-static void send(cotpad_site *from, uint32_t index, cotpad_site *to) {
+/* Delivers a frame, and answers the kind of its verdict. */
+static uint32_t receive(cotpad_site *site, const uint8_t *frame, size_t count) {
+    struct counts before = counts_of(site);
+    cotpad_verdict verdict = {0};
+    cotpad_status answer = cotpad_receive(site, frame, count, &verdict);
+    if (answer == COTPAD_NO_MEMORY) {
+        again++;
+        if (!has_counts(site, before) || !is_blank(&verdict)) stop("a refused delivery changed something");
+        answer = cotpad_receive(site, frame, count, &verdict);
+    }
+    if (answer != COTPAD_OK) stop("receive");
+    return verdict.kind;
+}
+
+/* Sends the operation at this index, and answers the kind of its verdict. */
+static uint32_t send(cotpad_site *from, uint32_t index, cotpad_site *to) {
     uint8_t frame[256];
     size_t count = 0;
-    cotpad_verdict verdict = {0};
-    DO(cotpad_frame(from, index, frame, sizeof frame, &count));
-    DO(cotpad_receive(to, frame, count, &verdict));
-    release(to);
+    DO_AT(from, cotpad_frame(from, index, frame, sizeof frame, &count));
+    return receive(to, frame, count);
 }
 
 /* Goes on after what was inserted or deleted before memory ran out. */
@@ -79,12 +132,13 @@ static void cut(cotpad_site *site, uint32_t place, uint32_t count) {
     }
 }
 
+/* Out of memory, the two calls that take frames in may have taken in the first of them. */
 static void exchange(cotpad_site *joiner, cotpad_site *server) {
     static uint8_t first[1024], second[1024], third[1024];
     size_t one = 0, two = 0, three = 0;
     cotpad_verdict why = {0};
-    DO(cotpad_exchange_offer(joiner, first, sizeof first, &one));
-    DO(cotpad_exchange_answer(server, first, one, second, sizeof second, &two, &why));
+    DO_AT(joiner, cotpad_exchange_offer(joiner, first, sizeof first, &one));
+    DO_AT(server, cotpad_exchange_answer(server, first, one, second, sizeof second, &two, &why));
     DO(cotpad_exchange_close(joiner, second, two, third, sizeof third, &three, &why));
     DO(cotpad_exchange_finish(server, third, three, &why));
 }
@@ -93,33 +147,54 @@ static void load(cotpad_site *from, cotpad_site *site) {
     static uint8_t log[4096];
     size_t count = 0;
     cotpad_verdict why = {0};
-    DO(cotpad_save(from, log, sizeof log, &count));
+    DO_AT(from, cotpad_save(from, log, sizeof log, &count));
     DO(cotpad_load(site, 2, log, count, &why));
+}
+
+/* The shown text; a refused call has written none of it. */
+static size_t text_of(cotpad_site *site, uint8_t *out, size_t room) {
+    size_t count = room + 1;
+    memset(out, 0xff, room);
+    cotpad_status answer = cotpad_text(site, out, room, &count);
+    if (answer == COTPAD_NO_MEMORY) {
+        again++;
+        for (size_t i = 0; i < room; i++)
+            if (out[i] != 0xff) stop("a refused call wrote a text");
+        if (count != room + 1) stop("a refused call counted a text");
+        answer = cotpad_text(site, out, room, &count);
+    }
+    if (answer != COTPAD_OK) stop("text");
+    return count;
+}
+
+static void shows(cotpad_site *site, const char *text) {
+    uint8_t shown[64];
+    size_t count = text_of(site, shown, sizeof shown);
+    if (count != strlen(text) || memcmp(shown, text, count) != 0) stop("another text");
 }
 
 static void same_text(cotpad_site *a, cotpad_site *b, size_t characters) {
     uint8_t one[64], other[64];
-    size_t count = 0, others = 0;
-    DO(cotpad_text(a, one, sizeof one, &count));
-    DO(cotpad_text(b, other, sizeof other, &others));
+    size_t count = text_of(a, one, sizeof one), others = text_of(b, other, sizeof other);
     if (count != others || memcmp(one, other, count) != 0) stop("the texts differ");
     if (count != characters) stop("a character is missing");
 }
 
+/* Two sites type, undo, and send one another all that they did. */
 static void session(void) {
     cotpad_site first = COTPAD_SITE_EMPTY, second = COTPAD_SITE_EMPTY, third = COTPAD_SITE_EMPTY;
     cotpad_site *a = &first, *b = &second, *c = &third;
     DO(cotpad_open(a, 0));
     DO(cotpad_open(b, 1));
     for (uint32_t i = 0; i < 6; i++) {
-        DO(cotpad_insert(a, i, 'a' + i));
-        DO(cotpad_insert(b, 0, 'z'));
+        DO_AT(a, cotpad_insert(a, i, 'a' + i));
+        DO_AT(b, cotpad_insert(b, 0, 'z'));
     }
-    for (uint32_t i = 6; i-- > 0;) send(a, i, b);
-    DO(cotpad_undo(b, 0, 3));
-    DO(cotpad_delete(b, 1));
-    DO(cotpad_redo(b, 0, 3));
-    for (uint32_t i = 0; i < cotpad_operations(b); i++) send(b, i, a);
+    for (uint32_t i = 6; i-- > 0;) send(a, i, b), release(b);
+    DO_AT(b, cotpad_undo(b, 0, 3));
+    DO_AT(b, cotpad_delete(b, 1));
+    DO_AT(b, cotpad_redo(b, 0, 3));
+    for (uint32_t i = 0; i < cotpad_operations(b); i++) send(b, i, a), release(a);
     same_text(a, b, 11);
     type(a, 3, "xyz");
     cut(b, 0, 2);
@@ -132,12 +207,41 @@ static void session(void) {
     cotpad_close(b);
 }
 
+/* An insert, a delete and an undo wait for what they were made after, until the first operation comes last. */
+static void backwards(void) {
+    cotpad_site first = COTPAD_SITE_EMPTY, second = COTPAD_SITE_EMPTY;
+    cotpad_site *here = &first, *there = &second;
+    DO(cotpad_open(here, 0));
+    DO(cotpad_open(there, 1));
+    DO_AT(here, cotpad_insert(here, 0, 'a'));
+    DO_AT(here, cotpad_insert(here, 1, 'b'));
+    DO_AT(here, cotpad_delete(here, 0));
+    DO_AT(here, cotpad_undo(here, 0, 2));
+    DO_AT(there, cotpad_insert(there, 0, 'x'));
+    for (uint32_t i = 4; i-- > 1;)
+        if (send(here, i, there) != COTPAD_VERDICT_WAITS) stop("an early operation doesn't wait");
+    if (cotpad_waiting(there) != 3) stop("three operations don't wait");
+    if (send(here, 0, there) != COTPAD_VERDICT_INTEGRATED) stop("the first operation isn't integrated");
+    release(there);
+    if (cotpad_waiting(there) != 0) stop("an operation still waits");
+    shows(there, "x");
+    DO_AT(there, cotpad_redo(there, 0, 2));
+    if (send(there, 0, here) != COTPAD_VERDICT_INTEGRATED) stop("the insert isn't integrated");
+    if (send(there, 5, here) != COTPAD_VERDICT_INTEGRATED) stop("the redo isn't integrated");
+    shows(here, "bx");
+    shows(there, "bx");
+    cotpad_close(here);
+    cotpad_close(there);
+}
+
 int main(void) {
     session();
+    backwards();
     long all = allocations;
     for (refused = 1; refused <= all; refused++) {
         allocations = 0;
         session();
+        backwards();
     }
     printf("each of %ld allocations refused: the same text each time\n", all);
     fprintf(stderr, "%ld calls were made again\n", again);

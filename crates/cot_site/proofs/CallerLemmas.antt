@@ -5,6 +5,7 @@ pub use Rattle.cot_site.proofs.Lacking.{first_lacked_is}
 pub use Rattle.cot_site.proofs.LocalOps.{few_cells, in_context_made, local_delete_next, local_insert_next, local_redo_next, local_undo_next}
 pub use Rattle.cot_site.proofs.Releases.{settled_none}
 pub use Rattle.cot_site.proofs.Settling.{after_append, after_more, after_none, delivered_number, later_on, release_number, settled_has_none, settled_settles, settled_stays, sound_along, sound_delivered, sound_more, sound_released, verdict_history}
+pub use Rattle.cot_site.proofs.ShownPlaces.{behind_few, shown_few}
 pub use Rattle.cot_site.proofs.Verdicts.{formed_context, group_reached, integrated_next, next_integrated, unknown_no_repeat, verdict_only, verdicts_exact}
 pub use Rattle.cot_site.proofs.Views.{places_few}
 pub use Rattle.cot_site.proofs.Waiting.{formed_at, got_there, held_formed}

@@ -6,6 +6,7 @@ pub mod Releases
 pub mod LocalOps
 pub mod Executions
 pub mod Views
+pub mod ShownPlaces
 pub mod FormLists
 pub mod Findings
 pub mod Waiting

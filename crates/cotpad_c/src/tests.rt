@@ -23,6 +23,7 @@ const SECOND: &[u8] = &[
 fn a_handle_is_opened_and_closed(rt: HostRuntime) {
     let alloc = rt.alloc();
     let mut site = CotpadSite::empty(alloc);
+    assert_eq!(rt; exports::cotpad_version(), 1);
     assert_eq!(rt;
         exports::cotpad_open(alloc, &mut site, 64),
         status::SITE_OUT

@@ -1,5 +1,5 @@
--- The lines of a report.
-use Rattle.std.specs.Prelude.{ℕ, List, [], ◌∷◌, ◌++◌, length, map, decimal, codes, if◌then◌else◌}
+-- Reports, and the lines of which they are made.
+use Rattle.std.specs.Prelude.{ℕ, Bool, List, [], ◌∷◌, ◌++◌, length, map, decimal, codes, if◌then◌else◌}
 use Rattle.std.specs.List.{join_with_byte, flat_map}
 use Rattle.context_vector.specs.Contexts.{ContextData}
 use Rattle.context_diff.specs.Operations.{OpData, inserting, deleting, undoing}
@@ -7,6 +7,11 @@ use Rattle.op_name.specs.Members.{is_even}
 use Rattle.site_answers.specs.Names.{name_text, group_text}
 use Rattle.script_text.specs.declared.report.refusal.Refusal.{Refusal}
 use Rattle.script_text.specs.declared.report.refusal.Refusal.TheVariants.{Limit, Long, Utf8, Form, NoSites, Twice, NoSite, NoMessage}
+
+-- what is written in reply to an input, and whether something of it was refused
+pub record Report : Type 0 where
+  pub written : List ℕ
+  pub refused : Bool
 
 -- what a local operation does, in words: an undo at an even generation is a redo
 abbrev pub turn_word : ℕ → List ℕ

@@ -77,7 +77,26 @@ pub fn take_in(
     ensures memory { result ≡ Err LogBad.Memory → IsCutShort (state_of site.old) (data_of op) (state_of site.new) }
 {
     let op = with_shared_names(site, op);
-    match site.deliver(&op) {
+    take_known(site, offset, &op, released)
+}
+
+// The same of an operation that the caller gives up: a match with many exits over an owned one takes minutes to prove.
+fn take_known(
+    site: &mut Site,
+    offset: u32,
+    op: &Op,
+    released: &mut Vec<Release>,
+) -> Result<(), LogBad>
+    requires { IsWellFormed (data_of op.now) }
+    ensures taken { OnOk result (first_refusal (verdicts_after (state_of site.old) (data_of op.now)) ≡ None) }
+    ensures state { OnOk result (state_of site.new ≡ taken_in (state_of site.old) (data_of op.now)) }
+    ensures refused { IfErr result (IsRefusal offset (verdicts_after (state_of site.old) (data_of op.now))) }
+    ensures stays { is_refusal (judged (state_of site.old) (data_of op.now)) ≡ true → state_of site.new ≡ state_of site.old }
+    ensures released { IfErr result (λ why. why ≢ LogBad.Memory → is_refusal (judged (state_of site.old) (data_of op.now)) ≡ false
+        → state_of site.new ≡ taken_in (state_of site.old) (data_of op.now)) }
+    ensures memory { result ≡ Err LogBad.Memory → IsCutShort (state_of site.old) (data_of op.now) (state_of site.new) }
+{
+    match site.deliver(op) {
         Ok(verdict) if is_refusal(&verdict) => Err(LogBad::Refused {
             offset,
             member: op.member(),

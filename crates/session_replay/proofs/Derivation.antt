@@ -19,7 +19,8 @@ use Rattle.script_text.specs.Lines.{line_site}
 use Rattle.session_replay.specs.Steps.{Step, last_of, written_by}
 use Rattle.session_replay.specs.Sessions.{SessionData, site_at, made, unstarted}
 use Rattle.session_replay.specs.LineSteps.{told, commanded, typed, typed_in, typed_on, show_text_in, once_started, at_site_of, steps_there, steps_there_in, line_steps, line_steps_in, AreValues}
-use Rattle.session_replay.specs.Scripts.{Report, Piece, prepended, line_read, pieces_of, steps_of_read, steps_of_read_in, piece_steps, piece_steps_in, report_on, report_from, report_from_in, script_report, script_report_in}
+use Rattle.script_text.specs.Report.{Report}
+use Rattle.session_replay.specs.Scripts.{Piece, prepended, line_read, pieces_of, steps_of_read, steps_of_read_in, piece_steps, piece_steps_in, report_on, report_from, report_from_in, script_report, script_report_in}
 use Rattle.session_replay.specs.Derivation.{IsDerivedReport}
 use Rattle.session_replay.specs.Soundness.{IsSound}
 use Rattle.session_replay.proofs.Sound.{Kept, good_made, good_last, site_sound}

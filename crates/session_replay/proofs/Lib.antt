@@ -10,7 +10,6 @@ pub mod Transcripts
 pub mod Derivation
 pub mod Lifting
 pub mod Commanding
-pub mod ShownPlaces
 pub mod Loops
 pub mod Lines
 pub mod Characters

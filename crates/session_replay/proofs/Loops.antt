@@ -15,6 +15,7 @@ use Rattle.cot_site.specs.Commands.{local_insert, place_behind, numbered, next_n
 use Rattle.site_answers.specs.declared.local.Local.{Local}
 use Rattle.site_answers.specs.declared.local.Local.TheVariants.{PlaceOut}
 use Rattle.script_text.specs.Report.{raw_bad_text, raw_more_text}
+use Rattle.cot_site.proofs.CallerLemmas.{behind_few}
 use Rattle.wire_codec.specs.Causes.{cause_word}
 use Rattle.wire_codec.specs.Judging.{judge, judged, longest, length_of}
 use Rattle.wire_codec.specs.declared.fault.Fault.{Fault}
@@ -23,7 +24,6 @@ use Rattle.wire_codec.specs.declared.fault.Refused.TheVariants.{More, Bad}
 use Rattle.session_replay.specs.Steps.{Step, last_of}
 use Rattle.session_replay.specs.Sessions.{SessionData, site_at, given, given_all, synced, new_site, new_sites}
 use Rattle.session_replay.specs.Code.Doing.{frame_bytes}
-use Rattle.session_replay.proofs.ShownPlaces.{behind_few}
 use Rattle.session_replay.specs.LineSteps.{commanded, typed, typed_in, typed_on, framed, framed_on, told}
 
 -- the line of bytes that begin with no frame

@@ -25,12 +25,11 @@ use Rattle.cot_site.specs.States.{State}
 use Rattle.op_name.specs.Lists.{places_from}
 use Rattle.cot_site.specs.Views.{shown_places_of}
 use Rattle.cot_site.specs.Commands.{place_of_shown, place_behind, count_made, next_name, in_context, numbered, turned, local_insert, local_delete, local_undo, local_redo}
-use Rattle.cot_site.proofs.CallerLemmas.{local_insert_next, local_delete_next, local_undo_next, local_redo_next, in_context_made}
+use Rattle.cot_site.proofs.CallerLemmas.{local_insert_next, local_delete_next, local_undo_next, local_redo_next, in_context_made, shown_few}
 use Rattle.session_replay.specs.declared.draws.Draw.{Draw}
 use Rattle.session_replay.specs.declared.generator.TheConstants.{MAX_EVENTS}
 use Rattle.session_replay.specs.Generating.{names_of, drawn_target, drawn_turn, drawn_insert, drawn_operation}
 use Rattle.session_replay.proofs.Names.{name_counted}
-use Rattle.session_replay.proofs.ShownPlaces.{shown_few}
 use Rattle.session_replay.proofs.Room.{few_numbers, few_generations}
 
 -- an operation that may come next at the site; an original of it has the site's number

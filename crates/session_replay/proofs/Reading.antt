@@ -14,7 +14,7 @@ use Rattle.script_text.specs.declared.reading.stream.TheConstants.{MAX_SCRIPT}
 use Rattle.script_text.specs.LeftLines.{LeftLine, InputData}
 use Rattle.script_text.specs.Streams.{seen, line_of, open_line, all_but_last_ended, lines_in, followed_by, looked_at, fed_with, IsPastLimit, HasNoLine, IsNext, Reads, TakesLine}
 use Rattle.script_text.specs.Code.Keeping.{HasNoFeed}
-use Rattle.script_text.specs.Report.{refused_text}
+use Rattle.script_text.specs.Report.{Report, refused_text}
 use Rattle.script_text.proofs.CallerLemmas.{lines_in_part, first_same, either}
 use Rattle.session_replay.specs.declared.script.Next.{Next}
 use Rattle.session_replay.specs.declared.script.Next.TheVariants.{Done, Awaited, Refused}
@@ -22,7 +22,7 @@ use Rattle.session_replay.specs.Answers.{unread_by}
 use Rattle.session_replay.specs.Sessions.{SessionData, unstarted}
 use Rattle.session_replay.specs.Steps.{written_by, last_of}
 use Rattle.session_replay.specs.LineSteps.{line_steps}
-use Rattle.session_replay.specs.Scripts.{Piece, Whole, Past, Report, prepended, line_read, report_on, report_from, report_from_in, script_report}
+use Rattle.session_replay.specs.Scripts.{Piece, Whole, Past, prepended, line_read, report_on, report_from, report_from_in, script_report}
 use Rattle.session_replay.specs.ReaderData.{ReaderData}
 use Rattle.session_replay.specs.Readers.{pieces_after, nothing_left, Keeps, Awaits, AwaitsSome}
 use Rattle.session_replay.specs.Code.Reading.{Follows, TellsRefusal, is_refused}

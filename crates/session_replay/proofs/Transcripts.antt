@@ -8,12 +8,12 @@ use Rattle.cot_site.proofs.CallerLemmas.{lists_show}
 use Rattle.script_text.specs.declared.reading.line.Line.{Line}
 use Rattle.script_text.specs.declared.reading.line.Line.TheVariants.{Show}
 use Rattle.script_text.specs.declared.report.refusal.Refusal.{Refusal}
-use Rattle.script_text.specs.Report.{refused_text}
+use Rattle.script_text.specs.Report.{Report, refused_text}
 use Rattle.session_replay.specs.Steps.{Step, last_of, written_by}
 use Rattle.session_replay.specs.Sessions.{SessionData, unstarted}
 use Rattle.session_replay.specs.LineSteps.{told, show_text, line_steps, steps_there}
 use Rattle.session_replay.specs.Events.{Moment, moments, all_steps}
-use Rattle.session_replay.specs.Scripts.{Report, Piece, prepended, pieces_of, steps_of_read, piece_steps, report_on, report_from, report_from_in, script_report}
+use Rattle.session_replay.specs.Scripts.{Piece, prepended, pieces_of, steps_of_read, piece_steps, report_on, report_from, report_from_in, script_report}
 use Rattle.session_replay.specs.Transcripts.{Settles, Entry, steps_in, written_in, after_entry, IsShown, IsEntry, AreConsecutive, after_entries, IsEnd, IsTranscript}
 use Rattle.session_replay.proofs.LineLaws.{Lasting, site_there, line_lasts}
 use Rattle.session_replay.proofs.ScriptLaws.{Rests, Reads, piece_reads, piece_rests, unstarted_rests, waiting_named}

@@ -4,7 +4,8 @@ use Rattle.std.specs.Prelude.{◌≡◌, ℕ, List}
 use Rattle.ttf_form.specs.declared.form.Form.{Form}
 use Rattle.cot_site.specs.States.{State}
 use Rattle.cot_site.specs.Views.{forms_view, AreFormLists}
-use Rattle.session_replay.specs.Scripts.{Report, script_report, script_report_in}
+use Rattle.script_text.specs.Report.{Report}
+use Rattle.session_replay.specs.Scripts.{script_report, script_report_in}
 
 -- the report of the script, read with lists of forms: beside a valid history each operation has a derived form at the members
 -- before it, and texts, visible places, and the counts that refused places tell are those of the cells that the forms give

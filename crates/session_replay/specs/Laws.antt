@@ -6,7 +6,8 @@ use Rattle.script_text.specs.declared.reading.line.Line.{Line}
 use Rattle.session_replay.specs.Steps.{Step, last_of, IsReached}
 use Rattle.session_replay.specs.Sessions.{SessionData, site_at, made, given}
 use Rattle.session_replay.specs.LineSteps.{line_steps, AreValues}
-use Rattle.session_replay.specs.Scripts.{Report, script_report}
+use Rattle.script_text.specs.Report.{Report}
+use Rattle.session_replay.specs.Scripts.{script_report}
 use Rattle.session_replay.specs.Soundness.{IsSound, AreSettled}
 use Rattle.session_replay.specs.Transcripts.{IsTranscript}
 

@@ -1,5 +1,5 @@
 -- Scripts: their lines, and the report of a script, by the view that a site in each state has of its text.
-use Rattle.std.specs.Prelude.{◌≡◌, ◌⊎◌, ℕ, ◌+◌, Bool, true, false, List, [], ◌∷◌, ◌++◌, ◌==◌, length, map, take, nat_le, Result, Ok, Err, Option, Some, None, if◌then◌else◌}
+use Rattle.std.specs.Prelude.{◌≡◌, ◌⊎◌, ℕ, ◌+◌, true, false, List, [], ◌∷◌, ◌++◌, ◌==◌, length, map, take, nat_le, Result, Ok, Err, Option, Some, None, if◌then◌else◌}
 use Rattle.std.specs.List.{slice_split}
 use Rattle.std.specs.Str.{is_utf8}
 use Rattle.cot_site.specs.States.{State}
@@ -9,16 +9,11 @@ use Rattle.script_text.specs.declared.report.refusal.Refusal.{Refusal}
 use Rattle.script_text.specs.declared.report.refusal.Refusal.TheVariants as refusal
 use Rattle.script_text.specs.declared.reading.parse.TheConstants.{LONGEST}
 use Rattle.script_text.specs.Answers.{line_in}
-use Rattle.script_text.specs.Report.{refused_text}
+use Rattle.script_text.specs.Report.{Report, refused_text}
 use Rattle.script_text.specs.declared.reading.stream.TheConstants.{MAX_SCRIPT}
 use Rattle.session_replay.specs.Steps.{Step, last_of, written_by}
 use Rattle.session_replay.specs.Sessions.{SessionData, unstarted}
 use Rattle.session_replay.specs.LineSteps.{line_steps_in}
-
--- what is written, and whether the script was refused
-pub record Report : Type 0 where
-  pub written : List ℕ
-  pub refused : Bool
 
 -- the bytes of a line without its line feed; or a line that holds, or would begin with, the byte past the limit
 pub data Piece : Type 0 where

@@ -14,13 +14,13 @@ use Rattle.script_text.specs.declared.report.event.Event.TheVariants.{Give}
 use Rattle.script_text.specs.declared.reading.line.Line.{Line}
 use Rattle.script_text.specs.declared.reading.line.Line.TheVariants.{Show}
 use Rattle.script_text.specs.declared.report.refusal.Refusal.{Refusal}
-use Rattle.script_text.specs.Report.{shown_text, refused_text}
+use Rattle.script_text.specs.Report.{Report, shown_text, refused_text}
 use Rattle.script_text.specs.Verdicts.{verdict_line_text}
 use Rattle.session_replay.specs.Steps.{Step, last_of, written_by}
 use Rattle.session_replay.specs.Sessions.{SessionData, unstarted, site_at, given}
 use Rattle.session_replay.specs.LineSteps.{line_steps, line_steps_in}
 use Rattle.session_replay.specs.Events.{Event, Making, Giving, Telling, Opening, all_steps, Moment, moments, after_moment}
-use Rattle.session_replay.specs.Scripts.{Piece, Report, pieces_of, line_read, piece_steps}
+use Rattle.session_replay.specs.Scripts.{Piece, pieces_of, line_read, piece_steps}
 use Rattle.session_replay.specs.Soundness.{IsSound, AreSettled, WaitsFor}
 
 -- ---- one event

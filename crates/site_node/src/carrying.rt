@@ -1,6 +1,6 @@
 //! Carrying a message from one end of a pair to the other.
 
-ghost use Rattle.std.specs.Prelude.{◌≡◌, ◌<◌, ◌≤◌, ◌+◌, ◌-◌, true, length, drop, IfOk, IfErr, OnOk, OnErr};
+ghost use Rattle.std.specs.Prelude.{◌≡◌, ◌<◌, ◌≤◌, ◌+◌, ◌-◌, [], true, length, drop, IfOk, IfErr, OnOk, OnErr};
 ghost use Rattle.std.specs.Io.KnownBytes.{Appends};
 ghost use Rattle.outside_io.specs.Ends.{KeepLinked};
 ghost use Rattle.outside_io.specs.Faults.{HasCause};
@@ -92,6 +92,41 @@ pub(crate) fn carry<W: Wire>(
     ensures cause { OnlyLinkFails (W.faults wire.old) (W.faults wire.new) result }
 {
     let mut reader = MessageReader::new(alloc, which);
+    match carry_on(wire, from, bytes, &mut reader) {
+        Ok(()) => Ok(reader.into_bytes()),
+        Err(why) => Err(why),
+    }
+}
+
+// The same by a reader that the caller gives up: a loop with many exits over an owned one takes long to prove.
+fn carry_on<W: Wire>(
+    wire: &mut W,
+    from: u8,
+    bytes: &[u8],
+    reader: &mut MessageReader,
+) -> Result<(), Node>
+    requires linked { (W.ends wire.old from).linked ≡ true }
+    requires other { (W.ends wire.old (1 - from)).linked ≡ true }
+    requires pair { W.asked wire.old ≡ asked.Pair }
+    requires side { from < 2 }
+    requires nothing { reader.old.bytes ≡ [] }
+
+    ensures whole { OnOk result (measure_of reader.old.which reader.new.bytes ≡ Measure.Whole (length reader.new.bytes)) }
+    ensures short { OnOk result (length reader.new.bytes ≤ MAX_MESSAGE) }
+    ensures carried { OnOk result (IsCarried (W.ends wire.old (1 - from)) (W.ends wire.new (1 - from)) reader.old.which bytes.now reader.new.bytes) }
+    ensures sent { OnOk result (Appends (W.ends wire.old from).sent (W.ends wire.new from).sent bytes.now) }
+    ensures uncarried { IfErr result (IsUncarried (W.ends wire.old from) (W.ends wire.new from) (W.ends wire.old (1 - from)) (W.ends wire.new (1 - from))
+        reader.old.which bytes.now) }
+
+    ensures received { (W.ends wire.new from).received ≡ (W.ends wire.old from).received }
+    ensures to_come { (W.ends wire.new from).to_come ≡ (W.ends wire.old from).to_come }
+    ensures other_sent { (W.ends wire.new (1 - from)).sent ≡ (W.ends wire.old (1 - from)).sent }
+    ensures kept { KeepLinked (W.ends wire.old) (W.ends wire.new) }
+    ensures asked { W.asked wire.new ≡ W.asked wire.old }
+    ensures asks { W.asks wire.new ≡ W.asks wire.old }
+    ensures peer { W.peer wire.new ≡ W.peer wire.old }
+    ensures cause { OnlyLinkFails (W.faults wire.old) (W.faults wire.new) result }
+{
     let mut room = [0u8; ROOM];
     let mut at = 0;
     loop {
@@ -100,7 +135,7 @@ pub(crate) fn carry<W: Wire>(
             Measure::Whole { .. } => {
                 let (_, rest) = bytes.split_at(at);
                 match send(wire, from, rest) {
-                    Ok(()) => return Ok(reader.into_bytes()),
+                    Ok(()) => return Ok(()),
                     Err(Failed) => return Err(Node::Link),
                 }
             }
@@ -114,7 +149,7 @@ pub(crate) fn carry<W: Wire>(
                     Err(Failed) => return Err(Node::Link),
                 }
                 let wanted = wanted(len, at_least);
-                match read_on(wire, 1 - from, &mut reader, &mut room[..wanted]) {
+                match read_on(wire, 1 - from, reader, &mut room[..wanted]) {
                     Ok(0) => return Err(spoilt(len as u32, PeerCause::Cut)),
                     Ok(_) => {}
                     Err(why) => return Err(why),

@@ -1,6 +1,6 @@
 //! Receiving a message.
 
-ghost use Rattle.std.specs.Prelude.{◌≡◌, ◌⊎◌, ℕ, ◌<◌, ◌≤◌, ◌+◌, ◌-◌, List, true, length, IfOk, IfErr, OnOk, OnErr, Ok, Err};
+ghost use Rattle.std.specs.Prelude.{◌≡◌, ◌⊎◌, ℕ, ◌<◌, ◌≤◌, ◌+◌, ◌-◌, List, [], true, length, IfOk, IfErr, OnOk, OnErr, Ok, Err};
 ghost use Rattle.std.specs.Io.KnownBytes.{IsAtEnd};
 ghost use Rattle.outside_io.specs.Ends.{KeepLinked};
 ghost use Rattle.peer_exchange.specs.Measuring.{measure_of, NotPast};
@@ -92,18 +92,43 @@ pub(crate) fn receive<W: Wire>(
     ensures cause { OnlyLinkFails (W.faults wire.old) (W.faults wire.new) result }
 {
     let mut reader = MessageReader::new(alloc, which);
+    match fill(wire, end, &mut reader) {
+        Ok(()) => Ok(reader.into_bytes()),
+        Err(why) => Err(why),
+    }
+}
+
+// The same by a reader that the caller gives up: a loop with many exits over an owned one takes long to prove.
+fn fill<W: Wire>(wire: &mut W, end: u8, reader: &mut MessageReader) -> Result<(), Node>
+    requires linked { (W.ends wire.old end).linked ≡ true }
+    requires side { end < 2 }
+    requires nothing { reader.old.bytes ≡ [] }
+
+    ensures whole { OnOk result (measure_of reader.old.which reader.new.bytes ≡ Measure.Whole (length reader.new.bytes)) }
+    ensures short { OnOk result (length reader.new.bytes ≤ MAX_MESSAGE) }
+    ensures received { OnOk result (Receives (W.ends wire.old end) (W.ends wire.new end) reader.new.bytes) }
+    ensures stopped { IfErr result (IsStopped reader.old.which (W.ends wire.old end) (W.ends wire.new end)) }
+    ensures cut { (offset : ℕ) → result ≡ Err (Node.Peer (Peer.Bytes offset PeerCause.Cut)) → IsAtEnd (W.ends wire.new end).to_come }
+
+    ensures other_end { W.ends wire.new (1 - end) ≡ W.ends wire.old (1 - end) }
+    ensures kept { KeepLinked (W.ends wire.old) (W.ends wire.new) }
+    ensures asked { W.asked wire.new ≡ W.asked wire.old }
+    ensures asks { W.asks wire.new ≡ W.asks wire.old }
+    ensures peer { W.peer wire.new ≡ W.peer wire.old }
+    ensures cause { OnlyLinkFails (W.faults wire.old) (W.faults wire.new) result }
+{
     let mut room = [0u8; ROOM];
     loop {
         let len = reader.len();
         match reader.measure() {
-            Measure::Whole { .. } => return Ok(reader.into_bytes()),
+            Measure::Whole { .. } => return Ok(()),
             Measure::Bad { offset, cause } => return Err(spoilt(offset, cause)),
             Measure::More { at_least } => {
                 if len == MAX_MESSAGE {
                     return Err(spoilt(len as u32, PeerCause::Limit));
                 }
                 let wanted = wanted(len, at_least);
-                match read_on(wire, end, &mut reader, &mut room[..wanted]) {
+                match read_on(wire, end, reader, &mut room[..wanted]) {
                     Ok(0) => return Err(spoilt(len as u32, PeerCause::Cut)),
                     Ok(_) => {}
                     Err(why) => return Err(why),

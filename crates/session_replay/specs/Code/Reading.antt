@@ -2,11 +2,11 @@
 use Rattle.std.specs.Prelude.{◌≡◌, ℕ, Bool, true, false, List, ◌++◌, Some}
 use Rattle.script_text.specs.declared.reading.line.LineBad.{LineBad}
 use Rattle.script_text.specs.declared.report.refusal.Refusal.{Refusal}
-use Rattle.script_text.specs.Report.{refused_text}
+use Rattle.script_text.specs.Report.{Report, refused_text}
 use Rattle.session_replay.specs.declared.script.Next.{Next}
 use Rattle.session_replay.specs.declared.script.Next.TheVariants.{Done, Awaited, Refused}
 use Rattle.session_replay.specs.Answers.{unread_by}
-use Rattle.session_replay.specs.Scripts.{Report, prepended}
+use Rattle.session_replay.specs.Scripts.{prepended}
 
 -- a report is what was written up to a line that was read, and after it the report of the rest, unless the line is refused
 abbrev pub Follows : Next → Report → List ℕ → Report → Type 0

@@ -1,7 +1,0 @@
-use Rattle.std.proofs.Common.{◌≡◌}
-use Rattle.cotpad.proofs.Traces.{AreWritten}
-use Rattle.cotpad.proofs.explain.put_lines.Given as goal
-
--- the lines before this one are written, and counted
-abbrev pub invariant-loop-line : goal.invariant-loop-line
-invariant-loop-line l = (l.number ≡ l.line-index) × AreWritten l.initial.out.items l.lines l.line-index l.out.items

@@ -1,5 +1,0 @@
-use Rattle.cotpad.proofs.OneReply.{one_explanation}
-use Rattle.cotpad.proofs.laws.one_explanation.Goals as goal
-
-pub returns : goal.returns
-returns c = one_explanation c.one_refusal.ensures c.one_loading.ensures c.one_trace.ensures

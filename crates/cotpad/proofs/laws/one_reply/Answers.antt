@@ -1,5 +1,0 @@
-use Rattle.cotpad.proofs.OneReply.{one_reply}
-use Rattle.cotpad.proofs.laws.one_reply.Goals as goal
-
-pub returns : goal.returns
-returns c = one_reply c.one_refusal.ensures c.one_loading.ensures

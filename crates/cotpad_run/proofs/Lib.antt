@@ -1,0 +1,9 @@
+pub mod Spelling
+pub mod Scripts
+pub mod Alike
+pub mod Choosing
+pub mod Session
+pub mod Meetings
+pub mod Looping
+pub mod Pairs
+pub mod Peers

@@ -1,0 +1,41 @@
+-- Commands: what the program is asked to do.
+use Rattle.std.specs.Prelude.{ℕ}
+use Rattle.op_name.specs.declared.member.Member.{Member}
+use Rattle.log_replies.specs.Editing.{EditData, edit_data}
+use Rattle.cotpad_run.specs.declared.command.Command.{Command}
+use Rattle.cotpad_run.specs.declared.command.Command.TheVariants as command
+
+-- a script is replayed; the text of a log is shown; a log is loaded as a site and edited there; a session is generated; the form of an
+-- operation of a log is derived step by step; a site that a log gives exchanges with a peer that comes to a port, or that waits at one; the two
+-- sites of a generated session exchange with each other
+pub data CommandData : Type 0 where
+  Replay : CommandData
+  Show : CommandData
+  Edit : ℕ → EditData → CommandData
+  Gen : ℕ → ℕ → ℕ → CommandData
+  Explain : Member → CommandData
+  Serve : ℕ → CommandData
+  Join : ℕ → CommandData
+  Loop : ℕ → CommandData
+
+-- what contracts see of a command
+abbrev pub command_data : Command → CommandData
+command_data command.Replay = Replay
+command_data command.Show = Show
+command_data (command.Edit site e) = Edit site (edit_data e)
+command_data (command.Gen start events window) = Gen start events window
+command_data (command.Explain m) = Explain m
+command_data (command.Serve port) = Serve port
+command_data (command.Join port) = Join port
+command_data (command.Loop start) = Loop start
+
+-- the command doesn't call the wire
+abbrev pub IsOffline : CommandData → Type 0
+IsOffline Replay = Unit {0}
+IsOffline Show = Unit {0}
+IsOffline (Edit site e) = Unit {0}
+IsOffline (Gen start events window) = Unit {0}
+IsOffline (Explain m) = Unit {0}
+IsOffline (Serve port) = ⊥
+IsOffline (Join port) = ⊥
+IsOffline (Loop start) = ⊥

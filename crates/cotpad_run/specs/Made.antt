@@ -1,0 +1,16 @@
+-- What a command that reads nothing answers, and what it leaves in the sink.
+use Rattle.std.specs.Prelude.{◌≡◌, List, ℕ}
+use Rattle.log_replies.specs.declared.status.Status.{Status}
+use Rattle.log_replies.specs.declared.status.Status.TheVariants.{Done, Refused, Words, ReadFault, WriteFault, Memory, LinkFault, PeerRefused}
+use Rattle.log_replies.specs.Outside.{Outside, IsWritten, IsCutOff}
+
+-- each answer of a command that reads nothing and writes this text
+abbrev pub IsMade : List ℕ → Outside → Outside → Status → Type 0
+IsMade text old new Done = IsWritten text old new
+IsMade text old new Refused = ⊥
+IsMade text old new Words = ⊥
+IsMade text old new ReadFault = ⊥
+IsMade text old new WriteFault = IsCutOff text old new
+IsMade text old new Memory = (new.held ≡ old.held) × (new.write_faults ≡ old.write_faults)
+IsMade text old new LinkFault = ⊥
+IsMade text old new PeerRefused = ⊥

@@ -1,0 +1,223 @@
+//! A text beside the plain list of its characters.
+
+use lane_rank::ones;
+use op_name::{Memory, Name};
+use std::alloc::Global;
+use tombstone_text::{Cell, Cells};
+use ttf_form::{Cover, Form, Ins, Mark};
+
+/// Cells, and beside them a plain list of their characters, each with whether it is shown. The list knows only what
+/// `put` and `hide` did.
+#[derive(Drop)]
+pub(crate) struct Text {
+    pub(crate) cells: Cells,
+    pub(crate) plain: Vec<(char, bool)>,
+}
+
+impl Text {
+    pub(crate) fn new(alloc: Global) -> Text {
+        Text {
+            cells: Cells::new(alloc),
+            plain: Vec::new(alloc),
+        }
+    }
+}
+
+/// The delete by which `hide` hides a cell.
+const HIDING: Name = Name { site: 1, number: 9 };
+
+/// Applies a form where it fits; answers whether it does. Out of memory no cell changes.
+pub(crate) fn execute(cells: &mut Cells, form: &Form) -> Result<bool, Memory> {
+    let fits = match form {
+        Form::Ins(ins) => ins.place <= cells.len() && cells.place_of(&ins.name).is_none(),
+        Form::Cover(cover) => cover.place < cells.len(),
+    };
+    if !fits {
+        return Ok(false);
+    }
+    cells.reserve(form)?;
+    cells.apply(form);
+    Ok(true)
+}
+
+/// The form of an insert with the next number of site 0; None where no number is left.
+pub(crate) fn next_insert(cells: &Cells, place: u32, ch: char) -> Option<Form> {
+    match Name::new(0, cells.len().saturating_add(1)) {
+        Ok(name) => Some(Form::Ins(Ins {
+            place,
+            site: 0,
+            ch,
+            name,
+        })),
+        Err(_) => None,
+    }
+}
+
+/// Puts a cell in; answers whether it fits.
+pub(crate) fn put(text: &mut Text, place: u32, ch: char) -> Result<bool, Memory> {
+    let Some(form) = next_insert(&text.cells, place, ch) else {
+        return Ok(false);
+    };
+    text.plain.reserve(1)?;
+    if !execute(&mut text.cells, &form)? || place as usize > text.plain.len() {
+        return Ok(false);
+    }
+    text.plain.insert(place as usize, (ch, true))?;
+    Ok(true)
+}
+
+/// Hides a cell; answers whether there is one.
+fn hide(text: &mut Text, place: u32) -> Result<bool, Memory> {
+    let mark = Mark::By {
+        name: HIDING,
+        generation: 0,
+    };
+    if !execute(&mut text.cells, &Form::Cover(Cover { place, mark }))? {
+        return Ok(false);
+    }
+    match text.plain.get_mut(place as usize) {
+        Some(one) => {
+            one.1 = false;
+            Ok(true)
+        }
+        None => Ok(false),
+    }
+}
+
+/// The letter of a number, `a` to `z` by turns.
+fn letter(number: u32) -> char {
+    (b'a' + (number % 26) as u8) as char
+}
+
+/// Puts a cell in, at the second try where the first one was out of memory.
+fn put_at_last(text: &mut Text, place: u32, ch: char) -> Result<bool, Memory> {
+    match put(text, place, ch) {
+        Ok(fits) => Ok(fits),
+        Err(Memory) => put(text, place, ch),
+    }
+}
+
+/// Hides a cell, at the second try where the first one was out of memory.
+fn hide_at_last(text: &mut Text, place: u32) -> Result<bool, Memory> {
+    match hide(text, place) {
+        Ok(fits) => Ok(fits),
+        Err(Memory) => hide(text, place),
+    }
+}
+
+/// Puts a letter at each of these places.
+pub(crate) fn put_at_each(text: &mut Text, from: u32, to: u32) -> Result<bool, Memory> {
+    for number in from..to {
+        if !put_at_last(text, number, letter(number))? {
+            return Ok(false);
+        }
+    }
+    Ok(true)
+}
+
+/// Hides the cells at these places.
+pub(crate) fn hide_each(text: &mut Text, from: u32, to: u32) -> Result<bool, Memory> {
+    for place in from..to {
+        if !hide_at_last(text, place)? {
+            return Ok(false);
+        }
+    }
+    Ok(true)
+}
+
+/// Where the inserts of a text go.
+#[derive(Clone, Copy)]
+pub(crate) enum Spot {
+    Front,
+    Middle,
+    End,
+    /// At the end of the text up to its 511th cell; then by turns at places 511 and 512, which are before and after the
+    /// last cell of a full chunk.
+    Seam,
+    Anywhere,
+}
+
+/// The place of the insert of a number in a text of so many cells.
+fn place_in(spot: Spot, number: u32, len: u32) -> u32 {
+    match spot {
+        Spot::Front => 0,
+        Spot::Middle => len / 2,
+        Spot::End => len,
+        Spot::Seam => { if len < 511 { len } else { 512 - number % 2 } }
+        Spot::Anywhere => {
+            if len == 0 {
+                0
+            } else {
+                number.wrapping_mul(2_654_435_761) % len
+            }
+        }
+    }
+}
+
+/// Puts so many letters in at a spot; each third insert is followed by the hiding of a cell in the first half.
+pub(crate) fn put_and_hide(text: &mut Text, spot: Spot, count: u32) -> Result<bool, Memory> {
+    for number in 0..count {
+        let len = text.cells.len();
+        if !put_at_last(text, place_in(spot, number, len), letter(number))? {
+            return Ok(false);
+        }
+        if number % 3 == 0 && !hide_at_last(text, number / 2)? {
+            return Ok(false);
+        }
+    }
+    Ok(true)
+}
+
+fn is_seen(cell: &Cell, wanted: &(char, bool)) -> bool {
+    cell.ch() == wanted.0 && cell.shown() == wanted.1
+}
+
+/// Whether the cells, found one by one, are those of the plain list.
+pub(crate) fn cells_agree(text: &Text) -> bool {
+    for place in 0..text.cells.len() {
+        match (text.cells.cell(place), text.plain.get(place as usize)) {
+            (Some(cell), Some(wanted)) if is_seen(cell, wanted) => {}
+            _ => return false,
+        }
+    }
+    text.cells.len() as usize == text.plain.len()
+}
+
+/// Whether the chunks have the cells of the plain list, one after the other.
+pub(crate) fn chunks_agree(text: &Text) -> bool {
+    let mut place = 0;
+    for i in 0..text.cells.chunk_count() {
+        if text.cells.chunk_start(i) as usize != place {
+            return false;
+        }
+        for cell in text.cells.chunk_cells(i) {
+            match text.plain.get(place) {
+                Some(wanted) if is_seen(cell, wanted) => {}
+                _ => return false,
+            }
+            place = place.saturating_add(1);
+        }
+    }
+    place == text.plain.len()
+}
+
+/// Whether each chunk has as many flags of shown cells as it tells.
+pub(crate) fn flags_agree(cells: &Cells) -> bool {
+    for i in 0..cells.chunk_count() {
+        if ones(cells.chunk_flags(i)) != cells.chunk_shown(i) {
+            return false;
+        }
+    }
+    true
+}
+
+/// Whether each chunk but the last has at least 256 cells.
+pub(crate) fn are_half_full(cells: &Cells) -> bool {
+    let count = cells.chunk_count();
+    for i in 0..count {
+        if i + 1 < count && cells.chunk_flags(i).len() < 256 {
+            return false;
+        }
+    }
+    true
+}

@@ -1,0 +1,6 @@
+pub mod Answering
+pub mod Edits
+pub mod Logs
+pub mod OneReply
+pub mod Traces
+pub mod CallerLemmas

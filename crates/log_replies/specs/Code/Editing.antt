@@ -1,0 +1,17 @@
+-- Edits, as they are done: some of a refused one may be done.
+use Rattle.std.specs.Prelude.{⊤, ◌≡◌, ◌++◌, Bool, List, ℕ, Result, Ok, Err}
+use Rattle.cot_site.specs.States.{State}
+use Rattle.site_answers.specs.declared.local.Local.{Local}
+use Rattle.site_answers.specs.declared.local.Local.TheVariants as local
+use Rattle.log_replies.specs.Replies.{edit_reply}
+
+-- the edit was done, or refused for the reason that is defined, or memory ran out
+abbrev pub IsDone : Result State Local → Result ⊤ Local → State → Type 0
+IsDone edited (Ok u) s = edited ≡ Ok s
+IsDone edited (Err local.Memory) s = Unit {0}
+IsDone edited (Err why) s = edited ≡ Err why
+
+-- the reply of an edit was appended, which refuses it or not
+pub record IsEditReply (edited : Result State Local) (old new : List ℕ) (refused : Bool) : Type 0 where
+  pub written : new ≡ old ++ (edit_reply edited).written
+  pub told : (edit_reply edited).refused ≡ refused

@@ -1,0 +1,9 @@
+-- The words of the crate's contracts.
+pub mod Statuses
+pub mod Outside
+pub mod Editing
+pub mod Replies
+pub mod Explaining
+pub mod Answers
+pub mod Laws
+pub mod Code

@@ -1,0 +1,21 @@
+//! The commands `show`, `edit` and `explain`: each reads the log of a site, and writes one reply to it.
+//!
+//! A command says which site it loads and what it replies to the state (the trait `Replies`); `answer` reads, replies and
+//! writes, and its table says which answer comes when, and what it leaves. The bytes of the log decide the reply.
+#![tactic(auto)]
+
+mod edit;
+mod explain;
+mod laws;
+mod loaded;
+mod replying;
+mod show;
+mod status;
+
+pub use edit::{Edit, Editing};
+pub use explain::Explaining;
+pub use laws::{one_explanation, one_reply};
+pub use loaded::{PIECE, empty_piece, load_input};
+pub use replying::{Replies, answer};
+pub use show::{Show, show_text};
+pub use status::{Status, code_of};

@@ -1,0 +1,108 @@
+//! Forms in a site's cache.
+
+use crate::edits::take_in;
+use crate::made::{op_of, ops_of, set_of};
+use context_diff::Op;
+use cot_site::Site;
+use form_cache::Key;
+use op_name::{Member, Memory};
+use std::alloc::Global;
+use std::test::Fail;
+use ttf_form::Form;
+
+/// What a new site takes in, the operation whose form its cache is asked for at what it knows, and the place of the form of
+/// an insert that is found then, if one is.
+struct Row {
+    what: &'static str,
+    given: &'static str,
+    asked: &'static str,
+    place: Option<u32>,
+}
+
+/// Two inserts of site 2, one of site 1 and one of site 3, all in front of all cells; only site 2 knew of another.
+const ALL: &str = "2.1 0 x |; 2.2 0 y | 2.1; 1.1 0 m |; 3.1 0 n |";
+
+const ROWS: [Row; 4] = [
+    Row {
+        what: "the form in which the last one was executed",
+        given: ALL,
+        asked: "3.1 0 n | 1.1 2.2",
+        place: Some(3),
+    },
+    Row {
+        what: "the form in which the one before was executed",
+        given: ALL,
+        asked: "1.1 0 m | 2.2",
+        place: Some(0),
+    },
+    Row {
+        what: "a context that no site has",
+        given: ALL,
+        asked: "3.1 0 n | 0.1",
+        place: None,
+    },
+    Row {
+        what: "a form in which no operation was executed",
+        given: "1.1 0 m |; 2.1 0 x |; 2.2 0 y | 2.1",
+        asked: "1.1 0 m | 2.1",
+        place: Some(0),
+    },
+];
+
+fn take_all(site: &mut Site, ops: &[Op]) -> Result<(), Memory> {
+    for op in ops {
+        take_in(site, op)?;
+    }
+    Ok(())
+}
+
+/// Whether the form is that of the insert at this place, or nothing where nothing is wanted.
+fn is_found(found: &Option<Form>, asked: &Op, place: Option<u32>) -> bool {
+    match (found, asked, place) {
+        (Some(Form::Ins(ins)), Op::Insert { ch, .. }, Some(wanted)) => {
+            ins.place == wanted && ins.ch == *ch
+        }
+        (None, _, None) => true,
+        _ => false,
+    }
+}
+
+fn cached(site: &mut Site, ops: &[Op], key: &Key) -> Result<Option<Form>, Memory> {
+    take_all(site, ops)?;
+    Ok(site.cached(key))
+}
+
+/// What a new site that has taken the operations in finds in its cache.
+fn found(alloc: Global, ops: &[Op], key: &Key) -> Result<Option<Form>, Memory> {
+    let mut site = Site::new(alloc, 0)?;
+    cached(&mut site, ops, key)
+}
+
+/// The key of an insert or a delete at what it knows.
+fn key_of(op: &Op) -> Result<Key, Memory> {
+    let name = match op {
+        Op::Insert { name, .. } => *name,
+        Op::Delete { name, .. } => *name,
+        Op::Undo { target, .. } => *target,
+    };
+    Ok(Key {
+        member: Member::Original(name),
+        context: op.context().try_clone()?,
+    })
+}
+
+fn answers(alloc: Global, row: &Row) -> Result<bool, Fail> {
+    let asked = op_of(alloc, row.asked)?;
+    let ops = ops_of(alloc, row.given)?;
+    let key = key_of(&asked)?;
+    let form = found(alloc, ops.as_slice(), &key)?;
+    Ok(is_found(&form, &asked, row.place))
+}
+
+#[test]
+fn forms_that_deliveries_computed_are_in_the_cache(rt: HostRuntime) -> Result<(), Fail> {
+    for row in &ROWS {
+        assert!(rt; answers(rt.alloc(), row)?, "{}", row.what);
+    }
+    Ok(())
+}

@@ -1,0 +1,62 @@
+//! Scripts that are done whole, or line after line.
+
+use op_name::Memory;
+use script_text::{LineBad, parse_line};
+use session_replay::{Session, StepBad, replay};
+use std::alloc::Global;
+
+const SCRIPT: &[u8] = b"sites 1\nins 0 0 abc\ndel 0 1\nundo 0 0.2\nundo 0 0.4\nshow 0";
+
+const REPORT: &[u8] =
+    b"op 0 insert 0.1\nop 1 insert 0.2\nop 2 insert 0.3\nop 3 delete 0.4\nop 4 undo 0.2/1\nop 5 undo 0.4/1\ntext 2 2\nac\n";
+
+#[test]
+fn a_script_is_done_whole(rt: HostRuntime) -> Result<(), Memory> {
+    let mut out = Vec::new(rt.alloc());
+    let refused = replay(rt.alloc(), SCRIPT, &mut out)?;
+    assert!(rt; !refused && out.as_slice() == REPORT);
+    Ok(())
+}
+
+/// Lines, and what a session that does them one after the other answers.
+const LINES: [(&str, Result<(), StepBad>); 8] = [
+    ("show 0", Err(StepBad::NoSites)),
+    ("# nothing", Ok(())),
+    ("sites 1", Ok(())),
+    ("sites 1", Err(StepBad::Twice)),
+    ("ins 0 0 a", Ok(())),
+    ("show 1", Err(StepBad::NoSite)),
+    ("give 0 1", Err(StepBad::NoMessage)),
+    ("show 0", Ok(())),
+];
+
+/// Whether a session answers so on a line.
+fn answers(
+    alloc: Global,
+    session: &mut Session,
+    text: &str,
+    answer: &Result<(), StepBad>,
+    out: &mut Vec<u8>,
+) -> Result<bool, LineBad> {
+    let line = parse_line(alloc, text.as_bytes())?;
+    session.known();
+    Ok(session.step(&line, out) == *answer)
+}
+
+fn goes_on(alloc: Global, session: &mut Session, out: &mut Vec<u8>) -> Result<bool, LineBad> {
+    for (text, answer) in &LINES {
+        if !answers(alloc, session, text, answer, out)? {
+            return Ok(false);
+        }
+    }
+    Ok(true)
+}
+
+#[test]
+fn a_session_goes_on_after_a_refused_line(rt: HostRuntime) -> Result<(), LineBad> {
+    let mut out = Vec::new(rt.alloc());
+    let mut session = Session::new(rt.alloc());
+    let right = goes_on(rt.alloc(), &mut session, &mut out)?;
+    assert!(rt; right && out.as_slice() == b"op 0 insert 0.1\ntext 1 1\na\n".as_slice());
+    Ok(())
+}
