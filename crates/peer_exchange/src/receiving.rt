@@ -57,7 +57,7 @@ fn take_in(site: &mut Site, op: Op, room: &mut Vec<Release>) -> Result<(), Peer>
     take_known(site, &op, room)
 }
 
-// The same of an operation that the caller gives up: a match with many exits over an owned one takes minutes to prove.
+// The same of an operation that the caller gives up: a match with many exits over an owned one makes its proof long.
 #[tactic(auto, unfolding(crate::specs::Taking::taken_in))]
 fn take_known(site: &mut Site, op: &Op, room: &mut Vec<Release>) -> Result<(), Peer>
     requires { IsWellFormed (data_of op.now) }

@@ -80,7 +80,7 @@ pub fn take_in(
     take_known(site, offset, &op, released)
 }
 
-// The same of an operation that the caller gives up: a match with many exits over an owned one takes minutes to prove.
+// The same of an operation that the caller gives up: a match with many exits over an owned one makes its proof long.
 fn take_known(
     site: &mut Site,
     offset: u32,

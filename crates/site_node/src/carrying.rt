@@ -98,7 +98,7 @@ pub(crate) fn carry<W: Wire>(
     }
 }
 
-// The same by a reader that the caller gives up: a loop with many exits over an owned one takes long to prove.
+// The same by a reader that the caller gives up: a loop with many exits over an owned one makes its proof long.
 fn carry_on<W: Wire>(
     wire: &mut W,
     from: u8,

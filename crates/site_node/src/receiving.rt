@@ -98,7 +98,7 @@ pub(crate) fn receive<W: Wire>(
     }
 }
 
-// The same by a reader that the caller gives up: a loop with many exits over an owned one takes long to prove.
+// The same by a reader that the caller gives up: a loop with many exits over an owned one makes its proof long.
 fn fill<W: Wire>(wire: &mut W, end: u8, reader: &mut MessageReader) -> Result<(), Node>
     requires linked { (W.ends wire.old end).linked ≡ true }
     requires side { end < 2 }
