@@ -101,21 +101,25 @@ fn share_one(set: &mut Vector, from: &str, sets: &Sets) -> bool {
     }
 }
 
-// `list NAME MEMBER`: the set is read from a listing of the name's site and number, and of a group.
+// `list NAME NAME/GENERATION`: the set is read from a listing of the one name's site and number, and of a group.
 fn list(
     alloc: Global,
     letter: &str,
     words: &mut Words<'_>,
     sets: &mut Sets,
 ) -> Result<bool, Memory> {
-    match (words.name(), words.member()) {
-        (Some(last), Some(Member::Group(name, generation))) => {
-            let set = listed(alloc, last, name, generation)?;
-            put_back(letter, sets, set);
-            Ok(true)
-        }
-        _ => Ok(false),
+    let Some(last) = words.name() else {
+        return Ok(false);
+    };
+    let Some(turn) = words.turn() else {
+        return Ok(false);
+    };
+    if turn.1 == 0 {
+        return Ok(false);
     }
+    let set = listed(alloc, last, turn.0, turn.1)?;
+    put_back(letter, sets, set);
+    Ok(true)
 }
 
 fn listed(alloc: Global, last: Name, name: Name, generation: u16) -> Result<Vector, Memory>

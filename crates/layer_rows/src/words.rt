@@ -123,6 +123,11 @@ impl<'a> Words<'a> {
         name_of(self.word())
     }
 
+    /// A name with a generation.
+    pub(crate) fn turn(&mut self) -> Option<(Name, u16)> {
+        turn_of(self.word())
+    }
+
     pub(crate) fn member(&mut self) -> Option<Member>
         ensures { IfSome result IsMember }
     {
