@@ -135,8 +135,11 @@ fn the_longest_frame_is_read_and_written_again(rt: HostRuntime) -> Result<(), Me
     Ok(())
 }
 
-/// Whether the bytes are a state of this rank, which is written so again.
+/// Whether the bytes, of which there are few, are a state of this rank, which is written so again.
 fn is_state(alloc: Global, bytes: &[u8], rank: u32) -> Result<bool, Memory> {
+    if bytes.len() > 100 {
+        return Ok(false);
+    }
     let mut out = Vec::new(alloc);
     match decode_state(alloc, bytes)? {
         DecodedState::Got { vector, used } => {
