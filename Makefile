@@ -4,10 +4,8 @@
 .PHONY: all lib quick quick-lib demo check-examples check-bytes check-memory check-hosts check-edits doors trust clean
 
 # As many recipes at once as there are processors, where no -j says otherwise.
-ifeq ($(filter -j%,$(MAKEFLAGS)),)
-ifeq ($(filter clean,$(MAKECMDGOALS)),)
+ifeq ($(MAKELEVEL)$(filter -j%,$(MAKEFLAGS))$(filter clean,$(MAKECMDGOALS)),0)
 MAKEFLAGS += -j$(shell nproc)
-endif
 endif
 
 .DELETE_ON_ERROR:

@@ -1,6 +1,6 @@
 //! Commands, and the words that spell them.
 
-ghost use Rattle.std.specs.Prelude.{◌≡◌, Some, None, IfSome, MatchOption, map, option_map, string_bytes, ℕ, List};
+ghost use Rattle.std.specs.Prelude.{◌≡◌, Some, None, IfSome, MatchOption, map, option_map, string_bytes};
 ghost use Rattle.log_replies.specs.Editing.{edit_data};
 ghost use Rattle.cotpad_run.specs.Commands.{CommandData, command_data};
 ghost use Rattle.cotpad_run.specs.Commands as asked;

@@ -19,6 +19,3 @@ pub use generator::GENERATED_SITES;
 pub use log_replies::{Status, code_of};
 pub use looped::{LOOP_EVENTS, LOOP_SITES};
 pub use whole::run;
-
-#[cfg(test)]
-mod tests;

@@ -9,6 +9,3 @@ mod key;
 
 pub use cache::{Cache, Kept};
 pub use key::Key;
-
-#[cfg(test)]
-mod tests;

@@ -264,10 +264,13 @@ fn base(
     book: &Book,
     out: &mut String,
 ) -> Result<bool, Memory> {
-    match words.member() {
-        Some(member) if holds(book, &member) => put_base(alloc, book, &member, out)?,
-        Some(_) => put_none(out)?,
-        None => return Ok(false),
+    let Some(member) = words.member() else {
+        return Ok(false);
+    };
+    if holds(book, &member) {
+        put_base(alloc, book, &member, out)?;
+    } else {
+        put_none(out)?;
     }
     Ok(true)
 }

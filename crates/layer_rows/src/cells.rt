@@ -2,7 +2,7 @@
 
 use crate::answers::{put_found, put_further, put_name, put_none, put_number, put_truth, put_turn};
 use crate::long::{
-    Spot, Text, are_half_full, cells_agree, chunks_agree, execute, flags_agree, hide, hide_each,
+    Spot, Text, are_half_full, cells_agree, chunks_agree, execute, flags_agree, hide_each,
     next_insert, put, put_and_hide, put_at_each,
 };
 use crate::words::Words;

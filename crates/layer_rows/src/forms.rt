@@ -54,12 +54,17 @@ fn taken_back<F: Exclude>(a: &F, b: &F) -> F
 // `over FORM FORM`: the first one after the inclusion of the second.
 fn over(words: &mut Words<'_>, out: &mut String) -> Result<bool, Memory> {
     match (words.form(), words.form()) {
-        (Some(a), Some(b)) if place(&a) < MOST => {
-            put_form(out, &included(&a, &b))?;
-            Ok(true)
-        }
+        (Some(a), Some(b)) => put_over(out, &a, &b),
         _ => Ok(false),
     }
+}
+
+fn put_over(out: &mut String, a: &Form, b: &Form) -> Result<bool, Memory> {
+    if place(a) >= MOST {
+        return Ok(false);
+    }
+    put_form(out, &included(a, b))?;
+    Ok(true)
 }
 
 // `back FORM FORM`: the first one after the inclusion of the second is taken back.
@@ -80,7 +85,7 @@ fn over_insert(form: &Form, other: &Form) -> Option<Form> {
             added,
         ))),
         (Form::Cover(cover), Form::Ins(added)) if cover.place < MOST => Some(Form::Cover(
-            cover.over_ins_at(added.place),
+            cover.over_ins_at(added.place, added.extent()),
         )),
         _ => None,
     }

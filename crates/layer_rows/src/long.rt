@@ -67,7 +67,7 @@ pub(crate) fn put(text: &mut Text, place: u32, ch: char) -> Result<bool, Memory>
 }
 
 /// Hides a cell; answers whether there is one.
-pub(crate) fn hide(text: &mut Text, place: u32) -> Result<bool, Memory> {
+fn hide(text: &mut Text, place: u32) -> Result<bool, Memory> {
     let mark = Mark::By {
         name: HIDING,
         generation: 0,
@@ -89,10 +89,26 @@ fn letter(number: u32) -> char {
     (b'a' + (number % 26) as u8) as char
 }
 
+/// Puts a cell in, at the second try where the first one was out of memory.
+fn put_at_last(text: &mut Text, place: u32, ch: char) -> Result<bool, Memory> {
+    match put(text, place, ch) {
+        Ok(fits) => Ok(fits),
+        Err(Memory) => put(text, place, ch),
+    }
+}
+
+/// Hides a cell, at the second try where the first one was out of memory.
+fn hide_at_last(text: &mut Text, place: u32) -> Result<bool, Memory> {
+    match hide(text, place) {
+        Ok(fits) => Ok(fits),
+        Err(Memory) => hide(text, place),
+    }
+}
+
 /// Puts a letter at each of these places.
 pub(crate) fn put_at_each(text: &mut Text, from: u32, to: u32) -> Result<bool, Memory> {
     for number in from..to {
-        if !put(text, number, letter(number))? {
+        if !put_at_last(text, number, letter(number))? {
             return Ok(false);
         }
     }
@@ -102,7 +118,7 @@ pub(crate) fn put_at_each(text: &mut Text, from: u32, to: u32) -> Result<bool, M
 /// Hides the cells at these places.
 pub(crate) fn hide_each(text: &mut Text, from: u32, to: u32) -> Result<bool, Memory> {
     for place in from..to {
-        if !hide(text, place)? {
+        if !hide_at_last(text, place)? {
             return Ok(false);
         }
     }
@@ -142,10 +158,10 @@ fn place_in(spot: Spot, number: u32, len: u32) -> u32 {
 pub(crate) fn put_and_hide(text: &mut Text, spot: Spot, count: u32) -> Result<bool, Memory> {
     for number in 0..count {
         let len = text.cells.len();
-        if !put(text, place_in(spot, number, len), letter(number))? {
+        if !put_at_last(text, place_in(spot, number, len), letter(number))? {
             return Ok(false);
         }
-        if number % 3 == 0 && !hide(text, number / 2)? {
+        if number % 3 == 0 && !hide_at_last(text, number / 2)? {
             return Ok(false);
         }
     }

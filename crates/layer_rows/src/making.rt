@@ -15,6 +15,9 @@ use crate::words::Words;
 use op_name::Memory;
 use std::alloc::Global;
 
+/// Room for an answer, so that none is cut off once its call is done.
+const ROOM: usize = 4096;
+
 /// Makes the call of a line; its answer replaces what stood in `out`. Answers whether the line is a call. Out of memory
 /// nothing is changed, and the call is made once more.
 pub(crate) fn answer_of(alloc: Global, line: &str, all: &mut Registers, out: &mut String) -> bool {
@@ -29,6 +32,7 @@ pub(crate) fn answer_of(alloc: Global, line: &str, all: &mut Registers, out: &mu
 
 fn make(alloc: Global, line: &str, all: &mut Registers, out: &mut String) -> Result<bool, Memory> {
     out.clear();
+    out.reserve(ROOM)?;
     let mut words = Words::new(line);
     let is_read = make_one(alloc, &mut words, all, out)?;
     Ok(is_read && words.is_done())

@@ -1,5 +1,9 @@
 //! Calls of sets of members. The set is that of the letter with which the line begins.
 
+ghost use Rattle.std.specs.Prelude.{◌≤◌, IsTrue};
+ghost use Rattle.context_vector.specs.Contexts.{IsNextMember};
+ghost use Rattle.context_vector.specs.Vectors.{IsLastMember};
+
 use crate::answers::{
     put_any_member, put_found, put_further, put_none, put_number, put_set, put_truth, put_turn,
 };
@@ -179,6 +183,7 @@ fn call_one(
         "reserve" => reserve(set, words),
         "put" => put(set, words, out),
         "drop" => drop_last(set, words, out),
+        "through" => through(set, words, out),
         "share" => {
             set.share();
             Ok(true)
@@ -235,11 +240,23 @@ fn last_of(set: &Vector, member: &Member) -> u32 {
     }
 }
 
-// The number or the generation of a member.
-fn rank_of(member: &Member) -> u32 {
+// Whether the member is the next of its site or its name.
+fn is_next(set: &Vector, member: &Member) -> bool
+    ensures { IsTrue result → IsNextMember set.now.set member.now }
+{
     match member {
-        Member::Original(name) => name.number,
-        Member::Group(_, generation) => u32::from(*generation),
+        Member::Original(name) => u64::from(set.count(name.site)) + 1 == u64::from(name.number),
+        Member::Group(name, generation) => u32::from(set.entry(name)) + 1 == u32::from(*generation),
+    }
+}
+
+// Whether the member is the last of its site or its name.
+fn is_last(set: &Vector, member: &Member) -> bool
+    ensures { IsTrue result → IsLastMember set.now.set member.now }
+{
+    match member {
+        Member::Original(name) => set.count(name.site) == name.number,
+        Member::Group(name, generation) => set.entry(name) == *generation,
     }
 }
 
@@ -248,26 +265,44 @@ fn put(set: &mut Vector, words: &mut Words<'_>, out: &mut String) -> Result<bool
     let Some(member) = words.member() else {
         return Ok(false);
     };
-    let last = last_of(set, &member);
-    if rank_of(&member) != last.saturating_add(1) {
-        return put_not_next(out, last.saturating_add(1));
+    if !is_next(set, &member) {
+        return put_not_next(out, last_of(set, &member).saturating_add(1));
     }
     set.reserve(&member)?;
     set.add_reserved(&member);
     Ok(true)
 }
 
-// `drop MEMBER`: it goes out, the last of its site or its name.
+// `drop MEMBER`: room is made, and the member, which has to be the last of its site or its name, goes out.
 fn drop_last(set: &mut Vector, words: &mut Words<'_>, out: &mut String) -> Result<bool, Memory> {
     let Some(member) = words.member() else {
         return Ok(false);
     };
-    if rank_of(&member) != last_of(set, &member) {
+    if !is_last(set, &member) {
         out.push_str("not last")?;
         return Ok(true);
     }
     set.reserve(&member)?;
     set.drop_last(&member);
+    Ok(true)
+}
+
+// `through MEMBER`: the member, which has to be next, comes into room that is made, and goes out again in that room. What
+// was the last of its site or its name in between.
+fn through(set: &mut Vector, words: &mut Words<'_>, out: &mut String) -> Result<bool, Memory> {
+    let Some(member) = words.member() else {
+        return Ok(false);
+    };
+    if !is_next(set, &member) {
+        return Ok(false);
+    }
+    set.reserve(&member)?;
+    set.add_reserved(&member);
+    let last = last_of(set, &member);
+    if is_last(set, &member) {
+        set.drop_last(&member);
+    }
+    put_number(out, u64::from(last))?;
     Ok(true)
 }
 

@@ -159,9 +159,10 @@ impl<'a> Words<'a> {
         let place = self.number()?;
         let ch = self.character()?;
         let name = self.name()?;
+        let site = name.site;
         Some(Ins {
             place,
-            site: name.site,
+            site,
             ch,
             name,
         })

@@ -1,6 +1,7 @@
 -- What one step of a reader keeps: a frame that is taken, a piece that follows, a fault and a refusal.
-use Rattle.std.proofs.Common.{◌≡◌, ◌≢◌, ℕ, ◌+◌, ◌≤◌, List, [], ◌∷◌, ◌++◌, Err, refl, ap, sym, subst, ◌∙◌, length, append_assoc, arith}
-use Rattle.std.specs.Prelude.{Option, Some, None}
+use Rattle.std.proofs.Common.{◌≡◌, ◌≢◌, ℕ, ◌+◌, ◌≤◌, List, [], ◌∷◌, ◌++◌, Result, Ok, Err, refl, ap, sym, subst, ◌∙◌, length, append_assoc, arith}
+use Rattle.std.specs.Prelude.{Option, Some, None, OnOk, IfErr}
+use Rattle.std.specs.Result.{result_err}
 use Rattle.std.proofs.lemmas.List.{length-append}
 use Rattle.context_diff.specs.Operations.{OpData, IsWellFormed}
 use Rattle.context_diff.specs.Ops.{data_of}
@@ -18,7 +19,7 @@ use Rattle.session_log.specs.declared.log_bad.LogBad.TheVariants as bad
 use Rattle.session_log.specs.declared.placed.Placed.{Placed}
 use Rattle.session_log.specs.Logs.{header, frames, BeginsWith, offset_after, IsLogOf}
 use Rattle.session_log.specs.Readings.{IsUnread}
-use Rattle.session_log.specs.Loadings.{verdicts_after, IsRefusal, IsUnloaded}
+use Rattle.session_log.specs.Loadings.{first_refusal, verdicts_after, taken_in, IsRefusal, IsUnloaded}
 use Rattle.session_log.proofs.CallerLemmas.{begins_next, taken_more, refused_at}
 use Rattle.log_reader.specs.Readers.{IsFaultOf, IsRefusalOf, AreTakenTo, HasTaken}
 use Rattle.log_reader.specs.ReaderData.{AreBytes, IsCounted}
@@ -54,6 +55,15 @@ has_taken_on site all left s refused more h = record {
   begins = begins_on all left h.ops more h.begins;
   taken = taken_to_on site all more h.ops s refused h.taken;
 }
+
+-- ---- one operation
+
+-- the first refusal is kept
+pub takes_next : {A : Type 0} (s t : State) (at : ℕ) (o : OpData) (taken : Result A LogBad) (now : Option LogBad)
+    → OnOk taken (first_refusal (verdicts_after s o) ≡ None) → OnOk taken (t ≡ taken_in s o) → IfErr taken (IsRefusal at (verdicts_after s o))
+    → (now ≡ result_err taken) × (taken ≢ Err bad.Memory) → TakesIn s None at o t now
+takes_next s t at o (Ok x) now free state refusal kept = subst (TakesIn s None at o t) (sym kept.0) (free, state)
+takes_next s t at o (Err why) now free state refusal kept = subst (TakesIn s None at o t) (sym kept.0) (λ e. kept.1 (ap Err e), refusal)
 
 -- ---- one frame
 

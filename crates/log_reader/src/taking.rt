@@ -1,6 +1,7 @@
 //! A site that takes in the operations of a log as they come.
 
-ghost use Rattle.std.specs.Prelude.{◌≡◌, ◌⊎◌, ◌<◌, Some, None, OnOk, IfOk, IfErr};
+ghost use Rattle.std.specs.Prelude.{◌≡◌, ◌≢◌, ◌⊎◌, ◌<◌, Some, None, Err, OnOk, IfOk, IfErr};
+ghost use Rattle.std.specs.Result.{result_err};
 ghost use Rattle.context_diff.specs.Operations.{IsWellFormed};
 ghost use Rattle.context_diff.specs.Ops.{data_of};
 ghost use Rattle.cot_site.specs.Sites.{state_of};
@@ -41,17 +42,21 @@ impl Taking {
         ensures { OnOk result (TakesIn (state_of self.old.site) self.old.refused placed.offset (data_of placed.op) (state_of self.new.site) self.new.refused) }
     {
         if self.refused.is_some() {
-            return Ok(());
+            Ok(())
+        } else {
+            self.take_next(placed)
         }
+    }
+
+    // Takes in the operation, where none was refused before.
+    fn take_next(&mut self, placed: Placed) -> Result<(), Memory>
+        requires formed { IsWellFormed (data_of placed.op) }
+        requires first { self.old.refused ≡ None }
+        ensures { OnOk result (TakesIn (state_of self.old.site) None placed.offset (data_of placed.op) (state_of self.new.site) self.new.refused) }
+    {
         let Placed { offset, op } = placed;
-        match take_in(&mut self.site, offset, op, &mut self.released) {
-            Ok(()) => Ok(()),
-            Err(LogBad::Memory) => Err(Memory),
-            Err(why) => {
-                self.refused = Some(why);
-                Ok(())
-            }
-        }
+        let taken = take_in(&mut self.site, offset, op, &mut self.released);
+        keep(&mut self.refused, taken)
     }
 
     /// The site, unless the log has this fault, or an operation was refused.
@@ -63,6 +68,21 @@ impl Taking {
         match fault.or(refused) {
             Some(why) => Err(why),
             None => Ok(site),
+        }
+    }
+}
+
+// Keeps the refusal, if there is one; out of memory there is none.
+fn keep(refused: &mut Option<LogBad>, taken: Result<(), LogBad>) -> Result<(), Memory>
+    requires { refused.old ≡ None }
+    ensures { OnOk result ((refused.new ≡ result_err taken) × (taken ≢ Err LogBad.Memory)) }
+{
+    match taken {
+        Ok(()) => Ok(()),
+        Err(LogBad::Memory) => Err(Memory),
+        Err(why) => {
+            *refused = Some(why);
+            Ok(())
         }
     }
 }

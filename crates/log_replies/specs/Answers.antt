@@ -8,7 +8,7 @@ use Rattle.outside_io.specs.declared.reading.TheConstants.{MAX_INPUT}
 use Rattle.script_text.specs.Report.{Report}
 use Rattle.log_replies.specs.declared.status.Status.{Status}
 use Rattle.log_replies.specs.declared.status.Status.TheVariants.{Done, Refused, Words, ReadFault, WriteFault, Memory, LinkFault, PeerRefused}
-use Rattle.log_replies.specs.Outside.{Outside, IsWritten, IsCutOff, Grows}
+use Rattle.log_replies.specs.Outside.{Outside, Grows}
 
 -- what a command may reply to its input
 abbrev pub Replies : Type 1

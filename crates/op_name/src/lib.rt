@@ -12,6 +12,3 @@ mod name;
 pub use member::{GENERATIONS, Member};
 pub use memory::Memory;
 pub use name::{NUMBERS, Name, NameBad, SITES};
-
-#[cfg(test)]
-mod tests;

@@ -20,6 +20,3 @@ pub use checking::check_trace;
 pub use laws::{ends_in_executed_form, one_trace};
 pub use line::TraceLine;
 pub use tracing::trace;
-
-#[cfg(test)]
-mod tests;

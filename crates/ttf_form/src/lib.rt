@@ -24,6 +24,3 @@ pub use exclude::Exclude;
 pub use form::Form;
 pub use include::{CELLS, Include};
 pub use ins::Ins;
-
-#[cfg(test)]
-mod tests;

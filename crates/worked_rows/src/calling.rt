@@ -14,12 +14,20 @@ pub(crate) fn first_difference(
     written: &mut Vec<u8>,
 ) -> Result<Option<String>, AllocError> {
     for number in 0..row.orders {
-        let what = difference_in_order(alloc, row, number, written)?;
-        if what.is_some() {
-            return Ok(what);
+        if let Some(what) = difference_in_order(alloc, row, number, written)? {
+            return Ok(Some(in_order(alloc, row, number, what)?));
         }
     }
     Ok(None)
+}
+
+// What differs, with the number of the order where there are several.
+fn in_order(alloc: Global, row: &Row, number: u32, what: String) -> Result<String, AllocError> {
+    if row.orders > 1 {
+        format!(in alloc; "in order {number}, {what}")
+    } else {
+        Ok(what)
+    }
 }
 
 fn difference_in_order(
@@ -114,7 +122,7 @@ fn difference(
     sent: &[u8],
 ) -> Result<Option<String>, AllocError> {
     if u32::from(status) != row.status {
-        return Ok(Some(format!(in alloc; "status {status}")?));
+        return Ok(Some(format!(in alloc; "its status is {status}")?));
     }
     if !is_written(row, held) {
         return Ok(Some(format!(in alloc; "it wrote {:?}", String::from_utf8_lossy(alloc, held)?)?));

@@ -15,7 +15,7 @@ pub(crate) fn define(
         return Ok(false);
     };
     let mut bytes = Vec::new(alloc);
-    if !put_value(alloc, pieces, word, value, &mut bytes)? || is_spelled(alloc, name)? {
+    if !put_value(alloc, pieces, word, value, &mut bytes)? || !is_name(alloc, name)? {
         return Ok(false);
     }
     pieces.name(name.to_string(alloc)?, bytes)?;
@@ -38,10 +38,12 @@ fn put_value(
     }
 }
 
-// Whether a name would be read as bytes where it isn't known.
-fn is_spelled(alloc: Global, name: &str) -> Result<bool, AllocError> {
+// Whether a piece may have this name: one word that isn't read as bytes where nothing has it.
+fn is_name(alloc: Global, name: &str) -> Result<bool, AllocError> {
+    let is_word = name.split_once(' ').is_none() && name.split_once('*').is_none();
     let mut bytes = Vec::new(alloc);
-    put_digits(alloc, name, &mut bytes)
+    let is_digits = put_digits(alloc, name, &mut bytes)?;
+    Ok(is_word && !name.is_empty() && !is_digits)
 }
 
 /// Takes in a line of a row.
@@ -135,7 +137,7 @@ fn take_wanted(alloc: Global, row: &mut Row, word: &str, rest: &str) -> Result<b
         }
         "has" => row.has.push(rest.to_string(alloc)?)?,
         "ends" => put_line(&mut row.ending, rest)?,
-        "keep" => return put_kept(row, rest),
+        "keep" => return put_kept(alloc, row, rest),
         "nothing" => {
             row.tells_out = true;
             return Ok(rest.is_empty());
@@ -146,10 +148,10 @@ fn take_wanted(alloc: Global, row: &mut Row, word: &str, rest: &str) -> Result<b
 }
 
 // One name a row.
-fn put_kept(row: &mut Row, name: &str) -> Result<bool, AllocError> {
-    let is_first = row.kept.is_empty() && !name.is_empty();
+fn put_kept(alloc: Global, row: &mut Row, name: &str) -> Result<bool, AllocError> {
+    let is_first = row.kept.is_empty();
     row.kept.push_str(name)?;
-    Ok(is_first)
+    Ok(is_first && is_name(alloc, name)?)
 }
 
 fn take_bytes(
@@ -161,7 +163,10 @@ fn take_bytes(
 ) -> Result<bool, AllocError> {
     match word {
         "hex" => pieces.put_all(alloc, rest, &mut row.given),
-        "peer" => pieces.put_all(alloc, rest, &mut row.peer),
+        "peer" => {
+            row.has_peer = true;
+            pieces.put_all(alloc, rest, &mut row.peer)
+        }
         "outhex" => {
             row.tells_out = true;
             pieces.put_all(alloc, rest, &mut row.out)

@@ -24,7 +24,8 @@ pub(crate) struct Row {
     pub(crate) orders: u32,
     /// What comes after those lines.
     pub(crate) then: Vec<u8>,
-    /// What the peer sends.
+    /// What the peer sends, if there is one.
+    pub(crate) has_peer: bool,
     pub(crate) peer: Vec<u8>,
     /// The numbers of the reads, the writes and the calls of the wire that fail.
     pub(crate) bad_reads: Vec<u32>,
@@ -61,6 +62,7 @@ impl Row {
             mixed: Vec::new(alloc),
             orders: 1,
             then: Vec::new(alloc),
+            has_peer: false,
             peer: Vec::new(alloc),
             bad_reads: Vec::new(alloc),
             bad_writes: Vec::new(alloc),
@@ -95,6 +97,7 @@ impl Row {
         self.mixed.clear();
         self.orders = 1;
         self.then.clear();
+        self.has_peer = false;
         self.peer.clear();
     }
 
@@ -119,6 +122,8 @@ impl Row {
     pub(crate) fn fault(&self) -> Option<&'static str> {
         if self.is_unread {
             Some("a line of it isn't read")
+        } else if self.name.is_empty() {
+            Some("it has no name")
         } else if !self.has_words {
             Some("it has no words")
         } else if self.orders > 1 && self.mixed.is_empty() {
@@ -127,6 +132,8 @@ impl Row {
             Some("it has reads of no bytes")
         } else if !self.tells_writing() {
             Some("it doesn't tell what is written")
+        } else if self.has_peer && !self.tells_sent {
+            Some("it doesn't tell what is sent")
         } else {
             None
         }

@@ -13,8 +13,8 @@ after_refusal : {A : Type 0} (P Q : Type 0) (r : Result A LogBad) → Q → IfEr
 after_refusal P Q (Ok x) q = tt
 after_refusal P Q (Err why) q = λ apart p. q
 
-pub returns-in-Ok-2-clause-released : goal.returns-in-Ok-2-clause-released
-returns-in-Ok-2-clause-released c =
+pub returns-in_ok-settle-in-Ok-2-clause-released : goal.returns-in_ok-settle-in-Ok-2-clause-released
+returns-in_ok-settle-in-Ok-2-clause-released c =
     let s = state_of c.args.site.now in
     let o = data_of c.args.op.now in
     let is : state_of c.settle.new.self ≡ taken_in s o =

@@ -8,8 +8,8 @@ use Rattle.site_node.proofs.Explaining.{bad_spoils, never_cut}
 use Rattle.site_node.proofs.Moving.{receives_none, receives_gain, stopped_midway, stopped_by, stopped_short}
 use Rattle.site_node.proofs.receiving.fill.Goals as goal
 
-pub loop-reader-init : goal.loop-reader-init
-loop-reader-init g c = record {
+pub loop-offset-init : goal.loop-offset-init
+loop-offset-init g c = record {
   short = search rules;
   which = search rules;
   came = receives_none _ _ c.requires.nothing;
@@ -24,40 +24,40 @@ loop-reader-init g c = record {
 
 pub returns-in-Bad-clause-stopped : goal.returns-in-Bad-clause-stopped
 returns-in-Bad-clause-stopped g c =
-    let bytes = c.loop-reader.reader.bytes in
-    let said = ap (λ (w : Which). measure_of w bytes) (sym c.loop-reader.invariant.which) ∙ sym c.in-Bad.ensures.value in
-    stopped_by c.args.reader.now.which _ _ bytes c.in-Bad.offset c.in-Bad.cause _ c.spoilt.ensures c.loop-reader.invariant.came (bad_spoils c.args.reader.now.which bytes c.in-Bad.offset c.in-Bad.cause said)
+    let bytes = c.loop-offset.reader.bytes in
+    let said = ap (λ (w : Which). measure_of w bytes) (sym c.loop-offset.invariant.which) ∙ sym c.in-Bad.ensures.value in
+    stopped_by c.args.reader.now.which _ _ bytes c.in-Bad.offset c.in-Bad.cause _ c.spoilt.ensures c.loop-offset.invariant.came (bad_spoils c.args.reader.now.which bytes c.in-Bad.offset c.in-Bad.cause said)
 
 pub returns-in-Bad-clause-cut : goal.returns-in-Bad-clause-cut
 returns-in-Bad-clause-cut g c = λ offset is.
-    let bytes = c.loop-reader.reader.bytes in
-    let kind = c.loop-reader.reader.which in
+    let bytes = c.loop-offset.reader.bytes in
+    let kind = c.loop-offset.reader.which in
     absurd (never_cut kind bytes c.in-Bad.offset offset c.in-Bad.cause c.spoilt.result (sym c.in-Bad.ensures.value) c.spoilt.ensures (let e = is in cc))
 
 pub returns-in-Ok-eq0-clause-stopped : goal.returns-in-Ok-eq0-clause-stopped
 returns-in-Ok-eq0-clause-stopped g c =
-    let same : c.measure.new.self ≡ c.loop-reader.reader = c.measure.ensures.same in
+    let same : c.measure.new.self ≡ c.loop-offset.reader = c.measure.ensures.same in
     let size : length c.read_on.new.reader.bytes ≡ length c.measure.new.self.bytes = omega (arith, c.in-Ok-eq0.ensures.size) in
-    let few : length c.loop-reader.reader.bytes < MAX_MESSAGE = search rules in
-    stopped_short c.args.reader.now.which c.loop-reader.reader.which _ _ _ c.loop-reader.reader.bytes _ _ c.in-More.at_least c.len-len.result _ c.loop-reader.invariant.which (ap (λ (m : MessageData). m.bytes) same) c.loop-reader.invariant.came
+    let few : length c.loop-offset.reader.bytes < MAX_MESSAGE = search rules in
+    stopped_short c.args.reader.now.which c.loop-offset.reader.which _ _ _ c.loop-offset.reader.bytes _ _ c.in-More.at_least c.len-len.result _ c.loop-offset.invariant.which (ap (λ (m : MessageData). m.bytes) same) c.loop-offset.invariant.came
     c.in-Ok-eq0.ensures.gains size (sym c.in-More.ensures.value) few c.len-len.ensures c.spoilt-in-Ok-eq0.ensures
 
 pub returns-in-Err-clause-stopped : goal.returns-in-Err-clause-stopped
 returns-in-Err-clause-stopped g c =
-    stopped_midway c.args.reader.now.which _ _ _ c.loop-reader.reader.bytes _ c.loop-reader.invariant.came c.in-Err.ensures.lost c.in-Err.ensures.stops
+    stopped_midway c.args.reader.now.which _ _ _ c.loop-offset.reader.bytes _ c.loop-offset.invariant.came c.in-Err.ensures.lost c.in-Err.ensures.stops
 
-pub loop-reader-preserved : goal.loop-reader-preserved
-loop-reader-preserved g c =
-    let same : c.measure.new.self ≡ c.loop-reader.reader = c.measure.ensures.same in
+pub loop-offset-preserved : goal.loop-offset-preserved
+loop-offset-preserved g c =
+    let same : c.measure.new.self ≡ c.loop-offset.reader = c.measure.ensures.same in
     let asks = ap (λ (m : MessageData). measure_of m.which m.bytes) same ∙ sym c.in-More.ensures.value in
     let within : length c.read_on.new.reader.bytes ≤ c.in-More.at_least = search rules in
     record {
       short = search rules;
       which = search rules;
-      came = receives_gain _ _ _ _ _ _ (ap (λ (m : MessageData). m.bytes) same) c.loop-reader.invariant.came c.in-Ok.ensures.gains;
+      came = receives_gain _ _ _ _ _ _ (ap (λ (m : MessageData). m.bytes) same) c.loop-offset.invariant.came c.in-Ok.ensures.gains;
       past = c.in-Ok.ensures.not_past c.in-More.at_least asks within;
       other_end = search rules;
-      kept = kept_on _ _ _ c.loop-reader.invariant.kept c.read_on.ensures.kept;
+      kept = kept_on _ _ _ c.loop-offset.invariant.kept c.read_on.ensures.kept;
       asked = search rules;
       asks = search rules;
       peer = search rules;

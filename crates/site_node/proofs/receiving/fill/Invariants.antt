@@ -6,8 +6,8 @@ use Rattle.peer_exchange.specs.Measuring.{NotPast}
 use Rattle.site_node.specs.Moves.{Receives}
 use Rattle.site_node.proofs.receiving.fill.Given as goal
 
-abbrev pub invariant-loop-reader : goal.invariant-loop-reader
-invariant-loop-reader g l = record {
+abbrev pub invariant-loop-offset : goal.invariant-loop-offset
+invariant-loop-offset g l = record {
   short : length l.reader.bytes ≤ MAX_MESSAGE;
   which : l.reader.which ≡ l.fn.reader.which;
   came : Receives (g.W.Wire.ends l.fn.wire l.fn.end) (g.W.Wire.ends l.wire l.fn.end) l.reader.bytes;
@@ -20,5 +20,5 @@ invariant-loop-reader g l = record {
   faultless : g.W.Wire.faults l.wire ≡ g.W.Wire.faults l.fn.wire;
 }
 
-abbrev pub decreases-loop-reader : goal.decreases-loop-reader
-decreases-loop-reader g l = MAX_MESSAGE - length l.reader.bytes
+abbrev pub decreases-loop-offset : goal.decreases-loop-offset
+decreases-loop-offset g l = MAX_MESSAGE - length l.reader.bytes

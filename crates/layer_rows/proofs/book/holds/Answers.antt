@@ -1,7 +1,7 @@
 use Rattle.std.proofs.Common.{sym, ◌∙◌}
 use Rattle.context_vector.specs.Contexts.{has}
 use Rattle.context_diff.proofs.CallerLemmas.{have_known}
-use Rattle.book_cases.proofs.tests.holds.Goals as goal
+use Rattle.layer_rows.proofs.book.holds.Goals as goal
 
 pub returns : goal.returns
 returns c there =

@@ -4,7 +4,7 @@ use Rattle.context_diff.specs.Histories.{members_in}
 use Rattle.context_diff.specs.Books.{BookData}
 use Rattle.context_diff.proofs.CallerLemmas.{have_known, known_in}
 use Rattle.ttf_form.specs.Families.{IsIn}
-use Rattle.group_cases.proofs.tests.form_in.Goals as goal
+use Rattle.layer_rows.proofs.book.form_in.Goals as goal
 
 pub base_of-requires : goal.base_of-requires
 base_of-requires c =

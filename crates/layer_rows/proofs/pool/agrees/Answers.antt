@@ -8,7 +8,7 @@ use Rattle.context_diff.specs.Histories.{is_known}
 use Rattle.context_diff.specs.Ops.{data_of}
 use Rattle.context_diff.proofs.CallerLemmas.{op_same, derived_op, known_member}
 use Rattle.causal_gate.proofs.CallerLemmas.{named_once}
-use Rattle.pool_cases.proofs.tests.agrees.Goals as goal
+use Rattle.layer_rows.proofs.pool.agrees.Goals as goal
 
 pub returns-in-Some : goal.returns-in-Some
 returns-in-Some c equal =
