@@ -49,7 +49,7 @@ const ROWS: [Row; 4] = [
     },
 ];
 
-fn take_all(site: &mut Site, ops: &[Op]) -> Result<(), Memory> {
+fn take_all(site: &mut Site, ops: &[Op]) -> Result<(), Fail> {
     for op in ops {
         take_in(site, op)?;
     }
@@ -67,13 +67,13 @@ fn is_found(found: &Option<Form>, asked: &Op, place: Option<u32>) -> bool {
     }
 }
 
-fn cached(site: &mut Site, ops: &[Op], key: &Key) -> Result<Option<Form>, Memory> {
+fn cached(site: &mut Site, ops: &[Op], key: &Key) -> Result<Option<Form>, Fail> {
     take_all(site, ops)?;
     Ok(site.cached(key))
 }
 
 /// What a new site that has taken the operations in finds in its cache.
-fn found(alloc: Global, ops: &[Op], key: &Key) -> Result<Option<Form>, Memory> {
+fn found(alloc: Global, ops: &[Op], key: &Key) -> Result<Option<Form>, Fail> {
     let mut site = Site::new(alloc, 0)?;
     cached(&mut site, ops, key)
 }

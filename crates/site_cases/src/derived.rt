@@ -188,10 +188,11 @@ fn name_of(member: &Member) -> Name {
 
 /// The form of this shape, of a member with this name.
 fn form_of(name: Name, shape: Shape) -> Form {
+    let site = name.site;
     match shape {
         Shape::Ins(place, ch) => Form::Ins(Ins {
             place,
-            site: name.site,
+            site,
             ch,
             name,
         }),

@@ -2,7 +2,9 @@
 
 use context_diff::Op;
 use cot_site::Site;
-use op_name::{Memory, Name};
+use op_name::Name;
+use site_answers::Verdict;
+use std::test::Fail;
 
 /// A local command.
 #[derive(Clone, Copy)]
@@ -34,17 +36,25 @@ pub(crate) fn does_all(site: &mut Site, edits: &[Edit]) -> bool {
 }
 
 /// Releases until nothing is ready.
-pub(crate) fn settle(site: &mut Site) -> Result<(), Memory> {
+pub(crate) fn settle(site: &mut Site) -> Result<(), Fail> {
     for _ in 0..site.pool().len() {
         site.release_next()?;
     }
     Ok(())
 }
 
-/// Delivers an operation, if it is well formed, with the releases after it.
-pub(crate) fn take_in(site: &mut Site, op: &Op) -> Result<(), Memory> {
-    if op.fault().is_none() {
-        site.deliver(op)?;
+/// Delivers an operation that is well formed.
+fn deliver(site: &mut Site, op: &Op) -> Result<Verdict, Fail> {
+    if op.fault().is_some() {
+        return Err(Fail::new("the operation isn't well formed"));
     }
-    settle(site)
+    Ok(site.deliver(op)?)
+}
+
+/// Delivers an operation, with the releases after it.
+pub(crate) fn take_in(site: &mut Site, op: &Op) -> Result<(), Fail> {
+    match deliver(site, op) {
+        Ok(_) => settle(site),
+        Err(why) => Err(why),
+    }
 }

@@ -10,28 +10,24 @@ use wire_codec::{
     scan,
 };
 
-/// What `decode` says, as `scan` would say it.
-fn decoded(alloc: Global, bytes: &[u8]) -> Result<Scan, Memory> {
-    match decode(alloc, bytes) {
-        Ok(Decoded::Got { used, .. }) => Ok(Scan::Frame { used }),
-        Ok(Decoded::More { at_least }) => Ok(Scan::More { at_least }),
-        Ok(Decoded::Bad { cause, offset }) => Ok(Scan::Bad { cause, offset }),
-        Err(Memory) => Err(Memory),
+/// Whether `decode` asks for four bytes where there is none.
+fn asks_for_a_length(alloc: Global) -> bool {
+    match decode(alloc, b"") {
+        Ok(Decoded::More { at_least }) => at_least == 4,
+        _ => false,
     }
 }
 
 // A line of bytes has one byte at least, and in a message the second of these is the end mark.
 #[test]
-fn bytes_that_no_row_has(rt: HostRuntime) -> Result<(), Memory> {
-    let none = decoded(rt.alloc(), b"")?;
-    assert!(rt; none == Scan::More { at_least: 4 });
+fn bytes_that_no_row_has(rt: HostRuntime) {
+    assert!(rt; asks_for_a_length(rt.alloc()));
     assert!(rt; scan(b"") == Scan::More { at_least: 4 });
     let bad = Scan::Bad {
         cause: Cause::Length,
         offset: 4,
     };
     assert!(rt; scan(b"\x00\x00\x00\x00") == bad);
-    Ok(())
 }
 
 /// Operations with their frames.
@@ -139,8 +135,11 @@ fn the_longest_frame_is_read_and_written_again(rt: HostRuntime) -> Result<(), Me
     Ok(())
 }
 
-/// Whether the bytes are a state of this rank, which is written so again.
+/// Whether the bytes, of which there are few, are a state of this rank, which is written so again.
 fn is_state(alloc: Global, bytes: &[u8], rank: u32) -> Result<bool, Memory> {
+    if bytes.len() > 100 {
+        return Ok(false);
+    }
     let mut out = Vec::new(alloc);
     match decode_state(alloc, bytes)? {
         DecodedState::Got { vector, used } => {

@@ -28,7 +28,7 @@ const DELIVERED: [(&str, &str); 11] = [
 ];
 
 /// The verdict that is given before the delivery, and that of the delivery; then what is ready is released.
-fn judged(site: &mut Site, op: &Op) -> Result<(Verdict, Verdict), Memory>
+fn judged(site: &mut Site, op: &Op) -> Result<(Verdict, Verdict), Fail>
     requires { IsWellFormed (data_of op.now) }
 {
     let before = site.check(op);

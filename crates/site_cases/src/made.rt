@@ -27,7 +27,10 @@ fn act_of(text: &str) -> Option<Act> {
     let member = parse_member(words.next()?)?;
     let number = parse_number(words.next()?)?;
     match member {
-        Member::Group(name, generation) => Some(Act::Turn(number as u16, name, generation)),
+        Member::Group(name, generation) => {
+            let author = u16::try_from(number).ok()?;
+            Some(Act::Turn(author, name, generation))
+        }
         Member::Original(name) => match words.next() {
             Some(word) => Some(Act::Insert(name, number, word.chars().next()?)),
             None => Some(Act::Delete(name, number)),

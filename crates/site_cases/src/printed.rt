@@ -2,7 +2,7 @@
 
 use crate::made::op_of;
 use op_name::{Member, Memory, Name};
-use script_text::{Event, local_line, op_line, step_line, verdict_line};
+use script_text::{Event, local_line, op_line, parse_member, step_line, verdict_line};
 use site_answers::{Local, Verdict};
 use std::alloc::Global;
 use std::test::Fail;
@@ -39,22 +39,27 @@ fn lines_of_messages(rt: HostRuntime) -> Result<(), Fail> {
     Ok(())
 }
 
-const LAST: Name = Name {
-    site: 63,
-    number: 1_000_000,
-};
+fn put_repeat(word: &str, out: &mut Vec<u8>) -> Result<(), Memory> {
+    match parse_member(word) {
+        Some(member) => verdict_line(Event::Free, 63, member, Verdict::Repeat, out),
+        None => Ok(()),
+    }
+}
 
-fn put_limits(out: &mut Vec<u8>) -> Result<(), Memory> {
-    let last = Member::Group(LAST, 65_535);
-    verdict_line(Event::Free, 63, last, Verdict::Repeat, out)?;
-    local_line(Local::NumberFull, out)?;
-    local_line(Local::ContextFull { entries: 16_385 }, out)
+fn put_number_full(out: &mut Vec<u8>) -> Result<(), Memory> {
+    local_line(Local::NumberFull, out)
+}
+
+fn put_context_full(entries: u32, out: &mut Vec<u8>) -> Result<(), Memory> {
+    local_line(Local::ContextFull { entries }, out)
 }
 
 #[test]
 fn lines_at_the_limits(rt: HostRuntime) -> Result<(), Memory> {
     let mut out = Vec::new(rt.alloc());
-    put_limits(&mut out)?;
+    put_repeat("63.1000000/65535", &mut out)?;
+    put_number_full(&mut out)?;
+    put_context_full(16_385, &mut out)?;
     let wanted = "free 63 repeat 63.1000000/65535\nno numberfull\nno contextfull 16385\n";
     assert!(rt; out.as_slice() == wanted.as_bytes());
     Ok(())
