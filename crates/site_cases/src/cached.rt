@@ -56,24 +56,54 @@ fn take_all(site: &mut Site, ops: &[Op]) -> Result<(), Fail> {
     Ok(())
 }
 
-/// Whether the form is that of the insert at this place, or nothing where nothing is wanted.
-fn is_found(found: &Option<Form>, asked: &Op, place: Option<u32>) -> bool {
-    match (found, asked, place) {
-        (Some(Form::Ins(ins)), Op::Insert { ch, .. }, Some(wanted)) => {
-            ins.place == wanted && ins.ch == *ch
-        }
-        (None, _, None) => true,
+/// What is found in a cache.
+#[derive(Clone, Copy)]
+enum Found {
+    Nothing,
+    Insert { place: u32, ch: char },
+    Cover,
+}
+
+fn kind_of(form: &Form) -> Found {
+    match form {
+        Form::Ins(ins) => Found::Insert {
+            place: ins.place,
+            ch: ins.ch,
+        },
+        Form::Cover(_) => Found::Cover,
+    }
+}
+
+fn found_as(form: Option<Form>) -> Found {
+    match form {
+        Some(form) => kind_of(&form),
+        None => Found::Nothing,
+    }
+}
+
+fn has_character(op: &Op, character: char) -> bool {
+    match op {
+        Op::Insert { ch, .. } => *ch == character,
         _ => false,
     }
 }
 
-fn cached(site: &mut Site, ops: &[Op], key: &Key) -> Result<Option<Form>, Fail> {
+/// Whether the form of the insert that is asked for is found at this place, or nothing where nothing is wanted.
+fn is_right(found: Found, asked: &Op, wanted: Option<u32>) -> bool {
+    match found {
+        Found::Nothing => wanted.is_none(),
+        Found::Insert { place, ch } => wanted == Some(place) && has_character(asked, ch),
+        Found::Cover => false,
+    }
+}
+
+fn cached(site: &mut Site, ops: &[Op], key: &Key) -> Result<Found, Fail> {
     take_all(site, ops)?;
-    Ok(site.cached(key))
+    Ok(found_as(site.cached(key)))
 }
 
 /// What a new site that has taken the operations in finds in its cache.
-fn found(alloc: Global, ops: &[Op], key: &Key) -> Result<Option<Form>, Fail> {
+fn found_in_a_new_site(alloc: Global, ops: &[Op], key: &Key) -> Result<Found, Fail> {
     let mut site = Site::new(alloc, 0)?;
     cached(&mut site, ops, key)
 }
@@ -95,8 +125,8 @@ fn answers(alloc: Global, row: &Row) -> Result<bool, Fail> {
     let asked = op_of(alloc, row.asked)?;
     let ops = ops_of(alloc, row.given)?;
     let key = key_of(&asked)?;
-    let form = found(alloc, ops.as_slice(), &key)?;
-    Ok(is_found(&form, &asked, row.place))
+    let found = found_in_a_new_site(alloc, ops.as_slice(), &key)?;
+    Ok(is_right(found, &asked, row.place))
 }
 
 #[test]

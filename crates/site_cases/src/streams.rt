@@ -3,7 +3,7 @@
 ghost use Rattle.std.specs.Prelude.{◌≤◌, length};
 
 use context_diff::Op;
-use op_name::{Memory, Name};
+use op_name::{Member, Memory};
 use std::alloc::Global;
 use wire_codec::{Cause, FrameStream, StreamBad, encode};
 
@@ -68,18 +68,25 @@ fn a_stream_cut_at_each_place(rt: HostRuntime) -> Result<(), Memory> {
 #[derive(Clone, Copy)]
 enum Answer {
     Nothing,
-    /// An insert of this name.
-    Insert(Name),
+    /// An insert of this member.
+    Insert(Member),
     Other,
     Bad(Cause, u64),
     Memory,
 }
 
+fn answer_of(op: &Op) -> Answer {
+    if matches!(op, Op::Insert { .. }) {
+        Answer::Insert(op.member())
+    } else {
+        Answer::Other
+    }
+}
+
 fn given(stream: &mut FrameStream) -> Answer {
     match stream.take() {
+        Ok(Some(op)) => answer_of(&op),
         Ok(None) => Answer::Nothing,
-        Ok(Some(Op::Insert { name, .. })) => Answer::Insert(name),
-        Ok(Some(_)) => Answer::Other,
         Err(StreamBad::Bad { cause, offset }) => Answer::Bad(cause, offset),
         Err(StreamBad::Memory) => Answer::Memory,
     }
@@ -92,10 +99,17 @@ fn is_nothing(answer: Answer) -> bool {
     }
 }
 
+fn is_the_first(member: Member) -> bool {
+    match member {
+        Member::Original(name) => name.site == 0 && name.number == 1,
+        Member::Group(..) => false,
+    }
+}
+
 /// Whether the stream gave insert 0.1.
 fn is_first(answer: Answer) -> bool {
     match answer {
-        Answer::Insert(name) => name.site == 0 && name.number == 1,
+        Answer::Insert(member) => is_the_first(member),
         _ => false,
     }
 }
