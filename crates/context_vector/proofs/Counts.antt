@@ -148,3 +148,28 @@ pub refilled : {X : Type 0} (xs : List X) (i : ℕ) (x : X) → refill (length x
 refilled xs i x =
     let ws = set xs i x in
     subst (λ n. take n (ws ++ drop (length ws) xs) ≡ ws) (length-set xs i x) (take-append_seam ws (drop (length ws) xs))
+
+-- a pair in the place of another, and one that is put between two parts
+set_seam : {X : Type 0} (l : List X) (y x : X) (r : List X) → set (l ++ y ∷ r) (length l) x ≡ l ++ x ∷ r
+set_seam [] y x r = refl
+set_seam (z ∷ zs) y x r = ap (λ ws. z ∷ ws) (set_seam zs y x r)
+
+insert_seam : {X : Type 0} (l : List X) (x : X) (r : List X) → insert (l ++ r) (length l) x ≡ l ++ x ∷ r
+insert_seam [] x [] = refl
+insert_seam [] x (y ∷ r) = refl
+insert_seam (z ∷ zs) x r = ap (λ ws. z ∷ ws) (insert_seam zs x r)
+
+-- counts with another one for a site, in the parts around the place of the site
+pub put_joined : (ps l r : List (ℕ × ℕ)) (y : ℕ × ℕ) (s k i : ℕ) → AreCounts 0 ps → IsPlace ps s i → ps ≡ l ++ y ∷ r → length l ≡ i → l ++ (s, k) ∷ r ≡ put_count s k ps
+put_joined ps l r y s k i are place parts size =
+    sym (set_seam l y (s, k) r) ∙ (λ j. set (sym parts j) (size j) (s, k)) ∙ put_at_place ps s k i are place
+
+pub gap_joined : (ps l r : List (ℕ × ℕ)) (s k i : ℕ) → IsGap nat_lt ps s i → ps ≡ l ++ r → length l ≡ i → l ++ (s, k) ∷ r ≡ put_count s k ps
+gap_joined ps l r s k i gap parts size =
+    sym (insert_seam l (s, k) r) ∙ (λ j. insert (sym parts j) (size j) (s, k)) ∙ put_in_gap ps s k i gap
+
+pub parts_of : {X : Type 0} (n : ℕ) (xs : List X) → xs ≡ take n xs ++ drop n xs
+parts_of zero [] = refl
+parts_of zero (x ∷ xs) = refl
+parts_of (suc n) [] = refl
+parts_of (suc n) (x ∷ xs) = ap (λ ys. x ∷ ys) (parts_of n xs)

@@ -28,7 +28,7 @@ vector_eq v w = context_eq v.set w.set
 and_holds : (x y : Bool) → x ≡ true → y ≡ true → (x && y) ≡ true
 and_holds x y e f = subst (λ t. (t && y) ≡ true) (sym e) f
 
-counts_decide : (p q : ℕ × ℕ) → Decides (count_eq p q) (p ≡ q)
+pub counts_decide : (p q : ℕ × ℕ) → Decides (count_eq p q) (p ≡ q)
 counts_decide p q = (
   λ e.
       let sites = number_order.same p.0 q.0 (first_so (p.0 == q.0) (p.1 == q.1) e) in

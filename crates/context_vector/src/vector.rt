@@ -15,6 +15,7 @@ mod changes;
 mod counts;
 mod entries;
 mod equality;
+mod follows;
 mod marked;
 mod marked_counts;
 mod marks;

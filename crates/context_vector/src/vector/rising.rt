@@ -81,8 +81,8 @@ fn count_near(counts: &[(u16, u32)], guess: usize, site: u16) -> (u32, usize)
     }
 }
 
-// Where the pair of the site stands, or where it would go. A right guess spares the search.
-fn place_near(counts: &[(u16, u32)], guess: usize, site: u16) -> Result<usize, usize>
+/// Where the pair of the site stands, or where it would go. A right guess spares the search.
+pub fn place_near(counts: &[(u16, u32)], guess: usize, site: u16) -> Result<usize, usize>
     requires { AreCounts 0 counts.now }
     ensures found { IfOk result (IsPlace counts.now site) }
     ensures absent { IfErr result (IsGap nat_lt counts.now site) }

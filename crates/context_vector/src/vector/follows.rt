@@ -1,0 +1,68 @@
+//! Whether a set is another one with one original more.
+
+ghost use Rattle.std.specs.Prelude.{◌≡◌, ◌∷◌, ◌++◌, IsTrue};
+ghost use Rattle.op_name.specs.declared.member.Member.TheVariants.{Original};
+ghost use Rattle.context_vector.specs.Contexts.{put_count, raised, AreCounts, IsNextMember};
+
+use super::Vector;
+use super::rising::place_near;
+use op_name::Name;
+
+impl Vector {
+    /// Whether this set is `before` with the original of this name, the next of its site there. It goes over both lists once, and
+    /// takes no memory. An answer of no says nothing.
+    pub fn follows(&self, before: &Vector, name: &Name) -> bool
+        ensures next { IsTrue result → IsNextMember before.now.set (Original name.now) }
+        ensures raised { IsTrue result → self.now.set ≡ raised before.now.set (Original name.now) }
+    {
+        self.known();
+        before.known();
+        if before.count(name.site) + 1 != name.number {
+            return false;
+        }
+        if !self.entries.is_same(&before.entries) {
+            return false;
+        }
+        has_put(before.counts(), self.counts(), name)
+    }
+}
+
+// Whether the counts are those before with this name's number for its site.
+fn has_put(before: &[(u16, u32)], after: &[(u16, u32)], name: &Name) -> bool
+    requires { AreCounts 0 before.now }
+    ensures { IsTrue result → after.now ≡ put_count name.now.site name.now.number before.now }
+{
+    let pair = (name.site, name.number);
+    match place_near(before, name.site as usize, name.site) {
+        Ok(at) => {
+            let (low, high) = before.split_at(at);
+            match high.split_first() {
+                Some((_, rest)) => is_joined(after, low, pair, rest),
+                None => false,
+            }
+        }
+        Err(at) => {
+            let (low, high) = before.split_at(at);
+            is_joined(after, low, pair, high)
+        }
+    }
+}
+
+// Whether the list is the two with a pair between them.
+fn is_joined(list: &[(u16, u32)], low: &[(u16, u32)], pair: (u16, u32), high: &[(u16, u32)]) -> bool
+    ensures { IsTrue result → list.now ≡ low.now ++ (pair ∷ high.now) }
+{
+    if list.len() < low.len() {
+        return false;
+    }
+    let (front, back) = list.split_at(low.len());
+    match back.split_first() {
+        Some((first, rest)) => {
+            if *first != pair || front != low {
+                return false;
+            }
+            rest == high
+        }
+        None => false,
+    }
+}
