@@ -1,7 +1,7 @@
 -- What the proofs of other crates cite of this crate's lemmas.
 pub use Rattle.context_diff.proofs.Agreeing.{agree_back, agree_itself, next_elsewhere, same_by_members}
 pub use Rattle.context_diff.proofs.BaseValues.{base_value}
-pub use Rattle.context_diff.proofs.Books.{covered_ready, not_past}
+pub use Rattle.context_diff.proofs.Books.{covered_ready}
 pub use Rattle.context_diff.proofs.ClosedSets.{IsClosedSet, base_closed, base_group, base_itself, base_listed, base_original, base_stray, below_group, closed_context, closed_set, group_has_target, holds_original, in_group_below, in_original}
 pub use Rattle.context_diff.proofs.Complete.{IsComplete, closed_on, complete, context_push, next_member}
 pub use Rattle.context_diff.proofs.Covering.{all_covered, covered_below, named_known, not_covered}
@@ -17,6 +17,7 @@ pub use Rattle.context_diff.proofs.Members.{all_is_context, formed_member, membe
 pub use Rattle.context_diff.proofs.Names.{member_itself, member_same}
 pub use Rattle.context_diff.proofs.Next.{have_known, ready_covered}
 pub use Rattle.context_diff.proofs.Order.{base_on, known_end, members_apart, not_later}
+pub use Rattle.context_diff.proofs.Placing.{not_past}
 pub use Rattle.context_diff.proofs.Raising.{has_generation, has_group, has_number, has_original, has_raised}
 pub use Rattle.context_diff.proofs.Replaying.{map_insert, put_at_end, put_is_insert}
 pub use Rattle.context_diff.proofs.Valid.{by_pushes, shifted, valid_parts, valid_pop, valid_push}

@@ -8,7 +8,7 @@ use Rattle.op_name.specs.NameData.{NameData, name_eq}
 use Rattle.context_vector.specs.Contexts.{ContextData, has, count_of, count_in, AreCounts}
 use Rattle.context_diff.specs.Operations.{OpData, inserting, deleting, undoing, member_of, is_insert, IsWellFormed}
 use Rattle.context_diff.specs.Histories.{is_known, inserts_in, IsNext, context_of_all}
-use Rattle.context_diff.specs.Code.Counting.{is_insert_of, inserts_of, inserts_listed}
+use Rattle.context_diff.specs.Code.Counting.{is_insert_of, inserts_of, inserts_listed, made}
 use Rattle.context_diff.proofs.Known.{contains_here, contains_later}
 use Rattle.context_diff.proofs.Complete.{IsComplete, next_member}
 
@@ -166,3 +166,28 @@ bit_of (undoing a t g c) n is = refl
 pub inserts_of_new : (h : List OpData) (o : OpData) (n : NameData) (k : ℕ) → member_of o ≡ Original n → is_known h (Original n) ≡ false → n.number ≡ k + 1 → inserts_of (h ++ o ∷ []) n.site n.number ≡ inserts_of h n.site k + (if is_insert o then 1 else 0)
 inserts_of_new h o n k is new at =
     inserts_of_push h o n.site n.number ∙ (λ i. inserts_of_less h n k new at i + bit_of o n is i)
+
+-- ---- All inserts of a history
+
+pub made_push : (h : List OpData) (o : OpData) → made (h ++ o ∷ []) ≡ made h + (if is_insert o then 1 else 0)
+made_push [] o = omega arith
+made_push (p ∷ ps) o = rw (made_push ps o) (omega arith)
+
+pub made_at_most : (h : List OpData) → made h ≤ length h
+made_at_most [] = omega arith
+made_at_most (o ∷ os) =
+    let rest = made_at_most os in
+    elim (cases_Bool (is_insert o)) [
+      | inl one ↦ rw one (omega arith)
+      | inr none ↦ rw none (omega arith)
+    ]
+
+-- a context that has all members has all inserts
+pub all_made : (h : List OpData) (c : ContextData) → ((o : OpData) → Contains h o → has c (member_of o) ≡ true) → inserts_in h c ≡ made h
+all_made [] c there = refl
+all_made (o ∷ os) c there =
+    let rest = all_made os c (λ q at. there q (contains_later o os q at)) in
+    elim (cases_Bool (is_insert o)) [
+      | inl one ↦ rw (one, there o (contains_here o os)) (omega (arith, rest))
+      | inr none ↦ rw none (omega (arith, rest))
+    ]

@@ -13,6 +13,8 @@ pub mod Ready
 pub mod BaseValues
 pub mod Places
 pub mod Tallies
+pub mod Placing
+pub mod Judging
 pub mod Kept
 pub mod Listings
 pub mod PlaceSteps

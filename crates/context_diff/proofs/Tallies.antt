@@ -1,4 +1,4 @@
--- The counts of inserts of each site, as operations come and go.
+-- What is kept of the originals of each site, as operations come and go.
 use Rattle.std.proofs.Common.{◌≡◌, ℕ, zero, suc, ◌+◌, ◌-◌, ◌<◌, ◌≤◌, false, inl, inr, List, [], ◌∷◌, ◌++◌, refl, ap, sym, subst, ◌∙◌, arith, length, length-append, take, get_or, set}
 use Rattle.std.specs.Prelude.{Contains, ◌==◌, if◌then◌else◌}
 use Rattle.std.proofs.lemmas.Bool.{cases_Bool, cases_lt, eqb-true, eq-eqb}
@@ -11,35 +11,31 @@ use Rattle.context_vector.specs.Contexts.{ContextData, IsNextMember, count_of, r
 use Rattle.context_diff.specs.Operations.{OpData, member_of, is_insert, IsWellFormed}
 use Rattle.context_diff.specs.Histories.{is_known, IsNext, context_of_all}
 use Rattle.context_diff.specs.Code.Counting.{inserts_of}
-use Rattle.context_diff.specs.Code.Tallies.{TallyData, no_tally, counts_of, spares_of, IsTally, AreTallies, entry_at, total, counted, uncounted}
+use Rattle.context_diff.specs.Code.Tallies.{TallyData, no_tally, counts_of, spares_of, IsTally, AreTallies, entry_at, total, counted, without_last}
 use Rattle.context_diff.proofs.Complete.{IsComplete, context_push, next_member}
 use Rattle.context_diff.proofs.Inserts.{inserts_of_on, inserts_of_new, inserts_of_at_most, no_inserts}
 use Rattle.context_diff.proofs.Raising.{count_put}
 
--- an empty list more changes no counts
-pub one_more_list : (ts : List TallyData) (t : TallyData) → t.counts ≡ [] → counts_of (ts ++ t ∷ []) ≡ counts_of ts
-one_more_list ts t none = λ i s. at ts s i
-  where
-    at : (xs : List TallyData) (s : ℕ) → counts_of (xs ++ t ∷ []) s ≡ counts_of xs s
-    at [] zero = none
-    at [] (suc s) = refl
-    at (x ∷ xs) zero = refl
-    at (x ∷ xs) (suc s) = at xs s
+-- what is read of the lists of a site, whatever it is
+module _ (f : TallyData → List ℕ) where
+  -- empty lists more change nothing
+  pub one_more_list : (ts : List TallyData) (t : TallyData) → f t ≡ f no_tally → ((s : ℕ) → f (get_or (ts ++ t ∷ []) s no_tally) ≡ f (get_or ts s no_tally))
+  one_more_list [] t none zero = none
+  one_more_list [] t none (suc s) = refl
+  one_more_list (x ∷ xs) t none zero = refl
+  one_more_list (x ∷ xs) t none (suc s) = one_more_list xs t none s
 
--- nor does room in one of the lists
-pub list_with_room : (ts : List TallyData) (i : ℕ) (t : TallyData) → t.counts ≡ counts_of ts i → counts_of (set ts i t) ≡ counts_of ts
-list_with_room ts i t same = λ j s. at ts i same s j
-  where
-    at : (xs : List TallyData) (k : ℕ) → t.counts ≡ counts_of xs k → (s : ℕ) → counts_of (set xs k t) s ≡ counts_of xs s
-    at [] k same s = refl
-    at (x ∷ xs) zero same zero = same
-    at (x ∷ xs) zero same (suc s) = refl
-    at (x ∷ xs) (suc k) same zero = refl
-    at (x ∷ xs) (suc k) same (suc s) = at xs k same s
+  -- nor does room in those of one site
+  pub list_with_room : (ts : List TallyData) (i : ℕ) (t : TallyData) → f t ≡ f (get_or ts i no_tally) → ((s : ℕ) → f (get_or (set ts i t) s no_tally) ≡ f (get_or ts s no_tally))
+  list_with_room [] i t same s = refl
+  list_with_room (x ∷ xs) zero t same zero = same
+  list_with_room (x ∷ xs) zero t same (suc s) = refl
+  list_with_room (x ∷ xs) (suc k) t same zero = refl
+  list_with_room (x ∷ xs) (suc k) t same (suc s) = list_with_room xs k t same s
 
--- the list at a place, as it is read there
-pub list_at : (ts : List TallyData) (i : ℕ) (t : TallyData) → i < length ts → t ≡ get_or ts i t → t.counts ≡ counts_of ts i
-list_at ts i t within at = ap (λ (x : TallyData). x.counts) (at ∙ get_or_default ts i t no_tally within)
+  -- the lists at a place, as they are read there
+  pub list_at : (ts : List TallyData) (i : ℕ) (t : TallyData) → i < length ts → t ≡ get_or ts i t → f t ≡ f (get_or ts i no_tally)
+  list_at ts i t within at = ap f (at ∙ get_or_default ts i t no_tally within)
 
 -- a place is spare only in a list that is there
 pub spare_within : (ts : List TallyData) (i : ℕ) → 0 < get_or (spares_of ts) i 0 → i < length ts
@@ -92,13 +88,13 @@ module _ (h : List OpData) (o : OpData) (w : IsComplete h) (next : IsNext h o) w
 
   module _ (n : NameData) (is : member_of o ≡ Original n) where
     -- the number of originals of each site, where one comes
-    counts_put : (s : ℕ) → count_of (context_of_all (h ++ o ∷ [])) s ≡ (if n.site == s then n.number else count_of (context_of_all h) s)
+    pub counts_put : (s : ℕ) → count_of (context_of_all (h ++ o ∷ [])) s ≡ (if n.site == s then n.number else count_of (context_of_all h) s)
     counts_put s = count_of_push s ∙ (ap (λ (m : Member). count_of (raised (context_of_all h) m) s) is ∙ count_put n.site n.number (context_of_all h).counts s)
 
-    number_is : n.number ≡ count_of (context_of_all h) n.site + 1
+    pub number_is : n.number ≡ count_of (context_of_all h) n.site + 1
     number_is = subst (λ (m : Member). IsNextMember (context_of_all h) m) is (next_member h (context_of_all h) o w.holds next)
 
-    size_put : (s k : ℕ) → n.site ≡ s → n.number ≡ k → k ≡ count_of (context_of_all (h ++ o ∷ [])) s
+    pub size_put : (s k : ℕ) → n.site ≡ s → n.number ≡ k → k ≡ count_of (context_of_all (h ++ o ∷ [])) s
     size_put s k site number = sym (counts_put s ∙ (ap (λ b. if b then n.number else count_of (context_of_all h) s) (eq-eqb n.site s site) ∙ number))
 
     -- the entries of the site's list with one more
@@ -155,7 +151,7 @@ module _ (h : List OpData) (o : OpData) (w : IsComplete h) (next : IsNext h o) w
           | inr other ↦ rw other (same_push s counts (counts_put s ∙ rw other refl) tally)
         ]
 
-    original_pop : (s : ℕ) (counts : List ℕ) → IsTally (h ++ o ∷ []) s counts → IsTally h s (uncounted (Original n) s counts)
+    original_pop : (s : ℕ) (counts : List ℕ) → IsTally (h ++ o ∷ []) s counts → IsTally h s (without_last (Original n) s counts)
     original_pop s counts tally =
         elim (cases_Bool (n.site == s)) [
           | inl same ↦
@@ -165,14 +161,14 @@ module _ (h : List OpData) (o : OpData) (w : IsComplete h) (next : IsNext h o) w
         ]
 
   -- a group is no original
-  group_same : (t : NameData) (g s : ℕ) → member_of o ≡ Group t g → count_of (context_of_all (h ++ o ∷ [])) s ≡ count_of (context_of_all h) s
+  pub group_same : (t : NameData) (g s : ℕ) → member_of o ≡ Group t g → count_of (context_of_all (h ++ o ∷ [])) s ≡ count_of (context_of_all h) s
   group_same t g s is = count_of_push s ∙ ap (λ (m : Member). count_of (raised (context_of_all h) m) s) is
 
   member_push : (m : Member) → member_of o ≡ m → (s : ℕ) (counts : List ℕ) → IsTally h s counts → IsTally (h ++ o ∷ []) s (counted m (is_insert o) s counts)
   member_push (Original n) is s counts tally = original_push n is s counts tally
   member_push (Group t g) is s counts tally = same_push s counts (group_same t g s is) tally
 
-  member_pop : (m : Member) → member_of o ≡ m → (s : ℕ) (counts : List ℕ) → IsTally (h ++ o ∷ []) s counts → IsTally h s (uncounted m s counts)
+  member_pop : (m : Member) → member_of o ≡ m → (s : ℕ) (counts : List ℕ) → IsTally (h ++ o ∷ []) s counts → IsTally h s (without_last m s counts)
   member_pop (Original n) is s counts tally = original_pop n is s counts tally
   member_pop (Group t g) is s counts tally = same_pop s counts (group_same t g s is) tally
 
@@ -181,5 +177,5 @@ module _ (h : List OpData) (o : OpData) (w : IsComplete h) (next : IsNext h o) w
   tallies_push counts now tallies more s = subst (λ (t : List ℕ). IsTally (h ++ o ∷ []) s t) (sym (more s)) (member_push (member_of o) refl s (counts s) (tallies s))
 
   -- and without it
-  pub tallies_pop : (counts now : ℕ → List ℕ) → AreTallies (h ++ o ∷ []) counts → ((s : ℕ) → now s ≡ uncounted (member_of o) s (counts s)) → AreTallies h now
+  pub tallies_pop : (counts now : ℕ → List ℕ) → AreTallies (h ++ o ∷ []) counts → ((s : ℕ) → now s ≡ without_last (member_of o) s (counts s)) → AreTallies h now
   tallies_pop counts now tallies less s = subst (λ (t : List ℕ). IsTally h s t) (sym (less s)) (member_pop (member_of o) refl s (counts s) (tallies s))

@@ -4,7 +4,7 @@ use Rattle.op_name.specs.declared.member.Member.{Member}
 use Rattle.op_name.specs.declared.member.Member.TheVariants.{Original, Group}
 use Rattle.context_diff.specs.Operations.{OpData, member_of}
 use Rattle.context_vector.specs.Contexts.{ContextData}
-use Rattle.context_diff.specs.Histories.{CoversSite}
+use Rattle.context_diff.specs.Histories.{CoversSite, IsClosed, LacksNothing, inserts_in}
 use Rattle.context_vector.specs.Vectors.{VectorData, HasRoomFor}
 
 -- the history, its members, the spare places for operations, and for each site those in the list of its counts of inserts
@@ -29,6 +29,12 @@ pub record HasRoom (b : BookData) (o : OpData) : Type 0 where
 -- the last operation can be taken out without memory: it was pushed in the room for it, and the members weren't shared since
 abbrev pub HasRoomToPop : BookData → Type 0
 HasRoomToPop b = (h : List OpData) (o : OpData) → b.ops ≡ h ++ o ∷ [] → HasRoomFor b.have (member_of o)
+
+-- what a verdict asks of a context: the history has its members, it is closed, and n of its members are inserts
+pub record IsJudged (h : List OpData) (v : ContextData) (n : ℕ) : Type 0 where
+  pub ready : LacksNothing h v
+  pub closed : IsClosed h v
+  pub cells : n ≡ inserts_in h v
 
 -- the least site whose last named original knows something that the context hasn't
 pub record IsFirstOpenSite (h : List OpData) (v : ContextData) (s : ℕ) : Type 0 where

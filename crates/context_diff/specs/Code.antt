@@ -1,4 +1,5 @@
 -- Words of the code alone: no public contract reaches them.
+pub mod Judged
 pub mod Kept
 pub mod Places
 pub mod Counting

@@ -1,14 +1,18 @@
 //! The book: a valid history, with its members and an index of them.
 
-ghost use Rattle.std.specs.Prelude.{◌≡◌, ◌↔◌, ◌+◌, ◌-◌, ◌<◌, ◌≤◌, ◌++◌, ◌∷◌, [], true, false, Contains, IsNone, OnOk, IfSome, length, option_map, slice_get};
+ghost use Rattle.std.specs.Prelude.{◌≡◌, ◌↔◌, ◌+◌, ◌-◌, ◌<◌, ◌≤◌, ◌++◌, ◌∷◌, [], true, false, Contains, IsNone, OnOk, IfSome, if◌then◌else◌, length, map, option_map, slice_get};
 ghost use Rattle.std.specs.Option.{option_to_list};
 ghost use Rattle.op_name.specs.declared.member.Member.TheVariants.{Original};
 ghost use Rattle.context_vector.specs.Contexts.{Within};
 ghost use Rattle.context_diff.specs.Operations.{member_of};
 ghost use Rattle.context_diff.specs.Histories.{is_known, members_in, inserts_in, context_of_all, IsNext, IsValid};
 ghost use Rattle.context_diff.specs.Ops.{data_of};
-ghost use Rattle.context_diff.specs.Books.{HasRoom, HasRoomToPop};
+ghost use Rattle.context_diff.specs.Books.{HasRoom, HasRoomToPop, IsJudged};
+ghost use Rattle.context_diff.specs.Code.Judged.{IsLately};
+ghost use Rattle.context_diff.specs.Code.Kept.{IsPlaceOf};
 
+use crate::groups;
+use crate::judged::{Lately, cells_by};
 use crate::op::Op;
 use crate::tally::Tallies;
 use context_vector::Vector;
@@ -23,28 +27,39 @@ const OPS: usize = 4_294_967_295;
 /// A valid history: operations in the order in which a site integrated them, each well formed, and next
 /// after those before it.
 ///
-/// It is kept by members, so that an operation is found by its name at once. Beside the operations it keeps, for
-/// each site, how many inserts the site had made with each of its originals, so that the inserts of a context are
-/// counted by one look at each of its sites. It has at most 4,294,967,295 operations.
+/// Beside the operations it keeps, for each site, where each of its originals stands, and how many inserts the site had made with
+/// it: so an original is found at once, and the inserts of a context are counted by one look at each of its sites. Undo groups,
+/// of which there are fewer, are found by their members. And of the last two inserts or deletes it keeps how many inserts their
+/// contexts have, so that what comes with such a context, or with that and one of them, is judged at a look. It has at most 4,294,967,295 operations.
 #[derive(Drop)]
 pub struct Book {
-    kept: IndexMap<Member, Op>,
+    ops: Vec<Op>,
     have: Vector,
+    inserts: u32,
     tallies: Tallies,
+    groups: IndexMap<Member, u32>,
+    last: Option<Lately>,
+    earlier: Option<Lately>,
 }
 
 impl Model for Book {
+    ghost use Rattle.std.specs.Prelude.{◌-◌, map, min, vec_len, vec_capacity};
     ghost use Rattle.indexmap.specs.IndexMap.{spare};
     ghost use Rattle.context_diff.specs.Books.{BookData};
     ghost use Rattle.context_diff.specs.Ops.{data_of};
-    ghost use Rattle.context_diff.specs.Code.Kept.{ops_in, IsBook};
-    ghost use Rattle.context_diff.specs.Code.Tallies.{counts_of, spares_of};
+    ghost use Rattle.context_diff.specs.Code.Kept.{IsBook};
+    ghost use Rattle.context_diff.specs.Code.Tallies.{counts_of, places_of, spares_of};
 
     ghost Value = { BookData };
 
-    ghost view = { λ b. record { ops = ops_in data_of b.kept.entries; have = b.have; spare = spare b.kept; site_spares = spares_of b.tallies } };
+    ghost view = { λ b. record {
+      ops = map data_of b.ops.items;
+      have = b.have;
+      spare = min (vec_capacity b.ops - vec_len b.ops) (spare b.groups);
+      site_spares = spares_of b.tallies;
+    } };
 
-    ghost invariant = { λ b. IsBook data_of b.kept.entries b.have.set (counts_of b.tallies) };
+    ghost invariant = { λ b. IsBook (map data_of b.ops.items) b.have.set b.inserts (counts_of b.tallies) (places_of b.tallies) b.groups.entries b.last b.earlier };
 }
 
 impl Book {
@@ -53,9 +68,13 @@ impl Book {
         ensures { result.ops ≡ [] }
     {
         Book {
-            kept: IndexMap::new(alloc),
+            ops: Vec::new(alloc),
             have: Vector::new(alloc),
+            inserts: 0,
             tallies: Tallies::new(alloc),
+            groups: IndexMap::new(alloc),
+            last: None,
+            earlier: None,
         }
     }
 
@@ -65,28 +84,25 @@ impl Book {
         ensures have { self.now.have.set ≡ context_of_all self.now.ops }
         ensures short { length self.now.ops < 4294967296 }
     {
-        let _ = &self.kept;
+        let _ = &self.ops;
     }
 
     /// The number of operations.
+    #[tactic(auto, using(crate::proofs::Kept::seen_length))]
     pub fn len(&self) -> u32
         ensures { result ≡ length self.now.ops }
     {
-        self.kept.len() as u32
+        self.ops.len() as u32
     }
 
     /// The i-th operation, from 0, in the order of integration; None exactly past the end.
     pub fn op(&self, i: u32) -> Option<&Op>
         ensures { option_map (λ o. data_of o.now) result ≡ slice_get self.now.ops i }
     {
-        match self.kept.get_index(i as usize) {
-            Some(entry) => Some(entry.1),
-            None => None,
-        }
+        op_at(self.ops.as_slice(), i as usize)
     }
 
     /// The member that the i-th operation is, from 0, in the order of integration; None exactly past the end.
-    /// It doesn't look at the operation.
     pub fn member(&self, i: u32) -> Option<Member>
         ensures { result ≡ slice_get (members_in self.now.ops) i }
     {
@@ -125,11 +141,12 @@ impl Book {
         ensures have { self.new.have.set ≡ self.old.have.set }
         ensures room { OnOk result (HasRoom self.new (data_of op.now)) }
     {
-        if self.kept.len() >= OPS {
+        if self.ops.len() >= OPS {
             return Err(Memory);
         }
         let member = op.as_member();
-        self.kept.reserve(1)?;
+        self.ops.reserve(1)?;
+        self.groups.reserve(1)?;
         self.tallies.reserve(&member)?;
         self.have.reserve(&member)
     }
@@ -142,12 +159,30 @@ impl Book {
         ensures ops { self.new.ops ≡ self.old.ops ++ data_of op ∷ [] }
         ensures back { HasRoomToPop self.new }
     {
+        let lately = self.lately(&op);
         let member = op.member();
-        self.tallies.push(&member, op.is_insert());
+        let place = self.len();
+        self.tallies.push(&member, op.is_insert(), place);
+        groups::note(&mut self.groups, &member, place);
         self.have.add_reserved(&member);
-        match self.kept.insert(member, op) {
-            Ok(_) => {}
-            Err(_) => unreachable!(),
+        self.inserts = with_insert(self.inserts, op.is_insert());
+        self.earlier = self.last;
+        self.last = lately;
+        self.ops.push_reserved(op);
+    }
+
+    // What is kept of the operation, which is next, if it is an insert or delete.
+    fn lately(&self, op: &Op) -> Option<Lately>
+        requires { IsNext self.now.ops (data_of op.now) }
+        ensures { IfSome result (IsLately (self.now.ops ++ data_of op.now ∷ [])) }
+    {
+        self.known();
+        match op {
+            Op::Insert { context, .. } | Op::Delete { context, .. } => Some(Lately {
+                place: self.len(),
+                cells: self.inserts_in(context),
+            }),
+            Op::Undo { .. } => None,
         }
     }
 
@@ -158,15 +193,73 @@ impl Book {
         ensures none { IsNone result ↔ (length self.old.ops ≡ 0) }
         ensures ops { self.old.ops ≡ self.new.ops ++ option_to_list (option_map data_of result) }
     {
-        let (member, op) = self.kept.pop()?;
+        let op = self.ops.pop()?;
+        self.last = None;
+        self.earlier = None;
+        let member = op.as_member();
         self.tallies.pop(&member);
+        groups::forget(&mut self.groups, &member);
         self.have.drop_last(&member);
+        self.inserts = without_insert(self.inserts, op.is_insert());
         self.have.known();
         Some(op)
     }
 
+    /// The number of inserts of the book.
+    pub fn inserts(&self) -> u32
+        ensures { result ≡ inserts_in self.now.ops self.now.have.set }
+    {
+        self.inserts
+    }
+
+    /// The number of inserts of a context that was judged lately: the book has its members, and it is closed. It is that of one of
+    /// the last two inserts and deletes, or that with the operation itself. None says nothing.
+    pub fn judged(&self, v: &Vector) -> Option<u32>
+        ensures { IfSome result (IsJudged self.now.ops v.now.set) }
+    {
+        match self.judged_by(v, self.last) {
+            Some(cells) => Some(cells),
+            None => self.judged_by(v, self.earlier),
+        }
+    }
+
+    // The same by one of these.
+    fn judged_by(&self, v: &Vector, lately: Option<Lately>) -> Option<u32>
+        requires { IfSome lately (IsLately self.now.ops) }
+        ensures { IfSome result (IsJudged self.now.ops v.now.set) }
+    {
+        self.known();
+        match lately {
+            Some(known) => self.judged_at(v, known),
+            None => None,
+        }
+    }
+
+    // The same by this one.
+    fn judged_at(&self, v: &Vector, lately: Lately) -> Option<u32>
+        requires { IsLately self.now.ops lately }
+        ensures { IfSome result (IsJudged self.now.ops v.now.set) }
+    {
+        self.known();
+        match self.op(lately.place) {
+            Some(op) => cells_by(op, v, lately.cells),
+            None => None,
+        }
+    }
+
     /// The number of inserts among the originals of `v`, whose members the book has.
     pub fn inserts_in(&self, v: &Vector) -> u32
+        requires { Within v.now.set self.now.have.set }
+        ensures { result ≡ inserts_in self.now.ops v.now.set }
+    {
+        match self.judged(v) {
+            Some(cells) => cells,
+            None => self.counted(v),
+        }
+    }
+
+    // The same, counted site by site.
+    fn counted(&self, v: &Vector) -> u32
         requires { Within v.now.set self.now.have.set }
         ensures { result ≡ inserts_in self.now.ops v.now.set }
     {
@@ -184,9 +277,19 @@ impl Book {
         ensures none { IsNone result ↔ (is_known self.now.ops m.now ≡ false) }
         ensures place { IfSome result (λ i. slice_get (members_in self.now.ops) i ≡ Some m.now) }
     {
-        match self.kept.get_full(m) {
-            Some(entry) => Some(entry.0),
+        match self.seat(m) {
+            Some(place) => Some(place as usize),
             None => None,
+        }
+    }
+
+    // The place of the member, or none where the book lacks it.
+    fn seat(&self, m: &Member) -> Option<u32>
+        ensures { IsPlaceOf self.now.ops m.now result }
+    {
+        match m {
+            Member::Original(name) => self.tallies.place(name.site, name.number),
+            Member::Group(_, _) => groups::place_of(&self.groups, m),
         }
     }
 
@@ -194,8 +297,8 @@ impl Book {
     pub(crate) fn member_at(&self, place: usize) -> Option<Member>
         ensures { result ≡ slice_get (members_in self.now.ops) place }
     {
-        match self.kept.get_index(place) {
-            Some(entry) => Some(*entry.0),
+        match op_at(self.ops.as_slice(), place) {
+            Some(op) => Some(op.as_member()),
             None => None,
         }
     }
@@ -206,6 +309,35 @@ impl Book {
         ensures there { IfSome result (λ o. Contains self.now.ops (data_of o.now)) }
         ensures is { IfSome result (λ o. member_of (data_of o.now) ≡ m.now) }
     {
-        self.kept.get(m)
+        match self.seat(m) {
+            Some(place) => self.op(place),
+            None => None,
+        }
     }
+}
+
+// The operation at this place of a list.
+fn op_at(ops: &[Op], i: usize) -> Option<&Op>
+    ensures { option_map (λ o. data_of o.now) result ≡ slice_get (map data_of ops.now) i }
+{
+    match ops.get(i) {
+        Some(op) => Some(op),
+        None => None,
+    }
+}
+
+// A number of inserts with one operation more.
+fn with_insert(inserts: u32, is_insert: bool) -> u32
+    requires { inserts + 1 < 4294967296 }
+    ensures { result ≡ inserts + (if is_insert then 1 else 0) }
+{
+    inserts + u32::from(is_insert)
+}
+
+// A number of inserts with one operation less.
+fn without_insert(inserts: u32, is_insert: bool) -> u32
+    requires { (if is_insert then 1 else 0) ≤ inserts }
+    ensures { inserts ≡ result + (if is_insert then 1 else 0) }
+{
+    inserts - u32::from(is_insert)
 }

@@ -8,6 +8,8 @@ mod book;
 mod closed_part;
 mod coverage;
 mod gathering;
+mod groups;
+mod judged;
 mod laws;
 mod next_op;
 mod op;

@@ -1,35 +1,43 @@
-//! Counts of inserts, site by site: how many of the first originals of a site are inserts.
+//! What a book keeps of its originals, site by site: where each stands, and how many of the first ones of a site are inserts.
 
 ghost use Rattle.std.specs.Prelude.{◌≡◌, ℕ, ◌+◌, ◌-◌, ◌<◌, ◌++◌, ◌∷◌, [], length, take, slice_index_or, OnOk, if◌then◌else◌};
 ghost use Rattle.context_diff.specs.Books.{HasSpareFor};
-ghost use Rattle.context_diff.specs.Code.Tallies.{total, entry_at, counts_of, spares_of, counted, uncounted};
+ghost use Rattle.context_diff.specs.Code.Tallies.{total, entry_at, place_at, counts_of, places_of, spares_of, counted, placed, without_last};
 
 use op_name::{Member, Memory};
 use std::alloc::Global;
 use std::marker::Model;
 
-/// The counts of one site: the n-th entry is the number of inserts among its first n originals.
+/// The originals of one site, whose numbers are dense: of the n-th one its place in the order of the book, and how many inserts
+/// the first n are.
 #[derive(Drop)]
 pub(crate) struct Tally {
     counts: Vec<u32>,
+    places: Vec<u32>,
 }
 
 impl Model for Tally {
-    ghost use Rattle.std.specs.Prelude.{◌-◌, length, vec_capacity};
+    ghost use Rattle.std.specs.Prelude.{◌-◌, length, min, vec_capacity};
     ghost use Rattle.context_diff.specs.Code.Tallies.{TallyData};
 
     ghost Value = { TallyData };
 
-    ghost view = { λ t. record { counts = t.counts.items; spare = vec_capacity t.counts - length t.counts.items } };
+    ghost view = { λ t. record {
+      counts = t.counts.items;
+      places = t.places.items;
+      spare = min (vec_capacity t.counts - length t.counts.items) (vec_capacity t.places - length t.places.items);
+    } };
 }
 
 impl Tally {
-    // No counts. It takes no memory.
+    // No originals. It takes no memory.
     fn new(alloc: Global) -> Tally
-        ensures { result.counts ≡ [] }
+        ensures counts { result.counts ≡ [] }
+        ensures places { result.places ≡ [] }
     {
         Tally {
             counts: Vec::new(alloc),
+            places: Vec::new(alloc),
         }
     }
 
@@ -43,34 +51,50 @@ impl Tally {
         self.counts.get(number as usize - 1).copied().unwrap_or(0)
     }
 
+    // Where the original of this number stands; None where there is none.
+    fn place(&self, number: u32) -> Option<u32>
+        ensures { result ≡ place_at self.now.places number }
+    {
+        if number == 0 {
+            return None;
+        }
+        self.places.get(number as usize - 1).copied()
+    }
+
     // Makes room for one more original.
     fn reserve(&mut self) -> Result<(), Memory>
         ensures counts { self.new.counts ≡ self.old.counts }
+        ensures places { self.new.places ≡ self.old.places }
         ensures room { OnOk result (0 < self.new.spare) }
     {
         self.counts.reserve(1)?;
+        self.places.reserve(1)?;
         Ok(())
     }
 
-    // Counts one more original, in the room that was made for it.
-    fn push(&mut self, is_insert: bool)
+    // Takes one more original in, in the room that was made for it.
+    fn push(&mut self, is_insert: bool, place: u32)
         requires room { 0 < self.old.spare }
         requires short { total self.old.counts + 1 < 4294967296 }
-        ensures { self.new.counts ≡ self.old.counts ++ (total self.old.counts + (if is_insert then 1 else 0)) ∷ [] }
+        ensures counts { self.new.counts ≡ self.old.counts ++ (total self.old.counts + (if is_insert then 1 else 0)) ∷ [] }
+        ensures places { self.new.places ≡ self.old.places ++ place ∷ [] }
     {
         let before = self.counts.last().copied().unwrap_or(0);
         self.counts.push_reserved(before + u32::from(is_insert));
+        self.places.push_reserved(place);
     }
 
     // Forgets the last original.
     fn pop(&mut self)
-        ensures { self.new.counts ≡ take (length self.old.counts - 1) self.old.counts }
+        ensures counts { self.new.counts ≡ take (length self.old.counts - 1) self.old.counts }
+        ensures places { self.new.places ≡ take (length self.old.places - 1) self.old.places }
     {
         let _ = self.counts.pop();
+        let _ = self.places.pop();
     }
 }
 
-/// The counts of all sites, each in a list of its own, at the site's number.
+/// The originals of all sites, those of each in lists of its own, at the site's number.
 ///
 /// There are lists up to the greatest site for which room was made.
 #[derive(Drop)]
@@ -88,7 +112,7 @@ impl Model for Tallies {
 }
 
 impl Tallies {
-    /// No counts. It takes no memory.
+    /// No originals. It takes no memory.
     pub(crate) fn new(alloc: Global) -> Tallies
         ensures { result ≡ [] }
     {
@@ -107,9 +131,20 @@ impl Tallies {
         }
     }
 
-    /// Makes room to count the member. Out of memory, no count is lost.
+    /// Where the original of this number of the site stands in the book; None where there is none.
+    pub(crate) fn place(&self, site: u16, number: u32) -> Option<u32>
+        ensures { result ≡ place_at (places_of self.now site) number }
+    {
+        match self.sites.get(site as usize) {
+            Some(tally) => tally.place(number),
+            None => None,
+        }
+    }
+
+    /// Makes room for the member. Out of memory, nothing is lost.
     pub(crate) fn reserve(&mut self, m: &Member) -> Result<(), Memory>
         ensures counts { counts_of self.new ≡ counts_of self.old }
+        ensures places { places_of self.new ≡ places_of self.old }
         ensures room { OnOk result (HasSpareFor (spares_of self.new) m.now) }
     {
         match m {
@@ -121,15 +156,17 @@ impl Tallies {
     // Makes room for one more original of this site.
     fn reserve_at(&mut self, site: u16) -> Result<(), Memory>
         ensures counts { counts_of self.new ≡ counts_of self.old }
+        ensures places { places_of self.new ≡ places_of self.old }
         ensures room { OnOk result (0 < slice_index_or (spares_of self.new) site 0) }
     {
         self.grow(site)?;
         self.sites[site as usize].reserve()
     }
 
-    // Makes a list for each site up to this one.
+    // Makes lists for each site up to this one.
     fn grow(&mut self, site: u16) -> Result<(), Memory>
         ensures counts { counts_of self.new ≡ counts_of self.old }
+        ensures places { places_of self.new ≡ places_of self.old }
         ensures there { OnOk result (site < length self.new) }
     {
         let alloc = *self.sites.allocator();
@@ -142,21 +179,23 @@ impl Tallies {
         Ok(())
     }
 
-    /// Counts the member, in the room that was made for it. It takes no memory.
-    pub(crate) fn push(&mut self, m: &Member, is_insert: bool)
+    /// Takes the member in, which stands at this place of the book, in the room that was made for it. It takes no memory.
+    pub(crate) fn push(&mut self, m: &Member, is_insert: bool, place: u32)
         requires room { HasSpareFor (spares_of self.old) m.now }
         requires short { (s : ℕ) → total (counts_of self.old s) + 1 < 4294967296 }
-        ensures { (s : ℕ) → counts_of self.new s ≡ counted m.now is_insert s (counts_of self.old s) }
+        ensures counts { (s : ℕ) → counts_of self.new s ≡ counted m.now is_insert s (counts_of self.old s) }
+        ensures places { (s : ℕ) → places_of self.new s ≡ placed m.now place s (places_of self.old s) }
     {
         match m {
-            Member::Original(name) => self.sites[name.site as usize].push(is_insert),
+            Member::Original(name) => self.sites[name.site as usize].push(is_insert, place),
             Member::Group(_, _) => {}
         }
     }
 
     /// Forgets the member, which is the last of its site. It takes no memory.
     pub(crate) fn pop(&mut self, m: &Member)
-        ensures { (s : ℕ) → counts_of self.new s ≡ uncounted m.now s (counts_of self.old s) }
+        ensures counts { (s : ℕ) → counts_of self.new s ≡ without_last m.now s (counts_of self.old s) }
+        ensures places { (s : ℕ) → places_of self.new s ≡ without_last m.now s (places_of self.old s) }
     {
         match m {
             Member::Original(name) => {

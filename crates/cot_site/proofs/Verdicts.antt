@@ -12,6 +12,7 @@ use Rattle.context_vector.specs.Contexts.{IsContext}
 use Rattle.context_diff.specs.Operations.{OpData, inserting, deleting, undoing, member_of, context_of, is_original, IsWellFormed}
 use Rattle.context_diff.specs.Histories.{is_known, generation_in, context_of_all, inserts_in, LacksNothing, HasPlace, IsNext, IsValid}
 use Rattle.context_diff.proofs.CallerLemmas.{complete, holder, known_member, generation_is, has_group, has_generation, op_eq_decides, original_name}
+use Rattle.context_diff.specs.Books.{IsJudged}
 use Rattle.context_diff.specs.Ops.{op_eq}
 use Rattle.site_answers.specs.declared.verdict.Verdict.{Verdict}
 use Rattle.site_answers.specs.declared.verdict.Verdict.TheVariants.{Repeat, Forged, Waits, NotClosed, PlaceOut, Integrated}
@@ -36,6 +37,9 @@ waits_is h w o m e f l i = pick (e i) (f i) (l i) (target_of (member_of o)) (rea
 
 pub ready_is : (h w : List OpData) (o : OpData) → is_repeat h o ≡ false → is_forged h w o ≡ false → lacked h (context_of o) ≡ None → verdict_of h w o ≡ ready_verdict h o
 ready_is h w o e f l i = pick (e i) (f i) (l i) (target_of (member_of o)) (ready_verdict h o)
+
+pub waiting_is : (h w : List OpData) (o : OpData) → is_repeat h o ≡ false → is_forged h w o ≡ false → verdict_of h w o ≡ waiting_verdict (lacked h (context_of o)) (ready_verdict h o)
+waiting_is h w o e f i = pick (e i) (f i) (lacked h (context_of o)) (target_of (member_of o)) (ready_verdict h o)
 
 -- whether the place is among the cells of the context
 abbrev pub fits : List OpData → OpData → Bool
@@ -76,6 +80,14 @@ pub formed_context : (o : OpData) → IsWellFormed o → IsContext (context_of o
 formed_context (inserting n p ch c) f = f.in_range.3
 formed_context (deleting n p c) f = f.in_range.2
 formed_context (undoing a t g c) f = f.in_range.4
+
+-- of a context that is there and closed nothing is lacked, and no site is open
+pub judged_covered : (h : List OpData) → IsValid h → (o : OpData) → IsWellFormed o → (n : ℕ) → IsJudged h (context_of o) n → first_uncovered h (context_of o) (context_of o).counts ≡ None
+judged_covered h valid o formed n known =
+    none_closed h (context_of o) (first_uncovered h (context_of o) (context_of o).counts) (uncovered h (complete h valid) (context_of o) known.ready (formed_context o formed).counts) known.closed
+
+pub judged_ready : (h : List OpData) → IsValid h → (o : OpData) → IsWellFormed o → (n : ℕ) → IsJudged h (context_of o) n → lacked h (context_of o) ≡ None
+judged_ready h valid o formed n known = lacked_none h (complete h valid) (context_of o) (formed_context o formed) known.ready
 
 place_of_original : (o : OpData) → is_original o ≡ true → (p : ℕ) × (place_in o ≡ Some p)
 place_of_original (inserting n p ch c) e = (p, refl)

@@ -1,12 +1,12 @@
 //! The verdict on an operation, over a book and the operations that wait.
 
-ghost use Rattle.std.specs.Prelude.{◌≡◌, IfNone};
+ghost use Rattle.std.specs.Prelude.{◌≡◌, List, None, IfNone};
 ghost use Rattle.std.specs.List.{list_any};
 ghost use Rattle.op_name.specs.declared.member.Member.TheVariants.{Original};
-ghost use Rattle.context_diff.specs.Operations.{member_of, context_of, IsWellFormed};
+ghost use Rattle.context_diff.specs.Operations.{OpData, member_of, context_of, IsWellFormed};
 ghost use Rattle.context_diff.specs.Histories.{LacksNothing, inserts_in};
 ghost use Rattle.context_diff.specs.Ops.{data_of, op_eq};
-ghost use Rattle.cot_site.specs.Verdicts.{is_repeat, is_other, is_forged, lacked, first_uncovered, placed_verdict, ready_verdict, verdict_of};
+ghost use Rattle.cot_site.specs.Verdicts.{is_repeat, is_other, is_forged, lacked, first_uncovered, placed_verdict, ready_verdict, waiting_verdict, verdict_of};
 
 use causal_gate::Pool;
 use context_diff::{Book, Op, closed};
@@ -28,6 +28,29 @@ pub(crate) fn verdict_on(book: &Book, pool: &Pool, op: &Op) -> Verdict
             name: op.member().target(),
         };
     }
+    book.known();
+    match book.judged(op.context()) {
+        Some(cells) => judged_verdict(op, cells),
+        None => unjudged_verdict(book, op),
+    }
+}
+
+// The verdict on an operation whose context is there, closed, and has so many inserts.
+fn judged_verdict(op: &Op, cells: u32) -> Verdict
+    ensures { (h : List OpData) → first_uncovered h (context_of (data_of op.now)) (context_of (data_of op.now)).counts ≡ None → cells ≡ inserts_in h (context_of (data_of op.now)) → result ≡ ready_verdict h (data_of op.now) }
+{
+    match op {
+        Op::Insert { place, .. } => placed_verdict(None, *place <= cells, *place, cells),
+        Op::Delete { place, .. } => placed_verdict(None, *place < cells, *place, cells),
+        Op::Undo { .. } => Verdict::Integrated,
+    }
+}
+
+// The verdict on an operation that is no repeat and not forged.
+fn unjudged_verdict(book: &Book, op: &Op) -> Verdict
+    requires { IsWellFormed (data_of op.now) }
+    ensures { result ≡ waiting_verdict (lacked book.now.ops (context_of (data_of op.now))) (ready_verdict book.now.ops (data_of op.now)) }
+{
     match lacked(book, op) {
         Some(missing) => Verdict::Waits { missing },
         None => ready_verdict(book, op),

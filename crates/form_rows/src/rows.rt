@@ -116,8 +116,7 @@ fn lacked_inserts(book: &Book, context: &Vector) -> u32
     ensures { result ≡ lacking book.now.ops context.now.set }
 {
     book.known();
-    book.inserts_in(book.have())
-        .saturating_sub(book.inserts_in(context))
+    book.inserts().saturating_sub(book.inserts_in(context))
 }
 
 // How many of the first operations of the book have all their inserts in the context, if no more than `most` come after

@@ -1,26 +1,36 @@
--- How a book keeps its operations: by their members, in its order, and its inserts counted site by site.
-use Rattle.std.specs.Prelude.{◌≡◌, ℕ, ◌<◌, List, [], ◌∷◌, length}
+-- What a book keeps beside its operations.
+use Rattle.std.specs.Prelude.{◌≡◌, ℕ, ◌<◌, false, List, Option, Some, None, IfSome, length, slice_get}
+use Rattle.std.specs.Map.{lookup}
 use Rattle.op_name.specs.declared.member.Member.{Member}
+use Rattle.op_name.specs.declared.member.Member.TheVariants.{Group}
+use Rattle.op_name.specs.NameData.{NameData}
+use Rattle.op_name.specs.Members.{member_eq}
 use Rattle.context_vector.specs.Contexts.{ContextData}
-use Rattle.context_diff.specs.Operations.{OpData, member_of}
-use Rattle.context_diff.specs.Histories.{IsValid, context_of_all}
-use Rattle.context_diff.specs.Code.Tallies.{AreTallies}
+use Rattle.context_diff.specs.Operations.{OpData}
+use Rattle.context_diff.specs.Histories.{IsValid, context_of_all, is_known, members_in}
+use Rattle.context_diff.specs.Code.Counting.{made}
+use Rattle.context_diff.specs.Code.Judged.{IsLately}
+use Rattle.context_diff.specs.declared.judged.Lately.{Lately}
+use Rattle.context_diff.specs.Code.Tallies.{AreTallies, ArePlaced}
 
-module _ {X : Type 0} (op : X → OpData) where
-  -- the operations of the entries
-  abbrev pub ops_in : List (Member × X) → List OpData
-  ops_in [] = []
-  ops_in (e ∷ es) = op e.1 ∷ ops_in es
+-- the place of a member in a history, or that it isn't there
+abbrev pub IsPlaceOf : List OpData → Member → Option ℕ → Type 0
+IsPlaceOf h m None = is_known h m ≡ false
+IsPlaceOf h m (Some i) = slice_get (members_in h) i ≡ Some m
 
-  -- each operation stands under its member
-  abbrev pub AreKept : List (Member × X) → Type 0
-  AreKept [] = Unit {0}
-  AreKept (e ∷ es) = (e.0 ≡ member_of (op e.1)) × AreKept es
+-- each undo group has its place
+abbrev pub AreGroups : List OpData → List (Member × ℕ) → Type 0
+AreGroups h places = (t : NameData) (g : ℕ) → IsPlaceOf h (Group t g) (lookup (member_eq (Group t g)) places)
 
--- the entries of a book: a valid history, whose members are `have` and whose inserts are counted for each site
-pub record IsBook {X : Type 0} (op : X → OpData) (es : List (Member × X)) (have : ContextData) (counts : ℕ → List ℕ) : Type 0 where
-  pub valid : IsValid (ops_in op es)
-  pub kept : AreKept op es
-  pub members : have ≡ context_of_all (ops_in op es)
-  pub tallies : AreTallies (ops_in op es) counts
-  pub short : length es < 4294967296
+-- a valid history, whose members are `have`, with the number of its inserts, the counts and the places of the originals of each site, the
+-- places of undo groups, and what is known of the contexts of its last inserts and deletes
+pub record IsBook (h : List OpData) (have : ContextData) (number : ℕ) (counts places : ℕ → List ℕ) (seats : List (Member × ℕ)) (last earlier : Option Lately) : Type 0 where
+  pub valid : IsValid h
+  pub members : have ≡ context_of_all h
+  pub inserts : number ≡ made h
+  pub tallies : AreTallies h counts
+  pub placed : ArePlaced h places
+  pub groups : AreGroups h seats
+  pub lately : IfSome last (IsLately h)
+  pub before : IfSome earlier (IsLately h)
+  pub short : length h < 4294967296

@@ -1,23 +1,28 @@
--- How inserts are kept counted: for each site the list whose n-th entry is the number of inserts among its first n originals.
-use Rattle.std.specs.Prelude.{◌≡◌, ℕ, zero, suc, ◌+◌, ◌-◌, ◌≤◌, Bool, List, [], ◌∷◌, ◌++◌, ◌==◌, length, map, take, slice_index_or, if◌then◌else◌}
+-- What is kept of the originals of each site: two lists whose n-th entries are the number of inserts among its first n originals, and
+-- the place of the n-th one in the book.
+use Rattle.std.specs.Prelude.{◌≡◌, ℕ, zero, suc, ◌+◌, ◌-◌, ◌≤◌, Bool, List, [], ◌∷◌, ◌++◌, ◌==◌, Option, Some, None, length, map, take, slice_get, slice_index_or, if◌then◌else◌}
 use Rattle.op_name.specs.declared.member.Member.{Member}
 use Rattle.op_name.specs.declared.member.Member.TheVariants.{Original, Group}
 use Rattle.context_vector.specs.Contexts.{count_of}
 use Rattle.context_diff.specs.Operations.{OpData}
-use Rattle.context_diff.specs.Histories.{context_of_all}
+use Rattle.context_diff.specs.Histories.{context_of_all, members_in}
 use Rattle.context_diff.specs.Code.Counting.{inserts_of}
 
--- the counts of a site, and the places that are spare in its list
+-- the counts of a site, the places of its originals, and how many more both lists have room for
 pub record TallyData : Type 0 where
   pub counts : List ℕ
+  pub places : List ℕ
   pub spare : ℕ
 
--- what a site without a list has
+-- what a site without lists has
 abbrev pub no_tally : TallyData
-no_tally = record { counts = []; spare = 0 }
+no_tally = record { counts = []; places = []; spare = 0 }
 
 abbrev pub counts_of : List TallyData → ℕ → List ℕ
 counts_of ts s = (slice_index_or ts s no_tally).counts
+
+abbrev pub places_of : List TallyData → ℕ → List ℕ
+places_of ts s = (slice_index_or ts s no_tally).places
 
 abbrev pub spares_of : List TallyData → List ℕ
 spares_of ts = map (λ t. t.spare) ts
@@ -26,6 +31,11 @@ spares_of ts = map (λ t. t.spare) ts
 abbrev pub entry_at : List ℕ → ℕ → ℕ
 entry_at counts zero = 0
 entry_at counts (suc n) = slice_index_or counts n 0
+
+-- the n-th place, from 1; none before the first one and past the end
+abbrev pub place_at : List ℕ → ℕ → Option ℕ
+place_at places zero = None
+place_at places (suc n) = slice_get places n
 
 -- the last entry, which is the number of all inserts; 0 if there is none
 abbrev pub total : List ℕ → ℕ
@@ -36,10 +46,15 @@ abbrev pub counted : Member → Bool → ℕ → List ℕ → List ℕ
 counted (Original n) insert s counts = if n.site == s then counts ++ (total counts + (if insert then 1 else 0)) ∷ [] else counts
 counted (Group t g) insert s counts = counts
 
--- the list of a site after the member, the last of its site, was taken out
-abbrev pub uncounted : Member → ℕ → List ℕ → List ℕ
-uncounted (Original n) s counts = if n.site == s then take (length counts - 1) counts else counts
-uncounted (Group t g) s counts = counts
+-- the places of a site after the member came, which stands at place p
+abbrev pub placed : Member → ℕ → ℕ → List ℕ → List ℕ
+placed (Original n) p s places = if n.site == s then places ++ p ∷ [] else places
+placed (Group t g) p s places = places
+
+-- a list of a site after the member, the last of its site, was taken out
+abbrev pub without_last : Member → ℕ → List ℕ → List ℕ
+without_last (Original n) s xs = if n.site == s then take (length xs - 1) xs else xs
+without_last (Group t g) s xs = xs
 
 -- the list of a site is right for a history: each original of the site has its entry, the number of inserts up to it
 pub record IsTally (h : List OpData) (s : ℕ) (counts : List ℕ) : Type 0 where
@@ -49,3 +64,12 @@ pub record IsTally (h : List OpData) (s : ℕ) (counts : List ℕ) : Type 0 wher
 -- so it is for each site
 abbrev pub AreTallies : List OpData → (ℕ → List ℕ) → Type 0
 AreTallies h counts = (s : ℕ) → IsTally h s (counts s)
+
+-- the places of a site are right for a history: each original of the site stands at its place
+pub record ArePlaces (h : List OpData) (s : ℕ) (places : List ℕ) : Type 0 where
+  pub size : length places ≡ count_of (context_of_all h) s
+  pub there : (n p : ℕ) → place_at places n ≡ Some p → slice_get (members_in h) p ≡ Some (Original (record { site = s; number = n }))
+
+-- so they are for each site
+abbrev pub ArePlaced : List OpData → (ℕ → List ℕ) → Type 0
+ArePlaced h places = (s : ℕ) → ArePlaces h s (places s)

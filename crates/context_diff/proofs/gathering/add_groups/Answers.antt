@@ -8,7 +8,8 @@ use Rattle.context_diff.specs.Histories.{members_in}
 use Rattle.context_diff.specs.Code.Places.{ArePlacesOf, is_group_between, is_missing, first_names}
 use Rattle.context_diff.proofs.Listings.{entry_at}
 use Rattle.context_diff.proofs.Raising.{has_group}
-use Rattle.context_diff.proofs.Books.{covered_ready, not_past}
+use Rattle.context_diff.proofs.Books.{covered_ready}
+use Rattle.context_diff.proofs.Placing.{not_past}
 use Rattle.context_diff.proofs.PlaceSteps.{places_same, names_more, name_is_new, names_all}
 use Rattle.context_diff.proofs.gathering.add_groups.Goals as goal
 use Rattle.context_diff.proofs.gathering.add_groups.Goals.{in-Some+in_ok-add_generations, in_default}

@@ -8,7 +8,8 @@ use Rattle.context_diff.specs.Histories.{members_in}
 use Rattle.context_diff.specs.Code.Places.{ArePlacesOf, is_between, is_missing, first_sites, first_names}
 use Rattle.context_diff.proofs.Listings.{count_at}
 use Rattle.context_diff.proofs.Raising.{has_original}
-use Rattle.context_diff.proofs.Books.{covered_ready, not_past}
+use Rattle.context_diff.proofs.Books.{covered_ready}
+use Rattle.context_diff.proofs.Placing.{not_past}
 use Rattle.context_diff.proofs.PlaceSteps.{places_same, places_nothing, no_sites_missing, sites_more, site_is_new, sites_all}
 use Rattle.context_diff.proofs.gathering.add_originals.Goals as goal
 use Rattle.context_diff.proofs.gathering.add_originals.Goals.{in-Some+in_ok-add_numbers, in_default}

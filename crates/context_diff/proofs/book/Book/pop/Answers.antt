@@ -1,76 +1,74 @@
-use Rattle.std.proofs.Common.{◌≡◌, ℕ, ◌+◌, List, [], ◌∷◌, ◌++◌, ap, sym, subst, ◌∙◌, arith, length}
-use Rattle.std.specs.Prelude.{Option, Some}
-use Rattle.op_name.specs.declared.member.Member.{Member}
-use Rattle.context_diff.specs.Books.{BookData, HasRoomToPop}
-use Rattle.context_diff.specs.Ops.{data_of}
-use Rattle.context_vector.specs.Vectors.{HasRoomFor}
-use Rattle.context_diff.specs.Code.Kept.{ops_in, IsBook}
-use Rattle.context_diff.specs.Code.Tallies.{counts_of}
-use Rattle.context_diff.proofs.Kept.{ops_length}
-use Rattle.std.specs.Option.{option_to_list}
+use Rattle.std.proofs.Common.{◌≡◌, ℕ, ◌+◌, false, List, [], ◌∷◌, ◌++◌, ap, sym, subst, ◌∙◌, arith, length, length-append}
+use Rattle.std.specs.Prelude.{map, None, if◌then◌else◌}
 use Rattle.std.proofs.lemmas.Bool.{true≢false}
-use Rattle.std.proofs.Common.{length-append}
+use Rattle.op_name.specs.declared.member.Member.{Member}
+use Rattle.op_name.specs.Members.{IsMember}
 use Rattle.context_vector.specs.Contexts.{ContextData}
-use Rattle.context_diff.specs.declared.op.Op.{Op}
-use Rattle.context_diff.proofs.Kept.{ops_push, book_pop, kept_last}
-use Rattle.context_diff.proofs.Books.{pop_member, pop_last}
-use Rattle.context_diff.proofs.Members.{lowered_back}
+use Rattle.context_vector.specs.Vectors.{HasRoomFor, IsLastMember}
+use Rattle.context_diff.specs.Operations.{OpData, member_of, is_insert}
+use Rattle.context_diff.specs.Histories.{is_known}
+use Rattle.context_diff.specs.Ops.{data_of}
+use Rattle.context_diff.specs.Books.{BookData, HasRoomToPop}
+use Rattle.context_diff.specs.Code.Kept.{IsBook}
+use Rattle.context_diff.specs.Code.Tallies.{counts_of, places_of, without_last}
+use Rattle.context_diff.proofs.Complete.{context_push}
+use Rattle.context_diff.proofs.Inserts.{made_push}
+use Rattle.context_diff.proofs.Kept.{book_before, book_pop, seen_pop}
+use Rattle.context_diff.proofs.Books.{pop_last}
+use Rattle.context_diff.proofs.Members.{formed_member, lowered_back}
+use Rattle.context_diff.proofs.Valid.{valid_pop}
 use Rattle.context_diff.proofs.book.Book.pop.Goals as goal
-
--- the entries are those that are left, and the one that was taken out
-whole : (es ds : List (Member × Op)) (r : Option (Member × Op)) (e : Member × Op) → es ≡ ds ++ option_to_list r → r ≡ Some e → es ≡ ds ++ e ∷ []
-whole es ds r e p some = p ∙ ap (λ (x : Option (Member × Op)). ds ++ option_to_list x) some
-
--- the book before, over its entries
-before : (es ds : List (Member × Op)) (have : ContextData) (counts : ℕ → List ℕ) (r : Option (Member × Op)) (e : Member × Op) → IsBook data_of es have counts → es ≡ ds ++ option_to_list r → r ≡ Some e → IsBook data_of (ds ++ e ∷ []) have counts
-before es ds have counts r e book p some = subst (λ (xs : List (Member × Op)). IsBook data_of xs have counts) (whole es ds r e p some) book
 
 pub drop_last-requires-clause-member : goal.drop_last-requires-clause-member
 drop_last-requires-clause-member c =
-    let e : Member × Op = (c.in_ok-member.member, c.in_ok-member.op) in
-    let book = before c.self.inside.kept.entries c.pop.new.self.entries c.self.inside.have.set (counts_of c.self.inside.tallies) c.pop.result e c.self.invariant c.pop.ensures.entries c.in_ok-member.was in
-    pop_member c.pop.new.self.entries c.self.inside.have.set (counts_of c.self.inside.tallies) e book
+    let o = data_of c.in_ok-op.op in
+    let book = book_before c.self.inside.ops.items c.pop.new.self.items c.pop.result c.in_ok-op.op c.self.inside.have.set c.self.inside.inserts (counts_of c.self.inside.tallies) (places_of c.self.inside.tallies) c.self.inside.groups.entries c.self.inside.last c.self.inside.earlier c.self.invariant c.pop.ensures.items c.in_ok-op.was in
+    let parts = valid_pop (map data_of c.pop.new.self.items) o book.valid in
+    subst IsMember (sym c.as_member-member.ensures) (formed_member o parts.1.formed)
 
 pub drop_last-requires-clause-last : goal.drop_last-requires-clause-last
 drop_last-requires-clause-last c =
-    let e : Member × Op = (c.in_ok-member.member, c.in_ok-member.op) in
-    let book = before c.self.inside.kept.entries c.pop.new.self.entries c.self.inside.have.set (counts_of c.self.inside.tallies) c.pop.result e c.self.invariant c.pop.ensures.entries c.in_ok-member.was in
-    pop_last c.pop.new.self.entries c.self.inside.have.set (counts_of c.self.inside.tallies) e book
+    let o = data_of c.in_ok-op.op in
+    let book = book_before c.self.inside.ops.items c.pop.new.self.items c.pop.result c.in_ok-op.op c.self.inside.have.set c.self.inside.inserts (counts_of c.self.inside.tallies) (places_of c.self.inside.tallies) c.self.inside.groups.entries c.self.inside.last c.self.inside.earlier c.self.invariant c.pop.ensures.items c.in_ok-op.was in
+    subst (IsLastMember c.self.inside.have.set) (sym c.as_member-member.ensures) (pop_last (map data_of c.pop.new.self.items) o c.self.inside.have.set book.members)
 
 pub drop_last-requires-clause-room : goal.drop_last-requires-clause-room
 drop_last-requires-clause-room c =
-    let e : Member × Op = (c.in_ok-member.member, c.in_ok-member.op) in
-    let es = c.pop.new.self.entries in
-    let all = whole c.self.inside.kept.entries es c.pop.result e c.pop.ensures.entries c.in_ok-member.was in
-    let book = before c.self.inside.kept.entries es c.self.inside.have.set (counts_of c.self.inside.tallies) c.pop.result e c.self.invariant c.pop.ensures.entries c.in_ok-member.was in
-    let key = kept_last data_of es e book.kept in
+    let whole = seen_pop c.self.inside.ops.items c.pop.new.self.items c.pop.result c.in_ok-op.op c.pop.ensures.items c.in_ok-op.was in
     let roomy = subst HasRoomToPop (sym c.self.view_is) c.requires in
-    let room = roomy (ops_in data_of es) (data_of e.1) (ap (ops_in data_of) all ∙ ops_push data_of es e) in
-    subst (λ (m : Member). HasRoomFor c.self.inside.have m) (sym key) room
+    subst (λ (m : Member). HasRoomFor c.self.inside.have m) (sym c.as_member-member.ensures) (roomy (map data_of c.pop.new.self.items) (data_of c.in_ok-op.op) whole)
+
+pub without_insert-self-inside-requires : goal.without_insert-self-inside-requires
+without_insert-self-inside-requires c =
+    let book = book_before c.self.inside.ops.items c.pop.new.self.items c.pop.result c.in_ok-op.op c.self.inside.have.set c.self.inside.inserts (counts_of c.self.inside.tallies) (places_of c.self.inside.tallies) c.self.inside.groups.entries c.self.inside.last c.self.inside.earlier c.self.invariant c.pop.ensures.items c.in_ok-op.was in
+    let bits : ◌≡◌ {A = ℕ} (if c.is_insert.result then 1 else 0) (if is_insert (data_of c.in_ok-op.op) then 1 else 0) = ap (λ b. if b then 1 else 0) c.is_insert.ensures in
+    omega (arith, bits, book.inserts, made_push (map data_of c.pop.new.self.items) (data_of c.in_ok-op.op))
 
 pub invariant_of-self-2 : goal.invariant_of-self-2
 invariant_of-self-2 c =
-    let e : Member × Op = (c.in_ok-member.member, c.in_ok-member.op) in
-    let es = c.pop.new.self.entries in
-    let book = before c.self.inside.kept.entries es c.self.inside.have.set (counts_of c.self.inside.tallies) c.pop.result e c.self.invariant c.pop.ensures.entries c.in_ok-member.was in
-    let parts = book_pop data_of es c.self.inside.have.set (counts_of c.self.inside.tallies) (counts_of c.pop-2.new.self) e book c.pop-2.ensures in
-    let key = kept_last data_of es e book.kept in
-    let back = lowered_back (ops_in data_of es) (data_of e.1) c.self.inside.have.set c.drop_last.new.self.set e.0 parts.0.valid parts.1 key parts.2 c.known.ensures c.drop_last.ensures.members in
-    subst (λ (d : ContextData). IsBook data_of es d (counts_of c.pop-2.new.self)) (sym back) parts.0
+    let h = map data_of c.pop.new.self.items in
+    let o = data_of c.in_ok-op.op in
+    let book = book_before c.self.inside.ops.items c.pop.new.self.items c.pop.result c.in_ok-op.op c.self.inside.have.set c.self.inside.inserts (counts_of c.self.inside.tallies) (places_of c.self.inside.tallies) c.self.inside.groups.entries c.self.inside.last c.self.inside.earlier c.self.invariant c.pop.ensures.items c.in_ok-op.was in
+    let parts = valid_pop h o book.valid in
+    let is : c.as_member-member.result ≡ member_of o = c.as_member-member.ensures in
+    let unknown : is_known h c.as_member-member.result ≡ false = ap (is_known h) is ∙ parts.1.new in
+    let less =
+    book_pop h c.self.inside.have.set c.self.inside.inserts c.without_insert-self-inside.result (counts_of c.self.inside.tallies) (counts_of c.pop-2.new.self) (places_of c.self.inside.tallies) (places_of c.pop-2.new.self) c.self.inside.groups.entries c.forget.new.groups.entries c.self.inside.last c.self.inside.earlier o book (c.without_insert-self-inside.ensures ∙ ap (λ b. c.without_insert-self-inside.result + (if b then 1 else 0)) c.is_insert.ensures)
+    (λ s. c.pop-2.ensures.counts s ∙ ap (λ (m : Member). without_last m s (counts_of c.self.inside.tallies s)) is)
+    (λ s. c.pop-2.ensures.places s ∙ ap (λ (m : Member). without_last m s (places_of c.self.inside.tallies s)) is)
+    (c.forget.ensures h o (sym is) unknown) in
+    let back = lowered_back h o c.self.inside.have.set c.drop_last.new.self.set c.as_member-member.result parts.0 parts.1 is (book.members ∙ context_push h o) c.known.ensures c.drop_last.ensures.members in
+    subst (λ (d : ContextData). IsBook h d c.without_insert-self-inside.result (counts_of c.pop-2.new.self) (places_of c.pop-2.new.self) c.forget.new.groups.entries None None) (sym back) less
 
 pub returns-clause-none : goal.returns-clause-none
 returns-clause-none c =
-    let e : Member × Op = (c.in_ok-member.member, c.in_ok-member.op) in
-    let es = c.pop.new.self.entries in
-    let all = whole c.self.inside.kept.entries es c.pop.result e c.pop.ensures.entries c.in_ok-member.was in
-    let ops = ap (λ (b : BookData). b.ops) c.self.view_is in
-    let size : length c.args.self.now.ops ≡ length es + 1 = ap length (sym ops) ∙ (ops_length data_of c.self.inside.kept.entries ∙ (ap length all ∙ simp length-append (omega arith))) in
+    let whole = seen_pop c.self.inside.ops.items c.pop.new.self.items c.pop.result c.in_ok-op.op c.pop.ensures.items c.in_ok-op.was in
+    let ops : map data_of c.self.inside.ops.items ≡ c.args.self.now.ops = ap (λ (b : BookData). b.ops) c.self.view_is in
+    let size : length c.args.self.now.ops ≡ length (map data_of c.pop.new.self.items) + 1 = ap length (sym ops ∙ whole) ∙ simp length-append (omega arith) in
     (λ no. absurd (true≢false no), λ none. absurd (omega arith))
 
 pub returns-clause-ops : goal.returns-clause-ops
 returns-clause-ops c =
-    let e : Member × Op = (c.in_ok-member.member, c.in_ok-member.op) in
-    let es = c.pop.new.self.entries in
-    let all = whole c.self.inside.kept.entries es c.pop.result e c.pop.ensures.entries c.in_ok-member.was in
-    let ops = ap (λ (b : BookData). b.ops) c.self.view_is in
-    sym ops ∙ (ap (ops_in data_of) all ∙ ops_push data_of es e)
+    let whole = seen_pop c.self.inside.ops.items c.pop.new.self.items c.pop.result c.in_ok-op.op c.pop.ensures.items c.in_ok-op.was in
+    let ops : map data_of c.self.inside.ops.items ≡ c.args.self.now.ops = ap (λ (b : BookData). b.ops) c.self.view_is in
+    sym ops ∙ whole

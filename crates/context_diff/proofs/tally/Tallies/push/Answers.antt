@@ -15,4 +15,4 @@ push-requires-clause-short c =
     let room : HasSpareFor (spares_of ts) (Original n) = subst (λ (m : Member). HasSpareFor (spares_of ts) m) c.in-Original.is c.requires.room in
     let site : c.name.inside.site ≡ n.site = ap (λ (x : NameData). x.site) c.name.view_is in
     let at : t ≡ get_or ts n.site t = c.index_mut.ensures.value ∙ (λ i. get_or (c.self.view_is i) (site i) t) in
-    omega (arith, ap total (list_at ts n.site t (spare_within ts n.site room) at), c.requires.short n.site)
+    omega (arith, ap total (list_at (λ (x : TallyData). x.counts) ts n.site t (spare_within ts n.site room) at), c.requires.short n.site)

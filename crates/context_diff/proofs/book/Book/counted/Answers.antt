@@ -7,7 +7,7 @@ use Rattle.context_diff.specs.Books.{BookData}
 use Rattle.context_diff.specs.Code.Counting.{inserts_listed}
 use Rattle.context_diff.specs.Code.Tallies.{AreTallies, counts_of}
 use Rattle.context_diff.proofs.Books.{listed_next, listed_bound, listed_all}
-use Rattle.context_diff.proofs.book.Book.inserts_in.Goals as goal
+use Rattle.context_diff.proofs.book.Book.counted.Goals as goal
 
 -- the sum with the site at hand
 next : (c : goal.After-inserts-total) → inserts_listed c.args.self.now.ops (take (suc c.loop-site.site-index) c.args.v.now.set.counts) ≡ c.loop-site.total + c.inserts-total.result

@@ -1,6 +1,6 @@
 use Rattle.std.proofs.Common.{◌≡◌, take}
 use Rattle.context_diff.specs.Code.Counting.{inserts_listed}
-use Rattle.context_diff.proofs.book.Book.inserts_in.Given as goal
+use Rattle.context_diff.proofs.book.Book.counted.Given as goal
 
 -- the inserts of the sites so far
 abbrev pub invariant-loop-site : goal.invariant-loop-site

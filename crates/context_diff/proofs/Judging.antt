@@ -1,0 +1,241 @@
+-- What is known of a context by an operation that was made with it, or right after it.
+use Rattle.std.proofs.Common.{◌≡◌, ℕ, zero, suc, ◌+◌, ◌<◌, ◌≤◌, Bool, true, false, inl, inr, List, [], ◌∷◌, ◌++◌, refl, ap, sym, subst, ◌∙◌, arith, length}
+use Rattle.std.specs.Prelude.{◌==◌, ◌&&◌, ◌||◌, Contains, Option, Some, None, IfSome, slice_get, if◌then◌else◌}
+use Rattle.std.proofs.lemmas.Bool.{cases_Bool, eqb-true, false≢true, or_cases, or_left, or_parts}
+use Rattle.std.proofs.lemmas.List.Elements.{Contains-push_cases}
+use Rattle.op_name.specs.declared.member.Member.{Member}
+use Rattle.op_name.specs.declared.member.Member.TheVariants.{Original}
+use Rattle.op_name.specs.NameData.{NameData}
+use Rattle.op_name.specs.Members.{member_eq}
+use Rattle.op_name.proofs.CallerLemmas.{member_apart, same_parts}
+use Rattle.context_vector.specs.Contexts.{ContextData, IsNextMember, Within, count_of, has, raised}
+use Rattle.context_diff.specs.Operations.{OpData, inserting, deleting, undoing, member_of, context_of, is_insert, is_original, IsWellFormed}
+use Rattle.context_diff.specs.Histories.{is_known, inserts_in, IsClosed, IsNext, IsValid, LacksNothing}
+use Rattle.context_diff.specs.Books.{IsJudged}
+use Rattle.context_diff.specs.Code.Judged.{IsLately, IsCellsBy}
+use Rattle.context_diff.specs.declared.judged.Lately.{Lately}
+use Rattle.context_diff.proofs.Names.{member_same, member_itself}
+use Rattle.context_diff.proofs.Known.{contains_cases, contains_here, contains_later, contains_none, known_member}
+use Rattle.context_diff.proofs.Raising.{count_put, has_number, has_raised}
+use Rattle.context_diff.proofs.Members.{original_name}
+use Rattle.context_diff.proofs.Inserts.{inserts_at_most}
+use Rattle.context_diff.proofs.Valid.{by_pushes}
+use Rattle.context_diff.proofs.Complete.{IsComplete, complete}
+
+bit : Bool → ℕ
+bit b = if b then 1 else 0
+
+-- ---- Counting
+
+inserts_push : (h : List OpData) (o : OpData) (v : ContextData) → inserts_in (h ++ o ∷ []) v ≡ inserts_in h v + bit (is_insert o && has v (member_of o))
+unfolding bit
+inserts_push [] o v = omega arith
+inserts_push (p ∷ ps) o v = rw (inserts_push ps o v) (omega arith)
+
+-- what comes next is in no context whose members were there
+pub inserts_stay : (h : List OpData) (o : OpData) (c : ContextData) → LacksNothing h c → is_known h (member_of o) ≡ false → inserts_in (h ++ o ∷ []) c ≡ inserts_in h c
+unfolding bit
+inserts_stay h o c ready new =
+    elim (cases_Bool (has c (member_of o))) [
+      | inl there ↦ absurd (false≢true (sym new ∙ ready (member_of o) there))
+      | inr missing ↦ inserts_push h o c ∙ rw (missing, and_none (is_insert o)) (omega arith)
+    ]
+  where
+    and_none : (b : Bool) → (b && false) ≡ false
+    and_none true = refl
+    and_none false = refl
+
+-- a member more changes nothing for operations that are other members
+unknown_same : (h : List OpData) (m : Member) (c v : ContextData) → ((y : Member) → has v y ≡ (has c y || member_eq m y)) → is_known h m ≡ false → inserts_in h v ≡ inserts_in h c
+unknown_same [] m c v more new = refl
+unknown_same (p ∷ ps) m c v more new =
+    let parts = or_parts (member_eq (member_of p) m) (is_known ps m) new in
+    let apart : member_eq m (member_of p) ≡ false = member_apart m (member_of p) (λ e. false≢true (sym parts.0 ∙ (ap (member_eq (member_of p)) e ∙ member_itself (member_of p)))) in
+    let same : has v (member_of p) ≡ has c (member_of p) = more (member_of p) ∙ (ap (λ b. has c (member_of p) || b) apart ∙ or_none (has c (member_of p))) in
+    rw (same, unknown_same ps m c v more parts.1) refl
+  where
+    or_none : (b : Bool) → (b || false) ≡ b
+    or_none true = refl
+    or_none false = refl
+
+and_all : (b : Bool) → (b && true) ≡ b
+and_all true = refl
+and_all false = refl
+
+and_none : (b : Bool) → (b && false) ≡ false
+and_none true = refl
+and_none false = refl
+
+-- a context with one operation of the history more has that one more, if it is an insert
+inserts_with : (h : List OpData) → IsValid h → (o : OpData) → Contains h o → (c v : ContextData) → ((y : Member) → has v y ≡ (has c y || member_eq (member_of o) y)) → has c (member_of o) ≡ false → inserts_in h v ≡ inserts_in h c + bit (is_insert o)
+unfolding bit
+inserts_with h valid o there c v more lacks =
+    by_pushes (λ k. Contains k o → inserts_in k v ≡ inserts_in k c + bit (is_insert o)) (λ at. absurd (contains_none o at)) step h valid there
+  where
+    step : (k : List OpData) (q : OpData) → IsValid k → (Contains k o → inserts_in k v ≡ inserts_in k c + bit (is_insert o)) → IsNext k q → Contains (k ++ q ∷ []) o → inserts_in (k ++ q ∷ []) v ≡ inserts_in (k ++ q ∷ []) c + bit (is_insert o)
+    step k q valid_k rest next at =
+        elim (Contains-push_cases k q o at) [
+          | inl old ↦
+              let apart : member_eq (member_of o) (member_of q) ≡ false = member_apart (member_of o) (member_of q) (λ e. false≢true (sym next.new ∙ (ap (is_known k) (sym e) ∙ known_member k o old))) in
+              let same : has v (member_of q) ≡ has c (member_of q) = more (member_of q) ∙ (ap (λ b. has c (member_of q) || b) apart ∙ or_none (has c (member_of q))) in
+              let here : bit (is_insert q && has v (member_of q)) ≡ bit (is_insert q && has c (member_of q)) = ap (λ b. bit (is_insert q && b)) same in
+              omega (arith, inserts_push k q v, inserts_push k q c, rest old, here)
+          | inr now ↦
+              let new : is_known k (member_of o) ≡ false = ap (λ (x : OpData). is_known k (member_of x)) (sym now) ∙ next.new in
+              let before = unknown_same k (member_of o) c v more new in
+              let there_now : has v (member_of o) ≡ true = more (member_of o) ∙ (ap (λ b. has c (member_of o) || b) (member_itself (member_of o)) ∙ or_all (has c (member_of o))) in
+              let with_it : bit (is_insert q && has v (member_of q)) ≡ bit (is_insert o) =
+              ap (λ (x : OpData). bit (is_insert x && has v (member_of x))) now ∙ ap bit (ap (λ b. is_insert o && b) there_now ∙ and_all (is_insert o)) in
+              let without : bit (is_insert q && has c (member_of q)) ≡ 0 =
+              ap (λ (x : OpData). bit (is_insert x && has c (member_of x))) now ∙ ap bit (ap (λ b. is_insert o && b) lacks ∙ and_none (is_insert o)) in
+              omega (arith, inserts_push k q v, inserts_push k q c, before, with_it, without)
+        ]
+      where
+        or_none : (b : Bool) → (b || false) ≡ b
+        or_none true = refl
+        or_none false = refl
+
+        or_all : (b : Bool) → (b || true) ≡ true
+        or_all true = refl
+        or_all false = refl
+
+-- ---- Judging
+
+-- an original is the next of its site in its own context
+next_there : (o : OpData) → IsWellFormed o → is_original o ≡ true → IsNextMember (context_of o) (member_of o)
+next_there (inserting n p ch c) formed original = sym formed.own
+next_there (deleting n p c) formed original = sym formed.own
+next_there (undoing a t g c) formed original = cc
+
+-- so it isn't there
+not_own : (c : ContextData) (k : NameData) → IsNextMember c (Original k) → has c (Original k) ≡ false
+not_own c k next =
+    elim (cases_Bool (has c (Original k))) [
+      | inl there ↦ let within = has_number c k there in absurd (omega (arith, next, within.1))
+      | inr missing ↦ missing
+    ]
+
+module _ (h : List OpData) (w : IsComplete h) (o : OpData) (there : Contains h o) (more : (y : Member) → has (raised (context_of o) (member_of o)) y ≡ (has (context_of o) y || member_eq (member_of o) y)) where
+  within_more : Within (context_of o) (raised (context_of o) (member_of o))
+  within_more y e = more y ∙ or_left (has (context_of o) y) (member_eq (member_of o) y) e
+
+  ready_with : LacksNothing h (raised (context_of o) (member_of o))
+  ready_with y at =
+      elim (or_cases (has (context_of o) y) (member_eq (member_of o) y) (sym (more y) ∙ at)) [
+        | inl before ↦ w.ready o there y before
+        | inr is ↦ subst (λ (x : Member). is_known h x ≡ true) (member_same (member_of o) y is) (known_member h o there)
+      ]
+
+  closed_with : (k : NameData) → member_of o ≡ Original k → is_original o ≡ true → IsClosed h (raised (context_of o) (member_of o))
+  closed_with k is original s q r at named site last =
+      let c = context_of o in
+      let counts : count_of (raised c (member_of o)) s ≡ (if k.site == s then k.number else count_of c s) = ap (λ (m : Member). count_of (raised c m) s) is ∙ count_put k.site k.number c.counts s in
+      elim (cases_Bool (k.site == s)) [
+        | inl here ↦
+            let number : r.number ≡ k.number = last ∙ (counts ∙ rw here refl) in
+            let same : r ≡ k = same_parts r k (site ∙ sym (eqb-true k.site s here)) number in
+            let one : q ≡ o = w.one q o at there (named ∙ (ap (λ (x : NameData). Original x) same ∙ sym is)) in
+            subst (λ (x : OpData). Within (context_of x) (raised c (member_of o))) (sym one) within_more
+        | inr other ↦
+            let number : r.number ≡ count_of c s = last ∙ (counts ∙ rw other refl) in
+            λ y e. within_more y (w.closed o there original s q r at named site number y e)
+      ]
+
+-- a context with the operation that was made in it
+judged_with : (h : List OpData) → IsValid h → (o : OpData) → Contains h o → is_original o ≡ true → (n : ℕ) → n ≡ inserts_in h (context_of o) + bit (is_insert o) → IsJudged h (raised (context_of o) (member_of o)) n
+judged_with h valid o there original n number =
+    let w = complete h valid in
+    let own = original_name o original in
+    let next = next_there o (w.formed o there) original in
+    let more = has_raised (context_of o) (member_of o) next in
+    let lacks : has (context_of o) (member_of o) ≡ false = ap (has (context_of o)) own.1 ∙ not_own (context_of o) own.0 (subst (IsNextMember (context_of o)) own.1 next) in
+    record {
+      ready = ready_with h w o there more;
+      closed = closed_with h w o there more own.0 own.1 original;
+      cells = number ∙ sym (inserts_with h valid o there (context_of o) (raised (context_of o) (member_of o)) more lacks);
+    }
+
+contains_get : (h : List OpData) (i : ℕ) (o : OpData) → slice_get h i ≡ Some o → Contains h o
+contains_get [] i o at = let none : None ≡ Some o = at in cc
+contains_get (p ∷ ps) zero o at = let is : p ≡ o = cc in subst (Contains (p ∷ ps)) is (contains_here p ps)
+contains_get (p ∷ ps) (suc i) o at = contains_later p ps o (contains_get ps i o at)
+
+some_same : (p o : OpData) → Some p ≡ Some o → p ≡ o
+some_same p o e = cc
+
+-- what the last operations tell of a context
+pub judged_by : (h : List OpData) → IsValid h → (l : Lately) → IsLately h l → (o : OpData) → slice_get h l.place ≡ Some o → (v : ContextData) (n : ℕ) → IsCellsBy o v l.cells n → IsJudged h v n
+unfolding bit
+judged_by h valid l known o at v n by =
+    let one : known.op ≡ o = some_same known.op o (sym known.there ∙ at) in
+    let cells : l.cells ≡ inserts_in h (context_of o) = known.cells ∙ ap (λ (x : OpData). inserts_in h (context_of x)) one in
+    let there = contains_get h l.place o at in
+    let w = complete h valid in
+    elim by.1 [
+      | inl same ↦ record {
+        ready = subst (LacksNothing h) (sym same.0) (w.ready o there);
+        closed = subst (IsClosed h) (sym same.0) (w.closed o there by.0);
+        cells = same.1 ∙ (cells ∙ ap (inserts_in h) (sym same.0));
+      }
+      | inr next ↦ subst (λ (x : ContextData). IsJudged h x n) (sym next.0) (judged_with h valid o there by.0 n (next.1 ∙ ap (λ x. x + (if is_insert o then 1 else 0)) cells))
+    ]
+
+-- the same of an answer
+pub judged_some : (h : List OpData) → IsValid h → (l : Lately) → IsLately h l → (o : OpData) → slice_get h l.place ≡ Some o → (v : ContextData) (r : Option ℕ) → IfSome r (IsCellsBy o v l.cells) → IfSome r (IsJudged h v)
+judged_some h valid l known o at v None by = tt
+judged_some h valid l known o at v (Some n) by = judged_by h valid l known o at v n by
+
+-- a context that lacks an operation of the history has fewer inserts than there are operations
+inserts_less : (h : List OpData) (o : OpData) (c : ContextData) → Contains h o → has c (member_of o) ≡ false → inserts_in h c + 1 ≤ length h
+inserts_less [] o c there lacks = absurd (contains_none o there)
+inserts_less (p ∷ ps) o c there lacks =
+    elim (contains_cases p ps o there) [
+      | inl is ↦
+          let missing : has c (member_of p) ≡ false = ap (λ (x : OpData). has c (member_of x)) is ∙ lacks in
+          rw (missing, and_none (is_insert p)) (omega (arith, inserts_at_most ps c))
+      | inr later ↦
+          let rest = inserts_less ps o c later lacks in
+          elim (cases_Bool (is_insert p && has c (member_of p))) [
+            | inl one ↦ rw one (omega (arith, rest))
+            | inr none ↦ rw none (omega (arith, rest))
+          ]
+    ]
+
+pub lately_fits : (h : List OpData) → IsValid h → (l : Lately) → IsLately h l → length h < 4294967296 → l.cells + 1 < 4294967296
+lately_fits h valid l known short =
+    let o = known.op in
+    let there = contains_get h l.place o known.there in
+    let own = original_name o known.original in
+    let next = next_there o ((complete h valid).formed o there) known.original in
+    let lacks : has (context_of o) (member_of o) ≡ false = ap (has (context_of o)) own.1 ∙ not_own (context_of o) own.0 (subst (IsNextMember (context_of o)) own.1 next) in
+    omega (arith, known.cells, inserts_less h o (context_of o) there lacks)
+
+-- ---- A history that grows
+
+get_on : (h : List OpData) (o : OpData) (i : ℕ) (p : OpData) → slice_get h i ≡ Some p → slice_get (h ++ o ∷ []) i ≡ Some p
+get_on [] o i p at = let none : None ≡ Some p = at in cc
+get_on (q ∷ qs) o zero p at = at
+get_on (q ∷ qs) o (suc i) p at = get_on qs o i p at
+
+pub get_last : (h : List OpData) (o : OpData) → slice_get (h ++ o ∷ []) (length h) ≡ Some o
+get_last [] o = refl
+get_last (q ∷ qs) o = get_last qs o
+
+-- what is known stays so
+pub lately_on : (h : List OpData) (o : OpData) → IsComplete h → IsNext h o → (l : Option Lately) → IfSome l (IsLately h) → IfSome l (IsLately (h ++ o ∷ []))
+lately_on h o w next None known = tt
+lately_on h o w next (Some l) known = record {
+  op = known.op;
+  there = get_on h o l.place known.op known.there;
+  original = known.original;
+  cells = known.cells ∙ sym (inserts_stay h o (context_of known.op) (w.ready known.op (contains_get h l.place known.op known.there)) next.new);
+}
+
+-- and of a next operation as much is known
+pub lately_new : (h : List OpData) (o : OpData) → IsNext h o → is_original o ≡ true → (l : Lately) → l.place ≡ length h → l.cells ≡ inserts_in h (context_of o) → IsLately (h ++ o ∷ []) l
+lately_new h o next original l place cells = record {
+  op = o;
+  there = ap (slice_get (h ++ o ∷ [])) place ∙ get_last h o;
+  original = original;
+  cells = cells ∙ sym (inserts_stay h o (context_of o) next.ready next.new);
+}
