@@ -7,6 +7,7 @@ use Rattle.op_name.specs.NameData.{NameData}
 use Rattle.context_vector.specs.Contexts.{ContextData, IsContext, AreCounts, AreEntries, IsBefore}
 use Rattle.context_diff.specs.Operations.{OpData, inserting, deleting, undoing, context_of, IsInRange}
 use Rattle.op_name.specs.declared.name.TheConstants.{NUMBERS, SITES}
+use Rattle.wire_codec.specs.declared.limits.TheConstants.{FRAME_SITES}
 use Rattle.op_name.specs.declared.member.TheConstants.{GENERATIONS}
 use Rattle.context_diff.specs.declared.op.TheConstants.{UNDO_ENTRIES}
 use Rattle.wire_codec.specs.declared.cause.Cause.TheVariants.{Range, Order, Zero}
@@ -95,10 +96,10 @@ counts_few low (p ∷ ps) h le = let rest = counts_few (p.0 + 1) ps h.4 (omega (
 pub counts_reads : Reads counts_at counts_bytes (AreCounts 0)
 unfolding counts_at
 counts_reads =
-    in_words counts_at counts_bytes counts_bytes (λ ps. ((0 ≤ length ps) × (length ps ≤ SITES)) × ((length ps ≡ length ps) × Follow IsCount site_after 0 ps)) (AreCounts 0)
-    (bind {X = List (ℕ × ℕ)} (bounded w8 0 SITES Range) (λ n m. many count_at site_after n 0 m) (to_be_bytes w8) (flat_map count_bytes)
-    (λ n. (0 ≤ n) × (n ≤ SITES)) (λ n ps. (length ps ≡ n) × Follow IsCount site_after 0 ps) (λ ps. length ps)
-    (bounded_reads w8 (2 ^ 8) wide8 0 SITES Range (omega arith))
+    in_words counts_at counts_bytes counts_bytes (λ ps. ((0 ≤ length ps) × (length ps ≤ FRAME_SITES)) × ((length ps ≡ length ps) × Follow IsCount site_after 0 ps)) (AreCounts 0)
+    (bind {X = List (ℕ × ℕ)} (bounded w8 0 FRAME_SITES Range) (λ n m. many count_at site_after n 0 m) (to_be_bytes w8) (flat_map count_bytes)
+    (λ n. (0 ≤ n) × (n ≤ FRAME_SITES)) (λ n ps. (length ps ≡ n) × Follow IsCount site_after 0 ps) (λ ps. length ps)
+    (bounded_reads w8 (2 ^ 8) wide8 0 FRAME_SITES Range (omega arith))
     (λ n _. many_reads count_at site_after count_bytes IsCount count_reads n 0)
     (λ n ps h. h.0))
     (λ ps h. counts_from 0 ps h.1.1)

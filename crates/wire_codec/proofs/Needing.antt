@@ -4,7 +4,7 @@ use Rattle.std.specs.Int.{w8, w32, from_be_bytes}
 use Rattle.std.proofs.lemmas.Bool.{ltb-true, ltb-false}
 use Rattle.std.proofs.lemmas.List.{length-append, length-drop, take-append-le, drop-append-le}
 use Rattle.op_name.specs.NameData.{NameData}
-use Rattle.op_name.specs.declared.name.TheConstants.{SITES}
+use Rattle.wire_codec.specs.declared.limits.TheConstants.{FRAME_SITES}
 use Rattle.context_vector.specs.Contexts.{ContextData}
 use Rattle.wire_codec.specs.declared.cause.Cause.TheVariants.{Range}
 use Rattle.wire_codec.specs.declared.fault.Unread.TheVariants.{More, Bad}
@@ -75,8 +75,8 @@ state_stops : (bytes : List ℕ) (d : ContextData) (used : ℕ) → judge_state 
 unfolding judge_state counts_read counted after_counts
 state_stops bytes d used e =
     let n = sites_of bytes in
-    let some = cond_ok (ltb (length bytes) 1) (More 1) (cond (ltb SITES n) (Err (Bad (fault Range 0))) (cond (ltb (length bytes) (1 + count_len * n)) (Err (More (1 + count_len * n))) (counted bytes))) (d, used) e in
-    let few = cond_ok (ltb SITES n) (Bad (fault Range 0)) (cond (ltb (length bytes) (1 + count_len * n)) (Err (More (1 + count_len * n))) (counted bytes)) (d, used) some.1 in
+    let some = cond_ok (ltb (length bytes) 1) (More 1) (cond (ltb FRAME_SITES n) (Err (Bad (fault Range 0))) (cond (ltb (length bytes) (1 + count_len * n)) (Err (More (1 + count_len * n))) (counted bytes))) (d, used) e in
+    let few = cond_ok (ltb FRAME_SITES n) (Bad (fault Range 0)) (cond (ltb (length bytes) (1 + count_len * n)) (Err (More (1 + count_len * n))) (counted bytes)) (d, used) some.1 in
     let there = cond_ok (ltb (length bytes) (1 + count_len * n)) (More (1 + count_len * n)) (counted bytes) (d, used) few.1 in
     counted_stops (1 + count_len * n) (after_counts bytes) d used (counts_read bytes) there.1
 
@@ -88,12 +88,12 @@ state_needs bytes tail d used m e good =
     let n = sites_of bytes in
     let stop = state_stops all d used good in
     let at = 1 + count_len * n in
-    elim (cond_err (ltb (length bytes) 1) (More 1) (More m) (cond (ltb SITES n) (Err (Bad (fault Range 0))) (cond (ltb (length bytes) at) (Err (More at)) (counted bytes))) e) [
+    elim (cond_err (ltb (length bytes) 1) (More 1) (More m) (cond (ltb FRAME_SITES n) (Err (Bad (fault Range 0))) (cond (ltb (length bytes) at) (Err (More at)) (counted bytes))) e) [
       | inl none ↦ let one = asked 1 m none.1 in omega (arith, one, stop)
       | inr some ↦
           let long = ltb-false _ _ some.0 in
           let same : sites_of all ≡ n = ap (λ (t : List ℕ). from_be_bytes w8 t) (take-append-le 1 bytes tail long) in
-          elim (cond_err (ltb SITES n) (Bad (fault Range 0)) (More m) (cond (ltb (length bytes) at) (Err (More at)) (counted bytes)) some.1) [
+          elim (cond_err (ltb FRAME_SITES n) (Bad (fault Range 0)) (More m) (cond (ltb (length bytes) at) (Err (More at)) (counted bytes)) some.1) [
             | inl bad ↦ absurd (let no = bad.1 in cc)
             | inr few ↦ elim (cond_err (ltb (length bytes) at) (More at) (More m) (counted bytes) few.1) [
               | inl short ↦ let is = asked at m short.1 in omega (arith, is, stop, same)
@@ -120,9 +120,9 @@ unfolding judge_state counts_read counted after_counts
 state_bound bytes m fits e =
     let n = sites_of bytes in
     let at = 1 + count_len * n in
-    elim (cond_err (ltb (length bytes) 1) (More 1) (More m) (cond (ltb SITES n) (Err (Bad (fault Range 0))) (cond (ltb (length bytes) at) (Err (More at)) (counted bytes))) e) [
+    elim (cond_err (ltb (length bytes) 1) (More 1) (More m) (cond (ltb FRAME_SITES n) (Err (Bad (fault Range 0))) (cond (ltb (length bytes) at) (Err (More at)) (counted bytes))) e) [
       | inl none ↦ let one = asked 1 m none.1 in omega (arith, one)
-      | inr some ↦ elim (cond_err (ltb SITES n) (Bad (fault Range 0)) (More m) (cond (ltb (length bytes) at) (Err (More at)) (counted bytes)) some.1) [
+      | inr some ↦ elim (cond_err (ltb FRAME_SITES n) (Bad (fault Range 0)) (More m) (cond (ltb (length bytes) at) (Err (More at)) (counted bytes)) some.1) [
         | inl bad ↦ absurd (let no = bad.1 in cc)
         | inr few ↦
             let sites = ltb-false _ _ few.0 in

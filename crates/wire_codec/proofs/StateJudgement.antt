@@ -6,6 +6,7 @@ use Rattle.std.proofs.lemmas.Bool.{ltb-true, ltb-false, le-ltb, cond-true, cond-
 use Rattle.std.proofs.lemmas.List.{append-nil, nil_from_length, length-append, length-take, length-drop, take-append-drop, take-append-le, drop-append-le, take_at, drop_at}
 use Rattle.op_name.specs.NameData.{NameData}
 use Rattle.op_name.specs.declared.name.TheConstants.{SITES}
+use Rattle.wire_codec.specs.declared.limits.TheConstants.{FRAME_SITES}
 use Rattle.context_vector.specs.Contexts.{ContextData, AreCounts, AreEntries}
 use Rattle.wire_codec.specs.declared.cause.Cause.TheVariants.{Range}
 use Rattle.wire_codec.specs.declared.fault.Fault.{Fault}
@@ -169,8 +170,8 @@ pub state_takes : (bytes : List ℕ) (c : ContextData) (used : ℕ) → IsBytes 
 unfolding judge_state counts_read counted state_bytes
 state_takes bytes c used fits e =
     let n = sites_of bytes in
-    let some = cond_ok (ltb (length bytes) 1) (More 1) (cond (ltb SITES n) (Err (Bad (fault Range 0))) (cond (ltb (length bytes) (1 + count_len * n)) (Err (More (1 + count_len * n))) (counted bytes))) (c, used) e in
-    let few = cond_ok (ltb SITES n) (Bad (fault Range 0)) (cond (ltb (length bytes) (1 + count_len * n)) (Err (More (1 + count_len * n))) (counted bytes)) (c, used) some.1 in
+    let some = cond_ok (ltb (length bytes) 1) (More 1) (cond (ltb FRAME_SITES n) (Err (Bad (fault Range 0))) (cond (ltb (length bytes) (1 + count_len * n)) (Err (More (1 + count_len * n))) (counted bytes))) (c, used) e in
+    let few = cond_ok (ltb FRAME_SITES n) (Bad (fault Range 0)) (cond (ltb (length bytes) (1 + count_len * n)) (Err (More (1 + count_len * n))) (counted bytes)) (c, used) some.1 in
     let there = cond_ok (ltb (length bytes) (1 + count_len * n)) (More (1 + count_len * n)) (counted bytes) (c, used) few.1 in
     let long = ltb-false _ _ some.0 in
     let enough = ltb-false _ _ there.0 in
@@ -219,7 +220,7 @@ state_again c rest is =
     let listed : length (flat_map count_bytes ps) ≡ count_len * n = length-counts ps in
     let total : length bytes ≡ 1 + (count_len * n + length behind) = omega (arith, listed, length-append (flat_map count_bytes ps) behind) in
     let some : ltb (length bytes) 1 ≡ false = le-ltb _ _ (omega (arith, total)) in
-    let not_many : ltb SITES (sites_of bytes) ≡ false = le-ltb _ _ (omega (arith, size, few)) in
+    let not_many : ltb FRAME_SITES (sites_of bytes) ≡ false = le-ltb _ _ (omega (arith, size, few)) in
     let there : ltb (length bytes) (1 + count_len * sites_of bytes) ≡ false = le-ltb _ _ (omega (arith, size, total)) in
     let section = section_again count_at site_after count_bytes IsCount count_reads count_len length-counts 0 ps n 1 behind refl (counts_to 0 ps is.is.counts) in
     let read : counts_read bytes ≡ Ok (ps, section.0) = ap (λ (k : ℕ). many count_at site_after k 0 (left_at 1 (take (count_len * k) (flat_map count_bytes ps ++ behind)))) size ∙ section.1 in
@@ -280,19 +281,19 @@ state_stays bytes more y told e =
     let all = bytes ++ more in
     let total = length-append bytes more in
     let behind = cond (ltb (length bytes) (1 + count_len * n)) (Err (More (1 + count_len * n))) (counted bytes) in
-    elim (split (ltb (length bytes) 1) (More 1) (cond (ltb SITES n) (Err (Bad (fault Range 0))) behind) y e) [
+    elim (split (ltb (length bytes) 1) (More 1) (cond (ltb FRAME_SITES n) (Err (Bad (fault Range 0))) behind) y e) [
       | inl short ↦ absurd (told 1 short.1)
       | inr some ↦
           let long = ltb-false (length bytes) 1 some.0 in
           let same : sites_of all ≡ n = ap (from_be_bytes w8) (take-append-le 1 bytes more long) in
           let some_all : ltb (length all) 1 ≡ false = le-ltb _ _ (omega (arith, long, total)) in
-          elim (split (ltb SITES n) (Bad (fault Range 0)) behind y some.1) [
-            | inl here ↦ cond-false _ _ _ some_all ∙ (cond-true _ _ _ (ap (λ (k : ℕ). ltb SITES k) same ∙ here.0) ∙ here.1)
+          elim (split (ltb FRAME_SITES n) (Bad (fault Range 0)) behind y some.1) [
+            | inl here ↦ cond-false _ _ _ some_all ∙ (cond-true _ _ _ (ap (λ (k : ℕ). ltb FRAME_SITES k) same ∙ here.0) ∙ here.1)
             | inr few ↦ elim (split (ltb (length bytes) (1 + count_len * n)) (More (1 + count_len * n)) (counted bytes) y few.1) [
               | inl short ↦ absurd (told (1 + count_len * n) short.1)
               | inr there ↦
                   let enough = ltb-false (length bytes) (1 + count_len * n) there.0 in
-                  let few_all : ltb SITES (sites_of all) ≡ false = ap (λ (k : ℕ). ltb SITES k) same ∙ few.0 in
+                  let few_all : ltb FRAME_SITES (sites_of all) ≡ false = ap (λ (k : ℕ). ltb FRAME_SITES k) same ∙ few.0 in
                   let there_all : ltb (length all) (1 + count_len * sites_of all) ≡ false = le-ltb _ _ (omega (arith, enough, total, same)) in
                   let section : count_len * n ≤ length (drop 1 bytes) = omega (arith, enough, length-drop 1 bytes) in
                   let front : drop 1 all ≡ drop 1 bytes ++ more = drop-append-le 1 bytes more long in
@@ -367,9 +368,9 @@ unfolding judge_state counts_read counted IsRefusedIn
 state_refused bytes q fits e =
     let n = sites_of bytes in
     let behind = cond (ltb (length bytes) (1 + count_len * n)) (Err (More (1 + count_len * n))) (counted bytes) in
-    elim (cond_err (ltb (length bytes) 1) (More 1) q (cond (ltb SITES n) (Err (Bad (fault Range 0))) behind) e) [
+    elim (cond_err (ltb (length bytes) 1) (More 1) q (cond (ltb FRAME_SITES n) (Err (Bad (fault Range 0))) behind) e) [
       | inl here ↦ subst (IsRefusedIn (length bytes)) here.1 (ltb-true _ _ here.0)
-      | inr some ↦ elim (cond_err (ltb SITES n) (Bad (fault Range 0)) q behind some.1) [
+      | inr some ↦ elim (cond_err (ltb FRAME_SITES n) (Bad (fault Range 0)) q behind some.1) [
         | inl here ↦ subst (IsRefusedIn (length bytes)) here.1 (omega arith)
         | inr few ↦ elim (cond_err (ltb (length bytes) (1 + count_len * n)) (More (1 + count_len * n)) q (counted bytes) few.1) [
           | inl here ↦ subst (IsRefusedIn (length bytes)) here.1 (ltb-true _ _ here.0)

@@ -3,7 +3,8 @@ use Rattle.std.specs.Prelude.{ℕ, zero, suc, ◌+◌, ◌-◌, Bool, true, fals
 use Rattle.std.specs.Int.{Width, w8, w16, w32, byte_len, from_be_bytes}
 use lib.Utf8.{scalar}
 use Rattle.op_name.specs.NameData.{NameData, name_lt}
-use Rattle.op_name.specs.declared.name.TheConstants.{SITES, NUMBERS}
+use Rattle.op_name.specs.declared.name.TheConstants.{NUMBERS}
+use Rattle.wire_codec.specs.declared.limits.TheConstants.{FRAME_SITES}
 use Rattle.context_vector.specs.Contexts.{ContextData}
 use Rattle.context_diff.specs.Operations.{OpData}
 use Rattle.context_diff.specs.declared.op.TheConstants.{PLACES, UNDO_ENTRIES}
@@ -63,7 +64,7 @@ bounded w low high cause = tested (λ n. nat_le low n && nat_le n high) cause (n
 -- ---- fields
 
 abbrev pub last_site : ℕ
-last_site = SITES - 1
+last_site = FRAME_SITES - 1
 
 abbrev pub kind_at : LeftData → Found ℕ
 kind_at = bounded w8 1 3 Kind
@@ -158,7 +159,7 @@ name_of e = Some e.0
 
 unfoldable pub counts_at : LeftData → Found (List (ℕ × ℕ))
 counts_at l = do
-  n ← bounded w8 0 SITES Range l
+  n ← bounded w8 0 FRAME_SITES Range l
   many count_at site_after n.0 0 n.1
 
 unfoldable pub entries_at : LeftData → Found (List (NameData × ℕ))

@@ -4,7 +4,7 @@ use Rattle.std.specs.Prelude.{◌≡◌, ℕ, ◌+◌, ◌*◌, ◌<◌, ◌≤�
 use Rattle.std.specs.List.{flat_map}
 use Rattle.std.specs.Int.{w8, w32, to_be_bytes, from_be_bytes}
 use Rattle.op_name.specs.NameData.{NameData}
-use Rattle.op_name.specs.declared.name.TheConstants.{SITES}
+use Rattle.wire_codec.specs.declared.limits.TheConstants.{FRAME_SITES}
 use Rattle.context_vector.specs.Contexts.{ContextData, IsContext, HasNoStray}
 use Rattle.wire_codec.specs.declared.cause.Cause.TheVariants.{Range}
 use Rattle.wire_codec.specs.declared.fault.Fault.{Fault}
@@ -68,7 +68,7 @@ sites_of bytes = from_be_bytes w8 (take 1 bytes)
 unfoldable pub judge_state : List ℕ → Result (ContextData × ℕ) Unread
 judge_state bytes =
     if nat_lt (length bytes) 1 then Err (More 1)
-    else if nat_lt SITES (sites_of bytes) then Err (Bad (fault Range 0))
+    else if nat_lt FRAME_SITES (sites_of bytes) then Err (Bad (fault Range 0))
     else if nat_lt (length bytes) (1 + count_len * sites_of bytes) then Err (More (1 + count_len * sites_of bytes))
     else judge_counted (1 + count_len * sites_of bytes) (drop (count_len * sites_of bytes) (drop 1 bytes))
     (many count_at site_after (sites_of bytes) 0 (left_at 1 (take (count_len * sites_of bytes) (drop 1 bytes))))

@@ -7,14 +7,13 @@ use crate::cause::Cause;
 use crate::fault::Fault;
 use crate::head::Head;
 use crate::left::{Left, check};
+use crate::limits::{FRAME_SITES, LAST_SITE};
 use context_diff::PLACES;
-use op_name::{NUMBERS, Name, SITES};
-
-const LAST_SITE: u8 = (SITES - 1) as u8;
+use op_name::{NUMBERS, Name};
 
 pub(crate) fn site(left: &mut Left) -> Result<u16, Fault>
     ensures read { after result left.new ≡ site_at left.old }
-    ensures within { IfOk result (λ s. s < SITES) }
+    ensures within { IfOk result (λ s. s < FRAME_SITES) }
 {
     let site = left.bounded8(0, LAST_SITE, Cause::Range)?;
     Ok(u16::from(site))

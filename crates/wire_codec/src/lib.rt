@@ -14,6 +14,7 @@ mod head;
 mod heads;
 mod laws;
 mod left;
+mod limits;
 mod listing;
 mod rules;
 mod sections;

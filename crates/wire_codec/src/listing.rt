@@ -7,18 +7,17 @@ use crate::cause::Cause;
 use crate::fault::Fault;
 use crate::heads::{name, site};
 use crate::left::{Left, check};
+use crate::limits::{FRAME_SITES, MOST_COUNTS};
 use crate::sections::{Counts, Entries};
 use context_diff::UNDO_ENTRIES;
-use op_name::{NUMBERS, Name, SITES};
-
-pub(crate) const MOST_COUNTS: u8 = SITES as u8;
+use op_name::{NUMBERS, Name};
 
 const MOST_ENTRIES: u16 = UNDO_ENTRIES as u16;
 
 #[tactic(auto, unfolding(crate::specs::Reading::count_at))]
 fn count(left: &mut Left, low: u16) -> Result<(u16, u32), Fault>
     ensures read { after result left.new ≡ count_at low left.old }
-    ensures within { IfOk result (λ p. p.0 < SITES) }
+    ensures within { IfOk result (λ p. p.0 < FRAME_SITES) }
 {
     let start = left.at();
     let site = site(left)?;

@@ -12,16 +12,17 @@ use crate::cause::Cause;
 use crate::fault::{Fault, Refused};
 use crate::head::Head;
 use crate::left::{Left, check};
+use crate::limits::FRAME_SITES;
 use crate::sections::{COUNT_LEN, Counts, ENTRY_LEN, Entries};
 use crate::{heads, listing};
 use context_diff::UNDO_ENTRIES;
-use op_name::{Name, SITES};
+use op_name::Name;
 
-/// The greatest number of bytes of a body: that of an insert whose context has a count for each site and as many
+/// The greatest number of bytes of a body: that of an insert whose context has a count for each site that a frame can name, and as many
 /// undo entries as there may be.
 pub const LONGEST_BODY: u32 = 14
     + 1
-    + COUNT_LEN as u32 * SITES as u32
+    + COUNT_LEN as u32 * FRAME_SITES as u32
     + 2
     + ENTRY_LEN as u32 * UNDO_ENTRIES;
 

@@ -13,9 +13,10 @@ ghost use Rattle.wire_codec.specs.States.{named_bytes, state_bytes};
 ghost use Rattle.wire_codec.specs.Code.Puts.{HasRoom, Puts, HasAuthor, head_len};
 
 use crate::head::Head;
+use crate::limits::FRAME_SITES;
 use context_diff::{Op, UNDO_ENTRIES};
 use context_vector::Vector;
-use op_name::{Memory, Name, SITES};
+use op_name::{Memory, Name};
 
 // Puts bytes for which there is room.
 fn put(out: &mut Vec<u8>, bytes: &[u8])
@@ -30,7 +31,7 @@ fn put(out: &mut Vec<u8>, bytes: &[u8])
 
 fn put_site(out: &mut Vec<u8>, site: u16)
     requires room { HasRoom out.old 1 }
-    requires site { site < SITES }
+    requires site { site < FRAME_SITES }
     ensures { Puts out.old out.new (site_bytes site) }
 {
     put(out, &(site as u8).to_be_bytes());
@@ -108,7 +109,7 @@ fn put_delete(out: &mut Vec<u8>, name: &Name, place: u32)
 #[tactic(auto, unfolding(crate::specs::Spelling::head_bytes))]
 fn put_undo(out: &mut Vec<u8>, author: u16, target: &Name, generation: u16)
     requires room { HasRoom out.old 9 }
-    requires author { author < SITES }
+    requires author { author < FRAME_SITES }
     ensures { Puts out.old out.new (head_bytes (Undo author target.now generation)) }
 {
     put(out, &[3]);
@@ -131,7 +132,7 @@ fn put_head(out: &mut Vec<u8>, head: Head)
 
 fn put_count(out: &mut Vec<u8>, site: u16, count: u32)
     requires room { HasRoom out.old 5 }
-    requires site { site < SITES }
+    requires site { site < FRAME_SITES }
     ensures { Puts out.old out.new (count_bytes (site, count)) }
 {
     put_site(out, site);

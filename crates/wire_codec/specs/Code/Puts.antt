@@ -1,7 +1,7 @@
 -- Bytes that are appended to others, where there is room for them.
 use Rattle.std.specs.Prelude.{◌≡◌, ℕ, ◌+◌, ◌≤◌, ◌<◌, List, ◌++◌, length, vec_len, vec_capacity}
 use Rattle.std.specs.Global.{Vec}
-use Rattle.op_name.specs.declared.name.TheConstants.{SITES}
+use Rattle.wire_codec.specs.declared.limits.TheConstants.{FRAME_SITES}
 use Rattle.wire_codec.specs.declared.head.Head.{Head}
 use Rattle.wire_codec.specs.declared.head.Head.TheVariants.{Insert, Delete, Undo}
 
@@ -25,4 +25,4 @@ head_len (Undo a t g) = 9
 abbrev pub HasAuthor : Head → Type 0
 HasAuthor (Insert n p ch) = Unit {0}
 HasAuthor (Delete n p) = Unit {0}
-HasAuthor (Undo a t g) = a < SITES
+HasAuthor (Undo a t g) = a < FRAME_SITES
