@@ -4,4 +4,9 @@ mod Listings
 pub mod TakingIn
 mod RoundTrips
 pub mod Refusals
-pub mod CallerLemmas
+mod Fronts
+mod Steps
+mod Pieces
+mod Endings
+mod Ones
+mod On

@@ -1,2 +1,3 @@
--- Words that only the contracts of private functions use: a place among the frames of a log.
+-- Words that only the contracts of private functions use.
 pub mod Passing
+pub mod Steps

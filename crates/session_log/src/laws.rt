@@ -1,6 +1,7 @@
 //! Laws of logs: each says what its definitions give, and does nothing.
 
 ghost use Rattle.session_log.specs.Laws.{OneReading, LogsHaveNoFault, OneFault, OneRefusal, OneLoading, RoundTrip};
+ghost use Rattle.session_log.specs.Readers.{OneLoadOn};
 
 /// Bytes are the log of one list of operations at most.
 pub fn one_reading()
@@ -31,3 +32,12 @@ pub fn one_loading()
 pub fn round_trip()
     ensures { RoundTrip }
 {}
+
+/// What a reader keeps decides what loading gives, whatever follows.
+pub fn what_is_kept_decides()
+    ensures { OneLoadOn }
+{
+    logs_have_no_fault();
+    one_loading();
+    one_refusal();
+}

@@ -3,22 +3,33 @@
 //! A log *is* a header and, after it, the frames of operations: those that a site integrated, in the order of
 //! integration, and then those that wait, in the order of arrival. `write_log` writes it, `load` makes a site of it,
 //! and `read_log` lists its operations with their offsets. A reader takes frames in any order.
+//!
+//! `LogReader` takes in a log that comes in pieces, cut anywhere, and ends with the site, or the refusal, that `load` answers for
+//! all of it.
 #![tactic(auto)]
 
+mod front;
 mod laws;
 mod left;
 mod loading;
 mod log_bad;
+mod next_frame;
 mod placed;
+mod reader;
 mod reading;
+mod taking;
 mod words;
 mod writing;
 
-pub use laws::{logs_have_no_fault, one_fault, one_loading, one_reading, one_refusal, round_trip};
+pub use laws::{
+    logs_have_no_fault, one_fault, one_loading, one_reading, one_refusal, round_trip,
+    what_is_kept_decides,
+};
 pub use left::HEADER;
 pub use loading::{load, take_in};
 pub use log_bad::LogBad;
 pub use placed::Placed;
+pub use reader::LogReader;
 pub use reading::{MAX_LOG, read_log};
 pub use words::refused_log_line;
 pub use writing::write_log;

@@ -1,6 +1,0 @@
-mod Fronts
-mod Steps
-mod Pieces
-mod Endings
-mod Ones
-mod On

@@ -1,3 +1,0 @@
-pub mod ReaderData
-pub mod Readers
-pub mod Code

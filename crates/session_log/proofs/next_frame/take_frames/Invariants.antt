@@ -1,0 +1,15 @@
+use Rattle.std.proofs.Common.{◌≡◌, ℕ, List, length}
+use Rattle.cot_site.specs.Sites.{state_of}
+use Rattle.session_log.specs.Readers.{HasTaken}
+use Rattle.session_log.specs.ReaderData.{IsCounted}
+use Rattle.session_log.proofs.next_frame.take_frames.Given as goal
+
+-- the bytes are counted, and the frames so far were taken
+abbrev pub invariant-loop-placed : goal.invariant-loop-placed
+invariant-loop-placed l =
+    IsCounted l.fed l.frames
+    × ((site : ℕ) (all : List ℕ) → l.fed ≡ length all → HasTaken site all l.fn.frames.left (state_of l.fn.taking.site) l.fn.taking.refused
+    → HasTaken site all l.frames.left (state_of l.taking.site) l.taking.refused)
+
+abbrev pub decreases-loop-placed : goal.decreases-loop-placed
+decreases-loop-placed l = length l.frames.left

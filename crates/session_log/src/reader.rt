@@ -1,0 +1,176 @@
+//! Loading a log that comes in pieces.
+
+ghost use Rattle.std.specs.Prelude.{◌≡◌, ◌≢◌, ◌+◌, ◌<◌, ◌≤◌, ◌++◌, [], ℕ, List, true, false, None, Err, IfOk, IfErr, OnOk, OnErr, IsErr, length};
+ghost use Rattle.cot_site.specs.Sites.{state_of};
+ghost use Rattle.session_log.specs.Loadings.{IsLoaded, IsUnloaded};
+ghost use Rattle.session_log.specs.Readers.{Keeps, KeepsSome, Begins, GoesOn, IsLoadedOn, IsUnloadedOn};
+ghost use Rattle.session_log.specs.ReaderData.{IsCounted, reader_of};
+ghost use Rattle.session_log.specs.Code.Steps.{end_fault};
+
+use crate::front::after_header;
+use crate::laws::what_is_kept_decides;
+use crate::left::HEADER;
+use crate::log_bad::LogBad;
+use crate::next_frame::take_frames;
+use crate::reading::MAX_LOG;
+use crate::taking::Taking;
+use cot_site::Site;
+use op_name::{Memory, SITES};
+use std::alloc::Global;
+use std::marker::Model;
+use wire_codec::FrameStream;
+
+/// A log that comes in pieces, which may be cut anywhere; its operations are taken in as their frames come.
+///
+/// It *is* the number of its site and the state so far, the bytes not decoded yet, the number of bytes fed, whether the
+/// header was read, the first fault of the bytes, the first refused verdict, and whether it is out of memory: then each
+/// later call answers so.
+#[derive(Drop)]
+pub struct LogReader {
+    number: u16,
+    fed: u32,
+    // what comes after the header
+    frames: FrameStream,
+    taking: Taking,
+    fault: Option<LogBad>,
+    spent: bool,
+}
+
+impl Model for LogReader {
+    ghost use Rattle.std.specs.Prelude.{◌≡◌, false, None};
+    ghost use Rattle.cot_site.specs.Sites.{state_of};
+    ghost use Rattle.session_log.specs.ReaderData.{ReaderData, IsCounted, reader_of};
+
+    ghost Value = { ReaderData };
+
+    ghost view = { λ r. reader_of r.number r.fed r.frames.left (state_of r.taking.site) r.taking.refused r.fault r.spent };
+
+    ghost invariant = { λ r. r.spent ≡ false → r.fault ≡ None → IsCounted r.fed r.frames };
+}
+
+impl LogReader {
+    /// A reader of a log for the site of this number, of which nothing was fed yet.
+    pub fn new(alloc: Global, site: u16) -> Result<LogReader, Memory>
+        requires { site < SITES }
+        ensures keeps { IfOk result (λ r. Keeps r []) }
+        ensures load_on { IfOk result (Begins site) }
+        ensures site { IfOk result (λ r. r.site ≡ site) }
+    {
+        let frames = FrameStream::new(alloc)?;
+        Ok(LogReader {
+            number: site,
+            fed: 0,
+            frames,
+            taking: Taking::new(alloc, site)?,
+            fault: None,
+            spent: false,
+        })
+    }
+
+    /// Appends a piece: takes in the operation of each whole frame, unless an earlier one was refused, and keeps the first
+    /// fault of the bytes and the first refused verdict for `finish`. At most `MAX_LOG` bytes are fed in all.
+    ///
+    /// Out of memory, each later call answers so too.
+    pub fn feed(&mut self, piece: &[u8]) -> Result<(), Memory>
+        requires { self.old.fed + length piece.now ≤ MAX_LOG }
+        ensures keeps { (all : List ℕ) → Keeps self.old all → OnOk result (Keeps self.new (all ++ piece.now)) }
+        ensures load_on { KeepsSome self.old → OnOk result (GoesOn self.old piece.now self.new) }
+        ensures fed { self.new.fed ≡ self.old.fed + length piece.now }
+        ensures site { self.new.site ≡ self.old.site }
+        ensures spent { OnErr result (self.new.spent ≡ true) }
+        ensures stays { self.old.spent ≡ true → IsErr result }
+    {
+        what_is_kept_decides();
+        let before = self.fed;
+        self.fed += piece.len() as u32;
+        if self.spent {
+            return Err(Memory);
+        }
+        if self.fault.is_some() {
+            return Ok(());
+        }
+        match read_piece(before, piece, &mut self.frames, &mut self.taking) {
+            Ok(fault) => {
+                self.fault = fault;
+                Ok(())
+            }
+            Err(memory) => {
+                self.spent = true;
+                Err(memory)
+            }
+        }
+    }
+
+    /// How many bytes were fed.
+    pub fn fed(&self) -> u32
+        ensures { result ≡ self.now.fed }
+    {
+        self.fed
+    }
+
+    /// Ends the log: answers its site, or why there is none, as `load` does for all bytes fed: a fault of the bytes before
+    /// any verdict. It takes no memory.
+    pub fn finish(self) -> Result<Site, LogBad>
+        ensures loaded { (all : List ℕ) → Keeps self all → IfOk result (λ s. IsLoaded self.site all (state_of s)) }
+        ensures refused { (all : List ℕ) → Keeps self all → IfErr result (IsUnloaded self.site all) }
+        ensures loaded_on { KeepsSome self → IfOk result (λ s. IsLoadedOn self [] (state_of s)) }
+        ensures refused_on { KeepsSome self → IfErr result (IsUnloadedOn self []) }
+        ensures memory { (all : List ℕ) → Keeps self all → result ≢ Err LogBad.Memory }
+        ensures spent { self.spent ≡ true → result ≡ Err LogBad.Memory }
+    {
+        let LogReader {
+            fed,
+            frames,
+            taking,
+            fault,
+            spent,
+            ..
+        } = self;
+        taking.finish(fault_at_end(spent, fault, fed, frames.rest()))
+    }
+}
+
+// Why bytes are no log that end where so many were fed, of which so many are left after the header; or that memory ran out.
+fn fault_at_end(spent: bool, fault: Option<LogBad>, fed: u32, rest: u32) -> Option<LogBad>
+    requires { spent ≡ false → fault ≡ None → rest ≤ fed }
+    ensures { result ≡ end_fault spent fault fed rest }
+{
+    if spent {
+        return Some(LogBad::Memory);
+    }
+    if fault.is_some() {
+        return fault;
+    }
+    if fed < HEADER.len() as u32 {
+        return Some(LogBad::Header);
+    }
+    if rest > 0 {
+        return Some(LogBad::Cut { offset: fed - rest });
+    }
+    None
+}
+
+// Reads on where so many bytes were fed before, which have no fault: takes in the operations of whole frames, and answers
+// the first fault.
+fn read_piece(
+    before: u32,
+    piece: &[u8],
+    frames: &mut FrameStream,
+    taking: &mut Taking,
+) -> Result<Option<LogBad>, Memory>
+    requires limit { before + length piece.now ≤ MAX_LOG }
+    requires counted { IsCounted before frames.old }
+    ensures keeps { (site : ℕ) (all : List ℕ) → Keeps (reader_of site before frames.old.left (state_of taking.old.site) taking.old.refused None false) all
+        → IfOk result (λ why. Keeps (reader_of site (before + length piece.now) frames.new.left (state_of taking.new.site) taking.new.refused why false) (all ++ piece.now)) }
+    ensures counted { IfOk result (λ why. why ≡ None → IsCounted (before + length piece.now) frames.new) }
+{
+    let fed = before + piece.len() as u32;
+    match after_header((before as usize).min(HEADER.len()), piece) {
+        None => Ok(Some(LogBad::Header)),
+        Some(_) if fed < HEADER.len() as u32 => Ok(None),
+        Some(rest) => {
+            frames.feed(rest)?;
+            take_frames(frames, fed, taking)
+        }
+    }
+}
