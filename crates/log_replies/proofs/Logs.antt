@@ -14,8 +14,8 @@ use Rattle.session_log.specs.declared.log_bad.LogBad.{LogBad}
 use Rattle.session_log.specs.declared.log_bad.LogBad.TheVariants as bad
 use Rattle.session_log.specs.Loadings.{IsLoaded, IsUnloaded}
 use Rattle.session_log.specs.Words.{refused_log_text}
-use Rattle.log_reader.specs.ReaderData.{ReaderData}
-use Rattle.log_reader.specs.Readers.{Keeps}
+use Rattle.session_log.specs.ReaderData.{ReaderData}
+use Rattle.session_log.specs.Readers.{Keeps}
 use Rattle.log_replies.specs.Replies.{IsLoadedAs, IsRefusedInto}
 use Rattle.log_replies.specs.Code.Loading.{Feeds, IsFed}
 

@@ -52,9 +52,8 @@ impl<'a> Replies for Editing<'a> {
         self.site
     }
 
-    fn reply(&self, alloc: Global, site: Site, out: &mut Vec<u8>) -> Result<bool, Memory> {
-        let mut site = site;
-        edit_log(alloc, &mut site, &self.edit, out)
+    fn reply(&self, alloc: Global, site: &mut Site, out: &mut Vec<u8>) -> Result<bool, Memory> {
+        edit_log(alloc, site, &self.edit, out)
     }
 
     ghost by_log = { λ _ bytes reply it. it };

@@ -32,8 +32,8 @@ impl Replies for Explaining {
         0
     }
 
-    fn reply(&self, alloc: Global, site: Site, out: &mut Vec<u8>) -> Result<bool, Memory> {
-        explain_member(alloc, &site, &self.member, out)
+    fn reply(&self, alloc: Global, site: &mut Site, out: &mut Vec<u8>) -> Result<bool, Memory> {
+        explain_member(alloc, site, &self.member, out)
     }
 
     ghost by_log = { λ _ bytes reply it. it };

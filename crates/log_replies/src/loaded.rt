@@ -5,15 +5,14 @@ ghost use Rattle.std.specs.Io.KnownBytes.{IsAtEnd};
 ghost use Rattle.outside_io.specs.Faults.{Rose};
 ghost use Rattle.outside_io.specs.Reading.{LosesFront};
 ghost use Rattle.cot_site.specs.Sites.{state_of};
-ghost use Rattle.log_reader.specs.Readers.{Keeps};
+ghost use Rattle.session_log.specs.Readers.{Keeps};
 ghost use Rattle.log_replies.specs.Replies.{IsLoadedAs, limit_line, IsRefusedInto};
 ghost use Rattle.log_replies.specs.Code.Loading.{Feeds, IsFed};
 
 use cot_site::Site;
-use log_reader::LogReader;
 use op_name::{Memory, SITES};
 use outside_io::{Failed, MAX_INPUT, ReadBad, Source};
-use session_log::{LogBad, refused_log_line};
+use session_log::{LogBad, LogReader, refused_log_line};
 use std::alloc::Global;
 
 /// How many bytes are read at once.

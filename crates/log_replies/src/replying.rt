@@ -38,9 +38,9 @@ pub trait Replies {
         ensures number { result ≡ number self.now }
         ensures below { result < SITES };
 
-    /// Appends the reply to the site that was loaded. Answers whether it refuses something.
-    fn reply(&self, alloc: Global, site: Site, out: &mut Vec<u8>) -> Result<bool, Memory>
-        ensures { IfOk result (λ refused. IsAppended (replies_to self.now) refused (state_of site) out.old.items out.new.items) };
+    /// Appends the reply to the site that was loaded, and may change the site. Answers whether it refuses something.
+    fn reply(&self, alloc: Global, site: &mut Site, out: &mut Vec<u8>) -> Result<bool, Memory>
+        ensures { IfOk result (λ refused. IsAppended (replies_to self.now) refused (state_of site.old) out.old.items out.new.items) };
 
     /// Bytes that are refused as a log are replied by their line, and others by a reply to the site that they give.
     ghost by_log: { (c : Self) (bytes : List ℕ) (reply : Report) → RepliesToLogBy (number c) (replies_to c) bytes reply → replies c bytes reply };
@@ -91,11 +91,24 @@ fn reply_to_input<C: Replies, S: Source>(
     ensures no_fault { (IsErrOf result ReadBad.Fault → ⊥) → S.faults source.new ≡ S.faults source.old }
 {
     match load_input(alloc, command.site(), source, out) {
-        Ok(Some(site)) => match command.reply(alloc, site, out) {
+        Ok(Some(site)) => match reply_to_site(alloc, command, site, out) {
             Ok(refused) => Ok(refused),
             Err(Memory) => Err(ReadBad::Memory),
         },
         Ok(None) => Ok(true),
         Err(why) => Err(why),
     }
+}
+
+// Appends the reply to the site, which is given up. A function of its own, since to give up a site is long to prove.
+fn reply_to_site<C: Replies>(
+    alloc: Global,
+    command: &C,
+    site: Site,
+    out: &mut Vec<u8>,
+) -> Result<bool, Memory>
+    ensures { IfOk result (λ refused. IsAppended (C.replies_to command.now) refused (state_of site) out.old.items out.new.items) }
+{
+    let mut site = site;
+    command.reply(alloc, &mut site, out)
 }

@@ -27,8 +27,8 @@ impl Replies for Show {
         0
     }
 
-    fn reply(&self, alloc: Global, site: Site, out: &mut Vec<u8>) -> Result<bool, Memory> {
-        show_text(alloc, &site, out)?;
+    fn reply(&self, alloc: Global, site: &mut Site, out: &mut Vec<u8>) -> Result<bool, Memory> {
+        show_text(alloc, site, out)?;
         Ok(false)
     }
 

@@ -2,8 +2,8 @@
 use Rattle.std.specs.Prelude.{◌≡◌, ◌+◌, ℕ, List, Option, min, length, take}
 use Rattle.std.specs.Io.KnownBytes.{Consumes}
 use Rattle.outside_io.specs.declared.reading.TheConstants.{MAX_INPUT}
-use Rattle.log_reader.specs.ReaderData.{ReaderData}
-use Rattle.log_reader.specs.Readers.{Keeps}
+use Rattle.session_log.specs.ReaderData.{ReaderData}
+use Rattle.session_log.specs.Readers.{Keeps}
 
 -- so many bytes of those that the source had left were read, and fed to the reader of this site, but none past the limit
 pub record Feeds (site : ℕ) (left now : Option (List ℕ)) (read : ℕ) (r : ReaderData) : Type 0 where

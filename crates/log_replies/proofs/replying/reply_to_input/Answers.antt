@@ -6,8 +6,8 @@ use Rattle.log_replies.proofs.Answering.{line_replied, state_replied}
 use Rattle.log_replies.proofs.Logs.{if_some, if_none, loses_input}
 use Rattle.log_replies.proofs.replying.reply_to_input.Goals as goal
 
-pub returns-in-Err-reply-clause-lost : goal.returns-in-Err-reply-clause-lost
-returns-in-Err-reply-clause-lost g c = loses_input _ _ _ c.in-Ok-Some.ensures.rest
+pub returns-in-Err-reply_to_site-clause-lost : goal.returns-in-Err-reply_to_site-clause-lost
+returns-in-Err-reply_to_site-clause-lost g c = loses_input _ _ _ c.in-Ok-Some.ensures.rest
 
 pub returns-in-Ok-None-clause-reply : goal.returns-in-Ok-None-clause-reply
 returns-in-Ok-None-clause-reply g c =
@@ -32,7 +32,7 @@ returns-in-Ok-clause-reply g c =
     let left = g.S.Source.left c.args.source.now in
     let old = c.args.out.now.items in
     let middle = c.load_input.new.out.items in
-    state_replied (g.C.Replies.replies command) (g.C.Replies.number command) (g.C.Replies.replies_to command) (state_of k.site) left old middle c.reply.new.out.items c.in-Ok.refused (g.met.C.Replies.by_log command)
+    state_replied (g.C.Replies.replies command) (g.C.Replies.number command) (g.C.Replies.replies_to command) (state_of k.site) left old middle c.reply_to_site.new.out.items c.in-Ok.refused (g.met.C.Replies.by_log command)
     (subst (λ n. IfSome left (λ bytes. IsLoadedAs n bytes (state_of k.site))) c.site.ensures.number
     (if_some k.field-0 k.site (λ s. IfSome left (λ bytes. IsLoadedAs c.site.result bytes (state_of s))) is k.ensures.loaded))
     (if_some k.field-0 k.site (λ s. middle ≡ old) is k.ensures.same)
