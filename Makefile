@@ -3,9 +3,10 @@
 # and lets two copies exchange; `make check-hosts` runs hosts in C and in Python over the library.
 .PHONY: all lib quick quick-lib demo check-examples check-bytes check-memory check-hosts check-edits doors trust clean
 
-# As many recipes at once as there are processors, where no -j says otherwise.
+# Twice as many recipes at once as there are processors, where no -j says otherwise: those that most others wait for go first, and the
+# others take what these leave (tools/lib).
 ifeq ($(MAKELEVEL)$(filter -j%,$(MAKEFLAGS))$(filter clean,$(MAKECMDGOALS)),0)
-MAKEFLAGS += -j$(shell nproc)
+MAKEFLAGS += -j$(shell expr 2 \* $$(nproc))
 endif
 
 .DELETE_ON_ERROR:
