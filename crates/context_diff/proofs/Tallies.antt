@@ -11,7 +11,7 @@ use Rattle.context_vector.specs.Contexts.{ContextData, IsNextMember, count_of, r
 use Rattle.context_diff.specs.Operations.{OpData, member_of, is_insert, IsWellFormed}
 use Rattle.context_diff.specs.Histories.{is_known, IsNext, context_of_all}
 use Rattle.context_diff.specs.Code.Counting.{inserts_of}
-use Rattle.context_diff.specs.Code.Tallies.{TallyData, no_tally, counts_of, spares_of, IsTally, AreTallies, entry_at, total, counted, without_last}
+use Rattle.context_diff.specs.Code.Tallies.{TallyData, no_tally, spares_of, IsTally, AreTallies, entry_at, total, counted, without_last}
 use Rattle.context_diff.proofs.Complete.{IsComplete, context_push, next_member}
 use Rattle.context_diff.proofs.Inserts.{inserts_of_on, inserts_of_new, inserts_of_at_most, no_inserts}
 use Rattle.context_diff.proofs.Raising.{count_put}

@@ -266,7 +266,8 @@ impl Book {
         v.known();
         self.known();
         let mut total = 0;
-        for &(site, number) in v.counts() {
+        for count in v.counts() {
+            let (site, number) = count.pair();
             total += self.tallies.inserts(site, number);
         }
         total

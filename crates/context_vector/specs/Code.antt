@@ -2,6 +2,7 @@
 pub mod Places
 pub mod Lists
 pub mod Pieces
-pub mod Counts
+pub mod Sharing
+pub mod Packed
 pub mod Entries
 pub mod Readers

@@ -46,6 +46,18 @@ entries_decide e f = (
   λ h. subst (λ x. entry_eq e x ≡ true) h (and_holds _ _ (name_itself e.0) (number_order.itself e.1)),
 )
 
+pub count_equiv : IsEquivalence count_eq
+count_equiv = decided count_eq counts_decide
+
+pub count_per : IsPartialEquivalence count_eq
+count_per = partial_equiv_from_equiv count_equiv
+
+pub entry_equiv : IsEquivalence entry_eq
+entry_equiv = decided entry_eq entries_decide
+
+pub entry_per : IsPartialEquivalence entry_eq
+entry_per = partial_equiv_from_equiv entry_equiv
+
 pub count_list_decides : (ps qs : List (ℕ × ℕ)) → Decides (pointwise count_eq ps qs) (ps ≡ qs)
 count_list_decides ps qs = pointwise_decides counts_decide ps qs
 

@@ -7,4 +7,4 @@
 
 mod vector;
 
-pub use vector::{AddBad, Vector};
+pub use vector::{AddBad, Count, Entry, Vector};

@@ -1,21 +1,26 @@
 //! The vector: its parts, what contracts see of it, and the calls that only read.
 
 ghost use Rattle.std.specs.Prelude.{◌≡◌, ◌*◌, ◌≤◌, ◌↔◌, IsTrue, IsNone, IfOk, IfSome, length, slice_get};
+ghost use Rattle.op_name.specs.declared.member.Member.TheVariants.{Original};
 ghost use Rattle.op_name.specs.Members.{IsMember};
-ghost use Rattle.context_vector.specs.Contexts.{empty, count_of, entry_of, has, Within, rank_of, IsContext};
+ghost use Rattle.context_vector.specs.Contexts.{empty, count_of, entry_of, has, raised, Within, rank_of, IsContext, IsNextMember};
 ghost use Rattle.context_vector.specs.Vectors.{IsFirstMissing};
 
-use counts::Counts;
-use entries::Entries;
+use few::Few;
+use lists::Lists;
 use op_name::{Member, Memory, NUMBERS, Name, SITES};
 use std::alloc::Global;
 use std::marker::Model;
 
 mod changes;
+mod count;
 mod counts;
 mod entries;
+mod entry;
 mod equality;
+mod few;
 mod follows;
+mod lists;
 mod marked;
 mod marked_counts;
 mod marks;
@@ -25,30 +30,31 @@ mod reader;
 mod rising;
 mod seats;
 
+pub use count::Count;
+pub use entry::Entry;
+
 /// A set of members, closed downwards: with an original all earlier ones of its site, with an undo group all
 /// lower generations of its name (COT 2009 calls it a context).
 ///
 /// It costs by the sites that wrote and by the undone names, not by the members.
 #[derive(Debug, Drop)]
 pub struct Vector {
-    /// Each site that has originals in the set with their number, sites rising.
-    counts: Counts,
-    /// Each undone name with its greatest generation in the set, names rising.
-    entries: Entries,
+    alloc: Global,
+    /// Each site that has originals in the set with their number, sites rising; each undone name with its greatest generation in the
+    /// set, names rising.
+    lists: Lists,
 }
 
 impl Model for Vector {
     ghost use Rattle.context_vector.specs.Contexts.{IsContext};
     ghost use Rattle.context_vector.specs.Vectors.{VectorData};
+    ghost use Rattle.context_vector.specs.Code.Sharing.{data_of};
 
     ghost Value = { VectorData };
 
-    ghost view = { λ v. record {
-      set = record { counts = v.counts.items; entries = v.entries.items };
-      room = record { own = v.counts.own; counts = v.counts.spare; entries = v.entries.spare; ready = v.entries.ready };
-    } };
+    ghost view = { λ v. data_of v.lists };
 
-    ghost invariant = { λ v. IsContext (record { counts = v.counts.items; entries = v.entries.items }) };
+    ghost invariant = { λ v. IsContext (data_of v.lists).set };
 }
 
 /// Why a member was not added. Nothing is changed then.
@@ -77,8 +83,8 @@ impl Vector {
         ensures { result.set ≡ empty }
     {
         Vector {
-            counts: Counts::new(alloc),
-            entries: Entries::new(alloc),
+            alloc,
+            lists: Lists::Few(Few::new()),
         }
     }
 
@@ -86,19 +92,42 @@ impl Vector {
     pub fn try_clone(&self) -> Result<Vector, Memory>
         ensures { IfOk result (λ v. v.set ≡ self.now.set) }
     {
-        let counts = self.counts.try_clone()?;
-        let entries = self.entries.try_clone()?;
-        Ok(Vector { counts, entries })
+        Ok(Vector {
+            alloc: self.alloc,
+            lists: self.lists.try_clone(self.alloc)?,
+        })
     }
 
-    /// Lets copies share the list of undone names, and the counts where more than four sites wrote, so that a
-    /// copy costs a few words; no member comes or goes. Out of memory, a list stays as it was. For a set that
-    /// is kept as it is, as the context of an operation: the next change copies what it changes.
+    /// The same set once more, as `share` would leave it. For a copy that is kept as it is.
+    pub fn kept(&self) -> Result<Vector, Memory>
+        ensures { IfOk result (λ v. v.set ≡ self.now.set) }
+    {
+        Ok(Vector {
+            alloc: self.alloc,
+            lists: self.lists.kept(self.alloc)?,
+        })
+    }
+
+    /// The set with this original, the next of its site, as `share` would leave it.
+    pub fn with_original(&self, name: &Name) -> Result<Vector, Memory>
+        requires { IsNextMember self.now.set (Original name.now) }
+        ensures { IfOk result (λ v. v.set ≡ raised self.now.set (Original name.now)) }
+    {
+        name.known();
+        self.known();
+        Ok(Vector {
+            alloc: self.alloc,
+            lists: self.lists.with_original(self.alloc, name)?,
+        })
+    }
+
+    /// Lets copies share both lists, so that a copy costs a few words: where up to four sites wrote and nothing is undone, a set stands
+    /// in the value itself. No member comes or goes. Out of memory, the set stays as it was. For a set that is kept as it is, as the
+    /// context of an operation: the next change copies what it changes.
     pub fn share(&mut self)
         ensures { self.new.set ≡ self.old.set }
     {
-        self.counts.share();
-        self.entries.share();
+        self.lists.share(self.alloc);
     }
 
     /// Lets copies share the list of undone names alone, so that they cost by the sites; no member comes or
@@ -107,22 +136,23 @@ impl Vector {
     pub fn share_names(&mut self)
         ensures { self.new.set ≡ self.old.set }
     {
-        self.entries.share();
+        self.lists.share_names();
     }
 
-    /// Takes the list of undone names of `other` where that is shared and has the same names, so that it is
-    /// kept once; no member comes or goes, and no memory is taken.
+    /// Lets copies share both lists, and takes the list of undone names of `other` where that is shared and has the same names, so that
+    /// it is kept once; no member comes or goes. A set that shares its lists already stays as it is.
     pub fn share_with(&mut self, other: &Vector)
         ensures { self.new.set ≡ self.old.set }
     {
-        self.entries.share_with(&other.entries);
+        self.lists.share_with(&other.lists);
+        self.lists.share(self.alloc);
     }
 
     /// Nothing but what the type keeps: sites and names rise, and all numbers are in range.
     pub fn known(&self)
         ensures { IsContext self.now.set }
     {
-        let _ = &self.counts;
+        let _ = &self.lists;
     }
 
     /// How many originals of the site the set has: these are its first ones.
@@ -139,7 +169,7 @@ impl Vector {
         ensures { result ≡ entry_of self.now.set name.now }
     {
         self.known();
-        self.entries.entry(name)
+        self.lists.entry(name)
     }
 
     /// Whether the member is in the set.
@@ -177,10 +207,10 @@ impl Vector {
         if let Some((site, number)) = original {
             return Some(Member::Original(Name { site, number }));
         }
-        if self.entries.is_same(&other.entries) {
+        if self.lists.has_same_entries(&other.lists) {
             return None;
         }
-        let group = rising::first_short_entry(self.entries.reader(), other.entries.reader());
+        let group = rising::first_short_entry(self.lists.reader(), other.lists.reader());
         if let Some(group) = group {
             return Some(Member::Group(group.0, group.1));
         }
@@ -202,17 +232,14 @@ impl Vector {
         ensures range { result ≤ SITES * NUMBERS }
     {
         self.known();
-        self.entries.len() as u32
+        self.lists.entries_len() as u32
     }
 
     /// The i-th undone name, in the order of names, with its greatest generation; None exactly past the end.
     pub fn entry_at(&self, i: u32) -> Option<(Name, u16)>
         ensures { result ≡ slice_get self.now.set.entries i }
     {
-        match self.entries.run(i as usize) {
-            Some(run) => run.first().copied(),
-            None => None,
-        }
+        Some(self.lists.run(i as usize)?.first()?.pair())
     }
 
     /// The number of sites that have originals in the set. Readers of a vector's listing use it.
@@ -229,20 +256,20 @@ impl Vector {
     pub fn site_at(&self, i: u32) -> Option<(u16, u32)>
         ensures { result ≡ slice_get self.now.set.counts i }
     {
-        self.counts().get(i as usize).copied()
+        Some(self.counts().get(i as usize)?.pair())
     }
 
     /// Each site that has originals in the set with their number, sites rising.
-    pub fn counts(&self) -> &[(u16, u32)]
+    pub fn counts(&self) -> &[Count]
         ensures { result.now ≡ self.now.set.counts }
     {
-        self.counts.as_slice()
+        self.lists.counts()
     }
 
     /// A copy of the list of undone names, each with its greatest generation, in the order of names.
-    pub fn named(&self) -> Result<Vec<(Name, u16)>, Memory>
+    pub fn named(&self) -> Result<Vec<Entry>, Memory>
         ensures { IfOk result (λ v. v.items ≡ self.now.set.entries) }
     {
-        self.entries.to_vec()
+        self.lists.named(self.alloc)
     }
 }

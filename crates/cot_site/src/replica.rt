@@ -277,7 +277,7 @@ fn members_before(book: &Book, op: &Op) -> Result<Option<Vector>, Memory>
     if is_undo(op) || are_same(op.context(), book.have()) {
         return Ok(None);
     }
-    let members = book.have().try_clone()?;
+    let members = book.have().kept()?;
     Ok(Some(members))
 }
 
@@ -505,18 +505,7 @@ fn keep_form(cache: &mut Cache<Form>, name: &Name, context: Vector, form: Form)
     ensures capacity { cache.new.capacity ≡ cache.old.capacity }
 {
     let member = Member::Original(*name);
-    // A shared list keeps its mark, so the cache hashes it without a look at each site.
-    let context = shared(context);
     cache.keep(Key { member, context }, form);
-}
-
-// The same members, in lists that copies share.
-pub(crate) fn shared(context: Vector) -> Vector
-    ensures { result.set ≡ context.set }
-{
-    let mut context = context;
-    context.share();
-    context
 }
 
 // Keeps the first form of the row of an original, which is the form of its insert at the original's context with the
@@ -565,12 +554,11 @@ fn keep_insert(book: &Book, cache: &mut Cache<Form>, name: &Name, context: &Vect
 fn with_original(context: &Vector, name: &Name) -> Option<Vector>
     ensures { IfSome result (λ v. (y : Member) → has v.set y ≡ plus (has context.now.set) (Original name.now) y) }
 {
-    name.known();
-    let Ok(mut with) = context.try_clone() else {
+    if context.count(name.site) + 1 != name.number {
         return None;
-    };
-    match with.add(&Member::Original(*name)) {
-        Ok(()) => Some(with),
+    }
+    match context.with_original(name) {
+        Ok(with) => Some(with),
         Err(_) => None,
     }
 }

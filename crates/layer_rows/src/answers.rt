@@ -1,7 +1,7 @@
 //! Answers as text.
 
 use context_diff::Op;
-use context_vector::Vector;
+use context_vector::{Count, Vector};
 use op_name::{Member, Memory, Name};
 use ttf_form::{Form, Mark};
 
@@ -75,12 +75,12 @@ fn put_comma(out: &mut String, from: usize) -> Result<(), Memory> {
     Ok(())
 }
 
-fn put_counts(out: &mut String, from: usize, counts: &[(u16, u32)]) -> Result<(), Memory> {
-    for pair in counts {
+fn put_counts(out: &mut String, from: usize, counts: &[Count]) -> Result<(), Memory> {
+    for count in counts {
         put_comma(out, from)?;
-        put_number(out, u64::from(pair.0))?;
+        put_number(out, u64::from(count.site()))?;
         out.push('.')?;
-        put_number(out, u64::from(pair.1))?;
+        put_number(out, u64::from(count.number()))?;
     }
     Ok(())
 }

@@ -25,6 +25,7 @@ pub(crate) fn call_set(
 ) -> Result<bool, Memory> {
     match words.word() {
         "copy" => copy(letter, words.word(), sets),
+        "kept" => kept(letter, words.word(), sets),
         "join" => join(alloc, letter, words.word(), sets),
         "sharewith" => share_with(alloc, letter, words.word(), sets),
         "list" => list(alloc, letter, words, sets),
@@ -51,6 +52,16 @@ fn copy(to: &str, from: &str, sets: &mut Sets) -> Result<bool, Memory> {
         }
         None => Ok(false),
     }
+}
+
+// `kept LETTER`: the set becomes a copy of that one, in lists that copies share.
+fn kept(to: &str, from: &str, sets: &mut Sets) -> Result<bool, Memory> {
+    let Some(other) = sets.get(from) else {
+        return Ok(false);
+    };
+    let copy = other.kept()?;
+    put_back(to, sets, copy);
+    Ok(true)
 }
 
 // Takes the set of a letter out; an empty one stands there until it is put back.
@@ -186,6 +197,7 @@ fn call_one(
         "add" => add(set, words, out),
         "reserve" => reserve(set, words),
         "put" => put(set, words, out),
+        "with" => with(set, words, out),
         "drop" => drop_last(set, words, out),
         "through" => through(set, words, out),
         "share" => {
@@ -274,6 +286,20 @@ fn put(set: &mut Vector, words: &mut Words<'_>, out: &mut String) -> Result<bool
     }
     set.reserve(&member)?;
     set.add_reserved(&member);
+    Ok(true)
+}
+
+// `with NAME`: the set becomes the one with this original, which has to be next, in lists that copies share.
+fn with(set: &mut Vector, words: &mut Words<'_>, out: &mut String) -> Result<bool, Memory> {
+    let Some(name) = words.name() else {
+        return Ok(false);
+    };
+    let member = Member::Original(name);
+    if !is_next(set, &member) {
+        return put_not_next(out, last_of(set, &member).saturating_add(1));
+    }
+    let with = set.with_original(&name)?;
+    *set = with;
     Ok(true)
 }
 

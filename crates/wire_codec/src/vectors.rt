@@ -42,9 +42,7 @@ pub(crate) fn vector_of(alloc: Global, context: &LentContext) -> Result<Vector, 
     ensures { IfOk result (λ v. v.set ≡ context_seen context.now) }
 {
     let counted = with_counts(alloc, &context.counts)?;
-    let mut vector = with_entries(counted, &context.entries)?;
-    vector.share();
-    Ok(vector)
+    with_entries(counted, &context.entries)
 }
 
 /// The operation with a context of its own.

@@ -15,7 +15,7 @@ ghost use Rattle.wire_codec.specs.Code.Puts.{HasRoom, Puts, HasAuthor, head_len}
 use crate::head::Head;
 use crate::limits::FRAME_SITES;
 use context_diff::{Op, UNDO_ENTRIES};
-use context_vector::Vector;
+use context_vector::{Count, Entry, Vector};
 use op_name::{Memory, Name};
 
 // Puts bytes for which there is room.
@@ -130,34 +130,34 @@ fn put_head(out: &mut Vec<u8>, head: Head)
     }
 }
 
-fn put_count(out: &mut Vec<u8>, site: u16, count: u32)
+fn put_count(out: &mut Vec<u8>, count: &Count)
     requires room { HasRoom out.old 5 }
-    requires site { site < FRAME_SITES }
-    ensures { Puts out.old out.new (count_bytes (site, count)) }
+    requires site { count.now.0 < FRAME_SITES }
+    ensures { Puts out.old out.new (count_bytes count.now) }
 {
-    put_site(out, site);
-    put(out, &count.to_be_bytes());
+    put_site(out, count.site());
+    put(out, &count.number().to_be_bytes());
 }
 
-fn put_entry(out: &mut Vec<u8>, entry: &(Name, u16))
+fn put_entry(out: &mut Vec<u8>, entry: &Entry)
     requires { HasRoom out.old 7 }
     ensures { Puts out.old out.new (entry_bytes entry.now) }
 {
-    put_name(out, &entry.0);
-    put(out, &entry.1.to_be_bytes());
+    put_name(out, &entry.name());
+    put(out, &entry.generation().to_be_bytes());
 }
 
-fn put_each_count(out: &mut Vec<u8>, counts: &[(u16, u32)])
+fn put_each_count(out: &mut Vec<u8>, counts: &[Count])
     requires room { HasRoom out.old (count_len * length counts.now) }
     requires sites { AreCounts 0 counts.now }
     ensures { Puts out.old out.new (flat_map count_bytes counts.now) }
 {
-    for &(site, count) in counts {
-        put_count(out, site, count);
+    for count in counts {
+        put_count(out, count);
     }
 }
 
-fn put_each_entry(out: &mut Vec<u8>, entries: &[(Name, u16)])
+fn put_each_entry(out: &mut Vec<u8>, entries: &[Entry])
     requires { HasRoom out.old (entry_len * length entries.now) }
     ensures { Puts out.old out.new (flat_map entry_bytes entries.now) }
 {
@@ -175,7 +175,7 @@ fn put_counts(out: &mut Vec<u8>, context: &Vector)
     put_each_count(out, context.counts());
 }
 
-fn put_entries(out: &mut Vec<u8>, entries: &[(Name, u16)])
+fn put_entries(out: &mut Vec<u8>, entries: &[Entry])
     requires room { HasRoom out.old (2 + entry_len * length entries.now) }
     requires few { length entries.now ≤ UNDO_ENTRIES }
     ensures { Puts out.old out.new (entries_bytes entries.now) }
@@ -211,7 +211,7 @@ pub fn encode(op: &Op, out: &mut Vec<u8>) -> Result<(), Memory>
     Ok(())
 }
 
-fn put_named(out: &mut Vec<u8>, len: u32, entries: &[(Name, u16)])
+fn put_named(out: &mut Vec<u8>, len: u32, entries: &[Entry])
     requires room { HasRoom out.old (4 + entry_len * length entries.now) }
     requires len { len ≡ length entries.now }
     ensures { Puts out.old out.new (named_bytes entries.now) }

@@ -8,6 +8,8 @@ ghost use Rattle.context_vector.specs.Vectors.{HasRoomFor, IsLastMember, lowered
 ghost use Rattle.context_vector.specs.Code.Lists.{of_counts, of_entries};
 ghost use Rattle.context_vector.specs.AddBad.{IsCause};
 
+use super::count::Count;
+use super::entry::Entry;
 use super::{AddBad, Vector};
 use op_name::{Member, Memory, NUMBERS, Name, SITES};
 
@@ -42,17 +44,8 @@ impl Vector {
         ensures room { OnOk result (HasRoomFor self.new m.now) }
         ensures memory { OnErr result (¬ HasRoomFor self.old m.now) }
     {
-        match m {
-            Member::Original(name) => {
-                self.known();
-                self.counts.reserve(name.site)?;
-            }
-            Member::Group(name, _) => {
-                self.known();
-                self.entries.reserve(name)?;
-            }
-        }
-        Ok(())
+        self.known();
+        self.lists.reserve(self.alloc, m)
     }
 
     /// Adds the member, the next of its site or its name, in the room that was made for it. It takes no
@@ -123,7 +116,7 @@ impl Vector {
         ensures pushed { OnOk result (self.new.set ≡ record self.old.set { counts = self.old.set.counts ++ (site, count) ∷ [] }) }
         ensures kept { OnErr result (self.new.set ≡ self.old.set) }
     {
-        self.counts.push(site, count)
+        self.lists.push_count(self.alloc, Count::new(site, count))
     }
 
     /// Appends an undone name with its greatest generation to a vector that is being read in the order of
@@ -136,27 +129,30 @@ impl Vector {
     {
         name.known();
         self.known();
-        self.entries.push(name, generation)
+        self.lists.push_entry(self.alloc, name, generation)
     }
 
     // Adds all originals that the counts tell.
-    fn raise_sites(&mut self, counts: &[(u16, u32)]) -> Result<(), Memory>
+    fn raise_sites(&mut self, counts: &[Count]) -> Result<(), Memory>
         requires { AreCounts 0 counts.now }
         ensures { OnOk result ((y : Member) → has self.new.set y ≡ (has self.old.set y || has (of_counts counts.now) y)) }
     {
-        for &(site, number) in counts {
-            self.raise(&Member::Original(Name { site, number }))?;
+        for count in counts {
+            self.raise(&Member::Original(Name {
+                site: count.site(),
+                number: count.number(),
+            }))?;
         }
         Ok(())
     }
 
     // Adds all groups that the entries tell.
-    fn raise_names(&mut self, entries: &[(Name, u16)]) -> Result<(), Memory>
+    fn raise_names(&mut self, entries: &[Entry]) -> Result<(), Memory>
         requires { AreEntries entries.now }
         ensures { OnOk result ((y : Member) → has self.new.set y ≡ (has self.old.set y || has (of_entries entries.now) y)) }
     {
-        for &(name, generation) in entries {
-            self.raise(&Member::Group(name, generation))?;
+        for entry in entries {
+            self.raise(&Member::Group(entry.name(), entry.generation()))?;
         }
         Ok(())
     }
@@ -170,10 +166,13 @@ impl Vector {
         ensures ready { self.new.room.ready ≡ self.old.room.ready }
     {
         match m {
-            Member::Original(name) => self.counts.put(name.site, name.number),
+            Member::Original(name) => {
+                name.known();
+                self.lists.put_original(name);
+            }
             Member::Group(name, generation) => {
                 name.known();
-                self.entries.put(name, *generation);
+                self.lists.put_group(name, *generation);
             }
         }
     }
@@ -186,10 +185,13 @@ impl Vector {
         ensures { self.new.set ≡ lowered self.old.set m.now }
     {
         match m {
-            Member::Original(name) => self.counts.lower(name.site, name.number),
+            Member::Original(name) => {
+                name.known();
+                self.lists.lower_original(name);
+            }
             Member::Group(name, generation) => {
                 name.known();
-                self.entries.lower(name, *generation);
+                self.lists.lower_group(name, *generation);
             }
         }
     }

@@ -10,6 +10,7 @@ ghost use Rattle.context_vector.specs.Code.Pieces.{IsRun};
 ghost use Rattle.context_vector.specs.Code.Entries.{entries_of};
 ghost use Rattle.context_vector.specs.Code.Readers.{left_of};
 
+use super::entry::Entry;
 use super::marked::Marked;
 use super::reader::Reader;
 use super::rising::are_same;
@@ -101,7 +102,7 @@ impl Entries {
     }
 
     /// The entries from the i-th on, as many as stand in one piece; None exactly past the end.
-    pub fn run(&self, i: usize) -> Option<&[(Name, u16)]>
+    pub fn run(&self, i: usize) -> Option<&[Entry]>
         ensures run { IfSome result (λ r. IsRun r.now (drop i self.now.items)) }
         ensures none { IsNone result ↔ (length self.now.items ≤ i) }
     {
@@ -122,7 +123,7 @@ impl Entries {
     }
 
     /// A copy of the entries in one list.
-    pub fn to_vec(&self) -> Result<Vec<(Name, u16)>, Memory>
+    pub fn to_vec(&self) -> Result<Vec<Entry>, Memory>
         ensures { IfOk result (λ v. v.items ≡ self.now.items) }
     {
         let mut all = Vec::new(self.alloc);
@@ -166,6 +167,28 @@ impl Entries {
         })
     }
 
+    /// Whether there are no entries.
+    pub fn is_empty(&self) -> bool
+        ensures { IsTrue result ↔ (self.now.items ≡ []) }
+    {
+        self.run(0).is_none()
+    }
+
+    /// The same entries, as copies can share them.
+    pub fn kept(&self) -> Result<Entries, Memory>
+        ensures { IfOk result (λ e. e.items ≡ self.now.items) }
+    {
+        let list = match &self.list {
+            EntryList::Nothing => EntryList::Nothing,
+            EntryList::Own(list) => EntryList::Shared(shared(self.alloc, list)?),
+            EntryList::Shared(list) => EntryList::Shared(list.clone()?),
+        };
+        Ok(Entries {
+            alloc: self.alloc,
+            list,
+        })
+    }
+
     /// Lets copies share the list; no entry comes or goes. Out of memory, it stays its own.
     pub fn share(&mut self)
         ensures { self.new.items ≡ self.old.items }
@@ -196,19 +219,8 @@ impl Entries {
     pub fn share_with(&mut self, other: &Entries)
         ensures { self.new.items ≡ self.old.items }
     {
-        if self.has_list_of(other) {
-            return;
-        }
         if let Some(shared) = self.shared_by(other) {
             *self = shared;
-        }
-    }
-
-    // Whether both have one list already. It only spares a comparison: nothing is promised of it.
-    fn has_list_of(&self, other: &Entries) -> bool {
-        match (&self.list, &other.list) {
-            (EntryList::Shared(mine), EntryList::Shared(theirs)) => Rc::ptr_eq(mine, theirs),
-            _ => false,
         }
     }
 

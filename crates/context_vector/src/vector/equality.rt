@@ -11,7 +11,7 @@ impl PartialEq for Vector {
     ghost laws = { vector_per };
 
     fn eq(&self, other: &Vector) -> bool {
-        self.counts.is_same(&other.counts) && self.entries.is_same(&other.entries)
+        self.lists.has_same_counts(&other.lists) && self.lists.has_same_entries(&other.lists)
     }
 }
 
@@ -26,7 +26,7 @@ impl Hash for Vector {
 
     // Marks in the place of the counts and of the entries, so that the hasher is fed two numbers.
     fn hash<H: Hasher>(&self, state: &mut H) {
-        self.counts.mark().hash(state);
-        self.entries.mark().hash(state);
+        self.lists.counts_mark().hash(state);
+        self.lists.entries_mark().hash(state);
     }
 }

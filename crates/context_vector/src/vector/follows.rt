@@ -5,6 +5,7 @@ ghost use Rattle.op_name.specs.declared.member.Member.TheVariants.{Original};
 ghost use Rattle.context_vector.specs.Contexts.{put_count, raised, AreCounts, IsNextMember};
 
 use super::Vector;
+use super::count::Count;
 use super::rising::place_near;
 use op_name::Name;
 
@@ -20,7 +21,7 @@ impl Vector {
         if before.count(name.site) + 1 != name.number {
             return false;
         }
-        if !self.entries.is_same(&before.entries) {
+        if !self.lists.has_same_entries(&before.lists) {
             return false;
         }
         has_put(before.counts(), self.counts(), name)
@@ -28,29 +29,30 @@ impl Vector {
 }
 
 // Whether the counts are those before with this name's number for its site.
-fn has_put(before: &[(u16, u32)], after: &[(u16, u32)], name: &Name) -> bool
+fn has_put(before: &[Count], after: &[Count], name: &Name) -> bool
     requires { AreCounts 0 before.now }
     ensures { IsTrue result → after.now ≡ put_count name.now.site name.now.number before.now }
 {
-    let pair = (name.site, name.number);
+    name.known();
+    let count = Count::new(name.site, name.number);
     match place_near(before, name.site as usize, name.site) {
         Ok(at) => {
             let (low, high) = before.split_at(at);
             match high.split_first() {
-                Some((_, rest)) => is_joined(after, low, pair, rest),
+                Some((_, rest)) => is_joined(after, low, count, rest),
                 None => false,
             }
         }
         Err(at) => {
             let (low, high) = before.split_at(at);
-            is_joined(after, low, pair, high)
+            is_joined(after, low, count, high)
         }
     }
 }
 
-// Whether the list is the two with a pair between them.
-fn is_joined(list: &[(u16, u32)], low: &[(u16, u32)], pair: (u16, u32), high: &[(u16, u32)]) -> bool
-    ensures { IsTrue result → list.now ≡ low.now ++ (pair ∷ high.now) }
+// Whether the list is the two with a count between them.
+fn is_joined(list: &[Count], low: &[Count], count: Count, high: &[Count]) -> bool
+    ensures { IsTrue result → list.now ≡ low.now ++ (count ∷ high.now) }
 {
     if list.len() < low.len() {
         return false;
@@ -58,7 +60,7 @@ fn is_joined(list: &[(u16, u32)], low: &[(u16, u32)], pair: (u16, u32), high: &[
     let (front, back) = list.split_at(low.len());
     match back.split_first() {
         Some((first, rest)) => {
-            if *first != pair || front != low {
+            if *first != count || front != low {
                 return false;
             }
             rest == high

@@ -3,6 +3,7 @@
 ghost use Rattle.std.specs.Prelude.{◌≡◌, IfOk};
 ghost use Rattle.context_vector.specs.Marks.{counts_mark};
 
+use super::count::Count;
 use super::marks::counts_mark;
 use op_name::Memory;
 use std::alloc::Global;
@@ -11,7 +12,7 @@ use std::marker::Model;
 /// Counts that never change, sites rising, with the mark of the list.
 #[derive(Debug, Drop)]
 pub struct MarkedCounts {
-    list: Vec<(u16, u32)>,
+    list: Vec<Count>,
     /// The mark of the list, by which most other lists are told apart at a look.
     mark: u64,
 }
@@ -28,19 +29,16 @@ impl Model for MarkedCounts {
 }
 
 impl MarkedCounts {
-    /// The pairs with their mark.
-    pub fn new(alloc: Global, list: &[(u16, u32)]) -> Result<MarkedCounts, Memory>
-        ensures { IfOk result (λ m. m ≡ list.now) }
+    /// The counts with their mark.
+    pub fn new(list: Vec<Count>) -> MarkedCounts
+        ensures { result ≡ list.items }
     {
-        let mark = counts_mark(list);
-        Ok(MarkedCounts {
-            list: Vec::from_slice(alloc, list)?,
-            mark,
-        })
+        let mark = counts_mark(list.as_slice());
+        MarkedCounts { list, mark }
     }
 
-    /// The pairs.
-    pub fn as_slice(&self) -> &[(u16, u32)]
+    /// The counts.
+    pub fn as_slice(&self) -> &[Count]
         ensures { result.now ≡ self.now }
     {
         self.list.as_slice()

@@ -3,6 +3,7 @@
 ghost use Rattle.std.specs.Prelude.{◌≡◌, ◌<◌, ◌^◌};
 ghost use Rattle.context_vector.specs.Marks.{spread, folded, weight, laid, counts_mark};
 
+use super::count::Count;
 use op_name::Name;
 
 /// What the name adds to a mark at the generation: nothing at 0.
@@ -22,12 +23,12 @@ pub fn weight(name: &Name, generation: u16) -> u64
 }
 
 /// The mark of the counts of sites: a few steps of a processor for each.
-pub fn counts_mark(counts: &[(u16, u32)]) -> u64
+pub fn counts_mark(counts: &[Count]) -> u64
     ensures { result ≡ counts_mark 0 counts.now }
 {
     let mut mark = 0;
-    for &(site, count) in counts {
-        mark = laid(mark, site, count);
+    for count in counts {
+        mark = laid(mark, count.site(), count.number());
     }
     mark
 }

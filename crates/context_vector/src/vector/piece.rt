@@ -3,7 +3,8 @@
 ghost use Rattle.std.specs.Prelude.{◌≡◌, ◌≤◌, ◌++◌, ◌∷◌, [], length, IfOk, OnOk};
 ghost use Rattle.context_vector.specs.Code.Pieces.{joined};
 
-use op_name::{Memory, Name};
+use super::entry::Entry;
+use op_name::Memory;
 use std::alloc::Global;
 use std::marker::Model;
 use std::rc::Rc;
@@ -17,7 +18,7 @@ const CUT: usize = 96;
 /// Entries that never change.
 #[derive(Debug, Drop)]
 pub struct Piece {
-    list: Rc<Vec<(Name, u16)>>,
+    list: Rc<Vec<Entry>>,
 }
 
 impl Model for Piece {
@@ -31,7 +32,7 @@ impl Model for Piece {
 
 impl Piece {
     /// A piece with these entries.
-    pub fn new(alloc: Global, list: &[(Name, u16)]) -> Result<Piece, Memory>
+    pub fn new(alloc: Global, list: &[Entry]) -> Result<Piece, Memory>
         ensures { IfOk result (λ p. p ≡ list.now) }
     {
         let copy = Vec::from_slice(alloc, list)?;
@@ -42,7 +43,7 @@ impl Piece {
     }
 
     /// The entries.
-    pub fn as_slice(&self) -> &[(Name, u16)]
+    pub fn as_slice(&self) -> &[Entry]
         ensures { result.now ≡ self.now }
     {
         self.list.as_ref().as_slice()
@@ -70,7 +71,7 @@ pub fn append(to: &mut Vec<Piece>, pieces: &[Piece]) -> Result<(), Memory>
 }
 
 /// Appends the entries as pieces, which are several where there are many entries. After out of memory some of them may be there.
-pub fn append_cut(to: &mut Vec<Piece>, list: &[(Name, u16)]) -> Result<(), Memory>
+pub fn append_cut(to: &mut Vec<Piece>, list: &[Entry]) -> Result<(), Memory>
     ensures { OnOk result (joined to.new.items ≡ joined to.old.items ++ list.now) }
 {
     let most = if list.len() > LONGEST { CUT } else { LONGEST };
@@ -84,7 +85,7 @@ pub fn append_cut(to: &mut Vec<Piece>, list: &[(Name, u16)]) -> Result<(), Memor
 }
 
 // Appends the entries as one piece.
-fn append_list(to: &mut Vec<Piece>, list: &[(Name, u16)]) -> Result<(), Memory>
+fn append_list(to: &mut Vec<Piece>, list: &[Entry]) -> Result<(), Memory>
     ensures { OnOk result (joined to.new.items ≡ joined to.old.items ++ list.now) }
 {
     to.reserve(1)?;

@@ -6,6 +6,7 @@ ghost use Rattle.context_vector.specs.Vectors.{lower_entry, NamesBelow};
 ghost use Rattle.context_vector.specs.Code.Pieces.{joined, NamesAbove, IsBetween, IsRun};
 ghost use Rattle.context_vector.specs.Code.Readers.{left_of};
 
+use super::entry::Entry;
 use super::piece::{Piece, append, append_cut};
 use super::reader::Reader;
 use super::rising::{entry_among, place_of_name};
@@ -20,7 +21,7 @@ pub struct Pieces {
     /// The pieces before the open one.
     before: Vec<Piece>,
     /// The piece that may be changed in place.
-    own: Vec<(Name, u16)>,
+    own: Vec<Entry>,
     /// The pieces after the open one.
     after: Vec<Piece>,
     /// The name whose place is in the open piece, if one was made ready.
@@ -81,7 +82,7 @@ impl Pieces {
     }
 
     /// The entries from the i-th on, as many as stand in one piece; None exactly past the end.
-    pub fn run(&self, i: usize) -> Option<&[(Name, u16)]>
+    pub fn run(&self, i: usize) -> Option<&[Entry]>
         ensures run { IfSome result (λ r. IsRun r.now (drop i self.now.items)) }
         ensures none { IsNone result ↔ (length self.now.items ≤ i) }
     {
@@ -148,7 +149,7 @@ impl Pieces {
         ensures { IfOk result (λ p. p.items ≡ self.now.items ++ (name, generation) ∷ []) }
     {
         let mut own = Vec::with_capacity(alloc, 1)?;
-        own.push_reserved((name, generation));
+        own.push_reserved(Entry::new(name, generation));
         Ok(Pieces {
             before: self.closed(alloc)?,
             own,
@@ -182,7 +183,7 @@ impl Pieces {
         if self.after.is_empty() {
             self.own.reserve(1)?;
             self.ready = None;
-            self.own.push_reserved((name, generation));
+            self.own.push_reserved(Entry::new(name, generation));
             return Ok(());
         }
         let more = self.with_last(alloc, name, generation)?;
@@ -215,11 +216,7 @@ impl Pieces {
 }
 
 // The entries from the i-th on in the open piece and those after it, as many as stand in one piece.
-fn run_from_open<'a>(
-    own: &'a [(Name, u16)],
-    after: &'a [Piece],
-    i: usize,
-) -> Option<&'a [(Name, u16)]>
+fn run_from_open<'a>(own: &'a [Entry], after: &'a [Piece], i: usize) -> Option<&'a [Entry]>
     ensures run { IfSome result (λ r. IsRun r.now (drop i (own.now ++ joined after.now))) }
     ensures none { IsNone result ↔ (length (own.now ++ joined after.now) ≤ i) }
 {
@@ -236,7 +233,7 @@ fn run_from_open<'a>(
 fn around(
     alloc: Global,
     low: &[Piece],
-    list: &[(Name, u16)],
+    list: &[Entry],
     high: &[Piece],
     name: &Name,
 ) -> Result<Pieces, Memory>
@@ -266,15 +263,15 @@ fn copied(alloc: Global, pieces: &[Piece]) -> Result<Vec<Piece>, Memory>
 }
 
 // Makes the generation the greatest of the name.
-fn put_name(entries: &mut Vec<(Name, u16)>, name: &Name, generation: u16)
+fn put_name(entries: &mut Vec<Entry>, name: &Name, generation: u16)
     requires rising { AreEntries entries.old.items }
     requires room { entry_in entries.old.items name.now ≡ 0 → vec_len entries.old < vec_capacity entries.old }
     ensures { entries.new.items ≡ put_entry name.now generation entries.old.items }
 {
-    let pair = (*name, generation);
+    let entry = Entry::new(*name, generation);
     match place_of_name(entries.as_slice(), name) {
-        Ok(at) => entries[at] = pair,
-        Err(at) => match entries.insert(at, pair) {
+        Ok(at) => entries[at] = entry,
+        Err(at) => match entries.insert(at, entry) {
             Ok(()) => {}
             Err(_) => unreachable!(),
         },
@@ -282,7 +279,7 @@ fn put_name(entries: &mut Vec<(Name, u16)>, name: &Name, generation: u16)
 }
 
 // Takes one from the greatest generation of the name.
-fn lower_name(entries: &mut Vec<(Name, u16)>, name: &Name, generation: u16)
+fn lower_name(entries: &mut Vec<Entry>, name: &Name, generation: u16)
     requires rising { AreEntries entries.old.items }
     requires least { 1 ≤ generation }
     requires last { generation ≡ entry_in entries.old.items name.now }
@@ -292,7 +289,7 @@ fn lower_name(entries: &mut Vec<(Name, u16)>, name: &Name, generation: u16)
         Ok(at) if generation == 1 => {
             entries.remove(at);
         }
-        Ok(at) => entries[at] = (*name, generation - 1),
+        Ok(at) => entries[at] = Entry::new(*name, generation - 1),
         Err(_) => unreachable!(),
     }
 }

@@ -4,6 +4,7 @@ ghost use Rattle.std.specs.Prelude.{◌≡◌, ◌≤◌, ◌∷◌, ◌++◌, [
 ghost use Rattle.context_vector.specs.Code.Pieces.{joined};
 ghost use Rattle.context_vector.specs.Code.Readers.{left_of};
 
+use super::entry::Entry;
 use super::piece::Piece;
 use op_name::Name;
 use std::marker::Model;
@@ -12,11 +13,11 @@ use std::marker::Model;
 #[derive(Drop)]
 pub struct Reader<'a> {
     /// What is left of the piece that is being read.
-    front: &'a [(Name, u16)],
+    front: &'a [Entry],
     /// The pieces after it, as far as the open one.
     before: &'a [Piece],
     /// The open piece, if it is still to come.
-    own: Option<&'a [(Name, u16)]>,
+    own: Option<&'a [Entry]>,
     /// The pieces after the open one.
     after: &'a [Piece],
 }
@@ -32,7 +33,7 @@ impl<'a> Model for Reader<'a> {
 
 impl<'a> Reader<'a> {
     /// A reader of all these pieces.
-    pub fn new(before: &'a [Piece], own: &'a [(Name, u16)], after: &'a [Piece]) -> Reader<'a>
+    pub fn new(before: &'a [Piece], own: &'a [Entry], after: &'a [Piece]) -> Reader<'a>
         ensures { left_of result ≡ joined before.now ++ (own.now ++ joined after.now) }
     {
         Reader {
@@ -56,7 +57,7 @@ impl<'a> Reader<'a> {
     }
 
     /// The first entries of what is left, as many as stand in one piece; none only where nothing is left.
-    pub fn front(&mut self) -> &'a [(Name, u16)]
+    pub fn front(&mut self) -> &'a [Entry]
         ensures same { left_of self.new ≡ left_of self.old }
         ensures front { result.now ≡ self.new.front }
         ensures end { length self.new.front ≡ 0 → left_of self.new ≡ [] }
@@ -75,7 +76,7 @@ impl<'a> Reader<'a> {
         ensures first { result ≡ slice_get (left_of self.old) 0 }
         ensures front { IfSome result (λ _. 1 ≤ length self.new.front) }
     {
-        self.front().first().copied()
+        Some(self.front().first()?.pair())
     }
 
     /// Goes past so many entries of the piece that is being read.

@@ -1,6 +1,6 @@
 //! Lists whose keys rise: searches in them and comparisons of two of them.
 
-ghost use Rattle.std.specs.Prelude.{◌≡◌, ◌*◌, ◌≤◌, nat_lt, IfOk, IfErr};
+ghost use Rattle.std.specs.Prelude.{◌≡◌, ◌*◌, ◌≤◌, nat_lt, length, IfOk, IfErr};
 ghost use Rattle.context_vector.specs.Contexts.{count_in, entry_in, sum_of_counts, AreCounts, AreEntries};
 ghost use Rattle.op_name.specs.NameData.{name_lt};
 ghost use lib.Pointwise.{pointwise};
@@ -9,29 +9,31 @@ ghost use Rattle.context_vector.specs.Shortfalls.{first_short};
 ghost use Rattle.context_vector.specs.Code.Readers.{left_of};
 ghost use Rattle.context_vector.specs.Code.Places.{IsPlace, IsGap};
 
+use super::count::Count;
+use super::entry::Entry;
 use super::reader::Reader;
 use op_name::{NUMBERS, Name, SITES};
 
 /// Where the pair of the site stands, or where it would go.
-pub fn place_of_site(counts: &[(u16, u32)], site: u16) -> Result<usize, usize>
+pub fn place_of_site(counts: &[Count], site: u16) -> Result<usize, usize>
     requires { AreCounts 0 counts.now }
     ensures found { IfOk result (IsPlace counts.now site) }
     ensures absent { IfErr result (IsGap nat_lt counts.now site) }
 {
-    counts.binary_search_by_key(&site, |&(key, _)| key)
+    counts.binary_search_by_key(&site, Count::site)
 }
 
 /// Where the entry of the name stands, or where it would go.
-pub fn place_of_name(entries: &[(Name, u16)], name: &Name) -> Result<usize, usize>
+pub fn place_of_name(entries: &[Entry], name: &Name) -> Result<usize, usize>
     requires { AreEntries entries.now }
     ensures found { IfOk result (IsPlace entries.now name.now) }
     ensures absent { IfErr result (IsGap name_lt entries.now name.now) }
 {
-    entries.binary_search_by_key(name, |&(key, _)| key)
+    entries.binary_search_by_key(name, Entry::name)
 }
 
 /// The count of the site, 0 if it has no pair.
-pub fn count_among(counts: &[(u16, u32)], site: u16) -> u32
+pub fn count_among(counts: &[Count], site: u16) -> u32
     requires { AreCounts 0 counts.now }
     ensures count { result ≡ count_in counts.now site }
     ensures range { result ≤ NUMBERS }
@@ -41,27 +43,28 @@ pub fn count_among(counts: &[(u16, u32)], site: u16) -> u32
 }
 
 /// The greatest generation of the name, 0 if it has no entry.
-pub fn entry_among(entries: &[(Name, u16)], name: &Name) -> u16
+pub fn entry_among(entries: &[Entry], name: &Name) -> u16
     requires { AreEntries entries.now }
     ensures { result ≡ entry_in entries.now name.now }
 {
     match place_of_name(entries, name) {
-        Ok(at) => entries[at].1,
+        Ok(at) => entries[at].generation(),
         Err(_) => 0,
     }
 }
 
 /// The first site of which `theirs` count more than `mine`, with the least number that `mine` lack. Both are read
 /// side by side: where `mine` have the sites of `theirs` one after the other, nothing is searched.
-pub fn first_short_site(mine: &[(u16, u32)], theirs: &[(u16, u32)]) -> Option<(u16, u32)>
+pub fn first_short_site(mine: &[Count], theirs: &[Count]) -> Option<(u16, u32)>
     requires mine { AreCounts 0 mine.now }
     requires theirs { AreCounts 0 theirs.now }
     ensures { result ≡ first_short (count_in mine.now) theirs.now }
 {
     let mut guess = 0;
-    for &(site, count) in theirs {
+    for count in theirs {
+        let site = count.site();
         let (had, next) = count_near(mine, guess, site);
-        if had < count {
+        if had < count.number() {
             return Some((site, had + 1));
         }
         guess = next;
@@ -70,25 +73,25 @@ pub fn first_short_site(mine: &[(u16, u32)], theirs: &[(u16, u32)]) -> Option<(u
 }
 
 // The count of the site, 0 if it has no pair, and where the pair of the next site is likely to stand.
-fn count_near(counts: &[(u16, u32)], guess: usize, site: u16) -> (u32, usize)
+fn count_near(counts: &[Count], guess: usize, site: u16) -> (u32, usize)
     requires { AreCounts 0 counts.now }
     ensures count { result.0 ≡ count_in counts.now site }
     ensures range { result.0 ≤ NUMBERS }
 {
     match place_near(counts, guess, site) {
-        Ok(at) => (counts[at].1, at + 1),
+        Ok(at) => (counts[at].number(), at + 1),
         Err(at) => (0, at),
     }
 }
 
 /// Where the pair of the site stands, or where it would go. A right guess spares the search.
-pub fn place_near(counts: &[(u16, u32)], guess: usize, site: u16) -> Result<usize, usize>
+pub fn place_near(counts: &[Count], guess: usize, site: u16) -> Result<usize, usize>
     requires { AreCounts 0 counts.now }
     ensures found { IfOk result (IsPlace counts.now site) }
     ensures absent { IfErr result (IsGap nat_lt counts.now site) }
 {
     match counts.get(guess) {
-        Some(pair) if pair.0 == site => Ok(guess),
+        Some(count) if count.site() == site => Ok(guess),
         _ => place_of_site(counts, site),
     }
 }
@@ -134,7 +137,7 @@ pub fn are_same(mine: Reader<'_>, theirs: Reader<'_>) -> bool
             return false;
         }
         let n = one.len().min(other.len());
-        if one.split_at(n).0 == other.split_at(n).0 {
+        if are_equal(one.split_at(n).0, other.split_at(n).0) {
             left.pass(n);
             right.pass(n);
         } else {
@@ -143,15 +146,28 @@ pub fn are_same(mine: Reader<'_>, theirs: Reader<'_>) -> bool
     }
 }
 
+// Whether two lists of one length have the same entries: without a way out of the loop, so that it can be compiled to one over several
+// entries at a time.
+fn are_equal(one: &[Entry], other: &[Entry]) -> bool
+    requires { length one.now ≡ length other.now }
+    ensures { result ≡ pointwise entry_eq one.now other.now }
+{
+    let mut equal = true;
+    for i in 0..one.len() {
+        equal &= one[i] == other[i];
+    }
+    equal
+}
+
 /// The sum of the counts.
-pub fn total(counts: &[(u16, u32)]) -> u32
+pub fn total(counts: &[Count]) -> u32
     requires { AreCounts 0 counts.now }
     ensures total { result ≡ sum_of_counts counts.now }
     ensures range { result ≤ SITES * NUMBERS }
 {
     let mut sum = 0;
-    for &(_, count) in counts {
-        sum += count;
+    for count in counts {
+        sum += count.number();
     }
     sum
 }

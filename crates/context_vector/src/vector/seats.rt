@@ -6,6 +6,7 @@ ghost use Rattle.context_vector.specs.Contexts.{entry_in, AreEntries};
 ghost use Rattle.context_vector.specs.Vectors.{NamesBelow};
 ghost use Rattle.context_vector.specs.Code.Pieces.{joined, NamesAbove, IsRun};
 
+use super::entry::Entry;
 use super::piece::Piece;
 use super::rising::entry_among;
 use op_name::{NUMBERS, Name, SITES};
@@ -34,7 +35,7 @@ fn reaches(piece: &Piece, name: &Name) -> bool
     ensures above { result ≡ true → (more : List (NameData × ℕ)) → AreEntries (piece.now ++ more) → NamesAbove name.now more }
 {
     match piece.as_slice().last() {
-        Some(last) => !last.0.is_before(name),
+        Some(last) => !last.name().is_before(name),
         None => false,
     }
 }
@@ -77,7 +78,7 @@ pub fn total_of(pieces: &[Piece]) -> usize
 }
 
 /// The entries from the i-th on, as many as stand in one piece; past the end, how far past it.
-pub fn run_in_pieces(pieces: &[Piece], i: usize) -> Result<&[(Name, u16)], usize>
+pub fn run_in_pieces(pieces: &[Piece], i: usize) -> Result<&[Entry], usize>
     ensures run { IfOk result (λ r. IsRun r.now (drop i (joined pieces.now))) }
     ensures past { IfErr result (λ n. i ≡ length (joined pieces.now) + n) }
 {

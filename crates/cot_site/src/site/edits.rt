@@ -12,7 +12,6 @@ ghost use Rattle.cot_site.specs.Commands.{place_behind, place_of_shown, local_in
 ghost use Rattle.cot_site.specs.Code.Making.{IsNumber, IsContextAnswer, IsGeneration};
 ghost use Rattle.cot_site.specs.Sites.{KeepsForms, IsAsBefore, state_of};
 
-use crate::replica::shared;
 use crate::site::Site;
 use context_diff::{Op, UNDO_ENTRIES};
 use context_vector::Vector;
@@ -153,8 +152,8 @@ impl Site {
         if entries > UNDO_ENTRIES {
             return Err(Local::ContextFull { entries });
         }
-        match have.try_clone() {
-            Ok(context) => Ok(shared(context)),
+        match have.kept() {
+            Ok(context) => Ok(context),
             Err(_) => Err(Local::Memory),
         }
     }

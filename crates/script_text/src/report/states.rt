@@ -4,8 +4,8 @@ ghost use Rattle.std.specs.Prelude.{◌≡◌, ◌++◌, OnOk, OnErr, map, lengt
 ghost use Rattle.site_answers.specs.Names.{group_text};
 ghost use Rattle.script_text.specs.Report.{count_text, listed, with_commas, state_text};
 
-use context_vector::Vector;
-use op_name::{Memory, Name};
+use context_vector::{Count, Entry, Vector};
+use op_name::Memory;
 use site_answers::{put, put_group};
 
 /// Appends the report line of a site's state: `state S have LIST groups LIST waiting COUNT` and a line feed.
@@ -27,7 +27,7 @@ pub fn state_line(site: u16, have: &Vector, waiting: u32, out: &mut Vec<u8>) -> 
 fn state_parts(
     site: u16,
     have: &Vector,
-    groups: &[(Name, u16)],
+    groups: &[Entry],
     waiting: u32,
     out: &mut Vec<u8>,
 ) -> Result<(), Memory>
@@ -45,7 +45,7 @@ fn state_parts(
 }
 
 // The sites with their counts, as a list.
-fn put_counts(counts: &[(u16, u32)], out: &mut Vec<u8>) -> Result<(), Memory>
+fn put_counts(counts: &[Count], out: &mut Vec<u8>) -> Result<(), Memory>
     ensures ok { OnOk result (out.new.items ≡ out.old.items ++ listed (map count_text counts.now)) }
     ensures err { OnErr result (out.new.items ≡ out.old.items) }
 {
@@ -54,21 +54,21 @@ fn put_counts(counts: &[(u16, u32)], out: &mut Vec<u8>) -> Result<(), Memory>
     put::take_back(out, start, done)
 }
 
-fn counts_parts(counts: &[(u16, u32)], out: &mut Vec<u8>) -> Result<(), Memory>
+fn counts_parts(counts: &[Count], out: &mut Vec<u8>) -> Result<(), Memory>
     ensures ok { OnOk result (out.new.items ≡ out.old.items ++ listed (map count_text counts.now)) }
     ensures err { OnErr result (take (length out.old.items) out.new.items ≡ out.old.items) }
 {
     match counts.split_first() {
         None => put::text(out, b"-"),
         Some((first, others)) => {
-            put_count(b"", first.0, first.1, out)?;
+            put_count(b"", first, out)?;
             more_counts(others, out)
         }
     }
 }
 
 // Each with a comma before it.
-fn more_counts(counts: &[(u16, u32)], out: &mut Vec<u8>) -> Result<(), Memory>
+fn more_counts(counts: &[Count], out: &mut Vec<u8>) -> Result<(), Memory>
     ensures ok { OnOk result (out.new.items ≡ out.old.items ++ with_commas count_text counts.now) }
     ensures err { OnErr result (out.new.items ≡ out.old.items) }
 {
@@ -78,18 +78,18 @@ fn more_counts(counts: &[(u16, u32)], out: &mut Vec<u8>) -> Result<(), Memory>
 }
 
 #[tactic(auto, using(crate::proofs::Listings::listed_none, crate::proofs::Listings::listed_more, crate::proofs::Listings::listed_end))]
-fn more_counts_parts(counts: &[(u16, u32)], out: &mut Vec<u8>) -> Result<(), Memory>
+fn more_counts_parts(counts: &[Count], out: &mut Vec<u8>) -> Result<(), Memory>
     ensures ok { OnOk result (out.new.items ≡ out.old.items ++ with_commas count_text counts.now) }
     ensures err { OnErr result (take (length out.old.items) out.new.items ≡ out.old.items) }
 {
-    for &(site, count) in counts {
-        put_count(b",", site, count, out)?;
+    for count in counts {
+        put_count(b",", count, out)?;
     }
     Ok(())
 }
 
 // The undone names with their greatest generations, as a list.
-fn put_groups(groups: &[(Name, u16)], out: &mut Vec<u8>) -> Result<(), Memory>
+fn put_groups(groups: &[Entry], out: &mut Vec<u8>) -> Result<(), Memory>
     ensures ok { OnOk result (out.new.items ≡ out.old.items ++ listed (map (λ e. group_text e.0 e.1) groups.now)) }
     ensures err { OnErr result (out.new.items ≡ out.old.items) }
 {
@@ -98,21 +98,21 @@ fn put_groups(groups: &[(Name, u16)], out: &mut Vec<u8>) -> Result<(), Memory>
     put::take_back(out, start, done)
 }
 
-fn groups_parts(groups: &[(Name, u16)], out: &mut Vec<u8>) -> Result<(), Memory>
+fn groups_parts(groups: &[Entry], out: &mut Vec<u8>) -> Result<(), Memory>
     ensures ok { OnOk result (out.new.items ≡ out.old.items ++ listed (map (λ e. group_text e.0 e.1) groups.now)) }
     ensures err { OnErr result (take (length out.old.items) out.new.items ≡ out.old.items) }
 {
     match groups.split_first() {
         None => put::text(out, b"-"),
         Some((first, others)) => {
-            put_undone(b"", first.0, first.1, out)?;
+            put_undone(b"", first, out)?;
             more_groups(others, out)
         }
     }
 }
 
 // Each with a comma before it.
-fn more_groups(groups: &[(Name, u16)], out: &mut Vec<u8>) -> Result<(), Memory>
+fn more_groups(groups: &[Entry], out: &mut Vec<u8>) -> Result<(), Memory>
     ensures ok { OnOk result (out.new.items ≡ out.old.items ++ with_commas (λ e. group_text e.0 e.1) groups.now) }
     ensures err { OnErr result (out.new.items ≡ out.old.items) }
 {
@@ -122,50 +122,50 @@ fn more_groups(groups: &[(Name, u16)], out: &mut Vec<u8>) -> Result<(), Memory>
 }
 
 #[tactic(auto, using(crate::proofs::Listings::listed_none, crate::proofs::Listings::listed_more, crate::proofs::Listings::listed_end))]
-fn more_groups_parts(groups: &[(Name, u16)], out: &mut Vec<u8>) -> Result<(), Memory>
+fn more_groups_parts(groups: &[Entry], out: &mut Vec<u8>) -> Result<(), Memory>
     ensures ok { OnOk result (out.new.items ≡ out.old.items ++ with_commas (λ e. group_text e.0 e.1) groups.now) }
     ensures err { OnErr result (take (length out.old.items) out.new.items ≡ out.old.items) }
 {
-    for &(name, generation) in groups {
-        put_undone(b",", name, generation, out)?;
+    for group in groups {
+        put_undone(b",", group, out)?;
     }
     Ok(())
 }
 
 // `S:COUNT` with what stands before it
-fn put_count(before: &[u8], site: u16, count: u32, out: &mut Vec<u8>) -> Result<(), Memory>
-    ensures ok { OnOk result (out.new.items ≡ out.old.items ++ (before.now ++ count_text (site, count))) }
+fn put_count(before: &[u8], count: &Count, out: &mut Vec<u8>) -> Result<(), Memory>
+    ensures ok { OnOk result (out.new.items ≡ out.old.items ++ (before.now ++ count_text count.now)) }
     ensures err { OnErr result (out.new.items ≡ out.old.items) }
 {
     let start = out.len();
-    let done = count_parts(before, site, count, out);
+    let done = count_parts(before, count, out);
     put::take_back(out, start, done)
 }
 
 // The same, but a refused call may leave some of it after what `out` held.
-fn count_parts(before: &[u8], site: u16, count: u32, out: &mut Vec<u8>) -> Result<(), Memory>
-    ensures ok { OnOk result (out.new.items ≡ out.old.items ++ (before.now ++ count_text (site, count))) }
+fn count_parts(before: &[u8], count: &Count, out: &mut Vec<u8>) -> Result<(), Memory>
+    ensures ok { OnOk result (out.new.items ≡ out.old.items ++ (before.now ++ count_text count.now)) }
     ensures err { OnErr result (take (length out.old.items) out.new.items ≡ out.old.items) }
 {
-    put::number(out, before, u64::from(site))?;
-    put::number(out, b":", u64::from(count))
+    put::number(out, before, u64::from(count.site()))?;
+    put::number(out, b":", u64::from(count.number()))
 }
 
 // `S.N/G` with what stands before it
-fn put_undone(before: &[u8], name: Name, generation: u16, out: &mut Vec<u8>) -> Result<(), Memory>
-    ensures ok { OnOk result (out.new.items ≡ out.old.items ++ (before.now ++ group_text name generation)) }
+fn put_undone(before: &[u8], group: &Entry, out: &mut Vec<u8>) -> Result<(), Memory>
+    ensures ok { OnOk result (out.new.items ≡ out.old.items ++ (before.now ++ group_text group.now.0 group.now.1)) }
     ensures err { OnErr result (out.new.items ≡ out.old.items) }
 {
     let start = out.len();
-    let done = undone_parts(before, name, generation, out);
+    let done = undone_parts(before, group, out);
     put::take_back(out, start, done)
 }
 
 // The same, but a refused call may leave some of it after what `out` held.
-fn undone_parts(before: &[u8], name: Name, generation: u16, out: &mut Vec<u8>) -> Result<(), Memory>
-    ensures ok { OnOk result (out.new.items ≡ out.old.items ++ (before.now ++ group_text name generation)) }
+fn undone_parts(before: &[u8], group: &Entry, out: &mut Vec<u8>) -> Result<(), Memory>
+    ensures ok { OnOk result (out.new.items ≡ out.old.items ++ (before.now ++ group_text group.now.0 group.now.1)) }
     ensures err { OnErr result (take (length out.old.items) out.new.items ≡ out.old.items) }
 {
     put::text(out, before)?;
-    put_group(name, generation, out)
+    put_group(group.name(), group.generation(), out)
 }

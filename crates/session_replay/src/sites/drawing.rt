@@ -12,6 +12,7 @@ ghost use Rattle.session_replay.specs.declared.sites.commands.Command.TheVariant
 use crate::draws::Draw;
 use crate::sites::Sites;
 use crate::sites::commands::Command;
+use context_vector::Count;
 use cot_site::Site;
 use op_name::{Memory, Name};
 use undo_group::in_force;
@@ -84,19 +85,20 @@ fn drawn_target(site: &Site, place: u32) -> Option<Name>
 }
 
 // The name at this place among the first originals of the sites.
-fn named_at(counts: &[(u16, u32)], place: u32) -> Option<Name>
+fn named_at(counts: &[Count], place: u32) -> Option<Name>
     requires { AreCounts 0 counts.now }
     ensures { result ≡ slice_get (names_in counts.now) place }
 {
     let mut left = place;
-    for (site, count) in counts {
-        if left < *count {
+    for count in counts {
+        let (site, number) = count.pair();
+        if left < number {
             return Some(Name {
-                site: *site,
+                site,
                 number: left + 1,
             });
         }
-        left -= *count;
+        left -= number;
     }
     None
 }

@@ -1,6 +1,5 @@
 use Rattle.std.proofs.Common.{◌≡◌, ◌≢◌, false, IfErr, subst}
 use Rattle.context_diff.specs.Operations.{OpData}
-use Rattle.context_diff.specs.Ops.{data_of}
 use Rattle.cot_site.specs.Sites.{state_of}
 use Rattle.cot_site.specs.States.{judged}
 use Rattle.session_log.specs.declared.log_bad.LogBad.TheVariants as bad

@@ -3,5 +3,5 @@ use Rattle.wire_codec.specs.Judging.{count_len}
 use Rattle.wire_codec.proofs.Pushes.{IsPutUpTo}
 use Rattle.wire_codec.proofs.writing.put_each_count.Given as goal
 
-abbrev pub invariant-loop-site : goal.invariant-loop-site
-invariant-loop-site l = IsPutUpTo count_bytes count_len l.counts l.initial.out l.site-index l.out
+abbrev pub invariant-loop-count : goal.invariant-loop-count
+invariant-loop-count l = IsPutUpTo count_bytes count_len l.counts l.initial.out l.count-index l.out

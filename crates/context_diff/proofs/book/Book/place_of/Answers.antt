@@ -1,4 +1,4 @@
-use Rattle.std.proofs.Common.{◌≡◌, refl}
+use Rattle.std.proofs.Common.{refl}
 use Rattle.std.proofs.lemmas.Bool.{true≢false}
 use Rattle.context_diff.specs.Code.Kept.{IsPlaceOf}
 use Rattle.context_diff.proofs.Books.{seat_some}

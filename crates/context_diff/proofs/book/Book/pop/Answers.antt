@@ -1,11 +1,11 @@
-use Rattle.std.proofs.Common.{◌≡◌, ℕ, ◌+◌, false, List, [], ◌∷◌, ◌++◌, ap, sym, subst, ◌∙◌, arith, length, length-append}
+use Rattle.std.proofs.Common.{◌≡◌, ℕ, ◌+◌, false, ap, sym, subst, ◌∙◌, arith, length, length-append}
 use Rattle.std.specs.Prelude.{map, None, if◌then◌else◌}
 use Rattle.std.proofs.lemmas.Bool.{true≢false}
 use Rattle.op_name.specs.declared.member.Member.{Member}
 use Rattle.op_name.specs.Members.{IsMember}
 use Rattle.context_vector.specs.Contexts.{ContextData}
 use Rattle.context_vector.specs.Vectors.{HasRoomFor, IsLastMember}
-use Rattle.context_diff.specs.Operations.{OpData, member_of, is_insert}
+use Rattle.context_diff.specs.Operations.{member_of, is_insert}
 use Rattle.context_diff.specs.Histories.{is_known}
 use Rattle.context_diff.specs.Ops.{data_of}
 use Rattle.context_diff.specs.Books.{BookData, HasRoomToPop}

@@ -5,6 +5,7 @@ use Rattle.context_vector.specs.Contexts.{count_in, entry_in}
 use Rattle.context_vector.specs.Equality.{list_eq_decides}
 use Rattle.context_vector.specs.Shortfalls.{first_short}
 use Rattle.context_vector.specs.Vectors.{VectorData}
+use Rattle.context_vector.specs.Code.Sharing.{data_of}
 use Rattle.context_vector.specs.Code.Readers.{left_of}
 use Rattle.context_vector.proofs.Sets.{short_original, short_group, none_missing, no_group_missing, missing_not_within}
 use Rattle.context_vector.proofs.vector.Vector.first_missing.Goals as goal
@@ -40,10 +41,10 @@ short_name : (c : goal.In-Some-group) → first_short (entry_in c.args.self.now.
 short_name c =
     sym (walked (left_of c.reader.result) (left_of c.reader-2.result) c.args.self.now c.args.other.now (c.reader.ensures ∙ ap (λ (v : VectorData). v.set.entries) c.self.view_is) (c.reader-2.ensures ∙ ap (λ (v : VectorData). v.set.entries) c.other.view_is)) ∙ (sym c.first_short_entry-group.ensures ∙ c.in-Some-group.is)
 
-pub returns-then-is_same-clause-none : goal.returns-then-is_same-clause-none
-returns-then-is_same-clause-none c =
+pub returns-then-has_same_entries-clause-none : goal.returns-then-has_same_entries-clause-none
+returns-then-has_same_entries-clause-none c =
     let sites = rw (c.counts.ensures, c.counts-2.ensures) at c.first_short_site-original.ensures in
-    let one = (list_eq_decides c.self.inside.entries.items c.other.inside.entries.items).0 (sym c.is_same.ensures ∙ c.if-is_same.true) in
+    let one = (list_eq_decides (data_of c.self.inside.lists).set.entries (data_of c.other.inside.lists).set.entries).0 (sym c.has_same_entries.ensures ∙ c.if-has_same_entries.true) in
     let same : c.args.self.now.set.entries ≡ c.args.other.now.set.entries =
     sym (ap (λ (v : VectorData). v.set.entries) c.self.view_is) ∙ (one ∙ ap (λ (v : VectorData). v.set.entries) c.other.view_is) in
     let within = no_group_missing c.args.self.now.set c.args.other.now.set (sym sites ∙ c.in_default.is) same in

@@ -1,4 +1,4 @@
-use Rattle.std.proofs.Common.{subst, ◌∙◌, arith}
+use Rattle.std.proofs.Common.{set, ap, subst, ◌∙◌, arith}
 use Rattle.context_vector.specs.Code.Places.{IsPlace, IsGap}
 use Rattle.std.specs.Prelude.{nat_lt}
 use Rattle.context_vector.proofs.Counts.{count_in_gap, lower_at_place, remove_at_place}
@@ -18,4 +18,4 @@ returns-in-Ok c =
 pub returns-in-Ok-2 : goal.returns-in-Ok-2
 returns-in-Ok-2 c =
     let place = subst (λ ps. IsPlace ps c.args.site c.in-Ok.at) c.as_slice.ensures.value c.in-Ok.ensures.found in
-    lower_at_place c.args.counts.now.items c.args.site c.args.number c.in-Ok.at c.requires.rising place c.if-number-eq1.false
+    ap (λ p. set c.args.counts.now.items c.in-Ok.at p) c.new.ensures ∙ lower_at_place c.args.counts.now.items c.args.site c.args.number c.in-Ok.at c.requires.rising place c.if-number-eq1.false

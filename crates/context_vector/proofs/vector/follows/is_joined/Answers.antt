@@ -1,4 +1,4 @@
-use Rattle.std.proofs.Common.{◌≡◌, ◌∷◌, ◌++◌, sym, ap, ◌∙◌, length}
+use Rattle.std.proofs.Common.{◌≡◌, ◌∷◌, ◌++◌, sym, ◌∙◌, length}
 use Rattle.context_vector.specs.Equality.{counts_decide, count_list_decides}
 use Rattle.context_vector.proofs.Counts.{parts_of}
 use Rattle.context_vector.proofs.Marks.{not_false}
@@ -7,7 +7,7 @@ use Rattle.context_vector.proofs.vector.follows.is_joined.Goals as goal
 pub returns-else-ne-2 : goal.returns-else-ne-2
 returns-else-ne-2 c = λ same.
     let low : c.split_at.result.0.now ≡ c.args.low.now = (count_list_decides c.split_at.result.0.now c.args.low.now).0 (not_false _ c.if-ne-2.ensures) in
-    let first : c.in-Some.first.now ≡ c.args.pair = (counts_decide c.in-Some.first.now c.args.pair).0 (not_false _ c.if-ne.ensures) in
+    let first : c.in-Some.first.now ≡ c.args.count = (counts_decide c.in-Some.first.now c.args.count).0 (not_false _ c.if-ne.ensures) in
     let high : c.in-Some.rest.now ≡ c.args.high.now = (count_list_decides c.in-Some.rest.now c.args.high.now).0 (sym c.eq.ensures ∙ same) in
     parts_of (length c.args.low.now) c.args.list.now
     ∙ (λ j. sym c.split_at.ensures.front j ++ sym c.split_at.ensures.back j)

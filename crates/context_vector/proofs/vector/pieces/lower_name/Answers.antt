@@ -1,4 +1,4 @@
-use Rattle.std.proofs.Common.{subst, ◌∙◌, arith}
+use Rattle.std.proofs.Common.{set, ap, subst, ◌∙◌, arith}
 use Rattle.context_vector.specs.Code.Places.{IsPlace, IsGap}
 use Rattle.op_name.specs.NameData.{name_lt}
 use Rattle.context_vector.proofs.Entries.{entry_in_gap, lower_at_place, remove_at_place}
@@ -18,4 +18,4 @@ returns-in-Ok c =
 pub returns-in-Ok-2 : goal.returns-in-Ok-2
 returns-in-Ok-2 c =
     let place = subst (λ es. IsPlace es c.args.name.now c.in-Ok.at) c.as_slice.ensures.value c.in-Ok.ensures.found in
-    lower_at_place c.args.entries.now.items c.args.name.now c.args.generation c.in-Ok.at c.requires.rising place c.if-generation-eq1.false
+    ap (λ e. set c.args.entries.now.items c.in-Ok.at e) c.new.ensures ∙ lower_at_place c.args.entries.now.items c.args.name.now c.args.generation c.in-Ok.at c.requires.rising place c.if-generation-eq1.false

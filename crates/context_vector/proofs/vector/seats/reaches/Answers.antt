@@ -2,7 +2,7 @@ use Rattle.std.proofs.Common.{◌≡◌, ◌-◌, suc, Bool, true, false, not, S
 use Rattle.std.specs.Prelude.{ℕ, slice_get}
 use Rattle.std.specs.Option.{option_copied}
 use Rattle.std.proofs.lemmas.Option.{slice_get_within}
-use Rattle.op_name.specs.NameData.{NameData}
+use Rattle.op_name.specs.NameData.{NameData, name_lt}
 use Rattle.context_vector.proofs.Pieces.{last_below, last_above}
 use Rattle.context_vector.proofs.vector.seats.reaches.Goals as goal
 
@@ -21,10 +21,10 @@ pub returns-in-Some-clause-below : goal.returns-in-Some-clause-below
 returns-in-Some-clause-below c e =
     let es = c.args.piece.now in let last = c.in-Some.last.now in
     let is : slice_get es (length es - 1) ≡ Some last = subst (λ xs. slice_get xs (length xs - 1) ≡ Some last) c.as_slice.ensures (sym c.last.ensures.value ∙ ap option_copied c.in-Some.is) in
-    last_below es (length es - 1) last c.args.name.now c.requires (at_last es last is) is (sym c.is_before.ensures ∙ is_less _ e)
+    last_below es (length es - 1) last c.args.name.now c.requires (at_last es last is) is (ap (λ n. name_lt n c.args.name.now) (sym c.name.ensures) ∙ (sym c.is_before.ensures ∙ is_less _ e))
 
 pub returns-in-Some-clause-above : goal.returns-in-Some-clause-above
 returns-in-Some-clause-above c e more are =
     let es = c.args.piece.now in let last = c.in-Some.last.now in
     let is : slice_get es (length es - 1) ≡ Some last = subst (λ xs. slice_get xs (length xs - 1) ≡ Some last) c.as_slice.ensures (sym c.last.ensures.value ∙ ap option_copied c.in-Some.is) in
-    last_above es (length es - 1) last c.args.name.now more are (at_last es last is) is (sym c.is_before.ensures ∙ not_less _ e)
+    last_above es (length es - 1) last c.args.name.now more are (at_last es last is) is (ap (λ n. name_lt n c.args.name.now) (sym c.name.ensures) ∙ (sym c.is_before.ensures ∙ not_less _ e))

@@ -1,23 +1,23 @@
-use Rattle.std.proofs.Common.{◌∙◌, sym, refl, arith}
-use Rattle.std.specs.Prelude.{slice_index_or}
+use Rattle.std.proofs.Common.{◌∙◌, sym, arith}
+use Rattle.std.proofs.lemmas.List.{get_or_default}
 use Rattle.session_replay.proofs.Names.{found_here, found_later, found_range}
 use Rattle.session_replay.proofs.sites.drawing.named_at.Goals as goal
 
 pub invariant_of-result : goal.invariant_of-result
 invariant_of-result c =
     let ps = c.args.counts.now in
-    let k = c.loop-site.site-index in
-    let range = found_range ps k (slice_index_or ps k (0, 0)) c.requires c.loop-site-test.true refl in
-    (range.0, omega arith, omega (arith, range.1, c.if-left-count.true))
+    let k = c.loop-count.count-index in
+    let range = found_range ps k c.pair-site.result c.requires c.loop-count-test.true (c.pair-site.ensures ∙ (c.count-item.is ∙ get_or_default ps k c.count-item.result (0, 0) c.loop-count-test.true)) in
+    (range.0, omega arith, omega (arith, range.1, c.if-left-number.true))
 
-pub returns-then-left-count : goal.returns-then-left-count
-returns-then-left-count c =
+pub returns-then-left-number : goal.returns-then-left-number
+returns-then-left-number c =
     let ps = c.args.counts.now in
-    let k = c.loop-site.site-index in
-    sym (c.loop-site.invariant ∙ found_here ps k (slice_index_or ps k (0, 0)) c.loop-site.left c.loop-site-test.true refl c.if-left-count.true)
+    let k = c.loop-count.count-index in
+    sym (c.loop-count.invariant ∙ found_here ps k c.pair-site.result c.loop-count.left c.loop-count-test.true (c.pair-site.ensures ∙ (c.count-item.is ∙ get_or_default ps k c.count-item.result (0, 0) c.loop-count-test.true)) c.if-left-number.true)
 
-pub loop-site-preserved : goal.loop-site-preserved
-loop-site-preserved c =
+pub loop-count-preserved : goal.loop-count-preserved
+loop-count-preserved c =
     let ps = c.args.counts.now in
-    let k = c.loop-site.site-index in
-    c.loop-site.invariant ∙ found_later ps k (slice_index_or ps k (0, 0)) c.loop-site.left c.loop-site-test.true refl c.if-left-count.false
+    let k = c.loop-count.count-index in
+    c.loop-count.invariant ∙ found_later ps k c.pair-site.result c.loop-count.left c.loop-count-test.true (c.pair-site.ensures ∙ (c.count-item.is ∙ get_or_default ps k c.count-item.result (0, 0) c.loop-count-test.true)) c.if-left-number.false
