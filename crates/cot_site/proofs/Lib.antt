@@ -15,6 +15,7 @@ pub mod FirstReleases
 pub mod Made
 pub mod WorkedCases
 pub mod Cached
+pub mod Noted
 pub mod CallerLemmas
 pub mod RowForms
 pub mod Changes

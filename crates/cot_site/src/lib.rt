@@ -7,6 +7,7 @@
 
 mod judging;
 mod laws;
+mod notes;
 mod replica;
 mod site;
 
@@ -17,6 +18,6 @@ pub use laws::{
     releases_are_few, releases_keep_histories, releases_never_wait, releases_settle,
     settled_states_have_none_ready, settled_states_stay, verdicts_are_exact,
 };
-pub use replica::CACHED_FORMS;
+pub use notes::CACHED_FORMS;
 pub use site::Site;
 pub use site_answers::{Local, Release, Verdict};

@@ -1,6 +1,6 @@
 //! The integrated operations of a site, with what they made of the text.
 
-ghost use Rattle.std.specs.Prelude.{◌≡◌, ◌<◌, ◌≤◌, ◌↔◌, ◌++◌, ◌∷◌, true, false, List, [], IsTrue, IsNone, OnOk, OnErr, IfOk, IfSome, length, option_map, slice_get, vec_len, vec_capacity};
+ghost use Rattle.std.specs.Prelude.{◌≡◌, ◌+◌, ◌<◌, ◌≤◌, ◌↔◌, ◌++◌, ◌∷◌, true, false, List, [], IsTrue, IsNone, OnOk, OnErr, IfOk, IfSome, length, option_map, slice_get, vec_len, vec_capacity};
 ghost use Rattle.op_name.specs.declared.member.Member.{Member};
 ghost use Rattle.op_name.specs.declared.member.Member.TheVariants.{Original};
 ghost use Rattle.context_diff.specs.Bases.{base_has};
@@ -17,10 +17,7 @@ ghost use Rattle.form_cache.specs.Entries.{form_at, used};
 ghost use Rattle.ttf_form.specs.Cells.{FitsCells};
 ghost use Rattle.ttf_form.specs.declared.form.Form.{Form};
 ghost use Rattle.ttf_form.specs.declared.form.Form.TheVariants.{Ins as Insert};
-ghost use Rattle.transform_rec.specs.Sets.{plus};
-ghost use Rattle.transform_rec.specs.Family.{Family};
 ghost use Rattle.transform_rec.specs.Derived.{Derived, IsOnlyFormAt};
-ghost use Rattle.transform_rec.specs.Entries.{AreForms};
 ghost use Rattle.transform_rec.specs.Histories.{family_in, MayBeAddedTo};
 ghost use Rattle.undo_group.specs.BaseForms.{base_form};
 ghost use Rattle.form_rows.specs.Names.{insert_of};
@@ -28,11 +25,14 @@ ghost use Rattle.form_rows.specs.Kept.{IsFormWith};
 ghost use Rattle.form_rows.specs.Stretches.{AreNoted};
 ghost use Rattle.cot_site.specs.Commands.{place_of_shown, place_behind};
 ghost use Rattle.cot_site.specs.Sites.{AreExecuted, AreCached, IsFormOf, KeepsForms};
-ghost use Rattle.cot_site.specs.Code.Replicas.{AreRowsOf, IsBefore, IsExecutedAsBefore, IsKeptBefore, IsStep, IsNextAfter, before_last};
+ghost use Rattle.cot_site.specs.Code.Notes.{AreFormsNoted};
+ghost use Rattle.cot_site.specs.declared.notes.TheConstants.{CACHED_FORMS};
+ghost use Rattle.cot_site.specs.Code.Replicas.{AreRowsOf, IsExecutedAsBefore, IsLastMember, IsStep, IsNextAfter, KnowsAll, KnowsBefore, before_last};
 
+use crate::notes::{At, Notes};
 use context_diff::{Book, Op};
 use context_vector::Vector;
-use form_cache::{Cache, Key};
+use form_cache::Key;
 use form_rows::{Passages, Rows, executed_group, executed_original};
 use op_name::{Member, Memory, Name};
 use std::alloc::Global;
@@ -42,11 +42,8 @@ use ttf_form::{Bases, Cover, Form, Ins};
 use undo_group::TextBases;
 use visible_view::{cell_of_visible, model_place, visible_len, write_text};
 
-/// The greatest number of forms in a site's cache.
-pub const CACHED_FORMS: u32 = 64;
-
 /// A valid history, the form in which each of its operations was executed, the cells that these forms gave, the passages
-/// and rows out of which the next forms are found, and forms that were computed on the way. A site hands its calls on what it has
+/// and rows out of which the next forms are found, and forms that were found on the way. A site hands its calls on what it has
 /// integrated to it: what ties these parts together is kept here, and a site adds its number and what waits.
 #[derive(Drop)]
 pub struct Replica {
@@ -55,36 +52,36 @@ pub struct Replica {
     passages: Passages,
     cells: Cells,
     rows: Rows<Form>,
-    cache: Cache<Form>,
+    notes: Notes,
 }
 
 impl Model for Replica {
     ghost use Rattle.std.specs.Prelude.{◌≡◌};
     ghost use Rattle.form_rows.specs.Stretches.{AreNoted};
     ghost use Rattle.cot_site.specs.Sites.{AreCached};
+    ghost use Rattle.cot_site.specs.Code.Notes.{entries_of, AreTold};
     ghost use Rattle.cot_site.specs.Code.Replicas.{ReplicaData, IsExecuted, AreRowsOf};
-    ghost use Rattle.cot_site.specs.declared.replica.TheConstants.{CACHED_FORMS};
 
     ghost Value = { ReplicaData };
 
-    ghost view = { λ r. record { history = r.book.ops; forms = r.forms.items; entries = r.cache.entries } };
+    ghost view = { λ r. record { history = r.book.ops; forms = r.forms.items; entries = entries_of r.book.ops r.notes } };
 
-    ghost invariant = { λ r. IsExecuted r.book.ops r.forms.items r.cells.cells × AreCached r.book.ops r.cache.entries × (r.cache.capacity ≡ CACHED_FORMS) × AreRowsOf r.book.ops r.rows.kept.items × AreNoted r.passages r.forms.items };
+    ghost invariant = { λ r. IsExecuted r.book.ops r.forms.items r.cells.cells × AreCached r.book.ops (entries_of r.book.ops r.notes) × AreTold r.book.ops r.notes × AreRowsOf r.book.ops r.rows.kept.items × AreNoted r.passages r.forms.items };
 }
 
 impl Replica {
-    /// Nothing is integrated, and no form is in the cache.
+    /// Nothing is integrated, and no form is noted.
     pub fn new(alloc: Global) -> Result<Replica, Memory>
         ensures { IfOk result (λ r. r ≡ record { history = []; forms = []; entries = [] }) }
     {
-        let cache = Cache::new(alloc, CACHED_FORMS)?;
+        let notes = Notes::new(alloc)?;
         Ok(Replica {
             book: Book::new(alloc),
             forms: Vec::new(alloc),
             passages: Passages::new(alloc),
             cells: Cells::new(alloc),
             rows: Rows::new(alloc),
-            cache,
+            notes,
         })
     }
 
@@ -97,7 +94,7 @@ impl Replica {
         ensures bounded { length self.now.entries ≤ CACHED_FORMS }
     {
         self.book.known();
-        self.cache.known();
+        self.notes.known();
     }
 
     /// The integrated operations.
@@ -123,8 +120,7 @@ impl Replica {
         self.forms.get(i as usize)
     }
 
-    /// The form in the cache of the key's member at the key's context; None exactly where the cache has no
-    /// entry of the key. It takes no memory.
+    /// The form that was noted of the key's member at the key's context; None exactly where none was. It takes no memory.
     pub fn cached(&mut self, key: &Key) -> Option<Form>
         ensures form { result ≡ form_at self.old.entries key.now }
         ensures derived { IfSome result (IsFormOf self.old.history key.now) }
@@ -132,7 +128,7 @@ impl Replica {
         ensures history { self.new.history ≡ self.old.history }
         ensures executed { self.new.forms ≡ self.old.forms }
     {
-        self.cache.get(key)
+        self.notes.get(&self.book, key)
     }
 
     /// The number of shown characters.
@@ -179,7 +175,7 @@ impl Replica {
     }
 
     /// Appends the operation, which is next, and executes its form at the members that were integrated before
-    /// it. After out of memory the history, the forms and the cells are as before, and the cache has its old entries or
+    /// it. After out of memory the history, the forms and the cells are as before, and the notes are the old ones or
     /// none.
     pub fn integrate(&mut self, op: Op) -> Result<(), Memory>
         requires { IsNext self.old.history (data_of op) }
@@ -189,8 +185,8 @@ impl Replica {
     {
         self.book.known();
         let op = with_shared_names(&self.book, op);
-        let before = members_before(&self.book, &op)?;
-        self.integrate_after(op, before)
+        let alone = knows_all(&self.book, &op);
+        self.integrate_after(op, alone)
     }
 
     /// The same of an operation whose context is all members: one that was made here. So contexts aren't compared, and
@@ -202,13 +198,13 @@ impl Replica {
         ensures forms { OnOk result (KeepsForms self.old.forms self.new.forms) }
         ensures err { OnErr result (IsExecutedAsBefore self.old self.new) }
     {
-        self.integrate_after(op, None)
+        self.integrate_after(op, true)
     }
 
-    // The same, with what is kept of the members before the operation.
-    fn integrate_after(&mut self, op: Op, before: Option<Vector>) -> Result<(), Memory>
+    // The same, where it is told whether the operation knows all members before it, which says nothing of an undo.
+    fn integrate_after(&mut self, op: Op, knows_all: bool) -> Result<(), Memory>
         requires next { IsNext self.old.history (data_of op) }
-        requires before { IsKeptBefore (context_of_all self.old.history) (data_of op) before }
+        requires knows { IsTrue knows_all → KnowsAll (context_of_all self.old.history) (data_of op) }
         ensures history { OnOk result (self.new.history ≡ self.old.history ++ data_of op ∷ []) }
         ensures forms { OnOk result (KeepsForms self.old.forms self.new.forms) }
         ensures err { OnErr result (IsExecutedAsBefore self.old self.new) }
@@ -220,20 +216,20 @@ impl Replica {
         self.book.push(op);
         match execute(
             &self.book,
-            &mut self.cache,
+            &mut self.notes,
             &mut self.rows,
             &mut self.forms,
             &mut self.passages,
             &mut self.cells,
             &member,
-            before,
+            knows_all,
         ) {
             Ok(()) => {
                 self.book.share();
                 Ok(())
             }
             Err(want) => {
-                take_back(&mut self.book, &mut self.cache, &mut self.rows);
+                take_back(&mut self.book, &mut self.notes, &mut self.rows);
                 Err(want)
             }
         }
@@ -269,16 +265,11 @@ fn with_shared_names(book: &Book, op: Op) -> Op
     op
 }
 
-// The members of the book, where the operation comes next and its form is to be found at them: not where an insert or a
-// delete was made after just these, nor for an undo.
-fn members_before(book: &Book, op: &Op) -> Result<Option<Vector>, Memory>
-    ensures { IfOk result (IsKeptBefore book.now.have.set (data_of op.now)) }
+// Whether the operation, which comes next, was made after just the members of the book, or is an undo: then its form needs no row.
+fn knows_all(book: &Book, op: &Op) -> bool
+    ensures { IsTrue result → KnowsAll book.now.have.set (data_of op.now) }
 {
-    if is_undo(op) || are_same(op.context(), book.have()) {
-        return Ok(None);
-    }
-    let members = book.have().kept()?;
-    Ok(Some(members))
+    is_undo(op) || are_same(op.context(), book.have())
 }
 
 // Whether the operation is an undo or a redo.
@@ -288,56 +279,53 @@ fn is_undo(op: &Op) -> bool
     matches!(op, Op::Undo { .. })
 }
 
-// Takes the last operation out, and with it all rows and all forms of the cache: their members or contexts may have it.
-fn take_back(book: &mut Book, cache: &mut Cache<Form>, rows: &mut Rows<Form>)
+// Takes the last operation out, and with it all rows and notes: their members may have it.
+fn take_back(book: &mut Book, notes: &mut Notes, rows: &mut Rows<Form>)
     requires { HasRoomToPop book.old }
     ensures ops { (h : List OpData) (o : OpData) → book.old.ops ≡ h ++ o ∷ [] → book.new.ops ≡ h }
-    ensures entries { cache.new.entries ≡ [] }
+    ensures notes { notes.new ≡ [] }
     ensures rows { rows.new.kept.items ≡ [] }
-    ensures capacity { cache.new.capacity ≡ cache.old.capacity }
 {
     rows.clear();
-    cache.clear();
+    notes.clear();
     book.pop();
 }
 
 // Executes the form of the last member of the book at the members before it, and appends it to the forms, which have a
-// spare place. After
-// out of memory the forms and the cells are as they were. Each entry of the cache stays the form of its key.
+// spare place. After out of memory the forms and the cells are as they were. Each note stays a form.
 fn execute(
     book: &Book,
-    cache: &mut Cache<Form>,
+    notes: &mut Notes,
     rows: &mut Rows<Form>,
     forms: &mut Vec<Form>,
     passages: &mut Passages,
     cells: &mut Cells,
     member: &Member,
-    before: Option<Vector>,
+    knows_all: bool,
 ) -> Result<(), Memory>
     requires room { vec_len forms.old < vec_capacity forms.old }
     requires added { MayBeAddedTo book.now.ops (before_last book.now.ops) member.now }
     requires next { IsNextAfter book.now.ops member.now (has (before_last book.now.ops)) forms.old.items rows.old.kept.items }
-    requires before { IsBefore book.now.ops member.now before }
+    requires knows { IsTrue knows_all → KnowsBefore book.now.ops member.now }
     requires noted { AreNoted passages.old forms.old.items }
-    requires cached { AreCached book.now.ops cache.old.entries }
+    requires kept { AreFormsNoted book.now.ops notes.old }
     requires fits { (f : Form) → Derived form_over (family_in book.now.ops (base_form book.now.ops)) member.now (has (before_last book.now.ops)) f → FitsCells cells.old.cells f }
     ensures step { OnOk result (IsStep book.now.ops member.now (has (before_last book.now.ops)) forms.old.items forms.new.items cells.old.cells cells.new.cells) }
     ensures rows { OnOk result (AreRowsOf book.now.ops rows.new.kept.items) }
     ensures forms { OnErr result (forms.new.items ≡ forms.old.items) }
     ensures cells { OnErr result (cells.new.cells ≡ cells.old.cells) }
     ensures noted { AreNoted passages.new forms.new.items }
-    ensures cached { AreCached book.now.ops cache.new.entries }
-    ensures capacity { cache.new.capacity ≡ cache.old.capacity }
+    ensures kept { AreFormsNoted book.now.ops notes.new }
 {
     match form_with_room(
         book,
-        cache,
+        notes,
         rows,
         cells,
         forms.as_slice(),
         passages,
         member,
-        before,
+        knows_all,
     ) {
         Ok(form) => {
             cells.apply(&form);
@@ -365,28 +353,27 @@ fn append(forms: &mut Vec<Form>, form: &Form)
 // The form of the last member of the book at the members before it, with room among the cells to apply it. The cells stay as they are.
 fn form_with_room(
     book: &Book,
-    cache: &mut Cache<Form>,
+    notes: &mut Notes,
     rows: &mut Rows<Form>,
     cells: &mut Cells,
     forms: &[Form],
     passages: &mut Passages,
     member: &Member,
-    before: Option<Vector>,
+    knows_all: bool,
 ) -> Result<Form, Memory>
     requires noted { AreNoted passages.old forms.now }
     requires added { MayBeAddedTo book.now.ops (before_last book.now.ops) member.now }
     requires next { IsNextAfter book.now.ops member.now (has (before_last book.now.ops)) forms.now rows.old.kept.items }
-    requires before { IsBefore book.now.ops member.now before }
-    requires cached { AreCached book.now.ops cache.old.entries }
+    requires knows { IsTrue knows_all → KnowsBefore book.now.ops member.now }
+    requires kept { AreFormsNoted book.now.ops notes.old }
     ensures form { IfOk result (Derived form_over (family_in book.now.ops (base_form book.now.ops)) member.now (has (before_last book.now.ops))) }
     ensures rows { OnOk result (AreRowsOf book.now.ops rows.new.kept.items) }
     ensures room { IfOk result (HasRoomFor cells.new) }
     ensures cells { cells.new.cells ≡ cells.old.cells }
     ensures noted { AreNoted passages.new forms.now }
-    ensures cached { AreCached book.now.ops cache.new.entries }
-    ensures capacity { cache.new.capacity ≡ cache.old.capacity }
+    ensures kept { AreFormsNoted book.now.ops notes.new }
 {
-    let form = form_at(book, cache, rows, forms, passages, member, before)?;
+    let form = form_at(book, notes, rows, forms, passages, member, knows_all)?;
     cells.reserve(&form)?;
     Ok(form)
 }
@@ -395,26 +382,25 @@ fn form_with_room(
 // original, was executed.
 fn form_at(
     book: &Book,
-    cache: &mut Cache<Form>,
+    notes: &mut Notes,
     rows: &mut Rows<Form>,
     forms: &[Form],
     passages: &mut Passages,
     member: &Member,
-    before: Option<Vector>,
+    knows_all: bool,
 ) -> Result<Form, Memory>
     requires noted { AreNoted passages.old forms.now }
     requires added { MayBeAddedTo book.now.ops (before_last book.now.ops) member.now }
     requires next { IsNextAfter book.now.ops member.now (has (before_last book.now.ops)) forms.now rows.old.kept.items }
-    requires before { IsBefore book.now.ops member.now before }
-    requires cached { AreCached book.now.ops cache.old.entries }
+    requires knows { IsTrue knows_all → KnowsBefore book.now.ops member.now }
+    requires kept { AreFormsNoted book.now.ops notes.old }
     ensures form { IfOk result (Derived form_over (family_in book.now.ops (base_form book.now.ops)) member.now (has (before_last book.now.ops))) }
     ensures rows { OnOk result (AreRowsOf book.now.ops rows.new.kept.items) }
     ensures noted { AreNoted passages.new forms.now }
-    ensures cached { AreCached book.now.ops cache.new.entries }
-    ensures capacity { cache.new.capacity ≡ cache.old.capacity }
+    ensures kept { AreFormsNoted book.now.ops notes.new }
 {
     match member {
-        Member::Original(name) => original_form(book, cache, rows, forms, name, before),
+        Member::Original(name) => original_form(book, notes, rows, forms, name, knows_all),
         Member::Group(target, generation) => Ok(executed_group(
             book,
             target,
@@ -429,28 +415,29 @@ fn form_at(
 // the form that the rows give.
 fn original_form(
     book: &Book,
-    cache: &mut Cache<Form>,
+    notes: &mut Notes,
     rows: &mut Rows<Form>,
     forms: &[Form],
     name: &Name,
-    before: Option<Vector>,
+    knows_all: bool,
 ) -> Result<Form, Memory>
     requires known { is_known book.now.ops (Original name.now) ≡ true }
     requires next { IsNextAfter book.now.ops (Original name.now) (has (before_last book.now.ops)) forms.now rows.old.kept.items }
-    requires before { IsBefore book.now.ops (Original name.now) before }
-    requires cached { AreCached book.now.ops cache.old.entries }
+    requires knows { IsTrue knows_all → KnowsBefore book.now.ops (Original name.now) }
+    requires kept { AreFormsNoted book.now.ops notes.old }
     ensures form { IfOk result (Derived form_over (family_in book.now.ops (base_form book.now.ops)) (Original name.now) (has (before_last book.now.ops))) }
     ensures rows { OnOk result (AreRowsOf book.now.ops rows.new.kept.items) }
-    ensures cached { AreCached book.now.ops cache.new.entries }
-    ensures capacity { cache.new.capacity ≡ cache.old.capacity }
+    ensures kept { AreFormsNoted book.now.ops notes.new }
 {
-    book.known();
-    match book.original(name) {
-        Some(op) => match before {
-            Some(to) => computed_form(book, cache, rows, forms, name, op.context(), to),
-            None => Ok(base_of(book, name)),
-        },
-        None => unreachable!(),
+    if knows_all {
+        return Ok(base_of(book, name));
+    }
+    match executed_original(book, name, forms, rows) {
+        Ok(made) => {
+            note_found(book, notes, name, made.0, made.1);
+            Ok(made.0)
+        }
+        Err(want) => Err(want),
     }
 }
 
@@ -469,107 +456,54 @@ fn base_of(book: &Book, name: &Name) -> Form
     TextBases::new(book).base(&Member::Original(*name))
 }
 
-// The form of an original, the last member of the book, at the members before it by the rows. The cache keeps it, and
-// the form of the first member of its row.
-fn computed_form(
-    book: &Book,
-    cache: &mut Cache<Form>,
-    rows: &mut Rows<Form>,
-    forms: &[Form],
-    name: &Name,
-    context: &Vector,
-    to: Vector,
-) -> Result<Form, Memory>
-    requires next { IsNextAfter book.now.ops (Original name.now) (has (before_last book.now.ops)) forms.now rows.old.kept.items }
-    requires context { (y : Member) → has context.now.set y ≡ base_has book.now.ops (Original name.now) y }
-    requires to { to.set ≡ before_last book.now.ops }
-    requires cached { AreCached book.now.ops cache.old.entries }
-    ensures form { IfOk result (Derived form_over (family_in book.now.ops (base_form book.now.ops)) (Original name.now) (has (before_last book.now.ops))) }
-    ensures rows { OnOk result (AreRowsOf book.now.ops rows.new.kept.items) }
-    ensures cached { AreCached book.now.ops cache.new.entries }
-    ensures capacity { cache.new.capacity ≡ cache.old.capacity }
-{
-    match executed_original(book, name, forms, rows) {
-        Ok(made) => {
-            keep_form(cache, name, to, made.0);
-            keep_first(book, cache, name, context, made.1);
-            Ok(made.0)
-        }
-        Err(want) => Err(want),
-    }
-}
-
-// Keeps the form of an original at a context, if memory suffices.
-fn keep_form(cache: &mut Cache<Form>, name: &Name, context: Vector, form: Form)
-    ensures forms { (b : Family Form) → AreForms form_over b cache.old.entries → IsOnlyFormAt form_over b (Original name.now) (has context.set) form → AreForms form_over b cache.new.entries }
-    ensures capacity { cache.new.capacity ≡ cache.old.capacity }
-{
-    let member = Member::Original(*name);
-    cache.keep(Key { member, context }, form);
-}
-
-// Keeps the first form of the row of an original, which is the form of its insert at the original's context with the
-// original, if all that the insert was made after is there.
-fn keep_first(
-    book: &Book,
-    cache: &mut Cache<Form>,
-    name: &Name,
-    context: &Vector,
-    first: Option<Form>,
-)
+// Notes what was found of an original, the last member of the book: its form at the members before it, and the first form of its
+// row, which is that of an insert at the original's context with the original, if all that the insert was made after is there.
+fn note_found(book: &Book, notes: &mut Notes, name: &Name, form: Form, first: Option<Form>)
+    requires last { IsLastMember book.now.ops (Original name.now) }
+    requires form { IsOnlyFormAt form_over (family_in book.now.ops (base_form book.now.ops)) (Original name.now) (has (before_last book.now.ops)) form }
     requires first { IfSome first (IsFormWith form_over insert_of (family_in book.now.ops (base_form book.now.ops)) (Original name.now)) }
-    requires context { (y : Member) → has context.now.set y ≡ base_has book.now.ops (Original name.now) y }
-    requires cached { AreCached book.now.ops cache.old.entries }
-    ensures cached { AreCached book.now.ops cache.new.entries }
-    ensures capacity { cache.new.capacity ≡ cache.old.capacity }
+    requires kept { AreFormsNoted book.now.ops notes.old }
+    ensures kept { AreFormsNoted book.now.ops notes.new }
 {
-    match first {
-        Some(form) => match form {
-            Form::Ins(ins) => keep_insert(book, cache, name, context, &ins),
-            Form::Cover(_) => {}
-        },
-        None => {}
+    let last = last_place(book);
+    notes.keep(name, At::Before(last), &form);
+    if let Some(Form::Ins(ins)) = first {
+        note_insert(book, notes, name, last, ins);
     }
 }
 
-// The same of an insert.
-fn keep_insert(book: &Book, cache: &mut Cache<Form>, name: &Name, context: &Vector, ins: &Ins)
-    requires first { IsFormWith form_over insert_of (family_in book.now.ops (base_form book.now.ops)) (Original name.now) (Insert ins.now) }
-    requires context { (y : Member) → has context.now.set y ≡ base_has book.now.ops (Original name.now) y }
-    requires cached { AreCached book.now.ops cache.old.entries }
-    ensures cached { AreCached book.now.ops cache.new.entries }
-    ensures capacity { cache.new.capacity ≡ cache.old.capacity }
-{
-    match with_original(context, name) {
-        Some(with) => {
-            if has_base(book, &ins.name, &with) {
-                keep_form(cache, &ins.name, with, Form::Ins(*ins));
-            }
-        }
-        None => {}
-    }
-}
-
-// The context with the original, the next of its site; None also out of memory.
-fn with_original(context: &Vector, name: &Name) -> Option<Vector>
-    ensures { IfSome result (λ v. (y : Member) → has v.set y ≡ plus (has context.now.set) (Original name.now) y) }
-{
-    if context.count(name.site) + 1 != name.number {
-        return None;
-    }
-    match context.with_original(name) {
-        Ok(with) => Some(with),
-        Err(_) => None,
-    }
-}
-
-// Whether the context has all that an original of the book was made after.
-fn has_base(book: &Book, name: &Name, context: &Vector) -> bool
-    ensures { IsTrue result → (y : Member) → base_has book.now.ops (Original name.now) y ≡ true → has context.now.set y ≡ true }
+// Notes the form of an insert at the context of an original with that, the last member of the book, if all that the insert was made
+// after is there.
+fn note_insert(book: &Book, notes: &mut Notes, name: &Name, last: u32, ins: Ins)
+    requires last { IsLastMember book.now.ops (Original name.now) }
+    requires place { last + 1 ≡ length book.now.ops }
+    requires first { IsFormWith form_over insert_of (family_in book.now.ops (base_form book.now.ops)) (Original name.now) (Insert ins) }
+    requires kept { AreFormsNoted book.now.ops notes.old }
+    ensures kept { AreFormsNoted book.now.ops notes.new }
 {
     book.known();
-    match book.original(name) {
-        Some(op) => context.covers(op.context()),
-        None => false,
+    if knew_base(book, name, &ins.name) {
+        let named = ins.name;
+        notes.keep(&named, At::With(last), &Form::Ins(ins));
+    }
+}
+
+// The place of the last operation of the book, which has one.
+fn last_place(book: &Book) -> u32
+    requires { 1 ≤ length book.now.ops }
+    ensures { result + 1 ≡ length book.now.ops }
+{
+    book.known();
+    book.len() - 1
+}
+
+// Whether one original of the book was made after all that another one was made after.
+fn knew_base(book: &Book, name: &Name, other: &Name) -> bool
+    ensures { IsTrue result → (y : Member) → base_has book.now.ops (Original other.now) y ≡ true → base_has book.now.ops (Original name.now) y ≡ true }
+{
+    book.known();
+    match (book.original(name), book.original(other)) {
+        (Some(op), Some(earlier)) => op.context().covers(earlier.context()),
+        _ => false,
     }
 }

@@ -10,7 +10,8 @@ ghost use Rattle.form_cache.specs.Entries.{form_at, used};
 ghost use Rattle.cot_site.specs.Sites.{AreExecuted, AreCached, AllFormed, IsFormOf, state_of};
 
 use crate::judging::verdict_on;
-use crate::replica::{CACHED_FORMS, Replica};
+use crate::notes::CACHED_FORMS;
+use crate::replica::Replica;
 use causal_gate::Pool;
 use context_diff::{Book, Op};
 use context_vector::Vector;

@@ -1,10 +1,9 @@
 -- An executed history: its forms, the cells that they give, and the entries of the cache.
-use Rattle.std.specs.Prelude.{◌≡◌, ◌-◌, Bool, true, List, [], ◌∷◌, ◌++◌, Option, Some, None, length, take}
+use Rattle.std.specs.Prelude.{◌≡◌, ◌-◌, Bool, true, List, [], ◌∷◌, ◌++◌, ◌≤◌, Some, length, slice_get, take}
 use Rattle.op_name.specs.declared.member.Member.{Member}
 use Rattle.op_name.specs.declared.member.Member.TheVariants.{Original}
 use Rattle.op_name.specs.NameData.{NameData}
 use Rattle.context_vector.specs.Contexts.{ContextData, has}
-use Rattle.context_vector.specs.Vectors.{VectorData}
 use Rattle.context_diff.specs.Operations.{OpData, context_of, is_original}
 use Rattle.context_diff.specs.Histories.{context_of_all, members_in}
 use Rattle.context_diff.specs.Bases.{base_has}
@@ -47,16 +46,17 @@ pub record IsNextAfter (h : List OpData) (m : Member) (to : Member → Bool) (fs
 abbrev pub before_last : List OpData → ContextData
 before_last h = context_of_all (take (length h - 1) h)
 
--- what is kept of a set of members when an operation comes next after them: nothing where it is an undo, or has them as its
--- context
-abbrev pub IsKeptBefore : ContextData → OpData → Option VectorData → Type 0
-IsKeptBefore c o None = is_original o ≡ true → context_of o ≡ c
-IsKeptBefore c o (Some v) = v.set ≡ c
+-- the operation, if it is an original, was made after just these members
+abbrev pub KnowsAll : ContextData → OpData → Type 0
+KnowsAll c o = is_original o ≡ true → context_of o ≡ c
 
--- the same of the members before the last one, m: where nothing is kept and m is an original, they are its base context
-abbrev pub IsBefore : List OpData → Member → Option VectorData → Type 0
-IsBefore h m None = (n : NameData) (y : Member) → m ≡ Original n → has (before_last h) y ≡ base_has h m y
-IsBefore h m (Some v) = v.set ≡ before_last h
+-- the last member, if it is an original, was made after just the members before it
+abbrev pub KnowsBefore : List OpData → Member → Type 0
+KnowsBefore h m = (n : NameData) (y : Member) → m ≡ Original n → has (before_last h) y ≡ base_has h m y
+
+-- m is the member of the last operation
+abbrev pub IsLastMember : List OpData → Member → Type 0
+IsLastMember h m = (1 ≤ length h) × (slice_get (members_in h) (length h - 1) ≡ Some m)
 
 -- an executed history, with the entries of a cache
 pub record ReplicaData : Type 0 where

@@ -9,7 +9,7 @@ use Rattle.transform_rec.specs.Derived.{Derived}
 use Rattle.transform_rec.specs.Histories.{family_in}
 use Rattle.transform_rec.proofs.CallerLemmas.{same_set}
 use Rattle.undo_group.specs.BaseForms.{base_form}
-use Rattle.cot_site.specs.Code.Replicas.{IsBefore, IsNextAfter, before_last}
+use Rattle.cot_site.specs.Code.Replicas.{IsNextAfter, KnowsBefore, before_last}
 use Rattle.cot_site.proofs.RowForms.{rows_after}
 use Rattle.cot_site.proofs.replica.form_at.Goals as goal
 
@@ -19,8 +19,8 @@ original_form-requires-clause-known c = subst (λ (x : Member). is_known c.args.
 pub original_form-requires-clause-next : goal.original_form-requires-clause-next
 original_form-requires-clause-next c = subst (λ (x : Member). IsNextAfter c.args.book.now.ops x (has (before_last c.args.book.now.ops)) c.args.forms.now c.args.rows.now.kept.items) c.in-Original.is c.requires.next
 
-pub original_form-requires-clause-before : goal.original_form-requires-clause-before
-original_form-requires-clause-before c = subst (λ (x : Member). IsBefore c.args.book.now.ops x c.args.before) c.in-Original.is c.requires.before
+pub original_form-requires-clause-knows : goal.original_form-requires-clause-knows
+original_form-requires-clause-knows c sure = subst (λ (x : Member). KnowsBefore c.args.book.now.ops x) c.in-Original.is (c.requires.knows sure)
 
 pub returns-in-Original-clause-form : goal.returns-in-Original-clause-form
 returns-in-Original-clause-form c =

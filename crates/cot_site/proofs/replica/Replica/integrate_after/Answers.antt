@@ -4,21 +4,21 @@ use Rattle.context_diff.specs.Histories.{IsNext, context_of_all}
 use Rattle.context_diff.specs.Ops.{data_of}
 use Rattle.ttf_form.specs.declared.form.Form.{Form}
 use Rattle.form_rows.specs.Stretches.{AreNoted}
-use Rattle.cot_site.specs.declared.replica.TheConstants.{CACHED_FORMS}
 use Rattle.cot_site.specs.Sites.{AreCached}
-use Rattle.cot_site.specs.Code.Replicas.{ReplicaData, IsExecuted, IsKeptBefore, AreRowsOf, before_last}
+use Rattle.cot_site.specs.Code.Replicas.{ReplicaData, IsExecuted, AreRowsOf, KnowsAll, before_last}
 use Rattle.cot_site.proofs.Executions.{added_at, next_after_at, fits_at, step_at, executed_same}
-use Rattle.cot_site.proofs.Cached.{cached_same, cached_more, cached_none}
-use Rattle.cot_site.proofs.RowForms.{before_last_is, kept_before, no_rows, rows_same}
+use Rattle.cot_site.specs.Code.Notes.{entries_of, AreTold}
+use Rattle.cot_site.proofs.Noted.{notes_more, notes_none, notes_same}
+use Rattle.cot_site.proofs.RowForms.{before_last_is, knows_before, no_rows, rows_same}
 use Rattle.cot_site.proofs.replica.Replica.integrate_after.Goals as goal
 
 pub invariant_of-self-in_err-reserve-2 : goal.invariant_of-self-in_err-reserve-2
 invariant_of-self-in_err-reserve-2 c =
     let cs = c.self.inside.cells.cells in
-    let es = c.self.inside.cache.entries in (
+    let kept = notes_same c.self.inside.book.ops c.reserve-2.new.self.ops c.self.inside.notes c.reserve-2.ensures.ops (c.self.invariant.1, c.self.invariant.2) in (
       executed_same c.self.inside.book.ops c.reserve-2.new.self.ops c.self.inside.forms.items c.reserve.new.self.items cs cs c.self.invariant.0 c.reserve-2.ensures.ops c.reserve.ensures.items (λ i. cs),
-      cached_same c.self.inside.book.ops c.reserve-2.new.self.ops es es c.self.invariant.1 c.reserve-2.ensures.ops (λ i. es),
-      c.self.invariant.2,
+      kept.0,
+      kept.1,
       rows_same c.self.inside.book.ops c.reserve-2.new.self.ops c.self.inside.rows.kept.items c.self.invariant.3 c.reserve-2.ensures.ops,
       subst (λ (fs : List Form). AreNoted c.self.inside.passages fs) (sym c.reserve.ensures.items) c.self.invariant.4,
     )
@@ -44,14 +44,14 @@ execute-requires-clause-next c =
     let before = before_last_is h o c.push.new.self.ops c.known.ensures.valid next grown in
     next_after_at h o c.push.new.self.ops (before_last c.push.new.self.ops) c.member-member.result c.self.inside.forms.items c.reserve.new.self.items c.self.inside.cells.cells c.self.inside.rows.kept.items c.known.ensures.valid next grown before c.member-member.ensures.member c.self.invariant.0 c.reserve.ensures.items c.self.invariant.3
 
-pub execute-requires-clause-before : goal.execute-requires-clause-before
-execute-requires-clause-before c =
+pub execute-requires-clause-knows : goal.execute-requires-clause-knows
+execute-requires-clause-knows c sure =
     let h = c.self.inside.book.ops in
     let o = data_of c.args.op in
     let next = subst (λ (r : ReplicaData). IsNext r.history o) (sym c.self.view_is) c.requires.next in
     let grown : c.push.new.self.ops ≡ h ++ o ∷ [] = c.push.ensures.ops ∙ ap (λ (l : List OpData). l ++ o ∷ []) c.reserve-2.ensures.ops in
-    let kept = subst (λ (r : ReplicaData). IsKeptBefore (context_of_all r.history) o c.args.before) (sym c.self.view_is) c.requires.before in
-    kept_before h o c.push.new.self.ops c.known.ensures.valid next grown (context_of_all h) c.member-member.result c.args.before refl c.member-member.ensures.member kept
+    let knows = subst (λ (r : ReplicaData). KnowsAll (context_of_all r.history) o) (sym c.self.view_is) (c.requires.knows sure) in
+    knows_before h o c.push.new.self.ops c.known.ensures.valid next grown (context_of_all h) c.member-member.result refl c.member-member.ensures.member knows
 
 pub execute-requires-clause-fits : goal.execute-requires-clause-fits
 execute-requires-clause-fits c =
@@ -62,13 +62,13 @@ execute-requires-clause-fits c =
     let before = before_last_is h o c.push.new.self.ops c.known.ensures.valid next grown in
     fits_at h o c.push.new.self.ops (before_last c.push.new.self.ops) c.member-member.result c.self.inside.forms.items c.self.inside.cells.cells c.known.ensures.valid next grown before c.member-member.ensures.member c.self.invariant.0
 
-pub execute-requires-clause-cached : goal.execute-requires-clause-cached
-execute-requires-clause-cached c =
+pub execute-requires-clause-kept : goal.execute-requires-clause-kept
+execute-requires-clause-kept c =
     let h = c.self.inside.book.ops in
     let o = data_of c.args.op in
     let next = subst (λ (r : ReplicaData). IsNext r.history o) (sym c.self.view_is) c.requires.next in
     let grown : c.push.new.self.ops ≡ h ++ o ∷ [] = c.push.ensures.ops ∙ ap (λ (l : List OpData). l ++ o ∷ []) c.reserve-2.ensures.ops in
-    cached_more h o c.push.new.self.ops c.self.inside.cache.entries c.known.ensures.valid next grown c.self.invariant.1
+    notes_more h o c.push.new.self.ops c.self.inside.notes c.known.ensures.valid next grown (c.self.invariant.1, c.self.invariant.2)
 
 pub invariant_of-self-in-Ok : goal.invariant_of-self-in-Ok
 invariant_of-self-in-Ok c =
@@ -78,18 +78,19 @@ invariant_of-self-in-Ok c =
     let grown : c.push.new.self.ops ≡ h ++ o ∷ [] = c.push.ensures.ops ∙ ap (λ (l : List OpData). l ++ o ∷ []) c.reserve-2.ensures.ops in
     let before = before_last_is h o c.push.new.self.ops c.known.ensures.valid next grown in
     let made = step_at h o c.push.new.self.ops (before_last c.push.new.self.ops) c.member-member.result c.self.inside.forms.items c.reserve.new.self.items c.execute.new.forms.items c.self.inside.cells.cells c.execute.new.cells.cells c.known.ensures.valid next grown before c.member-member.ensures.member c.self.invariant.0 c.reserve.ensures.items c.in-Ok.ensures.step in
-    subst (λ (k : List OpData). IsExecuted k c.execute.new.forms.items c.execute.new.cells.cells × AreCached k c.execute.new.cache.entries × (c.execute.new.cache.capacity ≡ CACHED_FORMS) × AreRowsOf k c.execute.new.rows.kept.items × AreNoted c.execute.new.passages c.execute.new.forms.items) (sym c.share.ensures.ops) (made, c.in-Ok.ensures.cached, c.in-Ok.ensures.capacity ∙ c.self.invariant.2, c.in-Ok.ensures.rows, c.in-Ok.ensures.noted)
+    subst (λ (k : List OpData). IsExecuted k c.execute.new.forms.items c.execute.new.cells.cells × AreCached k (entries_of k c.execute.new.notes) × AreTold k c.execute.new.notes × AreRowsOf k c.execute.new.rows.kept.items × AreNoted c.execute.new.passages c.execute.new.forms.items) (sym c.share.ensures.ops) (made, c.in-Ok.ensures.kept.0, c.in-Ok.ensures.kept.1, c.in-Ok.ensures.rows, c.in-Ok.ensures.noted)
 
 pub invariant_of-self-in-Err : goal.invariant_of-self-in-Err
 invariant_of-self-in-Err c =
     let h = c.self.inside.book.ops in
     let o = data_of c.args.op in
     let grown : c.push.new.self.ops ≡ h ++ o ∷ [] = c.push.ensures.ops ∙ ap (λ (l : List OpData). l ++ o ∷ []) c.reserve-2.ensures.ops in
-    let back = c.take_back.new.book.ops in (
+    let back = c.take_back.new.book.ops in
+    let kept = notes_none back c.take_back.new.notes c.take_back.ensures.notes in (
       executed_same h back c.self.inside.forms.items c.execute.new.forms.items c.self.inside.cells.cells c.execute.new.cells.cells c.self.invariant.0 (c.take_back.ensures.ops h o grown)
           (c.in-Err.ensures.forms ∙ c.reserve.ensures.items) c.in-Err.ensures.cells,
-      cached_none back c.take_back.new.cache.entries c.take_back.ensures.entries,
-      c.take_back.ensures.capacity ∙ (c.in-Err.ensures.capacity ∙ c.self.invariant.2),
+      kept.0,
+      kept.1,
       no_rows back c.take_back.new.rows.kept.items c.take_back.ensures.rows,
       c.in-Err.ensures.noted,
     )

@@ -1,5 +1,7 @@
-use Rattle.std.proofs.Common.{subst, ℕ, ◌≤◌, length}
-use Rattle.cot_site.specs.declared.replica.TheConstants.{CACHED_FORMS}
+use Rattle.std.proofs.Common.{subst, sym, ◌≤◌, length}
+use Rattle.std.proofs.lemmas.List.{length-map}
+use Rattle.cot_site.specs.Code.Notes.{entry_of}
+use Rattle.cot_site.specs.declared.notes.TheConstants.{CACHED_FORMS}
 use Rattle.cot_site.specs.Sites.{AreExecuted, AreCached}
 use Rattle.cot_site.specs.Code.Replicas.{ReplicaData}
 use Rattle.cot_site.proofs.replica.Replica.known.Goals as goal
@@ -13,4 +15,4 @@ returns-clause-entries c = subst (λ (r : ReplicaData). AreCached r.history r.en
 pub returns-clause-bounded : goal.returns-clause-bounded
 returns-clause-bounded c =
     subst (λ (r : ReplicaData). length r.entries ≤ CACHED_FORMS) c.self.view_is
-    (subst (λ (n : ℕ). length c.self.inside.cache.entries ≤ n) c.self.invariant.2 c.known-2.ensures.bounded)
+    (subst (λ n. n ≤ CACHED_FORMS) (sym (length-map c.self.inside.notes (entry_of c.self.inside.book.ops))) c.known-2.ensures)
