@@ -74,18 +74,3 @@ named_once (o ∷ os) apart x y n cx cy ex ey =
             | inr later-y ↦ named_once os apart.1 x y n later-x later-y ex ey
           ]
     ]
-
--- an operation may be held whose name no waiting original has
-pub agree_unknown : (os : List OpData) (o : OpData) → is_known os (member_of o) ≡ false → NamesAgree os o
-agree_unknown os o unknown x n there at mine =
-    absurd (false≢true (sym unknown ∙ ap (is_known os) (mine ∙ sym at) ∙ known_member os x there))
-
--- and so may the waiting original of its name itself
-pub agree_same : (os : List OpData) (o : OpData) → AreApart os → Contains os o → NamesAgree os o
-agree_same os o apart here x n there at mine = named_once os apart x o n there here at mine
-
--- and so may any undo
-pub agree_undo : (os : List OpData) (o : OpData) → is_original o ≡ false → NamesAgree os o
-agree_undo os (inserting n p ch c) undo = absurd (true≢false undo)
-agree_undo os (deleting n p c) undo = absurd (true≢false undo)
-agree_undo os (undoing a t g c) undo = λ x n there at mine. cc

@@ -21,8 +21,3 @@ known_nowhere (x ∷ xs) m others =
     let here = others 0 x (omega arith) refl in
     let later = known_nowhere xs m (λ i o within at. others (suc i) o (omega (arith, within)) at) in
     λ i. here i || later i
-
-pub ready_nowhere : (have : ContextData) (os : List OpData) → ((i : ℕ) (o : OpData) → i < length os → slice_get os i ≡ Some o → ¬ IsReady have o) → NoneReady have os
-ready_nowhere have os waits o there =
-    let place = stands os o there in
-    waits place.place o place.within place.at

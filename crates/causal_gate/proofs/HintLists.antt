@@ -39,22 +39,6 @@ hint_there (o ∷ os) (None ∷ hs) zero m are at = let never : Some None ≡ So
 hint_there (o ∷ os) (Some k ∷ hs) zero m are at = let same : k ≡ m = cc in ap (has (context_of o)) (sym same) ∙ are.0
 hint_there (o ∷ os) (h ∷ hs) (suc i) m are at = hint_there os hs i m are.1 at
 
--- the first missing member is a hint
-pub hint_from : (have c : ContextData) (o : OpData) (r : Option Member) → c ≡ context_of o → IfSome r (IsFirstMissing have c) → IsHint o r
-hint_from have c o None same first = tt
-hint_from have c o (Some m) same first = ap (λ (d : ContextData). has d m) (sym same) ∙ first.there
-
--- an operation that is missing, with a hint that is missing, isn't ready
-pub hint_waits : (have : ContextData) (o : OpData) (m : Member) → has have (member_of o) ≡ false → has (context_of o) m ≡ true → has have m ≡ false → ¬ IsReady have o
-hint_waits have o m own hint missing = λ ready. elim ready [ inl there ↦ false≢true (sym own ∙ there) | inr within ↦ false≢true (sym missing ∙ within m hint) ]
-
--- what a look at a place tells of the context there
-pub hint_here : (os : List OpData) (i : ℕ) (o : OpData) (r : Option Member) → slice_get os i ≡ Some o → IfSome r (λ m. has (context_at os i) m ≡ true) → IsHint o r
-hint_here os i o None at there = tt
-hint_here os i o (Some m) at there =
-    let same : context_at os i ≡ context_of o = ap (λ (x : Option OpData). option_map_or context_of x empty) at in
-    ap (λ (d : ContextData). has d m) (sym same) ∙ there
-
 pub hint_some : (os : List OpData) (hs : List (Option Member)) (i : ℕ) (h : Option Member) → AreHints os hs → slice_get hs i ≡ Some h → IfSome h (λ m. has (context_at os i) m ≡ true)
 hint_some os hs i None are at = tt
 hint_some os hs i (Some m) are at = hint_there os hs i m are at

@@ -22,21 +22,6 @@ use Rattle.causal_gate.specs.Names.{op_in, AreNamed}
 use Rattle.causal_gate.proofs.Apart.{differs_in}
 use Rattle.causal_gate.proofs.Places.{contains_at}
 
-derived_name : (n m : NameData) → eq-value.it n m ≡ name_eq n m
-derived_name n m = search rules
-
-by_name : (n : NameData) (es : List (NameData × ℕ)) → lookup (eq-value.it n) es ≡ lookup (name_eq n) es
-by_name n es = ap (λ (t : NameData → Bool). lookup t es) (λ i. λ (x : NameData). derived_name n x i)
-
--- a look-up after a change under one name, by the equality of contracts
-pub changed_by_name : (es new : List (NameData × ℕ)) (k : NameData) (w : Option ℕ) → ((q : NameData) → lookup (eq-value.it q) new ≡ (if eq-value.it k q then w else lookup (eq-value.it q) es))
-    → (q : NameData) → lookup (name_eq q) new ≡ (if name_eq k q then w else lookup (name_eq q) es)
-changed_by_name es new k w change q = sym (by_name q new) ∙ change q ∙ (λ i. if derived_name k q i then w else by_name q es i)
-
--- whether a name is there
-pub found_by_name : (es : List (NameData × ℕ)) (os : List OpData) (n : NameData) (r : Option ℕ) → AreNamed es os → r ≡ lookup (eq-value.it n) es → is_some r ≡ is_known os (Original n)
-found_by_name es os n r named found = ap is_some (found ∙ by_name n es) ∙ named n
-
 not_named : (o : OpData) (n : NameData) → (member_of o ≡ Original n → ⊥) → member_eq (member_of o) (Original n) ≡ false
 not_named o n never =
     elim (cases_Bool (member_eq (member_of o) (Original n))) [

@@ -9,7 +9,7 @@ use Rattle.op_name.proofs.CallerLemmas.{same_parts}
 use Rattle.context_vector.specs.Contexts.{ContextData, Within, has, count_of}
 use Rattle.context_diff.specs.Operations.{OpData}
 use Rattle.context_diff.specs.Histories.{is_known}
-use Rattle.context_diff.specs.Bases.{original_context, is_below, is_before, base_has}
+use Rattle.context_diff.specs.Bases.{original_context, is_below, base_has}
 use Rattle.context_diff.specs.ClosedContexts.{IsClosedContext}
 use Rattle.context_diff.proofs.Names.{name_same, name_itself}
 use Rattle.context_diff.proofs.Raising.{has_original, has_number, has_group, has_generation}
@@ -57,9 +57,6 @@ base_group h t g y e =
         | inr below ↦ inr (below_cases t g y below)
       ];
     }
-
-pub base_known : (h : List OpData) (m y : Member) → base_has h m y ≡ true → is_known h m ≡ true
-base_known h m y e = (and_parts (is_known h m) (is_before h m y) e).0
 
 pub in_original : (h : List OpData) (n : NameData) (y : Member) → is_known h (Original n) ≡ true → has (original_context h n) y ≡ true → base_has h (Original n) y ≡ true
 in_original h n y known seen = and_from (is_known h (Original n)) (has (original_context h n) y) known seen

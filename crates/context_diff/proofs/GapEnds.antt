@@ -55,11 +55,6 @@ up_to_last_within p (c ∷ cs) = let rest = up_to_last_within p cs in elim (case
   | inr e ↦ rw e (omega arith)
 ]
 
-pub up_to_nth_within : {K : Type 0} (p : K → Bool) (n : ℕ) (cs : List K) → up_to_nth p n cs ≤ length cs
-up_to_nth_within p zero cs = omega arith
-up_to_nth_within p (suc n) [] = omega arith
-up_to_nth_within p (suc n) (c ∷ cs) = let rest = up_to_nth_within p (if p c then n else suc n) cs in omega arith
-
 take_difference : {K : Type 0} (l k : ℕ) (cs : List K) → take ((l + k) - l) (drop l cs) ≡ take k (drop l cs)
 take_difference l k cs = let e : (l + k) - l ≡ k = omega arith in ap (λ n. take n (drop l cs)) e
 

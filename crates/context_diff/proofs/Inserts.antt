@@ -3,7 +3,7 @@ use Rattle.std.proofs.Common.{◌≡◌, ℕ, ◌+◌, ◌<◌, ◌≤◌, true,
 use Rattle.std.specs.Prelude.{Contains, ◌==◌, ◌&&◌, nat_le, if◌then◌else◌}
 use Rattle.std.proofs.lemmas.Bool.Decides.{nat_tests}
 use Rattle.std.proofs.lemmas.Bool.{or_parts, false≢true, cases_Bool, eqb-true}
-use Rattle.op_name.specs.declared.member.Member.TheVariants.{Original, Group}
+use Rattle.op_name.specs.declared.member.Member.TheVariants.{Original}
 use Rattle.op_name.specs.NameData.{NameData, name_eq}
 use Rattle.context_vector.specs.Contexts.{ContextData, has, count_of, count_in, AreCounts}
 use Rattle.context_diff.specs.Operations.{OpData, inserting, deleting, undoing, member_of, is_insert, IsWellFormed}
@@ -11,10 +11,6 @@ use Rattle.context_diff.specs.Histories.{is_known, inserts_in, IsNext, context_o
 use Rattle.context_diff.specs.Code.Counting.{is_insert_of, inserts_of, inserts_listed, made}
 use Rattle.context_diff.proofs.Known.{contains_here, contains_later}
 use Rattle.context_diff.proofs.Complete.{IsComplete, next_member}
-
--- the names of the operations of a list are in their ranges
-AreFormed : List OpData → Type 0
-AreFormed h = (o : OpData) → Contains h o → IsWellFormed o
 
 pub inserts_of_push : (h : List OpData) (o : OpData) (s k : ℕ) → inserts_of (h ++ o ∷ []) s k ≡ inserts_of h s k + (if is_insert_of s k o then 1 else 0)
 inserts_of_push [] o s k = omega arith
@@ -80,11 +76,6 @@ inserts_by_site (o ∷ os) v are f =
     listed_step o os v.counts
     ∙ (λ i. named_here v are o (f o (contains_here o os)) i + inserts_by_site os v are (λ q at. f q (contains_later o os q at)) i)
 
--- the inserts of the first sites, with one more
-pub listed_push : (h : List OpData) (ps : List (ℕ × ℕ)) (p : ℕ × ℕ) → inserts_listed h (ps ++ p ∷ []) ≡ inserts_listed h ps + inserts_of h p.0 p.1
-listed_push h [] p = omega arith
-listed_push h (q ∷ qs) p = rw (listed_push h qs p) (omega arith)
-
 -- no originals have no inserts
 pub no_inserts : (h : List OpData) (s : ℕ) → ((o : OpData) → Contains h o → IsWellFormed o) → inserts_of h s 0 ≡ 0
 no_inserts [] s f = refl
@@ -111,19 +102,6 @@ inserts_of_at_most (o ∷ os) s k =
       | inl one ↦ rw one (omega arith)
       | inr none ↦ rw none (omega arith)
     ]
-
--- an insert counts among the first originals of its own site, from its own number on
-insert_counts : (o : OpData) (n : NameData) → member_of o ≡ Original n → (s k : ℕ) → is_insert_of s k o ≡ (is_insert o && ((n.site == s) && nat_le n.number k))
-insert_counts (inserting m p ch c) n is s k =
-    let same : m ≡ n = cc in
-    ap (λ (x : NameData). (x.site == s) && nat_le x.number k) same
-insert_counts (deleting m p c) n is s k = refl
-insert_counts (undoing a t g c) n is s k = refl
-
-group_counts : (o : OpData) (t : NameData) (g : ℕ) → member_of o ≡ Group t g → (s k : ℕ) → is_insert_of s k o ≡ false
-group_counts (inserting m p ch c) t g is s k = cc
-group_counts (deleting m p c) t g is s k = refl
-group_counts (undoing a u i c) t g is s k = refl
 
 -- a next operation is none of the first k originals of a site, where the history has those k
 beyond : (h : List OpData) → IsComplete h → (o : OpData) → IsNext h o → (s k : ℕ) → k ≤ count_of (context_of_all h) s → is_insert_of s k o ≡ false

@@ -50,9 +50,6 @@ known_push h o m = known_append h (o ∷ []) m ∙ ap (λ b. is_known h m || b) 
 pub known_on : (h k : List OpData) (m : Member) → is_known h m ≡ true → is_known (h ++ k) m ≡ true
 known_on h k m e = known_append h k m ∙ or_left (is_known h m) (is_known k m) e
 
-pub known_behind : (h k : List OpData) (m : Member) → is_known k m ≡ true → is_known (h ++ k) m ≡ true
-known_behind h k m e = known_append h k m ∙ or_right (is_known h m) (is_known k m) e
-
 pub known_cases : (h k : List OpData) (m : Member) → is_known (h ++ k) m ≡ true → (is_known h m ≡ true) ⊎ (is_known k m ≡ true)
 known_cases h k m e = or_cases (is_known h m) (is_known k m) (sym (known_append h k m) ∙ e)
 

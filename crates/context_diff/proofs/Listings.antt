@@ -73,13 +73,6 @@ count_order low (x ∷ xs) are (suc i) zero p q at bt less =
     absurd (omega (arith, rest.from))
 count_order low (x ∷ xs) are (suc i) (suc j) p q at bt less = omega (arith, count_order (x.0 + 1) xs are.4 i j p q at bt less)
 
-count_of_others : (low : ℕ) (ps : List (ℕ × ℕ)) → AreCounts low ps → (s : ℕ) → s < low → (i : ℕ) → count_in (take i ps) s ≡ 0
-count_of_others low ps are s less zero = refl
-count_of_others low [] are s less (suc i) = refl
-count_of_others low (q ∷ qs) are s less (suc i) =
-    let other : (q.0 == s) ≡ false = grind (arith, nat_tests, are.0) in
-    ap (λ b. if b then q.1 else count_in (take i qs) s) other ∙ count_of_others (q.0 + 1) qs are.4 s (omega (arith, are.0)) i
-
 -- a site is not among those before its place
 pub count_before : (low : ℕ) (ps : List (ℕ × ℕ)) → AreCounts low ps → (i : ℕ) (p : ℕ × ℕ) → slice_get ps i ≡ Some p → count_in (take i ps) p.0 ≡ 0
 count_before low [] are i p at = let none : None ≡ Some p = at in cc

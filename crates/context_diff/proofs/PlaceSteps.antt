@@ -112,17 +112,9 @@ pub between_more : (s low high : ℕ) → low ≤ high → (y : Member) → is_b
 between_more s low high le (Original n) = grind (arith, nat_tests)
 between_more s low high le (Group t g) = refl
 
-pub between_none : (s low high : ℕ) → high ≤ low → (y : Member) → is_between s low high y ≡ false
-between_none s low high le (Original n) = grind (arith, nat_tests)
-between_none s low high le (Group t g) = refl
-
 pub group_between_more : (t : NameData) (low high : ℕ) → low ≤ high → (y : Member) → is_group_between t low (suc high) y ≡ (is_group_between t low high y || member_eq (Group t (suc high)) y)
 group_between_more t low high le (Original n) = refl
 group_between_more t low high le (Group n g) = grind (arith, nat_tests)
-
-pub group_between_none : (t : NameData) (low high : ℕ) → high ≤ low → (y : Member) → is_group_between t low high y ≡ false
-group_between_none t low high le (Original n) = refl
-group_between_none t low high le (Group n g) = grind (arith, nat_tests)
 
 -- nothing is missing of no sites
 pub no_sites_missing : (from to : ContextData) (y : Member) → is_missing from (first_sites to 0) y ≡ false
@@ -194,15 +186,6 @@ and_or : (b c d e : Bool) → (c || d) ≡ e → ((b || c) || d) ≡ (b || e)
 and_or true c d e is = refl
 and_or false c d e is = is
 
--- nothing between the bounds yet
-pub between_start : (ms : List Member) (t : Member → Bool) (s low : ℕ) (ps : List ℕ) → ArePlacesOf ms t ps → ArePlacesOf ms (λ y. t y || is_between s low (low + 0) y) ps
-between_start ms t s low ps are =
-    places_same ms t (λ y. t y || is_between s low (low + 0) y) ps (λ y. or_nothing (t y) (is_between s low (low + 0) y) (between_none s low (low + 0) (omega arith) y)) are
-  where
-    or_nothing : (b c : Bool) → c ≡ false → b ≡ (b || c)
-    or_nothing true c e = refl
-    or_nothing false c e = sym e
-
 -- one more number
 pub between_step : (h : List OpData) → IsValid h → (t : Member → Bool) (s low high step : ℕ) (ps : List ℕ) (p : ℕ) → slice_get (members_in h) p ≡ Some (Original (record { site = s; number = (low + step) + 1 })) → step < high - low
     → ((y : Member) → is_between s low high y ≡ true → t y ≡ false)
@@ -229,14 +212,6 @@ between_end ms t s low high step ps most least are =
     same : (y : Member) → is_between s low (low + step) y ≡ is_between s low high y
     same (Original n) = grind (arith, nat_tests)
     same (Group x g) = refl
-
-pub groups_start : (ms : List Member) (t : Member → Bool) (n : NameData) (low : ℕ) (ps : List ℕ) → ArePlacesOf ms t ps → ArePlacesOf ms (λ y. t y || is_group_between n low (low + 0) y) ps
-groups_start ms t n low ps are =
-    places_same ms t (λ y. t y || is_group_between n low (low + 0) y) ps (λ y. or_nothing (t y) (is_group_between n low (low + 0) y) (group_between_none n low (low + 0) (omega arith) y)) are
-  where
-    or_nothing : (b c : Bool) → c ≡ false → b ≡ (b || c)
-    or_nothing true c e = refl
-    or_nothing false c e = sym e
 
 pub groups_step : (h : List OpData) → IsValid h → (t : Member → Bool) (n : NameData) (low high step : ℕ) (ps : List ℕ) (p : ℕ) → slice_get (members_in h) p ≡ Some (Group n ((low + step) + 1)) → step < high - low
     → ((y : Member) → is_group_between n low high y ≡ true → t y ≡ false)

@@ -2,10 +2,8 @@
 use Rattle.std.proofs.Common.{◌≡◌, ℕ, zero, suc, ◌+◌, ◌-◌, ◌≤◌, Bool, inl, inr, List, [], ◌∷◌, ◌++◌, refl, ap, sym, ◌∙◌, arith, map, take, drop, append_assoc}
 use Rattle.std.proofs.lemmas.Bool.{cases_Bool}
 use Rattle.op_name.specs.NameData.{NameData}
-use Rattle.context_vector.specs.Contexts.{ContextData}
-use Rattle.context_diff.specs.Operations.{OpData, inserting}
 use Rattle.context_diff.specs.Gaps.{Gap}
-use Rattle.context_diff.specs.Replays.{Insertion, Cell, insertions_in, put_by, sort_by, is_earlier, cells_from, put, gap_of}
+use Rattle.context_diff.specs.Replays.{Insertion, Cell, put_by, cells_from, put, gap_of}
 use Rattle.context_diff.specs.Code.GapEnds.{before_first, gap_between}
 use Rattle.context_diff.proofs.GapEnds.{take_more}
 
@@ -22,12 +20,6 @@ pub map_insert : {A B : Type 0} (f : A → B) (k : ℕ) (ys : List A) (x : A) �
 map_insert f zero ys x = refl
 map_insert f (suc k) [] x = refl
 map_insert f (suc k) (y ∷ ys) x = ap (λ zs. f y ∷ zs) (map_insert f k ys x)
-
--- the fixed order with one more operation in front
-pub sort_insert : (h : List OpData) (n : NameData) (p ch : ℕ) (c : ContextData) (x : Insertion) → insertions_in (inserting n p ch c ∷ h) ≡ x ∷ insertions_in h
-    → sort_by is_earlier (insertions_in (inserting n p ch c ∷ h)) ≡ put_by is_earlier x (sort_by is_earlier (insertions_in h))
-unfolding sort_by
-sort_insert h n p ch c x is = ap (sort_by is_earlier) is
 
 take_drop_put : {K : Type 0} (l r : ℕ) (cs new : List K) → l ≤ r → take l cs ++ (take (r - l) (drop l cs) ++ (new ++ drop r cs)) ≡ take r cs ++ (new ++ drop r cs)
 take_drop_put {K} l r cs new le =

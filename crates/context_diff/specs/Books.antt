@@ -7,14 +7,15 @@ use Rattle.context_vector.specs.Contexts.{ContextData}
 use Rattle.context_diff.specs.Histories.{CoversSite, IsClosed, LacksNothing, inserts_in}
 use Rattle.context_vector.specs.Vectors.{VectorData, HasRoomFor}
 
--- the history, its members, the spare places for operations, and for each site those in the list of its counts of inserts
+-- the history, its members, the spare places that the list of operations and the index of undo groups both have, and for each site those
+-- that the lists of its originals both have
 pub record BookData : Type 0 where
   pub ops : List OpData
   pub have : VectorData
   pub spare : ℕ
   pub site_spares : List ℕ
 
--- an original needs a spare place in the list of its site
+-- an original needs a spare place in the lists of its site
 abbrev pub HasSpareFor : List ℕ → Member → Type 0
 HasSpareFor spares (Original n) = 0 < slice_index_or spares n.site 0
 HasSpareFor spares (Group t g) = Unit {0}
@@ -26,7 +27,8 @@ pub record HasRoom (b : BookData) (o : OpData) : Type 0 where
   pub tally : HasSpareFor b.site_spares (member_of o)
   pub short : length b.ops + 1 < 4294967296
 
--- the last operation can be taken out without memory: it was pushed in the room for it, and the members weren't shared since
+-- the last operation can be taken out without memory: so it is right after its push, and no longer where the members were shared since, or
+-- room was made for an undo of another name
 abbrev pub HasRoomToPop : BookData → Type 0
 HasRoomToPop b = (h : List OpData) (o : OpData) → b.ops ≡ h ++ o ∷ [] → HasRoomFor b.have (member_of o)
 

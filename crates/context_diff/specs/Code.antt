@@ -1,4 +1,4 @@
--- Words of the code alone: no public contract reaches them.
+-- Words of the code: how values are kept, and what private functions promise.
 pub mod Judged
 pub mod Kept
 pub mod Places

@@ -1,6 +1,6 @@
 //! The book: a valid history, with its members and an index of them.
 
-ghost use Rattle.std.specs.Prelude.{◌≡◌, ◌↔◌, ◌+◌, ◌-◌, ◌<◌, ◌≤◌, ◌++◌, ◌∷◌, [], true, false, Contains, IsNone, OnOk, IfSome, if◌then◌else◌, length, map, option_map, slice_get};
+ghost use Rattle.std.specs.Prelude.{◌≡◌, ◌↔◌, ◌+◌, ◌<◌, ◌≤◌, ◌++◌, ◌∷◌, [], false, Contains, IsNone, OnOk, IfSome, if◌then◌else◌, length, map, option_map, slice_get};
 ghost use Rattle.std.specs.Option.{option_to_list};
 ghost use Rattle.op_name.specs.declared.member.Member.TheVariants.{Original};
 ghost use Rattle.context_vector.specs.Contexts.{Within};
@@ -29,8 +29,9 @@ const OPS: usize = 4_294_967_295;
 ///
 /// Beside the operations it keeps, for each site, where each of its originals stands, and how many inserts the site had made with
 /// it: so an original is found at once, and the inserts of a context are counted by one look at each of its sites. Undo groups,
-/// of which there are fewer, are found by their members. And of the last two inserts or deletes it keeps how many inserts their
-/// contexts have, so that what comes with such a context, or with that and one of them, is judged at a look. It has at most 4,294,967,295 operations.
+/// of which there are fewer, are found by their members. And of the last two operations, as far as they are
+/// inserts or deletes and none was taken out since, it keeps how many inserts their contexts have: so what comes with such a context,
+/// or with that context and its own operation, is judged at a look. It has at most 4,294,967,295 operations.
 #[derive(Drop)]
 pub struct Book {
     ops: Vec<Op>,
@@ -186,8 +187,8 @@ impl Book {
         }
     }
 
-    /// Takes the last operation out, which was pushed since the members were last shared; None exactly where the
-    /// book is empty. It takes no memory.
+    /// Takes the last operation out, which was just pushed: neither were the members shared since, nor was room made for another
+    /// undone name. None exactly where the book is empty. It takes no memory.
     pub fn pop(&mut self) -> Option<Op>
         requires { HasRoomToPop self.old }
         ensures none { IsNone result ↔ (length self.old.ops ≡ 0) }
@@ -213,7 +214,7 @@ impl Book {
     }
 
     /// The number of inserts of a context that was judged lately: the book has its members, and it is closed. It is that of one of
-    /// the last two inserts and deletes, or that with the operation itself. None says nothing.
+    /// the last two operations, an insert or delete, or that with the operation itself. None says nothing.
     pub fn judged(&self, v: &Vector) -> Option<u32>
         ensures { IfSome result (IsJudged self.now.ops v.now.set) }
     {

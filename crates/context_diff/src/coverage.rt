@@ -1,6 +1,6 @@
-//! What contexts are within a book: closed or not, the base contexts of members, and differences.
+//! What contexts are within a book: closed or not, and the base contexts of members.
 
-ghost use Rattle.std.specs.Prelude.{◌≡◌, ◌↔◌, ◌++◌, true, false, IsNone, IsTrue, OnOk, OnErr, IfOk, IfSome};
+ghost use Rattle.std.specs.Prelude.{◌≡◌, ◌↔◌, true, IsNone, IsTrue, IfOk, IfSome};
 ghost use Rattle.op_name.specs.declared.member.Member.{Member};
 ghost use Rattle.op_name.specs.declared.member.Member.TheVariants.{Original, Group};
 ghost use Rattle.context_vector.specs.Contexts.{Within, has};

@@ -1,8 +1,8 @@
 //! Which operation may come next after those of a book.
 
-ghost use Rattle.std.specs.Prelude.{◌≡◌, ◌↔◌, true, false, IsTrue};
-ghost use Rattle.context_vector.specs.Contexts.{Within, has};
-ghost use Rattle.context_diff.specs.Operations.{member_of, context_of, is_original, IsWellFormed};
+ghost use Rattle.std.specs.Prelude.{◌≡◌, ◌↔◌, true, IsTrue};
+ghost use Rattle.context_vector.specs.Contexts.{Within};
+ghost use Rattle.context_diff.specs.Operations.{context_of, is_original};
 ghost use Rattle.context_diff.specs.Histories.{HasPlace, IsClosed, IsNext};
 ghost use Rattle.context_diff.specs.Ops.{data_of};
 

@@ -8,8 +8,8 @@ use op_name::{Member, Memory};
 use std::alloc::Global;
 use std::marker::Model;
 
-/// The originals of one site, whose numbers are dense: of the n-th one its place in the order of the book, and how many inserts
-/// the first n are.
+/// The originals of one site, whose numbers are dense: of the n-th one its place in the order of the book, and how many of
+/// the first n are inserts.
 #[derive(Drop)]
 pub(crate) struct Tally {
     counts: Vec<u32>,

@@ -9,9 +9,7 @@ use Rattle.op_name.proofs.CallerLemmas.{number_order}
 use Rattle.context_vector.specs.Vectors.{without_site, lower_count, SitesBelow}
 use Rattle.context_vector.proofs.Keyed.{value_at, put_at, take_out, AllAfter, IsRising, gap_value, gap_put, put_is_set, take_out_is_remove}
 use Rattle.context_vector.specs.Code.Places.{IsPlace, IsGap}
-use Rattle.std.specs.List.{insert, remove, refill}
-use Rattle.std.proofs.Math.Seq.{take-append_seam}
-use Rattle.std.proofs.lemmas.List.{length-set}
+use Rattle.std.specs.List.{insert, remove}
 
 abbrev pub same_site : ℕ → ℕ → Bool
 same_site a b = a == b
@@ -79,15 +77,6 @@ counts_push low s k [] from site least most below are = (from, site, least, most
 counts_push low s k (p ∷ ps) from site least most below are =
     (are.0, are.1, are.2, are.3, counts_push (p.0 + 1) s k ps (omega (arith, below.0)) site least most below.1 are.4)
 
--- sites below one are below each greater one, also after one more pair
-pub sites_below_more : (ps : List (ℕ × ℕ)) (s r : ℕ) → s ≤ r → SitesBelow ps s → SitesBelow ps r
-sites_below_more [] s r le below = tt
-sites_below_more (p ∷ ps) s r le below = (omega (arith, below.0), sites_below_more ps s r le below.1)
-
-pub sites_below_push : (ps : List (ℕ × ℕ)) (s k r : ℕ) → SitesBelow ps s → s < r → SitesBelow (ps ++ (s, k) ∷ []) r
-sites_below_push [] s k r below less = (less, tt)
-sites_below_push (p ∷ ps) s k r below less = (omega (arith, below.0), sites_below_push ps s k r below.1 less)
-
 pub count_at_most : (low : ℕ) (ps : List (ℕ × ℕ)) (s : ℕ) → AreCounts low ps → count_in ps s ≤ NUMBERS
 count_at_most low [] s are = omega arith
 count_at_most low (p ∷ ps) s are =
@@ -142,12 +131,6 @@ lower_at_place ps s k i are place more = put_at_place ps s (k - 1) i are place �
 pub remove_at_place : (ps : List (ℕ × ℕ)) (s k i : ℕ) → AreCounts 0 ps → IsPlace ps s i → k ≡ 1 → remove ps i ≡ lower_count s k ps
 remove_at_place ps s k i are place one =
     sym (rw (eq-eqb k 1 one) (without_site_is s ps ∙ take_out_is_remove same_site nat_lt number_order ps (counts_rise 0 ps are) s i place))
-
--- a list into which one write went is that list as long as it was
-pub refilled : {X : Type 0} (xs : List X) (i : ℕ) (x : X) → refill (length xs) xs (set xs i x) ≡ set xs i x
-refilled xs i x =
-    let ws = set xs i x in
-    subst (λ n. take n (ws ++ drop (length ws) xs) ≡ ws) (length-set xs i x) (take-append_seam ws (drop (length ws) xs))
 
 -- a pair in the place of another, and one that is put between two parts
 set_seam : {X : Type 0} (l : List X) (y x : X) (r : List X) → set (l ++ y ∷ r) (length l) x ≡ l ++ x ∷ r

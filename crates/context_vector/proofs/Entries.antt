@@ -86,15 +86,6 @@ entries_push n g [] name least most below are = (name, least, most, tt, tt)
 entries_push n g (e ∷ es) name least most below are =
     (are.0, are.1, are.2, before_push e.0 n g es below.0 are.3, entries_push n g es name least most below.1 are.4)
 
--- names before one are before each later one, also after one more entry
-pub names_below_more : (es : List (NameData × ℕ)) (n m : NameData) → name_lt n m ≡ true → NamesBelow es n → NamesBelow es m
-names_below_more [] n m less below = tt
-names_below_more (e ∷ es) n m less below = (name_transitive e.0 n m below.0 less, names_below_more es n m less below.1)
-
-pub names_below_push : (es : List (NameData × ℕ)) (n : NameData) (g : ℕ) (m : NameData) → NamesBelow es n → name_lt n m ≡ true → NamesBelow (es ++ (n, g) ∷ []) m
-names_below_push [] n g m below less = (less, tt)
-names_below_push (e ∷ es) n g m below less = (name_transitive e.0 n m below.0 less, names_below_push es n g m below.1 less)
-
 -- the generations and the names of entries are in range
 pub entry_at_most : (es : List (NameData × ℕ)) (n : NameData) → AreEntries es → entry_in es n ≤ GENERATIONS
 entry_at_most [] n are = omega arith

@@ -16,7 +16,7 @@ pub weight_none : (n : NameData) → weight n 0 ≡ 0
 unfolding weight
 weight_none n = refl
 
-pub weight_some : (n : NameData) (g : ℕ) → g ≢ 0 → weight n g ≡ spread (folded (spread (n.site * 68719476736 + n.number * 65536 + g))) / 2 ^ 27
+pub weight_some : (n : NameData) (g : ℕ) → g ≢ 0 → weight n g ≡ spread (folded (spread (n.site * 68719476736 + n.number * 65536 + g))) / 2 ^ 31
 unfolding weight
 weight_some n g some = rw (ne_eqb g 0 some) refl
 
@@ -64,15 +64,15 @@ spread_below : (x : ℕ) → spread x < 2 ^ 64
 unfolding spread
 spread_below x = mod_below (x * 11400714819323198485) (2 ^ 64) (omega arith)
 
-pub weight_below : (n : NameData) (g : ℕ) → weight n g < 137438953472
+pub weight_below : (n : NameData) (g : ℕ) → weight n g < 8589934592
 unfolding weight
 weight_below n g =
     elim (cases_order g 0) [
       | inl none ↦ rw (eq-eqb g 0 none) (omega arith)
-      | inr other ↦ rw (ne_eqb g 0 (omega arith)) (shr_below (spread (folded (spread (n.site * 68719476736 + n.number * 65536 + g)))) 37 27 (spread_below _))
+      | inr other ↦ rw (ne_eqb g 0 (omega arith)) (shr_below (spread (folded (spread (n.site * 68719476736 + n.number * 65536 + g)))) 33 31 (spread_below _))
     ]
 
-mark_by_length : (es : List (NameData × ℕ)) → mark_of es ≤ 137438953472 * length es
+mark_by_length : (es : List (NameData × ℕ)) → mark_of es ≤ 8589934592 * length es
 mark_by_length [] = omega arith
 mark_by_length (e ∷ es) = omega (arith, mark_by_length es, weight_below e.0 e.1)
 

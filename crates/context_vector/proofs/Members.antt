@@ -69,9 +69,6 @@ among_next j v k is = grind (arith, nat_tests)
 among_less : (j v k : ℕ) → v ≤ k → among k j ≡ (among v j || among k j)
 among_less j v k le = grind (arith, nat_tests)
 
-among_more : (j v k : ℕ) → k ≤ v → among v j ≡ (among v j || among k j)
-among_more j v k le = grind (arith, nat_tests)
-
 among_last : (j v k : ℕ) → k ≡ v → among (k - 1) j ≡ (among v j && not (k == j))
 among_last j v k is = grind (arith, nat_tests)
 
@@ -99,9 +96,6 @@ greatest_of (Group n g) = GENERATIONS
 
 lacks_above : (k v : ℕ) → 1 ≤ k → among v k ≡ false → v ≤ k
 lacks_above k v least lacks = grind (arith, nat_tests)
-
-has_below : (k v : ℕ) → among v k ≡ true → k ≤ v
-has_below k v there = grind (arith, nat_tests)
 
 same_tests : (a b : ℕ) → (a == b) ≡ (b == a)
 same_tests a b = grind (arith, nat_tests)
@@ -138,21 +132,6 @@ has_raised_up_to c (Group n g) lacks least (Group y h) =
     (chosen (name_eq n y) (entry_of c y) g (λ t k. among k h ≡ (among (entry_of c y) h || (t && among g h)))
     (λ one. among_less h (entry_of c y) g (subst (λ x. entry_of c x ≤ g) (name_same n y one) (lacks_above g (entry_of c n) least lacks)))
     (λ other. or_false _))
-
--- a member that is in the context brings nothing below it that is not there
-pub has_up_to : (c : ContextData) (m : Member) → has c m ≡ true → (y : Member) → has c y ≡ (has c y || up_to y m)
-has_up_to c (Original n) there (Original y) =
-    elim (y.site == n.site) as (λ t. (y.site == n.site) ≡ t → among (count_of c y.site) y.number ≡ (among (count_of c y.site) y.number || (t && among n.number y.number))) [
-      | true ↦ λ one. among_more y.number (count_of c y.site) n.number (subst (λ s. n.number ≤ count_of c s) (sym (number_order.same y.site n.site one)) (has_below n.number (count_of c n.site) there))
-      | false ↦ λ other. or_false _
-    ] refl
-has_up_to c (Original n) there (Group y h) = or_false _
-has_up_to c (Group n g) there (Original y) = or_false _
-has_up_to c (Group n g) there (Group y h) =
-    elim (name_eq y n) as (λ t. name_eq y n ≡ t → among (entry_of c y) h ≡ (among (entry_of c y) h || (t && among g h))) [
-      | true ↦ λ one. among_more h (entry_of c y) g (subst (λ x. g ≤ entry_of c x) (sym (name_same y n one)) (has_below g (entry_of c n) there))
-      | false ↦ λ other. or_false _
-    ] refl
 
 -- the last member of a site or a name was taken out: that one alone
 pub has_lowered : (c : ContextData) (m : Member) → IsContext c → IsLastMember c m → 1 ≤ size_of m → (y : Member) → has (lowered c m) y ≡ (has c y && not (member_eq m y))

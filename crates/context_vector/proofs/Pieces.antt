@@ -3,7 +3,7 @@ use Rattle.std.proofs.Common.{◌≡◌, ℕ, zero, suc, ◌+◌, ◌-◌, ◌<�
 use Rattle.std.specs.Prelude.{◌==◌, Option, IfSome, IfOk, OnOk, OnErr, Result, Ok, Err, slice_get}
 use lib.Pointwise.{pointwise}
 use Rattle.std.proofs.Math.Seq.{drop-append-add}
-use Rattle.std.proofs.lemmas.List.{append_assoc, append-nil, drop_all, drop-append-le, drop-drop, length-append, length-drop, take_all, take-append-drop}
+use Rattle.std.proofs.lemmas.List.{append_assoc, append-nil, drop-append-le, drop-drop, length-append, length-drop, take_all, take-append-drop}
 use Rattle.std.proofs.lemmas.Bool.{eq-eqb, ne_eqb}
 use mathlib.Core.Bool.{false≢true}
 use Rattle.op_name.specs.NameData.{NameData, name_eq, name_lt}
@@ -248,9 +248,6 @@ run_at_piece ps k d within i n is short =
 -- pieces below and above a place
 pub below_further : (ps : List (List (NameData × ℕ))) (i : ℕ) (d : List (NameData × ℕ)) (n : NameData) → i < length ps → NamesBelow (joined (take i ps)) n → NamesBelow (get_or ps i d) n → NamesBelow (joined (take (i + 1) ps)) n
 below_further ps i d n within below more = subst (λ es. NamesBelow es n) (sym (joined_upto ps i d within)) (below_append (joined (take i ps)) (get_or ps i d) n below more)
-
-pub above_none : (ps : List (List (NameData × ℕ))) (i : ℕ) (n : NameData) → length ps ≤ i → NamesAbove n (joined (drop (i + 1) ps))
-above_none ps i n past = subst (λ qs. NamesAbove n (joined qs)) (sym (drop_all (i + 1) ps (omega (arith, past)))) tt
 
 below_take : (ps : List (List (NameData × ℕ))) (i : ℕ) (n : NameData) → NamesBelow (joined ps) n → NamesBelow (joined (take i ps)) n
 below_take ps i n below =

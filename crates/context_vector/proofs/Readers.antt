@@ -3,8 +3,7 @@ use Rattle.std.proofs.Common.{◌≡◌, ℕ, ◌+◌, ◌<◌, ◌≤◌, true,
 use Rattle.std.specs.Prelude.{Option, nat_lt, slice_get}
 use lib.Pointwise.{pointwise}
 use Rattle.std.proofs.lemmas.Bool.{lt-ltb, le-ltb}
-use Rattle.std.proofs.Math.Seq.{drop-append_seam}
-use Rattle.std.proofs.lemmas.List.{append_assoc, take-append-le}
+use Rattle.std.proofs.lemmas.List.{take-append-le}
 use Rattle.op_name.specs.NameData.{NameData, name_eq, name_lt}
 use Rattle.op_name.proofs.CallerLemmas.{name_order, name_same, cases_by_order}
 use mathlib.Core.Bool.{false≢true}
@@ -97,9 +96,3 @@ same_fronts n p q es fs short short' same = same_further n (p ++ es) (q ++ fs) (
 pub other_fronts : (n : ℕ) (p q es fs : List (NameData × ℕ)) → n ≤ length p → n ≤ length q → (take n p ≡ take n q → ⊥) → pointwise entry_eq (p ++ es) (q ++ fs) ≡ false
 other_fronts n p q es fs short short' apart =
     same_apart (p ++ es) (q ++ fs) (λ same. apart (sym (take-append-le n p es short) ∙ (ap (take n) same ∙ take-append-le n q fs short')))
-
--- how a list that is copied part by part grows
-pub copied_front : (done p ps left es : List (NameData × ℕ)) → left ≡ p ++ ps → done ++ left ≡ es → (done ++ p) ++ drop (length p) left ≡ es
-copied_front done p ps left es is so_far =
-    ap (λ xs. (done ++ p) ++ drop (length p) xs) is
-    ∙ (ap (λ xs. (done ++ p) ++ xs) (drop-append_seam p ps) ∙ (append_assoc done p ps ∙ (ap (λ xs. done ++ xs) (sym is) ∙ so_far)))

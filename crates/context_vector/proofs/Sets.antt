@@ -46,13 +46,6 @@ has_group c n g least le = among_from g (entry_of c n) least le
 pub group_entered : (c : ContextData) (n : NameData) (g : ℕ) → has c (Group n g) ≡ true → (1 ≤ g) × (g ≤ entry_of c n)
 group_entered c n g there = among_to g (entry_of c n) there
 
--- with a member all below it are there
-pub has_lower_original : (c : ContextData) (s k : ℕ) → has c (original s (k + 1)) ≡ true → 1 ≤ k → has c (original s k) ≡ true
-has_lower_original c s k there least = among_from k (count_of c s) least (let below = among_to (k + 1) (count_of c s) there in omega (arith, below.1))
-
-pub has_lower_group : (c : ContextData) (n : NameData) (g : ℕ) → has c (Group n (g + 1)) ≡ true → 1 ≤ g → has c (Group n g) ≡ true
-has_lower_group c n g there least = among_from g (entry_of c n) least (let below = among_to (g + 1) (entry_of c n) there in omega (arith, below.1))
-
 -- one context is within another exactly where no count and no generation is greater
 pub within_counts : (c d : ContextData) → Within c d → (s : ℕ) → count_of c s ≤ count_of d s
 within_counts c d within s =
@@ -73,12 +66,6 @@ within_from c d counts entries (Original n) there =
     let at = among_to n.number (count_of c n.site) there in among_from n.number (count_of d n.site) at.0 (omega (arith, at.1, counts n.site))
 within_from c d counts entries (Group n g) there =
     let at = among_to g (entry_of c n) there in among_from g (entry_of d n) at.0 (omega (arith, at.1, entries n))
-
-pub within_itself : (c : ContextData) → Within c c
-within_itself c m there = there
-
-pub within_trans : (c d e : ContextData) → Within c d → Within d e → Within c e
-within_trans c d e one other m there = other m (one m there)
 
 -- contexts that have the same members are equal
 within_from_same : (c d : ContextData) → ((m : Member) → has c m ≡ has d m) → Within c d
@@ -174,10 +161,7 @@ sums_less (q ∷ qs) (p ∷ ps) low low' are are' below r less =
           ]
     ]
 
--- a context within another has at most its number of originals, and fewer where it lacks one
-pub rank_within : (c d : ContextData) → IsContext c → IsContext d → Within c d → rank_of c ≤ rank_of d
-rank_within c d is is' within = sums_below d.counts c.counts 0 0 is.counts is'.counts (within_counts c d within)
-
+-- a context within another that lacks one of its originals has fewer
 pub rank_less : (c d : ContextData) → IsContext c → IsContext d → Within c d → (n : NameData) → has d (Original n) ≡ true → has c (Original n) ≡ false → rank_of c < rank_of d
 rank_less c d is is' within n there lacks =
     let at = original_counted d n there in
@@ -262,16 +246,10 @@ no_group_missing c d counts same =
 pub missing_not_within : (c d : ContextData) (m : Member) → IsFirstMissing c d m → Within d c → ⊥
 missing_not_within c d m missing within = false≢true (sym missing.lacking ∙ within m missing.there)
 
--- the empty context is one, has no member, and is within each
-pub empty_is_context : IsContext empty
-empty_is_context = record { counts = tt; entries = tt }
-
+-- the empty context has no member
 pub has_empty : (m : Member) → has empty m ≡ false
 has_empty (Original n) = grind (arith, nat_tests)
 has_empty (Group n g) = grind (arith, nat_tests)
-
-pub empty_within : (c : ContextData) → Within empty c
-empty_within c m there = absurd (false≢true (sym (has_empty m) ∙ there))
 
 -- an added original is one more, and an added group none
 sum_put : (low s k : ℕ) (ps : List (ℕ × ℕ)) → AreCounts low ps → sum_of_counts (put_count s k ps) + count_in ps s ≡ sum_of_counts ps + k
@@ -293,6 +271,3 @@ sum_put low s k (p ∷ ps) are =
 
 pub rank_raised : (c : ContextData) (n : NameData) → IsContext c → n.number ≡ count_of c n.site + 1 → rank_of (raised c (Original n)) ≡ rank_of c + 1
 rank_raised c n is next = omega (arith, next, sum_put 0 n.site n.number c.counts is.counts)
-
-pub rank_raised_group : (c : ContextData) (n : NameData) (g : ℕ) → rank_of (raised c (Group n g)) ≡ rank_of c
-rank_raised_group c n g = refl

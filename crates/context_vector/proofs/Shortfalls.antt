@@ -25,3 +25,8 @@ short_end had [] zero past = refl
 short_end had [] (suc i) past = refl
 short_end had (y ∷ ys) zero past = absurd (omega arith)
 short_end had (y ∷ ys) (suc i) past = short_end had ys i (omega arith)
+
+-- where none is short, the walk finds none
+pub short_none : {K : Type 0} (had : K → ℕ) (xs : List (K × ℕ)) → ((i : ℕ) (d : K × ℕ) → i < length xs → (get_or xs i d).1 ≤ had (get_or xs i d).0) → first_short had xs ≡ None
+short_none had [] enough = refl
+short_none had (x ∷ xs) enough = rw (le-ltb (had x.0) x.1 (enough 0 x (omega arith))) (short_none had xs (λ i d within. enough (suc i) d (omega (arith, within))))

@@ -6,7 +6,7 @@ use Rattle.std.proofs.lemmas.Bool.Decides.{nat_tests}
 use Rattle.op_name.specs.declared.member.Member.{Member}
 use Rattle.op_name.specs.declared.member.Member.TheVariants.{Original, Group}
 use Rattle.op_name.specs.NameData.{NameData, IsName, name_eq, name_lt}
-use Rattle.context_vector.specs.Contexts.{ContextData, entry_in, has, AreCounts, AreEntries}
+use Rattle.context_vector.specs.Contexts.{entry_in, has, AreCounts, AreEntries}
 use Rattle.op_name.proofs.CallerLemmas.{name_order, cases_by_order}
 use Rattle.context_vector.specs.Vectors.{up_to}
 use Rattle.context_vector.specs.Code.Lists.{of_counts, of_entries}
@@ -96,8 +96,3 @@ union_step before after step rest left all added split whole = ap (λ t. t || le
 
 pub union_end : (after left all : Bool) → left ≡ false → (after || left) ≡ all → after ≡ all
 union_end after left all none whole = sym (or_false after) ∙ (ap (λ t. after || t) (sym none) ∙ whole)
-
--- a context is its originals and its groups
-pub has_parts : (c : ContextData) (y : Member) → has c y ≡ (has (of_counts c.counts) y || has (of_entries c.entries) y)
-has_parts c (Original n) = rw (none_among n.number) (sym (or_false (has c (Original n))))
-has_parts c (Group n g) = rw (none_among g) refl

@@ -1,4 +1,4 @@
--- Words that only the contracts of private functions use.
+-- Words of the code: how values are kept, and what private functions promise.
 pub mod Places
 pub mod Lists
 pub mod Pieces

@@ -17,10 +17,12 @@ pub record ContextData : Type 0 where
 abbrev pub empty : ContextData
 empty = record { counts = []; entries = [] }
 
+-- the count of the first pair of the site, 0 if there is none
 abbrev pub count_in : List (ℕ × ℕ) → ℕ → ℕ
 count_in [] s = 0
 count_in (p ∷ ps) s = if p.0 == s then p.1 else count_in ps s
 
+-- the generation of the first entry of the name, 0 if there is none
 abbrev pub entry_in : List (NameData × ℕ) → NameData → ℕ
 entry_in [] n = 0
 entry_in (e ∷ es) n = if name_eq e.0 n then e.1 else entry_in es n
@@ -42,6 +44,7 @@ has c (Group n g) = nat_le 1 g && nat_le g (entry_of c n)
 abbrev pub Within : ContextData → ContextData → Type 0
 Within c d = (m : Member) → has c m ≡ true → has d m ≡ true
 
+-- all counts added up
 abbrev pub sum_of_counts : List (ℕ × ℕ) → ℕ
 sum_of_counts [] = 0
 sum_of_counts (p ∷ ps) = p.1 + sum_of_counts ps
@@ -74,11 +77,13 @@ abbrev pub put_count : ℕ → ℕ → List (ℕ × ℕ) → List (ℕ × ℕ)
 put_count s k [] = (s, k) ∷ []
 put_count s k (p ∷ ps) = if p.0 == s then (s, k) ∷ ps else if nat_le s p.0 then (s, k) ∷ (p ∷ ps) else p ∷ put_count s k ps
 
+-- the entries with this generation for the name, at its place in the order
 abbrev pub put_entry : NameData → ℕ → List (NameData × ℕ) → List (NameData × ℕ)
 put_entry n g [] = (n, g) ∷ []
 put_entry n g (e ∷ es) = if name_eq e.0 n then (n, g) ∷ es else if name_lt n e.0 then (n, g) ∷ (e ∷ es) else e ∷ put_entry n g es
 
--- the context with its next member of a site or a name, which then is the last one there (number or generation at least 1)
+-- the context in which this member is the last of its site or its name (number or generation at least 1): where it is the next one, the
+-- context with it
 abbrev pub raised : ContextData → Member → ContextData
 raised c (Original n) = record c { counts = put_count n.site n.number c.counts }
 raised c (Group n g) = record c { entries = put_entry n g c.entries }

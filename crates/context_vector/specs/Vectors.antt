@@ -19,8 +19,8 @@ pub record VectorData : Type 0 where
   pub set : ContextData
   pub room : Room
 
--- the member can be added or taken out without memory: its site or name is there, or there is a spare place for it, and the
--- part of the list in which a name has its place may be changed in place
+-- the member can be added or taken out without memory: the counts, or the part of the entries in which the name has its place, may be
+-- changed in place, and its site or name is there, or there is a spare place for it
 abbrev pub HasRoomFor : VectorData → Member → Type 0
 HasRoomFor v (Original n) = (v.room.own ≡ true) × (count_of v.set n.site ≡ 0 → 1 ≤ v.room.counts)
 HasRoomFor v (Group n g) = (v.room.ready ≡ Some n) × (entry_of v.set n ≡ 0 → 1 ≤ v.room.entries)
@@ -35,14 +35,16 @@ abbrev pub without_site : ℕ → List (ℕ × ℕ) → List (ℕ × ℕ)
 without_site s [] = []
 without_site s (p ∷ ps) = if p.0 == s then ps else p ∷ without_site s ps
 
+-- the entries without the name
 abbrev pub without_name : NameData → List (NameData × ℕ) → List (NameData × ℕ)
 without_name n [] = []
 without_name n (e ∷ es) = if name_eq e.0 n then es else e ∷ without_name n es
 
--- the counts with one less than k for the site, which has no pair at 0
+-- the counts with one less than k, at least 1, for the site, which has no pair at 0
 abbrev pub lower_count : ℕ → ℕ → List (ℕ × ℕ) → List (ℕ × ℕ)
 lower_count s k ps = if k == 1 then without_site s ps else put_count s (k - 1) ps
 
+-- the entries with one less than g, at least 1, for the name, which has no entry at 0
 abbrev pub lower_entry : NameData → ℕ → List (NameData × ℕ) → List (NameData × ℕ)
 lower_entry n g es = if g == 1 then without_name n es else put_entry n (g - 1) es
 

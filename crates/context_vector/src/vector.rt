@@ -139,8 +139,9 @@ impl Vector {
         self.lists.share_names();
     }
 
-    /// Lets copies share both lists, and takes the list of undone names of `other` where that is shared and has the same names, so that
-    /// it is kept once; no member comes or goes. A set that shares its lists already stays as it is.
+    /// Lets copies share both lists, and takes the list of undone names of `other` where that is shared and has the same names at the same
+    /// generations, so that it is kept once; no member comes or goes. A set that shares its lists already stays as it is. Out of memory,
+    /// the lists stay its own.
     pub fn share_with(&mut self, other: &Vector)
         ensures { self.new.set ≡ self.old.set }
     {
@@ -242,7 +243,7 @@ impl Vector {
         Some(self.lists.run(i as usize)?.first()?.pair())
     }
 
-    /// The number of sites that have originals in the set. Readers of a vector's listing use it.
+    /// The number of sites that have originals in the set.
     pub fn sites(&self) -> u32
         ensures sites { result ≡ length self.now.set.counts }
         ensures range { result ≤ SITES }

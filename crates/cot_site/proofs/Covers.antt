@@ -83,14 +83,6 @@ open_once h v s r a b =
           ]
     ]
 
-pub site_none : (h : List OpData) (v : ContextData) (r : Option ℕ) → SiteAnswer h v r → r ≡ None → IsClosed h v
-site_none h v r (inl (s, is, first)) none = absurd (none-some s (sym none ∙ is))
-site_none h v r (inr (is, closed)) none = closed
-
-pub site_some : (h : List OpData) (v : ContextData) (r : Option ℕ) (s : ℕ) → SiteAnswer h v r → r ≡ Some s → IsFirstOpenSite h v s
-site_some h v r s (inl (x, is, first)) some = let e : Some x ≡ Some s = sym is ∙ some in let same : x ≡ s = cc in subst (IsFirstOpenSite h v) same first
-site_some h v r s (inr (is, closed)) some = absurd (none-some s (sym is ∙ some))
-
 pub none_closed : (h : List OpData) (v : ContextData) (r : Option ℕ) → SiteAnswer h v r → IsClosed h v → r ≡ None
 none_closed h v r (inl (s, is, first)) closed = absurd (first.open_site (closed s))
 none_closed h v r (inr (is, c)) closed = is

@@ -74,9 +74,6 @@ taken_at s r is = from (first_answer s.history s.waiting)
           },
         )
 
-pub release_formed : (s : State) (r : Released) → AllFormed s.waiting → released s ≡ Some r → IsWellFormed r.op
-release_formed s r formed is = let t = taken_at s r is in formed r.op t.1.there
-
 pub sound_released : (s : State) (r : Released) → IsSound s → released s ≡ Some r → IsSound r.after
 sound_released s r sound is =
     let t = taken_at s r is in
@@ -333,17 +330,6 @@ settling_last s now next old new more w (none, same, kept) =
       same ∙ w.state ∙ ap (λ rs. state_after s rs) (sym all),
       kept ∙ w.listed ∙ ap (λ rs. old ++ map release_of rs) (sym all),
     )
-
--- out of memory on the way
-pub settling_stopped : (s now next : State) (old new more : List Release) → IsSettling s now old new → ¬ IsSettled now → next ≡ now → more ≡ new → IsPartlySettled s next old more
-settling_stopped s now next old new more w unsettled same kept = record {
-  done = w.done;
-  left = all_releases now;
-  parts = w.parts;
-  state = same ∙ w.state;
-  listed = kept ∙ w.listed;
-  unsettled = λ e. unsettled (subst IsSettled same e);
-}
 
 -- ---- the forms
 

@@ -1,4 +1,4 @@
--- The entries of a cache, the next to be dropped last, and what the calls do to them.
+-- The entries of a cache, of which the last is the next to be dropped, and what the calls do to them.
 use Rattle.std.specs.Prelude.{ℕ, Bool, List, Option, option_map, if◌then◌else◌}
 use Rattle.std.specs.Option.{option_map_or}
 use Rattle.std.specs.Map.{lookup}
@@ -6,7 +6,7 @@ use Rattle.lru.specs.LruCache.{lru_cache, promoted, demoted, put_entries}
 use Rattle.form_cache.specs.declared.cache.Kept.{Kept}
 use Rattle.form_cache.specs.Keys.{KeyData, key_eq}
 
--- entries, each a key with its form and whether the form is kept for one use alone
+-- entries, each a key with its form and whether the form is kept for one use
 abbrev pub Entries : Type 0 → Type 0
 Entries F = List (KeyData × Kept F)
 

@@ -18,13 +18,13 @@ use std::num::NonZeroUsize;
 #[derive(Clone, Copy, Debug)]
 pub struct Kept<F> {
     pub form: F,
-    /// Whether the form is kept for one use alone.
+    /// Whether the form is kept for one use: after it, its entry is the next to be dropped.
     pub once: bool,
 }
 
 /// Forms, each kept under a key, at most as many as the capacity. Where a new key comes to a full cache, the last
-/// entry is dropped. Keeping puts an entry first; asking for a form puts an entry last that is kept for one use, and
-/// another one first.
+/// entry is dropped. Keeping puts an entry first; `ask` puts an entry last that is kept for one use, and another one
+/// first; `get` puts each first, and `peek` moves none.
 #[derive(Drop)]
 pub struct Cache<F> {
     forms: LruCache<Key, Kept<F>>,
@@ -95,7 +95,7 @@ impl<F: Copy> Cache<F> {
         Some(self.forms.peek(key)?.form)
     }
 
-    /// Puts the form first, under its key, for more uses than one; where the key is new the last entry of a full cache
+    /// Puts the form first, under its key, for any number of uses; where the key is new the last entry of a full cache
     /// is dropped. Out of memory it drops what was given; for a key that is there it needs none.
     pub fn keep(&mut self, key: Key, form: F)
         ensures entries { (self.new.entries ≡ with_form self.old key form false) ⊎ (self.new.entries ≡ self.old.entries) }

@@ -1,4 +1,4 @@
--- What a closed context within another one says of that one, and who made an operation.
+-- Closed contexts within another one, and who made an operation.
 use Rattle.std.specs.Prelude.{ℕ, List}
 use Rattle.context_vector.specs.Contexts.{ContextData, Within}
 use Rattle.context_diff.specs.Operations.{OpData, inserting, deleting, undoing}

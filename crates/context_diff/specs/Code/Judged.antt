@@ -12,7 +12,7 @@ pub record IsLately (h : List OpData) (l : Lately) : Type 0 where
   pub original : is_original op ≡ true
   pub cells : l.cells ≡ inserts_in h (context_of op)
 
--- the context is that of an insert or delete, of so many inserts, or that context with the operation itself; n is the number of its inserts
+-- v is the context of the insert or delete o, which has `cells` inserts, or that context with o itself; n is the number of inserts of v
 abbrev pub IsCellsBy : OpData → ContextData → ℕ → ℕ → Type 0
 IsCellsBy o v cells n =
     (is_original o ≡ true)

@@ -18,12 +18,12 @@ abbrev pub IsPlaceOf : List OpData → Member → Option ℕ → Type 0
 IsPlaceOf h m None = is_known h m ≡ false
 IsPlaceOf h m (Some i) = slice_get (members_in h) i ≡ Some m
 
--- each undo group has its place
+-- each undo group of the history has its place, and no other group has one
 abbrev pub AreGroups : List OpData → List (Member × ℕ) → Type 0
 AreGroups h places = (t : NameData) (g : ℕ) → IsPlaceOf h (Group t g) (lookup (member_eq (Group t g)) places)
 
 -- a valid history, whose members are `have`, with the number of its inserts, the counts and the places of the originals of each site, the
--- places of undo groups, and what is known of the contexts of its last inserts and deletes
+-- places of undo groups, and how many inserts the contexts of at most two of its inserts and deletes have
 pub record IsBook (h : List OpData) (have : ContextData) (number : ℕ) (counts places : ℕ → List ℕ) (seats : List (Member × ℕ)) (last earlier : Option Lately) : Type 0 where
   pub valid : IsValid h
   pub members : have ≡ context_of_all h

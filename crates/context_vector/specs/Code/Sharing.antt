@@ -4,7 +4,7 @@ use Rattle.context_vector.specs.Vectors.{VectorData}
 use Rattle.context_vector.specs.declared.vector.lists.Lists.{Lists}
 use Rattle.context_vector.specs.declared.vector.lists.Lists.TheVariants.{Few, Own, Shared}
 
--- only lists of its own are changed in place
+-- only lists of its own have room
 abbrev pub data_of : Lists → VectorData
 data_of (Few counts) = record {
   set = record { counts = counts; entries = [] };

@@ -1,6 +1,6 @@
 //! The calls that change a vector.
 
-ghost use Rattle.std.specs.Prelude.{◌≡◌, ◌∷◌, [], ◌++◌, ◌<◌, ◌≤◌, ◌||◌, ◌&&◌, not, true, false, OnOk, OnErr, IfErr};
+ghost use Rattle.std.specs.Prelude.{◌≡◌, ◌∷◌, [], ◌++◌, ◌<◌, ◌≤◌, ◌||◌, ◌&&◌, not, false, OnOk, OnErr, IfErr};
 ghost use Rattle.op_name.specs.declared.member.Member.{Member};
 ghost use Rattle.op_name.specs.Members.{IsMember, member_eq};
 ghost use Rattle.context_vector.specs.Contexts.{has, raised, Within, IsNextMember, AreCounts, AreEntries};
@@ -107,7 +107,7 @@ impl Vector {
         Ok(())
     }
 
-    /// Appends a site with its count to a vector that is being read in the order of sites.
+    /// Appends a site with its count to a vector that is being read in the order of sites. Out of memory, nothing changes.
     pub fn push_count(&mut self, site: u16, count: u32) -> Result<(), Memory>
         requires last { SitesBelow self.old.set.counts site }
         requires site { site < SITES }
@@ -120,7 +120,7 @@ impl Vector {
     }
 
     /// Appends an undone name with its greatest generation to a vector that is being read in the order of
-    /// names.
+    /// names. Out of memory, nothing changes.
     pub fn push_entry(&mut self, name: Name, generation: u16) -> Result<(), Memory>
         requires last { NamesBelow self.old.set.entries name }
         requires least { 1 ≤ generation }

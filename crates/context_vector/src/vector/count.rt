@@ -1,6 +1,6 @@
 //! A site with its count, in 32 bits.
 
-ghost use Rattle.std.specs.Prelude.{◌≡◌, ◌<◌, ◌^◌};
+ghost use Rattle.std.specs.Prelude.{◌≡◌, ◌<◌, ◌≤◌, ◌^◌, IsTrue};
 ghost use Rattle.context_vector.specs.Equality.{count_eq, count_per, count_equiv};
 
 use std::marker::Model;
@@ -26,7 +26,7 @@ impl Model for Count {
 }
 
 impl Count {
-    /// The site and the number side by side.
+    /// The site, below 4,096, and the number, below 1,048,576, side by side.
     pub fn new(site: u16, number: u32) -> Count
         requires site { site < 2 ^ 12 }
         requires number { number < 2 ^ 20 }
@@ -49,6 +49,13 @@ impl Count {
         ensures { result ≡ self.now.0 }
     {
         (self.bits >> 20) as u16
+    }
+
+    /// Whether the other is of the same site, and counts no less.
+    pub fn is_at_most(&self, other: &Count) -> bool
+        ensures { IsTrue result → (self.now.0 ≡ other.now.0) × (self.now.1 ≤ other.now.1) }
+    {
+        (self.bits >> 20 == other.bits >> 20) & (self.bits <= other.bits)
     }
 
     /// The number of originals.

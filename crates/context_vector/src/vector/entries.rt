@@ -19,8 +19,8 @@ use std::alloc::Global;
 use std::marker::Model;
 use std::rc::Rc;
 
-/// Each undone name with its greatest generation, names rising. It takes one pointer, so that a vector
-/// without undone names pays no more for them than that.
+/// Each undone name with its greatest generation; the vector keeps the names rising. A vector without undone names
+/// pays no memory for them.
 #[derive(Debug, Drop)]
 pub struct Entries {
     alloc: Global,
@@ -198,12 +198,14 @@ impl Entries {
         }
     }
 
-    // The same entries in a list that several vectors may have, if this has a list of its own and memory suffices.
+    // The same entries in a list that several vectors may have, if this has a list of its own with some, and memory suffices.
     fn to_share(&self) -> Option<Entries>
         ensures { IfSome result (λ e. e.items ≡ self.now.items) }
     {
         match &self.list {
-            EntryList::Own(list) if list.mark() != 0 => match shared(self.alloc, list) {
+            EntryList::Own(list) if list.pieces().run(0).is_some() => match shared(
+                self.alloc, list,
+            ) {
                 Ok(list) => Some(Entries {
                     alloc: self.alloc,
                     list: EntryList::Shared(list),

@@ -28,7 +28,7 @@ impl Vector {
     }
 }
 
-// Whether the counts are those before with this name's number for its site.
+// Whether the counts are those before with this name's number for its site. An answer of no says nothing.
 fn has_put(before: &[Count], after: &[Count], name: &Name) -> bool
     requires { AreCounts 0 before.now }
     ensures { IsTrue result → after.now ≡ put_count name.now.site name.now.number before.now }
@@ -50,7 +50,7 @@ fn has_put(before: &[Count], after: &[Count], name: &Name) -> bool
     }
 }
 
-// Whether the list is the two with a count between them.
+// Whether the list is the two with a count between them. An answer of no says nothing.
 fn is_joined(list: &[Count], low: &[Count], count: Count, high: &[Count]) -> bool
     ensures { IsTrue result → list.now ≡ low.now ++ (count ∷ high.now) }
 {

@@ -237,8 +237,8 @@ impl Lists {
         }
     }
 
-    /// Takes the list of undone names of `other`, where that is shared and has the same names, for lists that are the vector's own;
-    /// no member comes or goes.
+    /// Takes the list of undone names of `other`, where that is shared and has the same names at the same generations, for lists that are
+    /// the vector's own; no member comes or goes.
     pub fn share_with(&mut self, other: &Lists)
         ensures { (data_of self.new).set ≡ (data_of self.old).set }
     {

@@ -1,6 +1,6 @@
 //! Lists of entries, each with its mark.
 
-ghost use Rattle.std.specs.Prelude.{◌≡◌, ◌≤◌, ◌++◌, ◌∷◌, ◌↔◌, [], Some, IfOk, IsTrue, OnOk, OnErr};
+ghost use Rattle.std.specs.Prelude.{◌≡◌, ◌≤◌, ◌++◌, ◌∷◌, [], Some, IfOk, OnOk, OnErr};
 ghost use Rattle.context_vector.specs.Contexts.{entry_in, put_entry, AreEntries};
 ghost use Rattle.context_vector.specs.Marks.{mark_of};
 ghost use Rattle.context_vector.specs.Vectors.{lower_entry};
@@ -11,7 +11,7 @@ use op_name::{Memory, Name};
 use std::alloc::Global;
 use std::marker::Model;
 
-/// Entries, names rising, with the mark of the list.
+/// Entries with the mark of the list. The vector keeps their names rising.
 #[derive(Debug, Drop)]
 pub struct Marked {
     pieces: Pieces,

@@ -1,6 +1,6 @@
 //! Lists of counts that never change, each with its mark.
 
-ghost use Rattle.std.specs.Prelude.{◌≡◌, IfOk};
+ghost use Rattle.std.specs.Prelude.{◌≡◌};
 ghost use Rattle.context_vector.specs.Marks.{counts_mark};
 
 use super::count::Count;
@@ -9,7 +9,7 @@ use op_name::Memory;
 use std::alloc::Global;
 use std::marker::Model;
 
-/// Counts that never change, sites rising, with the mark of the list.
+/// Counts that never change, with the mark of the list. The vector keeps their sites rising.
 #[derive(Debug, Drop)]
 pub struct MarkedCounts {
     list: Vec<Count>,

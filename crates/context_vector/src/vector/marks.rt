@@ -1,4 +1,4 @@
-//! Marks of lists of undone names: sums that are kept up with each change.
+//! Marks of lists: those of undone names are sums, which are kept up with each change, and those of counts are made at once.
 
 ghost use Rattle.std.specs.Prelude.{◌≡◌, ◌<◌, ◌^◌};
 ghost use Rattle.context_vector.specs.Marks.{spread, folded, weight, laid, counts_mark};
@@ -9,7 +9,7 @@ use op_name::Name;
 /// What the name adds to a mark at the generation: nothing at 0.
 pub fn weight(name: &Name, generation: u16) -> u64
     ensures weight { result ≡ weight name.now generation }
-    ensures range { result < 2 ^ 37 }
+    ensures range { result < 2 ^ 33 }
 {
     if generation == 0 {
         return 0;
@@ -19,7 +19,7 @@ pub fn weight(name: &Name, generation: u16) -> u64
     let bits = u64::from(name.site) * 68_719_476_736
         + u64::from(name.number) * 65_536
         + u64::from(generation);
-    spread(folded(spread(bits))) >> 27
+    spread(folded(spread(bits))) >> 31
 }
 
 /// The mark of the counts of sites: a few steps of a processor for each.

@@ -1,6 +1,6 @@
 //! Pieces: short lists of entries that several lists may have.
 
-ghost use Rattle.std.specs.Prelude.{◌≡◌, ◌≤◌, ◌++◌, ◌∷◌, [], length, IfOk, OnOk};
+ghost use Rattle.std.specs.Prelude.{◌≡◌, ◌++◌, IfOk, OnOk};
 ghost use Rattle.context_vector.specs.Code.Pieces.{joined};
 
 use super::entry::Entry;

@@ -1,9 +1,9 @@
 //! Lists of entries in pieces: a changed copy has all pieces of its source but one, or two after a cut.
 
-ghost use Rattle.std.specs.Prelude.{◌≡◌, ◌≤◌, ◌+◌, ◌++◌, ◌∷◌, ◌↔◌, [], Some, None, take, drop, length, IfOk, IfSome, vec_len, vec_capacity, ◌<◌, IsNone, IsTrue, OnOk, OnErr};
+ghost use Rattle.std.specs.Prelude.{◌≡◌, ◌≤◌, ◌++◌, ◌∷◌, ◌↔◌, [], Some, drop, length, IfOk, IfSome, vec_len, vec_capacity, ◌<◌, IsNone, IsTrue, OnOk, OnErr};
 ghost use Rattle.context_vector.specs.Contexts.{entry_in, put_entry, AreEntries};
-ghost use Rattle.context_vector.specs.Vectors.{lower_entry, NamesBelow};
-ghost use Rattle.context_vector.specs.Code.Pieces.{joined, NamesAbove, IsBetween, IsRun};
+ghost use Rattle.context_vector.specs.Vectors.{lower_entry};
+ghost use Rattle.context_vector.specs.Code.Pieces.{joined, IsBetween, IsRun};
 ghost use Rattle.context_vector.specs.Code.Readers.{left_of};
 
 use super::entry::Entry;
@@ -15,7 +15,7 @@ use op_name::{Memory, Name};
 use std::alloc::Global;
 use std::marker::Model;
 
-/// Entries, names rising, in pieces of which one may be changed in place.
+/// Entries in pieces of which one may be changed in place. The vector keeps their names rising.
 #[derive(Debug, Drop)]
 pub struct Pieces {
     /// The pieces before the open one.

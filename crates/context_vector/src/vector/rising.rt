@@ -1,6 +1,6 @@
 //! Lists whose keys rise: searches in them and comparisons of two of them.
 
-ghost use Rattle.std.specs.Prelude.{◌≡◌, ◌*◌, ◌≤◌, nat_lt, length, IfOk, IfErr};
+ghost use Rattle.std.specs.Prelude.{◌≡◌, ◌*◌, ◌≤◌, None, nat_lt, length, IfOk, IfErr, IsTrue};
 ghost use Rattle.context_vector.specs.Contexts.{count_in, entry_in, sum_of_counts, AreCounts, AreEntries};
 ghost use Rattle.op_name.specs.NameData.{name_lt};
 ghost use lib.Pointwise.{pointwise};
@@ -60,6 +60,9 @@ pub fn first_short_site(mine: &[Count], theirs: &[Count]) -> Option<(u16, u32)>
     requires theirs { AreCounts 0 theirs.now }
     ensures { result ≡ first_short (count_in mine.now) theirs.now }
 {
+    if are_enough(mine, theirs) {
+        return None;
+    }
     let mut guess = 0;
     for count in theirs {
         let site = count.site();
@@ -70,6 +73,22 @@ pub fn first_short_site(mine: &[Count], theirs: &[Count]) -> Option<(u16, u32)>
         guess = next;
     }
     None
+}
+
+// Whether both have the same sites, and `mine` count no less of each: without a way out of the loop, so that it can be compiled to one
+// over several counts at a time. An answer of no says nothing.
+fn are_enough(mine: &[Count], theirs: &[Count]) -> bool
+    requires { AreCounts 0 mine.now }
+    ensures { IsTrue result → first_short (count_in mine.now) theirs.now ≡ None }
+{
+    if mine.len() != theirs.len() {
+        return false;
+    }
+    let mut enough = true;
+    for i in 0..mine.len() {
+        enough &= theirs[i].is_at_most(&mine[i]);
+    }
+    enough
 }
 
 // The count of the site, 0 if it has no pair, and where the pair of the next site is likely to stand.

@@ -40,7 +40,7 @@ fn reaches(piece: &Piece, name: &Name) -> bool
     }
 }
 
-/// The piece in which the name is or goes: the last one where all names are before it.
+/// The piece in which the name is or goes: the last one where all names are before it, 0 where there is no piece.
 pub fn piece_to_open(pieces: &[Piece], name: &Name) -> usize
     requires { AreEntries (joined pieces.now) }
     ensures bound { result ≤ length pieces.now }
