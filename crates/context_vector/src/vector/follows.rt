@@ -6,7 +6,7 @@ ghost use Rattle.context_vector.specs.Contexts.{put_count, raised, AreCounts, Is
 
 use super::Vector;
 use super::count::Count;
-use super::rising::place_near;
+use super::rising::{are_equal, place_near};
 use op_name::Name;
 
 impl Vector {
@@ -60,10 +60,10 @@ fn is_joined(list: &[Count], low: &[Count], count: Count, high: &[Count]) -> boo
     let (front, back) = list.split_at(low.len());
     match back.split_first() {
         Some((first, rest)) => {
-            if *first != count || front != low {
+            if *first != count || !are_equal(front, low) {
                 return false;
             }
-            rest == high
+            are_equal(rest, high)
         }
         None => false,
     }

@@ -19,7 +19,7 @@ use super::few::Few;
 use super::marked_counts::MarkedCounts;
 use super::marks;
 use super::reader::Reader;
-use super::rising::count_among;
+use super::rising::{are_equal, count_among};
 use op_name::{Member, Memory, Name};
 use std::alloc::Global;
 use std::rc::Rc;
@@ -153,7 +153,7 @@ impl Lists {
         if self.has_other_mark(other) {
             return false;
         }
-        self.counts() == other.counts()
+        are_equal(self.counts(), other.counts())
     }
 
     // Whether both lists are shared, and the marks of their counts differ.

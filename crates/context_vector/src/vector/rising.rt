@@ -165,12 +165,13 @@ pub fn are_same(mine: Reader<'_>, theirs: Reader<'_>) -> bool
     }
 }
 
-// Whether two lists of one length have the same entries: without a way out of the loop, so that it can be compiled to one over several
-// entries at a time.
-fn are_equal(one: &[Entry], other: &[Entry]) -> bool
-    requires { length one.now ≡ length other.now }
-    ensures { result ≡ pointwise entry_eq one.now other.now }
+/// Whether two lists are equal, without a way out of the loop, so that it can be compiled to one over several elements at a time.
+pub fn are_equal<T: PartialEq>(one: &[T], other: &[T]) -> bool
+    ensures { result ≡ pointwise T.eq one.now other.now }
 {
+    if one.len() != other.len() {
+        return false;
+    }
     let mut equal = true;
     for i in 0..one.len() {
         equal &= one[i] == other[i];
