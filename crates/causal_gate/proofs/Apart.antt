@@ -1,13 +1,11 @@
 -- What waits stays apart when one operation comes and when one goes.
-use Rattle.std.proofs.Common.{◌≡◌, ◌≢◌, ℕ, zero, suc, ◌<◌, inl, inr, false, List, [], ◌∷◌, ◌++◌, sym, ap, subst, ◌∙◌, length, length-append, arith, remove}
+use Rattle.std.proofs.Common.{◌≡◌, ◌≢◌, ℕ, zero, suc, ◌<◌, inl, inr, List, [], ◌∷◌, ◌++◌, sym, ap, subst, ◌∙◌, length, length-append, arith, remove}
 use Rattle.std.specs.Prelude.{Contains}
 use Rattle.std.proofs.lemmas.List.Edits.{length-remove}
-use Rattle.std.proofs.lemmas.Bool.{false≢true, true≢false}
 use Rattle.op_name.specs.declared.member.Member.TheVariants.{Original}
 use Rattle.op_name.specs.NameData.{NameData}
-use Rattle.context_diff.specs.Operations.{OpData, inserting, deleting, undoing, member_of, is_original}
-use Rattle.context_diff.specs.Histories.{is_known}
-use Rattle.context_diff.proofs.CallerLemmas.{contains_cases, contains_none, contains_here, contains_later, known_member}
+use Rattle.context_diff.specs.Operations.{OpData, member_of}
+use Rattle.context_diff.proofs.CallerLemmas.{contains_cases, contains_none, contains_here, contains_later}
 use Rattle.causal_gate.specs.Waiting.{HasOtherName, NamesAgree, AllDifferFrom, AreApart, IsPool}
 
 differ_push : (x : OpData) (xs : List OpData) (o : OpData) → AllDifferFrom x xs → o ≢ x → HasOtherName o x → AllDifferFrom x (xs ++ o ∷ [])

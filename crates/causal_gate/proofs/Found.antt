@@ -3,12 +3,10 @@ use Rattle.std.proofs.Common.{◌≡◌, ℕ, suc, ◌<◌, true, false, ◌||�
 use Rattle.std.specs.Prelude.{Some, slice_get}
 use Rattle.op_name.specs.declared.member.Member.{Member}
 use Rattle.op_name.specs.Members.{member_eq}
-use Rattle.context_vector.specs.Contexts.{ContextData}
 use Rattle.context_diff.specs.Operations.{OpData, member_of}
 use Rattle.context_diff.specs.Histories.{is_known}
 use Rattle.context_diff.proofs.CallerLemmas.{known_member}
-use Rattle.causal_gate.specs.Waiting.{IsReady, NoneReady}
-use Rattle.causal_gate.proofs.Places.{contains_at, stands}
+use Rattle.causal_gate.proofs.Places.{contains_at}
 
 -- an operation of the list that is the member
 pub known_at : (os : List OpData) (i : ℕ) (o : OpData) (m : Member) → slice_get os i ≡ Some o → member_of o ≡ m → is_known os m ≡ true

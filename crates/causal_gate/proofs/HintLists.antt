@@ -1,14 +1,11 @@
 -- Hints beside the operations that wait: one is set, comes or goes with its operation.
-use Rattle.std.proofs.Common.{◌≡◌, ℕ, zero, suc, true, false, inl, inr, List, [], ◌∷◌, ◌++◌, refl, ap, sym, ◌∙◌, length, remove, slice_set, IfSome}
+use Rattle.std.proofs.Common.{◌≡◌, ℕ, zero, suc, true, List, [], ◌∷◌, ◌++◌, refl, ap, sym, ◌∙◌, length, remove, slice_set, IfSome}
 use Rattle.std.specs.Prelude.{Option, Some, None, slice_get}
-use Rattle.std.specs.Option.{option_map_or}
-use Rattle.std.proofs.lemmas.Bool.{false≢true}
 use Rattle.op_name.specs.declared.member.Member.{Member}
-use Rattle.context_vector.specs.Contexts.{ContextData, empty, has}
-use Rattle.context_vector.specs.Vectors.{IsFirstMissing}
-use Rattle.context_diff.specs.Operations.{OpData, member_of, context_of}
+use Rattle.context_vector.specs.Contexts.{ContextData, has}
+use Rattle.context_diff.specs.Operations.{OpData, context_of}
 use Rattle.causal_gate.specs.Hints.{IsHint, AreHints}
-use Rattle.causal_gate.specs.Waiting.{IsReady, context_at}
+use Rattle.causal_gate.specs.Waiting.{context_at}
 
 pub hints_length : (os : List OpData) (hs : List (Option Member)) → AreHints os hs → length hs ≡ length os
 hints_length [] [] are = refl

@@ -1,5 +1,5 @@
 -- The index by name, as operations come and go.
-use Rattle.std.proofs.Common.{◌≡◌, ℕ, zero, suc, Bool, true, false, ◌||◌, inl, inr, List, [], ◌∷◌, ◌++◌, if◌then◌else◌, refl, sym, ap, subst, ◌∙◌, ◌<◌, rules, arith, remove, map, length}
+use Rattle.std.proofs.Common.{◌≡◌, ℕ, zero, suc, Bool, true, false, ◌||◌, inl, inr, List, [], ◌∷◌, ◌++◌, if◌then◌else◌, refl, sym, ap, subst, ◌∙◌, ◌<◌, arith, remove, map, length}
 use Rattle.std.specs.Prelude.{Box, Contains, Option, Some, None, option_map, slice_get, slice_index_or}
 use Rattle.std.proofs.lemmas.List.{length-map}
 use Rattle.std.proofs.lemmas.Option.{slice_get-map, slice_get-get_or}
@@ -10,7 +10,6 @@ use Rattle.op_name.specs.declared.member.Member.{Member}
 use Rattle.op_name.specs.declared.member.Member.TheVariants.{Original}
 use Rattle.op_name.specs.NameData.{NameData, name_eq}
 use Rattle.op_name.specs.Members.{member_eq}
-use Rattle.op_name.specs.contracts.name.NamePartialEq.TheImpl.{eq-value}
 use Rattle.op_name.proofs.CallerLemmas.{member_same, name_same}
 use Rattle.context_diff.specs.Operations.{OpData, inserting, deleting, undoing, member_of, is_original}
 use Rattle.context_diff.specs.Histories.{is_known}
