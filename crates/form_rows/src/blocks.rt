@@ -207,14 +207,18 @@ fn settle<F: Named + Copy>(blocks: &mut Vec<Block<F>>, rest: &mut Vec<F>)
     }
 }
 
-// Puts the blocks of the last forms after the others, if memory suffices.
+// Puts the blocks of the last forms after the others, if memory suffices. The list of the last forms then gives its memory back: a site
+// has a row for each author, and most of them wait long for the next forms.
 fn move_blocks<F: Named + Copy>(blocks: &mut Vec<Block<F>>, more: Vec<Block<F>>, rest: &mut Vec<F>)
     requires { joined more.items ≡ rest.old.items }
     ensures { joined blocks.new.items ++ rest.new.items ≡ joined blocks.old.items ++ rest.old.items }
 {
     let mut more = more;
     match blocks.append(&mut more) {
-        Ok(()) => rest.clear(),
+        Ok(()) => {
+            rest.clear();
+            rest.shrink_to_fit();
+        }
         Err(_) => {}
     }
 }
