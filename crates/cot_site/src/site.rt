@@ -30,7 +30,6 @@ mod releases;
 ///
 /// Its text is the one of its history, whatever order the operations came in. It keeps forms that it computed in a
 /// cache, which changes no answer and no text.
-#[derive(Drop)]
 pub struct Site {
     number: u16,
     replica: Replica,
@@ -47,6 +46,17 @@ impl Model for Site {
     ghost view = { λ s. record { number = s.number; history = s.replica.history; waiting = s.pool; forms = s.replica.forms; entries = s.replica.entries } };
 
     ghost invariant = { λ s. (s.number < SITES) × AllFormed s.pool };
+}
+
+// Written out, so that whoever gives up a site makes one call, and its proof doesn't go through all that a site holds.
+impl Drop for Site {
+    fn drop(self) {
+        let Site {
+            number: _number,
+            replica: _replica,
+            pool: _pool,
+        } = self;
+    }
 }
 
 impl Site {

@@ -25,7 +25,6 @@ use wire_codec::FrameStream;
 /// It *is* the number of its site and the state so far, the bytes not decoded yet, the number of bytes fed, whether the
 /// header was read, the first fault of the bytes, the first refused verdict, and whether it is out of memory: then each
 /// later call answers so.
-#[derive(Drop)]
 pub struct LogReader {
     number: u16,
     fed: u32,
@@ -46,6 +45,20 @@ impl Model for LogReader {
     ghost view = { λ r. reader_of r.number r.fed r.frames.left (state_of r.taking.site) r.taking.refused r.fault r.spent };
 
     ghost invariant = { λ r. r.spent ≡ false → r.fault ≡ None → IsCounted r.fed r.frames };
+}
+
+// Written out, as a site's is: whoever gives up a reader makes one call.
+impl Drop for LogReader {
+    fn drop(self) {
+        let LogReader {
+            number: _number,
+            fed: _fed,
+            frames: _frames,
+            taking: _taking,
+            fault: _fault,
+            spent: _spent,
+        } = self;
+    }
 }
 
 impl LogReader {
@@ -119,12 +132,12 @@ impl LogReader {
         ensures spent { self.spent ≡ true → result ≡ Err LogBad.Memory }
     {
         let LogReader {
+            number: _,
             fed,
             frames,
             taking,
             fault,
             spent,
-            ..
         } = self;
         taking.finish(fault_at_end(spent, fault, fed, frames.rest()))
     }
