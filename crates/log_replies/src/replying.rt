@@ -100,7 +100,7 @@ fn reply_to_input<C: Replies, S: Source>(
     }
 }
 
-// Appends the reply to the site, which is given up. A function of its own, since to give up a site is long to prove.
+// Appends the reply to the site, which is given up.
 fn reply_to_site<C: Replies>(
     alloc: Global,
     command: &C,
