@@ -22,6 +22,7 @@ mod Tallies
 mod Rounds
 mod Needed
 mod NextLine
+pub mod Messages
 pub mod Knowing
 pub mod Noting
 pub mod CallerLemmas
