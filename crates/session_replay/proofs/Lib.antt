@@ -24,5 +24,6 @@ mod Needed
 mod NextLine
 pub mod Messages
 pub mod Knowing
+pub mod Keeping
 pub mod Noting
 pub mod CallerLemmas

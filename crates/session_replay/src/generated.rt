@@ -1,9 +1,9 @@
 //! A generated session, once all its events are done.
 
 ghost use Rattle.std.specs.Prelude.{◌≡◌, ◌≤◌, ◌<◌, ◌↔◌, ◌∷◌, [], IsNone, length, map, option_map, slice_get};
+ghost use Rattle.context_diff.specs.Ops.{data_of};
 ghost use Rattle.cot_site.specs.Sites.{state_of};
 ghost use Rattle.session_replay.specs.Generating.{all_counted, counts_of, one_more};
-ghost use Rattle.context_diff.specs.Ops.{data_of};
 ghost use Rattle.session_replay.specs.Code.Drawing.{counts_in};
 ghost use Rattle.session_replay.specs.Code.Messages.{AreHeld, operations_of};
 ghost use Rattle.session_replay.specs.declared.generator.TheConstants.{MAX_EVENTS};
@@ -20,6 +20,26 @@ struct Tally {
     deletes: u32,
     undos: u32,
     redos: u32,
+}
+
+impl Tally {
+    // Counts the operation by what it is.
+    fn count(&mut self, op: &Op)
+        requires { all_counted (counts_in self.old) < MAX_EVENTS }
+        ensures { counts_in self.new ≡ one_more (data_of op.now) (counts_in self.old) }
+    {
+        match op {
+            Op::Insert { .. } => self.inserts += 1,
+            Op::Delete { .. } => self.deletes += 1,
+            Op::Undo { generation, .. } => {
+                if generation % 2 == 0 {
+                    self.redos += 1;
+                } else {
+                    self.undos += 1;
+                }
+            }
+        }
+    }
 }
 
 /// The sites of a generated session, and how many operations of each kind they made.
@@ -117,24 +137,4 @@ fn tally_of(sites: &[Site], messages: &[Message]) -> Tally
         counted.count(message.op(sites));
     }
     counted
-}
-
-impl Tally {
-    // Counts the operation by what it is.
-    fn count(&mut self, op: &Op)
-        requires { all_counted (counts_in self.old) < MAX_EVENTS }
-        ensures { counts_in self.new ≡ one_more (data_of op.now) (counts_in self.old) }
-    {
-        match op {
-            Op::Insert { .. } => self.inserts += 1,
-            Op::Delete { .. } => self.deletes += 1,
-            Op::Undo { generation, .. } => {
-                if generation % 2 == 0 {
-                    self.redos += 1;
-                } else {
-                    self.undos += 1;
-                }
-            }
-        }
-    }
 }

@@ -8,8 +8,8 @@ ghost use Rattle.session_replay.specs.Code.Messages.{IsHeld, operation_of};
 use context_diff::Op;
 use cot_site::Site;
 
-/// Where the operation of a message stands: at this place, from 0, in the history of the site of this number, which made it. No
-/// other copy of it is kept.
+/// Where the operation of a message stands: in the history of the site of this number, which made it, at this place, from 0. The
+/// message has no copy of its own.
 #[derive(Clone, Copy, Drop)]
 pub(crate) struct Message {
     pub(crate) site: u16,

@@ -78,6 +78,7 @@ impl Sites {
                 self.sites[at].known();
                 let number = self.messages.len() as u32;
                 let told = tell_made(alloc, number, &op, &mut self.sites[at], out);
+                // The history has it.
                 drop(op);
                 self.messages.push_reserved(Message {
                     site: at as u16,

@@ -3,7 +3,6 @@
 ghost use Rattle.std.specs.Prelude.{◌≡◌, ◌<◌, true, false, IfOk, Some, OnErr, length, slice_get};
 ghost use Rattle.context_diff.specs.Operations.{OpData, IsWellFormed};
 ghost use Rattle.context_diff.specs.Ops.{data_of};
-ghost use Rattle.cot_site.specs.Sites.{AllFormed};
 ghost use Rattle.session_replay.specs.Sessions.{given, given_all, site_at, synced};
 ghost use Rattle.session_replay.specs.LineSteps.{given_message};
 ghost use Rattle.session_replay.specs.Code.Doing.{AreDone, IsLineDone};
@@ -71,7 +70,7 @@ impl Sites {
         ensures sites { length self.new.sites ≡ length self.old.sites }
         ensures messages { self.new.messages ≡ self.old.messages }
     {
-        // The site that is to take the operation in stands in one list with the site that holds it.
+        // A copy, since the site that takes the operation in stands in one list with the one that holds it. It shares the context.
         match self.messages[message].op(&self.sites).try_clone() {
             Ok(copy) => self.deliver_copy(at, many, message, &copy, out),
             Err(memory) => Err(memory),
@@ -89,11 +88,11 @@ impl Sites {
     ) -> Result<(), Memory>
         requires site { at < length self.old.sites }
         requires message { slice_get self.old.messages message ≡ Some (data_of op.now) }
+        requires formed { IsWellFormed (data_of op.now) }
         ensures done { AreDone result (given many at (data_of op.now) self.old) self.old self.new out.old.items out.new.items }
         ensures sites { length self.new.sites ≡ length self.old.sites }
         ensures messages { self.new.messages ≡ self.old.messages }
     {
-        self.known();
         match self.deliver(at, many, op, out) {
             Ok(true) => {
                 self.note(at, message);
@@ -114,13 +113,6 @@ impl Sites {
         if self.known[at] == message {
             self.known[at] = message + 1;
         }
-    }
-
-    // Nothing but what the type keeps: all messages are well formed.
-    fn known(&self)
-        ensures { AllFormed self.now.messages }
-    {
-        let _ = &self.sites;
     }
 
     // Delivers an operation, which is well formed, to the site. Answers whether the site is known to have it then.

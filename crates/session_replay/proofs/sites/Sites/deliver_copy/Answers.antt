@@ -2,11 +2,7 @@ use Rattle.std.proofs.Common.{List, ap, length, arith}
 use Rattle.std.proofs.lemmas.Option.{slice_get_within}
 use Rattle.context_diff.specs.Operations.{OpData}
 use Rattle.context_diff.specs.Ops.{data_of}
-use Rattle.cot_site.proofs.CallerLemmas.{formed_at}
 use Rattle.session_replay.proofs.sites.Sites.deliver_copy.Goals as goal
-
-pub deliver-requires-clause-formed : goal.deliver-requires-clause-formed
-deliver-requires-clause-formed c = formed_at c.args.self.now.messages c.args.message (data_of c.args.op.now) c.known.ensures c.requires.message
 
 pub note-requires-clause-message : goal.note-requires-clause-message
 note-requires-clause-message c =

@@ -7,7 +7,7 @@ use Rattle.session_replay.specs.Sessions.{SessionData, given_all}
 use Rattle.cot_site.specs.Sites.{state_of}
 use Rattle.session_replay.specs.Code.Messages.{operation_of}
 use Rattle.session_replay.proofs.Knowing.{known_passed}
-use Rattle.session_replay.proofs.Noting.{known_within, known_session}
+use Rattle.session_replay.proofs.Keeping.{known_within, known_session}
 use Rattle.session_replay.proofs.Steps.{along_next, along_end, along_short, done_short, reached_in, stopped}
 use Rattle.session_replay.proofs.Loops.{given_more, given_none, message_there}
 use Rattle.session_replay.proofs.sites.Sites.give_all.Goals as goal
@@ -15,7 +15,7 @@ use Rattle.session_replay.proofs.sites.Sites.give_all.Goals as goal
 pub index-message-requires : goal.index-message-requires
 index-message-requires c =
     let counted : vec_len c.self.inside.known ≡ length c.self.inside.known.items = omega (arith, c.self.inside.known.ok.0) in
-    known_within c.self.inside.sites.items c.self.inside.known.items c.self.inside.messages.items _ c.args.self.now c.args.at (vec_len c.self.inside.known) counted c.self.invariant c.self.view_is c.requires
+    known_within c.self.inside.sites.items c.self.inside.known.items c.self.inside.messages.items c.args.self.now c.args.at (vec_len c.self.inside.known) counted c.self.invariant c.self.view_is c.requires
 
 pub loop-message-init : goal.loop-message-init
 loop-message-init c = record {
