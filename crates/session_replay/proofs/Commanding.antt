@@ -12,7 +12,7 @@ use Rattle.script_text.specs.Report.{op_text}
 use Rattle.script_text.specs.Verdicts.{local_text}
 use Rattle.session_replay.specs.declared.sites.commands.Command.{Command}
 use Rattle.session_replay.specs.Steps.{last_of, written_by}
-use Rattle.session_replay.specs.Sessions.{SessionData, site_at, settling, made}
+use Rattle.session_replay.specs.Sessions.{SessionData, site_at, settling}
 use Rattle.session_replay.specs.LineSteps.{commanded}
 use Rattle.session_replay.specs.Code.Doing.{AreDone, local_of}
 use Rattle.session_replay.specs.declared.message.Message.{Message}

@@ -32,7 +32,8 @@ Shows sites messages d = session_of sites (said sites messages) ≡ d
 
 -- ---- no message yet
 
-pub keeps_none : (sites : List SiteData) (known : List ℕ) (messages : List Message) → sites ≡ [] → known ≡ [] → messages ≡ [] → Keeps sites known messages
+pub keeps_none : (sites : List SiteData) (known : List ℕ) (messages : List Message) → sites ≡ [] → known ≡ [] → messages ≡ []
+    → Keeps sites known messages
 keeps_none sites known messages no_sites none no_messages =
     subst (λ (ss : List SiteData). Keeps ss known messages) (sym no_sites)
     (subst (λ (ks : List ℕ). Keeps [] ks messages) (sym none) (subst (λ (ms : List Message). Keeps [] [] ms) (sym no_messages) nothing))
@@ -46,7 +47,8 @@ keeps_none sites known messages no_sites none no_messages =
     }
 
 pub keeps_first : (count : ℕ) (sites : List SiteData) (known : List ℕ) (messages : List Message)
-    → count ≤ SITES → map state_of sites ≡ new_sites 0 count → AreKnown (new_sites 0 count) known [] → messages ≡ [] → Keeps sites known messages
+    → count ≤ SITES → map state_of sites ≡ new_sites 0 count → AreKnown (new_sites 0 count) known [] → messages ≡ []
+    → Keeps sites known messages
 keeps_first count sites known messages few made none no_messages =
     subst (λ (ss : List State). IsKept ss known messages) (sym made)
     (subst (λ (ms : List Message). IsKept (new_sites 0 count) known ms) (sym no_messages) first)
@@ -89,7 +91,8 @@ pub known_here : (sites : List SiteData) (known : List ℕ) (messages : List Mes
     → (n ≤ length (said sites messages)) × HasAll (state_of x) (take n (said sites messages))
 known_here sites known messages i n x keeps within at is =
     let ms = said sites messages in
-    let here = known_session sites known messages (session_of sites ms) i n keeps refl (omega (arith, within, length-map sites state_of)) is in
+    let there : i < length (map state_of sites) = omega (arith, within, length-map sites state_of) in
+    let here = known_session sites known messages (session_of sites ms) i n keeps refl there is in
     (here.0, subst (λ s. HasAll s (take n ms)) (sym (state_at sites ms i x within at)) here.1)
 
 -- a later state of a site was written back, with the number of messages that it is known to have
@@ -103,7 +106,9 @@ kept_at sites known messages i x y n keeps is later few has =
     let grown : AreLater ss ts = later_at sites i x y is later in
     let same : said (set sites i y) messages ≡ ms = same_operations ss ts messages grown keeps.held in
     let all = known_set ss known ms i (state_of y) n keeps.known few has in
-    let noted : AreKnown ts (set known i n) ms = subst (λ (us : List State). AreKnown us (set known i n) ms) (sym (map-set state_of sites i y)) all in
+    let noted : AreKnown ts (set known i n) ms =
+    subst (λ (us : List State). AreKnown us (set known i n) ms) (sym (map-set state_of sites i y)) all
+    in
     record {
       few = omega (arith, keeps.few, length-map sites state_of, length-map (set sites i y) state_of, length-set sites i y);
       held = held_later ss ts messages grown keeps.held;
@@ -113,12 +118,14 @@ kept_at sites known messages i x y n keeps is later few has =
 
 -- ---- the message of a number
 
-message_within : (sites : List SiteData) (messages : List Message) (d : SessionData) (n : ℕ) → Shows sites messages d → n < length d.messages → n < length messages
+message_within : (sites : List SiteData) (messages : List Message) (d : SessionData) (n : ℕ) → Shows sites messages d
+    → n < length d.messages → n < length messages
 message_within sites messages d n seen within =
     omega (arith, within, ap (λ (e : SessionData). length e.messages) seen, length-map messages (operation_of (map state_of sites)))
 
 pub message_held : (sites : List SiteData) (known : List ℕ) (messages : List Message) (d : SessionData) (n : ℕ) (m : Message)
-    → Keeps sites known messages → Shows sites messages d → n < length d.messages → m ≡ slice_index_or messages n m → IsHeld (map state_of sites) m
+    → Keeps sites known messages → Shows sites messages d → n < length d.messages → m ≡ slice_index_or messages n m
+    → IsHeld (map state_of sites) m
 message_held sites known messages d n m keeps seen within is =
     keeps.held m (message_in messages n m (message_within sites messages d n seen within) is)
 
@@ -142,7 +149,8 @@ message_formed sites known messages d n o keeps seen at =
 -- the site has one more of the first messages
 pub next_kept : (sites : List SiteData) (known : List ℕ) (messages : List Message) (d : SessionData) (i k n : ℕ)
     → Keeps sites known messages → Shows sites messages d → i < length d.sites → n ≡ slice_index_or known i n → n ≡ k
-    → (o : OpData) → slice_get d.messages k ≡ Some o → k < length d.messages → Has (site_at d i) o → Keeps sites (set known i (k + 1)) messages
+    → (o : OpData) → slice_get d.messages k ≡ Some o → k < length d.messages → Has (site_at d i) o
+    → Keeps sites (set known i (k + 1)) messages
 next_kept sites known messages d i k n keeps seen within is same o at less has =
     let ss = map state_of sites in
     let ms = said sites messages in

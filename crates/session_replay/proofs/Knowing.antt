@@ -18,7 +18,7 @@ use Rattle.context_diff.specs.Histories.{generation_in}
 use Rattle.context_diff.specs.Ops.{op_eq}
 use Rattle.context_diff.proofs.CallerLemmas.{contains_cases, contains_here, contains_later, contains_none}
 use Rattle.op_name.specs.Members.{target_of}
-use Rattle.cot_site.specs.States.{State, IsSettled, judged, delivered, after_verdict}
+use Rattle.cot_site.specs.States.{State, judged, delivered, after_verdict}
 use Rattle.cot_site.specs.Releases.{IsSound, IsLater, all_releases, settled}
 use Rattle.cot_site.specs.Verdicts.{is_repeat, is_forged, placed_verdict, ready_verdict, waiting_verdict, lacked}
 use Rattle.site_answers.specs.declared.verdict.Verdict.{Verdict}
@@ -121,7 +121,8 @@ has_none s ms o at = absurd (contains_none o at)
 
 -- what is a repeat after the event, the site has after its releases, unless memory ran out
 pub event_has : {T E : Type 0} (result : Result T E) (written : List ℕ) (before s now : State) (old new : List ℕ) (n : ℕ) (ms : List OpData)
-    → AreDone result (settling written s) before now old new → IsSound s → ((o : OpData) → Contains (take n ms) o → is_repeat s.history o ≡ true) → HasAll now (take (still_known (is_ok result) n) ms)
+    → AreDone result (settling written s) before now old new → IsSound s
+    → ((o : OpData) → Contains (take n ms) o → is_repeat s.history o ≡ true) → HasAll now (take (still_known (is_ok result) n) ms)
 event_has (Ok t) written before s now old new n ms done sound repeats =
     λ o at. subst (λ x. Has x o) (sym done.0) (settling_has written s before o sound (repeats o at))
 event_has (Err e) written before s now old new n ms done sound repeats = has_none now ms
@@ -137,11 +138,13 @@ still_few (Ok t) n count few = few
 still_few (Err e) n count few = omega arith
 
 -- an operation whose delivery was done, with a verdict by which the history has it, the site has
-pub delivery_has : (many : Bool) (o : OpData) (before now : State) → now ≡ last_of before (taking_in many o before) → IsSound before → IsWellFormed o → is_had (judged before o) ≡ true → Has now o
+pub delivery_has : (many : Bool) (o : OpData) (before now : State)
+    → now ≡ last_of before (taking_in many o before) → IsSound before → IsWellFormed o → is_had (judged before o) ≡ true → Has now o
 delivery_has many o before now done sound formed had =
     let written = told_verdict many o (judged before o) before.number in
     let after = sound_delivered before o sound formed in
-    subst (λ s. Has s o) (sym done) (settling_has written (delivered before o) before o after (repeat_had (judged before o) before o refl had))
+    let repeat = repeat_had (judged before o) before o refl had in
+    subst (λ s. Has s o) (sym done) (settling_has written (delivered before o) before o after repeat)
 
 -- ---- one message more
 

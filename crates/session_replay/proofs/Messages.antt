@@ -27,7 +27,8 @@ later_sites [] = tt
 later_sites (s ∷ ss) = (later_same s, later_sites ss)
 
 -- the site at one place is a later one
-pub later_at : (sites : List SiteData) (i : ℕ) (x y : SiteData) → x ≡ slice_index_or sites i x → IsLater (state_of x) (state_of y) → AreLater (map state_of sites) (map state_of (set sites i y))
+pub later_at : (sites : List SiteData) (i : ℕ) (x y : SiteData) → x ≡ slice_index_or sites i x → IsLater (state_of x) (state_of y)
+    → AreLater (map state_of sites) (map state_of (set sites i y))
 later_at [] i x y is later = tt
 later_at (z ∷ zs) zero x y is later = (subst (λ (s : SiteData). IsLater (state_of s) (state_of y)) is later, later_sites (map state_of zs))
 later_at (z ∷ zs) (suc i) x y is later = (later_same (state_of z), later_at zs i x y is later)
@@ -45,11 +46,14 @@ begun_within h k n begins within = omega (arith, within, length-take (length h) 
 begun_at : (h k : List OpData) (n : ℕ) (d : OpData) → take (length h) k ≡ h → n < length h → slice_index_or k n d ≡ slice_index_or h n d
 begun_at h k n d begins within = sym (get_or-take (length h) k n d within) ∙ ap (λ (os : List OpData). slice_index_or os n d) begins
 
-later_there : (ss ts : List State) (j : ℕ) (d : State) → AreLater ss ts → j < length ss → (j < length ts) × IsLater (slice_index_or ss j d) (slice_index_or ts j d)
+later_there : (ss ts : List State) (j : ℕ) (d : State) → AreLater ss ts → j < length ss
+    → (j < length ts) × IsLater (slice_index_or ss j d) (slice_index_or ts j d)
 later_there [] ts j d later within = absurd (omega (arith, within))
 later_there (s ∷ ss) [] j d later within = absurd later
 later_there (s ∷ ss) (t ∷ ts) zero d later within = (omega arith, later.0)
-later_there (s ∷ ss) (t ∷ ts) (suc j) d later within = let rest = later_there ss ts j d later.1 (omega arith) in (omega (arith, rest.0), rest.1)
+later_there (s ∷ ss) (t ∷ ts) (suc j) d later within =
+    let rest = later_there ss ts j d later.1 (omega arith) in
+    (omega (arith, rest.0), rest.1)
 
 stays : (ss ts : List State) (m : Message) → AreLater ss ts → IsHeld ss m → IsHeld ts m × (operation_of ts m ≡ operation_of ss m)
 stays ss ts m later held =
@@ -74,14 +78,19 @@ same_operations ss ts (m ∷ ms) later held =
 
 -- the message of an operation that a site made, and maybe more after it
 pub message_made : (sites : List SiteData) (i : ℕ) (x y z : SiteData) (o : OpData) (m : Message)
-    → i < length sites → x ≡ slice_index_or sites i x → state_of y ≡ with_last (state_of x) o → IsLater (state_of y) (state_of z) → m.site ≡ i → m.place ≡ length x.history
+    → i < length sites → x ≡ slice_index_or sites i x → state_of y ≡ with_last (state_of x) o → IsLater (state_of y) (state_of z)
+    → m.site ≡ i → m.place ≡ length x.history
     → IsHeld (map state_of (set sites i z)) m × (operation_of (map state_of (set sites i z)) m ≡ o)
 message_made sites i x y z o m within is made later site place =
-    let there : history_of (map state_of (set sites i z)) m ≡ z.history = ap (λ j. (slice_index_or (map state_of (set sites i z)) j (new_site m.site)).history) site ∙ written_there sites i z (new_site m.site) within in
+    let ts = map state_of (set sites i z) in
+    let named : history_of ts m ≡ (slice_index_or ts i (new_site m.site)).history = ap (λ j. (slice_index_or ts j (new_site m.site)).history) site in
+    let there : history_of ts m ≡ z.history = named ∙ written_there sites i z (new_site m.site) within in
     let grown : y.history ≡ x.history ++ o ∷ [] = ap (λ (s : State). s.history) made in
-    let last : m.place < length y.history = omega (arith, place, ap (λ (os : List OpData). length os) grown, length-append x.history (o ∷ [])) in
+    let longer = ap (λ (os : List OpData). length os) grown in
+    let last : m.place < length y.history = omega (arith, place, longer, length-append x.history (o ∷ [])) in
     let begins : take (length y.history) z.history ≡ y.history = later.history in
-    let held : m.place < length (history_of (map state_of (set sites i z)) m) = omega (arith, begun_within y.history z.history m.place begins last, ap (λ (os : List OpData). length os) there) in (
+    let later_last = begun_within y.history z.history m.place begins last in
+    let held : m.place < length (history_of ts m) = omega (arith, later_last, ap (λ (os : List OpData). length os) there) in (
       record { site = omega (arith, site, within, written_count sites i z); place = held },
       ap (λ (os : List OpData). slice_index_or os m.place no_operation) there
           ∙ begun_at y.history z.history m.place no_operation begins last
@@ -90,7 +99,8 @@ message_made sites i x y z o m within is made later site place =
           ∙ last_one x.history,
     )
   where
-    written_there : (zs : List SiteData) (j : ℕ) (z : SiteData) (d : State) → j < length zs → (slice_index_or (map state_of (set zs j z)) j d).history ≡ z.history
+    written_there : (zs : List SiteData) (j : ℕ) (z : SiteData) (d : State) → j < length zs
+        → (slice_index_or (map state_of (set zs j z)) j d).history ≡ z.history
     written_there [] j z d within = absurd (omega (arith, within))
     written_there (w ∷ ws) zero z d within = refl
     written_there (w ∷ ws) (suc j) z d within = written_there ws j z d (omega arith)
@@ -105,7 +115,10 @@ message_made sites i x y z o m within is made later site place =
     last_one (p ∷ h) = last_one h
 
 pub held_push : (ss : List State) (ms : List Message) (m : Message) → AreHeld ss ms → IsHeld ss m → AreHeld ss (ms ++ m ∷ [])
-held_push ss ms m held one n at = elim (Contains-push_cases ms m n at) [ inl before ↦ held n before | inr same ↦ subst (IsHeld ss) same one ]
+held_push ss ms m held one n at = elim (Contains-push_cases ms m n at) [
+  | inl before ↦ held n before
+  | inr same ↦ subst (IsHeld ss) same one
+]
 
 -- ---- the message of a number
 
@@ -114,7 +127,8 @@ message_in [] n m within is = absurd (omega (arith, within))
 message_in (k ∷ ks) zero m within is = subst (Contains (k ∷ ks)) (sym is) (contains_here k ks)
 message_in (k ∷ ks) (suc n) m within is = contains_later k ks m (message_in ks n m (omega arith) is)
 
-pub message_at : (ss : List State) (ms : List Message) (n : ℕ) (m : Message) → n < length ms → m ≡ slice_index_or ms n m → slice_get (operations_of ss ms) n ≡ Some (operation_of ss m)
+pub message_at : (ss : List State) (ms : List Message) (n : ℕ) (m : Message) → n < length ms → m ≡ slice_index_or ms n m
+    → slice_get (operations_of ss ms) n ≡ Some (operation_of ss m)
 message_at ss [] n m within is = absurd (omega (arith, within))
 message_at ss (k ∷ ks) zero m within is = ap (λ p. Some (operation_of ss p)) (sym is)
 message_at ss (k ∷ ks) (suc n) m within is = message_at ss ks n m (omega arith) is

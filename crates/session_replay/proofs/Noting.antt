@@ -1,6 +1,6 @@
 -- What sites in memory keep and show after each event at one of them: a delivery, or a local operation.
-use Rattle.std.proofs.Common.{◌≡◌, ℕ, ◌<◌, Bool, List, [], ◌∷◌, ◌++◌, sym, ap, subst, ◌∙◌, length, map, set, arith}
-use Rattle.std.specs.Prelude.{Result, Ok, Err, IfOk, true, slice_index_or}
+use Rattle.std.proofs.Common.{◌≡◌, ℕ, ◌<◌, Bool, List, [], ◌∷◌, ◌++◌, sym, ap, subst, ◌∙◌, length, map, set, take, arith}
+use Rattle.std.specs.Prelude.{Contains, Result, Ok, Err, IfOk, true, slice_index_or}
 use Rattle.std.specs.Result.{is_ok}
 use Rattle.std.proofs.lemmas.List.{map-append, length-map, length-set, get_or-set_same}
 use Rattle.context_diff.specs.Operations.{OpData, IsWellFormed}
@@ -16,7 +16,7 @@ use Rattle.session_replay.specs.Sessions.{SessionData, site_at, settling, taking
 use Rattle.session_replay.specs.LineSteps.{commanded}
 use Rattle.session_replay.specs.Code.Doing.{AreDone, local_of}
 use Rattle.session_replay.specs.Code.Knowing.{Has, AreKnown, still_known, is_had}
-use Rattle.session_replay.specs.Code.Messages.{IsHeld, operation_of, operations_of}
+use Rattle.session_replay.specs.Code.Messages.{IsHeld, operation_of}
 use Rattle.session_replay.proofs.Releasing.{event_later, later_same}
 use Rattle.session_replay.proofs.Lifting.{session_of, state_at, set_twice, given_done, made_formed}
 use Rattle.session_replay.proofs.Commanding.{read_back, site_is, site_within, command_made}
@@ -38,9 +38,11 @@ pub record IsDelivery {T E : Type 0} (result : Result T E) (many : Bool) (d : Se
 
 -- the site was read before
 pub site_sound : (sites : List SiteData) (messages : List Message) (d : SessionData) (i : ℕ) (first x : SiteData)
-    → Shows sites messages d → i < length d.sites → first ≡ slice_index_or sites i first → x ≡ slice_index_or sites i x → IsSound (state_of first) → IsSound (state_of x)
+    → Shows sites messages d → i < length d.sites → first ≡ slice_index_or sites i first → x ≡ slice_index_or sites i x
+    → IsSound (state_of first) → IsSound (state_of x)
 site_sound sites messages d i first x seen within one two sound =
-    subst IsSound (site_is sites (said sites messages) d i first seen within one ∙ sym (site_is sites (said sites messages) d i x seen within two)) sound
+    let ms = said sites messages in
+    subst IsSound (site_is sites ms d i first seen within one ∙ sym (site_is sites ms d i x seen within two)) sound
 
 module _ {T E : Type 0} {result : Result T E} {many : Bool} {d : SessionData} {sites : List SiteData} {messages : List Message}
     {i : ℕ} {x y : SiteData} {o : OpData} {old new : List ℕ} (e : IsDelivery result many d sites messages i x y o old new) where
@@ -51,7 +53,8 @@ module _ {T E : Type 0} {result : Result T E} {many : Bool} {d : SessionData} {s
       let written = told_verdict many o (judged s o) s.number in
       event_later result written s (delivered s o) (state_of y) old new e.done first (sound_delivered s o e.sound e.formed)
 
-  pub delivery_kept : (known : List ℕ) (n next : ℕ) → Keeps sites known messages → n ≡ slice_index_or known i n → next ≡ still_known (is_ok result) n
+  pub delivery_kept : (known : List ℕ) (n next : ℕ) → Keeps sites known messages → n ≡ slice_index_or known i n
+      → next ≡ still_known (is_ok result) n
       → Keeps (set sites i y) (set known i next) messages
   delivery_kept known n next keeps count counted =
       let ms = said sites messages in
@@ -60,7 +63,8 @@ module _ {T E : Type 0} {result : Result T E} {many : Bool} {d : SessionData} {s
       let here = known_here sites known messages i n x keeps within e.is count in
       let after = sound_delivered s o e.sound e.formed in
       let written = told_verdict many o (judged s o) s.number in
-      let has = event_known result written s (delivered s o) (state_of y) old new n ms e.done after (λ p is. repeat_after (judged s o) o p s is) here.1 in
+      let stays : (p : OpData) → is_repeat s.history p ≡ true → is_repeat (delivered s o).history p ≡ true = λ p is. repeat_after (judged s o) o p s is in
+      let has = event_known result written s (delivered s o) (state_of y) old new n ms e.done after stays here.1 in
       let still = still_known (is_ok result) n in
       let kept = kept_at sites known messages i x y still keeps e.is delivery_later (still_few result n (length ms) here.0) has in
       subst (λ j. Keeps (set sites i y) (set known i j) messages) (sym counted) kept
@@ -77,7 +81,8 @@ module _ {T E : Type 0} {result : Result T E} {many : Bool} {d : SessionData} {s
       → AreDone result (given many i o d) d (session_of (set sites i y) (said (set sites i y) messages)) old new
   delivery_done known keeps =
       let done = given_done result d sites (said sites messages) i many o x y old new e.seen e.within e.is e.done in
-      subst (λ (ms : List OpData). AreDone result (given many i o d) d (session_of (set sites i y) ms) old new) (sym (delivery_same known keeps)) done
+      subst (λ (ms : List OpData). AreDone result (given many i o d) d (session_of (set sites i y) ms) old new)
+      (sym (delivery_same known keeps)) done
 
 -- the site has the operation then, where its verdict says so
 pub delivery_known : {E : Type 0} (result : Result Bool E) (many : Bool) (d : SessionData) (sites : List SiteData) (messages : List Message) (ms : List OpData)
@@ -108,18 +113,22 @@ pub record IsMaking {T E : Type 0} (result : Result T E) (written : List ℕ) (d
 
 -- the place of the operation that a site is about to make
 pub made_place : (sites : List SiteData) (i : ℕ) (first x : SiteData) (place : ℕ)
-    → i < length sites → first ≡ slice_index_or sites i first → x ≡ slice_index_or sites i x → place ≡ length first.history → place ≡ length x.history
+    → i < length sites → first ≡ slice_index_or sites i first → x ≡ slice_index_or sites i x → place ≡ length first.history
+    → place ≡ length x.history
 made_place sites i first x place within one two is =
     is ∙ ap (λ (s : State). length s.history) (state_at sites [] i first within one ∙ sym (state_at sites [] i x within two))
 
 -- the site was read again before it told the operation
 pub told_again : {T E : Type 0} (result : Result T E) (written : List ℕ) (sites : List SiteData) (i : ℕ) (y v z : SiteData) (old new : List ℕ)
-    → i < length sites → v ≡ slice_index_or (set sites i y) i v → AreDone result (settling written (state_of v)) (state_of v) (state_of z) old new
+    → i < length sites → v ≡ slice_index_or (set sites i y) i v
+    → AreDone result (settling written (state_of v)) (state_of v) (state_of z) old new
     → AreDone result (settling written (state_of y)) (state_of y) (state_of z) old new
 told_again result written sites i y v z old new within again done =
-    subst (λ (s : SiteData). AreDone result (settling written (state_of s)) (state_of s) (state_of z) old new) (read_back sites i v y within again) done
+    subst (λ (s : SiteData). AreDone result (settling written (state_of s)) (state_of s) (state_of z) old new)
+    (read_back sites i v y within again) done
 
-pub sound_again : (sites : List SiteData) (i : ℕ) (y w : SiteData) → i < length sites → w ≡ slice_index_or (set sites i y) i w → IsSound (state_of w) → IsSound (state_of y)
+pub sound_again : (sites : List SiteData) (i : ℕ) (y w : SiteData) → i < length sites → w ≡ slice_index_or (set sites i y) i w
+    → IsSound (state_of w) → IsSound (state_of y)
 sound_again sites i y w within again sound = subst (λ (s : SiteData). IsSound (state_of s)) (read_back sites i w y within again) sound
 
 module _ {T E : Type 0} {result : Result T E} {written : List ℕ} {d : SessionData} {sites : List SiteData} {messages : List Message}
@@ -142,7 +151,8 @@ module _ {T E : Type 0} {result : Result T E} {written : List ℕ} {d : SessionD
   -- the operation is the next
   making_next : (known : List ℕ) → Keeps sites known messages → said (set sites i z) (messages ++ m ∷ []) ≡ said sites messages ++ o ∷ []
   making_next known keeps =
-      map-append (operation_of (map state_of (set sites i z))) messages (m ∷ []) ∙ (λ j. making_same known keeps j ++ making_message.1 j ∷ [])
+      map-append (operation_of (map state_of (set sites i z))) messages (m ∷ [])
+      ∙ (λ j. making_same known keeps j ++ making_message.1 j ∷ [])
 
   making_at : (known : List ℕ) (n : ℕ) → Keeps sites known messages → n ≡ slice_index_or known i n
       → Keeps (set sites i z) (set known i (still_known (is_ok result) n)) messages
@@ -153,7 +163,8 @@ module _ {T E : Type 0} {result : Result T E} {written : List ℕ} {d : SessionD
       let repeats : (p : OpData) → Has (state_of x) p → is_repeat y.history p ≡ true =
       λ p has. subst (λ (s : State). is_repeat s.history p ≡ true) (sym e.last) (repeat_more x.history (o ∷ []) p has.0)
       in
-      let has = event_has result written (state_of y) (state_of y) (state_of z) old new n ms e.done e.sound (λ p at. repeats p (here.1 p at)) in
+      let stays : (p : OpData) → Contains (take n ms) p → is_repeat y.history p ≡ true = λ p at. repeats p (here.1 p at) in
+      let has = event_has result written (state_of y) (state_of y) (state_of z) old new n ms e.done e.sound stays in
       kept_at sites known messages i x z (still_known (is_ok result) n) keeps e.is making_later (still_few result n (length ms) here.0) has
 
   making_all : (known : List ℕ) (n : ℕ) → Keeps sites known messages → n ≡ slice_index_or known i n
@@ -162,8 +173,9 @@ module _ {T E : Type 0} {result : Result T E} {written : List ℕ} {d : SessionD
       let ts = map state_of (set sites i z) in
       let ns = set known i (still_known (is_ok result) n) in
       let kept = making_at known n keeps count in
-      let more : AreKnown ts ns (said (set sites i z) messages ++ o ∷ []) = known_more ts ns (said (set sites i z) messages) (o ∷ []) kept.known in
-      let next : said (set sites i z) messages ++ o ∷ [] ≡ said (set sites i z) (messages ++ m ∷ []) =
+      let before = said (set sites i z) messages in
+      let more : AreKnown ts ns (before ++ o ∷ []) = known_more ts ns before (o ∷ []) kept.known in
+      let next : before ++ o ∷ [] ≡ said (set sites i z) (messages ++ m ∷ []) =
       ap (λ (os : List OpData). os ++ o ∷ []) (making_same known keeps) ∙ sym (making_next known keeps)
       in
       let formed = made_formed (said sites messages) o x y keeps.formed e.last e.sound.history in
@@ -183,17 +195,17 @@ module _ {T E : Type 0} {result : Result T E} {written : List ℕ} {d : SessionD
       (subst (λ (ns : List Message). Keeps (set sites i z) (set known i next) ns) (sym pushed)
       (subst (λ j. Keeps (set sites i z) (set known i j) (messages ++ m ∷ [])) (sym counted) (making_all known n keeps count)))
 
--- the operation is the next message
-pub making_done : {T E : Type 0} {result : Result T E} {d : SessionData} {sites : List SiteData} {messages : List Message} {i : ℕ} {x y z : SiteData}
-    {o : OpData} {m : Message} {count : ℕ} {old new : List ℕ} (e : IsMaking result (op_text count o) d sites messages i x y z o m old new)
-    (known : List ℕ) (now : List Message) (command : Command)
-    → Keeps sites known messages → now ≡ messages ++ m ∷ [] → local_of command (state_of x) ≡ Ok o → count ≡ length messages
-    → let after = set (set sites i y) i z in AreDone result (commanded i (local_of command (site_at d i)) d) d (session_of after (said after now)) old new
-making_done {result = result} {d = d} {sites = sites} {messages = messages} {i = i} {x = x} {y = y} {z = z} {o = o} {m = m} {count = count} {old = old} {new = new} e known now command keeps pushed answer counted =
-    let ms = said sites messages in
-    let number : count ≡ length ms = omega (arith, counted, length-map messages (operation_of (map state_of sites))) in
-    let steps = commanded i (local_of command (site_at d i)) d in
-    let done = command_made result d sites ms i command o x y z count old new e.seen e.within e.is answer e.last number e.done in
-    let next : said (set sites i z) now ≡ ms ++ o ∷ [] = ap (said (set sites i z)) pushed ∙ making_next e known keeps in
-    subst (λ (ss : List SiteData). AreDone result steps d (session_of ss (said ss now)) old new) (sym (set_twice sites i y z))
-    (subst (λ (os : List OpData). AreDone result steps d (session_of (set sites i z) os) old new) (sym next) done)
+  -- the operation is the next message
+  pub making_done : (known : List ℕ) (now : List Message) (command : Command) (count : ℕ)
+      → Keeps sites known messages → now ≡ messages ++ m ∷ [] → local_of command (state_of x) ≡ Ok o → count ≡ length messages → written ≡ op_text count o
+      → let after = set (set sites i y) i z in
+      AreDone result (commanded i (local_of command (site_at d i)) d) d (session_of after (said after now)) old new
+  making_done known now command count keeps pushed answer counted tells =
+      let ms = said sites messages in
+      let number : count ≡ length ms = omega (arith, counted, length-map messages (operation_of (map state_of sites))) in
+      let steps = commanded i (local_of command (site_at d i)) d in
+      let told = subst (λ (w : List ℕ). AreDone result (settling w (state_of y)) (state_of y) (state_of z) old new) tells e.done in
+      let done = command_made result d sites ms i command o x y z count old new e.seen e.within e.is answer e.last number told in
+      let next : said (set sites i z) now ≡ ms ++ o ∷ [] = ap (said (set sites i z)) pushed ∙ making_next known keeps in
+      subst (λ (ss : List SiteData). AreDone result steps d (session_of ss (said ss now)) old new) (sym (set_twice sites i y z))
+      (subst (λ (os : List OpData). AreDone result steps d (session_of (set sites i z) os) old new) (sym next) done)

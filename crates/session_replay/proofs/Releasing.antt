@@ -70,11 +70,13 @@ later_first n s r sound some =
     let along = sound_along (suc n) s (r ∷ []) (releases n r.after) sound (ap (and_more (releases n)) some) in
     subst (IsLater s) (after_more s r [] ∙ after_none r.after) along.1
 
-later_by : (n : ℕ) → ((t : State) → IsSoundSite t → Every (IsLater t) (map free_step (releases n t))) → (s : State) → IsSoundSite s → (r : Option Released) → released s ≡ r → Every (IsLater s) (map free_step (and_more (releases n) r))
+later_by : (n : ℕ) → ((t : State) → IsSoundSite t → Every (IsLater t) (map free_step (releases n t)))
+    → (s : State) → IsSoundSite s → (r : Option Released) → released s ≡ r → Every (IsLater s) (map free_step (and_more (releases n) r))
 later_by n rest s sound None none = tt
 later_by n rest s sound (Some r) some =
     let after = later_first n s r sound some in
-    (after, every_map (IsLater r.after) (IsLater s) (λ t later. later_on s r.after t after later) _ (rest r.after (sound_released s r sound some)))
+    let more = rest r.after (sound_released s r sound some) in
+    (after, every_map (IsLater r.after) (IsLater s) (λ t later. later_on s r.after t after later) _ more)
 
 later_freed : (n : ℕ) (s : State) → IsSoundSite s → Every (IsLater s) (map free_step (releases n s))
 unfolding releases
@@ -82,7 +84,8 @@ later_freed zero s sound = tt
 later_freed (suc n) s sound = later_by n (later_freed n) s sound (released s) refl
 
 later_settling : (written : List ℕ) (before s : State) → IsLater before s → IsSoundSite s → Every (IsLater before) (settling written s)
-later_settling written before s later sound = (later, every_map (IsLater s) (IsLater before) (λ t. later_on before s t later) _ (later_freed (length s.waiting) s sound))
+later_settling written before s later sound =
+    (later, every_map (IsLater s) (IsLater before) (λ t. later_on before s t later) _ (later_freed (length s.waiting) s sound))
 
 -- however far an event and its releases came, what the site had integrated it has
 pub event_later : {T E : Type 0} (result : Result T E) (written : List ℕ) (before s now : State) (old new : List ℕ)

@@ -1,5 +1,5 @@
 -- Operations counted one after the other.
-use Rattle.std.proofs.Common.{◌≡◌, ℕ, suc, ◌+◌, ◌<◌, ◌≤◌, length-drop, Bool, true, false, List, [], ◌∷◌, length, map, drop, get_or, refl, ap, sym, ◌∙◌, arith}
+use Rattle.std.proofs.Common.{◌≡◌, ℕ, suc, ◌+◌, ◌<◌, ◌≤◌, length-drop, Bool, true, false, List, [], ◌∷◌, length, drop, get_or, refl, ap, sym, ◌∙◌, arith}
 use Rattle.std.specs.Prelude.{if◌then◌else◌}
 use Rattle.std.proofs.Math.Seq.{drop-cons}
 use Rattle.std.proofs.lemmas.List.{drop-map, drop_all}
@@ -60,7 +60,8 @@ tally_first os =
     let k = counts_of os in
     λ i. record { inserts = nothing_more k.inserts i; deletes = nothing_more k.deletes i; undos = nothing_more k.undos i; redos = nothing_more k.redos i }
 
-pub tally_next : (ss : List State) (ms : List Message) (i : ℕ) (d : Message) (o : OpData) (a : Counts) → i < length ms → o ≡ operation_of ss (get_or ms i d) → IsTally (operations_of ss ms) i a
+pub tally_next : (ss : List State) (ms : List Message) (i : ℕ) (d : Message) (o : OpData) (a : Counts)
+    → i < length ms → o ≡ operation_of ss (get_or ms i d) → IsTally (operations_of ss ms) i a
     → IsTally (operations_of ss ms) (i + 1) (one_more o a)
 tally_next ss ms i d o a within named tally =
     let next : suc i ≡ i + 1 = omega arith in
@@ -68,7 +69,10 @@ tally_next ss ms i d o a within named tally =
     let rest = drop (i + 1) ms in
     let cut : drop i ms ≡ get_or ms i d ∷ rest = drop-cons ms i d within ∙ ap (λ n. get_or ms i d ∷ drop n ms) next in
     let here : drop i os ≡ o ∷ drop (i + 1) os =
-    drop-map (operation_of ss) i ms ∙ ap (operations_of ss) cut ∙ ap (λ p. p ∷ operations_of ss rest) (sym named) ∙ ap (λ qs. o ∷ qs) (sym (drop-map (operation_of ss) (i + 1) ms))
+    drop-map (operation_of ss) i ms
+    ∙ ap (operations_of ss) cut
+    ∙ ap (λ p. p ∷ operations_of ss rest) (sym named)
+    ∙ ap (λ qs. o ∷ qs) (sym (drop-map (operation_of ss) (i + 1) ms))
     in
     sym (added_more o a (counts_of (drop (i + 1) os))) ∙ ap (λ qs. added a (counts_of qs)) (sym here) ∙ tally
 

@@ -1,4 +1,4 @@
-use Rattle.std.proofs.Common.{◌+◌, map, length, arith, subst, sym}
+use Rattle.std.proofs.Common.{◌≡◌, ◌<◌, ◌+◌, length, map, arith, subst, sym}
 use Rattle.std.proofs.lemmas.List.{length-map}
 use Rattle.context_diff.specs.Ops.{data_of}
 use Rattle.cot_site.specs.Sites.{state_of}
@@ -11,11 +11,16 @@ pub count-requires : goal.count-requires
 count-requires c =
     let ss = map state_of c.args.sites.now in
     let ms = c.args.messages.now in
-    omega (arith, tally_less (operations_of ss ms) c.loop-message.message-index (counts_in c.loop-message.counted) c.loop-message.invariant (omega (arith, c.loop-message-test.true, length-map ms (operation_of ss))), length-map ms (operation_of ss), c.requires.few)
+    let os = operations_of ss ms in
+    let all : length os ≡ length ms = length-map ms (operation_of ss) in
+    let within : c.loop-message.message-index < length os = omega (arith, c.loop-message-test.true, all) in
+    omega (arith, tally_less os _ (counts_in c.loop-message.counted) c.loop-message.invariant within, all, c.requires.few)
 
 pub loop-message-preserved : goal.loop-message-preserved
 loop-message-preserved c =
     let ss = map state_of c.args.sites.now in
     let ms = c.args.messages.now in
-    let next = tally_next ss ms c.loop-message.message-index _ (data_of c.op.result.now) (counts_in c.loop-message.counted) c.loop-message-test.true c.op.ensures c.loop-message.invariant in
+    let o = data_of c.op.result.now in
+    let counted = counts_in c.loop-message.counted in
+    let next = tally_next ss ms c.loop-message.message-index _ o counted c.loop-message-test.true c.op.ensures c.loop-message.invariant in
     subst (IsTally (operations_of ss ms) (c.loop-message.message-index + 1)) (sym c.count.ensures) next

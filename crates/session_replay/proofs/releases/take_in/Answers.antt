@@ -26,9 +26,11 @@ returns-in_err-release_all-in-Ok-clause-done c =
     let old = c.args.out.now.items in
     let p = err_from_is_err_and c.from_residual-in_err-release_all-in-Ok.result c.from_residual-in_err-release_all-in-Ok.ensures.1 in
     let number = c.number.ensures ∙ ap (λ x. x.number) c.in-Ok.ensures.effect ∙ delivered_number s o in
-    let told = ap (λ v. told_verdict c.args.many o v c.number.result) c.in-Ok.ensures.verdict ∙ ap (λ n. told_verdict c.args.many o (judged s o) n) number in
+    let many = c.args.many in
+    let told = ap (λ v. told_verdict many o v c.number.result) c.in-Ok.ensures.verdict ∙ ap (λ n. told_verdict many o (judged s o) n) number in
+    let line = c.in_ok-tell_verdict-in-Ok.ensures.ok ∙ ap (λ w. old ++ w) told in
     stopped c.from_residual-in_err-release_all-in-Ok.result p.0 p.1 _ _ _ _ _
-    (event_done {T = Bool} (Err p.0) _ s _ _ _ old _ _ c.in-Ok.ensures.effect (c.in_ok-tell_verdict-in-Ok.ensures.ok ∙ ap (λ w. old ++ w) told) c.in_err-release_all-in-Ok.ensures)
+    (event_done {T = Bool} (Err p.0) _ s _ _ _ old _ _ c.in-Ok.ensures.effect line c.in_err-release_all-in-Ok.ensures)
 
 pub returns-in_ok-release_all-in-Ok-clause-done : goal.returns-in_ok-release_all-in-Ok-clause-done
 returns-in_ok-release_all-in-Ok-clause-done c =
@@ -36,5 +38,7 @@ returns-in_ok-release_all-in-Ok-clause-done c =
     let o = data_of c.args.op.now in
     let old = c.args.out.now.items in
     let number = c.number.ensures ∙ ap (λ x. x.number) c.in-Ok.ensures.effect ∙ delivered_number s o in
-    let told = ap (λ v. told_verdict c.args.many o v c.number.result) c.in-Ok.ensures.verdict ∙ ap (λ n. told_verdict c.args.many o (judged s o) n) number in
-    event_done {E = Memory} (Ok c.is_had.result) _ s _ _ _ old _ _ c.in-Ok.ensures.effect (c.in_ok-tell_verdict-in-Ok.ensures.ok ∙ ap (λ w. old ++ w) told) c.in_ok-release_all-in-Ok.ensures
+    let many = c.args.many in
+    let told = ap (λ v. told_verdict many o v c.number.result) c.in-Ok.ensures.verdict ∙ ap (λ n. told_verdict many o (judged s o) n) number in
+    let line = c.in_ok-tell_verdict-in-Ok.ensures.ok ∙ ap (λ w. old ++ w) told in
+    event_done {E = Memory} (Ok c.is_had.result) _ s _ _ _ old _ _ c.in-Ok.ensures.effect line c.in_ok-release_all-in-Ok.ensures

@@ -4,4 +4,5 @@ use Rattle.session_replay.specs.Code.Messages.{AreHeld}
 use Rattle.session_replay.proofs.generated.Generated.new.Goals as goal
 
 pub tally_of-tally-requires-clause-held : goal.tally_of-tally-requires-clause-held
-tally_of-tally-requires-clause-held c = subst (λ (sites : List SiteData). AreHeld (map state_of sites) c.args.messages.now) (sym c.deref.ensures.value) c.requires.held
+tally_of-tally-requires-clause-held c =
+    subst (λ (sites : List SiteData). AreHeld (map state_of sites) c.args.messages.now) (sym c.deref.ensures.value) c.requires.held

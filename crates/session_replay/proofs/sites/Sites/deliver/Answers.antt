@@ -12,27 +12,37 @@ pub index-requires-2 : goal.index-requires-2
 index-requires-2 c =
     let counted : vec_len c.self.inside.known ≡ length c.self.inside.known.items = omega (arith, c.self.inside.known.ok.0) in
     let sites = c.self.inside.sites.items in
-    let count = vec_len c.self.inside.known in
-    known_within sites c.self.inside.known.items c.self.inside.messages.items c.args.self.now c.args.at count counted c.self.invariant c.self.view_is c.requires.site
+    let messages = c.self.inside.messages.items in
+    let d = c.args.self.now in
+    known_within sites c.self.inside.known.items messages d c.args.at _ counted c.self.invariant c.self.view_is c.requires.site
 
 pub index_mut-requires-2 : goal.index_mut-requires-2
 index_mut-requires-2 c =
     let counted : vec_len c.self.inside.known ≡ length c.self.inside.known.items = omega (arith, c.self.inside.known.ok.0) in
     let sites = c.self.inside.sites.items in
-    let count = vec_len c.self.inside.known in
-    known_within sites c.self.inside.known.items c.self.inside.messages.items c.args.self.now c.args.at count counted c.self.invariant c.self.view_is c.requires.site
+    let messages = c.self.inside.messages.items in
+    let d = c.args.self.now in
+    known_within sites c.self.inside.known.items messages d c.args.at _ counted c.self.invariant c.self.view_is c.requires.site
 
 pub invariant_of-self : goal.invariant_of-self
 invariant_of-self c =
     let x = c.index_mut.result.now in
-    let sound : IsSound (state_of c.index.result.now) = record { number = c.known.ensures.number; history = c.known.ensures.history; waiting = c.known.ensures.waiting } in
+    let y = c.take_in-taken.new.site in
+    let first = c.index.result.now in
+    let known = c.known.ensures in
+    let sound : IsSound (state_of first) = record { number = known.number; history = known.history; waiting = known.waiting } in
     let is = c.index_mut.ensures.value in
+    let d = c.args.self.now in
+    let i = c.args.at in
     let sites = c.self.inside.sites.items in
-    let e : IsDelivery c.take_in-taken.result c.args.many c.args.self.now sites c.self.inside.messages.items c.args.at x c.take_in-taken.new.site (data_of c.args.op.now) c.args.out.now.items c.take_in-taken.new.out.items = record {
+    let messages = c.self.inside.messages.items in
+    let old = c.args.out.now.items in
+    let new = c.take_in-taken.new.out.items in
+    let e : IsDelivery c.take_in-taken.result c.args.many d sites messages i x y (data_of c.args.op.now) old new = record {
       seen = c.self.view_is;
       within = c.requires.site;
       is = is;
-      sound = site_sound sites c.self.inside.messages.items c.args.self.now c.args.at c.index.result.now x c.self.view_is c.requires.site c.index.ensures is sound;
+      sound = site_sound sites messages d i first x c.self.view_is c.requires.site c.index.ensures is sound;
       formed = c.requires.formed;
       done = c.take_in-taken.ensures.done;
     }
@@ -43,14 +53,22 @@ invariant_of-self c =
 pub returns-clause-done : goal.returns-clause-done
 returns-clause-done c =
     let x = c.index_mut.result.now in
-    let sound : IsSound (state_of c.index.result.now) = record { number = c.known.ensures.number; history = c.known.ensures.history; waiting = c.known.ensures.waiting } in
+    let y = c.take_in-taken.new.site in
+    let first = c.index.result.now in
+    let known = c.known.ensures in
+    let sound : IsSound (state_of first) = record { number = known.number; history = known.history; waiting = known.waiting } in
     let is = c.index_mut.ensures.value in
+    let d = c.args.self.now in
+    let i = c.args.at in
     let sites = c.self.inside.sites.items in
-    let e : IsDelivery c.take_in-taken.result c.args.many c.args.self.now sites c.self.inside.messages.items c.args.at x c.take_in-taken.new.site (data_of c.args.op.now) c.args.out.now.items c.take_in-taken.new.out.items = record {
+    let messages = c.self.inside.messages.items in
+    let old = c.args.out.now.items in
+    let new = c.take_in-taken.new.out.items in
+    let e : IsDelivery c.take_in-taken.result c.args.many d sites messages i x y (data_of c.args.op.now) old new = record {
       seen = c.self.view_is;
       within = c.requires.site;
       is = is;
-      sound = site_sound sites c.self.inside.messages.items c.args.self.now c.args.at c.index.result.now x c.self.view_is c.requires.site c.index.ensures is sound;
+      sound = site_sound sites messages d i first x c.self.view_is c.requires.site c.index.ensures is sound;
       formed = c.requires.formed;
       done = c.take_in-taken.ensures.done;
     }
@@ -60,14 +78,22 @@ returns-clause-done c =
 pub returns-clause-messages : goal.returns-clause-messages
 returns-clause-messages c =
     let x = c.index_mut.result.now in
-    let sound : IsSound (state_of c.index.result.now) = record { number = c.known.ensures.number; history = c.known.ensures.history; waiting = c.known.ensures.waiting } in
+    let y = c.take_in-taken.new.site in
+    let first = c.index.result.now in
+    let known = c.known.ensures in
+    let sound : IsSound (state_of first) = record { number = known.number; history = known.history; waiting = known.waiting } in
     let is = c.index_mut.ensures.value in
+    let d = c.args.self.now in
+    let i = c.args.at in
     let sites = c.self.inside.sites.items in
-    let e : IsDelivery c.take_in-taken.result c.args.many c.args.self.now sites c.self.inside.messages.items c.args.at x c.take_in-taken.new.site (data_of c.args.op.now) c.args.out.now.items c.take_in-taken.new.out.items = record {
+    let messages = c.self.inside.messages.items in
+    let old = c.args.out.now.items in
+    let new = c.take_in-taken.new.out.items in
+    let e : IsDelivery c.take_in-taken.result c.args.many d sites messages i x y (data_of c.args.op.now) old new = record {
       seen = c.self.view_is;
       within = c.requires.site;
       is = is;
-      sound = site_sound sites c.self.inside.messages.items c.args.self.now c.args.at c.index.result.now x c.self.view_is c.requires.site c.index.ensures is sound;
+      sound = site_sound sites messages d i first x c.self.view_is c.requires.site c.index.ensures is sound;
       formed = c.requires.formed;
       done = c.take_in-taken.ensures.done;
     }
@@ -77,17 +103,25 @@ returns-clause-messages c =
 pub returns-clause-has : goal.returns-clause-has
 returns-clause-has c =
     let x = c.index_mut.result.now in
-    let sound : IsSound (state_of c.index.result.now) = record { number = c.known.ensures.number; history = c.known.ensures.history; waiting = c.known.ensures.waiting } in
+    let y = c.take_in-taken.new.site in
+    let first = c.index.result.now in
+    let known = c.known.ensures in
+    let sound : IsSound (state_of first) = record { number = known.number; history = known.history; waiting = known.waiting } in
     let is = c.index_mut.ensures.value in
+    let d = c.args.self.now in
+    let i = c.args.at in
     let sites = c.self.inside.sites.items in
-    let e : IsDelivery c.take_in-taken.result c.args.many c.args.self.now sites c.self.inside.messages.items c.args.at x c.take_in-taken.new.site (data_of c.args.op.now) c.args.out.now.items c.take_in-taken.new.out.items = record {
+    let messages = c.self.inside.messages.items in
+    let old = c.args.out.now.items in
+    let new = c.take_in-taken.new.out.items in
+    let e : IsDelivery c.take_in-taken.result c.args.many d sites messages i x y (data_of c.args.op.now) old new = record {
       seen = c.self.view_is;
       within = c.requires.site;
       is = is;
-      sound = site_sound sites c.self.inside.messages.items c.args.self.now c.args.at c.index.result.now x c.self.view_is c.requires.site c.index.ensures is sound;
+      sound = site_sound sites messages d i first x c.self.view_is c.requires.site c.index.ensures is sound;
       formed = c.requires.formed;
       done = c.take_in-taken.ensures.done;
     }
     in
-    let ms = said (set sites c.args.at c.take_in-taken.new.site) c.self.inside.messages.items in
+    let ms = said (set sites i y) messages in
     delivery_known _ _ _ _ _ ms _ _ _ _ _ _ e c.take_in-taken.ensures.had
