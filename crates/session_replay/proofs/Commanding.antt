@@ -3,11 +3,8 @@ use Rattle.std.proofs.Common.{◌≡◌, ◌≢◌, ℕ, ◌<◌, List, [], ◌�
 use Rattle.std.specs.Prelude.{Result, Ok, Err, slice_index_or}
 use Rattle.std.proofs.lemmas.List.{length-map, map-set, get_or-set_same, set-get_or}
 use Rattle.context_diff.specs.Operations.{OpData}
-use Rattle.context_diff.specs.Histories.{IsValid}
-use Rattle.context_diff.specs.declared.op.Op.{Op}
-use Rattle.context_diff.specs.Ops.{data_of}
 use Rattle.cot_site.specs.States.{State, with_last}
-use Rattle.cot_site.specs.Sites.{SiteData, state_of, AllFormed}
+use Rattle.cot_site.specs.Sites.{SiteData, state_of}
 use Rattle.cot_site.specs.Commands.{IsAnswer}
 use Rattle.site_answers.specs.declared.local.Local.{Local}
 use Rattle.site_answers.specs.declared.local.Local.TheVariants as local
@@ -15,43 +12,33 @@ use Rattle.script_text.specs.Report.{op_text}
 use Rattle.script_text.specs.Verdicts.{local_text}
 use Rattle.session_replay.specs.declared.sites.commands.Command.{Command}
 use Rattle.session_replay.specs.Steps.{last_of, written_by}
-use Rattle.session_replay.specs.Sessions.{SessionData, site_at, settling, made}
+use Rattle.session_replay.specs.Sessions.{SessionData, site_at, settling}
 use Rattle.session_replay.specs.LineSteps.{commanded}
 use Rattle.session_replay.specs.Code.Doing.{AreDone, local_of}
-use Rattle.session_replay.proofs.Lifting.{session_of, state_at, made_done, made_formed}
+use Rattle.session_replay.specs.declared.message.Message.{Message}
+use Rattle.session_replay.specs.Code.Messages.{operations_of}
+use Rattle.session_replay.proofs.Lifting.{session_of, state_at, made_done}
 
 -- what stands where it was written
 pub read_back : (sites : List SiteData) (i : ℕ) (x y : SiteData) → i < length sites → x ≡ slice_index_or (set sites i y) i x → x ≡ y
 read_back sites i x y within is = is ∙ get_or-set_same sites i y x within
 
-pub site_within : (sites : List SiteData) (messages : List Op) (d : SessionData) (i : ℕ) → session_of sites messages ≡ d → i < length d.sites → i < length sites
-site_within sites messages d i seen within = omega (arith, ap (λ (e : SessionData). length e.sites) seen, length-map sites state_of)
+pub site_within : (sites : List SiteData) (ms : List OpData) (d : SessionData) (i : ℕ) → session_of sites ms ≡ d → i < length d.sites → i < length sites
+site_within sites ms d i seen within = omega (arith, ap (λ (e : SessionData). length e.sites) seen, length-map sites state_of)
 
-pub site_is : (sites : List SiteData) (messages : List Op) (d : SessionData) (i : ℕ) (x : SiteData) → session_of sites messages ≡ d → i < length d.sites → x ≡ slice_index_or sites i x → state_of x ≡ site_at d i
-site_is sites messages d i x seen within is = state_at sites messages i x (site_within sites messages d i seen within) is ∙ ap (λ e. site_at e i) seen
+pub site_is : (sites : List SiteData) (ms : List OpData) (d : SessionData) (i : ℕ) (x : SiteData) → session_of sites ms ≡ d → i < length d.sites → x ≡ slice_index_or sites i x → state_of x ≡ site_at d i
+site_is sites ms d i x seen within is = state_at sites ms i x (site_within sites ms d i seen within) is ∙ ap (λ e. site_at e i) seen
 
 -- the operation is the next message
-pub command_made : {T E : Type 0} (result : Result T E) (d : SessionData) (sites : List SiteData) (messages now : List Op) (i : ℕ) (command : Command) (op : Op) (x y w z : SiteData) (n : ℕ) (old new : List ℕ)
-    → session_of sites messages ≡ d → i < length d.sites → x ≡ slice_index_or sites i x
-    → local_of command (state_of x) ≡ Ok (data_of op) → state_of y ≡ with_last (state_of x) (data_of op) → w ≡ slice_index_or (set sites i y) i w
-    → n ≡ length messages → now ≡ messages ++ op ∷ []
-    → AreDone result (settling (op_text n (data_of op)) (state_of w)) (state_of w) (state_of z) old new
-    → AreDone result (commanded i (local_of command (site_at d i)) d) d (session_of (set (set sites i y) i z) now) old new
-command_made result d sites messages now i command op x y w z n old new seen within is answer last again number pushed h =
-    let same : w ≡ y = read_back sites i w y (site_within sites messages d i seen within) again in
-    let here : AreDone result (settling (op_text n (data_of op)) (state_of y)) (state_of y) (state_of z) old new = subst (λ s. AreDone result (settling (op_text n (data_of op)) (state_of s)) (state_of s) (state_of z) old new) same h in
-    let up = made_done result d sites messages i op x y z n old new seen within is last number here in
-    let all : local_of command (site_at d i) ≡ Ok (data_of op) = ap (local_of command) (sym (site_is sites messages d i x seen within is)) ∙ answer in
-    let there : AreDone result (made i (data_of op) d) d (session_of (set (set sites i y) i z) now) old new = subst (λ ms. AreDone result (made i (data_of op) d) d (session_of (set (set sites i y) i z) ms) old new) (sym pushed) up in
-    subst (λ r. AreDone result (commanded i r d) d (session_of (set (set sites i y) i z) now) old new) (sym all) there
-
--- all messages stay well formed
-pub command_formed : (sites : List SiteData) (messages now : List Op) (d : SessionData) (i : ℕ) (op : Op) (x y w : SiteData)
-    → session_of sites messages ≡ d → i < length d.sites → AllFormed (map data_of messages) → now ≡ messages ++ op ∷ []
-    → state_of y ≡ with_last (state_of x) (data_of op) → w ≡ slice_index_or (set sites i y) i w → IsValid w.history → AllFormed (map data_of now)
-command_formed sites messages now d i op x y w seen within formed pushed last again valid =
-    let same : w ≡ y = read_back sites i w y (site_within sites messages d i seen within) again in
-    made_formed messages now op x y formed pushed last (subst (λ (s : SiteData). IsValid s.history) same valid)
+pub command_made : {T E : Type 0} (result : Result T E) (d : SessionData) (sites : List SiteData) (ms : List OpData) (i : ℕ) (command : Command) (o : OpData) (x y z : SiteData) (n : ℕ) (old new : List ℕ)
+    → session_of sites ms ≡ d → i < length d.sites → x ≡ slice_index_or sites i x
+    → local_of command (state_of x) ≡ Ok o → state_of y ≡ with_last (state_of x) o → n ≡ length ms
+    → AreDone result (settling (op_text n o) (state_of y)) (state_of y) (state_of z) old new
+    → AreDone result (commanded i (local_of command (site_at d i)) d) d (session_of (set sites i z) (ms ++ o ∷ [])) old new
+command_made result d sites ms i command o x y z n old new seen within is answer last number h =
+    let up = made_done result d sites ms i o x y z n old new seen within is last number h in
+    let all : local_of command (site_at d i) ≡ Ok o = ap (local_of command) (sym (site_is sites ms d i x seen within is)) ∙ answer in
+    subst (λ r. AreDone result (commanded i r d) d (session_of (set sites i z) (ms ++ o ∷ [])) old new) (sym all) up
 
 -- the states of the sites, where that of one is as it was
 pub same_states : (sites : List SiteData) (i : ℕ) (x y : SiteData) → x ≡ slice_index_or sites i x → state_of y ≡ state_of x → map state_of (set sites i y) ≡ map state_of sites
@@ -59,9 +46,13 @@ same_states sites i x y is same =
     map-set state_of sites i y ∙ ap (λ s. set (map state_of sites) i s) same ∙ sym (map-set state_of sites i x) ∙ ap (λ s. map state_of (set sites i s)) is ∙ ap (map state_of) (set-get_or sites i x)
 
 -- a refused command left the session as it was
-pub refused_same : (sites : List SiteData) (messages now : List Op) (d : SessionData) (i : ℕ) (x y : SiteData) → session_of sites messages ≡ d → x ≡ slice_index_or sites i x → state_of y ≡ state_of x → now ≡ messages → session_of (set sites i y) now ≡ d
+pub refused_same : (sites : List SiteData) (messages now : List Message) (d : SessionData) (i : ℕ) (x y : SiteData)
+    → session_of sites (operations_of (map state_of sites) messages) ≡ d → x ≡ slice_index_or sites i x → state_of y ≡ state_of x → now ≡ messages
+    → session_of (set sites i y) (operations_of (map state_of (set sites i y)) now) ≡ d
 refused_same sites messages now d i x y seen is same kept =
-    ap (λ (xs : List State). record { sites = xs; messages = map data_of now }) (same_states sites i x y is same) ∙ ap (session_of sites) kept ∙ seen
+    ap (λ (ss : List State). record { sites = ss; messages = operations_of ss now }) (same_states sites i x y is same)
+    ∙ ap (λ (ms : List Message). session_of sites (operations_of (map state_of sites) ms)) kept
+    ∙ seen
 
 refusal_is : (r : Result OpData Local) (why : Local) → IsAnswer r (Err why) → why ≢ local.Memory → r ≡ Err why
 refusal_is r (local.PlaceOut p v) h other = h
@@ -73,11 +64,11 @@ refusal_is r local.NumberFull h other = h
 refusal_is r (local.ContextFull n) h other = h
 refusal_is r local.Memory h other = absurd (other refl)
 
-pub command_refused : (d : SessionData) (sites : List SiteData) (messages : List Op) (i : ℕ) (command : Command) (why : Local) (x : SiteData)
-    → session_of sites messages ≡ d → i < length d.sites → x ≡ slice_index_or sites i x → IsAnswer (local_of command (state_of x)) (Err why) → why ≢ local.Memory
+pub command_refused : (d : SessionData) (sites : List SiteData) (ms : List OpData) (i : ℕ) (command : Command) (why : Local) (x : SiteData)
+    → session_of sites ms ≡ d → i < length d.sites → x ≡ slice_index_or sites i x → IsAnswer (local_of command (state_of x)) (Err why) → why ≢ local.Memory
     → local_of command (site_at d i) ≡ Err why
-command_refused d sites messages i command why x seen within is answer other =
-    ap (local_of command) (sym (site_is sites messages d i x seen within is)) ∙ refusal_is (local_of command (state_of x)) why answer other
+command_refused d sites ms i command why x seen within is answer other =
+    ap (local_of command) (sym (site_is sites ms d i x seen within is)) ∙ refusal_is (local_of command (state_of x)) why answer other
 
 pub command_told : (d now : SessionData) (i : ℕ) (r : Result OpData Local) (why : Local) (old new : List ℕ) → r ≡ Err why → now ≡ d → new ≡ old ++ local_text why → (now ≡ last_of d (commanded i r d)) × (new ≡ old ++ written_by (commanded i r d))
 unfolding last_of written_by

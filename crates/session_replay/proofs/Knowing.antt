@@ -1,31 +1,34 @@
 -- Messages that a site is known to have: to deliver them again does nothing, and the site keeps them.
 use Rattle.std.proofs.Common.{◌≡◌, ℕ, zero, suc, ◌+◌, ◌≤◌, ◌<◌, inl, inr, if◌then◌else◌, Bool, true, false, List, [], ◌∷◌, ◌++◌, refl, sym, ap, subst, ◌∙◌, length, map, set, take, drop, get_or, append-nil, length-append, take-append-drop, arith}
-use Rattle.std.specs.Prelude.{Option, Some, None, Result, Ok, Err, Contains, replicate, slice_get, slice_index_or, nat_eq}
+use Rattle.std.specs.Prelude.{Option, Some, None, Result, Ok, Err, Contains, max, replicate, slice_get, slice_index_or}
+use Rattle.std.specs.Result.{is_ok}
 use Rattle.std.specs.List.{list_any}
-use Rattle.std.proofs.lemmas.Bool.{cases_Bool, cond-true, cond-false, or_left, leb-true, le-leb, eqb-true}
+use Rattle.std.proofs.lemmas.Bool.{cond-true, or_left, leb-true, le-leb, false≢true}
 use Rattle.std.proofs.lemmas.List.{set-get_or, take-append-le}
 use Rattle.std.proofs.lemmas.Grind.{take_at_read}
 use Rattle.std.proofs.lemmas.Option.{slice_get_within, slice_get-get_or}
-use Rattle.std.proofs.lemmas.List.Elements.{Contains-push_cases}
+use Rattle.std.proofs.lemmas.List.Elements.{Contains-append_right, Contains-push_cases}
 use Rattle.std.proofs.lemmas.List.Folds.{list_any-append}
-use Rattle.op_name.specs.NameData.{NameData}
+use Rattle.op_name.specs.NameData.{NameData, name_eq}
+use Rattle.op_name.proofs.CallerLemmas.{name_itself}
+use Rattle.context_vector.specs.Contexts.{ContextData}
 use Rattle.op_name.specs.declared.member.Member.{Member}
 use Rattle.context_diff.specs.Operations.{OpData, inserting, deleting, undoing, IsWellFormed, member_of, context_of}
 use Rattle.context_diff.specs.Histories.{generation_in}
 use Rattle.context_diff.specs.Ops.{op_eq}
-use Rattle.context_diff.proofs.CallerLemmas.{contains_here, contains_later, contains_none}
+use Rattle.context_diff.proofs.CallerLemmas.{contains_cases, contains_here, contains_later, contains_none}
 use Rattle.op_name.specs.Members.{target_of}
-use Rattle.cot_site.specs.States.{State, IsSettled, judged, delivered, after_verdict}
+use Rattle.cot_site.specs.States.{State, judged, delivered, after_verdict}
 use Rattle.cot_site.specs.Releases.{IsSound, IsLater, all_releases, settled}
 use Rattle.cot_site.specs.Verdicts.{is_repeat, is_forged, placed_verdict, ready_verdict, waiting_verdict, lacked}
 use Rattle.site_answers.specs.declared.verdict.Verdict.{Verdict}
 use Rattle.site_answers.specs.declared.verdict.Verdict.TheVariants.{Repeat, Forged, Waits, NotClosed, PlaceOut, Integrated}
-use Rattle.cot_site.proofs.CallerLemmas.{settled_has_none, settled_settles, sound_along, sound_delivered}
+use Rattle.cot_site.proofs.CallerLemmas.{same_any, settled_has_none, settled_settles, sound_along, sound_delivered}
 use Rattle.session_replay.specs.Steps.{Step, last_of, written_by}
 use Rattle.session_replay.specs.Sessions.{SessionData, site_at, new_site, new_sites, settling, taking_in, told_verdict, free_step, given, given_all}
 use Rattle.session_replay.specs.Code.Doing.{AreDone}
-use Rattle.session_replay.specs.Code.Knowing.{Has, HasAll, AreKnown, still_known, one_more_known, known_after}
-use Rattle.session_replay.proofs.Releasing.{last_freed, settling_settles}
+use Rattle.session_replay.specs.Code.Knowing.{Has, HasAll, AreKnown, still_known, is_had}
+use Rattle.session_replay.proofs.Releasing.{last_freed}
 use Rattle.session_replay.proofs.Steps.{IsAlong}
 
 -- ---- repeats
@@ -82,6 +85,29 @@ repeat_is s o e = from (is_repeat s.history o) (is_forged s.history s.waiting o)
 repeat_judged : (s : State) (o : OpData) → is_repeat s.history o ≡ true → judged s o ≡ Repeat
 repeat_judged s o is = cond-true _ _ _ is
 
+reached_held : (h : List OpData) (a : ℕ) (t : NameData) (g : ℕ) (c : ContextData) → Contains h (undoing a t g c) → g ≤ generation_in h t
+reached_held [] a t g c at = absurd (contains_none (undoing a t g c) at)
+reached_held (o ∷ os) a t g c at = elim (contains_cases o os (undoing a t g c) at) [
+  | inl same ↦
+      let own : generation_in (o ∷ os) t ≡ max (if name_eq t t then g else 0) (generation_in os t) = ap (λ p. generation_in (p ∷ os) t) same in
+      omega (arith, own, cond-true (name_eq t t) g 0 (name_itself t))
+  | inr later ↦ omega (arith, reached_held os a t g c later)
+]
+
+-- an operation of the history is a repeat
+repeat_held : (h : List OpData) (o : OpData) → Contains h o → is_repeat h o ≡ true
+repeat_held h (inserting n p ch c) at = (same_any (inserting n p ch c) h).1 at
+repeat_held h (deleting n p c) at = (same_any (deleting n p c) h).1 at
+repeat_held h (undoing a t g c) at = le-leb g (generation_in h t) (reached_held h a t g c at)
+
+repeat_had : (v : Verdict) (s : State) (o : OpData) → judged s o ≡ v → is_had v ≡ true → is_repeat (after_verdict v o s).history o ≡ true
+repeat_had Repeat s o is had = repeat_is s o is
+repeat_had (Forged n) s o is had = absurd (false≢true had)
+repeat_had (Waits m) s o is had = absurd (false≢true had)
+repeat_had (NotClosed k) s o is had = absurd (false≢true had)
+repeat_had (PlaceOut p k) s o is had = absurd (false≢true had)
+repeat_had Integrated s o is had = repeat_held (s.history ++ o ∷ []) o (Contains-append_right s.history (o ∷ []) o (contains_here o []))
+
 -- ---- an event at a site
 
 -- an event of a sound site leaves what is a repeat then
@@ -95,22 +121,32 @@ has_none s ms o at = absurd (contains_none o at)
 
 -- what is a repeat after the event, the site has after its releases, unless memory ran out
 pub event_has : {T E : Type 0} (result : Result T E) (written : List ℕ) (before s now : State) (old new : List ℕ) (n : ℕ) (ms : List OpData)
-    → AreDone result (settling written s) before now old new → IsSound s → ((o : OpData) → Contains (take n ms) o → is_repeat s.history o ≡ true) → HasAll now (take (still_known result n) ms)
+    → AreDone result (settling written s) before now old new → IsSound s
+    → ((o : OpData) → Contains (take n ms) o → is_repeat s.history o ≡ true) → HasAll now (take (still_known (is_ok result) n) ms)
 event_has (Ok t) written before s now old new n ms done sound repeats =
     λ o at. subst (λ x. Has x o) (sym done.0) (settling_has written s before o sound (repeats o at))
 event_has (Err e) written before s now old new n ms done sound repeats = has_none now ms
 
 pub event_known : {T E : Type 0} (result : Result T E) (written : List ℕ) (before s now : State) (old new : List ℕ) (n : ℕ) (ms : List OpData)
     → AreDone result (settling written s) before now old new → IsSound s → ((o : OpData) → is_repeat before.history o ≡ true → is_repeat s.history o ≡ true)
-    → HasAll before (take n ms) → HasAll now (take (still_known result n) ms)
+    → HasAll before (take n ms) → HasAll now (take (still_known (is_ok result) n) ms)
 event_known result written before s now old new n ms done sound kept has =
     event_has result written before s now old new n ms done sound (λ o at. kept o (has o at).0)
 
-pub still_few : {T E : Type 0} (result : Result T E) (n count : ℕ) → n ≤ count → still_known result n ≤ count
+pub still_few : {T E : Type 0} (result : Result T E) (n count : ℕ) → n ≤ count → still_known (is_ok result) n ≤ count
 still_few (Ok t) n count few = few
 still_few (Err e) n count few = omega arith
 
--- ---- a delivery of the message of a number
+-- an operation whose delivery was done, with a verdict by which the history has it, the site has
+pub delivery_has : (many : Bool) (o : OpData) (before now : State)
+    → now ≡ last_of before (taking_in many o before) → IsSound before → IsWellFormed o → is_had (judged before o) ≡ true → Has now o
+delivery_has many o before now done sound formed had =
+    let written = told_verdict many o (judged before o) before.number in
+    let after = sound_delivered before o sound formed in
+    let repeat = repeat_had (judged before o) before o refl had in
+    subst (λ s. Has s o) (sym done) (settling_has written (delivered before o) before o after repeat)
+
+-- ---- one message more
 
 -- the first messages and the next one
 take_next : (k : ℕ) (ms : List OpData) (o : OpData) → slice_get ms k ≡ Some o → take (k + 1) ms ≡ take k ms ++ o ∷ []
@@ -120,39 +156,12 @@ take_next k ms o at =
     let here : get_or ms k o ≡ o = cc in
     (take_at_read ms k o within).1 ∙ ap (λ x. take k ms ++ x ∷ []) here
 
-has_next : (k : ℕ) (ms : List OpData) (s : State) (o : OpData) → slice_get ms k ≡ Some o → HasAll s (take k ms) → Has s o → HasAll s (take (k + 1) ms)
+pub has_next : (k : ℕ) (ms : List OpData) (s : State) (o : OpData) → slice_get ms k ≡ Some o → HasAll s (take k ms) → Has s o → HasAll s (take (k + 1) ms)
 has_next k ms s o at has next p there =
     elim (Contains-push_cases (take k ms) o p (subst (λ (xs : List OpData). Contains xs p) (take_next k ms o at) there)) [
       | inl before ↦ has p before
       | inr same ↦ subst (Has s) same next
     ]
-
--- so many of the first messages, one more where the next one is a repeat
-learnt : (v : Verdict) (n k : ℕ) (ms : List OpData) (s : State) (o : OpData) → judged s o ≡ v → IsSettled s → slice_get ms k ≡ Some o → n ≤ length ms → HasAll s (take n ms)
-    → (one_more_known v n k ≤ length ms) × HasAll s (take (one_more_known v n k) ms)
-learnt Repeat n k ms s o is settled at few has = elim (cases_Bool (nat_eq n k)) [
-  | inl same ↦
-      let here : n ≡ k = eqb-true n k same in
-      let within : k < length ms = slice_get_within ms k o at in
-      let all : HasAll s (take (k + 1) ms) = has_next k ms s o at (subst (λ x. HasAll s (take x ms)) here has) (repeat_is s o is, settled) in
-      subst (λ x. (x ≤ length ms) × HasAll s (take x ms)) (sym (cond-true _ _ _ same)) (omega (arith, within), all)
-  | inr other ↦ subst (λ x. (x ≤ length ms) × HasAll s (take x ms)) (sym (cond-false _ _ _ other)) (few, has)
-]
-learnt (Forged m) n k ms s o is settled at few has = (few, has)
-learnt (Waits m) n k ms s o is settled at few has = (few, has)
-learnt (NotClosed m) n k ms s o is settled at few has = (few, has)
-learnt (PlaceOut a b) n k ms s o is settled at few has = (few, has)
-learnt Integrated n k ms s o is settled at few has = (few, has)
-
-pub delivery_known : {T E : Type 0} (result : Result T E) (many : Bool) (o : OpData) (before now : State) (old new : List ℕ) (n k : ℕ) (ms : List OpData)
-    → AreDone result (taking_in many o before) before now old new → IsSound before → IsWellFormed o → slice_get ms k ≡ Some o → n ≤ length ms → HasAll before (take n ms)
-    → (known_after result n k (judged now o) ≤ length ms) × HasAll now (take (known_after result n k (judged now o)) ms)
-delivery_known {E = E} (Ok t) many o before now old new n k ms done sound formed at few has =
-    let after : IsSound (delivered before o) = sound_delivered before o sound formed in
-    let written = told_verdict many o (judged before o) before.number in
-    let settles : IsSettled now = subst IsSettled (sym done.0) (settling_settles written (delivered before o) before after) in
-    learnt (judged now o) n k ms now o refl settles at few (event_known {E = E} (Ok t) written before (delivered before o) now old new n ms done after (λ p is. repeat_after (judged before o) o p before is) has)
-delivery_known (Err e) many o before now old new n k ms done sound formed at few has = (omega arith, has_none now ms)
 
 -- ---- all sites
 

@@ -22,6 +22,8 @@ mod Tallies
 mod Rounds
 mod Needed
 mod NextLine
+pub mod Messages
 pub mod Knowing
+pub mod Keeping
 pub mod Noting
 pub mod CallerLemmas

@@ -1,15 +1,13 @@
 -- Steps at one site as steps of the session.
 use Rattle.std.proofs.Common.{◌≡◌, ℕ, zero, suc, ◌<◌, List, [], ◌∷◌, ◌++◌, refl, sym, ap, subst, ◌∙◌, length, map, set, arith}
-use Rattle.std.specs.Prelude.{Bool, Result, Ok, Err, Some, slice_get, slice_index_or}
+use Rattle.std.specs.Prelude.{Bool, Result, Ok, Err, slice_index_or}
 use Rattle.std.proofs.lemmas.List.{map-append, map-set, length-map, set-get_or}
-use Rattle.context_diff.specs.Operations.{OpData, IsWellFormed}
+use Rattle.context_diff.specs.Operations.{OpData}
 use Rattle.context_diff.specs.Histories.{IsValid}
-use Rattle.context_diff.specs.declared.op.Op.{Op}
-use Rattle.context_diff.specs.Ops.{data_of}
 use Rattle.context_diff.proofs.CallerLemmas.{valid_pop}
 use Rattle.cot_site.specs.States.{State, with_last}
 use Rattle.cot_site.specs.Sites.{SiteData, state_of, AllFormed}
-use Rattle.cot_site.proofs.CallerLemmas.{held_formed, formed_at}
+use Rattle.cot_site.proofs.CallerLemmas.{held_formed}
 use Rattle.script_text.specs.Report.{op_text}
 use Rattle.session_replay.specs.Steps.{Step, last_of, written_by, IsReached}
 use Rattle.session_replay.specs.Code.Doing.{AreDone}
@@ -50,8 +48,8 @@ lifted (Err e) ss ms i es s now old new h = (reached_lift ss ms i es s now h.0, 
 -- ---- sites in memory
 
 -- the session that these sites and messages are
-abbrev pub session_of : List SiteData → List Op → SessionData
-session_of sites messages = record { sites = map state_of sites; messages = map data_of messages }
+abbrev pub session_of : List SiteData → List OpData → SessionData
+session_of sites ms = record { sites = map state_of sites; messages = ms }
 
 -- the state of the site at a place
 state_in : (sites : List SiteData) (i : ℕ) (x : SiteData) (none : State) → i < length sites → x ≡ slice_index_or sites i x → state_of x ≡ slice_index_or (map state_of sites) i none
@@ -59,58 +57,37 @@ state_in [] i x none within is = absurd (omega (arith, within))
 state_in (y ∷ ys) zero x none within is = ap state_of is
 state_in (y ∷ ys) (suc i) x none within is = state_in ys i x none (omega arith) is
 
-pub state_at : (sites : List SiteData) (messages : List Op) (i : ℕ) (x : SiteData) → i < length sites → x ≡ slice_index_or sites i x → state_of x ≡ site_at (session_of sites messages) i
-state_at sites messages i x within is = state_in sites i x (new_site i) within is
+pub state_at : (sites : List SiteData) (ms : List OpData) (i : ℕ) (x : SiteData) → i < length sites → x ≡ slice_index_or sites i x → state_of x ≡ site_at (session_of sites ms) i
+state_at sites ms i x within is = state_in sites i x (new_site i) within is
 
 -- the sites as they are, with the state of one written in again
-same_session : (sites : List SiteData) (messages : List Op) (i : ℕ) (s : State) → s ≡ site_at (session_of sites messages) i → session_at (map state_of sites) (map data_of messages) i s ≡ session_of sites messages
-same_session sites messages i s is =
-    ap (λ (xs : List State). record { sites = xs; messages = map data_of messages }) (ap (λ x. set (map state_of sites) i x) is ∙ set-get_or (map state_of sites) i (new_site i))
+same_session : (sites : List SiteData) (ms : List OpData) (i : ℕ) (s : State) → s ≡ site_at (session_of sites ms) i → session_at (map state_of sites) ms i s ≡ session_of sites ms
+same_session sites ms i s is =
+    ap (λ (xs : List State). record { sites = xs; messages = ms }) (ap (λ x. set (map state_of sites) i x) is ∙ set-get_or (map state_of sites) i (new_site i))
 
-written_back : (sites : List SiteData) (messages : List Op) (i : ℕ) (y : SiteData) → session_at (map state_of sites) (map data_of messages) i (state_of y) ≡ session_of (set sites i y) messages
-written_back sites messages i y = ap (λ (xs : List State). record { sites = xs; messages = map data_of messages }) (sym (map-set state_of sites i y))
+written_back : (sites : List SiteData) (ms : List OpData) (i : ℕ) (y : SiteData) → session_at (map state_of sites) ms i (state_of y) ≡ session_of (set sites i y) ms
+written_back sites ms i y = ap (λ (xs : List State). record { sites = xs; messages = ms }) (sym (map-set state_of sites i y))
 
-given_here : {T E : Type 0} (result : Result T E) (sites : List SiteData) (messages : List Op) (i : ℕ) (many : Bool) (o : OpData) (x y : SiteData) (old new : List ℕ)
+given_here : {T E : Type 0} (result : Result T E) (sites : List SiteData) (ms : List OpData) (i : ℕ) (many : Bool) (o : OpData) (x y : SiteData) (old new : List ℕ)
     → i < length sites → x ≡ slice_index_or sites i x
     → AreDone result (taking_in many o (state_of x)) (state_of x) (state_of y) old new
-    → AreDone result (given many i o (session_of sites messages)) (session_of sites messages) (session_of (set sites i y) messages) old new
-given_here result sites messages i many o x y old new within is h =
+    → AreDone result (given many i o (session_of sites ms)) (session_of sites ms) (session_of (set sites i y) ms) old new
+given_here result sites ms i many o x y old new within is h =
     let ss = map state_of sites in
-    let ms = map data_of messages in
-    let at : state_of x ≡ site_at (session_of sites messages) i = state_at sites messages i x within is in
-    let here : AreDone result (taking_in many o (site_at (session_of sites messages) i)) (site_at (session_of sites messages) i) (state_of y) old new = subst (λ s. AreDone result (taking_in many o s) s (state_of y) old new) at h in
-    let up = lifted result ss ms i (taking_in many o (site_at (session_of sites messages) i)) (site_at (session_of sites messages) i) (state_of y) old new here in
-    subst (λ d. AreDone result (given many i o (session_of sites messages)) (session_of sites messages) d old new) (written_back sites messages i y)
-    (subst (λ d. AreDone result (given many i o (session_of sites messages)) d (session_at ss ms i (state_of y)) old new) (same_session sites messages i (site_at (session_of sites messages) i) refl) up)
+    let at : state_of x ≡ site_at (session_of sites ms) i = state_at sites ms i x within is in
+    let here : AreDone result (taking_in many o (site_at (session_of sites ms) i)) (site_at (session_of sites ms) i) (state_of y) old new = subst (λ s. AreDone result (taking_in many o s) s (state_of y) old new) at h in
+    let up = lifted result ss ms i (taking_in many o (site_at (session_of sites ms) i)) (site_at (session_of sites ms) i) (state_of y) old new here in
+    subst (λ d. AreDone result (given many i o (session_of sites ms)) (session_of sites ms) d old new) (written_back sites ms i y)
+    (subst (λ d. AreDone result (given many i o (session_of sites ms)) d (session_at ss ms i (state_of y)) old new) (same_session sites ms i (site_at (session_of sites ms) i) refl) up)
 
 -- a delivery to a site in memory
-pub given_done : {T E : Type 0} (result : Result T E) (d : SessionData) (sites : List SiteData) (messages : List Op) (i : ℕ) (many : Bool) (o : OpData) (x y : SiteData) (old new : List ℕ)
-    → session_of sites messages ≡ d → i < length d.sites → x ≡ slice_index_or sites i x
+pub given_done : {T E : Type 0} (result : Result T E) (d : SessionData) (sites : List SiteData) (ms : List OpData) (i : ℕ) (many : Bool) (o : OpData) (x y : SiteData) (old new : List ℕ)
+    → session_of sites ms ≡ d → i < length d.sites → x ≡ slice_index_or sites i x
     → AreDone result (taking_in many o (state_of x)) (state_of x) (state_of y) old new
-    → AreDone result (given many i o d) d (session_of (set sites i y) messages) old new
-given_done result d sites messages i many o x y old new seen within is h =
+    → AreDone result (given many i o d) d (session_of (set sites i y) ms) old new
+given_done result d sites ms i many o x y old new seen within is h =
     let there : i < length sites = omega (arith, ap (λ (e : SessionData). length e.sites) seen, length-map sites state_of) in
-    subst (λ e. AreDone result (given many i o e) e (session_of (set sites i y) messages) old new) seen (given_here result sites messages i many o x y old new there is h)
-
--- ---- messages in memory
-
-pub message_at : (messages : List Op) (n : ℕ) (m : Op) → n < length messages → m ≡ slice_index_or messages n m → slice_get (map data_of messages) n ≡ Some (data_of m)
-message_at [] n m within is = absurd (omega (arith, within))
-message_at (x ∷ xs) zero m within is = ap (λ (p : Op). Some (data_of p)) (sym is)
-message_at (x ∷ xs) (suc n) m within is = message_at xs n m (omega arith) is
-
-pub message_is : (sites : List SiteData) (messages : List Op) (d : SessionData) (n : ℕ) (m : Op) (o : OpData)
-    → session_of sites messages ≡ d → n < length d.messages → m ≡ slice_index_or messages n m → slice_get d.messages n ≡ Some o → data_of m ≡ o
-message_is sites messages d n m o seen within is at =
-    let there : n < length messages = omega (arith, ap (λ (e : SessionData). length e.messages) seen, length-map messages data_of) in
-    let both : Some (data_of m) ≡ Some o = sym (message_at messages n m there is) ∙ ap (λ (e : SessionData). slice_get e.messages n) seen ∙ at in
-    cc
-
-pub message_formed : (sites : List SiteData) (messages : List Op) (d : SessionData) (n : ℕ) (m : Op)
-    → AllFormed (map data_of messages) → session_of sites messages ≡ d → n < length d.messages → m ≡ slice_index_or messages n m → IsWellFormed (data_of m)
-message_formed sites messages d n m formed seen within is =
-    let there : n < length messages = omega (arith, ap (λ (e : SessionData). length e.messages) seen, length-map messages data_of) in
-    formed_at (map data_of messages) n (data_of m) formed (message_at messages n m there is)
+    subst (λ e. AreDone result (given many i o e) e (session_of (set sites i y) ms) old new) seen (given_here result sites ms i many o x y old new there is h)
 
 -- ---- a local operation
 
@@ -137,41 +114,24 @@ set_twice (z ∷ zs) zero x y = refl
 set_twice (z ∷ zs) (suc i) x y = ap (λ ys. z ∷ ys) (set_twice zs i x y)
 
 -- a site that made an operation, and then told it and released, in memory
-pub made_done : {T E : Type 0} (result : Result T E) (d : SessionData) (sites : List SiteData) (messages : List Op) (i : ℕ) (op : Op) (x y z : SiteData) (n : ℕ) (old new : List ℕ)
-    → session_of sites messages ≡ d → i < length d.sites → x ≡ slice_index_or sites i x → state_of y ≡ with_last (state_of x) (data_of op) → n ≡ length messages
-    → AreDone result (settling (op_text n (data_of op)) (state_of y)) (state_of y) (state_of z) old new
-    → AreDone result (made i (data_of op) d) d (session_of (set (set sites i y) i z) (messages ++ op ∷ [])) old new
-made_done result d sites messages i op x y z n old new seen within is last number h =
-    let o = data_of op in
+pub made_done : {T E : Type 0} (result : Result T E) (d : SessionData) (sites : List SiteData) (ms : List OpData) (i : ℕ) (o : OpData) (x y z : SiteData) (n : ℕ) (old new : List ℕ)
+    → session_of sites ms ≡ d → i < length d.sites → x ≡ slice_index_or sites i x → state_of y ≡ with_last (state_of x) o → n ≡ length ms
+    → AreDone result (settling (op_text n o) (state_of y)) (state_of y) (state_of z) old new
+    → AreDone result (made i o d) d (session_of (set sites i z) (ms ++ o ∷ [])) old new
+made_done result d sites ms i o x y z n old new seen within is last number h =
     let there : i < length sites = omega (arith, ap (λ (e : SessionData). length e.sites) seen, length-map sites state_of) in
-    let at : state_of x ≡ site_at d i = state_at sites messages i x there is ∙ ap (λ e. site_at e i) seen in
+    let at : state_of x ≡ site_at d i = state_at sites ms i x there is ∙ ap (λ e. site_at e i) seen in
     let from : state_of y ≡ with_last (site_at d i) o = last ∙ ap (λ s. with_last s o) at in
-    let count : n ≡ length d.messages = number ∙ sym (length-map messages data_of) ∙ ap (λ (e : SessionData). length e.messages) seen in
+    let count : n ≡ length d.messages = number ∙ ap (λ (e : SessionData). length e.messages) seen in
     let here : AreDone result (settling (op_text (length d.messages) o) (with_last (site_at d i) o)) (with_last (site_at d i) o) (state_of z) old new = subst (λ s. AreDone result (settling (op_text (length d.messages) o) s) s (state_of z) old new) from (subst (λ k. AreDone result (settling (op_text k o) (state_of y)) (state_of y) (state_of z) old new) count h) in
     let up = made_here result d i o (state_of z) old new here in
-    let twice : set (set sites i y) i z ≡ set sites i z = set_twice sites i y z in
-    let whole : session_at d.sites (d.messages ++ o ∷ []) i (state_of z) ≡ session_of (set (set sites i y) i z) (messages ++ op ∷ []) =
-    ap (λ (e : SessionData). session_at e.sites (e.messages ++ o ∷ []) i (state_of z)) (sym seen)
-    ∙ ap (λ (xs : List State). record { sites = xs; messages = map data_of messages ++ o ∷ [] }) (sym (map-set state_of sites i z) ∙ ap (map state_of) (sym twice))
-    ∙ ap (λ (ms : List OpData). record { sites = map state_of (set (set sites i y) i z); messages = ms }) (sym (map-append data_of messages (op ∷ [])))
+    let whole : session_at d.sites (d.messages ++ o ∷ []) i (state_of z) ≡ session_of (set sites i z) (ms ++ o ∷ []) =
+    ap (λ (e : SessionData). session_at e.sites (e.messages ++ o ∷ []) i (state_of z)) (sym seen) ∙ written_back sites (ms ++ o ∷ []) i z
     in
     subst (λ e. AreDone result (made i o d) d e old new) whole up
 
-pub made_formed : (messages now : List Op) (op : Op) (x y : SiteData) → AllFormed (map data_of messages) → now ≡ messages ++ op ∷ [] → state_of y ≡ with_last (state_of x) (data_of op) → IsValid y.history → AllFormed (map data_of now)
-made_formed messages now op x y formed is last valid =
-    let history : y.history ≡ x.history ++ data_of op ∷ [] = ap (λ (s : State). s.history) last in
-    let next = valid_pop x.history (data_of op) (subst IsValid history valid) in
-    subst AllFormed (sym (ap (map data_of) is ∙ map-append data_of messages (op ∷ []))) (held_formed (map data_of messages) (data_of op) formed next.1.formed)
-
--- a delivery of the message of a number to a site in memory
-pub given_message_done : {T E : Type 0} (result : Result T E) (d : SessionData) (sites : List SiteData) (messages : List Op) (i n : ℕ) (many : Bool) (m : Op) (o : OpData) (x y : SiteData) (old new : List ℕ)
-    → session_of sites messages ≡ d → i < length d.sites → n < length d.messages → x ≡ slice_index_or sites i x → m ≡ slice_index_or messages n m → slice_get d.messages n ≡ Some o
-    → AreDone result (taking_in many (data_of m) (state_of x)) (state_of x) (state_of y) old new
-    → AreDone result (given many i o d) d (session_of (set sites i y) messages) old new
-given_message_done result d sites messages i n many m o x y old new seen within below is named at h =
-    subst (λ (p : OpData). AreDone result (given many i p d) d (session_of (set sites i y) messages) old new) (message_is sites messages d n m o seen below named at)
-    (given_done result d sites messages i many (data_of m) x y old new seen within is h)
-
--- the session with its messages, held elsewhere
-pub same_messages : (sites : List SiteData) (now messages : List Op) → now ≡ messages → session_of sites now ≡ session_of sites messages
-same_messages sites now messages same = ap (session_of sites) same
+pub made_formed : (ms : List OpData) (o : OpData) (x y : SiteData) → AllFormed ms → state_of y ≡ with_last (state_of x) o → IsValid y.history → AllFormed (ms ++ o ∷ [])
+made_formed ms o x y formed last valid =
+    let history : y.history ≡ x.history ++ o ∷ [] = ap (λ (s : State). s.history) last in
+    let next = valid_pop x.history o (subst IsValid history valid) in
+    held_formed ms o formed next.1.formed

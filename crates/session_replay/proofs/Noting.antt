@@ -1,144 +1,211 @@
--- What sites in memory are known to have, after each event at one of them.
-use Rattle.std.proofs.Common.{◌≡◌, ℕ, ◌≤◌, ◌<◌, Bool, List, [], ◌∷◌, ◌++◌, refl, sym, ap, subst, ◌∙◌, length, map, set, take, arith}
-use Rattle.std.specs.Prelude.{Result, Some, true, replicate, slice_index_or}
-use Rattle.std.proofs.lemmas.List.{map-append, map-set, length-map}
+-- What sites in memory keep and show after each event at one of them: a delivery, or a local operation.
+use Rattle.std.proofs.Common.{◌≡◌, ℕ, ◌<◌, Bool, List, [], ◌∷◌, ◌++◌, sym, ap, subst, ◌∙◌, length, map, set, take, arith}
+use Rattle.std.specs.Prelude.{Contains, Result, Ok, Err, IfOk, true, slice_index_or}
+use Rattle.std.specs.Result.{is_ok}
+use Rattle.std.proofs.lemmas.List.{map-append, length-map, length-set, get_or-set_same}
 use Rattle.context_diff.specs.Operations.{OpData, IsWellFormed}
-use Rattle.context_diff.specs.declared.op.Op.{Op}
-use Rattle.context_diff.specs.Ops.{data_of}
-use Rattle.context_diff.proofs.CallerLemmas.{contains_none}
-use Rattle.cot_site.specs.States.{State, judged, delivered, with_last}
+use Rattle.cot_site.specs.States.{State, delivered, judged, with_last}
 use Rattle.cot_site.specs.Sites.{SiteData, state_of, AllFormed}
-use Rattle.cot_site.specs.Releases.{IsSound}
+use Rattle.cot_site.specs.Releases.{IsSound, IsLater}
 use Rattle.cot_site.specs.Verdicts.{is_repeat}
-use Rattle.site_answers.specs.declared.verdict.Verdict.{Verdict}
-use Rattle.cot_site.proofs.CallerLemmas.{formed_at, sound_delivered}
-use Rattle.session_replay.specs.Sessions.{SessionData, site_at, new_site, new_sites, settling, taking_in, told_verdict}
-use Rattle.session_replay.specs.Code.Doing.{AreDone}
-use Rattle.session_replay.specs.Code.Knowing.{Has, HasAll, AreKnown, still_known, known_after}
-use Rattle.session_replay.proofs.Lifting.{session_of, state_at, message_at, set_twice}
-use Rattle.session_replay.proofs.Commanding.{read_back, site_within, command_formed}
-use Rattle.session_replay.proofs.Knowing.{known_number, known_there, known_set, known_more, known_first, event_has, event_known, still_few, repeat_more, repeat_after, delivery_known}
+use Rattle.cot_site.proofs.CallerLemmas.{sound_delivered, verdict_history, delivered_number}
+use Rattle.script_text.specs.Report.{op_text}
+use Rattle.session_replay.specs.declared.message.Message.{Message}
+use Rattle.session_replay.specs.declared.sites.commands.Command.{Command}
+use Rattle.session_replay.specs.Sessions.{SessionData, site_at, settling, taking_in, told_verdict, given}
+use Rattle.session_replay.specs.LineSteps.{commanded}
+use Rattle.session_replay.specs.Code.Doing.{AreDone, local_of}
+use Rattle.session_replay.specs.Code.Knowing.{Has, AreKnown, still_known, is_had}
+use Rattle.session_replay.specs.Code.Messages.{IsHeld, operation_of}
+use Rattle.session_replay.proofs.Releasing.{event_later, later_same}
+use Rattle.session_replay.proofs.Lifting.{session_of, state_at, set_twice, given_done, made_formed}
+use Rattle.session_replay.proofs.Commanding.{read_back, site_is, site_within, command_made}
+use Rattle.session_replay.proofs.Messages.{later_at, later_made, same_operations, message_made, held_push}
+use Rattle.session_replay.proofs.Knowing.{known_more, event_has, event_known, still_few, repeat_more, repeat_after, delivery_has}
+use Rattle.session_replay.proofs.Keeping.{Keeps, Shows, said, known_here, kept_at}
 
--- what the type of the sites keeps
-abbrev pub Keeps : List SiteData → List ℕ → List Op → Type 0
-Keeps sites known messages = AllFormed (map data_of messages) × AreKnown (map state_of sites) known (map data_of messages)
+-- ---- a delivery
 
--- ---- no message yet
+-- a delivery to the site at place i, which was x and is y then, as far as it came
+pub record IsDelivery {T E : Type 0} (result : Result T E) (many : Bool) (d : SessionData) (sites : List SiteData) (messages : List Message)
+    (i : ℕ) (x y : SiteData) (o : OpData) (old new : List ℕ) : Type 0 where
+  pub seen : Shows sites messages d
+  pub within : i < length d.sites
+  pub is : x ≡ slice_index_or sites i x
+  pub sound : IsSound (state_of x)
+  pub formed : IsWellFormed o
+  pub done : AreDone result (taking_in many o (state_of x)) (state_of x) (state_of y) old new
 
-pub keeps_none : (sites : List SiteData) (known : List ℕ) (messages : List Op) → sites ≡ [] → known ≡ [] → messages ≡ [] → Keeps sites known messages
-keeps_none sites known messages no_sites none no_messages =
-    subst (λ (ss : List SiteData). Keeps ss known messages) (sym no_sites)
-    (subst (λ (ks : List ℕ). Keeps [] ks messages) (sym none) (subst (λ (ms : List Op). Keeps [] [] ms) (sym no_messages) (λ o at. absurd (contains_none o at), tt)))
+-- the site was read before
+pub site_sound : (sites : List SiteData) (messages : List Message) (d : SessionData) (i : ℕ) (first x : SiteData)
+    → Shows sites messages d → i < length d.sites → first ≡ slice_index_or sites i first → x ≡ slice_index_or sites i x
+    → IsSound (state_of first) → IsSound (state_of x)
+site_sound sites messages d i first x seen within one two sound =
+    let ms = said sites messages in
+    subst IsSound (site_is sites ms d i first seen within one ∙ sym (site_is sites ms d i x seen within two)) sound
 
-pub keeps_first : (count : ℕ) (sites : List SiteData) (known : List ℕ) (messages : List Op) → map state_of sites ≡ new_sites 0 count → AreKnown (new_sites 0 count) known [] → messages ≡ [] → Keeps sites known messages
-keeps_first count sites known messages made none no_messages =
-    subst (λ (ms : List Op). Keeps sites known ms) (sym no_messages)
-    (λ o at. absurd (contains_none o at), subst (λ (ss : List State). AreKnown ss known []) (sym made) none)
+module _ {T E : Type 0} {result : Result T E} {many : Bool} {d : SessionData} {sites : List SiteData} {messages : List Message}
+    {i : ℕ} {x y : SiteData} {o : OpData} {old new : List ℕ} (e : IsDelivery result many d sites messages i x y o old new) where
+  delivery_later : IsLater (state_of x) (state_of y)
+  delivery_later =
+      let s = state_of x in
+      let first : IsLater s (delivered s o) = record { number = delivered_number s o; history = verdict_history (judged s o) o s } in
+      let written = told_verdict many o (judged s o) s.number in
+      event_later result written s (delivered s o) (state_of y) old new e.done first (sound_delivered s o e.sound e.formed)
 
-pub zeros_known : (count : ℕ) (known : List ℕ) → known ≡ replicate count 0 → AreKnown (new_sites 0 count) known []
-zeros_known count known zeros = subst (λ ks. AreKnown (new_sites 0 count) ks []) (sym zeros) (known_first 0 count)
+  pub delivery_kept : (known : List ℕ) (n next : ℕ) → Keeps sites known messages → n ≡ slice_index_or known i n
+      → next ≡ still_known (is_ok result) n
+      → Keeps (set sites i y) (set known i next) messages
+  delivery_kept known n next keeps count counted =
+      let ms = said sites messages in
+      let within = site_within sites ms d i e.seen e.within in
+      let s = state_of x in
+      let here = known_here sites known messages i n x keeps within e.is count in
+      let after = sound_delivered s o e.sound e.formed in
+      let written = told_verdict many o (judged s o) s.number in
+      let stays : (p : OpData) → is_repeat s.history p ≡ true → is_repeat (delivered s o).history p ≡ true = λ p is. repeat_after (judged s o) o p s is in
+      let has = event_known result written s (delivered s o) (state_of y) old new n ms e.done after stays here.1 in
+      let still = still_known (is_ok result) n in
+      let kept = kept_at sites known messages i x y still keeps e.is delivery_later (still_few result n (length ms) here.0) has in
+      subst (λ j. Keeps (set sites i y) (set known i j) messages) (sym counted) kept
 
--- ---- one of the sites
+  -- the messages are the same
+  delivery_same : (known : List ℕ) → Keeps sites known messages → said (set sites i y) messages ≡ said sites messages
+  delivery_same known keeps =
+      same_operations (map state_of sites) (map state_of (set sites i y)) messages (later_at sites i x y e.is delivery_later) keeps.held
 
-pub known_within : (sites : List SiteData) (known : List ℕ) (messages : List Op) (d : SessionData) (i count : ℕ) → count ≡ length known → Keeps sites known messages → session_of sites messages ≡ d → i < length d.sites → i < count
-known_within sites known messages d i count counted keeps seen within =
-    omega (arith, counted, within, known_number (map state_of sites) known (map data_of messages) keeps.1, ap (λ (e : SessionData). length e.sites) seen)
+  pub delivery_messages : (known : List ℕ) → Keeps sites known messages → said (set sites i y) messages ≡ d.messages
+  delivery_messages known keeps = delivery_same known keeps ∙ ap (λ (c : SessionData). c.messages) e.seen
 
--- what is known of a site, in the session
-pub known_session : (sites : List SiteData) (known : List ℕ) (messages : List Op) (d : SessionData) (i n : ℕ) → Keeps sites known messages → session_of sites messages ≡ d → i < length d.sites → n ≡ slice_index_or known i n
-    → (n ≤ length d.messages) × HasAll (site_at d i) (take n d.messages)
-known_session sites known messages d i n keeps seen within is =
-    let there : i < length (map state_of sites) = omega (arith, within, ap (λ (e : SessionData). length e.sites) seen) in
-    let has = known_there (map state_of sites) known (map data_of messages) i (new_site i) n keeps.1 there in
-    let here : (n ≤ length (map data_of messages)) × HasAll (site_at (session_of sites messages) i) (take n (map data_of messages)) =
-    subst (λ j. (j ≤ length (map data_of messages)) × HasAll (site_at (session_of sites messages) i) (take j (map data_of messages))) (sym is) has
-    in
-    subst (λ (e : SessionData). (n ≤ length e.messages) × HasAll (site_at e i) (take n e.messages)) seen here
+  pub delivery_done : (known : List ℕ) → Keeps sites known messages
+      → AreDone result (given many i o d) d (session_of (set sites i y) (said (set sites i y) messages)) old new
+  delivery_done known keeps =
+      let done = given_done result d sites (said sites messages) i many o x y old new e.seen e.within e.is e.done in
+      subst (λ (ms : List OpData). AreDone result (given many i o d) d (session_of (set sites i y) ms) old new)
+      (sym (delivery_same known keeps)) done
 
--- and of the site in memory
-known_here : (sites : List SiteData) (known : List ℕ) (messages : List Op) (i n : ℕ) (x : SiteData) → Keeps sites known messages → i < length sites → x ≡ slice_index_or sites i x → n ≡ slice_index_or known i n
-    → (n ≤ length (map data_of messages)) × HasAll (state_of x) (take n (map data_of messages))
-known_here sites known messages i n x keeps within at is =
-    let here = known_session sites known messages (session_of sites messages) i n keeps refl (omega (arith, within, length-map sites state_of)) is in
-    (here.0, subst (λ s. HasAll s (take n (map data_of messages))) (sym (state_at sites messages i x within at)) here.1)
+-- the site has the operation then, where its verdict says so
+pub delivery_known : {E : Type 0} (result : Result Bool E) (many : Bool) (d : SessionData) (sites : List SiteData) (messages : List Message) (ms : List OpData)
+    (i : ℕ) (x y : SiteData) (o : OpData) (old new : List ℕ)
+    → IsDelivery result many d sites messages i x y o old new → IfOk result (λ had. had ≡ is_had (judged (state_of x) o))
+    → IfOk result (λ has. has ≡ true → Has (site_at (session_of (set sites i y) ms) i) o)
+delivery_known (Err err) many d sites messages ms i x y o old new e had = tt
+delivery_known (Ok b) many d sites messages ms i x y o old new e had = λ is.
+    let within = site_within sites (said sites messages) d i e.seen e.within in
+    let read : y ≡ slice_index_or (set sites i y) i y = sym (get_or-set_same sites i y y within) in
+    let there = state_at (set sites i y) ms i y (omega (arith, within, length-set sites i y)) read in
+    subst (λ s. Has s o) there (delivery_has many o (state_of x) (state_of y) e.done.0 e.sound e.formed (sym had ∙ is))
 
--- the state and the number of a site were written back
-noted_at : (sites : List SiteData) (known : List ℕ) (ms : List OpData) (i : ℕ) (y : SiteData) (n : ℕ) → AreKnown (map state_of sites) known ms → n ≤ length ms → HasAll (state_of y) (take n ms) → AreKnown (map state_of (set sites i y)) (set known i n) ms
-noted_at sites known ms i y n are few has =
-    subst (λ (ss : List State). AreKnown ss (set known i n) ms) (sym (map-set state_of sites i y)) (known_set (map state_of sites) known ms i (state_of y) n are few has)
+-- ---- a local operation
 
--- ---- after an event
+-- an operation that the site at place i made, and told, and the releases after it, as far as they came; the site was x, and y with
+-- the operation, and is z then
+pub record IsMaking {T E : Type 0} (result : Result T E) (written : List ℕ) (d : SessionData) (sites : List SiteData) (messages : List Message)
+    (i : ℕ) (x y z : SiteData) (o : OpData) (m : Message) (old new : List ℕ) : Type 0 where
+  pub seen : Shows sites messages d
+  pub within : i < length d.sites
+  pub is : x ≡ slice_index_or sites i x
+  pub last : state_of y ≡ with_last (state_of x) o
+  pub sound : IsSound (state_of y)
+  pub done : AreDone result (settling written (state_of y)) (state_of y) (state_of z) old new
+  pub site : m.site ≡ i
+  pub place : m.place ≡ length x.history
 
--- the site was read twice
-same_sound : (sites : List SiteData) (messages : List Op) (i : ℕ) (x y : SiteData) → i < length sites → x ≡ slice_index_or sites i x → y ≡ slice_index_or sites i y → IsSound (state_of x) → IsSound (state_of y)
-same_sound sites messages i x y within at also sound = subst IsSound (state_at sites messages i x within at ∙ sym (state_at sites messages i y within also)) sound
+-- the place of the operation that a site is about to make
+pub made_place : (sites : List SiteData) (i : ℕ) (first x : SiteData) (place : ℕ)
+    → i < length sites → first ≡ slice_index_or sites i first → x ≡ slice_index_or sites i x → place ≡ length first.history
+    → place ≡ length x.history
+made_place sites i first x place within one two is =
+    is ∙ ap (λ (s : State). length s.history) (state_at sites [] i first within one ∙ sym (state_at sites [] i x within two))
 
--- the message of a number was delivered
-pub message_noted : {T E : Type 0} (result : Result T E) (many : Bool) (d : SessionData) (sites : List SiteData) (known : List ℕ) (messages : List Op) (i k : ℕ) (first x y z : SiteData) (m p : Op) (old new : List ℕ) (n next : ℕ) (v : Verdict)
-    → Keeps sites known messages → session_of sites messages ≡ d → i < length d.sites → k < length d.messages
-    → first ≡ slice_index_or sites i first → IsSound (state_of first) → x ≡ slice_index_or sites i x → m ≡ slice_index_or messages k m
-    → AreDone result (taking_in many (data_of m) (state_of x)) (state_of x) (state_of y) old new
-    → z ≡ slice_index_or (set sites i y) i z → p ≡ slice_index_or messages k p → v ≡ judged (state_of z) (data_of p)
-    → n ≡ slice_index_or known i n → next ≡ known_after result n k v
-    → Keeps (set sites i y) (set known i next) messages
-message_noted result many d sites known messages i k first x y z m p old new n next v keeps seen inside below one fine two named done again also judges count counted =
-    let ms = map data_of messages in
-    let within = site_within sites messages d i seen inside in
-    let sound = same_sound sites messages i first x within one two fine in
-    let there : k < length messages = omega (arith, below, ap (λ (e : SessionData). length e.messages) seen, length-map messages data_of) in
-    let at = message_at messages k m there named in
-    let both : Some (data_of p) ≡ Some (data_of m) = sym (message_at messages k p there also) ∙ at in
-    let op : data_of p ≡ data_of m = cc in
-    let formed : IsWellFormed (data_of m) = formed_at ms k (data_of m) keeps.0 at in
-    let verdict : v ≡ judged (state_of y) (data_of m) =
-    judges ∙ ap (λ q. judged (state_of z) q) op ∙ ap (λ (s : SiteData). judged (state_of s) (data_of m)) (read_back sites i z y within again)
-    in
-    let here = known_here sites known messages i n x keeps within two count in
-    let kept = delivery_known result many (data_of m) (state_of x) (state_of y) old new n k ms done sound formed at here.0 here.1 in
-    let now : next ≡ known_after result n k (judged (state_of y) (data_of m)) = counted ∙ ap (known_after result n k) verdict in
-    (keeps.0, subst (λ j. AreKnown (map state_of (set sites i y)) (set known i j) ms) (sym now) (noted_at sites known ms i y _ keeps.1 kept.0 kept.1))
-
--- any operation was delivered
-pub delivery_noted : {T E : Type 0} (result : Result T E) (many : Bool) (d : SessionData) (sites : List SiteData) (known : List ℕ) (messages : List Op) (i : ℕ) (first x y : SiteData) (o : OpData) (old new : List ℕ) (n next : ℕ)
-    → Keeps sites known messages → session_of sites messages ≡ d → i < length d.sites
-    → first ≡ slice_index_or sites i first → IsSound (state_of first) → x ≡ slice_index_or sites i x → IsWellFormed o
-    → AreDone result (taking_in many o (state_of x)) (state_of x) (state_of y) old new
-    → n ≡ slice_index_or known i n → next ≡ still_known result n
-    → Keeps (set sites i y) (set known i next) messages
-delivery_noted result many d sites known messages i first x y o old new n next keeps seen inside one fine two formed done count counted =
-    let ms = map data_of messages in
-    let within = site_within sites messages d i seen inside in
-    let s = state_of x in
-    let sound = same_sound sites messages i first x within one two fine in
-    let here = known_here sites known messages i n x keeps within two count in
-    let after = sound_delivered s o sound formed in
-    let has = event_known result (told_verdict many o (judged s o) s.number) s (delivered s o) (state_of y) old new n ms done after (λ p is. repeat_after (judged s o) o p s is) here.1 in
-    (keeps.0, subst (λ j. AreKnown (map state_of (set sites i y)) (set known i j) ms) (sym counted) (noted_at sites known ms i y _ keeps.1 (still_few result n (length ms) here.0) has))
-
--- a local operation was made, and became the next message
-pub command_noted : {T E : Type 0} (result : Result T E) (written : List ℕ) (d : SessionData) (sites : List SiteData) (known : List ℕ) (messages now : List Op) (i : ℕ) (op : Op) (x y w v z : SiteData) (old new : List ℕ) (n next : ℕ)
-    → Keeps sites known messages → session_of sites messages ≡ d → i < length d.sites
-    → x ≡ slice_index_or sites i x → state_of y ≡ with_last (state_of x) (data_of op)
-    → w ≡ slice_index_or (set sites i y) i w → IsSound (state_of w) → v ≡ slice_index_or (set sites i y) i v
+-- the site was read again before it told the operation
+pub told_again : {T E : Type 0} (result : Result T E) (written : List ℕ) (sites : List SiteData) (i : ℕ) (y v z : SiteData) (old new : List ℕ)
+    → i < length sites → v ≡ slice_index_or (set sites i y) i v
     → AreDone result (settling written (state_of v)) (state_of v) (state_of z) old new
-    → now ≡ messages ++ op ∷ [] → n ≡ slice_index_or known i n → next ≡ still_known result n
-    → Keeps (set (set sites i y) i z) (set known i next) now
-command_noted result written d sites known messages now i op x y w v z old new n next keeps seen inside one last again fine once done pushed count counted =
-    let ms = map data_of messages in
-    let o = data_of op in
-    let within = site_within sites messages d i seen inside in
-    let first : w ≡ y = read_back sites i w y within again in
-    let second : v ≡ y = read_back sites i v y within once in
-    let sound : IsSound (state_of v) = subst (λ (s : SiteData). IsSound (state_of s)) (first ∙ sym second) fine in
-    let from : state_of v ≡ with_last (state_of x) o = ap state_of second ∙ last in
-    let here = known_here sites known messages i n x keeps within one count in
-    let repeats : (p : OpData) → Has (state_of x) p → is_repeat v.history p ≡ true = λ p has. subst (λ (s : State). is_repeat s.history p ≡ true) (sym from) (repeat_more x.history (o ∷ []) p has.0) in
-    let has = event_has result written (state_of v) (state_of v) (state_of z) old new n ms done sound (λ p at. repeats p (here.1 p at)) in
-    let noted = noted_at sites known ms i z _ keeps.1 (still_few result n (length ms) here.0) has in
-    let grown : AreKnown (map state_of (set sites i z)) (set known i next) (map data_of now) =
-    subst (λ (qs : List OpData). AreKnown (map state_of (set sites i z)) (set known i next) qs) (sym (ap (map data_of) pushed ∙ map-append data_of messages (op ∷ [])))
-    (known_more _ _ ms (o ∷ []) (subst (λ j. AreKnown (map state_of (set sites i z)) (set known i j) ms) (sym counted) noted))
-    in (
-      command_formed sites messages now d i op x y w seen inside keeps.0 pushed last again fine.history,
-      subst (λ (ss : List SiteData). AreKnown (map state_of ss) (set known i next) (map data_of now)) (sym (set_twice sites i y z)) grown,
-    )
+    → AreDone result (settling written (state_of y)) (state_of y) (state_of z) old new
+told_again result written sites i y v z old new within again done =
+    subst (λ (s : SiteData). AreDone result (settling written (state_of s)) (state_of s) (state_of z) old new)
+    (read_back sites i v y within again) done
+
+pub sound_again : (sites : List SiteData) (i : ℕ) (y w : SiteData) → i < length sites → w ≡ slice_index_or (set sites i y) i w
+    → IsSound (state_of w) → IsSound (state_of y)
+sound_again sites i y w within again sound = subst (λ (s : SiteData). IsSound (state_of s)) (read_back sites i w y within again) sound
+
+module _ {T E : Type 0} {result : Result T E} {written : List ℕ} {d : SessionData} {sites : List SiteData} {messages : List Message}
+    {i : ℕ} {x y z : SiteData} {o : OpData} {m : Message} {old new : List ℕ} (e : IsMaking result written d sites messages i x y z o m old new) where
+  making_after : IsLater (state_of y) (state_of z)
+  making_after = event_later result written (state_of y) (state_of y) (state_of z) old new e.done (later_same (state_of y)) e.sound
+
+  making_later : IsLater (state_of x) (state_of z)
+  making_later = later_made (state_of x) (state_of y) (state_of z) o e.last making_after
+
+  -- the messages before are the same
+  making_same : (known : List ℕ) → Keeps sites known messages → said (set sites i z) messages ≡ said sites messages
+  making_same known keeps =
+      same_operations (map state_of sites) (map state_of (set sites i z)) messages (later_at sites i x z e.is making_later) keeps.held
+
+  making_message : IsHeld (map state_of (set sites i z)) m × (operation_of (map state_of (set sites i z)) m ≡ o)
+  making_message =
+      message_made sites i x y z o m (site_within sites (said sites messages) d i e.seen e.within) e.is e.last making_after e.site e.place
+
+  -- the operation is the next
+  making_next : (known : List ℕ) → Keeps sites known messages → said (set sites i z) (messages ++ m ∷ []) ≡ said sites messages ++ o ∷ []
+  making_next known keeps =
+      map-append (operation_of (map state_of (set sites i z))) messages (m ∷ [])
+      ∙ (λ j. making_same known keeps j ++ making_message.1 j ∷ [])
+
+  making_at : (known : List ℕ) (n : ℕ) → Keeps sites known messages → n ≡ slice_index_or known i n
+      → Keeps (set sites i z) (set known i (still_known (is_ok result) n)) messages
+  making_at known n keeps count =
+      let ms = said sites messages in
+      let within = site_within sites ms d i e.seen e.within in
+      let here = known_here sites known messages i n x keeps within e.is count in
+      let repeats : (p : OpData) → Has (state_of x) p → is_repeat y.history p ≡ true =
+      λ p has. subst (λ (s : State). is_repeat s.history p ≡ true) (sym e.last) (repeat_more x.history (o ∷ []) p has.0)
+      in
+      let stays : (p : OpData) → Contains (take n ms) p → is_repeat y.history p ≡ true = λ p at. repeats p (here.1 p at) in
+      let has = event_has result written (state_of y) (state_of y) (state_of z) old new n ms e.done e.sound stays in
+      kept_at sites known messages i x z (still_known (is_ok result) n) keeps e.is making_later (still_few result n (length ms) here.0) has
+
+  making_all : (known : List ℕ) (n : ℕ) → Keeps sites known messages → n ≡ slice_index_or known i n
+      → Keeps (set sites i z) (set known i (still_known (is_ok result) n)) (messages ++ m ∷ [])
+  making_all known n keeps count =
+      let ts = map state_of (set sites i z) in
+      let ns = set known i (still_known (is_ok result) n) in
+      let kept = making_at known n keeps count in
+      let before = said (set sites i z) messages in
+      let more : AreKnown ts ns (before ++ o ∷ []) = known_more ts ns before (o ∷ []) kept.known in
+      let next : before ++ o ∷ [] ≡ said (set sites i z) (messages ++ m ∷ []) =
+      ap (λ (os : List OpData). os ++ o ∷ []) (making_same known keeps) ∙ sym (making_next known keeps)
+      in
+      let formed = made_formed (said sites messages) o x y keeps.formed e.last e.sound.history in
+      record {
+        few = kept.few;
+        held = held_push ts messages m kept.held making_message.0;
+        formed = subst AllFormed (sym (making_next known keeps)) formed;
+        known = subst (λ (os : List OpData). AreKnown ts ns os) next more;
+      }
+
+  -- the site was written back twice
+  pub making_kept : (known : List ℕ) (now : List Message) (n next : ℕ)
+      → Keeps sites known messages → now ≡ messages ++ m ∷ [] → n ≡ slice_index_or known i n → next ≡ still_known (is_ok result) n
+      → Keeps (set (set sites i y) i z) (set known i next) now
+  making_kept known now n next keeps pushed count counted =
+      subst (λ (ss : List SiteData). Keeps ss (set known i next) now) (sym (set_twice sites i y z))
+      (subst (λ (ns : List Message). Keeps (set sites i z) (set known i next) ns) (sym pushed)
+      (subst (λ j. Keeps (set sites i z) (set known i j) (messages ++ m ∷ [])) (sym counted) (making_all known n keeps count)))
+
+  -- the operation is the next message
+  pub making_done : (known : List ℕ) (now : List Message) (command : Command) (count : ℕ)
+      → Keeps sites known messages → now ≡ messages ++ m ∷ [] → local_of command (state_of x) ≡ Ok o → count ≡ length messages → written ≡ op_text count o
+      → let after = set (set sites i y) i z in
+      AreDone result (commanded i (local_of command (site_at d i)) d) d (session_of after (said after now)) old new
+  making_done known now command count keeps pushed answer counted tells =
+      let ms = said sites messages in
+      let number : count ≡ length ms = omega (arith, counted, length-map messages (operation_of (map state_of sites))) in
+      let steps = commanded i (local_of command (site_at d i)) d in
+      let told = subst (λ (w : List ℕ). AreDone result (settling w (state_of y)) (state_of y) (state_of z) old new) tells e.done in
+      let done = command_made result d sites ms i command o x y z count old new e.seen e.within e.is answer e.last number told in
+      let next : said (set sites i z) now ≡ ms ++ o ∷ [] = ap (said (set sites i z)) pushed ∙ making_next known keeps in
+      subst (λ (ss : List SiteData). AreDone result steps d (session_of ss (said ss now)) old new) (sym (set_twice sites i y z))
+      (subst (λ (os : List OpData). AreDone result steps d (session_of (set sites i z) os) old new) (sym next) done)

@@ -3,17 +3,18 @@ use Rattle.std.proofs.Common.{◌≡◌, ℕ, zero, suc, ◌+◌, ◌<◌, ◌�
 use Rattle.std.proofs.lemmas.List.{map-append}
 use Rattle.std.specs.Prelude.{Result, Ok, Err, Option, Some, None, OnOk, OnErr}
 use Rattle.std.proofs.lemmas.List.{take_all}
+use Rattle.std.proofs.Math.Seq.{take-length}
 use Rattle.context_diff.specs.Operations.{member_of}
 use Rattle.site_answers.specs.declared.release.Release.{Release}
 use Rattle.cot_site.specs.States.{State, Released, released, IsSettled}
-use Rattle.cot_site.specs.Releases.{IsSound as IsSoundSite, and_more, releases, all_releases, state_after, settled, release_of, IsPartlySettled}
-use Rattle.cot_site.proofs.CallerLemmas.{release_number, sound_released, settled_settles}
+use Rattle.cot_site.specs.Releases.{IsSound as IsSoundSite, IsLater, and_more, releases, all_releases, state_after, settled, release_of, IsPartlySettled}
+use Rattle.cot_site.proofs.CallerLemmas.{after_more, after_none, later_on, release_number, sound_along, sound_released, settled_settles}
 use Rattle.script_text.specs.declared.report.event.Event.TheVariants.{Free}
 use Rattle.script_text.specs.Verdicts.{verdict_line_text}
 use Rattle.session_replay.specs.Steps.{last_of, written_by, IsReached}
 use Rattle.session_replay.specs.Code.Doing.{AreDone, IsFront, free_line, free_lines}
 use Rattle.session_replay.specs.Sessions.{free_step, settling}
-use Rattle.session_replay.proofs.Every.{Every}
+use Rattle.session_replay.proofs.Every.{Every, every_last, every_map, every_reached}
 use Rattle.session_replay.proofs.Steps.{done_first, reached_at, front_same}
 
 -- ---- what releases leave and write
@@ -57,6 +58,42 @@ sound_settling written s sound = (sound, sound_freed (length s.waiting) s sound)
 pub settling_settles : (written : List ℕ) (s t : State) → IsSoundSite s → IsSettled (last_of t (settling written s))
 unfolding last_of
 settling_settles written s t sound = subst IsSettled (sym (last_freed s (all_releases s))) (settled_settles s sound)
+
+-- ---- later states of a site
+
+pub later_same : (s : State) → IsLater s s
+later_same s = record { number = refl; history = take-length s.history }
+
+later_first : (n : ℕ) (s : State) (r : Released) → IsSoundSite s → released s ≡ Some r → IsLater s r.after
+unfolding releases
+later_first n s r sound some =
+    let along = sound_along (suc n) s (r ∷ []) (releases n r.after) sound (ap (and_more (releases n)) some) in
+    subst (IsLater s) (after_more s r [] ∙ after_none r.after) along.1
+
+later_by : (n : ℕ) → ((t : State) → IsSoundSite t → Every (IsLater t) (map free_step (releases n t)))
+    → (s : State) → IsSoundSite s → (r : Option Released) → released s ≡ r → Every (IsLater s) (map free_step (and_more (releases n) r))
+later_by n rest s sound None none = tt
+later_by n rest s sound (Some r) some =
+    let after = later_first n s r sound some in
+    let more = rest r.after (sound_released s r sound some) in
+    (after, every_map (IsLater r.after) (IsLater s) (λ t later. later_on s r.after t after later) _ more)
+
+later_freed : (n : ℕ) (s : State) → IsSoundSite s → Every (IsLater s) (map free_step (releases n s))
+unfolding releases
+later_freed zero s sound = tt
+later_freed (suc n) s sound = later_by n (later_freed n) s sound (released s) refl
+
+later_settling : (written : List ℕ) (before s : State) → IsLater before s → IsSoundSite s → Every (IsLater before) (settling written s)
+later_settling written before s later sound =
+    (later, every_map (IsLater s) (IsLater before) (λ t. later_on before s t later) _ (later_freed (length s.waiting) s sound))
+
+-- however far an event and its releases came, what the site had integrated it has
+pub event_later : {T E : Type 0} (result : Result T E) (written : List ℕ) (before s now : State) (old new : List ℕ)
+    → AreDone result (settling written s) before now old new → IsLater before s → IsSoundSite s → IsLater before now
+event_later (Ok t) written before s now old new done later sound =
+    subst (IsLater before) (sym done.0) (every_last (IsLater before) before (settling written s) (later_same before) (later_settling written before s later sound))
+event_later (Err e) written before s now old new done later sound =
+    every_reached (IsLater before) before now (settling written s) (later_same before) (later_settling written before s later sound) done.0
 
 -- ---- what the calls of a site answer
 

@@ -1,12 +1,13 @@
 -- Operations counted one after the other.
-use Rattle.std.proofs.Common.{◌≡◌, ℕ, suc, ◌+◌, ◌<◌, ◌≤◌, Bool, true, false, List, [], ◌∷◌, length, map, drop, get_or, refl, ap, sym, ◌∙◌, arith}
+use Rattle.std.proofs.Common.{◌≡◌, ℕ, suc, ◌+◌, ◌<◌, ◌≤◌, length-drop, Bool, true, false, List, [], ◌∷◌, length, drop, get_or, refl, ap, sym, ◌∙◌, arith}
 use Rattle.std.specs.Prelude.{if◌then◌else◌}
 use Rattle.std.proofs.Math.Seq.{drop-cons}
-use Rattle.std.proofs.lemmas.List.{drop_all}
+use Rattle.std.proofs.lemmas.List.{drop-map, drop_all}
 use Rattle.context_diff.specs.Operations.{OpData, inserting, deleting, undoing}
 use Rattle.op_name.specs.Members.{is_even}
-use Rattle.context_diff.specs.declared.op.Op.{Op}
-use Rattle.context_diff.specs.Ops.{data_of}
+use Rattle.cot_site.specs.States.{State}
+use Rattle.session_replay.specs.declared.message.Message.{Message}
+use Rattle.session_replay.specs.Code.Messages.{operation_of, operations_of}
 use Rattle.session_replay.specs.Generating.{Counts, one_more, counts_of, all_counted}
 
 abbrev pub added : Counts → Counts → Counts
@@ -45,8 +46,8 @@ added_more (undoing x t g c) a b = by_force (is_even g)
 -- ---- a walk over messages
 
 -- what was counted, and what is still to come, are all
-abbrev pub IsTally : List Op → ℕ → Counts → Type 0
-IsTally ms i a = added a (counts_of (map data_of (drop i ms))) ≡ counts_of (map data_of ms)
+abbrev pub IsTally : List OpData → ℕ → Counts → Type 0
+IsTally os i a = added a (counts_of (drop i os)) ≡ counts_of os
 
 abbrev pub no_counts : Counts
 no_counts = record { inserts = 0; deletes = 0; undos = 0; redos = 0 }
@@ -54,29 +55,41 @@ no_counts = record { inserts = 0; deletes = 0; undos = 0; redos = 0 }
 nothing_more : (n : ℕ) → 0 + n ≡ n
 nothing_more n = omega arith
 
-pub tally_first : (ms : List Op) → IsTally ms 0 no_counts
-tally_first ms =
-    let k = counts_of (map data_of ms) in
+pub tally_first : (os : List OpData) → IsTally os 0 no_counts
+tally_first os =
+    let k = counts_of os in
     λ i. record { inserts = nothing_more k.inserts i; deletes = nothing_more k.deletes i; undos = nothing_more k.undos i; redos = nothing_more k.redos i }
 
-pub tally_next : (ms : List Op) (i : ℕ) (op : Op) (a : Counts) → i < length ms → op ≡ get_or ms i op → IsTally ms i a → IsTally ms (i + 1) (one_more (data_of op) a)
-tally_next ms i op a within is tally =
+pub tally_next : (ss : List State) (ms : List Message) (i : ℕ) (d : Message) (o : OpData) (a : Counts)
+    → i < length ms → o ≡ operation_of ss (get_or ms i d) → IsTally (operations_of ss ms) i a
+    → IsTally (operations_of ss ms) (i + 1) (one_more o a)
+tally_next ss ms i d o a within named tally =
     let next : suc i ≡ i + 1 = omega arith in
-    let cut : drop i ms ≡ op ∷ drop (i + 1) ms = drop-cons ms i op within ∙ ap (λ o. o ∷ drop (suc i) ms) (sym is) ∙ ap (λ n. op ∷ drop n ms) next in
-    sym (added_more (data_of op) a (counts_of (map data_of (drop (i + 1) ms))))
-    ∙ (ap (λ os. added a (counts_of (map data_of os))) (sym cut)
-    ∙ tally)
+    let os = operations_of ss ms in
+    let rest = drop (i + 1) ms in
+    let cut : drop i ms ≡ get_or ms i d ∷ rest = drop-cons ms i d within ∙ ap (λ n. get_or ms i d ∷ drop n ms) next in
+    let here : drop i os ≡ o ∷ drop (i + 1) os =
+    drop-map (operation_of ss) i ms
+    ∙ ap (operations_of ss) cut
+    ∙ ap (λ p. p ∷ operations_of ss rest) (sym named)
+    ∙ ap (λ qs. o ∷ qs) (sym (drop-map (operation_of ss) (i + 1) ms))
+    in
+    sym (added_more o a (counts_of (drop (i + 1) os))) ∙ ap (λ qs. added a (counts_of qs)) (sym here) ∙ tally
 
-pub tally_last : (ms : List Op) (i : ℕ) (a : Counts) → length ms ≤ i → IsTally ms i a → a ≡ counts_of (map data_of ms)
-tally_last ms i a past tally =
+pub tally_last : (os : List OpData) (i : ℕ) (a : Counts) → length os ≤ i → IsTally os i a → a ≡ counts_of os
+tally_last os i a past tally =
     (λ j. record { inserts = none a.inserts j; deletes = none a.deletes j; undos = none a.undos j; redos = none a.redos j })
-    ∙ (ap (λ os. added a (counts_of (map data_of os))) (sym (drop_all i ms past))
+    ∙ (ap (λ qs. added a (counts_of qs)) (sym (drop_all i os past))
     ∙ tally)
   where
     none : (n : ℕ) → n ≡ n + 0
     none n = omega arith
 
--- no count is greater than the number of operations
-pub tally_small : (ms : List Op) (i : ℕ) (a : Counts) → IsTally ms i a → all_counted a ≤ length (map data_of ms)
-tally_small ms i a tally =
-    omega (arith, counted (map data_of ms), ap (λ (k : Counts). k.inserts) tally, ap (λ (k : Counts). k.deletes) tally, ap (λ (k : Counts). k.undos) tally, ap (λ (k : Counts). k.redos) tally)
+-- fewer are counted than there are operations, where one is still to come
+pub tally_less : (os : List OpData) (i : ℕ) (a : Counts) → IsTally os i a → i < length os → all_counted a < length os
+tally_less os i a tally within =
+    let k = counts_of (drop i os) in
+    omega (arith, counted os, counted (drop i os), length-drop i os, within, ap all_counted tally, both a k)
+  where
+    both : (b k : Counts) → all_counted (added b k) ≡ all_counted b + all_counted k
+    both b k = omega arith

@@ -3,3 +3,4 @@ pub mod Doing
 pub mod Reading
 pub mod Drawing
 pub mod Knowing
+pub mod Messages

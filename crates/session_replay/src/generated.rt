@@ -1,12 +1,14 @@
 //! A generated session, once all its events are done.
 
-ghost use Rattle.std.specs.Prelude.{◌≡◌, ◌≤◌, ◌+◌, ◌↔◌, ◌∷◌, [], IsNone, length, map, option_map, slice_get};
-ghost use Rattle.cot_site.specs.Sites.{state_of};
+ghost use Rattle.std.specs.Prelude.{◌≡◌, ◌≤◌, ◌<◌, ◌↔◌, ◌∷◌, [], IsNone, length, map, option_map, slice_get};
 ghost use Rattle.context_diff.specs.Ops.{data_of};
-ghost use Rattle.session_replay.specs.Generating.{counts_of};
+ghost use Rattle.cot_site.specs.Sites.{state_of};
+ghost use Rattle.session_replay.specs.Generating.{all_counted, counts_of, one_more};
 ghost use Rattle.session_replay.specs.Code.Drawing.{counts_in};
+ghost use Rattle.session_replay.specs.Code.Messages.{AreHeld, operations_of};
 ghost use Rattle.session_replay.specs.declared.generator.TheConstants.{MAX_EVENTS};
 
+use crate::message::Message;
 use context_diff::Op;
 use cot_site::Site;
 use std::marker::Model;
@@ -18,6 +20,26 @@ struct Tally {
     deletes: u32,
     undos: u32,
     redos: u32,
+}
+
+impl Tally {
+    // Counts the operation by what it is.
+    fn count(&mut self, op: &Op)
+        requires { all_counted (counts_in self.old) < MAX_EVENTS }
+        ensures { counts_in self.new ≡ one_more (data_of op.now) (counts_in self.old) }
+    {
+        match op {
+            Op::Insert { .. } => self.inserts += 1,
+            Op::Delete { .. } => self.deletes += 1,
+            Op::Undo { generation, .. } => {
+                if generation % 2 == 0 {
+                    self.redos += 1;
+                } else {
+                    self.undos += 1;
+                }
+            }
+        }
+    }
 }
 
 /// The sites of a generated session, and how many operations of each kind they made.
@@ -40,15 +62,14 @@ impl Model for Generated {
 
 impl Generated {
     /// The sites, with the operations that they made.
-    pub(crate) fn new(sites: Vec<Site>, messages: &[Op]) -> Generated
-        requires { length messages.now ≤ MAX_EVENTS }
+    pub(crate) fn new(sites: Vec<Site>, messages: &[Message]) -> Generated
+        requires few { length messages.now ≤ MAX_EVENTS }
+        requires held { AreHeld (map state_of sites.items) messages.now }
         ensures sites { result.sites ≡ map state_of sites.items }
-        ensures counts { result.counts ≡ counts_of (map data_of messages.now) }
+        ensures counts { result.counts ≡ counts_of (operations_of (map state_of sites.items) messages.now) }
     {
-        Generated {
-            sites,
-            tally: tally_of(messages),
-        }
+        let tally = tally_of(&sites, messages);
+        Generated { sites, tally }
     }
 
     /// The number of inserts that were made.
@@ -100,10 +121,11 @@ impl Generated {
     }
 }
 
-// How many of the operations are of each kind.
-fn tally_of(messages: &[Op]) -> Tally
-    requires { length messages.now ≤ MAX_EVENTS }
-    ensures { counts_in result ≡ counts_of (map data_of messages.now) }
+// How many of the messages' operations are of each kind.
+fn tally_of(sites: &[Site], messages: &[Message]) -> Tally
+    requires few { length messages.now ≤ MAX_EVENTS }
+    requires held { AreHeld (map state_of sites.now) messages.now }
+    ensures { counts_in result ≡ counts_of (operations_of (map state_of sites.now) messages.now) }
 {
     let mut counted = Tally {
         inserts: 0,
@@ -111,18 +133,8 @@ fn tally_of(messages: &[Op]) -> Tally
         undos: 0,
         redos: 0,
     };
-    for op in messages {
-        match op {
-            Op::Insert { .. } => counted.inserts += 1,
-            Op::Delete { .. } => counted.deletes += 1,
-            Op::Undo { generation, .. } => {
-                if generation % 2 == 0 {
-                    counted.redos += 1;
-                } else {
-                    counted.undos += 1;
-                }
-            }
-        }
+    for message in messages {
+        counted.count(message.op(sites));
     }
     counted
 }

@@ -10,6 +10,7 @@ mod draws;
 mod generated;
 mod generator;
 mod laws;
+mod message;
 mod releases;
 mod script;
 mod session;

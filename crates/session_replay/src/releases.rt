@@ -1,12 +1,14 @@
 //! What a site does after each event: it releases until nothing is ready.
 
-ghost use Rattle.std.specs.Prelude.{◌≡◌, ◌++◌, OnOk, OnErr, map};
+ghost use Rattle.std.specs.Prelude.{◌≡◌, ◌++◌, IfOk, OnOk, OnErr, map};
 ghost use Rattle.context_diff.specs.Ops.{data_of};
 ghost use Rattle.context_diff.specs.Operations.{IsWellFormed};
 ghost use Rattle.cot_site.specs.Sites.{state_of};
 ghost use Rattle.cot_site.specs.Releases.{all_releases};
+ghost use Rattle.cot_site.specs.States.{judged};
 ghost use Rattle.script_text.specs.Report.{op_text};
 ghost use Rattle.session_replay.specs.Code.Doing.{AreDone, IsFront, free_lines};
+ghost use Rattle.session_replay.specs.Code.Knowing.{is_had};
 ghost use Rattle.session_replay.specs.Sessions.{free_step, settling, taking_in, told_verdict};
 
 use context_diff::Op;
@@ -51,24 +53,34 @@ pub(crate) fn tell_made(
 }
 
 /// Delivers an operation, which is well formed, to the site, appends the line of its verdict, and releases. Where
-/// many messages are delivered at once, a repeat isn't told.
+/// many messages are delivered at once, a repeat isn't told. Answers whether the verdict says that the history has
+/// the operation then.
 pub(crate) fn take_in(
     alloc: Global,
     many: bool,
     op: &Op,
     site: &mut Site,
     out: &mut Vec<u8>,
-) -> Result<(), Memory>
+) -> Result<bool, Memory>
     requires { IsWellFormed (data_of op.now) }
-    ensures { AreDone result (taking_in many (data_of op.now) (state_of site.old)) (state_of site.old) (state_of site.new) out.old.items out.new.items }
+    ensures done { AreDone result (taking_in many (data_of op.now) (state_of site.old)) (state_of site.old) (state_of site.new) out.old.items out.new.items }
+    ensures had { IfOk result (λ had. had ≡ is_had (judged (state_of site.old) (data_of op.now))) }
 {
     match site.deliver(op) {
         Ok(verdict) => {
             tell_verdict(many, op, verdict, site.number(), out)?;
-            release_all(alloc, site, out)
+            release_all(alloc, site, out)?;
+            Ok(is_had(&verdict))
         }
         Err(memory) => Err(memory),
     }
+}
+
+// Whether the history has an operation after this verdict on it.
+fn is_had(verdict: &Verdict) -> bool
+    ensures { result ≡ is_had verdict.now }
+{
+    matches!(verdict, Verdict::Repeat | Verdict::Integrated)
 }
 
 // Appends the line of a verdict, but that of a repeat among many deliveries.

@@ -15,9 +15,9 @@ ghost use Rattle.session_replay.specs.declared.generator.TheConstants.{MAX_EVENT
 ghost use Rattle.script_text.specs.declared.reading.line.Line.TheVariants.{Sync};
 
 use crate::generated::Generated;
+use crate::message::Message;
 use crate::session::StepBad;
 use crate::sites::commands::Command;
-use context_diff::Op;
 use cot_site::Site;
 use op_name::{Memory, SITES};
 use script_text::Line;
@@ -31,7 +31,7 @@ mod raw;
 mod shows;
 
 /// The sites of a script, none before it makes them, and the messages, numbered from 0, that their local
-/// operations became.
+/// operations became. An operation is held in the history of the site that made it, and a message says where.
 ///
 /// Beside each site stands how many of the first messages it is known to have while none of its operations is
 /// ready: among many deliveries, theirs would tell nothing and change nothing, so they are passed over.
@@ -39,21 +39,20 @@ mod shows;
 pub(crate) struct Sites {
     sites: Vec<Site>,
     known: Vec<usize>,
-    messages: Vec<Op>,
+    messages: Vec<Message>,
 }
 
 impl Model for Sites {
     ghost use Rattle.std.specs.Prelude.{map};
-    ghost use Rattle.context_diff.specs.Ops.{data_of};
-    ghost use Rattle.cot_site.specs.Sites.{AllFormed, state_of};
+    ghost use Rattle.cot_site.specs.Sites.{state_of};
     ghost use Rattle.session_replay.specs.Sessions.{SessionData};
-    ghost use Rattle.session_replay.specs.Code.Knowing.{AreKnown};
+    ghost use Rattle.session_replay.specs.Code.Messages.{IsKept, operations_of};
 
     ghost Value = { SessionData };
 
-    ghost view = { λ s. record { sites = map state_of s.sites.items; messages = map data_of s.messages.items } };
+    ghost view = { λ s. record { sites = map state_of s.sites.items; messages = operations_of (map state_of s.sites.items) s.messages.items } };
 
-    ghost invariant = { λ s. AllFormed (map data_of s.messages.items) × AreKnown (map state_of s.sites.items) s.known.items (map data_of s.messages.items) };
+    ghost invariant = { λ s. IsKept (map state_of s.sites.items) s.known.items s.messages.items };
 }
 
 impl Sites {

@@ -11,6 +11,7 @@ ghost use Rattle.session_replay.specs.Sessions.{site_at};
 ghost use Rattle.session_replay.specs.LineSteps.{commanded, typed};
 ghost use Rattle.session_replay.specs.Code.Doing.{AreDone, local_of};
 
+use crate::message::Message;
 use crate::releases::tell_made;
 use crate::sites::Sites;
 use crate::sites::deliveries::still_known;
@@ -71,13 +72,19 @@ impl Sites {
     {
         let alloc = *self.messages.allocator();
         make_room(&mut self.messages)?;
+        let place = self.sites[at].book().len();
         match make(&mut self.sites[at], command) {
             Ok(op) => {
                 self.sites[at].known();
                 let number = self.messages.len() as u32;
                 let told = tell_made(alloc, number, &op, &mut self.sites[at], out);
-                self.messages.push_reserved(op);
-                self.known[at] = still_known(&told, self.known[at]);
+                // The history has it.
+                drop(op);
+                self.messages.push_reserved(Message {
+                    site: at as u16,
+                    place,
+                });
+                self.known[at] = still_known(told.is_ok(), self.known[at]);
                 match told {
                     Ok(()) => Ok(true),
                     Err(memory) => Err(memory),
@@ -106,7 +113,7 @@ fn make(site: &mut Site, command: Command) -> Result<Op, Local>
 }
 
 // Makes room for one more message. Numbers of messages have 32 bits.
-fn make_room(messages: &mut Vec<Op>) -> Result<(), Memory>
+fn make_room(messages: &mut Vec<Message>) -> Result<(), Memory>
     ensures same { messages.new.items ≡ messages.old.items }
     ensures room { OnOk result (vec_len messages.new < vec_capacity messages.new) }
     ensures number { OnOk result (length messages.old.items < 4294967295) }

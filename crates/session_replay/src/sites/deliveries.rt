@@ -1,18 +1,17 @@
 //! Deliveries of messages.
 
-ghost use Rattle.std.specs.Prelude.{◌≡◌, ◌<◌, ◌+◌, ◌^◌, false, Some, OnErr, length, slice_get};
+ghost use Rattle.std.specs.Prelude.{◌≡◌, ◌<◌, true, false, IfOk, Some, OnErr, length, slice_get};
 ghost use Rattle.context_diff.specs.Operations.{OpData, IsWellFormed};
 ghost use Rattle.context_diff.specs.Ops.{data_of};
-ghost use Rattle.session_replay.specs.Sessions.{given, given_all, synced};
+ghost use Rattle.session_replay.specs.Sessions.{given, given_all, site_at, synced};
 ghost use Rattle.session_replay.specs.LineSteps.{given_message};
 ghost use Rattle.session_replay.specs.Code.Doing.{AreDone, IsLineDone};
-ghost use Rattle.session_replay.specs.Code.Knowing.{still_known, known_after};
+ghost use Rattle.session_replay.specs.Code.Knowing.{Has, still_known};
 
 use crate::releases::take_in;
 use crate::session::StepBad;
 use crate::sites::Sites;
 use context_diff::Op;
-use cot_site::Verdict;
 use op_name::Memory;
 
 impl Sites {
@@ -71,53 +70,78 @@ impl Sites {
         ensures sites { length self.new.sites ≡ length self.old.sites }
         ensures messages { self.new.messages ≡ self.old.messages }
     {
-        let alloc = *self.messages.allocator();
-        self.sites[at].known();
-        let taken = take_in(
-            alloc,
-            many,
-            &self.messages[message],
-            &mut self.sites[at],
-            out,
-        );
-        let verdict = self.sites[at].check(&self.messages[message]);
-        self.known[at] = known_after(&taken, self.known[at], message, verdict);
-        taken
+        // A copy, since the site that takes the operation in stands in one list with the one that holds it. It shares the context.
+        match self.messages[message].op(&self.sites).try_clone() {
+            Ok(copy) => self.deliver_copy(at, many, message, &copy, out),
+            Err(memory) => Err(memory),
+        }
     }
 
-    // Delivers an operation, which is well formed, to the site.
-    pub(super) fn deliver(&mut self, at: usize, op: &Op, out: &mut Vec<u8>) -> Result<(), Memory>
+    // Delivers a copy of the operation of the message of this number to the site.
+    fn deliver_copy(
+        &mut self,
+        at: usize,
+        many: bool,
+        message: usize,
+        op: &Op,
+        out: &mut Vec<u8>,
+    ) -> Result<(), Memory>
+        requires site { at < length self.old.sites }
+        requires message { slice_get self.old.messages message ≡ Some (data_of op.now) }
+        requires formed { IsWellFormed (data_of op.now) }
+        ensures done { AreDone result (given many at (data_of op.now) self.old) self.old self.new out.old.items out.new.items }
+        ensures sites { length self.new.sites ≡ length self.old.sites }
+        ensures messages { self.new.messages ≡ self.old.messages }
+    {
+        match self.deliver(at, many, op, out) {
+            Ok(true) => {
+                self.note(at, message);
+                Ok(())
+            }
+            Ok(false) => Ok(()),
+            Err(memory) => Err(memory),
+        }
+    }
+
+    // Notes that the site has the message of this number, where that is the next of those that it is known to have.
+    fn note(&mut self, at: usize, message: usize)
+        requires site { at < length self.old.sites }
+        requires has { (o : OpData) → slice_get self.old.messages message ≡ Some o → Has (site_at self.old at) o }
+        requires message { message < length self.old.messages }
+        ensures { self.new ≡ self.old }
+    {
+        if self.known[at] == message {
+            self.known[at] = message + 1;
+        }
+    }
+
+    // Delivers an operation, which is well formed, to the site. Answers whether the site is known to have it then.
+    pub(super) fn deliver(
+        &mut self,
+        at: usize,
+        many: bool,
+        op: &Op,
+        out: &mut Vec<u8>,
+    ) -> Result<bool, Memory>
         requires site { at < length self.old.sites }
         requires formed { IsWellFormed (data_of op.now) }
-        ensures done { AreDone result (given false at (data_of op.now) self.old) self.old self.new out.old.items out.new.items }
+        ensures done { AreDone result (given many at (data_of op.now) self.old) self.old self.new out.old.items out.new.items }
+        ensures has { IfOk result (λ has. has ≡ true → Has (site_at self.new at) (data_of op.now)) }
         ensures sites { length self.new.sites ≡ length self.old.sites }
+        ensures messages { self.new.messages ≡ self.old.messages }
     {
         let alloc = *self.messages.allocator();
         self.sites[at].known();
-        let taken = take_in(alloc, false, op, &mut self.sites[at], out);
-        self.known[at] = still_known(&taken, self.known[at]);
+        let taken = take_in(alloc, many, op, &mut self.sites[at], out);
+        self.known[at] = still_known(taken.is_ok(), self.known[at]);
         taken
     }
 }
 
-// How many of the first messages a site is known to have after an event that ended so: out of memory, an operation
+// How many of the first messages a site is known to have after an event that was done, or not: out of memory, an operation
 // may be ready there, and then a delivery would release it.
-pub(super) fn still_known(ended: &Result<(), Memory>, known: usize) -> usize
-    ensures { result ≡ still_known ended.now known }
+pub(super) fn still_known(done: bool, known: usize) -> usize
+    ensures { result ≡ still_known done known }
 {
-    match ended {
-        Ok(()) => known,
-        Err(_) => 0,
-    }
-}
-
-// The same after a delivery of the message of this number, with the verdict that it would get now.
-fn known_after(taken: &Result<(), Memory>, known: usize, message: usize, verdict: Verdict) -> usize
-    requires { message + 1 < 2 ^ 64 }
-    ensures { result ≡ known_after taken.now known message verdict }
-{
-    match (taken, verdict) {
-        (Ok(()), Verdict::Repeat) if known == message => message + 1,
-        _ => still_known(taken, known),
-    }
+    if done { known } else { 0 }
 }

@@ -55,7 +55,7 @@ impl Sites {
         let alloc = *self.messages.allocator();
         match decode(alloc, bytes) {
             Ok(Decoded::Got { op, used }) => {
-                self.deliver(site as usize, &op, out)?;
+                self.deliver(site as usize, false, &op, out)?;
                 Ok(Some(used))
             }
             Ok(Decoded::More { at_least }) => {

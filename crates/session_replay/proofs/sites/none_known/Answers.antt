@@ -1,4 +1,4 @@
-use Rattle.session_replay.proofs.Noting.{zeros_known}
+use Rattle.session_replay.proofs.Keeping.{zeros_known}
 use Rattle.session_replay.proofs.sites.none_known.Goals as goal
 
 pub returns-in-Ok : goal.returns-in-Ok

@@ -2,52 +2,125 @@ use Rattle.std.proofs.Common.{◌≡◌, ◌∙◌, List, [], ◌∷◌, ◌++�
 use Rattle.std.specs.Prelude.{vec_len}
 use Rattle.std.proofs.lemmas.Result.{err_from_is_err_and}
 use Rattle.context_diff.specs.Ops.{data_of}
-use Rattle.context_diff.specs.declared.op.Op.{Op}
 use Rattle.cot_site.specs.States.{State}
-use Rattle.cot_site.specs.Sites.{AllFormed, state_of}
-use Rattle.session_replay.specs.Code.Knowing.{AreKnown}
+use Rattle.cot_site.specs.Sites.{state_of}
+use Rattle.cot_site.specs.Releases.{IsSound}
+use Rattle.session_replay.specs.declared.message.Message.{Message}
+use Rattle.session_replay.specs.Code.Knowing.{still_known}
+use Rattle.session_replay.specs.Code.Messages.{IsKept}
 use Rattle.session_replay.proofs.Steps.{stopped, done_nothing, ended_well, ended_short, all_done}
-use Rattle.session_replay.proofs.Lifting.{same_messages}
-use Rattle.session_replay.proofs.Noting.{command_noted, known_within}
-use Rattle.session_replay.proofs.Commanding.{command_made, same_states, refused_same, command_refused, command_told}
+use Rattle.session_replay.proofs.Lifting.{session_of}
+use Rattle.session_replay.proofs.Keeping.{Keeps, said, known_within}
+use Rattle.session_replay.proofs.Noting.{IsMaking, made_place, told_again, sound_again, making_kept, making_done}
+use Rattle.session_replay.proofs.Commanding.{site_within, same_states, refused_same, command_refused, command_told}
 use Rattle.session_replay.proofs.sites.Sites.command.Goals.{in-Ok-told, in-Err-told, in-Ok-refuse, in-Err-refuse}
 use Rattle.session_replay.proofs.sites.Sites.command.Goals as goal
 
 pub invariant_of-self : goal.invariant_of-self
 invariant_of-self c =
-    subst (λ (ms : List Op). AllFormed (map data_of ms) × AreKnown (map state_of c.self.inside.sites.items) c.self.inside.known.items (map data_of ms)) (sym c.make_room.ensures.same) c.self.invariant
+    let sites = c.self.inside.sites.items in
+    subst (λ (ms : List Message). Keeps sites c.self.inside.known.items ms) (sym c.make_room.ensures.same) c.self.invariant
 
 pub returns-in_err-make_room-clause-done : goal.returns-in_err-make_room-clause-done
 returns-in_err-make_room-clause-done c =
     let p = err_from_is_err_and c.from_residual.result c.from_residual.ensures.1 in
-    let same = same_messages c.self.inside.sites.items c.make_room.new.messages.items c.self.inside.messages.items c.make_room.ensures.same ∙ c.self.view_is in
+    let sites = c.self.inside.sites.items in
+    let same = ap (λ (ms : List Message). session_of sites (said sites ms)) c.make_room.ensures.same ∙ c.self.view_is in
     stopped c.from_residual.result p.0 p.1 _ c.args.self.now _ _ _ (done_nothing _ c.args.self.now _ _ _ same refl)
 
 pub invariant_of-self-in-Err : goal.invariant_of-self-in-Err
 invariant_of-self-in-Err c =
-    let sites = same_states c.self.inside.sites.items c.args.at c.index_mut.result.now c.make.new.site c.index_mut.ensures.value c.in-Err.ensures.err in
-    subst (λ (ms : List Op). AllFormed (map data_of ms) × AreKnown (map state_of (set c.self.inside.sites.items c.args.at c.make.new.site)) c.self.inside.known.items (map data_of ms)) (sym c.make_room.ensures.same)
-    (c.self.invariant.0, subst (λ (ss : List State). AreKnown ss c.self.inside.known.items (map data_of c.self.inside.messages.items)) (sym sites) c.self.invariant.1)
+    let sites = c.self.inside.sites.items in
+    let y = c.make.new.site in
+    let same = same_states sites c.args.at c.index_mut.result.now y c.index_mut.ensures.value c.in-Err.ensures.err in
+    subst (λ (ms : List Message). Keeps (set sites c.args.at y) c.self.inside.known.items ms) (sym c.make_room.ensures.same)
+    (subst (λ (ss : List State). IsKept ss c.self.inside.known.items c.self.inside.messages.items) (sym same) c.self.invariant)
 
 pub invariant_of-self-in-Ok : goal.invariant_of-self-in-Ok
 invariant_of-self-in-Ok c =
-    let pushed = c.push_reserved.ensures.items ∙ ap (λ (ms : List Op). ms ++ c.in-Ok.op ∷ []) c.make_room.ensures.same in
-    command_noted c.tell_made-told.result _ c.args.self.now c.self.inside.sites.items c.self.inside.known.items c.self.inside.messages.items _ c.args.at c.in-Ok.op c.index_mut.result.now c.make.new.site c.index.result.now c.index_mut-in-Ok.result.now c.tell_made-told.new.site c.args.out.now.items c.tell_made-told.new.out.items c.index-in-Ok.result.now c.still_known.result c.self.invariant c.self.view_is c.requires c.index_mut.ensures.value c.in-Ok.ensures.made c.index.ensures (record { number = c.known.ensures.number; history = c.known.ensures.history; waiting = c.known.ensures.waiting }) c.index_mut-in-Ok.ensures.value c.tell_made-told.ensures pushed c.index-in-Ok.ensures c.still_known.ensures
+    let m : Message = record { site = c.args.at; place = c.len-place.result } in
+    let sites = c.self.inside.sites.items in
+    let within = site_within sites _ c.args.self.now c.args.at c.self.view_is c.requires in
+    let x = c.index_mut.result.now in
+    let is = c.index_mut.ensures.value in
+    let y = c.make.new.site in
+    let z = c.tell_made-told.new.site in
+    let w = c.index-in-Ok.result.now in
+    let v = c.index_mut-in-Ok.result.now in
+    let known = c.known.ensures in
+    let sound : IsSound (state_of w) = record { number = known.number; history = known.history; waiting = known.waiting } in
+    let d = c.args.self.now in
+    let i = c.args.at in
+    let messages = c.self.inside.messages.items in
+    let old = c.args.out.now.items in
+    let new = c.tell_made-told.new.out.items in
+    let e : IsMaking c.tell_made-told.result _ d sites messages i x y z (data_of c.in-Ok.op) m old new = record {
+      seen = c.self.view_is;
+      within = c.requires;
+      is = is;
+      last = c.in-Ok.ensures.made;
+      sound = sound_again sites i y w within c.index-in-Ok.ensures sound;
+      done = told_again c.tell_made-told.result _ sites i y v z old new within c.index_mut-in-Ok.ensures.value c.tell_made-told.ensures;
+      site = refl;
+      place = made_place sites i c.index.result.now x m.place within c.index.ensures is (c.len-place.ensures ∙ ap length c.book.ensures);
+    }
+    in
+    let pushed = c.push_reserved.ensures.items ∙ ap (λ (ms : List Message). ms ++ m ∷ []) c.make_room.ensures.same in
+    let next = c.still_known.ensures ∙ ap (λ done. still_known done c.index-in-Ok-2.result.now) c.is_ok.ensures.value in
+    let n = c.index-in-Ok-2.result.now in
+    making_kept e c.self.inside.known.items _ n c.still_known.result c.self.invariant pushed c.index-in-Ok-2.ensures next
 
-pub index-requires-in-Ok : goal.index-requires-in-Ok
-index-requires-in-Ok c =
+pub index-requires-in-Ok-2 : goal.index-requires-in-Ok-2
+index-requires-in-Ok-2 c =
     let counted : vec_len c.self.inside.known ≡ length c.self.inside.known.items = omega (arith, c.self.inside.known.ok.0) in
-    known_within c.self.inside.sites.items c.self.inside.known.items c.self.inside.messages.items c.args.self.now c.args.at (vec_len c.self.inside.known) counted c.self.invariant c.self.view_is c.requires
+    let sites = c.self.inside.sites.items in
+    let messages = c.self.inside.messages.items in
+    let d = c.args.self.now in
+    known_within sites c.self.inside.known.items messages d c.args.at _ counted c.self.invariant c.self.view_is c.requires
 
 pub index_mut-requires-in-Ok-2 : goal.index_mut-requires-in-Ok-2
 index_mut-requires-in-Ok-2 c =
     let counted : vec_len c.self.inside.known ≡ length c.self.inside.known.items = omega (arith, c.self.inside.known.ok.0) in
-    known_within c.self.inside.sites.items c.self.inside.known.items c.self.inside.messages.items c.args.self.now c.args.at (vec_len c.self.inside.known) counted c.self.invariant c.self.view_is c.requires
+    let sites = c.self.inside.sites.items in
+    let messages = c.self.inside.messages.items in
+    let d = c.args.self.now in
+    known_within sites c.self.inside.known.items messages d c.args.at _ counted c.self.invariant c.self.view_is c.requires
 
 pub returns-after-told-clause-done : goal.returns-after-told-clause-done
 returns-after-told-clause-done c =
-    let pushed = c.push_reserved.ensures.items ∙ ap (λ (ms : List Op). ms ++ c.in-Ok.op ∷ []) c.make_room.ensures.same in
-    let h = command_made c.tell_made-told.result c.args.self.now c.self.inside.sites.items c.self.inside.messages.items c.push_reserved.new.self.items c.args.at c.args.command c.in-Ok.op c.index_mut.result.now c.make.new.site c.index_mut-in-Ok.result.now c.tell_made-told.new.site _ c.args.out.now.items c.tell_made-told.new.out.items c.self.view_is c.requires c.index_mut.ensures.value c.in-Ok.ensures.answer c.in-Ok.ensures.made c.index_mut-in-Ok.ensures.value (omega (arith, c.len-number.ensures, c.make_room.new.messages.ok.0, ap length c.make_room.ensures.same)) pushed c.tell_made-told.ensures in
+    let m : Message = record { site = c.args.at; place = c.len-place.result } in
+    let sites = c.self.inside.sites.items in
+    let within = site_within sites _ c.args.self.now c.args.at c.self.view_is c.requires in
+    let x = c.index_mut.result.now in
+    let is = c.index_mut.ensures.value in
+    let y = c.make.new.site in
+    let z = c.tell_made-told.new.site in
+    let w = c.index-in-Ok.result.now in
+    let v = c.index_mut-in-Ok.result.now in
+    let known = c.known.ensures in
+    let sound : IsSound (state_of w) = record { number = known.number; history = known.history; waiting = known.waiting } in
+    let d = c.args.self.now in
+    let i = c.args.at in
+    let messages = c.self.inside.messages.items in
+    let old = c.args.out.now.items in
+    let new = c.tell_made-told.new.out.items in
+    let e : IsMaking c.tell_made-told.result _ d sites messages i x y z (data_of c.in-Ok.op) m old new = record {
+      seen = c.self.view_is;
+      within = c.requires;
+      is = is;
+      last = c.in-Ok.ensures.made;
+      sound = sound_again sites i y w within c.index-in-Ok.ensures sound;
+      done = told_again c.tell_made-told.result _ sites i y v z old new within c.index_mut-in-Ok.ensures.value c.tell_made-told.ensures;
+      site = refl;
+      place = made_place sites i c.index.result.now x m.place within c.index.ensures is (c.len-place.ensures ∙ ap length c.book.ensures);
+    }
+    in
+    let pushed = c.push_reserved.ensures.items ∙ ap (λ (ms : List Message). ms ++ m ∷ []) c.make_room.ensures.same in
+    let room = c.make_room.new.messages.ok.0 in
+    let number : c.len-number.result ≡ length messages = omega (arith, c.len-number.ensures, room, ap length c.make_room.ensures.same) in
+    let now = c.push_reserved.new.self.items in
+    let answer = c.in-Ok.ensures.answer in
+    let h = making_done e c.self.inside.known.items now c.args.command c.len-number.result c.self.invariant pushed answer number refl in
     elim c.match-told.branch [
       | in-Ok-told w ↦ ended_well c.tell_made-told.result c.match-told.result _ _ _ _ _ _ _ w.in-Ok-told.is w.result-is h
       | in-Err-told w ↦ ended_short c.tell_made-told.result c.match-told.result _ _ _ _ _ _ _ w.in-Err-told.is w.result-is h
@@ -55,11 +128,20 @@ returns-after-told-clause-done c =
 
 pub returns-after-refuse-clause-done : goal.returns-after-refuse-clause-done
 returns-after-refuse-clause-done c =
-    let same = refused_same c.self.inside.sites.items c.self.inside.messages.items c.make_room.new.messages.items c.args.self.now c.args.at c.index_mut.result.now c.make.new.site c.self.view_is c.index_mut.ensures.value c.in-Err.ensures.err c.make_room.ensures.same in
     let x = c.index_mut.result.now in
+    let is = c.index_mut.ensures.value in
+    let d = c.args.self.now in
+    let i = c.args.at in
+    let sites = c.self.inside.sites.items in
+    let now = c.make_room.new.messages.items in
+    let why = c.in-Err.why in
+    let refused_so = refused_same sites c.self.inside.messages.items now d i x c.make.new.site c.self.view_is is in
+    let same = refused_so c.in-Err.ensures.err c.make_room.ensures.same in
     elim c.match-refuse.branch [
       | in-Ok-refuse w ↦
-          let refused = command_refused c.args.self.now c.self.inside.sites.items c.self.inside.messages.items c.args.at c.args.command c.in-Err.why x c.self.view_is c.requires c.index_mut.ensures.value c.in-Err.ensures.answer w.in-Ok-refuse.ensures.told in
-          all_done c.match-refuse.result _ _ _ _ _ _ w.result-is (command_told c.args.self.now _ c.args.at _ c.in-Err.why _ _ refused same w.in-Ok-refuse.ensures.ok)
+          let told = w.in-Ok-refuse.ensures.told in
+          let refused = command_refused d sites _ i c.args.command why x c.self.view_is c.requires is c.in-Err.ensures.answer told in
+          let all = command_told d _ i _ why _ _ refused same w.in-Ok-refuse.ensures.ok in
+          all_done c.match-refuse.result _ _ _ _ _ _ w.result-is all
       | in-Err-refuse w ↦ stopped c.match-refuse.result _ w.result-is _ _ _ _ _ (done_nothing _ _ _ _ _ same w.in-Err-refuse.ensures.err)
     ]

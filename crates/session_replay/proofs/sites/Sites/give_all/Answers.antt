@@ -1,12 +1,13 @@
-use Rattle.std.proofs.Common.{◌≡◌, ◌∙◌, ◌+◌, drop, List, ap, refl, length, arith}
+use Rattle.std.proofs.Common.{◌≡◌, ◌∙◌, ◌+◌, drop, List, ap, refl, length, map, arith}
 use Rattle.std.specs.Prelude.{slice_get, vec_len}
 use Rattle.std.proofs.lemmas.List.{length-map}
 use Rattle.std.proofs.lemmas.Result.{err_from_is_err_and}
 use Rattle.context_diff.specs.Operations.{OpData}
 use Rattle.session_replay.specs.Sessions.{SessionData, given_all}
-use Rattle.context_diff.specs.Ops.{data_of}
+use Rattle.cot_site.specs.Sites.{state_of}
+use Rattle.session_replay.specs.Code.Messages.{operation_of}
 use Rattle.session_replay.proofs.Knowing.{known_passed}
-use Rattle.session_replay.proofs.Noting.{known_within, known_session}
+use Rattle.session_replay.proofs.Keeping.{known_within, known_session}
 use Rattle.session_replay.proofs.Steps.{along_next, along_end, along_short, done_short, reached_in, stopped}
 use Rattle.session_replay.proofs.Loops.{given_more, given_none, message_there}
 use Rattle.session_replay.proofs.sites.Sites.give_all.Goals as goal
@@ -21,7 +22,7 @@ loop-message-init c = record {
   along = known_passed c.index-message.result.now c.args.at c.args.self.now.messages c.args.self.now c.args.out.now.items (known_session c.self.inside.sites.items c.self.inside.known.items c.self.inside.messages.items c.args.self.now c.args.at c.index-message.result.now c.self.invariant c.self.view_is c.requires c.index-message.ensures).1;
   sites = refl;
   messages = refl;
-  end = omega (arith, c.len-message-end.ensures, c.self.inside.messages.ok.0, ap (λ (e : SessionData). length e.messages) c.self.view_is, length-map c.self.inside.messages.items data_of);
+  end = omega (arith, c.len-message-end.ensures, c.self.inside.messages.ok.0, ap (λ (e : SessionData). length e.messages) c.self.view_is, length-map c.self.inside.messages.items (operation_of (map state_of c.self.inside.sites.items)));
 }
 
 pub returns-in_err-deliver_message-clause-done : goal.returns-in_err-deliver_message-clause-done

@@ -25,7 +25,7 @@ returns-then-not-branch-clause-done c =
 
 pub overflow_add-place : goal.overflow_add-place
 overflow_add-place c =
-    let at = site_is c.self.inside.sites.items c.self.inside.messages.items c.loop-ch.self c.args.at c.index.result.now c.self.view_is (omega (arith, c.requires, c.loop-ch.invariant.sites)) c.index.ensures in
+    let at = site_is c.self.inside.sites.items _ c.loop-ch.self c.args.at c.index.result.now c.self.view_is (omega (arith, c.requires, c.loop-ch.invariant.sites)) c.index.ensures in
     let valid = subst (λ (s : State). IsValid s.history) at c.known.ensures.history in
     let small : c.loop-ch.place ≤ PLACES = place_small (site_at c.loop-ch.self c.args.at) c.loop-ch.place c.ch-item.result valid (sym c.if-not-branch.false ∙ c.in_ok-command.ensures.made) in
     omega arith
