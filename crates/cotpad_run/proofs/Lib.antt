@@ -1,7 +1,7 @@
 pub mod Spelling
 pub mod Scripts
 pub mod Alike
-pub mod Choosing
+pub mod Table
 pub mod Session
 pub mod Meetings
 pub mod Looping

@@ -87,7 +87,12 @@ loop_answered start s t j k (Ok counts) old new before after Refused m told = ab
 loop_answered start s t j k (Ok counts) old new before after Words m told = absurd told
 loop_answered start s t j k (Ok counts) old new before after ReadFault m told = absurd told
 loop_answered start s t j k (Ok counts) old new before after WriteFault m told = inl (record { joined = joined_by start s t j k counts before after m; cut_off = told })
-loop_answered start s t j k (Ok counts) old new before after Memory m told = record { link = inr m.link; faultless = m.cause.well refl; held = told.0; write_faults = told.1 }
+loop_answered start s t j k (Ok counts) old new before after Memory m told = record {
+  link = inr (m.link, inl (counts.0, counts.1, alike t (t ∷ k ∷ []), are_looped start s t j k counts.0 counts.1 before.ends after.ends m.server m.joiner m.looped));
+  faultless = m.cause.well refl;
+  held = told.0;
+  write_faults = told.1;
+}
 loop_answered start s t j k (Ok counts) old new before after LinkFault m told = absurd told
 loop_answered start s t j k (Ok counts) old new before after PeerRefused m told = absurd told
 loop_answered start s t j k (Err why) old new before after Done m told = absurd told
@@ -101,8 +106,12 @@ loop_answered start s t j k (Err why) old new before after WriteFault m (refusal
   cut_off = cut_off;
   faultless = m.cause.other why refl (no_link why refusal is);
 })
-loop_answered start s t j k (Err why) old new before after Memory m (other, kept) =
-    record { link = inr m.link; faultless = m.cause.other why refl other; held = kept.held; write_faults = kept.write_faults }
+loop_answered start s t j k (Err why) old new before after Memory m (other, kept) = record {
+  link = inr (m.link, inr (why, parted start s t j k why before.ends after.ends m.stopped m.server m.joiner));
+  faultless = m.cause.other why refl other;
+  held = kept.held;
+  write_faults = kept.write_faults;
+}
 loop_answered start s t j k (Err why) old new before after LinkFault m (is, kept) = record {
   stopped = subst (λ n. IsParted start n before.ends after.ends) is (parted start s t j k why before.ends after.ends m.stopped m.server m.joiner);
   link = m.link;
@@ -146,8 +155,12 @@ loop_told stay join meet empty any short start s t j k (Ok counts) old new befor
 loop_told stay join meet empty any short start s t j k (Ok counts) old new before after Words m told telling = tt
 loop_told stay join meet empty any short start s t j k (Ok counts) old new before after ReadFault m told telling = tt
 loop_told stay join meet empty any short start s t j k (Ok counts) old new before after WriteFault m told telling =
-    let is = outcome join meet empty (server_of start) (joiner_of start) t k counts.0 counts.1 before.ends after.ends (pair_apart stay start) telling (of_pair start s t j k counts before after m) in
-    subst (λ text. IsCutOff text old new) (λ i. loop_text (is.once_is i) (is.twice_is i) (is.shown i)) told
+    let both = of_pair start s t j k counts before after m in
+    let is = outcome join meet empty (server_of start) (joiner_of start) t k counts.0 counts.1 before.ends after.ends (pair_apart stay start) telling both in
+    record {
+      talks = talks start t k counts.0 counts.1 before.ends after.ends telling both;
+      cut_off = subst (λ text. IsCutOff text old new) (λ i. loop_text (is.once_is i) (is.twice_is i) (is.shown i)) told;
+    }
 loop_told stay join meet empty any short start s t j k (Ok counts) old new before after Memory m told telling = tt
 loop_told stay join meet empty any short start s t j k (Ok counts) old new before after LinkFault m told telling = tt
 loop_told stay join meet empty any short start s t j k (Ok counts) old new before after PeerRefused m told telling = absurd told

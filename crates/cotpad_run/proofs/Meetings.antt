@@ -6,6 +6,7 @@ use Rattle.outside_io.specs.Ends.{End}
 use Rattle.outside_io.specs.Writing.{WritesFront}
 use Rattle.outside_io.specs.declared.reading.TheConstants.{MAX_INPUT}
 use Rattle.cot_site.specs.States.{State}
+use Rattle.cot_site.specs.Releases.{IsLater}
 use Rattle.peer_exchange.specs.declared.messages.PeerCause.TheVariants.{Cut}
 use Rattle.peer_exchange.specs.declared.peer.Peer.{Peer}
 use Rattle.peer_exchange.specs.declared.peer.Peer.TheVariants.{Bytes}
@@ -33,6 +34,7 @@ pub record Meeting (side : Side) (port : ℕ) (s t : State) (r : Result (ℕ × 
   pub met : IfOk r (λ counts. Exchanges (before.ends 0) (after.ends 0) before.peer (side.meets s t counts))
   pub stopped : IfErr r (λ why. Exchanges (before.ends 0) (after.ends 0) before.peer (side.stops s t why))
   pub cut : (offset : ℕ) → r ≡ Err (node.Peer (Bytes offset Cut)) → IfSome before.peer (Appends (before.ends 0).received (after.ends 0).received)
+  pub later : IsLater s t
   pub cause : OnlyLinkFails before.faults after.faults r
   pub link : IsLinkedOnce side.role port before after
   pub input : IsInput old new
@@ -49,6 +51,7 @@ met_by side port s t r old new before after says m said = record {
   left = t;
   loaded = m.loaded;
   said = said;
+  later = m.later;
   link = m.link;
   input = m.input;
   at_end = m.at_end;

@@ -88,18 +88,18 @@ no_fault which a b came rest (refused.Bytes offset cause) fits whole short e cut
 ]
   where
     inside_none : (cause : PeerCause) → ((o : ℕ) → refused.Bytes offset cause ≡ refused.Bytes o Cut → came ≡ a ++ b) → length came < length a → IsFrontOf came a → Explains which came (node.Peer (refused.Bytes offset cause)) → ⊥
-    inside_none Head all less front bad = bad_front which a came offset Head fits whole front bad
-    inside_none (Frame c) all less front bad = bad_front which a came offset (Frame c) fits whole front bad
+    inside_none Head all less front said = bad_front which a came offset Head fits whole front said.1
+    inside_none (Frame c) all less front said = bad_front which a came offset (Frame c) fits whole front said.1
     inside_none Cut all less front said = omega (arith, less, ap length (all offset refl), length-append a b)
-    inside_none Extra all less front said = said
-    inside_none Limit all less front said = omega (arith, less, short, said.1)
+    inside_none Extra all less front said = said.1
+    inside_none Limit all less front said = omega (arith, less, short, said.1.1)
 
     behind_none : (cause : PeerCause) → measure_of which came ≡ message.Whole (length a) → Explains which came (node.Peer (refused.Bytes offset cause)) → ⊥
-    behind_none Head is bad = let never = sym is ∙ bad in cc
-    behind_none (Frame c) is bad = let never = sym is ∙ bad in cc
-    behind_none Cut is said = let never = sym is ∙ said.0.1 in cc
-    behind_none Extra is said = said
-    behind_none Limit is said = let never = sym is ∙ said.0.1 in cc
+    behind_none Head is said = let never = sym is ∙ said.1 in cc
+    behind_none (Frame c) is said = let never = sym is ∙ said.1 in cc
+    behind_none Cut is said = let never = sym is ∙ said.1.0.1 in cc
+    behind_none Extra is said = said.1
+    behind_none Limit is said = let never = sym is ∙ said.1.0.1 in cc
 
 -- ---- serving
 
@@ -139,13 +139,14 @@ unrefused_serving keep s j t bytes came gone rest why only theirs parts cut stop
 
     by : IsUnserved s t (node.Peer why) came gone → ⊥
     by (inl x) = no_fault First first third came rest why first_fits first_whole theirs.first_short both (λ o is. cut o is ∙ theirs.parts) x.explained
-    by (inr (inl x)) =
+    by (inr (inl x)) = let never = x.cause in cc
+    by (inr (inr (inl x))) =
         let split : first ++ third ≡ x.first ++ (x.rest ++ rest) = both ∙ (ap (λ (c : List ℕ). c ++ rest) x.parts ∙ append_assoc x.first x.rest rest) in
         let is = whole_is First first third x.first (x.rest ++ rest) first_fits first_whole x.first_whole split in
         no_fault Third third [] x.rest rest why third_fits third_whole theirs.third_short (append-nil third ∙ sym is.1)
         (λ o same. behind_same first x.rest third (ap (λ (f : List ℕ). f ++ x.rest) (sym is.0) ∙ (sym x.parts ∙ (cut o same ∙ theirs.parts))) ∙ sym (append-nil third))
         x.explained
-    by (inr (inr x)) =
+    by (inr (inr (inr x))) =
         let split : first ++ third ≡ x.first ++ (x.third ++ rest) = both ∙ (ap (λ (c : List ℕ). c ++ rest) x.parts ∙ append_assoc x.first x.third rest) in
         let is = whole_is First first third x.first (x.third ++ rest) first_fits first_whole x.first_whole split in
         let same = whole_is Third third [] x.third rest third_fits third_whole x.third_whole (append-nil third ∙ sym is.1) in
@@ -168,11 +169,12 @@ unrefused_joining s j t bytes came gone rest why only theirs parts cut stopped =
     all = append-nil bytes ∙ parts
 
     by : IsUnjoined s t (node.Peer why) came gone → ⊥
-    by (inl x) = no_fault Second bytes [] came rest why fits whole theirs.short all (λ o is. cut o is ∙ sym (append-nil bytes)) x.explained
-    by (inr (inl x)) =
+    by (inl x) = elim x.cause [ inl link ↦ (let never = link in cc) | inr memory ↦ (let never = memory.0 in cc) ]
+    by (inr (inl x)) = no_fault Second bytes [] came rest why fits whole theirs.short all (λ o is. cut o is ∙ sym (append-nil bytes)) x.explained
+    by (inr (inr (inl x))) =
         let same = whole_is Second bytes [] came rest fits whole x.whole all in
         peer_is why x.refusal x.cause (only.closing bytes theirs.sent t x.refusal theirs.answered (subst (λ m. IsUnclosed s m t x.refusal) same.0 x.refused))
-    by (inr (inr x)) = let never = x.cause in cc
+    by (inr (inr (inr x))) = let never = x.cause in cc
 
 -- ---- the bytes of the peer, as they are told
 

@@ -28,14 +28,3 @@ command_data (command.Explain m) = Explain m
 command_data (command.Serve port) = Serve port
 command_data (command.Join port) = Join port
 command_data (command.Loop start) = Loop start
-
--- the command doesn't call the wire
-abbrev pub IsOffline : CommandData → Type 0
-IsOffline Replay = Unit {0}
-IsOffline Show = Unit {0}
-IsOffline (Edit site e) = Unit {0}
-IsOffline (Gen start events window) = Unit {0}
-IsOffline (Explain m) = Unit {0}
-IsOffline (Serve port) = ⊥
-IsOffline (Join port) = ⊥
-IsOffline (Loop start) = ⊥

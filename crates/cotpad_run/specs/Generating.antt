@@ -4,7 +4,11 @@ use Rattle.context_diff.specs.Replays.{text_of}
 use Rattle.cot_site.specs.States.{State}
 use Rattle.session_replay.specs.Sessions.{SessionData, site_at}
 use Rattle.session_replay.specs.Generating.{Plan, Counts, generated, counts_of, all_counted}
+use Rattle.log_replies.specs.declared.status.Status.{Status}
+use Rattle.log_replies.specs.declared.status.Status.TheVariants.{Done}
+use Rattle.log_replies.specs.Outside.{Outside}
 use Rattle.log_replies.specs.Replies.{shown_reply}
+use Rattle.cotpad_run.specs.Made.{IsMade}
 use Rattle.cotpad_run.specs.declared.generator.TheConstants.{GENERATED_SITES}
 
 -- the session has a few sites, to which all messages are delivered after each window and in the end
@@ -43,3 +47,8 @@ gen_text start events window =
 pub record IsCounted (start events window : ℕ) : Type 0 where
   pub equal : alike_in (session_of start events window) ≡ GENERATED_SITES
   pub counted : all_counted (counts_of (session_of start events window).messages) ≡ events
+
+-- each answer of `gen`, with its cause and what it leaves; once a session is generated, all its sites show the same text
+pub record IsGenerated (start events window : ℕ) (old new : Outside) (status : Status) : Type 0 where
+  pub made : IsMade (gen_text start events window) old new status
+  pub counted : status ≡ Done → IsCounted start events window

@@ -9,4 +9,5 @@ pub mod Refusals
 pub mod Peers
 pub mod Meeting
 pub mod Looping
+pub mod Table
 pub mod Code

@@ -11,7 +11,7 @@ use Rattle.session_replay.specs.Sessions.{SessionData, site_at}
 use Rattle.session_replay.specs.Generating.{Plan, generated}
 use Rattle.site_node.specs.declared.node.Node.{Node}
 use Rattle.site_node.specs.declared.node.Node.TheVariants as node
-use Rattle.site_node.specs.Pairs.{IsLooped, IsUnlooped}
+use Rattle.site_node.specs.Pairs.{IsLooped, IsUnlooped, IsTelling}
 use Rattle.log_replies.specs.declared.status.Status.{Status}
 use Rattle.log_replies.specs.declared.status.Status.TheVariants.{Done, Refused, Words, ReadFault, WriteFault, Memory, LinkFault, PeerRefused}
 use Rattle.log_replies.specs.Outside.{Outside, IsWritten, IsCutOff}
@@ -145,9 +145,14 @@ pub record IsLoopLost (start : ℕ) (old new : Outside) (before after : Wired) :
   pub held : new.held ≡ old.held
   pub write_faults : new.write_faults ≡ old.write_faults
 
--- out of memory: nothing was written, and no call failed
-pub record IsLoopShort (old new : Outside) (before after : Wired) : Type 0 where
-  pub link : (after ≡ before) ⊎ AreLinked before after
+-- the exchanges went as far as they did: to their end, or until one of them stopped
+abbrev pub HaveGone : ℕ → (ℕ → End) → (ℕ → End) → Type 0
+HaveGone start old new =
+    ((once : ℕ × ℕ) × (twice : ℕ × ℕ) × (equal : ℕ) × AreLooped start once twice equal old new) ⊎ ((why : Node) × IsParted start why old new)
+
+-- out of memory: nothing was written, and no call failed; either the wire wasn't called, or the exchanges went as far as they did
+pub record IsLoopShort (start : ℕ) (old new : Outside) (before after : Wired) : Type 0 where
+  pub link : (after ≡ before) ⊎ (AreLinked before after × HaveGone start before.ends after.ends)
   pub faultless : after.faults ≡ before.faults
   pub held : new.held ≡ old.held
   pub write_faults : new.write_faults ≡ old.write_faults
@@ -159,7 +164,7 @@ IsLooping start old new before after Refused = ⊥
 IsLooping start old new before after Words = ⊥
 IsLooping start old new before after ReadFault = ⊥
 IsLooping start old new before after WriteFault = IsLoopCutOff start old new before after ⊎ IsRefusalCutOff start old new before after
-IsLooping start old new before after Memory = IsLoopShort old new before after
+IsLooping start old new before after Memory = IsLoopShort start old new before after
 IsLooping start old new before after LinkFault = IsLoopLost start old new before after
 IsLooping start old new before after PeerRefused = IsLoopRefused start old new before after
 
@@ -170,13 +175,24 @@ pub record IsLoopWhole (start : ℕ) (old new : Outside) (before after : Wired) 
   pub talks : AreTwoTalks start before.ends after.ends
   pub written : IsWritten (loop_text (8, 8) (0, 0) 2) old new
 
--- so it is where the answer is Done, and nothing of what came is refused
+-- the same where a write failed: a front of the summary was written
+pub record IsLoopWholeButCut (start : ℕ) (old new : Outside) (before after : Wired) : Type 0 where
+  pub talks : AreTwoTalks start before.ends after.ends
+  pub cut_off : IsCutOff (loop_text (8, 8) (0, 0) 2) old new
+
+-- so it is where the answer is Done or a write failed, and nothing of what came is refused
 abbrev pub IsLoopTold : ℕ → Outside → Outside → Wired → Wired → Status → Type 0
 IsLoopTold start old new before after Done = IsLoopWhole start old new before after
 IsLoopTold start old new before after Refused = Unit {0}
 IsLoopTold start old new before after Words = Unit {0}
 IsLoopTold start old new before after ReadFault = Unit {0}
-IsLoopTold start old new before after WriteFault = IsCutOff (loop_text (8, 8) (0, 0) 2) old new
+IsLoopTold start old new before after WriteFault = IsLoopWholeButCut start old new before after
 IsLoopTold start old new before after Memory = Unit {0}
 IsLoopTold start old new before after LinkFault = Unit {0}
 IsLoopTold start old new before after PeerRefused = ⊥
+
+-- each answer of `loop`, with its cause and what it leaves; over a pair that tells its bytes the messages are those of both, and the
+-- summary is of all that each site made
+pub record IsLoopAnswered (start : ℕ) (old new : Outside) (before after : Wired) (status : Status) : Type 0 where
+  pub answer : IsLooping start old new before after status
+  pub told : IsTelling before.ends → IsLoopTold start old new before after status

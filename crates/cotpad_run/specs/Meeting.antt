@@ -6,6 +6,7 @@ use Rattle.outside_io.specs.declared.link.Role.{Role}
 use Rattle.outside_io.specs.declared.link.Role.TheVariants.{Listen, Connect}
 use Rattle.outside_io.specs.declared.link.Asked.TheVariants as asked
 use Rattle.cot_site.specs.States.{State}
+use Rattle.cot_site.specs.Releases.{IsLater}
 use Rattle.peer_exchange.specs.declared.messages.PeerCause.TheVariants.{Cut}
 use Rattle.peer_exchange.specs.declared.peer.Peer.{Peer}
 use Rattle.peer_exchange.specs.declared.peer.Peer.TheVariants.{Bytes}
@@ -46,12 +47,13 @@ pub record IsLinkedOnce (role : Role) (port : ℕ) (before after : Wired) : Type
   pub other_received : (after.ends 1).received ≡ (before.ends 1).received
 
 -- the source's log, read to its end, was loaded as site 0, in this state; at end 0 these bytes were received, which those of the peer
--- begin with, and these sent, and they say this of the state and of the one afterwards
+-- begin with, and these sent, and they say this of the state and of the one afterwards, in which what was integrated stays so
 pub record IsMet (side : Side) (port : ℕ) (says : State → State → List ℕ → List ℕ → Type 0) (old new : Outside) (before after : Wired) : Type 0 where
   pub site : State
   pub left : State
   pub loaded : IfSome old.left (λ bytes. IsLoadedAs 0 bytes site)
   pub said : Exchanges (before.ends 0) (after.ends 0) before.peer (says site left)
+  pub later : IsLater site left
   pub link : IsLinkedOnce side.role port before after
   pub input : IsInput old new
   pub at_end : IsAtEnd new.left

@@ -10,7 +10,7 @@ use Rattle.log_replies.specs.Outside.{Outside, IsWritten, IsCutOff}
 use Rattle.log_replies.specs.declared.status.Status.{Status}
 use Rattle.log_replies.specs.declared.status.Status.TheVariants.{Done, Refused, Words, ReadFault, WriteFault, Memory, LinkFault, PeerRefused}
 use Rattle.cotpad_run.specs.declared.command.TheConstants.{MAX_PORT}
-use Rattle.cotpad_run.specs.Commands.{CommandData, IsOffline, Replay, Show, Edit, Gen, Explain, Serve, Join, Loop}
+use Rattle.cotpad_run.specs.Commands.{CommandData, Replay, Show, Edit, Gen, Explain, Serve, Join, Loop}
 
 -- the words of an edit, after its site: a row for each. A text is one word
 abbrev pub edit_words : EditData → List (List ℕ)
@@ -62,9 +62,9 @@ Spells words command = (map string_bytes words ≡ command_words command) × IsI
 abbrev pub SpellNothing : {A : Type 0} → List (String A) → Type 0
 SpellNothing words = (command : CommandData) → ¬ Spells words command
 
--- they spell no command that calls the wire
-abbrev pub SpellNoExchange : {A : Type 0} → List (String A) → Type 0
-SpellNoExchange words = (command : CommandData) → Spells words command → IsOffline command
+-- they spell no command of which this holds
+abbrev pub SpellNone : {A : Type 0} → (CommandData → Type 0) → List (String A) → Type 0
+SpellNone Holds words = (command : CommandData) → Spells words command → ¬ Holds command
 
 -- what is written then: `cotpad: words` and a line feed
 abbrev pub words_line : List ℕ

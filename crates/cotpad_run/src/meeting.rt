@@ -5,6 +5,7 @@ ghost use Rattle.std.specs.Io.KnownBytes.{Appends};
 ghost use Rattle.outside_io.specs.Ends.{IsUnlinked};
 ghost use Rattle.outside_io.specs.Faults.{last_count};
 ghost use Rattle.outside_io.specs.declared.link.Asked.TheVariants as link;
+ghost use Rattle.cot_site.specs.Releases.{IsLater};
 ghost use Rattle.cot_site.specs.Sites.{state_of};
 ghost use Rattle.cot_site.specs.States.{State};
 ghost use Rattle.peer_exchange.specs.declared.peer.Peer as declared;
@@ -50,6 +51,7 @@ pub(crate) trait Meets {
             ((side self.now).stops (state_of site.old) (state_of site.new) why)) }
         ensures cut { (offset : ℕ) → result ≡ Err (Node.Peer (Peer.Bytes offset PeerCause.Cut))
             → IfSome (W.peer wire.old) (Appends (W.ends wire.old 0).received (W.ends wire.new 0).received) }
+        ensures later { IsLater (state_of site.old) (state_of site.new) }
         ensures cause { OnlyLinkFails (W.faults wire.old) (W.faults wire.new) result }
         // The messages of another site that agrees aren't refused.
         ensures unrefused { (other : State) (theirs received : List ℕ) (why : declared.Peer) → W.peer wire.old ≡ Some theirs

@@ -26,10 +26,10 @@ use Rattle.site_node.specs.declared.node.Node.TheVariants as node
 use Rattle.site_node.specs.Exchanges.{IsFrontOf}
 use Rattle.site_node.specs.Moves.{Receives, Gains}
 use Rattle.site_node.specs.Pairs.{IsUnspoilt}
-use Rattle.site_node.specs.Stops.{Explains, IsSpoilt}
+use Rattle.site_node.specs.Stops.{AreAskedFor, Explains, IsSpoilt}
 use Rattle.site_node.specs.Code.Carrying.{SendsOn, IsCarried, IsUncarried}
 use Rattle.site_node.proofs.Explaining.{bad_spoils}
-use Rattle.site_node.proofs.Moving.{received_none}
+use Rattle.site_node.proofs.Moving.{received_none, midway}
 
 -- ---- a piece of the bytes
 
@@ -199,14 +199,14 @@ carried which a b o p q bytes rest came message asked at fits within r own whole
 
 -- the wire failed while it went
 pub wire_failed : (which : Which) (a b c o p q : End) (bytes rest came : List ℕ) (at : ℕ) → Carrying a b o p bytes at came → rest ≡ drop at bytes → WritesFront b.sent c.sent rest → q.received ≡ p.received
-    → IsUncarried a c o q which bytes node.Link
-wire_failed which a b c o p q bytes rest came at r left written same = record {
+    → AreAskedFor which came → IsUncarried a c o q which bytes node.Link
+wire_failed which a b c o p q bytes rest came at r left written same asked = record {
   gone = take at bytes ++ written.front;
   front = (written.rest, sym (take-append-drop at bytes) ∙ (ap (λ (t : List ℕ). take at bytes ++ t) (sym left ∙ written.parts) ∙ sym (append_assoc (take at bytes) written.front written.rest)));
   sent = Appends-trans a.sent b.sent c.sent (take at bytes) written.front r.sent written.written;
   came = came;
   received = subst (λ (x : Option (List ℕ)). Appends o.received x came) (sym same) r.received;
-  explains = tt;
+  explains = asked;
   carried = λ none.
       let t = told a b o p bytes at came r none in
       (t.0 ++ written.front, ap (λ (x : List ℕ). x ++ written.front) t.2 ∙ append_assoc came t.0 written.front);
@@ -229,29 +229,30 @@ stopped which a b o p bytes came at why r explains unspoilt = record {
 
 -- the bytes that came have a fault
 pub bad_came : (which : Which) (a b o p : End) (bytes came : List ℕ) (at offset : ℕ) (cause : PeerCause) (why : Node) → IsBytes bytes → why ≡ node.Peer (refused.Bytes offset cause)
-    → Carrying a b o p bytes at came → measure_of which came ≡ message.Bad offset cause → IsUncarried a b o p which bytes why
-bad_came which a b o p bytes came at offset cause why fits is r bad = stopped which a b o p bytes came at why r
-    (subst (Explains which came) (sym is) (bad_spoils which came offset cause bad))
+    → Carrying a b o p bytes at came → AreAskedFor which came → measure_of which came ≡ message.Bad offset cause → IsUncarried a b o p which bytes why
+bad_came which a b o p bytes came at offset cause why fits is r asked bad = stopped which a b o p bytes came at why r
+    (subst (Explains which came) (sym is) (asked, bad_spoils which came offset cause bad))
     (λ whole none.
     let t = told a b o p bytes at came r none in
     absurd (bad_front which bytes came offset cause fits whole (front_of_all bytes at came t.0 t.2) bad))
 
 -- they are as many as a message may have
-pub limit_reached : (which : Which) (a b o p : End) (bytes came : List ℕ) (at k offset : ℕ) (why : Node) → why ≡ node.Peer (refused.Bytes offset Limit) → Carrying a b o p bytes at came
+pub limit_reached : (which : Which) (a b o p : End) (bytes came : List ℕ) (at k offset : ℕ) (why : Node) → why ≡ node.Peer (refused.Bytes offset Limit) → Carrying a b o p bytes at came → AreAskedFor which came
     → measure_of which came ≡ message.More k → length came ≡ MAX_MESSAGE → offset ≡ MAX_MESSAGE → IsUncarried a b o p which bytes why
-limit_reached which a b o p bytes came at k offset why is r more size here = stopped which a b o p bytes came at why r
-    (subst (Explains which came) (sym is) ((k, more), size, here))
+limit_reached which a b o p bytes came at k offset why is r asked more size here = stopped which a b o p bytes came at why r
+    (subst (Explains which came) (sym is) (asked, (k, more), size, here))
     (λ whole none. subst IsUnspoilt (sym is) tt)
 
 -- they end too early, which the fronts of a whole message don't
 pub cut_short : (which : Which) (a b c d o p q x : End) (bytes came now after : List ℕ) (at next k offset : ℕ) (why : Node) → why ≡ node.Peer (refused.Bytes offset Cut)
     → Carrying a b o p bytes at came → SendsOn b c p q bytes at next → q.received ≡ p.received → at ≤ next → next ≤ length bytes → (length came ≡ at → next ≡ at → at ≡ length bytes)
-    → Gains q x now after → length after ≡ length now → d ≡ c → IsAtEnd x.to_come → measure_of which came ≡ message.More k → length came < MAX_MESSAGE → offset ≡ length came → IsUncarried a d o x which bytes why
-cut_short which a b c d o p q x bytes came now after at next k offset why is r s same up within some gains none other ended more few here =
+    → Gains q x now after → length after ≡ length now → d ≡ c → IsAtEnd x.to_come → measure_of which came ≡ message.More k → length came < MAX_MESSAGE → offset ≡ length came
+    → AreAskedFor which came → IsUncarried a d o x which bytes why
+cut_short which a b c d o p q x bytes came now after at next k offset why is r s same up within some gains none other ended more few here asked =
     let sent = carrying_sent a b c o p q bytes at next came r s same in
     let read = subst (Carrying a d o x bytes next) (append-nil came) (carrying_read a c d o q x bytes next came [] sent other (received_none q x now after gains none)) in
     stopped which a d o x bytes came next why read
-    (subst (Explains which came) (sym is) ((k, more), few, here))
+    (subst (Explains which came) (sym is) (asked, (k, more), few, here))
     (λ whole quiet.
     let before = told a b o p bytes at came r quiet in
     let t = told a d o x bytes next came read quiet in
@@ -268,17 +269,14 @@ cut_short which a b c d o p q x bytes came now after at next k offset why is r s
     absurd (omega (arith, fewer, all_read, all)))
 
 -- the wire failed to read, or there was no memory
-pub read_failed : (which : Which) (a b c d o p q x : End) (bytes came : List ℕ) (at next : ℕ) (why : Node) → Carrying a b o p bytes at came → SendsOn b c p q bytes at next → q.received ≡ p.received
-    → ((piece : List ℕ) × Receives q x piece) → d ≡ c → (why ≡ node.Link) ⊎ (why ≡ node.Memory) → IsUncarried a d o x which bytes why
-read_failed which a b c d o p q x bytes came at next why r s same lost other cause =
+pub read_failed : (which : Which) (a b c d o p q x : End) (bytes came piece : List ℕ) (at next : ℕ) (why : Node)
+    → Carrying a b o p bytes at came → SendsOn b c p q bytes at next → q.received ≡ p.received
+    → Receives q x piece → AreAskedFor which (came ++ piece) → d ≡ c → (why ≡ node.Link) ⊎ (why ≡ node.Memory) → IsUncarried a d o x which bytes why
+read_failed which a b c d o p q x bytes came piece at next why r s same lost asked other cause =
     let sent = carrying_sent a b c o p q bytes at next came r s same in
-    let read = carrying_read a c d o q x bytes next came lost.0 sent other lost.1 in
-    stopped which a d o x bytes (came ++ lost.0) next why read (explained cause) (λ whole none. unspoilt cause)
+    let read = carrying_read a c d o q x bytes next came piece sent other lost in
+    stopped which a d o x bytes (came ++ piece) next why read (midway which (came ++ piece) why asked cause) (λ whole none. unspoilt cause)
   where
-    explained : (why ≡ node.Link) ⊎ (why ≡ node.Memory) → Explains which (came ++ lost.0) why
-    explained (inl link) = subst (Explains which (came ++ lost.0)) (sym link) tt
-    explained (inr memory) = subst (Explains which (came ++ lost.0)) (sym memory) tt
-
     unspoilt : (why ≡ node.Link) ⊎ (why ≡ node.Memory) → IsUnspoilt why
     unspoilt (inl link) = subst IsUnspoilt (sym link) tt
     unspoilt (inr memory) = subst IsUnspoilt (sym memory) tt
@@ -292,7 +290,8 @@ front_then a b c one two = (one.0 ++ two.0, two.1 ∙ (ap (λ (t : List ℕ). t 
 pub limit_too_long : (which : Which) (a b o p : End) (bytes : List ℕ) (why : Node) (offset : ℕ) → IsUncarried a b o p which bytes why → IsWhole which bytes → o.to_come ≡ Some []
     → why ≡ node.Peer (refused.Bytes offset Limit) → IsTooLong bytes
 limit_too_long which a b o p bytes why offset un whole none is =
-    let spoilt : IsSpoilt which un.came offset Limit = subst (Explains which un.came) is un.explains in
+    let said = subst (Explains which un.came) is un.explains in
+    let spoilt : IsSpoilt which un.came offset Limit = said.1 in
     let fewer = more_front which bytes un.came spoilt.0.0 whole (front_then un.came un.gone bytes (un.carried none) un.front) spoilt.0.1 in
     omega (arith, fewer, spoilt.1)
 

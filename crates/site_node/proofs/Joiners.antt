@@ -19,7 +19,7 @@ use Rattle.site_node.proofs.Talking.{Moves, moves_none, receives_then, sends_the
 
 -- there was no memory for the first message
 pub unoffered : (a : End) (s : State) → Exchanges a a a.to_come (IsUnjoined s s node.Memory)
-unoffered a s = nothing_said a a a.to_come (IsUnjoined s s node.Memory) refl (inl (record { same = refl; offered = (first_message s.history, refl); explained = tt }))
+unoffered a s = nothing_said a a a.to_come (IsUnjoined s s node.Memory) refl (inl (record { same = refl; unheard = refl; offered = (first_message s.history, refl); cause = inr (refl, refl) }))
 
 -- the wire failed while it went
 pub unsent : (a b : End) (s : State) (before first : List ℕ) → before ≡ [] → first ≡ before ++ first_message s.history
@@ -28,7 +28,12 @@ unsent a b s before first none offered written received to_come = record {
   came = [];
   gone = written.front;
   talks = talks_of a b [] written.front (sends_then a a b [] [] written.front (moves_none a) written.written received to_come);
-  said = inl (record { same = refl; offered = (written.rest, sym (offered ∙ ap (λ (t : List ℕ). t ++ first_message s.history) none) ∙ written.parts); explained = tt });
+  said = inl (record {
+    same = refl;
+    unheard = refl;
+    offered = (written.rest, sym (offered ∙ ap (λ (t : List ℕ). t ++ first_message s.history) none) ∙ written.parts);
+    cause = inl refl;
+  });
 }
 
 -- the first message went
@@ -49,7 +54,7 @@ unheard a b c s first why r stopped = record {
   came = stopped.came;
   gone = first;
   talks = talks_of a c stopped.came first (receives_then a b c [] first stopped.came r.moves stopped.receives);
-  said = inl (record { same = refl; offered = ([], sym r.is ∙ sym (append-nil first)); explained = stopped.explains });
+  said = inr (inl (record { same = refl; offered = r.is; explained = stopped.explains }));
 }
 
 -- its operations weren't all taken in, or there was no memory for the third one
@@ -59,7 +64,7 @@ unclosed a b c s t first second why r whole came untaken = record {
   came = second;
   gone = first;
   talks = talks_of a c second first (receives_then a b c [] first second r.moves came);
-  said = inr (inl (record { whole = whole; offered = r.is; refusal = why; refused = untaken; cause = refl }));
+  said = inr (inr (inl (record { whole = whole; offered = r.is; refusal = why; refused = untaken; cause = refl })));
 }
 
 -- the first message went, and a whole second one came, whose operations were taken in
@@ -85,7 +90,7 @@ cut_off a c d s t first second third counts r written received to_come = record 
   came = second;
   gone = first ++ written.front;
   talks = talks_of a d second (first ++ written.front) (sends_then a c d second first written.front r.moves written.written received to_come);
-  said = inr (inr (record {
+  said = inr (inr (inr (record {
     theirs = r.closed.state;
     ops = r.closed.ops;
     whole = r.whole;
@@ -95,7 +100,7 @@ cut_off a c d s t first second third counts r written received to_come = record 
     sent = ap (λ (x : List ℕ). x ++ written.front) r.is;
     front = (written.rest, sym r.closed.appended ∙ written.parts);
     cause = refl;
-  }));
+  })));
 }
 
 -- it went
@@ -119,4 +124,4 @@ joined a c d s t first second third counts r written received to_come = record {
 
 -- the wire failed to link
 pub unlinked : (a b : End) (peer : Option (List ℕ)) (s : State) → b ≡ a → Exchanges a b peer (IsUnjoined s s node.Link)
-unlinked a b peer s same = nothing_said a b peer (IsUnjoined s s node.Link) same (inl (record { same = refl; offered = (first_message s.history, refl); explained = tt }))
+unlinked a b peer s same = nothing_said a b peer (IsUnjoined s s node.Link) same (inl (record { same = refl; unheard = refl; offered = (first_message s.history, refl); cause = inl refl }))

@@ -20,7 +20,7 @@ use Rattle.peer_exchange.specs.Refusals.{IsWhole, IsUnread}
 use Rattle.peer_exchange.proofs.CallerLemmas.{offered_whole, answered_whole, closing_whole}
 use Rattle.site_node.specs.declared.node.Node.{Node}
 use Rattle.site_node.specs.declared.node.Node.TheVariants as node
-use Rattle.site_node.specs.Stops.{node_of, Explains, IsSpoilt}
+use Rattle.site_node.specs.Stops.{node_of, AreAskedFor, Explains}
 use Rattle.site_node.specs.Exchanges.{IsFrontOf}
 use Rattle.site_node.specs.Pairs.{IsTelling, IsUnspoilt, Speaks, IsLooped, IsUnlooped}
 use Rattle.site_node.specs.Code.Carrying.{IsCarried, IsUncarried}
@@ -81,8 +81,8 @@ front_behind first a b front = (front.0, ap (λ (t : List ℕ). first ++ t) fron
 -- ---- before the first message
 
 -- the wire wasn't linked, or there was no memory for the first message
-pub unstarted : (w v : ℕ → End) (s j : State) (why : Node) → v 0 ≡ w 0 → v 1 ≡ w 1 → ((which : Which) → Explains which [] why) → IsUnspoilt why → IsUnlooped s s j j why w v
-unstarted w v s j why first second explained unspoilt = record {
+pub unstarted : (w v : ℕ → End) (s j : State) (why : Node) → v 0 ≡ w 0 → v 1 ≡ w 1 → (why ≡ node.Link) ⊎ (why ≡ node.Memory) → IsUnlooped s s j j why w v
+unstarted w v s j why first second cause = record {
   to_server = [];
   from_server = [];
   to_joiner = [];
@@ -93,17 +93,16 @@ unstarted w v s j why first second explained unspoilt = record {
     joiner_received = subst (λ (e : End). Appends (w 1).received e.received []) (sym second) (Appends-nil (w 1).received);
     joiner_sent = subst (λ (e : End). Appends (w 1).sent e.sent []) (sym second) (Appends-nil (w 1).sent);
   };
-  server_why = why;
-  unserved = inl (record { same = refl; silent = refl; explained = explained First });
-  joiner_why = why;
-  unjoined = inl (record { same = refl; offered = no_front (first_message j.history); explained = explained Second });
-  cause = inl refl;
+  stopped = inr (inl (record { same = refl; unheard = refl; silent = refl }), inl (record {
+    same = refl;
+    unheard = refl;
+    offered = no_front (first_message j.history);
+    cause = elim cause [ inl link ↦ inl link | inr memory ↦ inr (memory, refl) ];
+  }));
   carried = λ tells. (no_front [], no_front []);
-  unspoilt = λ tells. unspoilt;
-  limited = λ tells offset is.
-      let spoilt : IsSpoilt First [] offset Limit = subst (Explains First []) is (explained First) in
-      absurd (omega (arith, spoilt.1));
-  agreed = λ tells agree member verdict is. subst (Explains First []) is (explained First);
+  unspoilt = λ tells. elim cause [ inl link ↦ subst IsUnspoilt (sym link) tt | inr memory ↦ subst IsUnspoilt (sym memory) tt ];
+  limited = λ tells offset is. absurd (elim cause [ inl link ↦ (let never = sym link ∙ is in cc) | inr memory ↦ (let never = sym memory ∙ is in cc) ]);
+  agreed = λ tells agree member verdict is. elim cause [ inl link ↦ (let never = sym link ∙ is in cc) | inr memory ↦ (let never = sym memory ∙ is in cc) ];
 }
 
 -- ---- the first message
@@ -128,11 +127,7 @@ unasked w v s j first why quiet offer un received to_come sent = record {
   to_joiner = [];
   from_joiner = un.gone;
   speaks = to_server_then w w v [] [] [] [] un.gone un.came (speaks_none w) (record { sent = un.sent; received = received; to_come = to_come }) un.received sent;
-  server_why = why;
-  unserved = inl (record { same = refl; silent = refl; explained = un.explains });
-  joiner_why = node.Memory;
-  unjoined = inl (record { same = refl; offered = (un.front.0, sym offer.is ∙ un.front.1); explained = tt });
-  cause = inl refl;
+  stopped = inl (inl (record { same = refl; silent = refl; explained = un.explains }), inl (record { same = refl; unheard = refl; offered = (un.front.0, sym offer.is ∙ un.front.1) }));
   carried = λ tells. (un.carried (quiet tells).first, no_front []);
   unspoilt = λ tells. un.unspoilt offer.whole (quiet tells).first;
   limited = λ tells offset is.
@@ -144,14 +139,16 @@ unasked w v s j first why quiet offer un received to_come sent = record {
 pub record Heard (w v : ℕ → End) (j : State) (first asked : List ℕ) : Type 0 where
   pub offer : Offer j first
   pub whole : IsWhole First asked
+  pub wanted : AreAskedFor First asked
   pub speaks : Speaks w v asked [] [] first
   pub same : IsTelling w → (asked ≡ first) × NothingToCome v
 
 pub heard_by : (w v : ℕ → End) (j : State) (first asked : List ℕ) → (IsTelling w → NothingToCome w) → Offer j first → IsWhole First asked
-    → IsCarried (w 0) (v 0) First first asked → Goes (w 1) (v 1) first → (v 0).sent ≡ (w 0).sent → Heard w v j first asked
-heard_by w v j first asked quiet offer whole carried goes sent = record {
+    → AreAskedFor First asked → IsCarried (w 0) (v 0) First first asked → Goes (w 1) (v 1) first → (v 0).sent ≡ (w 0).sent → Heard w v j first asked
+heard_by w v j first asked quiet offer whole wanted carried goes sent = record {
   offer = offer;
   whole = whole;
+  wanted = wanted;
   speaks = to_server_then w w v [] [] [] [] first asked (speaks_none w) goes carried.received sent;
   same = λ tells.
       let q = quiet tells in
@@ -173,11 +170,11 @@ unanswered w v s j first asked why h unread =
       to_joiner = [];
       from_joiner = first;
       speaks = h.speaks;
-      server_why = node_of why;
-      unserved = inl (record { same = refl; silent = refl; explained = subst (λ (p : Peer). Explains First asked (node_of p)) (sym memory) tt });
-      joiner_why = node.Memory;
-      unjoined = inl (record { same = refl; offered = ([], sym h.offer.is ∙ sym (append-nil first)); explained = tt });
-      cause = inl refl;
+      stopped = inl (inl (record {
+        same = refl;
+        silent = refl;
+        explained = subst (λ (p : Peer). Explains First asked (node_of p)) (sym memory) h.wanted;
+      }), inl (record { same = refl; unheard = refl; offered = ([], sym h.offer.is ∙ sym (append-nil first)) }));
       carried = λ tells. (([], sym ((h.same tells).0) ∙ sym (append-nil asked)), no_front []);
       unspoilt = λ tells. subst (λ (p : Peer). IsUnspoilt (node_of p)) (sym memory) tt;
       limited = λ tells offset is. absurd (no_refusal why (refused.Bytes offset Limit) memory is);
@@ -206,21 +203,13 @@ unbrought w v u s j first asked second count why h answer un received to_come se
   to_joiner = un.came;
   from_joiner = first;
   speaks = to_joiner_then w v u asked [] [] first un.gone un.came h.speaks (record { sent = un.sent; received = received; to_come = to_come }) un.received sent;
-  server_why = node.Memory;
-  unserved = inr (inl (record {
-    first = asked;
-    rest = [];
+  stopped = inr (inr (record {
     theirs = answer.is.state;
-    parts = sym (append-nil asked);
-    first_whole = h.whole;
+    whole = h.whole;
     told = answer.is.told;
     answered = (un.front.0, sym answer.is.appended ∙ un.front.1);
     same = refl;
-    explained = tt;
-  }));
-  joiner_why = why;
-  unjoined = inl (record { same = refl; offered = ([], sym h.offer.is ∙ sym (append-nil first)); explained = un.explains });
-  cause = inr refl;
+  }), inr (inl (record { same = refl; offered = h.offer.is; explained = un.explains })));
   carried = λ tells. (([], sym ((h.same tells).0) ∙ sym (append-nil asked)), un.carried (h.same tells).1.second);
   unspoilt = λ tells. un.unspoilt answer.whole (h.same tells).1.second;
   limited = λ tells offset is.
@@ -294,21 +283,13 @@ unclosed w u s j k first asked second answered count why only r untaken = record
   to_joiner = answered;
   from_joiner = first;
   speaks = r.speaks;
-  server_why = node.Memory;
-  unserved = inr (inl (record {
-    first = asked;
-    rest = [];
+  stopped = inr (inr (record {
     theirs = r.answer.is.state;
-    parts = sym (append-nil asked);
-    first_whole = r.asked_whole;
+    whole = r.asked_whole;
     told = r.answer.is.told;
     answered = ([], sym r.answer.is.appended ∙ sym (append-nil second));
     same = refl;
-    explained = tt;
-  }));
-  joiner_why = node_of why;
-  unjoined = inr (inl (record { whole = r.whole; offered = r.offer.is; refusal = why; refused = untaken; cause = refl }));
-  cause = inr refl;
+  }), inr (inr (inl (record { whole = r.whole; offered = r.offer.is; refusal = why; refused = untaken; cause = refl }))));
   carried = λ tells. (([], sym ((r.same tells).0) ∙ sym (append-nil asked)), ([], sym ((r.same tells).1) ∙ sym (append-nil answered)));
   unspoilt = λ tells. unclosed_unspoilt j k answered why r.whole untaken;
   limited = λ tells offset is. absurd (unclosed_bytes j k answered why offset Limit r.whole untaken is);
@@ -340,20 +321,17 @@ unheard w u t s j k first asked second answered third count counts why r closing
   to_joiner = answered;
   from_joiner = first ++ un.gone;
   speaks = to_server_then w u t asked second answered first un.gone un.came r.speaks (record { sent = un.sent; received = received; to_come = to_come }) un.received sent;
-  server_why = why;
-  unserved = inr (inl (record {
+  stopped = inl (inr (inr (inl (record {
     first = asked;
     rest = un.came;
     theirs = r.answer.is.state;
     parts = refl;
     first_whole = r.asked_whole;
     told = r.answer.is.told;
-    answered = ([], sym r.answer.is.appended ∙ sym (append-nil second));
+    answered = r.answer.is.appended;
     same = refl;
     explained = un.explains;
-  }));
-  joiner_why = node.Link;
-  unjoined = inr (inr (record {
+  }))), inr (record {
     theirs = closing.is.state;
     ops = closing.is.ops;
     whole = r.whole;
@@ -362,9 +340,7 @@ unheard w u t s j k first asked second answered third count counts why r closing
     third = un.gone;
     sent = ap (λ (x : List ℕ). x ++ un.gone) r.offer.is;
     front = (un.front.0, sym closing.is.appended ∙ un.front.1);
-    cause = refl;
   }));
-  cause = inl refl;
   carried = λ tells.
       let is = r.same tells in
       (subst (λ (x : List ℕ). IsFrontOf (x ++ un.came) (first ++ un.gone)) (sym is.0) (front_behind first un.came un.gone (un.carried is.2.first)), ([], sym is.1 ∙ sym (append-nil answered)));
@@ -420,8 +396,7 @@ unserved w t s v j k first asked second answered third closed count counts why o
   to_joiner = answered;
   from_joiner = first ++ third;
   speaks = r.speaks;
-  server_why = node_of why;
-  unserved = inr (inr (record {
+  stopped = inl (inr (inr (inr (record {
     first = asked;
     third = closed;
     theirs = r.answer.is.state;
@@ -433,9 +408,7 @@ unserved w t s v j k first asked second answered third closed count counts why o
     refusal = why;
     refused = untaken;
     cause = refl;
-  }));
-  joiner_why = node.Link;
-  unjoined = inr (inr (record {
+  }))), inr (record {
     theirs = r.closing.is.state;
     ops = r.closing.is.ops;
     whole = r.answered_whole;
@@ -444,9 +417,7 @@ unserved w t s v j k first asked second answered third closed count counts why o
     third = third;
     sent = ap (λ (x : List ℕ). x ++ third) r.offer.is;
     front = ([], sym r.closing.is.appended ∙ sym (append-nil third));
-    cause = refl;
   }));
-  cause = inl refl;
   carried = λ tells.
       let is = r.same tells in
       let all : first ++ third ≡ asked ++ closed = (λ i. sym is.0 i ++ sym is.2 i) in
@@ -576,11 +547,7 @@ unlooped_between w v u x s t j k why b r = record {
   to_joiner = r.to_joiner;
   from_joiner = r.from_joiner;
   speaks = speaks_between w v u x r.to_server r.from_server r.to_joiner r.from_joiner b r.speaks;
-  server_why = r.server_why;
-  unserved = r.unserved;
-  joiner_why = r.joiner_why;
-  unjoined = r.unjoined;
-  cause = r.cause;
+  stopped = r.stopped;
   carried = λ tells. r.carried (b.telling tells);
   unspoilt = λ tells. r.unspoilt (b.telling tells);
   limited = λ tells. r.limited (b.telling tells);

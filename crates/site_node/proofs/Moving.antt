@@ -1,5 +1,5 @@
 -- What reads at an end move, one after the other, and why they stop.
-use Rattle.std.proofs.Common.{◌≡◌, ℕ, ◌<◌, List, [], ◌++◌, length, refl, sym, ap, subst, ◌∙◌, append-nil, arith, inl, inr, ◌⊎◌}
+use Rattle.std.proofs.Common.{◌≡◌, ℕ, ◌+◌, ◌<◌, ◌≤◌, List, [], ◌++◌, length, refl, sym, ap, subst, ◌∙◌, append-nil, arith, inl, inr, ◌⊎◌}
 use Rattle.std.proofs.lemmas.List.{length-append, nil_from_length}
 use Rattle.std.proofs.KnownBytes.{Appends-nil, Appends-trans, Consumes-nil, Consumes-trans}
 use Rattle.outside_io.specs.Ends.{End}
@@ -13,7 +13,7 @@ use Rattle.peer_exchange.specs.Measuring.{measure_of}
 use Rattle.site_node.specs.declared.node.Node.{Node}
 use Rattle.site_node.specs.declared.node.Node.TheVariants.{Link, Peer, Memory}
 use Rattle.site_node.specs.Moves.{Receives, Gains, IsStopped}
-use Rattle.site_node.specs.Stops.{Explains, IsSpoilt}
+use Rattle.site_node.specs.Stops.{AreAskedFor, Explains, IsSpoilt}
 
 pub receives_none : (a : End) (bytes : List ℕ) → bytes ≡ [] → Receives a a bytes
 receives_none a bytes none = subst (Receives a a) (sym none) (record { received = Appends-nil a.received; consumed = Consumes-nil a.to_come; sent = refl })
@@ -30,21 +30,37 @@ pub receives_gain : (a b c : End) (before now after : List ℕ) → now ≡ befo
 receives_gain a b c before now after same first gains =
     subst (Receives a c) (sym (gains.grown ∙ ap (λ (t : List ℕ). t ++ gains.piece) same)) (receives_on a b c before gains.piece first gains.moved)
 
+-- a piece that is no more than was asked for was asked for
+pub asked_on : (which : Which) (before piece : List ℕ) (k room : ℕ)
+    → measure_of which before ≡ message.More k → length piece ≤ room → length before + room ≤ k → length before + room ≤ MAX_MESSAGE → AreAskedFor which (before ++ piece)
+asked_on which before piece k room more few asked short = inr (record {
+  front = before;
+  piece = piece;
+  parts = refl;
+  at_least = k;
+  asked = more;
+  within = omega (arith, few, asked, length-append before piece);
+  short = omega (arith, few, short, length-append before piece);
+})
+
+-- where no byte came that wasn't asked for, a failure of the wire or a lack of memory is explained
+pub midway : (which : Which) (bytes : List ℕ) (why : Node) → AreAskedFor which bytes → (why ≡ Link) ⊎ (why ≡ Memory) → Explains which bytes why
+midway which bytes why asked (inl link) = subst (Explains which bytes) (sym link) asked
+midway which bytes why asked (inr memory) = subst (Explains which bytes) (sym memory) asked
+
 -- the wire failed, or there was no memory for the last piece
-pub stopped_midway : (which : Which) (a b c : End) (came : List ℕ) (why : Node) → Receives a b came → ((piece : List ℕ) × Receives b c piece) → (why ≡ Link) ⊎ (why ≡ Memory) → IsStopped which a c why
-stopped_midway which a b c came why first lost cause = record {
-  came = came ++ lost.0;
-  receives = receives_on a b c came lost.0 first lost.1;
-  explains = explained cause;
+pub stopped_midway : (which : Which) (a b c : End) (came piece : List ℕ) (why : Node)
+    → Receives a b came → Receives b c piece → AreAskedFor which (came ++ piece) → (why ≡ Link) ⊎ (why ≡ Memory) → IsStopped which a c why
+stopped_midway which a b c came piece why first lost asked cause = record {
+  came = came ++ piece;
+  receives = receives_on a b c came piece first lost;
+  explains = midway which (came ++ piece) why asked cause;
 }
-  where
-    explained : (why ≡ Link) ⊎ (why ≡ Memory) → Explains which (came ++ lost.0) why
-    explained (inl link) = subst (Explains which (came ++ lost.0)) (sym link) tt
-    explained (inr memory) = subst (Explains which (came ++ lost.0)) (sym memory) tt
 
 -- the bytes that came have a fault
-pub stopped_by : (which : Which) (a b : End) (came : List ℕ) (offset : ℕ) (cause : PeerCause) (why : Node) → why ≡ Peer (Bytes offset cause) → Receives a b came → IsSpoilt which came offset cause → IsStopped which a b why
-stopped_by which a b came offset cause why is receives spoilt = record { came = came; receives = receives; explains = subst (Explains which came) (sym is) spoilt }
+pub stopped_by : (which : Which) (a b : End) (came : List ℕ) (offset : ℕ) (cause : PeerCause) (why : Node) → why ≡ Peer (Bytes offset cause)
+    → Receives a b came → AreAskedFor which came → IsSpoilt which came offset cause → IsStopped which a b why
+stopped_by which a b came offset cause why is receives asked spoilt = record { came = came; receives = receives; explains = subst (Explains which came) (sym is) (asked, spoilt) }
 
 -- no byte was received
 pub received_none : (b c : End) (now after : List ℕ) → Gains b c now after → length after ≡ length now → Receives b c []
@@ -61,9 +77,10 @@ nothing_gained b c now after gains none =
 
 -- nothing more is to come, where the message asks for more
 pub stopped_short : (which told : Which) (a b c : End) (before now after : List ℕ) (k offset : ℕ) (why : Node) → told ≡ which → now ≡ before → Receives a b before → Gains b c now after
-    → length after ≡ length now → measure_of told before ≡ message.More k → length before < MAX_MESSAGE → offset ≡ length before → why ≡ Peer (Bytes offset Cut) → IsStopped which a c why
-stopped_short which told a b c before now after k offset why kind same first gains none asks few at is =
+    → length after ≡ length now → measure_of told before ≡ message.More k → length before < MAX_MESSAGE → offset ≡ length before → why ≡ Peer (Bytes offset Cut)
+    → AreAskedFor which before → IsStopped which a c why
+stopped_short which told a b c before now after k offset why kind same first gains none asks few at is asked =
     let unchanged : after ≡ before = nothing_gained b c now after gains none ∙ same in
     let receives = subst (Receives a c) unchanged (receives_gain a b c before now after same first gains) in
     let more : measure_of which before ≡ message.More k = ap (λ (w : Which). measure_of w before) (sym kind) ∙ asks in
-    stopped_by which a c before offset Cut why is receives ((k, more), few, at)
+    stopped_by which a c before offset Cut why is receives asked ((k, more), few, at)

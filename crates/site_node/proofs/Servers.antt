@@ -12,7 +12,7 @@ use Rattle.peer_exchange.specs.Messages.{second_message, IsAnswered}
 use Rattle.peer_exchange.specs.Refusals.{IsWhole, IsUnread}
 use Rattle.site_node.specs.declared.node.Node.{Node}
 use Rattle.site_node.specs.declared.node.Node.TheVariants as node
-use Rattle.site_node.specs.Stops.{node_of, Explains}
+use Rattle.site_node.specs.Stops.{node_of, AreAskedFor, Explains}
 use Rattle.site_node.specs.Moves.{Receives, IsStopped}
 use Rattle.site_node.specs.Exchanges.{Exchanges, IsServed, IsUnserved}
 use Rattle.site_node.proofs.Explaining.{unread_memory}
@@ -21,10 +21,11 @@ use Rattle.site_node.proofs.Talking.{Moves, moves_none, receives_then, sends_the
 -- a whole first message came
 pub record Asked (a b : End) (first : List ℕ) : Type 0 where
   pub whole : IsWhole First first
+  pub wanted : AreAskedFor First first
   pub moves : Moves a b first []
 
-pub asked_by : (a b : End) (first : List ℕ) → IsWhole First first → Receives a b first → Asked a b first
-asked_by a b first whole came = record { whole = whole; moves = receives_then a a b [] [] first (moves_none a) came }
+pub asked_by : (a b : End) (first : List ℕ) → IsWhole First first → AreAskedFor First first → Receives a b first → Asked a b first
+asked_by a b first whole wanted came = record { whole = whole; wanted = wanted; moves = receives_then a a b [] [] first (moves_none a) came }
 
 -- no whole first message came
 pub unasked : (a b : End) (s : State) (why : Node) → IsStopped First a b why → Exchanges a b a.to_come (IsUnserved s s why)
@@ -41,7 +42,7 @@ unanswered a b s first why asked unread = record {
   came = first;
   gone = [];
   talks = talks_of a b first [] asked.moves;
-  said = inl (record { same = refl; silent = refl; explained = subst (λ (p : Peer). Explains First first (node_of p)) (sym (unread_memory First first why asked.whole unread)) tt });
+  said = inl (record { same = refl; silent = refl; explained = subst (λ (p : Peer). Explains First first (node_of p)) (sym (unread_memory First first why asked.whole unread)) asked.wanted });
 }
 
 -- the wire failed while it went
@@ -52,15 +53,12 @@ unsent a b c s first before second count asked none answered written received to
   gone = written.front;
   talks = talks_of a c first written.front (sends_then a b c first [] written.front asked.moves written.written received to_come);
   said = inr (inl (record {
-    first = first;
-    rest = [];
     theirs = answered.state;
-    parts = sym (append-nil first);
     first_whole = asked.whole;
     told = answered.told;
     answered = (written.rest, sym (answered.appended ∙ ap (λ (t : List ℕ). t ++ second_message s.history answered.state) none) ∙ written.parts);
     same = refl;
-    explained = tt;
+    cause = refl;
   }));
 }
 
@@ -84,17 +82,17 @@ unheard a c d s first second count why r stopped = record {
   came = first ++ stopped.came;
   gone = second;
   talks = talks_of a d (first ++ stopped.came) second (receives_then a c d first second stopped.came r.moves stopped.receives);
-  said = inr (inl (record {
+  said = inr (inr (inl (record {
     first = first;
     rest = stopped.came;
     theirs = r.answered.state;
     parts = refl;
     first_whole = r.whole;
     told = r.answered.told;
-    answered = ([], sym r.answered.appended ∙ sym (append-nil second));
+    answered = r.answered.appended;
     same = refl;
     explained = stopped.explains;
-  }));
+  })));
 }
 
 -- its operations weren't all taken in
@@ -104,7 +102,7 @@ unserved a c d s t first second third count why r whole came untaken = record {
   came = first ++ third;
   gone = second;
   talks = talks_of a d (first ++ third) second (receives_then a c d first second third r.moves came);
-  said = inr (inr (record {
+  said = inr (inr (inr (record {
     first = first;
     third = third;
     theirs = r.answered.state;
@@ -116,7 +114,7 @@ unserved a c d s t first second third count why r whole came untaken = record {
     refusal = why;
     refused = untaken;
     cause = refl;
-  }));
+  })));
 }
 
 -- they were
@@ -145,4 +143,4 @@ served a c d s t first second third sent count r whole came done = record {
 
 -- the wire failed to link
 pub unlinked : (a b : End) (peer : Option (List ℕ)) (s : State) → b ≡ a → Exchanges a b peer (IsUnserved s s node.Link)
-unlinked a b peer s same = nothing_said a b peer (IsUnserved s s node.Link) same (inl (record { same = refl; silent = refl; explained = tt }))
+unlinked a b peer s same = nothing_said a b peer (IsUnserved s s node.Link) same (inl (record { same = refl; silent = refl; explained = inl refl }))

@@ -61,7 +61,16 @@ pub record StopsAtFirst (s t : State) (why : Node) (came gone : List ℕ) : Type
   pub silent : gone ≡ []
   pub explained : Explains First came why
 
--- it stopped after a whole first message and before a whole third one: a front of the second one went, and the site is as it was
+-- the wire failed while the second message went: nothing came after the first one, and the site is as it was
+pub record StopsAnswering (s t : State) (why : Node) (came gone : List ℕ) : Type 0 where
+  pub theirs : ContextData
+  pub first_whole : IsWhole First came
+  pub told : IsFirst came theirs
+  pub answered : IsFrontOf gone (second_message s.history theirs)
+  pub same : t ≡ s
+  pub cause : why ≡ node.Link
+
+-- it stopped after the second message went, and before a whole third one came: the site is as it was
 pub record StopsAtThird (s t : State) (why : Node) (came gone : List ℕ) : Type 0 where
   pub first : List ℕ
   pub rest : List ℕ
@@ -69,7 +78,7 @@ pub record StopsAtThird (s t : State) (why : Node) (came gone : List ℕ) : Type
   pub parts : came ≡ first ++ rest
   pub first_whole : IsWhole First first
   pub told : IsFirst first theirs
-  pub answered : IsFrontOf gone (second_message s.history theirs)
+  pub answered : gone ≡ second_message s.history theirs
   pub same : t ≡ s
   pub explained : Explains Third rest why
 
@@ -89,7 +98,8 @@ pub record StopsServing (s t : State) (why : Node) (came gone : List ℕ) : Type
 
 -- a server's exchange that stopped
 abbrev pub IsUnserved : State → State → Node → List ℕ → List ℕ → Type 0
-IsUnserved s t why came gone = StopsAtFirst s t why came gone ⊎ (StopsAtThird s t why came gone ⊎ StopsServing s t why came gone)
+IsUnserved s t why came gone =
+    StopsAtFirst s t why came gone ⊎ (StopsAnswering s t why came gone ⊎ (StopsAtThird s t why came gone ⊎ StopsServing s t why came gone))
 
 -- ---- a joiner, whose state is `s` before and `t` after
 
@@ -105,10 +115,17 @@ pub record IsBrought (s t : State) (counts : ℕ × ℕ) (came gone : List ℕ) 
   pub frames_sent : counts.0 ≡ length (unseen (has theirs) t.history)
   pub frames_taken : counts.1 ≡ length ops
 
--- it stopped before a whole second message: a front of the first one went, and the site is as it was
+-- the wire failed while the first message went, or there was no memory for it, and none of it went: no byte came, and the site is as it was
+pub record StopsOffering (s t : State) (why : Node) (came gone : List ℕ) : Type 0 where
+  pub same : t ≡ s
+  pub unheard : came ≡ []
+  pub offered : IsFrontOf gone (first_message s.history)
+  pub cause : (why ≡ node.Link) ⊎ ((why ≡ node.Memory) × (gone ≡ []))
+
+-- it stopped after the first message went, and before a whole second one came: the site is as it was
 pub record StopsAtSecond (s t : State) (why : Node) (came gone : List ℕ) : Type 0 where
   pub same : t ≡ s
-  pub offered : IsFrontOf gone (first_message s.history)
+  pub offered : gone ≡ first_message s.history
   pub explained : Explains Second came why
 
 -- it stopped while the operations of a whole second message were taken in, or before the third one was made
@@ -133,4 +150,5 @@ pub record StopsSending (s t : State) (why : Node) (came gone : List ℕ) : Type
 
 -- a joiner's exchange that stopped
 abbrev pub IsUnjoined : State → State → Node → List ℕ → List ℕ → Type 0
-IsUnjoined s t why came gone = StopsAtSecond s t why came gone ⊎ (StopsClosing s t why came gone ⊎ StopsSending s t why came gone)
+IsUnjoined s t why came gone =
+    StopsOffering s t why came gone ⊎ (StopsAtSecond s t why came gone ⊎ (StopsClosing s t why came gone ⊎ StopsSending s t why came gone))

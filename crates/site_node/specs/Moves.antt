@@ -1,5 +1,5 @@
 -- What reading a message does at an end of a wire.
-use Rattle.std.specs.Prelude.{◌≡◌, ℕ, List, ◌++◌}
+use Rattle.std.specs.Prelude.{◌≡◌, ◌≤◌, ℕ, List, ◌++◌, length}
 use Rattle.std.specs.Io.KnownBytes.{Appends, Consumes}
 use Rattle.outside_io.specs.Ends.{End}
 use Rattle.peer_exchange.specs.declared.messages.Which.{Which}
@@ -16,6 +16,12 @@ pub record Receives (old new : End) (bytes : List ℕ) : Type 0 where
 pub record Gains (old new : End) (before after : List ℕ) : Type 0 where
   pub piece : List ℕ
   pub grown : after ≡ before ++ piece
+  pub moved : Receives old new piece
+
+-- bytes came, no more than there was room for, and weren't kept: the wire failed, or there was no memory
+pub record Loses (old new : End) (room : ℕ) : Type 0 where
+  pub piece : List ℕ
+  pub few : length piece ≤ room
   pub moved : Receives old new piece
 
 -- no message: some bytes were received, and say why

@@ -1,14 +1,20 @@
 -- What an exchange over the pair of a wire does at both ends.
-use Rattle.std.specs.Prelude.{◌≡◌, ◌≢◌, ◌⊎◌, ℕ, List, ◌++◌, Some}
+use Rattle.std.specs.Prelude.{◌≡◌, ◌≢◌, ◌⊎◌, ℕ, List, [], ◌++◌, Some, Ok}
 use Rattle.std.specs.Io.KnownBytes.{Appends}
 use Rattle.outside_io.specs.Ends.{End}
 use Rattle.op_name.specs.declared.member.Member.{Member}
+use Rattle.context_vector.specs.Contexts.{ContextData}
+use Rattle.context_diff.specs.Operations.{OpData}
 use Rattle.cot_site.specs.States.{State}
 use Rattle.site_answers.specs.declared.verdict.Verdict.{Verdict}
 use Rattle.peer_exchange.specs.declared.messages.PeerCause.TheVariants.{Head, Frame, Cut, Extra, Limit}
+use Rattle.peer_exchange.specs.declared.messages.Which.TheVariants.{First, Second}
 use Rattle.peer_exchange.specs.declared.peer.Peer.TheVariants as refused
 use Rattle.peer_exchange.specs.Exchanges.{Talk, IsExchange, AgreeInAll}
 use Rattle.peer_exchange.specs.Lengths.{HasLongMessage}
+use Rattle.peer_exchange.specs.Messages.{first_message, second_message, third_message, IsFirst, IsSecond}
+use Rattle.peer_exchange.specs.Refusals.{IsWhole}
+use Rattle.peer_exchange.specs.Taking.{taken_in}
 use Rattle.site_node.specs.declared.node.Node.{Node}
 use Rattle.site_node.specs.declared.node.Node.TheVariants as node
 use Rattle.site_node.specs.Exchanges.{IsFrontOf, IsServed, IsUnserved, IsBrought, IsUnjoined}
@@ -61,20 +67,54 @@ pub record IsLooped (s t j k : State) (counts : ℕ × ℕ) (old new : ℕ → E
   pub messages : IsTelling old → AreMessages s t j k counts from_server from_joiner
   pub telling : IsTelling old → IsTelling new
 
--- the exchange stopped, at one of them for this reason; where the wire tells its bytes, each received a front of what the other sent,
--- no bytes were at fault, bytes were more than a message has only if a message of their exchange is too long, and no operation was
--- refused if the two agreed
+-- a site that stopped for no reason of its own, since the other one stopped. The server hadn't heard anything yet, and is as it was
+pub record IsUnasked (s t : State) (came gone : List ℕ) : Type 0 where
+  pub same : t ≡ s
+  pub unheard : came ≡ []
+  pub silent : gone ≡ []
+
+-- or it had a whole first message, its answer or a front of that went, and it is as it was
+pub record IsAnswering (s t : State) (came gone : List ℕ) : Type 0 where
+  pub theirs : ContextData
+  pub whole : IsWhole First came
+  pub told : IsFirst came theirs
+  pub answered : IsFrontOf gone (second_message s.history theirs)
+  pub same : t ≡ s
+
+abbrev pub IsServerLeft : State → State → List ℕ → List ℕ → Type 0
+IsServerLeft s t came gone = IsUnasked s t came gone ⊎ IsAnswering s t came gone
+
+-- the joiner's first message or a front of it had gone, nothing had come, and it is as it was
+pub record IsOffering (j k : State) (came gone : List ℕ) : Type 0 where
+  pub same : k ≡ j
+  pub unheard : came ≡ []
+  pub offered : IsFrontOf gone (first_message j.history)
+
+-- or it had taken in what a whole second message had, and its answer or a front of that had gone
+pub record IsClosing (j k : State) (came gone : List ℕ) : Type 0 where
+  pub theirs : ContextData
+  pub ops : List OpData
+  pub whole : IsWhole Second came
+  pub read : IsSecond came theirs ops
+  pub taken : taken_in j ops ≡ Ok k
+  pub third : List ℕ
+  pub sent : gone ≡ first_message j.history ++ third
+  pub front : IsFrontOf third (third_message k.history theirs)
+
+abbrev pub IsJoinerLeft : State → State → List ℕ → List ℕ → Type 0
+IsJoinerLeft j k came gone = IsOffering j k came gone ⊎ IsClosing j k came gone
+
+-- the exchange stopped at one of them for this reason, and the other was left; where the wire tells its bytes, each received a front of
+-- what the other sent, no bytes were at fault, bytes were more than a message has only if a message of their exchange is too long, and no
+-- operation was refused if the two agreed
 pub record IsUnlooped (s t j k : State) (why : Node) (old new : ℕ → End) : Type 0 where
   pub to_server : List ℕ
   pub from_server : List ℕ
   pub to_joiner : List ℕ
   pub from_joiner : List ℕ
   pub speaks : Speaks old new to_server from_server to_joiner from_joiner
-  pub server_why : Node
-  pub unserved : IsUnserved s t server_why to_server from_server
-  pub joiner_why : Node
-  pub unjoined : IsUnjoined j k joiner_why to_joiner from_joiner
-  pub cause : (why ≡ server_why) ⊎ (why ≡ joiner_why)
+  pub stopped : (IsUnserved s t why to_server from_server × IsJoinerLeft j k to_joiner from_joiner)
+      ⊎ (IsServerLeft s t to_server from_server × IsUnjoined j k why to_joiner from_joiner)
   pub carried : IsTelling old → IsFrontOf to_server from_joiner × IsFrontOf to_joiner from_server
   pub unspoilt : IsTelling old → IsUnspoilt why
   pub limited : IsTelling old → (offset : ℕ) → why ≡ node.Peer (refused.Bytes offset Limit) → HasLongMessage s j

@@ -1,5 +1,5 @@
 -- Why an exchange stops.
-use Rattle.std.specs.Prelude.{◌≡◌, ℕ, ◌<◌, ◌≤◌, List, length, Result, IsOk, Err}
+use Rattle.std.specs.Prelude.{◌≡◌, ◌⊎◌, ℕ, ◌<◌, ◌≤◌, List, [], ◌++◌, length, Result, IsOk, Err}
 use Rattle.outside_io.specs.Faults.{Rose}
 use Rattle.peer_exchange.specs.declared.messages.Which.{Which}
 use Rattle.peer_exchange.specs.declared.messages.TheConstants.{MAX_MESSAGE}
@@ -22,6 +22,21 @@ node_of refused.Memory = node.Memory
 abbrev pub IsUnfinishedIn : Which → List ℕ → Type 0
 IsUnfinishedIn which bytes = (at_least : ℕ) × (measure_of which bytes ≡ message.More at_least)
 
+-- the last of these bytes were asked for: without them the message wasn't whole, and had no fault; and all of them are no more than it
+-- asked for then, nor than a message may have
+pub record WereAskedFor (which : Which) (bytes : List ℕ) : Type 0 where
+  pub front : List ℕ
+  pub piece : List ℕ
+  pub parts : bytes ≡ front ++ piece
+  pub at_least : ℕ
+  pub asked : measure_of which front ≡ message.More at_least
+  pub within : length bytes ≤ at_least
+  pub short : length bytes ≤ MAX_MESSAGE
+
+-- no byte came, or none that wasn't asked for
+abbrev pub AreAskedFor : Which → List ℕ → Type 0
+AreAskedFor which bytes = (bytes ≡ []) ⊎ WereAskedFor which bytes
+
 -- what a fault of a message says of the bytes that were received of it: they have it at the offset; or they end before the message
 -- does, and are fewer than a message may have, or as many
 abbrev pub IsSpoilt : Which → List ℕ → ℕ → PeerCause → Type 0
@@ -31,13 +46,14 @@ IsSpoilt which bytes offset Cut = IsUnfinishedIn which bytes × (length bytes < 
 IsSpoilt which bytes offset Extra = ⊥
 IsSpoilt which bytes offset Limit = IsUnfinishedIn which bytes × (length bytes ≡ MAX_MESSAGE) × (offset ≡ MAX_MESSAGE)
 
--- what the reason why a message wasn't received says of the bytes that were received of it
+-- what the reason why a message wasn't received says of the bytes that were received of it: none wasn't asked for, so none lies past the
+-- message, or past its first fault by more than a piece
 abbrev pub Explains : Which → List ℕ → Node → Type 0
-Explains which bytes node.Link = Unit {0}
-Explains which bytes (node.Peer (refused.Bytes offset cause)) = IsSpoilt which bytes offset cause
+Explains which bytes node.Link = AreAskedFor which bytes
+Explains which bytes (node.Peer (refused.Bytes offset cause)) = AreAskedFor which bytes × IsSpoilt which bytes offset cause
 Explains which bytes (node.Peer (refused.Op member verdict)) = ⊥
 Explains which bytes (node.Peer refused.Memory) = ⊥
-Explains which bytes node.Memory = Unit {0}
+Explains which bytes node.Memory = AreAskedFor which bytes
 
 -- the count of faults rises where the wire failed, and else stays
 pub record OnlyLinkFails {T : Type 0} (before now : ℕ) (result : Result T Node) : Type 0 where

@@ -8,7 +8,7 @@ ghost use Rattle.outside_io.specs.Writing.{WritesFront};
 ghost use Rattle.outside_io.specs.declared.link.Asked.TheVariants as asked;
 ghost use Rattle.peer_exchange.specs.Measuring.{measure_of};
 ghost use Rattle.site_node.specs.declared.carrying.TheConstants.{UNDER_WAY};
-ghost use Rattle.site_node.specs.Stops.{OnlyLinkFails};
+ghost use Rattle.site_node.specs.Stops.{AreAskedFor, OnlyLinkFails};
 ghost use Rattle.site_node.specs.Code.Carrying.{SendsOn, IsCarried, IsUncarried};
 
 use crate::node::Node;
@@ -79,6 +79,7 @@ pub(crate) fn carry<W: Wire>(
     ensures whole { IfOk result (λ m. measure_of which m.items ≡ Measure.Whole (length m.items)) }
     ensures short { IfOk result (λ m. length m.items ≤ MAX_MESSAGE) }
     ensures carried { IfOk result (λ m. IsCarried (W.ends wire.old (1 - from)) (W.ends wire.new (1 - from)) which bytes.now m.items) }
+    ensures wanted { IfOk result (λ m. AreAskedFor which m.items) }
     ensures sent { OnOk result (Appends (W.ends wire.old from).sent (W.ends wire.new from).sent bytes.now) }
     ensures uncarried { IfErr result (IsUncarried (W.ends wire.old from) (W.ends wire.new from) (W.ends wire.old (1 - from)) (W.ends wire.new (1 - from)) which bytes.now) }
 
@@ -114,6 +115,7 @@ fn carry_on<W: Wire>(
     ensures whole { OnOk result (measure_of reader.old.which reader.new.bytes ≡ Measure.Whole (length reader.new.bytes)) }
     ensures short { OnOk result (length reader.new.bytes ≤ MAX_MESSAGE) }
     ensures carried { OnOk result (IsCarried (W.ends wire.old (1 - from)) (W.ends wire.new (1 - from)) reader.old.which bytes.now reader.new.bytes) }
+    ensures wanted { OnOk result (AreAskedFor reader.old.which reader.new.bytes) }
     ensures sent { OnOk result (Appends (W.ends wire.old from).sent (W.ends wire.new from).sent bytes.now) }
     ensures uncarried { IfErr result (IsUncarried (W.ends wire.old from) (W.ends wire.new from) (W.ends wire.old (1 - from)) (W.ends wire.new (1 - from))
         reader.old.which bytes.now) }

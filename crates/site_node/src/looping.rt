@@ -4,6 +4,7 @@ ghost use Rattle.std.specs.Prelude.{◌≡◌, ℕ, ◌+◌, min, true, IfOk, If
 ghost use Rattle.outside_io.specs.Ends.{IsUnlinked, KeepLinked, nothing_of};
 ghost use Rattle.outside_io.specs.Faults.{last_count};
 ghost use Rattle.outside_io.specs.declared.link.Asked.TheVariants as asked;
+ghost use Rattle.cot_site.specs.Releases.{IsLater};
 ghost use Rattle.cot_site.specs.Sites.{state_of};
 ghost use Rattle.site_node.specs.Pairs.{IsLooped, IsUnlooped};
 ghost use Rattle.site_node.specs.Stops.{OnlyLinkFails};
@@ -19,7 +20,8 @@ use std::alloc::Global;
 /// Lets two sites exchange over the pair of a wire: the server is at end 0, the joiner at end 1. At most 16,384 bytes are
 /// written at one end before the other end reads them. It answers how many frames the server and the joiner sent.
 ///
-/// `Err` says why the exchange stopped; each site has then taken in the frames before that, and keeps them.
+/// `Err` says why the exchange stopped; each site has then taken in the frames before that, and keeps them. On every
+/// answer what a site had integrated before is the first part of its history.
 pub fn loop_run<W: Wire>(
     alloc: Global,
     server: &mut Site,
@@ -32,6 +34,8 @@ pub fn loop_run<W: Wire>(
         (W.ends wire.old) (W.ends wire.new)) }
     ensures stopped { IfErr result (λ why. IsUnlooped (state_of server.old) (state_of server.new) (state_of joiner.old) (state_of joiner.new) why
         (W.ends wire.old) (W.ends wire.new)) }
+    ensures server_later { IsLater (state_of server.old) (state_of server.new) }
+    ensures joiner_later { IsLater (state_of joiner.old) (state_of joiner.new) }
     ensures cause { OnlyLinkFails (W.faults wire.old) (W.faults wire.new) result }
 
     ensures unlinked { IsUnlinked (W.ends wire.new) }
@@ -67,6 +71,8 @@ fn exchange<W: Wire>(
         (W.ends wire.old) (W.ends wire.new)) }
     ensures stopped { IfErr result (λ why. IsUnlooped (state_of server.old) (state_of server.new) (state_of joiner.old) (state_of joiner.new) why
         (W.ends wire.old) (W.ends wire.new)) }
+    ensures server_later { IsLater (state_of server.old) (state_of server.new) }
+    ensures joiner_later { IsLater (state_of joiner.old) (state_of joiner.new) }
     ensures cause { OnlyLinkFails (W.faults wire.old) (W.faults wire.new) result }
 
     ensures kept { KeepLinked (W.ends wire.old) (W.ends wire.new) }

@@ -4,8 +4,8 @@ ghost use Rattle.std.specs.Prelude.{◌≡◌, ◌⊎◌, ℕ, ◌<◌, ◌≤�
 ghost use Rattle.std.specs.Io.KnownBytes.{IsAtEnd};
 ghost use Rattle.outside_io.specs.Ends.{KeepLinked};
 ghost use Rattle.peer_exchange.specs.Measuring.{measure_of, NotPast};
-ghost use Rattle.site_node.specs.Moves.{Receives, Gains, IsStopped};
-ghost use Rattle.site_node.specs.Stops.{OnlyLinkFails};
+ghost use Rattle.site_node.specs.Moves.{Receives, Gains, Loses, IsStopped};
+ghost use Rattle.site_node.specs.Stops.{AreAskedFor, OnlyLinkFails};
 
 use crate::node::Node;
 use op_name::Memory;
@@ -29,7 +29,7 @@ pub(crate) fn read_on<W: Wire>(
     ensures size { IfOk result (λ n. length reader.new.bytes ≡ length reader.old.bytes + n) }
     ensures bound { IfOk result (λ n. n ≤ length room.old) }
     ensures ended { result ≡ Ok 0 → 0 < length room.old → IsAtEnd (W.ends wire.new end).to_come }
-    ensures lost { OnErr result ((piece : List ℕ) × Receives (W.ends wire.old end) (W.ends wire.new end) piece) }
+    ensures lost { OnErr result (Loses (W.ends wire.old end) (W.ends wire.new end) (length room.old)) }
     ensures which { reader.new.which ≡ reader.old.which }
     ensures not_past { OnOk result ((k : ℕ) → measure_of reader.old.which reader.old.bytes ≡ Measure.More k
         → length reader.new.bytes ≤ k → NotPast reader.new.which reader.new.bytes) }
@@ -80,6 +80,7 @@ pub(crate) fn receive<W: Wire>(
     ensures whole { IfOk result (λ m. measure_of which m.items ≡ Measure.Whole (length m.items)) }
     ensures short { IfOk result (λ m. length m.items ≤ MAX_MESSAGE) }
     ensures received { IfOk result (λ m. Receives (W.ends wire.old end) (W.ends wire.new end) m.items) }
+    ensures wanted { IfOk result (λ m. AreAskedFor which m.items) }
     ensures stopped { IfErr result (IsStopped which (W.ends wire.old end) (W.ends wire.new end)) }
     // They end too early only where no more are to come.
     ensures cut { (offset : ℕ) → result ≡ Err (Node.Peer (Peer.Bytes offset PeerCause.Cut)) → IsAtEnd (W.ends wire.new end).to_come }
@@ -107,6 +108,7 @@ fn fill<W: Wire>(wire: &mut W, end: u8, reader: &mut MessageReader) -> Result<()
     ensures whole { OnOk result (measure_of reader.old.which reader.new.bytes ≡ Measure.Whole (length reader.new.bytes)) }
     ensures short { OnOk result (length reader.new.bytes ≤ MAX_MESSAGE) }
     ensures received { OnOk result (Receives (W.ends wire.old end) (W.ends wire.new end) reader.new.bytes) }
+    ensures wanted { OnOk result (AreAskedFor reader.old.which reader.new.bytes) }
     ensures stopped { IfErr result (IsStopped reader.old.which (W.ends wire.old end) (W.ends wire.new end)) }
     ensures cut { (offset : ℕ) → result ≡ Err (Node.Peer (Peer.Bytes offset PeerCause.Cut)) → IsAtEnd (W.ends wire.new end).to_come }
 

@@ -5,6 +5,7 @@ ghost use Rattle.std.specs.Io.KnownBytes.{Appends};
 ghost use Rattle.outside_io.specs.Ends.{IsUnlinked, KeepLinked};
 ghost use Rattle.outside_io.specs.Faults.{last_count};
 ghost use Rattle.outside_io.specs.declared.link.Asked.TheVariants as asked;
+ghost use Rattle.cot_site.specs.Releases.{IsLater};
 ghost use Rattle.cot_site.specs.Sites.{state_of};
 ghost use Rattle.site_node.specs.Stops.{OnlyLinkFails};
 ghost use Rattle.site_node.specs.Exchanges.{Exchanges, IsServed, IsUnserved};
@@ -20,7 +21,8 @@ use std::alloc::Global;
 /// Waits for a peer at a port, and exchanges with it: the site takes in what the peer has and it lacks, and sends what it
 /// has and the peer lacks. It answers how many frames were sent and taken in.
 ///
-/// `Err` says why the exchange stopped; the site has then taken in the frames before that, and keeps them.
+/// `Err` says why the exchange stopped; the site has then taken in the frames before that, and keeps them. On every answer
+/// what it had integrated before is the first part of its history.
 pub fn serve<W: Wire>(
     alloc: Global,
     site: &mut Site,
@@ -36,6 +38,7 @@ pub fn serve<W: Wire>(
     // Bytes end too early only where all of the peer's bytes were received.
     ensures cut { (offset : ℕ) → result ≡ Err (Node.Peer (Peer.Bytes offset PeerCause.Cut))
         → IfSome (W.peer wire.old) (Appends (W.ends wire.old 0).received (W.ends wire.new 0).received) }
+    ensures later { IsLater (state_of site.old) (state_of site.new) }
     ensures cause { OnlyLinkFails (W.faults wire.old) (W.faults wire.new) result }
 
     ensures unlinked { IsUnlinked (W.ends wire.new) }
@@ -65,6 +68,7 @@ fn serve_linked<W: Wire>(alloc: Global, site: &mut Site, wire: &mut W) -> Result
         (IsUnserved (state_of site.old) (state_of site.new) why)) }
     ensures cut { (offset : ℕ) → result ≡ Err (Node.Peer (Peer.Bytes offset PeerCause.Cut))
         → IfSome (W.ends wire.old 0).to_come (Appends (W.ends wire.old 0).received (W.ends wire.new 0).received) }
+    ensures later { IsLater (state_of site.old) (state_of site.new) }
     ensures cause { OnlyLinkFails (W.faults wire.old) (W.faults wire.new) result }
 
     ensures kept { KeepLinked (W.ends wire.old) (W.ends wire.new) }

@@ -21,6 +21,7 @@ returns-in-Ok-Some-clause-answer g c =
       met = m.met;
       stopped = m.stopped;
       cut = m.cut;
+      later = m.later;
       cause = m.cause;
       link = record { asked = m.asked; asks = m.asks; peer = m.peer; other_sent = m.other_sent; other_received = m.other_received };
       input = record { read = k.ensures.rest; faultless = k.ensures.no_fault (λ e. absurd cc) };

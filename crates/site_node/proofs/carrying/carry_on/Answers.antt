@@ -1,4 +1,4 @@
-use Rattle.std.proofs.Common.{◌≡◌, ◌<◌, ◌≤◌, ◌-◌, rules, refl, sym, ap, ◌∙◌, drop, length, arith}
+use Rattle.std.proofs.Common.{◌≡◌, ◌<◌, ◌≤◌, ◌-◌, ℕ, List, ◌++◌, inl, rules, refl, sym, ap, subst, ◌∙◌, drop, length, arith}
 use Rattle.std.specs.Io.KnownBytes.{IsAtEnd}
 use Rattle.outside_io.specs.Ends.{End}
 use Rattle.outside_io.proofs.CallerLemmas.{kept_on, kept_other}
@@ -9,6 +9,8 @@ use Rattle.peer_exchange.specs.declared.messages.Measure.TheVariants as message
 use Rattle.peer_exchange.specs.Measuring.{MessageData, measure_of}
 use Rattle.peer_exchange.specs.Refusals.{IsWhole}
 use Rattle.peer_exchange.proofs.CallerLemmas.{nothing_past}
+use Rattle.site_node.specs.Stops.{AreAskedFor}
+use Rattle.site_node.proofs.Moving.{asked_on}
 use Rattle.site_node.proofs.Carriages.{carrying_none, carrying_sent, carrying_gain, all_went, carried, wire_failed, bad_came, limit_reached, cut_short, read_failed, end_back}
 use Rattle.site_node.proofs.carrying.carry_on.Goals as goal
 
@@ -20,6 +22,7 @@ loop-rest-init g c = record {
   which = search rules;
   carrying = carrying_none _ _ _ _ c.requires.nothing;
   past = rw c.requires.nothing (nothing_past c.args.reader.now.which);
+  wanted = inl c.requires.nothing;
   kept = record { first = refl; second = refl };
   received = refl;
   to_come = refl;
@@ -47,14 +50,14 @@ returns-in-Ok-clause-sent g c =
 
 pub returns-in-Err-clause-uncarried : goal.returns-in-Err-clause-uncarried
 returns-in-Err-clause-uncarried g c =
-    wire_failed c.args.reader.now.which _ _ _ _ _ _ c.args.bytes.now _ c.loop-rest.reader.bytes c.loop-rest.at c.loop-rest.invariant.carrying c.split_at.ensures.back c.in-Err.ensures.front c.in-Err.ensures.other_received
+    wire_failed c.args.reader.now.which _ _ _ _ _ _ c.args.bytes.now _ c.loop-rest.reader.bytes c.loop-rest.at c.loop-rest.invariant.carrying c.split_at.ensures.back c.in-Err.ensures.front c.in-Err.ensures.other_received c.loop-rest.invariant.wanted
 
 pub returns-in-Bad-clause-uncarried : goal.returns-in-Bad-clause-uncarried
 returns-in-Bad-clause-uncarried g c =
     let fits : IsBytes c.args.bytes.now = λ i. omega (arith, c.type_inv.bytes i) in
     let bytes = c.loop-rest.reader.bytes in
     let said = ap (λ (w : Which). measure_of w bytes) (sym c.loop-rest.invariant.which) ∙ sym c.in-Bad.ensures.value in
-    bad_came c.args.reader.now.which _ _ _ _ c.args.bytes.now bytes c.loop-rest.at c.in-Bad.offset c.in-Bad.cause _ fits c.spoilt.ensures c.loop-rest.invariant.carrying said
+    bad_came c.args.reader.now.which _ _ _ _ c.args.bytes.now bytes c.loop-rest.at c.in-Bad.offset c.in-Bad.cause _ fits c.spoilt.ensures c.loop-rest.invariant.carrying c.loop-rest.invariant.wanted said
 
 pub returns-then-len-eq-MAX_MESSAGE-clause-uncarried : goal.returns-then-len-eq-MAX_MESSAGE-clause-uncarried
 returns-then-len-eq-MAX_MESSAGE-clause-uncarried g c =
@@ -62,11 +65,11 @@ returns-then-len-eq-MAX_MESSAGE-clause-uncarried g c =
     let more = ap (λ (w : Which). measure_of w bytes) (sym c.loop-rest.invariant.which) ∙ sym c.in-More.ensures.value in
     let size : length bytes ≡ MAX_MESSAGE = search rules in
     let here : c.len-len.result ≡ MAX_MESSAGE = search rules in
-    limit_reached c.args.reader.now.which _ _ _ _ c.args.bytes.now bytes c.loop-rest.at c.in-More.at_least c.len-len.result _ c.spoilt-then-len-eq-MAX_MESSAGE.ensures c.loop-rest.invariant.carrying more size here
+    limit_reached c.args.reader.now.which _ _ _ _ c.args.bytes.now bytes c.loop-rest.at c.in-More.at_least c.len-len.result _ c.spoilt-then-len-eq-MAX_MESSAGE.ensures c.loop-rest.invariant.carrying c.loop-rest.invariant.wanted more size here
 
 pub returns-in-Err-send_on-clause-uncarried : goal.returns-in-Err-send_on-clause-uncarried
 returns-in-Err-send_on-clause-uncarried g c =
-    wire_failed c.args.reader.now.which _ _ _ _ _ _ c.args.bytes.now (drop c.loop-rest.at c.args.bytes.now) c.loop-rest.reader.bytes c.loop-rest.at c.loop-rest.invariant.carrying refl c.in-Err-send_on.ensures.front c.in-Err-send_on.ensures.other_received
+    wire_failed c.args.reader.now.which _ _ _ _ _ _ c.args.bytes.now (drop c.loop-rest.at c.args.bytes.now) c.loop-rest.reader.bytes c.loop-rest.at c.loop-rest.invariant.carrying refl c.in-Err-send_on.ensures.front c.in-Err-send_on.ensures.other_received c.loop-rest.invariant.wanted
 
 pub returns-in-Ok-eq0-clause-uncarried : goal.returns-in-Ok-eq0-clause-uncarried
 returns-in-Ok-eq0-clause-uncarried g c =
@@ -78,7 +81,7 @@ returns-in-Ok-eq0-clause-uncarried g c =
     let other = end_back (g.W.Wire.ends c.send_on.new.wire) (g.W.Wire.ends c.read_on.new.wire) c.args.from c.requires.side c.in-Ok-eq0.ensures.other_end in
     let some = c.in-Ok-send_on.ensures.some in
     cut_short c.args.reader.now.which _ _ _ _ _ _ _ _ c.args.bytes.now bytes c.measure.new.self.bytes c.read_on.new.reader.bytes c.loop-rest.at c.in-Ok-send_on.next c.in-More.at_least c.len-len.result _ c.spoilt-in-Ok-eq0.ensures
-    c.loop-rest.invariant.carrying c.in-Ok-send_on.ensures.sends c.in-Ok-send_on.ensures.other_received some.1 some.0 (λ e. some.2 (c.len-len.ensures ∙ e)) c.in-Ok-eq0.ensures.gains none other ended more few c.len-len.ensures
+    c.loop-rest.invariant.carrying c.in-Ok-send_on.ensures.sends c.in-Ok-send_on.ensures.other_received some.1 some.0 (λ e. some.2 (c.len-len.ensures ∙ e)) c.in-Ok-eq0.ensures.gains none other ended more few c.len-len.ensures c.loop-rest.invariant.wanted
 
 pub loop-rest-preserved : goal.loop-rest-preserved
 loop-rest-preserved g c =
@@ -88,8 +91,13 @@ loop-rest-preserved g c =
     let within : length c.read_on.new.reader.bytes ≤ c.in-More.at_least = search rules in
     let other = end_back (g.W.Wire.ends c.send_on.new.wire) (g.W.Wire.ends c.read_on.new.wire) c.args.from c.requires.side c.in-Ok-read_on.ensures.other_end in
     let sent = carrying_sent _ _ _ _ _ _ c.args.bytes.now c.loop-rest.at c.in-Ok-send_on.next c.loop-rest.reader.bytes inv.carrying c.in-Ok-send_on.ensures.sends c.in-Ok-send_on.ensures.other_received in
+    let gains = c.in-Ok-read_on.ensures.gains in
+    let is : c.measure.new.self.bytes ≡ c.loop-rest.reader.bytes = ap (λ (m : MessageData). m.bytes) same in
+    let grown : c.read_on.new.reader.bytes ≡ c.loop-rest.reader.bytes ++ gains.piece = gains.grown ∙ ap (λ (t : List ℕ). t ++ gains.piece) is in
     record {
       short = search rules;
+      wanted = subst (AreAskedFor c.args.reader.now.which) (sym grown) (asked_on c.args.reader.now.which c.loop-rest.reader.bytes gains.piece c.in-More.at_least c.wanted-wanted.result
+      (ap (λ (w : Which). measure_of w c.loop-rest.reader.bytes) (sym c.loop-rest.invariant.which) ∙ sym c.in-More.ensures.value) (search rules) (search rules) (search rules));
       within = c.in-Ok-send_on.ensures.some.0;
       under_way = search rules;
       which = search rules;
@@ -108,5 +116,9 @@ loop-rest-preserved g c =
 pub returns-in-Err-read_on-clause-uncarried : goal.returns-in-Err-read_on-clause-uncarried
 returns-in-Err-read_on-clause-uncarried g c =
     let other = end_back (g.W.Wire.ends c.send_on.new.wire) (g.W.Wire.ends c.read_on.new.wire) c.args.from c.requires.side c.in-Err-read_on.ensures.other_end in
-    read_failed c.args.reader.now.which _ _ _ _ _ _ _ _ c.args.bytes.now c.loop-rest.reader.bytes c.loop-rest.at c.in-Ok-send_on.next c.in-Err-read_on.why c.loop-rest.invariant.carrying c.in-Ok-send_on.ensures.sends
-    c.in-Ok-send_on.ensures.other_received c.in-Err-read_on.ensures.lost other c.in-Err-read_on.ensures.stops
+    let lost = c.in-Err-read_on.ensures.lost in
+    read_failed c.args.reader.now.which _ _ _ _ _ _ _ _ c.args.bytes.now c.loop-rest.reader.bytes lost.piece c.loop-rest.at c.in-Ok-send_on.next c.in-Err-read_on.why c.loop-rest.invariant.carrying
+    c.in-Ok-send_on.ensures.sends c.in-Ok-send_on.ensures.other_received lost.moved
+    (asked_on c.args.reader.now.which c.loop-rest.reader.bytes lost.piece c.in-More.at_least c.wanted-wanted.result
+    (ap (λ (w : Which). measure_of w c.loop-rest.reader.bytes) (sym c.loop-rest.invariant.which) ∙ sym c.in-More.ensures.value) (search rules) (search rules) (search rules))
+    other c.in-Err-read_on.ensures.stops

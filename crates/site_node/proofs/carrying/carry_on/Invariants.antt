@@ -4,6 +4,7 @@ use Rattle.outside_io.specs.Ends.{KeepLinked}
 use Rattle.peer_exchange.specs.declared.messages.TheConstants.{MAX_MESSAGE}
 use Rattle.peer_exchange.specs.Measuring.{NotPast}
 use Rattle.site_node.specs.declared.carrying.TheConstants.{UNDER_WAY}
+use Rattle.site_node.specs.Stops.{AreAskedFor}
 use Rattle.site_node.proofs.Carriages.{Carrying}
 use Rattle.site_node.proofs.carrying.carry_on.Given as goal
 
@@ -15,6 +16,7 @@ invariant-loop-rest g l = record {
   which : l.reader.which ≡ l.fn.reader.which;
   carrying : Carrying (g.W.Wire.ends l.fn.wire l.fn.from) (g.W.Wire.ends l.wire l.fn.from) (g.W.Wire.ends l.fn.wire (1 - l.fn.from)) (g.W.Wire.ends l.wire (1 - l.fn.from)) l.bytes l.at l.reader.bytes;
   past : NotPast l.reader.which l.reader.bytes;
+  wanted : AreAskedFor l.fn.reader.which l.reader.bytes;
   kept : KeepLinked (g.W.Wire.ends l.fn.wire) (g.W.Wire.ends l.wire);
   received : (g.W.Wire.ends l.wire l.fn.from).received ≡ (g.W.Wire.ends l.fn.wire l.fn.from).received;
   to_come : (g.W.Wire.ends l.wire l.fn.from).to_come ≡ (g.W.Wire.ends l.fn.wire l.fn.from).to_come;

@@ -1,4 +1,4 @@
-use Rattle.std.proofs.Common.{refl, sym, ◌∙◌}
+use Rattle.std.proofs.Common.{refl, sym, ◌∙◌, inr}
 use Rattle.cot_site.specs.Releases.{IsSound}
 use Rattle.cot_site.specs.Sites.{state_of}
 use Rattle.peer_exchange.specs.Exchanges.{AgreeInAll, OnlyMemoryRefuses}
@@ -8,7 +8,7 @@ use Rattle.site_node.proofs.looping.exchange.Goals as goal
 
 pub returns-in-Err-clause-stopped : goal.returns-in-Err-clause-stopped
 returns-in-Err-clause-stopped g c =
-    unstarted (g.W.Wire.ends c.args.wire.now) (g.W.Wire.ends c.args.wire.now) (state_of c.args.server.now) (state_of c.args.joiner.now) node.Memory refl refl (λ which. tt) tt
+    unstarted (g.W.Wire.ends c.args.wire.now) (g.W.Wire.ends c.args.wire.now) (state_of c.args.server.now) (state_of c.args.joiner.now) node.Memory refl refl (inr refl)
 
 pub returns-in-Err-carry-clause-stopped : goal.returns-in-Err-carry-clause-stopped
 returns-in-Err-carry-clause-stopped g c =
@@ -20,14 +20,14 @@ pub returns-in-Err-answer-clause-stopped : goal.returns-in-Err-answer-clause-sto
 returns-in-Err-answer-clause-stopped g c =
     let quiet = quiet_by (g.W.Wire.ends c.args.wire.now) c.requires.nothing in
     let offer : Offer (state_of c.args.joiner.now) c.deref.result.now = offer_by (state_of c.args.joiner.now) c.new-first.result.items c.deref.result.now c.known-2.ensures.history c.new-first.ensures.items (c.deref.ensures.value ∙ c.in-Ok.ensures.ok) in
-    let heard : Heard (g.W.Wire.ends c.args.wire.now) (g.W.Wire.ends c.carry.new.wire) (state_of c.args.joiner.now) c.deref.result.now c.deref-2.result.now = heard_by (g.W.Wire.ends c.args.wire.now) (g.W.Wire.ends c.carry.new.wire) (state_of c.args.joiner.now) c.deref.result.now c.deref-2.result.now quiet offer (rw (sym c.deref-2.ensures.value) at c.in-Ok-carry.ensures.whole) (rw (sym c.deref-2.ensures.value) at c.in-Ok-carry.ensures.carried) (record { sent = c.in-Ok-carry.ensures.sent; received = c.in-Ok-carry.ensures.received; to_come = c.in-Ok-carry.ensures.to_come }) c.in-Ok-carry.ensures.other_sent in
+    let heard : Heard (g.W.Wire.ends c.args.wire.now) (g.W.Wire.ends c.carry.new.wire) (state_of c.args.joiner.now) c.deref.result.now c.deref-2.result.now = heard_by (g.W.Wire.ends c.args.wire.now) (g.W.Wire.ends c.carry.new.wire) (state_of c.args.joiner.now) c.deref.result.now c.deref-2.result.now quiet offer (rw (sym c.deref-2.ensures.value) at c.in-Ok-carry.ensures.whole) (rw (sym c.deref-2.ensures.value) at c.in-Ok-carry.ensures.wanted) (rw (sym c.deref-2.ensures.value) at c.in-Ok-carry.ensures.carried) (record { sent = c.in-Ok-carry.ensures.sent; received = c.in-Ok-carry.ensures.received; to_come = c.in-Ok-carry.ensures.to_come }) c.in-Ok-carry.ensures.other_sent in
     rw c.node_of.ensures (unanswered (g.W.Wire.ends c.args.wire.now) (g.W.Wire.ends c.carry.new.wire) (state_of c.args.server.now) (state_of c.args.joiner.now) c.deref.result.now c.deref-2.result.now c.in-Err-answer.why heard c.in-Err-answer.ensures.refused)
 
 pub returns-in-Err-carry-2-clause-stopped : goal.returns-in-Err-carry-2-clause-stopped
 returns-in-Err-carry-2-clause-stopped g c =
     let quiet = quiet_by (g.W.Wire.ends c.args.wire.now) c.requires.nothing in
     let offer : Offer (state_of c.args.joiner.now) c.deref.result.now = offer_by (state_of c.args.joiner.now) c.new-first.result.items c.deref.result.now c.known-2.ensures.history c.new-first.ensures.items (c.deref.ensures.value ∙ c.in-Ok.ensures.ok) in
-    let heard : Heard (g.W.Wire.ends c.args.wire.now) (g.W.Wire.ends c.carry.new.wire) (state_of c.args.joiner.now) c.deref.result.now c.deref-2.result.now = heard_by (g.W.Wire.ends c.args.wire.now) (g.W.Wire.ends c.carry.new.wire) (state_of c.args.joiner.now) c.deref.result.now c.deref-2.result.now quiet offer (rw (sym c.deref-2.ensures.value) at c.in-Ok-carry.ensures.whole) (rw (sym c.deref-2.ensures.value) at c.in-Ok-carry.ensures.carried) (record { sent = c.in-Ok-carry.ensures.sent; received = c.in-Ok-carry.ensures.received; to_come = c.in-Ok-carry.ensures.to_come }) c.in-Ok-carry.ensures.other_sent in
+    let heard : Heard (g.W.Wire.ends c.args.wire.now) (g.W.Wire.ends c.carry.new.wire) (state_of c.args.joiner.now) c.deref.result.now c.deref-2.result.now = heard_by (g.W.Wire.ends c.args.wire.now) (g.W.Wire.ends c.carry.new.wire) (state_of c.args.joiner.now) c.deref.result.now c.deref-2.result.now quiet offer (rw (sym c.deref-2.ensures.value) at c.in-Ok-carry.ensures.whole) (rw (sym c.deref-2.ensures.value) at c.in-Ok-carry.ensures.wanted) (rw (sym c.deref-2.ensures.value) at c.in-Ok-carry.ensures.carried) (record { sent = c.in-Ok-carry.ensures.sent; received = c.in-Ok-carry.ensures.received; to_come = c.in-Ok-carry.ensures.to_come }) c.in-Ok-carry.ensures.other_sent in
     let answer : Answer (state_of c.args.server.now) c.deref-2.result.now c.deref-3.result.now c.in-Ok-answer.count = answer_by (state_of c.args.server.now) c.deref-2.result.now c.new-second.result.items c.deref-3.result.now c.in-Ok-answer.count c.known.ensures.history c.new-second.ensures.items (rw (sym c.deref-3.ensures.value) at c.in-Ok-answer.ensures.answered) in
     unbrought (g.W.Wire.ends c.args.wire.now) (g.W.Wire.ends c.carry.new.wire) (g.W.Wire.ends c.carry-2.new.wire) (state_of c.args.server.now) (state_of c.args.joiner.now) c.deref.result.now c.deref-2.result.now c.deref-3.result.now c.in-Ok-answer.count c.in-Err-carry-2.why heard answer c.in-Err-carry-2.ensures.uncarried c.in-Err-carry-2.ensures.received c.in-Err-carry-2.ensures.to_come c.in-Err-carry-2.ensures.other_sent
 
@@ -35,7 +35,7 @@ pub returns-in-Err-close-clause-stopped : goal.returns-in-Err-close-clause-stopp
 returns-in-Err-close-clause-stopped g c =
     let quiet = quiet_by (g.W.Wire.ends c.args.wire.now) c.requires.nothing in
     let offer : Offer (state_of c.args.joiner.now) c.deref.result.now = offer_by (state_of c.args.joiner.now) c.new-first.result.items c.deref.result.now c.known-2.ensures.history c.new-first.ensures.items (c.deref.ensures.value ∙ c.in-Ok.ensures.ok) in
-    let heard : Heard (g.W.Wire.ends c.args.wire.now) (g.W.Wire.ends c.carry.new.wire) (state_of c.args.joiner.now) c.deref.result.now c.deref-2.result.now = heard_by (g.W.Wire.ends c.args.wire.now) (g.W.Wire.ends c.carry.new.wire) (state_of c.args.joiner.now) c.deref.result.now c.deref-2.result.now quiet offer (rw (sym c.deref-2.ensures.value) at c.in-Ok-carry.ensures.whole) (rw (sym c.deref-2.ensures.value) at c.in-Ok-carry.ensures.carried) (record { sent = c.in-Ok-carry.ensures.sent; received = c.in-Ok-carry.ensures.received; to_come = c.in-Ok-carry.ensures.to_come }) c.in-Ok-carry.ensures.other_sent in
+    let heard : Heard (g.W.Wire.ends c.args.wire.now) (g.W.Wire.ends c.carry.new.wire) (state_of c.args.joiner.now) c.deref.result.now c.deref-2.result.now = heard_by (g.W.Wire.ends c.args.wire.now) (g.W.Wire.ends c.carry.new.wire) (state_of c.args.joiner.now) c.deref.result.now c.deref-2.result.now quiet offer (rw (sym c.deref-2.ensures.value) at c.in-Ok-carry.ensures.whole) (rw (sym c.deref-2.ensures.value) at c.in-Ok-carry.ensures.wanted) (rw (sym c.deref-2.ensures.value) at c.in-Ok-carry.ensures.carried) (record { sent = c.in-Ok-carry.ensures.sent; received = c.in-Ok-carry.ensures.received; to_come = c.in-Ok-carry.ensures.to_come }) c.in-Ok-carry.ensures.other_sent in
     let answer : Answer (state_of c.args.server.now) c.deref-2.result.now c.deref-3.result.now c.in-Ok-answer.count = answer_by (state_of c.args.server.now) c.deref-2.result.now c.new-second.result.items c.deref-3.result.now c.in-Ok-answer.count c.known.ensures.history c.new-second.ensures.items (rw (sym c.deref-3.ensures.value) at c.in-Ok-answer.ensures.answered) in
     let told : Told (g.W.Wire.ends c.args.wire.now) (g.W.Wire.ends c.carry-2.new.wire) (state_of c.args.server.now) (state_of c.args.joiner.now) c.deref.result.now c.deref-2.result.now c.deref-3.result.now c.deref-4.result.now c.in-Ok-answer.count = told_by (g.W.Wire.ends c.args.wire.now) (g.W.Wire.ends c.carry.new.wire) (g.W.Wire.ends c.carry-2.new.wire) (state_of c.args.server.now) (state_of c.args.joiner.now) c.deref.result.now c.deref-2.result.now c.deref-3.result.now c.deref-4.result.now c.in-Ok-answer.count heard answer (rw (sym c.deref-4.ensures.value) at c.in-Ok-carry-2.ensures.whole) (rw (sym c.deref-4.ensures.value) at c.in-Ok-carry-2.ensures.carried) (record { sent = c.in-Ok-carry-2.ensures.sent; received = c.in-Ok-carry-2.ensures.received; to_come = c.in-Ok-carry-2.ensures.to_come }) c.in-Ok-carry-2.ensures.other_sent in
     let server : IsSound (state_of c.args.server.now) = record { number = c.known.ensures.number; history = c.known.ensures.history; waiting = c.known.ensures.waiting } in
@@ -47,7 +47,7 @@ pub returns-in-Err-carry-3-clause-stopped : goal.returns-in-Err-carry-3-clause-s
 returns-in-Err-carry-3-clause-stopped g c =
     let quiet = quiet_by (g.W.Wire.ends c.args.wire.now) c.requires.nothing in
     let offer : Offer (state_of c.args.joiner.now) c.deref.result.now = offer_by (state_of c.args.joiner.now) c.new-first.result.items c.deref.result.now c.known-2.ensures.history c.new-first.ensures.items (c.deref.ensures.value ∙ c.in-Ok.ensures.ok) in
-    let heard : Heard (g.W.Wire.ends c.args.wire.now) (g.W.Wire.ends c.carry.new.wire) (state_of c.args.joiner.now) c.deref.result.now c.deref-2.result.now = heard_by (g.W.Wire.ends c.args.wire.now) (g.W.Wire.ends c.carry.new.wire) (state_of c.args.joiner.now) c.deref.result.now c.deref-2.result.now quiet offer (rw (sym c.deref-2.ensures.value) at c.in-Ok-carry.ensures.whole) (rw (sym c.deref-2.ensures.value) at c.in-Ok-carry.ensures.carried) (record { sent = c.in-Ok-carry.ensures.sent; received = c.in-Ok-carry.ensures.received; to_come = c.in-Ok-carry.ensures.to_come }) c.in-Ok-carry.ensures.other_sent in
+    let heard : Heard (g.W.Wire.ends c.args.wire.now) (g.W.Wire.ends c.carry.new.wire) (state_of c.args.joiner.now) c.deref.result.now c.deref-2.result.now = heard_by (g.W.Wire.ends c.args.wire.now) (g.W.Wire.ends c.carry.new.wire) (state_of c.args.joiner.now) c.deref.result.now c.deref-2.result.now quiet offer (rw (sym c.deref-2.ensures.value) at c.in-Ok-carry.ensures.whole) (rw (sym c.deref-2.ensures.value) at c.in-Ok-carry.ensures.wanted) (rw (sym c.deref-2.ensures.value) at c.in-Ok-carry.ensures.carried) (record { sent = c.in-Ok-carry.ensures.sent; received = c.in-Ok-carry.ensures.received; to_come = c.in-Ok-carry.ensures.to_come }) c.in-Ok-carry.ensures.other_sent in
     let answer : Answer (state_of c.args.server.now) c.deref-2.result.now c.deref-3.result.now c.in-Ok-answer.count = answer_by (state_of c.args.server.now) c.deref-2.result.now c.new-second.result.items c.deref-3.result.now c.in-Ok-answer.count c.known.ensures.history c.new-second.ensures.items (rw (sym c.deref-3.ensures.value) at c.in-Ok-answer.ensures.answered) in
     let told : Told (g.W.Wire.ends c.args.wire.now) (g.W.Wire.ends c.carry-2.new.wire) (state_of c.args.server.now) (state_of c.args.joiner.now) c.deref.result.now c.deref-2.result.now c.deref-3.result.now c.deref-4.result.now c.in-Ok-answer.count = told_by (g.W.Wire.ends c.args.wire.now) (g.W.Wire.ends c.carry.new.wire) (g.W.Wire.ends c.carry-2.new.wire) (state_of c.args.server.now) (state_of c.args.joiner.now) c.deref.result.now c.deref-2.result.now c.deref-3.result.now c.deref-4.result.now c.in-Ok-answer.count heard answer (rw (sym c.deref-4.ensures.value) at c.in-Ok-carry-2.ensures.whole) (rw (sym c.deref-4.ensures.value) at c.in-Ok-carry-2.ensures.carried) (record { sent = c.in-Ok-carry-2.ensures.sent; received = c.in-Ok-carry-2.ensures.received; to_come = c.in-Ok-carry-2.ensures.to_come }) c.in-Ok-carry-2.ensures.other_sent in
     let closing : Closing (state_of c.args.joiner.now) (state_of c.close.new.site) c.deref-4.result.now c.deref-5.result.now c.in-Ok-close.counts = closing_by (state_of c.args.joiner.now) (state_of c.close.new.site) c.deref-4.result.now c.new-third.result.items c.deref-5.result.now c.in-Ok-close.counts c.known-3.ensures.history c.new-third.ensures.items (rw (sym c.deref-5.ensures.value) at c.in-Ok-close.ensures.closed) in
@@ -57,7 +57,7 @@ pub returns-in-Ok-finish-clause-exchanged : goal.returns-in-Ok-finish-clause-exc
 returns-in-Ok-finish-clause-exchanged g c =
     let quiet = quiet_by (g.W.Wire.ends c.args.wire.now) c.requires.nothing in
     let offer : Offer (state_of c.args.joiner.now) c.deref.result.now = offer_by (state_of c.args.joiner.now) c.new-first.result.items c.deref.result.now c.known-2.ensures.history c.new-first.ensures.items (c.deref.ensures.value ∙ c.in-Ok.ensures.ok) in
-    let heard : Heard (g.W.Wire.ends c.args.wire.now) (g.W.Wire.ends c.carry.new.wire) (state_of c.args.joiner.now) c.deref.result.now c.deref-2.result.now = heard_by (g.W.Wire.ends c.args.wire.now) (g.W.Wire.ends c.carry.new.wire) (state_of c.args.joiner.now) c.deref.result.now c.deref-2.result.now quiet offer (rw (sym c.deref-2.ensures.value) at c.in-Ok-carry.ensures.whole) (rw (sym c.deref-2.ensures.value) at c.in-Ok-carry.ensures.carried) (record { sent = c.in-Ok-carry.ensures.sent; received = c.in-Ok-carry.ensures.received; to_come = c.in-Ok-carry.ensures.to_come }) c.in-Ok-carry.ensures.other_sent in
+    let heard : Heard (g.W.Wire.ends c.args.wire.now) (g.W.Wire.ends c.carry.new.wire) (state_of c.args.joiner.now) c.deref.result.now c.deref-2.result.now = heard_by (g.W.Wire.ends c.args.wire.now) (g.W.Wire.ends c.carry.new.wire) (state_of c.args.joiner.now) c.deref.result.now c.deref-2.result.now quiet offer (rw (sym c.deref-2.ensures.value) at c.in-Ok-carry.ensures.whole) (rw (sym c.deref-2.ensures.value) at c.in-Ok-carry.ensures.wanted) (rw (sym c.deref-2.ensures.value) at c.in-Ok-carry.ensures.carried) (record { sent = c.in-Ok-carry.ensures.sent; received = c.in-Ok-carry.ensures.received; to_come = c.in-Ok-carry.ensures.to_come }) c.in-Ok-carry.ensures.other_sent in
     let answer : Answer (state_of c.args.server.now) c.deref-2.result.now c.deref-3.result.now c.in-Ok-answer.count = answer_by (state_of c.args.server.now) c.deref-2.result.now c.new-second.result.items c.deref-3.result.now c.in-Ok-answer.count c.known.ensures.history c.new-second.ensures.items (rw (sym c.deref-3.ensures.value) at c.in-Ok-answer.ensures.answered) in
     let told : Told (g.W.Wire.ends c.args.wire.now) (g.W.Wire.ends c.carry-2.new.wire) (state_of c.args.server.now) (state_of c.args.joiner.now) c.deref.result.now c.deref-2.result.now c.deref-3.result.now c.deref-4.result.now c.in-Ok-answer.count = told_by (g.W.Wire.ends c.args.wire.now) (g.W.Wire.ends c.carry.new.wire) (g.W.Wire.ends c.carry-2.new.wire) (state_of c.args.server.now) (state_of c.args.joiner.now) c.deref.result.now c.deref-2.result.now c.deref-3.result.now c.deref-4.result.now c.in-Ok-answer.count heard answer (rw (sym c.deref-4.ensures.value) at c.in-Ok-carry-2.ensures.whole) (rw (sym c.deref-4.ensures.value) at c.in-Ok-carry-2.ensures.carried) (record { sent = c.in-Ok-carry-2.ensures.sent; received = c.in-Ok-carry-2.ensures.received; to_come = c.in-Ok-carry-2.ensures.to_come }) c.in-Ok-carry-2.ensures.other_sent in
     let closing : Closing (state_of c.args.joiner.now) (state_of c.close.new.site) c.deref-4.result.now c.deref-5.result.now c.in-Ok-close.counts = closing_by (state_of c.args.joiner.now) (state_of c.close.new.site) c.deref-4.result.now c.new-third.result.items c.deref-5.result.now c.in-Ok-close.counts c.known-3.ensures.history c.new-third.ensures.items (rw (sym c.deref-5.ensures.value) at c.in-Ok-close.ensures.closed) in
@@ -68,7 +68,7 @@ pub returns-clause-stopped : goal.returns-clause-stopped
 returns-clause-stopped g c =
     let quiet = quiet_by (g.W.Wire.ends c.args.wire.now) c.requires.nothing in
     let offer : Offer (state_of c.args.joiner.now) c.deref.result.now = offer_by (state_of c.args.joiner.now) c.new-first.result.items c.deref.result.now c.known-2.ensures.history c.new-first.ensures.items (c.deref.ensures.value ∙ c.in-Ok.ensures.ok) in
-    let heard : Heard (g.W.Wire.ends c.args.wire.now) (g.W.Wire.ends c.carry.new.wire) (state_of c.args.joiner.now) c.deref.result.now c.deref-2.result.now = heard_by (g.W.Wire.ends c.args.wire.now) (g.W.Wire.ends c.carry.new.wire) (state_of c.args.joiner.now) c.deref.result.now c.deref-2.result.now quiet offer (rw (sym c.deref-2.ensures.value) at c.in-Ok-carry.ensures.whole) (rw (sym c.deref-2.ensures.value) at c.in-Ok-carry.ensures.carried) (record { sent = c.in-Ok-carry.ensures.sent; received = c.in-Ok-carry.ensures.received; to_come = c.in-Ok-carry.ensures.to_come }) c.in-Ok-carry.ensures.other_sent in
+    let heard : Heard (g.W.Wire.ends c.args.wire.now) (g.W.Wire.ends c.carry.new.wire) (state_of c.args.joiner.now) c.deref.result.now c.deref-2.result.now = heard_by (g.W.Wire.ends c.args.wire.now) (g.W.Wire.ends c.carry.new.wire) (state_of c.args.joiner.now) c.deref.result.now c.deref-2.result.now quiet offer (rw (sym c.deref-2.ensures.value) at c.in-Ok-carry.ensures.whole) (rw (sym c.deref-2.ensures.value) at c.in-Ok-carry.ensures.wanted) (rw (sym c.deref-2.ensures.value) at c.in-Ok-carry.ensures.carried) (record { sent = c.in-Ok-carry.ensures.sent; received = c.in-Ok-carry.ensures.received; to_come = c.in-Ok-carry.ensures.to_come }) c.in-Ok-carry.ensures.other_sent in
     let answer : Answer (state_of c.args.server.now) c.deref-2.result.now c.deref-3.result.now c.in-Ok-answer.count = answer_by (state_of c.args.server.now) c.deref-2.result.now c.new-second.result.items c.deref-3.result.now c.in-Ok-answer.count c.known.ensures.history c.new-second.ensures.items (rw (sym c.deref-3.ensures.value) at c.in-Ok-answer.ensures.answered) in
     let told : Told (g.W.Wire.ends c.args.wire.now) (g.W.Wire.ends c.carry-2.new.wire) (state_of c.args.server.now) (state_of c.args.joiner.now) c.deref.result.now c.deref-2.result.now c.deref-3.result.now c.deref-4.result.now c.in-Ok-answer.count = told_by (g.W.Wire.ends c.args.wire.now) (g.W.Wire.ends c.carry.new.wire) (g.W.Wire.ends c.carry-2.new.wire) (state_of c.args.server.now) (state_of c.args.joiner.now) c.deref.result.now c.deref-2.result.now c.deref-3.result.now c.deref-4.result.now c.in-Ok-answer.count heard answer (rw (sym c.deref-4.ensures.value) at c.in-Ok-carry-2.ensures.whole) (rw (sym c.deref-4.ensures.value) at c.in-Ok-carry-2.ensures.carried) (record { sent = c.in-Ok-carry-2.ensures.sent; received = c.in-Ok-carry-2.ensures.received; to_come = c.in-Ok-carry-2.ensures.to_come }) c.in-Ok-carry-2.ensures.other_sent in
     let closing : Closing (state_of c.args.joiner.now) (state_of c.close.new.site) c.deref-4.result.now c.deref-5.result.now c.in-Ok-close.counts = closing_by (state_of c.args.joiner.now) (state_of c.close.new.site) c.deref-4.result.now c.new-third.result.items c.deref-5.result.now c.in-Ok-close.counts c.known-3.ensures.history c.new-third.ensures.items (rw (sym c.deref-5.ensures.value) at c.in-Ok-close.ensures.closed) in

@@ -1,4 +1,4 @@
-use Rattle.std.proofs.Common.{arith}
+use Rattle.std.proofs.Common.{refl, arith, inl}
 use Rattle.cot_site.specs.Sites.{state_of}
 use Rattle.site_node.specs.declared.node.Node.TheVariants as node
 use Rattle.site_node.proofs.Loopers.{between, looped_all, unlooped_all, unstarted}
@@ -16,4 +16,4 @@ returns-in-Ok-clause-stopped g c =
 
 pub returns-in-Err-clause-stopped : goal.returns-in-Err-clause-stopped
 returns-in-Err-clause-stopped g c =
-    unstarted (g.W.Wire.ends c.args.wire.now) (g.W.Wire.ends c.link_pair.new.self) (state_of c.args.server.now) (state_of c.args.joiner.now) node.Link (c.in-Err.ensures.failed 0 (omega arith)) (c.in-Err.ensures.failed 1 (omega arith)) (λ which. tt) tt
+    unstarted (g.W.Wire.ends c.args.wire.now) (g.W.Wire.ends c.link_pair.new.self) (state_of c.args.server.now) (state_of c.args.joiner.now) node.Link (c.in-Err.ensures.failed 0 (omega arith)) (c.in-Err.ensures.failed 1 (omega arith)) (inl refl)

@@ -4,6 +4,7 @@ use Rattle.outside_io.specs.Ends.{KeepLinked}
 use Rattle.peer_exchange.specs.declared.messages.TheConstants.{MAX_MESSAGE}
 use Rattle.peer_exchange.specs.Measuring.{NotPast}
 use Rattle.site_node.specs.Moves.{Receives}
+use Rattle.site_node.specs.Stops.{AreAskedFor}
 use Rattle.site_node.proofs.receiving.fill.Given as goal
 
 abbrev pub invariant-loop-offset : goal.invariant-loop-offset
@@ -12,6 +13,7 @@ invariant-loop-offset g l = record {
   which : l.reader.which ≡ l.fn.reader.which;
   came : Receives (g.W.Wire.ends l.fn.wire l.fn.end) (g.W.Wire.ends l.wire l.fn.end) l.reader.bytes;
   past : NotPast l.reader.which l.reader.bytes;
+  wanted : AreAskedFor l.fn.reader.which l.reader.bytes;
   other_end : g.W.Wire.ends l.wire (1 - l.fn.end) ≡ g.W.Wire.ends l.fn.wire (1 - l.fn.end);
   kept : KeepLinked (g.W.Wire.ends l.fn.wire) (g.W.Wire.ends l.wire);
   asked : g.W.Wire.asked l.wire ≡ g.W.Wire.asked l.fn.wire;
