@@ -1,6 +1,7 @@
 -- What each row of the table says gives what is promised of all commands.
-use Rattle.std.proofs.Common.{◌≡◌, ◌⊎◌, ℕ, ◌+◌, Option, Some, IsSome, List, [], sym, subst, refl, inl, inr, arith}
+use Rattle.std.proofs.Common.{◌≡◌, ◌⊎◌, ℕ, ◌+◌, Option, Some, IsSome, List, [], sym, ap, ◌∙◌, subst, refl, inl, inr, arith}
 use Rattle.std.proofs.KnownBytes.{Appends-nil, Consumes-nil}
+use Rattle.std.proofs.lemmas.Bool.{false≢true}
 use Rattle.std.proofs.Math.Nat.{min-le_left}
 use Rattle.outside_io.specs.Faults.{Rose, last_count}
 use Rattle.outside_io.specs.Reading.{LosesFront}
@@ -12,7 +13,8 @@ use Rattle.log_replies.specs.Answers.{Replies, IsAnswered}
 use Rattle.log_replies.specs.Outside.{Outside, Grows, IsWritten, IsCutOff}
 use Rattle.log_replies.specs.Statuses.{IsReported}
 use Rattle.log_replies.proofs.CallerLemmas.{loses_input}
-use Rattle.cotpad_run.specs.Commands.{CommandData, Replay, Gen, Loop}
+use Rattle.cotpad_run.specs.declared.command.Command.{Command}
+use Rattle.cotpad_run.specs.Commands.{CommandData, command_data, Replay, Gen, Loop}
 use Rattle.cotpad_run.specs.Made.{IsMade}
 use Rattle.cotpad_run.specs.Replaying.{IsReplayed}
 use Rattle.cotpad_run.specs.Generating.{gen_text, IsGenerated, IsCounted}
@@ -84,7 +86,7 @@ replying_done replies old new r a wire =
       held = answered_held replies old.outside new.outside r a;
       link = wire;
       ends = λ well. inl (reported well);
-      complete = λ well _. offline_complete (replying replies) r (λ some. some) (reported well);
+      complete = λ well _. offline_complete (replying replies) r false≢true (reported well);
     }
 
 -- ---- `replay`
@@ -129,7 +131,7 @@ replay_done old new r a wire =
       held = replay_held old.outside new.outside r a;
       link = wire;
       ends = λ well. inl (reported well);
-      complete = λ well _. offline_complete (row_of Replay) r (λ some. some) (reported well);
+      complete = λ well _. offline_complete (row_of Replay) r false≢true (reported well);
     }
 
 -- ---- `gen`
@@ -167,7 +169,7 @@ gen_done start events window old new r made counted left wire =
       held = made_held (gen_text start events window) old.outside new.outside r made;
       link = wire;
       ends = λ well. inl (reported well);
-      complete = λ well _. offline_complete row r (λ some. some) (reported well);
+      complete = λ well _. offline_complete row r false≢true (reported well);
     }
 
 -- ---- `serve` and `join`
@@ -222,8 +224,8 @@ meeting_ends side port old new WriteFault (inl m) well = absurd (well.sink m.0.f
 meeting_ends side port old new WriteFault (inr (inl m)) well = absurd (well.sink m.cut_off.fault)
 meeting_ends side port old new WriteFault (inr (inr m)) well = absurd (well.sink m.cut_off.fault)
 meeting_ends side port old new Memory m well = inl (inr refl)
-meeting_ends side port old new LinkFault m well = absurd (well.wire tt m.fault)
-meeting_ends side port old new PeerRefused m well = inr (tt, refl)
+meeting_ends side port old new LinkFault m well = absurd (well.wire refl m.fault)
+meeting_ends side port old new PeerRefused m well = inr (refl, refl)
 
 pub meeting_done : (side : Side) (port : ℕ) (old new : World) (r : Status)
     → IsMeeting side port old.outside new.outside old.wire new.wire r
@@ -235,7 +237,7 @@ meeting_done side port old new r m complete = record {
   held = meeting_held side port old.outside new.outside old.wire new.wire r m;
   link = meeting_asked side port old.outside new.outside old.wire new.wire r m;
   ends = meeting_ends side port old new r m;
-  complete = λ well agrees. inl (complete agrees (record { source = well.source refl; sink = well.sink; wire = well.wire tt }));
+  complete = λ well agrees. inl (complete agrees (record { source = well.source refl; sink = well.sink; wire = well.wire refl }));
 }
 
 -- ---- `loop`
@@ -274,8 +276,8 @@ looping_ends start old new ReadFault m well = absurd m
 looping_ends start old new WriteFault (inl m) well = absurd (well.sink m.cut_off.fault)
 looping_ends start old new WriteFault (inr m) well = absurd (well.sink m.cut_off.fault)
 looping_ends start old new Memory m well = inl (inr refl)
-looping_ends start old new LinkFault m well = absurd (well.wire tt m.fault)
-looping_ends start old new PeerRefused m well = inr (tt, refl)
+looping_ends start old new LinkFault m well = absurd (well.wire refl m.fault)
+looping_ends start old new PeerRefused m well = inr (refl, refl)
 
 -- over a pair that tells its bytes, nothing of what came is refused
 told_complete : (row : Row) (start : ℕ) (old new : Outside) (before after : Wired) (r : Status)
@@ -302,5 +304,15 @@ loop_done start old new r m told left =
 
 -- ---- the command that the words spell
 
-pub some_same : (c d : CommandData) → Some c ≡ Some d → c ≡ d
+some_same : (c d : CommandData) → Some c ≡ Some d → c ≡ d
 some_same c d is = cc
+
+-- what holds of the row of the command that was read holds of the one that was asked for
+pub same_row : (k d : Command) (asked : CommandData) (old new : World) (r : Status)
+    → k ≡ d → Some (command_data k) ≡ Some asked → IsDone (row_of (command_data d)) old new r → IsDone (row_of asked) old new r
+same_row k d asked old new r is said done =
+    subst (λ x. IsDone (row_of x) old new r) (some_same (command_data d) asked (ap (λ x. Some (command_data x)) (sym is) ∙ said)) done
+
+-- and what doesn't hold of it doesn't hold of that
+pub not_of : (Holds : CommandData → Type 0) (k d : Command) → k ≡ d → ¬ Holds (command_data k) → ¬ Holds (command_data d)
+not_of Holds k d is never = subst (λ x. ¬ Holds (command_data x)) is never

@@ -7,9 +7,8 @@ ghost use Rattle.context_diff.specs.Histories.{IsValid, Same};
 ghost use Rattle.context_diff.specs.Replays.{text_of};
 ghost use Rattle.log_replies.specs.Outside.{told};
 ghost use Rattle.log_replies.specs.Laws.{OneReply, OneExplanation};
-ghost use Rattle.cotpad_run.specs.Commands.{command_data};
-ghost use Rattle.cotpad_run.specs.Words.{SpellNone, IsInRange, AreWrongWords};
-ghost use Rattle.cotpad_run.specs.Table.{world, row_of, Reads, Streams, Links, IsDone, IsRun};
+ghost use Rattle.cotpad_run.specs.Words.{SpellNone, AreWrongWords};
+ghost use Rattle.cotpad_run.specs.Table.{world, Reads, Streams, Links, IsRun};
 ghost use Rattle.cotpad_run.specs.Wired.{wired};
 
 use crate::command::{Command, command_of};
@@ -46,9 +45,9 @@ pub fn run<S: Source, K: Sink, W: Wire>(
     // the source had left.
     ensures run { IsRun words.now
         (world (told (S.left source.old) (S.faults source.old) (K.held sink.old) (K.faults sink.old))
-            (wired (W.ends wire.old) (W.peer wire.old) (W.asked wire.old) (W.asks wire.old) (W.faults wire.old)))
+        (wired (W.ends wire.old) (W.peer wire.old) (W.asked wire.old) (W.asks wire.old) (W.faults wire.old)))
         (world (told (S.left source.new) (S.faults source.new) (K.held sink.new) (K.faults sink.new))
-            (wired (W.ends wire.new) (W.peer wire.new) (W.asked wire.new) (W.asks wire.new) (W.faults wire.new)))
+        (wired (W.ends wire.new) (W.peer wire.new) (W.asked wire.new) (W.asks wire.new) (W.faults wire.new)))
         result }
 
     // Histories of the same operations, in whatever order they came, show the same text.
@@ -68,46 +67,21 @@ pub fn run<S: Source, K: Sink, W: Wire>(
     one_reply();
     one_explanation();
     match command_of(words) {
-        Some(command) => do_command(alloc, command, source, sink, wire),
+        Some(Command::Replay) => answer_replay(alloc, source, sink),
+        Some(Command::Show) => answer(alloc, &Show, source, sink),
+        Some(Command::Edit { site, edit }) => answer(alloc, &Editing { site, edit }, source, sink),
+        Some(Command::Explain { member }) => answer(alloc, &Explaining { member }, source, sink),
+        Some(
+            Command::Gen {
+                start,
+                events,
+                window,
+            },
+        ) => answer_generated(alloc, start, events, window, sink),
+        Some(Command::Serve { port }) => answer_met(alloc, &Serving { port }, source, sink, wire),
+        Some(Command::Join { port }) => answer_met(alloc, &Joining { port }, source, sink, wire),
+        Some(Command::Loop { start }) => answer_looped(alloc, start, sink, wire),
         None => refuse_words(sink),
-    }
-}
-
-// Does the command: an arm for each.
-fn do_command<S: Source, K: Sink, W: Wire>(
-    alloc: Global,
-    command: Command<'_>,
-    source: &mut S,
-    sink: &mut K,
-    wire: &mut W,
-) -> Status
-    requires range { IsInRange (command_data command) }
-    requires unlinked { IsUnlinked (W.ends wire.old) }
-    ensures parted { IsUnlinked (W.ends wire.new) }
-    ensures done { IsDone (row_of (command_data command))
-        (world (told (S.left source.old) (S.faults source.old) (K.held sink.old) (K.faults sink.old))
-            (wired (W.ends wire.old) (W.peer wire.old) (W.asked wire.old) (W.asks wire.old) (W.faults wire.old)))
-        (world (told (S.left source.new) (S.faults source.new) (K.held sink.new) (K.faults sink.new))
-            (wired (W.ends wire.new) (W.peer wire.new) (W.asked wire.new) (W.asks wire.new) (W.faults wire.new)))
-        result }
-    ensures unread { ¬ Reads (command_data command) → source.new ≡ source.old }
-    ensures unasked { ¬ Links (command_data command) → wire.new ≡ wire.old }
-    ensures untouched { ¬ Streams (command_data command) → (result ≡ Status.ReadFault) ⊎ ((result ≡ Status.Memory) ⊎ (result ≡ Status.LinkFault))
-        → sink.new ≡ sink.old }
-{
-    match command {
-        Command::Replay => answer_replay(alloc, source, sink),
-        Command::Show => answer(alloc, &Show, source, sink),
-        Command::Edit { site, edit } => answer(alloc, &Editing { site, edit }, source, sink),
-        Command::Explain { member } => answer(alloc, &Explaining { member }, source, sink),
-        Command::Gen {
-            start,
-            events,
-            window,
-        } => answer_generated(alloc, start, events, window, sink),
-        Command::Serve { port } => answer_met(alloc, &Serving { port }, source, sink, wire),
-        Command::Join { port } => answer_met(alloc, &Joining { port }, source, sink, wire),
-        Command::Loop { start } => answer_looped(alloc, start, sink, wire),
     }
 }
 

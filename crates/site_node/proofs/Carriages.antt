@@ -240,7 +240,7 @@ bad_came which a b o p bytes came at offset cause why fits is r asked bad = stop
 pub limit_reached : (which : Which) (a b o p : End) (bytes came : List ℕ) (at k offset : ℕ) (why : Node) → why ≡ node.Peer (refused.Bytes offset Limit) → Carrying a b o p bytes at came → AreAskedFor which came
     → measure_of which came ≡ message.More k → length came ≡ MAX_MESSAGE → offset ≡ MAX_MESSAGE → IsUncarried a b o p which bytes why
 limit_reached which a b o p bytes came at k offset why is r asked more size here = stopped which a b o p bytes came at why r
-    (subst (Explains which came) (sym is) (asked, (k, more), size, here))
+    (subst (Explains which came) (sym is) (asked, ((k, more), size, here)))
     (λ whole none. subst IsUnspoilt (sym is) tt)
 
 -- they end too early, which the fronts of a whole message don't
@@ -252,7 +252,7 @@ cut_short which a b c d o p q x bytes came now after at next k offset why is r s
     let sent = carrying_sent a b c o p q bytes at next came r s same in
     let read = subst (Carrying a d o x bytes next) (append-nil came) (carrying_read a c d o q x bytes next came [] sent other (received_none q x now after gains none)) in
     stopped which a d o x bytes came next why read
-    (subst (Explains which came) (sym is) (asked, (k, more), few, here))
+    (subst (Explains which came) (sym is) (asked, ((k, more), few, here)))
     (λ whole quiet.
     let before = told a b o p bytes at came r quiet in
     let t = told a d o x bytes next came read quiet in

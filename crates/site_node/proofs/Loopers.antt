@@ -1,5 +1,5 @@
 -- How an exchange over a pair goes, message by message.
-use Rattle.std.proofs.Common.{◌≡◌, ◌<◌, arith, ℕ, List, [], ◌++◌, refl, sym, ap, subst, ◌∙◌, append-nil, append_assoc, inl, inr}
+use Rattle.std.proofs.Common.{◌≡◌, ◌⊎◌, ◌<◌, arith, ℕ, List, [], ◌++◌, refl, sym, ap, subst, ◌∙◌, append-nil, append_assoc, inl, inr}
 use Rattle.std.specs.Prelude.{Option, Some, None, Result, Ok, Err, IfOk, IfErr}
 use Rattle.std.proofs.KnownBytes.{Appends-nil, Appends-trans}
 use Rattle.std.specs.Io.KnownBytes.{Appends}
@@ -93,12 +93,15 @@ unstarted w v s j why first second cause = record {
     joiner_received = subst (λ (e : End). Appends (w 1).received e.received []) (sym second) (Appends-nil (w 1).received);
     joiner_sent = subst (λ (e : End). Appends (w 1).sent e.sent []) (sym second) (Appends-nil (w 1).sent);
   };
-  stopped = inr (inl (record { same = refl; unheard = refl; silent = refl }), inl (record {
-    same = refl;
-    unheard = refl;
-    offered = no_front (first_message j.history);
-    cause = elim cause [ inl link ↦ inl link | inr memory ↦ inr (memory, refl) ];
-  }));
+  stopped = inr (
+    inl (record { same = refl; unheard = refl; silent = refl }),
+    inl (record {
+      same = refl;
+      unheard = refl;
+      offered = no_front (first_message j.history);
+      cause = elim cause [ inl link ↦ inl link | inr memory ↦ inr (memory, refl) ];
+    }),
+  );
   carried = λ tells. (no_front [], no_front []);
   unspoilt = λ tells. elim cause [ inl link ↦ subst IsUnspoilt (sym link) tt | inr memory ↦ subst IsUnspoilt (sym memory) tt ];
   limited = λ tells offset is. absurd (elim cause [ inl link ↦ (let never = sym link ∙ is in cc) | inr memory ↦ (let never = sym memory ∙ is in cc) ]);
@@ -170,11 +173,14 @@ unanswered w v s j first asked why h unread =
       to_joiner = [];
       from_joiner = first;
       speaks = h.speaks;
-      stopped = inl (inl (record {
-        same = refl;
-        silent = refl;
-        explained = subst (λ (p : Peer). Explains First asked (node_of p)) (sym memory) h.wanted;
-      }), inl (record { same = refl; unheard = refl; offered = ([], sym h.offer.is ∙ sym (append-nil first)) }));
+      stopped = inl (
+        inl (record {
+          same = refl;
+          silent = refl;
+          explained = subst (λ (p : Peer). Explains First asked (node_of p)) (sym memory) h.wanted;
+        }),
+        inl (record { same = refl; unheard = refl; offered = ([], sym h.offer.is ∙ sym (append-nil first)) }),
+      );
       carried = λ tells. (([], sym ((h.same tells).0) ∙ sym (append-nil asked)), no_front []);
       unspoilt = λ tells. subst (λ (p : Peer). IsUnspoilt (node_of p)) (sym memory) tt;
       limited = λ tells offset is. absurd (no_refusal why (refused.Bytes offset Limit) memory is);
@@ -203,13 +209,16 @@ unbrought w v u s j first asked second count why h answer un received to_come se
   to_joiner = un.came;
   from_joiner = first;
   speaks = to_joiner_then w v u asked [] [] first un.gone un.came h.speaks (record { sent = un.sent; received = received; to_come = to_come }) un.received sent;
-  stopped = inr (inr (record {
-    theirs = answer.is.state;
-    whole = h.whole;
-    told = answer.is.told;
-    answered = (un.front.0, sym answer.is.appended ∙ un.front.1);
-    same = refl;
-  }), inr (inl (record { same = refl; offered = h.offer.is; explained = un.explains })));
+  stopped = inr (
+    inr (record {
+      theirs = answer.is.state;
+      whole = h.whole;
+      told = answer.is.told;
+      answered = (un.front.0, sym answer.is.appended ∙ un.front.1);
+      same = refl;
+    }),
+    inr (inl (record { same = refl; offered = h.offer.is; explained = un.explains })),
+  );
   carried = λ tells. (([], sym ((h.same tells).0) ∙ sym (append-nil asked)), un.carried (h.same tells).1.second);
   unspoilt = λ tells. un.unspoilt answer.whole (h.same tells).1.second;
   limited = λ tells offset is.
@@ -283,13 +292,16 @@ unclosed w u s j k first asked second answered count why only r untaken = record
   to_joiner = answered;
   from_joiner = first;
   speaks = r.speaks;
-  stopped = inr (inr (record {
-    theirs = r.answer.is.state;
-    whole = r.asked_whole;
-    told = r.answer.is.told;
-    answered = ([], sym r.answer.is.appended ∙ sym (append-nil second));
-    same = refl;
-  }), inr (inr (inl (record { whole = r.whole; offered = r.offer.is; refusal = why; refused = untaken; cause = refl }))));
+  stopped = inr (
+    inr (record {
+      theirs = r.answer.is.state;
+      whole = r.asked_whole;
+      told = r.answer.is.told;
+      answered = ([], sym r.answer.is.appended ∙ sym (append-nil second));
+      same = refl;
+    }),
+    inr (inr (inl (record { whole = r.whole; offered = r.offer.is; refusal = why; refused = untaken; cause = refl }))),
+  );
   carried = λ tells. (([], sym ((r.same tells).0) ∙ sym (append-nil asked)), ([], sym ((r.same tells).1) ∙ sym (append-nil answered)));
   unspoilt = λ tells. unclosed_unspoilt j k answered why r.whole untaken;
   limited = λ tells offset is. absurd (unclosed_bytes j k answered why offset Limit r.whole untaken is);
@@ -321,26 +333,29 @@ unheard w u t s j k first asked second answered third count counts why r closing
   to_joiner = answered;
   from_joiner = first ++ un.gone;
   speaks = to_server_then w u t asked second answered first un.gone un.came r.speaks (record { sent = un.sent; received = received; to_come = to_come }) un.received sent;
-  stopped = inl (inr (inr (inl (record {
-    first = asked;
-    rest = un.came;
-    theirs = r.answer.is.state;
-    parts = refl;
-    first_whole = r.asked_whole;
-    told = r.answer.is.told;
-    answered = r.answer.is.appended;
-    same = refl;
-    explained = un.explains;
-  }))), inr (record {
-    theirs = closing.is.state;
-    ops = closing.is.ops;
-    whole = r.whole;
-    read = closing.is.read;
-    taken = closing.is.taken;
-    third = un.gone;
-    sent = ap (λ (x : List ℕ). x ++ un.gone) r.offer.is;
-    front = (un.front.0, sym closing.is.appended ∙ un.front.1);
-  }));
+  stopped = inl (
+    inr (inr (inl (record {
+      first = asked;
+      rest = un.came;
+      theirs = r.answer.is.state;
+      parts = refl;
+      first_whole = r.asked_whole;
+      told = r.answer.is.told;
+      answered = r.answer.is.appended;
+      same = refl;
+      explained = un.explains;
+    }))),
+    inr (record {
+      theirs = closing.is.state;
+      ops = closing.is.ops;
+      whole = r.whole;
+      read = closing.is.read;
+      taken = closing.is.taken;
+      third = un.gone;
+      sent = ap (λ (x : List ℕ). x ++ un.gone) r.offer.is;
+      front = (un.front.0, sym closing.is.appended ∙ un.front.1);
+    }),
+  );
   carried = λ tells.
       let is = r.same tells in
       (subst (λ (x : List ℕ). IsFrontOf (x ++ un.came) (first ++ un.gone)) (sym is.0) (front_behind first un.came un.gone (un.carried is.2.first)), ([], sym is.1 ∙ sym (append-nil answered)));
@@ -396,28 +411,31 @@ unserved w t s v j k first asked second answered third closed count counts why o
   to_joiner = answered;
   from_joiner = first ++ third;
   speaks = r.speaks;
-  stopped = inl (inr (inr (inr (record {
-    first = asked;
-    third = closed;
-    theirs = r.answer.is.state;
-    parts = refl;
-    first_whole = r.asked_whole;
-    told = r.answer.is.told;
-    answered = r.answer.is.appended;
-    third_whole = r.whole;
-    refusal = why;
-    refused = untaken;
-    cause = refl;
-  }))), inr (record {
-    theirs = r.closing.is.state;
-    ops = r.closing.is.ops;
-    whole = r.answered_whole;
-    read = r.closing.is.read;
-    taken = r.closing.is.taken;
-    third = third;
-    sent = ap (λ (x : List ℕ). x ++ third) r.offer.is;
-    front = ([], sym r.closing.is.appended ∙ sym (append-nil third));
-  }));
+  stopped = inl (
+    inr (inr (inr (record {
+      first = asked;
+      third = closed;
+      theirs = r.answer.is.state;
+      parts = refl;
+      first_whole = r.asked_whole;
+      told = r.answer.is.told;
+      answered = r.answer.is.appended;
+      third_whole = r.whole;
+      refusal = why;
+      refused = untaken;
+      cause = refl;
+    }))),
+    inr (record {
+      theirs = r.closing.is.state;
+      ops = r.closing.is.ops;
+      whole = r.answered_whole;
+      read = r.closing.is.read;
+      taken = r.closing.is.taken;
+      third = third;
+      sent = ap (λ (x : List ℕ). x ++ third) r.offer.is;
+      front = ([], sym r.closing.is.appended ∙ sym (append-nil third));
+    }),
+  );
   carried = λ tells.
       let is = r.same tells in
       let all : first ++ third ≡ asked ++ closed = (λ i. sym is.0 i ++ sym is.2 i) in

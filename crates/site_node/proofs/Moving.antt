@@ -43,6 +43,12 @@ asked_on which before piece k room more few asked short = inr (record {
   short = omega (arith, few, short, length-append before piece);
 })
 
+-- the same of all bytes, where they are no more than was asked for
+pub asked_to : (which : Which) (before piece after : List ℕ) (k : ℕ)
+    → after ≡ before ++ piece → measure_of which before ≡ message.More k → length after ≤ k → length after ≤ MAX_MESSAGE → AreAskedFor which after
+asked_to which before piece after k parts more within short =
+    inr (record { front = before; piece = piece; parts = parts; at_least = k; asked = more; within = within; short = short })
+
 -- where no byte came that wasn't asked for, a failure of the wire or a lack of memory is explained
 pub midway : (which : Which) (bytes : List ℕ) (why : Node) → AreAskedFor which bytes → (why ≡ Link) ⊎ (why ≡ Memory) → Explains which bytes why
 midway which bytes why asked (inl link) = subst (Explains which bytes) (sym link) asked

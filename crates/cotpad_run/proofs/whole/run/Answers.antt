@@ -1,27 +1,163 @@
-use Rattle.std.proofs.Common.{subst}
+use Rattle.std.proofs.Common.{◌≡◌, Some, ap, sym, subst, ◌∙◌, refl}
 use Rattle.cotpad_run.specs.Commands.{command_data}
+use Rattle.cotpad_run.specs.Meeting.{serving, joining}
 use Rattle.cotpad_run.specs.Table.{row_of, IsDone, Reads, Links, Streams}
-use Rattle.cotpad_run.specs.Words.{IsInRange}
-use Rattle.cotpad_run.proofs.Table.{some_same}
+use Rattle.cotpad_run.specs.declared.command.Command.TheVariants as command
+use Rattle.cotpad_run.proofs.Table.{same_row, not_of, replying_done, replay_done, gen_done, meeting_done, loop_done}
 use Rattle.cotpad_run.proofs.whole.run.Goals as goal
 
-pub returns-in-Some-clause-run : goal.returns-in-Some-clause-run
-returns-in-Some-clause-run g c = let k = c.in-Some in record {
-  done = λ command spelled. subst (λ x. IsDone (row_of x) _ _ _) (some_same (command_data k.field-0) command (k.ensures.only command spelled)) c.do_command.ensures.done;
-  wrong = λ none. absurd (none (command_data k.field-0) k.ensures.found);
-}
+pub returns-in-Some-Replay-clause-run : goal.returns-in-Some-Replay-clause-run
+returns-in-Some-Replay-clause-run g c =
+    let k = c.in-Some-Replay in
+    let f = k.field-0-is in
+    let is : k.field-0 ≡ command.Replay = cc in
+    record {
+      done = λ asked spelled. same_row k.field-0 (command.Replay) asked _ _ _ is (k.ensures.only asked spelled) (replay_done _ _ _ c.answer_replay.ensures.answer refl);
+      wrong = λ none. absurd (none (command_data k.field-0) k.ensures.found);
+    }
 
-pub returns-in-Some-clause-unread : goal.returns-in-Some-clause-unread
-returns-in-Some-clause-unread g c = λ none. c.do_command.ensures.unread (none (command_data c.in-Some.field-0) c.in-Some.ensures.found)
+pub returns-in-Some-Replay-clause-unread : goal.returns-in-Some-Replay-clause-unread
+returns-in-Some-Replay-clause-unread g c = λ none.
+    let k = c.in-Some-Replay in
+    let f = k.field-0-is in
+    let is : k.field-0 ≡ command.Replay = cc in
+    absurd (not_of Reads k.field-0 (command.Replay) is (none (command_data k.field-0) k.ensures.found) refl)
 
-pub returns-in-Some-clause-unasked : goal.returns-in-Some-clause-unasked
-returns-in-Some-clause-unasked g c = λ none. c.do_command.ensures.unasked (none (command_data c.in-Some.field-0) c.in-Some.ensures.found)
+pub returns-in-Some-Replay-clause-untouched : goal.returns-in-Some-Replay-clause-untouched
+returns-in-Some-Replay-clause-untouched g c = λ none stopped.
+    let k = c.in-Some-Replay in
+    let f = k.field-0-is in
+    let is : k.field-0 ≡ command.Replay = cc in
+    absurd (not_of Streams k.field-0 (command.Replay) is (none (command_data k.field-0) k.ensures.found) refl)
 
-pub returns-in-Some-clause-untouched : goal.returns-in-Some-clause-untouched
-returns-in-Some-clause-untouched g c = λ none stopped. c.do_command.ensures.untouched (none (command_data c.in-Some.field-0) c.in-Some.ensures.found) stopped
+pub returns-in-Some-Show-clause-run : goal.returns-in-Some-Show-clause-run
+returns-in-Some-Show-clause-run g c =
+    let k = c.in-Some-Show in
+    let f = k.field-0-is in
+    let is : k.field-0 ≡ command.Show = cc in
+    record {
+      done = λ asked spelled. same_row k.field-0 (command.Show) asked _ _ _ is (k.ensures.only asked spelled) (replying_done _ _ _ _ c.answer.ensures.answer refl);
+      wrong = λ none. absurd (none (command_data k.field-0) k.ensures.found);
+    }
+
+pub returns-in-Some-Show-clause-unread : goal.returns-in-Some-Show-clause-unread
+returns-in-Some-Show-clause-unread g c = λ none.
+    let k = c.in-Some-Show in
+    let f = k.field-0-is in
+    let is : k.field-0 ≡ command.Show = cc in
+    absurd (not_of Reads k.field-0 (command.Show) is (none (command_data k.field-0) k.ensures.found) refl)
+
+pub returns-in-Some-Edit-clause-run : goal.returns-in-Some-Edit-clause-run
+returns-in-Some-Edit-clause-run g c =
+    let k = c.in-Some-Edit in
+    let f = k.field-0-is in
+    let is : k.field-0 ≡ command.Edit k.site k.edit = cc in
+    record {
+      done = λ asked spelled. same_row k.field-0 (command.Edit k.site k.edit) asked _ _ _ is (k.ensures.only asked spelled) (replying_done _ _ _ _ c.answer-in-Some-Edit.ensures.answer refl);
+      wrong = λ none. absurd (none (command_data k.field-0) k.ensures.found);
+    }
+
+pub returns-in-Some-Edit-clause-unread : goal.returns-in-Some-Edit-clause-unread
+returns-in-Some-Edit-clause-unread g c = λ none.
+    let k = c.in-Some-Edit in
+    let f = k.field-0-is in
+    let is : k.field-0 ≡ command.Edit k.site k.edit = cc in
+    absurd (not_of Reads k.field-0 (command.Edit k.site k.edit) is (none (command_data k.field-0) k.ensures.found) refl)
+
+pub returns-in-Some-Explain-clause-run : goal.returns-in-Some-Explain-clause-run
+returns-in-Some-Explain-clause-run g c =
+    let k = c.in-Some-Explain in
+    let f = k.field-0-is in
+    let is : k.field-0 ≡ command.Explain k.member = cc in
+    record {
+      done = λ asked spelled. same_row k.field-0 (command.Explain k.member) asked _ _ _ is (k.ensures.only asked spelled) (replying_done _ _ _ _ c.answer-in-Some-Explain.ensures.answer refl);
+      wrong = λ none. absurd (none (command_data k.field-0) k.ensures.found);
+    }
+
+pub returns-in-Some-Explain-clause-unread : goal.returns-in-Some-Explain-clause-unread
+returns-in-Some-Explain-clause-unread g c = λ none.
+    let k = c.in-Some-Explain in
+    let f = k.field-0-is in
+    let is : k.field-0 ≡ command.Explain k.member = cc in
+    absurd (not_of Reads k.field-0 (command.Explain k.member) is (none (command_data k.field-0) k.ensures.found) refl)
+
+pub returns-in-Some-Gen-clause-run : goal.returns-in-Some-Gen-clause-run
+returns-in-Some-Gen-clause-run g c =
+    let k = c.in-Some-Gen in
+    let f = k.field-0-is in
+    let is : k.field-0 ≡ command.Gen k.start k.events k.window = cc in
+    record {
+      done = λ asked spelled. same_row k.field-0 (command.Gen k.start k.events k.window) asked _ _ _ is (k.ensures.only asked spelled) (gen_done k.start k.events k.window _ _ _ (c.answer_generated.ensures.answer (g.S.Source.left c.args.source.now) (g.S.Source.faults c.args.source.now)) c.answer_generated.ensures.counted refl refl);
+      wrong = λ none. absurd (none (command_data k.field-0) k.ensures.found);
+    }
+
+pub returns-in-Some-Serve-clause-run : goal.returns-in-Some-Serve-clause-run
+returns-in-Some-Serve-clause-run g c =
+    let k = c.in-Some-Serve in
+    let f = k.field-0-is in
+    let is : k.field-0 ≡ command.Serve k.port = cc in
+    record {
+      done = λ asked spelled. same_row k.field-0 (command.Serve k.port) asked _ _ _ is (k.ensures.only asked spelled) (meeting_done serving k.port _ _ _ c.answer_met.ensures.answer c.answer_met.ensures.complete);
+      wrong = λ none. absurd (none (command_data k.field-0) k.ensures.found);
+    }
+
+pub returns-in-Some-Serve-clause-unread : goal.returns-in-Some-Serve-clause-unread
+returns-in-Some-Serve-clause-unread g c = λ none.
+    let k = c.in-Some-Serve in
+    let f = k.field-0-is in
+    let is : k.field-0 ≡ command.Serve k.port = cc in
+    absurd (not_of Reads k.field-0 (command.Serve k.port) is (none (command_data k.field-0) k.ensures.found) refl)
+
+pub returns-in-Some-Serve-clause-unasked : goal.returns-in-Some-Serve-clause-unasked
+returns-in-Some-Serve-clause-unasked g c = λ none.
+    let k = c.in-Some-Serve in
+    let f = k.field-0-is in
+    let is : k.field-0 ≡ command.Serve k.port = cc in
+    absurd (not_of Links k.field-0 (command.Serve k.port) is (none (command_data k.field-0) k.ensures.found) refl)
+
+pub returns-in-Some-Join-clause-run : goal.returns-in-Some-Join-clause-run
+returns-in-Some-Join-clause-run g c =
+    let k = c.in-Some-Join in
+    let f = k.field-0-is in
+    let is : k.field-0 ≡ command.Join k.port = cc in
+    record {
+      done = λ asked spelled. same_row k.field-0 (command.Join k.port) asked _ _ _ is (k.ensures.only asked spelled) (meeting_done joining k.port _ _ _ c.answer_met-in-Some-Join.ensures.answer c.answer_met-in-Some-Join.ensures.complete);
+      wrong = λ none. absurd (none (command_data k.field-0) k.ensures.found);
+    }
+
+pub returns-in-Some-Join-clause-unread : goal.returns-in-Some-Join-clause-unread
+returns-in-Some-Join-clause-unread g c = λ none.
+    let k = c.in-Some-Join in
+    let f = k.field-0-is in
+    let is : k.field-0 ≡ command.Join k.port = cc in
+    absurd (not_of Reads k.field-0 (command.Join k.port) is (none (command_data k.field-0) k.ensures.found) refl)
+
+pub returns-in-Some-Join-clause-unasked : goal.returns-in-Some-Join-clause-unasked
+returns-in-Some-Join-clause-unasked g c = λ none.
+    let k = c.in-Some-Join in
+    let f = k.field-0-is in
+    let is : k.field-0 ≡ command.Join k.port = cc in
+    absurd (not_of Links k.field-0 (command.Join k.port) is (none (command_data k.field-0) k.ensures.found) refl)
+
+pub returns-in-Some-Loop-clause-run : goal.returns-in-Some-Loop-clause-run
+returns-in-Some-Loop-clause-run g c =
+    let k = c.in-Some-Loop in
+    let f = k.field-0-is in
+    let is : k.field-0 ≡ command.Loop k.start = cc in
+    record {
+      done = λ asked spelled. same_row k.field-0 (command.Loop k.start) asked _ _ _ is (k.ensures.only asked spelled) (loop_done k.start _ _ _ (c.answer_looped.ensures.answer (g.S.Source.left c.args.source.now) (g.S.Source.faults c.args.source.now)) (c.answer_looped.ensures.told (g.S.Source.left c.args.source.now) (g.S.Source.faults c.args.source.now)) refl);
+      wrong = λ none. absurd (none (command_data k.field-0) k.ensures.found);
+    }
+
+pub returns-in-Some-Loop-clause-unasked : goal.returns-in-Some-Loop-clause-unasked
+returns-in-Some-Loop-clause-unasked g c = λ none.
+    let k = c.in-Some-Loop in
+    let f = k.field-0-is in
+    let is : k.field-0 ≡ command.Loop k.start = cc in
+    absurd (not_of Links k.field-0 (command.Loop k.start) is (none (command_data k.field-0) k.ensures.found) refl)
 
 pub returns-in-None-clause-run : goal.returns-in-None-clause-run
 returns-in-None-clause-run g c = record {
-  done = λ command spelled. let wrong = c.in-None.ensures.only command spelled in absurd cc;
+  done = λ asked spelled. let wrong = c.in-None.ensures.only asked spelled in absurd cc;
   wrong = λ none. c.refuse_words.ensures.answer (g.S.Source.left c.args.source.now) (g.S.Source.faults c.args.source.now);
 }

@@ -1,4 +1,4 @@
-use Rattle.std.proofs.Common.{◌≡◌, ◌<◌, ◌≤◌, ◌-◌, ℕ, List, ◌++◌, inl, rules, refl, sym, ap, subst, ◌∙◌, drop, length, arith}
+use Rattle.std.proofs.Common.{◌≡◌, ◌<◌, ◌≤◌, ◌-◌, ℕ, List, ◌++◌, inl, rules, refl, sym, ap, ◌∙◌, drop, length, arith}
 use Rattle.std.specs.Io.KnownBytes.{IsAtEnd}
 use Rattle.outside_io.specs.Ends.{End}
 use Rattle.outside_io.proofs.CallerLemmas.{kept_on, kept_other}
@@ -9,8 +9,7 @@ use Rattle.peer_exchange.specs.declared.messages.Measure.TheVariants as message
 use Rattle.peer_exchange.specs.Measuring.{MessageData, measure_of}
 use Rattle.peer_exchange.specs.Refusals.{IsWhole}
 use Rattle.peer_exchange.proofs.CallerLemmas.{nothing_past}
-use Rattle.site_node.specs.Stops.{AreAskedFor}
-use Rattle.site_node.proofs.Moving.{asked_on}
+use Rattle.site_node.proofs.Moving.{asked_on, asked_to}
 use Rattle.site_node.proofs.Carriages.{carrying_none, carrying_sent, carrying_gain, all_went, carried, wire_failed, bad_came, limit_reached, cut_short, read_failed, end_back}
 use Rattle.site_node.proofs.carrying.carry_on.Goals as goal
 
@@ -94,10 +93,11 @@ loop-rest-preserved g c =
     let gains = c.in-Ok-read_on.ensures.gains in
     let is : c.measure.new.self.bytes ≡ c.loop-rest.reader.bytes = ap (λ (m : MessageData). m.bytes) same in
     let grown : c.read_on.new.reader.bytes ≡ c.loop-rest.reader.bytes ++ gains.piece = gains.grown ∙ ap (λ (t : List ℕ). t ++ gains.piece) is in
+    let short : length c.read_on.new.reader.bytes ≤ MAX_MESSAGE = search rules in
     record {
-      short = search rules;
-      wanted = subst (AreAskedFor c.args.reader.now.which) (sym grown) (asked_on c.args.reader.now.which c.loop-rest.reader.bytes gains.piece c.in-More.at_least c.wanted-wanted.result
-      (ap (λ (w : Which). measure_of w c.loop-rest.reader.bytes) (sym c.loop-rest.invariant.which) ∙ sym c.in-More.ensures.value) (search rules) (search rules) (search rules));
+      short = short;
+      wanted = asked_to c.args.reader.now.which c.loop-rest.reader.bytes gains.piece c.read_on.new.reader.bytes c.in-More.at_least grown
+          (ap (λ (w : Which). measure_of w c.loop-rest.reader.bytes) (sym c.loop-rest.invariant.which) ∙ sym c.in-More.ensures.value) within short;
       within = c.in-Ok-send_on.ensures.some.0;
       under_way = search rules;
       which = search rules;

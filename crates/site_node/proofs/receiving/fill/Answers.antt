@@ -1,12 +1,11 @@
-use Rattle.std.proofs.Common.{◌≡◌, ◌<◌, ◌≤◌, ◌+◌, ℕ, List, ◌++◌, inl, rules, refl, sym, ap, subst, ◌∙◌, length, arith}
+use Rattle.std.proofs.Common.{◌≡◌, ◌<◌, ◌≤◌, ℕ, List, ◌++◌, inl, rules, refl, sym, ap, ◌∙◌, length, arith}
 use Rattle.outside_io.proofs.CallerLemmas.{kept_on}
 use Rattle.peer_exchange.specs.declared.messages.Which.{Which}
 use Rattle.peer_exchange.specs.declared.messages.TheConstants.{MAX_MESSAGE}
 use Rattle.peer_exchange.specs.Measuring.{MessageData, measure_of}
 use Rattle.peer_exchange.proofs.CallerLemmas.{nothing_past}
 use Rattle.site_node.proofs.Explaining.{bad_spoils, never_cut}
-use Rattle.site_node.specs.Stops.{AreAskedFor}
-use Rattle.site_node.proofs.Moving.{receives_none, receives_gain, asked_on, stopped_midway, stopped_by, stopped_short}
+use Rattle.site_node.proofs.Moving.{receives_none, receives_gain, asked_on, asked_to, stopped_midway, stopped_by, stopped_short}
 use Rattle.site_node.proofs.receiving.fill.Goals as goal
 
 pub loop-offset-init : goal.loop-offset-init
@@ -60,12 +59,12 @@ loop-offset-preserved g c =
     let gains = c.in-Ok.ensures.gains in
     let is : c.measure.new.self.bytes ≡ c.loop-offset.reader.bytes = ap (λ (m : MessageData). m.bytes) same in
     let grown : c.read_on.new.reader.bytes ≡ c.loop-offset.reader.bytes ++ gains.piece = gains.grown ∙ ap (λ (t : List ℕ). t ++ gains.piece) is in
-    let size : length c.read_on.new.reader.bytes ≡ length c.measure.new.self.bytes + c.in-Ok.given = c.in-Ok.ensures.size in
+    let short : length c.read_on.new.reader.bytes ≤ MAX_MESSAGE = search rules in
     record {
-      short = search rules;
+      short = short;
       which = search rules;
-      wanted = subst (AreAskedFor c.args.reader.now.which) (sym grown) (asked_on c.args.reader.now.which c.loop-offset.reader.bytes gains.piece c.in-More.at_least c.wanted-wanted.result
-      (ap (λ (w : Which). measure_of w c.loop-offset.reader.bytes) (sym c.loop-offset.invariant.which) ∙ sym c.in-More.ensures.value) (search rules) (search rules) (search rules));
+      wanted = asked_to c.args.reader.now.which c.loop-offset.reader.bytes gains.piece c.read_on.new.reader.bytes c.in-More.at_least grown
+          (ap (λ (w : Which). measure_of w c.loop-offset.reader.bytes) (sym c.loop-offset.invariant.which) ∙ sym c.in-More.ensures.value) within short;
       came = receives_gain _ _ _ _ _ _ (ap (λ (m : MessageData). m.bytes) same) c.loop-offset.invariant.came c.in-Ok.ensures.gains;
       past = c.in-Ok.ensures.not_past c.in-More.at_least asks within;
       other_end = search rules;
