@@ -10,7 +10,7 @@ use Rattle.session_replay.specs.declared.generator.TheConstants.{MAX_EVENTS, MAX
 use Rattle.log_replies.specs.Editing.{EditData, Ins, Nl, Del, Undo, Redo}
 use Rattle.cotpad_run.specs.declared.command.Command.{Command}
 use Rattle.cotpad_run.specs.declared.command.TheConstants.{MAX_PORT}
-use Rattle.cotpad_run.specs.Commands.{CommandData, Replay, Show, Edit, Gen, Explain, Serve, Join, Loop, command_data}
+use Rattle.cotpad_run.specs.Commands.{CommandData, Replay, Show, Edit, Gen, Explain, Serve, Join, Loop, Help, DashedHelp, command_data}
 use Rattle.cotpad_run.specs.Words.{edit_words, command_words, IsEditInRange, IsPort, IsInRange, Spells}
 use Rattle.cotpad_run.specs.Code.Reading.{first_in, one_in, alone_in, text_in, ins_in, nl_in, del_in, undo_in, redo_in, edit_row, edit_in, gen_in, gen_of, explain_in, port_of, port_in, loop_in, command_row, command_in}
 
@@ -234,6 +234,18 @@ show_from parts c h =
     let a = alone_some Show c parts h in
     subst (λ x. (codes "show" ∷ parts ≡ command_words x) × IsInRange x) a.1 (ap (λ xs. codes "show" ∷ xs) a.0, tt)
 
+help_from : (parts : List (List ℕ)) (c : CommandData) → alone_in Help parts ≡ Some c → IsCommand (codes "help" ∷ parts) c
+unfolding IsCommand
+help_from parts c h =
+    let a = alone_some Help c parts h in
+    subst (λ x. (codes "help" ∷ parts ≡ command_words x) × IsInRange x) a.1 (ap (λ xs. codes "help" ∷ xs) a.0, tt)
+
+dashed_help_from : (parts : List (List ℕ)) (c : CommandData) → alone_in DashedHelp parts ≡ Some c → IsCommand (codes "--help" ∷ parts) c
+unfolding IsCommand
+dashed_help_from parts c h =
+    let a = alone_some DashedHelp c parts h in
+    subst (λ x. (codes "--help" ∷ parts ≡ command_words x) × IsInRange x) a.1 (ap (λ xs. codes "--help" ∷ xs) a.0, tt)
+
 command_from : (ws : List (List ℕ)) (c : CommandData) → command_in ws ≡ Some c → IsCommand ws c
 unfolding command_in command_row
 command_from ws c h =
@@ -247,13 +259,17 @@ command_from ws c h =
     (row_or IsCommand p.0.0 (codes "explain") parts c (explain_in parts) _ (explain_from parts c)
     (row_or IsCommand p.0.0 (codes "serve") parts c (option_map Serve (port_in parts)) _ (serve_from parts c)
     (row_or IsCommand p.0.0 (codes "join") parts c (option_map Join (port_in parts)) _ (join_from parts c)
-    (row_or IsCommand p.0.0 (codes "loop") parts c (loop_in parts) None (loop_from parts c) (λ never. cc))))))))
+    (row_or IsCommand p.0.0 (codes "loop") parts c (loop_in parts) _ (loop_from parts c)
+    (row_or IsCommand p.0.0 (codes "help") parts c (alone_in Help parts) _ (help_from parts c)
+    (row_or IsCommand p.0.0 (codes "--help") parts c (alone_in DashedHelp parts) None (dashed_help_from parts c) (λ never. cc))))))))))
     p.2)
 
 command_to : (c : CommandData) → IsInRange c → command_in (command_words c) ≡ Some c
 unfolding command_in command_row edit_in edit_row ins_in nl_in del_in undo_in redo_in gen_in explain_in loop_in
 command_to Replay r = refl
 command_to Show r = refl
+command_to Help r = refl
+command_to DashedHelp r = refl
 command_to (Gen start events window) r =
     rw (long_reads.to (decimal start) start (refl, r.0), number_reads.to (decimal events) events (refl, omega (arith, r.1)), number_reads.to (decimal window) window (refl, omega (arith, r.3))) (gen_of_to start events window r.1 r.2 r.3)
 command_to (Explain m) r = rw (member_reads.to (member_text m) m (refl, r)) refl

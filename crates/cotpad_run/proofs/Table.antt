@@ -15,12 +15,12 @@ use Rattle.log_replies.specs.Statuses.{IsReported}
 use Rattle.log_replies.proofs.CallerLemmas.{loses_input}
 use Rattle.cotpad_run.specs.declared.command.Command.{Command}
 use Rattle.cotpad_run.specs.Commands.{CommandData, command_data, Replay, Gen, Loop}
-use Rattle.cotpad_run.specs.Made.{IsMade}
+use Rattle.cotpad_run.specs.Made.{IsMade, IsSaid}
 use Rattle.cotpad_run.specs.Replaying.{IsReplayed}
 use Rattle.cotpad_run.specs.Generating.{gen_text, IsGenerated, IsCounted}
 use Rattle.cotpad_run.specs.Meeting.{Side, IsLinkedOnce, IsMeeting, AgreesWithPeer, AreFaultless}
 use Rattle.cotpad_run.specs.Looping.{AreLinked, IsLooping, IsLoopTold, IsLoopAnswered}
-use Rattle.cotpad_run.specs.Table.{World, Row, row_of, replying, meeting, WentWell, EndsWell, IsComplete, IsDone}
+use Rattle.cotpad_run.specs.Table.{World, Row, row_of, replying, meeting, saying, WentWell, EndsWell, IsComplete, IsDone}
 use Rattle.cotpad_run.specs.Wired.{Wired, IsAskedFor}
 
 -- ---- what the sink holds, and what the source lost
@@ -171,6 +171,39 @@ gen_done start events window old new r made counted left wire =
       ends = λ well. inl (reported well);
       complete = λ well _. offline_complete row r false≢true (reported well);
     }
+
+-- ---- `help`
+
+said_held : (text : List ℕ) (old new : Outside) (r : Status) → IsSaid text old new r → Grows old.held new.held
+said_held text old new Done m = written_grows text old new m
+said_held text old new Refused m = absurd m
+said_held text old new Words m = absurd m
+said_held text old new ReadFault m = absurd m
+said_held text old new WriteFault m = cut_grows text old new m
+said_held text old new Memory m = absurd m
+said_held text old new LinkFault m = absurd m
+said_held text old new PeerRefused m = absurd m
+
+said_reported : (text : List ℕ) (old new : Outside) (r : Status) → IsSaid text old new r → ¬ Rose old.write_faults new.write_faults → IsReported r ⊎ (r ≡ Memory)
+said_reported text old new Done m sink = inl (inl refl)
+said_reported text old new Refused m sink = absurd m
+said_reported text old new Words m sink = absurd m
+said_reported text old new ReadFault m sink = absurd m
+said_reported text old new WriteFault m sink = absurd (sink m.fault)
+said_reported text old new Memory m sink = absurd m
+said_reported text old new LinkFault m sink = absurd m
+said_reported text old new PeerRefused m sink = absurd m
+
+pub saying_done : (text : List ℕ) (old new : World) (r : Status)
+    → IsSaid text old.outside new.outside r → new.outside.left ≡ old.outside.left → new.wire ≡ old.wire → IsDone (saying text) old new r
+saying_done text old new r said left wire = record {
+  answer = said;
+  taken = loses_nothing (MAX_INPUT + 1) old.outside.left new.outside.left left;
+  held = said_held text old.outside new.outside r said;
+  link = wire;
+  ends = λ well. inl (said_reported text old.outside new.outside r said well.sink);
+  complete = λ well _. offline_complete (saying text) r false≢true (said_reported text old.outside new.outside r said well.sink);
+}
 
 -- ---- `serve` and `join`
 

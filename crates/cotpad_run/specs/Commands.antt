@@ -7,7 +7,7 @@ use Rattle.cotpad_run.specs.declared.command.Command.TheVariants as command
 
 -- a script is replayed; the text of a log is shown; a log is loaded as a site and edited there; a session is generated; the form of an
 -- operation of a log is derived step by step; a site that a log gives exchanges with a peer that comes to a port, or that waits at one; the two
--- sites of a generated session exchange with each other
+-- sites of a generated session exchange with each other; the commands are listed, for one of two words
 pub data CommandData : Type 0 where
   Replay : CommandData
   Show : CommandData
@@ -17,6 +17,8 @@ pub data CommandData : Type 0 where
   Serve : ℕ → CommandData
   Join : ℕ → CommandData
   Loop : ℕ → CommandData
+  Help : CommandData
+  DashedHelp : CommandData
 
 -- what contracts see of a command
 abbrev pub command_data : Command → CommandData
@@ -28,3 +30,5 @@ command_data (command.Explain m) = Explain m
 command_data (command.Serve port) = Serve port
 command_data (command.Join port) = Join port
 command_data (command.Loop start) = Loop start
+command_data command.Help = Help
+command_data command.DashedHelp = DashedHelp

@@ -3,6 +3,7 @@ pub mod Commands
 pub mod Words
 pub mod Wired
 pub mod Made
+pub mod Help
 pub mod Generating
 pub mod Replaying
 pub mod Refusals

@@ -14,3 +14,14 @@ IsMade text old new WriteFault = IsCutOff text old new
 IsMade text old new Memory = (new.held ≡ old.held) × (new.write_faults ≡ old.write_faults)
 IsMade text old new LinkFault = ⊥
 IsMade text old new PeerRefused = ⊥
+
+-- each answer of a command that reads nothing, and needs no memory for the text that it writes
+abbrev pub IsSaid : List ℕ → Outside → Outside → Status → Type 0
+IsSaid text old new Done = IsWritten text old new
+IsSaid text old new Refused = ⊥
+IsSaid text old new Words = ⊥
+IsSaid text old new ReadFault = ⊥
+IsSaid text old new WriteFault = IsCutOff text old new
+IsSaid text old new Memory = ⊥
+IsSaid text old new LinkFault = ⊥
+IsSaid text old new PeerRefused = ⊥

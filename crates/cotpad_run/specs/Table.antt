@@ -13,9 +13,11 @@ use Rattle.log_replies.specs.Explaining.{IsExplained}
 use Rattle.log_replies.specs.Outside.{Outside, Grows}
 use Rattle.log_replies.specs.Replies.{IsShown, IsEdited}
 use Rattle.log_replies.specs.Statuses.{IsReported}
-use Rattle.cotpad_run.specs.Commands.{CommandData, Replay, Show, Edit, Gen, Explain, Serve, Join, Loop}
+use Rattle.cotpad_run.specs.Commands.{CommandData, Replay, Show, Edit, Gen, Explain, Serve, Join, Loop, Help, DashedHelp}
 use Rattle.cotpad_run.specs.Generating.{IsGenerated}
+use Rattle.cotpad_run.specs.Help.{help_text}
 use Rattle.cotpad_run.specs.Looping.{IsLoopAnswered}
+use Rattle.cotpad_run.specs.Made.{IsSaid}
 use Rattle.cotpad_run.specs.Meeting.{Side, serving, joining, IsMeeting, AgreesWithPeer}
 use Rattle.cotpad_run.specs.Replaying.{IsReplayed}
 use Rattle.cotpad_run.specs.Wired.{Wired, IsAskedFor}
@@ -54,6 +56,10 @@ meeting side port = record {
   matched = λ old. AgreesWithPeer side old.outside old.wire;
 }
 
+-- a command that reads nothing, and writes this text
+abbrev pub saying : List ℕ → Row
+saying text = record { answers = λ old new. IsSaid text old.outside new.outside; reads = false; streams = false; link = None; matched = λ _. Unit {0} }
+
 -- the row of each command
 abbrev pub row_of : CommandData → Row
 row_of Replay = record { answers = λ old new. IsReplayed old.outside new.outside; reads = true; streams = true; link = None; matched = λ _. Unit {0} }
@@ -76,6 +82,8 @@ row_of (Loop start) = record {
   link = Some (Pair, 2);
   matched = λ old. IsTelling old.wire.ends;
 }
+row_of Help = saying help_text
+row_of DashedHelp = saying help_text
 
 abbrev pub Reads : CommandData → Type 0
 Reads command = (row_of command).reads ≡ true

@@ -10,7 +10,7 @@ use Rattle.log_replies.specs.Outside.{Outside, IsWritten, IsCutOff}
 use Rattle.log_replies.specs.declared.status.Status.{Status}
 use Rattle.log_replies.specs.declared.status.Status.TheVariants.{Done, Refused, Words, ReadFault, WriteFault, Memory, LinkFault, PeerRefused}
 use Rattle.cotpad_run.specs.declared.command.TheConstants.{MAX_PORT}
-use Rattle.cotpad_run.specs.Commands.{CommandData, Replay, Show, Edit, Gen, Explain, Serve, Join, Loop}
+use Rattle.cotpad_run.specs.Commands.{CommandData, Replay, Show, Edit, Gen, Explain, Serve, Join, Loop, Help, DashedHelp}
 
 -- the words of an edit, after its site: a row for each. A text is one word
 abbrev pub edit_words : EditData → List (List ℕ)
@@ -30,6 +30,8 @@ command_words (Explain m) = codes "explain" ∷ member_text m ∷ []
 command_words (Serve port) = codes "serve" ∷ decimal port ∷ []
 command_words (Join port) = codes "join" ∷ decimal port ∷ []
 command_words (Loop start) = codes "loop" ∷ decimal start ∷ []
+command_words Help = codes "help" ∷ []
+command_words DashedHelp = codes "--help" ∷ []
 
 -- the parts of an edit are in range; a text isn't empty
 abbrev pub IsEditInRange : EditData → Type 0
@@ -53,6 +55,8 @@ IsInRange (Explain m) = IsMemberInRange m
 IsInRange (Serve port) = IsPort port
 IsInRange (Join port) = IsPort port
 IsInRange (Loop start) = start < 2 ^ 64
+IsInRange Help = Unit {0}
+IsInRange DashedHelp = Unit {0}
 
 -- the words spell the command, in the one way in which it is spelled
 abbrev pub Spells : {A : Type 0} → List (String A) → CommandData → Type 0

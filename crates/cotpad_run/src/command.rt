@@ -50,6 +50,10 @@ pub enum Command<'a> {
     Loop {
         start: u64,
     },
+    /// `help`: lists the commands.
+    Help,
+    /// `--help`: the same.
+    DashedHelp,
 }
 
 /// The command that these words spell, which are those after the program's name. None exactly where they spell
@@ -78,6 +82,8 @@ fn command_row<'a>(word: &str, parts: &'a [String]) -> Option<Command<'a>>
         "serve" => serve_of(parts),
         "join" => join_of(parts),
         "loop" => loop_of(parts),
+        "help" => help_of(parts),
+        "--help" => dashed_help_of(parts),
         _ => None,
     }
 }
@@ -240,6 +246,26 @@ fn loop_of(parts: &[String]) -> Option<Command<'_>>
 {
     let start = parse_long(one(parts)?)?;
     Some(Command::Loop { start })
+}
+
+fn help_of(parts: &[String]) -> Option<Command<'_>>
+    ensures { option_map command_data result ≡ alone_in asked.Help (map string_bytes parts.now) }
+{
+    if parts.is_empty() {
+        Some(Command::Help)
+    } else {
+        None
+    }
+}
+
+fn dashed_help_of(parts: &[String]) -> Option<Command<'_>>
+    ensures { option_map command_data result ≡ alone_in asked.DashedHelp (map string_bytes parts.now) }
+{
+    if parts.is_empty() {
+        Some(Command::DashedHelp)
+    } else {
+        None
+    }
 }
 
 // The first word and the others, if there is one.

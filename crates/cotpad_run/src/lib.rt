@@ -7,6 +7,7 @@
 
 mod command;
 mod generator;
+mod help;
 mod laws;
 mod looped;
 mod meeting;

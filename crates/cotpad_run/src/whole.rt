@@ -13,6 +13,7 @@ ghost use Rattle.cotpad_run.specs.Wired.{wired};
 
 use crate::command::{Command, command_of};
 use crate::generator::answer_generated;
+use crate::help::answer_help;
 use crate::laws::same_operations;
 use crate::looped::answer_looped;
 use crate::meeting::{Joining, Serving, answer_met};
@@ -28,7 +29,7 @@ use std::alloc::Global;
 /// `explain MEMBER` reads a log, and writes the steps that derive the form in which the operation of this member was executed.
 /// `serve PORT` and `join PORT` read a log, exchange with a peer that comes to this port, or that waits there, and write the
 /// log with what the peer had. `loop START` reads nothing, generates a session of two sites, which exchange twice over the
-/// pair of the wire, and writes what went.
+/// pair of the wire, and writes what went. `help` and `--help` read nothing, and list the commands.
 /// Any other words write `cotpad: words`, and nothing is read.
 pub fn run<S: Source, K: Sink, W: Wire>(
     alloc: Global,
@@ -81,6 +82,8 @@ pub fn run<S: Source, K: Sink, W: Wire>(
         Some(Command::Serve { port }) => answer_met(alloc, &Serving { port }, source, sink, wire),
         Some(Command::Join { port }) => answer_met(alloc, &Joining { port }, source, sink, wire),
         Some(Command::Loop { start }) => answer_looped(alloc, start, sink, wire),
+        Some(Command::Help) => answer_help(sink),
+        Some(Command::DashedHelp) => answer_help(sink),
         None => refuse_words(sink),
     }
 }

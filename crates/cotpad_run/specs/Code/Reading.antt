@@ -4,7 +4,7 @@ use Rattle.session_replay.specs.declared.generator.TheConstants.{MAX_EVENTS, MAX
 use Rattle.script_text.specs.Fields.{number_of, long_of, site_of, name_of, member_of, ◌>>=◌}
 use Rattle.log_replies.specs.Editing.{EditData, Ins, Nl, Del, Undo, Redo}
 use Rattle.cotpad_run.specs.declared.command.TheConstants.{MAX_PORT}
-use Rattle.cotpad_run.specs.Commands.{CommandData, Replay, Show, Edit, Gen, Explain, Serve, Join, Loop}
+use Rattle.cotpad_run.specs.Commands.{CommandData, Replay, Show, Edit, Gen, Explain, Serve, Join, Loop, Help, DashedHelp}
 
 -- the first word and the others, if there is one
 abbrev pub first_in : List (List ℕ) → Option (List ℕ × List (List ℕ))
@@ -123,7 +123,9 @@ command_row word parts =
     else (if bytes_eq word (codes "serve") then option_map Serve (port_in parts)
     else (if bytes_eq word (codes "join") then option_map Join (port_in parts)
     else (if bytes_eq word (codes "loop") then loop_in parts
-    else None)))))))
+    else (if bytes_eq word (codes "help") then alone_in Help parts
+    else (if bytes_eq word (codes "--help") then alone_in DashedHelp parts
+    else None)))))))))
 
 -- the command that these words spell, if they spell one
 unfoldable pub command_in : List (List ℕ) → Option CommandData

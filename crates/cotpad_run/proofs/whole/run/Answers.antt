@@ -1,9 +1,10 @@
 use Rattle.std.proofs.Common.{◌≡◌, Some, ap, sym, subst, ◌∙◌, refl}
 use Rattle.cotpad_run.specs.Commands.{command_data}
+use Rattle.cotpad_run.specs.Help.{help_text}
 use Rattle.cotpad_run.specs.Meeting.{serving, joining}
 use Rattle.cotpad_run.specs.Table.{row_of, IsDone, Reads, Links, Streams}
 use Rattle.cotpad_run.specs.declared.command.Command.TheVariants as command
-use Rattle.cotpad_run.proofs.Table.{same_row, not_of, replying_done, replay_done, gen_done, meeting_done, loop_done}
+use Rattle.cotpad_run.proofs.Table.{same_row, not_of, replying_done, replay_done, gen_done, meeting_done, loop_done, saying_done}
 use Rattle.cotpad_run.proofs.whole.run.Goals as goal
 
 pub returns-in-Some-Replay-clause-run : goal.returns-in-Some-Replay-clause-run
@@ -155,6 +156,26 @@ returns-in-Some-Loop-clause-unasked g c = λ none.
     let f = k.field-0-is in
     let is : k.field-0 ≡ command.Loop k.start = cc in
     absurd (not_of Links k.field-0 (command.Loop k.start) is (none (command_data k.field-0) k.ensures.found) refl)
+
+pub returns-in-Some-Help-clause-run : goal.returns-in-Some-Help-clause-run
+returns-in-Some-Help-clause-run g c =
+    let k = c.in-Some-Help in
+    let f = k.field-0-is in
+    let is : k.field-0 ≡ command.Help = cc in
+    record {
+      done = λ asked spelled. same_row k.field-0 command.Help asked _ _ _ is (k.ensures.only asked spelled) (saying_done help_text _ _ _ (c.answer_help.ensures.answer (g.S.Source.left c.args.source.now) (g.S.Source.faults c.args.source.now)) refl refl);
+      wrong = λ none. absurd (none (command_data k.field-0) k.ensures.found);
+    }
+
+pub returns-in-Some-DashedHelp-clause-run : goal.returns-in-Some-DashedHelp-clause-run
+returns-in-Some-DashedHelp-clause-run g c =
+    let k = c.in-Some-DashedHelp in
+    let f = k.field-0-is in
+    let is : k.field-0 ≡ command.DashedHelp = cc in
+    record {
+      done = λ asked spelled. same_row k.field-0 command.DashedHelp asked _ _ _ is (k.ensures.only asked spelled) (saying_done help_text _ _ _ (c.answer_help-in-Some-DashedHelp.ensures.answer (g.S.Source.left c.args.source.now) (g.S.Source.faults c.args.source.now)) refl refl);
+      wrong = λ none. absurd (none (command_data k.field-0) k.ensures.found);
+    }
 
 pub returns-in-None-clause-run : goal.returns-in-None-clause-run
 returns-in-None-clause-run g c = record {

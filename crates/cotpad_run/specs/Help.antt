@@ -1,0 +1,19 @@
+-- What `help` writes.
+use Rattle.std.specs.Prelude.{ℕ, List, ◌++◌, codes}
+
+-- a line for each command, in the order in which people meet them
+abbrev pub help_text : List ℕ
+help_text =
+    codes "cotpad replay                      reads a script, and writes the report of its session\n"
+    ++ (codes "cotpad show                        reads a log, and writes its text\n"
+    ++ (codes "cotpad edit SITE ins V TEXT        reads a log, inserts a text after V shown characters, and writes the new log\n"
+    ++ (codes "cotpad edit SITE nl V              the same with a line feed\n"
+    ++ (codes "cotpad edit SITE del V             reads a log, deletes the shown character V, from 0, and writes the new log\n"
+    ++ (codes "cotpad edit SITE undo NAME         reads a log, undoes an insert or delete, whoever made it, and writes the new log\n"
+    ++ (codes "cotpad edit SITE redo NAME         the same with a redo, whoever undid it\n"
+    ++ (codes "cotpad explain MEMBER              reads a log, and writes how the form of an operation is derived\n"
+    ++ (codes "cotpad serve PORT                  reads a log, exchanges with who comes to the port, and writes the new log\n"
+    ++ (codes "cotpad join PORT                   reads a log, exchanges with who waits at the port, and writes the new log\n"
+    ++ (codes "cotpad loop START                  lets two sites exchange over a connection, and writes what went\n"
+    ++ (codes "cotpad gen START EVENTS WINDOW     generates a session of four sites, and writes what it did\n"
+    ++ (codes "cotpad help                        writes these lines\n"))))))))))))
