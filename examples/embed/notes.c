@@ -126,7 +126,7 @@ static void take_in(person *people, int who) {
         must_edit(&p->site, who, status, "receive");
         at += v.used;
     }
-    memmove(p->inbox, p->inbox + at, p->held - at);
+    if (at > 0) memmove(p->inbox, p->inbox + at, p->held - at); /* an inbox that was never filled is null */
     p->held -= at;
 }
 

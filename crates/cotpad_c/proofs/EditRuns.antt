@@ -1,5 +1,5 @@
 -- Runs of edits: one more edit, and the places at which there can be one.
-use Rattle.std.proofs.Common.{◌≡◌, ◌≢◌, ◌⊎◌, ℕ, zero, suc, ◌+◌, ◌*◌, ◌<◌, ◌≤◌, Bool, inl, inr, if◌then◌else◌, List, [], ◌∷◌, ◌++◌, length, map, take, get_or, Result, Ok, Err, refl, sym, ap, subst, ◌∙◌, arith}
+use Rattle.std.proofs.Common.{◌≡◌, ◌≢◌, ℕ, suc, ◌+◌, ◌*◌, ◌<◌, ◌≤◌, Bool, inl, inr, if◌then◌else◌, List, [], ◌∷◌, ◌++◌, length, map, take, get_or, Result, Ok, Err, refl, sym, ap, subst, ◌∙◌, arith}
 use Rattle.std.specs.Prelude.{Option, Some, None, filter, slice_get}
 use Rattle.std.proofs.lemmas.Bool.{cases_Bool, false≢true}
 use Rattle.std.proofs.lemmas.List.{length-map, length-take-le, take_more}
@@ -17,7 +17,7 @@ use Rattle.cot_site.proofs.CallerLemmas.{few_cells, places_few}
 use Rattle.cotpad_c.specs.declared.status.TheConstants.{OK, UNSETTLED}
 use Rattle.cotpad_c.specs.Hosting.{Reached, with_one, all_settled}
 use Rattle.cotpad_c.specs.Statuses.{Did}
-use Rattle.cotpad_c.specs.Runs.{and_then, deleted_in, typed, cut, IsStatus, IsLeftUnsettled, IsTyped}
+use Rattle.cotpad_c.specs.Runs.{and_then, deleted_in, typed, cut, IsStatus, IsLeftUnsettled}
 use Rattle.cotpad_c.proofs.Settled.{refused_not_ok, refused_not_unsettled}
 
 -- ---- an edit that was done
@@ -96,26 +96,6 @@ pub typed_none : (a : Reached) (v : ℕ) (text : List ℕ) → typed a v (take 0
 unfolding typed
 typed_none a v [] = refl
 typed_none a v (c ∷ cs) = refl
-
--- no character is inserted, and nothing can be refused
-pub typed_nothing : (n : ℕ) (a : Reached) (v : ℕ) (cs : List ℕ) (b : Reached) (made : ℕ) → IsTyped n a v cs b made → cs ≡ [] → n ≡ OK
-typed_nothing n a v (c ∷ cs) b made typed none = cc
-typed_nothing n a v [] b made typed none =
-    elim (same_or_not n OK) [
-      | inl ok ↦ ok
-      | inr not_ok ↦
-          elim (same_or_not n UNSETTLED) [
-            | inl half ↦ absurd (none_there (typed.unsettled half).0 (typed.unsettled half).1.1.ch (typed.unsettled half).1.1.there)
-            | inr not_half ↦ absurd (none_there made (typed.stopped not_ok not_half).0 (typed.stopped not_ok not_half).1.0)
-          ]
-    ]
-  where
-    same_or_not : (m k : ℕ) → (m ≡ k) ⊎ (m ≢ k)
-    same_or_not m k = omega arith
-
-    none_there : (i ch : ℕ) → slice_get {X = ℕ} [] i ≡ Some ch → ⊥
-    none_there zero ch e = cc
-    none_there (suc i) ch e = cc
 
 -- ---- ranges
 

@@ -1,10 +1,9 @@
 -- Which sites are settled, and that their logs are loaded again.
-use Rattle.std.proofs.Common.{◌≡◌, ◌↔◌, ◌≤◌, ℕ, true, inl, inr, List, ◌++◌, refl, sym, ap, subst, ◌∙◌, length, take, drop}
+use Rattle.std.proofs.Common.{◌≡◌, ◌↔◌, ◌≤◌, ℕ, inl, inr, List, sym, ap, subst, ◌∙◌, length, take, drop}
 use Rattle.std.specs.Prelude.{Contains}
 use Rattle.std.proofs.Math.Seq.{take-append_seam}
-use Rattle.op_name.specs.declared.member.Member.{Member}
-use Rattle.context_vector.specs.Contexts.{ContextData, has}
-use Rattle.context_diff.specs.Operations.{OpData, member_of, context_of}
+use Rattle.context_vector.specs.Contexts.{ContextData}
+use Rattle.context_diff.specs.Operations.{OpData, member_of}
 use Rattle.context_diff.specs.Histories.{IsValid, context_of_all}
 use Rattle.context_diff.proofs.CallerLemmas.{complete}
 use Rattle.causal_gate.specs.Waiting.{NoneReady, AreApart}

@@ -1,5 +1,5 @@
 -- Releases after an operation of the site's own, and that a settled site has none.
-use Rattle.std.proofs.Common.{◌≡◌, ◌≢◌, ℕ, ◌⊎◌, inl, inr, List, [], ◌∷◌, ◌++◌, refl, sym, ap, subst, ◌∙◌, arith}
+use Rattle.std.proofs.Common.{◌≡◌, ◌≢◌, ℕ, inl, inr, List, [], ◌∷◌, ◌++◌, refl, sym, ap, subst, ◌∙◌, arith}
 use Rattle.std.specs.Prelude.{Result, Ok, Err}
 use Rattle.std.proofs.lemmas.Bool.{false≢true}
 use Rattle.context_diff.specs.Operations.{OpData}
@@ -7,10 +7,10 @@ use Rattle.site_answers.specs.declared.local.Local.{Local}
 use Rattle.site_answers.specs.declared.local.Local.TheVariants as local
 use Rattle.site_answers.specs.declared.release.Release.{Release}
 use Rattle.cot_site.specs.States.{State, Released, with_last, IsSettled}
-use Rattle.cot_site.specs.Releases.{state_after}
+use Rattle.cot_site.specs.Releases.{state_after, IsPartlySettled}
 use Rattle.cot_site.proofs.CallerLemmas.{after_none, settled_has_none}
-use Rattle.cotpad_c.specs.declared.status.TheConstants.{OK, NO_MEMORY, UNSETTLED}
-use Rattle.cotpad_c.specs.Hosting.{Reached, with_one, all_settled, IsHalfSettled}
+use Rattle.cotpad_c.specs.declared.status.TheConstants.{OK, UNSETTLED}
+use Rattle.cotpad_c.specs.Hosting.{Reached, all_settled, IsHalfSettled}
 use Rattle.cotpad_c.specs.Statuses.{refusal, Did}
 use Rattle.cotpad_c.specs.Code.Making.{Makes, SettlesAfter}
 
@@ -55,10 +55,10 @@ one_did : (made n : ℕ) (o : OpData) (rs : List Release) (s t : State) (b : Rea
 one_did made n o rs s t b ok m w =
     let last : at t rs ≡ at (with_last s o) rs = ap (λ (x : State). at x rs) (m.done ok) in
     record {
-      status = elim w.status ok [ inl all ↦ inl all | inr half ↦ inr (inr half, refl) ];
+      status = elim (w.status ok) [ inl all ↦ inl all | inr half ↦ inr (inr half, refl) ];
       done = λ all. w.done ok all ∙ ap all_settled last;
       unsettled = λ half. subst (λ (x : Reached). IsHalfSettled x b) last (w.unsettled ok half);
-      refused = λ not_all not_half. absurd (elim w.status ok [ inl all ↦ not_all all | inr half ↦ not_half half ]);
+      refused = λ not_all not_half. absurd (elim (w.status ok) [ inl all ↦ not_all all | inr half ↦ not_half half ]);
     }
 
 pub did_of : (made n : ℕ) (r : Result OpData Local) (rs : List Release) (s t : State) (b : Reached) → Makes made r s t → SettlesAfter made n (at t rs) b → Did n r (at s rs) b
@@ -79,8 +79,9 @@ none_done : (done left : List Released) → [] ≡ done ++ left → done ≡ []
 none_done [] left e = refl
 none_done (d ∷ ds) left e = cc
 
-pub half_is_unsettled : (a b : Reached) → IsHalfSettled a b → IsSettled a.state → ⊥
-half_is_unsettled a b half settled =
-    let none : half.done ≡ [] = none_done half.done half.left (sym (settled_has_none a.state settled) ∙ half.parts) in
-    let same : b.state ≡ a.state = half.state ∙ ap (λ rs. state_after a.state rs) none ∙ after_none a.state in
+-- memory ran out only where an operation was ready
+pub partly_unsettled : (s now : State) (old new : List Release) → IsPartlySettled s now old new → IsSettled s → ⊥
+partly_unsettled s now old new half settled =
+    let none : half.done ≡ [] = none_done half.done half.left (sym (settled_has_none s settled) ∙ half.parts) in
+    let same : now ≡ s = half.state ∙ ap (λ rs. state_after s rs) none ∙ after_none s in
     half.unsettled (subst IsSettled (sym same) settled)

@@ -27,7 +27,11 @@ pub(crate) fn make(alloc: Global, number: u16) -> Result<Parts<Hosted, Global>, 
 }
 
 /// The site of this number that a log makes.
-pub(crate) fn load(alloc: Global, number: u16, bytes: &[u8]) -> Result<Parts<Hosted, Global>, LogBad>
+pub(crate) fn load(
+    alloc: Global,
+    number: u16,
+    bytes: &[u8],
+) -> Result<Parts<Hosted, Global>, LogBad>
     requires site { number < SITES }
     requires limit { length bytes.now ≤ MAX_LOG }
     ensures loaded { IfOk result (λ p. IsLoaded number bytes.now (state_of p.value.site)) }

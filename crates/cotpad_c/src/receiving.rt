@@ -1,6 +1,6 @@
 //! Deliveries and releases.
 
-ghost use Rattle.std.specs.Prelude.{◌≡◌, ◌≢◌, ◌⊎◌, ◌≤◌, [], Some, None, IsOk, IsSomeAnd, length, min, slice_get};
+ghost use Rattle.std.specs.Prelude.{◌≡◌, ◌≢◌, ◌⊎◌, [], Some, None, IsOk, IsSomeAnd, length, min, slice_get};
 ghost use Rattle.context_diff.specs.Operations.{IsWellFormed};
 ghost use Rattle.context_diff.specs.Ops.{data_of};
 ghost use Rattle.site_answers.specs.declared.release.Release.{Release};
