@@ -94,8 +94,9 @@ HOST_FLAGS := -std=c99 -Wall -Wextra -Wpedantic -O2 -Iinclude
 # The folder of the library that hosts are linked with.
 LIB ?= $(patsubst %/libcotpad.a,%,$(firstword $(wildcard lib/libcotpad.a quick/libcotpad.a)))
 
-# Three people in C and in Python, compared with what they have to write, and a session in which each allocation is refused in
-# turn; where valgrind is there, it has to find no bad access and no block left.
+# Three people in C and in Python, compared with what they have to write; sessions in which each allocation is refused in turn; and
+# operations that the user's own edits free, which are released and told, so that what is saved is loaded. Where valgrind is there,
+# it has to find no bad access and no block left.
 check-hosts:
 	@test -f "$(LIB)/libcotpad.a" || { echo "there is no library for hosts: call \`make quick-lib\` or \`make lib\` first" >&2; false; }
 	@echo "with $(LIB)/libcotpad.a"
@@ -105,6 +106,8 @@ check-hosts:
 	COTPAD_LIB=$(abspath $(LIB))/libcotpad.so.1 python3 examples/embed/notes.py | diff - examples/embed/notes.py.out
 	$(CC) $(HOST_FLAGS) -Wl,--wrap=malloc,--wrap=realloc -o bin/no_memory tools/hosts/no_memory.c $(LIB)/libcotpad.a
 	bin/no_memory
+	$(CC) $(HOST_FLAGS) -o bin/settles tools/hosts/settles.c $(LIB)/libcotpad.a
+	bin/settles
 	@if command -v valgrind > /dev/null; then \
 		valgrind -q --leak-check=full --error-exitcode=1 bin/notes > /dev/null && echo "valgrind finds nothing in bin/notes"; \
 	else \

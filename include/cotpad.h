@@ -4,6 +4,11 @@
  * frames of the operations that came of it to the other sites, and hands it the frames that come from them, in any order
  * and as often as they come. Sites that integrated the same operations show the same text.
  *
+ * An operation that comes before one that it was made after waits, and is *released* when that is there: it leaves what waits,
+ * and gets its verdict. Each call that can make a waiting operation ready releases before it answers, until none is ready: then
+ * the site is *settled*. What it released is told by cotpad_released and cotpad_released_at, until the next call that can change
+ * the site. A host that shows why an operation is missing reads them after each edit and each delivery.
+ *
  * What a host owes, which no call looks at:
  *  - Each pointer is not null and aligned for its type, points to memory that may be read and written, and no two of one
  *    call overlap. That holds for a buffer of no bytes too. A struct or number that a call writes has a value before:
@@ -16,9 +21,9 @@
  *  - The process has one malloc, realloc and free, and stack enough.
  *
  * No call ends the process, prints, waits, or keeps a pointer of the host's. What a site has on the heap goes by
- * cotpad_close; a host frees nothing else. A call that answers anything but COTPAD_OK leaves the history, what waits and
- * the text as they were, and writes nothing but what is said of that answer. Four calls do many things one after the
- * other, and may have done the first of them: cotpad_insert_text and cotpad_delete_range tell how many,
+ * cotpad_close; a host frees nothing else. A call that answers neither COTPAD_OK nor COTPAD_UNSETTLED leaves the history,
+ * what waits and the text as they were, and writes nothing but what is said of that answer. Four calls do many things one
+ * after the other, and may have done the first of them: cotpad_insert_text and cotpad_delete_range tell how many,
  * cotpad_exchange_close and cotpad_exchange_finish take no operation back.
  */
 #ifndef COTPAD_H
@@ -52,13 +57,18 @@ typedef uint32_t cotpad_status;
 #define COTPAD_TOO_SHORT 13u      /* the buffer is too short: *needed says how many bytes it takes */
 
 /* Of the bytes of a log or of a message of an exchange; then a verdict says where, and why. */
-#define COTPAD_TOO_LONG 14u  /* more than 67,108,864 bytes; nothing is written */
+#define COTPAD_TOO_LONG 14u  /* more than 67,108,864 bytes; nothing is written. Of cotpad_save, the log would be as long */
 #define COTPAD_NO_HEAD 15u   /* the first eight bytes aren't those of a log, or of this message */
 #define COTPAD_CUT 16u       /* they end early: of a log, within the frame at `offset`; of a message, at `offset` */
 #define COTPAD_MALFORMED 17u /* no frame or state: `cause` at the byte `offset` */
 #define COTPAD_EXTRA 18u     /* bytes follow the message, from `offset` on */
 #define COTPAD_REFUSED 19u   /* an operation isn't taken: `kind` is its verdict, and of `operation` the member is told. Of a log, its
                               * frame, or that of the operation that freed it, begins at `offset` */
+
+/* The call did what was asked, and memory ran out before all was released that was ready then: some of it may be, and is told.
+ * The site can be used as before; cotpad_settle goes on with it, once there is memory again. Of cotpad_save: a waiting operation
+ * is ready, and nothing is written. */
+#define COTPAD_UNSETTLED 20u
 
 /* An insert or delete, by the site that made it and the number that it gave, from 1, at generation 0; or all undos (odd
  * generation) or redos (even generation) of it at that generation. */
@@ -135,18 +145,23 @@ cotpad_status cotpad_open(cotpad_site *site, uint16_t number);
  * keep it beside the log. Load the newest log: a site that goes on from an older one gives names that others know already. */
 cotpad_status cotpad_load(cotpad_site *site, uint16_t number, const uint8_t *bytes, size_t length, cotpad_verdict *why);
 
-/* The log of a site: its history, and what waits. *needed is the number of its bytes. Else COTPAD_TOO_SHORT, which writes
- * *needed alone, or COTPAD_NO_MEMORY. A log of more than 67,108,864 bytes can't be loaded. Release until COTPAD_NONE
- * before you save: then the loaded site has the same history, and the same waits. */
+/* The log of a site: its history, and what waits. *needed is the number of its bytes. What is handed out is loaded again, under
+ * any number, with the same history, and the same waits. Else COTPAD_TOO_SHORT, which writes *needed alone; or, with nothing
+ * written, COTPAD_UNSETTLED, where a waiting operation is ready: call cotpad_settle, and save then; COTPAD_TOO_LONG, where the log
+ * would be too long to be loaded: the site goes on, and what it has is kept by cotpad_frame of each operation; or
+ * COTPAD_NO_MEMORY. A log is cut by a crash while it is written: write it to another file, and let that take the place of the
+ * old one once it is whole. */
 cotpad_status cotpad_save(cotpad_site *site, uint8_t *out, size_t room, size_t *needed);
 
 /* Ends a site, frees all of it, and leaves the handle empty. */
 void cotpad_close(cotpad_site *site);
 
 /* What the user of the site does. A place counts shown characters: an insert goes after so many of them, a delete takes the
- * one at the place, from 0. An undo or a redo names an insert or a delete, whoever made it. On COTPAD_OK the new operation
- * is the last of the history: fetch its frame by cotpad_frame(site, cotpad_operations(site) - 1, ..) and send it to all
- * other sites. Else, of insert and delete: COTPAD_PLACE_OUT, COTPAD_NUMBER_FULL; of insert COTPAD_NO_CHARACTER; of undo
+ * one at the place, from 0. An undo or a redo names an insert or a delete, whoever made it. On COTPAD_OK and COTPAD_UNSETTLED
+ * the operation is made, at the index that cotpad_operations told before the call, and what was released after it stands behind
+ * it: fetch its frame by cotpad_frame(site, index, ..) and send it to all other sites. An edit that frees something is rare, and
+ * a host must not pass it over: the one that waited for an undo, say, is released by the user's own undo, and may be refused
+ * then. Else, of insert and delete: COTPAD_PLACE_OUT, COTPAD_NUMBER_FULL; of insert COTPAD_NO_CHARACTER; of undo
  * and redo: COTPAD_NO_NAME, COTPAD_UNKNOWN; of undo COTPAD_NOT_IN_FORCE; of redo COTPAD_IN_FORCE, COTPAD_GENERATION_FULL; of
  * all COTPAD_CONTEXT_FULL, COTPAD_NO_MEMORY. */
 cotpad_status cotpad_insert(cotpad_site *site, uint32_t place, uint32_t scalar);
@@ -154,16 +169,20 @@ cotpad_status cotpad_delete(cotpad_site *site, uint32_t place);
 cotpad_status cotpad_undo(cotpad_site *site, uint16_t author, uint32_t number);
 cotpad_status cotpad_redo(cotpad_site *site, uint16_t author, uint32_t number);
 
-/* Inserts the characters of a text in UTF-8, the first after `place` shown ones, each next one after it. *made is how many
- * were inserted, each by an operation: their frames are the last *made ones of the history. COTPAD_OK: all of them. Else
- * COTPAD_NO_CHARACTER (no UTF-8) or COTPAD_PLACE_OUT, and *made is 0; or COTPAD_NUMBER_FULL, COTPAD_CONTEXT_FULL or
- * COTPAD_NO_MEMORY, where the first *made characters are inserted, and no more: go on with the rest, or undo these. */
+/* Inserts the characters of a text in UTF-8, the first after `place` shown ones, each next one after it, and releases after each.
+ * *made is how many were inserted, each by an operation of the site's own: they stand in the history from the index on that
+ * cotpad_operations told before the call, with what was released between them (cotpad_operation_at tells the author).
+ * COTPAD_OK: all of them, and nothing can go wrong with no character. Else COTPAD_NO_CHARACTER (no UTF-8) or COTPAD_PLACE_OUT,
+ * and *made is 0; or COTPAD_NUMBER_FULL, COTPAD_CONTEXT_FULL or COTPAD_NO_MEMORY, where the first *made characters are inserted,
+ * and no more: go on with the rest, or undo these; or COTPAD_UNSETTLED: the same, and what the last of these freed is released in
+ * part: settle, and go on. */
 cotpad_status cotpad_insert_text(cotpad_site *site, uint32_t place, const uint8_t *text, size_t length, uint32_t *made);
 
-/* Deletes `count` shown characters, from the one at `place` on. *made is how many were deleted, as above. COTPAD_OK: all of
- * them. Else COTPAD_PLACE_OUT, where they aren't all there, and *made is 0; or COTPAD_NUMBER_FULL, COTPAD_CONTEXT_FULL or
- * COTPAD_NO_MEMORY, where the first *made characters are deleted, and no more. To take a text or a range back, read the names
- * of the last *made operations by cotpad_operation_at, right after the call, and give each to cotpad_undo. */
+/* Deletes `count` shown characters, from the one at `place` on, and releases after each. *made is how many were deleted, as
+ * above. COTPAD_OK: all of them. Else COTPAD_PLACE_OUT, where they aren't all there, and *made is 0; or COTPAD_NUMBER_FULL,
+ * COTPAD_CONTEXT_FULL, COTPAD_NO_MEMORY or COTPAD_UNSETTLED, where the first *made characters are deleted, and no more. To take a
+ * text or a range back, read the names of these operations by cotpad_operation_at, right after the call, and give each to
+ * cotpad_undo. */
 cotpad_status cotpad_delete_range(cotpad_site *site, uint32_t place, uint32_t count, uint32_t *made);
 
 /* How many operations are integrated, how many wait, and how many characters are shown. */
@@ -183,14 +202,30 @@ cotpad_status cotpad_operation_at(cotpad_site *site, uint32_t index, cotpad_oper
  * writes *needed alone, COTPAD_NONE or COTPAD_NO_MEMORY. A site that comes late is sent all frames, from index 0 on. */
 cotpad_status cotpad_frame(cotpad_site *site, uint32_t index, uint8_t *out, size_t room, size_t *needed);
 
-/* Delivers the operation of the frame that the bytes begin with: its verdict, and of it what it is, who made it and what it
- * waits for. COTPAD_OK is answered to bytes without a frame too: then the verdict is INCOMPLETE or MALFORMED, and the site
- * is as it was. After INTEGRATED, call cotpad_release until it answers COTPAD_NONE. Else COTPAD_NO_MEMORY: *verdict is as
- * it was. */
+/* Delivers the operation of the frame that the bytes begin with, tells its verdict, and of it what it is, who made it and what
+ * it waits for; and then releases what is ready. COTPAD_OK is answered to bytes without a frame too: then the verdict is
+ * INCOMPLETE or MALFORMED, and the site is as it was. Else COTPAD_UNSETTLED: it is delivered, and its verdict told; or
+ * COTPAD_NO_MEMORY, only where there is a frame: *verdict is as it was. */
 cotpad_status cotpad_receive(cotpad_site *site, const uint8_t *bytes, size_t length, cotpad_verdict *verdict);
 
-/* Takes out the first waiting operation whose time has come, and gives it its verdict. Else COTPAD_NONE or
- * COTPAD_NO_MEMORY: *verdict is as it was. */
+/* How many operations the last call released that could change the site: insert, delete, insert_text, delete_range, undo, redo,
+ * receive or settle. 0 after open, load, exchange_close, exchange_finish and release, which tell nothing here, and after a call
+ * that was refused before it did anything. A call that only reads leaves the number. */
+uint32_t cotpad_released(cotpad_site *site);
+
+/* The release at this index, from 0, in the order in which they were done: its verdict, and of the operation the member alone.
+ * INTEGRATED is part of the text now; any other verdict says why the operation is dropped. Else COTPAD_NONE: *verdict is as it
+ * was. */
+cotpad_status cotpad_released_at(cotpad_site *site, uint32_t index, cotpad_verdict *verdict);
+
+/* Releases until no waiting operation is ready: after COTPAD_UNSETTLED, once there is memory again, and after an exchange that ran
+ * out of memory and isn't made again. COTPAD_OK: the site is settled; a settled one is so at once, and takes no memory. Else
+ * COTPAD_UNSETTLED: some may be released, and one is ready yet. */
+cotpad_status cotpad_settle(cotpad_site *site);
+
+/* Takes out the first waiting operation that is ready, and gives it its verdict; of the operation all is told. It is for a host
+ * that goes on one by one where memory is short: in a settled site there is none. Else COTPAD_NONE; or COTPAD_NO_MEMORY, only
+ * where one is to be integrated: *verdict is as it was. */
 cotpad_status cotpad_release(cotpad_site *site, cotpad_verdict *verdict);
 
 /* The shown text in UTF-8, with no byte after it; *needed is the number of its bytes. Else COTPAD_TOO_SHORT, which writes

@@ -49,12 +49,12 @@ static uint8_t *bytes_of(cotpad_site *site, writer *write, size_t *count) {
     return bytes;
 }
 
-/* Sends the frames of the last operations of a person to everybody else. */
-static void send_last(person *people, int from, uint32_t made) {
+/* Sends the frames of all that a person's site integrated from this index on to everybody else: the edit of the person, and what
+ * it released, which stands behind it; those who have that already answer that it is a repeat. */
+static void send_from(person *people, int from, uint32_t start) {
     static uint8_t frame[115029]; /* the longest frame */
     cotpad_site *site = &people[from].site;
-    uint32_t end = cotpad_operations(site);
-    for (uint32_t i = end - made; i < end; i++) {
+    for (uint32_t i = start; i < cotpad_operations(site); i++) {
         size_t count = 0;
         must(cotpad_frame(site, i, frame, sizeof frame, &count), "frame");
         for (int to = 0; to < PEOPLE; to++)
@@ -62,42 +62,71 @@ static void send_last(person *people, int from, uint32_t made) {
     }
 }
 
-static uint32_t type_alone(cotpad_site *site, uint32_t place, const char *text) {
-    uint32_t made = 0;
-    must(cotpad_insert_text(site, place, (const uint8_t *)text, strlen(text), &made), "insert_text");
-    return made;
-}
-
-static void type(person *people, int who, uint32_t place, const char *text) {
-    send_last(people, who, type_alone(&people[who].site, place, text));
-}
-
-static void tell(int who, const char *how, const cotpad_verdict *v) {
+static void tell(int who, const cotpad_verdict *v) {
     static const char *const did[] = {"?", "insert", "delete", "undo", "redo"};
     const cotpad_operation *o = &v->operation;
     if (v->kind == COTPAD_VERDICT_INTEGRATED && o->kind <= COTPAD_OPERATION_DELETE) return;
     printf("  site %d: %s of %u.%u by site %u %s", who, did[o->kind <= 4 ? o->kind : 0], o->member.site, o->member.number,
-        o->author, how);
+        o->author, v->kind == COTPAD_VERDICT_WAITS ? "waits" : "integrated");
     if (v->kind == COTPAD_VERDICT_WAITS) printf(" for %u.%u", v->missing.site, v->missing.number);
     printf("\n");
 }
 
-/* Delivers all whole frames of the inbox, each with the releases after it. */
+/* Tells what the last call released: of an operation that waited its name alone is known. */
+static void tell_released(cotpad_site *site, int who) {
+    for (uint32_t i = 0; i < cotpad_released(site); i++) {
+        cotpad_verdict v = {0};
+        must(cotpad_released_at(site, i, &v), "released_at");
+        const cotpad_member *m = &v.operation.member;
+        printf("  site %d: %u.%u released, verdict %u\n", who, m->site, m->number, v.kind);
+    }
+}
+
+/* The end of an edit or a delivery that is done. Memory may have run out among the releases after it: they are called for again. */
+static void must_edit(cotpad_site *site, int who, cotpad_status status, const char *what) {
+    tell_released(site, who);
+    if (status == COTPAD_UNSETTLED) {
+        status = cotpad_settle(site);
+        tell_released(site, who);
+    }
+    must(status, what);
+}
+
+static void type_alone(person *people, int who, uint32_t place, const char *text) {
+    cotpad_site *site = &people[who].site;
+    uint32_t made = 0;
+    cotpad_status status = cotpad_insert_text(site, place, (const uint8_t *)text, strlen(text), &made);
+    tell_released(site, who);
+    must(status, "insert_text"); /* a host that goes on where memory ran out has `made` characters less to insert */
+}
+
+static void type(person *people, int who, uint32_t place, const char *text) {
+    uint32_t start = cotpad_operations(&people[who].site);
+    type_alone(people, who, place, text);
+    send_from(people, who, start);
+}
+
+static void delete_at(person *people, int who, uint32_t place) {
+    cotpad_site *site = &people[who].site;
+    uint32_t start = cotpad_operations(site);
+    must_edit(site, who, cotpad_delete(site, place), "delete");
+    send_from(people, who, start);
+}
+
+/* Delivers all whole frames of the inbox; each call releases what it frees. */
 static void take_in(person *people, int who) {
     person *p = &people[who];
     size_t at = 0;
     while (at < p->held) {
         cotpad_verdict v = {0};
-        must(cotpad_receive(&p->site, p->inbox + at, p->held - at, &v), "receive");
+        cotpad_status status = cotpad_receive(&p->site, p->inbox + at, p->held - at, &v);
         if (v.kind == COTPAD_VERDICT_INCOMPLETE) break;
         if (v.kind == COTPAD_VERDICT_MALFORMED) stop("malformed", v.cause);
-        tell(who, v.kind == COTPAD_VERDICT_WAITS ? "waits" : "integrated", &v);
+        if (v.kind != 0) tell(who, &v);
+        must_edit(&p->site, who, status, "receive");
         at += v.used;
-        cotpad_status status;
-        while ((status = cotpad_release(&p->site, &v)) == COTPAD_OK) tell(who, "released", &v);
-        if (status != COTPAD_NONE) stop("release", status);
     }
-    memmove(p->inbox, p->inbox + at, p->held - at);
+    if (at > 0) memmove(p->inbox, p->inbox + at, p->held - at); /* an inbox that was never filled is null */
     p->held -= at;
 }
 
@@ -125,8 +154,10 @@ static cotpad_operation original_from_end(cotpad_site *site, uint32_t back) {
 }
 
 static void undo(person *people, int who, cotpad_member of) {
-    must(cotpad_undo(&people[who].site, (uint16_t)of.site, of.number), "undo");
-    send_last(people, who, 1);
+    cotpad_site *site = &people[who].site;
+    uint32_t start = cotpad_operations(site);
+    must_edit(site, who, cotpad_undo(site, (uint16_t)of.site, of.number), "undo");
+    send_from(people, who, start);
 }
 
 /* Two sites exchange what they lack, each message in a buffer that is large enough for this text. */
@@ -220,10 +251,8 @@ int main(void) {
     type(people, 0, 0, "tea");
     sync_and_show(people);
     printf("-- at once: 0 deletes t, 1 deletes e and types o, 2 types !\n");
-    must(cotpad_delete(&people[0].site, 0), "delete");
-    send_last(people, 0, 1);
-    must(cotpad_delete(&people[1].site, 1), "delete");
-    send_last(people, 1, 1);
+    delete_at(people, 0, 0);
+    delete_at(people, 1, 1);
     type(people, 1, 1, "o");
     type(people, 2, 3, "!");
     sync_and_show(people);
@@ -236,7 +265,7 @@ int main(void) {
     undo(people, 0, original_from_end(&people[0].site, 0).member);
     sync_and_show(people);
     printf("-- apart: 0 types, 2 deletes, and each exchanges with the other\n");
-    type_alone(&people[0].site, 3, " at 4, caf\xC3\xA9");
+    type_alone(people, 0, 3, " at 4, caf\xC3\xA9");
     uint32_t made = 0;
     must(cotpad_delete_range(&people[2].site, 0, 2, &made), "delete_range");
     exchange(&people[2].site, &people[0].site);

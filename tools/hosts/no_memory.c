@@ -1,7 +1,9 @@
-/* Out of memory at each allocation in turn: a session of sites is run again and again, the first time with its first allocation
- * refused, then with its second, and so on. A call that answers COTPAD_NO_MEMORY has changed nothing that can be counted and
- * written nothing, and is made again; all sites have to show the same text as in the session in which nothing is refused. Link
- * with -Wl,--wrap=malloc,--wrap=realloc. */
+/* Out of memory at each allocation in turn: sessions of sites are run again and again, the first time with their first allocation
+ * refused, then with their second, and so on. A call that answers COTPAD_NO_MEMORY has changed nothing that can be counted and
+ * written nothing, and is made again; one that answers COTPAD_UNSETTLED has done what was asked, can't be saved, and what is
+ * ready yet is released then, by cotpad_settle in every second run, and one by one in the others. All sites have to show the
+ * same text as in the session in which nothing is refused, and all releases are told, in order. Link with
+ * -Wl,--wrap=malloc,--wrap=realloc. */
 #include "cotpad.h"
 #include <stdio.h>
 #include <stdlib.h>
@@ -20,12 +22,15 @@ void *__wrap_realloc(void *old, size_t count) {
     return ++allocations == refused ? NULL : __real_realloc(old, count);
 }
 
-static long again;
+static long again, unsettled;
 
 static void stop(const char *why) {
     printf("%s, with allocation %ld refused\n", why, refused);
     exit(1);
 }
+
+static void released(cotpad_site *site);
+static void settle(cotpad_site *site);
 
 /* Makes a call, and once more where it was out of memory. */
 #define DO(call) \
@@ -51,6 +56,23 @@ static void stop(const char *why) {
         if (answer != COTPAD_OK) stop(#call); \
     } while (0)
 
+/* An edit of the user's: what it frees is released and told. */
+#define EDIT(site, call) \
+    do { \
+        struct counts before = counts_of(site); \
+        told = 0; \
+        cotpad_status answer = (call); \
+        if (answer == COTPAD_NO_MEMORY) { \
+            again++; \
+            if (!has_counts(site, before)) stop("a refused edit changed the site: " #call); \
+            if (cotpad_released(site) != 0) stop("a refused edit released something: " #call); \
+            answer = (call); \
+        } \
+        released(site); \
+        if (answer == COTPAD_UNSETTLED) settle(site); \
+        else if (answer != COTPAD_OK) stop(#call); \
+    } while (0)
+
 struct counts {
     uint32_t operations, waiting, characters;
 };
@@ -70,7 +92,26 @@ static int is_blank(const cotpad_verdict *verdict) {
     return memcmp(verdict, &blank, sizeof blank) == 0;
 }
 
-/* Releases what is ready, all of which is integrated. */
+/* The verdicts of the releases since `told` was set to 0: so many of them are told, and these were of this kind. */
+static uint32_t told, kinds[8];
+
+static void tell(uint32_t kind) {
+    if (told == sizeof kinds / sizeof *kinds) stop("more releases than operations that wait");
+    kinds[told++] = kind;
+}
+
+static void released(cotpad_site *site) {
+    uint32_t count = cotpad_released(site);
+    for (uint32_t i = 0; i < count; i++) {
+        cotpad_verdict verdict = {0};
+        if (cotpad_released_at(site, i, &verdict) != COTPAD_OK || verdict.used != 0) stop("released_at");
+        tell(verdict.kind);
+    }
+    cotpad_verdict none = {0};
+    if (cotpad_released_at(site, count, &none) != COTPAD_NONE || !is_blank(&none)) stop("released_at past the end");
+}
+
+/* Releases what is ready, one after the other. */
 static void release(cotpad_site *site) {
     for (;;) {
         struct counts before = counts_of(site);
@@ -81,22 +122,44 @@ static void release(cotpad_site *site) {
             if (!has_counts(site, before) || !is_blank(&verdict)) stop("a refused release changed something");
             answer = cotpad_release(site, &verdict);
         }
+        if (cotpad_released(site) != 0) stop("a release is listed");
         if (answer == COTPAD_NONE) return;
-        if (answer != COTPAD_OK || verdict.kind != COTPAD_VERDICT_INTEGRATED) stop("release");
+        if (answer != COTPAD_OK) stop("release");
+        tell(verdict.kind);
     }
+}
+
+/* An operation is ready yet: the site isn't saved, and all that is ready is released. */
+static void settle(cotpad_site *site) {
+    uint8_t log[1] = {0xff};
+    size_t needed = 7;
+    unsettled++;
+    if (cotpad_waiting(site) == 0) stop("a site in which nothing waits is unsettled");
+    if (cotpad_save(site, log, sizeof log, &needed) != COTPAD_UNSETTLED) stop("an unsettled site is saved");
+    if (needed != 7 || log[0] != 0xff) stop("the log of an unsettled site is counted or written");
+    if (refused % 2 == 0) {
+        release(site);
+    } else {
+        if (cotpad_settle(site) != COTPAD_OK) stop("settle");
+        released(site);
+    }
+    if (cotpad_settle(site) != COTPAD_OK || cotpad_released(site) != 0) stop("a settled site releases something");
 }
 
 /* Delivers a frame, and answers the kind of its verdict. */
 static uint32_t receive(cotpad_site *site, const uint8_t *frame, size_t count) {
     struct counts before = counts_of(site);
     cotpad_verdict verdict = {0};
+    told = 0;
     cotpad_status answer = cotpad_receive(site, frame, count, &verdict);
     if (answer == COTPAD_NO_MEMORY) {
         again++;
         if (!has_counts(site, before) || !is_blank(&verdict)) stop("a refused delivery changed something");
         answer = cotpad_receive(site, frame, count, &verdict);
     }
-    if (answer != COTPAD_OK) stop("receive");
+    released(site);
+    if (answer == COTPAD_UNSETTLED) settle(site);
+    else if (answer != COTPAD_OK) stop("receive");
     return verdict.kind;
 }
 
@@ -187,14 +250,15 @@ static void session(void) {
     DO(cotpad_open(a, 0));
     DO(cotpad_open(b, 1));
     for (uint32_t i = 0; i < 6; i++) {
-        DO_AT(a, cotpad_insert(a, i, 'a' + i));
-        DO_AT(b, cotpad_insert(b, 0, 'z'));
+        EDIT(a, cotpad_insert(a, i, 'a' + i));
+        EDIT(b, cotpad_insert(b, 0, 'z'));
     }
-    for (uint32_t i = 6; i-- > 0;) send(a, i, b), release(b);
-    DO_AT(b, cotpad_undo(b, 0, 3));
-    DO_AT(b, cotpad_delete(b, 1));
-    DO_AT(b, cotpad_redo(b, 0, 3));
-    for (uint32_t i = 0; i < cotpad_operations(b); i++) send(b, i, a), release(a);
+    for (uint32_t i = 6; i-- > 0;) send(a, i, b);
+    if (told != 5) stop("five operations aren't released");
+    EDIT(b, cotpad_undo(b, 0, 3));
+    EDIT(b, cotpad_delete(b, 1));
+    EDIT(b, cotpad_redo(b, 0, 3));
+    for (uint32_t i = 0; i < cotpad_operations(b); i++) send(b, i, a);
     same_text(a, b, 11);
     type(a, 3, "xyz");
     cut(b, 0, 2);
@@ -213,19 +277,21 @@ static void backwards(void) {
     cotpad_site *here = &first, *there = &second;
     DO(cotpad_open(here, 0));
     DO(cotpad_open(there, 1));
-    DO_AT(here, cotpad_insert(here, 0, 'a'));
-    DO_AT(here, cotpad_insert(here, 1, 'b'));
-    DO_AT(here, cotpad_delete(here, 0));
-    DO_AT(here, cotpad_undo(here, 0, 2));
-    DO_AT(there, cotpad_insert(there, 0, 'x'));
+    EDIT(here, cotpad_insert(here, 0, 'a'));
+    EDIT(here, cotpad_insert(here, 1, 'b'));
+    EDIT(here, cotpad_delete(here, 0));
+    EDIT(here, cotpad_undo(here, 0, 2));
+    EDIT(there, cotpad_insert(there, 0, 'x'));
     for (uint32_t i = 4; i-- > 1;)
         if (send(here, i, there) != COTPAD_VERDICT_WAITS) stop("an early operation doesn't wait");
     if (cotpad_waiting(there) != 3) stop("three operations don't wait");
     if (send(here, 0, there) != COTPAD_VERDICT_INTEGRATED) stop("the first operation isn't integrated");
-    release(there);
     if (cotpad_waiting(there) != 0) stop("an operation still waits");
+    if (told != 3) stop("three operations aren't released");
+    for (uint32_t i = 0; i < told; i++)
+        if (kinds[i] != COTPAD_VERDICT_INTEGRATED) stop("a released operation isn't integrated");
     shows(there, "x");
-    DO_AT(there, cotpad_redo(there, 0, 2));
+    EDIT(there, cotpad_redo(there, 0, 2));
     if (send(there, 0, here) != COTPAD_VERDICT_INTEGRATED) stop("the insert isn't integrated");
     if (send(there, 5, here) != COTPAD_VERDICT_INTEGRATED) stop("the redo isn't integrated");
     shows(here, "bx");
@@ -234,16 +300,48 @@ static void backwards(void) {
     cotpad_close(there);
 }
 
-int main(void) {
+/* Insert SITE.1 of a letter at a place, after 0.1 and the undo of it. */
+#define AFTER_UNDO(site, place, letter) \
+    0, 0, 0, 29, 1, site, 0, 0, 0, 1, 0, 0, 0, place, 0, 0, 0, letter, 1, 0, 0, 0, 0, 1, 0, 1, 0, 0, 0, 0, 1, 0, 1
+
+/* What waits for an undo is released by the user's own: one insert whose place isn't there, one that is good, and the insert after
+ * that, whose place isn't there either. The log is loaded then. */
+static void freed_by_an_undo(void) {
+    static const uint8_t far[] = {AFTER_UNDO(1, 9, 'f')}, good[] = {AFTER_UNDO(3, 1, 'g')};
+    static const uint8_t behind[] = {0, 0, 0, 34, 1, 4, 0, 0, 0, 1, 0, 0, 0, 9, 0, 0, 0, 'b', 2, 0, 0, 0, 0, 1, 3, 0, 0, 0, 1, 0, 1,
+        0, 0, 0, 0, 1, 0, 1};
+    cotpad_site first = COTPAD_SITE_EMPTY, second = COTPAD_SITE_EMPTY;
+    cotpad_site *here = &first, *again_here = &second;
+    DO(cotpad_open(here, 0));
+    EDIT(here, cotpad_insert(here, 0, 'a'));
+    if (receive(here, behind, sizeof behind) != COTPAD_VERDICT_WAITS) stop("the last insert doesn't wait");
+    if (receive(here, far, sizeof far) != COTPAD_VERDICT_WAITS) stop("the far insert doesn't wait");
+    if (receive(here, good, sizeof good) != COTPAD_VERDICT_WAITS) stop("the good insert doesn't wait");
+    EDIT(here, cotpad_undo(here, 0, 1));
+    if (told != 3 || cotpad_waiting(here) != 0) stop("the undo doesn't release three operations");
+    if (kinds[0] != COTPAD_VERDICT_PLACE_OUT || kinds[1] != COTPAD_VERDICT_INTEGRATED || kinds[2] != COTPAD_VERDICT_PLACE_OUT)
+        stop("another verdict on what waited for the undo");
+    shows(here, "g");
+    load(here, again_here);
+    shows(again_here, "g");
+    cotpad_close(again_here);
+    cotpad_close(here);
+}
+
+static void sessions(void) {
     session();
     backwards();
+    freed_by_an_undo();
+}
+
+int main(void) {
+    sessions();
     long all = allocations;
     for (refused = 1; refused <= all; refused++) {
         allocations = 0;
-        session();
-        backwards();
+        sessions();
     }
     printf("each of %ld allocations refused: the same text each time\n", all);
-    fprintf(stderr, "%ld calls were made again\n", again);
+    fprintf(stderr, "%ld calls were made again, and %ld were done but for some of their releases\n", again, unsettled);
     return 0;
 }

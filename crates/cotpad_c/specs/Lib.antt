@@ -1,9 +1,13 @@
+pub mod Code
 pub mod Exchanges
 pub mod Handles
 pub mod Held
+pub mod Hosting
 pub mod Lending
 pub mod Operations
 pub mod Refusals
 pub mod Runs
+pub mod Saving
+pub mod SiteLending
 pub mod Statuses
 pub mod Verdicts

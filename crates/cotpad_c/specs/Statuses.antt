@@ -3,8 +3,8 @@ use Rattle.std.specs.Prelude.{◌≡◌, ◌≢◌, ◌⊎◌, ◌<◌, ℕ, Lis
 use Rattle.context_diff.specs.Operations.{OpData}
 use Rattle.site_answers.specs.declared.local.Local.{Local}
 use Rattle.site_answers.specs.declared.local.Local.TheVariants as local
-use Rattle.cot_site.specs.States.{State, with_last}
-use Rattle.cotpad_c.specs.declared.status.TheConstants.{OK, NO_MEMORY, PLACE_OUT, UNKNOWN, NOT_IN_FORCE, IN_FORCE, GENERATION_FULL, NUMBER_FULL, CONTEXT_FULL, TOO_SHORT}
+use Rattle.cotpad_c.specs.declared.status.TheConstants.{OK, NO_MEMORY, PLACE_OUT, UNKNOWN, NOT_IN_FORCE, IN_FORCE, GENERATION_FULL, NUMBER_FULL, CONTEXT_FULL, TOO_SHORT, UNSETTLED}
+use Rattle.cotpad_c.specs.Hosting.{Reached, with_one, all_settled, IsHalfSettled}
 
 -- the number of each refusal
 abbrev pub refusal : Local → ℕ
@@ -22,17 +22,19 @@ abbrev pub status_of : {A : Type 0} → Result A Local → ℕ
 status_of (Ok o) = OK
 status_of (Err e) = refusal e
 
--- the state with the operation, if there is one
-abbrev pub made : Result OpData Local → State → State
-made (Ok o) s = with_last s o
-made (Err e) s = s
+-- with the operation, if there is one
+abbrev pub made : Result OpData Local → Reached → Reached
+made (Ok o) a = with_one a o
+made (Err e) a = a
 
--- a call that the definition answers so: its status, or out of memory where the definition has an operation, and the state
--- after it
-pub record Did (n : ℕ) (r : Result OpData Local) (old new : State) : Type 0 where
-  pub status : (n ≡ status_of r) ⊎ ((n ≡ NO_MEMORY) × IsOk r)
-  pub done : n ≡ OK → new ≡ made r old
-  pub refused : n ≢ OK → new ≡ old
+-- a call that the definition answers so: its status; out of memory, before the operation was made or among the releases after it,
+-- only where the definition has an operation; and what the call reaches: the operation is made, and then all that is ready is
+-- released, or the first of that; or else nothing is done
+pub record Did (n : ℕ) (r : Result OpData Local) (a b : Reached) : Type 0 where
+  pub status : (n ≡ status_of r) ⊎ (((n ≡ NO_MEMORY) ⊎ (n ≡ UNSETTLED)) × IsOk r)
+  pub done : n ≡ OK → b ≡ all_settled (made r a)
+  pub unsettled : n ≡ UNSETTLED → IsHalfSettled (made r a) b
+  pub refused : n ≢ OK → n ≢ UNSETTLED → b ≡ a
 
 -- bytes that a call hands out into a buffer: all of them, or none where the buffer is too short; their number either way
 pub record Wrote (n : ℕ) (bytes old new : List ℕ) (needed : ℕ) : Type 0 where

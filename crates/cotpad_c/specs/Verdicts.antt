@@ -13,6 +13,7 @@ use Rattle.cotpad_c.specs.declared.kinds.TheConstants as kind
 use Rattle.cotpad_c.specs.declared.status.TheConstants.{OK, NONE}
 use Rattle.cotpad_c.specs.declared.operation.CotpadOperation.{CotpadOperation}
 use Rattle.cotpad_c.specs.declared.verdict.CotpadVerdict.{CotpadVerdict}
+use Rattle.cotpad_c.specs.Hosting.{Reached, from, all_settled, IsHalfSettled}
 use Rattle.cotpad_c.specs.Operations.{no_member, no_operation, member_told, operation_told}
 
 -- nothing is told
@@ -53,9 +54,13 @@ malformed why n = record blank { kind = kind.MALFORMED; cause = cause_number why
 abbrev pub at_offset : ℕ → CotpadVerdict
 at_offset n = record blank { offset = n }
 
--- the verdict for which an operation isn't taken, and the offset at which it stands; of the operation the member alone is told
+-- a verdict of which, of the operation, the member alone is told
+abbrev pub of_member : Member → Verdict → CotpadVerdict
+of_member m v = let o : CotpadOperation = record no_operation { member = member_told m } in told o 0 v
+
+-- the verdict for which an operation isn't taken, and the offset at which it stands
 abbrev pub unfit : Member → Verdict → ℕ → CotpadVerdict
-unfit m v n = let o : CotpadOperation = record no_operation { member = member_told m } in record (told o 0 v) { offset = n }
+unfit m v n = record (of_member m v) { offset = n }
 
 -- what the judged bytes are answered with
 abbrev pub answered : State → Result (OpData × ℕ) Refused → CotpadVerdict
@@ -63,10 +68,16 @@ answered s (Ok x) = told (operation_told x.0) x.1 (judged s x.0)
 answered s (Err (More n)) = incomplete n
 answered s (Err (Bad f)) = malformed f.cause f.offset
 
--- the state after the judged bytes
-abbrev pub taken : State → Result (OpData × ℕ) Refused → State
-taken s (Ok x) = delivered s x.0
-taken s (Err r) = s
+-- what the judged bytes lead to: the operation is delivered, and all that is ready then is released; bytes that are no frame
+-- change nothing
+abbrev pub received : State → Result (OpData × ℕ) Refused → Reached
+received s (Ok x) = all_settled (from (delivered s x.0))
+received s (Err r) = from s
+
+-- the operation is delivered, and the first of what is ready then is released
+abbrev pub IsHalfReceived : State → Result (OpData × ℕ) Refused → Reached → Type 0
+IsHalfReceived s (Ok x) b = IsHalfSettled (from (delivered s x.0)) b
+IsHalfReceived s (Err r) b = ⊥
 
 -- a release is told by its verdict, and that there is none by a status of its own
 abbrev pub IsReleased : ℕ → Option Released → CotpadVerdict → CotpadVerdict → Type 0

@@ -1,6 +1,6 @@
 //! The three messages of an exchange.
 
-ghost use Rattle.std.specs.Prelude.{◌≡◌, ◌≢◌, ◌⊎◌, ◌≤◌, ℕ, length};
+ghost use Rattle.std.specs.Prelude.{◌≡◌, ◌≢◌, ◌⊎◌, ◌<◌, ◌≤◌, [], ℕ, length};
 ghost use Rattle.cot_site.specs.Sites.{state_of};
 ghost use Rattle.cot_site.specs.Releases.{IsLater};
 ghost use Rattle.peer_exchange.specs.declared.messages.TheConstants.{MAX_MESSAGE};
@@ -8,11 +8,13 @@ ghost use Rattle.peer_exchange.specs.declared.messages.Which.TheVariants.{First}
 ghost use Rattle.peer_exchange.specs.Messages.{first_message};
 ghost use Rattle.peer_exchange.specs.Refusals.{IsUnread};
 ghost use Rattle.peer_exchange.specs.Closing.{IsFinished, IsUnclosed, IsUnfinished};
-ghost use Rattle.cotpad_c.specs.declared.status.TheConstants.{OK, NO_MEMORY};
+ghost use Rattle.cotpad_c.specs.declared.status.TheConstants.{OK, NO_MEMORY, TOO_LONG};
 ghost use Rattle.cotpad_c.specs.Exchanges.{IsMade, Answers, Closes};
+ghost use Rattle.cotpad_c.specs.Hosting.{hosting};
 ghost use Rattle.cotpad_c.specs.Refusals.{IsRefused};
 ghost use Rattle.cotpad_c.specs.Statuses.{Wrote};
 
+use crate::hosted::Hosted;
 use crate::reading::hand_out;
 use crate::refusals::peer_refused;
 use crate::status;
@@ -57,6 +59,29 @@ pub(crate) fn answer(
 /// Takes in the operations of the second message, and hands out the third, which answers it.
 pub(crate) fn close(
     alloc: Global,
+    hosted: &mut Hosted,
+    second: &[u8],
+    out: &mut [u8],
+    needed: &mut usize,
+    why: &mut CotpadVerdict,
+) -> u32
+    ensures limit { MAX_MESSAGE < length second.now → (result ≡ TOO_LONG) × (why.new ≡ why.old) × (hosted.new ≡ hosting hosted.old.site) }
+    ensures made { IsMade result → Closes (state_of hosted.old.site) second.now (state_of hosted.new.site) result out.old out.new needed.new × (why.new ≡ why.old) }
+    ensures refused { length second.now ≤ MAX_MESSAGE → ¬ IsMade result → IsRefused (IsUnclosed (state_of hosted.old.site) second.now (state_of hosted.new.site)) result why.old why.new }
+    ensures later { IsLater (state_of hosted.old.site) (state_of hosted.new.site) }
+    ensures quiet { hosted.new.released ≡ [] }
+    ensures err { ¬ IsMade result → (out.new ≡ out.old) × (needed.new ≡ needed.old) }
+{
+    hosted.forget();
+    if second.len() > MAX_MESSAGE {
+        return status::TOO_LONG;
+    }
+    close_at(alloc, hosted.site_mut(), second, out, needed, why)
+}
+
+// The same, at the site itself, of a message that isn't too long.
+fn close_at(
+    alloc: Global,
     site: &mut Site,
     second: &[u8],
     out: &mut [u8],
@@ -77,7 +102,27 @@ pub(crate) fn close(
 }
 
 /// Takes in the operations of the third message.
-pub(crate) fn finish(alloc: Global, site: &mut Site, third: &[u8], why: &mut CotpadVerdict) -> u32
+pub(crate) fn finish(
+    alloc: Global,
+    hosted: &mut Hosted,
+    third: &[u8],
+    why: &mut CotpadVerdict,
+) -> u32
+    ensures limit { MAX_MESSAGE < length third.now → (result ≡ TOO_LONG) × (why.new ≡ why.old) × (hosted.new ≡ hosting hosted.old.site) }
+    ensures finished { result ≡ OK → ((count : ℕ) × IsFinished (state_of hosted.old.site) third.now (state_of hosted.new.site) count) × (why.new ≡ why.old) }
+    ensures refused { length third.now ≤ MAX_MESSAGE → result ≢ OK → IsRefused (IsUnfinished (state_of hosted.old.site) third.now (state_of hosted.new.site)) result why.old why.new }
+    ensures later { IsLater (state_of hosted.old.site) (state_of hosted.new.site) }
+    ensures quiet { hosted.new.released ≡ [] }
+{
+    hosted.forget();
+    if third.len() > MAX_MESSAGE {
+        return status::TOO_LONG;
+    }
+    finish_at(alloc, hosted.site_mut(), third, why)
+}
+
+// The same, at the site itself, of a message that isn't too long.
+fn finish_at(alloc: Global, site: &mut Site, third: &[u8], why: &mut CotpadVerdict) -> u32
     requires { length third.now ≤ MAX_MESSAGE }
     ensures finished { result ≡ OK → ((count : ℕ) × IsFinished (state_of site.old) third.now (state_of site.new) count) × (why.new ≡ why.old) }
     ensures refused { result ≢ OK → IsRefused (IsUnfinished (state_of site.old) third.now (state_of site.new)) result why.old why.new }

@@ -1,16 +1,19 @@
 //! What a host calls.
 
-ghost use Rattle.std.specs.Prelude.{◌≡◌, ◌≢◌, ◌⊎◌, ◌+◌, ◌<◌, ◌≤◌, ℕ, IsSome, IsUtf8, Some, None, chars, length, slice_get};
+ghost use Rattle.std.specs.Prelude.{◌≡◌, ◌≢◌, ◌⊎◌, ◌↔◌, ◌+◌, ◌<◌, ◌≤◌, ℕ, [], IsSome, IsSomeAnd, IsUtf8, Some, None, chars, length, min, slice_get, take};
 ghost use Rattle.std.specs.Char.{IsScalar};
 ghost use Rattle.op_name.specs.NameData.{NameData, IsName};
 ghost use Rattle.op_name.specs.declared.name.TheConstants.{SITES};
 ghost use Rattle.op_name.specs.declared.member.Member.TheVariants.{Original};
 ghost use Rattle.context_diff.specs.Operations.{OpData};
 ghost use Rattle.context_diff.specs.Replays.{Cell, shown, text_of};
+ghost use Rattle.site_answers.specs.declared.release.Release.{Release};
+ghost use Rattle.site_answers.specs.declared.verdict.Verdict.TheVariants.{Integrated};
+ghost use Rattle.wire_codec.specs.Answers.{HasFrame};
 ghost use Rattle.wire_codec.specs.Spelling.{frame};
 ghost use Rattle.wire_codec.specs.Judging.{judge};
 ghost use Rattle.cot_site.specs.Commands.{local_insert, local_delete, local_undo, local_redo};
-ghost use Rattle.cot_site.specs.States.{released, after_release};
+ghost use Rattle.cot_site.specs.States.{released, after_release, IsSettled};
 ghost use Rattle.cot_site.specs.Releases.{IsLater};
 ghost use Rattle.session_log.specs.declared.reading.TheConstants.{MAX_LOG};
 ghost use Rattle.session_log.specs.Logs.{log_of};
@@ -20,15 +23,17 @@ ghost use Rattle.peer_exchange.specs.declared.messages.Which.TheVariants.{First}
 ghost use Rattle.peer_exchange.specs.Messages.{first_message};
 ghost use Rattle.peer_exchange.specs.Refusals.{IsUnread};
 ghost use Rattle.peer_exchange.specs.Closing.{IsFinished, IsUnclosed, IsUnfinished};
-ghost use Rattle.cotpad_c.specs.declared.status.TheConstants.{OK, NO_MEMORY, SITE_OUT, PLACE_OUT, NO_CHARACTER, NO_NAME, NONE, TOO_LONG};
+ghost use Rattle.cotpad_c.specs.declared.status.TheConstants.{OK, NO_MEMORY, SITE_OUT, PLACE_OUT, NO_CHARACTER, NO_NAME, NONE, TOO_SHORT, TOO_LONG, UNSETTLED};
 ghost use Rattle.cotpad_c.specs.declared.exports.TheConstants.{VERSION};
 ghost use Rattle.cotpad_c.specs.Operations.{member_told, operation_told};
+ghost use Rattle.cotpad_c.specs.Hosting.{hosting, from, all_settled, IsHalfSettled};
 ghost use Rattle.cotpad_c.specs.Exchanges.{IsMade, Answers, Closes};
 ghost use Rattle.cotpad_c.specs.Refusals.{IsLogRefused, IsRefused};
 ghost use Rattle.cotpad_c.specs.Runs.{IsTyped, IsCut};
+ghost use Rattle.cotpad_c.specs.Saving.{Loads};
 ghost use Rattle.cotpad_c.specs.Statuses.{Did, Wrote};
-ghost use Rattle.cotpad_c.specs.Verdicts.{answered, taken, IsReleased};
-ghost use Rattle.cotpad_c.specs.Held.{fresh, held, held_state};
+ghost use Rattle.cotpad_c.specs.Verdicts.{of_member, answered, received, IsHalfReceived, IsReleased};
+ghost use Rattle.cotpad_c.specs.Held.{fresh, held, held_site, held_state, held_releases, held_reached};
 
 use crate::handle::CotpadSite;
 use crate::operation::{CotpadMember, CotpadOperation};
@@ -59,7 +64,7 @@ pub extern "C" fn cotpad_open(alloc: Global, site: &mut CotpadSite, number: u16)
     requires { site.old.site ≡ None }
     ensures range { SITES ≤ number → result ≡ SITE_OUT }
     ensures status { number < SITES → (result ≡ OK) ⊎ (result ≡ NO_MEMORY) }
-    ensures ok { result ≡ OK → site.new.site ≡ Some (fresh number) }
+    ensures ok { result ≡ OK → site.new.site ≡ Some (hosting (fresh number)) }
     ensures empty { result ≢ OK → site.new.site ≡ None }
 {
     if number >= SITES {
@@ -97,6 +102,7 @@ pub extern "C" fn cotpad_load(
     ensures limit { number < SITES → MAX_LOG < length bytes.now → (result ≡ TOO_LONG) × (why.new ≡ why.old) }
     ensures live { result ≡ OK → IsSome site.new.site }
     ensures loaded { result ≡ OK → IsLoaded number bytes.now (held_state site.new.site) × (why.new ≡ why.old) }
+    ensures quiet { result ≡ OK → held_releases site.new.site ≡ [] }
     ensures refused { number < SITES → length bytes.now ≤ MAX_LOG → result ≢ OK → IsLogRefused number bytes.now result why.old why.new }
     ensures empty { result ≢ OK → site.new.site ≡ None }
 {
@@ -115,28 +121,29 @@ pub extern "C" fn cotpad_load(
     }
 }
 
-/// Inserts a character after so many shown ones.
+/// Inserts a character after so many shown ones, and releases until no waiting operation is ready.
 #[unsafe(no_mangle)]
 pub extern "C" fn cotpad_insert(site: &mut CotpadSite, place: u32, scalar: u32) -> u32
     requires { IsSome site.old.site }
     ensures live { IsSome site.new.site }
-    ensures done { IsScalar scalar → Did result (local_insert (held_state site.old.site) place scalar) (held_state site.old.site) (held_state site.new.site) }
-    ensures no_character { (IsScalar scalar → ⊥) → (result ≡ NO_CHARACTER) × (site.new.site ≡ site.old.site) }
+    ensures done { IsScalar scalar → Did result (local_insert (held_state site.old.site) place scalar) (from (held_state site.old.site)) (held_reached site.new.site) }
+    ensures no_character { (IsScalar scalar → ⊥) → (result ≡ NO_CHARACTER) × (held site.new.site ≡ hosting (held_site site.old.site)) }
 {
     edits::insert(site.inner(), place, scalar)
 }
 
-/// Deletes a shown character.
+/// Deletes a shown character, and releases.
 #[unsafe(no_mangle)]
 pub extern "C" fn cotpad_delete(site: &mut CotpadSite, place: u32) -> u32
     requires { IsSome site.old.site }
     ensures live { IsSome site.new.site }
-    ensures done { Did result (local_delete (held_state site.old.site) place) (held_state site.old.site) (held_state site.new.site) }
+    ensures done { Did result (local_delete (held_state site.old.site) place) (from (held_state site.old.site)) (held_reached site.new.site) }
 {
     edits::delete(site.inner(), place)
 }
 
-/// Inserts the characters of a text in UTF-8 after so many shown ones, one after the other, and answers how many it inserted.
+/// Inserts the characters of a text in UTF-8 after so many shown ones, one after the other, each with the releases after it, and
+/// answers how many it inserted.
 #[unsafe(no_mangle)]
 pub extern "C" fn cotpad_insert_text(
     site: &mut CotpadSite,
@@ -146,14 +153,16 @@ pub extern "C" fn cotpad_insert_text(
 ) -> u32
     requires { IsSome site.old.site }
     ensures live { IsSome site.new.site }
-    ensures no_text { ¬ IsUtf8 text.now → (result ≡ NO_CHARACTER) × (made.new ≡ 0) × (site.new.site ≡ site.old.site) }
-    ensures past { IsUtf8 text.now → length (shown (held site.old.site).history) < place → (result ≡ PLACE_OUT) × (made.new ≡ 0) × (site.new.site ≡ site.old.site) }
-    ensures typed { IsUtf8 text.now → place ≤ length (shown (held site.old.site).history) → IsTyped result (held_state site.old.site) place (chars text.now) (held_state site.new.site) made.new }
+    ensures no_text { ¬ IsUtf8 text.now → (result ≡ NO_CHARACTER) × (made.new ≡ 0) × (held site.new.site ≡ hosting (held_site site.old.site)) }
+    ensures past { IsUtf8 text.now → length (shown (held_site site.old.site).history) < place → (result ≡ PLACE_OUT) × (made.new ≡ 0) × (held site.new.site ≡ hosting (held_site site.old.site)) }
+    ensures typed { IsUtf8 text.now → place ≤ length (shown (held_site site.old.site).history) → IsTyped result (from (held_state site.old.site)) place (chars text.now) (held_reached site.new.site) made.new }
+    ensures nothing { IsUtf8 text.now → place ≤ length (shown (held_site site.old.site).history) → chars text.now ≡ [] → result ≡ OK }
 {
     runs::insert_text(site.inner(), place, text, made)
 }
 
-/// Deletes so many shown characters from a place on, one after the other, and answers how many it deleted.
+/// Deletes so many shown characters from a place on, one after the other, each with the releases after it, and answers how many it
+/// deleted.
 #[unsafe(no_mangle)]
 pub extern "C" fn cotpad_delete_range(
     site: &mut CotpadSite,
@@ -163,30 +172,31 @@ pub extern "C" fn cotpad_delete_range(
 ) -> u32
     requires { IsSome site.old.site }
     ensures live { IsSome site.new.site }
-    ensures past { length (shown (held site.old.site).history) < place + count → (result ≡ PLACE_OUT) × (made.new ≡ 0) × (site.new.site ≡ site.old.site) }
-    ensures cut { place + count ≤ length (shown (held site.old.site).history) → IsCut result (held_state site.old.site) place count (held_state site.new.site) made.new }
+    ensures past { length (shown (held_site site.old.site).history) < place + count → (result ≡ PLACE_OUT) × (made.new ≡ 0) × (held site.new.site ≡ hosting (held_site site.old.site)) }
+    ensures cut { place + count ≤ length (shown (held_site site.old.site).history) → IsCut result (from (held_state site.old.site)) place count (held_reached site.new.site) made.new }
+    ensures nothing { place + count ≤ length (shown (held_site site.old.site).history) → count ≡ 0 → result ≡ OK }
 {
     runs::delete_range(site.inner(), place, count, made)
 }
 
-/// Undoes the insert or delete of this name, whoever made it.
+/// Undoes the insert or delete of this name, whoever made it, and releases.
 #[unsafe(no_mangle)]
 pub extern "C" fn cotpad_undo(site: &mut CotpadSite, author: u16, number: u32) -> u32
     requires { IsSome site.old.site }
     ensures live { IsSome site.new.site }
-    ensures done { IsName author number → Did result (local_undo (held_state site.old.site) (record { site = author; number = number })) (held_state site.old.site) (held_state site.new.site) }
-    ensures no_name { (IsName author number → ⊥) → (result ≡ NO_NAME) × (site.new.site ≡ site.old.site) }
+    ensures done { IsName author number → Did result (local_undo (held_state site.old.site) (record { site = author; number = number })) (from (held_state site.old.site)) (held_reached site.new.site) }
+    ensures no_name { (IsName author number → ⊥) → (result ≡ NO_NAME) × (held site.new.site ≡ hosting (held_site site.old.site)) }
 {
     edits::undo(site.inner(), author, number)
 }
 
-/// Redoes the insert or delete of this name, whoever undid it.
+/// Redoes the insert or delete of this name, whoever undid it, and releases.
 #[unsafe(no_mangle)]
 pub extern "C" fn cotpad_redo(site: &mut CotpadSite, author: u16, number: u32) -> u32
     requires { IsSome site.old.site }
     ensures live { IsSome site.new.site }
-    ensures done { IsName author number → Did result (local_redo (held_state site.old.site) (record { site = author; number = number })) (held_state site.old.site) (held_state site.new.site) }
-    ensures no_name { (IsName author number → ⊥) → (result ≡ NO_NAME) × (site.new.site ≡ site.old.site) }
+    ensures done { IsName author number → Did result (local_redo (held_state site.old.site) (record { site = author; number = number })) (from (held_state site.old.site)) (held_reached site.new.site) }
+    ensures no_name { (IsName author number → ⊥) → (result ≡ NO_NAME) × (held site.new.site ≡ hosting (held_site site.old.site)) }
 {
     edits::redo(site.inner(), author, number)
 }
@@ -195,41 +205,41 @@ pub extern "C" fn cotpad_redo(site: &mut CotpadSite, author: u16, number: u32) -
 #[unsafe(no_mangle)]
 pub extern "C" fn cotpad_operations(site: &mut CotpadSite) -> u32
     requires { IsSome site.old.site }
-    ensures count { result ≡ length (held site.old.site).history }
+    ensures count { result ≡ length (held_site site.old.site).history }
     ensures same { site.new.site ≡ site.old.site }
 {
-    site.inner().book().len()
+    site.inner().site().book().len()
 }
 
 /// The number of operations that wait.
 #[unsafe(no_mangle)]
 pub extern "C" fn cotpad_waiting(site: &mut CotpadSite) -> u32
     requires { IsSome site.old.site }
-    ensures count { result ≡ length (held site.old.site).waiting }
+    ensures count { result ≡ length (held_site site.old.site).waiting }
     ensures same { site.new.site ≡ site.old.site }
 {
-    site.inner().pool().len()
+    site.inner().site().pool().len()
 }
 
 /// The number of shown characters.
 #[unsafe(no_mangle)]
 pub extern "C" fn cotpad_characters(site: &mut CotpadSite) -> u32
     requires { IsSome site.old.site }
-    ensures count { result ≡ length (shown (held site.old.site).history) }
+    ensures count { result ≡ length (shown (held_site site.old.site).history) }
     ensures same { site.new.site ≡ site.old.site }
 {
-    site.inner().visible_len()
+    site.inner().site().visible_len()
 }
 
 /// The insert by which the shown character at this place stands there, from 0.
 #[unsafe(no_mangle)]
 pub extern "C" fn cotpad_name_at(site: &mut CotpadSite, place: u32, name: &mut CotpadMember) -> u32
     requires { IsSome site.old.site }
-    ensures found { (c : Cell) → slice_get (shown (held site.old.site).history) place ≡ Some c → (result ≡ OK) × (name.new ≡ member_told (Original c.0)) }
-    ensures none { slice_get (shown (held site.old.site).history) place ≡ None → (result ≡ NONE) × (name.new ≡ name.old) }
+    ensures found { (c : Cell) → slice_get (shown (held_site site.old.site).history) place ≡ Some c → (result ≡ OK) × (name.new ≡ member_told (Original c.0)) }
+    ensures none { slice_get (shown (held_site site.old.site).history) place ≡ None → (result ≡ NONE) × (name.new ≡ name.old) }
     ensures same { site.new.site ≡ site.old.site }
 {
-    reading::name_at(site.inner(), place, name)
+    reading::name_at(site.inner().site(), place, name)
 }
 
 /// What the integrated operation at this index is, and who made it. They stand in the order of integration, from 0.
@@ -240,12 +250,12 @@ pub extern "C" fn cotpad_operation_at(
     operation: &mut CotpadOperation,
 ) -> u32
     requires { IsSome site.old.site }
-    ensures found { (o : OpData) → slice_get (held site.old.site).history index ≡ Some o → result ≡ OK }
-    ensures told { (o : OpData) → slice_get (held site.old.site).history index ≡ Some o → operation.new ≡ operation_told o }
-    ensures none { slice_get (held site.old.site).history index ≡ None → (result ≡ NONE) × (operation.new ≡ operation.old) }
+    ensures found { (o : OpData) → slice_get (held_site site.old.site).history index ≡ Some o → result ≡ OK }
+    ensures told { (o : OpData) → slice_get (held_site site.old.site).history index ≡ Some o → operation.new ≡ operation_told o }
+    ensures none { slice_get (held_site site.old.site).history index ≡ None → (result ≡ NONE) × (operation.new ≡ operation.old) }
     ensures same { site.new.site ≡ site.old.site }
 {
-    reading::operation_at(site.inner(), index, operation)
+    reading::operation_at(site.inner().site(), index, operation)
 }
 
 /// The frame of the integrated operation at this index.
@@ -258,15 +268,15 @@ pub extern "C" fn cotpad_frame(
     needed: &mut usize,
 ) -> u32
     requires { IsSome site.old.site }
-    ensures wrote { (o : OpData) → slice_get (held site.old.site).history index ≡ Some o → (result ≡ NO_MEMORY) ⊎ Wrote result (frame o) out.old out.new needed.new }
-    ensures none { slice_get (held site.old.site).history index ≡ None → (result ≡ NONE) × (out.new ≡ out.old) × (needed.new ≡ needed.old) }
+    ensures wrote { (o : OpData) → slice_get (held_site site.old.site).history index ≡ Some o → (result ≡ NO_MEMORY) ⊎ Wrote result (frame o) out.old out.new needed.new }
+    ensures none { slice_get (held_site site.old.site).history index ≡ None → (result ≡ NONE) × (out.new ≡ out.old) × (needed.new ≡ needed.old) }
     ensures err { result ≡ NO_MEMORY → (out.new ≡ out.old) × (needed.new ≡ needed.old) }
     ensures same { site.new.site ≡ site.old.site }
 {
-    reading::frame_at(alloc, site.inner(), index, out, needed)
+    reading::frame_at(alloc, site.inner().site(), index, out, needed)
 }
 
-/// Delivers the operation of the frame that the bytes begin with.
+/// Delivers the operation of the frame that the bytes begin with, and releases until none is ready.
 #[unsafe(no_mangle)]
 pub extern "C" fn cotpad_receive(
     alloc: Global,
@@ -276,12 +286,52 @@ pub extern "C" fn cotpad_receive(
 ) -> u32
     requires { IsSome site.old.site }
     ensures live { IsSome site.new.site }
-    ensures status { (result ≡ OK) ⊎ (result ≡ NO_MEMORY) }
-    ensures verdict { result ≡ OK → verdict.new ≡ answered (held_state site.old.site) (judge bytes.now) }
-    ensures state { result ≡ OK → held_state site.new.site ≡ taken (held_state site.old.site) (judge bytes.now) }
-    ensures err { result ≡ NO_MEMORY → (held_state site.new.site ≡ held_state site.old.site) × (verdict.new ≡ verdict.old) }
+    ensures status { (result ≡ OK) ⊎ (result ≡ UNSETTLED) ⊎ (result ≡ NO_MEMORY) }
+    ensures verdict { result ≢ NO_MEMORY → verdict.new ≡ answered (held_state site.old.site) (judge bytes.now) }
+    ensures done { result ≡ OK → held_reached site.new.site ≡ received (held_state site.old.site) (judge bytes.now) }
+    ensures unsettled { result ≡ UNSETTLED → IsHalfReceived (held_state site.old.site) (judge bytes.now) (held_reached site.new.site) }
+    ensures needed { result ≡ NO_MEMORY → HasFrame bytes.now }
+    ensures err { result ≡ NO_MEMORY → (held_reached site.new.site ≡ from (held_state site.old.site)) × (verdict.new ≡ verdict.old) }
 {
     receiving::receive(alloc, site.inner(), bytes, verdict)
+}
+
+/// How many operations the last call released that could change the site.
+#[unsafe(no_mangle)]
+pub extern "C" fn cotpad_released(site: &mut CotpadSite) -> u32
+    requires { IsSome site.old.site }
+    ensures count { result ≡ min (length (held_releases site.old.site)) 4294967295 }
+    ensures same { site.new.site ≡ site.old.site }
+{
+    receiving::released(site.inner())
+}
+
+/// The release at this index among these, from 0.
+#[unsafe(no_mangle)]
+pub extern "C" fn cotpad_released_at(
+    site: &mut CotpadSite,
+    index: u32,
+    verdict: &mut CotpadVerdict,
+) -> u32
+    requires { IsSome site.old.site }
+    ensures found { (r : Release) → slice_get (held_releases site.old.site) index ≡ Some r → (result ≡ OK) × (verdict.new ≡ of_member r.member r.verdict) }
+    ensures none { slice_get (held_releases site.old.site) index ≡ None → (result ≡ NONE) × (verdict.new ≡ verdict.old) }
+    ensures same { site.new.site ≡ site.old.site }
+{
+    receiving::released_at(site.inner(), index, verdict)
+}
+
+/// Releases until no waiting operation is ready.
+#[unsafe(no_mangle)]
+pub extern "C" fn cotpad_settle(site: &mut CotpadSite) -> u32
+    requires { IsSome site.old.site }
+    ensures live { IsSome site.new.site }
+    ensures status { (result ≡ OK) ⊎ (result ≡ UNSETTLED) }
+    ensures done { result ≡ OK → held_reached site.new.site ≡ all_settled (from (held_state site.old.site)) }
+    ensures unsettled { result ≡ UNSETTLED → IsHalfSettled (from (held_state site.old.site)) (held_reached site.new.site) }
+    ensures nothing { IsSettled (held_state site.old.site) → result ≡ OK }
+{
+    receiving::settle(site.inner())
 }
 
 /// Releases the first waiting operation that is ready.
@@ -292,6 +342,8 @@ pub extern "C" fn cotpad_release(site: &mut CotpadSite, verdict: &mut CotpadVerd
     ensures status { (result ≡ OK) ⊎ (result ≡ NO_MEMORY) ⊎ (result ≡ NONE) }
     ensures answer { result ≢ NO_MEMORY → IsReleased result (released (held_state site.old.site)) verdict.old verdict.new }
     ensures state { result ≢ NO_MEMORY → held_state site.new.site ≡ after_release (held_state site.old.site) (released (held_state site.old.site)) }
+    ensures quiet { held_releases site.new.site ≡ [] }
+    ensures needed { result ≡ NO_MEMORY → IsSomeAnd (released (held_state site.old.site)) (λ r. r.verdict ≡ Integrated) }
     ensures err { result ≡ NO_MEMORY → (held_state site.new.site ≡ held_state site.old.site) × (verdict.new ≡ verdict.old) }
 {
     receiving::release(site.inner(), verdict)
@@ -306,14 +358,14 @@ pub extern "C" fn cotpad_text(
     needed: &mut usize,
 ) -> u32
     requires { IsSome site.old.site }
-    ensures wrote { (result ≡ NO_MEMORY) ⊎ Wrote result (text_of (held site.old.site).history) out.old out.new needed.new }
+    ensures wrote { (result ≡ NO_MEMORY) ⊎ Wrote result (text_of (held_site site.old.site).history) out.old out.new needed.new }
     ensures err { result ≡ NO_MEMORY → (out.new ≡ out.old) × (needed.new ≡ needed.old) }
     ensures same { site.new.site ≡ site.old.site }
 {
-    reading::text(alloc, site.inner(), out, needed)
+    reading::text(alloc, site.inner().site(), out, needed)
 }
 
-/// The log of the site.
+/// The log of the site, where it is loaded again.
 #[unsafe(no_mangle)]
 pub extern "C" fn cotpad_save(
     alloc: Global,
@@ -322,11 +374,14 @@ pub extern "C" fn cotpad_save(
     needed: &mut usize,
 ) -> u32
     requires { IsSome site.old.site }
-    ensures wrote { (result ≡ NO_MEMORY) ⊎ Wrote result (log_of (held site.old.site).history (held site.old.site).waiting) out.old out.new needed.new }
-    ensures err { result ≡ NO_MEMORY → (out.new ≡ out.old) × (needed.new ≡ needed.old) }
+    ensures unsettled { (result ≡ UNSETTLED) ↔ (¬ IsSettled (held_state site.old.site)) }
+    ensures long { IsSettled (held_state site.old.site) → MAX_LOG < length (log_of (held_site site.old.site).history (held_site site.old.site).waiting) → (result ≡ NO_MEMORY) ⊎ (result ≡ TOO_LONG) }
+    ensures wrote { IsSettled (held_state site.old.site) → length (log_of (held_site site.old.site).history (held_site site.old.site).waiting) ≤ MAX_LOG → (result ≡ NO_MEMORY) ⊎ Wrote result (log_of (held_site site.old.site).history (held_site site.old.site).waiting) out.old out.new needed.new }
+    ensures loads { result ≡ OK → Loads (take needed.new out.new) (held_state site.old.site) }
+    ensures err { result ≢ OK → result ≢ TOO_SHORT → (out.new ≡ out.old) × (needed.new ≡ needed.old) }
     ensures same { site.new.site ≡ site.old.site }
 {
-    reading::log(alloc, site.inner(), out, needed)
+    reading::log(alloc, site.inner().site(), out, needed)
 }
 
 /// The first message of an exchange, by which a site asks another for what it lacks.
@@ -338,11 +393,11 @@ pub extern "C" fn cotpad_exchange_offer(
     needed: &mut usize,
 ) -> u32
     requires { IsSome site.old.site }
-    ensures wrote { (result ≡ NO_MEMORY) ⊎ Wrote result (first_message (held site.old.site).history) out.old out.new needed.new }
+    ensures wrote { (result ≡ NO_MEMORY) ⊎ Wrote result (first_message (held_site site.old.site).history) out.old out.new needed.new }
     ensures err { result ≡ NO_MEMORY → (out.new ≡ out.old) × (needed.new ≡ needed.old) }
     ensures same { site.new.site ≡ site.old.site }
 {
-    exchange::offer(alloc, site.inner(), out, needed)
+    exchange::offer(alloc, site.inner().site(), out, needed)
 }
 
 /// The second message, which answers the first one of another site, or why that isn't one.
@@ -357,7 +412,7 @@ pub extern "C" fn cotpad_exchange_answer(
 ) -> u32
     requires { IsSome site.old.site }
     ensures limit { MAX_MESSAGE < length first.now → (result ≡ TOO_LONG) × (why.new ≡ why.old) }
-    ensures made { IsMade result → Answers (held site.old.site).history first.now result out.old out.new needed.new × (why.new ≡ why.old) }
+    ensures made { IsMade result → Answers (held_site site.old.site).history first.now result out.old out.new needed.new × (why.new ≡ why.old) }
     ensures refused { length first.now ≤ MAX_MESSAGE → ¬ IsMade result → IsRefused (IsUnread First first.now) result why.old why.new }
     ensures err { ¬ IsMade result → (out.new ≡ out.old) × (needed.new ≡ needed.old) }
     ensures same { site.new.site ≡ site.old.site }
@@ -365,7 +420,7 @@ pub extern "C" fn cotpad_exchange_answer(
     if first.len() > MAX_MESSAGE {
         return TOO_LONG;
     }
-    exchange::answer(alloc, site.inner(), first, out, needed, why)
+    exchange::answer(alloc, site.inner().site(), first, out, needed, why)
 }
 
 /// Takes in the operations of the second message, and hands out the third, which answers it; or tells why it isn't taken.
@@ -380,15 +435,13 @@ pub extern "C" fn cotpad_exchange_close(
 ) -> u32
     requires { IsSome site.old.site }
     ensures live { IsSome site.new.site }
-    ensures limit { MAX_MESSAGE < length second.now → (result ≡ TOO_LONG) × (why.new ≡ why.old) × (site.new.site ≡ site.old.site) }
+    ensures limit { MAX_MESSAGE < length second.now → (result ≡ TOO_LONG) × (why.new ≡ why.old) × (held site.new.site ≡ hosting (held_site site.old.site)) }
     ensures made { IsMade result → Closes (held_state site.old.site) second.now (held_state site.new.site) result out.old out.new needed.new × (why.new ≡ why.old) }
     ensures refused { length second.now ≤ MAX_MESSAGE → ¬ IsMade result → IsRefused (IsUnclosed (held_state site.old.site) second.now (held_state site.new.site)) result why.old why.new }
     ensures later { IsLater (held_state site.old.site) (held_state site.new.site) }
+    ensures quiet { held_releases site.new.site ≡ [] }
     ensures err { ¬ IsMade result → (out.new ≡ out.old) × (needed.new ≡ needed.old) }
 {
-    if second.len() > MAX_MESSAGE {
-        return TOO_LONG;
-    }
     exchange::close(alloc, site.inner(), second, out, needed, why)
 }
 
@@ -402,13 +455,11 @@ pub extern "C" fn cotpad_exchange_finish(
 ) -> u32
     requires { IsSome site.old.site }
     ensures live { IsSome site.new.site }
-    ensures limit { MAX_MESSAGE < length third.now → (result ≡ TOO_LONG) × (why.new ≡ why.old) × (site.new.site ≡ site.old.site) }
+    ensures limit { MAX_MESSAGE < length third.now → (result ≡ TOO_LONG) × (why.new ≡ why.old) × (held site.new.site ≡ hosting (held_site site.old.site)) }
     ensures finished { result ≡ OK → ((count : ℕ) × IsFinished (held_state site.old.site) third.now (held_state site.new.site) count) × (why.new ≡ why.old) }
     ensures refused { length third.now ≤ MAX_MESSAGE → result ≢ OK → IsRefused (IsUnfinished (held_state site.old.site) third.now (held_state site.new.site)) result why.old why.new }
     ensures later { IsLater (held_state site.old.site) (held_state site.new.site) }
+    ensures quiet { held_releases site.new.site ≡ [] }
 {
-    if third.len() > MAX_MESSAGE {
-        return TOO_LONG;
-    }
     exchange::finish(alloc, site.inner(), third, why)
 }

@@ -1,11 +1,11 @@
 //! Handles: what a host keeps of a site.
 
 ghost use Rattle.std.specs.Prelude.{◌≡◌, Option, Some, None, IsSome};
-ghost use Rattle.cot_site.specs.Sites.{SiteData};
+ghost use Rattle.cotpad_c.specs.Hosting.{HostedData};
 ghost use Rattle.cotpad_c.specs.Handles.{site_coded};
 
+use crate::hosted::Hosted;
 use crate::parts::Parts;
-use cot_site::Site;
 use std::alloc::Global;
 use std::marker::Model;
 use std::ptr::null_mut;
@@ -17,7 +17,7 @@ use std::ptr::null_mut;
 pub struct CotpadSite {
     pub(crate) at: *mut u8,
     alloc: Global,
-    pub ghost site: { Option SiteData } by { site_coded },
+    pub ghost site: { Option HostedData } by { site_coded },
 }
 
 impl Model for CotpadSite {
@@ -28,7 +28,7 @@ impl Model for CotpadSite {
 
 impl CotpadSite {
     /// The handle of the site.
-    pub(crate) fn filled(parts: Parts<Site, Global>) -> CotpadSite
+    pub(crate) fn filled(parts: Parts<Hosted, Global>) -> CotpadSite
         ensures { result.site ≡ Some parts.value }
     {
         let Parts { ptr, alloc } = parts;
@@ -39,13 +39,13 @@ impl CotpadSite {
     }
 
     /// Takes the site out of the handle.
-    pub(crate) fn emptied(self) -> Parts<Site, Global>
+    pub(crate) fn emptied(self) -> Parts<Hosted, Global>
         requires { IsSome self.site }
         ensures { self.site ≡ Some result.value }
     {
         let CotpadSite { at, alloc } = self;
         Parts {
-            ptr: at as *mut Site,
+            ptr: at as *mut Hosted,
             alloc,
         }
     }

@@ -1,7 +1,11 @@
 //! The core for hosts in C, and in languages that call C.
 //!
-//! A host has a handle of each site, and calls the exports with it. A handle *is* nothing, or a site. Each export states
-//! again what the call of the site promises; `include/cotpad.h` says it in words, and what a host owes.
+//! A host has a handle of each site, and calls the exports with it. A handle *is* nothing, or a site with what the last call
+//! released. Each export states again what the call of the site promises; `include/cotpad.h` says it in words, and what a host
+//! owes.
+//!
+//! A call that can change the site releases what is ready before it answers, and tells what it released; so a site whose calls
+//! had memory enough is settled between them, and what is saved is loaded again.
 #![tactic(auto)]
 
 mod cause;
@@ -9,6 +13,7 @@ mod edits;
 mod exchange;
 mod exports;
 mod handle;
+mod hosted;
 mod kinds;
 mod lending;
 mod making;

@@ -1,20 +1,24 @@
 //! What a site shows and has, as bytes in a buffer of the host's.
 
-ghost use Rattle.std.specs.Prelude.{◌≡◌, ◌⊎◌, Some, None, slice_get};
+ghost use Rattle.std.specs.Prelude.{◌≡◌, ◌≢◌, ◌⊎◌, ◌<◌, ◌≤◌, ◌↔◌, IsTrue, Some, None, length, slice_get, take};
 ghost use Rattle.op_name.specs.declared.member.Member.TheVariants.{Original};
 ghost use Rattle.context_diff.specs.Operations.{OpData};
 ghost use Rattle.context_diff.specs.Replays.{Cell, shown, text_of};
 ghost use Rattle.wire_codec.specs.Spelling.{frame};
-ghost use Rattle.cotpad_c.specs.declared.status.TheConstants.{OK, NO_MEMORY, NONE};
+ghost use Rattle.cot_site.specs.Sites.{state_of};
+ghost use Rattle.cot_site.specs.States.{IsSettled};
+ghost use Rattle.session_log.specs.declared.reading.TheConstants.{MAX_LOG};
 ghost use Rattle.session_log.specs.Logs.{log_of};
+ghost use Rattle.cotpad_c.specs.declared.status.TheConstants.{OK, NO_MEMORY, NONE, TOO_SHORT, TOO_LONG, UNSETTLED};
 ghost use Rattle.cotpad_c.specs.Operations.{member_told, operation_told};
+ghost use Rattle.cotpad_c.specs.Saving.{Loads};
 ghost use Rattle.cotpad_c.specs.Statuses.{Wrote};
 
 use crate::operation::{CotpadMember, CotpadOperation, member_told, operation_told};
-use crate::status::{NO_MEMORY, NONE, OK, TOO_SHORT};
-use cot_site::Site;
+use crate::status::{NO_MEMORY, NONE, OK, TOO_LONG, TOO_SHORT, UNSETTLED};
+use cot_site::{Site, settled_states_have_none_ready};
 use op_name::Member;
-use session_log::write_log;
+use session_log::{MAX_LOG, round_trip, write_log};
 use std::alloc::Global;
 use wire_codec::encode;
 
@@ -44,16 +48,57 @@ pub(crate) fn text(alloc: Global, site: &Site, out: &mut [u8], needed: &mut usiz
     }
 }
 
-/// The log of the site.
+/// The log of the site, where it is loaded again.
 pub(crate) fn log(alloc: Global, site: &Site, out: &mut [u8], needed: &mut usize) -> u32
-    ensures wrote { (result ≡ NO_MEMORY) ⊎ Wrote result (log_of site.now.history site.now.waiting) out.old out.new needed.new }
-    ensures err { result ≡ NO_MEMORY → (out.new ≡ out.old) × (needed.new ≡ needed.old) }
+    ensures unsettled { (result ≡ UNSETTLED) ↔ (¬ IsSettled (state_of site.now)) }
+    ensures long { IsSettled (state_of site.now) → MAX_LOG < length (log_of site.now.history site.now.waiting) → (result ≡ NO_MEMORY) ⊎ (result ≡ TOO_LONG) }
+    ensures wrote { IsSettled (state_of site.now) → length (log_of site.now.history site.now.waiting) ≤ MAX_LOG → (result ≡ NO_MEMORY) ⊎ Wrote result (log_of site.now.history site.now.waiting) out.old out.new needed.new }
+    ensures loads { result ≡ OK → Loads (take needed.new out.new) (state_of site.now) }
+    ensures err { result ≢ OK → result ≢ TOO_SHORT → (out.new ≡ out.old) × (needed.new ≡ needed.old) }
 {
+    if !is_settled(site) {
+        return UNSETTLED;
+    }
+    settled_log(alloc, site, out, needed)
+}
+
+// The same of a settled site.
+fn settled_log(alloc: Global, site: &Site, out: &mut [u8], needed: &mut usize) -> u32
+    requires { IsSettled (state_of site.now) }
+    ensures settled { result ≢ UNSETTLED }
+    ensures long { MAX_LOG < length (log_of site.now.history site.now.waiting) → (result ≡ NO_MEMORY) ⊎ (result ≡ TOO_LONG) }
+    ensures wrote { length (log_of site.now.history site.now.waiting) ≤ MAX_LOG → (result ≡ NO_MEMORY) ⊎ Wrote result (log_of site.now.history site.now.waiting) out.old out.new needed.new }
+    ensures loads { result ≡ OK → Loads (take needed.new out.new) (state_of site.now) }
+    ensures err { result ≢ OK → result ≢ TOO_SHORT → (out.new ≡ out.old) × (needed.new ≡ needed.old) }
+{
+    site.known();
+    site.pool().known();
+    round_trip();
     let mut bytes = Vec::new(alloc);
     match write_log(site, &mut bytes) {
-        Ok(()) => hand_out(bytes.as_slice(), out, needed),
+        Ok(()) => hand_out_log(bytes.as_slice(), out, needed),
         Err(_) => NO_MEMORY,
     }
+}
+
+// Copies the bytes of a log, unless they are too many to be loaded.
+fn hand_out_log(log: &[u8], out: &mut [u8], needed: &mut usize) -> u32
+    ensures long { MAX_LOG < length log.now → (result ≡ TOO_LONG) × (out.new ≡ out.old) × (needed.new ≡ needed.old) }
+    ensures wrote { length log.now ≤ MAX_LOG → Wrote result log.now out.old out.new needed.new }
+{
+    if log.len() > MAX_LOG {
+        return TOO_LONG;
+    }
+    hand_out(log, out, needed)
+}
+
+// Whether no waiting operation is ready.
+fn is_settled(site: &Site) -> bool
+    ensures { IsTrue result ↔ IsSettled (state_of site.now) }
+{
+    site.known();
+    settled_states_have_none_ready();
+    site.pool().first_ready(site.vector()).is_none()
 }
 
 /// The frame of the operation at this place of the history.

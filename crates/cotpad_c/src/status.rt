@@ -59,3 +59,7 @@ pub const EXTRA: u32 = 18;
 
 /// An operation of the log or of the message isn't taken.
 pub const REFUSED: u32 = 19;
+
+/// A waiting operation is ready: memory ran out before it was released, though what was asked is done; or, of a site that is
+/// to be saved, it has to be released first.
+pub const UNSETTLED: u32 = 20;

@@ -87,15 +87,79 @@ fn a_frame_that_comes_early_waits_and_is_released(rt: HostRuntime) -> Result<(),
         status::OK
     );
     assert_eq!(rt; verdict.kind, kinds::INTEGRATED);
-    assert_eq!(rt;
-        exports::cotpad_release(&mut site, &mut verdict),
-        status::OK
-    );
-    assert_eq!(rt; verdict.operation.scalar, 98);
+    assert_eq!(rt; exports::cotpad_characters(&mut site), 2);
+    assert_eq!(rt; exports::cotpad_waiting(&mut site), 0);
     assert_eq!(rt;
         exports::cotpad_release(&mut site, &mut verdict),
         status::NONE
     );
+    exports::cotpad_close(alloc, &mut site);
+    site.let_go();
+    Ok(())
+}
+
+#[test]
+fn what_a_delivery_frees_is_told(rt: HostRuntime) -> Result<(), Fail> {
+    let alloc = rt.alloc();
+    let mut site = opened(alloc)?;
+    let mut verdict = incomplete(0);
+    assert_eq!(rt;
+        exports::cotpad_receive(alloc, &mut site, SECOND, &mut verdict),
+        status::OK
+    );
+    assert_eq!(rt; exports::cotpad_released(&mut site), 0);
+    assert_eq!(rt;
+        exports::cotpad_receive(alloc, &mut site, FIRST, &mut verdict),
+        status::OK
+    );
+    assert_eq!(rt; exports::cotpad_released(&mut site), 1);
+    assert_eq!(rt;
+        exports::cotpad_released_at(&mut site, 0, &mut verdict),
+        status::OK
+    );
+    assert_eq!(rt; verdict.kind, kinds::INTEGRATED);
+    assert_eq!(rt; verdict.operation.kind, 0);
+    assert_eq!(rt; verdict.operation.member.number, 2);
+    assert_eq!(rt;
+        exports::cotpad_released_at(&mut site, 1, &mut verdict),
+        status::NONE
+    );
+    exports::cotpad_close(alloc, &mut site);
+    site.let_go();
+    Ok(())
+}
+
+/// Insert 1.1 of `x` at place 9, after 0.1 and the undo of it: there is one cell.
+const FAR: &[u8] = &[
+    0, 0, 0, 29, 1, 1, 0, 0, 0, 1, 0, 0, 0, 9, 0, 0, 0, 120, 1, 0, 0, 0, 0, 1, 0, 1, 0, 0, 0, 0, 1,
+    0, 1,
+];
+
+#[test]
+fn an_undo_frees_what_waited_for_it(rt: HostRuntime) -> Result<(), Fail> {
+    let alloc = rt.alloc();
+    let mut site = opened(alloc)?;
+    let mut verdict = incomplete(0);
+    assert_eq!(rt;
+        exports::cotpad_receive(alloc, &mut site, FIRST, &mut verdict),
+        status::OK
+    );
+    assert_eq!(rt;
+        exports::cotpad_receive(alloc, &mut site, FAR, &mut verdict),
+        status::OK
+    );
+    assert_eq!(rt; verdict.kind, kinds::WAITS);
+    assert_eq!(rt; exports::cotpad_undo(&mut site, 0, 1), status::OK);
+    assert_eq!(rt; exports::cotpad_waiting(&mut site), 0);
+    assert_eq!(rt;
+        exports::cotpad_released_at(&mut site, 0, &mut verdict),
+        status::OK
+    );
+    assert_eq!(rt; verdict.kind, kinds::PLACE_OUT);
+    assert_eq!(rt; verdict.place, 9);
+    assert_eq!(rt; verdict.cells, 1);
+    assert_eq!(rt; exports::cotpad_settle(&mut site), status::OK);
+    assert_eq!(rt; exports::cotpad_released(&mut site), 0);
     exports::cotpad_close(alloc, &mut site);
     site.let_go();
     Ok(())

@@ -1,7 +1,7 @@
 //! Verdicts as a host reads them.
 
 ghost use Rattle.std.specs.Prelude.{◌≡◌};
-ghost use Rattle.cotpad_c.specs.Verdicts.{blank, told, incomplete, malformed, at_offset, unfit};
+ghost use Rattle.cotpad_c.specs.Verdicts.{blank, told, incomplete, malformed, at_offset, of_member, unfit};
 
 use crate::cause::cause_number;
 use crate::kinds::{
@@ -101,13 +101,20 @@ pub(crate) fn at_offset(offset: u32) -> CotpadVerdict
     out
 }
 
+/// The verdict on an operation of which the member alone is told.
+pub(crate) fn of_member(member: Member, verdict: Verdict) -> CotpadVerdict
+    ensures { result ≡ of_member member verdict }
+{
+    let mut operation = no_operation();
+    operation.member = member_told(member);
+    told(operation, 0, verdict)
+}
+
 /// The verdict for which an operation isn't taken, and its place among the bytes.
 pub(crate) fn unfit(member: Member, verdict: Verdict, offset: u32) -> CotpadVerdict
     ensures { result ≡ unfit member verdict offset }
 {
-    let mut operation = no_operation();
-    operation.member = member_told(member);
-    let mut out = told(operation, 0, verdict);
+    let mut out = of_member(member, verdict);
     out.offset = offset;
     out
 }

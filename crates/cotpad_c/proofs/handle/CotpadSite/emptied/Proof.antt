@@ -25,7 +25,7 @@ use denote.Triple.Table.{entered}
 use denote.Triple.Walked.{says, Stays, stay_dropped, walk_of, ends_at, Goes-dropped, walk_Meets}
 use Rattle.std_alloc.proofs.BoxSteps.Form.{D, word, box_typed}
 use Rattle.std_alloc.proofs.BoxSteps.Steps.{box_out, box_in}
-use Rattle.cot_site.specs.contracts.site.Site as Site
+use Rattle.cotpad_c.specs.contracts.hosted.Hosted as Hosted
 use Rattle.cotpad_c.specs.contracts.handle.CotpadSite as Handle
 use Rattle.cotpad_c.proofs.Held.{Got, got_of}
 use Rattle.cotpad_c.proofs.AsBox.{E, FromSite as From}
@@ -50,7 +50,7 @@ module _ {M : Type 1} {𝓤 : Ura M} (𝓛 : Logic 𝓤) (at_mem : Memory → SP
       let v : D E = record { ptr = h.at; alloc = h.alloc; value = x } in
       let made : To.Denot = record { ptr = v.ptr; alloc = v.alloc; value = v.value } in
       split ! $ drop ! $ fsplit ! $
-      rewrite ! 0 (λ (held : Option (Site.the_row).Denot). ‵ ((Handle.the_row).own_val (record h { site = held }) z.0.4.0)) full refl $
+      rewrite ! 0 (λ (held : Option (Hosted.the_row).Denot). ‵ ((Handle.the_row).own_val (record h { site = held }) z.0.4.0)) full refl $
       box_out E ! v z.0.4.0 (λ b o hv e ws fa. box_in E ! v b o v.value e refl $ use1 𝓛 (‵ (To.own_val made (word E hv b o ∷ []))) (id⊢ 𝓤 _) $ move ! (1 ∷ []) $ drop ! $
       let w = word E hv b o in
       let Γ : List (Item 𝓤) = ‵ (To.own_val made (w ∷ [])) ∷ [] in

@@ -1,4 +1,4 @@
--- `inner` lends the site behind the pointer, and the handle follows it.
+-- `inner` lends what is behind the pointer, and the handle follows it.
 use mathlib.Core.Path.{◌≡◌, refl}
 use Prim.Native.Nat.{ℕ}
 use Rattle.std.specs.Prelude.{Option, Some, IsSome}
@@ -39,8 +39,8 @@ use Rattle.std_alloc.proofs.BoxSteps.Form.{D, τ, word, handle}
 use Rattle.std_alloc.proofs.BoxSteps.Steps.{box_out, box_in}
 use Rattle.cotpad_c.proofs.AsBox.{E}
 use Rattle.cotpad_c.proofs.Held.{Got, got_of}
-use Rattle.cotpad_c.specs.Lending.{with_site}
-use Rattle.cot_site.specs.contracts.site.Site as Site
+use Rattle.cotpad_c.specs.Lending.{with_hosted}
+use Rattle.cotpad_c.specs.contracts.hosted.Hosted as Hosted
 use Rattle.cotpad_c.specs.contracts.handle.CotpadSite as Handle
 use Rattle.cotpad_c.specs.contracts.handle.CotpadSite.inner as F
 use Rattle.cotpad_c.specs.contracts.handle.CotpadSite.inner.Key.{name as #self}
@@ -51,7 +51,7 @@ abbrev B : RattleType
 B = Handle.the_row
 
 abbrev R : RattleType
-R = Site.the_row
+R = Hosted.the_row
 
 abbrev stayed : Stays (F.ended).signature.params (F.ended).kept
 stayed = (stay_dropped (mut_ref_to (0 ∷ []) tt (plain (λ _. B))) no, tt)
@@ -75,17 +75,17 @@ module _ {M : Type 1} {𝓤 : Ura M} (𝓛 : Logic 𝓤) (at_mem : Memory → SP
       abbrev Rest : Fml
       Rest = fsep (fsep (token E.al h.alloc (bare (τ E)) (block_ptr b o)) (handle E h.alloc hv)) (cell_at full_share B.mir (word E hv b o ∷ []) rb ro)
 
-      back : h.at ≡ block_ptr b o → (w : R.Denot) → ent 𝓤 (sep 𝓤 (sem 𝓛 ((mem R).own_at w b o)) (sem 𝓛 Rest)) (sem 𝓛 ((mem B).own_at (with_site h w) rb ro))
+      back : h.at ≡ block_ptr b o → (w : R.Denot) → ent 𝓤 (sep 𝓤 (sem 𝓛 ((mem R).own_at w b o)) (sem 𝓛 Rest)) (sem 𝓛 ((mem B).own_at (with_hosted h w) rb ro))
       unfolding part_of
       back at_b w =
           qed 𝓛 (‵ (part_at R full_share w b o) ∷ ‵ Rest ∷ []) ∵ move ! (1 ∷ []) $ fsplit ! $ fsplit ! $ move ! (3 ∷ []) $
           box_in E ! (record d { value = w }) b o w at_b refl $ move ! (1 ∷ 0 ∷ []) $ fjoin ! $
-          fpack ! (List Val) (λ us. fsep (cell_at full_share B.mir us rb ro) (B.own_val (with_site h w) us)) (word E hv b o ∷ []) $ done !
+          fpack ! (List Val) (λ us. fsep (cell_at full_share B.mir us rb ro) (B.own_val (with_hosted h w) us)) (word E hv b o ∷ []) $ done !
 
       exits : (γ' : GName)
-          → ent 𝓤 (sep 𝓤 (sem 𝓛 ((MutRef (named 0) κ R).own_val (record { ref_ptr = (b, o); ghost_name = γ'; now = x }) (vptr b o ∷ []))) (sep 𝓤 (A.lft κ q) (sem 𝓛 (follows B R γ γ' (with_site h))))) (Post (vptr b o))
+          → ent 𝓤 (sep 𝓤 (sem 𝓛 ((MutRef (named 0) κ R).own_val (record { ref_ptr = (b, o); ghost_name = γ'; now = x }) (vptr b o ∷ []))) (sep 𝓤 (A.lft κ q) (sem 𝓛 (follows B R γ γ' (with_hosted h))))) (Post (vptr b o))
       exits γ' =
-          qed 𝓛 (‵ ((MutRef (named 0) κ R).own_val (record { ref_ptr = (b, o); ghost_name = γ'; now = x }) (vptr b o ∷ [])) ∷ ‵ (flft κ q) ∷ ‵ (follows B R γ γ' (with_site h)) ∷ []) ∵
+          qed 𝓛 (‵ ((MutRef (named 0) κ R).own_val (record { ref_ptr = (b, o); ghost_name = γ'; now = x }) (vptr b o ∷ [])) ∷ ‵ (flft κ q) ∷ ‵ (follows B R γ γ' (with_hosted h)) ∷ []) ∵
           suffices ! _ (ends_at 𝓛 F.ended stayed (F.clauses 𝓛 at_mem run) bound (vptr b o) (record { ref_ptr = (b, o); ghost_name = γ'; now = x }) (tt, tt) (tt, tt)) $
           nothing ! $ nothing ! $ fjoin ! $ join ! $ nothing ! $ move ! (2 ∷ 0 ∷ []) $ join ! $ join ! $ frame ! $ says ! full $ done !
 
@@ -106,8 +106,8 @@ module _ {M : Type 1} {𝓤 : Ura M} (𝓛 : Logic 𝓤) (at_mem : Memory → SP
           exec ! C Λ En (after 1 code.function.body) (at_ret En Post) $
           sets ! (of_opd ! (get ! refl)) refl (tt, tt) $
           move ! (1 ∷ 2 ∷ []) $ fjoin ! $ move ! (2 ∷ 3 ∷ 4 ∷ 1 ∷ 0 ∷ []) $ group ! 5 $
-          use1 𝓛 (later (some (λ (γ' : GName). raw (Part 𝓛 B R (with_site h) (named 0) κ q rb ro b o γ (sem 𝓛 (Rest b o hv)) (back b o hv at_b) x γ'))))
-          (lends_Part 𝓛 B R (with_site h) (named 0) κ q rb ro b o γ (sem 𝓛 (Rest b o hv)) (back b o hv at_b) (B.coded.code h) (B.coded.code h) x) $ await ! tt $ pick ! (λ γ'.
+          use1 𝓛 (later (some (λ (γ' : GName). raw (Part 𝓛 B R (with_hosted h) (named 0) κ q rb ro b o γ (sem 𝓛 (Rest b o hv)) (back b o hv at_b) x γ'))))
+          (lends_Part 𝓛 B R (with_hosted h) (named 0) κ q rb ro b o γ (sem 𝓛 (Rest b o hv)) (back b o hv at_b) (B.coded.code h) (B.coded.code h) x) $ await ! tt $ pick ! (λ γ'.
           returns ! (look_at ! 0 refl) $ free_all ! refl $
           keep ! (0 ∷ []) $ by ! (exits b o hv γ')))))
 
