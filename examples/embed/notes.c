@@ -97,7 +97,7 @@ static void take_in(person *people, int who) {
         while ((status = cotpad_release(&p->site, &v)) == COTPAD_OK) tell(who, "released", &v);
         if (status != COTPAD_NONE) stop("release", status);
     }
-    memmove(p->inbox, p->inbox + at, p->held - at);
+    if (at > 0) memmove(p->inbox, p->inbox + at, p->held - at); /* an inbox that was never filled is null */
     p->held -= at;
 }
 
