@@ -4,6 +4,7 @@ from __future__ import annotations
 import errno
 import os
 import resource
+import stat
 import subprocess
 import sys
 
@@ -273,6 +274,20 @@ def test_a_folder_that_is_read_only(path):
             assert text_in(path) == ""
         finally:
             path.parent.chmod(0o700)
+
+
+def test_bytes_are_on_the_disk_before_they_take_the_place_of_the_old_ones(tmp_path, monkeypatch):
+    """No test cuts the power, so this one looks at the order of the calls."""
+    calls, replace, fsync = [], os.replace, os.fsync
+
+    def flushed(descriptor):
+        calls.append("folder" if stat.S_ISDIR(os.fstat(descriptor).st_mode) else f"{os.fstat(descriptor).st_size} bytes")
+        fsync(descriptor)
+
+    monkeypatch.setattr(os, "fsync", flushed)
+    monkeypatch.setattr(os, "replace", lambda *names: calls.append("replace") or replace(*names))
+    write_safely(tmp_path / "file", b"four")
+    assert calls == ["4 bytes", "replace", "folder"]
 
 
 def test_write_safely_keeps_links_and_permissions(tmp_path):

@@ -1,6 +1,8 @@
 """Each call of a site."""
 from __future__ import annotations
 
+import subprocess
+import sys
 import threading
 
 import pytest
@@ -196,6 +198,7 @@ def test_logs_that_are_not_taken():
     other = why(head + FIRST + insert_frame(0, 1, 0, "b", []))
     assert (other.status, other.offset, other.became, other.name) == (Status.REFUSED, 29, Became.FORGED, Name(0, 1))
     assert str(other) == "refused"
+    refused(Status.TOO_LONG, Site.load, 0, bytes((1 << 26) + 1))
 
 
 def test_an_exchange(sites):
@@ -268,6 +271,19 @@ def test_another_thread(sites):
     thread.start()
     thread.join()
     assert len(raised) == 1 and sites[0].text == ""
+
+
+def test_a_site_that_is_dropped_on_another_thread_is_warned_of():
+    dropped = [Site(9)]
+    with pytest.warns(ResourceWarning, match="site 9"):
+        thread = threading.Thread(target=dropped.clear)
+        thread.start()
+        thread.join()
+
+
+def test_a_site_that_is_open_at_the_end_of_the_process():
+    code = "import cotpad; site = cotpad.Site(0); site.insert(0, 'a'); undo = cotpad.Undo(site)"
+    assert subprocess.run([sys.executable, "-W", "error", "-c", code], capture_output=True, check=True).stderr == b""
 
 
 def test_every_exception_is_one_of_cotpad():
