@@ -1,7 +1,10 @@
 # `make` proves and builds the program, and leaves it at bin/cotpad; `make lib` leaves the library for hosts in lib/. `make quick`
 # and `make quick-lib` leave the same in quick/ within two minutes, and prove nothing. `make demo` replays and shows the examples,
-# and lets two copies exchange; `make check-hosts` runs hosts in C and in Python over the library.
-.PHONY: all lib quick quick-lib demo check-examples check-bytes check-memory check-hosts check-edits doors trust clean
+# and lets two copies exchange; `make check-hosts` runs hosts in C and in Python over the library. `make wheel` makes a package for
+# Python of it, and `make install` installs it.
+.PHONY: all lib quick quick-lib demo wheel install
+.PHONY: check-examples check-bytes check-memory check-hosts check-python check-wheel check-install check-sanitizers check-edits
+.PHONY: doors trust clean
 
 # Twice as many recipes at once as there are processors, where no -j says otherwise: those that most others wait for go first, and the
 # others take what these leave (tools/lib).
@@ -70,10 +73,13 @@ lib/libcotpad.a: $(call files,cotpad_c) $(call made,$(call below,cotpad_c)) incl
 	$(CC) -shared -o $@ -Wl,-soname,libcotpad.so.1 -Wl,-z,defs -Wl,--whole-archive $< -Wl,--no-whole-archive
 	ln -sf libcotpad.so.1 $*/libcotpad.so
 
+# What pkg-config reads, for a header in the folder $(1)/include and a library in the folder $(2).
+pkg-config-file = printf '%s\n' 'prefix=$(1)' 'includedir=$${prefix}/include' 'libdir=$(2)' 'Name: cotpad' \
+	'Description: the core of a group text editor' 'Version: 1' 'Cflags: -I$${includedir}' 'Libs: -L$${libdir} -lcotpad'
+
 %/cotpad.pc: Makefile
 	@mkdir -p $*
-	printf '%s\n' 'prefix=$(CURDIR)' 'Name: cotpad' 'Description: the core of a group text editor' 'Version: 1' \
-		'Cflags: -I$${prefix}/include' 'Libs: -L$${prefix}/$* -lcotpad' > $@
+	$(call pkg-config-file,$(CURDIR),$${prefix}/$*) > $@
 
 # The program and the library for hosts, to try things: nothing is claimed of them.
 quick: quick/cotpad
@@ -90,6 +96,10 @@ quick/libcotpad.a: $(foreach it,cotpad_c $(call below,cotpad_c),$(call files,$(i
 	$(call one-object,quick/exports.a)
 	@rm quick/exports.a
 
+needs-library = @test -f "$(LIB)/libcotpad.a" || \
+	{ echo "there is no library for hosts: call \`make quick-lib\` or \`make lib\` first" >&2; false; }
+# The package for Python as it stands here, over that library.
+PACKAGE = COTPAD_LIB=$(abspath $(LIB))/libcotpad.so.1 PYTHONPATH=$(CURDIR)/python/src PYTHONDONTWRITEBYTECODE=1
 HOST_FLAGS := -std=c99 -Wall -Wextra -Wpedantic -O2 -Iinclude
 # The folder of the library that hosts are linked with.
 LIB ?= $(patsubst %/libcotpad.a,%,$(firstword $(wildcard lib/libcotpad.a quick/libcotpad.a)))
@@ -98,12 +108,17 @@ LIB ?= $(patsubst %/libcotpad.a,%,$(firstword $(wildcard lib/libcotpad.a quick/l
 # operations that the user's own edits free, which are released and told, so that what is saved is loaded. Where valgrind is there,
 # it has to find no bad access and no block left.
 check-hosts:
-	@test -f "$(LIB)/libcotpad.a" || { echo "there is no library for hosts: call \`make quick-lib\` or \`make lib\` first" >&2; false; }
+	$(needs-library)
 	@echo "with $(LIB)/libcotpad.a"
 	@mkdir -p bin
 	$(CC) $(HOST_FLAGS) -o bin/notes examples/embed/notes.c $(LIB)/libcotpad.a
 	bin/notes | diff - examples/embed/notes.c.out
-	COTPAD_LIB=$(abspath $(LIB))/libcotpad.so.1 python3 examples/embed/notes.py | diff - examples/embed/notes.py.out
+	$(PACKAGE) python3 examples/embed/notes.py | diff - examples/embed/notes.py.out
+# In C++, and with two threads.
+	$(CXX) -std=c++17 -Wall -Wextra -Wpedantic -O2 -Iinclude -o bin/classes tools/hosts/classes.cc $(LIB)/libcotpad.a
+	bin/classes
+	$(CC) $(HOST_FLAGS) -pthread -o bin/threads tools/hosts/threads.c $(LIB)/libcotpad.a
+	bin/threads
 	$(CC) $(HOST_FLAGS) -Wl,--wrap=malloc,--wrap=realloc -o bin/no_memory tools/hosts/no_memory.c $(LIB)/libcotpad.a
 	bin/no_memory
 	$(CC) $(HOST_FLAGS) -o bin/settles tools/hosts/settles.c $(LIB)/libcotpad.a
@@ -113,6 +128,59 @@ check-hosts:
 	else \
 		echo "no valgrind here: bin/notes wasn't run with it"; \
 	fi
+	@$(MAKE) --no-print-directory check-python LIB=$(LIB)
+
+# The tests of the package for Python, over the library in the folder that LIB names. PYTHON= names another Python.
+check-python:
+	$(needs-library)
+	@python=$$(tools/python pytest) || exit 1; cd python && $(PACKAGE) $$python -m pytest
+
+# A package for Python in dist/, which holds the library in the folder that LIB names. Nothing is fetched.
+wheel:
+	$(needs-library)
+	@rm -rf bin/wheel dist && mkdir -p bin/wheel && cp -r python/pyproject.toml python/setup.py python/README.md python/src LICENSE bin/wheel
+	@python=$$(tools/python pip setuptools wheel) || exit 1; \
+	COTPAD_LIB=$(abspath $(LIB))/libcotpad.so.1 $(if $(filter lib,$(LIB)),,COTPAD_UNPROVED=1) \
+		$$python -m pip wheel -q --no-deps --no-index --no-build-isolation --wheel-dir dist bin/wheel
+	@echo "$$(echo dist/*.whl): made of $(LIB)/libcotpad.so.1"
+
+# Installs the wheel into a new environment, and runs the three people with it, elsewhere.
+check-wheel: wheel
+	@rm -rf bin/venv; python=$$(tools/python venv pip) || exit 1; $$python -m venv bin/venv
+	bin/venv/bin/python -m pip install -q --no-index dist/*.whl
+	cd / && env -u PYTHONPATH -u COTPAD_LIB $(CURDIR)/bin/venv/bin/python $(CURDIR)/examples/embed/notes.py | \
+		diff - $(CURDIR)/examples/embed/notes.py.out
+	@echo "the wheel works in an environment of its own"
+
+PREFIX ?= /usr/local
+LIBDIR ?= $(PREFIX)/lib
+# Where things are put, which may be another place than where they will be used.
+TO = $(DESTDIR)$(PREFIX)
+
+# Installs the header, the library of the folder that LIB names, and the program if there is one.
+install:
+	$(needs-library)
+	install -d "$(TO)/include" "$(DESTDIR)$(LIBDIR)/pkgconfig"
+	install -m 644 include/cotpad.h "$(TO)/include"
+	install -m 644 "$(LIB)/libcotpad.a" "$(DESTDIR)$(LIBDIR)"
+	install -m 755 "$(LIB)/libcotpad.so.1" "$(DESTDIR)$(LIBDIR)"
+	ln -sf libcotpad.so.1 "$(DESTDIR)$(LIBDIR)/libcotpad.so"
+	$(call pkg-config-file,$(PREFIX),$(LIBDIR)) > "$(DESTDIR)$(LIBDIR)/pkgconfig/cotpad.pc"
+	@if program=$$(tools/program 2> /dev/null); then \
+		install -d "$(TO)/bin" && install -m 755 "$$program" "$(TO)/bin/cotpad" && echo "installed $$program as $(TO)/bin/cotpad"; \
+	else \
+		echo "no program was built: it isn't installed"; \
+	fi
+
+# Installs into a temporary folder, and builds and runs hosts with what was installed.
+check-install:
+	$(needs-library)
+	@MAKE="$(MAKE)" CC="$(CC)" LIB="$(LIB)" tools/check-install
+
+# Hosts in C under the sanitizers of the compiler, and one with threads. The library itself isn't compiled for them.
+check-sanitizers:
+	$(needs-library)
+	@CC="$(CC)" CXX="$(CXX)" LIB="$(LIB)" tools/check-sanitizers
 
 # A port of this machine that nobody uses.
 FREE_PORT = $$(python3 -c 'import socket; it = socket.create_server(("127.0.0.1", 0)); print(it.getsockname()[1])')
@@ -166,4 +234,4 @@ doors:
 	@tools/doors
 
 clean:
-	rm -rf bin lib quick
+	rm -rf bin lib quick dist

@@ -1,0 +1,512 @@
+"""One person's copy of a group text, in memory."""
+from __future__ import annotations
+
+import contextlib
+import ctypes
+import threading
+import warnings
+import weakref
+from collections.abc import Callable, Iterable, Iterator, Sequence
+from pathlib import Path as PathOf
+from typing import Any, Optional, Protocol, Union, overload
+
+from . import _library as lib
+from .errors import BadBytes, CotpadError, Refused, Unsettled, must, taken
+from .storage import Path, write_safely
+from .values import Became, Delivered, Edit, Kind, Member, Name, Operation, Status
+
+# A buffer for answers is kept up to this size.
+KEPT = 1 << 20
+
+
+# Delivers the frame that bytes have at an offset: the verdict, and what became of the operation and of those it released.
+Taken = tuple[lib.Verdict, list[Delivered]]
+Take = Callable[[bytes, int], Taken]
+
+
+class Watcher(Protocol):
+    """One who is told of each edit of a site."""
+
+    def edited(self, edit: Edit) -> None: ...
+
+
+class Batch:
+    """Edits whose frames are handed out together, by `edit`, once the batch has ended. What the calls themselves answer tells the
+    operations, and has no frames."""
+
+    def __init__(self, do: Callable[[Callable[[Site], Edit]], Edit]) -> None:
+        self._do = do
+        self._edit: Optional[Edit] = None
+
+    def insert(self, place: int, text: str) -> Edit:
+        """Inserts a text after so many shown characters."""
+        return self._do(lambda site: site.insert(place, text))
+
+    def delete(self, place: int, count: int = 1) -> Edit:
+        """Deletes so many shown characters from this place on."""
+        return self._do(lambda site: site.delete(place, count))
+
+    def undo(self, name: tuple[int, int]) -> Edit:
+        """Undoes an insert or a delete, whoever made it."""
+        return self._do(lambda site: site.undo(name))
+
+    def redo(self, name: tuple[int, int]) -> Edit:
+        """Redoes an insert or a delete, whoever undid it."""
+        return self._do(lambda site: site.redo(name))
+
+    def undo_each(self, names: Iterable[tuple[int, int]]) -> Edit:
+        """Undoes these, one after the other, and passes over those that aren't in force."""
+        return self._do(lambda site: site.undo_each(names))
+
+    def redo_each(self, names: Iterable[tuple[int, int]]) -> Edit:
+        """Redoes these, one after the other, and passes over those that are in force."""
+        return self._do(lambda site: site.redo_each(names))
+
+    @property
+    def edit(self) -> Edit:
+        """All that was done, with the frames."""
+        if self._edit is None:
+            raise RuntimeError("a batch hands out its frames once it has ended")
+        return self._edit
+
+
+class History(Sequence[Operation]):
+    """The integrated operations of a site, in the order of integration; those that come later are seen too."""
+
+    def __init__(self, site: Site) -> None:
+        self._site = site
+
+    def __len__(self) -> int:
+        return self._site.operations
+
+    @overload
+    def __getitem__(self, at: int) -> Operation: ...
+    @overload
+    def __getitem__(self, at: slice) -> list[Operation]: ...
+    def __getitem__(self, at: Union[int, slice]) -> Union[Operation, list[Operation]]:
+        if isinstance(at, slice):
+            return [self._site.operation(index) for index in range(*at.indices(len(self)))]
+        return self._site.operation(range(len(self))[at])
+
+
+class Incoming:
+    """The bytes that one sender sends, in pieces as they come. Each connection has one of its own, since what is missing of a frame
+    comes from the one who sent its beginning. `rest` is what came of a frame that isn't whole yet; at the end of a connection that
+    is whole it is empty."""
+
+    def __init__(self, take: Take, held: bytes = b"") -> None:
+        self._take, self.rest = take, held
+
+    def receive(self, data: bytes) -> list[Delivered]:
+        """Delivers each frame that is whole, holds what is there of the next one, and answers what became of each operation, releases
+        included. Where this raises, `delivered` of the exception has what was done before; bytes that weren't looked at are held,
+        so that `receive(b"")` goes on, but for BadBytes, which has them as its `rest`."""
+        data, at, told = self.rest + bytes(data), 0, list[Delivered]()
+        try:
+            while at < len(data):
+                verdict, became = self._take(data, at)
+                if verdict.kind == Became.INCOMPLETE:
+                    break
+                if verdict.kind == Became.MALFORMED:
+                    bad, at = at, len(data)
+                    raise BadBytes(verdict.cause, bad + verdict.offset, data[bad:])
+                at += verdict.used
+                told += became
+        except Unsettled as why:  # this frame was delivered
+            at += why.used
+            why.delivered = told + list(why.delivered)
+            raise
+        except CotpadError as why:
+            why.delivered = told
+            raise
+        finally:
+            self.rest = data[at:]
+        return told
+
+
+class Site:
+    """One person's copy of a group text. It is closed by `close`, or by leaving its `with`, and used on the thread that made it.
+
+    Its number, 0 to 63, belongs to this copy alone, for ever: two copies that edit under one number give one name twice. That happens
+    as well where a host sends a frame, stops before it has saved, and goes on from what it saved before. `Document` is a site that
+    saves first; a host that uses `Site` itself has to see to that."""
+
+    def __init__(self, number: int) -> None:
+        self._begin(number)
+        must(lib.open_site(self._handle, _number(number)))
+
+    def _begin(self, number: int) -> None:
+        self._handle, self._thread = lib.Handle(), threading.get_ident()
+        self._number, self._buffer = number, (lib.byte * 256)()
+        self._rooms: dict[str, int] = {}  # what long answers of a call took the last time
+        self._rest = b""
+        self._watchers: weakref.WeakSet[Watcher] = weakref.WeakSet()
+
+    @classmethod
+    def load(cls, number: int, data: bytes) -> Site:
+        """The site of this number that a log makes, as `save` answers it. It has to be the newest log of this number, or one of others if
+        the number was never used."""
+        site, why, data = cls.__new__(cls), lib.Verdict(), bytes(data)
+        site._begin(number)
+        taken(lib.load(site._handle, _number(number), data, len(data), why), why)
+        return site
+
+    @classmethod
+    def load_from(cls, number: int, path: Path) -> Site:
+        """The site of this number that a log in a file makes."""
+        return cls.load(number, PathOf(path).read_bytes())
+
+    def save(self) -> bytes:
+        """The log: the bytes from which `load` makes a site with the same history, in which the same waits."""
+        return self._written(lib.save)
+
+    def save_to(self, path: Path) -> None:
+        """Puts the log into a file, so that the file has its old bytes or the new ones, whenever the machine stops."""
+        write_safely(path, self.save())
+
+    @property
+    def number(self) -> int:
+        """The number of the site."""
+        return self._number
+
+    @property
+    def closed(self) -> bool:
+        """Whether the site was closed."""
+        return not self._handle.inside
+
+    @property
+    def _at(self) -> lib.Handle:
+        if not self._handle.inside:
+            raise ValueError("the site is closed")
+        if self._thread != threading.get_ident():
+            raise RuntimeError("a site is used on the thread that made it")
+        return self._handle
+
+    def close(self) -> None:
+        """Frees all that the site has. A closed site may be closed again."""
+        if self._handle.inside:
+            lib.close_site(self._at)
+
+    def __enter__(self) -> Site:
+        return self
+
+    def __exit__(self, *why: object) -> None:
+        self.close()
+
+    def __del__(self) -> None:
+        handle = getattr(self, "_handle", None)
+        if handle is None or not handle.inside:
+            return
+        if self._thread == threading.get_ident():
+            lib.close_site(handle)
+        else:
+            warnings.warn(f"site {self._number} was not closed on its thread, and its memory is lost", ResourceWarning, stacklevel=2)
+
+    # What the user of the site does.
+
+    def insert(self, place: int, text: str) -> Edit:
+        """Inserts a text after so many shown characters, one operation a character. Where memory or numbers run out, those before it stay:
+        `edit` of the exception has them."""
+        data, made = text.encode("utf-8", "surrogatepass"), lib.u32()
+        return self._edited(lambda at: lib.insert_text(at, _place(place), data, len(data), made), made)
+
+    def delete(self, place: int, count: int = 1) -> Edit:
+        """Deletes so many shown characters from this place on, from 0. Where they aren't all there, none is deleted."""
+        made = lib.u32()
+        return self._edited(lambda at: lib.delete_range(at, _place(place), _place(count), made), made)
+
+    def undo(self, name: tuple[int, int]) -> Edit:
+        """Undoes an insert or a delete, whoever made it."""
+        return self._edited(lambda at: lib.undo(at, *_name(name)))
+
+    def redo(self, name: tuple[int, int]) -> Edit:
+        """Redoes an insert or a delete, whoever undid it."""
+        return self._edited(lambda at: lib.redo(at, *_name(name)))
+
+    def undo_each(self, names: Iterable[tuple[int, int]]) -> Edit:
+        """Undoes these inserts and deletes, one after the other, and passes over those that aren't in force."""
+        return _each(self.undo, names, Status.NOT_IN_FORCE)
+
+    def redo_each(self, names: Iterable[tuple[int, int]]) -> Edit:
+        """Redoes these inserts and deletes, one after the other, and passes over those that are in force."""
+        return _each(self.redo, names, Status.IN_FORCE)
+
+    @contextlib.contextmanager
+    def batch(self) -> Iterator[Batch]:
+        """Edits whose frames are handed out together; also where an exception leaves the `with`."""
+        done: list[Edit] = []
+
+        def do(act: Callable[[Site], Edit]) -> Edit:
+            try:
+                done.append(act(self))
+            except Refused as why:
+                done.append(why.edit)
+                why.edit = why.edit.without_frames()
+                raise
+            return done[-1].without_frames()
+
+        batch = Batch(do)
+        try:
+            yield batch
+        finally:
+            batch._edit = Edit.of(done)
+
+    def _edited(self, call: Callable[[lib.Handle], int], made: Optional[ctypes.c_uint32] = None) -> Edit:
+        """Does an edit: `made` says how many operations it made, if they aren't one or none."""
+        since = self.operations
+        status = call(self._at)
+        count = made.value if made is not None else int(status in (Status.OK, Status.UNSETTLED))
+        edit = self._edit_since(since) if count else Edit()
+        if edit and self._watchers:
+            for watcher in list(self._watchers):
+                watcher.edited(edit)
+        try:
+            edit = self.complete(edit, since)
+        except Refused as why:
+            why.edit = edit
+            raise
+        if status == Status.UNSETTLED:
+            raise Unsettled(edit, edit.released)
+        if status != Status.OK:
+            raise Refused(status, edit)
+        return edit
+
+    def _edit_since(self, since: int) -> Edit:
+        """What an edit made, and what it released: that may stand between the operations that it made."""
+        came, released = self._operations(since), self._released(since)
+        if released:
+            of_others = {it.operation.member for it in released if it.became == Became.INTEGRATED}
+            came = [it for it in came if it.member not in of_others]
+        return Edit((), tuple(came), tuple(released))
+
+    def complete(self, edit: Edit, since: int = 0) -> Edit:
+        """An edit of this site with all its frames, whose operations stand in the history from `since` on."""
+        at: Iterable[int] = range(since, since + len(edit.operations))
+        if edit.released or not since:
+            index_of = {it.member: index for index, it in enumerate(self._operations(since), since)}
+            at = [index_of[it.member] for it in edit.operations]
+        return Edit(tuple(self.frame(index) for index in at), edit.operations, edit.released)
+
+    def _operations(self, since: int) -> list[Operation]:
+        return [self.operation(index) for index in range(since, self.operations)]
+
+    # What comes from others.
+
+    def receive(self, data: bytes) -> list[Delivered]:
+        """Takes bytes of one sender as they come, also a part of a frame: see `Incoming.receive`."""
+        incoming = Incoming(self._take, self._rest)
+        try:
+            return incoming.receive(data)
+        finally:
+            self._rest = incoming.rest
+
+    def incoming(self) -> Incoming:
+        """Takes the bytes of one more sender, whose pieces don't mix with those of others."""
+        return Incoming(self._take)
+
+    def _take(self, data: bytes, at: int) -> Taken:
+        since, verdict = self.operations, lib.Verdict()
+        status = lib.receive(self._at, lib.address(data, at), len(data) - at, verdict)
+        if status not in (Status.OK, Status.UNSETTLED):
+            must(status)
+        if verdict.kind in (Became.INCOMPLETE, Became.MALFORMED):
+            return verdict, []
+        told = [_delivered(verdict, _operation(verdict.operation)), *self._released(since)]
+        if status == Status.UNSETTLED:
+            raise Unsettled(delivered=told, used=verdict.used)
+        return verdict, told
+
+    def _released(self, since: int) -> list[Delivered]:
+        """What the last call released; what was integrated by that stands in the history from `since` on."""
+        count, verdict, told = lib.released(self._at), lib.Verdict(), list[Delivered]()
+        known = {it.member: it for it in self._operations(since)} if count else {}
+        for index in range(count):
+            must(lib.released_at(self._at, index, verdict))
+            member = _member(verdict.operation.member)
+            integrated = verdict.kind == Became.INTEGRATED
+            told.append(_delivered(verdict, known[member] if integrated else _untold(member), released=True))
+        return told
+
+    def settle(self) -> list[Delivered]:
+        """Releases until no waiting operation is ready, and answers what became of each. Called after Unsettled, once there is memory."""
+        since = self.operations
+        status = lib.settle(self._at)
+        told = self._released(since)
+        if status == Status.UNSETTLED:
+            raise Unsettled(delivered=told)
+        must(status)
+        return told
+
+    def release(self) -> Optional[Delivered]:
+        """Releases the first waiting operation that is ready, if there is one."""
+        verdict = lib.Verdict()
+        status = lib.release(self._at, verdict)
+        if status == Status.NONE:
+            return None
+        must(status)
+        return _delivered(verdict, _operation(verdict.operation), released=True)
+
+    # What the site has.
+
+    @property
+    def operations(self) -> int:
+        """The number of integrated operations."""
+        return lib.operations(self._at)
+
+    @property
+    def waiting(self) -> int:
+        """The number of operations that wait."""
+        return lib.waiting(self._at)
+
+    @property
+    def characters(self) -> int:
+        """The number of shown characters."""
+        return lib.characters(self._at)
+
+    @property
+    def text(self) -> str:
+        """The shown text."""
+        return self._written(lib.text).decode()
+
+    @property
+    def history(self) -> History:
+        """The integrated operations, in the order of integration."""
+        return History(self)
+
+    def operation(self, index: int) -> Operation:
+        """What the operation at this index of the history is, and who made it."""
+        operation = lib.Operation()
+        must(lib.operation_at(self._at, _index(index), operation))
+        return _operation(operation)
+
+    def latest(self) -> Iterator[Operation]:
+        """All operations, what was integrated last first."""
+        return reversed(self.history)
+
+    def name_at(self, place: int) -> Name:
+        """The insert by which the character at this place stands there, from 0: what to undo from a cursor."""
+        name = lib.Member()
+        must(lib.name_at(self._at, _place(place), name))
+        return Name(name.site, name.number)
+
+    def names(self, start: int, stop: int) -> list[Name]:
+        """The inserts by which the characters from place `start` on, and before `stop`, stand there."""
+        return [self.name_at(place) for place in range(start, stop)]
+
+    def frame(self, index: int) -> bytes:
+        """The frame of the operation at this index of the history."""
+        return self._written(lib.frame, _index(index))
+
+    def frames(self, since: int = 0) -> list[bytes]:
+        """The frames of the history, from this index on: all of them are for a site that comes late."""
+        return [self.frame(index) for index in range(since, self.operations)]
+
+    # An exchange: two sites that were apart tell each other what they have, and send what the other lacks.
+
+    def offer(self) -> bytes:
+        """The first message: what this site has."""
+        return self._written(lib.exchange_offer)
+
+    def answer(self, first: bytes) -> bytes:
+        """The second message, which answers the first one of another site: what this site has, and what that one lacks."""
+        return self._replied(lib.exchange_answer, first)
+
+    def join(self, second: bytes) -> bytes:
+        """Takes in the second message, and answers the third: what the other site lacks. What came in is in the history."""
+        return self._replied(lib.exchange_close, second)
+
+    def finish(self, third: bytes) -> None:
+        """Takes in the third message. Both sites have the same operations then, if nothing waited."""
+        why, third = lib.Verdict(), bytes(third)
+        taken(lib.exchange_finish(self._at, third, len(third), why), why)
+
+    # Bytes that the library writes.
+
+    def _written(self, call: Callable[..., int], *args: int) -> bytes:
+        return self._filled(call.__name__, lambda *out: call(self._at, *args, *out), must)
+
+    def _replied(self, call: Callable[..., int], message: bytes) -> bytes:
+        data, why = bytes(message), lib.Verdict()
+        return self._filled(call.__name__, lambda *out: call(self._at, data, len(data), *out, why), lambda status: taken(status, why))
+
+    def _filled(self, what: str, call: Callable[..., int], look: Callable[[int], None]) -> bytes:
+        """The bytes that a call hands out, asked for again where there was no room: that may cost as much as the first time."""
+        room, buffer, needed = self._rooms.get(what, 0), self._buffer, lib.size()
+        if room > len(buffer):
+            buffer = (lib.byte * room)()
+        while True:
+            status = call(buffer, len(buffer), needed)
+            if status != Status.TOO_SHORT:
+                break
+            self._rooms[what] = room = needed.value + needed.value // 8
+            buffer = (lib.byte * room)()
+        if len(buffer) <= KEPT:
+            self._buffer = buffer
+        look(status)
+        return ctypes.string_at(buffer, needed.value)
+
+
+def exchange(joiner: Any, server: Any) -> None:
+    """Lets two sites or documents of one process exchange what they lack."""
+    server.finish(joiner.join(server.answer(joiner.offer())))
+
+
+def _each(turn: Callable[[tuple[int, int]], Edit], names: Iterable[tuple[int, int]], passed: Status) -> Edit:
+    done: list[Edit] = []
+    for name in names:
+        try:
+            done.append(turn(name))
+        except Refused as why:
+            if why.status != passed:
+                why.edit = Edit.of([*done, why.edit])
+                raise
+    return Edit.of(done)
+
+
+# A number that C's types can't hold is refused as the library refuses one that is too great.
+
+
+def _number(number: int) -> int:
+    if not 0 <= number < 1 << 16:
+        raise Refused(Status.SITE_OUT)
+    return number
+
+
+def _place(place: int) -> int:
+    if not 0 <= place < 1 << 32:
+        raise Refused(Status.PLACE_OUT)
+    return place
+
+
+def _index(index: int) -> int:
+    if not 0 <= index < 1 << 32:
+        raise Refused(Status.NONE)
+    return index
+
+
+def _name(name: tuple[int, int]) -> tuple[int, int]:
+    site, number = name
+    if not (0 <= site < 1 << 16 and 0 <= number < 1 << 32):
+        raise Refused(Status.NO_NAME)
+    return site, number
+
+
+def _member(m: lib.Member) -> Member:
+    return Member(m.site, m.number, m.generation)
+
+
+def _operation(o: lib.Operation) -> Operation:
+    character = chr(o.scalar) if o.kind == Kind.INSERT else ""
+    return Operation(Kind(o.kind), o.author, Name(o.member.site, o.member.number), o.member.generation, character)
+
+
+def _untold(member: Member) -> Operation:
+    return Operation(Kind.NOT_TOLD, None, member.name, member.generation, "")
+
+
+def _delivered(v: lib.Verdict, operation: Operation, released: bool = False) -> Delivered:
+    became = Became(v.kind)
+    missing = _member(v.missing) if became == Became.WAITS else None
+    site = v.site if became == Became.NOT_CLOSED else None
+    place, cells = (v.place, v.cells) if became == Became.PLACE_OUT else (None, None)
+    return Delivered(became, operation, missing, site, place, cells, released)

@@ -1,0 +1,179 @@
+"""What calls answer: statuses, operations, verdicts, edits."""
+from __future__ import annotations
+
+import enum
+from collections.abc import Iterable, Sequence
+from dataclasses import dataclass
+from typing import NamedTuple, Optional, Union, overload
+
+
+class Status(enum.IntEnum):
+    """What a call of the library answers."""
+
+    OK = 0
+    NO_MEMORY = 1
+    SITE_OUT = 2
+    PLACE_OUT = 3
+    NO_CHARACTER = 4
+    UNKNOWN = 5
+    NOT_IN_FORCE = 6
+    IN_FORCE = 7
+    GENERATION_FULL = 8
+    NUMBER_FULL = 9
+    CONTEXT_FULL = 10
+    NO_NAME = 11
+    NONE = 12
+    TOO_SHORT = 13
+    TOO_LONG = 14
+    NO_HEAD = 15
+    CUT = 16
+    MALFORMED = 17
+    EXTRA = 18
+    REFUSED = 19
+    UNSETTLED = 20
+
+
+class Kind(enum.IntEnum):
+    """What an operation is."""
+
+    NOT_TOLD = 0
+    INSERT = 1
+    DELETE = 2
+    UNDO = 3
+    REDO = 4
+
+
+class Became(enum.IntEnum):
+    """What became of a delivered or released operation, or of bytes."""
+
+    INTEGRATED = 1
+    WAITS = 2
+    REPEAT = 3
+    FORGED = 4
+    NOT_CLOSED = 5
+    PLACE_OUT = 6
+    INCOMPLETE = 7
+    MALFORMED = 8
+
+
+class Cause(enum.IntEnum):
+    """Why bytes are no frame."""
+
+    TOO_LONG = 1
+    KIND = 2
+    RANGE = 3
+    CHARACTER = 4
+    ORDER = 5
+    ZERO = 6
+    LENGTH = 7
+    OWN = 8
+    TARGET = 9
+    STRAY = 10
+
+
+def words(it: enum.IntEnum) -> str:
+    """The name as words: `place out`."""
+    return it.name.lower().replace("_", " ")
+
+
+class Name(NamedTuple):
+    """An insert or a delete: the site that made it, and the number that it gave, from 1."""
+
+    site: int
+    number: int
+
+    def __str__(self) -> str:
+        return f"{self.site}.{self.number}"
+
+
+class Member(NamedTuple):
+    """An insert or a delete at generation 0; or all undos (odd generation) or redos (even generation) of it at that generation."""
+
+    site: int
+    number: int
+    generation: int
+
+    @property
+    def name(self) -> Name:
+        """The insert or delete, whose undos or redos these are."""
+        return Name(self.site, self.number)
+
+    def __str__(self) -> str:
+        return f"{self.name}/{self.generation}" if self.generation else str(self.name)
+
+
+class Operation(NamedTuple):
+    """What was done, by whom. `name` is the insert or delete itself, or the one that is undone or redone. Of an operation that was
+    released and refused the member alone is known: its kind is NOT_TOLD, and its author None."""
+
+    kind: Kind
+    author: Optional[int]
+    name: Name
+    generation: int
+    character: str
+
+    @property
+    def member(self) -> Member:
+        """What contexts call it."""
+        return Member(*self.name, self.generation)
+
+    @property
+    def is_original(self) -> bool:
+        """Whether it is an insert or a delete, so that it can be undone."""
+        return self.kind in (Kind.INSERT, Kind.DELETE)
+
+
+class Delivered(NamedTuple):
+    """What became of an operation that was delivered or, if `released`, that had waited. Where it WAITS, `missing` is the first
+    thing that the site lacks of what it was made after. Where it is NOT_CLOSED, its context lacks what the last operation of `site`
+    in it was made after. Where it is PLACE_OUT, it names `place`, and there are `cells`."""
+
+    became: Became
+    operation: Operation
+    missing: Optional[Member] = None
+    site: Optional[int] = None
+    place: Optional[int] = None
+    cells: Optional[int] = None
+    released: bool = False
+
+
+@dataclass(frozen=True)
+class Edit(Sequence[bytes]):
+    """What one call, or several, did: a sequence of frames, to be sent to all other sites. `operations` are those of the frames, and
+    `released` tells what became of operations that had waited and could go on after this edit."""
+
+    frames: tuple[bytes, ...] = ()
+    operations: tuple[Operation, ...] = ()
+    released: tuple[Delivered, ...] = ()
+
+    @classmethod
+    def of(cls, edits: Iterable[Edit]) -> Edit:
+        """These edits, one after the other, as one."""
+        all_of = list(edits)
+        return cls(
+            tuple(it for edit in all_of for it in edit.frames),
+            tuple(it for edit in all_of for it in edit.operations),
+            tuple(it for edit in all_of for it in edit.released),
+        )
+
+    @property
+    def names(self) -> tuple[Name, ...]:
+        """The inserts and deletes that were made, undone or redone: what to give to `undo`."""
+        return tuple(it.name for it in self.operations)
+
+    def without_frames(self) -> Edit:
+        """The same, for one who may not send it yet."""
+        return Edit((), self.operations, self.released)
+
+    def __len__(self) -> int:
+        return len(self.frames)
+
+    def __bool__(self) -> bool:
+        return bool(self.frames or self.operations or self.released)
+
+    @overload
+    def __getitem__(self, at: int) -> bytes: ...
+    @overload
+    def __getitem__(self, at: slice) -> tuple[bytes, ...]: ...
+    def __getitem__(self, at: Union[int, slice]) -> Union[bytes, tuple[bytes, ...]]:
+        return self.frames[at]
