@@ -1,7 +1,7 @@
 # `make` proves and builds the program, and leaves it at bin/cotpad; `make lib` leaves the library for hosts in lib/. `make quick`
 # and `make quick-lib` leave the same in quick/ within two minutes, and prove nothing. `make demo` replays and shows the examples,
 # and lets two copies exchange; `make check-hosts` runs hosts in C and in Python over the library.
-.PHONY: all lib quick quick-lib demo check-examples check-bytes check-memory check-hosts check-edits doors trust clean
+.PHONY: all lib quick quick-lib demo check-examples check-bytes check-memory check-hosts check-relay check-edits doors trust clean
 
 # Twice as many recipes at once as there are processors, where no -j says otherwise: those that most others wait for go first, and the
 # others take what these leave (tools/lib).
@@ -110,6 +110,17 @@ check-hosts:
 	else \
 		echo "no valgrind here: bin/notes wasn't run with it"; \
 	fi
+
+# The relay of examples/relay over an engine of its own: case by case, and then eight processes that are killed while they edit, for
+# SECONDS, as SEED says. RELAY_PYTHON names one that has the module redis; else the first of two is taken.
+SECONDS ?= 60
+SEED ?= 1
+RELAY_PYTHON ?= $(firstword $(shell for it in python3 /usr/bin/python3; do $$it -c 'import redis' 2> /dev/null && echo $$it; done) python3)
+check-relay:
+	@test -f "$(LIB)/libcotpad.so.1" || { echo "there is no library for hosts: call \`make quick-lib\` or \`make lib\` first" >&2; false; }
+	@echo "with $(LIB)/libcotpad.so.1 and $(RELAY_PYTHON)"
+	COTPAD_LIB=$(abspath $(LIB))/libcotpad.so.1 $(RELAY_PYTHON) examples/relay/tests/cases.py
+	COTPAD_LIB=$(abspath $(LIB))/libcotpad.so.1 $(RELAY_PYTHON) examples/relay/tests/chaos.py --seconds $(SECONDS) --seed $(SEED)
 
 # A port of this machine that nobody uses.
 FREE_PORT = $$(python3 -c 'import socket; it = socket.create_server(("127.0.0.1", 0)); print(it.getsockname()[1])')
