@@ -171,7 +171,8 @@ class Peer:
 
     async def _edit(self, call):
         """Raises what the library refuses; `names` of it has those edits that were made before, which are saved."""
-        await self._editable.wait()
+        while not self._editable.is_set():
+            await self._editable.wait()
         self._check_running()
         names, refusal = self._replica.edit(call)
         if names:
@@ -227,6 +228,10 @@ class Peer:
 
     def _note_sent(self):
         (self._sent.clear if self.unsent else self._sent.set)()
+
+    def _note_due(self):
+        if self._since >= self._every:
+            self._due.set()
 
     # Saving.
 
@@ -284,6 +289,8 @@ class Peer:
             await self._rescue(room)
         while await self._read_some(room):
             pass
+        self._checkpoint, self._since = await room.grown(self._settings.margin)
+        self._note_due()
         self._to_send = collections.deque(self._replica.outbox)
         self._caught_up.set()
 
@@ -310,8 +317,7 @@ class Peer:
     def _after_reading(self, told):
         self._dirty = True
         self._note_sent()
-        if self._since >= self._every:
-            self._due.set()
+        self._note_due()
         self._changed(told)
 
     async def _merge(self, room):
@@ -371,11 +377,13 @@ class Peer:
                 self._checkpoint, self._since = newest, 0
 
     async def _store_checkpoint(self, room):
-        """Lets edits wait until the outbox is empty, and stores what is here then: all of it is in the stream. Answers the newest
-        checkpoint, or None where the outbox didn't become empty in time."""
+        """Lets edits wait until nothing is unsent, and stores what is here then: all of it is in the stream. Answers the newest
+        checkpoint, or None where something stayed unsent."""
         self._editable.clear()
         try:
             await asyncio.wait_for(self._sent.wait(), PATIENCE)
+            if self.unsent:
+                return None
             id, log = self.id, self._replica.log()
         except asyncio.TimeoutError:
             return None

@@ -154,6 +154,11 @@ class Room:
         """The entry of the newest checkpoint."""
         return spelled_id(await self._redis.hget(self._keys["checkpoint"], "id"))
 
+    async def grown(self, margin):
+        """The entry of the newest checkpoint, and about how many entries came after it."""
+        id, length = await self.newest(), await self._redis.xlen(self._keys["frames"])
+        return id, max(0, length - (0 if id == "0-0" else margin))
+
     async def store(self, id, log, margin):
         """Stores a checkpoint, unless there is a newer one, trims the stream, and answers the entry of the newest."""
         keys = [self._keys["checkpoint"], self._keys["frames"]]

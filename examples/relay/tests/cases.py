@@ -356,6 +356,19 @@ class Checkpoints(Case):
             self.assertEqual(await room.store("9999999999999-0", b"not there", 5), id.decode())
         self.assertEqual(await self.raw.hmget(key, "id", "log", "trimmed"), [id, log, trimmed])
 
+    async def test_they_bound_the_stream_of_peers_that_stay_for_a_moment(self):
+        for at in range(60):
+            ann = await self.peer("ann", checkpoint_every=10, margin=2)
+            await ann.caught_up()
+            await until(lambda: ann._since < ann._every, "what was due is stored")
+            await ann.insert(at, "x")
+            await ann.close()
+            self.peers.remove(ann)
+        self.assertLessEqual(await self.raw.xlen(self.frames), 2 + 20 + 1)
+        bob = await self.peer("bob")
+        await self.same(bob)
+        self.assertEqual(bob.text, "x" * 60)
+
     async def test_one_who_was_away_takes_it_in_and_keeps_own_edits(self):
         ann = await self.peer("ann", checkpoint_every=10, margin=2)
         bob = await self.peer("bob", checkpoint_every=10, margin=2)
