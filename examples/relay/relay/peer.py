@@ -45,9 +45,22 @@ async def together(*runs):
         for task in done:
             task.result()
     finally:
-        for task in tasks:
+        await ended(tasks)
+
+
+async def ended(tasks):
+    """Cancels tasks until all have ended: a timeout that comes at the same time may take the place of a cancellation."""
+    cancelled = None
+    while rest := [task for task in tasks if not task.done()]:
+        for task in rest:
             task.cancel()
-        await asyncio.gather(*tasks, return_exceptions=True)
+        try:
+            await asyncio.wait(rest, timeout=0.5)
+        except asyncio.CancelledError as why:
+            cancelled = why
+    await asyncio.gather(*tasks, return_exceptions=True)
+    if cancelled:
+        raise cancelled
 
 
 class Pauses:

@@ -15,7 +15,7 @@ from relay import FileBad, FileInUse, NumberTaken, Peer, Room, RoomFull, RoomGon
 from relay.library import cotpad  # noqa: E402
 from relay.peer import Settings  # noqa: E402
 
-SOON = 10.0
+SOON, STUCK = 10.0, 60.0
 
 
 def setUpModule():
@@ -59,7 +59,14 @@ class Case(unittest.IsolatedAsyncioTestCase):
         self.room, self.told, self.peers = self.id().split(".")[-1], [], []
         self.raw = redis.asyncio.Redis.from_url(ENGINE.url)
         self.addAsyncCleanup(self.raw.connection_pool.disconnect)
+        self.addCleanup(asyncio.get_running_loop().call_later(STUCK, self.stuck).cancel)
         self.frames = f"cotpad:{{{self.room}}}:frames"
+
+    def stuck(self):
+        """Says where everything stands, and ends the case."""
+        for task in asyncio.all_tasks():
+            task.print_stack()
+            task.cancel()
 
     async def asyncTearDown(self):
         for peer in self.peers:
@@ -439,6 +446,7 @@ class Losses(Case):
         await self.same(ann, bob)
         ENGINE.keep("older")
         await bob.insert(2, "c")
+        await self.same(ann, bob)
         await ann.insert(3, "d")
         await ann.undo((0, 1))
         await self.same(ann, bob)

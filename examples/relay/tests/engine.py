@@ -22,7 +22,7 @@ def missing():
     try:
         import redis.asyncio  # noqa: F401
     except ImportError:
-        lines.append(f"{sys.executable} has no module redis (Debian: apt-get install python3-redis, and RELAY_PYTHON=/usr/bin/python3)")
+        return lines + [f"{sys.executable} has no module redis (Debian: apt-get install python3-redis, and RELAY_PYTHON=/usr/bin/python3)"]
     try:
         import relay.library  # noqa: F401
     except (ImportError, OSError) as why:
