@@ -1,7 +1,7 @@
 # `make` proves and builds the program, and leaves it at bin/cotpad; `make lib` leaves the library for hosts in lib/. `make quick`
 # and `make quick-lib` leave the same in quick/ within two minutes, and prove nothing. `make demo` replays and shows the examples,
 # and lets two copies exchange; `make check-hosts` runs hosts in C and in Python over the library.
-.PHONY: all lib quick quick-lib demo check-examples check-bytes check-memory check-hosts check-relay check-edits doors trust clean
+.PHONY: all lib quick quick-lib demo check-examples check-bytes check-memory check-hosts check-relay check-relay-wrong check-edits doors trust clean
 
 # Twice as many recipes at once as there are processors, where no -j says otherwise: those that most others wait for go first, and the
 # others take what these leave (tools/lib).
@@ -121,6 +121,11 @@ check-relay:
 	@echo "with $(LIB)/libcotpad.so.1 and $(RELAY_PYTHON)"
 	COTPAD_LIB=$(abspath $(LIB))/libcotpad.so.1 $(RELAY_PYTHON) examples/relay/tests/cases.py
 	COTPAD_LIB=$(abspath $(LIB))/libcotpad.so.1 $(RELAY_PYTHON) examples/relay/tests/chaos.py --seconds $(SECONDS) --seed $(SEED)
+
+# Wrong bodies of the relay, each of which a case has to tell.
+check-relay-wrong:
+	@test -f "$(LIB)/libcotpad.so.1" || { echo "there is no library for hosts: call \`make quick-lib\` or \`make lib\` first" >&2; false; }
+	COTPAD_LIB=$(abspath $(LIB))/libcotpad.so.1 $(RELAY_PYTHON) examples/relay/tests/wrong.py
 
 # A port of this machine that nobody uses.
 FREE_PORT = $$(python3 -c 'import socket; it = socket.create_server(("127.0.0.1", 0)); print(it.getsockname()[1])')
