@@ -8,11 +8,13 @@
     state          what the peer has    state number N operations N waiting N unsent N id ID
 
 The right column is the answer, in one line but for `text`. `saved` is written once the file holds the edit. What can't be done
-is answered by `no REASON`. What else happens is told on standard error. At the end of the input the peer waits some seconds
-until all is sent; what isn't goes at the next start.
+is answered by `no REASON`. What else happens is told on standard error. The first line is read when the stream was read to its
+end or, if the engine doesn't answer, after three seconds: then edits are saved, and sent later. At the end of the input the peer
+waits some seconds until all is sent; what isn't goes at the next start.
 """
 import argparse
 import asyncio
+import os
 import sys
 import threading
 
@@ -22,6 +24,7 @@ from .peer import Settings
 from .replica import words
 from .room import CheckpointBad
 
+PATIENCE = 3.0  # seconds in which the engine has to answer first
 STOPS = (FileBad, FileInUse, NumberTaken, RoomFull, RoomGone, CheckpointBad)
 
 
@@ -75,7 +78,11 @@ def lines_of(loop):
     return queue
 
 
-async def converse(peer, lines):
+async def converse(peer, lines, tell):
+    try:
+        await asyncio.wait_for(peer.caught_up(), PATIENCE)
+    except asyncio.TimeoutError:
+        tell("the stream isn't read to its end yet: edits are saved, and will be sent")
     while (line := await lines.get()) is not None:
         print(await answer(peer, line), flush=True)
 
@@ -85,17 +92,19 @@ async def run(options):
         print(f"relay: {line}", file=sys.stderr, flush=True)
 
     settings = Settings(checkpoint_every=options.checkpoint_every, margin=options.margin, timeout=options.timeout)
-    path = options.file or f"{options.room}.{options.client}.site"
+    path = options.file or f"{options.room}.{options.client}.site".replace(os.sep, "_")
     peer = await Peer.open(options.redis, options.room, options.client, path, tell=tell, settings=settings)
     async with peer:
         tell(f"{options.client} is site {peer.number} of room {options.room}")
-        talk = asyncio.ensure_future(converse(peer, lines_of(asyncio.get_running_loop())))
+        talk = asyncio.ensure_future(converse(peer, lines_of(asyncio.get_running_loop()), tell))
         stopped = asyncio.ensure_future(peer.stopped())
         done, rest = await asyncio.wait([talk, stopped], return_when=asyncio.FIRST_COMPLETED)
         for task in rest:
             task.cancel()
         for task in done:
             task.result()
+    if peer.unsent:
+        tell(f"{peer.unsent} operations are saved and not sent yet")
 
 
 def main():

@@ -79,8 +79,9 @@ class Pauses:
 
 
 class Peer:
-    """`tell` gets a line for each thing that a person should know of; `changed` gets what became of the operations that were
-    read. All calls are made on one event loop, in the thread that opened the peer."""
+    """`tell` gets a line for each thing that a person should know of; `changed` gets what became of the operations of others that
+    were read. All calls are made on one event loop, in the thread that opened the peer. An edit is answered when it is saved: who
+    makes more of them than the room takes should wait for `sent` as well."""
 
     def __init__(self, url, path, kept, lock, tell, changed, settings):
         self._url, self._path, self._lock, self._kept = url, path, lock, kept

@@ -59,7 +59,9 @@ class Case(unittest.IsolatedAsyncioTestCase):
         self.room, self.told, self.peers = self.id().split(".")[-1], [], []
         self.raw = redis.asyncio.Redis.from_url(ENGINE.url)
         self.addAsyncCleanup(self.raw.connection_pool.disconnect)
-        self.addCleanup(asyncio.get_running_loop().call_later(STUCK, self.stuck).cancel)
+        loop = asyncio.get_running_loop()
+        loop.slow_callback_duration = SOON
+        self.addCleanup(loop.call_later(STUCK, self.stuck).cancel)
         self.frames = f"cotpad:{{{self.room}}}:frames"
 
     def stuck(self):

@@ -325,8 +325,8 @@ def summary(chaos, text, seconds):
     counts = chaos.records.counts
     edits, lost = counts["edits"], counts["files"]
     return (f"check-relay: passed, seed {chaos.seed}: {PEERS} processes for {seconds:g} s; {edits} edits were saved, "
-            f"{counts['refused']} refused; processes were killed {counts['kills']} times, connections cut {counts['cuts']} times, the engine "
-            f"killed {counts['engines']} times; {lost} file was lost, {counts['strange']} entries were a stranger's, a checkpoint "
+            f"{counts['refused']} refused; processes were killed {counts['kills']} times, connections cut {counts['cuts']} times, the "
+            f"engine killed {counts['engines']} times; {lost} file was lost, {counts['strange']} entries were a stranger's, a checkpoint "
             f"was taken in {counts['checkpoints taken in']} times; all show one text of {len(text)} characters, and have one history of "
             f"{counts['operations']} operations, in which each saved edit is")
 
