@@ -80,8 +80,8 @@ class Pauses:
 
 class Peer:
     """`tell` gets a line for each thing that a person should know of; `changed` gets what became of the operations of others that
-    were read. All calls are made on one event loop, in the thread that opened the peer. An edit is answered when it is saved: who
-    makes more of them than the room takes should wait for `sent` as well."""
+    were read, or that had waited for an edit. All calls are made on one event loop, in the thread that opened the peer. An edit is
+    answered when it is saved: who makes more of them than the room takes should wait for `sent` as well."""
 
     def __init__(self, url, path, kept, lock, tell, changed, settings):
         self._url, self._path, self._lock, self._kept = url, path, lock, kept
@@ -188,7 +188,9 @@ class Peer:
         while not self._editable.is_set():
             await self._editable.wait()
         self._check_running()
-        names, refusal = self._replica.edit(call)
+        names, refusal, free = self._replica.edit(call)
+        if free:
+            self._changed(free)
         if names:
             self._dirty = True
             self._note_sent()

@@ -1,6 +1,6 @@
 """A peer's copy of the text: a site of the library, how far the stream is read, and which frames aren't in the stream."""
 from .frames import split
-from .library import cotpad
+from .library import cotpad, released
 
 SITES = 64
 LOG_HEAD = b"COTLOG1\n"
@@ -32,19 +32,20 @@ class Replica:
         return self.site.save()
 
     def edit(self, call):
-        """Makes the edits of a call of the site, and answers their names, and the refusal that ended them, if one did."""
+        """Makes the edits of a call of the site. Answers their names, the refusal that ended them, if one did, and what became of
+        the operations that had waited for them."""
         first, refusal = self.site.operations, None
         try:
-            call(self.site)
+            edit = call(self.site)
         except cotpad.Refused as why:
-            refusal = why
+            refusal, edit = why, getattr(why, "edit", None)
         operations = [(at, self.site.operation(at)) for at in range(first, self.site.operations)]
         own = [(at, operation) for at, operation in operations if operation.author == self.number]
         frames = [self.site.frame(at) for at, _ in own]
         self.unsaved += frames
-        if frames:
-            self._deliver(frames[-1])  # a repeat; but the library releases what the edit made ready
-        return [spelled(operation) for _, operation in own], refusal
+        free = list(released(self.site, edit, frames[-1])) if frames else []
+        self._tell_refused(free, "released: ")
+        return [spelled(operation) for _, operation in own], refusal, free
 
     def take(self, id, data):
         """Takes in the frames of an entry, and answers what became of each operation."""
@@ -70,13 +71,16 @@ class Replica:
         except cotpad.BadBytes as why:
             self._tell(f"{where}{why}")
             return why.delivered
-        for delivered in told:
-            if delivered.became in REFUSED:
-                self._tell(f"{where}{spelled(delivered.operation)} {words(delivered.became)}")
+        self._tell_refused(told, where)
         if told and told[0].operation.author == self.number and told[0].became in TAKEN:
             self._tell(f"{where}{spelled(told[0].operation)} has this peer's number, and its file lacks it: the file is an older copy, "
                        "or a copy of it is used elsewhere")
         return told
+
+    def _tell_refused(self, told, where):
+        for delivered in told:
+            if delivered.became in REFUSED:
+                self._tell(f"{where}{spelled(delivered.operation)} {words(delivered.became)}")
 
     def merge(self, id, log):
         """Takes in what a checkpoint has and this site lacks, and goes on from its entry. Own operations stay."""
