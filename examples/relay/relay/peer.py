@@ -80,8 +80,8 @@ class Pauses:
 
 class Peer:
     """`tell` gets a line for each thing that a person should know of; `changed` gets what became of the operations of others that
-    were read, or that had waited for an edit. All calls are made on one event loop, in the thread that opened the peer. An edit is
-    answered when it is saved: who makes more of them than the room takes should wait for `sent` as well."""
+    were read, or that had waited for an edit; neither may raise. All calls are made on one event loop, in the thread that opened
+    the peer. An edit is answered when it is saved: who makes more of them than the room takes should wait for `sent` as well."""
 
     def __init__(self, url, path, kept, lock, tell, changed, settings):
         self._url, self._path, self._lock, self._kept = url, path, lock, kept
@@ -103,6 +103,7 @@ class Peer:
         """The peer of this file. Where there is none, the client gets a number, for which the engine has to answer, and begins
         from the room's newest checkpoint; else it may edit at once, also while the engine is away. Raises FileBad, FileInUse,
         RoomFull and CheckpointBad."""
+        path = os.path.realpath(path)
         lock = saved.locked(path)
         try:
             kept = saved.read(path) or fresh(room, client)

@@ -1,7 +1,9 @@
 """The file of a peer: all that it keeps, replaced as a whole."""
+import contextlib
 import fcntl
 import json
 import os
+import stat
 import zlib
 from dataclasses import dataclass, field
 from typing import List, Optional
@@ -70,9 +72,11 @@ def read(path):
 
 
 def write(path, data):
-    """Replaces the file: after a crash at any moment it holds either what it held or this."""
+    """Replaces the file, with its permissions: after a crash at any moment it holds either what it held or this."""
     new = f"{path}.new"
     with open(new, "wb") as file:
+        with contextlib.suppress(FileNotFoundError):
+            os.fchmod(file.fileno(), stat.S_IMODE(os.stat(path).st_mode))
         file.write(data)
         file.flush()
         os.fsync(file.fileno())

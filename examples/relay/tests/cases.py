@@ -213,6 +213,18 @@ class Files(Case):
         with self.assertRaises(FileInUse):
             await self.peer("ann")
 
+    async def test_a_file_keeps_its_permissions_and_may_be_a_link(self):
+        await (await self.peer("real")).close()
+        os.chmod(self.path("real"), 0o600)
+        os.symlink(self.path("real"), self.path("link"))
+        link = await Peer.open(ENGINE.url, self.room, "real", self.path("link"))
+        self.peers.append(link)
+        await link.insert(0, "a")
+        self.assertTrue(os.path.islink(self.path("link")))
+        self.assertEqual(os.stat(self.path("real")).st_mode & 0o777, 0o600)
+        with self.assertRaises(FileInUse):
+            await self.peer("real")
+
     async def test_a_spoiled_file_is_refused(self):
         ann = await self.peer("ann")
         await ann.insert(0, "abc")

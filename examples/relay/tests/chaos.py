@@ -78,6 +78,12 @@ class Person:
         with contextlib.suppress(ProcessLookupError):
             self._process.send_signal(signal.SIGKILL)
 
+    async def gone(self):
+        """Kills the process, if it is there, and waits until it is gone."""
+        if self._process:
+            self.kill()
+            await self._process.wait()
+
     async def ask(self, line):
         """The answer to a line, and the text where one follows; None where the process was killed meanwhile."""
         process = self._process
@@ -228,8 +234,7 @@ class Chaos:
             self._look_at_what_was_told()
             return texts[0]
         finally:
-            for person in self.people:
-                person.kill()
+            await asyncio.gather(*(it.gone() for it in self.people))
             await self.stranger.close()
             await self.proxy.stop()
             self.engine.kill()
