@@ -3,7 +3,7 @@
 # and lets two copies exchange; `make check-hosts` runs hosts in C and in Python over the library. `make wheel` makes a package for
 # Python of it, and `make install` installs it.
 .PHONY: all lib quick quick-lib demo wheel install
-.PHONY: check-examples check-bytes check-memory check-hosts check-python check-wheel check-install check-sanitizers check-edits
+.PHONY: check-examples check-bytes check-memory check-hosts check-python check-wheel check-install check-sanitizers check-relay check-relay-wrong check-edits
 .PHONY: doors trust clean
 
 # Twice as many recipes at once as there are processors, where no -j says otherwise: those that most others wait for go first, and the
@@ -181,6 +181,22 @@ check-install:
 check-sanitizers:
 	$(needs-library)
 	@CC="$(CC)" CXX="$(CXX)" LIB="$(LIB)" tools/check-sanitizers
+
+# The relay of examples/relay over an engine of its own: case by case, and then eight processes that are killed while they edit, for
+# SECONDS, as SEED says. RELAY_PYTHON names one that has the module redis; else the first of two is taken.
+SECONDS ?= 60
+SEED ?= 1
+RELAY_PYTHON ?= $(firstword $(shell for it in python3 /usr/bin/python3; do $$it -c 'import redis' 2> /dev/null && echo $$it; done) python3)
+check-relay:
+	@test -f "$(LIB)/libcotpad.so.1" || { echo "there is no library for hosts: call \`make quick-lib\` or \`make lib\` first" >&2; false; }
+	@echo "with $(LIB)/libcotpad.so.1 and $(RELAY_PYTHON)"
+	COTPAD_LIB=$(abspath $(LIB))/libcotpad.so.1 $(RELAY_PYTHON) examples/relay/tests/cases.py
+	COTPAD_LIB=$(abspath $(LIB))/libcotpad.so.1 $(RELAY_PYTHON) examples/relay/tests/chaos.py --seconds $(SECONDS) --seed $(SEED)
+
+# Wrong bodies of the relay, each of which a case has to tell.
+check-relay-wrong:
+	@test -f "$(LIB)/libcotpad.so.1" || { echo "there is no library for hosts: call \`make quick-lib\` or \`make lib\` first" >&2; false; }
+	COTPAD_LIB=$(abspath $(LIB))/libcotpad.so.1 $(RELAY_PYTHON) examples/relay/tests/wrong.py
 
 # A port of this machine that nobody uses.
 FREE_PORT = $$(python3 -c 'import socket; it = socket.create_server(("127.0.0.1", 0)); print(it.getsockname()[1])')
