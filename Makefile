@@ -225,6 +225,7 @@ check-examples:
 	done; \
 	$$program explain 1.1/2 < examples/explain.log | cmp - examples/explain.steps; \
 	examples/exchange.sh $(FREE_PORT) | cmp - examples/exchange.report; \
+	examples/said.sh $(FREE_PORT) | cmp - examples/said.report; \
 	timeout 60 examples/drive.py $$program | cmp - examples/drive.out; \
 	echo "each example writes its report with $$program"; \
 	tools/check-vectors

@@ -1,6 +1,6 @@
 """A peer's copy of the text: a site of the library, how far the stream is read, and which frames aren't in the stream."""
 from .frames import split
-from .library import cotpad, released
+from .library import cotpad
 
 SITES = 64
 LOG_HEAD = b"COTLOG1\n"
@@ -43,7 +43,7 @@ class Replica:
         own = [(at, operation) for at, operation in operations if operation.author == self.number]
         frames = [self.site.frame(at) for at, _ in own]
         self.unsaved += frames
-        free = list(released(self.site, edit, frames[-1])) if frames else []
+        free = list(edit.released)
         self._tell_refused(free, "released: ")
         return [spelled(operation) for _, operation in own], refusal, free
 

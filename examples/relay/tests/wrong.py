@@ -59,7 +59,7 @@ WRONG = [
     ("what is no frame ends the peer", "replica.py", "            return why.delivered\n", "            raise\n",
      "Strangers.test_what_is_no_frame_is_told_and_loses_nothing_else"),
     ("what waited for an edit isn't let go and told", "replica.py",
-     "free = list(released(self.site, edit, frames[-1])) if frames else []", "free = []",
+     "free = list(edit.released)", "free = []",
      "Strangers.test_what_waits_for_an_undo_is_let_go_by_it_and_saved"),
     ("nobody sees that the engine lost entries", "peer.py", "if await room.lost(self.id):", "if False:",
      "Losses.test_the_engine_lost_the_end_of_its_stream"),
