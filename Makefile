@@ -218,7 +218,7 @@ demo:
 check-examples:
 	@set -e; program=$$(tools/program); \
 	for script in examples/*.script; do \
-		$$program replay < $$script | cmp - $${script%.script}.report; \
+		$$program replay < $$script 2> /dev/null | cmp - $${script%.script}.report; \
 	done; \
 	for log in examples/*.log; do \
 		$$program show < $$log | cmp - $${log%.log}.report; \
