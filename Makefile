@@ -4,6 +4,7 @@
 # Python of it, and `make install` installs it.
 .PHONY: all lib quick quick-lib demo wheel install
 .PHONY: check-examples check-bytes check-memory check-hosts check-python check-wheel check-install check-sanitizers check-relay check-relay-wrong check-edits
+.PHONY: check-documents
 .PHONY: doors trust clean
 
 # Twice as many recipes at once as there are processors, where no -j says otherwise: those that most others wait for go first, and the
@@ -237,6 +238,10 @@ check-bytes:
 # Sessions in which each allocation is refused in turn: each run is out of memory and wrote a front of its answer, or goes well.
 check-memory:
 	@tools/refuse-allocations
+
+# What the documents name has to be there, and the commands and examples of README and docs/USING.md have to write what they show.
+check-documents:
+	@LIB="$(LIB)" tools/check-documents
 
 # The must-fail edits that the gate leaves out, each of which has to be refused.
 check-edits:

@@ -6,12 +6,29 @@ from pathlib import Path
 
 import pytest
 
-PAGE = Path(__file__).resolve().parents[2] / "README.md"
+from cotpad import Document
+
+TOP = Path(__file__).resolve().parents[2]
 
 
-@pytest.mark.skipif(not PAGE.exists(), reason="the page is in the repository")
+def example(page, has):
+    path = TOP / page
+    if not path.exists():
+        pytest.skip("the page is in the repository")
+    return next(it for it in re.findall(r"```python\n(.*?)```", path.read_text(), re.S) if has in it)
+
+
 def test_the_example_of_the_readme(tmp_path, monkeypatch, capsys):
-    block = next(it for it in re.findall(r"```python\n(.*?)```", PAGE.read_text(), re.S) if "from cotpad" in it)
     monkeypatch.chdir(tmp_path)
-    exec(block, {})
+    exec(example("README.md", "from cotpad"), {})
     assert capsys.readouterr().out == "ea\n"
+
+
+def test_a_new_document_has_the_text_of_the_old_one(tmp_path, monkeypatch):
+    monkeypatch.chdir(tmp_path)
+    with Document.create("old.cotpad", 3) as old:
+        old.insert(0, "tea\n")
+        old.delete(0)
+    exec(example("docs/EMBEDDING.md", "new.cotpad"), {"Document": Document})
+    with Document("new.cotpad") as new:
+        assert (new.number, new.text, new.operations) == (0, "ea\n", 3)
