@@ -947,6 +947,10 @@ def run(words, data):
 
 
 if __name__ == "__main__":
-    written, status = run([os.fsencode(word).decode("utf-8", "replace") for word in sys.argv[1:]], sys.stdin.buffer.read())
+    try:
+        words = [os.fsencode(word).decode("utf-8") for word in sys.argv[1:]]
+    except UnicodeDecodeError:
+        words = []
+    written, status = run(words, sys.stdin.buffer.read())
     sys.stdout.buffer.write(written)
     sys.exit(status)
