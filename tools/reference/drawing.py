@@ -50,7 +50,7 @@ class Drawing:
 
     def __init__(self, draw):
         self.draw, self.session, self.lines, self.goes_on = draw, ref.Session(), [], True
-        self.elsewhere, self.made = [], []
+        self.elsewhere, self.made = [ref.State(63)], []
         self.kinds = Counter({kind: draw.choice((1, 2, 4, 8)) for kind in ("type", "nl", "del", "undo", "redo", "give", "raw")})
         self.kinds.update({"type": 4, "raw": 4, "all": 2, "sync": draw.choice((0, 1, 2)), "show": 2, "state": 2, "nothing": 1})
 
