@@ -137,8 +137,9 @@ class Drawing:
         own = op.name if ref.is_original(op) else op.target
         whole = ref.counts_of(ref.context_of_all(self.state().history))
         if way == "less" and counts:
-            site = self.draw.choice([site for site in counts if site != own.site] or sorted(counts))
-            counts[site] = self.draw.randrange(counts[site])
+            sites = [site for site in counts if site != own.site] or sorted(counts)
+            for site in self.draw.sample(sites, self.draw.randint(1, len(sites))):
+                counts[site] = self.draw.randrange(counts[site])
         elif way == "more":
             site = self.draw.choice((0, 1, 2, 63))
             counts[site] = counts.get(site, 0) + self.draw.choice((1, 1, 2, 30))
@@ -303,7 +304,7 @@ class Drawing:
         """The log of a site, as it is or spoiled, in pieces, and the words of a call."""
         draw, state = self.draw, self.state()
         frames = [ref.frame(op) for op in state.history + state.waiting]
-        way = draw.choice(("as it is", "shuffled", "shuffled", "twice", "others", "others", "spoiled", "header"))
+        way = draw.choice(("as it is", "shuffled", "twice", "others", "others", "others", "spoiled", "spoiled", "header"))
         if way == "shuffled":
             draw.shuffle(frames)
         elif way == "twice":
@@ -311,7 +312,7 @@ class Drawing:
         elif way in ("others", "spoiled"):
             for _ in range(draw.choice((1, 2, 5))):
                 data = ref.frame(self.operation())
-                other = self.spoiled(data) if way == "spoiled" else data
+                other = self.spoiled(data) if way == "spoiled" and self.chance(0.5) else data
                 frames.insert(draw.randint(0, len(frames)), data if is_large(other) else other)
         pieces = [self.spoiled(ref.HEADER) if way == "header" else ref.HEADER] + frames
         if self.chance(0.4):

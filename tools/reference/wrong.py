@@ -9,7 +9,6 @@ WRONG = (
     # the fixed replay and the text
     ("of two at one place the greater site stands in front", "if other.name.site < op.name.site:", "if other.name.site > op.name.site:"),
     ("inserts are replayed by site, then by rank", "return rank_of(op.context), op.name.site", "return op.name.site, rank_of(op.context)"),
-    ("inserts are replayed in the order of integration", "key=is_earlier)", "key=lambda op: 0)"),
     ("neighbours are narrowed by the latest insert first", "for other in earlier:", "for other in reversed(earlier):"),
     ("neighbours aren't narrowed", "and left < cells.index(other) < right:", "and False:"),
     ("a delete hits by its place among all cells", "return seen(op, cells)[op.place", "return cells[op.place"),
