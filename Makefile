@@ -3,7 +3,7 @@
 # and lets two copies exchange; `make check-hosts` runs hosts in C and in Python over the library. `make wheel` makes a package for
 # Python of it, and `make install` installs it.
 .PHONY: all lib quick quick-lib demo wheel install
-.PHONY: check-examples check-bytes check-memory check-hosts check-python check-wheel check-install check-sanitizers check-relay check-relay-wrong check-edits
+.PHONY: check-examples check-bytes check-sessions check-memory check-hosts check-python check-wheel check-install check-sanitizers check-relay check-relay-wrong check-edits
 .PHONY: check-documents
 .PHONY: doors trust clean
 
@@ -234,6 +234,13 @@ check-examples:
 # Frames that nobody should send, compared with the answers of a grammar that is written a second time.
 check-bytes:
 	@tools/judge-frames
+
+# The reference of tools/reference over examples and rows that were worked out by hand; and then drawn sessions, of each of which the
+# program has to write the report that the reference gives: for SECONDS, as SEED says, or COUNT of them.
+check-sessions:
+	@tools/program > /dev/null
+	@tools/check-sessions --rows
+	@tools/check-sessions SEED=$(SEED) SECONDS=$(SECONDS) COUNT=$(COUNT)
 
 # Sessions in which each allocation is refused in turn: each run is out of memory and wrote a front of its answer, or goes well.
 check-memory:

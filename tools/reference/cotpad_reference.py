@@ -1,0 +1,956 @@
+#!/usr/bin/env python3
+"""What cotpad does, written a second time, to be read.
+
+Each function spells out one definition of the model, and its docstring names it: the crate and the file in its folder `specs`,
+the definition, and what its comment there says. docs/MODEL.md puts the definitions into words, docs/FORMATS.md the bytes and the
+lines. Nothing here was taken from the program, and nothing is here for speed: contexts are plain sets, a text is replayed anew
+whenever it is looked at, and a few hundred operations take minutes.
+
+  python3 tools/reference/cotpad_reference.py replay < SCRIPT
+  python3 tools/reference/cotpad_reference.py show < LOG
+  python3 tools/reference/cotpad_reference.py edit SITE ins V TEXT < LOG     and so for nl, del, undo, redo
+
+write what the program writes, and end with its status. `tools/check-sessions` compares the two on drawn sessions.
+"""
+import os
+import re
+import sys
+from dataclasses import dataclass, field
+from typing import FrozenSet, List, NamedTuple
+
+SITES, NUMBERS, GENERATIONS, PLACES, UNDO_ENTRIES = 64, 1_000_000, 65_535, 64_000_000, 16_384
+LONGEST_LINE, LONGEST_BODY, MOST_BYTES = 262_144, 115_025, 67_108_864
+
+
+# ---- Names, members, contexts
+
+
+class Name(NamedTuple):
+    """op_name/NameData.antt, `NameData`: a site and a number of that site. `name_lt`: by site, then by number, as tuples compare."""
+
+    site: int
+    number: int
+
+    def __str__(self):
+        """site_answers/Names.antt, `name_text`: `S.N`"""
+        return f"{self.site}.{self.number}"
+
+
+class Member(NamedTuple):
+    """op_name/Members.antt, `member_lt`: originals before groups, then by name, then by generation, as these tuples compare."""
+
+    is_group: bool
+    name: Name
+    generation: int  # without a group the generation is 0
+
+    def __str__(self):
+        """site_answers/Names.antt, `member_text`: `S.N` for an original, `S.N/G` for a group"""
+        return f"{self.name}/{self.generation}" if self.is_group else str(self.name)
+
+
+def original(name):
+    """op_name/Members.antt, `target_of`: the original that a member is, or whose undo group it is: of this one, its name."""
+    return Member(False, name, 0)
+
+
+def group(name, generation):
+    """All undos and redos of one original at one generation, whoever issued them (docs/MODEL.md, Member)."""
+    return Member(True, name, generation)
+
+
+def is_even(generation):
+    """op_name/Members.antt, `is_even`: groups of odd generations undo, those of even ones redo"""
+    return generation % 2 == 0
+
+
+Context = FrozenSet[Member]  # context_vector/Contexts.antt, `has`: whether a member is in a context
+
+
+def context_with(counts, generations):
+    """context_vector/Contexts.antt, `ContextData`: a site with its count; an undone name with its greatest generation. Here the
+    set that they stand for: with a number of a site all smaller ones, with a generation of a name all smaller ones."""
+    originals = [original(Name(site, n)) for site, count in counts.items() for n in range(1, count + 1)]
+    return frozenset(originals + [group(name, g) for name, greatest in generations.items() for g in range(1, greatest + 1)])
+
+
+def counts_of(context):
+    """context_vector/Contexts.antt, `count_of`: how many originals of a site the context has; they are its first ones.
+    Here of each site that it has, sites rising."""
+    counts = {}
+    for member in context:
+        if not member.is_group:
+            counts[member.name.site] = counts.get(member.name.site, 0) + 1
+    return dict(sorted(counts.items()))
+
+
+def generations_of(context):
+    """context_vector/Contexts.antt, `entry_of`: the greatest generation at which the context has a group of the name. Here
+    of each name that it has, names rising."""
+    generations = {}
+    for member in context:
+        if member.is_group:
+            generations[member.name] = max(member.generation, generations.get(member.name, 0))
+    return dict(sorted(generations.items()))
+
+
+def rank_of(context):
+    """context_vector/Contexts.antt, `rank_of`: the number of originals in a context"""
+    return sum(not member.is_group for member in context)
+
+
+# ---- Operations
+
+
+@dataclass(frozen=True)
+class Insert:
+    """context_diff/Operations.antt, `inserting`: an insert has a name, a place, a character (its code) and a context. A place
+    counts all cells, shown or hidden, of the inserts that the context has."""
+
+    name: Name
+    place: int
+    character: int
+    context: Context
+
+
+@dataclass(frozen=True)
+class Delete:
+    """context_diff/Operations.antt, `deleting`: a delete has no character"""
+
+    name: Name
+    place: int
+    context: Context
+
+
+@dataclass(frozen=True)
+class Undo:
+    """context_diff/Operations.antt, `undoing`: an undo has its author, the original that it is of, a generation (odd: undo, even:
+    redo) and a context"""
+
+    author: int
+    target: Name
+    generation: int
+    context: Context
+
+
+def is_original(op):
+    """context_diff/Operations.antt, `is_original`: an original is an insert or a delete"""
+    return not isinstance(op, Undo)
+
+
+def member_of(op):
+    """context_diff/Operations.antt, `member_of`: the member that an operation is: all undos of one original at one generation are
+    one member"""
+    return original(op.name) if is_original(op) else group(op.target, op.generation)
+
+
+def is_name(name):
+    """op_name/NameData.antt, `IsName`: the ranges of a name"""
+    return 0 <= name.site < SITES and 1 <= name.number <= NUMBERS
+
+
+def is_scalar(code):
+    """A character is a Unicode scalar value (RFC 3629)."""
+    return 0 <= code <= 0x10FFFF and not 0xD800 <= code <= 0xDFFF
+
+
+def is_context(context):
+    """context_vector/Contexts.antt, `IsContext`: the form and the ranges that every context has. Of a set: names and generations are
+    in their ranges, and it is closed downwards."""
+    for member in context:
+        site, number = member.name
+        if member.is_group:
+            before = group(member.name, member.generation - 1) if member.generation > 1 else None
+        else:
+            before = original(Name(site, number - 1)) if number > 1 else None
+        in_range = is_name(member.name) and (not member.is_group or 1 <= member.generation <= GENERATIONS)
+        if not in_range or (before is not None and before not in context):
+            return False
+    return True
+
+
+def is_in_range(op):
+    """context_diff/Operations.antt, `IsInRange`: names and contexts are in their ranges, a place is at most PLACES, a character is a
+    Unicode scalar value, an author is one of the SITES sites, a generation is 1 to GENERATIONS, a context has at most UNDO_ENTRIES
+    undo entries"""
+    if isinstance(op, Undo):
+        fields = 0 <= op.author < SITES and is_name(op.target) and 1 <= op.generation <= GENERATIONS
+    else:
+        fields = is_name(op.name) and 0 <= op.place <= PLACES and (isinstance(op, Delete) or is_scalar(op.character))
+    return fields and is_context(op.context) and len(generations_of(op.context)) <= UNDO_ENTRIES
+
+
+def keeps_own(op):
+    """context_diff/Operations.antt, `KeepsOwn`: an original knows all earlier originals of its site and no others of it"""
+    return not is_original(op) or counts_of(op.context).get(op.name.site, 0) + 1 == op.name.number
+
+
+def keeps_target(op):
+    """context_diff/Operations.antt, `KeepsTarget`: an undo knows its target, at the generation before its own"""
+    if is_original(op):
+        return True
+    return original(op.target) in op.context and generations_of(op.context).get(op.target, 0) + 1 == op.generation
+
+
+def has_no_stray(context):
+    """context_vector/Contexts.antt, `HasNoStray`: each undo entry names an original that the context has"""
+    return all(original(member.name) in context for member in context if member.is_group)
+
+
+def is_well_formed(op):
+    """context_diff/Operations.antt, `IsWellFormed`: the rules that an operation keeps by itself"""
+    return is_in_range(op) and keeps_own(op) and keeps_target(op) and has_no_stray(op.context)
+
+
+# ---- Histories: lists of operations in the order in which a site integrated them
+
+
+def context_of_all(history):
+    """context_diff/Histories.antt, `context_of_all`: the members of the history as one context: what a local operation made after
+    it knows"""
+    return frozenset(member_of(op) for op in history)
+
+
+def generation_in(history, name):
+    """context_diff/Histories.antt, `generation_in`: the greatest generation of an undo of this original, 0 if there is none"""
+    return max((op.generation for op in history if isinstance(op, Undo) and op.target == name), default=0)
+
+
+def in_force(history, name):
+    """context_diff/Histories.antt, `in_force`: the original is in force: not undone, or redone"""
+    return is_even(generation_in(history, name))
+
+
+def are_same(history, other):
+    """context_diff/Histories.antt, `Same`: two histories with the same inserts and deletes, each at the same generation: authors
+    and contexts of undos play no part"""
+    originals = [op for op in history if is_original(op)]
+    others = [op for op in other if is_original(op)]
+    same = all(op in others for op in originals) and all(op in originals for op in others)
+    return same and all(generation_in(history, op.name) == generation_in(other, op.name) for op in originals)
+
+
+def first_lacked(history, context):
+    """context_diff/Histories.antt, `LacksFirst`: the least member, in the order of members, that the context names and the history
+    hasn't. None where it lacks nothing."""
+    return min(context - context_of_all(history), default=None)
+
+
+def first_open_site(history, context):
+    """context_diff/Books.antt, `IsFirstOpenSite`: the least site whose last named original knows something that the context hasn't.
+    None where there is no such site."""
+    for site, count in counts_of(context).items():
+        last = next(op for op in history if member_of(op) == original(Name(site, count)))
+        if not last.context <= context:
+            return site
+    return None
+
+
+def inserts_in(history, context):
+    """context_diff/Histories.antt, `inserts_in`: the number of inserts among the originals of a context"""
+    return sum(isinstance(op, Insert) and member_of(op) in context for op in history)
+
+
+def has_place(history, op):
+    """context_diff/Histories.antt, `HasPlace`: a place counts the cells of the context: an insert may stand after the last one, a
+    delete needs a cell"""
+    if isinstance(op, Insert):
+        return op.place <= inserts_in(history, op.context)
+    return isinstance(op, Undo) or op.place < inserts_in(history, op.context)
+
+
+def is_next(history, op):
+    """context_diff/Histories.antt, `IsNext`: the operation may be integrated after the history"""
+    new = member_of(op) not in context_of_all(history)
+    ready = is_well_formed(op) and new and first_lacked(history, op.context) is None
+    return ready and (not is_original(op) or first_open_site(history, op.context) is None) and has_place(history, op)
+
+
+def is_valid(history):
+    """context_diff/Histories.antt, `IsValid`: each operation is next after those before it"""
+    return all(is_next(history[:i], op) for i, op in enumerate(history))
+
+
+# ---- The fixed replay and the text. A cell is named by its insert: here it is that member
+
+
+def is_earlier(op):
+    """context_diff/Replays.antt, `is_earlier`: by rank, then by site; here as a key to sort by"""
+    return rank_of(op.context), op.name.site
+
+
+def fixed_order(history):
+    """context_diff/Replays.antt, `fixed_order`: the inserts of a history in their fixed order"""
+    return sorted((op for op in history if isinstance(op, Insert)), key=is_earlier)
+
+
+def seen(op, cells):
+    """context_diff/Replays.antt, `seen`: the cells of a list whose inserts these are, in the order of the list: those of the
+    operation's context"""
+    return [cell for cell in cells if cell in op.context]
+
+
+def put(op, earlier, cells):
+    """context_diff/Replays.antt, `put`: the cells with op's put directly before its right neighbour.
+
+    First its two neighbours are taken, among the cells that it sees (`gap`): with place p the p-th of them and the next one, or an
+    end of the text. Then each earlier insert that it doesn't see, if its cell lies strictly between them, becomes the left
+    neighbour where its site is smaller than op's, and the right one otherwise (`narrowed_by`)."""
+    sees = seen(op, cells)
+    left = cells.index(sees[op.place - 1]) if op.place > 0 else -1
+    right = cells.index(sees[op.place]) if op.place < len(sees) else len(cells)
+    for other in earlier:
+        if other not in op.context and left < cells.index(other) < right:
+            if other.name.site < op.name.site:
+                left = cells.index(other)
+            else:
+                right = cells.index(other)
+    return cells[:right] + [member_of(op)] + cells[right:]
+
+
+def replay_of(history):
+    """context_diff/Replays.antt, `replay_of`: the cells of the inserts of a valid history, put in their fixed order"""
+    earlier, cells = [], []
+    for op in fixed_order(history):
+        cells = put(op, earlier, cells)
+        earlier.append(member_of(op))
+    return cells
+
+
+def hit_of(op, cells):
+    """context_diff/Replays.antt, `hits`: the cell stands at the delete's place among those cells of the replay that the delete's
+    context holds; none stands past the end"""
+    return seen(op, cells)[op.place : op.place + 1]
+
+
+def shown_places_of(history):
+    """cot_site/Views.antt, `shown_places_of`: where the shown cells of a history stand among all cells of its replay.
+    context_diff/Replays.antt, `is_shown`: a cell is shown if its insert is in force and no delete in force hits it."""
+    cells = replay_of(history)
+    covered = [cell for op in history if isinstance(op, Delete) and in_force(history, op.name) for cell in hit_of(op, cells)]
+    return [place for place, cell in enumerate(cells) if in_force(history, cell.name) and cell not in covered]
+
+
+def text_of(history):
+    """context_diff/Replays.antt, `characters_of`: the characters of the shown cells"""
+    cells, character = replay_of(history), {member_of(op): chr(op.character) for op in history if isinstance(op, Insert)}
+    return "".join(character[cells[place]] for place in shown_places_of(history))
+
+
+# ---- Sites: verdicts, deliveries, releases
+
+
+@dataclass
+class State:
+    """cot_site/States.antt, `State`: a site's number, the operations that it integrated in their order, and those that wait in the
+    order of arrival"""
+
+    number: int
+    history: List = field(default_factory=list)
+    waiting: List = field(default_factory=list)
+
+
+class Verdict(NamedTuple):
+    """site_answers/Words.antt, `verdict_text`: the words of a verdict on the operation of this member"""
+
+    word: str
+    member: Member
+    more: tuple = ()
+
+    def __str__(self):
+        return " ".join(map(str, (self.word, self.member, *self.more)))
+
+
+def is_repeat(state, op):
+    """cot_site/Verdicts.antt, `IsRepeat`: the same insert or delete is in the history; or the history has reached the generation of
+    the undo"""
+    return op in state.history if is_original(op) else op.generation <= generation_in(state.history, op.target)
+
+
+def is_forgery(state, op):
+    """cot_site/Verdicts.antt, `IsForgery`: the operation is an original of this name, and another of the name is in the history or
+    waits"""
+    return is_original(op) and any(member_of(it) == member_of(op) and it != op for it in state.history + state.waiting)
+
+
+def judged(state, op):
+    """cot_site/Verdicts.antt, `IsVerdict`: each verdict with what it says: the first case that holds"""
+    member, missing = member_of(op), first_lacked(state.history, op.context)
+    if is_repeat(state, op):
+        return Verdict("repeat", member)
+    if is_forgery(state, op):
+        return Verdict("forged", member)
+    if missing is not None:
+        return Verdict("waits", member, (missing,))
+    site = first_open_site(state.history, op.context) if is_original(op) else None
+    if site is not None:
+        return Verdict("notclosed", member, (site,))
+    if not has_place(state.history, op):
+        return Verdict("placeout", member, (op.place, inserts_in(state.history, op.context)))
+    return Verdict("integrated", member)
+
+
+def deliver(state, op):
+    """cot_site/States.antt, `after_verdict`: an integrated one is the last of the history, one that waits is held, and any other
+    changes nothing. `held`: after the last, unless it is there already. Gives the verdict."""
+    verdict = judged(state, op)
+    if verdict.word == "integrated":
+        state.history.append(op)
+    elif verdict.word == "waits" and op not in state.waiting:
+        state.waiting.append(op)
+    return verdict
+
+
+def is_ready(history, op):
+    """cot_site/States.antt, `is_ready`: the operation's member is integrated, or its context is"""
+    known = context_of_all(history)
+    return member_of(op) in known or op.context <= known
+
+
+def releases(state):
+    """cot_site/Releases.antt, `all_releases`: a release, and those that its state then gives. States.antt, `released`: the first
+    operation that is ready leaves the waiting ones, and gets its verdict over the history and the others."""
+    verdicts = []
+    while True:
+        ready = next((op for op in state.waiting if is_ready(state.history, op)), None)
+        if ready is None:
+            return verdicts
+        state.waiting.remove(ready)
+        verdicts.append(deliver(state, ready))
+
+
+# ---- Local commands
+
+
+class Refused(Exception):
+    """Why a local command, a line or a log is refused, in words."""
+
+
+def numbered(state):
+    """cot_site/Commands.antt, `next_name`: the name of the site's next original. `numbered`: if the site has a number for it."""
+    made = counts_of(context_of_all(state.history)).get(state.number, 0)
+    if made >= NUMBERS:
+        raise Refused("numberfull")
+    return Name(state.number, made + 1)
+
+
+def context_carried(state):
+    """cot_site/Commands.antt, `in_context`: if its context has no more undo entries than an operation carries"""
+    context = context_of_all(state.history)
+    entries = len(generations_of(context))
+    if entries > UNDO_ENTRIES:
+        raise Refused(f"contextfull {entries}")
+    return context
+
+
+def local_insert(state, v, character):
+    """cot_site/Commands.antt, `local_insert`: the insert of a character after v shown ones: at the front, or at the place after the
+    shown cell before it"""
+    places = shown_places_of(state.history)
+    if v > len(places):
+        raise Refused(f"place {v} {len(places)}")
+    return Insert(numbered(state), places[v - 1] + 1 if v > 0 else 0, character, context_carried(state))
+
+
+def local_delete(state, v):
+    """cot_site/Commands.antt, `local_delete`: the delete of the v-th shown character, counted from 0"""
+    places = shown_places_of(state.history)
+    if v >= len(places):
+        raise Refused(f"place {v} {len(places)}")
+    return Delete(numbered(state), places[v], context_carried(state))
+
+
+def turned(state, name):
+    """cot_site/Commands.antt, `turned`: the undo or redo of an original at the generation after its own"""
+    return Undo(state.number, name, generation_in(state.history, name) + 1, context_carried(state))
+
+
+def local_undo(state, name):
+    """cot_site/Commands.antt, `local_undo`: the undo of an original in force"""
+    if original(name) not in context_of_all(state.history):
+        raise Refused(f"unknown {name}")
+    if not in_force(state.history, name):
+        raise Refused(f"notinforce {generation_in(state.history, name)}")
+    return turned(state, name)
+
+
+def local_redo(state, name):
+    """cot_site/Commands.antt, `local_redo`: the redo of an original that isn't in force"""
+    if original(name) not in context_of_all(state.history):
+        raise Refused(f"unknown {name}")
+    if in_force(state.history, name):
+        raise Refused(f"inforce {generation_in(state.history, name)}")
+    if generation_in(state.history, name) == GENERATIONS:
+        raise Refused("generationfull")
+    return turned(state, name)
+
+
+# ---- Frames
+
+
+class More(Exception):
+    """wire_codec/Judging.antt, `judge`: the bytes end inside a frame, of which so many are needed at least."""
+
+
+class Bad(Exception):
+    """wire_codec/Reading.antt, `fault`: a cause and the offset at which it is."""
+
+
+def number_bytes(width, value):
+    return value.to_bytes(width, "big")
+
+
+def name_bytes(name):
+    """wire_codec/Spelling.antt, `name_bytes`: a site has one byte, a number four"""
+    return number_bytes(1, name.site) + number_bytes(4, name.number)
+
+
+def context_bytes(context):
+    """wire_codec/Spelling.antt, `context_bytes`: how many sites, and these with their counts; how many undone names, and these with
+    their generations"""
+    counts, generations = counts_of(context), generations_of(context)
+    data = number_bytes(1, len(counts)) + b"".join(number_bytes(1, site) + number_bytes(4, count) for site, count in counts.items())
+    data += number_bytes(2, len(generations))
+    return data + b"".join(name_bytes(name) + number_bytes(2, generation) for name, generation in generations.items())
+
+
+def frame(op):
+    """wire_codec/Spelling.antt, `frame`: the one frame of an operation: four bytes of length, and the body of that length"""
+    if isinstance(op, Insert):
+        head = b"\x01" + name_bytes(op.name) + number_bytes(4, op.place) + number_bytes(4, op.character)
+    elif isinstance(op, Delete):
+        head = b"\x02" + name_bytes(op.name) + number_bytes(4, op.place)
+    else:
+        head = b"\x03" + number_bytes(1, op.author) + name_bytes(op.target) + number_bytes(2, op.generation)
+    body = head + context_bytes(op.context)
+    return number_bytes(4, len(body)) + body
+
+
+class Body:
+    """wire_codec/Reading.antt, `LeftData`: the bytes that are left of a body, and the offset of the first of them"""
+
+    def __init__(self, data):
+        self.data, self.at = data, 4
+
+    def number(self, width):
+        """wire_codec/Reading.antt, `number`: a number of a width"""
+        if len(self.data) < self.at + width:
+            raise Bad("length", self.at)
+        self.at += width
+        return int.from_bytes(self.data[self.at - width : self.at], "big")
+
+    def bounded(self, width, low, high, cause="range"):
+        """wire_codec/Reading.antt, `bounded`: what is read must pass a test; else the fault is at its first byte"""
+        start, value = self.at, self.number(width)
+        if not low <= value <= high:
+            raise Bad(cause, start)
+        return value
+
+    def not_zero(self, width, high):
+        """wire_codec/Reading.antt, `count_at`, `entry_at`: of a count or a generation of a context 0 is a fault of its own"""
+        start, value = self.at, self.number(width)
+        if value == 0:
+            raise Bad("zero", start)
+        if value > high:
+            raise Bad("range", start)
+        return value
+
+    def name(self):
+        """wire_codec/Reading.antt, `name_at`"""
+        return Name(self.bounded(1, 0, SITES - 1), self.bounded(4, 1, NUMBERS))
+
+    def character(self):
+        """wire_codec/Reading.antt, `char_at`"""
+        start, code = self.at, self.number(4)
+        if not is_scalar(code):
+            raise Bad("char", start)
+        return code
+
+    def counts(self):
+        """wire_codec/Reading.antt, `counts_at`: sites rising, each with its count"""
+        counts, low = {}, 0
+        for _ in range(self.bounded(1, 0, SITES)):
+            start, site = self.at, self.bounded(1, 0, SITES - 1)
+            if site < low:
+                raise Bad("order", start)
+            counts[site], low = self.not_zero(4, NUMBERS), site + 1
+        return counts
+
+    def generations(self):
+        """wire_codec/Reading.antt, `entries_at`: undone names rising, each with its generation; and the offset of each"""
+        generations, starts, before = {}, {}, None
+        for _ in range(self.bounded(2, 0, UNDO_ENTRIES)):
+            start, name = self.at, self.name()
+            if before is not None and not before < name:
+                raise Bad("order", start)
+            generations[name], starts[name], before = self.not_zero(2, GENERATIONS), start, name
+        return generations, starts
+
+
+def op_in(body):
+    """wire_codec/Judging.antt, `body_at`: a whole body: its fields, nothing after them, and then the rules own, target and stray"""
+    kind = body.bounded(1, 1, 3, "kind")
+    author = body.bounded(1, 0, SITES - 1) if kind == 3 else None
+    name = body.name()
+    value = body.bounded(2, 1, GENERATIONS) if kind == 3 else body.bounded(4, 0, PLACES)
+    character = body.character() if kind == 1 else None
+    counts = body.counts()
+    generations, starts = body.generations()
+    if body.at < len(body.data):
+        raise Bad("length", body.at)
+    if kind < 3 and counts.get(name.site, 0) + 1 != name.number:
+        raise Bad("own", 6)
+    if kind == 3 and (counts.get(name.site, 0) < name.number or generations.get(name, 0) + 1 != value):
+        raise Bad("target", 6)
+    for undone in generations:
+        if counts.get(undone.site, 0) < undone.number:
+            raise Bad("stray", starts[undone])
+    context = context_with(counts, generations)
+    if kind == 1:
+        return Insert(name, value, character, context)
+    return Delete(name, value, context) if kind == 2 else Undo(author, name, value, context)
+
+
+def judge(data):
+    """wire_codec/Judging.antt, `judge`: the operation of the frame that the bytes begin with, and how many bytes it has"""
+    length = int.from_bytes(data[:4], "big")
+    if len(data) < 4:
+        raise More(4)
+    if length > LONGEST_BODY:
+        raise Bad("toolong", 0)
+    if len(data) < 4 + length:
+        raise More(4 + length)
+    return op_in(Body(data[: 4 + length])), 4 + length
+
+
+# ---- Lines of scripts
+
+
+def number_in(text, limit=2**32):
+    """script_text/Fields.antt, `number_below`: `0`, or decimal digits that don't start with 0; below the limit. None if it isn't."""
+    return int(text) if re.fullmatch("0|[1-9][0-9]{0,9}", text) and int(text) < limit else None
+
+
+def site_in(text):
+    """script_text/Fields.antt, `site_of`: a site: from 0, below SITES"""
+    return number_in(text, SITES)
+
+
+def count_in(text):
+    """script_text/Fields.antt, `count_of`: a number of sites: 1 to SITES"""
+    return number_in(text, SITES + 1) or None
+
+
+def name_in(text):
+    """script_text/Fields.antt, `name_of`: a name, `S.N`"""
+    before, dot, behind = text.partition(".")
+    site, number = site_in(before), number_in(behind, NUMBERS + 1)
+    return Name(site, number) if dot and site is not None and number else None
+
+
+def text_in(text):
+    """script_text/Fields.antt, `text_of`: the characters of a field that has one at least"""
+    return text or None
+
+
+def octets_in(text):
+    """script_text/Fields.antt, `octets_of`: bytes in hexadecimal, two digits each in either case, of which there is one at least"""
+    return bytes.fromhex(text) if re.fullmatch("([0-9a-fA-F]{2})+", text) else None
+
+
+# script_text/Rows.antt, `table`: a word, with the readers of its fields
+TABLE = {
+    "sites": [count_in],
+    "ins": [site_in, number_in, text_in],
+    "nl": [site_in, number_in],
+    "del": [site_in, number_in],
+    "undo": [site_in, name_in],
+    "redo": [site_in, name_in],
+    "give": [site_in, number_in],
+    "all": [site_in],
+    "raw": [site_in, octets_in],
+    "show": [site_in],
+    "state": [site_in],
+}
+
+
+def values_in(fields, readers):
+    """script_text/Fields.antt, `pair_by`: fields, each with its reader: what they say. None where one of them can't be read."""
+    values = [reader(part) for reader, part in zip(readers, fields)]
+    return None if len(fields) != len(readers) or None in values else values
+
+
+def line_in(data):
+    """session_replay/Scripts.antt, `line_read`: what a line says, or the first cause why it can't be read. script_text/Answers.antt,
+    `line_in`: what a text says as a line: a word and its fields, none where it does nothing."""
+    if len(data) > LONGEST_LINE:
+        raise Refused("long")
+    try:
+        text = data.decode("utf-8")
+    except UnicodeDecodeError:
+        raise Refused("utf8") from None
+    if text == "" or text.startswith("#"):
+        return None, []
+    if text == "sync":
+        return "sync", []
+    word = text.split(" ")[0]
+    readers = TABLE.get(word, [])
+    values = values_in(text.split(" ", len(readers))[1:], readers)
+    if values is None or word not in TABLE:
+        raise Refused("form")
+    return word, values
+
+
+# ---- Sessions and their reports
+
+
+class Session:
+    """session_replay/Sessions.antt, `SessionData`: the states of the sites, in the order of their numbers, none before `sites N`;
+    and the messages, numbered from 0. What is written of it is the report."""
+
+    def __init__(self):
+        self.sites, self.messages, self.report, self.number = [], [], [], 0
+
+    def write(self, *words):
+        self.report.append(" ".join(map(str, words)) + "\n")
+
+    def settle(self, state):
+        """session_replay/Sessions.antt, `settling`: an event that leaves the site in this state, and the releases after it"""
+        for verdict in releases(state):
+            self.write("free", state.number, verdict)
+
+    def make(self, state, local, *given):
+        """session_replay/LineSteps.antt, `commanded`: a local command at the site, whose operation or refusal is this. Sessions.antt,
+        `made`: it becomes the next message."""
+        try:
+            op = local(state, *given)
+        except Refused as why:
+            self.write("no", why)
+            return False
+        state.history.append(op)
+        self.messages.append(op)
+        did = {Insert: "insert", Delete: "delete"}.get(type(op)) or ("redo" if is_even(op.generation) else "undo")
+        self.write("op", len(self.messages) - 1, did, member_of(op))
+        self.settle(state)
+        return True
+
+    def type(self, state, v, text):
+        """session_replay/LineSteps.antt, `typed`: characters at visible places v, v + 1 and so on, until one is refused"""
+        for i, character in enumerate(text):
+            if not self.make(state, local_insert, v + i, ord(character)):
+                break
+
+    def give(self, state, op, many=False):
+        """session_replay/Sessions.antt, `given`: a delivery to the site. `is_silent`: the line of a delivery is left out: that of a
+        repeat where many are delivered at once"""
+        verdict = deliver(state, op)
+        if not (many and verdict.word == "repeat"):
+            self.write("give", state.number, verdict)
+        self.settle(state)
+
+    def give_all(self, state):
+        """session_replay/Sessions.antt, `given_all`: each of these messages to the site"""
+        for op in list(self.messages):
+            self.give(state, op, many=True)
+
+    def take_raw(self, state, data):
+        """session_replay/LineSteps.antt, `framed`: a frame is delivered, and what follows it goes on; bytes that begin with none are
+        reported"""
+        while data:
+            try:
+                op, used = judge(data)
+            except More as least:
+                return self.write("raw", state.number, "more", least)
+            except Bad as why:
+                return self.write("raw", state.number, "bad", *why.args)
+            self.give(state, op)
+            data = data[used:]
+
+    def show(self, state):
+        """script_text/Report.antt, `shown_text`: `text CHARS BYTES`, a line feed, the text, a line feed"""
+        text = text_of(state.history)
+        self.write("text", len(text), len(text.encode()))
+        self.write(text)
+
+    def tell_state(self, state):
+        """script_text/Report.antt, `state_text`: what a site has: the counts of its sites, the greatest generations of undone names,
+        how many operations wait"""
+        context = context_of_all(state.history)
+        counts = ",".join(f"{site}:{count}" for site, count in counts_of(context).items())
+        groups = ",".join(str(group(*entry)) for entry in generations_of(context).items())
+        self.write("state", state.number, "have", counts or "-", "groups", groups or "-", "waiting", len(state.waiting))
+
+    def do_line(self, data):
+        """session_replay/LineSteps.antt, `line_steps`: the steps of a line, or why it is refused. `steps_there`: what a line does at
+        its site, which is there if it speaks of one."""
+        word, values = line_in(data)
+        if word is None:
+            return
+        if word == "sites":
+            if self.sites:
+                raise Refused("twice")
+            self.sites = [State(number) for number in range(values[0])]
+            return
+        if not self.sites:
+            raise Refused("nosites")
+        if word == "sync":
+            for state in self.sites:
+                self.give_all(state)
+            return
+        site, *given = values
+        if site >= len(self.sites):
+            raise Refused("nosite")
+        state = self.sites[site]
+        if word == "ins":
+            self.type(state, *given)
+        elif word == "nl":
+            self.type(state, *given, "\n")
+        elif word == "del":
+            self.make(state, local_delete, *given)
+        elif word == "undo":
+            self.make(state, local_undo, *given)
+        elif word == "redo":
+            self.make(state, local_redo, *given)
+        elif word == "give":
+            if given[0] >= len(self.messages):
+                raise Refused("nomessage")
+            self.give(state, self.messages[given[0]])
+        elif word == "all":
+            self.give_all(state)
+        elif word == "raw":
+            self.take_raw(state, *given)
+        elif word == "show":
+            self.show(state)
+        elif word == "state":
+            self.tell_state(state)
+
+    def do_next(self, data):
+        """session_replay/Scripts.antt, `report_on`: a refused line ends the script. `Past`: a line that holds, or would begin with,
+        the byte past the limit; here None. Gives whether the script goes on."""
+        self.number += 1
+        try:
+            if data is None:
+                raise Refused("limit")
+            self.do_line(data)
+            return True
+        except Refused as why:
+            self.write("refused", self.number, why)
+            return False
+
+
+def pieces_of(script):
+    """session_replay/Scripts.antt, `pieces_of`: the lines of a script, without their line feeds; after the last line feed stands an
+    empty line, which does nothing. Of a longer script than may be the line that holds the byte past the limit is the last one."""
+    lines = script[:MOST_BYTES].split(b"\n")
+    return lines if len(script) <= MOST_BYTES else lines[:-1] + [None]
+
+
+def script_report(script):
+    """session_replay/Scripts.antt, `script_report`: the report of a script, and whether a line of it was refused"""
+    session = Session()
+    done = all(session.do_next(piece) for piece in pieces_of(script))
+    return "".join(session.report).encode(), not done
+
+
+# ---- Logs
+
+HEADER = b"COTLOG1\n"
+
+
+def log_of(state):
+    """session_log/Logs.antt, `log_of`: a history, in the order of integration, and then the operations that wait, in the order of
+    arrival"""
+    return HEADER + b"".join(frame(op) for op in state.history + state.waiting)
+
+
+def read_log(data):
+    """session_log/Readings.antt, `placed_from`: the operations of a log, each with the offset of its frame. `IsUnread`: or why the
+    bytes were not read."""
+    if not data.startswith(HEADER):
+        raise Refused("log header")
+    placed, at = [], len(HEADER)
+    while at < len(data):
+        try:
+            op, used = judge(data[at : at + 4 + LONGEST_BODY])
+        except More:
+            raise Refused(f"log cut {at}") from None
+        except Bad as why:
+            raise Refused(f"log bad {at + why.args[1]} {why.args[0]}") from None
+        placed.append((at, op))
+        at += used
+    return placed
+
+
+def load(site, data):
+    """session_log/Loadings.antt, `IsLoaded`: its operations are delivered one after the other, each with the releases after it.
+    `first_refusal`: or the first verdict among these that is a refusal."""
+    if len(data) > MOST_BYTES:
+        raise Refused("limit")
+    state = State(site)
+    for at, op in read_log(data):
+        for verdict in [deliver(state, op), *releases(state)]:
+            if verdict.word in ("forged", "notclosed", "placeout"):
+                raise Refused(f"log op {at} {verdict}")
+    return state
+
+
+def edited(state, local, *given):
+    """log_replies/Editing.antt, `made`: the state after an operation of the site's own and all releases that follow, or why there is
+    no such operation"""
+    try:
+        state.history.append(local(state, *given))
+    except Refused as why:
+        raise Refused(f"no {why}") from None
+    releases(state)
+
+
+# ---- The command
+
+
+def show_reply(data):
+    """log_replies/Replies.antt, `shown_reply`: the lines of the text that the history shows"""
+    session = Session()
+    session.show(load(0, data))
+    return "".join(session.report).encode()
+
+
+def edit_reply(words, data):
+    """log_replies/Replies.antt, `edit_reply`: the log of the edited site; nothing of it where an operation is refused, but why.
+    None where the words are no edit."""
+    site, (word, *given) = site_in(words[0]), words[1:]
+    values = values_in(given, TABLE[word][1:]) if word in ("ins", "nl", "del", "undo", "redo") else None
+    if site is None or values is None:
+        return None
+    state = load(site, data)
+    if word in ("ins", "nl"):
+        v, text = values if word == "ins" else (values[0], "\n")
+        for i, character in enumerate(text):
+            edited(state, local_insert, v + i, ord(character))
+    else:
+        edited(state, {"del": local_delete, "undo": local_undo, "redo": local_redo}[word], *values)
+    return log_of(state)
+
+
+def run(words, data):
+    """What a call with these words writes, and the status with which it ends: 0 done, 1 refused, 2 no command here."""
+    try:
+        if words == ["replay"]:
+            report, refused = script_report(data)
+            return report, int(refused)
+        if words == ["show"]:
+            return show_reply(data), 0
+        if len(words) > 2 and words[0] == "edit":
+            reply = edit_reply(words[1:], data)
+            return (b"cotpad: words\n", 2) if reply is None else (reply, 0)
+        return b"cotpad: words\n", 2
+    except Refused as why:
+        return f"refused {why}\n".encode(), 1
+
+
+if __name__ == "__main__":
+    try:
+        words = [os.fsencode(word).decode("utf-8") for word in sys.argv[1:]]
+    except UnicodeDecodeError:
+        words = []
+    written, status = run(words, sys.stdin.buffer.read())
+    sys.stdout.buffer.write(written)
+    sys.exit(status)

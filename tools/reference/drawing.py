@@ -1,0 +1,338 @@
+"""Draws sessions: scripts of all kinds of lines, and logs. All of one is said by the number that its drawing begins with."""
+import dataclasses
+from collections import Counter
+
+import cotpad_reference as ref
+from cotpad_reference import Delete, Insert, Name, Undo
+
+LETTERS = "abcdefghijklmnopqrstuvwxyz"
+OTHERS = " #.\t\réßλ€\u2028\ufeff😀\U0010ffff\0"
+EDGES = (0, 1, 2, 3, 4, 63, 64, 127, 128, 255)
+
+# lines that are refused, wherever they stand or at some sites
+WRONG_TEXTS = (
+    "ins|ins 0|ins 0 0|ins 0 0 |ins 0  a|ins 0 a|ins 64 0 a|ins 00 0 a|ins 0 01 a|ins  0 0 a| ins 0 0 a|ins 0 +1 a|ins 0 -1 a|INS 0 0 a|"
+    "ins 0 4294967296 a|ins 0 ٣ a|nl 0|nl 0 |nl 0 0 |nl 0 0 a|del 0|del 0 4294967296|del 0 99999999999999999999|del 0 0 0|undo 0|undo 0 0|"
+    "undo 0 0.|undo 0 .1|undo 0 0.0|undo 0 0.01|undo 0 64.1|undo 0 0.1000001|undo 0 0.1/1|undo 0 0.1.1|redo 0 0.1 |redo 0  0.1|give 0|"
+    "give 0 4294967295|give 0 4294967296|give 0 x|give 0 0.1|all|all |all 64|all 0 0|sync |sync 0|sync\r|syn|raw|raw 0|raw 0 |raw 0 0|"
+    "raw 0 0g|raw 0 00 00|raw 0 0000 |raw 64 00|show|show 64|show 0 |show -1|state|state 64|state 0.0|sites|sites 0|sites 65|sites 01|"
+    "sites 2|sites 1 |help|replay|0| |\t|\ufeffsync|gives 0 0|\0"
+)
+NO_TEXTS = [b"\xff", b"# \xc3", b"ins 0 0 \xc0\x80", b"ins 0 0 \xed\xa0\x80", b"ins 0 0 \xf4\x90\x80\x80", b"ins 0 0 a\xe2\x82", b"#\x80"]
+WRONG_LINES = [line.encode() for line in WRONG_TEXTS.split("|")] + 3 * NO_TEXTS
+
+# of a line with the last site or one that isn't there
+SITE_LINES = "ins {} 0 a|nl {} 0|del {} 0|undo {} 0.1|redo {} 0.1|give {} 0|all {}|raw {} 00|show {}|state {}".split("|")
+
+# what may be changed of an operation
+WAYS = ("place", "character", "author", "kind", "next", "less", "less", "less", "more", "undone", "whole", "drawn", "drawn", "undo")
+
+
+def is_large(data):
+    """Whether a frame among these bytes has so many members in its context that plain sets take seconds. `make check-bytes` tries
+    such ones."""
+    while len(data) > 4:
+        used = 4 + int.from_bytes(data[:4], "big")
+        body = ref.Body(data[:used])
+        body.at = {1: 18, 2: 14}.get(data[4], 13)  # where the context begins
+        try:
+            if sum(body.counts().values()) + sum(body.generations()[0].values()) > 10_000:
+                return True
+        except ref.Bad:
+            return False
+        data = data[used:]
+    return False
+
+
+class Drawing:
+    """A session as it is drawn: its lines, the reference's session after them, and authors elsewhere, whose operations are known here
+    by `raw` alone."""
+
+    def __init__(self, draw):
+        self.draw, self.session, self.lines, self.goes_on = draw, ref.Session(), [], True
+        self.elsewhere, self.made = [ref.State(63)], []
+        self.kinds = Counter({kind: draw.choice((1, 2, 4, 8)) for kind in ("type", "nl", "del", "undo", "redo", "give", "raw")})
+        self.kinds.update({"type": 4, "raw": 4, "all": 2, "sync": draw.choice((0, 1, 2)), "show": 2, "state": 2, "nothing": 1})
+
+    def chance(self, share):
+        return self.draw.random() < share
+
+    def add(self, *words):
+        """Adds a line, and does it in the reference; a line after a refused one is added alone."""
+        line = b" ".join(word if isinstance(word, bytes) else str(word).encode() for word in words)
+        self.lines.append(line)
+        self.goes_on = self.goes_on and self.session.do_next(line)
+
+    # ---- what lines are made of
+
+    def state(self):
+        return self.draw.choice(self.session.sites[:6] + self.session.sites[-1:])
+
+    def place(self, most):
+        """A place up to this one, and at times above."""
+        if self.chance(0.1):
+            return self.draw.choice((most + 1, most + 2, 64_000_000, 4_294_967_295))
+        return self.draw.choice((0, most, self.draw.randint(0, most), self.draw.randint(0, most)))
+
+    def character(self):
+        return self.draw.choice(OTHERS if self.chance(0.1) else LETTERS)
+
+    def name(self, history, undone=False):
+        """A name that is likely known, undone where that is wanted, and at times one that isn't known, or not yet."""
+        known = [op.name for op in history if ref.is_original(op)]
+        if undone and self.chance(0.6):
+            known = [name for name in known if not ref.in_force(history, name)]
+        others = [op.name for op in self.session.messages + self.made if ref.is_original(op)]
+        if known and self.chance(0.8):
+            return self.draw.choice(known)
+        if others and self.chance(0.7):
+            return self.draw.choice(others)
+        return Name(self.draw.choice((0, 1, 2, 9, 63)), self.draw.choice((1, 2, 3, 5, 12, 1_000_000)))
+
+    # ---- operations of authors elsewhere
+
+    def act_elsewhere(self):
+        """An author elsewhere takes in what others made, or makes an operation."""
+        state = self.draw.choice(self.elsewhere)
+        others = self.session.messages + self.made
+        if others and self.chance(0.5):
+            first = self.draw.randrange(len(others))
+            for op in others[first : first + self.draw.choice((1, 1, 2, 5, 20))]:
+                ref.deliver(state, op)
+                ref.releases(state)
+            return
+        most = len(ref.shown_places_of(state.history))
+        local, *given = self.draw.choice((
+            (ref.local_insert, self.draw.randint(0, most), ord(self.character())),
+            (ref.local_insert, most, ord(self.character())),
+            (ref.local_delete, self.draw.randint(0, most)),
+            (ref.local_undo, self.name(state.history)),
+            (ref.local_redo, self.name(state.history, undone=True)),
+        ))
+        try:
+            op = local(state, *given)
+        except ref.Refused:
+            return
+        state.history.append(op)
+        ref.releases(state)
+        self.made.append(op)
+
+    def bent(self, op):
+        """The operation with one part changed, so that it's forged, or that no site that keeps the rules can have made it."""
+        way = self.draw.choice(WAYS)
+        if way == "place" and ref.is_original(op):
+            return dataclasses.replace(op, place=self.place(len(op.context)) % 64_000_002)
+        if way == "character" and isinstance(op, Insert):
+            codes = (ord("z"), ord("z"), 0, 0xD7FF, 0xD800, 0xDFFF, 0xE000, 0x10FFFF, 0x110000)
+            return dataclasses.replace(op, character=self.draw.choice(codes))
+        if way == "author" and isinstance(op, Undo):
+            return dataclasses.replace(op, author=self.draw.choice((0, 1, 63)))
+        if way == "kind" and isinstance(op, Insert):
+            return Delete(op.name, op.place, op.context)
+        if way == "kind" and isinstance(op, Delete):
+            return Insert(op.name, op.place, ord("k"), op.context)
+        if way == "next" and ref.is_original(op):
+            op = dataclasses.replace(op, name=Name(op.name.site, op.name.number + 1))
+        counts, generations = ref.counts_of(op.context), ref.generations_of(op.context)
+        own = op.name if ref.is_original(op) else op.target
+        whole = ref.counts_of(ref.context_of_all(self.state().history))
+        if way == "less" and counts:
+            sites = [site for site in counts if site != own.site] or sorted(counts)
+            for site in self.draw.sample(sites, self.draw.randint(1, len(sites))):
+                counts[site] = self.draw.randrange(counts[site])
+        elif way == "more":
+            site = self.draw.choice((0, 1, 2, 63))
+            counts[site] = counts.get(site, 0) + self.draw.choice((1, 1, 2, 30))
+        elif way == "undone" and counts:
+            site = self.draw.choice(sorted(counts))
+            name = Name(site, self.draw.randint(1, counts[site]))
+            generations[name] = max(0, generations.get(name, 0) + self.draw.choice((-1, 1, 1, 2)))
+        elif way == "whole":
+            counts = whole
+        elif way == "drawn":
+            counts = {site: self.draw.randint(0, count) for site, count in whole.items()}
+        elif way == "undo":
+            target = self.name(self.state().history)
+            target = Name(target.site, min(target.number, 20))
+            generation = generations.get(target, 0) + self.draw.choice((1, 1, 1, 2))
+            op = Undo(self.draw.choice((0, 1, 2, 63)), target, generation, op.context)
+        if self.chance(0.85):  # keep the rules that a frame shows by itself
+            own = op.name if ref.is_original(op) else op.target
+            counts[own.site] = own.number - 1 if ref.is_original(op) else max(own.number, counts.get(own.site, 0))
+            generations = {name: g for name, g in generations.items() if name.number <= counts.get(name.site, 0)}
+            if isinstance(op, Undo):
+                generations[own] = op.generation - 1
+        return dataclasses.replace(op, context=ref.context_with(counts, generations))
+
+    def operation(self):
+        """An operation for a frame: a message, one that was made elsewhere, or a bent one."""
+        for _ in range(self.draw.choice((1, 1, 2, 4))):
+            self.act_elsewhere()
+        known = self.session.messages[-12:] + self.made[-12:] + self.made[-4:]
+        if not known:
+            name = Name(self.draw.choice((0, 1, 9, 63)), 1)
+            return Insert(name, self.draw.choice((0, 0, 0, 1)), ord(self.character()), frozenset())
+        op = self.draw.choice(known)
+        if not self.chance(0.35):
+            return op
+        op = self.bent(op)
+        if self.chance(0.3):
+            op = self.bent(op)
+        if self.chance(0.3) and ref.is_well_formed(op):
+            self.made.append(op)  # others may take it in, and build on it
+        return op
+
+    # ---- bytes
+
+    def spoiled(self, data):
+        """Bytes with a change, which mostly make no frame."""
+        data, at = bytearray(data), self.draw.randrange(len(data))
+        way = self.draw.choice(("bit", "bit", "byte", "byte", "cut", "cut with its length", "more", "length"))
+        if way == "bit":
+            data[at] ^= 1 << self.draw.randrange(8)
+        elif way == "byte":
+            data[at] = self.draw.choice(EDGES)
+        elif way == "cut":
+            del data[max(1, at) :]
+        elif way == "cut with its length" and at >= 4:
+            data = bytearray((at - 4).to_bytes(4, "big")) + data[4:at]
+        elif way == "more":
+            data += bytes(self.draw.choice(EDGES) for _ in range(self.draw.randint(1, 6)))
+        else:
+            lengths = (0, 1, max(0, len(data) - 5), max(0, len(data) - 3), 115_025, 115_026, 2**32 - 1)
+            data[:4] = self.draw.choice(lengths).to_bytes(4, "big")
+        return bytes(data)
+
+    def odd_frame(self, op):
+        """A frame of the operation, but that its context is spelled in another way than it may be."""
+        head = ref.frame(op)[4 : -len(ref.context_bytes(op.context))]
+        counts, generations = list(ref.counts_of(op.context).items()), list(ref.generations_of(op.context).items())
+        items = generations if generations and self.chance(0.5) else counts
+        if not items:
+            items.append((self.draw.choice((0, 1, 64, 255)), self.draw.choice((0, 1, 300, 1_000_001))))
+        elif self.chance(0.5):
+            self.draw.shuffle(items)
+            items.append(self.draw.choice(items))
+        else:
+            at = self.draw.randrange(len(items))
+            items[at] = (items[at][0], 0 if items is generations else self.draw.choice((0, 1_000_001, items[at][1] + 1)))
+        spelled = bytes([len(counts)]) + b"".join(bytes([site]) + count.to_bytes(4, "big") for site, count in counts)
+        spelled += len(generations).to_bytes(2, "big")
+        spelled += b"".join(ref.name_bytes(name) + generation.to_bytes(2, "big") for name, generation in generations)
+        return (len(head) + len(spelled)).to_bytes(4, "big") + head + spelled
+
+    def some_bytes(self):
+        data = b"".join(ref.frame(self.operation()) for _ in range(self.draw.choice((1, 1, 1, 2, 4))))
+        if self.chance(0.1):
+            data += self.odd_frame(self.operation())
+        return self.spoiled(data) if self.chance(0.15) else data
+
+    def bytes_of_raw(self):
+        data = self.some_bytes()
+        while is_large(data):
+            data = self.some_bytes()
+        return data
+
+    # ---- lines
+
+    def line(self):
+        kind = self.draw.choices(list(self.kinds), list(self.kinds.values()))[0]
+        state = self.state()
+        most = len(ref.shown_places_of(state.history)) if kind in ("type", "nl", "del") else 0
+        if kind == "type":
+            text = "".join(self.character() for _ in range(self.draw.choice((1, 1, 2, 3))))
+            self.add("ins", state.number, self.place(most), text)
+        elif kind == "nl":
+            self.add("nl", state.number, self.place(most))
+        elif kind == "del":
+            self.add("del", state.number, self.place(max(0, most - 1)))
+        elif kind in ("undo", "redo"):
+            self.add(kind, state.number, self.name(state.history, undone=kind == "redo"))
+        elif kind == "give" and self.session.messages:
+            recent = self.session.messages if self.chance(0.5) else self.session.messages[-6:]
+            self.add("give", state.number, len(self.session.messages) - 1 - self.draw.randrange(len(recent)))
+        elif kind == "raw":
+            digits = self.bytes_of_raw().hex()
+            self.add("raw", state.number, digits.upper() if self.chance(0.1) else digits)
+        elif kind == "sync":
+            if len(self.session.sites) < 8:
+                self.add("sync")
+        elif kind == "nothing":
+            self.add(self.draw.choice(("", "# nothing", "#")))
+        else:
+            self.add("all" if kind == "give" else kind, state.number)
+
+    def wrong_line(self):
+        count = len(self.session.sites)
+        choices = (
+            self.draw.choice(WRONG_LINES),
+            self.draw.choice(WRONG_LINES),
+            self.draw.choice(SITE_LINES).format(count if self.goes_on else 0),
+            f"give 0 {len(self.session.messages)}",
+            f"sites {count or 1}",
+        )
+        self.add(self.draw.choice(choices))
+
+    def whole(self):
+        """All lines of a session."""
+        if self.chance(0.1):
+            self.add(self.draw.choice(("", "# a comment")))
+        if self.chance(0.03):
+            self.wrong_line()
+        count = 64 if self.chance(0.02) else self.draw.choice((1, 2, 2, 3, 3, 3, 4, 5))
+        self.add("sites", count)
+        if self.goes_on:
+            others = [self.draw.randrange(count), 63, self.draw.randrange(count, 64) if count < 64 else 0]
+            self.elsewhere = [ref.State(number) for number in self.draw.sample(others, self.draw.choice((1, 2, 3)))]
+            for _ in range(self.draw.choice((10, 20, 20, 30, 30, 45))):
+                self.line()
+        if self.goes_on and self.chance(0.5) and count < 8:
+            self.add("sync")
+        if self.goes_on and self.chance(0.9):
+            for state in self.session.sites[:6]:
+                self.add("state", state.number)
+                self.add("show", state.number)
+        if self.chance(0.5):
+            self.wrong_line()
+            if self.goes_on:
+                self.line()
+            else:
+                self.add("show 0")
+        return self.lines
+
+    def log_and_words(self):
+        """The log of a site, as it is or spoiled, in pieces, and the words of a call."""
+        draw, state = self.draw, self.state()
+        frames = [ref.frame(op) for op in state.history + state.waiting]
+        way = draw.choice(("as it is", "shuffled", "twice", "others", "others", "others", "spoiled", "spoiled", "header"))
+        if way == "shuffled":
+            draw.shuffle(frames)
+        elif way == "twice":
+            frames += frames[draw.randrange(len(frames) + 1) :]
+        elif way in ("others", "spoiled"):
+            for _ in range(draw.choice((1, 2, 5))):
+                data = ref.frame(self.operation())
+                other = self.spoiled(data) if way == "spoiled" and self.chance(0.5) else data
+                frames.insert(draw.randint(0, len(frames)), data if is_large(other) else other)
+        pieces = [self.spoiled(ref.HEADER) if way == "header" else ref.HEADER] + frames
+        if self.chance(0.4):
+            return ["show"], pieces
+        most = len(ref.shown_places_of(state.history))
+        edits = (
+            ["ins", self.place(most), "".join(draw.choice(LETTERS + "é😀 ") for _ in range(draw.choice((1, 1, 3))))],
+            ["nl", self.place(most)],
+            ["del", self.place(max(0, most - 1))],
+            ["undo", self.name(state.history)],
+            ["redo", self.name(state.history, undone=True)],
+        )
+        return ["edit", *map(str, (draw.choice((state.number, 0, 7, 63)), *draw.choice(edits)))], pieces
+
+    def calls(self):
+        """The calls to be compared, each with its words and its input in pieces: a script, and at times a log."""
+        pieces = [line + b"\n" for line in self.whole()]
+        if self.chance(0.1):
+            pieces[-1] = pieces[-1][:-1]
+        calls = [(["replay"], pieces)]
+        if self.session.sites and self.chance(0.4):
+            calls.append(self.log_and_words())
+        return calls

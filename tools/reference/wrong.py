@@ -1,0 +1,170 @@
+"""Wrong references, each with one rule changed, of which drawn sessions have to tell each from the right one."""
+import sys
+from pathlib import Path
+
+import cotpad_reference as ref
+
+# what is wrong, the text that is right, and what stands in its place
+WRONG = (
+    # the fixed replay and the text
+    ("of two at one place the greater site stands in front", "if other.name.site < op.name.site:", "if other.name.site > op.name.site:"),
+    ("inserts are replayed by site, then by rank", "return rank_of(op.context), op.name.site", "return op.name.site, rank_of(op.context)"),
+    ("neighbours are narrowed by the latest insert first", "for other in earlier:", "for other in reversed(earlier):"),
+    ("neighbours aren't narrowed", "and left < cells.index(other) < right:", "and False:"),
+    ("a delete hits by its place among all cells", "return seen(op, cells)[op.place", "return cells[op.place"),
+    ("an undone delete still hides", "isinstance(op, Delete) and in_force(history, op.name) for cell", "isinstance(op, Delete) for cell"),
+    ("an undone insert is still shown", "if in_force(history, cell.name) and cell not in covered", "if cell not in covered"),
+    ("a redone insert isn't shown", "    return is_even(generation_in(history, name))", "    return generation_in(history, name) == 0"),
+    # verdicts
+    (
+        "only an undo of the last generation is a repeat",
+        "op.generation <= generation_in(state.history, op.target)",
+        "op.generation == generation_in(state.history, op.target)",
+    ),
+    (
+        "an undo is a repeat only if the same one is there",
+        "return op in state.history if is_original(op) else",
+        "return op in state.history if True else",
+    ),
+    ("an operation that waits forges nothing", "for it in state.history + state.waiting)", "for it in state.history)"),
+    ("an undo may be forged", "return is_original(op) and any(member_of(it)", "return any(member_of(it)"),
+    ("another place is no other content", "and it != op for it", "and replace(it, place=0) != replace(op, place=0) for it"),
+    ("the last missing member is named", "return min(context - context_of_all(history)", "return max(context - context_of_all(history)"),
+    (
+        "members go by name, undos behind their originals",
+        "history), default=None)",
+        "history), key=lambda m: (m.name, m.generation), default=None)",
+    ),
+    ("contexts needn't be closed", "if is_original(op) else None\n    if site is not None", "if False else None\n    if site is not None"),
+    (
+        "contexts of undos have to be closed",
+        "first_open_site(state.history, op.context) if is_original(op) else None\n    if",
+        "first_open_site(state.history, op.context)\n    if",
+    ),
+    (
+        "the greatest open site is named",
+        "for site, count in counts_of(context).items():\n        last",
+        "for site, count in reversed(list(counts_of(context).items())):\n        last",
+    ),
+    (
+        "an insert after the last cell is out of place",
+        "return op.place <= inserts_in(history, op.context)",
+        "return op.place < inserts_in(history, op.context)",
+    ),
+    (
+        "a delete behind the last cell has a place",
+        "isinstance(op, Undo) or op.place < inserts_in",
+        "isinstance(op, Undo) or op.place <= inserts_in",
+    ),
+    ("deletes count as cells", "isinstance(op, Insert) and member_of(op) in context", "member_of(op) in context and is_original(op)"),
+    # waiting and releases
+    ("an operation waits twice", 'elif verdict.word == "waits" and op not in state.waiting:', 'elif verdict.word == "waits":'),
+    (
+        "the last ready operation is released first",
+        "(op for op in state.waiting if is_ready",
+        "(op for op in reversed(state.waiting) if is_ready",
+    ),
+    ("known members aren't released", "return member_of(op) in known or op.context <= known", "return op.context <= known"),
+    ("one release follows an event", "verdicts.append(deliver(state, ready))", "return [deliver(state, ready)]"),
+    ("at a release the last one that waits leaves", "state.waiting.remove(ready)", "state.waiting.pop()"),
+    # local commands
+    (
+        "an insert stands before the next shown character",
+        "places[v - 1] + 1 if v > 0 else 0",
+        "[*places, len(replay_of(state.history))][v]",
+    ),
+    ("what waits takes numbers", "Name(state.number, made + 1)", "Name(state.number, made + 1 + len(state.waiting))"),
+    ("an undo of what is undone is done", 'raise Refused(f"notinforce {generation_in(state.history, name)}")', "pass"),
+    ("a redo of what is in force is done", 'raise Refused(f"inforce {generation_in(state.history, name)}")', "pass"),
+    # sessions
+    ("typing goes on after a refusal", "ord(character)):\n                break", "ord(character)):\n                continue"),
+    ("repeats are told where many are delivered", 'if not (many and verdict.word == "repeat"):', "if True:"),
+    ("repeats are never told", 'if not (many and verdict.word == "repeat"):', 'if verdict.word != "repeat":'),
+    ("`all` tells no refusal", 'if not (many and verdict.word == "repeat"):', 'if not many or verdict.word in ("integrated", "waits"):'),
+    ("what follows a frame of `raw` is passed over", "data = data[used:]", "data = b''"),
+    (
+        "a text counts bytes",
+        'self.write("text", len(text), len(text.encode()))',
+        'self.write("text", len(text.encode()), len(text.encode()))',
+    ),
+    # frames
+    ("a context's zero is out of range", 'raise Bad("zero", start)', 'raise Bad("range", start)'),
+    ("sites needn't rise", "if site < low:", "if False:"),
+    (
+        "a site may stand twice",
+        "counts[site], low = self.not_zero(4, NUMBERS), site + 1",
+        "counts[site], low = self.not_zero(4, NUMBERS), site",
+    ),
+    ("an undone name may stand twice", "not before < name", "not before <= name"),
+    (
+        "the order of names is judged at the generation",
+        'raise Bad("order", start)\n            generations',
+        'raise Bad("order", self.at)\n            generations',
+    ),
+    (
+        "bytes after the context are passed over",
+        'if body.at < len(body.data):\n        raise Bad("length", body.at)',
+        "if False:\n        pass",
+    ),
+    ("own is at the kind", 'raise Bad("own", 6)', 'raise Bad("own", 4)'),
+    ("target is at the author", 'raise Bad("target", 6)', 'raise Bad("target", 5)'),
+    ("an undo needn't follow the generation before", "or generations.get(name, 0) + 1 != value):", "):"),
+    ("stray names are let in", "if counts.get(undone.site, 0) < undone.number:", "if False:"),
+    ("no length is too long", "if length > LONGEST_BODY:", "if False:"),
+    ("the longest body is a byte longer", "if length > LONGEST_BODY:", "if length > LONGEST_BODY + 1:"),
+    ("more asks for the body alone", "raise More(4 + length)", "raise More(length)"),
+    ("surrogates are characters", "return 0 <= code <= 0x10FFFF and not 0xD800 <= code <= 0xDFFF", "return 0 <= code <= 0x10FFFF"),
+    # lines
+    ("numbers may begin with 0", '"0|[1-9][0-9]{0,9}"', '"[0-9]{1,10}"'),
+    (
+        "a line before `sites` has no site",
+        'if not self.sites:\n            raise Refused("nosites")',
+        'if not self.sites and not values:\n            raise Refused("nosites")',
+    ),
+    ("sites may be made twice", 'raise Refused("twice")', "pass"),
+    ("a comment may be no UTF-8", 'data.decode("utf-8")', 'data.decode("utf-8", "replace" if data[:1] == b"#" else "strict")'),
+    ("lines are counted without comments", "        self.number += 1\n", "        self.number += data is None or data[:1] != b'#'\n"),
+    # logs
+    ("a log's verdict comes before a fault of its bytes", "placed.append((at, op))", "yield at, op"),
+    (
+        "a log is written with what waits in front",
+        "frame(op) for op in state.history + state.waiting",
+        "frame(op) for op in state.waiting + state.history",
+    ),
+    (
+        "a log's operation is told by where its body begins",
+        'raise Refused(f"log op {at} {verdict}")',
+        'raise Refused(f"log op {at + 4} {verdict}")',
+    ),
+    (
+        "a release refuses no log",
+        "for verdict in [deliver(state, op), *releases(state)]:",
+        "for verdict in [deliver(state, op), *releases(state)][:1]:",
+    ),
+    (
+        "an edit releases nothing",
+        '        raise Refused(f"no {why}") from None\n    releases(state)',
+        '        raise Refused(f"no {why}") from None',
+    ),
+)
+
+# what only the wrong ones need: a name, and an end where they release for ever
+ALSO = (
+    ("import dataclass, field", "import dataclass, field, replace"),
+    ("    while True:\n        ready", "    for _ in range(200):\n        ready"),
+)
+
+
+def wrong_references():
+    """Each wrong reference by what is wrong with it."""
+    right, made = Path(ref.__file__).read_text(encoding="utf-8"), {}
+    for what, old, new in (*(("", *also) for also in ALSO), *WRONG):
+        if right.count(old) != 1:
+            sys.exit(f"{what}: this stands {right.count(old)} times in the reference: {old}")
+    for what, old, new in WRONG:
+        source = right
+        for before, after in (*ALSO, (old, new)):
+            source = source.replace(before, after)
+        made[what] = sys.modules["wrong_reference"] = type(sys)("wrong_reference")  # where dataclasses look
+        exec(compile(source, "wrong_reference", "exec"), made[what].__dict__)
+    return made
