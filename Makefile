@@ -254,7 +254,7 @@ check-documents:
 check-edits:
 	@tools/check-edits
 
-# Says whether docs/TRUST.md lists what the contracts of `run` and of the exports reach; `tools/trust --write` writes it.
+# Says whether docs/TRUST.md lists what the headline and each further promise need; `tools/trust --write` writes it.
 trust:
 	@tools/trust
 
