@@ -5,7 +5,7 @@
 .PHONY: all lib quick quick-lib demo wheel install
 .PHONY: check-examples check-bytes check-sessions check-memory check-hosts check-python check-wheel check-install check-sanitizers check-relay check-relay-wrong check-edits
 .PHONY: check-documents
-.PHONY: doors trust clean
+.PHONY: compare doors trust clean
 
 # Twice as many recipes at once as there are processors, where no -j says otherwise: those that most others wait for go first, and the
 # others take what these leave (tools/lib).
@@ -249,6 +249,11 @@ check-memory:
 # What the documents name has to be there, and the commands and examples of README and docs/USING.md have to write what they show.
 check-documents:
 	@LIB="$(LIB)" tools/check-documents
+
+# The program beside the yardstick of bench/, by the sessions of docs/MEASUREMENTS.md or those in NAMES, in half a minute; with
+# nothing else on the machine. It needs rustc.
+compare:
+	@program=$$(tools/program) && echo "with $$program" && bench/compare $$program $(NAMES)
 
 # The must-fail edits that the gate leaves out, each of which has to be refused.
 check-edits:
