@@ -4,6 +4,7 @@ pub mod Handles
 pub mod Held
 pub mod Hosting
 pub mod Lending
+pub mod Numbers
 pub mod Operations
 pub mod Refusals
 pub mod Runs

@@ -28,6 +28,7 @@ ghost use Rattle.cotpad_c.specs.declared.exports.TheConstants.{VERSION};
 ghost use Rattle.cotpad_c.specs.Operations.{member_told, operation_told};
 ghost use Rattle.cotpad_c.specs.Hosting.{hosting, from, all_settled, IsHalfSettled};
 ghost use Rattle.cotpad_c.specs.Exchanges.{IsMade, Answers, Closes};
+ghost use Rattle.cotpad_c.specs.Numbers.{AreTheNumbers};
 ghost use Rattle.cotpad_c.specs.Refusals.{IsLogRefused, IsRefused};
 ghost use Rattle.cotpad_c.specs.Runs.{IsTyped, IsCut};
 ghost use Rattle.cotpad_c.specs.Saving.{Loads};
@@ -53,7 +54,9 @@ pub const VERSION: u32 = 1;
 /// Tells the version.
 #[unsafe(no_mangle)]
 pub extern "C" fn cotpad_version() -> u32
-    ensures { result ≡ VERSION }
+    ensures version { result ≡ VERSION }
+    // The statuses, kinds and limits, which clauses cite by name, are the numbers of the header.
+    ensures numbers { AreTheNumbers }
 {
     VERSION
 }

@@ -27,9 +27,6 @@ same_texts sites s t same in_s in_t valid_s valid_t =
 abbrev pub AreAlike : State → List State → ℕ → Type 0
 AreAlike s sites k = (i : ℕ) (t : State) → i < k → slice_get sites i ≡ Some t → bytes_eq (text_of t.history) (text_of s.history) ≡ true
 
-pub none_alike : (s : State) (sites : List State) → AreAlike s sites 0
-none_alike s sites i t few at = absurd (omega (arith, few))
-
 pub one_more_alike : (s : State) (sites : List State) (k : ℕ) (t : State) → AreAlike s sites k → slice_get sites k ≡ Some t → bytes_eq (text_of t.history) (text_of s.history) ≡ true → AreAlike s sites (k + 1)
 one_more_alike s sites k t before at same i u few there = elim (below_or i k few) [
   | inl less ↦ before i u less there

@@ -2,7 +2,6 @@ pub mod Spelling
 pub mod Scripts
 pub mod Alike
 pub mod Table
-pub mod Session
 pub mod Meetings
 pub mod Looping
 pub mod Pairs

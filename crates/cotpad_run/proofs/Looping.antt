@@ -107,7 +107,7 @@ loop_answered start s t j k (Err why) old new before after WriteFault m (refusal
   faultless = m.cause.other why refl (no_link why refusal is);
 })
 loop_answered start s t j k (Err why) old new before after Memory m (other, kept) = record {
-  link = inr (m.link, inr (why, parted start s t j k why before.ends after.ends m.stopped m.server m.joiner));
+  link = inr (m.link, inr (why, other, parted start s t j k why before.ends after.ends m.stopped m.server m.joiner));
   faultless = m.cause.other why refl other;
   held = kept.held;
   write_faults = kept.write_faults;

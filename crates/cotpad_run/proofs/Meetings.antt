@@ -23,7 +23,7 @@ use Rattle.log_replies.specs.Outside.{Outside}
 use Rattle.log_replies.specs.Replies.{IsLoadedAs, refusing, IsRefusedInto}
 use Rattle.log_replies.proofs.CallerLemmas.{loses_input, not_both}
 use Rattle.cotpad_run.specs.Made.{IsMade}
-use Rattle.cotpad_run.specs.Meeting.{Side, IsLinkedOnce, IsMet, Meets, Stops, IsMeeting, RefusesLog, AreFaultless}
+use Rattle.cotpad_run.specs.Meeting.{Side, IsLinkedOnce, IsMet, Meets, Stops, MeetsOrStops, IsMeeting, RefusesLog, AreFaultless}
 use Rattle.cotpad_run.specs.Wired.{Wired}
 use Rattle.cotpad_run.specs.Code.Meeting.{IsMetTold, IsRefusalWritten}
 use Rattle.cotpad_run.specs.Code.Stopping.{IsStopTold}
@@ -85,7 +85,7 @@ met_answered side port s t (Ok counts) old new before after WriteFault m told = 
   faultless = m.cause.well refl;
 }))
 met_answered side port s t (Ok counts) old new before after Memory m told =
-    (short old new m.input told.0 told.1, inr (met_by side port s t (Ok counts) old new before after _ m (said_more _ _ _ _ _ (λ came gone x. inl (counts, x)) m.met), m.cause.well refl))
+    (short old new m.input told.0 told.1, inr (met_by side port s t (Ok counts) old new before after (MeetsOrStops side) m (said_more _ _ _ _ _ (λ came gone x. inl (counts, x)) m.met), m.cause.well refl))
 met_answered side port s t (Ok counts) old new before after LinkFault m told = absurd told
 met_answered side port s t (Ok counts) old new before after PeerRefused m told = absurd told
 met_answered side port s t (Err why) old new before after Done m told = absurd told
@@ -99,7 +99,7 @@ met_answered side port s t (Err why) old new before after WriteFault m (refusal,
   faultless = m.cause.other why refl (no_link why refusal is);
 }))
 met_answered side port s t (Err why) old new before after Memory m (other, kept) =
-    (short old new m.input kept.held kept.write_faults, inr (met_by side port s t (Err why) old new before after _ m (said_more _ _ _ _ _ (λ came gone x. inr (why, x)) m.stopped), m.cause.other why refl other))
+    (short old new m.input kept.held kept.write_faults, inr (met_by side port s t (Err why) old new before after (MeetsOrStops side) m (said_more _ _ _ _ _ (λ came gone x. inr (why, other, x)) m.stopped), m.cause.other why refl other))
 met_answered side port s t (Err why) old new before after LinkFault m (is, kept) = record {
   met = met_by side port s t (Err why) old new before after (Stops side node.Link) m (subst (λ n. Exchanges (before.ends 0) (after.ends 0) before.peer (side.stops s t n)) is m.stopped);
   fault = m.cause.link (ap Err is);

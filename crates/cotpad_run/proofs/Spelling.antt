@@ -4,7 +4,7 @@ use Rattle.std.specs.Prelude.{IfSome, if◌then◌else◌}
 use Rattle.std.proofs.lemmas.Bool.{cond_both, and_parts, true≢false}
 use Rattle.std.proofs.lemmas.Slice.Eq.{bytes_eq-Decides}
 use Rattle.site_answers.specs.Names.{name_text, member_text}
-use Rattle.script_text.specs.Fields.{number_of, long_of, site_of, name_of, member_of, ◌>>=◌}
+use Rattle.script_text.specs.Fields.{number_of, long_of, site_of, name_of, member_of}
 use Rattle.script_text.proofs.CallerLemmas.{long_reads, number_reads, site_reads, name_reads, member_reads, and_then_some, some_is}
 use Rattle.session_replay.specs.declared.generator.TheConstants.{MAX_EVENTS, MAX_WINDOW}
 use Rattle.log_replies.specs.Editing.{EditData, Ins, Nl, Del, Undo, Redo}
@@ -281,11 +281,6 @@ command_to (Edit site (Nl place)) r = rw (site_reads.to (decimal site) site (ref
 command_to (Edit site (Del place)) r = rw (site_reads.to (decimal site) site (refl, r.0), number_reads.to (decimal place) place (refl, r.1)) refl
 command_to (Edit site (Undo name)) r = rw (site_reads.to (decimal site) site (refl, r.0), name_reads.to (name_text name) name (refl, r.1)) refl
 command_to (Edit site (Redo name)) r = rw (site_reads.to (decimal site) site (refl, r.0), name_reads.to (name_text name) name (refl, r.1)) refl
-
--- the row of the first word reads the words
-pub read_row : (ws : List (List ℕ)) (word : List ℕ) (parts : List (List ℕ)) (o : Option CommandData) → first_in ws ≡ Some (word, parts) → o ≡ command_row word parts → o ≡ command_in ws
-unfolding command_in
-read_row ws word parts o first row = row ∙ ap (λ (x : Option (List ℕ × List (List ℕ))). x >>= (λ p. command_row p.0 p.1)) (sym first)
 
 -- the clauses of the call, from its answer
 pub found : {A : Type 0} (words : List (String A)) (r : Option Command) → option_map command_data r ≡ command_in (map string_bytes words) → IfSome r (λ c. Spells words (command_data c))

@@ -17,9 +17,9 @@ use Rattle.cotpad_run.specs.declared.command.Command.{Command}
 use Rattle.cotpad_run.specs.Commands.{CommandData, command_data, Replay, Gen, Loop}
 use Rattle.cotpad_run.specs.Made.{IsMade, IsSaid}
 use Rattle.cotpad_run.specs.Replaying.{IsReplayed}
-use Rattle.cotpad_run.specs.Generating.{gen_text, IsGenerated, IsCounted}
+use Rattle.cotpad_run.specs.Generating.{gen_text, IsCounted}
 use Rattle.cotpad_run.specs.Meeting.{Side, IsLinkedOnce, IsMeeting, AgreesWithPeer, AreFaultless}
-use Rattle.cotpad_run.specs.Looping.{AreLinked, IsLooping, IsLoopTold, IsLoopAnswered}
+use Rattle.cotpad_run.specs.Looping.{AreLinked, IsLooping, IsLoopTold}
 use Rattle.cotpad_run.specs.Table.{World, Row, row_of, replying, meeting, saying, WentWell, EndsWell, IsComplete, IsDone}
 use Rattle.cotpad_run.specs.Wired.{Wired, IsAskedFor}
 

@@ -1,4 +1,5 @@
 -- The words of the crate's contracts.
+pub mod Limits
 pub mod Commands
 pub mod Words
 pub mod Wired

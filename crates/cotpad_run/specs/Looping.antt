@@ -1,5 +1,5 @@
 -- What `loop` writes, answers, and leaves at the wire: the two sites of a generated session exchange twice.
-use Rattle.std.specs.Prelude.{◌≡◌, ◌⊎◌, ◌≤◌, ◌+◌, ℕ, false, List, [], ◌∷◌, ◌++◌, codes, decimal}
+use Rattle.std.specs.Prelude.{◌≡◌, ◌≢◌, ◌⊎◌, ◌≤◌, ◌+◌, ℕ, false, List, [], ◌∷◌, ◌++◌, codes, decimal}
 use Rattle.std.specs.Io.KnownBytes.{Appends}
 use Rattle.outside_io.specs.Ends.{End}
 use Rattle.outside_io.specs.Faults.{Rose}
@@ -145,10 +145,11 @@ pub record IsLoopLost (start : ℕ) (old new : Outside) (before after : Wired) :
   pub held : new.held ≡ old.held
   pub write_faults : new.write_faults ≡ old.write_faults
 
--- the exchanges went as far as they did: to their end, or until one of them stopped
+-- the exchanges went as far as they did: to their end, or until one of them stopped, but not because the wire failed
 abbrev pub HaveGone : ℕ → (ℕ → End) → (ℕ → End) → Type 0
 HaveGone start old new =
-    ((once : ℕ × ℕ) × (twice : ℕ × ℕ) × (equal : ℕ) × AreLooped start once twice equal old new) ⊎ ((why : Node) × IsParted start why old new)
+    ((once : ℕ × ℕ) × (twice : ℕ × ℕ) × (equal : ℕ) × AreLooped start once twice equal old new)
+    ⊎ ((why : Node) × (why ≢ node.Link) × IsParted start why old new)
 
 -- out of memory: nothing was written, and no call failed; either the wire wasn't called, or the exchanges went as far as they did
 pub record IsLoopShort (start : ℕ) (old new : Outside) (before after : Wired) : Type 0 where

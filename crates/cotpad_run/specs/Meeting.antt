@@ -1,5 +1,5 @@
 -- What `serve` and `join` answer, and what they leave in the source, in the sink and at the wire: one table for both.
-use Rattle.std.specs.Prelude.{◌≡◌, ◌⊎◌, ℕ, ◌+◌, min, true, List, Some, IfSome}
+use Rattle.std.specs.Prelude.{◌≡◌, ◌≢◌, ◌⊎◌, ℕ, ◌+◌, min, true, List, Some, IfSome}
 use Rattle.std.specs.Io.KnownBytes.{Appends, IsAtEnd}
 use Rattle.outside_io.specs.Faults.{Rose, last_count}
 use Rattle.outside_io.specs.declared.link.Role.{Role}
@@ -101,11 +101,13 @@ pub record IsLineCutOff (side : Side) (port : ℕ) (old new : Outside) (before a
   pub cut_off : IsCutOff (refused_peer_text why) old new
   pub faultless : after.faults ≡ before.faults
 
+-- the exchange went to its end, or stopped, but not because the wire failed: so each message was sent whole, or not at all
+abbrev pub MeetsOrStops : Side → State → State → List ℕ → List ℕ → Type 0
+MeetsOrStops side s t came gone = Meets side s t came gone ⊎ ((why : Node) × (why ≢ node.Link) × Stops side why s t came gone)
+
 -- out of memory once the wire was called: while the exchange went on, or as its log or its refusal was made
 abbrev pub IsShortAfter : Side → ℕ → Outside → Outside → Wired → Wired → Type 0
-IsShortAfter side port old new before after =
-    IsMet side port (λ s t came gone. Meets side s t came gone ⊎ ((why : Node) × side.stops s t why came gone)) old new before after
-    × (after.faults ≡ before.faults)
+IsShortAfter side port old new before after = IsMet side port (MeetsOrStops side) old new before after × (after.faults ≡ before.faults)
 
 -- the line that refuses the input as the log of site 0
 abbrev pub RefusesLog : Replies

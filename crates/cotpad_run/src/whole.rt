@@ -7,6 +7,7 @@ ghost use Rattle.context_diff.specs.Histories.{IsValid, Same};
 ghost use Rattle.context_diff.specs.Replays.{text_of};
 ghost use Rattle.log_replies.specs.Outside.{told};
 ghost use Rattle.log_replies.specs.Laws.{OneReply, OneExplanation};
+ghost use Rattle.cotpad_run.specs.Limits.{AreTheLimits};
 ghost use Rattle.cotpad_run.specs.Words.{SpellNone, AreWrongWords};
 ghost use Rattle.cotpad_run.specs.Table.{world, Reads, Streams, Links, IsRun};
 ghost use Rattle.cotpad_run.specs.Wired.{wired};
@@ -14,7 +15,7 @@ ghost use Rattle.cotpad_run.specs.Wired.{wired};
 use crate::command::{Command, command_of};
 use crate::generator::answer_generated;
 use crate::help::answer_help;
-use crate::laws::same_operations;
+use crate::laws::{limits_have_numbers, same_operations};
 use crate::looped::answer_looped;
 use crate::meeting::{Joining, Serving, answer_met};
 use crate::replay::answer_replay;
@@ -56,6 +57,8 @@ pub fn run<S: Source, K: Sink, W: Wire>(
     // The bytes of a log decide what `show`, `edit` and `explain` reply.
     ensures one_reply { OneReply }
     ensures one_explanation { OneExplanation }
+    // Each limit, of which definitions and clauses cite the name, is its number.
+    ensures limits { AreTheLimits }
 
     // Where the words spell no command that reads the source, or that calls the wire, these are as they were, in all.
     ensures unread { SpellNone Reads words.now → source.new ≡ source.old }
@@ -64,6 +67,7 @@ pub fn run<S: Source, K: Sink, W: Wire>(
     ensures untouched { SpellNone Streams words.now → (result ≡ Status.ReadFault) ⊎ ((result ≡ Status.Memory) ⊎ (result ≡ Status.LinkFault))
         → sink.new ≡ sink.old }
 {
+    limits_have_numbers();
     same_operations();
     one_reply();
     one_explanation();

@@ -1,6 +1,5 @@
 use Rattle.std.proofs.Common.{refl, subst}
 use Rattle.outside_io.specs.Writing.{WritesFront}
-use Rattle.cotpad_run.specs.Help.{help_text}
 use Rattle.cotpad_run.proofs.help.answer_help.Goals as goal
 
 pub returns-in-Err-clause-answer : goal.returns-in-Err-clause-answer

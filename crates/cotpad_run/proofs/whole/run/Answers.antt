@@ -1,8 +1,8 @@
-use Rattle.std.proofs.Common.{◌≡◌, Some, ap, sym, subst, ◌∙◌, refl}
+use Rattle.std.proofs.Common.{◌≡◌, refl}
 use Rattle.cotpad_run.specs.Commands.{command_data}
 use Rattle.cotpad_run.specs.Help.{help_text}
 use Rattle.cotpad_run.specs.Meeting.{serving, joining}
-use Rattle.cotpad_run.specs.Table.{row_of, IsDone, Reads, Links, Streams}
+use Rattle.cotpad_run.specs.Table.{Reads, Links, Streams}
 use Rattle.cotpad_run.specs.declared.command.Command.TheVariants as command
 use Rattle.cotpad_run.proofs.Table.{same_row, not_of, replying_done, replay_done, gen_done, meeting_done, loop_done, saying_done}
 use Rattle.cotpad_run.proofs.whole.run.Goals as goal
