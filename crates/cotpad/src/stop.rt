@@ -18,7 +18,7 @@ pub(crate) enum Stop {
     Writing,
     #[error("there wasn't enough memory")]
     Memory,
-    #[error("the connection failed: nobody is at that port, or the other side left (is `cotpad serve` running?)")]
+    #[error("the connection failed: nobody waits at that port (is `cotpad serve` running?), another program has it, or the other side left")]
     Link,
     #[error("what the other side sent was refused: the last line of the output says why")]
     Peer,
