@@ -9,20 +9,22 @@ pub record Gap (K : Type 0) : Type 0 where
   pub between : List K
   pub behind : List K
 
--- the part before the first cell that passes, and the part from that cell on
+-- the part before the first cell that passes; without such a cell all
 unfoldable pub until : {K : Type 0} → (K → Bool) → List K → List K
 until p [] = []
 until p (c ∷ cs) = if p c then [] else c ∷ until p cs
 
+-- the part from the first cell that passes on; without such a cell nothing
 unfoldable pub onward : {K : Type 0} → (K → Bool) → List K → List K
 onward p [] = []
 onward p (c ∷ cs) = if p c then c ∷ cs else onward p cs
 
--- the part up to and with the last cell that passes, and the part after that cell; without such a cell nothing and all
+-- the part up to and with the last cell that passes; without such a cell nothing
 unfoldable pub through : {K : Type 0} → (K → Bool) → List K → List K
 through p [] = []
 through p (c ∷ cs) = if p c || list_any p cs then c ∷ through p cs else []
 
+-- the part after the last cell that passes; without such a cell all
 unfoldable pub beyond : {K : Type 0} → (K → Bool) → List K → List K
 beyond p [] = []
 beyond p (c ∷ cs) = if p c || list_any p cs then beyond p cs else c ∷ cs

@@ -23,6 +23,7 @@ member_of (inserting n p ch c) = Original n
 member_of (deleting n p c) = Original n
 member_of (undoing a t g c) = Group t g
 
+-- the context in which the operation was made
 abbrev pub context_of : OpData → ContextData
 context_of (inserting n p ch c) = c
 context_of (deleting n p c) = c
@@ -34,6 +35,7 @@ is_original (inserting n p ch c) = true
 is_original (deleting n p c) = true
 is_original (undoing a t g c) = false
 
+-- whether it is an insert
 abbrev pub is_insert : OpData → Bool
 is_insert (inserting n p ch c) = true
 is_insert (deleting n p c) = false

@@ -31,11 +31,12 @@ insertions_in (undoing a t g c ∷ os) = insertions_in os
 abbrev pub is_earlier : Insertion → Insertion → Bool
 is_earlier o p = nat_lt o.rank p.rank || ((o.rank == p.rank) && nat_lt o.name.site p.name.site)
 
--- a list sorted by an order: each element stands before those that it is less than
+-- the list with x before the first element that it is less than, else at its end
 unfoldable pub put_by : {A : Type 0} → (A → A → Bool) → A → List A → List A
 put_by less x [] = x ∷ []
 put_by less x (y ∷ ys) = if less x y then x ∷ (y ∷ ys) else y ∷ put_by less x ys
 
+-- the list sorted by an order: each element, from the last to the first, put before the first that it is less than
 unfoldable pub sort_by : {A : Type 0} → (A → A → Bool) → List A → List A
 sort_by less [] = []
 sort_by less (x ∷ xs) = put_by less x (sort_by less xs)
@@ -57,6 +58,7 @@ cells_from o = (o.name, 0) ∷ []
 abbrev pub narrowed_by : Insertion → NameData → Gap Cell → Gap Cell
 narrowed_by o x g = if o.sees x then g else narrow (nat_lt x.site o.name.site) (of_name x) g
 
+-- the gap, narrowed by each of these earlier inserts in turn
 unfoldable pub narrowed : Insertion → List NameData → Gap Cell → Gap Cell
 narrowed o [] g = g
 narrowed o (x ∷ xs) g = narrowed o xs (narrowed_by o x g)
@@ -70,6 +72,7 @@ gap_of o earlier cells = narrowed o earlier (gap (λ c. o.sees c.0) o.place cell
 abbrev pub put : Insertion → List NameData → List Cell → List Cell
 put o earlier cells = let g = gap_of o earlier cells in g.before ++ (g.between ++ (cells_from o ++ g.behind))
 
+-- the cells with those of these inserts put one after the other; each is narrowed by the earlier ones and those before it
 unfoldable pub replay : List NameData → List Cell → List Insertion → List Cell
 replay earlier cells [] = cells
 replay earlier cells (o ∷ os) = replay (earlier ++ o.name ∷ []) (put o earlier cells) os
@@ -115,6 +118,7 @@ character_in (inserting n p ch k ∷ os) c = if name_eq n c.0 then ch else chara
 character_in (deleting n p k ∷ os) c = character_in os c
 character_in (undoing a t g k ∷ os) c = character_in os c
 
+-- the characters of the shown cells, in their order
 abbrev pub characters_of : List OpData → List ℕ
 characters_of h = map (character_in h) (shown h)
 

@@ -126,7 +126,8 @@ impl Site {
 
     /// The form that the site's cache has of the key's member at the key's context: the only one that inclusion
     /// derives. None exactly where the cache has no entry of the key. It takes no memory, and changes nothing
-    /// but the order of the entries: the one of the key goes first.
+    /// but the order of the entries: the one of the key goes first. Costs a pass over the history for each form of
+    /// the member that the cache has.
     pub fn cached(&mut self, key: &Key) -> Option<Form>
         ensures form { result ≡ form_at self.old.entries key.now }
         ensures derived { IfSome result (IsFormOf self.old.history key.now) }

@@ -18,6 +18,7 @@ IsMember (Group n g) = 1 ≤ g
 abbrev pub is_even : ℕ → Bool
 is_even g = g % 2 == 0
 
+-- the same original, or the group of the same original at the same generation
 abbrev pub member_eq : Member → Member → Bool
 member_eq (Original n) (Original m) = name_eq n m
 member_eq (Original n) (Group m h) = false

@@ -13,6 +13,7 @@ pub record NameData : Type 0 where
 abbrev pub IsName : ℕ → ℕ → Type 0
 IsName site number = (site < SITES) × (1 ≤ number) × (number ≤ NUMBERS)
 
+-- the same site and the same number
 abbrev pub name_eq : NameData → NameData → Bool
 name_eq n m = (n.site == m.site) && (n.number == m.number)
 

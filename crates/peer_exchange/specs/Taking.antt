@@ -63,7 +63,7 @@ pub record IsOnTheWay (s : State) (os : List OpData) (t : State) : Type 0 where
   pub taken : taken_in s before ≡ Ok at
   pub reached : IsBefore at behind t
 
--- a site at which nothing waits
+-- the site with this history, at which nothing waits
 abbrev pub with_history : State → List OpData → State
 with_history s h = record s { history = h }
 

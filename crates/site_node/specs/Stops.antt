@@ -33,7 +33,7 @@ pub record WereAskedFor (which : Which) (bytes : List ℕ) : Type 0 where
   pub within : length bytes ≤ at_least
   pub short : length bytes ≤ MAX_MESSAGE
 
--- no byte came, or none that wasn't asked for
+-- each byte that came was asked for
 abbrev pub AreAskedFor : Which → List ℕ → Type 0
 AreAskedFor which bytes = (bytes ≡ []) ⊎ WereAskedFor which bytes
 
@@ -46,8 +46,8 @@ IsSpoilt which bytes offset Cut = IsUnfinishedIn which bytes × (length bytes < 
 IsSpoilt which bytes offset Extra = ⊥
 IsSpoilt which bytes offset Limit = IsUnfinishedIn which bytes × (length bytes ≡ MAX_MESSAGE) × (offset ≡ MAX_MESSAGE)
 
--- what the reason why a message wasn't received says of the bytes that were received of it: none wasn't asked for, so none lies past the
--- message, or past its first fault by more than a piece
+-- what the reason why a message wasn't received says of the bytes that came of it: each was asked for, so none lies past the message, or
+-- past its first fault by more than a piece
 abbrev pub Explains : Which → List ℕ → Node → Type 0
 Explains which bytes node.Link = AreAskedFor which bytes
 Explains which bytes (node.Peer (refused.Bytes offset cause)) = AreAskedFor which bytes × IsSpoilt which bytes offset cause

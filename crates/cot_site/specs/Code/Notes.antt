@@ -59,6 +59,6 @@ knew (Some o) m = has (context_of o) m
 abbrev pub AgreeAt : List OpData → ContextData → ContextData → ℕ → Type 0
 AgreeAt h c d i = (m : Member) → slice_get (members_in h) i ≡ Some m → has c m ≡ has d m
 
--- each note is a form of its original at its set, which an operation of the history tells
+-- each note is the form of its original at its set, and an operation of the history tells that set
 abbrev pub AreFormsNoted : List OpData → List Note → Type 0
 AreFormsNoted h ns = AreCached h (entries_of h ns) × AreTold h ns

@@ -32,7 +32,8 @@ operation_of ss m = slice_index_or (history_of ss m) m.place no_operation
 abbrev pub operations_of : List State → List Message → List OpData
 operations_of ss ms = map (operation_of ss) ms
 
--- what a session in memory keeps: its messages are held, and well formed, and each site has so many of the first of them
+-- what a session in memory keeps: there are at most SITES sites; its messages are held, and well formed, and each site has so many of the
+-- first of them
 pub record IsKept (ss : List State) (ns : List ℕ) (ms : List Message) : Type 0 where
   pub few : length ss ≤ SITES
   pub held : AreHeld ss ms
