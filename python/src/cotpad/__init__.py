@@ -18,6 +18,7 @@ Each call that isn't done raises a CotpadError.
 
 The shared library is the one that COTPAD_LIB names, else the one in this package, else the one that the system finds.
 """
+from .cursor import Cursor
 from .document import Document
 from .errors import BadBytes, CotpadError, InUse, NoDocument, NotSaved, NotTaken, Refused, Unsettled
 from .site import Batch, History, Incoming, Site, exchange
@@ -26,7 +27,7 @@ from .undo import Undo
 from .values import Became, Cause, Delivered, Edit, Kind, Member, Name, Operation, Status
 
 __all__ = [
-    "BadBytes", "Batch", "Became", "Cause", "CotpadError", "Delivered", "Document", "Edit", "History", "InUse", "Incoming", "Kind",
+    "BadBytes", "Batch", "Became", "Cause", "CotpadError", "Cursor", "Delivered", "Document", "Edit", "History", "InUse", "Incoming", "Kind",
     "Member", "Name", "NoDocument", "NotSaved", "NotTaken", "Operation", "Refused", "Site", "Status", "Undo", "Unsettled", "exchange",
     "write_safely",
 ]
