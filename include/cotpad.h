@@ -159,15 +159,15 @@ cotpad_status cotpad_save(cotpad_site *site, uint8_t *out, size_t room, size_t *
 /* Ends a site, frees all of it, and leaves the handle empty. */
 void cotpad_close(cotpad_site *site);
 
-/* What the user of the site does. A place counts shown characters, each a Unicode scalar value: an insert goes after so many of
- * them, a delete takes the one at the place, from 0. An undo or a redo names an insert or a delete, whoever made it, by the two
- * numbers of its cotpad_member (a site is at most 63, so the cast loses nothing): name_site is not the author of an undo. On
- * COTPAD_OK and COTPAD_UNSETTLED the operation is made, at the index that cotpad_operations told before the call, and what was
- * released after it stands behind it: fetch its frame by cotpad_frame(site, index, ..) and send it to all other sites; what was
- * released came from others, who sent it. An edit that frees something is rare, and a host must not pass it over: the one that
- * waited for an undo, say, is released by the user's own undo, and may be refused then. Else, of insert and delete: COTPAD_PLACE_OUT, COTPAD_NUMBER_FULL; of insert COTPAD_NO_CHARACTER; of undo
- * and redo: COTPAD_NO_NAME, COTPAD_UNKNOWN; of undo COTPAD_NOT_IN_FORCE; of redo COTPAD_IN_FORCE, COTPAD_GENERATION_FULL; of
- * all COTPAD_CONTEXT_FULL, COTPAD_NO_MEMORY. */
+/* What the user of the site does. A place counts shown characters, each a Unicode scalar value: an insert goes after so many
+ * of them, a delete takes the one at the place, from 0. An undo or a redo names an insert or a delete, whoever made it, by the
+ * two numbers of its cotpad_member (a site is at most 63, so the cast loses nothing): name_site is not the author of an undo.
+ * On COTPAD_OK and COTPAD_UNSETTLED the operation is made, at the index that cotpad_operations told before the call, and what
+ * was released after it stands behind it: fetch its frame by cotpad_frame(site, index, ..) and send it to all other sites;
+ * what was released came from others, who sent it. An edit that frees something is rare, and a host must not pass it over: the
+ * one that waited for an undo, say, is released by the user's own undo, and may be refused then. Else, of insert and delete:
+ * COTPAD_PLACE_OUT, COTPAD_NUMBER_FULL; of insert COTPAD_NO_CHARACTER; of undo and redo: COTPAD_NO_NAME, COTPAD_UNKNOWN; of
+ * undo COTPAD_NOT_IN_FORCE; of redo COTPAD_IN_FORCE, COTPAD_GENERATION_FULL; of all COTPAD_CONTEXT_FULL, COTPAD_NO_MEMORY. */
 cotpad_status cotpad_insert(cotpad_site *site, uint32_t place, uint32_t scalar);
 cotpad_status cotpad_delete(cotpad_site *site, uint32_t place);
 cotpad_status cotpad_undo(cotpad_site *site, uint16_t name_site, uint32_t number);
@@ -207,10 +207,11 @@ cotpad_status cotpad_operation_at(cotpad_site *site, uint32_t index, cotpad_oper
 cotpad_status cotpad_frame(cotpad_site *site, uint32_t index, uint8_t *out, size_t room, size_t *needed);
 
 /* Delivers the operation of the frame that the bytes begin with, tells its verdict, and of it what it is, who made it and what
- * it waits for; and then releases what is ready. Its author is the number that the sixth byte, bytes[5], has: a host that knows
- * who sent the bytes compares the two before this call, since whoever writes under another's number is believed. COTPAD_OK is answered to bytes without a frame too: then the verdict is
- * INCOMPLETE or MALFORMED, and the site is as it was. Else COTPAD_UNSETTLED: it is delivered, and its verdict told; or
- * COTPAD_NO_MEMORY, only where there is a frame: *verdict is as it was. */
+ * it waits for; and then releases what is ready. Its author is the number that the sixth byte, bytes[5], has: a host that
+ * knows who sent the bytes compares the two before this call, since whoever writes under another's number is believed.
+ * COTPAD_OK is answered to bytes without a frame too: then the verdict is INCOMPLETE or MALFORMED, and the site is as it was.
+ * Else COTPAD_UNSETTLED: it is delivered, and its verdict told; or COTPAD_NO_MEMORY, only where there is a frame: *verdict is
+ * as it was. */
 cotpad_status cotpad_receive(cotpad_site *site, const uint8_t *bytes, size_t length, cotpad_verdict *verdict);
 
 /* How many operations the last call released that could change the site: insert, delete, insert_text, delete_range, undo, redo,
