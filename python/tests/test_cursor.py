@@ -99,9 +99,23 @@ def test_what_an_edit_of_ones_own_releases_moves_it(sites):
     assert (carl.text, cursor.place) == ("xbc", 3)
 
 
-def test_it_starts_at_the_front_and_stays_there(sites):
+def test_what_came_where_something_was_hidden_stands_before_it_too(sites):
+    """No name tells on which side of a hidden character something was typed; when that one comes back, the text does."""
+    ann, bob = sites[:2]
+    send(ann.insert(0, "bcd"), bob)
+    cursor = Cursor(ann, 3)
+    edits = [bob.delete(1), bob.insert(1, "x"), bob.delete(2)]
+    for edit, place in zip(edits, (2, 3, 2)):
+        send(edit, ann)
+        assert cursor.place == place
+    send(bob.undo(edits[0].names[0]), ann)
+    assert (ann.text, cursor.place) == ("bxc", 3)
+
+
+def test_it_starts_at_the_front_and_stays_there(sites, monkeypatch):
     ann, bob = sites[:2]
     cursor = Cursor(ann)
+    monkeypatch.delattr(Site, "names")
     send(bob.insert(0, "tea"), ann)
     assert cursor.place == 0
 
