@@ -1,5 +1,5 @@
 # `make` proves and builds the program, and leaves it at bin/cotpad; `make lib` leaves the library for hosts in lib/. `make quick`
-# and `make quick-lib` leave the same in quick/ within two minutes, and prove nothing. `make demo` replays and shows the examples,
+# and `make quick-lib` leave the same in quick/ in about a minute, and prove nothing. `make demo` replays and shows the examples,
 # and lets two copies exchange; `make check-hosts` runs hosts in C and in Python over the library. `make wheel` makes a package for
 # Python of it, and `make install` installs it.
 .PHONY: all lib quick quick-lib demo wheel install
@@ -105,9 +105,9 @@ HOST_FLAGS := -std=c99 -Wall -Wextra -Wpedantic -O2 -Iinclude
 # The folder of the library that hosts are linked with.
 LIB ?= $(patsubst %/libcotpad.a,%,$(firstword $(wildcard lib/libcotpad.a quick/libcotpad.a)))
 
-# Three people in C and in Python, compared with what they have to write; sessions in which each allocation is refused in turn; and
-# operations that the user's own edits free, which are released and told, so that what is saved is loaded. Where valgrind is there,
-# it has to find no bad access and no block left.
+# Three people and a cursor in C and in Python, and a host that stores before it sends, compared with what they have to write;
+# sessions in which each allocation is refused in turn; and operations that the user's own edits free, which are released and told, so
+# that what is saved is loaded. Where valgrind is there, it has to find no bad access and no block left.
 check-hosts:
 	$(needs-library)
 	@echo "with $(LIB)/libcotpad.a"
@@ -115,6 +115,11 @@ check-hosts:
 	$(CC) $(HOST_FLAGS) -o bin/notes examples/embed/notes.c $(LIB)/libcotpad.a
 	bin/notes | diff - examples/embed/notes.c.out
 	$(PACKAGE) python3 examples/embed/notes.py | diff - examples/embed/notes.py.out
+	$(CC) $(HOST_FLAGS) -o bin/cursor examples/embed/cursor.c $(LIB)/libcotpad.a
+	bin/cursor | diff - examples/embed/cursor.c.out
+	$(PACKAGE) python3 examples/embed/cursor.py | diff - examples/embed/cursor.py.out
+	$(CC) $(HOST_FLAGS) -o bin/saved examples/embed/saved.c $(LIB)/libcotpad.a
+	bin/saved | diff - examples/embed/saved.c.out
 # In C++, and with two threads.
 	$(CXX) -std=c++17 -Wall -Wextra -Wpedantic -O2 -Iinclude -o bin/classes tools/hosts/classes.cc $(LIB)/libcotpad.a
 	bin/classes

@@ -39,6 +39,9 @@ extern "C" {
 /* The version of this header. cotpad_version() tells that of the library: begin by comparing them. */
 #define COTPAD_VERSION 1u
 
+/* The bytes of the longest frame: what cotpad_frame needs at most. */
+#define COTPAD_LONGEST_FRAME 115029u
+
 /* What a call answers. */
 typedef uint32_t cotpad_status;
 #define COTPAD_OK 0u
@@ -86,7 +89,7 @@ typedef struct {
 
 typedef struct {
     uint32_t kind;
-    uint32_t author;      /* the site that made it */
+    uint32_t author;      /* the site that made it; of an undo not the site of its member */
     uint32_t scalar;      /* the character of an insert, else 0 */
     cotpad_member member; /* undo and redo take its site and number */
 } cotpad_operation;
@@ -95,9 +98,9 @@ typedef struct {
 #define COTPAD_VERDICT_INTEGRATED 1u /* it is part of the text */
 #define COTPAD_VERDICT_WAITS 2u      /* it was made after `missing`, and is held until that comes */
 #define COTPAD_VERDICT_REPEAT 3u     /* the site has it */
-#define COTPAD_VERDICT_FORGED 4u     /* the site knows another operation of this name */
+#define COTPAD_VERDICT_FORGED 4u     /* the site knows another operation of this name; which one is genuine no call tells */
 #define COTPAD_VERDICT_NOT_CLOSED 5u /* its context lacks what the last operation of `site` in it was made after */
-#define COTPAD_VERDICT_PLACE_OUT 6u  /* it names `place`, and there are `cells` */
+#define COTPAD_VERDICT_PLACE_OUT 6u  /* it names `place`, and there are `cells`: inserted characters, hidden ones too */
 #define COTPAD_VERDICT_INCOMPLETE 7u /* more bytes are wanted: at least `offset` in all */
 #define COTPAD_VERDICT_MALFORMED 8u  /* no frame, whatever follows: `cause` at the byte `offset` */
 
@@ -156,18 +159,19 @@ cotpad_status cotpad_save(cotpad_site *site, uint8_t *out, size_t room, size_t *
 /* Ends a site, frees all of it, and leaves the handle empty. */
 void cotpad_close(cotpad_site *site);
 
-/* What the user of the site does. A place counts shown characters: an insert goes after so many of them, a delete takes the
- * one at the place, from 0. An undo or a redo names an insert or a delete, whoever made it. On COTPAD_OK and COTPAD_UNSETTLED
- * the operation is made, at the index that cotpad_operations told before the call, and what was released after it stands behind
- * it: fetch its frame by cotpad_frame(site, index, ..) and send it to all other sites. An edit that frees something is rare, and
- * a host must not pass it over: the one that waited for an undo, say, is released by the user's own undo, and may be refused
- * then. Else, of insert and delete: COTPAD_PLACE_OUT, COTPAD_NUMBER_FULL; of insert COTPAD_NO_CHARACTER; of undo
- * and redo: COTPAD_NO_NAME, COTPAD_UNKNOWN; of undo COTPAD_NOT_IN_FORCE; of redo COTPAD_IN_FORCE, COTPAD_GENERATION_FULL; of
- * all COTPAD_CONTEXT_FULL, COTPAD_NO_MEMORY. */
+/* What the user of the site does. A place counts shown characters, each a Unicode scalar value: an insert goes after so many
+ * of them, a delete takes the one at the place, from 0. An undo or a redo names an insert or a delete, whoever made it, by the
+ * two numbers of its cotpad_member (a site is at most 63, so the cast loses nothing): name_site is not the author of an undo.
+ * On COTPAD_OK and COTPAD_UNSETTLED the operation is made, at the index that cotpad_operations told before the call, and what
+ * was released after it stands behind it: fetch its frame by cotpad_frame(site, index, ..) and send it to all other sites;
+ * what was released came from others, who sent it. An edit that frees something is rare, and a host must not pass it over: the
+ * one that waited for an undo, say, is released by the user's own undo, and may be refused then. Else, of insert and delete:
+ * COTPAD_PLACE_OUT, COTPAD_NUMBER_FULL; of insert COTPAD_NO_CHARACTER; of undo and redo: COTPAD_NO_NAME, COTPAD_UNKNOWN; of
+ * undo COTPAD_NOT_IN_FORCE; of redo COTPAD_IN_FORCE, COTPAD_GENERATION_FULL; of all COTPAD_CONTEXT_FULL, COTPAD_NO_MEMORY. */
 cotpad_status cotpad_insert(cotpad_site *site, uint32_t place, uint32_t scalar);
 cotpad_status cotpad_delete(cotpad_site *site, uint32_t place);
-cotpad_status cotpad_undo(cotpad_site *site, uint16_t author, uint32_t number);
-cotpad_status cotpad_redo(cotpad_site *site, uint16_t author, uint32_t number);
+cotpad_status cotpad_undo(cotpad_site *site, uint16_t name_site, uint32_t number);
+cotpad_status cotpad_redo(cotpad_site *site, uint16_t name_site, uint32_t number);
 
 /* Inserts the characters of a text in UTF-8, the first after `place` shown ones, each next one after it, and releases after each.
  * *made is how many were inserted, each by an operation of the site's own: they stand in the history from the index on that
@@ -203,9 +207,11 @@ cotpad_status cotpad_operation_at(cotpad_site *site, uint32_t index, cotpad_oper
 cotpad_status cotpad_frame(cotpad_site *site, uint32_t index, uint8_t *out, size_t room, size_t *needed);
 
 /* Delivers the operation of the frame that the bytes begin with, tells its verdict, and of it what it is, who made it and what
- * it waits for; and then releases what is ready. COTPAD_OK is answered to bytes without a frame too: then the verdict is
- * INCOMPLETE or MALFORMED, and the site is as it was. Else COTPAD_UNSETTLED: it is delivered, and its verdict told; or
- * COTPAD_NO_MEMORY, only where there is a frame: *verdict is as it was. */
+ * it waits for; and then releases what is ready. Its author is the number that the sixth byte, bytes[5], has: a host that
+ * knows who sent the bytes compares the two before this call, since whoever writes under another's number is believed.
+ * COTPAD_OK is answered to bytes without a frame too: then the verdict is INCOMPLETE or MALFORMED, and the site is as it was.
+ * Else COTPAD_UNSETTLED: it is delivered, and its verdict told; or COTPAD_NO_MEMORY, only where there is a frame: *verdict is
+ * as it was. */
 cotpad_status cotpad_receive(cotpad_site *site, const uint8_t *bytes, size_t length, cotpad_verdict *verdict);
 
 /* How many operations the last call released that could change the site: insert, delete, insert_text, delete_range, undo, redo,

@@ -52,7 +52,7 @@ static uint8_t *bytes_of(cotpad_site *site, writer *write, size_t *count) {
 /* Sends the frames of all that a person's site integrated from this index on to everybody else: the edit of the person, and what
  * it released, which stands behind it; those who have that already answer that it is a repeat. */
 static void send_from(person *people, int from, uint32_t start) {
-    static uint8_t frame[115029]; /* the longest frame */
+    static uint8_t frame[COTPAD_LONGEST_FRAME];
     cotpad_site *site = &people[from].site;
     for (uint32_t i = start; i < cotpad_operations(site); i++) {
         size_t count = 0;

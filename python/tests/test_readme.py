@@ -5,23 +5,35 @@ import re
 from pathlib import Path
 
 import pytest
+from conftest import send
 
-from cotpad import Document
+from cotpad import Cursor, Document, Site
 
 TOP = Path(__file__).resolve().parents[2]
 
 
-def example(page, has):
+def example(page, has, kind="python"):
     path = TOP / page
     if not path.exists():
         pytest.skip("the page is in the repository")
-    return next(it for it in re.findall(r"```python\n(.*?)```", path.read_text(), re.S) if has in it)
+    return next(it for it in re.findall(rf"```{kind}\n(.*?)```", path.read_text(), re.S) if has in it)
 
 
 def test_the_example_of_the_readme(tmp_path, monkeypatch, capsys):
     monkeypatch.chdir(tmp_path)
     exec(example("README.md", "from cotpad"), {})
     assert capsys.readouterr().out == "ea\n"
+
+
+def test_the_example_of_the_package(tmp_path, monkeypatch, capsys):
+    monkeypatch.chdir(tmp_path)
+    Document.create("notes.cotpad", 0).close()
+    sent = []
+    with Site(2) as carl:
+        names = {"send": sent.append, "bytes_that_came": b"".join(carl.insert(0, "xy"))}
+        exec(example("python/README.md", "Document, Undo"), names)
+        carl.receive(b"".join(sent))
+        assert (capsys.readouterr().out, carl.text) == ("tea 3\n", "tea")
 
 
 def test_a_new_document_has_the_text_of_the_old_one(tmp_path, monkeypatch):
@@ -32,3 +44,16 @@ def test_a_new_document_has_the_text_of_the_old_one(tmp_path, monkeypatch):
     exec(example("docs/EMBEDDING.md", "new.cotpad"), {"Document": Document})
     with Document("new.cotpad") as new:
         assert (new.number, new.text, new.operations) == (0, "ea\n", 3)
+
+
+def test_the_cursor_of_a_user(sites):
+    ann, bob = sites[:2]
+    send(ann.insert(0, "Agenda: budget"), bob)
+    names = {"Cursor": Cursor, "mine": ann, "data": b"".join(bob.insert(0, ">> "))}
+    exec(example("docs/EMBEDDING.md", "Cursor(mine, 8)"), names)
+    assert names["before"] == ">> Agenda: "
+    assert (ann.text, names["cursor"].place) == (">> Agenda: draftbudget", 16)
+
+
+def test_the_cursor_in_c_is_that_of_the_example():
+    assert example("docs/EMBEDDING.md", "cursor *c", "c") in (TOP / "examples/embed/cursor.c").read_text()

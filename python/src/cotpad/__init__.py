@@ -9,8 +9,9 @@ show the same text.
             bob.receive(frame)
         print(bob.text)
 
-A Document is a site that is kept in a file, and saved before its frames are handed out, so that no crash makes it give a name twice: what
-an editor uses. Undo takes back edits as a person expects it. Two copies that were apart exchange what they lack:
+A Document is a site that is kept in a file, and saved before its frames are handed out, so that no crash makes it give a name
+twice: what an editor uses. Undo takes back edits as a person expects it, and a Cursor stays where its user put it. Two copies that
+were apart exchange what they lack:
 
     ann.finish(bob.join(ann.answer(bob.offer())))
 
@@ -18,6 +19,7 @@ Each call that isn't done raises a CotpadError.
 
 The shared library is the one that COTPAD_LIB names, else the one in this package, else the one that the system finds.
 """
+from .cursor import Cursor
 from .document import Document
 from .errors import BadBytes, CotpadError, InUse, NoDocument, NotSaved, NotTaken, Refused, Unsettled
 from .site import Batch, History, Incoming, Site, exchange
@@ -26,7 +28,7 @@ from .undo import Undo
 from .values import Became, Cause, Delivered, Edit, Kind, Member, Name, Operation, Status
 
 __all__ = [
-    "BadBytes", "Batch", "Became", "Cause", "CotpadError", "Delivered", "Document", "Edit", "History", "InUse", "Incoming", "Kind",
-    "Member", "Name", "NoDocument", "NotSaved", "NotTaken", "Operation", "Refused", "Site", "Status", "Undo", "Unsettled", "exchange",
-    "write_safely",
+    "BadBytes", "Batch", "Became", "Cause", "CotpadError", "Cursor", "Delivered", "Document", "Edit", "History", "InUse",
+    "Incoming", "Kind", "Member", "Name", "NoDocument", "NotSaved", "NotTaken", "Operation", "Refused", "Site", "Status", "Undo",
+    "Unsettled", "exchange", "write_safely",
 ]

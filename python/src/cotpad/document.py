@@ -41,9 +41,9 @@ class Document:
     What comes from others is saved by the next save. A host that tells a sender that its frames have come calls `save` before. What was
     saved and not sent, because the host stopped between the two, reaches the others by the exchange when it connects again.
 
-    The file has the number of the site beside its log. It is open in one process at a time, which a lock on FILE.lock sees to. A copy
-    of the file is no second document: both would give the same names. The one who copies a text makes a document with a number of its
-    own, and exchanges."""
+    The file has the number of the site in its first ten bytes, and behind them its log, which the program reads. It is open in one
+    process at a time, which a lock on FILE.lock sees to. A copy of the file is no second document: both would give the same names.
+    The one who copies a text makes a document with a number of its own, and exchanges."""
 
     def __init__(self, path: Path) -> None:
         """Opens the document in a file that is there."""
