@@ -10,7 +10,7 @@ const SEEN = 100; // deltas after which the server is told that they have come
 const at = (id) => document.getElementById(id);
 const state = { number: null, people: [], cursors: [], operations: 0, socket: null, gone: false, seen: 0 };
 const past = { wanted: null, asked: false, text: null, position: null };
-let waiting = []; // what came while an input method composed a character
+let waiting = []; // what came while an input method composed a character: to put another text into the area would end that
 let sync = new Sync(sendEdit);
 
 const editor = new Editor(at("paper"), { edited, pointed: sendCursor });

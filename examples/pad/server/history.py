@@ -1,6 +1,6 @@
 """What was done, as a list of entries that people read, undo and redo.
 
-An entry is what its author typed or deleted in one piece: a word with the blanks after it, or a run of deletes; or what somebody undid
+An entry is what its author typed or deleted in one piece: a word with the blanks around it, or a run of deletes; or what somebody undid
 or redid of one entry. Operations don't tell where they stood in the text, nor which character a delete took. So `Notes` keeps both.
 """
 from .changes import Shown
@@ -54,7 +54,7 @@ class Entry:
 
     def __init__(self, id, operation, index, of=None):
         self.id, self.author, self.kind, self.of = id, operation.author, operation.kind, of
-        self.names, self.generations = [], {}
+        self.names, self.generations, self.blank = [], {}, True
         self.add(operation, index)
 
     def add(self, operation, index, first=False):
@@ -104,6 +104,7 @@ class History:
             entry.add(operation, self._read, first=entry.kind is Kind.DELETE and self._notes.took[name] == self._notes.behind[entry.last])
         else:
             entry = self._begin(operation)
+        entry.blank = entry.blank and letter.isspace()
         self._entry_of[name] = entry
         return entry
 
@@ -114,7 +115,7 @@ class History:
             return False
         if entry.kind is Kind.DELETE:
             return behind[name] == behind[last] or self._notes.took[name] == behind[last]
-        return behind[name] == last and (self._letters[name].isspace() or not self._letters[last].isspace())
+        return behind[name] == last and (entry.blank or self._letters[name].isspace() or not self._letters[last].isspace())
 
     def _turn(self, operation):
         of, last = self._entry_of[operation.name], self._last_of.get(operation.author)

@@ -58,6 +58,8 @@ class Pad:
     def _kept(self):
         try:
             kept = json.loads(self._file.read_text()) if self._file.exists() else []
+            if not isinstance(kept, list):
+                raise TypeError("no list")
             return [{key: kind(it[key]) for key, kind in KEPT.items()} for it in kept]
         except (ValueError, KeyError, TypeError, OSError) as why:
             raise NoPad(f"{self._file} can't be read as a list of people: {why!r}") from None

@@ -138,13 +138,11 @@ class Tab:
 
     def press(self, said, button):
         """Presses the button of the newest line that says this."""
-        for line in self.all(".entry"):
-            if line.find_element(By.TAG_NAME, "p").text.replace("\u00a0", " ").strip() == said.strip():
-                turn = line.find_element(By.TAG_NAME, "button")
-                assert turn.text == button
-                turn.click()
-                return
-        raise AssertionError(f"no line says {said!r}: {self.entries()}")
+        lines = [it.strip() for it in self.entries()]
+        assert said in lines, f"no line says {said!r}: {lines}"
+        turn = self.all(".entry")[lines.index(said)].find_element(By.TAG_NAME, "button")
+        assert turn.text == button
+        turn.click()
 
     def slide(self, position):
         self.run("const it = document.getElementById('moment'); it.value = arguments[0]; it.dispatchEvent(new Event('input'))", position)

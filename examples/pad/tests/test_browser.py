@@ -258,18 +258,24 @@ def test_the_caret_stays_behind_its_character_while_others_type(tabs):
     equal(tabs, "zeroly 1 and two")
 
 
-def test_an_input_method_composes_while_others_type(tabs):
-    ann, bob, _ = tabs
-    ann.type("tea ")
-    equal(tabs, "tea ")
-    ann.put_caret(4)
-    ann.front().execute_cdp_cmd("Input.imeSetComposition", {"text": "に", "selectionStart": 1, "selectionEnd": 1})
-    bob.type("hot ", at=0)
-    bob.until(lambda: bob.text == "hot tea に")
-    ann.front().execute_cdp_cmd("Input.imeSetComposition", {"text": "にほ", "selectionStart": 2, "selectionEnd": 2})
-    assert ann.text == "tea にほ"
-    ann.insert("日本")
-    equal(tabs, "hot tea 日本")
+def test_an_input_method_composes_while_others_type(driver, server):
+    """The other one has a browser of their own, since a tab that loses the focus ends the composition."""
+    with chromium() as other:
+        ann, bob = Tab(driver, server.address), Tab(other, server.address)
+        ann.type("tea ")
+        equal([ann, bob], "tea ")
+        compose(ann, "に")
+        bob.until(lambda: bob.text == "tea に")
+        bob.type("hot ", at=0)
+        bob.until(lambda: bob.quiet)
+        compose(ann, "にほ")
+        assert ann.text == "tea にほ"
+        ann.insert("日本")
+        equal([ann, bob], "hot tea 日本")
+
+
+def compose(tab, text):
+    tab.front().execute_cdp_cmd("Input.imeSetComposition", {"text": text, "selectionStart": len(text), "selectionEnd": len(text)})
 
 
 def test_what_is_typed_is_text_and_nothing_else(tabs):

@@ -39,10 +39,10 @@ def lines(person):
 
 def test_words_are_entries(people):
     _, ann, bob, do = people
-    typed(ann, do, "two  words\n")
+    typed(ann, do, " two  words\n")
     typed(bob, do, "x", 0)
     typed(ann, do, "!", 1)
-    expected = [(0, "insert", "two  ", "in force"), (0, "insert", "words\n", "in force"), (1, "insert", "x", "in force"),
+    expected = [(0, "insert", " two  ", "in force"), (0, "insert", "words\n", "in force"), (1, "insert", "x", "in force"),
                 (0, "insert", "!", "in force")]
     assert lines(ann) == expected
     assert lines(bob) == expected

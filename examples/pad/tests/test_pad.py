@@ -474,8 +474,13 @@ def test_a_folder_that_cannot_be_used_is_refused(tmp_path):
         Pad(tmp_path)
     pad.close()
     kept = (tmp_path / "pad.json").read_text()
-    (tmp_path / "pad.json").write_text(kept.replace('"number"', '"nummer"'))
-    with pytest.raises(NoPad, match="list of people"):
+    for bad in ("x", "{}", "[7]", kept.replace('"number"', '"nummer"'), kept.replace("0", '"a"')):
+        (tmp_path / "pad.json").write_text(bad)
+        with pytest.raises(NoPad, match="list of people"):
+            Pad(tmp_path)
+    (tmp_path / "pad.json").write_text(kept.replace('"number": 0', '"number": 1'))
+    (tmp_path / "1.cotpad").write_bytes((tmp_path / "0.cotpad").read_bytes())
+    with pytest.raises(NoPad, match="is the document of person 0"):
         Pad(tmp_path)
     (tmp_path / "pad.json").write_text(kept)
     (tmp_path / "0.cotpad").rename(tmp_path / "gone")
@@ -490,8 +495,8 @@ def test_the_places_of_the_wire_are_characters(pad, wires):
     ann, bob, _ = wires
     ann.page.replace(0, 0, "😀e\u0301中")
     carry(wires)
-    bob.page.replace(1, 2, "x")
+    bob.page.replace(1, 2, "👍x")
     carry(wires)
     check(pad, wires)
-    assert ann.page.shown == "😀x中"
-    assert deltas.runs(ann.page.text) == [(0, "😀"), (1, "x"), (0, "中")]
+    assert ann.page.shown == "😀👍x中"
+    assert deltas.runs(ann.page.text) == [(0, "😀"), (1, "👍x"), (0, "中")]

@@ -42,7 +42,7 @@ WRONG = [
      "max([it.number for it in self.people] + files, default=-1)", "max([it.number for it in self.people], default=-1)",
      "test_pad.py::test_numbers_are_given_out_once"),
     ("an anchor counts hidden characters", "server/anchors.py",
-     "return sum(name in self._shown for name in self._names[: index + 1])", "return index + 1",
+     "return len(self._shown.intersection(self._names[: self._names.index(anchor) + 1]))", "return self._names.index(anchor) + 1",
      "test_pad.py::test_cursors_of_others"),
     ("a group is undone first to last", "server/person.py",
      "batch.undo_each(reversed(names))", "batch.undo_each(names)",
