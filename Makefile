@@ -3,7 +3,7 @@
 # and lets two copies exchange; `make check-hosts` runs hosts in C and in Python over the library. `make wheel` makes a package for
 # Python of it, and `make install` installs it.
 .PHONY: all lib quick quick-lib demo wheel install
-.PHONY: check-examples check-bytes check-sessions check-memory check-hosts check-python check-wheel check-install check-sanitizers check-relay check-relay-wrong check-edits
+.PHONY: check-examples check-bytes check-sessions check-memory check-hosts check-python check-wheel check-install check-sanitizers check-relay check-relay-wrong check-pad check-pad-wrong check-edits
 .PHONY: check-documents
 .PHONY: compare doors trust clean
 
@@ -203,6 +203,20 @@ check-relay:
 check-relay-wrong:
 	@test -f "$(LIB)/libcotpad.so.1" || { echo "there is no library for hosts: call \`make quick-lib\` or \`make lib\` first" >&2; false; }
 	COTPAD_LIB=$(abspath $(LIB))/libcotpad.so.1 $(RELAY_PYTHON) examples/relay/tests/wrong.py
+
+# The pad of examples/pad: its modules, its server, and three tabs in a real Chromium. TESTS= names some of its tests alone.
+TESTS ?= examples/pad/tests
+PAD = COTPAD_LIB=$(abspath $(LIB))/libcotpad.so.1 PYTHONDONTWRITEBYTECODE=1
+check-pad:
+	@test -f "$(LIB)/libcotpad.so.1" || { echo "there is no library for hosts: call \`make quick-lib\` or \`make lib\` first" >&2; false; }
+	@python=$$(tools/python aiohttp pytest selenium) || exit 1; $(PAD) $$python examples/pad/tests/needs.py || exit 1; \
+	echo "with $(LIB)/libcotpad.so.1 and $$python"; $(PAD) $$python -m pytest -q -p no:cacheprovider $(TESTS)
+
+# Wrong bodies of the pad, each of which a test has to tell.
+check-pad-wrong:
+	@test -f "$(LIB)/libcotpad.so.1" || { echo "there is no library for hosts: call \`make quick-lib\` or \`make lib\` first" >&2; false; }
+	@python=$$(tools/python aiohttp pytest selenium) || exit 1; $(PAD) $$python examples/pad/tests/needs.py || exit 1; \
+	$(PAD) $$python examples/pad/tests/wrong.py
 
 # A port of this machine that nobody uses.
 FREE_PORT = $$(python3 -c 'import socket; it = socket.create_server(("127.0.0.1", 0)); print(it.getsockname()[1])')
