@@ -150,7 +150,7 @@ async def _serve(folder, port):
     await runner.setup()
     try:
         try:
-            await web.TCPSite(runner, HOST, port, shutdown_timeout=2).start()
+            await web.TCPSite(runner, HOST, port).start()
         except OSError as why:
             raise NoPad(f"the port {port} can't be used ({why}); --port 0 takes a free one") from None
         print(f"http://{HOST}:{runner.addresses[0][1]}/ opens a person; so does each new tab there, and the link \"another person\".\n"

@@ -60,13 +60,24 @@ def chromium(width=1280, height=800):
         driver.quit()
 
 
-class Tab:
-    """One person's tab."""
+# A script of a tab that makes its line slow: each message waits on its way, so that edits cross.
+SLOW = """
+const wait = 80, send = WebSocket.prototype.send, listen = WebSocket.prototype.addEventListener;
+WebSocket.prototype.send = function (it) { setTimeout(() => send.call(this, it), wait); };
+WebSocket.prototype.addEventListener = function (kind, act) {
+  listen.call(this, kind, kind === "message" ? (it) => setTimeout(() => act(it), wait) : act);
+};
+"""
 
-    def __init__(self, driver, address):
+
+class Tab:
+    """One person's tab, in which `script` runs before the page's own ones."""
+
+    def __init__(self, driver, address, script=""):
         self.driver = driver
         driver.switch_to.new_window("tab")
         self._handle = driver.current_window_handle
+        driver.execute_cdp_cmd("Page.addScriptToEvaluateOnNewDocument", {"source": script})
         driver.get(address)
         self.until(lambda: self.run("return window.pad?.quiet"))
         self.find("#text").click()  # a tab that never had the focus would get its first keys at the end of the text

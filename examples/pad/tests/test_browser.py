@@ -1,11 +1,12 @@
 """Three tabs in a real Chromium."""
+import contextlib
 import itertools
 import signal
 
 import pytest
 from selenium.webdriver.common.keys import Keys
 
-from browser import STUCK, Server, Tab, chromium, equal, kept
+from browser import SLOW, STUCK, Server, Tab, chromium, equal, kept
 
 
 @pytest.fixture(scope="module")
@@ -23,8 +24,14 @@ def server(tmp_path):
 
 @pytest.fixture
 def tabs(driver, server):
+    with three(driver, server) as tabs:
+        yield tabs
+
+
+@contextlib.contextmanager
+def three(driver, server, script=""):
     first = driver.current_window_handle
-    tabs = [Tab(driver, server.address) for _ in range(3)]
+    tabs = [Tab(driver, server.address, script) for _ in range(3)]
     yield tabs
     for tab in tabs:
         tab.front().close()
@@ -45,6 +52,29 @@ def test_three_type_at_once(tabs, server):
     text = equal(tabs, "Our Plan: tea at four\nand cake")
     for tab in tabs:
         assert tab.colours == [(2, "Our "), (0, "Plan: tea at four\n"), (1, "and cake")]
+    server.stop()
+    assert kept(server.folder) == [text] * 3
+
+
+def test_edits_that_cross_on_a_slow_line(driver, server):
+    with three(driver, server, SLOW) as tabs:
+        ann, bob, cas = tabs
+        ann.type("one two three")
+        equal(tabs, "one two three")
+        ann.put_caret(3)
+        bob.put_caret(4)
+        cas.put_caret(13)
+        ann.type(Keys.BACKSPACE * 3 + "1")
+        bob.type(Keys.DELETE * 3 + "2")
+        cas.type(Keys.BACKSPACE * 5 + "3")
+        assert len({it.text for it in tabs}) > 1
+        equal(tabs, "1 2 3")
+        for tab, keys in zip(tabs, ("a", "b", "c")):
+            tab.type(keys, at=2)
+        ann.type("x" + Keys.BACKSPACE * 2)
+        text = equal(tabs)
+        assert sorted(text) == sorted("1 2 3bc")
+        assert len({tuple(it.colours) for it in tabs}) == 1
     server.stop()
     assert kept(server.folder) == [text] * 3
 
@@ -127,6 +157,50 @@ def test_earlier_moments(tabs):
     equal(tabs, now + "!")
     ann.type("s", at=3)
     equal(tabs, now + "s!")
+
+
+def test_a_line_of_the_history_shows_its_moment(tabs):
+    ann, bob, _ = tabs
+    ann.type("one two three")
+    equal(tabs)
+    bob.all(".entry p")[1].click()
+    bob.until(lambda: bob.find("#when").text == "8 of 13" and bob.quiet)
+    assert bob.shown == "one two "
+    bob.all(".entry p")[0].click()
+    bob.until(lambda: bob.find("#when").text == "now: 13 operations")
+    assert bob.shown == "one two three" and bob.find("#text").is_displayed()
+
+
+def test_older_entries_come_when_they_are_asked_for(tabs):
+    ann = tabs[0]
+    ann.put_caret(0)
+    ann.insert("a " * 250)
+    equal(tabs)
+    ann.until(lambda: len(ann.all(".entry")) == 250)
+    assert not ann.find("#older").is_displayed()
+    ann.front().refresh()
+    ann.until(lambda: ann.run("return window.pad?.quiet") and len(ann.all(".entry")) == 200)
+    ann.find("#older").click()
+    ann.until(lambda: len(ann.all(".entry")) == 250)
+    assert not ann.find("#older").is_displayed()
+    ids = ann.run("return [...document.querySelectorAll('.entry')].map(it => Number(it.dataset.id))")
+    assert ids == list(range(249, -1, -1))
+
+
+def test_nothing_goes_to_others_while_it_is_not_saved(tabs, server):
+    ann, bob, cas = tabs
+    ann.type("tea")
+    equal(tabs, "tea")
+    in_the_way = server.folder / "1.cotpad.new"
+    in_the_way.mkdir()
+    bob.type("!", at=3)
+    bob.until(lambda: bob.find("#trouble").is_displayed())
+    bob.type("?", at=4)
+    bob.until(lambda: bob.quiet)
+    assert [it.text for it in tabs] == ["tea", "tea!?", "tea"]
+    in_the_way.rmdir()
+    bob.until(lambda: not bob.find("#trouble").is_displayed())
+    equal(tabs, "tea!?")
 
 
 def test_a_tab_that_is_loaded_anew_goes_on(tabs):

@@ -59,6 +59,18 @@ WRONG = [
      "if self._document.name_at(middle) == self.names[middle]:",
      "if self.letters[self._document.name_at(middle)] == self.letters[self.names[middle]]:",
      "test_changes.py::test_which_of_two_equal_letters_went_is_told"),
+    ("the tab doesn't put deltas that crossed in step", "page/sync.js",
+     "    if (this.way !== null) [this.way, delta] = crossed(this.way, delta);\n", "",
+     "test_browser.py::test_edits_that_cross_on_a_slow_line"),
+    ("the caret doesn't go with its character", "page/editor.js",
+     "[moved(start, delta, start < end), moved(end, delta)]", "[start, end]",
+     "test_browser.py::test_the_caret_stays_behind_its_character_while_others_type"),
+    ("what comes while a character is composed is shown at once", "page/main.js",
+     'if (editor.composing && message.kind !== "welcome") waiting.push(message);\n  else ', "",
+     "test_browser.py::test_an_input_method_composes_while_others_type"),
+    ("the mirror lacks an empty last line", "page/editor.js",
+     "this.mirror.replaceChildren(...spans, END);", "this.mirror.replaceChildren(...spans);",
+     "test_browser.py::test_the_mirror_breaks_lines_where_the_text_area_does"),
     ("a WebSocket of another origin is taken", "server/web.py",
      "    if not _own(request):\n", "    if False:\n",
      "test_server.py::test_a_socket_of_another_origin_is_refused"),
@@ -69,7 +81,8 @@ def told(folder, file, old, new, test):
     """Whether the test fails with this body."""
     pad = pathlib.Path(folder) / "examples" / "pad"
     shutil.copytree(PAD, pad, ignore=shutil.ignore_patterns("__pycache__"))
-    (pathlib.Path(folder) / "python").symlink_to(TOP / "python")
+    for it in ("python", "tools"):
+        (pathlib.Path(folder) / it).symlink_to(TOP / it)
     path = pad / file
     text = path.read_text()
     if text.count(old) != 1:
