@@ -69,8 +69,8 @@ typedef uint32_t cotpad_status;
                               * frame, or that of the operation that freed it, begins at `offset` */
 
 /* The call did what was asked, and memory ran out before all was released that was ready then: some of it may be, and is told.
- * The site can be used as before; cotpad_settle goes on with it, once there is memory again. Of cotpad_save: a waiting operation
- * is ready, and nothing is written. */
+ * The site can be used as before; cotpad_settle goes on with it, once there is memory again. Read cotpad_released first, since
+ * cotpad_settle tells its own releases alone. Of cotpad_save: a waiting operation is ready, and nothing is written. */
 #define COTPAD_UNSETTLED 20u
 
 /* An insert or delete, by the site that made it and the number that it gave, from 1, at generation 0; or all undos (odd
@@ -214,8 +214,8 @@ cotpad_status cotpad_frame(cotpad_site *site, uint32_t index, uint8_t *out, size
  * as it was. */
 cotpad_status cotpad_receive(cotpad_site *site, const uint8_t *bytes, size_t length, cotpad_verdict *verdict);
 
-/* How many operations the last call released that could change the site: insert, delete, insert_text, delete_range, undo, redo,
- * receive or settle. 0 after open, load, exchange_close, exchange_finish and release, which tell nothing here, and after a call
+/* How many operations were released by the last call that could change the site: insert, delete, insert_text, delete_range, undo,
+ * redo, receive or settle. 0 after open, load, exchange_close, exchange_finish and release, which tell nothing here, and after a call
  * that was refused before it did anything. A call that only reads leaves the number. */
 uint32_t cotpad_released(cotpad_site *site);
 

@@ -70,6 +70,7 @@ def told(folder, file, old, new, case):
     """Whether the case fails with this body."""
     relay = pathlib.Path(folder) / "examples" / "relay"
     shutil.copytree(engine.RELAY.parent, relay.parent, ignore=shutil.ignore_patterns("__pycache__"))
+    (pathlib.Path(folder) / "python").symlink_to(engine.RELAY.parents[1] / "python")
     path = relay / "relay" / file
     text = path.read_text()
     if text.count(old) != 1:
