@@ -249,7 +249,7 @@ def measured(length):
 def library():
     """The library, and whether it is proved, which its folder in a checkout tells."""
     path = pathlib.Path(os.environ["COTPAD_LIB"]).resolve()
-    made_here = (path.parents[1] / "crates.txt").exists()
+    made_here = (path.parent.parent / "crates.txt").exists()
     return f"{path}, {made_here and PROVED.get(path.parent.name) or 'proved or not, which its folder does not tell'}"
 
 
