@@ -83,7 +83,8 @@ class Replica:
                 self._tell(f"{where}{spelled(delivered.operation)} {words(delivered.became)}")
 
     def merge(self, id, log):
-        """Takes in what a checkpoint has and this site lacks, and goes on from its entry. Own operations stay."""
+        """Takes in what a checkpoint has and this site lacks, and goes on from its entry. Own operations stay; what the checkpoint has of
+        the outbox was sent, though its entry is never read."""
         with cotpad.Site.load((self.number + 1) % SITES, log) as other:
             frames, integrated = split(other.save()[len(LOG_HEAD):])[0], other.operations
             try:
@@ -91,6 +92,8 @@ class Replica:
                 frames = frames[integrated:]  # an exchange leaves out what waits
             except cotpad.NotTaken as why:
                 self._tell(f"checkpoint {id}: {why}; its operations are taken one by one")
+            for frame in [it for it in self.outbox if has(other, it)]:
+                del self.outbox[frame]
         for frame in frames:
             self._deliver(frame, f"checkpoint {id}: ")
         self.id = id

@@ -429,6 +429,25 @@ class Checkpoints(Case):
         self.assertEqual(ann.text, bob.text)
         self.assertEqual(sorted(ann.text), ["a"] + ["x"] * 40)
 
+    async def test_what_a_checkpoint_has_was_sent(self):
+        proxy = engine.Proxy(ENGINE.port)
+        await proxy.start()
+        self.addAsyncCleanup(proxy.stop)
+        ann, bob = await self.peer("ann", proxy.url, timeout=60.0), await self.peer("bob", checkpoint_every=10, margin=2)
+        await ann.caught_up()
+        proxy.hold()
+        await ann.insert(0, "a")
+        await self.typed(bob, 1)
+        await asyncio.sleep(0.1)  # the engine has answered Ann's read by now, without her own entry
+        proxy.ask()
+        await until(lambda: "a" in bob.text, "the entry was sent")
+        await self.typed(bob, 40)
+        proxy.go_on()
+        await self.same(ann, bob)
+        self.assertTrue(self.heard("trimmed", "is taken in"))
+        self.assertEqual(ann.text, bob.text)
+        self.assertEqual(sorted(ann.text), ["a"] + ["x"] * 41)
+
     async def test_it_holds_nothing_that_is_not_in_the_stream(self):
         ann = await self.peer("ann", checkpoint_every=5, margin=100000)
         stop = asyncio.Event()

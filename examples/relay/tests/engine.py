@@ -89,8 +89,9 @@ class Proxy:
 
     def __init__(self, port):
         self._to, self.port, self._server = port, None, None
-        self._pairs, self._muted, self._closed, self._going = set(), False, False, asyncio.Event()
-        self._going.set()
+        self._pairs, self._muted, self._closed = set(), False, False
+        self._asking, self._answering = asyncio.Event(), asyncio.Event()
+        self.go_on()
 
     @property
     def url(self):
@@ -113,10 +114,16 @@ class Proxy:
 
     def hold(self):
         """Hands nothing on until `go_on`."""
-        self._going.clear()
+        self._asking.clear()
+        self._answering.clear()
+
+    def ask(self):
+        """Hands requests on, and no answer yet."""
+        self._asking.set()
 
     def go_on(self):
-        self._going.set()
+        self._asking.set()
+        self._answering.set()
 
     def cut(self, pairs=None):
         """Cuts these connections, or all."""
@@ -158,7 +165,7 @@ class Proxy:
     async def _pump(self, reader, writer, answers):
         with contextlib.suppress(OSError):
             while data := await reader.read(65536):
-                await self._going.wait()
+                await (self._answering if answers else self._asking).wait()
                 if not (answers and self._muted):
                     writer.write(data)
                     await writer.drain()

@@ -61,6 +61,9 @@ WRONG = [
     ("what waited for an edit isn't let go and told", "replica.py",
      "free = list(edit.released)", "free = []",
      "Strangers.test_what_waits_for_an_undo_is_let_go_by_it_and_saved"),
+    ("what a checkpoint has is sent for ever", "replica.py",
+     "for frame in [it for it in self.outbox if has(other, it)]:", "for frame in []:",
+     "Checkpoints.test_what_a_checkpoint_has_was_sent"),
     ("nobody sees that the engine lost entries", "peer.py", "if await room.lost(self.id):", "if False:",
      "Losses.test_the_engine_lost_the_end_of_its_stream"),
 ]
