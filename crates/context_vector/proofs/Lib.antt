@@ -12,4 +12,5 @@ pub mod Pieces
 pub mod Readers
 pub mod Merging
 pub mod Counting
+pub mod Parts
 pub mod CallerLemmas
