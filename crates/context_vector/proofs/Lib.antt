@@ -10,4 +10,5 @@ pub mod Rooms
 pub mod Marks
 pub mod Pieces
 pub mod Readers
+pub mod Undone
 pub mod CallerLemmas
