@@ -13,4 +13,5 @@ pub mod Readers
 pub mod Merging
 pub mod Counting
 pub mod Parts
+pub mod Undone
 pub mod CallerLemmas

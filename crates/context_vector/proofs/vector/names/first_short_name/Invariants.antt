@@ -2,7 +2,7 @@ use Rattle.std.proofs.Common.{◌≡◌, ◌+◌, length}
 use Rattle.context_vector.specs.Contexts.{entry_in, AreEntries}
 use Rattle.context_vector.specs.Shortfalls.{first_short}
 use Rattle.context_vector.specs.Code.Readers.{left_of}
-use Rattle.context_vector.proofs.vector.rising.first_short_entry.Given as goal
+use Rattle.context_vector.proofs.vector.names.first_short_name.Given as goal
 
 -- no name that was passed is short
 abbrev pub invariant-loop-wanted : goal.invariant-loop-wanted

@@ -5,8 +5,8 @@ use Rattle.context_vector.specs.Contexts.{entry_in, AreEntries}
 use Rattle.context_vector.specs.Shortfalls.{first_short}
 use Rattle.context_vector.specs.Code.Readers.{left_of}
 use Rattle.context_vector.proofs.Readers.{mine_passed, both_passed, short_first, lacks_first, lacks_all, none_wanted, entries_rest}
-use Rattle.context_vector.proofs.vector.rising.first_short_entry.Goals as goal
-use Rattle.context_vector.proofs.vector.rising.first_short_entry.Goals.{in_default-first-via-in-Some-2+else-eq, in_default-first-via-in_default-first}
+use Rattle.context_vector.proofs.vector.names.first_short_name.Goals as goal
+use Rattle.context_vector.proofs.vector.names.first_short_name.Goals.{in_default-first-via-in-Some-2+else-eq, in_default-first-via-in_default-first}
 
 pub loop-wanted-preserved-then-is_before : goal.loop-wanted-preserved-then-is_before
 loop-wanted-preserved-then-is_before c =
