@@ -1,4 +1,4 @@
-use Rattle.std.proofs.Common.{◌≡◌, ◌∷◌, ◌++◌, length, drop, sym, ap, ◌∙◌}
+use Rattle.std.proofs.Common.{◌≡◌, ◌∷◌, ◌++◌, sym, ap, ◌∙◌}
 use Rattle.context_vector.specs.Contexts.{put_count}
 use Rattle.context_vector.specs.Equality.{counts_decide, count_list_decides}
 use Rattle.context_vector.specs.Code.Readers.{left_of}
