@@ -10,4 +10,8 @@ pub mod Results
 pub mod Marks
 pub mod Pieces
 pub mod Readers
+pub mod Merging
+pub mod Counting
+pub mod Parts
+pub mod Undone
 pub mod CallerLemmas
