@@ -11,4 +11,5 @@ pub mod Marks
 pub mod Pieces
 pub mod Readers
 pub mod Undone
+pub mod Parts
 pub mod CallerLemmas
