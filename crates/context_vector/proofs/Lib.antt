@@ -10,6 +10,9 @@ pub mod Rooms
 pub mod Marks
 pub mod Pieces
 pub mod Readers
+pub mod Merging
+pub mod Counting
+pub mod Parts
 pub mod Undone
 pub mod Parts
 pub mod CallerLemmas

@@ -1,26 +1,24 @@
 use Rattle.std.proofs.Common.{◌≡◌, ◌∷◌, ◌++◌, sym, ap, ◌∙◌}
 use Rattle.context_vector.specs.Contexts.{put_count}
-use Rattle.context_vector.proofs.Counts.{put_joined, gap_joined, parts_of}
+use Rattle.context_vector.specs.Equality.{counts_decide, count_list_decides}
+use Rattle.context_vector.specs.Code.Readers.{left_of}
+use Rattle.context_vector.proofs.Merging.{begins}
+use Rattle.context_vector.proofs.Counting.{put_between}
 use Rattle.context_vector.proofs.vector.follows.has_put.Goals as goal
 
-pub returns-in-Some : goal.returns-in-Some
-returns-in-Some c = λ yes.
-    let ps = c.args.before.now in
-    let l = c.split_at.result.0.now in
+pub returns : goal.returns
+returns c alike =
     let n = c.name.inside in
-    let parts : ps ≡ l ++ c.in-Some.field-0-0.now ∷ c.in-Some.rest.now =
-    parts_of c.in-Ok.at ps ∙ (λ j. sym c.split_at.ensures.front j ++ sym c.split_at.ensures.back j) ∙ ap (λ xs. l ++ xs) c.in-Some.ensures.cases.0 in
-    c.is_joined.ensures yes
-    ∙ (ap (λ p. l ++ p ∷ c.in-Some.rest.now) c.new-count.ensures ∙ put_joined ps l c.in-Some.rest.now c.in-Some.field-0-0.now n.site n.number c.in-Ok.at c.requires c.in-Ok.ensures.found parts c.split_at.ensures.front_len
-    ∙ (λ j. put_count (c.name.view_is j).site (c.name.view_is j).number ps))
-
-pub returns-in-Err : goal.returns-in-Err
-returns-in-Err c = λ yes.
-    let ps = c.args.before.now in
-    let l = c.split_at-in-Err.result.0.now in
-    let r = c.split_at-in-Err.result.1.now in
-    let n = c.name.inside in
-    let parts : ps ≡ l ++ r = parts_of c.in-Err.at ps ∙ (λ j. sym c.split_at-in-Err.ensures.front j ++ sym c.split_at-in-Err.ensures.back j) in
-    c.is_joined-in-Err.ensures yes
-    ∙ (ap (λ p. l ++ p ∷ r) c.new-count.ensures ∙ gap_joined ps l r n.site n.number c.in-Err.at c.in-Err.ensures.absent parts c.split_at-in-Err.ensures.front_len
-    ∙ (λ j. put_count (c.name.view_is j).site (c.name.view_is j).number ps))
+    let lower = c.seek-lower.ensures in
+    let both = c.same_first.ensures c.if-not-same_first.false in
+    let left = left_of c.seek-lower.new.counts in
+    let right = left_of c.same_first.new.theirs in
+    let rest = left_of c.pass_site.new.counts in
+    let first : c.in-Some.count ≡ (n.site, n.number) = (counts_decide c.in-Some.count c.new.result).0 (sym c.eq.ensures ∙ c.if-eq.true) ∙ c.new.ensures in
+    let behind : rest ≡ left_of c.next.new.self = (count_list_decides rest (left_of c.next.new.self)).0 (sym c.are_same.ensures ∙ alike) in
+    let parts : right ≡ (n.site, n.number) ∷ rest =
+    begins right c.in-Some.count (sym c.next.ensures.first ∙ c.in-Some.is) ∙ (λ j. first j ∷ (sym c.next.ensures.rest ∙ sym behind) j) in
+    let whole : left_of c.args.before ≡ both.0 ++ left_of c.same_first.new.mine = ap left_of (sym c.again-whole.ensures) ∙ both.2 in
+    put_between (left_of c.args.before) (left_of c.args.after) lower.0 both.0 left (left_of c.same_first.new.mine) rest n.site n.number (lower.1 ∙ sym both.1) lower.2 whole lower.3 (c.pass_site.ensures n.number)
+    (both.3 ∙ ap (λ xs. both.0 ++ xs) parts)
+    ∙ (λ j. put_count (c.name.view_is j).site (c.name.view_is j).number (left_of c.args.before))
