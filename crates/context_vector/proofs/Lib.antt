@@ -14,5 +14,4 @@ pub mod Merging
 pub mod Counting
 pub mod Parts
 pub mod Undone
-pub mod Parts
 pub mod CallerLemmas
