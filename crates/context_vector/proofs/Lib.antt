@@ -8,8 +8,6 @@ pub mod Sets
 pub mod Unions
 pub mod Results
 pub mod Marks
-pub mod Pieces
-pub mod Readers
 pub mod Merging
 pub mod Counting
 pub mod Parts

@@ -100,14 +100,13 @@ last_below (x ∷ (y ∷ es)) (suc i) e n are long is less =
 
 not_less_after : (m n : NameData) (es : List (NameData × ℕ)) → name_lt m n ≡ false → AllAfter name_eq name_lt m es → AllAfter name_eq name_lt n es
 not_less_after m n [] not_less after = tt
-not_less_after m n (e ∷ es) not_less after =
-    (
-      cases_by_order name_eq name_lt name_order m n _
+not_less_after m n (e ∷ es) not_less after = (
+  cases_by_order name_eq name_lt name_order m n _
       (λ is q q' l l'. subst (λ x. name_lt x e.0 ≡ true) is after.0)
       (λ q q' l l'. absurd (false≢true (sym not_less ∙ l)))
       (λ q q' l l'. name_transitive n m e.0 l' after.0),
-      not_less_after m n es not_less after.1,
-    )
+  not_less_after m n es not_less after.1,
+)
 
 last_reaches : (es : List (NameData × ℕ)) (i : ℕ) (e : NameData × ℕ) (n : NameData) (more : List (NameData × ℕ)) → AreEntries (es ++ more) → length es ≡ suc i → slice_get es i ≡ Some e → name_lt e.0 n ≡ false → AllAfter name_eq name_lt n more
 last_reaches [] i e n more are long is not_less = absurd (omega (arith, long))

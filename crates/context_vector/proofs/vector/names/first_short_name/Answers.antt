@@ -16,7 +16,7 @@ loop-wanted-preserved-then-is_before c =
     let wanted_is : slice_get fs 0 ≡ Some c.in-Some.wanted = sym c.first.ensures.first ∙ c.in-Some.is in
     let had_is : slice_get es 0 ≡ Some c.in-Some-first.had = sym c.first-in-Some.ensures.first ∙ c.in-Some-first.is in
     let less : name_lt c.in-Some-first.had.0 c.in-Some.wanted.0 ≡ true =
-        (λ j. name_lt (sym c.name.ensures j) (sym c.name-name.ensures j)) ∙ (sym c.is_before.ensures ∙ c.if-is_before.true) in
+    (λ j. name_lt (sym c.name.ensures j) (sym c.name-name.ensures j)) ∙ (sym c.is_before.ensures ∙ c.if-is_before.true) in
     let mine : left_of c.pass.new.self ≡ drop 1 es = c.pass.ensures ∙ ap (drop 1) c.first-in-Some.ensures.same in (
       subst AreEntries (sym mine) (entries_rest 1 es c.loop-wanted.invariant.0),
       subst AreEntries (sym c.first.ensures.same) c.loop-wanted.invariant.1,
@@ -32,7 +32,7 @@ returns-then-generation c =
     let wanted_is : slice_get fs 0 ≡ Some c.in-Some.wanted = sym c.first.ensures.first ∙ c.in-Some.is in
     let had_is : slice_get es 0 ≡ Some c.in-Some-first.had = sym c.first-in-Some.ensures.first ∙ c.in-Some-first.is in
     let same : name_eq c.in-Some-first.had.0 c.in-Some.wanted.0 ≡ true =
-        (λ j. name_eq (sym c.name-in-Some-first-2.ensures j) (sym c.name-name.ensures j)) ∙ (sym c.eq.ensures ∙ c.if-eq.true) in
+    (λ j. name_eq (sym c.name-in-Some-first-2.ensures j) (sym c.name-name.ensures j)) ∙ (sym c.eq.ensures ∙ c.if-eq.true) in
     let less : c.in-Some-first.had.1 < c.in-Some.wanted.1 = omega (arith, c.if-generation.true, c.generation.ensures, c.generation-in-Some-2.ensures) in
     (λ j. Some (c.name-name.ensures j, c.generation-then-generation.ensures j + 1))
     ∙ sym (c.loop-wanted.invariant.2 ∙ name_short es fs c.in-Some-first.had c.in-Some.wanted had_is wanted_is same less)
@@ -44,7 +44,7 @@ loop-wanted-preserved c =
     let wanted_is : slice_get fs 0 ≡ Some c.in-Some.wanted = sym c.first.ensures.first ∙ c.in-Some.is in
     let had_is : slice_get es 0 ≡ Some c.in-Some-first.had = sym c.first-in-Some.ensures.first ∙ c.in-Some-first.is in
     let same : name_eq c.in-Some-first.had.0 c.in-Some.wanted.0 ≡ true =
-        (λ j. name_eq (sym c.name-in-Some-first-2.ensures j) (sym c.name-name.ensures j)) ∙ (sym c.eq.ensures ∙ c.if-eq.true) in
+    (λ j. name_eq (sym c.name-in-Some-first-2.ensures j) (sym c.name-name.ensures j)) ∙ (sym c.eq.ensures ∙ c.if-eq.true) in
     let enough : c.in-Some.wanted.1 ≤ c.in-Some-first.had.1 = omega (arith, c.if-generation.false, c.generation.ensures, c.generation-in-Some-2.ensures) in
     let mine : left_of c.pass-in-Some-2.new.self ≡ drop 1 es = c.pass-in-Some-2.ensures ∙ ap (drop 1) c.first-in-Some.ensures.same in
     let theirs : left_of c.pass-in-Some-2-2.new.self ≡ drop 1 fs = c.pass-in-Some-2-2.ensures ∙ ap (drop 1) c.first.ensures.same in (
@@ -65,9 +65,9 @@ returns-in_default-first c =
       | in_default-first-via-in-Some-2+else-eq w ↦
           let had_is : slice_get es 0 ≡ Some w.in-Some-first.had = sym c.first-in-Some.ensures.first ∙ w.in-Some-first.is in
           let not_before : name_lt w.in-Some-first.had.0 c.in-Some.wanted.0 ≡ false =
-              (λ j. name_lt (sym w.name.ensures j) (sym c.name-name.ensures j)) ∙ (sym w.is_before.ensures ∙ w.if-is_before.false) in
+          (λ j. name_lt (sym w.name.ensures j) (sym c.name-name.ensures j)) ∙ (sym w.is_before.ensures ∙ w.if-is_before.false) in
           let other : name_eq w.in-Some-first.had.0 c.in-Some.wanted.0 ≡ false =
-              (λ j. name_eq (sym w.name-in-Some-first-2.ensures j) (sym c.name-name.ensures j)) ∙ (sym w.eq.ensures ∙ w.if-eq.false) in
+          (λ j. name_eq (sym w.name-in-Some-first-2.ensures j) (sym c.name-name.ensures j)) ∙ (sym w.eq.ensures ∙ w.if-eq.false) in
           first ∙ sym (c.loop-wanted.invariant.2 ∙ name_lacks es fs w.in-Some-first.had c.in-Some.wanted c.loop-wanted.invariant.0 c.loop-wanted.invariant.1 had_is wanted_is not_before other)
       | in_default-first-via-in_default-first w ↦
           first ∙ sym (c.loop-wanted.invariant.2 ∙ names_lack es fs c.in-Some.wanted c.loop-wanted.invariant.1 (sym c.first-in-Some.ensures.first ∙ w.in_default-first.is) wanted_is)
