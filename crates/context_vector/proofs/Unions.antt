@@ -6,7 +6,7 @@ use Rattle.std.proofs.lemmas.Bool.{cases_order, eq-eqb, ne_eqb}
 use Rattle.std.proofs.lemmas.Bool.Decides.{nat_tests}
 use Rattle.op_name.specs.declared.member.Member.{Member}
 use Rattle.op_name.specs.declared.member.Member.TheVariants.{Original, Group}
-use Rattle.op_name.specs.NameData.{NameData, IsName, name_eq, name_lt}
+use Rattle.op_name.specs.NameData.{NameData, name_eq, name_lt}
 use Rattle.context_vector.specs.Contexts.{entry_in, has, AreCounts, AreEntries}
 use Rattle.op_name.proofs.CallerLemmas.{name_order, cases_by_order}
 use Rattle.context_vector.specs.Vectors.{up_to}
@@ -36,18 +36,12 @@ first_site low p ps are (Original n) =
       | inr other ↦ rw (ne_eqb p.0 n.site (omega arith), ne_eqb n.site p.0 (omega arith)) refl
     ]
 
-pub sites_step : (low : ℕ) (ps : List (ℕ × ℕ)) → AreCounts low ps → (p : ℕ × ℕ) → slice_get ps 0 ≡ Some p → (y : Member) → has (of_counts ps) y ≡ (up_to y (original p.0 p.1) || has (of_counts (drop 1 ps)) y)
+pub sites_step : (low : ℕ) (ps : List (ℕ × ℕ)) → AreCounts low ps → (p : ℕ × ℕ) → slice_get ps 0 ≡ Some p
+    → (y : Member) → has (of_counts ps) y ≡ (up_to y (original p.0 p.1) || has (of_counts (drop 1 ps)) y)
 sites_step low [] are p is y = absurd (none-some p is)
-sites_step low (q ∷ ps) are p is y = subst (λ (r : ℕ × ℕ). has (of_counts (q ∷ ps)) y ≡ (up_to y (original r.0 r.1) || has (of_counts ps) y)) (same_Some q p is) (first_site low q ps are y)
-
-pub sites_end : (ps : List (ℕ × ℕ)) → slice_get ps 0 ≡ None → (y : Member) → has (of_counts ps) y ≡ false
-sites_end [] end (Original n) = none_among n.number
-sites_end [] end (Group n g) = none_among g
-sites_end (p ∷ ps) end y = absurd (none-some p (sym end))
-
-pub site_in_range : (low : ℕ) (ps : List (ℕ × ℕ)) → AreCounts low ps → (p : ℕ × ℕ) → slice_get ps 0 ≡ Some p → IsName p.0 p.1
-site_in_range low [] are p is = absurd (none-some p is)
-site_in_range low (q ∷ ps) are p is = subst (λ (r : ℕ × ℕ). IsName r.0 r.1) (same_Some q p is) (are.1, are.2, are.3)
+sites_step low (q ∷ ps) are p is y =
+    let split = first_site low q ps are y in
+    split ∙ ap (λ (r : ℕ × ℕ). up_to y (original r.0 r.1) || has (of_counts ps) y) (same_Some q p is)
 
 -- the first name's groups, and those of the others
 none_entered : (n : NameData) (es : List (NameData × ℕ)) → AreEntries es → (e : NameData × ℕ) → AreEntries (e ∷ es) → e.0 ≡ n → entry_in es n ≡ 0
@@ -62,27 +56,13 @@ first_name e es are (Group n g) =
     (λ q q' l l'. rw (q, q') refl)
     (λ q q' l l'. rw (q, q') refl)
 
-pub names_step : (es : List (NameData × ℕ)) → AreEntries es → (x : NameData × ℕ) → slice_get es 0 ≡ Some x → (y : Member) → has (of_entries es) y ≡ (up_to y (Group x.0 x.1) || has (of_entries (drop 1 es)) y)
+pub names_step : (es : List (NameData × ℕ)) → AreEntries es → (x : NameData × ℕ) → slice_get es 0 ≡ Some x
+    → (y : Member) → has (of_entries es) y ≡ (up_to y (Group x.0 x.1) || has (of_entries (drop 1 es)) y)
 names_step [] are x is y = absurd (none-some x is)
-names_step (e ∷ es) are x is y = subst (λ (z : NameData × ℕ). has (of_entries (e ∷ es)) y ≡ (up_to y (Group z.0 z.1) || has (of_entries es) y)) (same_Some e x is) (first_name e es are y)
-
-pub names_end : (es : List (NameData × ℕ)) → slice_get es 0 ≡ None → (y : Member) → has (of_entries es) y ≡ false
-names_end [] end (Original n) = none_among n.number
-names_end [] end (Group n g) = none_among g
-names_end (e ∷ es) end y = absurd (none-some e (sym end))
-
-pub name_in_range : (es : List (NameData × ℕ)) → AreEntries es → (x : NameData × ℕ) → slice_get es 0 ≡ Some x → 1 ≤ x.1
-name_in_range [] are x is = absurd (none-some x is)
-name_in_range (e ∷ es) are x is = subst (λ (z : NameData × ℕ). 1 ≤ z.1) (same_Some e x is) are.1
-
--- a list that has a first element is longer than what is left without it
-pub shorter : {A : Type 0} (xs : List A) (x : A) → slice_get xs 0 ≡ Some x → length (drop 1 xs) < length xs
-shorter [] x is = absurd (none-some x is)
-shorter (y ∷ xs) x is = omega arith
+names_step (e ∷ es) are x is y =
+    let split = first_name e es are y in
+    split ∙ ap (λ (z : NameData × ℕ). up_to y (Group z.0 z.1) || has (of_entries es) y) (same_Some e x is)
 
 -- one more step of a union: what was added, and what is left
 pub union_step : (before after step rest left all : Bool) → after ≡ (before || step) → rest ≡ (step || left) → (before || rest) ≡ all → (after || left) ≡ all
 union_step before after step rest left all added split whole = ap (λ t. t || left) added ∙ (or_assoc before step left ∙ (ap (λ t. before || t) (sym split) ∙ whole))
-
-pub union_end : (after left all : Bool) → left ≡ false → (after || left) ≡ all → after ≡ all
-union_end after left all none whole = sym (or_false after) ∙ (ap (λ t. after || t) (sym none) ∙ whole)
