@@ -96,16 +96,17 @@ pub fn first_short_name(mine: Names<'_>, theirs: Names<'_>) -> Option<(Name, u16
     let mut left = mine.left;
     let mut right = theirs.left;
     while let Some(wanted) = right.first() {
+        let name = wanted.name();
         match left.first() {
-            Some(had) if had.name().is_before(&wanted.name()) => left.pass(1),
-            Some(had) if had.name() == wanted.name() => {
+            Some(had) if had.name().is_before(&name) => left.pass(1),
+            Some(had) if had.name() == name => {
                 if had.generation() < wanted.generation() {
-                    return Some((wanted.name(), had.generation() + 1));
+                    return Some((name, had.generation() + 1));
                 }
                 left.pass(1);
                 right.pass(1);
             }
-            _ => return Some((wanted.name(), 1)),
+            _ => return Some((name, 1)),
         }
     }
     None

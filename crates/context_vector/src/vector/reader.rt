@@ -169,7 +169,8 @@ pub fn same_first<T: Element>(
     theirs: &mut Reader<'_, T>,
     n: usize,
 ) -> bool
-    ensures { IsTrue result → (xs : List T) × (length xs ≡ n) × (left_of mine.old ≡ xs ++ left_of mine.new) × (left_of theirs.old ≡ xs ++ left_of theirs.new) }
+    ensures { IsTrue result
+        → (xs : List T) × (length xs ≡ n) × (left_of mine.old ≡ xs ++ left_of mine.new) × (left_of theirs.old ≡ xs ++ left_of theirs.new) }
 {
     let mut more = n;
     while more > 0 {
