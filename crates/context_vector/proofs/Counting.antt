@@ -2,21 +2,20 @@
 use Rattle.std.proofs.Common.{◌≡◌, ℕ, zero, suc, ◌+◌, ◌-◌, ◌<◌, ◌≤◌, ◌≢◌, true, false, List, [], ◌∷◌, ◌++◌, length, get_or, take, drop, if◌then◌else◌, Some, None, refl, sym, ap, subst, ◌∙◌, arith}
 use Rattle.std.specs.Prelude.{◌==◌, nat_lt, nat_le, slice_get}
 use Rattle.std.proofs.Math.Seq.{drop-append_seam, take-append_seam}
-use Rattle.std.proofs.lemmas.Bool.{eq-eqb, ne_eqb, lt-ltb, ltb-true}
+use Rattle.std.proofs.lemmas.Bool.{ne_eqb, lt-ltb, ltb-true}
 use Rattle.std.proofs.lemmas.Bool.Decides.{nat_tests}
-use Rattle.std.proofs.lemmas.List.{append_assoc, drop-append-le, take-append-le}
+use Rattle.std.proofs.lemmas.List.{append_assoc, drop-append-le, take-append-drop, take-append-le}
 use Rattle.std.proofs.lemmas.Option.{slice_get_within}
 use Rattle.op_name.proofs.CallerLemmas.{number_order}
 use Rattle.context_vector.specs.Contexts.{count_in, put_count, sum_of_counts, AreCounts}
 use Rattle.context_vector.specs.Vectors.{SitesBelow}
-use Rattle.context_vector.specs.Marks.{laid, counts_mark}
 use Rattle.context_vector.specs.Shortfalls.{first_short}
 use Rattle.context_vector.specs.Code.Counting.{AreEnough, SitesFrom}
 use Rattle.context_vector.specs.Code.Pieces.{joined}
 use Rattle.context_vector.specs.Code.Places.{IsPlace, IsGap}
 use Rattle.context_vector.specs.Code.Readers.{ReaderData, left_of}
 use Rattle.context_vector.proofs.Keyed.{value_at, value_after}
-use Rattle.context_vector.proofs.Counts.{same_site, count_is, counts_after, counts_from, counts_rise, parts_of}
+use Rattle.context_vector.proofs.Counts.{same_site, count_is, counts_after, counts_from, counts_rise}
 use Rattle.context_vector.proofs.Merging.{begins, ends, mine_passed, both_passed, short_first, lacks_all, lacks_first, enough_passed}
 
 -- what is left, by the part that is being read: before a part of it is passed, and after
@@ -47,7 +46,7 @@ counts_right low [] qs are = are
 counts_right low (p ∷ ps) qs are = counts_from low (p.0 + 1) qs (omega (arith, are.0)) (counts_right (p.0 + 1) ps qs are.4)
 
 pub counts_drop : (low n : ℕ) (ps : List (ℕ × ℕ)) → AreCounts low ps → AreCounts low (drop n ps)
-counts_drop low n ps are = counts_right low (take n ps) (drop n ps) (subst (AreCounts low) (parts_of n ps) are)
+counts_drop low n ps are = counts_right low (take n ps) (drop n ps) (subst (AreCounts low) (sym (take-append-drop n ps)) are)
 
 -- sites below one and from it on
 pub below_append : (ps qs : List (ℕ × ℕ)) (s : ℕ) → SitesBelow ps s → SitesBelow qs s → SitesBelow (ps ++ qs) s
@@ -194,7 +193,7 @@ pub passed_first :
     (all xs left part rest now : List (ℕ × ℕ)) (n : ℕ)
     → all ≡ xs ++ left → left ≡ part ++ rest → now ≡ drop n part ++ rest → all ≡ (xs ++ take n part) ++ now
 passed_first all xs left part rest now n whole parts is =
-    let halves = ap (λ ys. ys ++ rest) (parts_of n part) ∙ append_assoc (take n part) (drop n part) rest in
+    let halves = ap (λ ys. ys ++ rest) (sym (take-append-drop n part)) ∙ append_assoc (take n part) (drop n part) rest in
     passed_part all xs left (take n part) (drop n part ++ rest) now whole (parts ∙ halves) is
 
 -- the sum of counts by their first pair
@@ -261,7 +260,7 @@ enough_parts ps qs more others enough are =
 
 -- what a part begins with, before what is left behind it
 pub fronts_of : (n : ℕ) (ps more : List (ℕ × ℕ)) → n ≤ length ps → ps ++ more ≡ take n ps ++ drop n (ps ++ more)
-fronts_of n ps more short = parts_of n (ps ++ more) ∙ ap (λ xs. xs ++ drop n (ps ++ more)) (take-append-le n ps more short)
+fronts_of n ps more short = sym (take-append-drop n (ps ++ more)) ∙ ap (λ xs. xs ++ drop n (ps ++ more)) (take-append-le n ps more short)
 
 pub parts_passed :
     (n : ℕ) (ps qs more others : List (ℕ × ℕ)) → n ≤ length ps → n ≤ length qs → AreEnough (take n ps) (take n qs)
