@@ -1,4 +1,4 @@
-use Rattle.std.proofs.Common.{◌≡◌, ◌+◌, ap, subst, sym, ◌∙◌, arith}
+use Rattle.std.proofs.Common.{◌≡◌, ap, subst, sym, ◌∙◌, arith}
 use Rattle.context_vector.specs.Contexts.{entry_in, AreEntries}
 use Rattle.context_vector.specs.Marks.{weight, mark_of}
 use Rattle.context_vector.specs.Code.Undone.{UndoneData}
