@@ -1,6 +1,5 @@
 pub mod Keyed
 pub mod Search
-pub mod Shortfalls
 pub mod Counts
 pub mod Entries
 pub mod Members
