@@ -94,8 +94,8 @@ impl Kept {
     }
 }
 
-/// The names as they are kept: those that `like` has, where they are the same, and else with the pieces that they have in common. None where
-/// there are none.
+/// The names as they are kept: those that `like` has, where they are the same, and else with the pieces that they have in common.
+/// None where there are none.
 pub fn kept_like(
     alloc: Global,
     undone: &Undone,
