@@ -1,6 +1,6 @@
 //! Undone names that stay as they are, so that vectors may share them.
 
-ghost use Rattle.std.specs.Prelude.{◌≡◌, ◌≤◌, ◌*◌, [], length, IfOk};
+ghost use Rattle.std.specs.Prelude.{◌≡◌, ◌≤◌, ◌*◌, length, IfOk};
 ghost use Rattle.std.specs.Rc.{rc_value};
 ghost use Rattle.context_vector.specs.Contexts.{entry_in, AreEntries};
 ghost use Rattle.context_vector.specs.Marks.{mark_of};
@@ -94,8 +94,8 @@ impl Kept {
     }
 }
 
-/// The names as they are kept: those that `like` has, where they are the same, and else with the pieces that they have in common. None where
-/// there are none.
+/// The names as they are kept: those that `like` has, where they are the same, and else with the pieces that they have in common.
+/// None where there are none.
 pub fn kept_like(
     alloc: Global,
     undone: &Undone,

@@ -1,4 +1,4 @@
-use Rattle.std.proofs.Common.{◌≡◌, sym, ap, ◌∙◌}
+use Rattle.std.proofs.Common.{sym, ap, ◌∙◌}
 use lib.Pointwise.{pointwise}
 use Rattle.context_vector.specs.Equality.{entry_eq, list_eq_decides}
 use Rattle.context_vector.specs.Vectors.{VectorData}

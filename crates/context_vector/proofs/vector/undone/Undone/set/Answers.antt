@@ -1,4 +1,4 @@
-use Rattle.std.proofs.Common.{◌≡◌, ◌+◌, ap, subst, sym, ◌∙◌, arith}
+use Rattle.std.proofs.Common.{◌≡◌, ap, subst, sym, ◌∙◌, arith}
 use Rattle.context_vector.specs.Contexts.{entry_in, AreEntries}
 use Rattle.context_vector.specs.Marks.{weight, mark_of}
 use Rattle.context_vector.specs.Code.Undone.{UndoneData}
@@ -22,7 +22,8 @@ invariant_of-self c =
     let n = c.args.name.now in let g = c.args.generation in let es = c.self.inside.list.items in
     let generation = c.entry-had.ensures ∙ ap (λ (u : UndoneData). entry_in u.items n) (sym c.self.view_is) in
     let had : c.weight.result ≡ weight n (entry_in es n) = c.weight.ensures.weight ∙ ap (weight n) generation in
-    let next = mark_set n g es c.self.invariant.0 in (
-      subst AreEntries (sym c.put_generation.ensures) (entries_set n g es c.known.ensures (omega (arith, c.ranges.generation.fits)) c.self.invariant.0),
+    let next = mark_set n g es c.self.invariant.0 in
+    let are = entries_set n g es c.known.ensures (omega (arith, c.ranges.generation.fits)) c.self.invariant.0 in (
+      subst AreEntries (sym c.put_generation.ensures) are,
       omega (arith, had, c.self.invariant.1, weight_within n es, next, c.weight-2.ensures.weight, ap mark_of c.put_generation.ensures),
     )
