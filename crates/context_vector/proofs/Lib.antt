@@ -10,4 +10,6 @@ pub mod Rooms
 pub mod Marks
 pub mod Pieces
 pub mod Readers
+pub mod Digits
+pub mod Words
 pub mod CallerLemmas

@@ -6,3 +6,4 @@ pub mod Sharing
 pub mod Packed
 pub mod Entries
 pub mod Readers
+pub mod Words

@@ -29,6 +29,7 @@ mod pieces;
 mod reader;
 mod rising;
 mod seats;
+mod word;
 
 pub use count::Count;
 pub use entry::Entry;
