@@ -12,4 +12,5 @@ pub mod Pieces
 pub mod Readers
 pub mod Digits
 pub mod Words
+pub mod Undone
 pub mod CallerLemmas

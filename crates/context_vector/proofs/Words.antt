@@ -43,6 +43,9 @@ name_again n below =
 names_apart : (a b : NameData) → a ≢ b → name_eq a b ≡ false
 names_apart a b other = false_from_ne_true (name_eq a b) (λ same. other (name_same a b same))
 
+pub one_place : (n m : NameData) → n.number < 2 ^ 20 → m.number < 2 ^ 20 → word_key n ≡ word_key m → place_in n ≡ place_in m → n ≡ m
+one_place n m below below' keys places = one_code n m below below' (omega (arith, code_parts n, code_parts m, keys, places))
+
 -- other codes are of other names, and names rise with their codes
 pub is_at : (k i : ℕ) (n : NameData) → n.number < 2 ^ 20 → code n ≡ k * 8 + i → name_eq (name_at k i) n ≡ true
 is_at k i n below at =
