@@ -1,6 +1,7 @@
 -- Digits of a number to the base 16: one that was written, the others, and numbers with the same digits.
-use Rattle.std.proofs.Common.{◌≡◌, ℕ, zero, suc, ◌+◌, ◌-◌, ◌*◌, ◌/◌, ◌%◌, ◌<◌, ◌≤◌, ◌≢◌, ◌^◌, refl, sym, ap, subst, ◌∙◌, inl, inr, arith}
+use Rattle.std.proofs.Common.{◌≡◌, ℕ, zero, suc, ◌+◌, ◌-◌, ◌*◌, ◌/◌, ◌%◌, ◌<◌, ◌≤◌, ◌≢◌, ◌^◌, refl, sym, ap, ◌∙◌, inl, inr, arith}
 use Rattle.std.proofs.lemmas.Bool.{cases_order, eq-eqb, ne_eqb}
+use Rattle.std.proofs.lemmas.Nat.{pow-add, shr-shr, shl_whole}
 use Rattle.context_vector.specs.Code.Words.{digit, with_digit, generation, low_of, high_of}
 
 pub digit_below : (w i : ℕ) → digit w i < 16
@@ -28,6 +29,37 @@ digit_other w zero (suc j) d below apart = rw (rest_kept w d below) refl
 digit_other w (suc i) zero d below apart = omega arith
 digit_other w (suc i) (suc j) d below apart = rw (rest_is (with_digit (w / 16) i d) w) (digit_other (w / 16) i j d below (λ e. apart (ap suc e)))
 
+-- a digit read by a shift, and a number with another digit as a sum
+pub digit_shift : (w i : ℕ) → digit w i ≡ w / 2 ^ (4 * i) % 16
+digit_shift w zero = omega arith
+digit_shift w (suc i) =
+    let more : 4 + 4 * i ≡ 4 * suc i = omega arith in
+    digit_shift (w / 16) i ∙ ap (λ x. x % 16) (shr-shr w 4 (4 * i) ∙ ap (λ k. w / 2 ^ k) more)
+
+power_more : (i : ℕ) → 2 ^ (4 * suc i) ≡ 16 * 2 ^ (4 * i)
+power_more i = let more : 4 * suc i ≡ 4 + 4 * i = omega arith in ap (λ k. 2 ^ k) more ∙ pow-add 2 4 (4 * i)
+
+pub digit_within : (w i : ℕ) → digit w i * 2 ^ (4 * i) ≤ w
+digit_within w zero = omega arith
+digit_within w (suc i) = rw (power_more i) (omega (arith, digit_within (w / 16) i))
+
+pub with_digit_sum : (w i d : ℕ) → with_digit w i d + digit w i * 2 ^ (4 * i) ≡ w + d * 2 ^ (4 * i)
+with_digit_sum w zero d = omega arith
+with_digit_sum w (suc i) d = rw (power_more i) (omega (arith, with_digit_sum (w / 16) i d))
+
+digit_shifted : (d i : ℕ) → i < 8 → d < 16 → d * 2 ^ (4 * i) % 2 ^ 32 ≡ d * 2 ^ (4 * i)
+digit_shifted d i within below = shl_whole d 4 (4 * i) 32 (omega arith) (omega arith)
+
+pub digit_cleared : (w i h : ℕ) → i < 8 → h ≡ digit w i → h * 2 ^ (4 * i) % 2 ^ 32 ≤ w
+digit_cleared w i h within is =
+    rw (digit_shifted h i within (omega (arith, digit_below w i))) (omega (arith, digit_within w i, ap (λ x. x * 2 ^ (4 * i)) is))
+
+pub digit_put : (w i h d : ℕ) → i < 8 → h ≡ digit w i → d < 16 →
+    w - h * 2 ^ (4 * i) % 2 ^ 32 + d * 2 ^ (4 * i) % 2 ^ 32 ≡ with_digit w i d
+digit_put w i h d within is below =
+    rw (digit_shifted h i within (omega (arith, digit_below w i)), digit_shifted d i within below, is)
+    (omega (arith, digit_within w i, with_digit_sum w i d))
+
 -- numbers of c digits are below this one
 abbrev pub limit : ℕ → ℕ
 limit zero = 1
@@ -41,6 +73,9 @@ with_digit_below zero w i d digit within below = absurd (omega arith)
 with_digit_below (suc c) w zero d digit within below = omega (arith, shorter w c below)
 with_digit_below (suc c) w (suc i) d digit within below =
     omega (arith, with_digit_below c (w / 16) i d digit (omega arith) (shorter w c below))
+
+pub with_digit_fits : (w i d : ℕ) → i < 8 → d < 16 → w < 2 ^ 32 → with_digit w i d < 2 ^ 32
+with_digit_fits w i d within digit below = with_digit_below 8 w i d digit within below
 
 -- a number of c digits is told by these
 pub digits_same : (c w v : ℕ) → w < limit c → v < limit c → ((i : ℕ) → i < c → digit w i ≡ digit v i) → w ≡ v

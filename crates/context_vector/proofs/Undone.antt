@@ -1,5 +1,5 @@
 -- Undone names in words: the list that they make, what a write of one name does to it, and that each list has one form.
-use Rattle.std.proofs.Common.{◌≡◌, ℕ, zero, suc, ◌+◌, ◌-◌, ◌*◌, ◌/◌, ◌%◌, ◌<◌, ◌≤◌, ◌≢◌, ◌^◌, true, false}
+use Rattle.std.proofs.Common.{◌≡◌, ℕ, ◌+◌, ◌<◌, ◌≤◌, ◌≢◌, ◌^◌, true, false}
 use Rattle.std.proofs.Common.{List, [], ◌∷◌, ◌++◌, length, if◌then◌else◌, refl, sym, ap, subst, ◌∙◌, inl, inr, arith}
 use Rattle.std.specs.Prelude.{◌==◌, nat_lt, nat_le}
 use Rattle.std.proofs.lemmas.Bool.{cases_order, cases_lt, cases_Bool, eq-eqb, ne_eqb}
@@ -7,19 +7,21 @@ use Rattle.std.proofs.lemmas.Bool.Decides.{nat_tests}
 use mathlib.Core.Bool.{false≢true}
 use Rattle.op_name.specs.declared.member.TheConstants.{GENERATIONS}
 use Rattle.op_name.specs.NameData.{NameData, IsName, name_eq, name_lt}
-use Rattle.op_name.proofs.CallerLemmas.{name_order, number_order, name_same, name_itself}
+use Rattle.op_name.proofs.CallerLemmas.{name_order, number_order, name_same, name_itself, cases_by_order}
 use Rattle.context_vector.specs.Contexts.{count_in, entry_in, put_count, put_entry, IsBefore, AreEntries}
-use Rattle.context_vector.specs.Vectors.{without_site, without_name}
+use Rattle.context_vector.specs.Vectors.{without_site, without_name, NamesBelow}
+use Rattle.context_vector.specs.Marks.{weight, mark_of}
 use Rattle.context_vector.specs.Code.Words.{digit, with_digit, word_key, place_in, name_at, generation, low_of, high_of, entries_in}
 use Rattle.context_vector.specs.Code.Words.{AreWords, AreUndone, set_word, set_entry, words_with}
 use Rattle.context_vector.proofs.Keyed.{value_at, AllAfter, IsRising, same_values, value_after, value_take_out}
 use Rattle.context_vector.proofs.Counts.{same_site, count_is, without_site_is}
 use Rattle.context_vector.proofs.Entries.{entry_is, entries_rise, entries_put, entries_without, entry_at_most}
 use Rattle.context_vector.proofs.Members.{count_put, entry_put, entry_without}
-use Rattle.context_vector.proofs.Digits.{digit_below, digit_none, digit_same, digit_other, with_digit_below, digits_same}
-use Rattle.context_vector.proofs.Digits.{limit, low_below, generation_again, generation_some, same_digits, same_highs}
+use Rattle.context_vector.proofs.Digits.{digit_below, digit_same, digit_other, with_digit_fits, digits_same}
+use Rattle.context_vector.proofs.Digits.{low_below, generation_again, same_digits, same_highs}
 use Rattle.context_vector.proofs.Words.{digit_of, entry_words, no_entry, names_of_words_rise, words_rise, number_at, key_at, place_at}
 use Rattle.context_vector.proofs.Words.{place_below, one_place}
+use Rattle.context_vector.proofs.Marks.{weight_none, mark_put, mark_without, absent_before}
 
 -- a name that has a generation is in range
 pub entry_named : (es : List (NameData × ℕ)) (n : NameData) → AreEntries es → 1 ≤ entry_in es n → IsName n.site n.number
@@ -152,15 +154,11 @@ set_entry_are n g es name most are =
     ]
 
 -- the digits of names after a write of one
-below_limit : (w : ℕ) → w < 2 ^ 32 → w < limit 8
-below_limit w below = below
-
 pub words_with_are : (n : NameData) (g : ℕ) (ws : List (ℕ × ℕ)) → AreWords 0 ws → AreWords 0 (words_with n g ws)
 unfolding words_with
 words_with_are n g ws are =
     let had = count_in ws (word_key n) in
-    let below : with_digit had (place_in n) (low_of g) < limit 8 =
-        with_digit_below 8 had (place_in n) (low_of g) (low_below g) (place_below n) (word_below 0 ws (word_key n) are) in
+    let below = with_digit_fits had (place_in n) (low_of g) (place_below n) (low_below g) (word_below 0 ws (word_key n) are) in
     set_word_are (word_key n) (with_digit had (place_in n) (low_of g)) ws below are
 
 word_after : (n : NameData) (g : ℕ) (ws : List (ℕ × ℕ)) → AreWords 0 ws → (k : ℕ) →
@@ -195,7 +193,7 @@ entry_written n g ws hs are high below m below' =
     elim (cases_Bool (name_eq n m)) [
       | inl is ↦
           let digit_is : digit_of (words_with n g ws) m ≡ low_of g =
-              subst (λ x. digit_of (words_with n g ws) x ≡ low_of g) (name_same n m is) (digit_written n g ws are) in
+          subst (λ x. digit_of (words_with n g ws) x ≡ low_of g) (name_same n m is) (digit_written n g ws are) in
           let high_is : entry_in (set_entry n (high_of g) hs) m ≡ high_of g = above ∙ rw is refl in
           rw is (after ∙ ((λ i. generation (digit_is i) (high_is i)) ∙ generation_again g))
       | inr other ↦
@@ -216,7 +214,7 @@ value_written n g ws hs are high entries below m =
       | inr far ↦
           let other : name_eq n m ≡ false = grind (arith, nat_tests) in
           let none : entry_in (set_entry n g (entries_in hs ws)) m ≡ 0 =
-              entry_set n g (entries_in hs ws) entries m ∙ rw other (no_entry hs ws m far) in
+          entry_set n g (entries_in hs ws) entries m ∙ rw other (no_entry hs ws m far) in
           no_entry (set_entry n (high_of g) hs) (words_with n g ws) m far ∙ sym none
     ]
 
@@ -293,7 +291,7 @@ equal_above ws vs hs is are are' same n =
           elim (cases_order (digit_of ws n) 0) [
             | inl none ↦
                 let mine : entry_in (entries_in hs ws) n ≡ 0 =
-                    entry_words hs 0 ws n are.words below ∙ ap (λ d. generation d (entry_in hs n)) none in
+                entry_words hs 0 ws n are.words below ∙ ap (λ d. generation d (entry_in hs n)) none in
                 let theirs : entry_in (entries_in is vs) n ≡ 0 = ap (λ es. entry_in es n) (sym same) ∙ mine in
                 are.within n mine ∙ sym (are'.within n theirs)
             | inr some ↦
@@ -306,6 +304,52 @@ pub words_same : (ws vs : List (ℕ × ℕ)) (hs is : List (NameData × ℕ)) �
     entries_in hs ws ≡ entries_in is vs → (ws ≡ vs) × (hs ≡ is)
 words_same ws vs hs is are are' same = (
   same_values same_site nat_lt number_order ws vs (words_rise 0 ws are.words) (words_rise 0 vs are'.words)
-  (λ k. sym (count_is ws k) ∙ (equal_words ws vs hs is are.words are'.words same k ∙ count_is vs k)),
+      (λ k. sym (count_is ws k) ∙ (equal_words ws vs hs is are.words are'.words same k ∙ count_is vs k)),
   same_entries hs is (entries_rise hs are.high) (entries_rise is are'.high) (equal_above ws vs hs is are are' same),
 )
+
+-- the number of names and the mark after a write
+length_put : (n : NameData) (g : ℕ) (es : List (NameData × ℕ)) → AreEntries es →
+    length (put_entry n g es) + (if entry_in es n == 0 then 0 else 1) ≡ length es + 1
+length_put n g [] are = refl
+length_put n g (e ∷ es) are =
+    cases_by_order name_eq name_lt name_order e.0 n _
+    (λ is q q' l l'. rw (q, ne_eqb e.1 0 (omega (arith, are.1))) (omega arith))
+    (λ q q' l l'. rw (q, l') (omega (arith, length_put n g es are.4)))
+    (λ q q' l l'. rw (q, l', absent_before n e es are l') (omega arith))
+
+length_without : (n : NameData) (es : List (NameData × ℕ)) → AreEntries es →
+    length (without_name n es) + (if entry_in es n == 0 then 0 else 1) ≡ length es
+length_without n [] are = refl
+length_without n (e ∷ es) are =
+    cases_by_order name_eq name_lt name_order e.0 n _
+    (λ is q q' l l'. rw (q, ne_eqb e.1 0 (omega (arith, are.1))) (omega arith))
+    (λ q q' l l'. rw q (omega (arith, length_without n es are.4)))
+    (λ q q' l l'. rw q (omega (arith, length_without n es are.4)))
+
+pub length_set : (n : NameData) (g : ℕ) (es : List (NameData × ℕ)) → AreEntries es →
+    length (set_entry n g es) + (if entry_in es n == 0 then 0 else 1) ≡ length es + (if g == 0 then 0 else 1)
+unfolding set_entry
+length_set n g es are =
+    elim (cases_order g 0) [
+      | inl none ↦ rw (eq-eqb g 0 none) (omega (arith, length_without n es are))
+      | inr some ↦ rw (ne_eqb g 0 (omega arith)) (length_put n g es are)
+    ]
+
+pub mark_set : (n : NameData) (g : ℕ) (es : List (NameData × ℕ)) → AreEntries es →
+    mark_of (set_entry n g es) + weight n (entry_in es n) ≡ mark_of es + weight n g
+unfolding set_entry
+mark_set n g es are =
+    elim (cases_order g 0) [
+      | inl none ↦ rw (none, weight_none n) (omega (arith, mark_without n es))
+      | inr some ↦ rw (ne_eqb g 0 (omega arith)) (mark_put n g es are)
+    ]
+
+-- a name after all others is put last
+pub put_last : (n : NameData) (g : ℕ) (es : List (NameData × ℕ)) → NamesBelow es n → put_entry n g es ≡ es ++ (n, g) ∷ []
+put_last n g [] below = refl
+put_last n g (e ∷ es) below =
+    cases_by_order name_eq name_lt name_order e.0 n _
+    (λ is q q' l l'. absurd (false≢true (sym l ∙ below.0)))
+    (λ q q' l l'. rw (q, l') (ap (λ fs. e ∷ fs) (put_last n g es below.1)))
+    (λ q q' l l'. absurd (false≢true (sym l ∙ below.0)))

@@ -1,10 +1,10 @@
 -- Undone names in words: where a name stands, and its generation there.
-use Rattle.std.proofs.Common.{◌≡◌, ℕ, zero, suc, ◌+◌, ◌-◌, ◌*◌, ◌/◌, ◌%◌, ◌<◌, ◌≤◌, ◌≢◌, ◌^◌, Bool, true, false, List, [], ◌∷◌, ◌++◌, length, if◌then◌else◌, append_assoc, add-one, refl, sym, ap, subst, ◌∙◌, inl, inr, arith}
+use Rattle.std.proofs.Common.{◌≡◌, ℕ, zero, suc, ◌+◌, ◌-◌, ◌*◌, ◌/◌, ◌%◌, ◌<◌, ◌≤◌, ◌≢◌, ◌^◌, true, false, List, [], ◌∷◌, ◌++◌, if◌then◌else◌, append_assoc, add-one, refl, sym, ap, subst, ◌∙◌, inl, inr, arith}
 use Rattle.std.specs.Prelude.{◌==◌, nat_lt}
 use Rattle.std.proofs.lemmas.Bool.{cases_order, eq-eqb, ne_eqb, lt-ltb, false_from_ne_true}
 use Rattle.std.proofs.lemmas.Bool.Decides.{nat_tests}
 use Rattle.op_name.specs.NameData.{NameData, name_eq, name_lt}
-use Rattle.op_name.proofs.CallerLemmas.{name_order, number_order, name_same, name_itself, same_parts}
+use Rattle.op_name.proofs.CallerLemmas.{number_order, name_same, name_itself, same_parts}
 use Rattle.context_vector.specs.Contexts.{count_in, entry_in}
 use Rattle.context_vector.specs.Code.Words.{digit, code, word_key, place_in, name_at, generation, generation_at, names_from, names_in, entries_in, AreWords}
 use Rattle.context_vector.proofs.Keyed.{AllAfter, IsRising, value_after}

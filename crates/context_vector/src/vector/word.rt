@@ -56,18 +56,18 @@ impl Word {
         ensures digit { result ≡ digit self.now.1 place }
         ensures range { result < 16 }
     {
-        let digits = self.digits();
-        let from_place = match place {
-            0 => digits,
-            1 => digits / 16,
-            2 => digits / 16 / 16,
-            3 => digits / 16 / 16 / 16,
-            4 => digits / 16 / 16 / 16 / 16,
-            5 => digits / 16 / 16 / 16 / 16 / 16,
-            6 => digits / 16 / 16 / 16 / 16 / 16 / 16,
-            _ => digits / 16 / 16 / 16 / 16 / 16 / 16 / 16,
-        };
-        (from_place % 16) as u16
+        ((self.digits() >> (4 * place)) % 16) as u16
+    }
+
+    /// The word with this digit at the place.
+    pub fn with(&self, place: u32, digit: u16) -> Word
+        requires place { place < 8 }
+        requires digit { digit < 16 }
+        ensures { result ≡ (self.now.0, with_digit self.now.1 place digit) }
+    {
+        let at = 4 * place;
+        let had = u32::from(self.digit(place)) << at;
+        Word::new(self.key(), self.digits() - had + (u32::from(digit) << at))
     }
 }
 
