@@ -27,7 +27,8 @@ pub digit_other : (w i j d : ℕ) → d < 16 → i ≢ j → digit (with_digit w
 digit_other w zero zero d below apart = absurd (apart refl)
 digit_other w zero (suc j) d below apart = rw (rest_kept w d below) refl
 digit_other w (suc i) zero d below apart = omega arith
-digit_other w (suc i) (suc j) d below apart = rw (rest_is (with_digit (w / 16) i d) w) (digit_other (w / 16) i j d below (λ e. apart (ap suc e)))
+digit_other w (suc i) (suc j) d below apart =
+    rw (rest_is (with_digit (w / 16) i d) w) (digit_other (w / 16) i j d below (λ e. apart (ap suc e)))
 
 -- a digit read by a shift, and a number with another digit as a sum
 pub digit_shift : (w i : ℕ) → digit w i ≡ w / 2 ^ (4 * i) % 16
@@ -81,7 +82,8 @@ with_digit_fits w i d within digit below = with_digit_below 8 w i d digit within
 pub digits_same : (c w v : ℕ) → w < limit c → v < limit c → ((i : ℕ) → i < c → digit w i ≡ digit v i) → w ≡ v
 digits_same zero w v below below' same = omega arith
 digits_same (suc c) w v below below' same =
-    let rest : w / 16 ≡ v / 16 = digits_same c (w / 16) (v / 16) (shorter w c below) (shorter v c below') (λ i within. same (suc i) (omega arith)) in
+    let later = λ (i : ℕ) (within : i < c). same (suc i) (omega arith) in
+    let rest = digits_same c (w / 16) (v / 16) (shorter w c below) (shorter v c below') later in
     let first : w % 16 ≡ v % 16 = same 0 (omega arith) in
     omega (arith, rest, first)
 

@@ -19,7 +19,7 @@ use Rattle.context_vector.proofs.Entries.{entry_is, entries_rise, entries_put, e
 use Rattle.context_vector.proofs.Members.{count_put, entry_put, entry_without}
 use Rattle.context_vector.proofs.Digits.{digit_below, digit_same, digit_other, with_digit_fits, digits_same}
 use Rattle.context_vector.proofs.Digits.{low_below, generation_again, same_digits, same_highs}
-use Rattle.context_vector.proofs.Words.{digit_of, entry_words, no_entry, names_of_words_rise, words_rise, number_at, key_at, place_at}
+use Rattle.context_vector.proofs.Words.{digit_of, entry_words, no_entry, entries_in_rise, words_rise, number_at, key_at, place_at}
 use Rattle.context_vector.proofs.Words.{place_below, one_place}
 use Rattle.context_vector.proofs.Marks.{weight_none, mark_put, mark_without, absent_before}
 
@@ -70,7 +70,7 @@ entries_from (e ∷ es) rise range =
 -- the names of words are entries where each is in range
 pub entries_are : (hs : List (NameData × ℕ)) (low : ℕ) (ws : List (ℕ × ℕ)) → AreWords low ws → InRange (entries_in hs ws) →
     AreEntries (entries_in hs ws)
-entries_are hs low ws are range = entries_from (entries_in hs ws) (names_of_words_rise hs low ws are) range
+entries_are hs low ws are range = entries_from (entries_in hs ws) (entries_in_rise hs low ws are) range
 
 -- and each name of entries is in range
 pub entries_in_range : (es : List (NameData × ℕ)) → AreEntries es → InRange es
@@ -114,14 +114,16 @@ set_word_are k w ws below are =
       | inr some ↦ rw (ne_eqb w 0 (omega arith)) (words_put 0 k w ws (omega arith) (omega arith) below are)
     ]
 
-word_without : (k : ℕ) (ws : List (ℕ × ℕ)) → AreWords 0 ws → (l : ℕ) → count_in (without_site k ws) l ≡ (if k == l then 0 else count_in ws l)
+word_without : (k : ℕ) (ws : List (ℕ × ℕ)) → AreWords 0 ws → (l : ℕ) →
+    count_in (without_site k ws) l ≡ (if k == l then 0 else count_in ws l)
 word_without k ws are l =
     count_is (without_site k ws) l
     ∙ ap (λ qs. value_at same_site nat_lt qs l) (without_site_is k ws)
     ∙ value_take_out same_site nat_lt number_order k ws (words_rise 0 ws are) l
     ∙ ap (λ v. if k == l then 0 else v) (sym (count_is ws l))
 
-pub word_set : (k w : ℕ) (ws : List (ℕ × ℕ)) → AreWords 0 ws → (l : ℕ) → count_in (set_word k w ws) l ≡ (if k == l then w else count_in ws l)
+pub word_set : (k w : ℕ) (ws : List (ℕ × ℕ)) → AreWords 0 ws → (l : ℕ) →
+    count_in (set_word k w ws) l ≡ (if k == l then w else count_in ws l)
 unfolding set_word
 word_set k w ws are l =
     elim (cases_order w 0) [
@@ -162,7 +164,8 @@ words_with_are n g ws are =
     set_word_are (word_key n) (with_digit had (place_in n) (low_of g)) ws below are
 
 word_after : (n : NameData) (g : ℕ) (ws : List (ℕ × ℕ)) → AreWords 0 ws → (k : ℕ) →
-    count_in (words_with n g ws) k ≡ (if word_key n == k then with_digit (count_in ws (word_key n)) (place_in n) (low_of g) else count_in ws k)
+    count_in (words_with n g ws) k
+    ≡ (if word_key n == k then with_digit (count_in ws (word_key n)) (place_in n) (low_of g) else count_in ws k)
 unfolding words_with
 word_after n g ws are k = word_set (word_key n) (with_digit (count_in ws (word_key n)) (place_in n) (low_of g)) ws are k
 
@@ -227,7 +230,7 @@ pub entries_set : (n : NameData) (g : ℕ) (ws : List (ℕ × ℕ)) (hs : List (
     g ≤ GENERATIONS → entries_in (set_entry n (high_of g) hs) (words_with n g ws) ≡ set_entry n g (entries_in hs ws)
 entries_set n g ws hs are name most =
     same_entries (entries_in (set_entry n (high_of g) hs) (words_with n g ws)) (set_entry n g (entries_in hs ws))
-    (names_of_words_rise _ 0 _ (words_with_are n g ws are.words))
+    (entries_in_rise _ 0 _ (words_with_are n g ws are.words))
     (entries_rise _ (set_entry_are n g _ name most are.entries))
     (value_written n g ws hs are.words are.high are.entries (omega (arith, name.2)))
 
@@ -295,7 +298,8 @@ equal_above ws vs hs is are are' same n =
                 let theirs : entry_in (entries_in is vs) n ≡ 0 = ap (λ es. entry_in es n) (sym same) ∙ mine in
                 are.within n mine ∙ sym (are'.within n theirs)
             | inr some ↦
-                same_highs (digit_of ws n) (digit_of vs n) (entry_in hs n) (entry_in is n) (digit_below _ (place_in n)) (digit_below _ (place_in n)) (omega arith)
+                let below16 = λ (xs : List (ℕ × ℕ)). digit_below (count_in xs (word_key n)) (place_in n) in
+                same_highs (digit_of ws n) (digit_of vs n) (entry_in hs n) (entry_in is n) (below16 ws) (below16 vs) (omega arith)
                 (digits_of_equal ws vs hs is are.words are'.words same n below)
           ]
     ]

@@ -10,11 +10,13 @@ whole : (c : After-from-2) →
     ≡ with_digit c.args.self.now.1 c.args.place c.args.digit
 whole c =
     let had = c.from.ensures ∙ c.digit.ensures.digit in
-    rw (c.digits.ensures, c.from-2.ensures) (digit_put c.args.self.now.1 c.args.place c.from.result c.args.digit c.requires.place had c.requires.digit)
+    rw (c.digits.ensures, c.from-2.ensures)
+    (digit_put c.args.self.now.1 c.args.place c.from.result c.args.digit c.requires.place had c.requires.digit)
 
 pub overflow_sub-digits : goal.overflow_sub-digits
 overflow_sub-digits c =
-    rw c.digits.ensures (digit_cleared c.args.self.now.1 c.args.place c.from.result c.requires.place (c.from.ensures ∙ c.digit.ensures.digit))
+    let had = c.from.ensures ∙ c.digit.ensures.digit in
+    rw c.digits.ensures (digit_cleared c.args.self.now.1 c.args.place c.from.result c.requires.place had)
 
 pub overflow_add-digits : goal.overflow_add-digits
 overflow_add-digits c =
