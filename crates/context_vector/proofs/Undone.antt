@@ -12,7 +12,8 @@ use Rattle.context_vector.specs.Contexts.{count_in, entry_in, put_count, put_ent
 use Rattle.context_vector.specs.Vectors.{without_site, without_name, NamesBelow}
 use Rattle.context_vector.specs.Marks.{weight, mark_of}
 use Rattle.context_vector.specs.Code.Words.{digit, with_digit, word_key, place_in, name_at, generation, low_of, high_of, entries_in}
-use Rattle.context_vector.specs.Code.Words.{AreWords, AreUndone, set_word, set_entry, words_with}
+use Rattle.context_vector.specs.Code.Words.{AreWords, AreUndone, set_word, words_with}
+use Rattle.context_vector.specs.Code.Undone.{set_entry}
 use Rattle.context_vector.proofs.Keyed.{value_at, AllAfter, IsRising, same_values, value_after, value_take_out}
 use Rattle.context_vector.proofs.Counts.{same_site, count_is, without_site_is}
 use Rattle.context_vector.proofs.Entries.{entry_is, entries_rise, entries_put, entries_without, entry_at_most}
@@ -139,7 +140,6 @@ word_below low (p ∷ ps) k are =
 -- entries with another generation for a name
 pub entry_set : (n : NameData) (g : ℕ) (es : List (NameData × ℕ)) → AreEntries es → (m : NameData) →
     entry_in (set_entry n g es) m ≡ (if name_eq n m then g else entry_in es m)
-unfolding set_entry
 entry_set n g es are m =
     elim (cases_order g 0) [
       | inl none ↦ rw (eq-eqb g 0 none) (entry_without n es are m ∙ ap (λ v. if name_eq n m then v else entry_in es m) (sym none))
@@ -148,7 +148,6 @@ entry_set n g es are m =
 
 pub set_entry_are : (n : NameData) (g : ℕ) (es : List (NameData × ℕ)) → IsName n.site n.number → g ≤ GENERATIONS → AreEntries es →
     AreEntries (set_entry n g es)
-unfolding set_entry
 set_entry_are n g es name most are =
     elim (cases_order g 0) [
       | inl none ↦ rw (eq-eqb g 0 none) (entries_without n es are)
@@ -333,7 +332,6 @@ length_without n (e ∷ es) are =
 
 pub length_set : (n : NameData) (g : ℕ) (es : List (NameData × ℕ)) → AreEntries es →
     length (set_entry n g es) + (if entry_in es n == 0 then 0 else 1) ≡ length es + (if g == 0 then 0 else 1)
-unfolding set_entry
 length_set n g es are =
     elim (cases_order g 0) [
       | inl none ↦ rw (eq-eqb g 0 none) (omega (arith, length_without n es are))
@@ -342,7 +340,6 @@ length_set n g es are =
 
 pub mark_set : (n : NameData) (g : ℕ) (es : List (NameData × ℕ)) → AreEntries es →
     mark_of (set_entry n g es) + weight n (entry_in es n) ≡ mark_of es + weight n g
-unfolding set_entry
 mark_set n g es are =
     elim (cases_order g 0) [
       | inl none ↦ rw (none, weight_none n) (omega (arith, mark_without n es))

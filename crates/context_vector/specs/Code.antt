@@ -2,8 +2,9 @@
 pub mod Places
 pub mod Lists
 pub mod Pieces
+pub mod Readers
+pub mod Counting
+pub mod Undone
 pub mod Sharing
 pub mod Packed
-pub mod Entries
-pub mod Readers
 pub mod Words

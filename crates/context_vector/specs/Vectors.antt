@@ -1,29 +1,26 @@
 -- Vectors as contracts see them: a context beside the room that its lists have left, and what the calls do to the context.
-use Rattle.std.specs.Prelude.{◌≡◌, ℕ, ◌+◌, ◌-◌, ◌<◌, ◌≤◌, Bool, true, false, Option, Some, List, [], ◌∷◌, ◌==◌, ◌&&◌, nat_le, if◌then◌else◌}
+use Rattle.std.specs.Prelude.{◌≡◌, ℕ, ◌+◌, ◌-◌, ◌<◌, ◌≤◌, Bool, true, false, List, [], ◌∷◌, ◌==◌, ◌&&◌, nat_le, if◌then◌else◌}
 use Rattle.op_name.specs.declared.member.Member.{Member}
 use Rattle.op_name.specs.declared.member.Member.TheVariants.{Original, Group}
 use Rattle.op_name.specs.NameData.{NameData, name_eq, name_lt}
 use Rattle.op_name.specs.Members.{member_lt}
 use Rattle.context_vector.specs.Contexts.{ContextData, count_of, entry_of, has, put_count, put_entry}
 
--- whether the counts may be changed in place, and their spare places; the spare places of the part of the entries that may be changed
--- in place, with the name whose place is in that part
+-- whether the lists may be changed in place, and the spare places of each
 pub record Room : Type 0 where
   pub own : Bool
   pub counts : ℕ
   pub entries : ℕ
-  pub ready : Option NameData
 
 -- a set of members, and room for more
 pub record VectorData : Type 0 where
   pub set : ContextData
   pub room : Room
 
--- the member can be added or taken out without memory: the counts, or the part of the entries in which the name has its place, may be
--- changed in place, and its site or name is there, or there is a spare place for it
+-- the member can be added without memory: the lists may be changed in place, and its site is there, or its group is, or there is a spare place
 abbrev pub HasRoomFor : VectorData → Member → Type 0
 HasRoomFor v (Original n) = (v.room.own ≡ true) × (count_of v.set n.site ≡ 0 → 1 ≤ v.room.counts)
-HasRoomFor v (Group n g) = (v.room.ready ≡ Some n) × (entry_of v.set n ≡ 0 → 1 ≤ v.room.entries)
+HasRoomFor v (Group n g) = (v.room.own ≡ true) × (entry_of v.set n < g → 1 ≤ v.room.entries)
 
 -- the member is the last of its site or its name
 abbrev pub IsLastMember : ContextData → Member → Type 0

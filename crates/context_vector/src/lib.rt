@@ -7,4 +7,4 @@
 
 mod vector;
 
-pub use vector::{AddBad, Count, Entry, Vector};
+pub use vector::{AddBad, Count, SiteCounts, Entry, Names, Vector};

@@ -1,38 +1,42 @@
 //! The vector: its parts, what contracts see of it, and the calls that only read.
 
 ghost use Rattle.std.specs.Prelude.{◌≡◌, ◌*◌, ◌≤◌, ◌↔◌, IsTrue, IsNone, IfOk, IfSome, length, slice_get};
-ghost use Rattle.op_name.specs.declared.member.Member.TheVariants.{Original};
 ghost use Rattle.op_name.specs.Members.{IsMember};
-ghost use Rattle.context_vector.specs.Contexts.{empty, count_of, entry_of, has, raised, Within, rank_of, IsContext, IsNextMember};
+ghost use Rattle.context_vector.specs.Contexts.{empty, count_of, entry_of, has, Within, rank_of, IsContext};
 ghost use Rattle.context_vector.specs.Vectors.{IsFirstMissing};
 
+use counting::{count_of, first_short_site, total};
 use few::Few;
 use lists::Lists;
+use names::first_short_name;
 use op_name::{Member, Memory, NUMBERS, Name, SITES};
 use std::alloc::Global;
 use std::marker::Model;
 
 mod changes;
 mod count;
+mod counting;
 mod counts;
-mod entries;
+mod element;
 mod entry;
 mod equality;
 mod few;
 mod follows;
+mod kept;
 mod lists;
-mod marked;
-mod marked_counts;
 mod marks;
+mod names;
 mod piece;
-mod pieces;
 mod reader;
 mod rising;
-mod seats;
+mod stored;
+mod undone;
 mod word;
 
 pub use count::Count;
+pub use counting::SiteCounts;
 pub use entry::Entry;
+pub use names::Names;
 
 /// A set of members, closed downwards: with an original all earlier ones of its site, with an undo group all
 /// lower generations of its name (COT 2009 calls it a context).
@@ -109,19 +113,6 @@ impl Vector {
         })
     }
 
-    /// The set with this original, the next of its site, as `share` would leave it.
-    pub fn with_original(&self, name: &Name) -> Result<Vector, Memory>
-        requires { IsNextMember self.now.set (Original name.now) }
-        ensures { IfOk result (λ v. v.set ≡ raised self.now.set (Original name.now)) }
-    {
-        name.known();
-        self.known();
-        Ok(Vector {
-            alloc: self.alloc,
-            lists: self.lists.with_original(self.alloc, name)?,
-        })
-    }
-
     /// Lets copies share both lists, so that a copy costs a few words: where up to four sites wrote and nothing is undone, a set stands
     /// in the value itself. No member comes or goes. Out of memory, the set stays as it was. For a set that is kept as it is, as the
     /// context of an operation: the next change copies what it changes.
@@ -131,23 +122,21 @@ impl Vector {
         self.lists.share(self.alloc);
     }
 
-    /// Lets copies share the list of undone names alone, so that they cost by the sites; no member comes or
-    /// goes. Out of memory, nothing changes. For a set to which originals are still added: its counts may be
-    /// changed in place.
-    pub fn share_names(&mut self)
-        ensures { self.new.set ≡ self.old.set }
-    {
-        self.lists.share_names();
-    }
-
-    /// Lets copies share both lists, and takes the list of undone names of `other` where that is shared and has the same names at the same
-    /// generations, so that it is kept once; no member comes or goes. A set that shares its lists already stays as it is. Out of memory,
-    /// the lists stay its own.
+    /// The same, and what the lists have in common with those of which `other` made its last copy is kept once; no member comes or goes. A set
+    /// that shares its lists already stays as it is. Out of memory, the lists stay its own.
     pub fn share_with(&mut self, other: &Vector)
         ensures { self.new.set ≡ self.old.set }
     {
-        self.lists.share_with(&other.lists);
-        self.lists.share(self.alloc);
+        self.lists.share_with(self.alloc, &other.lists);
+    }
+
+    /// Lets the next copies be made like the lists of `other`, so that what they have in common is kept once; no member comes or goes, and no
+    /// memory is taken. For a set of which copies are kept while it grows.
+    pub fn remember(&mut self, other: &Vector)
+        ensures set { self.new.set ≡ self.old.set }
+        ensures room { self.new.room ≡ self.old.room }
+    {
+        self.lists.remember(&other.lists);
     }
 
     /// Nothing but what the type keeps: sites and names rise, and all numbers are in range.
@@ -163,7 +152,7 @@ impl Vector {
         ensures range { result ≤ NUMBERS }
     {
         self.known();
-        rising::count_among(self.counts(), site)
+        count_of(self.lists.counts(), site)
     }
 
     /// The greatest generation at which the set has an undo group of the name, 0 if it has none.
@@ -205,14 +194,14 @@ impl Vector {
     {
         self.known();
         other.known();
-        let original = rising::first_short_site(self.counts(), other.counts());
+        let original = first_short_site(self.lists.counts(), other.lists.counts());
         if let Some((site, number)) = original {
             return Some(Member::Original(Name { site, number }));
         }
-        if self.lists.has_same_entries(&other.lists) {
+        if self.lists.has_same_names(&other.lists) {
             return None;
         }
-        let group = rising::first_short_entry(self.lists.reader(), other.lists.reader());
+        let group = first_short_name(self.lists.names(), other.lists.names());
         if let Some(group) = group {
             return Some(Member::Group(group.0, group.1));
         }
@@ -225,7 +214,7 @@ impl Vector {
         ensures range { result ≤ SITES * NUMBERS }
     {
         self.known();
-        rising::total(self.counts())
+        total(self.lists.counts())
     }
 
     /// The number of undone names.
@@ -233,15 +222,21 @@ impl Vector {
         ensures entries { result ≡ length self.now.set.entries }
         ensures range { result ≤ SITES * NUMBERS }
     {
-        self.known();
-        self.lists.entries_len() as u32
+        self.lists.names_len() as u32
     }
 
-    /// The i-th undone name, in the order of names, with its greatest generation; None exactly past the end.
-    pub fn entry_at(&self, i: u32) -> Option<(Name, u16)>
-        ensures { result ≡ slice_get self.now.set.entries i }
+    /// The undone names with their greatest generations, to be read in the order of names.
+    pub fn names_read(&self) -> Names<'_>
+        ensures { result ≡ self.now.set.entries }
     {
-        Some(self.lists.run(i as usize)?.first()?.pair())
+        self.lists.names()
+    }
+
+    /// Whether both sets have the same undone names with the same generations.
+    pub fn undoes_same(&self, other: &Vector) -> bool
+        ensures { IsTrue result ↔ (self.now.set.entries ≡ other.now.set.entries) }
+    {
+        self.lists.has_same_names(&other.lists)
     }
 
     /// The number of sites that have originals in the set.
@@ -250,7 +245,7 @@ impl Vector {
         ensures range { result ≤ SITES }
     {
         self.known();
-        self.counts().len() as u32
+        counting::sites(self.lists.counts())
     }
 
     /// The i-th site, rising, with the number of its originals in the set, at least 1; None exactly past
@@ -258,20 +253,27 @@ impl Vector {
     pub fn site_at(&self, i: u32) -> Option<(u16, u32)>
         ensures { result ≡ slice_get self.now.set.counts i }
     {
-        Some(self.counts().get(i as usize)?.pair())
+        Some(self.lists.counts().at(i as usize)?.pair())
     }
 
-    /// Each site that has originals in the set with their number, sites rising.
-    pub fn counts(&self) -> &[Count]
-        ensures { result.now ≡ self.now.set.counts }
+    /// Each site that has originals in the set with their number, to be read with sites rising.
+    pub fn sites_read(&self) -> SiteCounts<'_>
+        ensures { result ≡ self.now.set.counts }
     {
-        self.lists.counts()
+        SiteCounts::new(self.lists.counts())
+    }
+
+    /// A copy of the list of sites that have originals in the set, each with their number, sites rising.
+    pub fn listed(&self) -> Result<Vec<Count>, Memory>
+        ensures { IfOk result (λ v. v.items ≡ self.now.set.counts) }
+    {
+        self.lists.counts().to_vec(self.alloc)
     }
 
     /// A copy of the list of undone names, each with its greatest generation, in the order of names.
     pub fn named(&self) -> Result<Vec<Entry>, Memory>
         ensures { IfOk result (λ v. v.items ≡ self.now.set.entries) }
     {
-        self.lists.named(self.alloc)
+        self.lists.names().to_vec(self.alloc)
     }
 }

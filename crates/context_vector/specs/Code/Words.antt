@@ -1,8 +1,8 @@
 -- Undone names in words: eight neighbouring names in one number, with a digit to the base 16 for each.
 use Rattle.std.specs.Prelude.{◌≡◌, ℕ, zero, suc, ◌+◌, ◌-◌, ◌*◌, ◌/◌, ◌%◌, ◌^◌, ◌<◌, ◌≤◌, List, [], ◌∷◌, ◌++◌, ◌==◌, if◌then◌else◌}
 use Rattle.op_name.specs.NameData.{NameData}
-use Rattle.context_vector.specs.Contexts.{count_in, entry_in, put_count, put_entry, AreEntries}
-use Rattle.context_vector.specs.Vectors.{without_site, without_name}
+use Rattle.context_vector.specs.Contexts.{count_in, entry_in, put_count, AreEntries}
+use Rattle.context_vector.specs.Vectors.{without_site}
 
 -- the i-th digit of a number to the base 16, from the lowest
 abbrev pub digit : ℕ → ℕ → ℕ
@@ -73,10 +73,6 @@ pub record AreUndone (ws : List (ℕ × ℕ)) (hs : List (NameData × ℕ)) : Ty
 -- the words with this one for the key, which has none at 0
 unfoldable pub set_word : ℕ → ℕ → List (ℕ × ℕ) → List (ℕ × ℕ)
 set_word k w ws = if w == 0 then without_site k ws else put_count k w ws
-
--- the entries with this generation for the name, which has no entry at 0
-unfoldable pub set_entry : NameData → ℕ → List (NameData × ℕ) → List (NameData × ℕ)
-set_entry n g es = if g == 0 then without_name n es else put_entry n g es
 
 -- the words after a write of a generation for the name
 unfoldable pub words_with : NameData → ℕ → List (ℕ × ℕ) → List (ℕ × ℕ)

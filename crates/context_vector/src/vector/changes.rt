@@ -1,6 +1,6 @@
 //! The calls that change a vector.
 
-ghost use Rattle.std.specs.Prelude.{◌≡◌, ◌∷◌, [], ◌++◌, ◌<◌, ◌≤◌, ◌||◌, ◌&&◌, not, false, OnOk, OnErr, IfErr};
+ghost use Rattle.std.specs.Prelude.{◌≡◌, ◌∷◌, [], ◌++◌, ◌<◌, ◌≤◌, ◌||◌, ◌&&◌, not, true, false, OnOk, OnErr, IfErr};
 ghost use Rattle.op_name.specs.declared.member.Member.{Member};
 ghost use Rattle.op_name.specs.Members.{IsMember, member_eq};
 ghost use Rattle.context_vector.specs.Contexts.{has, raised, Within, IsNextMember, AreCounts, AreEntries};
@@ -9,7 +9,8 @@ ghost use Rattle.context_vector.specs.Code.Lists.{of_counts, of_entries};
 ghost use Rattle.context_vector.specs.AddBad.{IsCause};
 
 use super::count::Count;
-use super::entry::Entry;
+use super::counting::SiteCounts;
+use super::names::Names;
 use super::{AddBad, Vector};
 use op_name::{Member, Memory, NUMBERS, Name, SITES};
 
@@ -19,6 +20,7 @@ impl Vector {
         requires { IsMember m.now }
         ensures next { OnOk result (IsNextMember self.old.set m.now) }
         ensures added { OnOk result (self.new.set ≡ raised self.old.set m.now) }
+        ensures members { OnOk result ((y : Member) → has self.new.set y ≡ (has self.old.set y || member_eq m.now y)) }
         ensures cause { IfErr result (IsCause self.old.set m.now) }
         ensures kept { OnErr result (self.new.set ≡ self.old.set) }
     {
@@ -37,11 +39,12 @@ impl Vector {
         Ok(())
     }
 
-    /// Makes room in which the member can be added, or taken out if it is the last, without memory; no
-    /// member comes or goes.
+    /// Makes room in which the member can be added without memory, in lists that may be changed in place; no member comes or goes.
     pub fn reserve(&mut self, m: &Member) -> Result<(), Memory>
         ensures same { self.new.set ≡ self.old.set }
         ensures room { OnOk result (HasRoomFor self.new m.now) }
+        ensures own { OnOk result (self.new.room.own ≡ true) }
+        ensures stays { self.old.room.own ≡ true → self.new.room.own ≡ true }
         ensures memory { OnErr result (¬ HasRoomFor self.old m.now) }
     {
         self.known();
@@ -55,7 +58,8 @@ impl Vector {
         requires next { IsNextMember self.old.set m.now }
         requires room { HasRoomFor self.old m.now }
         ensures added { self.new.set ≡ raised self.old.set m.now }
-        ensures room { HasRoomFor self.new m.now }
+        ensures members { (y : Member) → has self.new.set y ≡ (has self.old.set y || member_eq m.now y) }
+        ensures own { self.new.room.own ≡ true }
     {
         self.put(m);
     }
@@ -76,13 +80,14 @@ impl Vector {
         Ok(())
     }
 
-    /// Takes the member out, the last of its site or its name, in the room that `reserve` made or in which it
-    /// was added. It takes no memory.
+    /// Takes the member out, the last of its site or its name, of lists that may be changed in place, as `reserve` and `add_reserved` leave
+    /// them. It takes no memory.
     pub fn drop_last(&mut self, m: &Member)
         requires member { IsMember m.now }
         requires last { IsLastMember self.old.set m.now }
-        requires room { HasRoomFor self.old m.now }
+        requires own { self.old.room.own ≡ true }
         ensures set { self.new.set ≡ lowered self.old.set m.now }
+        ensures own { self.new.room.own ≡ true }
         ensures members { (y : Member) → has self.new.set y ≡ (has self.old.set y && not (member_eq m.now y)) }
     {
         self.known();
@@ -101,8 +106,8 @@ impl Vector {
         }
         other.known();
         let mut union = self.try_clone()?;
-        union.raise_sites(other.counts())?;
-        union.raise_names(other.named()?.as_slice())?;
+        union.raise_sites(other.sites_read())?;
+        union.raise_names(other.names_read())?;
         *self = union;
         Ok(())
     }
@@ -133,26 +138,25 @@ impl Vector {
     }
 
     // Adds all originals that the counts tell.
-    fn raise_sites(&mut self, counts: &[Count]) -> Result<(), Memory>
-        requires { AreCounts 0 counts.now }
-        ensures { OnOk result ((y : Member) → has self.new.set y ≡ (has self.old.set y || has (of_counts counts.now) y)) }
+    fn raise_sites(&mut self, counts: SiteCounts<'_>) -> Result<(), Memory>
+        requires { AreCounts 0 counts }
+        ensures { OnOk result ((y : Member) → has self.new.set y ≡ (has self.old.set y || has (of_counts counts.entry) y)) }
     {
-        for count in counts {
-            self.raise(&Member::Original(Name {
-                site: count.site(),
-                number: count.number(),
-            }))?;
+        let mut left = counts;
+        while let Some((site, number)) = left.next() {
+            self.raise(&Member::Original(Name { site, number }))?;
         }
         Ok(())
     }
 
-    // Adds all groups that the entries tell.
-    fn raise_names(&mut self, entries: &[Entry]) -> Result<(), Memory>
-        requires { AreEntries entries.now }
-        ensures { OnOk result ((y : Member) → has self.new.set y ≡ (has self.old.set y || has (of_entries entries.now) y)) }
+    // Adds all groups that the names tell.
+    fn raise_names(&mut self, names: Names<'_>) -> Result<(), Memory>
+        requires { AreEntries names }
+        ensures { OnOk result ((y : Member) → has self.new.set y ≡ (has self.old.set y || has (of_entries names.entry) y)) }
     {
-        for entry in entries {
-            self.raise(&Member::Group(entry.name(), entry.generation()))?;
+        let mut left = names;
+        while let Some((name, generation)) = left.next() {
+            self.raise(&Member::Group(name, generation))?;
         }
         Ok(())
     }
@@ -162,8 +166,7 @@ impl Vector {
         requires member { IsMember m.now }
         requires room { HasRoomFor self.old m.now }
         ensures added { self.new.set ≡ raised self.old.set m.now }
-        ensures own { self.new.room.own ≡ self.old.room.own }
-        ensures ready { self.new.room.ready ≡ self.old.room.ready }
+        ensures own { self.new.room.own ≡ true }
     {
         match m {
             Member::Original(name) => {
@@ -181,8 +184,9 @@ impl Vector {
     fn lower(&mut self, m: &Member)
         requires member { IsMember m.now }
         requires last { IsLastMember self.old.set m.now }
-        requires room { HasRoomFor self.old m.now }
-        ensures { self.new.set ≡ lowered self.old.set m.now }
+        requires own { self.old.room.own ≡ true }
+        ensures lowered { self.new.set ≡ lowered self.old.set m.now }
+        ensures own { self.new.room.own ≡ true }
     {
         match m {
             Member::Original(name) => {

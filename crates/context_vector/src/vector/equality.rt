@@ -11,7 +11,7 @@ impl PartialEq for Vector {
     ghost laws = { vector_per };
 
     fn eq(&self, other: &Vector) -> bool {
-        self.lists.has_same_counts(&other.lists) && self.lists.has_same_entries(&other.lists)
+        self.lists.has_same_counts(&other.lists) && self.lists.has_same_names(&other.lists)
     }
 }
 
@@ -27,6 +27,6 @@ impl Hash for Vector {
     // Marks in the place of the counts and of the entries, so that the hasher is fed two numbers.
     fn hash<H: Hasher>(&self, state: &mut H) {
         self.lists.counts_mark().hash(state);
-        self.lists.entries_mark().hash(state);
+        self.lists.names_mark().hash(state);
     }
 }

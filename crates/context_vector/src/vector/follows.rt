@@ -1,12 +1,14 @@
 //! Whether a set is another one with one original more.
 
-ghost use Rattle.std.specs.Prelude.{◌≡◌, ◌∷◌, ◌++◌, IsTrue};
+ghost use Rattle.std.specs.Prelude.{◌≡◌, IsTrue};
+ghost use Rattle.context_vector.specs.Code.Readers.{left_of};
 ghost use Rattle.op_name.specs.declared.member.Member.TheVariants.{Original};
 ghost use Rattle.context_vector.specs.Contexts.{put_count, raised, AreCounts, IsNextMember};
 
 use super::Vector;
 use super::count::Count;
-use super::rising::{are_equal, place_near};
+use super::counting::seek;
+use super::reader::{Reader, are_same, same_first};
 use op_name::Name;
 
 impl Vector {
@@ -21,50 +23,33 @@ impl Vector {
         if before.count(name.site) + 1 != name.number {
             return false;
         }
-        if !self.lists.has_same_entries(&before.lists) {
+        if !self.lists.has_same_names(&before.lists) {
             return false;
         }
-        has_put(before.counts(), self.counts(), name)
+        has_put(before.lists.counts(), self.lists.counts(), name)
     }
 }
 
 // Whether the counts are those before with this name's number for its site. An answer of no says nothing.
-fn has_put(before: &[Count], after: &[Count], name: &Name) -> bool
-    requires { AreCounts 0 before.now }
-    ensures { IsTrue result → after.now ≡ put_count name.now.site name.now.number before.now }
+fn has_put(before: Reader<'_, Count>, after: Reader<'_, Count>, name: &Name) -> bool
+    requires { AreCounts 0 (left_of before) }
+    ensures { IsTrue result → left_of after.entry ≡ put_count name.now.site name.now.number (left_of before.entry) }
 {
     name.known();
-    let count = Count::new(name.site, name.number);
-    match place_near(before, name.site as usize, name.site) {
-        Ok(at) => {
-            let (low, high) = before.split_at(at);
-            match high.split_first() {
-                Some((_, rest)) => is_joined(after, low, count, rest),
-                None => false,
-            }
-        }
-        Err(at) => {
-            let (low, high) = before.split_at(at);
-            is_joined(after, low, count, high)
-        }
-    }
-}
-
-// Whether the list is the two with a count between them. An answer of no says nothing.
-fn is_joined(list: &[Count], low: &[Count], count: Count, high: &[Count]) -> bool
-    ensures { IsTrue result → list.now ≡ low.now ++ (count ∷ high.now) }
-{
-    if list.len() < low.len() {
+    let mut whole = before.again();
+    let mut left = before;
+    let mut right = after;
+    let lower = seek(&mut left, name.site);
+    if !same_first(&mut whole, &mut right, lower) {
         return false;
     }
-    let (front, back) = list.split_at(low.len());
-    match back.split_first() {
-        Some((first, rest)) => {
-            if *first != count || !are_equal(front, low) {
-                return false;
-            }
-            are_equal(rest, high)
-        }
-        None => false,
+    match right.next() {
+        Some(count) if count == Count::new(name.site, name.number) => {}
+        _ => return false,
     }
+    match left.first() {
+        Some(had) if had.site() == name.site => left.pass(1),
+        _ => {}
+    }
+    are_same(left, right)
 }

@@ -1,26 +1,27 @@
 //! The lists of a vector: a few counts in the value itself, lists of its own, or lists that other vectors have too.
 
-ghost use Rattle.std.specs.Prelude.{◌≡◌, ◌≤◌, ◌<◌, ◌++◌, ◌∷◌, ◌↔◌, [], true, drop, length, vec_len, vec_capacity, IfOk, IfSome, IsNone, IsTrue, OnOk, OnErr};
+ghost use Rattle.std.specs.Prelude.{◌≡◌, ◌≤◌, ◌<◌, ◌*◌, ◌++◌, ◌∷◌, ◌↔◌, [], true, length, vec_len, vec_capacity, IfOk, IfSome, IsTrue, OnOk, OnErr};
 ghost use lib.Pointwise.{pointwise};
 ghost use Rattle.op_name.specs.declared.member.Member.TheVariants.{Original, Group};
-ghost use Rattle.context_vector.specs.Contexts.{entry_in, raised, AreCounts, AreEntries, IsContext};
+ghost use Rattle.context_vector.specs.Contexts.{count_in, entry_in, raised, AreCounts, AreEntries, IsContext};
 ghost use Rattle.context_vector.specs.Equality.{count_eq, entry_eq};
 ghost use Rattle.context_vector.specs.Marks.{counts_mark, mark_of};
-ghost use Rattle.context_vector.specs.Vectors.{lowered, HasRoomFor, IsLastMember};
-ghost use Rattle.context_vector.specs.Code.Pieces.{IsRun};
+ghost use Rattle.context_vector.specs.Vectors.{lowered, HasRoomFor, IsLastMember, NamesBelow};
 ghost use Rattle.context_vector.specs.Code.Readers.{left_of};
+ghost use Rattle.context_vector.specs.Code.Undone.{kept_of};
 ghost use Rattle.context_vector.specs.Code.Sharing.{data_of};
 
 use super::count::Count;
+use super::counting::mark_of_counts;
 use super::counts::{grown, lower_site, put_site};
-use super::entries::Entries;
-use super::entry::Entry;
 use super::few::Few;
-use super::marked_counts::MarkedCounts;
-use super::marks;
-use super::reader::Reader;
-use super::rising::{are_equal, count_among};
-use op_name::{Member, Memory, Name};
+use super::kept::{Kept, kept_like};
+use super::names::Names;
+use super::reader::{Reader, are_same};
+use super::rising::count_among;
+use super::stored::Stored;
+use super::undone::Undone;
+use op_name::{Member, Memory, NUMBERS, Name, SITES};
 use std::alloc::Global;
 use std::rc::Rc;
 
@@ -39,145 +40,98 @@ pub enum Lists {
 #[derive(Debug, Drop)]
 pub struct OwnLists {
     pub counts: Vec<Count>,
-    pub entries: Entries,
+    pub undone: Undone,
+    /// Lists that were kept before, from which a copy takes what it has in common with them. Whichever they are, the copy is the same.
+    pub like: Option<Rc<SharedLists>>,
 }
 
 /// Lists that stay as they are.
 #[derive(Debug, Drop)]
 pub struct SharedLists {
-    pub counts: MarkedCounts,
-    pub entries: Entries,
+    pub counts: Stored<Count>,
+    /// None where nothing is undone.
+    pub undone: Option<Rc<Kept>>,
 }
 
 impl Lists {
-    /// Each site that has originals with their number, sites rising.
-    pub fn counts(&self) -> &[Count]
-        ensures { result.now ≡ (data_of self.now).set.counts }
+    /// A reader of the counts.
+    pub fn counts(&self) -> Reader<'_, Count>
+        ensures { left_of result ≡ (data_of self.now).set.counts }
     {
         match self {
-            Lists::Few(counts) => counts.as_slice(),
-            Lists::Own(lists) => lists.counts.as_slice(),
-            Lists::Shared(lists) => lists.as_ref().counts.as_slice(),
+            Lists::Few(counts) => Reader::of(counts.as_slice()),
+            Lists::Own(lists) => Reader::of(lists.counts.as_slice()),
+            Lists::Shared(lists) => lists.as_ref().counts.reader(),
         }
     }
 
-    // The undone names; None only where there are none.
-    fn entries(&self) -> Option<&Entries>
-        ensures some { IfSome result (λ e. e.now.items ≡ (data_of self.now).set.entries) }
-        ensures none { IsNone result → (data_of self.now).set.entries ≡ [] }
+    /// A reader of the undone names.
+    pub fn names(&self) -> Names<'_>
+        ensures { result ≡ (data_of self.now).set.entries }
     {
         match self {
-            Lists::Few(_) => None,
-            Lists::Own(lists) => Some(&lists.entries),
-            Lists::Shared(lists) => Some(&lists.as_ref().entries),
+            Lists::Few(_) => Names::empty(),
+            Lists::Own(lists) => lists.undone.names(),
+            Lists::Shared(lists) => lists.as_ref().names(),
         }
     }
 
-    /// The mark of the counts: equal lists have equal marks. That of shared lists is kept with them.
+    /// The mark of the counts: equal lists have equal marks.
     pub fn counts_mark(&self) -> u64
         ensures { result ≡ counts_mark 0 (data_of self.now).set.counts }
     {
-        match self {
-            Lists::Shared(lists) => lists.as_ref().counts.mark(),
-            _ => marks::counts_mark(self.counts()),
-        }
+        mark_of_counts(self.counts())
     }
 
     /// The mark of the undone names: equal lists have equal marks.
-    pub fn entries_mark(&self) -> u64
+    pub fn names_mark(&self) -> u64
         ensures { result ≡ mark_of (data_of self.now).set.entries }
     {
-        match self.entries() {
-            Some(entries) => entries.mark(),
-            None => 0,
+        match self {
+            Lists::Few(_) => 0,
+            Lists::Own(lists) => lists.undone.mark(),
+            Lists::Shared(lists) => lists.as_ref().names_mark(),
         }
     }
 
     /// The number of undone names.
-    pub fn entries_len(&self) -> usize
-        requires { AreEntries (data_of self.now).set.entries }
-        ensures { result ≡ length (data_of self.now).set.entries }
+    pub fn names_len(&self) -> usize
+        ensures len { result ≡ length (data_of self.now).set.entries }
+        ensures range { result ≤ SITES * NUMBERS }
     {
-        match self.entries() {
-            Some(entries) => entries.len(),
-            None => 0,
+        match self {
+            Lists::Few(_) => 0,
+            Lists::Own(lists) => lists.undone.len(),
+            Lists::Shared(lists) => lists.as_ref().names_len(),
         }
     }
 
-    /// The greatest generation of the name, 0 if it has no entry.
+    /// The greatest generation of the name, 0 if it isn't undone.
     pub fn entry(&self, name: &Name) -> u16
-        requires { AreEntries (data_of self.now).set.entries }
         ensures { result ≡ entry_in (data_of self.now).set.entries name.now }
     {
-        match self.entries() {
-            Some(entries) => entries.entry(name),
-            None => 0,
+        match self {
+            Lists::Few(_) => 0,
+            Lists::Own(lists) => lists.undone.entry(name),
+            Lists::Shared(lists) => lists.as_ref().entry(name),
         }
     }
 
-    /// The entries from the i-th on, as many as stand together; None exactly past the end.
-    pub fn run(&self, i: usize) -> Option<&[Entry]>
-        ensures run { IfSome result (λ r. IsRun r.now (drop i (data_of self.now).set.entries)) }
-        ensures none { IsNone result ↔ (length (data_of self.now).set.entries ≤ i) }
-    {
-        match self.entries() {
-            Some(entries) => entries.run(i),
-            None => None,
-        }
-    }
-
-    /// A reader of the entries.
-    pub fn reader(&self) -> Reader<'_>
-        ensures { left_of result ≡ (data_of self.now).set.entries }
-    {
-        match self.entries() {
-            Some(entries) => entries.reader(),
-            None => Reader::empty(),
-        }
-    }
-
-    /// A copy of the entries in one list.
-    pub fn named(&self, alloc: Global) -> Result<Vec<Entry>, Memory>
-        ensures { IfOk result (λ v. v.items ≡ (data_of self.now).set.entries) }
-    {
-        match self.entries() {
-            Some(entries) => entries.to_vec(),
-            None => Ok(Vec::new(alloc)),
-        }
-    }
-
-    /// Whether both have the same counts. Shared lists are told apart by their marks, if these differ.
+    /// Whether both have the same counts.
     pub fn has_same_counts(&self, other: &Lists) -> bool
         ensures { result ≡ pointwise count_eq (data_of self.now).set.counts (data_of other.now).set.counts }
     {
-        if self.has_other_mark(other) {
-            return false;
-        }
-        are_equal(self.counts(), other.counts())
+        are_same(self.counts(), other.counts())
     }
 
-    // Whether both lists are shared, and the marks of their counts differ.
-    fn has_other_mark(&self, other: &Lists) -> bool
-        ensures { IsTrue result → ¬ ((data_of self.now).set.counts ≡ (data_of other.now).set.counts) }
-    {
-        match (self, other) {
-            (Lists::Shared(mine), Lists::Shared(theirs)) => {
-                mine.as_ref().counts.mark() != theirs.as_ref().counts.mark()
-            }
-            _ => false,
-        }
-    }
-
-    /// Whether both have the same undone names with the same generations.
-    pub fn has_same_entries(&self, other: &Lists) -> bool
+    /// Whether both have the same undone names with the same generations: lists that differ are mostly told apart by their marks.
+    pub fn has_same_names(&self, other: &Lists) -> bool
         ensures { result ≡ pointwise entry_eq (data_of self.now).set.entries (data_of other.now).set.entries }
     {
-        match (self.entries(), other.entries()) {
-            (Some(mine), Some(theirs)) => mine.is_same(theirs),
-            (Some(mine), None) => mine.is_empty(),
-            (None, Some(theirs)) => theirs.is_empty(),
-            (None, None) => true,
+        if self.names_mark() != other.names_mark() {
+            return false;
         }
+        self.names().is_same(other.names())
     }
 
     /// The same lists once more. Shared ones aren't copied.
@@ -197,24 +151,9 @@ impl Lists {
     {
         match self {
             Lists::Few(counts) => Ok(Lists::Few(counts.copy())),
-            Lists::Own(lists) => lists.kept(alloc),
+            Lists::Own(lists) => lists.kept(alloc, lists.like.as_ref()),
             Lists::Shared(lists) => Ok(Lists::Shared(lists.clone()?)),
         }
-    }
-
-    /// The lists with the original, the last of its site then, as copies can share them.
-    pub fn with_original(&self, alloc: Global, name: &Name) -> Result<Lists, Memory>
-        requires { IsContext (data_of self.now).set }
-        ensures { IfOk result (λ l. (data_of l).set ≡ raised (data_of self.now).set (Original name.now)) }
-    {
-        name.known();
-        let mut counts = grown(alloc, self.counts())?;
-        put_site(&mut counts, name.site, name.number);
-        let entries = match self.entries() {
-            Some(entries) => entries.kept()?,
-            None => Entries::new(alloc),
-        };
-        shared(alloc, counts, entries)
     }
 
     /// Lets copies share lists that were the vector's own; no member comes or goes. Out of memory, they stay its own.
@@ -222,29 +161,41 @@ impl Lists {
         ensures { (data_of self.new).set ≡ (data_of self.old).set }
     {
         if let Lists::Own(lists) = self {
-            if let Ok(kept) = lists.kept(alloc) {
+            if let Ok(kept) = lists.kept(alloc, lists.like.as_ref()) {
                 *self = kept;
             }
         }
     }
 
-    /// Lets copies share the list of undone names alone. Out of memory, nothing changes.
-    pub fn share_names(&mut self)
+    /// The same, with what these lists have in common with those that `other` kept last.
+    pub fn share_with(&mut self, alloc: Global, other: &Lists)
         ensures { (data_of self.new).set ≡ (data_of self.old).set }
     {
         if let Lists::Own(lists) = self {
-            lists.entries.share();
+            if let Ok(kept) = lists.kept(alloc, other.last_kept()) {
+                *self = kept;
+            }
         }
     }
 
-    /// Takes the list of undone names of `other`, where that is shared and has the same names at the same generations, for lists that are
-    /// the vector's own; no member comes or goes.
-    pub fn share_with(&mut self, other: &Lists)
-        ensures { (data_of self.new).set ≡ (data_of self.old).set }
+    // The lists that were kept last, if there are any.
+    fn last_kept(&self) -> Option<&Rc<SharedLists>> {
+        match self {
+            Lists::Few(_) => None,
+            Lists::Own(lists) => lists.like.as_ref(),
+            Lists::Shared(lists) => Some(lists),
+        }
+    }
+
+    /// Lets the next copies of lists that are the vector's own be made like those of `other`; no member comes or goes.
+    pub fn remember(&mut self, other: &Lists)
+        ensures { data_of self.new ≡ data_of self.old }
     {
         if let Lists::Own(lists) = self {
-            if let Some(theirs) = other.entries() {
-                lists.entries.share_with(theirs);
+            if let Some(like) = other.last_kept() {
+                if let Ok(like) = like.clone() {
+                    lists.like = Some(like);
+                }
             }
         }
     }
@@ -256,7 +207,7 @@ impl Lists {
         matches!(self, Lists::Own(_))
     }
 
-    // Whether the site can be put or lowered without memory.
+    // Whether the original can be added without memory.
     fn has_room_for(&self, name: &Name) -> bool
         requires { AreCounts 0 (data_of self.now).set.counts }
         ensures { IsTrue result ↔ HasRoomFor (data_of self.now) (Original name.now) }
@@ -270,11 +221,13 @@ impl Lists {
         }
     }
 
-    /// Makes room in which the member can be added, or taken out if it is the last, without memory; no member comes or goes.
+    /// Makes room in which the member can be added without memory; no member comes or goes.
     pub fn reserve(&mut self, alloc: Global, m: &Member) -> Result<(), Memory>
         requires { IsContext (data_of self.old).set }
         ensures same { (data_of self.new).set ≡ (data_of self.old).set }
         ensures room { OnOk result (HasRoomFor (data_of self.new) m.now) }
+        ensures own { OnOk result ((data_of self.new).room.own ≡ true) }
+        ensures stays { (data_of self.old).room.own ≡ true → (data_of self.new).room.own ≡ true }
         ensures memory { OnErr result (¬ HasRoomFor (data_of self.old) m.now) }
     {
         match m {
@@ -284,10 +237,10 @@ impl Lists {
                 }
                 self.grow(alloc)
             }
-            Member::Group(name, _) => {
+            Member::Group(name, generation) => {
                 self.own(alloc)?;
                 match self {
-                    Lists::Own(lists) => lists.entries.reserve(name),
+                    Lists::Own(lists) => lists.reserve_name(name, *generation),
                     _ => unreachable!(),
                 }
             }
@@ -313,6 +266,7 @@ impl Lists {
     fn grow(&mut self, alloc: Global) -> Result<(), Memory>
         ensures same { (data_of self.new).set ≡ (data_of self.old).set }
         ensures room { OnOk result (((data_of self.new).room.own ≡ true) × (1 ≤ (data_of self.new).room.counts)) }
+        ensures stays { (data_of self.old).room.own ≡ true → (data_of self.new).room.own ≡ true }
     {
         if let Lists::Own(lists) = self {
             lists.counts.reserve(1)?;
@@ -326,15 +280,27 @@ impl Lists {
     // A copy of the lists that may be changed in place, with a spare place for a count.
     fn opened(&self, alloc: Global) -> Result<Box<OwnLists>, Memory>
         ensures counts { IfOk result (λ l. l.value.counts.items ≡ (data_of self.now).set.counts) }
-        ensures entries { IfOk result (λ l. l.value.entries.items ≡ (data_of self.now).set.entries) }
+        ensures entries { IfOk result (λ l. l.value.undone.items ≡ (data_of self.now).set.entries) }
         ensures spare { IfOk result (λ l. vec_len l.value.counts < vec_capacity l.value.counts) }
     {
-        let entries = match self.entries() {
-            Some(entries) => entries.try_clone()?,
-            None => Entries::new(alloc),
+        let own = match self {
+            Lists::Few(counts) => OwnLists {
+                counts: grown(alloc, counts.as_slice())?,
+                undone: Undone::new(alloc),
+                like: None,
+            },
+            Lists::Own(lists) => OwnLists {
+                counts: grown(alloc, lists.counts.as_slice())?,
+                undone: lists.undone.copied(alloc)?,
+                like: None,
+            },
+            Lists::Shared(lists) => OwnLists {
+                counts: lists.as_ref().counts.to_vec(alloc)?,
+                undone: lists.as_ref().opened_names(alloc)?,
+                like: Some(lists.clone()?),
+            },
         };
-        let counts = grown(alloc, self.counts())?;
-        Ok(Box::new(alloc, OwnLists { counts, entries })?)
+        Ok(Box::new(alloc, own)?)
     }
 
     /// Makes the original the last of its site, in the room that was made for it.
@@ -342,8 +308,7 @@ impl Lists {
         requires context { IsContext (data_of self.old).set }
         requires room { HasRoomFor (data_of self.old) (Original name.now) }
         ensures added { (data_of self.new).set ≡ raised (data_of self.old).set (Original name.now) }
-        ensures own { (data_of self.new).room.own ≡ (data_of self.old).room.own }
-        ensures ready { (data_of self.new).room.ready ≡ (data_of self.old).room.ready }
+        ensures own { (data_of self.new).room.own ≡ true }
     {
         name.known();
         match self {
@@ -354,24 +319,24 @@ impl Lists {
 
     /// Makes the group the last of its name, in the room that was made for it.
     pub fn put_group(&mut self, name: &Name, generation: u16)
-        requires context { IsContext (data_of self.old).set }
+        requires least { 1 ≤ generation }
         requires room { HasRoomFor (data_of self.old) (Group name.now generation) }
         ensures added { (data_of self.new).set ≡ raised (data_of self.old).set (Group name.now generation) }
-        ensures own { (data_of self.new).room.own ≡ (data_of self.old).room.own }
-        ensures ready { (data_of self.new).room.ready ≡ (data_of self.old).room.ready }
+        ensures own { (data_of self.new).room.own ≡ true }
     {
         match self {
-            Lists::Own(lists) => lists.entries.put(name, generation),
+            Lists::Own(lists) => lists.undone.set(name, generation),
             _ => unreachable!(),
         }
     }
 
-    /// Takes the original out, the last of its site, in the room that was made for it.
+    /// Takes the original out, the last of its site, from lists that may be changed in place.
     pub fn lower_original(&mut self, name: &Name)
         requires context { IsContext (data_of self.old).set }
         requires last { IsLastMember (data_of self.old).set (Original name.now) }
-        requires room { HasRoomFor (data_of self.old) (Original name.now) }
-        ensures { (data_of self.new).set ≡ lowered (data_of self.old).set (Original name.now) }
+        requires own { (data_of self.old).room.own ≡ true }
+        ensures lowered { (data_of self.new).set ≡ lowered (data_of self.old).set (Original name.now) }
+        ensures own { (data_of self.new).room.own ≡ true }
     {
         name.known();
         match self {
@@ -380,16 +345,16 @@ impl Lists {
         }
     }
 
-    /// Takes the group out, the last of its name, in the room that was made for it.
+    /// Takes the group out, the last of its name, from lists that may be changed in place.
     pub fn lower_group(&mut self, name: &Name, generation: u16)
-        requires context { IsContext (data_of self.old).set }
         requires least { 1 ≤ generation }
         requires last { IsLastMember (data_of self.old).set (Group name.now generation) }
-        requires room { HasRoomFor (data_of self.old) (Group name.now generation) }
-        ensures { (data_of self.new).set ≡ lowered (data_of self.old).set (Group name.now generation) }
+        requires own { (data_of self.old).room.own ≡ true }
+        ensures lowered { (data_of self.new).set ≡ lowered (data_of self.old).set (Group name.now generation) }
+        ensures own { (data_of self.new).room.own ≡ true }
     {
         match self {
-            Lists::Own(lists) => lists.entries.lower(name, generation),
+            Lists::Own(lists) => lists.undone.set(name, generation - 1),
             _ => unreachable!(),
         }
     }
@@ -413,66 +378,149 @@ impl Lists {
         Ok(())
     }
 
-    /// Appends an undone name with its greatest generation. Out of memory, no member comes or goes.
+    /// Appends an undone name with its greatest generation, after all others. Out of memory, no member comes or goes.
     pub fn push_entry(&mut self, alloc: Global, name: Name, generation: u16) -> Result<(), Memory>
-        requires { IsContext (data_of self.old).set }
+        requires last { NamesBelow (data_of self.old).set.entries name }
+        requires least { 1 ≤ generation }
         ensures pushed { OnOk result ((data_of self.new).set ≡ record (data_of self.old).set { entries = (data_of self.old).set.entries ++ (name, generation) ∷ [] }) }
         ensures kept { OnErr result ((data_of self.new).set ≡ (data_of self.old).set) }
     {
         self.own(alloc)?;
         match self {
-            Lists::Own(lists) => lists.entries.push(name, generation),
+            Lists::Own(lists) => lists.undone.push(name, generation),
             _ => unreachable!(),
         }
     }
 }
 
-// These lists, as copies can share them: in the value itself where they fit there.
-fn shared(alloc: Global, counts: Vec<Count>, entries: Entries) -> Result<Lists, Memory>
-    ensures counts { IfOk result (λ l. (data_of l).set.counts ≡ counts.items) }
-    ensures entries { IfOk result (λ l. (data_of l).set.entries ≡ entries.items) }
-{
-    if let Some(few) = few(counts.as_slice(), &entries) {
-        return Ok(Lists::Few(few));
-    }
-    let counts = MarkedCounts::new(counts);
-    Ok(Lists::Shared(Rc::new(alloc, SharedLists { counts, entries })?))
-}
-
-// The counts in the value itself, if there are few of them and no undone names.
-fn few(counts: &[Count], entries: &Entries) -> Option<Few>
-    ensures counts { IfSome result (λ f. f ≡ counts.now) }
-    ensures entries { IfSome result (λ _. entries.now.items ≡ []) }
-{
-    if entries.is_empty() {
-        return Few::of(counts);
-    }
-    None
-}
-
 impl OwnLists {
+    // Makes a spare place for the name, if its greatest generation is less than this one.
+    fn reserve_name(&mut self, name: &Name, generation: u16) -> Result<(), Memory>
+        ensures counts { self.new.counts ≡ self.old.counts }
+        ensures same { self.new.undone.items ≡ self.old.undone.items }
+        ensures room { OnOk result (entry_in self.new.undone.items name.now < generation → 1 ≤ self.new.undone.spare) }
+        ensures memory { OnErr result ((entry_in self.old.undone.items name.now < generation) × (self.old.undone.spare ≡ 0)) }
+    {
+        if generation <= self.undone.entry(name) {
+            return Ok(());
+        }
+        self.undone.reserve()
+    }
+
     // The same lists once more.
     fn copied(&self, alloc: Global) -> Result<Lists, Memory>
         ensures counts { IfOk result (λ l. (data_of l).set.counts ≡ self.now.counts.items) }
-        ensures entries { IfOk result (λ l. (data_of l).set.entries ≡ self.now.entries.items) }
+        ensures entries { IfOk result (λ l. (data_of l).set.entries ≡ self.now.undone.items) }
     {
-        if let Some(few) = few(self.counts.as_slice(), &self.entries) {
+        if let Some(few) = self.few() {
             return Ok(Lists::Few(few));
         }
         let counts = Vec::from_slice(alloc, self.counts.as_slice())?;
-        let entries = self.entries.try_clone()?;
-        Ok(Lists::Own(Box::new(alloc, OwnLists { counts, entries })?))
+        let undone = self.undone.copied(alloc)?;
+        let own = OwnLists {
+            counts,
+            undone,
+            like: None,
+        };
+        Ok(Lists::Own(Box::new(alloc, own)?))
     }
 
-    // The same lists, as copies can share them.
-    fn kept(&self, alloc: Global) -> Result<Lists, Memory>
-        ensures counts { IfOk result (λ l. (data_of l).set.counts ≡ self.now.counts.items) }
-        ensures entries { IfOk result (λ l. (data_of l).set.entries ≡ self.now.entries.items) }
+    // The counts in the value itself, if there are few of them and no undone names.
+    fn few(&self) -> Option<Few>
+        ensures counts { IfSome result (λ f. f ≡ self.now.counts.items) }
+        ensures entries { IfSome result (λ _. self.now.undone.items ≡ []) }
     {
-        if let Some(few) = few(self.counts.as_slice(), &self.entries) {
+        if self.undone.len() == 0 {
+            return Few::of(self.counts.as_slice());
+        }
+        None
+    }
+
+    // The same lists, as copies can share them, with what they have in common with `like`.
+    fn kept(&self, alloc: Global, like: Option<&Rc<SharedLists>>) -> Result<Lists, Memory>
+        ensures counts { IfOk result (λ l. (data_of l).set.counts ≡ self.now.counts.items) }
+        ensures entries { IfOk result (λ l. (data_of l).set.entries ≡ self.now.undone.items) }
+    {
+        if let Some(few) = self.few() {
             return Ok(Lists::Few(few));
         }
-        let counts = Vec::from_slice(alloc, self.counts.as_slice())?;
-        shared(alloc, counts, self.entries.kept()?)
+        let lists = match like {
+            Some(like) => self.like(
+                alloc,
+                Some(&like.as_ref().counts),
+                like.as_ref().undone.as_ref(),
+            )?,
+            None => self.like(alloc, None, None)?,
+        };
+        Ok(Lists::Shared(Rc::new(alloc, lists)?))
+    }
+
+    // The same lists with what they have in common with these counts and names.
+    fn like(
+        &self,
+        alloc: Global,
+        counts: Option<&Stored<Count>>,
+        undone: Option<&Rc<Kept>>,
+    ) -> Result<SharedLists, Memory>
+        ensures counts { IfOk result (λ l. l.counts ≡ self.now.counts.items) }
+        ensures entries { IfOk result (λ l. kept_of l.undone ≡ self.now.undone.items) }
+    {
+        Ok(SharedLists {
+            counts: Stored::of(alloc, self.counts.as_slice(), counts)?,
+            undone: kept_like(alloc, &self.undone, undone)?,
+        })
+    }
+}
+
+impl SharedLists {
+    // A reader of the undone names.
+    fn names(&self) -> Names<'_>
+        ensures { result ≡ kept_of self.now.undone }
+    {
+        match &self.undone {
+            Some(kept) => kept.as_ref().names(),
+            None => Names::empty(),
+        }
+    }
+
+    // The mark of the undone names.
+    fn names_mark(&self) -> u64
+        ensures { result ≡ mark_of (kept_of self.now.undone) }
+    {
+        match &self.undone {
+            Some(kept) => kept.as_ref().mark(),
+            None => 0,
+        }
+    }
+
+    // The number of undone names.
+    fn names_len(&self) -> usize
+        ensures len { result ≡ length (kept_of self.now.undone) }
+        ensures range { result ≤ SITES * NUMBERS }
+    {
+        match &self.undone {
+            Some(kept) => kept.as_ref().len(),
+            None => 0,
+        }
+    }
+
+    // The greatest generation of the name, 0 if it isn't undone.
+    fn entry(&self, name: &Name) -> u16
+        ensures { result ≡ entry_in (kept_of self.now.undone) name.now }
+    {
+        match &self.undone {
+            Some(kept) => kept.as_ref().entry(name),
+            None => 0,
+        }
+    }
+
+    // A copy of the undone names that may be changed in place.
+    fn opened_names(&self, alloc: Global) -> Result<Undone, Memory>
+        ensures { IfOk result (λ u. u.items ≡ kept_of self.now.undone) }
+    {
+        match &self.undone {
+            Some(kept) => kept.as_ref().opened(alloc),
+            None => Ok(Undone::new(alloc)),
+        }
     }
 }

@@ -3,7 +3,6 @@
 ghost use Rattle.std.specs.Prelude.{◌≡◌, ◌<◌, ◌^◌};
 ghost use Rattle.context_vector.specs.Marks.{spread, folded, weight, laid, counts_mark};
 
-use super::count::Count;
 use op_name::Name;
 
 /// What the name adds to a mark at the generation: nothing at 0.
@@ -22,19 +21,8 @@ pub fn weight(name: &Name, generation: u16) -> u64
     spread(folded(spread(bits))) >> 31
 }
 
-/// The mark of the counts of sites: a few steps of a processor for each.
-pub fn counts_mark(counts: &[Count]) -> u64
-    ensures { result ≡ counts_mark 0 counts.now }
-{
-    let mut mark = 0;
-    for count in counts {
-        mark = laid(mark, count.site(), count.number());
-    }
-    mark
-}
-
-// The mark with a site and its count laid over it.
-fn laid(mark: u64, site: u16, count: u32) -> u64
+/// The mark with a site and its count laid over it.
+pub fn laid(mark: u64, site: u16, count: u32) -> u64
     ensures { result ≡ laid mark (site, count) }
 {
     spread(folded(mark)).wrapping_add(u64::from(site) * 4_294_967_296 + u64::from(count))

@@ -11,8 +11,7 @@ ghost use Rattle.context_vector.specs.Code.Places.{IsPlace, IsGap};
 
 use super::count::Count;
 use super::entry::Entry;
-use super::reader::Reader;
-use op_name::{NUMBERS, Name, SITES};
+use op_name::{NUMBERS, Name};
 
 /// Where the pair of the site stands, or where it would go.
 pub fn place_of_site(counts: &[Count], site: u16) -> Result<usize, usize>
@@ -53,31 +52,9 @@ pub fn entry_among(entries: &[Entry], name: &Name) -> u16
     }
 }
 
-/// The first site of which `theirs` count more than `mine`, with the least number that `mine` lack. Both are read
-/// side by side: where `mine` have the sites of `theirs` one after the other, nothing is searched.
-pub fn first_short_site(mine: &[Count], theirs: &[Count]) -> Option<(u16, u32)>
-    requires mine { AreCounts 0 mine.now }
-    requires theirs { AreCounts 0 theirs.now }
-    ensures { result ≡ first_short (count_in mine.now) theirs.now }
-{
-    if are_enough(mine, theirs) {
-        return None;
-    }
-    let mut guess = 0;
-    for count in theirs {
-        let site = count.site();
-        let (had, next) = count_near(mine, guess, site);
-        if had < count.number() {
-            return Some((site, had + 1));
-        }
-        guess = next;
-    }
-    None
-}
-
-// Whether both have the same sites, and `mine` count no less of each: without a way out of the loop, so that it can be compiled to one
-// over several counts at a time. An answer of no says nothing.
-fn are_enough(mine: &[Count], theirs: &[Count]) -> bool
+/// Whether both have the same sites, and `mine` count no less of each: without a way out of the loop, so that it can be compiled to one
+/// over several counts at a time. An answer of no says nothing.
+pub fn are_enough(mine: &[Count], theirs: &[Count]) -> bool
     requires { AreCounts 0 mine.now }
     ensures { IsTrue result → first_short (count_in mine.now) theirs.now ≡ None }
 {
@@ -91,8 +68,8 @@ fn are_enough(mine: &[Count], theirs: &[Count]) -> bool
     enough
 }
 
-// The count of the site, 0 if it has no pair, and where the pair of the next site is likely to stand.
-fn count_near(counts: &[Count], guess: usize, site: u16) -> (u32, usize)
+/// The count of the site, 0 if it has no pair, and where the pair of the next site is likely to stand.
+pub fn count_near(counts: &[Count], guess: usize, site: u16) -> (u32, usize)
     requires { AreCounts 0 counts.now }
     ensures count { result.0 ≡ count_in counts.now site }
     ensures range { result.0 ≤ NUMBERS }
@@ -103,8 +80,8 @@ fn count_near(counts: &[Count], guess: usize, site: u16) -> (u32, usize)
     }
 }
 
-/// Where the pair of the site stands, or where it would go. A right guess spares the search.
-pub fn place_near(counts: &[Count], guess: usize, site: u16) -> Result<usize, usize>
+// Where the pair of the site stands, or where it would go. A right guess spares the search.
+fn place_near(counts: &[Count], guess: usize, site: u16) -> Result<usize, usize>
     requires { AreCounts 0 counts.now }
     ensures found { IfOk result (IsPlace counts.now site) }
     ensures absent { IfErr result (IsGap nat_lt counts.now site) }
@@ -112,56 +89,6 @@ pub fn place_near(counts: &[Count], guess: usize, site: u16) -> Result<usize, us
     match counts.get(guess) {
         Some(count) if count.site() == site => Ok(guess),
         _ => place_of_site(counts, site),
-    }
-}
-
-/// The first name of which `theirs` go higher than `mine`, with the least generation that `mine` lack. Both are
-/// read side by side.
-pub fn first_short_entry(mine: Reader<'_>, theirs: Reader<'_>) -> Option<(Name, u16)>
-    requires mine { AreEntries (left_of mine) }
-    requires theirs { AreEntries (left_of theirs) }
-    ensures { result ≡ first_short (entry_in (left_of mine.entry)) (left_of theirs.entry) }
-{
-    let mut left = mine;
-    let mut right = theirs;
-    while let Some(wanted) = right.first() {
-        match left.first() {
-            Some(had) if had.0.is_before(&wanted.0) => left.pass(1),
-            Some(had) if had.0 == wanted.0 => {
-                if had.1 < wanted.1 {
-                    return Some((wanted.0, had.1 + 1));
-                }
-                left.pass(1);
-                right.pass(1);
-            }
-            _ => return Some((wanted.0, 1)),
-        }
-    }
-    None
-}
-
-/// Whether both have the same entries left.
-pub fn are_same(mine: Reader<'_>, theirs: Reader<'_>) -> bool
-    ensures { result ≡ pointwise entry_eq (left_of mine.entry) (left_of theirs.entry) }
-{
-    let mut left = mine;
-    let mut right = theirs;
-    loop {
-        let one = left.front();
-        let other = right.front();
-        if one.is_empty() {
-            return other.is_empty();
-        }
-        if other.is_empty() {
-            return false;
-        }
-        let n = one.len().min(other.len());
-        if are_equal(one.split_at(n).0, other.split_at(n).0) {
-            left.pass(n);
-            right.pass(n);
-        } else {
-            return false;
-        }
     }
 }
 
@@ -177,17 +104,4 @@ pub fn are_equal<T: PartialEq>(one: &[T], other: &[T]) -> bool
         equal &= one[i] == other[i];
     }
     equal
-}
-
-/// The sum of the counts.
-pub fn total(counts: &[Count]) -> u32
-    requires { AreCounts 0 counts.now }
-    ensures total { result ≡ sum_of_counts counts.now }
-    ensures range { result ≤ SITES * NUMBERS }
-{
-    let mut sum = 0;
-    for count in counts {
-        sum += count.number();
-    }
-    sum
 }
