@@ -10,7 +10,11 @@ pub mod Rooms
 pub mod Marks
 pub mod Pieces
 pub mod Readers
+pub mod Merging
+pub mod Counting
+pub mod Parts
+pub mod Undone
 pub mod Digits
 pub mod Words
-pub mod Undone
+pub mod UndoneWords
 pub mod CallerLemmas

@@ -37,7 +37,7 @@ counts_decide p q = (
   λ e. subst (λ x. count_eq p x ≡ true) e (and_holds _ _ (number_order.itself p.0) (number_order.itself p.1)),
 )
 
-entries_decide : (e f : NameData × ℕ) → Decides (entry_eq e f) (e ≡ f)
+pub entries_decide : (e f : NameData × ℕ) → Decides (entry_eq e f) (e ≡ f)
 entries_decide e f = (
   λ h.
       let names = name_same e.0 f.0 (first_so (name_eq e.0 f.0) (e.1 == f.1) h) in

@@ -7,4 +7,4 @@
 
 mod vector;
 
-pub use vector::{AddBad, Count, SiteCounts, Entry, Names, Vector};
+pub use vector::{AddBad, Count, Entry, Names, SiteCounts, Vector};

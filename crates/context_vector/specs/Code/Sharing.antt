@@ -1,5 +1,6 @@
 -- Vectors by how their lists are kept: a few counts in the value itself, lists that are the vector's own, or lists that several have.
 use Rattle.std.specs.Prelude.{◌-◌, true, false, [], vec_len, vec_capacity}
+use Rattle.std.specs.Rc.{rc_value}
 use Rattle.context_vector.specs.Vectors.{VectorData}
 use Rattle.context_vector.specs.Code.Undone.{kept_of}
 use Rattle.context_vector.specs.declared.vector.lists.Lists.{Lists}
@@ -20,6 +21,6 @@ data_of (Own lists) = record {
   };
 }
 data_of (Shared lists) = record {
-  set = record { counts = lists.value.counts; entries = kept_of lists.value.undone };
+  set = record { counts = lists.value.counts; entries = kept_of rc_value lists.value.undone };
   room = record { own = false; counts = 0; entries = 0 };
 }

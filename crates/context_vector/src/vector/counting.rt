@@ -1,6 +1,6 @@
 //! SiteCounts read from the front: the public reader, searches and comparisons.
 
-ghost use Rattle.std.specs.Prelude.{◌≡◌, ◌*◌, ◌≤◌, ◌++◌, ℕ, List, None, drop, length, slice_get, IsTrue};
+ghost use Rattle.std.specs.Prelude.{◌≡◌, ◌+◌, ◌*◌, ◌≤◌, ◌++◌, ℕ, List, false, drop, length, slice_get, take, IsTrue};
 ghost use Rattle.context_vector.specs.Contexts.{count_in, sum_of_counts, AreCounts};
 ghost use Rattle.context_vector.specs.Vectors.{SitesBelow};
 ghost use Rattle.context_vector.specs.Marks.{counts_mark};
@@ -33,7 +33,7 @@ impl<'a> Model for SiteCounts<'a> {
 impl<'a> SiteCounts<'a> {
     // A reader of what is left there.
     pub(super) fn new(left: Reader<'a, Count>) -> SiteCounts<'a>
-        ensures { result ≡ left_of left }
+        ensures { result ≡ left_of left.entry }
     {
         SiteCounts { left }
     }
@@ -54,14 +54,30 @@ pub fn count_of(counts: Reader<'_, Count>, site: u16) -> u32
     ensures range { result ≤ NUMBERS }
 {
     let mut left = counts;
+    // Where all lower sites wrote too, the pair stands at the place of the site's number.
+    let mut guess = site as usize;
     loop {
         let part = left.front();
-        match part.last() {
-            Some(last) if last.site() < site => left.pass(part.len()),
-            // Where all lower sites wrote too, the pair stands at the place of the site's number.
-            Some(_) => return count_near(part, site as usize, site).0,
-            None => return 0,
+        if part.is_empty() {
+            return 0;
         }
+        if !ends_below(part, site) {
+            return count_near(part, guess, site);
+        }
+        guess = guess.saturating_sub(part.len());
+        left.pass(part.len());
+    }
+}
+
+// Whether all sites of the part are lesser ones. If not, all sites after it are greater ones.
+fn ends_below(part: &[Count], site: u16) -> bool
+    requires { AreCounts 0 part.now }
+    ensures below { IsTrue result → SitesBelow part.now site }
+    ensures reached { result ≡ false → (more : List (ℕ × ℕ)) → AreCounts 0 (part.now ++ more) → AreCounts (site + 1) more }
+{
+    match part.last() {
+        Some(last) => last.site() < site,
+        None => true,
     }
 }
 
@@ -73,18 +89,16 @@ pub fn seek(counts: &mut Reader<'_, Count>, site: u16) -> usize
     let mut passed = 0;
     loop {
         let part = counts.front();
-        match part.last() {
-            Some(last) if last.site() < site => {
-                passed += part.len();
-                counts.pass(part.len());
-            }
-            Some(_) => {
-                let n = place_from(part, site);
-                counts.pass(n);
-                return passed + n;
-            }
-            None => return passed,
+        if part.is_empty() {
+            return passed;
         }
+        if !ends_below(part, site) {
+            let n = place_from(part, site);
+            counts.pass(n);
+            return passed + n;
+        }
+        passed += part.len();
+        counts.pass(part.len());
     }
 }
 
@@ -124,23 +138,27 @@ pub fn first_short_site(mine: Reader<'_, Count>, theirs: Reader<'_, Count>) -> O
 
 // The same, one site after the other.
 fn first_short_by_one(mine: Reader<'_, Count>, theirs: Reader<'_, Count>) -> Option<(u16, u32)>
-    requires mine { (low : ℕ) × AreCounts low (left_of mine) }
-    requires theirs { (low : ℕ) × AreCounts low (left_of theirs) }
+    requires mine { AreCounts 0 (left_of mine) }
+    requires theirs { AreCounts 0 (left_of theirs) }
     ensures { result ≡ first_short (count_in (left_of mine.entry)) (left_of theirs.entry) }
 {
     let mut left = mine;
     let mut right = theirs;
     while let Some(wanted) = right.first() {
         match left.first() {
-            Some(had) if had.site() < wanted.site() => left.pass(1),
-            Some(had) if had.site() == wanted.site() => {
-                if had.number() < wanted.number() {
+            Some(had) => {
+                if had.site() < wanted.site() {
+                    left.pass(1);
+                } else if had.site() > wanted.site() {
+                    return Some((wanted.site(), 1));
+                } else if had.number() < wanted.number() {
                     return Some((wanted.site(), had.number() + 1));
+                } else {
+                    left.pass(1);
+                    right.pass(1);
                 }
-                left.pass(1);
-                right.pass(1);
             }
-            _ => return Some((wanted.site(), 1)),
+            None => return Some((wanted.site(), 1)),
         }
     }
     None

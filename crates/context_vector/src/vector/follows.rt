@@ -1,6 +1,7 @@
 //! Whether a set is another one with one original more.
 
-ghost use Rattle.std.specs.Prelude.{◌≡◌, IsTrue};
+ghost use Rattle.std.specs.Prelude.{◌≡◌, ◌∷◌, ℕ, IsTrue};
+ghost use Rattle.context_vector.specs.Code.Counting.{SitesFrom};
 ghost use Rattle.context_vector.specs.Code.Readers.{left_of};
 ghost use Rattle.op_name.specs.declared.member.Member.TheVariants.{Original};
 ghost use Rattle.context_vector.specs.Contexts.{put_count, raised, AreCounts, IsNextMember};
@@ -47,9 +48,18 @@ fn has_put(before: Reader<'_, Count>, after: Reader<'_, Count>, name: &Name) -> 
         Some(count) if count == Count::new(name.site, name.number) => {}
         _ => return false,
     }
-    match left.first() {
-        Some(had) if had.site() == name.site => left.pass(1),
-        _ => {}
-    }
+    pass_site(&mut left, name.site);
     are_same(left, right)
+}
+
+// Goes past the first pair, if it is of the site: what is left stands behind the site's pair, whatever that counts.
+fn pass_site(counts: &mut Reader<'_, Count>, site: u16)
+    requires { SitesFrom site (left_of counts.old) }
+    ensures { (k : ℕ) → put_count site k (left_of counts.old) ≡ (site, k) ∷ left_of counts.new }
+{
+    if let Some(had) = counts.first() {
+        if had.site() == site {
+            counts.pass(1);
+        }
+    }
 }

@@ -1,6 +1,7 @@
 //! Undone names that stay as they are, so that vectors may share them.
 
 ghost use Rattle.std.specs.Prelude.{◌≡◌, ◌≤◌, ◌*◌, [], length, IfOk};
+ghost use Rattle.std.specs.Rc.{rc_value};
 ghost use Rattle.context_vector.specs.Contexts.{entry_in, AreEntries};
 ghost use Rattle.context_vector.specs.Marks.{mark_of};
 ghost use Rattle.context_vector.specs.Code.Undone.{kept_of};
@@ -100,7 +101,7 @@ pub fn kept_like(
     undone: &Undone,
     like: Option<&Rc<Kept>>,
 ) -> Result<Option<Rc<Kept>>, Memory>
-    ensures { IfOk result (λ k. kept_of k ≡ undone.now.items) }
+    ensures { IfOk result (λ k. kept_of rc_value k ≡ undone.now.items) }
 {
     if undone.len() == 0 {
         return Ok(None);

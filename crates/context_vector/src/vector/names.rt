@@ -33,7 +33,7 @@ impl<'a> Model for Names<'a> {
 impl<'a> Names<'a> {
     // A reader of what is left there.
     pub(super) fn new(left: Reader<'a, Entry>) -> Names<'a>
-        ensures { result ≡ left_of left }
+        ensures { result ≡ left_of left.entry }
     {
         Names { left }
     }
@@ -57,14 +57,14 @@ impl<'a> Names<'a> {
 
     // A copy of what is left, in one list.
     pub(super) fn to_vec(self, alloc: Global) -> Result<Vec<Entry>, Memory>
-        ensures { IfOk result (λ v. v.items ≡ self) }
+        ensures { IfOk result (λ v. v.items ≡ self.entry) }
     {
         self.left.to_vec(alloc)
     }
 
     // Whether both have the same left.
     pub(super) fn is_same(self, other: Names<'_>) -> bool
-        ensures { result ≡ pointwise entry_eq self other }
+        ensures { result ≡ pointwise entry_eq self.entry other.entry }
     {
         are_same(self.left, other.left)
     }

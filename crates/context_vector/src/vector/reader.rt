@@ -1,6 +1,6 @@
 //! Lists read from the front, as many elements as stand in one piece at a time.
 
-ghost use Rattle.std.specs.Prelude.{◌≡◌, ◌≤◌, ◌∷◌, ◌++◌, [], true, false, drop, length, slice_get, IfOk, IfSome, IsTrue};
+ghost use Rattle.std.specs.Prelude.{◌≡◌, ◌≤◌, ◌∷◌, ◌++◌, List, [], true, false, drop, length, slice_get, IfOk, IfSome, IsTrue};
 ghost use lib.Pointwise.{pointwise};
 ghost use Rattle.context_vector.specs.Code.Pieces.{joined};
 ghost use Rattle.context_vector.specs.Code.Readers.{left_of};
@@ -104,7 +104,7 @@ impl<'a, T: Element> Reader<'a, T> {
 
     /// The i-th element of what is left.
     pub fn at(self, i: usize) -> Option<T>
-        ensures { result ≡ slice_get (left_of self) i }
+        ensures { result ≡ slice_get (left_of self.entry) i }
     {
         let mut left = self;
         let mut past = i;
@@ -123,7 +123,7 @@ impl<'a, T: Element> Reader<'a, T> {
 
     /// A copy of what is left.
     pub fn to_vec(self, alloc: Global) -> Result<Vec<T>, Memory>
-        ensures { IfOk result (λ v. v.items ≡ left_of self) }
+        ensures { IfOk result (λ v. v.items ≡ left_of self.entry) }
     {
         let mut all = Vec::new(alloc);
         let mut left = self;

@@ -1,12 +1,11 @@
 //! Lists whose keys rise: searches in them and comparisons of two of them.
 
-ghost use Rattle.std.specs.Prelude.{◌≡◌, ◌*◌, ◌≤◌, None, nat_lt, length, IfOk, IfErr, IsTrue};
-ghost use Rattle.context_vector.specs.Contexts.{count_in, entry_in, sum_of_counts, AreCounts, AreEntries};
+ghost use Rattle.std.specs.Prelude.{◌≡◌, ◌≤◌, nat_lt, IfOk, IfErr, IsTrue};
+ghost use Rattle.context_vector.specs.Contexts.{count_in, entry_in, AreCounts, AreEntries};
 ghost use Rattle.op_name.specs.NameData.{name_lt};
 ghost use lib.Pointwise.{pointwise};
 ghost use Rattle.context_vector.specs.Equality.{entry_eq};
-ghost use Rattle.context_vector.specs.Shortfalls.{first_short};
-ghost use Rattle.context_vector.specs.Code.Readers.{left_of};
+ghost use Rattle.context_vector.specs.Code.Counting.{AreEnough};
 ghost use Rattle.context_vector.specs.Code.Places.{IsPlace, IsGap};
 
 use super::count::Count;
@@ -38,7 +37,7 @@ pub fn count_among(counts: &[Count], site: u16) -> u32
     ensures range { result ≤ NUMBERS }
 {
     // Where all lower sites wrote too, the pair stands at the place of the site's number.
-    count_near(counts, site as usize, site).0
+    count_near(counts, site as usize, site)
 }
 
 /// The greatest generation of the name, 0 if it has no entry.
@@ -55,8 +54,7 @@ pub fn entry_among(entries: &[Entry], name: &Name) -> u16
 /// Whether both have the same sites, and `mine` count no less of each: without a way out of the loop, so that it can be compiled to one
 /// over several counts at a time. An answer of no says nothing.
 pub fn are_enough(mine: &[Count], theirs: &[Count]) -> bool
-    requires { AreCounts 0 mine.now }
-    ensures { IsTrue result → first_short (count_in mine.now) theirs.now ≡ None }
+    ensures { IsTrue result → AreEnough mine.now theirs.now }
 {
     if mine.len() != theirs.len() {
         return false;
@@ -68,15 +66,15 @@ pub fn are_enough(mine: &[Count], theirs: &[Count]) -> bool
     enough
 }
 
-/// The count of the site, 0 if it has no pair, and where the pair of the next site is likely to stand.
-pub fn count_near(counts: &[Count], guess: usize, site: u16) -> (u32, usize)
+/// The count of the site, 0 if it has no pair. It is looked up at the guessed place first.
+pub fn count_near(counts: &[Count], guess: usize, site: u16) -> u32
     requires { AreCounts 0 counts.now }
-    ensures count { result.0 ≡ count_in counts.now site }
-    ensures range { result.0 ≤ NUMBERS }
+    ensures count { result ≡ count_in counts.now site }
+    ensures range { result ≤ NUMBERS }
 {
     match place_near(counts, guess, site) {
-        Ok(at) => (counts[at].number(), at + 1),
-        Err(at) => (0, at),
+        Ok(at) => counts[at].number(),
+        Err(_) => 0,
     }
 }
 
