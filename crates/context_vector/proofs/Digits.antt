@@ -30,6 +30,17 @@ digit_other w (suc i) zero d below apart = omega arith
 digit_other w (suc i) (suc j) d below apart =
     rw (rest_is (with_digit (w / 16) i d) w) (digit_other (w / 16) i j d below (λ e. apart (ap suc e)))
 
+with_no_digit : (i : ℕ) → with_digit 0 i 0 ≡ 0
+with_no_digit zero = refl
+with_no_digit (suc i) = omega (arith, with_no_digit i)
+
+-- an empty word is empty with digit 0 alone
+pub still_empty : (w i d : ℕ) → w ≡ 0 → d ≡ 0 → with_digit w i d ≡ 0
+still_empty w i d none nought = (λ j. with_digit (none j) i (nought j)) ∙ with_no_digit i
+
+pub not_empty : (w i d : ℕ) → d < 16 → d ≢ 0 → with_digit w i d ≢ 0
+not_empty w i d below some none = some (sym (digit_same w i d below) ∙ (ap (λ x. digit x i) none ∙ digit_none i))
+
 -- a digit read by a shift, and a number with another digit as a sum
 pub digit_shift : (w i : ℕ) → digit w i ≡ w / 2 ^ (4 * i) % 16
 digit_shift w zero = omega arith

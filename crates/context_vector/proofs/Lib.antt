@@ -16,5 +16,6 @@ pub mod Parts
 pub mod Undone
 pub mod Digits
 pub mod Words
+pub mod WordReading
 pub mod UndoneWords
 pub mod CallerLemmas

@@ -22,7 +22,7 @@ use Rattle.context_vector.proofs.Members.{count_put, entry_put, entry_without}
 use Rattle.context_vector.proofs.Digits.{digit_below, digit_same, digit_other, with_digit_fits, digits_same}
 use Rattle.context_vector.proofs.Digits.{low_below, generation_again, same_digits, same_highs}
 use Rattle.context_vector.proofs.Words.{digit_of, entry_words, no_entry, entries_in_rise, words_rise, number_at, key_at, place_at}
-use Rattle.context_vector.proofs.Words.{place_below, one_place}
+use Rattle.context_vector.proofs.Words.{place_below, one_place, words_from}
 use Rattle.context_vector.proofs.Marks.{absent_before}
 
 -- a name that has a generation is in range
@@ -79,10 +79,6 @@ pub entries_in_range : (es : List (NameData × ℕ)) → AreEntries es → InRan
 entries_in_range es are n some = (entry_named es n are some, entry_at_most es n are)
 
 -- words with another one for a key
-words_from : (low from : ℕ) (ws : List (ℕ × ℕ)) → low ≤ from → AreWords from ws → AreWords low ws
-words_from low from [] le are = tt
-words_from low from (p ∷ ps) le are = (omega arith, are.1, are.2, are.3)
-
 words_put : (low k w : ℕ) (ws : List (ℕ × ℕ)) → low ≤ k → 1 ≤ w → w < 2 ^ 32 → AreWords low ws → AreWords low (put_count k w ws)
 words_put low k w [] from least below are = (from, least, below, tt)
 words_put low k w (p ∷ ps) from least below are =

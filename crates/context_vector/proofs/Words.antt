@@ -1,16 +1,19 @@
 -- Undone names in words: where a name stands, and its generation there.
 use Rattle.std.proofs.Common.{◌≡◌, ℕ, zero, suc, ◌+◌, ◌-◌, ◌*◌, ◌/◌, ◌%◌, ◌<◌, ◌≤◌, ◌≢◌, ◌^◌, true, false, List, [], ◌∷◌, ◌++◌}
-use Rattle.std.proofs.Common.{if◌then◌else◌, append_assoc, add-one, refl, sym, ap, subst, ◌∙◌, inl, inr, arith}
+use Rattle.std.proofs.Common.{if◌then◌else◌, set, get_or, append_assoc, add-one, refl, sym, ap, subst, ◌∙◌, inl, inr, arith}
 use Rattle.std.specs.Prelude.{◌==◌, nat_lt}
 use Rattle.std.proofs.lemmas.Bool.{cases_order, eq-eqb, ne_eqb, lt-ltb, false_from_ne_true}
 use Rattle.std.proofs.lemmas.Bool.Decides.{nat_tests}
 use Rattle.op_name.specs.NameData.{NameData, name_eq, name_lt}
 use Rattle.op_name.proofs.CallerLemmas.{number_order, name_same, name_itself, same_parts}
-use Rattle.context_vector.specs.Contexts.{count_in, entry_in}
+use Rattle.context_vector.specs.Contexts.{count_in, entry_in, put_count}
+use Rattle.context_vector.specs.Vectors.{without_site}
+use Rattle.std.specs.List.{insert, remove}
 use Rattle.context_vector.specs.Code.Words.{digit, code, word_key, place_in, name_at, generation, generation_at}
-use Rattle.context_vector.specs.Code.Words.{names_from, names_in, entries_in, AreWords}
-use Rattle.context_vector.proofs.Keyed.{AllAfter, IsRising, value_after}
-use Rattle.context_vector.proofs.Counts.{same_site, count_is}
+use Rattle.context_vector.specs.Code.Words.{names_from, names_in, entries_in, AreWords, set_word}
+use Rattle.context_vector.proofs.Keyed.{AllAfter, IsRising, value_after, value_is, put_is_set, take_out_is_remove}
+use Rattle.context_vector.proofs.Counts.{same_site, count_is, put_count_is, without_site_is, count_in_gap, put_in_gap}
+use Rattle.context_vector.specs.Code.Places.{IsPlace, IsGap}
 use Rattle.context_vector.proofs.Digits.{digit_none}
 
 -- a name with a number of 20 bits stands at one place of one word
@@ -109,8 +112,54 @@ pub words_rise : (low : ℕ) (ws : List (ℕ × ℕ)) → AreWords low ws → Is
 words_rise low [] are = tt
 words_rise low (p ∷ ps) are = (are.1, words_after p.0 (p.0 + 1) ps (omega arith) are.3, words_rise (p.0 + 1) ps are.3)
 
-no_word : (k low : ℕ) (ws : List (ℕ × ℕ)) → k < low → AreWords low ws → count_in ws k ≡ 0
+-- a lower bound may be lowered
+pub words_from : (low from : ℕ) (ws : List (ℕ × ℕ)) → low ≤ from → AreWords from ws → AreWords low ws
+words_from low from [] le are = tt
+words_from low from (p ∷ ps) le are = (omega arith, are.1, are.2, are.3)
+
+pub no_word : (k low : ℕ) (ws : List (ℕ × ℕ)) → k < low → AreWords low ws → count_in ws k ≡ 0
 no_word k low ws less are = count_is ws k ∙ value_after same_site nat_lt number_order k ws (words_after k low ws less are)
+
+-- what stands at the place of a key, and what a write and a removal there make
+pub word_at_place : (ws : List (ℕ × ℕ)) (k i : ℕ) (d : ℕ × ℕ) → AreWords 0 ws → IsPlace ws k i → count_in ws k ≡ (get_or ws i d).1
+word_at_place ws k i d are place = count_is ws k ∙ value_is same_site nat_lt number_order ws (words_rise 0 ws are) k i place d
+
+put_word_at_place : (ws : List (ℕ × ℕ)) (k w i : ℕ) → AreWords 0 ws → IsPlace ws k i → set ws i (k, w) ≡ put_count k w ws
+put_word_at_place ws k w i are place =
+    sym (put_count_is k w ws ∙ put_is_set same_site nat_lt number_order ws (words_rise 0 ws are) k w i place)
+
+remove_word_at_place : (ws : List (ℕ × ℕ)) (k i : ℕ) → AreWords 0 ws → IsPlace ws k i → remove ws i ≡ without_site k ws
+remove_word_at_place ws k i are place =
+    sym (without_site_is k ws ∙ take_out_is_remove same_site nat_lt number_order ws (words_rise 0 ws are) k i place)
+
+without_no_word : (low k : ℕ) (ws : List (ℕ × ℕ)) → AreWords low ws → count_in ws k ≡ 0 → without_site k ws ≡ ws
+without_no_word low k [] are none = refl
+without_no_word low k (p ∷ ps) are none =
+    elim (cases_order p.0 k) [
+      | inl one ↦
+          let here : p.1 ≡ 0 = rw (eq-eqb p.0 k one) at none in
+          absurd (omega (arith, here, are.1))
+      | inr other ↦
+          let later : count_in ps k ≡ 0 = rw (ne_eqb p.0 k (omega arith)) at none in
+          rw (ne_eqb p.0 k (omega arith)) (ap (λ xs. p ∷ xs) (without_no_word (p.0 + 1) k ps are.3 later))
+    ]
+
+-- a word that is set, at its place or in its gap
+pub set_removed : (ws : List (ℕ × ℕ)) (k w i : ℕ) → AreWords 0 ws → IsPlace ws k i → w ≡ 0 → remove ws i ≡ set_word k w ws
+unfolding set_word
+set_removed ws k w i are place none = rw (eq-eqb w 0 none) (remove_word_at_place ws k i are place)
+
+pub set_placed : (ws : List (ℕ × ℕ)) (k w i : ℕ) → AreWords 0 ws → IsPlace ws k i → w ≢ 0 → set ws i (k, w) ≡ set_word k w ws
+unfolding set_word
+set_placed ws k w i are place some = rw (ne_eqb w 0 some) (put_word_at_place ws k w i are place)
+
+pub set_absent : (ws : List (ℕ × ℕ)) (k w i : ℕ) → AreWords 0 ws → IsGap nat_lt ws k i → w ≡ 0 → ws ≡ set_word k w ws
+unfolding set_word
+set_absent ws k w i are gap none = rw (eq-eqb w 0 none) (sym (without_no_word 0 k ws are (count_in_gap ws k i gap)))
+
+pub set_inserted : (ws : List (ℕ × ℕ)) (k w i : ℕ) → IsGap nat_lt ws k i → w ≢ 0 → insert ws i (k, w) ≡ set_word k w ws
+unfolding set_word
+set_inserted ws k w i gap some = rw (ne_eqb w 0 some) (put_in_gap ws k w i gap)
 
 -- the digit of a name in its word
 abbrev pub digit_of : List (ℕ × ℕ) → NameData → ℕ

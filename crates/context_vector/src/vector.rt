@@ -22,6 +22,7 @@ mod entry;
 mod equality;
 mod few;
 mod follows;
+mod generations;
 mod kept;
 mod lists;
 mod marks;
@@ -32,6 +33,8 @@ mod rising;
 mod stored;
 mod undone;
 mod word;
+mod word_reader;
+mod words;
 
 pub use count::Count;
 pub use counting::SiteCounts;

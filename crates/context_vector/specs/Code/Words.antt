@@ -58,6 +58,18 @@ abbrev pub entries_in : List (NameData × ℕ) → List (ℕ × ℕ) → List (N
 entries_in hs [] = []
 entries_in hs (p ∷ ps) = names_in hs p ++ entries_in hs ps
 
+-- the undone names of a word from place i on, where these are its digits from there on
+unfoldable pub names_left : List (NameData × ℕ) → ℕ → ℕ → ℕ → List (NameData × ℕ)
+names_left hs k i w = names_from (λ j. generation (digit w (j - i)) (entry_in hs (name_at k j))) k i (8 - i)
+
+-- those, and the undone names of the words after it
+abbrev pub left_in : List (NameData × ℕ) → ℕ → ℕ → ℕ → List (ℕ × ℕ) → List (NameData × ℕ)
+left_in hs k i w ws = names_left hs k i w ++ entries_in hs ws
+
+-- the number has no more digits than a word has places from i on
+abbrev pub IsLeft : ℕ → ℕ → Type 0
+IsLeft i w = (i ≤ 8) × (w < 16 ^ (8 - i))
+
 -- keys from `low` on, rising, each with a word of eight digits that isn't empty
 abbrev pub AreWords : ℕ → List (ℕ × ℕ) → Type 0
 AreWords low [] = Unit {0}
