@@ -1,6 +1,7 @@
 -- Counts that are read in parts, from the front.
 use Rattle.std.proofs.Common.{◌≡◌, ℕ, zero, suc, ◌+◌, ◌-◌, ◌<◌, ◌≤◌, ◌≢◌, true, false, List, [], ◌∷◌, ◌++◌, length, get_or, take, drop, if◌then◌else◌, Some, None, refl, sym, ap, subst, ◌∙◌, arith}
-use Rattle.std.specs.Prelude.{◌==◌, Option, nat_lt, nat_le, slice_get}
+use Rattle.std.specs.Prelude.{◌==◌, nat_lt, nat_le, slice_get}
+use Rattle.std.proofs.Math.Seq.{take-append_seam}
 use Rattle.std.proofs.lemmas.Bool.{eq-eqb, ne_eqb, lt-ltb, ltb-true}
 use Rattle.std.proofs.lemmas.Bool.Decides.{nat_tests}
 use Rattle.std.proofs.lemmas.List.{append_assoc, take-append-le}
@@ -14,7 +15,7 @@ use Rattle.context_vector.specs.Code.Counting.{AreEnough, SitesFrom}
 use Rattle.context_vector.specs.Code.Places.{IsPlace, IsGap}
 use Rattle.context_vector.proofs.Keyed.{value_at, value_after}
 use Rattle.context_vector.proofs.Counts.{same_site, count_is, counts_after, counts_from, counts_rise, parts_of}
-use Rattle.context_vector.proofs.Merging.{begins, mine_passed, both_passed, short_first, lacks_all, lacks_first, enough_passed}
+use Rattle.context_vector.proofs.Merging.{begins, ends, mine_passed, both_passed, short_first, lacks_all, lacks_first, enough_passed}
 
 -- parts of counts are counts
 pub counts_left : (low : ℕ) (ps qs : List (ℕ × ℕ)) → AreCounts low (ps ++ qs) → AreCounts low ps
@@ -121,12 +122,29 @@ put_past (p ∷ ps) qs s k below = rw (ne_eqb p.0 s (omega (arith, below.0)), mo
 pub put_first : (qs : List (ℕ × ℕ)) (q : ℕ × ℕ) (s k : ℕ) → slice_get qs 0 ≡ Some q → q.0 ≡ s → put_count s k qs ≡ (s, k) ∷ drop 1 qs
 put_first qs q s k is same = ap (put_count s k) (begins qs q is) ∙ rw (eq-eqb q.0 s same) refl
 
-pub put_before : (qs : List (ℕ × ℕ)) (s k : ℕ) → SitesFrom s qs → ((q : ℕ × ℕ) → slice_get qs 0 ≡ Some q → q.0 ≢ s) → put_count s k qs ≡ (s, k) ∷ qs
-put_before [] s k from other = refl
-put_before (q ∷ qs) s k from other = rw (ne_eqb q.0 s (other q refl), le_is_true s q.0 from.0) refl
+pub put_before : (qs : List (ℕ × ℕ)) (q : ℕ × ℕ) (s k : ℕ) → SitesFrom s qs → slice_get qs 0 ≡ Some q → q.0 ≢ s → put_count s k qs ≡ (s, k) ∷ qs
+put_before [] q s k from is other = refl
+put_before (p ∷ qs) q s k from is other =
+    let same = same_pair p q is in
+    let other' : p.0 ≢ s = subst (λ (x : ℕ × ℕ). x.0 ≢ s) (sym same) other in
+    rw (ne_eqb p.0 s other', le_is_true s p.0 from.0) refl
   where
     le_is_true : (a b : ℕ) → a ≤ b → nat_le a b ≡ true
     le_is_true a b le = grind (arith, nat_tests)
+
+pub put_alone : (qs : List (ℕ × ℕ)) (s k : ℕ) → slice_get qs 0 ≡ None → put_count s k qs ≡ (s, k) ∷ qs
+put_alone qs s k is = ap (put_count s k) (ends qs is) ∙ ap (λ xs. (s, k) ∷ xs) (sym (ends qs is))
+
+-- a list that begins as another one up to a site, and has this count of it before what comes behind the site in the other one
+same_fronts : (xs ys left mine : List (ℕ × ℕ)) → length xs ≡ length ys → xs ++ left ≡ ys ++ mine → xs ≡ ys
+same_fronts xs ys left mine long same =
+    sym (take-append_seam xs left) ∙ ((λ j. take (long j) (same j)) ∙ take-append_seam ys mine)
+
+pub put_between : (before after xs ys left mine rest : List (ℕ × ℕ)) (s k : ℕ) → length xs ≡ length ys → before ≡ xs ++ left → before ≡ ys ++ mine → SitesBelow xs s → put_count s k left ≡ (s, k) ∷ rest → after ≡ ys ++ (s, k) ∷ rest → after ≡ put_count s k before
+put_between before after xs ys left mine rest s k long whole whole' below put is =
+    is
+    ∙ ((λ j. sym (same_fronts xs ys left mine long (sym whole ∙ whole')) j ++ sym put j)
+    ∙ (sym (put_past xs left s k below) ∙ ap (put_count s k) (sym whole)))
 
 -- a part of what is left joins what was passed
 pub passed_more : (all xs left part rest now : List (ℕ × ℕ)) (n : ℕ) → all ≡ xs ++ left → left ≡ part ++ rest → now ≡ drop n part ++ rest → all ≡ (xs ++ take n part) ++ now

@@ -1,20 +1,24 @@
--- Undone names with another generation for a name, or with one more after the last.
-use Rattle.std.proofs.Common.{◌≡◌, ℕ, ◌+◌, ◌<◌, ◌≤◌, ◌≢◌, true, false, List, [], ◌∷◌, ◌++◌, if◌then◌else◌, refl, ap, subst, ◌∙◌, inl, inr, arith}
+-- Undone names: a list with another generation for a name, lists that are read in parts, and two that are read side by side.
+use Rattle.std.proofs.Common.{◌≡◌, ℕ, zero, suc, ◌+◌, ◌-◌, ◌<◌, ◌≤◌, ◌≢◌, true, false, List, [], ◌∷◌, ◌++◌, length, drop, if◌then◌else◌, Some, None, refl, sym, ap, subst, ◌∙◌, inl, inr, arith}
+use Rattle.std.specs.Prelude.{slice_get}
+use Rattle.std.specs.List.{remove}
 use Rattle.std.proofs.lemmas.Bool.{cases_order, eq-eqb, ne_eqb}
+use Rattle.std.proofs.lemmas.Option.{slice_get_within}
+use Rattle.std.proofs.Math.Seq.{drop-append_seam}
 use mathlib.Core.Bool.{false≢true}
-use Rattle.std.proofs.Common.{sym}
 use Rattle.op_name.specs.declared.member.TheConstants.{GENERATIONS}
 use Rattle.op_name.specs.NameData.{NameData, IsName, name_eq, name_lt}
-use Rattle.op_name.proofs.CallerLemmas.{name_order, cases_by_order}
-use Rattle.context_vector.specs.Contexts.{entry_in, put_entry, AreEntries}
+use Rattle.op_name.proofs.CallerLemmas.{name_order, name_same, name_transitive, cases_by_order}
+use Rattle.context_vector.specs.Contexts.{entry_in, put_entry, IsBefore, AreEntries}
 use Rattle.context_vector.specs.Vectors.{without_name, NamesBelow}
 use Rattle.context_vector.specs.Marks.{weight, mark_of}
+use Rattle.context_vector.specs.Shortfalls.{first_short}
 use Rattle.context_vector.specs.Code.Places.{IsPlace}
 use Rattle.context_vector.specs.Code.Undone.{set_entry}
-use Rattle.context_vector.proofs.Keyed.{take_out_is_remove}
-use Rattle.context_vector.proofs.Entries.{entries_rise, entries_put, entries_without, without_name_is}
+use Rattle.context_vector.proofs.Keyed.{AllAfter, value_at, value_after, take_out_is_remove}
+use Rattle.context_vector.proofs.Entries.{entry_is, entries_after, entries_rise, entries_put, entries_without, without_name_is}
 use Rattle.context_vector.proofs.Marks.{weight_none, mark_put, mark_without}
-use Rattle.std.specs.List.{remove}
+use Rattle.context_vector.proofs.Merging.{mine_passed, both_passed, short_first, lacks_all, lacks_first}
 
 -- generation 0 takes the name out, and another one is put
 pub set_none : (n : NameData) (g : ℕ) (es : List (NameData × ℕ)) → g ≡ 0 → set_entry n g es ≡ without_name n es
@@ -62,3 +66,104 @@ put_last n g [] below = refl
 put_last n g (e ∷ es) below =
     let first = lesser_first e.0 n below.0 in
     rw (first.0, first.1) (ap (λ fs. e ∷ fs) (put_last n g es below.1))
+
+-- parts of entries are entries
+before_left : (n : NameData) (es fs : List (NameData × ℕ)) → IsBefore n (es ++ fs) → IsBefore n es
+before_left n [] fs before = tt
+before_left n (e ∷ es) fs before = before
+
+pub entries_left : (es fs : List (NameData × ℕ)) → AreEntries (es ++ fs) → AreEntries es
+entries_left [] fs are = tt
+entries_left (e ∷ es) fs are = (are.0, are.1, are.2, before_left e.0 es fs are.3, entries_left es fs are.4)
+
+pub entries_right : (es fs : List (NameData × ℕ)) → AreEntries (es ++ fs) → AreEntries fs
+entries_right [] fs are = are
+entries_right (e ∷ es) fs are = entries_right es fs are.4
+
+pub entries_rest : (n : ℕ) (es : List (NameData × ℕ)) → AreEntries es → AreEntries (drop n es)
+entries_rest zero es are = are
+entries_rest (suc n) [] are = tt
+entries_rest (suc n) (e ∷ es) are = entries_rest n es are.4
+
+-- an entry is looked up in the part that reaches its name
+same_entry : (e f : NameData × ℕ) → Some e ≡ Some f → e ≡ f
+same_entry e f is = cc
+
+last_below : (es : List (NameData × ℕ)) (i : ℕ) (e : NameData × ℕ) (n : NameData) → AreEntries es → length es ≡ suc i → slice_get es i ≡ Some e → name_lt e.0 n ≡ true → NamesBelow es n
+last_below [] i e n are long is less = tt
+last_below (x ∷ []) zero e n are long is less = (subst (λ (y : NameData × ℕ). name_lt y.0 n ≡ true) (sym (same_entry x e is)) less, tt)
+last_below (x ∷ []) (suc i) e n are long is less = absurd (omega (arith, long))
+last_below (x ∷ (y ∷ es)) zero e n are long is less = absurd (omega (arith, long))
+last_below (x ∷ (y ∷ es)) (suc i) e n are long is less =
+    let rest = last_below (y ∷ es) i e n are.4 (omega (arith, long)) is less in
+    (name_transitive x.0 y.0 n are.3 rest.0, rest)
+
+not_less_after : (m n : NameData) (es : List (NameData × ℕ)) → name_lt m n ≡ false → AllAfter name_eq name_lt m es → AllAfter name_eq name_lt n es
+not_less_after m n [] not_less after = tt
+not_less_after m n (e ∷ es) not_less after =
+    (
+      cases_by_order name_eq name_lt name_order m n _
+      (λ is q q' l l'. subst (λ x. name_lt x e.0 ≡ true) is after.0)
+      (λ q q' l l'. absurd (false≢true (sym not_less ∙ l)))
+      (λ q q' l l'. name_transitive n m e.0 l' after.0),
+      not_less_after m n es not_less after.1,
+    )
+
+last_reaches : (es : List (NameData × ℕ)) (i : ℕ) (e : NameData × ℕ) (n : NameData) (more : List (NameData × ℕ)) → AreEntries (es ++ more) → length es ≡ suc i → slice_get es i ≡ Some e → name_lt e.0 n ≡ false → AllAfter name_eq name_lt n more
+last_reaches [] i e n more are long is not_less = absurd (omega (arith, long))
+last_reaches (x ∷ []) zero e n more are long is not_less =
+    let last = subst (λ (y : NameData × ℕ). name_lt y.0 n ≡ false) (sym (same_entry x e is)) not_less in
+    not_less_after x.0 n more last (entries_after x.0 more are.3 are.4)
+last_reaches (x ∷ []) (suc i) e n more are long is not_less = absurd (omega (arith, long))
+last_reaches (x ∷ (y ∷ es)) zero e n more are long is not_less = absurd (omega (arith, long))
+last_reaches (x ∷ (y ∷ es)) (suc i) e n more are long is not_less = last_reaches (y ∷ es) i e n more are.4 (omega (arith, long)) is not_less
+
+entry_behind : (es fs : List (NameData × ℕ)) (n : NameData) → NamesBelow es n → entry_in (es ++ fs) n ≡ entry_in fs n
+entry_behind [] fs n below = refl
+entry_behind (e ∷ es) fs n below = rw (lesser_first e.0 n below.0).0 (entry_behind es fs n below.1)
+
+entry_within : (es fs : List (NameData × ℕ)) (n : NameData) → AllAfter name_eq name_lt n fs → entry_in (es ++ fs) n ≡ entry_in es n
+entry_within [] fs n after = entry_is fs n ∙ value_after name_eq name_lt name_order n fs after
+entry_within (e ∷ es) fs n after = ap (λ v. if name_eq e.0 n then e.1 else v) (entry_within es fs n after)
+
+last_place : (es : List (NameData × ℕ)) (e : NameData × ℕ) → slice_get es (length es - 1) ≡ Some e → length es ≡ suc (length es - 1)
+last_place es e is = omega (arith, slice_get_within es (length es - 1) e is)
+
+pub part_passed : (part rest : List (NameData × ℕ)) (last : NameData × ℕ) (n : NameData) → AreEntries (part ++ rest) → slice_get part (length part - 1) ≡ Some last → name_lt last.0 n ≡ true → entry_in (drop (length part) (part ++ rest)) n ≡ entry_in (part ++ rest) n
+part_passed part rest last n are is less =
+    ap (λ es. entry_in es n) (drop-append_seam part rest)
+    ∙ sym (entry_behind part rest n (last_below part (length part - 1) last n (entries_left part rest are) (last_place part last is) is less))
+
+pub part_reaches : (part rest : List (NameData × ℕ)) (last : NameData × ℕ) (n : NameData) → AreEntries (part ++ rest) → slice_get part (length part - 1) ≡ Some last → name_lt last.0 n ≡ false → entry_in (part ++ rest) n ≡ entry_in part n
+part_reaches part rest last n are is not_less =
+    entry_within part rest n (last_reaches part (length part - 1) last n rest are (last_place part last is) is not_less)
+
+-- two lists of entries, read side by side
+short_is : (es fs : List (NameData × ℕ)) → first_short (entry_in es) fs ≡ first_short (value_at name_eq name_lt es) fs
+short_is es fs = ap (λ (had : NameData → ℕ). first_short had fs) (λ j n. entry_is es n j)
+
+pub lesser_passed : (es fs : List (NameData × ℕ)) (e f : NameData × ℕ) → AreEntries fs → slice_get es 0 ≡ Some e → slice_get fs 0 ≡ Some f → name_lt e.0 f.0 ≡ true → first_short (entry_in es) fs ≡ first_short (entry_in (drop 1 es)) fs
+lesser_passed es fs e f are is is' less =
+    short_is es fs ∙ (mine_passed name_eq name_lt name_order es fs e f (entries_rise fs are) is is' less ∙ sym (short_is (drop 1 es) fs))
+
+pub same_passed : (es fs : List (NameData × ℕ)) (e f : NameData × ℕ) → AreEntries fs → slice_get es 0 ≡ Some e → slice_get fs 0 ≡ Some f → name_eq e.0 f.0 ≡ true → f.1 ≤ e.1 → first_short (entry_in es) fs ≡ first_short (entry_in (drop 1 es)) (drop 1 fs)
+same_passed es fs e f are is is' same enough =
+    let passed = both_passed name_eq name_lt name_order es fs e f (entries_rise fs are) is is' (sym (name_same e.0 f.0 same)) enough in
+    short_is es fs ∙ (passed ∙ sym (short_is (drop 1 es) (drop 1 fs)))
+
+pub name_short : (es fs : List (NameData × ℕ)) (e f : NameData × ℕ) → slice_get es 0 ≡ Some e → slice_get fs 0 ≡ Some f → name_eq e.0 f.0 ≡ true → e.1 < f.1 → first_short (entry_in es) fs ≡ Some (f.0, e.1 + 1)
+name_short es fs e f is is' same less = short_is es fs ∙ short_first name_eq name_lt name_order es fs e f is is' (sym (name_same e.0 f.0 same)) less
+
+not_less : (m n : NameData) → name_lt m n ≡ false → name_eq m n ≡ false → name_lt n m ≡ true
+not_less m n not_before other =
+    cases_by_order name_eq name_lt name_order m n _
+    (λ is q q' l l'. absurd (false≢true (sym other ∙ q)))
+    (λ q q' l l'. absurd (false≢true (sym not_before ∙ l)))
+    (λ q q' l l'. l')
+
+pub name_lacks : (es fs : List (NameData × ℕ)) (e f : NameData × ℕ) → AreEntries es → AreEntries fs → slice_get es 0 ≡ Some e → slice_get fs 0 ≡ Some f → name_lt e.0 f.0 ≡ false → name_eq e.0 f.0 ≡ false → first_short (entry_in es) fs ≡ Some (f.0, 1)
+name_lacks es fs e f are are' is is' not_before other =
+    short_is es fs ∙ lacks_first name_eq name_lt name_order es fs e f (entries_rise es are) (entries_rise fs are') is is' (not_less e.0 f.0 not_before other)
+
+pub names_lack : (es fs : List (NameData × ℕ)) (f : NameData × ℕ) → AreEntries fs → slice_get es 0 ≡ None → slice_get fs 0 ≡ Some f → first_short (entry_in es) fs ≡ Some (f.0, 1)
+names_lack es fs f are is is' = short_is es fs ∙ lacks_all name_eq name_lt name_order es fs f (entries_rise fs are) is is'

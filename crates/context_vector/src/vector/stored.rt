@@ -37,13 +37,13 @@ impl<T: Element> Stored<T> {
                 rest: Vec::new(alloc),
             });
         }
-        let rest = match like {
-            Some(like) => pieces_like(alloc, list, like.rest.as_slice())?,
-            None => pieces_like(alloc, list, &[])?,
+        let pieces = match like {
+            Some(like) => like.rest.as_slice(),
+            None => &[],
         };
         Ok(Stored {
             first: Vec::new(alloc),
-            rest,
+            rest: pieces_like(alloc, list, pieces)?,
         })
     }
 

@@ -1,6 +1,5 @@
-use Rattle.std.proofs.Common.{◌≤◌, length, ap, arith}
+use Rattle.std.proofs.Common.{length, ap, arith}
 use Rattle.std.proofs.lemmas.List.{length-append}
-use Rattle.op_name.specs.declared.name.TheConstants.{SITES}
 use Rattle.context_vector.specs.Code.Pieces.{joined}
 use Rattle.context_vector.specs.Code.Readers.{left_of}
 use Rattle.context_vector.proofs.Counts.{sites_at_most}

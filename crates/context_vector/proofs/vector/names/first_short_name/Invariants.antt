@@ -9,7 +9,7 @@ abbrev pub invariant-loop-wanted : goal.invariant-loop-wanted
 invariant-loop-wanted l =
     AreEntries (left_of l.left)
     × AreEntries (left_of l.right)
-    × (first_short (entry_in (left_of l.fn.mine)) (left_of l.fn.theirs) ≡ first_short (entry_in (left_of l.left)) (left_of l.right))
+    × (first_short (entry_in l.fn.mine) l.fn.theirs ≡ first_short (entry_in (left_of l.left)) (left_of l.right))
 
 abbrev pub decreases-loop-wanted : goal.decreases-loop-wanted
 decreases-loop-wanted l = length (left_of l.left) + length (left_of l.right)
