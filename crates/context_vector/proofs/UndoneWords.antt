@@ -3,7 +3,8 @@ use Rattle.std.proofs.Common.{◌≡◌, ℕ, ◌+◌, ◌<◌, ◌≤◌, ◌�
 use Rattle.std.proofs.Common.{List, [], ◌∷◌, ◌++◌, length, if◌then◌else◌, refl, sym, ap, subst, ◌∙◌, inl, inr, arith}
 use Rattle.std.specs.Prelude.{◌==◌, nat_lt, nat_le}
 use Rattle.std.proofs.lemmas.Bool.{cases_order, cases_lt, cases_Bool, eq-eqb, ne_eqb}
-use Rattle.std.proofs.lemmas.Bool.Decides.{nat_tests}
+use Rattle.std.proofs.lemmas.Bool.Decides.{nat_tests, same_from_decides}
+use lib.Pointwise.{pointwise}
 use mathlib.Core.Bool.{false≢true}
 use Rattle.op_name.specs.declared.member.TheConstants.{GENERATIONS}
 use Rattle.op_name.specs.NameData.{NameData, IsName, name_eq, name_lt}
@@ -14,6 +15,10 @@ use Rattle.context_vector.specs.Marks.{weight, mark_of}
 use Rattle.context_vector.specs.Code.Words.{digit, with_digit, word_key, place_in, name_at, generation, low_of, high_of, entries_in}
 use Rattle.context_vector.specs.Code.Words.{AreWords, AreUndone, set_word, words_with}
 use Rattle.context_vector.specs.Code.Undone.{set_entry}
+use Rattle.context_vector.specs.Code.Counting.{AreEnough}
+use Rattle.context_vector.specs.Equality.{count_eq, entry_eq, count_list_decides, list_eq_decides}
+use Rattle.context_vector.specs.Shortfalls.{first_short}
+use Rattle.context_vector.proofs.Merging.{enough_passed}
 use Rattle.context_vector.proofs.Keyed.{value_at, AllAfter, IsRising, same_values, value_after, value_take_out}
 use Rattle.context_vector.proofs.Counts.{same_site, count_is, without_site_is}
 use Rattle.context_vector.proofs.Entries.{entry_is, entries_rise, entry_at_most}
@@ -21,7 +26,7 @@ use Rattle.context_vector.proofs.Undone.{entries_set}
 use Rattle.context_vector.proofs.Members.{count_put, entry_put, entry_without}
 use Rattle.context_vector.proofs.Digits.{digit_below, digit_same, digit_other, with_digit_fits, digits_same}
 use Rattle.context_vector.proofs.Digits.{low_below, generation_again, same_digits, same_highs}
-use Rattle.context_vector.proofs.Words.{digit_of, entry_words, no_entry, entries_in_rise, words_rise, number_at, key_at, place_at}
+use Rattle.context_vector.proofs.Words.{digit_of, entry_words, no_entry, entries_append, entries_in_rise, words_rise, number_at, key_at, place_at}
 use Rattle.context_vector.proofs.Words.{place_below, one_place, words_from}
 use Rattle.context_vector.proofs.Marks.{absent_before}
 
@@ -292,13 +297,47 @@ equal_above ws vs hs is are are' same n =
           ]
     ]
 
+same_words : (ws vs : List (ℕ × ℕ)) (hs is : List (NameData × ℕ)) → AreWords 0 ws → AreWords 0 vs →
+    entries_in hs ws ≡ entries_in is vs → ws ≡ vs
+same_words ws vs hs is are are' same =
+    same_values same_site nat_lt number_order ws vs (words_rise 0 ws are) (words_rise 0 vs are')
+    (λ k. sym (count_is ws k) ∙ (equal_words ws vs hs is are are' same k ∙ count_is vs k))
+
 pub words_same : (ws vs : List (ℕ × ℕ)) (hs is : List (NameData × ℕ)) → AreUndone ws hs → AreUndone vs is →
     entries_in hs ws ≡ entries_in is vs → (ws ≡ vs) × (hs ≡ is)
 words_same ws vs hs is are are' same = (
-  same_values same_site nat_lt number_order ws vs (words_rise 0 ws are.words) (words_rise 0 vs are'.words)
-      (λ k. sym (count_is ws k) ∙ (equal_words ws vs hs is are.words are'.words same k ∙ count_is vs k)),
+  same_words ws vs hs is are.words are'.words same,
   same_entries hs is (entries_rise hs are.high) (entries_rise is are'.high) (equal_above ws vs hs is are are' same),
 )
+
+-- words over one second list are compared in the place of their names
+pub words_compared : (ws vs : List (ℕ × ℕ)) (hs : List (NameData × ℕ)) → AreWords 0 ws → AreWords 0 vs →
+    pointwise count_eq ws vs ≡ pointwise entry_eq (entries_in hs ws) (entries_in hs vs)
+words_compared ws vs hs are are' =
+    let by_words = count_list_decides ws vs in
+    let names = λ (same : ws ≡ vs). ap (entries_in hs) same in
+    same_from_decides (pointwise count_eq ws vs) (pointwise entry_eq (entries_in hs ws) (entries_in hs vs))
+    (λ e. names (by_words.0 e), λ same. by_words.1 (same_words ws vs hs hs are are' same)) (list_eq_decides (entries_in hs ws) (entries_in hs vs))
+
+-- words that both lists begin with have no name that one of them lacks
+enough_itself : (es : List (NameData × ℕ)) → AreEnough es es
+enough_itself [] = tt
+enough_itself (e ∷ es) = (refl, omega arith, enough_itself es)
+
+short_is : (es fs : List (NameData × ℕ)) → first_short (entry_in es) fs ≡ first_short (value_at name_eq name_lt es) fs
+short_is es fs = ap (λ (had : NameData → ℕ). first_short had fs) (λ j n. entry_is es n j)
+
+pub words_passed : (xs ws vs : List (ℕ × ℕ)) (hs : List (NameData × ℕ)) → AreWords 0 (xs ++ vs) →
+    first_short (entry_in (entries_in hs ws)) (entries_in hs vs)
+    ≡ first_short (entry_in (entries_in hs (xs ++ ws))) (entries_in hs (xs ++ vs))
+words_passed xs ws vs hs are =
+    let es = entries_in hs xs in
+    let rise = subst (IsRising name_eq name_lt) (entries_append hs xs vs) (entries_in_rise hs 0 (xs ++ vs) are) in
+    sym
+    (short_is (entries_in hs (xs ++ ws)) (entries_in hs (xs ++ vs))
+    ∙ ((λ j. first_short (value_at name_eq name_lt (entries_append hs xs ws j)) (entries_append hs xs vs j))
+    ∙ (enough_passed name_eq name_lt name_order es es (entries_in hs ws) (entries_in hs vs) (enough_itself es) rise
+    ∙ sym (short_is (entries_in hs ws) (entries_in hs vs)))))
 
 -- the number of names and the mark after a write
 length_put : (n : NameData) (g : ℕ) (es : List (NameData × ℕ)) → AreEntries es →

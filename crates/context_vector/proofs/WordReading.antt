@@ -3,14 +3,16 @@ use Rattle.std.proofs.Common.{◌≡◌, ℕ, zero, suc, ◌+◌, ◌-◌, ◌*�
 use Rattle.std.proofs.Common.{if◌then◌else◌, drop, add-one, Some, None, refl, sym, ap, subst, ◌∙◌, inl, inr, arith}
 use Rattle.std.specs.Prelude.{◌==◌, nat_lt, slice_get}
 use Rattle.std.proofs.lemmas.Bool.{cases_order, eq-eqb, ne_eqb}
-use Rattle.op_name.specs.NameData.{NameData}
+use Rattle.op_name.specs.declared.member.TheConstants.{GENERATIONS}
+use Rattle.op_name.specs.NameData.{NameData, IsName}
 use Rattle.op_name.proofs.CallerLemmas.{number_order}
-use Rattle.context_vector.specs.Contexts.{count_in, entry_in}
+use Rattle.context_vector.specs.Contexts.{count_in, entry_in, AreEntries}
 use Rattle.context_vector.specs.Vectors.{SitesBelow}
 use Rattle.context_vector.specs.Code.Words.{digit, name_at, generation, generation_at, names_from, names_in, names_left, left_in, entries_in, IsLeft, AreWords}
 use Rattle.context_vector.proofs.Keyed.{value_after}
 use Rattle.context_vector.proofs.Counts.{same_site, count_is}
-use Rattle.context_vector.proofs.Words.{words_from, no_word, names_first, names_pass}
+use Rattle.context_vector.proofs.Undone.{entries_right}
+use Rattle.context_vector.proofs.Words.{words_from, no_word, entries_append, names_first, names_pass}
 use Rattle.std.proofs.Math.Nat.{pow-succ'}
 use Rattle.context_vector.proofs.Merging.{begins, ends}
 use Rattle.context_vector.proofs.Digits.{digit_none, generation_some}
@@ -147,3 +149,34 @@ words_rest (p ∷ ps) are = words_from 0 (p.0 + 1) ps (omega arith) are.3
 
 pub first_below : (ws : List (ℕ × ℕ)) (p : ℕ × ℕ) → AreWords 0 ws → slice_get ws 0 ≡ Some p → p.1 < 2 ^ 32
 first_below ws p are is = (subst (AreWords 0) (begins ws p is) are).2
+
+-- where nothing is left of a word, what is left is in the words after it
+pub left_done : (hs : List (NameData × ℕ)) (k i w : ℕ) (ws : List (ℕ × ℕ)) → w ≡ 0 → left_in hs k i w ws ≡ entries_in hs ws
+left_done hs k i w ws none = ap (λ x. left_in hs k i x ws) none ∙ ap (λ es. es ++ entries_in hs ws) (left_none hs k i)
+
+pub is_done : (i w : ℕ) → i ≡ 8 → w ≡ 0 → IsLeft i w
+is_done i w end none = subst (λ x. IsLeft x w) (sym end) (subst (IsLeft 8) (sym none) (omega arith, omega arith))
+
+-- what is left begins with the name at the place of a digit
+pub record BeginsAt (hs : List (NameData × ℕ)) (k i w : ℕ) (ws : List (ℕ × ℕ)) : Type 0 where
+  pub whole : left_in hs k i w ws ≡ (name_at k i, generation (w % 16) (entry_in hs (name_at k i))) ∷ left_in hs k (i + 1) (w / 16) ws
+  pub within : i < 8
+  pub name : IsName (name_at k i).site (name_at k i).number
+  pub most : generation (w % 16) (entry_in hs (name_at k i)) ≤ GENERATIONS
+  pub next : IsLeft (i + 1) (w / 16)
+  pub rest : AreEntries (left_in hs k (i + 1) (w / 16) ws)
+
+pub begins_at : (hs : List (NameData × ℕ)) (k i w : ℕ) (ws : List (ℕ × ℕ)) → IsLeft i w → w % 16 ≢ 0 → AreEntries (left_in hs k i w ws) →
+    BeginsAt hs k i w ws
+begins_at hs k i w ws left some are =
+    let within = left_within i w left (λ none. some (omega (arith, none))) in
+    let whole = ap (λ es. es ++ entries_in hs ws) (left_first hs k i w within some) in
+    let parts = subst AreEntries whole are in
+    record { whole = whole; within = within; name = parts.0; most = parts.2; next = left_next i w left within; rest = parts.4 }
+
+-- where words are passed, what is left are entries still
+pub still_left : (hs : List (NameData × ℕ)) (k i w : ℕ) (ws xs ys : List (ℕ × ℕ)) → w ≡ 0 → ws ≡ xs ++ ys → AreEntries (left_in hs k i w ws) →
+    AreEntries (left_in hs k i w ys)
+still_left hs k i w ws xs ys none parts are =
+    let all = left_done hs k i w ws none ∙ (ap (entries_in hs) parts ∙ entries_append hs xs ys) in
+    subst AreEntries (sym (left_done hs k i w ys none)) (entries_right (entries_in hs xs) (entries_in hs ys) (subst AreEntries all are))
