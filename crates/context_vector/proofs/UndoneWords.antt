@@ -24,8 +24,8 @@ use Rattle.context_vector.proofs.Counts.{same_site, count_is, without_site_is}
 use Rattle.context_vector.proofs.Entries.{entry_is, entries_rise, entry_at_most}
 use Rattle.context_vector.proofs.Undone.{entries_set}
 use Rattle.context_vector.proofs.Members.{count_put, entry_put, entry_without}
-use Rattle.context_vector.proofs.Digits.{digit_below, digit_same, digit_other, with_digit_fits, digits_same}
-use Rattle.context_vector.proofs.Digits.{low_below, generation_again, same_digits, same_highs}
+use Rattle.context_vector.proofs.Digits.{digit_below, digit_none, digit_same, digit_other, with_digit_fits, digits_same}
+use Rattle.context_vector.proofs.Digits.{low_below, generation_again, generation_some, same_digits, same_highs}
 use Rattle.context_vector.proofs.Words.{digit_of, entry_words, no_entry, entries_append, entries_in_rise, words_rise, number_at, key_at, place_at}
 use Rattle.context_vector.proofs.Words.{place_below, one_place, words_from}
 use Rattle.context_vector.proofs.Marks.{absent_before}
@@ -250,6 +250,28 @@ undone_set n g ws hs are name most = record {
           | inl is ↦ above ∙ rw is (none_above (rw is at value))
           | inr other ↦ above ∙ rw other (are.within m (rw other at value))
         ]
+
+-- a name that gets a word or an entry of its own gets a greater generation
+pub above_no_word : (n : NameData) (g : ℕ) (ws : List (ℕ × ℕ)) (hs : List (NameData × ℕ)) → AreWords 0 ws → n.number < 2 ^ 20 →
+    count_in ws (word_key n) ≡ 0 → 1 ≤ low_of g → entry_in (entries_in hs ws) n < g
+above_no_word n g ws hs are below none some =
+    let no_digit : digit_of ws n ≡ 0 = ap (λ w. digit w (place_in n)) none ∙ digit_none (place_in n) in
+    let had : entry_in (entries_in hs ws) n ≡ 0 = entry_words hs 0 ws n are below ∙ ap (λ d. generation d (entry_in hs n)) no_digit in
+    elim (cases_order g 0) [
+      | inl nought ↦ absurd (omega (arith, subst (λ x. 1 ≤ low_of x) nought some))
+      | inr other ↦ omega (arith, had)
+    ]
+
+pub above_high : (n : NameData) (g : ℕ) (ws : List (ℕ × ℕ)) (hs : List (NameData × ℕ)) → AreWords 0 ws → n.number < 2 ^ 20 →
+    entry_in hs n < high_of g → entry_in (entries_in hs ws) n < g
+above_high n g ws hs are below more =
+    let had = entry_words hs 0 ws n are below in
+    elim (cases_order (digit_of ws n) 0) [
+      | inl none ↦ omega (arith, had, ap (λ d. generation d (entry_in hs n)) none, more)
+      | inr some ↦
+          let value = generation_some (digit_of ws n) (entry_in hs n) (omega arith) in
+          omega (arith, had, value, digit_below (count_in ws (word_key n)) (place_in n), more)
+    ]
 
 -- no words and no second list
 pub undone_none : AreUndone [] []

@@ -87,6 +87,7 @@ impl Kept {
     pub fn entry(&self, name: &Name) -> u16
         ensures { result ≡ entry_in self.now name.now }
     {
+        name.known();
         let (key, place) = seat_of(name);
         let word = word_left(self.words.reader(), key);
         generation_of(word.digit(place), entry_among(self.high.as_slice(), name))

@@ -1,6 +1,6 @@
 //! Undone names read from the front: the public reader and comparisons.
 
-ghost use Rattle.std.specs.Prelude.{◌≡◌, [], drop, slice_get, IfOk};
+ghost use Rattle.std.specs.Prelude.{◌≡◌, ◌+◌, ◌≤◌, [], drop, length, slice_get, IfOk};
 ghost use lib.Pointwise.{pointwise};
 ghost use Rattle.context_vector.specs.Contexts.{entry_in, AreEntries};
 ghost use Rattle.context_vector.specs.Equality.{entry_eq};
@@ -118,7 +118,10 @@ impl<'a> Names<'a> {
 
     // Goes past words that both begin with, while both stand at the beginning of one.
     fn pass_same(&mut self, other: &mut Names<'_>)
-        ensures { first_short (entry_in self.new) other.new ≡ first_short (entry_in self.old) other.old }
+        ensures mine { AreEntries self.new }
+        ensures theirs { AreEntries other.new }
+        ensures less { length self.new + length other.new ≤ length self.old + length other.old }
+        ensures short { first_short (entry_in self.new) other.new ≡ first_short (entry_in self.old) other.old }
     {
         if self.word.digits == 0 && other.word.digits == 0 && are_equal(self.high, other.high) {
             pass_same(&mut self.words, &mut other.words);

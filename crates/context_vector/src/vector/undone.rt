@@ -99,6 +99,7 @@ impl Undone {
     pub fn entry(&self, name: &Name) -> u16
         ensures { result ≡ entry_in self.now.items name.now }
     {
+        name.known();
         let (key, place) = seat_of(name);
         let word = word_among(self.words.as_slice(), key);
         generation_of(word.digit(place), entry_among(self.high.as_slice(), name))
