@@ -1,5 +1,5 @@
 -- Lists of counts: sites that rise with their counts.
-use Rattle.std.proofs.Common.{◌≡◌, ℕ, zero, suc, ◌+◌, ◌-◌, ◌*◌, ◌<◌, ◌≤◌, ◌≢◌, set, Bool, true, false, List, [], ◌∷◌, ◌++◌, length, if◌then◌else◌, get_or, take, drop, add-one, refl, sym, ap, subst, ◌∙◌, inl, inr, arith}
+use Rattle.std.proofs.Common.{◌≡◌, ℕ, ◌+◌, ◌-◌, ◌*◌, ◌<◌, ◌≤◌, ◌≢◌, set, Bool, true, false, List, [], ◌∷◌, ◌++◌, length, if◌then◌else◌, refl, sym, ap, subst, ◌∙◌, inl, inr, arith}
 use Rattle.std.specs.Prelude.{◌==◌, nat_lt, nat_le}
 use Rattle.std.proofs.lemmas.Bool.{cases_order, eq-eqb, ne_eqb, lt-ltb}
 use Rattle.std.proofs.lemmas.Bool.Decides.{nat_tests}
@@ -100,21 +100,6 @@ pub sites_at_most : (low : ℕ) (ps : List (ℕ × ℕ)) → low ≤ SITES → A
 sites_at_most low [] le are = omega arith
 sites_at_most low (p ∷ ps) le are = omega (arith, are.0, are.1, sites_at_most (p.0 + 1) ps (omega arith) are.4)
 
--- a walk that adds the counts up
-sum_drop_suc : (ps : List (ℕ × ℕ)) (i : ℕ) (d : ℕ × ℕ) → i < length ps → sum_of_counts (drop i ps) ≡ (get_or ps i d).1 + sum_of_counts (drop (suc i) ps)
-sum_drop_suc [] i d within = absurd (omega arith)
-sum_drop_suc (p ∷ ps) zero d within = refl
-sum_drop_suc (p ∷ ps) (suc i) d within = sum_drop_suc ps i d (omega arith)
-
-pub sum_drop : (ps : List (ℕ × ℕ)) (i : ℕ) (d : ℕ × ℕ) → i < length ps → sum_of_counts (drop i ps) ≡ (get_or ps i d).1 + sum_of_counts (drop (i + 1) ps)
-sum_drop ps i d within = rw (add-one i) (sum_drop_suc ps i d within)
-
-pub sum_drop_all : (ps : List (ℕ × ℕ)) (i : ℕ) → length ps ≤ i → sum_of_counts (drop i ps) ≡ 0
-sum_drop_all [] zero past = refl
-sum_drop_all [] (suc i) past = refl
-sum_drop_all (p ∷ ps) zero past = absurd (omega arith)
-sum_drop_all (p ∷ ps) (suc i) past = sum_drop_all ps i (omega arith)
-
 -- what a write at the place of a site, an insert at its gap and a removal make
 pub count_in_gap : (ps : List (ℕ × ℕ)) (s i : ℕ) → IsGap nat_lt ps s i → count_in ps s ≡ 0
 count_in_gap ps s i gap = count_is ps s ∙ gap_value same_site nat_lt number_order ps s i gap
@@ -131,28 +116,3 @@ lower_at_place ps s k i are place more = put_at_place ps s (k - 1) i are place �
 pub remove_at_place : (ps : List (ℕ × ℕ)) (s k i : ℕ) → AreCounts 0 ps → IsPlace ps s i → k ≡ 1 → remove ps i ≡ lower_count s k ps
 remove_at_place ps s k i are place one =
     sym (rw (eq-eqb k 1 one) (without_site_is s ps ∙ take_out_is_remove same_site nat_lt number_order ps (counts_rise 0 ps are) s i place))
-
--- a pair in the place of another, and one that is put between two parts
-set_seam : {X : Type 0} (l : List X) (y x : X) (r : List X) → set (l ++ y ∷ r) (length l) x ≡ l ++ x ∷ r
-set_seam [] y x r = refl
-set_seam (z ∷ zs) y x r = ap (λ ws. z ∷ ws) (set_seam zs y x r)
-
-insert_seam : {X : Type 0} (l : List X) (x : X) (r : List X) → insert (l ++ r) (length l) x ≡ l ++ x ∷ r
-insert_seam [] x [] = refl
-insert_seam [] x (y ∷ r) = refl
-insert_seam (z ∷ zs) x r = ap (λ ws. z ∷ ws) (insert_seam zs x r)
-
--- counts with another one for a site, in the parts around the place of the site
-pub put_joined : (ps l r : List (ℕ × ℕ)) (y : ℕ × ℕ) (s k i : ℕ) → AreCounts 0 ps → IsPlace ps s i → ps ≡ l ++ y ∷ r → length l ≡ i → l ++ (s, k) ∷ r ≡ put_count s k ps
-put_joined ps l r y s k i are place parts size =
-    sym (set_seam l y (s, k) r) ∙ (λ j. set (sym parts j) (size j) (s, k)) ∙ put_at_place ps s k i are place
-
-pub gap_joined : (ps l r : List (ℕ × ℕ)) (s k i : ℕ) → IsGap nat_lt ps s i → ps ≡ l ++ r → length l ≡ i → l ++ (s, k) ∷ r ≡ put_count s k ps
-gap_joined ps l r s k i gap parts size =
-    sym (insert_seam l (s, k) r) ∙ (λ j. insert (sym parts j) (size j) (s, k)) ∙ put_in_gap ps s k i gap
-
-pub parts_of : {X : Type 0} (n : ℕ) (xs : List X) → xs ≡ take n xs ++ drop n xs
-parts_of zero [] = refl
-parts_of zero (x ∷ xs) = refl
-parts_of (suc n) [] = refl
-parts_of (suc n) (x ∷ xs) = ap (λ ys. x ∷ ys) (parts_of n xs)

@@ -1,15 +1,12 @@
 pub mod Keyed
 pub mod Search
-pub mod Shortfalls
 pub mod Counts
 pub mod Entries
 pub mod Members
 pub mod Sets
 pub mod Unions
-pub mod Rooms
+pub mod Results
 pub mod Marks
-pub mod Pieces
-pub mod Readers
 pub mod Merging
 pub mod Counting
 pub mod Parts

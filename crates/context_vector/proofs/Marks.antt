@@ -1,14 +1,14 @@
 -- The mark of a list after each change of it.
-use Rattle.std.proofs.Common.{◌≡◌, ℕ, zero, suc, ◌+◌, ◌-◌, ◌*◌, ◌/◌, ◌%◌, ◌<◌, ◌≤◌, ◌^◌, ◌≢◌, Bool, true, false, not, List, [], ◌∷◌, ◌++◌, length, get_or, drop, add-one, refl, sym, ap, subst, ◌∙◌, inl, inr, arith}
+use Rattle.std.proofs.Common.{◌≡◌, ℕ, ◌+◌, ◌*◌, ◌/◌, ◌%◌, ◌<◌, ◌≤◌, ◌^◌, ◌≢◌, true, false, List, [], ◌∷◌, length, refl, sym, ap, subst, ◌∙◌, inl, inr, arith}
 use Rattle.std.proofs.lemmas.Bool.{cases_order, eq-eqb, ne_eqb}
 use Rattle.std.proofs.lemmas.Nat.{mod_below, shr_below}
 use Rattle.op_name.specs.NameData.{NameData, name_eq, name_lt}
 use Rattle.op_name.proofs.CallerLemmas.{name_order, cases_by_order}
 use Rattle.context_vector.specs.Contexts.{entry_in, put_entry, AreEntries}
-use Rattle.context_vector.specs.Vectors.{without_name, lower_entry}
-use Rattle.context_vector.specs.Equality.{count_eq, entry_eq, count_list_decides, list_eq_decides}
+use Rattle.context_vector.specs.Vectors.{without_name}
+use Rattle.context_vector.specs.Equality.{entry_eq, list_eq_decides}
 use lib.Pointwise.{pointwise}
-use Rattle.context_vector.specs.Marks.{spread, folded, weight, mark_of, laid, counts_mark}
+use Rattle.context_vector.specs.Marks.{spread, folded, weight, mark_of, laid}
 use Rattle.context_vector.proofs.Keyed.{value_after}
 use Rattle.context_vector.proofs.Entries.{entry_is, entries_after, length_at_most}
 
@@ -39,17 +39,6 @@ mark_without n (e ∷ es) =
     (λ is q q' l l'. rw q (subst (λ x. mark_of es + weight n e.1 ≡ weight x e.1 + mark_of es) (sym is) (omega arith)))
     (λ q q' l l'. rw q (omega (arith, mark_without n es)))
     (λ q q' l l'. rw q (omega (arith, mark_without n es)))
-
-pub mark_lower : (n : NameData) (g : ℕ) (es : List (NameData × ℕ)) → AreEntries es → 1 ≤ g → mark_of (lower_entry n g es) + weight n (entry_in es n) ≡ mark_of es + weight n (g - 1)
-mark_lower n g es are least =
-    elim (cases_order g 1) [
-      | inl one ↦ rw (eq-eqb g 1 one) (subst (λ x. mark_of (without_name n es) + weight n (entry_in es n) ≡ mark_of es + weight n x) (let none : 0 ≡ g - 1 = omega arith in none) (omega (arith, mark_without n es, weight_none n)))
-      | inr other ↦ rw (ne_eqb g 1 (omega arith)) (mark_put n (g - 1) es are)
-    ]
-
-pub mark_push : (n : NameData) (g : ℕ) (es : List (NameData × ℕ)) → mark_of (es ++ (n, g) ∷ []) ≡ mark_of es + weight n g
-mark_push n g [] = omega arith
-mark_push n g (e ∷ es) = omega (arith, mark_push n g es)
 
 -- what a name has added is a part of the mark
 pub weight_within : (n : NameData) (es : List (NameData × ℕ)) → weight n (entry_in es n) ≤ mark_of es
@@ -87,32 +76,6 @@ marks_differ es fs differ =
       | true ↦ λ same. absurd (differ (ap mark_of ((list_eq_decides es fs).0 same)))
       | false ↦ λ e. refl
     ] refl
-
-pub counts_differ : (ps qs : List (ℕ × ℕ)) → ps ≢ qs → pointwise count_eq ps qs ≡ false
-counts_differ ps qs differ =
-    elim (pointwise count_eq ps qs) as (λ b. pointwise count_eq ps qs ≡ b → b ≡ false) [
-      | true ↦ λ same. absurd (differ ((count_list_decides ps qs).0 same))
-      | false ↦ λ e. refl
-    ] refl
-
-pub not_false : (b : Bool) → false ≡ not b → b ≡ true
-not_false true e = refl
-not_false false e = e
-
--- the marks of counts from a place on
-counts_mark_drop_suc : (m : ℕ) (ps : List (ℕ × ℕ)) (i : ℕ) (d : ℕ × ℕ) → i < length ps → counts_mark m (drop i ps) ≡ counts_mark (laid m (get_or ps i d)) (drop (suc i) ps)
-counts_mark_drop_suc m [] i d within = absurd (omega arith)
-counts_mark_drop_suc m (p ∷ ps) zero d within = refl
-counts_mark_drop_suc m (p ∷ ps) (suc i) d within = counts_mark_drop_suc m ps i d (omega arith)
-
-pub counts_mark_drop : (m : ℕ) (ps : List (ℕ × ℕ)) (i : ℕ) (d : ℕ × ℕ) → i < length ps → counts_mark m (drop i ps) ≡ counts_mark (laid m (get_or ps i d)) (drop (i + 1) ps)
-counts_mark_drop m ps i d within = rw (add-one i) (counts_mark_drop_suc m ps i d within)
-
-pub counts_mark_drop_all : (m : ℕ) (ps : List (ℕ × ℕ)) (i : ℕ) → length ps ≤ i → counts_mark m (drop i ps) ≡ m
-counts_mark_drop_all m [] zero past = refl
-counts_mark_drop_all m [] (suc i) past = refl
-counts_mark_drop_all m (p ∷ ps) zero past = absurd (omega arith)
-counts_mark_drop_all m (p ∷ ps) (suc i) past = counts_mark_drop_all m ps i (omega arith)
 
 pub laid_is : (m site count : ℕ) → laid m (site, count) ≡ (spread (folded m) + (site * 2 ^ 32 + count)) % 2 ^ 64
 unfolding laid

@@ -1,11 +1,12 @@
 -- The members of a context, one site and one name after the other.
-use Rattle.std.proofs.Common.{◌≡◌, ℕ, zero, suc, ◌+◌, ◌<◌, ◌≤◌, Bool, true, false, List, [], ◌∷◌, length, get_or, drop, add-one, refl, sym, ap, subst, ◌∙◌, inl, inr, arith}
-use Rattle.std.specs.Prelude.{◌||◌}
+use Rattle.std.proofs.Common.{◌≡◌, ℕ, ◌+◌, Bool, true, false, List, [], ◌∷◌, drop, Some, refl, sym, ap, subst, ◌∙◌, inl, inr, arith}
+use Rattle.std.specs.Prelude.{◌||◌, slice_get}
+use Rattle.std.proofs.lemmas.Option.{none-some, same_Some}
 use Rattle.std.proofs.lemmas.Bool.{cases_order, eq-eqb, ne_eqb}
 use Rattle.std.proofs.lemmas.Bool.Decides.{nat_tests}
 use Rattle.op_name.specs.declared.member.Member.{Member}
 use Rattle.op_name.specs.declared.member.Member.TheVariants.{Original, Group}
-use Rattle.op_name.specs.NameData.{NameData, IsName, name_eq, name_lt}
+use Rattle.op_name.specs.NameData.{NameData, name_eq, name_lt}
 use Rattle.context_vector.specs.Contexts.{entry_in, has, AreCounts, AreEntries}
 use Rattle.op_name.proofs.CallerLemmas.{name_order, cases_by_order}
 use Rattle.context_vector.specs.Vectors.{up_to}
@@ -27,41 +28,33 @@ or_assoc true y z = refl
 or_assoc false y z = refl
 
 -- the first site's originals, and those of the others
-first_site : (low : ℕ) (p : ℕ × ℕ) (ps : List (ℕ × ℕ)) → AreCounts low (p ∷ ps) → (y : Member) → has (of_counts (p ∷ ps)) y ≡ (up_to y (original p.0 p.1) || has (of_counts ps) y)
+first_site : (low : ℕ) (p : ℕ × ℕ) (ps : List (ℕ × ℕ)) → AreCounts low (p ∷ ps)
+    → (y : Member) → has (of_counts (p ∷ ps)) y ≡ (up_to y (original p.0 p.1) || has (of_counts ps) y)
 first_site low p ps are (Group n g) = refl
 first_site low p ps are (Original n) =
     elim (cases_order p.0 n.site) [
-      | inl one ↦ rw (eq-eqb p.0 n.site one, eq-eqb n.site p.0 (sym one), none_counted (p.0 + 1) n.site ps (omega arith) are.4, none_among n.number) (sym (or_false (among p.1 n.number)))
+      | inl one ↦
+          let none = none_counted (p.0 + 1) n.site ps (omega arith) are.4 in
+          rw (eq-eqb p.0 n.site one, eq-eqb n.site p.0 (sym one), none, none_among n.number) (sym (or_false (among p.1 n.number)))
       | inr other ↦ rw (ne_eqb p.0 n.site (omega arith), ne_eqb n.site p.0 (omega arith)) refl
     ]
 
-sites_step_suc : (low : ℕ) (ps : List (ℕ × ℕ)) → AreCounts low ps → (i : ℕ) (d : ℕ × ℕ) → i < length ps → (y : Member) → has (of_counts (drop i ps)) y ≡ (up_to y (original (get_or ps i d).0 (get_or ps i d).1) || has (of_counts (drop (suc i) ps)) y)
-sites_step_suc low [] are i d within y = absurd (omega arith)
-sites_step_suc low (p ∷ ps) are zero d within y = first_site low p ps are y
-sites_step_suc low (p ∷ ps) are (suc i) d within y = sites_step_suc (p.0 + 1) ps are.4 i d (omega arith) y
-
-pub sites_step : (low : ℕ) (ps : List (ℕ × ℕ)) → AreCounts low ps → (i : ℕ) (d : ℕ × ℕ) → i < length ps → (y : Member) → has (of_counts (drop i ps)) y ≡ (up_to y (original (get_or ps i d).0 (get_or ps i d).1) || has (of_counts (drop (i + 1) ps)) y)
-sites_step low ps are i d within y = rw (add-one i) (sites_step_suc low ps are i d within y)
-
-pub sites_end : (ps : List (ℕ × ℕ)) (i : ℕ) → length ps ≤ i → (y : Member) → has (of_counts (drop i ps)) y ≡ false
-sites_end [] zero past (Original n) = none_among n.number
-sites_end [] zero past (Group n g) = none_among g
-sites_end [] (suc i) past (Original n) = none_among n.number
-sites_end [] (suc i) past (Group n g) = none_among g
-sites_end (p ∷ ps) zero past y = absurd (omega arith)
-sites_end (p ∷ ps) (suc i) past y = sites_end ps i (omega arith) y
-
-pub site_in_range : (low : ℕ) (ps : List (ℕ × ℕ)) → AreCounts low ps → (i : ℕ) (d : ℕ × ℕ) → i < length ps → IsName (get_or ps i d).0 (get_or ps i d).1
-site_in_range low [] are i d within = absurd (omega arith)
-site_in_range low (p ∷ ps) are zero d within = (are.1, are.2, are.3)
-site_in_range low (p ∷ ps) are (suc i) d within = site_in_range (p.0 + 1) ps are.4 i d (omega arith)
+pub sites_step : (low : ℕ) (ps : List (ℕ × ℕ)) → AreCounts low ps → (p : ℕ × ℕ) → slice_get ps 0 ≡ Some p
+    → (y : Member) → has (of_counts ps) y ≡ (up_to y (original p.0 p.1) || has (of_counts (drop 1 ps)) y)
+sites_step low [] are p is y = absurd (none-some p is)
+sites_step low (q ∷ ps) are p is y =
+    let split = first_site low q ps are y in
+    split ∙ ap (λ (r : ℕ × ℕ). up_to y (original r.0 r.1) || has (of_counts ps) y) (same_Some q p is)
 
 -- the first name's groups, and those of the others
-none_entered : (n : NameData) (es : List (NameData × ℕ)) → AreEntries es → (e : NameData × ℕ) → AreEntries (e ∷ es) → e.0 ≡ n → entry_in es n ≡ 0
+none_entered : (n : NameData) (es : List (NameData × ℕ)) → AreEntries es → (e : NameData × ℕ) → AreEntries (e ∷ es)
+    → e.0 ≡ n → entry_in es n ≡ 0
 none_entered n es are e are' one =
-    entry_is es n ∙ value_after name_eq name_lt name_order n es (subst (λ x. AllAfter name_eq name_lt x es) one (entries_after e.0 es are'.3 are))
+    let after = subst (λ x. AllAfter name_eq name_lt x es) one (entries_after e.0 es are'.3 are) in
+    entry_is es n ∙ value_after name_eq name_lt name_order n es after
 
-first_name : (e : NameData × ℕ) (es : List (NameData × ℕ)) → AreEntries (e ∷ es) → (y : Member) → has (of_entries (e ∷ es)) y ≡ (up_to y (Group e.0 e.1) || has (of_entries es) y)
+first_name : (e : NameData × ℕ) (es : List (NameData × ℕ)) → AreEntries (e ∷ es)
+    → (y : Member) → has (of_entries (e ∷ es)) y ≡ (up_to y (Group e.0 e.1) || has (of_entries es) y)
 first_name e es are (Original n) = refl
 first_name e es are (Group n g) =
     cases_by_order name_eq name_lt name_order e.0 n _
@@ -69,30 +62,15 @@ first_name e es are (Group n g) =
     (λ q q' l l'. rw (q, q') refl)
     (λ q q' l l'. rw (q, q') refl)
 
-names_step_suc : (es : List (NameData × ℕ)) → AreEntries es → (i : ℕ) (x : NameData × ℕ) → i < length es → x ≡ get_or es i x → (y : Member) → has (of_entries (drop i es)) y ≡ (up_to y (Group x.0 x.1) || has (of_entries (drop (suc i) es)) y)
-names_step_suc [] are i x within is y = absurd (omega arith)
-names_step_suc (e ∷ es) are zero x within is y = subst (λ (z : NameData × ℕ). has (of_entries (e ∷ es)) y ≡ (up_to y (Group z.0 z.1) || has (of_entries es) y)) (sym is) (first_name e es are y)
-names_step_suc (e ∷ es) are (suc i) x within is y = names_step_suc es are.4 i x (omega arith) is y
-
-pub names_step : (es : List (NameData × ℕ)) → AreEntries es → (i : ℕ) (x : NameData × ℕ) → i < length es → x ≡ get_or es i x → (y : Member) → has (of_entries (drop i es)) y ≡ (up_to y (Group x.0 x.1) || has (of_entries (drop (i + 1) es)) y)
-names_step es are i x within is y = rw (add-one i) (names_step_suc es are i x within is y)
-
-pub names_end : (es : List (NameData × ℕ)) (i : ℕ) → length es ≤ i → (y : Member) → has (of_entries (drop i es)) y ≡ false
-names_end [] zero past (Original n) = none_among n.number
-names_end [] zero past (Group n g) = none_among g
-names_end [] (suc i) past (Original n) = none_among n.number
-names_end [] (suc i) past (Group n g) = none_among g
-names_end (e ∷ es) zero past y = absurd (omega arith)
-names_end (e ∷ es) (suc i) past y = names_end es i (omega arith) y
-
-pub name_in_range : (es : List (NameData × ℕ)) → AreEntries es → (i : ℕ) (x : NameData × ℕ) → i < length es → x ≡ get_or es i x → 1 ≤ x.1
-name_in_range [] are i x within is = absurd (omega arith)
-name_in_range (e ∷ es) are zero x within is = subst (λ (z : NameData × ℕ). 1 ≤ z.1) (sym is) are.1
-name_in_range (e ∷ es) are (suc i) x within is = name_in_range es are.4 i x (omega arith) is
+pub names_step : (es : List (NameData × ℕ)) → AreEntries es → (x : NameData × ℕ) → slice_get es 0 ≡ Some x
+    → (y : Member) → has (of_entries es) y ≡ (up_to y (Group x.0 x.1) || has (of_entries (drop 1 es)) y)
+names_step [] are x is y = absurd (none-some x is)
+names_step (e ∷ es) are x is y =
+    let split = first_name e es are y in
+    split ∙ ap (λ (z : NameData × ℕ). up_to y (Group z.0 z.1) || has (of_entries es) y) (same_Some e x is)
 
 -- one more step of a union: what was added, and what is left
-pub union_step : (before after step rest left all : Bool) → after ≡ (before || step) → rest ≡ (step || left) → (before || rest) ≡ all → (after || left) ≡ all
-union_step before after step rest left all added split whole = ap (λ t. t || left) added ∙ (or_assoc before step left ∙ (ap (λ t. before || t) (sym split) ∙ whole))
-
-pub union_end : (after left all : Bool) → left ≡ false → (after || left) ≡ all → after ≡ all
-union_end after left all none whole = sym (or_false after) ∙ (ap (λ t. after || t) (sym none) ∙ whole)
+pub union_step : (before after step rest left all : Bool)
+    → after ≡ (before || step) → rest ≡ (step || left) → (before || rest) ≡ all → (after || left) ≡ all
+union_step before after step rest left all added split whole =
+    ap (λ t. t || left) added ∙ (or_assoc before step left ∙ (ap (λ t. before || t) (sym split) ∙ whole))

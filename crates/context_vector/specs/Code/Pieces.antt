@@ -1,5 +1,5 @@
 -- Lists in pieces.
-use Rattle.std.specs.Prelude.{ℕ, List, [], ◌∷◌, ◌++◌}
+use Rattle.std.specs.Prelude.{List, [], ◌∷◌, ◌++◌}
 
 -- the pieces one after the other
 abbrev pub joined : {A : Type 0} → List (List A) → List A

@@ -84,7 +84,8 @@ fn ends_below(part: &[Count], site: u16) -> bool
 /// Goes past all lesser sites, and answers how many they were.
 pub fn seek(counts: &mut Reader<'_, Count>, site: u16) -> usize
     requires { AreCounts 0 (left_of counts.old) }
-    ensures { (xs : List (ℕ × ℕ)) × (length xs ≡ result) × (left_of counts.old ≡ xs ++ left_of counts.new) × SitesBelow xs site × SitesFrom site (left_of counts.new) }
+    ensures { (xs : List (ℕ × ℕ)) × (length xs ≡ result) × (left_of counts.old ≡ xs ++ left_of counts.new)
+        × SitesBelow xs site × SitesFrom site (left_of counts.new) }
 {
     let mut passed = 0;
     loop {
@@ -124,31 +125,13 @@ pub fn first_short_site(mine: Reader<'_, Count>, theirs: Reader<'_, Count>) -> O
 {
     let mut left = mine;
     let mut right = theirs;
-    loop {
-        let had = left.front();
-        let wanted = right.front();
-        let n = had.len().min(wanted.len());
-        if n == 0 || !are_enough(had.split_at(n).0, wanted.split_at(n).0) {
-            return first_short_by_one(left, right);
-        }
-        left.pass(n);
-        right.pass(n);
-    }
-}
-
-// The same, one site after the other.
-fn first_short_by_one(mine: Reader<'_, Count>, theirs: Reader<'_, Count>) -> Option<(u16, u32)>
-    requires mine { AreCounts 0 (left_of mine) }
-    requires theirs { AreCounts 0 (left_of theirs) }
-    ensures { result ≡ first_short (count_in (left_of mine.entry)) (left_of theirs.entry) }
-{
-    let mut left = mine;
-    let mut right = theirs;
+    pass_enough(&mut left, &mut right);
     while let Some(wanted) = right.first() {
         match left.first() {
             Some(had) => {
                 if had.site() < wanted.site() {
                     left.pass(1);
+                    pass_enough(&mut left, &mut right);
                 } else if had.site() > wanted.site() {
                     return Some((wanted.site(), 1));
                 } else if had.number() < wanted.number() {
@@ -162,6 +145,33 @@ fn first_short_by_one(mine: Reader<'_, Count>, theirs: Reader<'_, Count>) -> Opt
         }
     }
     None
+}
+
+// Goes past first parts that have the same sites, as long as `mine` have enough of each.
+fn pass_enough(mine: &mut Reader<'_, Count>, theirs: &mut Reader<'_, Count>)
+    requires mine { AreCounts 0 (left_of mine.old) }
+    requires theirs { AreCounts 0 (left_of theirs.old) }
+    ensures mine { AreCounts 0 (left_of mine.new) }
+    ensures theirs { AreCounts 0 (left_of theirs.new) }
+    ensures same { first_short (count_in (left_of mine.old)) (left_of theirs.old)
+        ≡ first_short (count_in (left_of mine.new)) (left_of theirs.new) }
+    ensures fewer { length (left_of mine.new) ≤ length (left_of mine.old) }
+    ensures fewer_wanted { length (left_of theirs.new) ≤ length (left_of theirs.old) }
+{
+    loop {
+        let had = mine.front();
+        let wanted = theirs.front();
+        let n = had.len().min(wanted.len());
+        // Parts that end at different sites aren't compared.
+        if n == 0 || had[n - 1].site() != wanted[n - 1].site() {
+            return;
+        }
+        if !are_enough(had.split_at(n).0, wanted.split_at(n).0) {
+            return;
+        }
+        mine.pass(n);
+        theirs.pass(n);
+    }
 }
 
 /// The sum of the counts.

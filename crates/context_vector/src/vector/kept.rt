@@ -122,8 +122,8 @@ fn with_spare(alloc: Global, list: &[Entry]) -> Result<Vec<Entry>, Memory>
     Ok(all)
 }
 
-/// The names as they are kept: those that `like` has, where they are the same, and else with the pieces that they have in common. None where
-/// there are none.
+/// The names as they are kept: those that `like` has, where they are the same, and else with the pieces that they have in common.
+/// None where there are none.
 pub fn kept_like(
     alloc: Global,
     undone: &Undone,

@@ -2,8 +2,9 @@
 
 ghost use Rattle.std.specs.Prelude.{◌≡◌, ◌≤◌, ◌<◌, ◌*◌, ◌++◌, ◌∷◌, ◌↔◌, [], true, length, vec_len, vec_capacity, IfOk, IfSome, IsTrue, OnOk, OnErr};
 ghost use lib.Pointwise.{pointwise};
+ghost use Rattle.std.specs.Rc.{rc_value};
 ghost use Rattle.op_name.specs.declared.member.Member.TheVariants.{Original, Group};
-ghost use Rattle.context_vector.specs.Contexts.{count_in, entry_in, raised, AreCounts, AreEntries, IsContext};
+ghost use Rattle.context_vector.specs.Contexts.{entry_in, raised, AreCounts, IsContext};
 ghost use Rattle.context_vector.specs.Equality.{count_eq, entry_eq};
 ghost use Rattle.context_vector.specs.Marks.{counts_mark, mark_of};
 ghost use Rattle.context_vector.specs.Vectors.{lowered, HasRoomFor, IsLastMember, NamesBelow};
@@ -463,7 +464,7 @@ impl OwnLists {
         undone: Option<&Rc<Kept>>,
     ) -> Result<SharedLists, Memory>
         ensures counts { IfOk result (λ l. l.counts ≡ self.now.counts.items) }
-        ensures entries { IfOk result (λ l. kept_of l.undone ≡ self.now.undone.items) }
+        ensures entries { IfOk result (λ l. kept_of rc_value l.undone ≡ self.now.undone.items) }
     {
         Ok(SharedLists {
             counts: Stored::of(alloc, self.counts.as_slice(), counts)?,
@@ -475,7 +476,7 @@ impl OwnLists {
 impl SharedLists {
     // A reader of the undone names.
     fn names(&self) -> Names<'_>
-        ensures { result ≡ kept_of self.now.undone }
+        ensures { result ≡ kept_of rc_value self.now.undone }
     {
         match &self.undone {
             Some(kept) => kept.as_ref().names(),
@@ -485,7 +486,7 @@ impl SharedLists {
 
     // The mark of the undone names.
     fn names_mark(&self) -> u64
-        ensures { result ≡ mark_of (kept_of self.now.undone) }
+        ensures { result ≡ mark_of (kept_of rc_value self.now.undone) }
     {
         match &self.undone {
             Some(kept) => kept.as_ref().mark(),
@@ -495,7 +496,7 @@ impl SharedLists {
 
     // The number of undone names.
     fn names_len(&self) -> usize
-        ensures len { result ≡ length (kept_of self.now.undone) }
+        ensures len { result ≡ length (kept_of rc_value self.now.undone) }
         ensures range { result ≤ SITES * NUMBERS }
     {
         match &self.undone {
@@ -506,7 +507,7 @@ impl SharedLists {
 
     // The greatest generation of the name, 0 if it isn't undone.
     fn entry(&self, name: &Name) -> u16
-        ensures { result ≡ entry_in (kept_of self.now.undone) name.now }
+        ensures { result ≡ entry_in (kept_of rc_value self.now.undone) name.now }
     {
         match &self.undone {
             Some(kept) => kept.as_ref().entry(name),
@@ -516,7 +517,7 @@ impl SharedLists {
 
     // A copy of the undone names that may be changed in place.
     fn opened_names(&self, alloc: Global) -> Result<Undone, Memory>
-        ensures { IfOk result (λ u. u.items ≡ kept_of self.now.undone) }
+        ensures { IfOk result (λ u. u.items ≡ kept_of rc_value self.now.undone) }
     {
         match &self.undone {
             Some(kept) => kept.as_ref().opened(alloc),

@@ -1,6 +1,6 @@
 //! Lists read from the front, as many elements as stand in one piece at a time.
 
-ghost use Rattle.std.specs.Prelude.{◌≡◌, ◌≤◌, ◌∷◌, ◌++◌, List, [], true, false, drop, length, slice_get, IfOk, IfSome, IsTrue};
+ghost use Rattle.std.specs.Prelude.{◌≡◌, ◌≤◌, ◌++◌, List, [], true, false, drop, length, slice_get, IfOk, IfSome, IsTrue};
 ghost use lib.Pointwise.{pointwise};
 ghost use Rattle.context_vector.specs.Code.Pieces.{joined};
 ghost use Rattle.context_vector.specs.Code.Readers.{left_of};
@@ -169,7 +169,8 @@ pub fn same_first<T: Element>(
     theirs: &mut Reader<'_, T>,
     n: usize,
 ) -> bool
-    ensures { IsTrue result → (xs : List T) × (length xs ≡ n) × (left_of mine.old ≡ xs ++ left_of mine.new) × (left_of theirs.old ≡ xs ++ left_of theirs.new) }
+    ensures { IsTrue result
+        → (xs : List T) × (length xs ≡ n) × (left_of mine.old ≡ xs ++ left_of mine.new) × (left_of theirs.old ≡ xs ++ left_of theirs.new) }
 {
     let mut more = n;
     while more > 0 {

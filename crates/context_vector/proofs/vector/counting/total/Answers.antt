@@ -7,7 +7,8 @@ use Rattle.context_vector.proofs.vector.counting.total.Goals as goal
 pub overflow_add-sum : goal.overflow_add-sum
 overflow_add-sum c =
     let first = sum_first (left_of c.loop-count.left) c.in-Some.count (sym c.in-Some.ensures.first) in
-    record { fits = omega (arith, c.loop-count.invariant, c.number-sum.ensures, first, sum_at_most 0 (left_of c.args.counts) (omega arith) c.requires) }
+    let most = sum_at_most 0 (left_of c.args.counts) (omega arith) c.requires in
+    record { fits = omega (arith, c.loop-count.invariant, c.number-sum.ensures, first, most) }
 
 pub returns-clause-range : goal.returns-clause-range
 returns-clause-range c = omega (arith, c.loop-count.invariant, sum_at_most 0 (left_of c.args.counts) (omega arith) c.requires)

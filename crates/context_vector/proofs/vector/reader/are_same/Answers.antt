@@ -1,28 +1,31 @@
-use Rattle.std.proofs.Common.{◌≡◌, ◌≤◌, true, false, take, drop, sym, ap, ◌∙◌, arith}
-use Rattle.std.specs.Prelude.{◌&&◌}
+use Rattle.std.proofs.Common.{◌≡◌, ◌≤◌, true, false, length, take, arith}
 use lib.Pointwise.{pointwise}
 use Rattle.context_vector.specs.Code.Readers.{left_of}
-use Rattle.context_vector.proofs.Parts.{fronts_compared}
+use Rattle.context_vector.proofs.Parts.{begins_with, same_apart, same_further}
 use Rattle.context_vector.proofs.vector.reader.are_same.Goals as goal
 
 pub loop-left-preserved : goal.loop-left-preserved
 loop-left-preserved g c =
-    let eq = g.T.PartialEq.eq in
     let n = c.min-n.result in
-    let p = c.front-one.result.now in
-    let q = c.front-other.result.now in
-    let compared = fronts_compared eq n c.front-one.new.self c.front-other.new.self p q c.front-one.ensures.front c.front-other.ensures.front (omega (arith, c.split_at.ensures.back_len)) (omega (arith, c.split_at-in-loop-left.ensures.back_len)) in
-    let same : pointwise eq (take n p) (take n q) ≡ true = cc in
-    let rest = compared ∙ ap (λ b. b && pointwise eq (drop n (left_of c.front-one.new.self)) (drop n (left_of c.front-other.new.self))) same in
+    let one = c.front-one.new.self in
+    let other = c.front-other.new.self in
+    let short : n ≤ length c.front-one.result.now = omega (arith, c.split_at.ensures.back_len) in
+    let short' : n ≤ length c.front-other.result.now = omega (arith, c.split_at-in-loop-left.ensures.back_len) in
+    let mine = begins_with n one c.front-one.result.now c.front-one.ensures.front short in
+    let theirs = begins_with n other c.front-other.result.now c.front-other.ensures.front short' in
+    let firsts : pointwise g.T.PartialEq.eq (take n (left_of one)) (take n (left_of other)) ≡ true = cc in
+    let rest = same_further g.T.PartialEq.eq n (left_of one) (left_of other) firsts in
     cc
 
 pub returns-else-are_equal : goal.returns-else-are_equal
 returns-else-are_equal g c =
-    let eq = g.T.PartialEq.eq in
     let n = c.min-n.result in
-    let p = c.front-one.result.now in
-    let q = c.front-other.result.now in
-    let compared = fronts_compared eq n c.front-one.new.self c.front-other.new.self p q c.front-one.ensures.front c.front-other.ensures.front (omega (arith, c.split_at.ensures.back_len)) (omega (arith, c.split_at-in-loop-left.ensures.back_len)) in
-    let other : pointwise eq (take n p) (take n q) ≡ false = cc in
-    let rest = compared ∙ ap (λ b. b && pointwise eq (drop n (left_of c.front-one.new.self)) (drop n (left_of c.front-other.new.self))) other in
+    let one = c.front-one.new.self in
+    let other = c.front-other.new.self in
+    let short : n ≤ length c.front-one.result.now = omega (arith, c.split_at.ensures.back_len) in
+    let short' : n ≤ length c.front-other.result.now = omega (arith, c.split_at-in-loop-left.ensures.back_len) in
+    let mine = begins_with n one c.front-one.result.now c.front-one.ensures.front short in
+    let theirs = begins_with n other c.front-other.result.now c.front-other.ensures.front short' in
+    let firsts : pointwise g.T.PartialEq.eq (take n (left_of one)) (take n (left_of other)) ≡ false = cc in
+    let apart = same_apart g.T.PartialEq.eq n (left_of one) (left_of other) firsts in
     cc

@@ -2,7 +2,7 @@ use Rattle.std.proofs.Common.{◌≡◌, ◌≤◌, ◌++◌, true, length, take
 use Rattle.std.proofs.lemmas.List.{length-append, length-take-le}
 use lib.Pointwise.{pointwise}
 use Rattle.context_vector.specs.Code.Readers.{left_of}
-use Rattle.context_vector.proofs.Parts.{are_the_same, further, passed_on}
+use Rattle.context_vector.proofs.Parts.{are_the_same, goes_on, passed_on}
 use Rattle.context_vector.proofs.vector.reader.same_first.Goals as goal
 
 pub loop-more-preserved : goal.loop-more-preserved
@@ -15,8 +15,8 @@ loop-more-preserved g c =
     let short' : k ≤ length q = omega (arith, c.split_at-else-k-eq0.ensures.back_len) in
     let equal : pointwise g.T.PartialEq.eq (take k p) (take k q) ≡ true = cc in
     let same = are_the_same g.T.PartialEq.eq g.met.T.Element.exact (take k p) (take k q) equal in
-    let mine = further k c.front-one.new.self p c.front-one.ensures.front short in
-    let theirs = further k c.front-other.new.self q c.front-other.ensures.front short' in
+    let mine = goes_on k c.front-one.new.self p c.front-one.ensures.front short in
+    let theirs = goes_on k c.front-other.new.self q c.front-other.ensures.front short' in
     let mine_left : left_of c.loop-more.mine ≡ take k p ++ left_of c.pass.new.self = cc in
     let theirs_left : left_of c.loop-more.theirs ≡ take k p ++ left_of c.pass-in-loop-more.new.self = cc in (
       part ++ take k p,

@@ -1,6 +1,6 @@
 use Rattle.std.proofs.Common.{◌≡◌, ◌++◌, [], take, drop, refl, sym, ap, ◌∙◌}
 use Rattle.context_vector.specs.Code.Readers.{left_of}
-use Rattle.context_vector.proofs.Parts.{further, passed_on}
+use Rattle.context_vector.proofs.Parts.{goes_on, passed_on}
 use Rattle.context_vector.proofs.vector.words.pass_same.Goals as goal
 
 pub loop-n-init : goal.loop-n-init
@@ -13,11 +13,11 @@ loop-n-preserved c =
     let q = c.front-other.result.now in
     let mine : left_of c.loop-n.mine ≡ take n p ++ left_of c.pass.new.self =
         sym c.front-one.ensures.same
-        ∙ (further n c.front-one.new.self p c.front-one.ensures.front c.same_len-n.ensures.mine
+        ∙ (goes_on n c.front-one.new.self p c.front-one.ensures.front c.same_len-n.ensures.mine
         ∙ ap (λ xs. take n p ++ xs) (sym c.pass.ensures)) in
     let theirs : left_of c.loop-n.theirs ≡ take n p ++ left_of c.pass-in-loop-n.new.self =
         sym c.front-other.ensures.same
-        ∙ (further n c.front-other.new.self q c.front-other.ensures.front c.same_len-n.ensures.theirs
+        ∙ (goes_on n c.front-other.new.self q c.front-other.ensures.front c.same_len-n.ensures.theirs
         ∙ (λ i. sym c.same_len-n.ensures.same i ++ sym c.pass-in-loop-n.ensures i)) in
     let passed = c.loop-n.invariant in
     (

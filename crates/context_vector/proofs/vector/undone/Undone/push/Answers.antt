@@ -1,5 +1,4 @@
-use Rattle.std.proofs.Common.{subst, sym, ap, ◌∙◌, arith}
-use Rattle.context_vector.specs.Vectors.{NamesBelow}
+use Rattle.std.proofs.Common.{ap, ◌∙◌, arith}
 use Rattle.context_vector.specs.Code.Undone.{set_entry}
 use Rattle.context_vector.proofs.Undone.{set_some, put_last}
 use Rattle.context_vector.proofs.vector.undone.Undone.push.Goals as goal
