@@ -11,4 +11,8 @@ pub mod Merging
 pub mod Counting
 pub mod Parts
 pub mod Undone
+pub mod Digits
+pub mod Words
+pub mod WordReading
+pub mod UndoneWords
 pub mod CallerLemmas

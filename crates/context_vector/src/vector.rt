@@ -22,6 +22,7 @@ mod entry;
 mod equality;
 mod few;
 mod follows;
+mod generations;
 mod kept;
 mod lists;
 mod marks;
@@ -31,6 +32,9 @@ mod reader;
 mod rising;
 mod stored;
 mod undone;
+mod word;
+mod word_reader;
+mod words;
 
 pub use count::Count;
 pub use counting::SiteCounts;
