@@ -32,5 +32,4 @@ pub mod WorkedCases
 pub mod ValidCases
 pub mod Next
 pub mod Equal
-pub mod Backing
 pub mod CallerLemmas

@@ -2,7 +2,7 @@
 use Rattle.std.proofs.Common.{◌≡◌, ℕ, zero, suc, ◌+◌, ◌<◌, ◌≤◌, true, false, inl, inr, List, [], ◌∷◌, refl, ap, sym, subst, ◌∙◌, arith, length, take}
 use Rattle.std.specs.Prelude.{◌==◌, Some, None, slice_get, if◌then◌else◌}
 use Rattle.std.proofs.lemmas.Bool.Decides.{nat_tests}
-use Rattle.std.proofs.lemmas.Bool.{cases_Bool, false≢true, eqb-true}
+use Rattle.std.proofs.lemmas.Bool.{cases_Bool, cases_lt, false≢true, eqb-true}
 use Rattle.op_name.specs.declared.name.TheConstants.{SITES, NUMBERS}
 use Rattle.op_name.specs.declared.member.TheConstants.{GENERATIONS}
 use Rattle.op_name.specs.NameData.{NameData, IsName, name_eq, name_lt}
@@ -178,6 +178,19 @@ entry_more (d ∷ ds) are (suc i) e at n =
       | true ↦ λ f. absurd (false≢true (sym e ∙ (ap (name_eq a) (name_same b a f) ∙ name_itself a)))
       | false ↦ λ f. refl
     ] refl
+
+-- what holds of each entry before this one, and of this one, holds of each before the next
+pub each_more : (P : NameData → Type 0) (es : List (NameData × ℕ)) (i : ℕ) (e : NameData × ℕ) → slice_get es i ≡ Some e → P e.0
+    → ((j : ℕ) (f : NameData × ℕ) → j < i → slice_get es j ≡ Some f → P f.0) → (j : ℕ) (f : NameData × ℕ) → j < i + 1 → slice_get es j ≡ Some f → P f.0
+each_more P es i e at here each j f less read =
+    elim (cases_lt j i) [
+      | inl before ↦ each j f before read
+      | inr past ↦
+          let same : j ≡ i = omega arith in
+          let both : Some e ≡ Some f = sym at ∙ (ap (slice_get es) (sym same) ∙ read) in
+          let one : e ≡ f = cc in
+          subst (λ (x : NameData × ℕ). P x.0) one here
+    ]
 
 -- where each entry's original is in the context, it keeps the rule on stray entries
 pub stray_kept : (c : ContextData) → ((i : ℕ) (e : NameData × ℕ) → i < length c.entries → slice_get c.entries i ≡ Some e → has c (Original e.0) ≡ true) → HasNoStray c

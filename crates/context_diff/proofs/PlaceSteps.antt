@@ -1,19 +1,20 @@
 -- How the places of a difference are gathered: number by number, site by site, and name by name.
 use Rattle.std.proofs.Common.{◌≡◌, ℕ, zero, suc, ◌+◌, ◌-◌, ◌<◌, ◌≤◌, Bool, true, false, inl, inr, List, [], ◌∷◌, ◌++◌, refl, ap, sym, ◌∙◌, arith, length, take, take_all}
-use Rattle.std.specs.Prelude.{◌==◌, ◌&&◌, ◌||◌, nat_le, nat_lt, Option, Some, None, slice_get, if◌then◌else◌}
+use Rattle.std.specs.Prelude.{◌==◌, ◌&&◌, ◌||◌, not, nat_le, nat_lt, Option, Some, None, slice_get, if◌then◌else◌}
 use Rattle.std.proofs.lemmas.Bool.Decides.{nat_tests}
 use Rattle.std.proofs.lemmas.Bool.{cases_Bool, false≢true, eqb-true, or_right, and_parts}
 use Rattle.op_name.specs.NameData.{NameData, name_eq}
 use Rattle.op_name.specs.declared.member.Member.{Member}
 use Rattle.op_name.specs.declared.member.Member.TheVariants.{Original, Group}
 use Rattle.op_name.specs.Members.{member_eq}
-use Rattle.context_vector.specs.Contexts.{ContextData, AreCounts, AreEntries, count_in, entry_in, count_of, entry_of}
+use Rattle.context_vector.specs.Contexts.{ContextData, AreCounts, AreEntries, Within, count_in, entry_in, count_of, entry_of, has}
 use Rattle.context_diff.specs.Operations.{OpData, member_of}
 use Rattle.context_diff.specs.Histories.{is_known, members_in, IsValid, IsValidAfter}
 use Rattle.context_diff.specs.Code.Places.{times, passes_at, ArePlacesOf, is_between, is_group_between, is_missing, first_sites, first_names}
 use Rattle.context_diff.proofs.Names.{member_same, member_itself, name_same, name_itself}
 use Rattle.context_diff.proofs.Order.{known_end, later_new_after}
-use Rattle.context_diff.proofs.Listings.{count_before, count_more, entry_before, entry_more}
+use Rattle.context_diff.proofs.Listings.{count_at, count_before, count_more, entry_at, entry_before, entry_more}
+use Rattle.context_diff.proofs.Raising.{has_original, has_group, has_number, has_generation}
 
 passes_is : (t : Member → Bool) (ms : List Member) (p : ℕ) (y : Member) → slice_get ms p ≡ Some y → passes_at t ms p ≡ t y
 passes_is t [] p y at = let none : None ≡ Some y = at in cc
@@ -181,6 +182,48 @@ name_is_new from to are i e at (Group n g) f =
 
 pub names_all : (from to : ContextData) (i : ℕ) → length to.entries ≤ i → (y : Member) → is_missing from (first_names to i) y ≡ is_missing from to y
 names_all from to i past y = ap (λ (es : List (NameData × ℕ)). is_missing from (record { counts = to.counts; entries = es }) y) (take_all i to.entries past)
+
+-- where both undo the same, no group is missing
+pub no_names_missing : (from to : ContextData) → from.entries ≡ to.entries → (y : Member) → is_missing from (first_names to 0) y ≡ is_missing from to y
+no_names_missing from to same (Original n) = refl
+no_names_missing from to same (Group n g) =
+    let one : entry_of to n ≡ entry_of from n = ap (λ (es : List (NameData × ℕ)). entry_in es n) (sym same) in
+    rw one (grind (arith, nat_tests))
+
+-- a site or a name of which more is there than the other context has
+pub site_is_short : (from to : ContextData) → AreCounts 0 to.counts → (i : ℕ) (p : ℕ × ℕ) → slice_get to.counts i ≡ Some p → count_of from p.0 < p.1 → ¬ Within to from
+site_is_short from to are i p at less within =
+    let n : NameData = record { site = p.0; number = p.1 } in
+    let there = has_original to n (omega arith) (omega (arith, (count_at 0 to.counts are i p at).count)) in
+    let counted = has_number from n (within (Original n) there) in
+    omega (arith, counted.1)
+
+pub name_is_short : (from to : ContextData) → AreEntries to.entries → (i : ℕ) (e : NameData × ℕ) → slice_get to.entries i ≡ Some e → entry_of from e.0 < e.1 → ¬ Within to from
+name_is_short from to are i e at less within =
+    let there = has_group to e.0 e.1 (omega arith) (omega (arith, (entry_at to.entries are i e at).entry)) in
+    let entered = has_generation from e.0 e.1 (within (Group e.0 e.1) there) in
+    omega (arith, entered.1)
+
+passes_somewhere : (t : Member → Bool) (ms : List Member) (p : ℕ) → passes_at t ms p ≡ true → (y : Member) × (t y ≡ true)
+passes_somewhere t [] p e = absurd (false≢true e)
+passes_somewhere t (m ∷ ms) zero e = (m, e)
+passes_somewhere t (m ∷ ms) (suc p) e = passes_somewhere t ms p e
+
+one_passes : (t : Member → Bool) (ms : List Member) (p n : ℕ) → 1 + n ≡ (if passes_at t ms p then 1 else 0) → (y : Member) × (t y ≡ true)
+one_passes t ms p n one =
+    elim (cases_Bool (passes_at t ms p)) [
+      | inl passes ↦ passes_somewhere t ms p passes
+      | inr fails ↦ absurd (omega (arith, one ∙ ap (λ b. if b then 1 else 0) fails))
+    ]
+
+-- where something is missing, the one context isn't within the other
+pub places_missing : (ms : List Member) (from to : ContextData) (ps : List ℕ) → ArePlacesOf ms (is_missing from to) ps → 0 < length ps → ¬ Within to from
+places_missing ms from to [] are some within = omega arith
+places_missing ms from to (p ∷ ps) are some within =
+    let here : (p == p) ≡ true = grind (arith, nat_tests) in
+    let one = one_passes (is_missing from to) ms p (times p ps) (ap (λ b. (if b then 1 else 0) + times p ps) (sym here) ∙ are p) in
+    let parts = and_parts (has to one.0) (not (has from one.0)) one.1 in
+    absurd (false≢true (ap not (sym (within one.0 parts.0)) ∙ parts.1))
 
 and_or : (b c d e : Bool) → (c || d) ≡ e → ((b || c) || d) ≡ (b || e)
 and_or true c d e is = refl

@@ -27,11 +27,6 @@ pub record HasRoom (b : BookData) (o : OpData) : Type 0 where
   pub tally : HasSpareFor b.site_spares (member_of o)
   pub short : length b.ops + 1 < 4294967296
 
--- the last operation can be taken out without memory: so it is right after its push, and no longer where the members were shared since, or
--- room was made for an undo of another name
-abbrev pub HasRoomToPop : BookData → Type 0
-HasRoomToPop b = (h : List OpData) (o : OpData) → b.ops ≡ h ++ o ∷ [] → HasRoomFor b.have (member_of o)
-
 -- what a verdict asks of a context: the history has its members, it is closed, and n of its members are inserts
 pub record IsJudged (h : List OpData) (v : ContextData) (n : ℕ) : Type 0 where
   pub ready : LacksNothing h v

@@ -7,11 +7,12 @@ ghost use Rattle.context_vector.specs.Contexts.{Within};
 ghost use Rattle.context_diff.specs.Operations.{member_of};
 ghost use Rattle.context_diff.specs.Histories.{is_known, members_in, inserts_in, context_of_all, IsNext, IsValid};
 ghost use Rattle.context_diff.specs.Ops.{data_of};
-ghost use Rattle.context_diff.specs.Books.{HasRoom, HasRoomToPop, IsJudged};
+ghost use Rattle.context_diff.specs.Books.{HasRoom, IsJudged};
 ghost use Rattle.context_diff.specs.Code.Judged.{IsLately};
 ghost use Rattle.context_diff.specs.Code.Kept.{IsPlaceOf};
 
 use crate::groups;
+use crate::growth::reserve_one;
 use crate::judged::{Lately, cells_by};
 use crate::op::Op;
 use crate::tally::Tallies;
@@ -60,7 +61,7 @@ impl Model for Book {
       site_spares = spares_of b.tallies;
     } };
 
-    ghost invariant = { λ b. IsBook (map data_of b.ops.items) b.have.set b.inserts (counts_of b.tallies) (places_of b.tallies) b.groups.entries b.last b.earlier };
+    ghost invariant = { λ b. IsBook (map data_of b.ops.items) b.have.set b.have.room.own b.inserts (counts_of b.tallies) (places_of b.tallies) b.groups.entries b.last b.earlier };
 }
 
 impl Book {
@@ -126,13 +127,15 @@ impl Book {
         &self.have
     }
 
-    /// Lets copies of the members share their list of undone names; no operation comes or goes. Out of memory,
-    /// nothing changes.
+    /// Lets the next copies of the members be made like the context of the last operation, so that what they have in common is kept
+    /// once; no operation comes or goes, and no memory is taken.
     pub fn share(&mut self)
         ensures ops { self.new.ops ≡ self.old.ops }
         ensures have { self.new.have.set ≡ self.old.have.set }
     {
-        self.have.share_names();
+        if let Some(op) = self.ops.last() {
+            self.have.remember(op.context());
+        }
     }
 
     /// Makes room for the operation; no operation comes or goes. A book with 4,294,967,295 operations answers
@@ -146,7 +149,7 @@ impl Book {
             return Err(Memory);
         }
         let member = op.as_member();
-        self.ops.reserve(1)?;
+        reserve_one(&mut self.ops)?;
         self.groups.reserve(1)?;
         self.tallies.reserve(&member)?;
         self.have.reserve(&member)
@@ -157,8 +160,7 @@ impl Book {
     pub fn push(&mut self, op: Op)
         requires room { HasRoom self.old (data_of op) }
         requires next { IsNext self.old.ops (data_of op) }
-        ensures ops { self.new.ops ≡ self.old.ops ++ data_of op ∷ [] }
-        ensures back { HasRoomToPop self.new }
+        ensures { self.new.ops ≡ self.old.ops ++ data_of op ∷ [] }
     {
         let lately = self.lately(&op);
         let member = op.member();
@@ -187,10 +189,8 @@ impl Book {
         }
     }
 
-    /// Takes the last operation out, which was just pushed: neither were the members shared since, nor was room made for another
-    /// undone name. None exactly where the book is empty. It takes no memory.
+    /// Takes the last operation out. None exactly where the book is empty. It takes no memory.
     pub fn pop(&mut self) -> Option<Op>
-        requires { HasRoomToPop self.old }
         ensures none { IsNone result ↔ (length self.old.ops ≡ 0) }
         ensures ops { self.old.ops ≡ self.new.ops ++ option_to_list (option_map data_of result) }
     {
@@ -267,8 +267,8 @@ impl Book {
         v.known();
         self.known();
         let mut total = 0;
-        for count in v.counts() {
-            let (site, number) = count.pair();
+        let mut left = v.sites_read();
+        while let Some((site, number)) = left.next() {
             total += self.tallies.inserts(site, number);
         }
         total

@@ -14,7 +14,7 @@ use context_vector::Vector;
 use op_name::{Member, Memory, Name};
 
 /// Appends the members of `to` that `from` lacks, in the order of the book, which has the members of `to`.
-/// It costs by the two contexts and by what it appends, and not by the book.
+/// It costs by the two contexts and by what it appends, and not by the book. Where `from` lacks none, it takes no memory.
 pub fn difference(
     book: &Book,
     from: &Vector,
@@ -23,6 +23,7 @@ pub fn difference(
 ) -> Result<(), Memory>
     requires { Within to.now.set book.now.have.set }
     ensures appended { OnOk result (out.new.items ≡ out.old.items ++ difference_of book.now.ops from.now.set to.now.set) }
+    ensures memory { OnErr result (¬ Within to.now.set from.now.set) }
     ensures kept { OnErr result (out.new.items ≡ out.old.items) }
 {
     let mut places = Vec::new(*out.allocator());
@@ -47,14 +48,14 @@ fn add_originals(
 ) -> Result<(), Memory>
     requires covered { Within to.now.set book.now.have.set }
     requires empty { places.old.items ≡ [] }
-    ensures { OnOk result (ArePlacesOf (members_in book.now.ops) (is_missing from.now.set (first_names to.now.set 0)) places.new.items) }
+    ensures places { OnOk result (ArePlacesOf (members_in book.now.ops) (is_missing from.now.set (first_names to.now.set 0)) places.new.items) }
+    ensures memory { OnErr result (¬ Within to.now.set from.now.set) }
 {
     book.known();
     to.known();
-    for i in 0..to.sites() {
-        if let Some(counted) = to.site_at(i) {
-            add_numbers(book, counted.0, from.count(counted.0), counted.1, places)?;
-        }
+    let mut left = to.sites_read();
+    while let Some((site, number)) = left.next() {
+        add_numbers(book, site, from.count(site), number, places)?;
     }
     Ok(())
 }
@@ -70,7 +71,8 @@ fn add_numbers(
     requires site { site < SITES }
     requires high { high ≤ NUMBERS }
     requires there { (k : ℕ) → low < k → k ≤ high → is_known book.now.ops (Original (record { site = site; number = k })) ≡ true }
-    ensures { OnOk result ((t : Member → Bool) → ((y : Member) → is_between site low high y ≡ true → t y ≡ false) → ArePlacesOf (members_in book.now.ops) t places.old.items → ArePlacesOf (members_in book.now.ops) (λ y. t y || is_between site low high y) places.new.items) }
+    ensures places { OnOk result ((t : Member → Bool) → ((y : Member) → is_between site low high y ≡ true → t y ≡ false) → ArePlacesOf (members_in book.now.ops) t places.old.items → ArePlacesOf (members_in book.now.ops) (λ y. t y || is_between site low high y) places.new.items) }
+    ensures memory { OnErr result (low < high) }
 {
     book.known();
     for step in 0..high.saturating_sub(low) {
@@ -94,14 +96,18 @@ fn add_groups(
 ) -> Result<(), Memory>
     requires covered { Within to.now.set book.now.have.set }
     requires originals { ArePlacesOf (members_in book.now.ops) (is_missing from.now.set (first_names to.now.set 0)) places.old.items }
-    ensures { OnOk result (ArePlacesOf (members_in book.now.ops) (is_missing from.now.set to.now.set) places.new.items) }
+    ensures places { OnOk result (ArePlacesOf (members_in book.now.ops) (is_missing from.now.set to.now.set) places.new.items) }
+    ensures memory { OnErr result (¬ Within to.now.set from.now.set) }
 {
+    // Contexts mostly differ in their originals alone.
+    if from.undoes_same(to) {
+        return Ok(());
+    }
     book.known();
     to.known();
-    for i in 0..to.entries() {
-        if let Some(entry) = to.entry_at(i) {
-            add_generations(book, entry.0, from.entry(&entry.0), entry.1, places)?;
-        }
+    let mut left = to.names_read();
+    while let Some(undone) = left.next() {
+        add_generations(book, undone.0, from.entry(&undone.0), undone.1, places)?;
     }
     Ok(())
 }
@@ -115,7 +121,8 @@ fn add_generations(
     places: &mut Vec<usize>,
 ) -> Result<(), Memory>
     requires { (k : ℕ) → low < k → k ≤ high → is_known book.now.ops (Group name k) ≡ true }
-    ensures { OnOk result ((t : Member → Bool) → ((y : Member) → is_group_between name low high y ≡ true → t y ≡ false) → ArePlacesOf (members_in book.now.ops) t places.old.items → ArePlacesOf (members_in book.now.ops) (λ y. t y || is_group_between name low high y) places.new.items) }
+    ensures places { OnOk result ((t : Member → Bool) → ((y : Member) → is_group_between name low high y ≡ true → t y ≡ false) → ArePlacesOf (members_in book.now.ops) t places.old.items → ArePlacesOf (members_in book.now.ops) (λ y. t y || is_group_between name low high y) places.new.items) }
+    ensures memory { OnErr result (low < high) }
 {
     book.known();
     for step in 0..high.saturating_sub(low) {

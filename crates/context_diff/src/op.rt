@@ -243,11 +243,10 @@ fn has_no_stray(context: &Vector) -> bool
     ensures { IsTrue result ↔ HasNoStray context.now.set }
 {
     context.known();
-    for i in 0..context.entries() {
-        if let Some(entry) = context.entry_at(i) {
-            if !context.contains(&Member::Original(entry.0)) {
-                return false;
-            }
+    let mut left = context.names_read();
+    while let Some(undone) = left.next() {
+        if !context.contains(&Member::Original(undone.0)) {
+            return false;
         }
     }
     true

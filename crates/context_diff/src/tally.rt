@@ -4,6 +4,7 @@ ghost use Rattle.std.specs.Prelude.{◌≡◌, ℕ, ◌+◌, ◌-◌, ◌<◌, �
 ghost use Rattle.context_diff.specs.Books.{HasSpareFor};
 ghost use Rattle.context_diff.specs.Code.Tallies.{total, entry_at, place_at, counts_of, places_of, spares_of, counted, placed, without_last};
 
+use crate::growth::reserve_one;
 use op_name::{Member, Memory};
 use std::alloc::Global;
 use std::marker::Model;
@@ -67,9 +68,8 @@ impl Tally {
         ensures places { self.new.places ≡ self.old.places }
         ensures room { OnOk result (0 < self.new.spare) }
     {
-        self.counts.reserve(1)?;
-        self.places.reserve(1)?;
-        Ok(())
+        reserve_one(&mut self.counts)?;
+        reserve_one(&mut self.places)
     }
 
     // Takes one more original in, in the room that was made for it.

@@ -1,7 +1,7 @@
 //! Answers as text.
 
 use context_diff::Op;
-use context_vector::{Count, Vector};
+use context_vector::Vector;
 use op_name::{Member, Memory, Name};
 use ttf_form::{Form, Mark};
 
@@ -75,22 +75,22 @@ fn put_comma(out: &mut String, from: usize) -> Result<(), Memory> {
     Ok(())
 }
 
-fn put_counts(out: &mut String, from: usize, counts: &[Count]) -> Result<(), Memory> {
-    for count in counts {
+fn put_counts(out: &mut String, from: usize, set: &Vector) -> Result<(), Memory> {
+    let mut left = set.sites_read();
+    while let Some((site, number)) = left.next() {
         put_comma(out, from)?;
-        put_number(out, u64::from(count.site()))?;
+        put_number(out, u64::from(site))?;
         out.push('.')?;
-        put_number(out, u64::from(count.number()))?;
+        put_number(out, u64::from(number))?;
     }
     Ok(())
 }
 
 fn put_entries(out: &mut String, from: usize, set: &Vector) -> Result<(), Memory> {
-    for i in 0..set.entries() {
-        if let Some((name, generation)) = set.entry_at(i) {
-            put_comma(out, from)?;
-            put_turn(out, &name, generation)?;
-        }
+    let mut left = set.names_read();
+    while let Some((name, generation)) = left.next() {
+        put_comma(out, from)?;
+        put_turn(out, &name, generation)?;
     }
     Ok(())
 }
@@ -98,7 +98,7 @@ fn put_entries(out: &mut String, from: usize, set: &Vector) -> Result<(), Memory
 /// Appends a set: the last original of each site and the last group of each undone name, or `-`.
 pub(crate) fn put_set(out: &mut String, set: &Vector) -> Result<(), Memory> {
     let from = out.len();
-    put_counts(out, from, set.counts())?;
+    put_counts(out, from, set)?;
     put_entries(out, from, set)?;
     if out.len() == from {
         out.push('-')?;

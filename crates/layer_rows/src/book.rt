@@ -32,6 +32,7 @@ pub(crate) fn call_book(
         "push" => push(alloc, words, book, op, out),
         "pop" => pop(alloc, words, book, op, out),
         "popnone" => pop_none(alloc, out),
+        "poplast" => pop_last(book, out),
         "type" => type_on(alloc, words, book),
         "share" => {
             book.share();
@@ -108,6 +109,13 @@ fn pop_none(alloc: Global, out: &mut String) -> Result<bool, Memory> {
     let mut book = Book::new(alloc);
     let is_empty = book.pop().is_none();
     put_truth(out, is_empty)?;
+    Ok(true)
+}
+
+// `poplast`: the last operation is taken out; what comes back.
+fn pop_last(book: &mut Book, out: &mut String) -> Result<bool, Memory> {
+    let last = book.pop();
+    put_any_op(out, last.as_ref())?;
     Ok(true)
 }
 

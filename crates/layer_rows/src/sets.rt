@@ -28,10 +28,12 @@ pub(crate) fn call_set(
         "kept" => kept(letter, words.word(), sets),
         "join" => join(alloc, letter, words.word(), sets),
         "sharewith" => share_with(alloc, letter, words.word(), sets),
+        "remember" => remember(alloc, letter, words.word(), sets),
         "list" => list(alloc, letter, words, sets),
         "covers" => covers(letter, words.word(), sets, out),
         "missing" => missing(letter, words.word(), sets, out),
         "equals" => equals(letter, words.word(), sets, out),
+        "undoes" => undoes(letter, words.word(), sets, out),
         call => match sets.get_mut(letter) {
             Some(set) => call_one(call, set, words, out),
             None => Ok(false),
@@ -94,7 +96,7 @@ fn join_one(set: &mut Vector, from: &str, sets: &Sets) -> Result<bool, Memory> {
     Ok(true)
 }
 
-// `sharewith LETTER`: the list of undone names is that of the other set, where both have the same.
+// `sharewith LETTER`: copies share the lists, and what they have in common with copies of the other set is kept once.
 fn share_with(alloc: Global, to: &str, from: &str, sets: &mut Sets) -> Result<bool, Memory> {
     let mut set = take_out(alloc, to, sets);
     let done = share_one(&mut set, from, sets);
@@ -106,6 +108,24 @@ fn share_one(set: &mut Vector, from: &str, sets: &Sets) -> bool {
     match sets.get(from) {
         Some(other) => {
             set.share_with(other);
+            true
+        }
+        None => false,
+    }
+}
+
+// `remember LETTER`: the next copies of the set are made like the lists of the other one.
+fn remember(alloc: Global, to: &str, from: &str, sets: &mut Sets) -> Result<bool, Memory> {
+    let mut set = take_out(alloc, to, sets);
+    let done = remember_one(&mut set, from, sets);
+    put_back(to, sets, set);
+    Ok(done)
+}
+
+fn remember_one(set: &mut Vector, from: &str, sets: &Sets) -> bool {
+    match sets.get(from) {
+        Some(other) => {
+            set.remember(other);
             true
         }
         None => false,
@@ -173,7 +193,18 @@ fn equals(letter: &str, other: &str, sets: &Sets, out: &mut String) -> Result<bo
             out.push(' ')?;
             put_truth(out, hash_of(set) == hash_of(other))?;
             out.push(' ')?;
-            put_truth(out, set.counts() == other.counts())?;
+            put_truth(out, set.listed()?.as_slice() == other.listed()?.as_slice())?;
+            Ok(true)
+        }
+        _ => Ok(false),
+    }
+}
+
+// `undoes LETTER`: whether both have the same undone names at the same generations.
+fn undoes(letter: &str, other: &str, sets: &Sets, out: &mut String) -> Result<bool, Memory> {
+    match (sets.get(letter), sets.get(other)) {
+        (Some(set), Some(other)) => {
+            put_truth(out, set.undoes_same(other))?;
             Ok(true)
         }
         _ => Ok(false),
@@ -197,15 +228,10 @@ fn call_one(
         "add" => add(set, words, out),
         "reserve" => reserve(set, words),
         "put" => put(set, words, out),
-        "with" => with(set, words, out),
         "drop" => drop_last(set, words, out),
         "through" => through(set, words, out),
         "share" => {
             set.share();
-            Ok(true)
-        }
-        "sharenames" => {
-            set.share_names();
             Ok(true)
         }
         _ => call_reading(call, set, words, out),
@@ -286,20 +312,6 @@ fn put(set: &mut Vector, words: &mut Words<'_>, out: &mut String) -> Result<bool
     }
     set.reserve(&member)?;
     set.add_reserved(&member);
-    Ok(true)
-}
-
-// `with NAME`: the set becomes the one with this original, which has to be next, in lists that copies share.
-fn with(set: &mut Vector, words: &mut Words<'_>, out: &mut String) -> Result<bool, Memory> {
-    let Some(name) = words.name() else {
-        return Ok(false);
-    };
-    let member = Member::Original(name);
-    if !is_next(set, &member) {
-        return put_not_next(out, last_of(set, &member).saturating_add(1));
-    }
-    let with = set.with_original(&name)?;
-    *set = with;
     Ok(true)
 }
 
@@ -401,7 +413,11 @@ fn entry_at(set: &Vector, words: &mut Words<'_>, out: &mut String) -> Result<boo
     let Some(i) = words.number() else {
         return Ok(false);
     };
-    match set.entry_at(i) {
+    let mut left = set.names_read();
+    for _ in 0..i {
+        let _ = left.next();
+    }
+    match left.next() {
         Some((name, generation)) => put_turn(out, &name, generation)?,
         None => put_none(out)?,
     }

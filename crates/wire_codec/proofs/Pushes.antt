@@ -1,12 +1,11 @@
 -- Lists that are taken over one element after the other.
-use Rattle.std.proofs.Common.{◌≡◌, ℕ, zero, suc, ◌+◌, ◌-◌, ◌*◌, ◌<◌, ◌≤◌, List, [], ◌∷◌, ◌++◌, length, take, Some, sym, ap, subst, ◌∙◌, append_assoc, arith}
+use Rattle.std.proofs.Common.{◌≡◌, ℕ, zero, suc, ◌+◌, ◌-◌, ◌*◌, ◌<◌, ◌≤◌, List, [], ◌∷◌, ◌++◌, length, take, Some, None, sym, ap, subst, ◌∙◌, append_assoc, arith}
 use Rattle.std.specs.Global.{Vec}
 use Rattle.std.specs.List.{slice_get, flat_map}
 use Rattle.std.proofs.Math.Nat.{mul-suc}
 use Rattle.std.proofs.lemmas.List.{append-nil, length-append, take_more}
 use Rattle.std.proofs.lemmas.List.Concat.{flat_map-append}
 use Rattle.std.proofs.lemmas.Option.{slice_get_within, get_or_from_slice_get}
-use Rattle.std.specs.Prelude.{slice_index_or}
 use Rattle.op_name.specs.NameData.{NameData}
 use Rattle.op_name.specs.declared.name.TheConstants.{SITES, NUMBERS}
 use Rattle.context_vector.specs.Contexts.{AreCounts, AreEntries}
@@ -50,10 +49,10 @@ pub all_taken : {A : Type 0} (all before now : List A) → before ++ now ≡ all
 all_taken {A = A} all before now e is = sym (append-nil before) ∙ (ap (λ (t : List A). before ++ t) (sym is) ∙ e)
 
 -- each site of a context is one
-pub site_is_site : (low : ℕ) (ps : List (ℕ × ℕ)) (i : ℕ) (d : ℕ × ℕ) → AreCounts low ps → i < length ps → (slice_index_or ps i d).0 < SITES
-site_is_site low [] i d h e = omega (arith, e)
-site_is_site low (q ∷ ps) zero d h e = h.1
-site_is_site low (q ∷ ps) (suc i) d h e = site_is_site (q.0 + 1) ps i d h.4 (omega (arith, e))
+pub site_is_site : (low : ℕ) (ps : List (ℕ × ℕ)) (i : ℕ) (p : ℕ × ℕ) → AreCounts low ps → slice_get ps i ≡ Some p → p.0 < SITES
+site_is_site low [] i p are at = let none : None ≡ Some p = at in cc
+site_is_site low (q ∷ ps) zero p are at = let is : q ≡ p = cc in subst (λ (x : ℕ × ℕ). x.0 < SITES) is are.1
+site_is_site low (q ∷ ps) (suc i) p are at = site_is_site (q.0 + 1) ps i p are.4 at
 
 -- ---- pieces put one after the other
 

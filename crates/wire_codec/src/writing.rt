@@ -15,7 +15,7 @@ ghost use Rattle.wire_codec.specs.Code.Puts.{HasRoom, Puts, HasAuthor, head_len}
 use crate::head::Head;
 use crate::limits::FRAME_SITES;
 use context_diff::{Op, UNDO_ENTRIES};
-use context_vector::{Count, Entry, Vector};
+use context_vector::{Entry, SiteCounts, Vector};
 use op_name::{Memory, Name};
 
 // Puts bytes for which there is room.
@@ -130,13 +130,13 @@ fn put_head(out: &mut Vec<u8>, head: Head)
     }
 }
 
-fn put_count(out: &mut Vec<u8>, count: &Count)
+fn put_count(out: &mut Vec<u8>, site: u16, number: u32)
     requires room { HasRoom out.old 5 }
-    requires site { count.now.0 < FRAME_SITES }
-    ensures { Puts out.old out.new (count_bytes count.now) }
+    requires site { site < FRAME_SITES }
+    ensures { Puts out.old out.new (count_bytes (site, number)) }
 {
-    put_site(out, count.site());
-    put(out, &count.number().to_be_bytes());
+    put_site(out, site);
+    put(out, &number.to_be_bytes());
 }
 
 fn put_entry(out: &mut Vec<u8>, entry: &Entry)
@@ -147,13 +147,14 @@ fn put_entry(out: &mut Vec<u8>, entry: &Entry)
     put(out, &entry.generation().to_be_bytes());
 }
 
-fn put_each_count(out: &mut Vec<u8>, counts: &[Count])
-    requires room { HasRoom out.old (count_len * length counts.now) }
-    requires sites { AreCounts 0 counts.now }
-    ensures { Puts out.old out.new (flat_map count_bytes counts.now) }
+fn put_each_count(out: &mut Vec<u8>, counts: SiteCounts<'_>)
+    requires room { HasRoom out.old (count_len * length counts) }
+    requires sites { AreCounts 0 counts }
+    ensures { Puts out.old out.new (flat_map count_bytes counts.entry) }
 {
-    for count in counts {
-        put_count(out, count);
+    let mut left = counts;
+    while let Some((site, number)) = left.next() {
+        put_count(out, site, number);
     }
 }
 
@@ -172,7 +173,7 @@ fn put_counts(out: &mut Vec<u8>, context: &Vector)
 {
     context.known();
     put(out, &(context.sites() as u8).to_be_bytes());
-    put_each_count(out, context.counts());
+    put_each_count(out, context.sites_read());
 }
 
 fn put_entries(out: &mut Vec<u8>, entries: &[Entry])

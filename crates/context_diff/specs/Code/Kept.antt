@@ -1,5 +1,5 @@
 -- What a book keeps beside its operations.
-use Rattle.std.specs.Prelude.{◌≡◌, ℕ, ◌<◌, false, List, Option, Some, None, IfSome, length, slice_get}
+use Rattle.std.specs.Prelude.{◌≡◌, ℕ, ◌<◌, ◌≤◌, Bool, true, false, List, Option, Some, None, IfSome, length, slice_get}
 use Rattle.std.specs.Map.{lookup}
 use Rattle.op_name.specs.declared.member.Member.{Member}
 use Rattle.op_name.specs.declared.member.Member.TheVariants.{Group}
@@ -23,10 +23,12 @@ abbrev pub AreGroups : List OpData → List (Member × ℕ) → Type 0
 AreGroups h places = (t : NameData) (g : ℕ) → IsPlaceOf h (Group t g) (lookup (member_eq (Group t g)) places)
 
 -- a valid history, whose members are `have`, with the number of its inserts, the counts and the places of the originals of each site, the
--- places of undo groups, and how many inserts the contexts of at most two of its inserts and deletes have
-pub record IsBook (h : List OpData) (have : ContextData) (number : ℕ) (counts places : ℕ → List ℕ) (seats : List (Member × ℕ)) (last earlier : Option Lately) : Type 0 where
+-- places of undo groups, and how many inserts the contexts of at most two of its inserts and deletes have; where there are operations, the
+-- lists of the members may be changed in place
+pub record IsBook (h : List OpData) (have : ContextData) (own : Bool) (number : ℕ) (counts places : ℕ → List ℕ) (seats : List (Member × ℕ)) (last earlier : Option Lately) : Type 0 where
   pub valid : IsValid h
   pub members : have ≡ context_of_all h
+  pub in_place : 1 ≤ length h → own ≡ true
   pub inserts : number ≡ made h
   pub tallies : AreTallies h counts
   pub placed : ArePlaced h places

@@ -2,6 +2,7 @@
 
 ghost use Rattle.std.specs.Prelude.{◌≡◌, ◌++◌, OnOk, OnErr, map, length, take};
 ghost use Rattle.site_answers.specs.Names.{group_text};
+ghost use Rattle.context_vector.specs.Contexts.{ContextData};
 ghost use Rattle.script_text.specs.Report.{count_text, listed, with_commas, state_text};
 
 use context_vector::{Count, Entry, Vector};
@@ -17,27 +18,27 @@ pub fn state_line(site: u16, have: &Vector, waiting: u32, out: &mut Vec<u8>) -> 
     ensures ok { OnOk result (out.new.items ≡ out.old.items ++ state_text site have.now.set waiting) }
     ensures err { OnErr result (out.new.items ≡ out.old.items) }
 {
+    let counts = have.listed()?;
     let groups = have.named()?;
     let start = out.len();
-    let done = state_parts(site, have, groups.as_slice(), waiting, out);
+    let done = state_parts(site, counts.as_slice(), groups.as_slice(), waiting, out);
     put::take_back(out, start, done)
 }
 
 // The same, but a refused call may leave some of it after what `out` held.
 fn state_parts(
     site: u16,
-    have: &Vector,
+    counts: &[Count],
     groups: &[Entry],
     waiting: u32,
     out: &mut Vec<u8>,
 ) -> Result<(), Memory>
-    requires { groups.now ≡ have.now.set.entries }
-    ensures ok { OnOk result (out.new.items ≡ out.old.items ++ state_text site have.now.set waiting) }
+    ensures ok { let have : ContextData = record { counts = counts.now; entries = groups.now } in OnOk result (out.new.items ≡ out.old.items ++ state_text site have waiting) }
     ensures err { OnErr result (take (length out.old.items) out.new.items ≡ out.old.items) }
 {
     put::number(out, b"state ", u64::from(site))?;
     put::text(out, b" have ")?;
-    put_counts(have.counts(), out)?;
+    put_counts(counts, out)?;
     put::text(out, b" groups ")?;
     put_groups(groups, out)?;
     put::number(out, b" waiting ", u64::from(waiting))?;

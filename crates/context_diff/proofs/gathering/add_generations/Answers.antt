@@ -25,6 +25,6 @@ loop-step-preserved c t apart first =
           absurd (false≢true (sym ((w.in_default.ensures).none.0 refl) ∙ there))
     ]
 
-pub returns : goal.returns
-returns c t apart first =
+pub returns-clause-places : goal.returns-clause-places
+returns-clause-places c t apart first =
     groups_end (members_in c.args.book.now.ops) t c.args.name c.args.low c.args.high c.loop-step.step c.loop-step.places.items (omega (arith, c.saturating_sub-step-end.ensures)) (omega (arith, c.saturating_sub-step-end.ensures)) (c.loop-step.invariant t apart first)
