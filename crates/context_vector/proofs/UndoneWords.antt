@@ -10,8 +10,7 @@ use Rattle.op_name.specs.declared.member.TheConstants.{GENERATIONS}
 use Rattle.op_name.specs.NameData.{NameData, IsName, name_eq, name_lt}
 use Rattle.op_name.proofs.CallerLemmas.{name_order, number_order, name_same, name_itself, cases_by_order}
 use Rattle.context_vector.specs.Contexts.{count_in, entry_in, put_count, put_entry, IsBefore, AreEntries}
-use Rattle.context_vector.specs.Vectors.{without_site, without_name, NamesBelow}
-use Rattle.context_vector.specs.Marks.{weight, mark_of}
+use Rattle.context_vector.specs.Vectors.{without_site, without_name}
 use Rattle.context_vector.specs.Code.Words.{digit, with_digit, word_key, place_in, name_at, generation, low_of, high_of, entries_in}
 use Rattle.context_vector.specs.Code.Words.{AreWords, AreUndone, set_word, words_with}
 use Rattle.context_vector.specs.Code.Undone.{set_entry}

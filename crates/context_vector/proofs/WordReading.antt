@@ -1,17 +1,13 @@
 -- Words that are read from the front: parts of a list of words, and what is left of a word.
 use Rattle.std.proofs.Common.{◌≡◌, ℕ, zero, suc, ◌+◌, ◌-◌, ◌*◌, ◌/◌, ◌%◌, ◌<◌, ◌≤◌, ◌≢◌, ◌^◌, List, [], ◌∷◌, ◌++◌, length}
-use Rattle.std.proofs.Common.{if◌then◌else◌, drop, add-one, Some, None, refl, sym, ap, subst, ◌∙◌, inl, inr, arith}
-use Rattle.std.specs.Prelude.{◌==◌, nat_lt, slice_get}
-use Rattle.std.proofs.lemmas.Bool.{cases_order, eq-eqb, ne_eqb}
+use Rattle.std.proofs.Common.{if◌then◌else◌, drop, Some, None, refl, sym, ap, subst, ◌∙◌, inl, inr, arith}
+use Rattle.std.specs.Prelude.{◌==◌, slice_get}
+use Rattle.std.proofs.lemmas.Bool.{cases_order, eq-eqb}
 use Rattle.op_name.specs.declared.member.TheConstants.{GENERATIONS}
 use Rattle.op_name.specs.NameData.{NameData, IsName}
-use Rattle.op_name.proofs.CallerLemmas.{number_order}
 use Rattle.context_vector.specs.Contexts.{count_in, entry_in, AreEntries}
 use Rattle.context_vector.specs.Vectors.{SitesBelow}
 use Rattle.context_vector.specs.Code.Words.{digit, name_at, generation, generation_at, names_from, names_in, names_left, left_in, entries_in, IsLeft, AreWords}
-use Rattle.context_vector.proofs.Keyed.{value_after}
-use Rattle.context_vector.proofs.Counts.{same_site, count_is}
-use Rattle.context_vector.proofs.Undone.{entries_right}
 use Rattle.context_vector.proofs.Words.{words_from, no_word, entries_append, names_first, names_pass}
 use Rattle.std.proofs.Math.Nat.{pow-succ'}
 use Rattle.context_vector.proofs.Merging.{begins, ends}
@@ -175,6 +171,10 @@ begins_at hs k i w ws left some are =
     record { whole = whole; within = within; name = parts.0; most = parts.2; next = left_next i w left within; rest = parts.4 }
 
 -- where words are passed, what is left are entries still
+entries_right : (es fs : List (NameData × ℕ)) → AreEntries (es ++ fs) → AreEntries fs
+entries_right [] fs are = are
+entries_right (e ∷ es) fs are = entries_right es fs are.4
+
 pub still_left : (hs : List (NameData × ℕ)) (k i w : ℕ) (ws xs ys : List (ℕ × ℕ)) → w ≡ 0 → ws ≡ xs ++ ys → AreEntries (left_in hs k i w ws) →
     AreEntries (left_in hs k i w ys)
 still_left hs k i w ws xs ys none parts are =

@@ -1,6 +1,5 @@
-use Rattle.std.proofs.Common.{◌≡◌, ◌+◌, ◌/◌, ◌++◌, List, ℕ, Some, drop, sym, ap, subst, ◌∙◌}
+use Rattle.std.proofs.Common.{◌≡◌, ◌+◌, ◌++◌, Some, sym, ap, subst, ◌∙◌}
 use Rattle.std.specs.Prelude.{slice_get}
-use Rattle.op_name.specs.NameData.{NameData}
 use Rattle.context_vector.specs.Code.Readers.{left_of}
 use Rattle.context_vector.specs.Code.Words.{left_in, entries_in, IsLeft, AreWords}
 use Rattle.context_vector.proofs.WordReading.{left_within, left_next, left_start, left_pass, left_loads, left_ends, words_rest, first_below}

@@ -1,4 +1,4 @@
-use Rattle.std.proofs.Common.{◌≡◌, ◌++◌, [], take, drop, refl, sym, ap, ◌∙◌}
+use Rattle.std.proofs.Common.{◌≡◌, ◌++◌, [], take, refl, sym, ap, ◌∙◌}
 use Rattle.context_vector.specs.Code.Readers.{left_of}
 use Rattle.context_vector.proofs.Parts.{goes_on, passed_on}
 use Rattle.context_vector.proofs.vector.words.pass_same.Goals as goal

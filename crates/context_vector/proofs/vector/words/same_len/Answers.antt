@@ -1,6 +1,6 @@
-use Rattle.std.proofs.Common.{◌≡◌, ℕ, ◌+◌, ◌<◌, List, [], ◌∷◌, ◌++◌, length, get_or, take, suc, add-one, sym, ap, ◌∙◌, arith}
+use Rattle.std.proofs.Common.{◌≡◌, ℕ, ◌+◌, ◌<◌, List, [], ◌∷◌, ◌++◌, length, get_or, take, add-one, sym, ◌∙◌, arith}
 use Rattle.std.proofs.Math.Seq.{take-suc}
-use Rattle.context_vector.specs.Equality.{count_eq, counts_decide}
+use Rattle.context_vector.specs.Equality.{counts_decide}
 use Rattle.context_vector.proofs.vector.words.same_len.Goals as goal
 
 one_more : (xs ys : List (ℕ × ℕ)) (n : ℕ) (x y : ℕ × ℕ) → n < length xs → n < length ys → take n xs ≡ take n ys →

@@ -3,7 +3,7 @@ use Rattle.std.specs.Prelude.{nat_lt}
 use Rattle.std.specs.List.{insert}
 use Rattle.context_vector.specs.Contexts.{count_in}
 use Rattle.context_vector.specs.Code.Places.{IsPlace, IsGap}
-use Rattle.context_vector.specs.Code.Words.{word_key, place_in, with_digit, set_word}
+use Rattle.context_vector.specs.Code.Words.{word_key, place_in, with_digit}
 use Rattle.context_vector.proofs.Counts.{count_in_gap}
 use Rattle.context_vector.proofs.Digits.{still_empty, not_empty}
 use Rattle.context_vector.proofs.Words.{word_at_place, set_removed, set_placed, set_absent, set_inserted}

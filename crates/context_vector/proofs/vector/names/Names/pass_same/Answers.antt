@@ -1,10 +1,9 @@
-use Rattle.std.proofs.Common.{◌≡◌, ◌+◌, ◌++◌, length, length-append, arith, sym, ap, subst, ◌∙◌}
-use Rattle.context_vector.specs.Contexts.{entry_in, AreEntries}
+use Rattle.std.proofs.Common.{◌≡◌, ◌++◌, length, length-append, arith, sym, ap, subst, ◌∙◌}
+use Rattle.context_vector.specs.Contexts.{entry_in}
 use Rattle.context_vector.specs.Equality.{list_eq_decides}
 use Rattle.context_vector.specs.Shortfalls.{first_short}
 use Rattle.context_vector.specs.Code.Readers.{left_of}
 use Rattle.context_vector.specs.Code.Words.{left_in, entries_in, AreWords}
-use Rattle.context_vector.proofs.Undone.{entries_right}
 use Rattle.context_vector.proofs.Words.{entries_append}
 use Rattle.context_vector.proofs.UndoneWords.{words_passed}
 use Rattle.context_vector.proofs.WordReading.{left_done, words_back, still_left}

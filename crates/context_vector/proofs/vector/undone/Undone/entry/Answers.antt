@@ -1,5 +1,4 @@
-use Rattle.std.proofs.Common.{◌≡◌, ◌<◌, ◌≤◌, ◌^◌, ℕ, sym, ap, subst, ◌∙◌, arith}
-use Rattle.op_name.specs.declared.member.TheConstants.{GENERATIONS}
+use Rattle.std.proofs.Common.{◌≡◌, ℕ, sym, ap, ◌∙◌, arith}
 use Rattle.context_vector.specs.Contexts.{count_in, entry_in}
 use Rattle.context_vector.specs.Code.Undone.{UndoneData}
 use Rattle.context_vector.specs.Code.Words.{digit, generation, entries_in}
