@@ -11,4 +11,5 @@ pub mod Merging
 pub mod Counting
 pub mod Parts
 pub mod Undone
+pub mod Reading
 pub mod CallerLemmas
