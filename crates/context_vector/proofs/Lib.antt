@@ -15,4 +15,5 @@ pub mod Digits
 pub mod Words
 pub mod WordReading
 pub mod UndoneWords
+pub mod Reading
 pub mod CallerLemmas
