@@ -25,7 +25,8 @@ use Rattle.context_vector.proofs.Undone.{entries_set}
 use Rattle.context_vector.proofs.Members.{count_put, entry_put, entry_without}
 use Rattle.context_vector.proofs.Digits.{digit_below, digit_none, digit_same, digit_other, with_digit_fits, digits_same}
 use Rattle.context_vector.proofs.Digits.{low_below, generation_again, generation_some, same_digits, same_highs}
-use Rattle.context_vector.proofs.Words.{digit_of, entry_words, no_entry, entries_append, entries_in_rise, words_rise, number_at, key_at, place_at}
+use Rattle.context_vector.proofs.Words.{digit_of, entry_words, no_entry, entries_append, entries_in_rise, words_rise}
+use Rattle.context_vector.proofs.Words.{number_at, key_at, place_at}
 use Rattle.context_vector.proofs.Words.{place_below, one_place, words_from}
 use Rattle.context_vector.proofs.Marks.{absent_before}
 
@@ -336,9 +337,9 @@ pub words_compared : (ws vs : List (ℕ × ℕ)) (hs : List (NameData × ℕ)) �
     pointwise count_eq ws vs ≡ pointwise entry_eq (entries_in hs ws) (entries_in hs vs)
 words_compared ws vs hs are are' =
     let by_words = count_list_decides ws vs in
-    let names = λ (same : ws ≡ vs). ap (entries_in hs) same in
     same_from_decides (pointwise count_eq ws vs) (pointwise entry_eq (entries_in hs ws) (entries_in hs vs))
-    (λ e. names (by_words.0 e), λ same. by_words.1 (same_words ws vs hs hs are are' same)) (list_eq_decides (entries_in hs ws) (entries_in hs vs))
+    (λ e. ap (entries_in hs) (by_words.0 e), λ same. by_words.1 (same_words ws vs hs hs are are' same))
+    (list_eq_decides (entries_in hs ws) (entries_in hs vs))
 
 -- words that both lists begin with have no name that one of them lacks
 enough_itself : (es : List (NameData × ℕ)) → AreEnough es es

@@ -7,7 +7,8 @@ use Rattle.op_name.specs.declared.member.TheConstants.{GENERATIONS}
 use Rattle.op_name.specs.NameData.{NameData, IsName}
 use Rattle.context_vector.specs.Contexts.{count_in, entry_in, AreEntries}
 use Rattle.context_vector.specs.Vectors.{SitesBelow}
-use Rattle.context_vector.specs.Code.Words.{digit, name_at, generation, generation_at, names_from, names_in, names_left, left_in, entries_in, IsLeft, AreWords}
+use Rattle.context_vector.specs.Code.Words.{digit, name_at, generation, generation_at, names_from, names_in, names_left, left_in}
+use Rattle.context_vector.specs.Code.Words.{entries_in, IsLeft, AreWords}
 use Rattle.context_vector.proofs.Words.{words_from, no_word, entries_append, names_first, names_pass}
 use Rattle.std.proofs.Math.Nat.{pow-succ'}
 use Rattle.context_vector.proofs.Merging.{begins, ends}
@@ -105,9 +106,9 @@ unfolding names_left
 left_first hs k i w within some =
     let gen = λ (j : ℕ). generation (digit w (j - i)) (entry_in hs (name_at k j)) in
     let here : gen i ≡ generation (w % 16) (entry_in hs (name_at k i)) =
-        ap (λ d. generation d (entry_in hs (name_at k i))) (first_digit w i) in
+    ap (λ d. generation d (entry_in hs (name_at k i))) (first_digit w i) in
     let least : generation (w % 16) (entry_in hs (name_at k i)) ≡ w % 16 + 15 * entry_in hs (name_at k i) =
-        generation_some (w % 16) (entry_in hs (name_at k i)) (omega arith) in
+    generation_some (w % 16) (entry_in hs (name_at k i)) (omega arith) in
     names_first gen k i within (λ none. omega (arith, sym here ∙ none, least, some)) ∙ (λ t. (name_at k i, here t) ∷ behind hs k i w t)
 
 -- a word has so many digits as it has places left
@@ -175,8 +176,8 @@ entries_right : (es fs : List (NameData × ℕ)) → AreEntries (es ++ fs) → A
 entries_right [] fs are = are
 entries_right (e ∷ es) fs are = entries_right es fs are.4
 
-pub still_left : (hs : List (NameData × ℕ)) (k i w : ℕ) (ws xs ys : List (ℕ × ℕ)) → w ≡ 0 → ws ≡ xs ++ ys → AreEntries (left_in hs k i w ws) →
-    AreEntries (left_in hs k i w ys)
+pub still_left : (hs : List (NameData × ℕ)) (k i w : ℕ) (ws xs ys : List (ℕ × ℕ)) → w ≡ 0 → ws ≡ xs ++ ys →
+    AreEntries (left_in hs k i w ws) → AreEntries (left_in hs k i w ys)
 still_left hs k i w ws xs ys none parts are =
     let all = left_done hs k i w ws none ∙ (ap (entries_in hs) parts ∙ entries_append hs xs ys) in
     subst AreEntries (sym (left_done hs k i w ys none)) (entries_right (entries_in hs xs) (entries_in hs ys) (subst AreEntries all are))

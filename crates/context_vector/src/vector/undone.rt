@@ -1,6 +1,7 @@
 //! The undone names of a vector, in lists of its own that may be changed in place.
 
-ghost use Rattle.std.specs.Prelude.{◌≡◌, ◌+◌, ◌≤◌, ◌<◌, ◌*◌, ◌^◌, ◌++◌, ◌∷◌, [], length, vec_len, vec_capacity, IfOk, OnOk, OnErr, ◌==◌, if◌then◌else◌};
+ghost use Rattle.std.specs.Prelude.{◌≡◌, ◌+◌, ◌≤◌, ◌<◌, ◌*◌, ◌^◌, ◌++◌, ◌∷◌, [], ◌==◌, if◌then◌else◌};
+ghost use Rattle.std.specs.Prelude.{length, vec_len, vec_capacity, IfOk, OnOk, OnErr};
 ghost use Rattle.context_vector.specs.Contexts.{entry_in, AreEntries};
 ghost use Rattle.context_vector.specs.Marks.{mark_of};
 ghost use Rattle.context_vector.specs.Vectors.{NamesBelow};

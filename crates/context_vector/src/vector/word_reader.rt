@@ -64,7 +64,8 @@ impl WordReader {
         requires name { IsName (name_at self.now.key self.now.place).site (name_at self.now.key self.now.place).number }
         requires rising { AreEntries high.now }
         requires most { generation (self.now.digits % 16) (entry_in high.now (name_at self.now.key self.now.place)) ≤ GENERATIONS }
-        ensures { result ≡ (name_at self.now.key self.now.place, generation (self.now.digits % 16) (entry_in high.now (name_at self.now.key self.now.place))) }
+        ensures name { result.0 ≡ name_at self.now.key self.now.place }
+        ensures generation { result.1 ≡ generation (self.now.digits % 16) (entry_in high.now (name_at self.now.key self.now.place)) }
     {
         let code = self.key * 8 + self.place;
         let name = Name {
@@ -82,9 +83,11 @@ pub fn to_first(word: &mut WordReader, words: &mut Reader<'_, Word>) -> bool
     requires words { AreWords 0 (left_of words.old) }
     ensures word { IsLeft word.new.place word.new.digits }
     ensures words { AreWords 0 (left_of words.new) }
-    ensures same { (hs : List (NameData × ℕ)) → left_in hs word.new.key word.new.place word.new.digits (left_of words.new) ≡ left_in hs word.old.key word.old.place word.old.digits (left_of words.old) }
+    ensures same { (hs : List (NameData × ℕ)) → left_in hs word.new.key word.new.place word.new.digits (left_of words.new)
+        ≡ left_in hs word.old.key word.old.place word.old.digits (left_of words.old) }
     ensures first { result ≡ true → word.new.digits % 16 ≢ 0 }
-    ensures end { result ≡ false → (hs : List (NameData × ℕ)) → left_in hs word.old.key word.old.place word.old.digits (left_of words.old) ≡ [] }
+    ensures end { result ≡ false
+        → (hs : List (NameData × ℕ)) → left_in hs word.old.key word.old.place word.old.digits (left_of words.old) ≡ [] }
 {
     while word.digits % 16 == 0 {
         if word.digits != 0 {

@@ -1,6 +1,7 @@
 //! Lists of words: where a name stands in them, and another digit for a name.
 
-ghost use Rattle.std.specs.Prelude.{◌≡◌, ◌+◌, ◌≤◌, ◌<◌, ◌++◌, ℕ, List, false, take, nat_lt, length, vec_len, vec_capacity, IfOk, IfErr, IsTrue};
+ghost use Rattle.std.specs.Prelude.{◌≡◌, ◌+◌, ◌≤◌, ◌<◌, ◌++◌, ℕ, List, false, take, nat_lt};
+ghost use Rattle.std.specs.Prelude.{length, vec_len, vec_capacity, IfOk, IfErr, IsTrue};
 ghost use Rattle.context_vector.specs.Contexts.{count_in};
 ghost use Rattle.context_vector.specs.Vectors.{SitesBelow};
 ghost use Rattle.context_vector.specs.Code.Places.{IsPlace, IsGap};
@@ -77,7 +78,8 @@ pub fn set_digit(words: &mut Vec<Word>, name: &Name, digit: u16)
     requires rising { AreWords 0 words.old.items }
     requires digit { digit < 16 }
     requires room { count_in words.old.items (word_key name.now) ≡ 0 → 1 ≤ digit → vec_len words.old < vec_capacity words.old }
-    ensures { words.new.items ≡ set_word (word_key name.now) (with_digit (count_in words.old.items (word_key name.now)) (place_in name.now) digit) words.old.items }
+    ensures { let had = count_in words.old.items (word_key name.now) in
+        words.new.items ≡ set_word (word_key name.now) (with_digit had (place_in name.now) digit) words.old.items }
 {
     let (key, place) = seat_of(name);
     match place_of_key(words.as_slice(), key) {

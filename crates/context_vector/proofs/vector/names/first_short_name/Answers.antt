@@ -6,7 +6,8 @@ use Rattle.context_vector.specs.Shortfalls.{first_short}
 use Rattle.context_vector.proofs.Merging.{begins, ends}
 use Rattle.context_vector.proofs.Undone.{lesser_passed, same_passed, name_short, name_lacks, names_lack, entries_rest}
 use Rattle.context_vector.proofs.vector.names.first_short_name.Goals as goal
-use Rattle.context_vector.proofs.vector.names.first_short_name.Goals.{in_default-first-via-in-Some-2+else-eq, in_default-first-via-in_default-first}
+use Rattle.context_vector.proofs.vector.names.first_short_name.Goals.{in_default-first-via-in-Some-2+else-eq}
+use Rattle.context_vector.proofs.vector.names.first_short_name.Goals.{in_default-first-via-in_default-first}
 
 pub loop-wanted-init : goal.loop-wanted-init
 loop-wanted-init c = (c.pass_same.ensures.mine, c.pass_same.ensures.theirs, sym c.pass_same.ensures.short)
@@ -35,7 +36,7 @@ loop-wanted-smaller-then-is_before c =
     let had_is : slice_get es 0 ≡ Some had = sym c.first-in-Some.ensures.first ∙ c.in-Some-first.is in
     let mine : c.next.new.self ≡ drop 1 es = c.next.ensures.rest ∙ ap (drop 1) c.first-in-Some.ensures.same in
     let smaller : length c.next.new.self + length c.first.new.self < length es + length c.loop-wanted.right =
-        omega (arith, ap length (begins es had had_is), ap length mine, ap length c.first.ensures.same) in
+    omega (arith, ap length (begins es had had_is), ap length mine, ap length c.first.ensures.same) in
     smaller
 
 pub returns-then-had-wanted : goal.returns-then-had-wanted
@@ -80,14 +81,14 @@ loop-wanted-smaller c =
     let theirs : c.next-in-Some-2-2.new.self ≡ drop 1 fs = c.next-in-Some-2-2.ensures.rest ∙ ap (drop 1) c.first.ensures.same in
     let now = c.pass_same-in-Some-2.new in
     let smaller : length now.self + length now.other < length es + length fs =
-        omega (
-          arith,
-          ap length (begins es had had_is),
-          ap length (begins fs wanted wanted_is),
-          ap length mine,
-          ap length theirs,
-          c.pass_same-in-Some-2.ensures.less,
-        ) in
+    omega (
+      arith,
+      ap length (begins es had had_is),
+      ap length (begins fs wanted wanted_is),
+      ap length mine,
+      ap length theirs,
+      c.pass_same-in-Some-2.ensures.less,
+    ) in
     smaller
 
 pub returns-in_default-first : goal.returns-in_default-first

@@ -12,5 +12,7 @@ pub returns : goal.returns
 returns c =
     let facts = c.binary_search_by_key.ensures in
     let by_key = facts.position (λ pair. pair.0) (answers_always _ _ _ (λ f a r g called. search rules)) in
-    let parts = searched same_site nat_lt number_order nat_cmp number_answers c.args.words.now (words_rise 0 c.args.words.now c.requires) c.args.key c.binary_search_by_key.result facts.bound by_key in
+    let rise = words_rise 0 c.args.words.now c.requires in
+    let search_of = searched same_site nat_lt number_order nat_cmp number_answers c.args.words.now rise in
+    let parts = search_of c.args.key c.binary_search_by_key.result facts.bound by_key in
     record { found = parts.0; absent = parts.1 }

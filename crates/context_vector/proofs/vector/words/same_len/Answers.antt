@@ -14,10 +14,9 @@ one_more xs ys n x y within within' same here there one =
 pub loop-n-preserved : goal.loop-n-preserved
 loop-n-preserved c =
     let one : c.index-one-n.result ≡ c.index-other-n.result =
-        (counts_decide c.index-one-n.result c.index-other-n.result).0 (sym c.eq.ensures ∙ c.if-eq.true) in
-    (
+    (counts_decide c.index-one-n.result c.index-other-n.result).0 (sym c.eq.ensures ∙ c.if-eq.true) in (
       omega (arith, c.loop-n-test.true),
       one_more c.args.one.now c.args.other.now c.loop-n.n c.index-one-n.result c.index-other-n.result
-      (omega (arith, c.min-most.ensures, c.loop-n-test.true)) (omega (arith, c.min-most.ensures, c.loop-n-test.true))
-      c.loop-n.invariant.1 c.index-one-n.is c.index-other-n.is one,
+          (omega (arith, c.min-most.ensures, c.loop-n-test.true)) (omega (arith, c.min-most.ensures, c.loop-n-test.true))
+          c.loop-n.invariant.1 c.index-one-n.is c.index-other-n.is one,
     )

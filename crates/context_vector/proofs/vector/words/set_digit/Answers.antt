@@ -24,7 +24,7 @@ written c =
     let had = c.index.result.now in
     let key : had.0 ≡ k = ap (λ (p : ℕ × ℕ). p.0) c.index.ensures ∙ (placed c).key had in
     let digits : had.1 ≡ count_in ws k =
-        ap (λ (p : ℕ × ℕ). p.1) c.index.ensures ∙ sym (word_at_place ws k c.in-Ok.at had c.requires.rising (placed c)) in
+    ap (λ (p : ℕ × ℕ). p.1) c.index.ensures ∙ sym (word_at_place ws k c.in-Ok.at had c.requires.rising (placed c)) in
     c.with-word.ensures ∙ (λ j. (key j, with_digit (digits j) (c.seat_of-key.ensures.place j) c.args.digit))
 
 gap : (c : In-Err) → IsGap nat_lt c.args.words.now.items (word_key c.args.name.now) c.in-Err.field-0
@@ -57,7 +57,7 @@ returns-else-digits-eq0 c =
     let ws = c.args.words.now.items in
     let word = with_digit (count_in ws (word_key n)) (place_in n) c.args.digit in
     let some : word ≢ 0 =
-        λ none. c.if-digits-eq0.false (c.digits.ensures ∙ (ap (λ (p : ℕ × ℕ). p.1) (written before) ∙ none)) in
+    λ none. c.if-digits-eq0.false (c.digits.ensures ∙ (ap (λ (p : ℕ × ℕ). p.1) (written before) ∙ none)) in
     ap (λ w. set ws c.in-Ok.at w) (written before) ∙ set_placed ws (word_key n) word c.in-Ok.at c.requires.rising (placed before) some
 
 pub returns-in-Err : goal.returns-in-Err
@@ -65,7 +65,8 @@ returns-in-Err c =
     let n = c.args.name.now in
     let had = count_in c.args.words.now.items (word_key n) in
     let before = (goal.at.returns-in-Err c).In-Err in
-    set_absent c.args.words.now.items (word_key n) (with_digit had (place_in n) c.args.digit) c.in-Err.field-0 c.requires.rising (gap before)
+    let ws = c.args.words.now.items in
+    set_absent ws (word_key n) (with_digit had (place_in n) c.args.digit) c.in-Err.field-0 c.requires.rising (gap before)
     (still_empty had (place_in n) c.args.digit (none before) c.if-digit-eq0.true)
 
 pub returns-in-Ok-insert : goal.returns-in-Ok-insert
@@ -77,7 +78,7 @@ returns-in-Ok-insert c =
     let key = ap (λ (p : ℕ × ℕ). p.0) c.new.ensures ∙ c.seat_of-key.ensures.key in
     let digits = ap (λ (p : ℕ × ℕ). p.1) c.new.ensures ∙ sym (none before) in
     let word : c.with.result ≡ (word_key n, with_digit had (place_in n) c.args.digit) =
-        c.with.ensures ∙ (λ j. (key j, with_digit (digits j) (c.seat_of-key.ensures.place j) c.args.digit)) in
+    c.with.ensures ∙ (λ j. (key j, with_digit (digits j) (c.seat_of-key.ensures.place j) c.args.digit)) in
     c.in-Ok-insert.ensures.items
     ∙ (ap (λ w. insert ws c.in-Err.field-0 w) word
     ∙ set_inserted ws (word_key n) (with_digit had (place_in n) c.args.digit) c.in-Err.field-0 (gap before)

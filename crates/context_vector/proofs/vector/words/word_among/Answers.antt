@@ -10,7 +10,7 @@ returns-in-Ok c =
     let at = c.index-words-at.result in
     let key : at.0 ≡ c.args.key = ap (λ (p : ℕ × ℕ). p.0) c.index-words-at.is ∙ c.in-Ok.ensures.found.key at in
     let digits : at.1 ≡ count_in ws c.args.key =
-        ap (λ (p : ℕ × ℕ). p.1) c.index-words-at.is ∙ sym (word_at_place ws c.args.key c.in-Ok.at at c.requires c.in-Ok.ensures.found) in
+    ap (λ (p : ℕ × ℕ). p.1) c.index-words-at.is ∙ sym (word_at_place ws c.args.key c.in-Ok.at at c.requires c.in-Ok.ensures.found) in
     λ i. (key i, digits i)
 
 pub returns-in-Err : goal.returns-in-Err

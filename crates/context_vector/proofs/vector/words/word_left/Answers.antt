@@ -38,7 +38,7 @@ loop-left-preserved c =
     let part = c.front-part.result.now in
     let rest = joined c.front-part.new.self.pieces in
     let left : left_of c.pass.new.self ≡ rest =
-        c.pass.ensures ∙ (ap (λ xs. drop (length part) (xs ++ rest)) (sym c.front-part.ensures.front) ∙ drop-append_seam part rest) in
+    c.pass.ensures ∙ (ap (λ xs. drop (length part) (xs ++ rest)) (sym c.front-part.ensures.front) ∙ drop-append_seam part rest) in
     let passed = count_past part rest c.args.key (c.ends_below.ensures.below c.if-not-ends_below.false) in
     record {
       are = subst (AreWords 0) (sym left) (words_back 0 part rest (are before));

@@ -1,6 +1,5 @@
 use Rattle.std.proofs.Common.{Some, sym, ap, subst, ◌∙◌}
 use Rattle.std.specs.Prelude.{slice_get}
-use Rattle.op_name.specs.NameData.{NameData}
 use Rattle.context_vector.specs.Contexts.{AreEntries}
 use Rattle.context_vector.specs.Code.Readers.{left_of}
 use Rattle.context_vector.proofs.WordReading.{BeginsAt, begins_at}
@@ -25,4 +24,4 @@ pub returns-clause-first : goal.returns-clause-first
 returns-clause-first c =
     let whole = (found (goal.at.returns-clause-first c).Else-not-to_first).whole in
     let was = sym c.self.view_is ∙ (sym (c.to_first.ensures.same c.self.inside.high.now) ∙ whole) in
-    ap (λ (x : NameData × _). Some x) c.first.ensures ∙ ap (λ es. slice_get es 0) (sym was)
+    (λ j. Some (c.first.ensures.name j, c.first.ensures.generation j)) ∙ ap (λ es. slice_get es 0) (sym was)

@@ -16,6 +16,6 @@ returns-then-are_equal c =
     let above : hs ≡ is = (list_eq_decides hs is).0 (sym c.are_equal.ensures ∙ c.if-are_equal.true) in
     let mine : c.args.self ≡ entries_in hs ws = sym c.self.view_is ∙ left_done hs _ _ _ ws c.if-self-eq0.true in
     let theirs : c.args.other ≡ entries_in hs vs =
-        sym c.other.view_is ∙ (left_done is _ _ _ vs c.if-other-eq0.true ∙ ap (λ xs. entries_in xs vs) (sym above)) in
+    sym c.other.view_is ∙ (left_done is _ _ _ vs c.if-other-eq0.true ∙ ap (λ xs. entries_in xs vs) (sym above)) in
     c.are_same.ensures
     ∙ (words_compared ws vs hs c.self.invariant.1 c.other.invariant.1 ∙ (λ j. pointwise entry_eq (sym mine j) (sym theirs j)))

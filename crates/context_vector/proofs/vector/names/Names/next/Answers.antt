@@ -1,6 +1,5 @@
 use Rattle.std.proofs.Common.{◌≡◌, ◌+◌, ◌/◌, Some, drop, sym, ap, subst, ◌∙◌}
 use Rattle.std.specs.Prelude.{slice_get}
-use Rattle.op_name.specs.NameData.{NameData}
 use Rattle.context_vector.specs.Contexts.{AreEntries}
 use Rattle.context_vector.specs.Code.Readers.{left_of}
 use Rattle.context_vector.specs.Code.Words.{left_in, IsLeft}
@@ -21,7 +20,8 @@ behind : (c : After-step) → let word = c.to_first.new.word in let now = c.step
     left_in c.self.inside.high.now now.key now.place now.digits (left_of c.to_first.new.words)
     ≡ left_in c.self.inside.high.now word.key (word.place + 1) (word.digits / 16) (left_of c.to_first.new.words)
 behind c =
-    λ j. left_in c.self.inside.high.now (c.step.ensures.key j) (c.step.ensures.place j) (c.step.ensures.digits j) (left_of c.to_first.new.words)
+    let ws = left_of c.to_first.new.words in
+    λ j. left_in c.self.inside.high.now (c.step.ensures.key j) (c.step.ensures.place j) (c.step.ensures.digits j) ws
 
 pub first-first-requires-clause-name : goal.first-first-requires-clause-name
 first-first-requires-clause-name c = (found (goal.at.first-first-requires-clause-name c).Else-not-to_first).name
@@ -44,7 +44,7 @@ pub returns-clause-first : goal.returns-clause-first
 returns-clause-first c =
     let whole = (found (goal.at.returns-clause-first c).Else-not-to_first).whole in
     let was = sym c.self.view_is ∙ (sym (c.to_first.ensures.same c.self.inside.high.now) ∙ whole) in
-    ap (λ (x : NameData × _). Some x) c.first-first.ensures ∙ ap (λ es. slice_get es 0) (sym was)
+    (λ j. Some (c.first-first.ensures.name j, c.first-first.ensures.generation j)) ∙ ap (λ es. slice_get es 0) (sym was)
 
 pub returns-clause-rest : goal.returns-clause-rest
 returns-clause-rest c =

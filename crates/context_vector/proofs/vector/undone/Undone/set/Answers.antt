@@ -21,14 +21,14 @@ pub set_digit-requires-clause-room : goal.set_digit-requires-clause-room
 set_digit-requires-clause-room c none some =
     let inside = c.self.inside in
     let more = above_no_word c.args.name.now c.args.generation inside.words.items inside.high.items c.self.invariant.0.words
-        (omega (arith, c.known.ensures.2)) none (omega (arith, some, c.low_of.ensures.low)) in
+    (omega (arith, c.known.ensures.2)) none (omega (arith, some, c.low_of.ensures.low)) in
     omega (arith, room (goal.at.set_digit-requires-clause-room c).After-known more, ap (λ (u : UndoneData). u.spare) c.self.view_is)
 
 pub put_generation-requires-clause-room : goal.put_generation-requires-clause-room
 put_generation-requires-clause-room c greater =
     let inside = c.self.inside in
     let more = above_high c.args.name.now c.args.generation inside.words.items inside.high.items c.self.invariant.0.words
-        (omega (arith, c.known.ensures.2)) (omega (arith, greater, c.high_of.ensures)) in
+    (omega (arith, c.known.ensures.2)) (omega (arith, greater, c.high_of.ensures)) in
     omega (arith, room (goal.at.put_generation-requires-clause-room c).After-known more, ap (λ (u : UndoneData). u.spare) c.self.view_is)
 
 -- the generation that the name had
@@ -37,7 +37,8 @@ had : (c : After-known) → let inside = c.self.inside in
 had c = c.entry-had.ensures ∙ ap (λ (u : UndoneData). entry_in u.items c.args.name.now) (sym c.self.view_is)
 
 -- both lists after the write
-words_now : (c : After-put_generation) → c.set_digit.new.words.items ≡ words_with c.args.name.now c.args.generation c.self.inside.words.items
+words_now : (c : After-put_generation) →
+    c.set_digit.new.words.items ≡ words_with c.args.name.now c.args.generation c.self.inside.words.items
 unfolding words_with
 words_now c =
     let n = c.args.name.now in
@@ -86,7 +87,7 @@ invariant_of-self c =
     let marked = mark_set n g es c.self.invariant.0.entries in
     let listed = length_set n g es c.self.invariant.0.entries in (
       subst (λ vs. AreUndone vs c.put_generation.new.list.items) (sym (words_now at))
-      (subst (AreUndone (words_with n g ws)) (sym (high_now at)) (undone_set n g ws hs c.self.invariant.0 c.known.ensures most)),
+          (subst (AreUndone (words_with n g ws)) (sym (high_now at)) (undone_set n g ws hs c.self.invariant.0 c.known.ensures most)),
       omega (arith, c.self.invariant.1, weighed, weight_within n es, marked, c.weight-2.ensures.weight, ap mark_of (names_now at)),
       omega (arith, c.self.invariant.2, c.len_after-self-inside.ensures, counted, listed, ap length (names_now at)),
     )
