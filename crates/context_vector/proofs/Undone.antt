@@ -79,10 +79,6 @@ pub entries_left : (es fs : List (NameData × ℕ)) → AreEntries (es ++ fs) �
 entries_left [] fs are = tt
 entries_left (e ∷ es) fs are = (are.0, are.1, are.2, before_left e.0 es fs are.3, entries_left es fs are.4)
 
-pub entries_right : (es fs : List (NameData × ℕ)) → AreEntries (es ++ fs) → AreEntries fs
-entries_right [] fs are = are
-entries_right (e ∷ es) fs are = entries_right es fs are.4
-
 pub entries_rest : (n : ℕ) (es : List (NameData × ℕ)) → AreEntries es → AreEntries (drop n es)
 entries_rest zero es are = are
 entries_rest (suc n) [] are = tt

@@ -28,11 +28,14 @@ or_assoc true y z = refl
 or_assoc false y z = refl
 
 -- the first site's originals, and those of the others
-first_site : (low : ℕ) (p : ℕ × ℕ) (ps : List (ℕ × ℕ)) → AreCounts low (p ∷ ps) → (y : Member) → has (of_counts (p ∷ ps)) y ≡ (up_to y (original p.0 p.1) || has (of_counts ps) y)
+first_site : (low : ℕ) (p : ℕ × ℕ) (ps : List (ℕ × ℕ)) → AreCounts low (p ∷ ps)
+    → (y : Member) → has (of_counts (p ∷ ps)) y ≡ (up_to y (original p.0 p.1) || has (of_counts ps) y)
 first_site low p ps are (Group n g) = refl
 first_site low p ps are (Original n) =
     elim (cases_order p.0 n.site) [
-      | inl one ↦ rw (eq-eqb p.0 n.site one, eq-eqb n.site p.0 (sym one), none_counted (p.0 + 1) n.site ps (omega arith) are.4, none_among n.number) (sym (or_false (among p.1 n.number)))
+      | inl one ↦
+          let none = none_counted (p.0 + 1) n.site ps (omega arith) are.4 in
+          rw (eq-eqb p.0 n.site one, eq-eqb n.site p.0 (sym one), none, none_among n.number) (sym (or_false (among p.1 n.number)))
       | inr other ↦ rw (ne_eqb p.0 n.site (omega arith), ne_eqb n.site p.0 (omega arith)) refl
     ]
 
@@ -44,11 +47,14 @@ sites_step low (q ∷ ps) are p is y =
     split ∙ ap (λ (r : ℕ × ℕ). up_to y (original r.0 r.1) || has (of_counts ps) y) (same_Some q p is)
 
 -- the first name's groups, and those of the others
-none_entered : (n : NameData) (es : List (NameData × ℕ)) → AreEntries es → (e : NameData × ℕ) → AreEntries (e ∷ es) → e.0 ≡ n → entry_in es n ≡ 0
+none_entered : (n : NameData) (es : List (NameData × ℕ)) → AreEntries es → (e : NameData × ℕ) → AreEntries (e ∷ es)
+    → e.0 ≡ n → entry_in es n ≡ 0
 none_entered n es are e are' one =
-    entry_is es n ∙ value_after name_eq name_lt name_order n es (subst (λ x. AllAfter name_eq name_lt x es) one (entries_after e.0 es are'.3 are))
+    let after = subst (λ x. AllAfter name_eq name_lt x es) one (entries_after e.0 es are'.3 are) in
+    entry_is es n ∙ value_after name_eq name_lt name_order n es after
 
-first_name : (e : NameData × ℕ) (es : List (NameData × ℕ)) → AreEntries (e ∷ es) → (y : Member) → has (of_entries (e ∷ es)) y ≡ (up_to y (Group e.0 e.1) || has (of_entries es) y)
+first_name : (e : NameData × ℕ) (es : List (NameData × ℕ)) → AreEntries (e ∷ es)
+    → (y : Member) → has (of_entries (e ∷ es)) y ≡ (up_to y (Group e.0 e.1) || has (of_entries es) y)
 first_name e es are (Original n) = refl
 first_name e es are (Group n g) =
     cases_by_order name_eq name_lt name_order e.0 n _
@@ -64,5 +70,7 @@ names_step (e ∷ es) are x is y =
     split ∙ ap (λ (z : NameData × ℕ). up_to y (Group z.0 z.1) || has (of_entries es) y) (same_Some e x is)
 
 -- one more step of a union: what was added, and what is left
-pub union_step : (before after step rest left all : Bool) → after ≡ (before || step) → rest ≡ (step || left) → (before || rest) ≡ all → (after || left) ≡ all
-union_step before after step rest left all added split whole = ap (λ t. t || left) added ∙ (or_assoc before step left ∙ (ap (λ t. before || t) (sym split) ∙ whole))
+pub union_step : (before after step rest left all : Bool)
+    → after ≡ (before || step) → rest ≡ (step || left) → (before || rest) ≡ all → (after || left) ≡ all
+union_step before after step rest left all added split whole =
+    ap (λ t. t || left) added ∙ (or_assoc before step left ∙ (ap (λ t. before || t) (sym split) ∙ whole))

@@ -17,7 +17,7 @@ pub record VectorData : Type 0 where
   pub set : ContextData
   pub room : Room
 
--- the member can be added without memory: the lists may be changed in place, and its site is there, or its group is, or there is a spare place
+-- the member can be added without memory: the lists may be changed in place, and its site or its group is there, or there is a spare place
 abbrev pub HasRoomFor : VectorData → Member → Type 0
 HasRoomFor v (Original n) = (v.room.own ≡ true) × (count_of v.set n.site ≡ 0 → 1 ≤ v.room.counts)
 HasRoomFor v (Group n g) = (v.room.own ≡ true) × (entry_of v.set n < g → 1 ≤ v.room.entries)

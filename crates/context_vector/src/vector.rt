@@ -121,16 +121,16 @@ impl Vector {
         self.lists.share(self.alloc);
     }
 
-    /// The same, and what the lists have in common with those of which `other` made its last copy is kept once; no member comes or goes. A set
-    /// that shares its lists already stays as it is. Out of memory, the lists stay its own.
+    /// The same, and what the lists have in common with those of which `other` made its last copy is kept once; no member comes or goes.
+    /// A set that shares its lists already stays as it is. Out of memory, the lists stay its own.
     pub fn share_with(&mut self, other: &Vector)
         ensures { self.new.set ≡ self.old.set }
     {
         self.lists.share_with(self.alloc, &other.lists);
     }
 
-    /// Lets the next copies be made like the lists of `other`, so that what they have in common is kept once; no member comes or goes, and no
-    /// memory is taken. For a set of which copies are kept while it grows.
+    /// Lets the next copies be made like the lists of `other`, so that what they have in common is kept once; no member comes or goes,
+    /// and no memory is taken. For a set of which copies are kept while it grows.
     pub fn remember(&mut self, other: &Vector)
         ensures set { self.new.set ≡ self.old.set }
         ensures room { self.new.room ≡ self.old.room }

@@ -1,6 +1,6 @@
 //! What stands in lists that vectors share.
 
-ghost use Rattle.std.specs.Prelude.{◌≡◌, Bool, true};
+ghost use Rattle.std.specs.Prelude.{◌≡◌, true};
 
 use super::count::Count;
 use super::entry::Entry;

@@ -1,6 +1,6 @@
 //! Undone names that stay as they are, so that vectors may share them.
 
-ghost use Rattle.std.specs.Prelude.{◌≡◌, ◌≤◌, ◌*◌, [], length, IfOk};
+ghost use Rattle.std.specs.Prelude.{◌≡◌, ◌≤◌, ◌*◌, length, IfOk};
 ghost use Rattle.std.specs.Rc.{rc_value};
 ghost use Rattle.context_vector.specs.Contexts.{entry_in, AreEntries};
 ghost use Rattle.context_vector.specs.Marks.{mark_of};

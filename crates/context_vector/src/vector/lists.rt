@@ -4,7 +4,7 @@ ghost use Rattle.std.specs.Prelude.{◌≡◌, ◌≤◌, ◌<◌, ◌*◌, ◌+
 ghost use lib.Pointwise.{pointwise};
 ghost use Rattle.std.specs.Rc.{rc_value};
 ghost use Rattle.op_name.specs.declared.member.Member.TheVariants.{Original, Group};
-ghost use Rattle.context_vector.specs.Contexts.{count_in, entry_in, raised, AreCounts, AreEntries, IsContext};
+ghost use Rattle.context_vector.specs.Contexts.{entry_in, raised, AreCounts, IsContext};
 ghost use Rattle.context_vector.specs.Equality.{count_eq, entry_eq};
 ghost use Rattle.context_vector.specs.Marks.{counts_mark, mark_of};
 ghost use Rattle.context_vector.specs.Vectors.{lowered, HasRoomFor, IsLastMember, NamesBelow};

@@ -1,7 +1,7 @@
 //! Marks of lists: those of undone names are sums, which are kept up with each change, and those of counts are made at once.
 
 ghost use Rattle.std.specs.Prelude.{◌≡◌, ◌<◌, ◌^◌};
-ghost use Rattle.context_vector.specs.Marks.{spread, folded, weight, laid, counts_mark};
+ghost use Rattle.context_vector.specs.Marks.{spread, folded, weight, laid};
 
 use op_name::Name;
 

@@ -1,6 +1,6 @@
 //! Lists read from the front, as many elements as stand in one piece at a time.
 
-ghost use Rattle.std.specs.Prelude.{◌≡◌, ◌≤◌, ◌∷◌, ◌++◌, List, [], true, false, drop, length, slice_get, IfOk, IfSome, IsTrue};
+ghost use Rattle.std.specs.Prelude.{◌≡◌, ◌≤◌, ◌++◌, List, [], true, false, drop, length, slice_get, IfOk, IfSome, IsTrue};
 ghost use lib.Pointwise.{pointwise};
 ghost use Rattle.context_vector.specs.Code.Pieces.{joined};
 ghost use Rattle.context_vector.specs.Code.Readers.{left_of};

@@ -4,7 +4,6 @@ ghost use Rattle.std.specs.Prelude.{◌≡◌, ◌≤◌, nat_lt, IfOk, IfErr, I
 ghost use Rattle.context_vector.specs.Contexts.{count_in, entry_in, AreCounts, AreEntries};
 ghost use Rattle.op_name.specs.NameData.{name_lt};
 ghost use lib.Pointwise.{pointwise};
-ghost use Rattle.context_vector.specs.Equality.{entry_eq};
 ghost use Rattle.context_vector.specs.Code.Counting.{AreEnough};
 ghost use Rattle.context_vector.specs.Code.Places.{IsPlace, IsGap};
 

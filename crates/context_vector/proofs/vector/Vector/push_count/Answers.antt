@@ -10,7 +10,11 @@ pub invariant_of-self : goal.invariant_of-self
 invariant_of-self c =
     let set = (data_of c.self.inside.lists).set in
     let below = subst (λ (v : VectorData). SitesBelow v.set.counts c.args.site) (sym c.self.view_is) c.requires.last in
-    let more = counts_push 0 c.args.site c.args.count set.counts (omega arith) c.requires.site c.requires.least c.requires.greatest below c.self.invariant.counts in
-    let are = subst (λ p. AreCounts 0 (set.counts ++ p ∷ [])) (sym c.new.ensures) more in
-    changed_or_kept IsContext c.push_count.result set (data_of c.push_count.new.self).set (record set { counts = set.counts ++ c.new.result ∷ [] }) c.push_count.ensures.pushed c.push_count.ensures.kept
-    (record { counts = are; entries = c.self.invariant.entries }) c.self.invariant
+    let range = c.requires in
+    let are = c.self.invariant in
+    let more = counts_push 0 c.args.site c.args.count set.counts (omega arith) range.site range.least range.greatest below are.counts in
+    let counts = subst (λ p. AreCounts 0 (set.counts ++ p ∷ [])) (sym c.new.ensures) more in
+    let new = (data_of c.push_count.new.self).set in
+    let pushed = record set { counts = set.counts ++ c.new.result ∷ [] } in
+    changed_or_kept IsContext c.push_count.result set new pushed c.push_count.ensures.pushed c.push_count.ensures.kept
+    (record { counts = counts; entries = are.entries }) are
