@@ -110,13 +110,10 @@ generation_again g =
       | inr some ↦ rw (ne_eqb g 0 (omega arith), ne_eqb (1 + (g - 1) % 15) 0 (omega arith)) (omega arith)
     ]
 
-pub generation_none : (h : ℕ) → generation 0 h ≡ 0
-generation_none h = refl
-
 pub generation_some : (d h : ℕ) → 1 ≤ d → generation d h ≡ d + 15 * h
 generation_some d h some = rw (ne_eqb d 0 (omega arith)) refl
 
--- digits of equal generations are equal, and so is what is above them, where there is a digit
+-- digits of equal generations are equal
 pub same_digits : (d e h k : ℕ) → d < 16 → e < 16 → generation d h ≡ generation e k → d ≡ e
 same_digits d e h k below below' same =
     elim (cases_order d 0) [
@@ -129,8 +126,3 @@ same_digits d e h k below below' same =
         | inr some' ↦ omega (arith, generation_some d h (omega arith), generation_some e k (omega arith), same)
       ]
     ]
-
-pub same_highs : (d e h k : ℕ) → d < 16 → e < 16 → 1 ≤ d → generation d h ≡ generation e k → h ≡ k
-same_highs d e h k below below' some same =
-    let one : d ≡ e = same_digits d e h k below below' same in
-    omega (arith, generation_some d h some, generation_some e k (omega arith), same, one)

@@ -24,64 +24,11 @@ use Rattle.context_vector.proofs.Entries.{entry_is, entries_rise, entry_at_most}
 use Rattle.context_vector.proofs.Undone.{entries_set}
 use Rattle.context_vector.proofs.Members.{count_put, entry_put, entry_without}
 use Rattle.context_vector.proofs.Digits.{digit_below, digit_none, digit_same, digit_other, with_digit_fits, digits_same}
-use Rattle.context_vector.proofs.Digits.{low_below, generation_again, generation_some, same_digits, same_highs}
+use Rattle.context_vector.proofs.Digits.{low_below, generation_again, generation_some, same_digits}
 use Rattle.context_vector.proofs.Words.{digit_of, entry_words, no_entry, entries_append, entries_in_rise, words_rise}
 use Rattle.context_vector.proofs.Words.{number_at, key_at, place_at}
 use Rattle.context_vector.proofs.Words.{place_below, one_place, words_from}
 use Rattle.context_vector.proofs.Marks.{absent_before}
-
--- a name that has a generation is in range
-pub entry_named : (es : List (NameData × ℕ)) (n : NameData) → AreEntries es → 1 ≤ entry_in es n → IsName n.site n.number
-entry_named [] n are some = absurd (omega arith)
-entry_named (e ∷ es) n are some =
-    elim (cases_Bool (name_eq e.0 n)) [
-      | inl is ↦ subst (λ (m : NameData). IsName m.site m.number) (name_same e.0 n is) are.0
-      | inr other ↦ entry_named es n are.4 (rw other at some)
-    ]
-
--- a name whose number has more than 20 bits has no entry
-pub entry_none : (es : List (NameData × ℕ)) (n : NameData) → AreEntries es → 2 ^ 20 ≤ n.number → entry_in es n ≡ 0
-entry_none es n are far =
-    elim (cases_order (entry_in es n) 0) [
-      | inl none ↦ none
-      | inr some ↦ let name = entry_named es n are (omega arith) in absurd (omega (arith, name.2))
-    ]
-
--- names that rise are entries where each is in range
-abbrev InRange : List (NameData × ℕ) → Type 0
-InRange es = (n : NameData) → 1 ≤ entry_in es n → IsName n.site n.number × (entry_in es n ≤ GENERATIONS)
-
-before_all : (n : NameData) (es : List (NameData × ℕ)) → AllAfter name_eq name_lt n es → IsBefore n es
-before_all n [] after = tt
-before_all n (e ∷ es) after = after.0
-
-pub entries_from : (es : List (NameData × ℕ)) → IsRising name_eq name_lt es → InRange es → AreEntries es
-entries_from [] rise range = tt
-entries_from (e ∷ es) rise range =
-    let first : entry_in (e ∷ es) e.0 ≡ e.1 = rw (name_itself e.0) refl in
-    let least : 1 ≤ entry_in (e ∷ es) e.0 = omega (arith, first, rise.0) in
-    let at = range e.0 least in
-    (at.0, rise.0, omega (arith, first, at.1), before_all e.0 es rise.1, entries_from es rise.2 rest)
-  where
-    rest : InRange es
-    rest n some =
-        elim (cases_Bool (name_eq e.0 n)) [
-          | inl is ↦
-              let after = subst (λ m. AllAfter name_eq name_lt m es) (name_same e.0 n is) rise.1 in
-              absurd (omega (arith, some, entry_is es n, value_after name_eq name_lt name_order n es after))
-          | inr other ↦
-              let one : entry_in (e ∷ es) n ≡ entry_in es n = rw other refl in
-              subst (λ g. 1 ≤ g → IsName n.site n.number × (g ≤ GENERATIONS)) one (range n) some
-        ]
-
--- the names of words are entries where each is in range
-pub entries_are : (hs : List (NameData × ℕ)) (low : ℕ) (ws : List (ℕ × ℕ)) → AreWords low ws → InRange (entries_in hs ws) →
-    AreEntries (entries_in hs ws)
-entries_are hs low ws are range = entries_from (entries_in hs ws) (entries_in_rise hs low ws are) range
-
--- and each name of entries is in range
-pub entries_in_range : (es : List (NameData × ℕ)) → AreEntries es → InRange es
-entries_in_range es are n some = (entry_named es n are some, entry_at_most es n are)
 
 -- words with another one for a key
 words_put : (low k w : ℕ) (ws : List (ℕ × ℕ)) → low ≤ k → 1 ≤ w → w < 2 ^ 32 → AreWords low ws → AreWords low (put_count k w ws)
@@ -234,22 +181,7 @@ undone_set n g ws hs are name most = record {
   words = words_with_are n g ws are.words;
   high = entries_set n (high_of g) hs name (omega arith) are.high;
   entries = subst AreEntries (sym (words_set n g ws hs are name most)) (entries_set n g _ name most are.entries);
-  within = within;
 }
-  where
-    none_above : g ≡ 0 → high_of g ≡ 0
-    none_above none = rw none refl
-
-    within : (m : NameData) → entry_in (entries_in (set_entry n (high_of g) hs) (words_with n g ws)) m ≡ 0 →
-        entry_in (set_entry n (high_of g) hs) m ≡ 0
-    within m none =
-        let after = sym (value_written n g ws hs are.words are.high are.entries (omega (arith, name.2)) m) ∙ none in
-        let value : (if name_eq n m then g else entry_in (entries_in hs ws) m) ≡ 0 = sym (entry_set n g _ are.entries m) ∙ after in
-        let above = entry_set n (high_of g) hs are.high m in
-        elim (cases_Bool (name_eq n m)) [
-          | inl is ↦ above ∙ rw is (none_above (rw is at value))
-          | inr other ↦ above ∙ rw other (are.within m (rw other at value))
-        ]
 
 -- a name that gets a word or an entry of its own gets a greater generation
 pub above_no_word : (n : NameData) (g : ℕ) (ws : List (ℕ × ℕ)) (hs : List (NameData × ℕ)) → AreWords 0 ws → n.number < 2 ^ 20 →
@@ -273,11 +205,7 @@ above_high n g ws hs are below more =
           omega (arith, had, value, digit_below (count_in ws (word_key n)) (place_in n), more)
     ]
 
--- no words and no second list
-pub undone_none : AreUndone [] []
-undone_none = record { words = tt; high = tt; entries = tt; within = λ n none. refl }
-
--- a list has one form
+-- words with the same names have the same digits, so that they are the same
 digits_of_equal : (ws vs : List (ℕ × ℕ)) (hs is : List (NameData × ℕ)) → AreWords 0 ws → AreWords 0 vs →
     entries_in hs ws ≡ entries_in is vs → (n : NameData) → n.number < 2 ^ 20 →
     generation (digit_of ws n) (entry_in hs n) ≡ generation (digit_of vs n) (entry_in is n)
@@ -300,37 +228,11 @@ equal_words ws vs hs is are are' same k =
         let at = equal_digits ws vs hs is are are' same (name_at k i) (number_at k i) in
         rw (key_at k i within, place_at k i within) at at
 
-equal_above : (ws vs : List (ℕ × ℕ)) (hs is : List (NameData × ℕ)) → AreUndone ws hs → AreUndone vs is →
-    entries_in hs ws ≡ entries_in is vs → (n : NameData) → entry_in hs n ≡ entry_in is n
-equal_above ws vs hs is are are' same n =
-    elim (cases_lt n.number (2 ^ 20)) [
-      | inr far ↦ entry_none hs n are.high far ∙ sym (entry_none is n are'.high far)
-      | inl below ↦
-          elim (cases_order (digit_of ws n) 0) [
-            | inl none ↦
-                let mine : entry_in (entries_in hs ws) n ≡ 0 =
-                entry_words hs 0 ws n are.words below ∙ ap (λ d. generation d (entry_in hs n)) none in
-                let theirs : entry_in (entries_in is vs) n ≡ 0 = ap (λ es. entry_in es n) (sym same) ∙ mine in
-                are.within n mine ∙ sym (are'.within n theirs)
-            | inr some ↦
-                let below16 = λ (xs : List (ℕ × ℕ)). digit_below (count_in xs (word_key n)) (place_in n) in
-                same_highs (digit_of ws n) (digit_of vs n) (entry_in hs n) (entry_in is n) (below16 ws) (below16 vs) (omega arith)
-                (digits_of_equal ws vs hs is are.words are'.words same n below)
-          ]
-    ]
-
 same_words : (ws vs : List (ℕ × ℕ)) (hs is : List (NameData × ℕ)) → AreWords 0 ws → AreWords 0 vs →
     entries_in hs ws ≡ entries_in is vs → ws ≡ vs
 same_words ws vs hs is are are' same =
     same_values same_site nat_lt number_order ws vs (words_rise 0 ws are) (words_rise 0 vs are')
     (λ k. sym (count_is ws k) ∙ (equal_words ws vs hs is are are' same k ∙ count_is vs k))
-
-pub words_same : (ws vs : List (ℕ × ℕ)) (hs is : List (NameData × ℕ)) → AreUndone ws hs → AreUndone vs is →
-    entries_in hs ws ≡ entries_in is vs → (ws ≡ vs) × (hs ≡ is)
-words_same ws vs hs is are are' same = (
-  same_words ws vs hs is are.words are'.words same,
-  same_entries hs is (entries_rise hs are.high) (entries_rise is are'.high) (equal_above ws vs hs is are are' same),
-)
 
 -- words over one second list are compared in the place of their names
 pub words_compared : (ws vs : List (ℕ × ℕ)) (hs : List (NameData × ℕ)) → AreWords 0 ws → AreWords 0 vs →

@@ -75,12 +75,11 @@ abbrev pub AreWords : ℕ → List (ℕ × ℕ) → Type 0
 AreWords low [] = Unit {0}
 AreWords low (p ∷ ps) = (low ≤ p.0) × (1 ≤ p.1) × (p.1 < 2 ^ 32) × AreWords (p.0 + 1) ps
 
--- undone names in words, and what is above 15 of their generations, in a list that has no other names
+-- undone names in words, and what is above 15 of their generations
 pub record AreUndone (ws : List (ℕ × ℕ)) (hs : List (NameData × ℕ)) : Type 0 where
   pub words : AreWords 0 ws
   pub high : AreEntries hs
   pub entries : AreEntries (entries_in hs ws)
-  pub within : (n : NameData) → entry_in (entries_in hs ws) n ≡ 0 → entry_in hs n ≡ 0
 
 -- the words with this one for the key, which has none at 0
 unfoldable pub set_word : ℕ → ℕ → List (ℕ × ℕ) → List (ℕ × ℕ)
