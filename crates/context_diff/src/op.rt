@@ -90,8 +90,8 @@ impl Op {
         }
     }
 
-    /// Lets copies share the lists of the context, and takes the list of undone names of `v` where that is shared and has the same
-    /// names at the same generations; the operation stays the same. Out of memory, the lists stay the operation's own.
+    /// Lets copies share the lists of the context, in which what `v` made its last copy like is kept once; the operation stays the same.
+    /// Out of memory, the lists stay the operation's own.
     pub fn share_with(&mut self, v: &Vector)
         ensures { data_of self.new ≡ data_of self.old }
     {

@@ -8,7 +8,6 @@ ghost use Rattle.context_vector.specs.Contexts.{has};
 ghost use Rattle.context_diff.specs.Operations.{OpData, context_of, is_original};
 ghost use Rattle.context_diff.specs.Histories.{context_of_all, is_known, IsNext, IsValid};
 ghost use Rattle.context_diff.specs.Replays.{shown, text_of};
-ghost use Rattle.context_diff.specs.Books.{HasRoomToPop};
 ghost use Rattle.context_diff.specs.Ops.{data_of};
 ghost use Rattle.ttf_form.specs.Forms.{form_over};
 ghost use Rattle.tombstone_text.specs.Cells.{HasRoomFor};
@@ -30,7 +29,7 @@ ghost use Rattle.cot_site.specs.declared.notes.TheConstants.{CACHED_FORMS};
 ghost use Rattle.cot_site.specs.Code.Replicas.{AreRowsOf, IsExecutedAsBefore, IsLastMember, IsStep, IsNextAfter, KnowsAll, KnowsBefore, before_last};
 
 use crate::notes::{At, Notes};
-use context_diff::{Book, Op};
+use context_diff::{Book, Op, reserve_one};
 use context_vector::Vector;
 use form_cache::Key;
 use form_rows::{Passages, Rows, executed_group, executed_original};
@@ -184,13 +183,13 @@ impl Replica {
         ensures err { OnErr result (IsExecutedAsBefore self.old self.new) }
     {
         self.book.known();
-        let op = with_shared_names(&self.book, op);
+        let op = with_shared_lists(&self.book, op);
         let alone = knows_all(&self.book, &op);
         self.integrate_after(op, alone)
     }
 
     /// The same of an operation whose context is all members: one that was made here. So contexts aren't compared, and
-    /// the operation has the book's own list of undone names already.
+    /// what the operation has in common with the book's last one is kept once already.
     pub fn integrate_own(&mut self, op: Op) -> Result<(), Memory>
         requires next { IsNext self.old.history (data_of op) }
         requires own { context_of (data_of op) ≡ context_of_all self.old.history }
@@ -211,7 +210,7 @@ impl Replica {
     {
         self.book.known();
         let member = op.member();
-        self.forms.reserve(1)?;
+        reserve_one(&mut self.forms)?;
         self.book.reserve(&op)?;
         self.book.push(op);
         match execute(
@@ -256,8 +255,8 @@ fn name_of(cells: &Cells, place: u32) -> Option<Name>
     }
 }
 
-// The operation, with the book's own list of undone names where its context has the same ones.
-fn with_shared_names(book: &Book, op: Op) -> Op
+// The operation, of whose context what the book's last operation has too is kept once.
+fn with_shared_lists(book: &Book, op: Op) -> Op
     ensures { data_of result ≡ data_of op }
 {
     let mut op = op;
@@ -281,7 +280,6 @@ fn is_undo(op: &Op) -> bool
 
 // Takes the last operation out, and with it all rows and notes: their members may have it.
 fn take_back(book: &mut Book, notes: &mut Notes, rows: &mut Rows<Form>)
-    requires { HasRoomToPop book.old }
     ensures ops { (h : List OpData) (o : OpData) → book.old.ops ≡ h ++ o ∷ [] → book.new.ops ≡ h }
     ensures notes { notes.new ≡ [] }
     ensures rows { rows.new.kept.items ≡ [] }

@@ -38,8 +38,8 @@ fn deliver(site: &mut Site, op: &Op, room: &mut Vec<Release>) -> Result<(), Peer
     }
 }
 
-// The operation, with the site's own list of undone names where its context has the same ones.
-fn with_shared_names(site: &Site, op: Op) -> Op
+// The operation, of whose context what the site's last operation has too is kept once.
+fn with_shared_lists(site: &Site, op: Op) -> Op
     ensures { data_of result ≡ data_of op }
 {
     let mut op = op;
@@ -53,7 +53,7 @@ fn take_in(site: &mut Site, op: Op, room: &mut Vec<Release>) -> Result<(), Peer>
     ensures taken { OnOk result (taken_in (state_of site.old) (data_of op ∷ []) ≡ Ok (state_of site.new)) }
     ensures untaken { IfErr result (IsUntaken (state_of site.old) (data_of op) (state_of site.new)) }
 {
-    let op = with_shared_names(site, op);
+    let op = with_shared_lists(site, op);
     take_known(site, &op, room)
 }
 

@@ -76,7 +76,7 @@ pub fn take_in(
         → state_of site.new ≡ taken_in (state_of site.old) (data_of op)) }
     ensures memory { result ≡ Err LogBad.Memory → IsCutShort (state_of site.old) (data_of op) (state_of site.new) }
 {
-    let op = with_shared_names(site, op);
+    let op = with_shared_lists(site, op);
     take_known(site, offset, &op, released)
 }
 
@@ -111,8 +111,8 @@ fn take_known(
     }
 }
 
-// The operation, with the site's own list of undone names where its context has the same ones.
-fn with_shared_names(site: &Site, op: Op) -> Op
+// The operation, of whose context what the site's last operation has too is kept once.
+fn with_shared_lists(site: &Site, op: Op) -> Op
     ensures { data_of result ≡ data_of op }
 {
     let mut op = op;

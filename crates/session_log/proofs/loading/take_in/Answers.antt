@@ -10,4 +10,4 @@ pub returns-clause-released : goal.returns-clause-released
 returns-clause-released c =
     let s = state_of c.args.site.now in
     let after = state_of c.take_known.new.site in
-    subst (λ (o : OpData). IfErr c.take_known.result (λ why. why ≢ bad.Memory → is_refusal (judged s o) ≡ false → after ≡ taken_in s o)) c.with_shared_names-op.ensures c.take_known.ensures.released
+    subst (λ (o : OpData). IfErr c.take_known.result (λ why. why ≢ bad.Memory → is_refusal (judged s o) ≡ false → after ≡ taken_in s o)) c.with_shared_lists-op.ensures c.take_known.ensures.released
