@@ -1,17 +1,14 @@
 -- The originals of a history in the order of names.
-use Rattle.std.proofs.Common.{◌≡◌, ℕ, zero, suc, ◌+◌, ◌-◌, ◌<◌, ◌≤◌, true, false, inl, inr, List, [], ◌∷◌, ◌++◌, refl, ap, sym, ◌∙◌, arith, length, length-append, drop, get_or}
+use Rattle.std.proofs.Common.{◌≡◌, ℕ, zero, suc, ◌+◌, ◌-◌, ◌<◌, ◌≤◌, true, false, inl, inr, List, [], ◌∷◌, ◌++◌, refl, ap, sym, ◌∙◌, arith, length, length-append, drop, subst}
 use Rattle.std.specs.Prelude.{Some, None, slice_get, option_map, ◌==◌}
 use Rattle.std.specs.List.{range_with_len}
 use Rattle.std.proofs.lemmas.Bool.{cases_lt}
-use Rattle.std.proofs.Math.Seq.{drop-cons}
-use Rattle.std.proofs.lemmas.List.{drop_all}
 use Rattle.std.proofs.lemmas.Bool.Decides.{nat_tests}
 use Rattle.std.proofs.lemmas.Option.{slice_get-get_or, slice_get-map, slice_get_past}
 use Rattle.std.proofs.lemmas.List.FromFn.{length-range_with_len, get_or-range_with_len, length-map-range_with_len}
 use Rattle.op_name.specs.NameData.{NameData}
 use Rattle.op_name.specs.declared.name.TheConstants.{SITES, NUMBERS}
 use Rattle.context_vector.specs.Contexts.{AreCounts, count_in, sum_of_counts}
-use Rattle.context_diff.proofs.CallerLemmas.{count_at}
 use Rattle.session_replay.specs.Generating.{first_names, names_in}
 
 name_of : ℕ → ℕ → NameData
@@ -99,24 +96,33 @@ name_counted low (p ∷ ps) are i t at =
 
 -- ---- a walk over the counts
 
--- the site of this number in the list, and those after it
-there : (ps : List (ℕ × ℕ)) (k : ℕ) (p : ℕ × ℕ) → k < length ps → p ≡ get_or ps k (0, 0) → drop k ps ≡ p ∷ drop (k + 1) ps
-there ps k p within is =
-    let next : suc k ≡ k + 1 = omega arith in
-    drop-cons ps k (0, 0) within ∙ ap (λ q. q ∷ drop (suc k) ps) (sym is) ∙ ap (λ n. p ∷ drop n ps) next
+-- a name among the first originals of the first site
+pub found_here : (ps : List (ℕ × ℕ)) (p : ℕ × ℕ) (left : ℕ) → Some p ≡ slice_get ps 0 → left < p.1 → slice_get (names_in ps) left ≡ Some (record { site = p.0; number = left + 1 })
+found_here [] p left at less = let none : Some p ≡ None = at in cc
+found_here (q ∷ qs) p left at less =
+    let same : q ≡ p = cc in
+    ap (λ (x : ℕ × ℕ). slice_get (names_in (x ∷ qs)) left) same ∙ name_here p qs left less
 
-pub found_here : (ps : List (ℕ × ℕ)) (k : ℕ) (p : ℕ × ℕ) (left : ℕ) → k < length ps → p ≡ get_or ps k (0, 0) → left < p.1 → slice_get (names_in (drop k ps)) left ≡ Some (record { site = p.0; number = left + 1 })
-found_here ps k p left within is less = ap (λ qs. slice_get (names_in qs) left) (there ps k p within is) ∙ name_here p (drop (k + 1) ps) left less
+-- a name behind them
+pub found_later : (ps rest : List (ℕ × ℕ)) (p : ℕ × ℕ) (left : ℕ) → Some p ≡ slice_get ps 0 → rest ≡ drop 1 ps → p.1 ≤ left → slice_get (names_in ps) left ≡ slice_get (names_in rest) (left - p.1)
+found_later [] rest p left at is past = let none : Some p ≡ None = at in cc
+found_later (q ∷ qs) rest p left at is past =
+    let same : q ≡ p = cc in
+    ap (λ (x : ℕ × ℕ). slice_get (names_in (x ∷ qs)) left) same ∙ (name_later p qs left past ∙ ap (λ rs. slice_get (names_in rs) (left - p.1)) (sym is))
 
-pub found_later : (ps : List (ℕ × ℕ)) (k : ℕ) (p : ℕ × ℕ) (left : ℕ) → k < length ps → p ≡ get_or ps k (0, 0) → p.1 ≤ left → slice_get (names_in (drop k ps)) left ≡ slice_get (names_in (drop (k + 1) ps)) (left - p.1)
-found_later ps k p left within is past = ap (λ qs. slice_get (names_in qs) left) (there ps k p within is) ∙ name_later p (drop (k + 1) ps) left past
+pub found_none : (ps : List (ℕ × ℕ)) (left : ℕ) → None ≡ slice_get ps 0 → slice_get (names_in ps) left ≡ None
+found_none [] left at = slice_get_past [] left (omega arith)
+found_none (q ∷ qs) left at = let some : None ≡ Some q = at in cc
 
-pub found_none : (ps : List (ℕ × ℕ)) (k left : ℕ) → length ps ≤ k → slice_get (names_in (drop k ps)) left ≡ None
-found_none ps k left past = ap (λ qs. slice_get (names_in qs) left) (drop_all k ps past) ∙ slice_get_past [] left (omega arith)
+-- the range of the first site's names, and the form of what is left behind them
+pub record IsFirstSite (p : ℕ × ℕ) (rest : List (ℕ × ℕ)) : Type 0 where
+  pub site : p.0 < SITES
+  pub greatest : p.1 ≤ NUMBERS
+  pub others : AreCounts (p.0 + 1) rest
 
--- the name is in range
-pub found_range : (ps : List (ℕ × ℕ)) (k : ℕ) (p : ℕ × ℕ) → AreCounts 0 ps → k < length ps → p ≡ get_or ps k (0, 0) → (p.0 < SITES) × (p.1 ≤ NUMBERS)
-found_range ps k p are within is =
-    let at : slice_get ps k ≡ Some p = slice_get-get_or ps k (0, 0) within ∙ ap Some (sym is) in
-    let it = count_at 0 ps are k p at in
-    (it.site, it.greatest)
+pub found_range : (low : ℕ) (ps rest : List (ℕ × ℕ)) (p : ℕ × ℕ) → AreCounts low ps → Some p ≡ slice_get ps 0 → rest ≡ drop 1 ps → IsFirstSite p rest
+found_range low [] rest p are at is = let none : Some p ≡ None = at in cc
+found_range low (q ∷ qs) rest p are at is =
+    let same : q ≡ p = cc in
+    let others : AreCounts (q.0 + 1) rest = subst (AreCounts (q.0 + 1)) (sym is) are.4 in
+    subst (λ (x : ℕ × ℕ). IsFirstSite x rest) same (record { site = are.1; greatest = are.3; others = others })

@@ -12,7 +12,7 @@ ghost use Rattle.session_replay.specs.declared.sites.commands.Command.TheVariant
 use crate::draws::Draw;
 use crate::sites::Sites;
 use crate::sites::commands::Command;
-use context_vector::Count;
+use context_vector::SiteCounts;
 use cot_site::Site;
 use op_name::{Memory, Name};
 use undo_group::in_force;
@@ -81,17 +81,17 @@ fn drawn_target(site: &Site, place: u32) -> Option<Name>
     if originals == 0 {
         return None;
     }
-    named_at(have.counts(), place % originals)
+    named_at(have.sites_read(), place % originals)
 }
 
 // The name at this place among the first originals of the sites.
-fn named_at(counts: &[Count], place: u32) -> Option<Name>
-    requires { AreCounts 0 counts.now }
-    ensures { result ≡ slice_get (names_in counts.now) place }
+fn named_at(counts: SiteCounts<'_>, place: u32) -> Option<Name>
+    requires { AreCounts 0 counts }
+    ensures { result ≡ slice_get (names_in counts.entry) place }
 {
+    let mut sites = counts;
     let mut left = place;
-    for count in counts {
-        let (site, number) = count.pair();
+    while let Some((site, number)) = sites.next() {
         if left < number {
             return Some(Name {
                 site,

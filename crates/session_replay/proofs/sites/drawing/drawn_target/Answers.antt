@@ -16,12 +16,12 @@ returns-then-originals-eq0 c =
 pub named_at-requires : goal.named_at-requires
 named_at-requires c =
     let h = c.args.site.now.history in
-    let counts = c.counts.ensures ∙ ap (λ (v : ContextData). v.counts) c.vector-have.ensures in
+    let counts = c.sites_read.ensures ∙ ap (λ (v : ContextData). v.counts) c.vector-have.ensures in
     subst (AreCounts 0) (sym counts) (all_is_context h c.known.ensures.history).counts
 
 pub returns : goal.returns
 returns c =
     let h = c.args.site.now.history in
-    let counts = c.counts.ensures ∙ ap (λ (v : ContextData). v.counts) c.vector-have.ensures in
+    let counts = c.sites_read.ensures ∙ ap (λ (v : ContextData). v.counts) c.vector-have.ensures in
     let number : c.rank-originals.result ≡ length (names_of h) = c.rank-originals.ensures.rank ∙ (ap rank_of c.vector-have.ensures ∙ sym (names_number (context_of_all h).counts)) in
     c.named_at.ensures ∙ (λ i. slice_get (names_in (counts i)) (c.args.place % number i))
