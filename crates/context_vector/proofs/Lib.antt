@@ -11,5 +11,9 @@ pub mod Merging
 pub mod Counting
 pub mod Parts
 pub mod Undone
+pub mod Digits
+pub mod Words
+pub mod WordReading
+pub mod UndoneWords
 pub mod Reading
 pub mod CallerLemmas

@@ -21,7 +21,7 @@ unfolding weight
 weight_some n g some = rw (ne_eqb g 0 some) refl
 
 -- a name before the first of a list isn't in it
-absent_before : (n : NameData) (e : NameData × ℕ) (es : List (NameData × ℕ)) → AreEntries (e ∷ es) → name_lt n e.0 ≡ true → entry_in es n ≡ 0
+pub absent_before : (n : NameData) (e : NameData × ℕ) (es : List (NameData × ℕ)) → AreEntries (e ∷ es) → name_lt n e.0 ≡ true → entry_in es n ≡ 0
 absent_before n e es are less = entry_is es n ∙ value_after name_eq name_lt name_order n es (entries_after n (e ∷ es) less are).1
 
 pub mark_put : (n : NameData) (g : ℕ) (es : List (NameData × ℕ)) → AreEntries es → mark_of (put_entry n g es) + weight n (entry_in es n) ≡ mark_of es + weight n g

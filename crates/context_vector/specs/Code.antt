@@ -7,3 +7,4 @@ pub mod Counting
 pub mod Undone
 pub mod Sharing
 pub mod Packed
+pub mod Words

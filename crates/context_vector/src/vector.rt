@@ -5,7 +5,7 @@ ghost use Rattle.op_name.specs.Members.{IsMember};
 ghost use Rattle.context_vector.specs.Contexts.{empty, count_of, entry_of, has, Within, rank_of, IsContext};
 ghost use Rattle.context_vector.specs.Vectors.{IsFirstMissing};
 
-use counting::{count_of, first_short_site, total};
+use counting::{first_short_site, total};
 use few::Few;
 use lists::Lists;
 use names::first_short_name;
@@ -22,6 +22,7 @@ mod entry;
 mod equality;
 mod few;
 mod follows;
+mod generations;
 mod kept;
 mod lists;
 mod marks;
@@ -31,6 +32,9 @@ mod reader;
 mod rising;
 mod stored;
 mod undone;
+mod word;
+mod word_reader;
+mod words;
 
 pub use count::Count;
 pub use counting::SiteCounts;
@@ -151,7 +155,7 @@ impl Vector {
         ensures range { result ≤ NUMBERS }
     {
         self.known();
-        count_of(self.lists.counts(), site)
+        self.lists.count(site)
     }
 
     /// The greatest generation at which the set has an undo group of the name, 0 if it has none.

@@ -1,4 +1,3 @@
-pub mod Code
 pub mod Exchanges
 pub mod Handles
 pub mod Held

@@ -1,10 +1,14 @@
 -- The numbers by which a call answers, and what it leaves.
-use Rattle.std.specs.Prelude.{◌≡◌, ◌≢◌, ◌⊎◌, ◌<◌, ℕ, List, ◌++◌, Result, Ok, Err, IsOk, length, drop}
+use Rattle.std.specs.Prelude.{◌≡◌, ◌⊎◌, ◌<◌, ℕ, List, ◌++◌, Result, Ok, Err, length, drop}
 use Rattle.context_diff.specs.Operations.{OpData}
 use Rattle.site_answers.specs.declared.local.Local.{Local}
 use Rattle.site_answers.specs.declared.local.Local.TheVariants as local
+use Rattle.context_diff.specs.declared.op.Op.{Op}
+use Rattle.participant.specs.declared.edits.Stopped.{Stopped}
+use Rattle.participant.specs.declared.edits.Stopped.TheVariants as stopped
+use Rattle.participant.specs.Reached.{Reached}
+use Rattle.participant.specs.Edits.{IsDone}
 use Rattle.cotpad_c.specs.declared.status.TheConstants.{OK, NO_MEMORY, PLACE_OUT, UNKNOWN, NOT_IN_FORCE, IN_FORCE, GENERATION_FULL, NUMBER_FULL, CONTEXT_FULL, TOO_SHORT, UNSETTLED}
-use Rattle.cotpad_c.specs.Hosting.{Reached, with_one, all_settled, IsHalfSettled}
 
 -- the number of each refusal
 abbrev pub refusal : Local → ℕ
@@ -17,24 +21,21 @@ refusal local.NumberFull = NUMBER_FULL
 refusal (local.ContextFull k) = CONTEXT_FULL
 refusal local.Memory = NO_MEMORY
 
+-- the number of why edits stopped
+abbrev pub stop_number : Stopped → ℕ
+stop_number (stopped.Refused why) = refusal why
+stop_number stopped.Unsettled = UNSETTLED
+
 -- the number of an answer
-abbrev pub status_of : {A : Type 0} → Result A Local → ℕ
-status_of (Ok o) = OK
-status_of (Err e) = refusal e
+abbrev pub number_of : {A : Type 0} → Result A Stopped → ℕ
+number_of (Ok x) = OK
+number_of (Err why) = stop_number why
 
--- with the operation, if there is one
-abbrev pub made : Result OpData Local → Reached → Reached
-made (Ok o) a = with_one a o
-made (Err e) a = a
-
--- a call that the definition answers so: its status; out of memory, before the operation was made or among the releases after it,
--- only where the definition has an operation; and what the call reaches: the operation is made, and then all that is ready is
--- released, or the first of that; or else nothing is done
+-- a call that makes an edit, for which the definition has this operation or refusal: its number is that of how the edit was done
 pub record Did (n : ℕ) (r : Result OpData Local) (a b : Reached) : Type 0 where
-  pub status : (n ≡ status_of r) ⊎ (((n ≡ NO_MEMORY) ⊎ (n ≡ UNSETTLED)) × IsOk r)
-  pub done : n ≡ OK → b ≡ all_settled (made r a)
-  pub unsettled : n ≡ UNSETTLED → IsHalfSettled (made r a) b
-  pub refused : n ≢ OK → n ≢ UNSETTLED → b ≡ a
+  pub answer : Result Op Stopped
+  pub status : n ≡ number_of answer
+  pub done : IsDone r a answer b
 
 -- bytes that a call hands out into a buffer: all of them, or none where the buffer is too short; their number either way
 pub record Wrote (n : ℕ) (bytes old new : List ℕ) (needed : ℕ) : Type 0 where

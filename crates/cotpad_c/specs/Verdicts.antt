@@ -4,16 +4,18 @@ use Rattle.op_name.specs.declared.member.Member.{Member}
 use Rattle.context_diff.specs.Operations.{OpData}
 use Rattle.site_answers.specs.declared.verdict.Verdict.{Verdict}
 use Rattle.site_answers.specs.declared.verdict.Verdict.TheVariants.{Repeat, Forged, Waits, NotClosed, PlaceOut, Integrated}
-use Rattle.cot_site.specs.States.{State, Released, judged, delivered}
+use Rattle.cot_site.specs.States.{State, Released, judged}
 use Rattle.wire_codec.specs.declared.cause.Cause.{Cause}
 use Rattle.wire_codec.specs.declared.cause.Cause.TheVariants as cause
 use Rattle.wire_codec.specs.declared.fault.Refused.{Refused}
 use Rattle.wire_codec.specs.declared.fault.Refused.TheVariants.{More, Bad}
+use Rattle.participant.specs.declared.taking.Taking.TheVariants.{All}
+use Rattle.participant.specs.Reached.{Reached, from, with_delivered, IsHalfSettled}
+use Rattle.participant.specs.Taking.{taken_in}
 use Rattle.cotpad_c.specs.declared.kinds.TheConstants as kind
 use Rattle.cotpad_c.specs.declared.status.TheConstants.{OK, NONE}
 use Rattle.cotpad_c.specs.declared.operation.CotpadOperation.{CotpadOperation}
 use Rattle.cotpad_c.specs.declared.verdict.CotpadVerdict.{CotpadVerdict}
-use Rattle.cotpad_c.specs.Hosting.{Reached, from, all_settled, IsHalfSettled}
 use Rattle.cotpad_c.specs.Operations.{no_member, no_operation, member_told, operation_told}
 
 -- nothing is told
@@ -71,12 +73,12 @@ answered s (Err (Bad f)) = malformed f.cause f.offset
 -- what the judged bytes lead to: the operation is delivered, and all that is ready then is released; bytes that are no frame
 -- change nothing
 abbrev pub received : State → Result (OpData × ℕ) Refused → Reached
-received s (Ok x) = all_settled (from (delivered s x.0))
+received s (Ok x) = taken_in All (from s) x.0
 received s (Err r) = from s
 
 -- the operation is delivered, and the first of what is ready then is released
 abbrev pub IsHalfReceived : State → Result (OpData × ℕ) Refused → Reached → Type 0
-IsHalfReceived s (Ok x) b = IsHalfSettled (from (delivered s x.0)) b
+IsHalfReceived s (Ok x) b = IsHalfSettled (with_delivered (from s) x.0) b
 IsHalfReceived s (Err r) b = ⊥
 
 -- a release is told by its verdict, and that there is none by a status of its own

@@ -23,10 +23,11 @@ ghost use Rattle.peer_exchange.specs.declared.messages.Which.TheVariants.{First}
 ghost use Rattle.peer_exchange.specs.Messages.{first_message};
 ghost use Rattle.peer_exchange.specs.Refusals.{IsUnread};
 ghost use Rattle.peer_exchange.specs.Closing.{IsFinished, IsUnclosed, IsUnfinished};
+ghost use Rattle.participant.specs.Reached.{from, all_settled, IsHalfSettled};
 ghost use Rattle.cotpad_c.specs.declared.status.TheConstants.{OK, NO_MEMORY, SITE_OUT, PLACE_OUT, NO_CHARACTER, NO_NAME, NONE, TOO_SHORT, TOO_LONG, UNSETTLED};
 ghost use Rattle.cotpad_c.specs.declared.exports.TheConstants.{VERSION};
 ghost use Rattle.cotpad_c.specs.Operations.{member_told, operation_told};
-ghost use Rattle.cotpad_c.specs.Hosting.{hosting, from, all_settled, IsHalfSettled};
+ghost use Rattle.cotpad_c.specs.Hosting.{hosting};
 ghost use Rattle.cotpad_c.specs.Exchanges.{IsMade, Answers, Closes};
 ghost use Rattle.cotpad_c.specs.Numbers.{AreTheNumbers};
 ghost use Rattle.cotpad_c.specs.Refusals.{IsLogRefused, IsRefused};

@@ -1,16 +1,27 @@
 //! A site as a handle keeps it.
 
-ghost use Rattle.std.specs.Prelude.{◌≡◌, ◌⊎◌};
+ghost use Rattle.std.specs.Prelude.{◌≡◌, ◌⊎◌, ◌+◌, ◌<◌, ◌≤◌, [], IfOk, IfErr, OnOk, chars, length};
 ghost use Rattle.std.specs.Borrow.{sem};
+ghost use Rattle.context_diff.specs.Operations.{IsWellFormed};
+ghost use Rattle.context_diff.specs.Ops.{data_of};
+ghost use Rattle.context_diff.specs.Replays.{shown};
 ghost use Rattle.cot_site.specs.Sites.{state_of};
-ghost use Rattle.cot_site.specs.States.{IsSettled};
-ghost use Rattle.cotpad_c.specs.declared.status.TheConstants.{OK, UNSETTLED};
-ghost use Rattle.cotpad_c.specs.Hosting.{hosting, reached, all_settled, IsHalfSettled};
+ghost use Rattle.cot_site.specs.States.{judged, IsSettled};
+ghost use Rattle.participant.specs.declared.taking.Taking.TheVariants.{All};
+ghost use Rattle.participant.specs.Edits.{made_by};
+ghost use Rattle.participant.specs.Reached.{all_settled, IsHalfSettled};
+ghost use Rattle.participant.specs.Taking.{taken_in, IsUntaken};
+ghost use Rattle.cotpad_c.specs.declared.status.TheConstants.{OK, PLACE_OUT, UNSETTLED};
+ghost use Rattle.cotpad_c.specs.Hosting.{hosting, reached};
+ghost use Rattle.cotpad_c.specs.Runs.{IsTyped, IsCut};
 ghost use Rattle.cotpad_c.specs.SiteLending.{LendsSite};
-ghost use Rattle.cotpad_c.specs.Code.Making.{SettlesAfter};
+ghost use Rattle.cotpad_c.specs.Statuses.{Did};
 
+use crate::refusals::{edit_number, end_number};
 use crate::status;
-use cot_site::{Release, Site};
+use context_diff::Op;
+use cot_site::{Release, Site, Verdict};
+use participant::{Edit, Taking, Untaken, delete_range, do_edit, insert_text, take_in};
 use std::alloc::Global;
 use std::marker::Model;
 
@@ -91,13 +102,42 @@ impl Hosted {
         }
     }
 
-    /// The same, if the operation before it was made, which is what its number says.
-    pub(crate) fn settle_after(&mut self, made: u32) -> u32
-        ensures { SettlesAfter made result (reached self.old) (reached self.new) }
+    /// Makes an edit, and releases.
+    pub(crate) fn edit(&mut self, edit: &Edit) -> u32
+        ensures { Did result (made_by edit.now (state_of self.old.site)) (reached self.old) (reached self.new) }
     {
-        if made != status::OK {
-            return made;
-        }
-        self.settle()
+        edit_number(&do_edit(&mut self.site, edit, &mut self.released))
+    }
+
+    /// Inserts the characters of a text, and releases after each; tells how many it inserted.
+    pub(crate) fn insert_text(&mut self, place: u32, text: &str, made: &mut u32) -> u32
+        ensures typed { IsTyped result (reached self.old) place (chars text.now) (reached self.new) made.new }
+        ensures nothing { chars text.now ≡ [] → result ≡ OK }
+    {
+        let run = insert_text(&mut self.site, place, text, &mut self.released);
+        *made = run.made;
+        end_number(run.end)
+    }
+
+    /// Deletes so many shown characters from a place on, and releases after each; tells how many it deleted.
+    pub(crate) fn delete_range(&mut self, place: u32, count: u32, made: &mut u32) -> u32
+        ensures past { length (shown self.old.site.history) < place + count → (result ≡ PLACE_OUT) × (made.new ≡ 0) × (self.new ≡ self.old) }
+        ensures cut { place + count ≤ length (shown self.old.site.history) → IsCut result (reached self.old) place count (reached self.new) made.new }
+        ensures nothing { place + count ≤ length (shown self.old.site.history) → count ≡ 0 → result ≡ OK }
+    {
+        let run = delete_range(&mut self.site, place, count, &mut self.released);
+        *made = run.made;
+        end_number(run.end)
+    }
+
+    /// Takes in an operation, whatever its verdict, and releases.
+    pub(crate) fn take_in(&mut self, op: &mut Op) -> Result<Verdict, Untaken>
+        requires { IsWellFormed (data_of op.old) }
+        ensures op { data_of op.new ≡ data_of op.old }
+        ensures verdict { IfOk result (λ v. v ≡ judged (state_of self.old.site) (data_of op.old)) }
+        ensures taken { OnOk result (reached self.new ≡ taken_in All (reached self.old) (data_of op.old)) }
+        ensures untaken { IfErr result (λ why. IsUntaken All (reached self.old) (data_of op.old) why (reached self.new)) }
+    {
+        take_in(&mut self.site, op, Taking::All, &mut self.released)
     }
 }

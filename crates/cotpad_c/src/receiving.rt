@@ -8,17 +8,21 @@ ghost use Rattle.site_answers.specs.declared.verdict.Verdict.TheVariants.{Integr
 ghost use Rattle.wire_codec.specs.Answers.{HasFrame};
 ghost use Rattle.wire_codec.specs.Judging.{judge};
 ghost use Rattle.cot_site.specs.Sites.{state_of};
-ghost use Rattle.cot_site.specs.States.{judged, delivered, released, after_release, IsSettled};
+ghost use Rattle.cot_site.specs.States.{judged, released, after_release, IsSettled};
+ghost use Rattle.participant.specs.declared.taking.Taking.TheVariants.{All};
+ghost use Rattle.participant.specs.Reached.{from, with_delivered, all_settled, IsHalfSettled};
+ghost use Rattle.participant.specs.Taking.{taken_in};
 ghost use Rattle.cotpad_c.specs.declared.status.TheConstants.{OK, NO_MEMORY, NONE, UNSETTLED};
-ghost use Rattle.cotpad_c.specs.Hosting.{reached, from, all_settled, IsHalfSettled};
+ghost use Rattle.cotpad_c.specs.Hosting.{reached};
 ghost use Rattle.cotpad_c.specs.Operations.{operation_told};
 ghost use Rattle.cotpad_c.specs.Verdicts.{told, of_member, answered, received, IsHalfReceived, IsReleased};
 
 use crate::hosted::Hosted;
 use crate::operation::operation_told;
-use crate::status::{NO_MEMORY, NONE, OK};
+use crate::status::{NO_MEMORY, NONE, OK, UNSETTLED};
 use crate::verdict::{CotpadVerdict, incomplete, malformed, of_member, told};
 use context_diff::Op;
+use participant::Untaken;
 use std::alloc::Global;
 use wire_codec::{Decoded, decode};
 
@@ -38,7 +42,10 @@ pub(crate) fn receive(
 {
     hosted.forget();
     match decode(alloc, bytes) {
-        Ok(Decoded::Got { op, used }) => deliver(hosted, &op, used, verdict),
+        Ok(Decoded::Got { op, used }) => {
+            let mut op = op;
+            deliver(hosted, &mut op, used, verdict)
+        }
         Ok(Decoded::More { at_least }) => {
             *verdict = incomplete(at_least);
             OK
@@ -52,20 +59,25 @@ pub(crate) fn receive(
 }
 
 // Delivers the operation, whose frame has so many bytes, tells its verdict, and releases.
-fn deliver(hosted: &mut Hosted, op: &Op, used: u32, verdict: &mut CotpadVerdict) -> u32
-    requires { IsWellFormed (data_of op.now) }
+fn deliver(hosted: &mut Hosted, op: &mut Op, used: u32, verdict: &mut CotpadVerdict) -> u32
+    requires { IsWellFormed (data_of op.old) }
     ensures status { (result ≡ OK) ⊎ (result ≡ UNSETTLED) ⊎ (result ≡ NO_MEMORY) }
-    ensures verdict { result ≢ NO_MEMORY → verdict.new ≡ told (operation_told (data_of op.now)) used (judged (state_of hosted.old.site) (data_of op.now)) }
-    ensures done { result ≡ OK → reached hosted.new ≡ all_settled (record (reached hosted.old) { state = delivered (state_of hosted.old.site) (data_of op.now) }) }
-    ensures unsettled { result ≡ UNSETTLED → IsHalfSettled (record (reached hosted.old) { state = delivered (state_of hosted.old.site) (data_of op.now) }) (reached hosted.new) }
+    ensures verdict { result ≢ NO_MEMORY → verdict.new ≡ told (operation_told (data_of op.old)) used (judged (state_of hosted.old.site) (data_of op.old)) }
+    ensures done { result ≡ OK → reached hosted.new ≡ taken_in All (reached hosted.old) (data_of op.old) }
+    ensures unsettled { result ≡ UNSETTLED → IsHalfSettled (with_delivered (reached hosted.old) (data_of op.old)) (reached hosted.new) }
     ensures err { result ≡ NO_MEMORY → (reached hosted.new ≡ reached hosted.old) × (verdict.new ≡ verdict.old) }
 {
-    match hosted.site_mut().deliver(op) {
+    let operation = operation_told(op);
+    match hosted.take_in(op) {
         Ok(answer) => {
-            *verdict = told(operation_told(op), used, answer);
-            hosted.settle()
+            *verdict = told(operation, used, answer);
+            OK
         }
-        Err(_) => NO_MEMORY,
+        Err(Untaken::Unsettled { verdict: answer }) => {
+            *verdict = told(operation, used, answer);
+            UNSETTLED
+        }
+        Err(Untaken::Memory) => NO_MEMORY,
     }
 }
 

@@ -1,13 +1,63 @@
-//! Why a log or a message isn't taken, as a host is told.
+//! Why an edit isn't made, and why a log or a message isn't taken, as a host is told.
 
 ghost use Rattle.std.specs.Prelude.{◌≡◌, ◌≢◌};
 ghost use Rattle.cotpad_c.specs.declared.status.TheConstants.{OK, TOO_SHORT};
 ghost use Rattle.cotpad_c.specs.Refusals.{log_status, log_told, bytes_status, bytes_told, peer_status, peer_told};
+ghost use Rattle.cotpad_c.specs.Statuses.{refusal, stop_number, number_of};
 
 use crate::status;
 use crate::verdict::{CotpadVerdict, at_offset, malformed, unfit};
+use context_diff::Op;
+use cot_site::Local;
+use participant::Stopped;
 use peer_exchange::{Peer, PeerCause};
 use session_log::LogBad;
+
+/// The number of how an edit ended.
+pub(crate) fn edit_number(done: &Result<Op, Stopped>) -> u32
+    ensures { result ≡ number_of done.now }
+{
+    match done {
+        Ok(_) => status::OK,
+        Err(why) => stop_number(*why),
+    }
+}
+
+/// The number of how a run of edits ended.
+pub(crate) fn end_number(end: Result<(), Stopped>) -> u32
+    ensures { result ≡ number_of end }
+{
+    match end {
+        Ok(()) => status::OK,
+        Err(why) => stop_number(why),
+    }
+}
+
+// The number of why edits stopped.
+fn stop_number(why: Stopped) -> u32
+    ensures { result ≡ stop_number why }
+{
+    match why {
+        Stopped::Refused { why } => refusal(why),
+        Stopped::Unsettled => status::UNSETTLED,
+    }
+}
+
+// The number of a refusal.
+fn refusal(why: Local) -> u32
+    ensures { result ≡ refusal why }
+{
+    match why {
+        Local::Memory => status::NO_MEMORY,
+        Local::PlaceOut { .. } => status::PLACE_OUT,
+        Local::Unknown { .. } => status::UNKNOWN,
+        Local::NotInForce { .. } => status::NOT_IN_FORCE,
+        Local::InForce { .. } => status::IN_FORCE,
+        Local::GenerationFull => status::GENERATION_FULL,
+        Local::NumberFull => status::NUMBER_FULL,
+        Local::ContextFull { .. } => status::CONTEXT_FULL,
+    }
+}
 
 /// Tells why a log isn't loaded.
 pub(crate) fn log_refused(bad: LogBad, why: &mut CotpadVerdict) -> u32

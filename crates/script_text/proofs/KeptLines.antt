@@ -215,6 +215,7 @@ pub record Adding (old : KeptData) (piece : List ℕ) (now : KeptData) (rest : L
   pub lines : followed_by (lines_kept now) (lines_in rest) ≡ followed_by (lines_kept old) (lines_in piece)
   pub front : IsFrontOf old now
   pub small : now.last + length rest < 2 ^ 32
+  pub shorter : length rest ≤ length piece
 
 -- the last line is one of them
 pub last_size : (bytes ns : List ℕ) (last : ℕ) → last ≤ size_of (lines_cut bytes ns last)
@@ -256,4 +257,5 @@ adding_line old d now piece rest p after kept none is e h =
       lines = ap (λ (k : KeptData). followed_by (lines_kept k) (lines_in after)) e ∙ (adds_line d p after rest kept none is ∙ h.lines);
       front = subst (IsFrontOf old) (sym e) (front_end old (with_part p d) (front_part old d p h.front));
       small = omega (arith, len, all, last, h.small);
+      shorter = omega (arith, len, all, h.shorter);
     }

@@ -83,7 +83,7 @@ impl ScriptReader {
     pub fn new(alloc: Global) -> Result<ScriptReader, Memory>
         ensures { IfOk result (λ r. Keeps r [] []) }
     {
-        let lines = LineStream::new(alloc)?;
+        let lines = LineStream::new(alloc);
         Ok(ScriptReader {
             lines,
             number: 1,

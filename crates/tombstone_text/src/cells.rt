@@ -1,6 +1,6 @@
 //! The list of all cells of a text, kept in chunks.
 
-ghost use Rattle.std.specs.Prelude.{◌≡◌, ◌<◌, ◌≤◌, ◌^◌, [], length, filter, map, take, position, slice_get, slice_index_or, Some, IfSome, IfNone, OnOk, option_map};
+ghost use Rattle.std.specs.Prelude.{◌≡◌, ◌≢◌, ◌<◌, ◌≤◌, ◌^◌, ◌↔◌, [], length, filter, map, take, position, slice_get, slice_index_or, Some, IfSome, IfNone, IsTrue, OnOk, OnErr, option_map};
 ghost use Rattle.op_name.specs.NameData.{name_eq};
 ghost use Rattle.ttf_form.specs.Names.{LacksName};
 ghost use Rattle.ttf_form.specs.Cells.{cell_shown, cells_of, put_in, bare_cells, change_at, marked, applied, FitsCells};
@@ -148,10 +148,12 @@ impl Cells {
     /// Makes room to apply `form`, which then takes no memory: for the cell that an insert adds at its place, also
     /// where a chunk is to be cut in two, or for the deleter that a cover may add to the cell at its place. No cell
     /// changes, also when out of memory, as it always answers for a 4,294,967,296th cell. The room for an insert is
-    /// there until a form is applied, or room made for another insert.
+    /// there until a form is applied, or room made for another insert. Out of memory comes only where the room isn't
+    /// there yet; so never for a cover that leaves no deleter to note.
     pub fn reserve(&mut self, form: &Form) -> Result<(), Memory>
         ensures cells { self.new.cells ≡ self.old.cells }
         ensures room { OnOk result (HasRoomFor self.new form.now) }
+        ensures memory { OnErr result (¬ HasRoomFor self.old form.now) }
     {
         match form {
             Form::Ins(ins) => {
@@ -174,11 +176,25 @@ impl Cells {
     fn reserve_place(&mut self, place: u32) -> Result<(), Memory>
         ensures cells { self.new.cells ≡ self.old.cells }
         ensures room { OnOk result (self.new.room.ready ≡ Some place) }
+        ensures memory { OnErr result (self.old.room.ready ≢ Some place) }
     {
+        if self.is_ready(place) {
+            return Ok(());
+        }
         self.ready = None;
         let ready = self.chunks.reserve(place)?;
         self.ready = Some(ready);
         Ok(())
+    }
+
+    /// Whether a cell may come in at this place without memory.
+    fn is_ready(&self, place: u32) -> bool
+        ensures { IsTrue result ↔ (self.now.room.ready ≡ Some place) }
+    {
+        match &self.ready {
+            Some(ready) => ready.place() == place,
+            None => false,
+        }
     }
 
     /// Makes room for a list of one deleter more than so many.
@@ -186,8 +202,9 @@ impl Cells {
         requires { deleters < 2 ^ 63 }
         ensures cells { self.new.cells ≡ self.old.cells }
         ensures room { OnOk result (deleters < self.new.room.deleters) }
+        ensures memory { OnErr result (self.old.room.deleters ≤ deleters) }
     {
-        self.spare.reserve(deleters + 1, self.chunks.allocator())
+        self.spare.reserve(deleters, self.chunks.allocator())
     }
 
     /// Applies a form for which `reserve` made room: an insert puts its new cell at its place, a cover marks

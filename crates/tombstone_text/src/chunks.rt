@@ -44,6 +44,15 @@ pub(crate) struct Ready {
     way: Way,
 }
 
+impl Ready {
+    /// The place.
+    pub(crate) fn place(&self) -> u32
+        ensures { result ≡ self.now.place }
+    {
+        self.place
+    }
+}
+
 /// The first place at which a cell has the name.
 fn position_of(list: &[Cell], name: &Name) -> Option<usize>
     ensures { result ≡ position (λ c. name_eq c.name name.now) list.now }

@@ -1,6 +1,6 @@
 -- Lines that are checked one after the other.
-use Rattle.std.proofs.Common.{◌≡◌, Bool, ℕ, ◌+◌, ◌<◌, ◌≤◌, List, [], ◌∷◌, ◌++◌, length, get_or, drop, sym, ap, subst, ◌∙◌}
-use Rattle.std.specs.Prelude.{Result, Ok, Err, IfOk}
+use Rattle.std.proofs.Common.{◌≡◌, Bool, ℕ, ◌+◌, ◌<◌, ◌≤◌, List, [], ◌∷◌, ◌++◌, length, get_or, drop, sym, ap, subst, ◌∙◌, arith}
+use Rattle.std.specs.Prelude.{Result, Ok, Err, IfOk, OnErr}
 use Rattle.std.proofs.lemmas.List.{drop_more, drop_all, length-append}
 use Rattle.op_name.specs.declared.member.Member.{Member}
 use Rattle.context_vector.specs.Contexts.{has, raised}
@@ -32,10 +32,11 @@ pub record AreRightUpTo (h : List OpData) (lines : List TraceLine) (rows : List 
   pub derived : AreDerivedRows h rows
   pub forth : (all : List Row) → AreLines h rows (drop i lines) all → AreLines h [] lines all
   pub back : (all : List Row) → AreLines h [] lines all → AreLines h rows (drop i lines) all
+  pub few : length rows ≤ i
 
 module _ (h : List OpData) (lines : List TraceLine) where
   pub right_first : (rows : List Row) → rows ≡ [] → AreRightUpTo h lines rows 0
-  right_first rows e = subst (λ (x : List Row). AreRightUpTo h lines x 0) (sym e) (record { derived = derived_none h; forth = λ all a. a; back = λ all a. a })
+  right_first rows e = subst (λ (x : List Row). AreRightUpTo h lines x 0) (sym e) (record { derived = derived_none h; forth = λ all a. a; back = λ all a. a; few = omega arith })
 
   next_line : (i : ℕ) (l : TraceLine) → i < length lines → l ≡ get_or lines i l → drop i lines ≡ l ∷ drop (i + 1) lines
   next_line i l less e = drop_more lines i l less ∙ ap (λ (x : TraceLine). x ∷ drop (i + 1) lines) (sym e)
@@ -49,6 +50,7 @@ module _ (h : List OpData) (lines : List TraceLine) where
         back = λ all a.
             let b = subst (λ (x : List TraceLine). AreLines h rows x all) next (w.back all a) in
             subst (λ (q : Row). AreLines h (rows ++ q ∷ []) (drop (i + 1) lines) all) (line_once h rows l b.0 r b.1 line) b.2;
+        few = omega (arith, length-append rows (r ∷ []), w.few);
       })
 
   pub wrong_line : (m : Member) (rows : List Row) (i : ℕ) (l : TraceLine) → i < length lines → l ≡ get_or lines i l → AreRightUpTo h lines rows i → ((r : Row) → IsLine h rows l r → ⊥) → IsTrace h m lines → ⊥
@@ -88,6 +90,11 @@ ends_at_row h m rows r i e =
 -- what a book has
 pub known_from : (h : List OpData) (have v : VectorData) (m : Member) (b : Bool) → IsValid h → have.set ≡ context_of_all h → v ≡ have → b ≡ has v.set m → b ≡ is_known h m
 known_from h have v m b valid members e t = t ∙ (ap (λ (w : VectorData). has w.set m) e ∙ have_known h have.set valid members m)
+
+-- a fact holds where an error is answered, too
+pub on_err_of : {A E P : Type 0} (r : Result A E) → P → OnErr r P
+on_err_of (Ok x) p = tt
+on_err_of (Err e) p = p
 
 -- a fact about the value of a result, from another one
 pub if_ok_map : {A E : Type 0} (r : Result A E) (P Q : A → Type 0) → ((x : A) → P x → Q x) → IfOk r P → IfOk r Q

@@ -1,6 +1,6 @@
 //! Checking traces.
 
-ghost use Rattle.std.specs.Prelude.{◌≡◌, ◌↔◌, IfOk, IfSome, IsNone, IsTrue};
+ghost use Rattle.std.specs.Prelude.{◌≡◌, ◌≢◌, ◌<◌, ◌↔◌, [], IfOk, IfSome, IsNone, IsTrue, OnErr, length};
 ghost use Rattle.trace_explain.specs.declared.line.TraceLine.TheVariants.{Base};
 ghost use Rattle.trace_explain.specs.declared.row.Row.{Row};
 ghost use Rattle.trace_explain.specs.Traces.{IsInclusionOf, IsLine, IsRowOf, IsTrace, context_before, pair};
@@ -18,14 +18,15 @@ use ttf_form::{Form, Include};
 
 /// Whether the lines are a trace of the member: each base has the base form of a member of the book, each step includes the
 /// form of one earlier line in that of another, at equal contexts, and the last line is about the member at all members that
-/// the book holds before it.
+/// the book holds before it. Out of memory comes only where there is a line.
 pub fn check_trace(
     alloc: Global,
     book: &Book,
     m: &Member,
     lines: &[TraceLine],
 ) -> Result<bool, Memory>
-    ensures { IfOk result (λ b. IsTrue b ↔ IsTrace book.now.ops m.now lines.now) }
+    ensures exact { IfOk result (λ b. IsTrue b ↔ IsTrace book.now.ops m.now lines.now) }
+    ensures needed { OnErr result (lines.now ≢ []) }
 {
     let mut rows: Vec<Row> = Vec::new(alloc);
     for line in lines {
@@ -43,7 +44,8 @@ pub fn check_trace(
 // Whether the last row is that of the member at all members that the book holds before it.
 fn ends_at(alloc: Global, book: &Book, m: &Member, rows: &[Row]) -> Result<bool, Memory>
     requires { AreDerivedRows book.now.ops rows.now }
-    ensures { IfOk result (λ b. IsTrue b ↔ EndsAt book.now.ops m.now rows.now) }
+    ensures exact { IfOk result (λ b. IsTrue b ↔ EndsAt book.now.ops m.now rows.now) }
+    ensures needed { OnErr result (0 < length rows.now) }
 {
     match row_at(rows, rows.len() as u64) {
         Some(last) => is_executed(alloc, book, m, last),

@@ -17,7 +17,7 @@ use std::alloc::Global;
 
 /// Appends the trace of a member of the book: the lines that derive the form in which it is executed at all members that
 /// the book holds before it. False exactly where the book lacks the member; then nothing is appended, and nothing is when
-/// memory runs out.
+/// memory runs out, which it can only where the book has the member.
 ///
 /// To list a member at a context: if that pair is listed, its line serves. At the member's base context it gets a line of
 /// its base form. Else, with x the last member of the context, in the book's order, that the base context lacks, the member
@@ -34,6 +34,7 @@ pub fn trace(
         × IsTrace book.now.ops m.now lines
         × (out.new.items ≡ out.old.items ++ lines)) }
     ensures lacking { IfOk result (λ b. b ≡ false → out.new.items ≡ out.old.items) }
+    ensures needed { OnErr result (is_known book.now.ops m.now ≡ true) }
     ensures kept { OnErr result (out.new.items ≡ out.old.items) }
 {
     book.known();

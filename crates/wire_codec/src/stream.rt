@@ -1,6 +1,6 @@
 //! Streams of frames that come in pieces.
 
-ghost use Rattle.std.specs.Prelude.{◌≡◌, ◌++◌, [], length, Err, OnOk, OnErr, IfOk};
+ghost use Rattle.std.specs.Prelude.{◌≡◌, ◌≢◌, ◌++◌, [], length, Err, OnOk, OnErr, IfOk, IsOk};
 ghost use Rattle.wire_codec.specs.Judging.{judge};
 ghost use Rattle.wire_codec.specs.Answers.{HasFrame};
 ghost use Rattle.wire_codec.specs.Streams.{Feeds, TakesAnswer, IsAnswer};
@@ -54,9 +54,10 @@ impl Model for FrameStream {
 }
 
 impl FrameStream {
-    /// A stream of which nothing is there yet.
+    /// A stream of which nothing is there yet; takes no memory, so it is always made.
     pub fn new(alloc: Global) -> Result<FrameStream, Memory>
-        ensures { IfOk result (λ s. s ≡ record { taken = 0; left = [] }) }
+        ensures fresh { IfOk result (λ s. s ≡ record { taken = 0; left = [] }) }
+        ensures made { IsOk result }
     {
         Ok(FrameStream {
             taken: 0,
@@ -68,9 +69,10 @@ impl FrameStream {
     /// Appends a piece of the stream.
     ///
     /// Memory for more than 4,294,967,295 bytes left, or for more than 18,446,744,073,709,551,615 bytes,
-    /// taken and left together, is never there.
+    /// taken and left together, is never there. A piece without a byte takes none.
     pub fn feed(&mut self, piece: &[u8]) -> Result<(), Memory>
         ensures ok { OnOk result (Feeds self.old piece.now self.new) }
+        ensures needed { OnErr result (piece.now ≢ []) }
         ensures err { OnErr result (self.new ≡ self.old) }
     {
         let most = u64::from(u32::MAX).min(u64::MAX - self.taken);

@@ -3,7 +3,7 @@
 ghost use Rattle.std.specs.Prelude.{◌≡◌, true};
 
 use super::count::Count;
-use super::entry::Entry;
+use super::word::Word;
 
 /// An element of a list that vectors may share in pieces. Elements that are equal are the same (`exact`).
 pub trait Element: PartialEq + Copy + Drop {
@@ -23,12 +23,12 @@ impl Element for Count {
     }
 }
 
-impl Element for Entry {
-    ghost use Rattle.context_vector.specs.Equality.{entries_decide};
+impl Element for Word {
+    ghost use Rattle.context_vector.specs.Equality.{counts_decide};
 
-    ghost exact = { λ a b e. (entries_decide a b).0 e };
+    ghost exact = { λ a b e. (counts_decide a b).0 e };
 
     fn key(&self) -> u64 {
-        self.code()
+        u64::from(Word::key(self))
     }
 }

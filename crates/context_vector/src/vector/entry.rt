@@ -57,11 +57,6 @@ impl Entry {
         }
     }
 
-    /// Site and number side by side: it rises with the names.
-    pub fn code(&self) -> u64 {
-        self.bits >> 16
-    }
-
     /// The generation.
     pub fn generation(&self) -> u16
         ensures { result ≡ self.now.1 }

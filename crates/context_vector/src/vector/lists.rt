@@ -4,7 +4,7 @@ ghost use Rattle.std.specs.Prelude.{◌≡◌, ◌≤◌, ◌<◌, ◌*◌, ◌+
 ghost use lib.Pointwise.{pointwise};
 ghost use Rattle.std.specs.Rc.{rc_value};
 ghost use Rattle.op_name.specs.declared.member.Member.TheVariants.{Original, Group};
-ghost use Rattle.context_vector.specs.Contexts.{entry_in, raised, AreCounts, IsContext};
+ghost use Rattle.context_vector.specs.Contexts.{count_in, entry_in, raised, AreCounts, IsContext};
 ghost use Rattle.context_vector.specs.Equality.{count_eq, entry_eq};
 ghost use Rattle.context_vector.specs.Marks.{counts_mark, mark_of};
 ghost use Rattle.context_vector.specs.Vectors.{lowered, HasRoomFor, IsLastMember, NamesBelow};
@@ -13,7 +13,7 @@ ghost use Rattle.context_vector.specs.Code.Undone.{kept_of};
 ghost use Rattle.context_vector.specs.Code.Sharing.{data_of};
 
 use super::count::Count;
-use super::counting::mark_of_counts;
+use super::counting::{count_of, mark_of_counts};
 use super::counts::{grown, lower_site, put_site};
 use super::few::Few;
 use super::kept::{Kept, kept_like};
@@ -63,6 +63,19 @@ impl Lists {
             Lists::Few(counts) => Reader::of(counts.as_slice()),
             Lists::Own(lists) => Reader::of(lists.counts.as_slice()),
             Lists::Shared(lists) => lists.as_ref().counts.reader(),
+        }
+    }
+
+    /// How many originals of the site there are.
+    pub fn count(&self, site: u16) -> u32
+        requires { AreCounts 0 (data_of self.now).set.counts }
+        ensures count { result ≡ count_in (data_of self.now).set.counts site }
+        ensures range { result ≤ NUMBERS }
+    {
+        match self {
+            Lists::Few(counts) => count_among(counts.as_slice(), site),
+            Lists::Own(lists) => count_among(lists.counts.as_slice(), site),
+            Lists::Shared(lists) => count_of(lists.as_ref().counts.reader(), site),
         }
     }
 

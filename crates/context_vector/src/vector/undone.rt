@@ -1,18 +1,23 @@
-//! The undone names of a vector, in a list of its own that may be changed in place.
+//! The undone names of a vector, in lists of its own that may be changed in place.
 
-ghost use Rattle.std.specs.Prelude.{◌≡◌, ◌<◌, ◌≤◌, ◌*◌, ◌++◌, ◌∷◌, [], length, vec_len, vec_capacity, IfOk, OnOk, OnErr};
+ghost use Rattle.std.specs.Prelude.{◌≡◌, ◌+◌, ◌≤◌, ◌<◌, ◌*◌, ◌^◌, ◌++◌, ◌∷◌, [], ◌==◌, if◌then◌else◌};
+ghost use Rattle.std.specs.Prelude.{length, vec_len, vec_capacity, IfOk, OnOk, OnErr};
 ghost use Rattle.context_vector.specs.Contexts.{entry_in, AreEntries};
 ghost use Rattle.context_vector.specs.Marks.{mark_of};
 ghost use Rattle.context_vector.specs.Vectors.{NamesBelow};
 ghost use Rattle.context_vector.specs.Code.Undone.{set_entry};
+ghost use Rattle.context_vector.specs.Code.Words.{entries_in, AreUndone};
 
 use super::entry::Entry;
+use super::generations::{generation_of, high_of, low_of};
 use super::kept::Kept;
 use super::marks::weight;
 use super::names::Names;
 use super::reader::Reader;
 use super::rising::{entry_among, place_of_name};
 use super::stored::Stored;
+use super::word::Word;
+use super::words::{seat_of, set_digit, word_among};
 use op_name::{Memory, NUMBERS, Name, SITES};
 use std::alloc::Global;
 use std::marker::Model;
@@ -20,22 +25,31 @@ use std::marker::Model;
 /// Each undone name with its greatest generation, names rising.
 #[derive(Debug, Drop)]
 pub struct Undone {
-    list: Vec<Entry>,
-    /// The mark of the list, by which most other lists are told apart at a look.
+    /// Eight neighbouring names in each word.
+    words: Vec<Word>,
+    /// What is above 15 of their generations: mostly nothing.
+    high: Vec<Entry>,
+    /// The mark of the names, by which most other lists are told apart at a look.
     mark: u64,
+    len: u32,
 }
 
 impl Model for Undone {
-    ghost use Rattle.std.specs.Prelude.{◌≡◌, ◌-◌, vec_len, vec_capacity};
-    ghost use Rattle.context_vector.specs.Contexts.{AreEntries};
+    ghost use Rattle.std.specs.Prelude.{◌≡◌, ◌-◌, min, length, vec_len, vec_capacity};
     ghost use Rattle.context_vector.specs.Marks.{mark_of};
     ghost use Rattle.context_vector.specs.Code.Undone.{UndoneData};
+    ghost use Rattle.context_vector.specs.Code.Words.{entries_in, AreUndone};
 
     ghost Value = { UndoneData };
 
-    ghost view = { λ u. record { items = u.list.items; spare = vec_capacity u.list - vec_len u.list } };
+    ghost view = { λ u. record {
+      items = entries_in u.high.items u.words.items;
+      spare = min (vec_capacity u.words - vec_len u.words) (vec_capacity u.high - vec_len u.high);
+    } };
 
-    ghost invariant = { λ u. AreEntries u.list.items × (u.mark ≡ mark_of u.list.items) };
+    ghost invariant = { λ u. AreUndone u.words.items u.high.items
+        × (u.mark ≡ mark_of (entries_in u.high.items u.words.items))
+        × (u.len ≡ length (entries_in u.high.items u.words.items)) };
 }
 
 impl Undone {
@@ -44,19 +58,27 @@ impl Undone {
         ensures { result.items ≡ [] }
     {
         Undone {
-            list: Vec::new(alloc),
+            words: Vec::new(alloc),
+            high: Vec::new(alloc),
             mark: 0,
+            len: 0,
         }
     }
 
-    // These names, whose mark this is.
-    pub(super) fn of(list: Vec<Entry>, mark: u64) -> Undone
-        requires rising { AreEntries list.items }
-        requires mark { mark ≡ mark_of list.items }
-        ensures items { result.items ≡ list.items }
-        ensures spare { vec_len list < vec_capacity list → 1 ≤ result.spare }
+    // These names, with their mark and their number.
+    pub(super) fn of(words: Vec<Word>, high: Vec<Entry>, mark: u64, len: u32) -> Undone
+        requires undone { AreUndone words.items high.items }
+        requires mark { mark ≡ mark_of (entries_in high.items words.items) }
+        requires len { len ≡ length (entries_in high.items words.items) }
+        ensures items { result.items ≡ entries_in high.items words.items }
+        ensures spare { vec_len words < vec_capacity words → vec_len high < vec_capacity high → 1 ≤ result.spare }
     {
-        Undone { list, mark }
+        Undone {
+            words,
+            high,
+            mark,
+            len,
+        }
     }
 
     /// The mark of the names: equal lists have equal marks.
@@ -71,21 +93,24 @@ impl Undone {
         ensures len { result ≡ length self.now.items }
         ensures range { result ≤ SITES * NUMBERS }
     {
-        self.list.len()
+        self.len as usize
     }
 
     /// The greatest generation of the name, 0 if it isn't undone.
     pub fn entry(&self, name: &Name) -> u16
         ensures { result ≡ entry_in self.now.items name.now }
     {
-        entry_among(self.list.as_slice(), name)
+        name.known();
+        let (key, place) = seat_of(name);
+        let word = word_among(self.words.as_slice(), key);
+        generation_of(word.digit(place), entry_among(self.high.as_slice(), name))
     }
 
     /// A reader of the names.
     pub fn names(&self) -> Names<'_>
         ensures { result ≡ self.now.items }
     {
-        Names::new(Reader::of(self.list.as_slice()))
+        Names::new(Reader::of(self.words.as_slice()), self.high.as_slice())
     }
 
     /// Makes a spare place; no name comes or goes.
@@ -94,7 +119,8 @@ impl Undone {
         ensures spare { OnOk result (1 ≤ self.new.spare) }
         ensures memory { OnErr result (self.old.spare ≡ 0) }
     {
-        self.list.reserve(1)?;
+        self.words.reserve(1)?;
+        self.high.reserve(1)?;
         Ok(())
     }
 
@@ -105,8 +131,10 @@ impl Undone {
     {
         let had = self.entry(name);
         name.known();
-        put_generation(&mut self.list, name, generation);
+        set_digit(&mut self.words, name, low_of(generation));
+        put_generation(&mut self.high, name, high_of(generation));
         self.mark = self.mark - weight(name, had) + weight(name, generation);
+        self.len = len_after(self.len, had, generation);
     }
 
     /// Appends a name that is after all others. Out of memory, nothing changes.
@@ -126,8 +154,10 @@ impl Undone {
         ensures { IfOk result (λ u. u.items ≡ self.now.items) }
     {
         Ok(Undone {
-            list: Vec::from_slice(alloc, self.list.as_slice())?,
+            words: Vec::from_slice(alloc, self.words.as_slice())?,
+            high: Vec::from_slice(alloc, self.high.as_slice())?,
             mark: self.mark,
+            len: self.len,
         })
     }
 
@@ -135,12 +165,28 @@ impl Undone {
     pub fn kept(&self, alloc: Global, like: Option<&Kept>) -> Result<Kept, Memory>
         ensures { IfOk result (λ k. k ≡ self.now.items) }
     {
-        let list = self.list.as_slice();
-        let names = match like {
+        let list = self.words.as_slice();
+        let words = match like {
             Some(like) => Stored::of(alloc, list, Some(like.stored()))?,
             None => Stored::of(alloc, list, None)?,
         };
-        Ok(Kept::of(names, self.mark, list.len() as u32))
+        let high = Vec::from_slice(alloc, self.high.as_slice())?;
+        Ok(Kept::of(words, high, self.mark, self.len))
+    }
+}
+
+// The number of names after a name that had one generation has another one.
+fn len_after(len: u32, had: u16, generation: u16) -> u32
+    requires least { (if had == 0 then 0 else 1) ≤ len }
+    requires most { len < 2 ^ 31 }
+    ensures { result + (if had == 0 then 0 else 1) ≡ len + (if generation == 0 then 0 else 1) }
+{
+    if had == 0 && generation != 0 {
+        len + 1
+    } else if had != 0 && generation == 0 {
+        len - 1
+    } else {
+        len
     }
 }
 

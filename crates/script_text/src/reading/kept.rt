@@ -61,6 +61,7 @@ impl Kept {
     pub(crate) fn add(&mut self, piece: &[u8]) -> Result<(), Memory>
         requires { self.old.last + length piece.now < 2 ^ 32 }
         ensures ok { OnOk result (lines_kept self.new ≡ followed_by (lines_kept self.old) (lines_in piece.now)) }
+        ensures needed { OnErr result (0 < length piece.now) }
         ensures err { OnErr result (self.new ≡ self.old) }
     {
         let bytes = self.bytes.len();
@@ -77,6 +78,7 @@ impl Kept {
     fn add_lines(&mut self, piece: &[u8]) -> Result<(), Memory>
         requires { self.old.last + length piece.now < 2 ^ 32 }
         ensures ok { OnOk result (lines_kept self.new ≡ followed_by (lines_kept self.old) (lines_in piece.now)) }
+        ensures needed { OnErr result (0 < length piece.now) }
         ensures front { IsFrontOf self.old self.new }
     {
         let mut rest = piece;
@@ -94,6 +96,7 @@ impl Kept {
     fn add_part(&mut self, part: &[u8]) -> Result<(), Memory>
         requires { self.old.last + length part.now < 2 ^ 32 }
         ensures ok { OnOk result (self.new ≡ with_part part.now self.old) }
+        ensures needed { OnErr result (0 < length part.now) }
         ensures err { OnErr result (self.new ≡ self.old) }
     {
         let room = MOST_KEPT - kept_of(self.last);

@@ -1,9 +1,9 @@
 //! The lines of an input that comes in pieces.
 
-ghost use Rattle.std.specs.Prelude.{◌≡◌, ◌≤◌, ◌+◌, ◌∷◌, ◌++◌, [], ℕ, List, true, false, ◌↔◌, Some, None, Ok, Err, IfOk, OnOk, OnErr, IsTrue};
+ghost use Rattle.std.specs.Prelude.{◌≡◌, ◌≢◌, ◌≤◌, ◌+◌, ◌∷◌, ◌++◌, [], ℕ, List, true, false, ◌↔◌, Some, None, Ok, Err, OnOk, OnErr, IsTrue};
 ghost use Rattle.script_text.specs.LeftLines.{LeftLine, InputData};
 ghost use Rattle.script_text.specs.Code.Keeping.{FrontIs, HasFrontLine, IsInput};
-ghost use Rattle.script_text.specs.Streams.{fed_with, TakesLine, HasNoLine, HasLongLine, IsPastLimit};
+ghost use Rattle.script_text.specs.Streams.{fed_with, looked_at, TakesLine, HasNoLine, HasLongLine, IsPastLimit};
 
 use crate::reading::kept::{Kept, first};
 use crate::reading::line::{Line, LineBad};
@@ -43,26 +43,27 @@ impl Model for LineStream {
 }
 
 impl LineStream {
-    /// An input of which nothing was fed yet.
-    pub fn new(alloc: Global) -> Result<LineStream, Memory>
-        ensures { IfOk result (λ s. s ≡ record { lines = []; fed = 0; over = false; refusal = None }) }
+    /// An input of which nothing was fed yet; takes no memory.
+    pub fn new(alloc: Global) -> LineStream
+        ensures { result ≡ record { lines = []; fed = 0; over = false; refusal = None } }
     {
-        Ok(LineStream {
+        LineStream {
             lines: Kept::new(alloc),
             fed: 0,
             over: false,
             refusal: None,
             alloc,
-        })
+        }
     }
 
     /// Appends a piece of the input: it goes on with the last line, if no line feed ended that, and brings the lines after
     /// it. What follows the first `MAX_SCRIPT + 1` bytes fed is passed over.
     ///
-    /// Out of memory, nothing of the piece was taken.
+    /// Out of memory, which comes only where a byte of the piece is looked at, nothing of the piece was taken.
     pub fn feed(&mut self, piece: &[u8]) -> Result<(), Memory>
         requires { self.old.over ≡ false }
         ensures ok { OnOk result (self.new ≡ fed_with self.old piece.now) }
+        ensures needed { OnErr result (looked_at self.old.fed piece.now ≢ []) }
         ensures err { OnErr result (self.new ≡ self.old) }
     {
         let looked_at = first(MAX_SCRIPT + 1 - self.fed as usize, piece);

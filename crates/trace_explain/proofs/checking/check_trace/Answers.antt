@@ -19,11 +19,11 @@ loop-line-preserved c =
 pub ends_at-requires : goal.ends_at-requires
 ends_at-requires c = subst (λ (xs : List Row). AreDerivedRows c.args.book.now.ops xs) (sym c.deref-2.ensures.value) c.loop-line.invariant.derived
 
-pub returns : goal.returns
-returns c =
+pub returns-clause-exact : goal.returns-clause-exact
+returns-clause-exact c =
     if_ok_map c.ends_at.result (λ (b : Bool). IsTrue b ↔ EndsAt c.args.book.now.ops c.args.m.now c.deref-2.result.now) (λ (b : Bool). IsTrue b ↔ IsTrace c.args.book.now.ops c.args.m.now c.args.lines.now)
     (λ b e. (
       λ t. right_to_end c.args.book.now.ops c.args.lines.now c.args.m.now c.loop-line.rows.items c.loop-line.line-index (omega arith) c.loop-line.invariant (subst (λ (xs : List Row). EndsAt c.args.book.now.ops c.args.m.now xs) c.deref-2.ensures.value (e.0 t)),
       λ t. e.1 (subst (λ (xs : List Row). EndsAt c.args.book.now.ops c.args.m.now xs) (sym c.deref-2.ensures.value) (right_from_end c.args.book.now.ops c.args.lines.now c.args.m.now c.loop-line.rows.items c.loop-line.line-index (omega arith) c.loop-line.invariant t)),
     ))
-    c.ends_at.ensures
+    c.ends_at.ensures.exact

@@ -9,8 +9,8 @@ use Rattle.trace_explain.proofs.checking.ends_at.Goals as goal
 pub is_executed-requires : goal.is_executed-requires
 is_executed-requires c = row_derived c.args.book.now.ops c.args.rows.now (length c.args.rows.now) c.in-Some.last.now c.requires c.in-Some.ensures.there
 
-pub returns-in-Some : goal.returns-in-Some
-returns-in-Some c =
+pub returns-in-Some-clause-exact : goal.returns-in-Some-clause-exact
+returns-in-Some-clause-exact c =
     if_ok_map c.is_executed.result (λ (b : Bool). IsTrue b ↔ (c.in-Some.last.now.at ≡ pair c.args.m.now (context_before c.args.book.now.ops c.args.m.now))) (λ (b : Bool). IsTrue b ↔ EndsAt c.args.book.now.ops c.args.m.now c.args.rows.now)
     (λ b e. (
       λ t. ends_from c.args.book.now.ops c.args.m.now c.args.rows.now c.in-Some.last.now c.in-Some.ensures.there (e.0 t),
@@ -18,5 +18,5 @@ returns-in-Some c =
     ))
     c.is_executed.ensures
 
-pub returns-in-None : goal.returns-in-None
-returns-in-None c = (λ t. absurd (cc), λ e. absurd (c.in-None.ensures.none refl e.last (ends_row c.args.book.now.ops c.args.m.now c.args.rows.now e)))
+pub returns-in-None-clause-exact : goal.returns-in-None-clause-exact
+returns-in-None-clause-exact c = (λ t. absurd (cc), λ e. absurd (c.in-None.ensures.none refl e.last (ends_row c.args.book.now.ops c.args.m.now c.args.rows.now e)))

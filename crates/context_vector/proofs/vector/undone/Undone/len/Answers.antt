@@ -3,4 +3,4 @@ use Rattle.context_vector.proofs.Entries.{length_at_most}
 use Rattle.context_vector.proofs.vector.undone.Undone.len.Goals as goal
 
 pub returns-clause-range : goal.returns-clause-range
-returns-clause-range c = omega (arith, c.len.ensures, length_at_most c.self.inside.list.items c.self.invariant.0)
+returns-clause-range c = omega (arith, c.self.invariant.2, length_at_most _ c.self.invariant.0.entries)

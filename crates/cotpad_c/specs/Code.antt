@@ -1,2 +1,0 @@
--- Words that only the contracts of private functions use.
-pub mod Making

@@ -1,0 +1,5 @@
+pub mod Reached
+pub mod Edits
+pub mod Runs
+pub mod Taking
+pub mod Code
