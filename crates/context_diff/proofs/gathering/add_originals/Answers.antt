@@ -1,10 +1,9 @@
-use Rattle.std.proofs.Common.{◌≡◌, ℕ, ◌+◌, true, false, ◌||◌, List, refl, ap, sym, subst, ◌∙◌, arith, add-one}
-use Rattle.std.specs.Prelude.{OnErr}
+use Rattle.std.proofs.Common.{◌≡◌, ℕ, ◌+◌, true, false, ◌||◌, List, ap, sym, subst, ◌∙◌, arith, add-one}
 use Rattle.std.proofs.lemmas.Result.{err_from_is_err_and}
 use Rattle.op_name.specs.NameData.{NameData}
 use Rattle.op_name.specs.declared.member.Member.{Member}
 use Rattle.op_name.specs.declared.member.Member.TheVariants.{Original}
-use Rattle.context_vector.specs.Contexts.{count_of, Within}
+use Rattle.context_vector.specs.Contexts.{count_of}
 use Rattle.context_vector.proofs.CallerLemmas.{read_all, read_first, read_more}
 use Rattle.context_diff.specs.Histories.{members_in}
 use Rattle.context_diff.specs.Code.Places.{ArePlacesOf, is_between, is_missing, first_sites, first_names}

@@ -1,4 +1,4 @@
-use Rattle.std.proofs.Common.{◌≡◌, ℕ, suc, ◌+◌, List, ap, sym, subst, ◌∙◌, arith, take, length, add-one}
+use Rattle.std.proofs.Common.{◌≡◌, ℕ, suc, ◌+◌, List, ap, sym, subst, ◌∙◌, arith, take, add-one}
 use Rattle.context_vector.proofs.CallerLemmas.{read_all, read_first, read_more}
 use Rattle.context_diff.specs.Operations.{OpData}
 use Rattle.context_diff.specs.Books.{BookData}
