@@ -40,17 +40,17 @@ book_before os left r o have own inserts counts places groups last earlier book 
 pub book_still : (h : List OpData) (have : ContextData) (own own' : Bool) (inserts : ℕ) (counts places : ℕ → List ℕ) (groups : List (Member × ℕ)) (last earlier : Option Lately) → IsBook h have own inserts counts places groups last earlier → (own ≡ true → own' ≡ true)
     → IsBook h have own' inserts counts places groups last earlier
 book_still h have own own' inserts counts places groups last earlier book stays = record {
-      valid = book.valid;
-      members = book.members;
-      in_place = λ some. stays (book.in_place some);
-      inserts = book.inserts;
-      tallies = book.tallies;
-      placed = book.placed;
-      groups = book.groups;
-      lately = book.lately;
-      before = book.before;
-      short = book.short;
-    }
+  valid = book.valid;
+  members = book.members;
+  in_place = λ some. stays (book.in_place some);
+  inserts = book.inserts;
+  tallies = book.tallies;
+  placed = book.placed;
+  groups = book.groups;
+  lately = book.lately;
+  before = book.before;
+  short = book.short;
+}
 
 -- a next operation, counted and placed, at the end of a book
 pub book_push : (h : List OpData) (have : ContextData) (own own' : Bool) (inserts : ℕ) (counts counts' places places' : ℕ → List ℕ) (groups groups' : List (Member × ℕ)) (last earlier new : Option Lately) (o : OpData) → IsBook h have own inserts counts places groups last earlier → IsNext h o

@@ -7,8 +7,7 @@ use Rattle.context_vector.specs.Contexts.{ContextData}
 use Rattle.context_diff.specs.Histories.{CoversSite, IsClosed, LacksNothing, inserts_in}
 use Rattle.context_vector.specs.Vectors.{VectorData, HasRoomFor}
 
--- the history, its members, the spare places that the list of operations and the index of undo groups both have, and for each site those
--- that the lists of its originals both have
+-- the history, its members, for how many more operations there is room, and for how many more originals of each site
 pub record BookData : Type 0 where
   pub ops : List OpData
   pub have : VectorData
@@ -20,7 +19,7 @@ abbrev pub HasSpareFor : List ℕ → Member → Type 0
 HasSpareFor spares (Original n) = 0 < slice_index_or spares n.site 0
 HasSpareFor spares (Group t g) = Unit {0}
 
--- the operation can be appended without memory
+-- the operation can be appended without memory: there is room for it, and the history has at most 4,294,967,294 operations
 pub record HasRoom (b : BookData) (o : OpData) : Type 0 where
   pub place : 0 < b.spare
   pub member : HasRoomFor b.have (member_of o)

@@ -132,6 +132,7 @@ impl Book {
     pub fn share(&mut self)
         ensures ops { self.new.ops ≡ self.old.ops }
         ensures have { self.new.have.set ≡ self.old.have.set }
+        ensures room { self.new.have.room ≡ self.old.have.room }
     {
         if let Some(op) = self.ops.last() {
             self.have.remember(op.context());

@@ -3,7 +3,8 @@ use Rattle.std.proofs.Common.{◌≡◌, ℕ, zero, suc, ◌+◌, ◌<◌, ◌�
 use Rattle.std.specs.Prelude.{Option, Some, None, slice_get}
 use Rattle.std.proofs.lemmas.List.{drop-drop}
 
-first_left : {A : Type 0} (all : List A) (i : ℕ) → slice_get (drop i all) 0 ≡ slice_get all i
+-- the first of what is left after i elements is the i-th
+pub first_left : {A : Type 0} (all : List A) (i : ℕ) → slice_get (drop i all) 0 ≡ slice_get all i
 first_left xs zero = refl
 first_left [] (suc i) = refl
 first_left (x ∷ xs) (suc i) = first_left xs i

@@ -6,7 +6,7 @@ use Rattle.op_name.specs.NameData.{NameData, name_eq, name_lt}
 use Rattle.op_name.specs.Members.{member_lt}
 use Rattle.context_vector.specs.Contexts.{ContextData, count_of, entry_of, has, put_count, put_entry}
 
--- whether the lists may be changed in place, and the spare places of each
+-- whether the lists may be changed in place, and for how many more sites and undone names, at least, they have room
 pub record Room : Type 0 where
   pub own : Bool
   pub counts : ℕ

@@ -125,7 +125,7 @@ impl Vector {
         self.lists.share(self.alloc);
     }
 
-    /// The same, and what the lists have in common with those of which `other` made its last copy is kept once; no member comes or goes.
+    /// The same, and what the lists have in common with those like which `other` makes its copies is kept once; no member comes or goes.
     /// A set that shares its lists already stays as it is. Out of memory, the lists stay its own.
     pub fn share_with(&mut self, other: &Vector)
         ensures { self.new.set ≡ self.old.set }
@@ -226,6 +226,20 @@ impl Vector {
         ensures range { result ≤ SITES * NUMBERS }
     {
         self.lists.names_len() as u32
+    }
+
+    /// The i-th undone name, in the order of names, with its greatest generation; None exactly past the end. It reads all names before it:
+    /// whoever wants them all takes `names_read`.
+    pub fn entry_at(&self, i: u32) -> Option<(Name, u16)>
+        ensures { result ≡ slice_get self.now.set.entries i }
+    {
+        let mut left = self.names_read();
+        let mut passed = 0;
+        while passed < i {
+            let _ = left.next()?;
+            passed += 1;
+        }
+        left.next()
     }
 
     /// The undone names with their greatest generations, to be read in the order of names.

@@ -4,7 +4,7 @@ use Rattle.op_name.specs.NameData.{NameData}
 use Rattle.context_vector.specs.Contexts.{put_entry}
 use Rattle.context_vector.specs.Vectors.{without_name}
 
--- undone names with their greatest generations, and the spare places of the list
+-- undone names with their greatest generations, and for how many more, at least, there is room
 pub record UndoneData : Type 0 where
   pub items : List (NameData × ℕ)
   pub spare : ℕ

@@ -9,12 +9,12 @@ abbrev pub digit : ℕ → ℕ → ℕ
 digit w zero = w % 16
 digit w (suc i) = digit (w / 16) i
 
--- the number with d as its i-th digit
+-- the number with d, below 16, as its i-th digit
 abbrev pub with_digit : ℕ → ℕ → ℕ → ℕ
 with_digit w zero d = w / 16 * 16 + d
 with_digit w (suc i) d = with_digit (w / 16) i d * 16 + w % 16
 
--- a name as one number: site and number side by side
+-- a name, whose number is below 2 ^ 20, as one number: site and number side by side
 abbrev pub code : NameData → ℕ
 code n = n.site * 2 ^ 20 + n.number
 
@@ -75,7 +75,7 @@ abbrev pub AreWords : ℕ → List (ℕ × ℕ) → Type 0
 AreWords low [] = Unit {0}
 AreWords low (p ∷ ps) = (low ≤ p.0) × (1 ≤ p.1) × (p.1 < 2 ^ 32) × AreWords (p.0 + 1) ps
 
--- undone names in words, and what is above 15 of their generations
+-- undone names in words, and how many steps of 15 their generations are above their digits
 pub record AreUndone (ws : List (ℕ × ℕ)) (hs : List (NameData × ℕ)) : Type 0 where
   pub words : AreWords 0 ws
   pub high : AreEntries hs

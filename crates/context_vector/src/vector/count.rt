@@ -1,6 +1,6 @@
 //! A site with its count, in 32 bits.
 
-ghost use Rattle.std.specs.Prelude.{◌≡◌, ◌<◌, ◌≤◌, ◌^◌, IsTrue};
+ghost use Rattle.std.specs.Prelude.{◌≡◌, ◌<◌, ◌≤◌, ◌^◌, ◌↔◌, IsTrue};
 ghost use Rattle.context_vector.specs.Equality.{count_eq, count_per, count_equiv};
 
 use std::marker::Model;
@@ -53,7 +53,7 @@ impl Count {
 
     /// Whether the other is of the same site, and counts no less.
     pub fn is_at_most(&self, other: &Count) -> bool
-        ensures { IsTrue result → (self.now.0 ≡ other.now.0) × (self.now.1 ≤ other.now.1) }
+        ensures { IsTrue result ↔ ((self.now.0 ≡ other.now.0) × (self.now.1 ≤ other.now.1)) }
     {
         (self.bits >> 20 == other.bits >> 20) & (self.bits <= other.bits)
     }

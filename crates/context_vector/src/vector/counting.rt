@@ -1,4 +1,4 @@
-//! SiteCounts read from the front: the public reader, searches and comparisons.
+//! Counts read from the front: the public reader, searches and comparisons.
 
 ghost use Rattle.std.specs.Prelude.{◌≡◌, ◌+◌, ◌*◌, ◌≤◌, ◌++◌, ℕ, List, false, drop, length, slice_get, take, IsTrue};
 ghost use Rattle.context_vector.specs.Contexts.{count_in, sum_of_counts, AreCounts};

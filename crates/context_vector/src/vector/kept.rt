@@ -25,7 +25,7 @@ use std::rc::Rc;
 pub struct Kept {
     /// Eight neighbouring names in each word.
     words: Stored<Word>,
-    /// What is above 15 of their generations: mostly nothing.
+    /// How many steps of 15 their generations are above their digits: mostly none.
     high: Vec<Entry>,
     /// The mark of the names, by which most other lists are told apart at a look.
     mark: u64,
