@@ -90,8 +90,8 @@ impl Op {
         }
     }
 
-    /// Lets copies share the lists of the context; what they have in common with those like which `v` makes its copies is kept once. The operation stays the same.
-    /// Out of memory, the lists stay the operation's own.
+    /// Lets copies share the lists of the context; what they have in common with those like which `v` makes its copies is kept once. The
+    /// operation stays the same. Out of memory, the lists stay the operation's own.
     pub fn share_with(&mut self, v: &Vector)
         ensures { data_of self.new ≡ data_of self.old }
     {
