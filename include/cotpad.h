@@ -176,14 +176,16 @@ cotpad_status cotpad_redo(cotpad_site *site, uint16_t name_site, uint32_t number
 /* Inserts the characters of a text in UTF-8, the first after `place` shown ones, each next one after it, and releases after each.
  * *made is how many were inserted, each by an operation of the site's own: they stand in the history from the index on that
  * cotpad_operations told before the call, with what was released between them (cotpad_operation_at tells the author).
- * COTPAD_OK: all of them, and nothing can go wrong with no character. Else COTPAD_NO_CHARACTER (no UTF-8) or COTPAD_PLACE_OUT,
- * and *made is 0; or COTPAD_NUMBER_FULL, COTPAD_CONTEXT_FULL or COTPAD_NO_MEMORY, where the first *made characters are inserted,
+ * A place counts what is shown at that moment: where the release after one of them shows or hides characters before it, the next
+ * one stands among others. COTPAD_OK: all of them, and nothing can go wrong with no character. Else COTPAD_NO_CHARACTER (no UTF-8)
+ * or COTPAD_PLACE_OUT, and *made is 0 (unless such a release hid the place of the next one); or COTPAD_NUMBER_FULL, COTPAD_CONTEXT_FULL or COTPAD_NO_MEMORY, where the first *made characters are inserted,
  * and no more: go on with the rest, or undo these; or COTPAD_UNSETTLED: the same, and what the last of these freed is released in
  * part: settle, and go on. */
 cotpad_status cotpad_insert_text(cotpad_site *site, uint32_t place, const uint8_t *text, size_t length, uint32_t *made);
 
 /* Deletes `count` shown characters, from the one at `place` on, and releases after each. *made is how many were deleted, as
- * above. COTPAD_OK: all of them. Else COTPAD_PLACE_OUT, where they aren't all there, and *made is 0; or COTPAD_NUMBER_FULL,
+ * above, and a place counts as there. COTPAD_OK: all of them. Else COTPAD_PLACE_OUT, where they aren't all there, and *made is 0
+ * (unless a release hid what was left of them); or COTPAD_NUMBER_FULL,
  * COTPAD_CONTEXT_FULL, COTPAD_NO_MEMORY or COTPAD_UNSETTLED, where the first *made characters are deleted, and no more. To take a
  * text or a range back, read the names of these operations by cotpad_operation_at, right after the call, and give each to
  * cotpad_undo. */

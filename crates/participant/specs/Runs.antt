@@ -17,20 +17,21 @@ use Rattle.participant.specs.Edits.{made_by, IsLeftUnsettled}
 
 -- ---- the edits of a run
 
--- the characters of a text are inserted after so many shown ones, each after the one before it
+-- the characters of a text are inserted after so many shown ones, each at the place behind the one before it
 unfoldable pub inserts : ℕ → List ℕ → List Edit
 inserts v [] = []
 inserts v (ch ∷ cs) = Insert v ch ∷ inserts (v + 1) cs
 
--- so many shown characters are deleted from a place on: what was behind the first stands at its place then
+-- so many shown characters are deleted, one after the other, each at this place
 unfoldable pub deletes : ℕ → ℕ → List Edit
 deletes v zero = []
 deletes v (suc n) = Delete v ∷ deletes v n
 
--- what has these names is undone, the last of them first; or redone
+-- what has these names is undone, the last of them first
 abbrev pub undos : List NameData → List Edit
 undos ns = map (λ t. Undo t) (reverse ns)
 
+-- what has these names is redone, the last of them first
 abbrev pub redos : List NameData → List Edit
 redos ns = map (λ t. Redo t) (reverse ns)
 
@@ -53,7 +54,7 @@ progress s rs n = record { reached = at s rs; made = n }
 abbrev pub begun : Reached → Progress
 begun a = record { reached = a; made = 0 }
 
--- the reason is that what would be undone is undone already, or that what would be redone isn't undone
+-- the reason is that what would be undone is undone already
 abbrev pub is_undone : Local → Bool
 is_undone (local.PlaceOut v k) = false
 is_undone (local.Unknown n) = false
@@ -64,6 +65,7 @@ is_undone local.NumberFull = false
 is_undone (local.ContextFull k) = false
 is_undone local.Memory = false
 
+-- the reason is that what would be redone isn't undone
 abbrev pub is_in_force : Local → Bool
 is_in_force (local.PlaceOut v k) = false
 is_in_force (local.Unknown n) = false
@@ -86,10 +88,11 @@ abbrev pub after_answer : Edit → Result OpData Local → Progress → Option P
 after_answer e (Ok o) p = Some (record { reached = all_settled (with_one p.reached o); made = p.made + 1 })
 after_answer e (Err why) p = if is_passed e why then Some p else None
 
+-- after an edit, by what its definition answers there
 abbrev pub after_edit : Edit → Progress → Option Progress
 after_edit e p = after_answer e (made_by e p.reached.state) p
 
--- a run stops at this edit: there is no operation, for a reason that isn't passed over, and nothing was done for it; or it was made,
+-- a run stops at this edit: no operation was made, for a reason that isn't passed over, and nothing was done for it; or it was made,
 -- and memory ran out among the releases after it
 abbrev pub StopsAt : Edit → Progress → Result ⊤ Stopped → Progress → Type 0
 StopsAt e p (Ok u) q = ⊥

@@ -19,7 +19,7 @@ is_refusal (NotClosed s) = true
 is_refusal (PlaceOut p k) = true
 is_refusal Integrated = false
 
--- the history has the operation after this verdict
+-- the history has the operation's member after this verdict
 abbrev pub is_had : Verdict → Bool
 is_had Repeat = true
 is_had (Forged n) = false
@@ -28,7 +28,7 @@ is_had (NotClosed s) = false
 is_had (PlaceOut p k) = false
 is_had Integrated = true
 
--- whether an operation with this verdict is taken in: each one; one that isn't refused; one that the history has then
+-- whether an operation with this verdict is taken in: each one; one that isn't refused; one whose member the history has then
 abbrev pub takes : Taking → Verdict → Bool
 takes taking.All v = true
 takes taking.Unrefused v = if is_refusal v then false else true

@@ -29,7 +29,7 @@ pub enum Edit {
 /// Why edits stopped before all was done.
 #[derive(Clone, Copy, Debug)]
 pub enum Stopped {
-    /// There is no operation, for this reason, and nothing was done for it.
+    /// No operation was made, for this reason, and nothing was done for it.
     Refused { why: Local },
     /// The operation was made, and memory ran out among the releases after it: a waiting operation is ready yet.
     Unsettled,

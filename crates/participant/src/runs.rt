@@ -25,8 +25,9 @@ pub struct Run {
 /// Inserts the characters of a text after so many shown ones, each after the one before it, and after each releases everything that is
 /// ready. Each release is appended.
 ///
-/// It stops at the first character that is refused, as `Site::insert` says: at once, by PlaceOut, where the text shows fewer
-/// characters. Those before it stay inserted.
+/// A place counts what is shown at that moment: where the release after a character shows or hides others before it, the next
+/// character stands among them. It stops at the first character that is refused, as `Site::insert` says: at once, by PlaceOut, where
+/// the text shows fewer characters. Those before it stay inserted. A text without characters is refused nowhere.
 pub fn insert_text(site: &mut Site, place: u32, text: &str, released: &mut Vec<Release>) -> Run
     ensures run { IsRun (inserts place (chars text.now)) (at site.old released.old.items) result (at site.new released.new.items) }
     ensures within { result.made ≤ length (chars text.now) }
@@ -54,8 +55,10 @@ pub fn insert_text(site: &mut Site, place: u32, text: &str, released: &mut Vec<R
 /// Deletes so many shown characters from a place on, one after the other, and after each releases everything that is ready. Each
 /// release is appended.
 ///
-/// A range that isn't there in whole is refused by PlaceOut, with nothing done, at the first place of it that isn't there. Else it
-/// stops at the first delete that is refused, as `Site::delete` says. What was deleted before stays so.
+/// A place counts what is shown at that moment: where a release shows or hides characters before what is left of the range, other
+/// characters are deleted. A range that isn't there in whole is refused by PlaceOut, with nothing done, at the first place of it that
+/// isn't there, also where it is empty. Else it stops at the first delete that is refused, as `Site::delete` says. What was deleted
+/// before stays so.
 pub fn delete_range(site: &mut Site, place: u32, count: u32, released: &mut Vec<Release>) -> Run
     ensures past { length (shown site.old.history) < place + count → result ≡ past_end place (length (shown site.old.history)) }
     ensures undone { length (shown site.old.history) < place + count → (site.new ≡ site.old) × (released.new.items ≡ released.old.items) }

@@ -20,7 +20,7 @@ pub enum Taking {
     All,
     /// One that isn't refused: it is integrated, it waits, or it is a repeat.
     Unrefused,
-    /// One that the history has then: it is integrated, or it is a repeat.
+    /// One whose member the history has then: it is integrated, or it is a repeat.
     Had,
 }
 
@@ -138,7 +138,7 @@ pub fn is_refusal(verdict: &Verdict) -> bool
     }
 }
 
-/// Whether the history has the operation after this verdict.
+/// Whether the history has the operation's member after this verdict.
 pub fn is_had(verdict: &Verdict) -> bool
     ensures { result ≡ is_had verdict.now }
 {
