@@ -42,7 +42,8 @@ book_before os left r o have own inserts counts places groups last earlier book 
 
 -- a book whose members may be changed in place where they might before
 pub book_still : (h : List OpData) (have : ContextData) (own own' : Bool) (inserts : ℕ)
-    (counts places : ℕ → List ℕ) (groups : List (Member × ℕ)) (last earlier : Option Lately) → IsBook h have own inserts counts places groups last earlier
+    (counts places : ℕ → List ℕ) (groups : List (Member × ℕ)) (last earlier : Option Lately)
+    → IsBook h have own inserts counts places groups last earlier
     → (own ≡ true → own' ≡ true)
     → IsBook h have own' inserts counts places groups last earlier
 book_still h have own own' inserts counts places groups last earlier book stays = record {
