@@ -1,5 +1,6 @@
 -- Books, with an operation more and with one less.
-use Rattle.std.proofs.Common.{◌≡◌, ℕ, suc, ◌+◌, ◌<◌, Bool, true, List, [], ◌∷◌, ◌++◌, refl, ap, sym, subst, ◌∙◌, arith, length, length-append}
+use Rattle.std.proofs.Common.{◌≡◌, ℕ, suc, ◌+◌, ◌<◌, Bool, true, List, [], ◌∷◌, ◌++◌, refl, ap, sym, subst, ◌∙◌, arith, length}
+use Rattle.std.proofs.Common.{length-append}
 use Rattle.std.specs.Prelude.{map, Some, None, Option, IfSome, if◌then◌else◌}
 use Rattle.std.specs.Option.{option_to_list}
 use Rattle.op_name.specs.declared.member.Member.{Member}
@@ -32,12 +33,18 @@ seen_length [] = refl
 seen_length (p ∷ ps) = ap suc (seen_length ps)
 
 -- a book by the operations that are left of it, and the one that was taken out
-pub book_before : (os left : List Op) (r : Option Op) (o : Op) (have : ContextData) (own : Bool) (inserts : ℕ) (counts places : ℕ → List ℕ) (groups : List (Member × ℕ)) (last earlier : Option Lately) → IsBook (map data_of os) have own inserts counts places groups last earlier → os ≡ left ++ option_to_list r → r ≡ Some o
+pub book_before : (os left : List Op) (r : Option Op) (o : Op) (have : ContextData) (own : Bool) (inserts : ℕ)
+    (counts places : ℕ → List ℕ) (groups : List (Member × ℕ)) (last earlier : Option Lately)
+    → IsBook (map data_of os) have own inserts counts places groups last earlier → os ≡ left ++ option_to_list r → r ≡ Some o
     → IsBook (map data_of left ++ data_of o ∷ []) have own inserts counts places groups last earlier
-book_before os left r o have own inserts counts places groups last earlier book parts some = subst (λ (h : List OpData). IsBook h have own inserts counts places groups last earlier) (seen_pop os left r o parts some) book
+book_before os left r o have own inserts counts places groups last earlier book parts some =
+    subst (λ (h : List OpData). IsBook h have own inserts counts places groups last earlier) (seen_pop os left r o parts some) book
 
 -- a book whose members may be changed in place where they might before
-pub book_still : (h : List OpData) (have : ContextData) (own own' : Bool) (inserts : ℕ) (counts places : ℕ → List ℕ) (groups : List (Member × ℕ)) (last earlier : Option Lately) → IsBook h have own inserts counts places groups last earlier → (own ≡ true → own' ≡ true)
+pub book_still : (h : List OpData) (have : ContextData) (own own' : Bool) (inserts : ℕ)
+    (counts places : ℕ → List ℕ) (groups : List (Member × ℕ)) (last earlier : Option Lately)
+    → IsBook h have own inserts counts places groups last earlier
+    → (own ≡ true → own' ≡ true)
     → IsBook h have own' inserts counts places groups last earlier
 book_still h have own own' inserts counts places groups last earlier book stays = record {
   valid = book.valid;
@@ -53,10 +60,15 @@ book_still h have own own' inserts counts places groups last earlier book stays 
 }
 
 -- a next operation, counted and placed, at the end of a book
-pub book_push : (h : List OpData) (have : ContextData) (own own' : Bool) (inserts : ℕ) (counts counts' places places' : ℕ → List ℕ) (groups groups' : List (Member × ℕ)) (last earlier new : Option Lately) (o : OpData) → IsBook h have own inserts counts places groups last earlier → IsNext h o
+pub book_push : (h : List OpData) (have : ContextData) (own own' : Bool) (inserts : ℕ)
+    (counts counts' places places' : ℕ → List ℕ) (groups groups' : List (Member × ℕ)) (last earlier new : Option Lately) (o : OpData)
+    → IsBook h have own inserts counts places groups last earlier → IsNext h o
     → ((s : ℕ) → counts' s ≡ counted (member_of o) (is_insert o) s (counts s)) → ((s : ℕ) → places' s ≡ placed (member_of o) (length h) s (places s)) → (AreGroups h groups → AreGroups (h ++ o ∷ []) groups') → IfSome new (IsLately (h ++ o ∷ []))
-    → length h + 1 < 4294967296 → own' ≡ true → IsBook (h ++ o ∷ []) (raised have (member_of o)) own' (inserts + (if is_insert o then 1 else 0)) counts' places' groups' new last
-book_push h have own own' inserts counts counts' places places' groups groups' last earlier new o book next more further noted known short still =
+    → length h + 1 < 4294967296 → own' ≡ true
+    → IsBook (h ++ o ∷ []) (raised have (member_of o)) own' (inserts + (if is_insert o then 1 else 0)) counts' places'
+    groups' new last
+book_push h have own own' inserts counts counts' places places' groups groups' last earlier new o book next more further noted known short
+    still =
     let w = complete h book.valid in
     record {
       valid = valid_push h o book.valid next;
@@ -72,10 +84,14 @@ book_push h have own own' inserts counts counts' places places' groups groups' l
     }
 
 -- a book without its last operation
-pub book_pop : (h : List OpData) (have : ContextData) (own own' : Bool) (inserts inserts' : ℕ) (counts counts' places places' : ℕ → List ℕ) (groups groups' : List (Member × ℕ)) (last earlier : Option Lately) (o : OpData) → IsBook (h ++ o ∷ []) have own inserts counts places groups last earlier → own' ≡ true → inserts ≡ inserts' + (if is_insert o then 1 else 0)
+pub book_pop : (h : List OpData) (have : ContextData) (own own' : Bool) (inserts inserts' : ℕ)
+    (counts counts' places places' : ℕ → List ℕ) (groups groups' : List (Member × ℕ)) (last earlier : Option Lately) (o : OpData)
+    → IsBook (h ++ o ∷ []) have own inserts counts places groups last earlier → own' ≡ true
+    → inserts ≡ inserts' + (if is_insert o then 1 else 0)
     → ((s : ℕ) → counts' s ≡ without_last (member_of o) s (counts s)) → ((s : ℕ) → places' s ≡ without_last (member_of o) s (places s)) → (AreGroups (h ++ o ∷ []) groups → AreGroups h groups')
     → IsBook h (context_of_all h) own' inserts' counts' places' groups' None None
-book_pop h have own own' inserts inserts' counts counts' places places' groups groups' last earlier o book still one_less less fewer forgot =
+book_pop h have own own' inserts inserts' counts counts' places places' groups groups' last earlier o book still one_less less fewer
+    forgot =
     let parts = valid_pop h o book.valid in
     let w = complete h parts.0 in
     let short : length h + 1 < 4294967296 = simp length-append at book.short in

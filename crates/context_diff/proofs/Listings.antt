@@ -181,7 +181,8 @@ entry_more (d ∷ ds) are (suc i) e at n =
 
 -- what holds of each entry before this one, and of this one, holds of each before the next
 pub each_more : (P : NameData → Type 0) (es : List (NameData × ℕ)) (i : ℕ) (e : NameData × ℕ) → slice_get es i ≡ Some e → P e.0
-    → ((j : ℕ) (f : NameData × ℕ) → j < i → slice_get es j ≡ Some f → P f.0) → (j : ℕ) (f : NameData × ℕ) → j < i + 1 → slice_get es j ≡ Some f → P f.0
+    → ((j : ℕ) (f : NameData × ℕ) → j < i → slice_get es j ≡ Some f → P f.0) → (j : ℕ) (f : NameData × ℕ) → j < i + 1
+    → slice_get es j ≡ Some f → P f.0
 each_more P es i e at here each j f less read =
     elim (cases_lt j i) [
       | inl before ↦ each j f before read

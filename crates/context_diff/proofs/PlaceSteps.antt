@@ -184,21 +184,24 @@ pub names_all : (from to : ContextData) (i : ℕ) → length to.entries ≤ i �
 names_all from to i past y = ap (λ (es : List (NameData × ℕ)). is_missing from (record { counts = to.counts; entries = es }) y) (take_all i to.entries past)
 
 -- where both undo the same, no group is missing
-pub no_names_missing : (from to : ContextData) → from.entries ≡ to.entries → (y : Member) → is_missing from (first_names to 0) y ≡ is_missing from to y
+pub no_names_missing : (from to : ContextData) → from.entries ≡ to.entries → (y : Member)
+    → is_missing from (first_names to 0) y ≡ is_missing from to y
 no_names_missing from to same (Original n) = refl
 no_names_missing from to same (Group n g) =
     let one : entry_of to n ≡ entry_of from n = ap (λ (es : List (NameData × ℕ)). entry_in es n) (sym same) in
     rw one (grind (arith, nat_tests))
 
 -- a site or a name of which more is there than the other context has
-pub site_is_short : (from to : ContextData) → AreCounts 0 to.counts → (i : ℕ) (p : ℕ × ℕ) → slice_get to.counts i ≡ Some p → count_of from p.0 < p.1 → ¬ Within to from
+pub site_is_short : (from to : ContextData) → AreCounts 0 to.counts → (i : ℕ) (p : ℕ × ℕ) → slice_get to.counts i ≡ Some p
+    → count_of from p.0 < p.1 → ¬ Within to from
 site_is_short from to are i p at less within =
     let n : NameData = record { site = p.0; number = p.1 } in
     let there = has_original to n (omega arith) (omega (arith, (count_at 0 to.counts are i p at).count)) in
     let counted = has_number from n (within (Original n) there) in
     omega (arith, counted.1)
 
-pub name_is_short : (from to : ContextData) → AreEntries to.entries → (i : ℕ) (e : NameData × ℕ) → slice_get to.entries i ≡ Some e → entry_of from e.0 < e.1 → ¬ Within to from
+pub name_is_short : (from to : ContextData) → AreEntries to.entries → (i : ℕ) (e : NameData × ℕ) → slice_get to.entries i ≡ Some e
+    → entry_of from e.0 < e.1 → ¬ Within to from
 name_is_short from to are i e at less within =
     let there = has_group to e.0 e.1 (omega arith) (omega (arith, (entry_at to.entries are i e at).entry)) in
     let entered = has_generation from e.0 e.1 (within (Group e.0 e.1) there) in
@@ -217,7 +220,8 @@ one_passes t ms p n one =
     ]
 
 -- where something is missing, the one context isn't within the other
-pub places_missing : (ms : List Member) (from to : ContextData) (ps : List ℕ) → ArePlacesOf ms (is_missing from to) ps → 0 < length ps → ¬ Within to from
+pub places_missing : (ms : List Member) (from to : ContextData) (ps : List ℕ) → ArePlacesOf ms (is_missing from to) ps → 0 < length ps
+    → ¬ Within to from
 places_missing ms from to [] are some within = omega arith
 places_missing ms from to (p ∷ ps) are some within =
     let here : (p == p) ≡ true = grind (arith, nat_tests) in

@@ -61,7 +61,8 @@ impl Model for Book {
       site_spares = spares_of b.tallies;
     } };
 
-    ghost invariant = { λ b. IsBook (map data_of b.ops.items) b.have.set b.have.room.own b.inserts (counts_of b.tallies) (places_of b.tallies) b.groups.entries b.last b.earlier };
+    ghost invariant = { λ b. IsBook (map data_of b.ops.items) b.have.set b.have.room.own b.inserts (counts_of b.tallies)
+        (places_of b.tallies) b.groups.entries b.last b.earlier };
 }
 
 impl Book {

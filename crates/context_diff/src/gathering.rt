@@ -48,7 +48,8 @@ fn add_originals(
 ) -> Result<(), Memory>
     requires covered { Within to.now.set book.now.have.set }
     requires empty { places.old.items ≡ [] }
-    ensures places { OnOk result (ArePlacesOf (members_in book.now.ops) (is_missing from.now.set (first_names to.now.set 0)) places.new.items) }
+    ensures places { OnOk result (ArePlacesOf (members_in book.now.ops)
+        (is_missing from.now.set (first_names to.now.set 0)) places.new.items) }
     ensures memory { OnErr result (¬ Within to.now.set from.now.set) }
 {
     book.known();
@@ -71,7 +72,9 @@ fn add_numbers(
     requires site { site < SITES }
     requires high { high ≤ NUMBERS }
     requires there { (k : ℕ) → low < k → k ≤ high → is_known book.now.ops (Original (record { site = site; number = k })) ≡ true }
-    ensures places { OnOk result ((t : Member → Bool) → ((y : Member) → is_between site low high y ≡ true → t y ≡ false) → ArePlacesOf (members_in book.now.ops) t places.old.items → ArePlacesOf (members_in book.now.ops) (λ y. t y || is_between site low high y) places.new.items) }
+    ensures places { OnOk result ((t : Member → Bool) → ((y : Member) → is_between site low high y ≡ true → t y ≡ false)
+        → ArePlacesOf (members_in book.now.ops) t places.old.items
+        → ArePlacesOf (members_in book.now.ops) (λ y. t y || is_between site low high y) places.new.items) }
     ensures memory { OnErr result (low < high) }
 {
     book.known();
@@ -121,7 +124,9 @@ fn add_generations(
     places: &mut Vec<usize>,
 ) -> Result<(), Memory>
     requires { (k : ℕ) → low < k → k ≤ high → is_known book.now.ops (Group name k) ≡ true }
-    ensures places { OnOk result ((t : Member → Bool) → ((y : Member) → is_group_between name low high y ≡ true → t y ≡ false) → ArePlacesOf (members_in book.now.ops) t places.old.items → ArePlacesOf (members_in book.now.ops) (λ y. t y || is_group_between name low high y) places.new.items) }
+    ensures places { OnOk result ((t : Member → Bool) → ((y : Member) → is_group_between name low high y ≡ true → t y ≡ false)
+        → ArePlacesOf (members_in book.now.ops) t places.old.items
+        → ArePlacesOf (members_in book.now.ops) (λ y. t y || is_group_between name low high y) places.new.items) }
     ensures memory { OnErr result (low < high) }
 {
     book.known();

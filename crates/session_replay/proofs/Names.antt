@@ -1,5 +1,6 @@
 -- The originals of a history in the order of names.
-use Rattle.std.proofs.Common.{◌≡◌, ℕ, zero, suc, ◌+◌, ◌-◌, ◌<◌, ◌≤◌, true, false, inl, inr, List, [], ◌∷◌, ◌++◌, refl, ap, sym, ◌∙◌, arith, length, length-append, drop, subst}
+use Rattle.std.proofs.Common.{◌≡◌, ℕ, zero, suc, ◌+◌, ◌-◌, ◌<◌, ◌≤◌, true, false, inl, inr, List, [], ◌∷◌, ◌++◌, refl, ap, sym, ◌∙◌}
+use Rattle.std.proofs.Common.{arith, length, length-append, drop, subst}
 use Rattle.std.specs.Prelude.{Some, None, slice_get, option_map, ◌==◌}
 use Rattle.std.specs.List.{range_with_len}
 use Rattle.std.proofs.lemmas.Bool.{cases_lt}
@@ -97,18 +98,21 @@ name_counted low (p ∷ ps) are i t at =
 -- ---- a walk over the counts
 
 -- a name among the first originals of the first site
-pub found_here : (ps : List (ℕ × ℕ)) (p : ℕ × ℕ) (left : ℕ) → Some p ≡ slice_get ps 0 → left < p.1 → slice_get (names_in ps) left ≡ Some (record { site = p.0; number = left + 1 })
+pub found_here : (ps : List (ℕ × ℕ)) (p : ℕ × ℕ) (left : ℕ) → Some p ≡ slice_get ps 0 → left < p.1
+    → slice_get (names_in ps) left ≡ Some (record { site = p.0; number = left + 1 })
 found_here [] p left at less = let none : Some p ≡ None = at in cc
 found_here (q ∷ qs) p left at less =
     let same : q ≡ p = cc in
     ap (λ (x : ℕ × ℕ). slice_get (names_in (x ∷ qs)) left) same ∙ name_here p qs left less
 
 -- a name behind them
-pub found_later : (ps rest : List (ℕ × ℕ)) (p : ℕ × ℕ) (left : ℕ) → Some p ≡ slice_get ps 0 → rest ≡ drop 1 ps → p.1 ≤ left → slice_get (names_in ps) left ≡ slice_get (names_in rest) (left - p.1)
+pub found_later : (ps rest : List (ℕ × ℕ)) (p : ℕ × ℕ) (left : ℕ) → Some p ≡ slice_get ps 0 → rest ≡ drop 1 ps → p.1 ≤ left
+    → slice_get (names_in ps) left ≡ slice_get (names_in rest) (left - p.1)
 found_later [] rest p left at is past = let none : Some p ≡ None = at in cc
 found_later (q ∷ qs) rest p left at is past =
     let same : q ≡ p = cc in
-    ap (λ (x : ℕ × ℕ). slice_get (names_in (x ∷ qs)) left) same ∙ (name_later p qs left past ∙ ap (λ rs. slice_get (names_in rs) (left - p.1)) (sym is))
+    ap (λ (x : ℕ × ℕ). slice_get (names_in (x ∷ qs)) left) same
+    ∙ (name_later p qs left past ∙ ap (λ rs. slice_get (names_in rs) (left - p.1)) (sym is))
 
 pub found_none : (ps : List (ℕ × ℕ)) (left : ℕ) → None ≡ slice_get ps 0 → slice_get (names_in ps) left ≡ None
 found_none [] left at = slice_get_past [] left (omega arith)
@@ -120,7 +124,8 @@ pub record IsFirstSite (p : ℕ × ℕ) (rest : List (ℕ × ℕ)) : Type 0 wher
   pub greatest : p.1 ≤ NUMBERS
   pub others : AreCounts (p.0 + 1) rest
 
-pub found_range : (low : ℕ) (ps rest : List (ℕ × ℕ)) (p : ℕ × ℕ) → AreCounts low ps → Some p ≡ slice_get ps 0 → rest ≡ drop 1 ps → IsFirstSite p rest
+pub found_range : (low : ℕ) (ps rest : List (ℕ × ℕ)) (p : ℕ × ℕ) → AreCounts low ps → Some p ≡ slice_get ps 0 → rest ≡ drop 1 ps
+    → IsFirstSite p rest
 found_range low [] rest p are at is = let none : Some p ≡ None = at in cc
 found_range low (q ∷ qs) rest p are at is =
     let same : q ≡ p = cc in

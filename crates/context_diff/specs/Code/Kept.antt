@@ -25,7 +25,8 @@ AreGroups h places = (t : NameData) (g : ℕ) → IsPlaceOf h (Group t g) (looku
 -- a valid history, whose members are `have`, with the number of its inserts, the counts and the places of the originals of each site, the
 -- places of undo groups, and how many inserts the contexts of at most two of its inserts and deletes have; where there are operations, the
 -- lists of the members may be changed in place
-pub record IsBook (h : List OpData) (have : ContextData) (own : Bool) (number : ℕ) (counts places : ℕ → List ℕ) (seats : List (Member × ℕ)) (last earlier : Option Lately) : Type 0 where
+pub record IsBook (h : List OpData) (have : ContextData) (own : Bool) (number : ℕ)
+    (counts places : ℕ → List ℕ) (seats : List (Member × ℕ)) (last earlier : Option Lately) : Type 0 where
   pub valid : IsValid h
   pub members : have ≡ context_of_all h
   pub in_place : 1 ≤ length h → own ≡ true

@@ -33,7 +33,8 @@ fn state_parts(
     waiting: u32,
     out: &mut Vec<u8>,
 ) -> Result<(), Memory>
-    ensures ok { let have : ContextData = record { counts = counts.now; entries = groups.now } in OnOk result (out.new.items ≡ out.old.items ++ state_text site have waiting) }
+    ensures ok { let have : ContextData = record { counts = counts.now; entries = groups.now } in
+        OnOk result (out.new.items ≡ out.old.items ++ state_text site have waiting) }
     ensures err { OnErr result (take (length out.old.items) out.new.items ≡ out.old.items) }
 {
     put::number(out, b"state ", u64::from(site))?;

@@ -17,8 +17,12 @@ pub loop-site-init : goal.loop-site-init
 loop-site-init c =
     let from = c.args.from.now.set in
     let to = c.args.to.now.set in
-    let none = places_nothing (members_in c.args.book.now.ops) (is_missing from (first_sites to 0)) (no_sites_missing from to) in
-    (0, c.sites_read-left.ensures, subst (λ (ps : List ℕ). ArePlacesOf (members_in c.args.book.now.ops) (is_missing from (first_sites to 0)) ps) (sym c.requires.empty) none)
+    let none = places_nothing (members_in c.args.book.now.ops) (is_missing from (first_sites to 0)) (no_sites_missing from to) in (
+      0,
+      c.sites_read-left.ensures,
+      subst (λ (ps : List ℕ). ArePlacesOf (members_in c.args.book.now.ops)
+          (is_missing from (first_sites to 0)) ps) (sym c.requires.empty) none,
+    )
 
 pub add_numbers-requires-clause-site : goal.add_numbers-requires-clause-site
 add_numbers-requires-clause-site c =
@@ -32,7 +36,8 @@ add_numbers-requires-clause-high c =
     let ps = c.args.to.now.set.counts in
     let i = c.loop-site.invariant.0 in
     let p : ℕ × ℕ = (c.in-Some.site, c.in-Some.number) in
-    (count_at 0 ps c.known-2.ensures.counts i p (read_first ps c.loop-site.left i p c.loop-site.invariant.1 c.in-Some.ensures.first)).greatest
+    (count_at 0 ps c.known-2.ensures.counts i p (read_first ps c.loop-site.left i p c.loop-site.invariant.1
+    c.in-Some.ensures.first)).greatest
 
 pub add_numbers-requires-clause-there : goal.add_numbers-requires-clause-there
 add_numbers-requires-clause-there c k low high =
@@ -40,7 +45,8 @@ add_numbers-requires-clause-there c k low high =
     let to = c.args.to.now.set in
     let i = c.loop-site.invariant.0 in
     let p : ℕ × ℕ = (c.in-Some.site, c.in-Some.number) in
-    let here = count_at 0 to.counts c.known-2.ensures.counts i p (read_first to.counts c.loop-site.left i p c.loop-site.invariant.1 c.in-Some.ensures.first) in
+    let here = count_at 0 to.counts c.known-2.ensures.counts i p (read_first to.counts c.loop-site.left i p c.loop-site.invariant.1
+    c.in-Some.ensures.first) in
     let n : NameData = record { site = p.0; number = k } in
     covered_ready h c.args.book.now.have.set to c.known.ensures.valid c.known.ensures.have c.requires.covered (Original n) (has_original to n (omega arith) (omega (arith, here.count)))
 
@@ -56,12 +62,15 @@ loop-site-preserved c =
     let count : c.count.result ≡ count_of from p.0 = c.count.ensures.count in
     let fresh : (y : Member) → is_between p.0 c.count.result p.1 y ≡ true → is_missing from (first_sites to i) y ≡ false = λ y e.
     site_is_new from to are i p at y (ap (λ k. is_between p.0 k p.1 y) (sym count) ∙ e) in
-    let added : ArePlacesOf (members_in h) (λ y. is_missing from (first_sites to i) y || is_between p.0 c.count.result p.1 y) c.add_numbers.new.places.items =
+    let added : ArePlacesOf (members_in h) (λ y. is_missing from (first_sites to i) y || is_between p.0 c.count.result p.1 y)
+    c.add_numbers.new.places.items =
     c.in_ok-add_numbers.ensures.places (is_missing from (first_sites to i)) fresh c.loop-site.invariant.2 in
-    let same : (y : Member) → (is_missing from (first_sites to i) y || is_between p.0 c.count.result p.1 y) ≡ is_missing from (first_sites to (i + 1)) y = λ y.
+    let same : (y : Member) → (is_missing from (first_sites to i) y || is_between p.0 c.count.result p.1 y)
+    ≡ is_missing from (first_sites to (i + 1)) y = λ y.
     ap (λ k. is_missing from (first_sites to i) y || is_between p.0 k p.1 y) count
     ∙ (sym (sites_more from to are i p at y) ∙ ap (λ k. is_missing from (first_sites to k) y) (sym (add-one i))) in
-    let all = places_same (members_in h) (λ y. is_missing from (first_sites to i) y || is_between p.0 c.count.result p.1 y) (is_missing from (first_sites to (i + 1))) c.add_numbers.new.places.items same added in
+    let all = places_same (members_in h) (λ y. is_missing from (first_sites to i) y || is_between p.0 c.count.result p.1 y)
+    (is_missing from (first_sites to (i + 1))) c.add_numbers.new.places.items same added in
     (i + 1, read_more to.counts c.loop-site.left c.next.new.self i c.loop-site.invariant.1 c.next.ensures.rest, all)
 
 pub returns-in_err-add_numbers-clause-memory : goal.returns-in_err-add_numbers-clause-memory
@@ -71,7 +80,8 @@ returns-in_err-add_numbers-clause-memory c =
     let i = c.loop-site.invariant.0 in
     let p : ℕ × ℕ = (c.in-Some.site, c.in-Some.number) in
     let at = read_first to.counts c.loop-site.left i p c.loop-site.invariant.1 c.in-Some.ensures.first in
-    let short = site_is_short from to c.known-2.ensures.counts i p at (omega (arith, c.count.ensures.count, c.in_err-add_numbers.ensures.memory)) in
+    let short = site_is_short from to c.known-2.ensures.counts i p at
+    (omega (arith, c.count.ensures.count, c.in_err-add_numbers.ensures.memory)) in
     let failed = err_from_is_err_and c.from_residual.result c.from_residual.ensures.1 in
     rw failed.1 short
 
@@ -80,5 +90,6 @@ returns-clause-places c =
     let from = c.args.from.now.set in
     let to = c.args.to.now.set in
     let i = c.loop-site.invariant.0 in
-    places_same (members_in c.args.book.now.ops) (is_missing from (first_sites to i)) (is_missing from (first_names to 0)) c.loop-site.places.items
+    places_same (members_in c.args.book.now.ops) (is_missing from (first_sites to i)) (is_missing from (first_names to 0))
+    c.loop-site.places.items
     (sites_all from to i (read_all to.counts c.loop-site.left i c.loop-site.invariant.1 c.in_default.ensures.first)) c.loop-site.invariant.2

@@ -43,8 +43,18 @@ loop-place-preserved c =
 pub returns-in_err-reserve-clause-memory : goal.returns-in_err-reserve-clause-memory
 returns-in_err-reserve-clause-memory c =
     let full = c.in_err-reserve.ensures.full in
-    let some : 0 < length c.add_groups.new.places.items = omega (arith, full, c.len.ensures, c.sort_unstable.ensures.len, c.sort_unstable.new.self.ok.0, c.add_groups.new.places.ok.0, c.args.out.now.ok.1) in
-    let missing = places_missing (members_in c.args.book.now.ops) c.args.from.now.set c.args.to.now.set c.add_groups.new.places.items c.in_ok-add_groups.ensures.places some in
+    let some : 0 < length c.add_groups.new.places.items =
+    omega (
+      arith,
+      full,
+      c.len.ensures,
+      c.sort_unstable.ensures.len,
+      c.sort_unstable.new.self.ok.0,
+      c.add_groups.new.places.ok.0,
+      c.args.out.now.ok.1,
+    ) in
+    let missing = places_missing (members_in c.args.book.now.ops) c.args.from.now.set c.args.to.now.set c.add_groups.new.places.items
+    c.in_ok-add_groups.ensures.places some in
     let failed = err_from_is_err_and c.from_residual-in_err-reserve.result c.from_residual-in_err-reserve.ensures.1 in
     rw failed.1 missing
 
@@ -57,5 +67,6 @@ returns-clause-appended c =
     let ps = c.deref-place-items.result.now in
     let i = c.loop-place.place-index in
     let all : members_at ms (take i ps) ≡ members_at ms c.sort_unstable.new.self.items = ap (members_at ms) (take_all i ps c.loop-place-test.false ∙ c.deref-place-items.ensures.value) in
-    let whole = members_of_places ms (is_missing from to) c.add_groups.new.places.items c.sort_unstable.new.self.items c.in_ok-add_groups.ensures.places c.sort_unstable.ensures.permutation c.sort_unstable.ensures.sorted in
+    let whole = members_of_places ms (is_missing from to) c.add_groups.new.places.items c.sort_unstable.new.self.items
+    c.in_ok-add_groups.ensures.places c.sort_unstable.ensures.permutation c.sort_unstable.ensures.sorted in
     c.loop-place.invariant.0 ∙ (λ j. c.reserve.ensures.items j ++ (all ∙ whole) j)

@@ -20,7 +20,8 @@ loop-site-preserved c =
     let ps = c.args.counts in
     let p : ℕ × ℕ = (c.in-Some.site, c.in-Some.number) in
     let here = read_first ps c.loop-site.left i p c.loop-site.invariant.1 c.in-Some.ensures.first in
-    let put = put_more count_bytes count_len (λ _. refl) ps c.args.out.now i p c.loop-site.out c.put_count.new.out here c.loop-site.invariant.2 c.put_count.ensures in
+    let put = put_more count_bytes count_len (λ _. refl) ps c.args.out.now i p c.loop-site.out c.put_count.new.out here
+    c.loop-site.invariant.2 c.put_count.ensures in
     (i + 1, read_more ps c.loop-site.left c.next.new.self i c.loop-site.invariant.1 c.next.ensures.rest, put)
 
 pub returns : goal.returns
@@ -28,4 +29,5 @@ returns c =
     let i = c.loop-site.invariant.0 in
     let ps = c.args.counts in
     let past = read_all ps c.loop-site.left i c.loop-site.invariant.1 c.in_default.ensures.first in
-    subst (λ (qs : List (ℕ × ℕ)). Puts c.args.out.now c.loop-site.out (flat_map count_bytes qs)) (take_all i ps past) c.loop-site.invariant.2.puts
+    subst (λ (qs : List (ℕ × ℕ)). Puts c.args.out.now c.loop-site.out (flat_map count_bytes qs)) (take_all i ps past)
+    c.loop-site.invariant.2.puts

@@ -48,15 +48,21 @@ invariant_of-self c =
     let is : c.member-member.result ≡ member_of o = c.member-member.ensures.member in
     let place : c.len-place.result ≡ length h = c.len-place.ensures ∙ sym size in
     let book =
-    book_push h c.self.inside.have.set c.self.inside.have.room.own c.add_reserved.new.self.room.own c.self.inside.inserts (counts_of c.self.inside.tallies) (counts_of c.push.new.self) (places_of c.self.inside.tallies) (places_of c.push.new.self) c.self.inside.groups.entries c.note.new.groups.entries c.self.inside.last c.self.inside.earlier c.lately-lately.result o c.self.invariant next
+    book_push h c.self.inside.have.set c.self.inside.have.room.own c.add_reserved.new.self.room.own c.self.inside.inserts
+    (counts_of c.self.inside.tallies) (counts_of c.push.new.self) (places_of c.self.inside.tallies) (places_of c.push.new.self)
+    c.self.inside.groups.entries c.note.new.groups.entries c.self.inside.last c.self.inside.earlier c.lately-lately.result o
+    c.self.invariant next
     (λ s. c.push.ensures.counts s ∙ (λ i. counted (is i) (c.is_insert.ensures i) s (counts_of c.self.inside.tallies s)))
     (λ s. c.push.ensures.places s ∙ (λ i. placed (is i) (place i) s (places_of c.self.inside.tallies s)))
     (c.note.ensures h o (sym is) place)
-    (subst (λ (k : List OpData). IfSome c.lately-lately.result (IsLately (k ++ o ∷ []))) (sym ops) c.lately-lately.ensures) (omega (arith, c.requires.room.short)) c.add_reserved.ensures.own in
-    subst₂ (λ (k : List OpData) (d : ContextData). IsBook k d c.add_reserved.new.self.room.own c.with_insert-self-inside.result (counts_of c.push.new.self) (places_of c.push.new.self) c.note.new.groups.entries c.lately-lately.result c.self.inside.last)
+    (subst (λ (k : List OpData). IfSome c.lately-lately.result (IsLately (k ++ o ∷ []))) (sym ops) c.lately-lately.ensures)
+    (omega (arith, c.requires.room.short)) c.add_reserved.ensures.own in
+    subst₂ (λ (k : List OpData) (d : ContextData). IsBook k d c.add_reserved.new.self.room.own c.with_insert-self-inside.result
+    (counts_of c.push.new.self) (places_of c.push.new.self) c.note.new.groups.entries c.lately-lately.result c.self.inside.last)
     (sym (ap (map data_of) c.push_reserved.ensures.items ∙ seen_push c.self.inside.ops.items c.args.op))
     (sym (c.add_reserved.ensures.added ∙ ap (raised c.self.inside.have.set) is))
-    (subst (λ n. IsBook (h ++ o ∷ []) (raised c.self.inside.have.set (member_of o)) c.add_reserved.new.self.room.own n (counts_of c.push.new.self) (places_of c.push.new.self) c.note.new.groups.entries c.lately-lately.result c.self.inside.last)
+    (subst (λ n. IsBook (h ++ o ∷ []) (raised c.self.inside.have.set (member_of o)) c.add_reserved.new.self.room.own n
+    (counts_of c.push.new.self) (places_of c.push.new.self) c.note.new.groups.entries c.lately-lately.result c.self.inside.last)
     (sym (c.with_insert-self-inside.ensures ∙ ap (λ b. c.self.inside.inserts + (if b then 1 else 0)) c.is_insert-2.ensures)) book)
 
 pub returns : goal.returns

@@ -7,7 +7,8 @@ use Rattle.cot_site.specs.Code.Replicas.{ReplicaData, KnowsAll}
 use Rattle.cot_site.proofs.replica.Replica.integrate.Goals as goal
 
 pub integrate_after-requires-clause-next : goal.integrate_after-requires-clause-next
-integrate_after-requires-clause-next c = subst (λ (d : OpData). IsNext c.args.self.now.history d) (sym c.with_shared_lists-op.ensures) c.requires
+integrate_after-requires-clause-next c = subst (λ (d : OpData). IsNext c.args.self.now.history d) (sym c.with_shared_lists-op.ensures)
+    c.requires
 
 pub integrate_after-requires-clause-knows : goal.integrate_after-requires-clause-knows
 integrate_after-requires-clause-knows c sure =

@@ -15,8 +15,10 @@ use Rattle.cot_site.proofs.replica.Replica.integrate_after.Goals as goal
 pub invariant_of-self-in_err-reserve : goal.invariant_of-self-in_err-reserve
 invariant_of-self-in_err-reserve c =
     let cs = c.self.inside.cells.cells in
-    let kept = notes_same c.self.inside.book.ops c.reserve.new.self.ops c.self.inside.notes c.reserve.ensures.ops (c.self.invariant.1, c.self.invariant.2) in (
-      executed_same c.self.inside.book.ops c.reserve.new.self.ops c.self.inside.forms.items c.reserve_one.new.list.items cs cs c.self.invariant.0 c.reserve.ensures.ops c.reserve_one.ensures.items (λ i. cs),
+    let kept = notes_same c.self.inside.book.ops c.reserve.new.self.ops c.self.inside.notes c.reserve.ensures.ops
+    (c.self.invariant.1, c.self.invariant.2) in (
+      executed_same c.self.inside.book.ops c.reserve.new.self.ops c.self.inside.forms.items c.reserve_one.new.list.items cs cs
+          c.self.invariant.0 c.reserve.ensures.ops c.reserve_one.ensures.items (λ i. cs),
       kept.0,
       kept.1,
       rows_same c.self.inside.book.ops c.reserve.new.self.ops c.self.inside.rows.kept.items c.self.invariant.3 c.reserve.ensures.ops,
@@ -24,7 +26,8 @@ invariant_of-self-in_err-reserve c =
     )
 
 pub execute-requires-clause-noted : goal.execute-requires-clause-noted
-execute-requires-clause-noted c = subst (λ (fs : List Form). AreNoted c.self.inside.passages fs) (sym c.reserve_one.ensures.items) c.self.invariant.4
+execute-requires-clause-noted c = subst (λ (fs : List Form). AreNoted c.self.inside.passages fs) (sym c.reserve_one.ensures.items)
+    c.self.invariant.4
 
 pub execute-requires-clause-added : goal.execute-requires-clause-added
 execute-requires-clause-added c =
@@ -42,7 +45,9 @@ execute-requires-clause-next c =
     let next = subst (λ (r : ReplicaData). IsNext r.history o) (sym c.self.view_is) c.requires.next in
     let grown : c.push.new.self.ops ≡ h ++ o ∷ [] = c.push.ensures ∙ ap (λ (l : List OpData). l ++ o ∷ []) c.reserve.ensures.ops in
     let before = before_last_is h o c.push.new.self.ops c.known.ensures.valid next grown in
-    next_after_at h o c.push.new.self.ops (before_last c.push.new.self.ops) c.member-member.result c.self.inside.forms.items c.reserve_one.new.list.items c.self.inside.cells.cells c.self.inside.rows.kept.items c.known.ensures.valid next grown before c.member-member.ensures.member c.self.invariant.0 c.reserve_one.ensures.items c.self.invariant.3
+    next_after_at h o c.push.new.self.ops (before_last c.push.new.self.ops) c.member-member.result c.self.inside.forms.items
+    c.reserve_one.new.list.items c.self.inside.cells.cells c.self.inside.rows.kept.items c.known.ensures.valid next grown before
+    c.member-member.ensures.member c.self.invariant.0 c.reserve_one.ensures.items c.self.invariant.3
 
 pub execute-requires-clause-knows : goal.execute-requires-clause-knows
 execute-requires-clause-knows c sure =
@@ -77,7 +82,9 @@ invariant_of-self-in-Ok c =
     let next = subst (λ (r : ReplicaData). IsNext r.history o) (sym c.self.view_is) c.requires.next in
     let grown : c.push.new.self.ops ≡ h ++ o ∷ [] = c.push.ensures ∙ ap (λ (l : List OpData). l ++ o ∷ []) c.reserve.ensures.ops in
     let before = before_last_is h o c.push.new.self.ops c.known.ensures.valid next grown in
-    let made = step_at h o c.push.new.self.ops (before_last c.push.new.self.ops) c.member-member.result c.self.inside.forms.items c.reserve_one.new.list.items c.execute.new.forms.items c.self.inside.cells.cells c.execute.new.cells.cells c.known.ensures.valid next grown before c.member-member.ensures.member c.self.invariant.0 c.reserve_one.ensures.items c.in-Ok.ensures.step in
+    let made = step_at h o c.push.new.self.ops (before_last c.push.new.self.ops) c.member-member.result c.self.inside.forms.items
+    c.reserve_one.new.list.items c.execute.new.forms.items c.self.inside.cells.cells c.execute.new.cells.cells c.known.ensures.valid
+    next grown before c.member-member.ensures.member c.self.invariant.0 c.reserve_one.ensures.items c.in-Ok.ensures.step in
     subst (λ (k : List OpData). IsExecuted k c.execute.new.forms.items c.execute.new.cells.cells × AreCached k (entries_of k c.execute.new.notes) × AreTold k c.execute.new.notes × AreRowsOf k c.execute.new.rows.kept.items × AreNoted c.execute.new.passages c.execute.new.forms.items) (sym c.share.ensures.ops) (made, c.in-Ok.ensures.kept.0, c.in-Ok.ensures.kept.1, c.in-Ok.ensures.rows, c.in-Ok.ensures.noted)
 
 pub invariant_of-self-in-Err : goal.invariant_of-self-in-Err
