@@ -413,11 +413,7 @@ fn entry_at(set: &Vector, words: &mut Words<'_>, out: &mut String) -> Result<boo
     let Some(i) = words.number() else {
         return Ok(false);
     };
-    let mut left = set.names_read();
-    for _ in 0..i {
-        let _ = left.next();
-    }
-    match left.next() {
+    match set.entry_at(i) {
         Some((name, generation)) => put_turn(out, &name, generation)?,
         None => put_none(out)?,
     }
