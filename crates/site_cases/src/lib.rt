@@ -31,8 +31,6 @@ mod made;
 #[cfg(test)]
 mod messages;
 #[cfg(test)]
-mod participants;
-#[cfg(test)]
 mod printed;
 #[cfg(test)]
 mod scripts;
