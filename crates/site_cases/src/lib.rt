@@ -31,6 +31,8 @@ mod made;
 #[cfg(test)]
 mod messages;
 #[cfg(test)]
+mod participants;
+#[cfg(test)]
 mod printed;
 #[cfg(test)]
 mod scripts;
