@@ -22,7 +22,8 @@ apart_push (x ∷ xs) o apart new agree =
     )
 
 -- what waits when another operation came
-pub pool_push : (os : List OpData) (o : OpData) → IsPool os → (Contains os o → ⊥) → NamesAgree os o → length os < 4294967295 → IsPool (os ++ o ∷ [])
+pub pool_push : (os : List OpData) (o : OpData) → IsPool os → (Contains os o → ⊥) → NamesAgree os o → length os < 4294967295
+    → IsPool (os ++ o ∷ [])
 pool_push os o pool new agree room = record {
   apart = apart_push os o pool.apart new agree;
   short = simp length-append (omega (arith, room));
@@ -57,7 +58,8 @@ differs_in x (z ∷ zs) all y there =
     ]
 
 -- two of one name are the same
-pub named_once : (os : List OpData) → AreApart os → (x y : OpData) (n : NameData) → Contains os x → Contains os y → member_of x ≡ Original n → member_of y ≡ Original n → x ≡ y
+pub named_once : (os : List OpData) → AreApart os → (x y : OpData) (n : NameData) → Contains os x → Contains os y → member_of x ≡ Original n
+    → member_of y ≡ Original n → x ≡ y
 named_once [] apart x y n cx cy ex ey = absurd (contains_none x cx)
 named_once (o ∷ os) apart x y n cx cy ex ey =
     elim (contains_cases o os x cx) [

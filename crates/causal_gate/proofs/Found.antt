@@ -13,7 +13,8 @@ pub known_at : (os : List OpData) (i : ℕ) (o : OpData) (m : Member) → slice_
 known_at os i o m at is = ap (is_known os) (sym is) ∙ known_member os o (contains_at os i o at)
 
 -- no operation of the list is the member
-pub known_nowhere : (os : List OpData) (m : Member) → ((i : ℕ) (o : OpData) → i < length os → slice_get os i ≡ Some o → member_eq (member_of o) m ≡ false) → is_known os m ≡ false
+pub known_nowhere : (os : List OpData) (m : Member)
+    → ((i : ℕ) (o : OpData) → i < length os → slice_get os i ≡ Some o → member_eq (member_of o) m ≡ false) → is_known os m ≡ false
 known_nowhere [] m others = refl
 known_nowhere (x ∷ xs) m others =
     let here = others 0 x (omega arith) refl in

@@ -13,7 +13,8 @@ hints_length [] (h ∷ hs) are = absurd are
 hints_length (o ∷ os) [] are = absurd are
 hints_length (o ∷ os) (h ∷ hs) are = ap suc (hints_length os hs are.1)
 
-pub hints_push : (os : List OpData) (hs : List (Option Member)) (o : OpData) (h : Option Member) → AreHints os hs → IsHint o h → AreHints (os ++ o ∷ []) (hs ++ h ∷ [])
+pub hints_push : (os : List OpData) (hs : List (Option Member)) (o : OpData) (h : Option Member) → AreHints os hs → IsHint o h
+    → AreHints (os ++ o ∷ []) (hs ++ h ∷ [])
 hints_push [] [] o h are is = (is, tt)
 hints_push [] (k ∷ ks) o h are is = absurd are
 hints_push (x ∷ xs) [] o h are is = absurd are
@@ -28,7 +29,8 @@ hints_remove (o ∷ os) (h ∷ hs) zero are = are.1
 hints_remove (o ∷ os) (h ∷ hs) (suc i) are = (are.0, hints_remove os hs i are.1)
 
 -- a hint of the list is a member of the context at its place
-pub hint_there : (os : List OpData) (hs : List (Option Member)) (i : ℕ) (m : Member) → AreHints os hs → slice_get hs i ≡ Some (Some m) → has (context_at os i) m ≡ true
+pub hint_there : (os : List OpData) (hs : List (Option Member)) (i : ℕ) (m : Member) → AreHints os hs → slice_get hs i ≡ Some (Some m)
+    → has (context_at os i) m ≡ true
 hint_there [] [] i m are at = let never : None ≡ Some (Some m) = at in cc
 hint_there [] (h ∷ hs) i m are at = absurd are
 hint_there (o ∷ os) [] i m are at = absurd are
@@ -36,7 +38,8 @@ hint_there (o ∷ os) (None ∷ hs) zero m are at = let never : Some None ≡ So
 hint_there (o ∷ os) (Some k ∷ hs) zero m are at = let same : k ≡ m = cc in ap (has (context_of o)) (sym same) ∙ are.0
 hint_there (o ∷ os) (h ∷ hs) (suc i) m are at = hint_there os hs i m are.1 at
 
-pub hint_some : (os : List OpData) (hs : List (Option Member)) (i : ℕ) (h : Option Member) → AreHints os hs → slice_get hs i ≡ Some h → IfSome h (λ m. has (context_at os i) m ≡ true)
+pub hint_some : (os : List OpData) (hs : List (Option Member)) (i : ℕ) (h : Option Member) → AreHints os hs → slice_get hs i ≡ Some h
+    → IfSome h (λ m. has (context_at os i) m ≡ true)
 hint_some os hs i None are at = tt
 hint_some os hs i (Some m) are at = hint_there os hs i m are at
 
@@ -45,7 +48,8 @@ hint_is c o None same there = tt
 hint_is c o (Some m) same there = ap (λ (d : ContextData). has d m) (sym same) ∙ there
 
 -- a hint of the operation at this place takes the place of the one that is there
-pub hints_put : (os : List OpData) (hs : List (Option Member)) (i : ℕ) (h : Option Member) → AreHints os hs → IfSome h (λ m. has (context_at os i) m ≡ true) → AreHints os (slice_set hs i h)
+pub hints_put : (os : List OpData) (hs : List (Option Member)) (i : ℕ) (h : Option Member) → AreHints os hs
+    → IfSome h (λ m. has (context_at os i) m ≡ true) → AreHints os (slice_set hs i h)
 hints_put [] [] i h are is = tt
 hints_put [] (k ∷ ks) i h are is = absurd are
 hints_put (x ∷ xs) [] i h are is = absurd are

@@ -16,7 +16,8 @@ befores_length [] (n ∷ ns) are = absurd are
 befores_length (o ∷ os) [] are = absurd are
 befores_length (o ∷ os) (n ∷ ns) are = ap suc (befores_length os ns are.1)
 
-pub befores_push : (os : List OpData) (ns : List (Option NameData)) (o : OpData) (n : Option NameData) → AreBefore os ns → IsBefore o n → AreBefore (os ++ o ∷ []) (ns ++ n ∷ [])
+pub befores_push : (os : List OpData) (ns : List (Option NameData)) (o : OpData) (n : Option NameData) → AreBefore os ns → IsBefore o n
+    → AreBefore (os ++ o ∷ []) (ns ++ n ∷ [])
 befores_push [] [] o n are is = (is, tt)
 befores_push [] (k ∷ ks) o n are is = absurd are
 befores_push (x ∷ xs) [] o n are is = absurd are
@@ -31,7 +32,8 @@ befores_remove (o ∷ os) (n ∷ ns) zero are = are.1
 befores_remove (o ∷ os) (n ∷ ns) (suc i) are = (are.0, befores_remove os ns i are.1)
 
 -- the name at a place is one for the operation there
-pub before_here : (os : List OpData) (ns : List (Option NameData)) (i : ℕ) (n : Option NameData) (o : OpData) → AreBefore os ns → slice_get ns i ≡ Some n → slice_get os i ≡ Some o → IsBefore o n
+pub before_here : (os : List OpData) (ns : List (Option NameData)) (i : ℕ) (n : Option NameData) (o : OpData) → AreBefore os ns
+    → slice_get ns i ≡ Some n → slice_get os i ≡ Some o → IsBefore o n
 before_here [] ns i n o are at there = let never : None ≡ Some o = there in cc
 before_here (x ∷ xs) [] i n o are at there = absurd are
 before_here (x ∷ xs) (k ∷ ks) zero n o are at there =
@@ -41,11 +43,14 @@ before_here (x ∷ xs) (k ∷ ks) zero n o are at there =
 before_here (x ∷ xs) (k ∷ ks) (suc i) n o are at there = before_here xs ks i n o are.1 at there
 
 -- where it is missing, the operation there isn't ready
-pub before_waits : (os : List OpData) (ns : List (Option NameData)) (i : ℕ) (n : NameData) (o : OpData) (have : ContextData) → AreBefore os ns → slice_get ns i ≡ Some (Some n) → slice_get os i ≡ Some o → has have (Original n) ≡ false → ¬ IsReady have o
-before_waits os ns i n o have are at there missing = λ ready. false≢true (sym missing ∙ before_here os ns i (Some n) o are at there have ready)
+pub before_waits : (os : List OpData) (ns : List (Option NameData)) (i : ℕ) (n : NameData) (o : OpData) (have : ContextData)
+    → AreBefore os ns → slice_get ns i ≡ Some (Some n) → slice_get os i ≡ Some o → has have (Original n) ≡ false → ¬ IsReady have o
+before_waits os ns i n o have are at there missing =
+    λ ready. false≢true (sym missing ∙ before_here os ns i (Some n) o are at there have ready)
 
 -- a set with an original has the one of its site right before it
-earlier : (have : ContextData) (b n : NameData) → b.site ≡ n.site → b.number + 1 ≡ n.number → 1 ≤ b.number → has have (Original n) ≡ true → has have (Original b) ≡ true
+earlier : (have : ContextData) (b n : NameData) → b.site ≡ n.site → b.number + 1 ≡ n.number → 1 ≤ b.number → has have (Original n) ≡ true
+    → has have (Original b) ≡ true
 earlier have b n site number least there =
     let counted = (original_counted have n there).1 in
     let same : count_of have b.site ≡ count_of have n.site = ap (count_of have) site in

@@ -12,7 +12,12 @@ use Rattle.cotpad_c.specs.contracts.parts.Parts as Parts
 use Rattle.cotpad_c.specs.contracts.handle.CotpadSite as Handle
 
 abbrev pub E : Bx
-E = record { row = Hosted.the_row; laws = hosted.the_row_laws; al = record { row = Heap.the_row; laws = heap.the_row_laws; g = ghosts; d = dict; drops = impl [] tnil dnil } }
+E = record {
+  row = Hosted.the_row;
+  laws = hosted.the_row_laws;
+  al =
+      record { row = Heap.the_row; laws = heap.the_row_laws; g = ghosts; d = dict; drops = impl [] tnil dnil };
+}
 
 abbrev pub FromParts : Slot 0
 FromParts = plain (λ _. Parts.the_row Hosted.the_row Heap.the_row ghosts)

@@ -29,10 +29,13 @@ ready_here h o valid (inl known) = inl (sym ((complete h valid).holds (member_of
 ready_here h o valid (inr within) = inr (λ m at. sym ((complete h valid).holds m) ∙ within m at)
 
 -- the pool finds none ready exactly where the state is settled
-pub none_found : (s : State) (have : ContextData) (w : List OpData) → IsValid s.history → have ≡ context_of_all s.history → w ≡ s.waiting → IsSettled s ↔ NoneIsReady s → NoneReady have w ↔ IsSettled s
+pub none_found : (s : State) (have : ContextData) (w : List OpData) → IsValid s.history → have ≡ context_of_all s.history → w ≡ s.waiting
+    → IsSettled s ↔ NoneIsReady s → NoneReady have w ↔ IsSettled s
 none_found s have w valid is there law = (
-  λ none. law.1 (λ o at ready. none o (subst (λ (x : List OpData). Contains x o) (sym there) at) (subst (λ (x : ContextData). gate.IsReady x o) (sym is) (ready_there s.history o valid ready))),
-  λ settled o at ready. law.0 settled o (subst (λ (x : List OpData). Contains x o) there at) (ready_here s.history o valid (subst (λ (x : ContextData). gate.IsReady x o) is ready)),
+  λ none. law.1 (λ o at ready. none o (subst (λ (x : List OpData). Contains x o) (sym there) at)
+      (subst (λ (x : ContextData). gate.IsReady x o) (sym is) (ready_there s.history o valid ready))),
+  λ settled o at ready. law.0 settled o (subst (λ (x : List OpData). Contains x o) there at)
+      (ready_here s.history o valid (subst (λ (x : ContextData). gate.IsReady x o) is ready)),
 )
 
 -- ---- logs
@@ -42,6 +45,11 @@ pub handed_out : (n : ℕ) (bytes old new : List ℕ) (needed : ℕ) → Wrote n
 handed_out n bytes old new needed w ok =
     ap (λ (k : ℕ). take k new) w.count ∙ ap (take (length bytes)) (w.all ok) ∙ take-append_seam bytes (drop (length bytes) old)
 
-pub log_loads : (s : State) (bytes : List ℕ) → RoundTrip → IsSound s → IsSettled s → AreApart s.waiting → bytes ≡ log_of s.history s.waiting → length bytes ≤ MAX_LOG → Loads bytes s
+pub log_loads : (s : State) (bytes : List ℕ) → RoundTrip → IsSound s → IsSettled s → AreApart s.waiting → bytes ≡ log_of s.history s.waiting
+    → length bytes ≤ MAX_LOG → Loads bytes s
 log_loads s bytes law sound settled apart is short =
-    record { short = short; loaded = λ number. subst (λ (b : List ℕ). IsLoaded number b (record s { number = number })) (sym is) (law s number sound settled apart) }
+    record {
+      short = short;
+      loaded =
+          λ number. subst (λ (b : List ℕ). IsLoaded number b (record s { number = number })) (sym is) (law s number sound settled apart);
+    }

@@ -29,23 +29,28 @@ use Rattle.cotpad_run.specs.Code.Meeting.{IsMetTold, IsRefusalWritten}
 use Rattle.cotpad_run.specs.Code.Stopping.{IsStopTold}
 
 -- what the exchange of a loaded site left
-pub record Meeting (side : Side) (port : ℕ) (s t : State) (r : Result (ℕ × ℕ) Node) (old new : Outside) (before after : Wired) : Type 0 where
-  pub loaded : IfSome old.left (λ bytes. IsLoadedAs 0 bytes s)
-  pub met : IfOk r (λ counts. Exchanges (before.ends 0) (after.ends 0) before.peer (side.meets s t counts))
-  pub stopped : IfErr r (λ why. Exchanges (before.ends 0) (after.ends 0) before.peer (side.stops s t why))
-  pub cut : (offset : ℕ) → r ≡ Err (node.Peer (Bytes offset Cut)) → IfSome before.peer (Appends (before.ends 0).received (after.ends 0).received)
-  pub later : IsLater s t
-  pub cause : OnlyLinkFails before.faults after.faults r
-  pub link : IsLinkedOnce side.role port before after
-  pub input : IsInput old new
-  pub at_end : IsAtEnd new.left
+pub record Meeting (side : Side) (port : ℕ) (s t : State) (r : Result (ℕ × ℕ) Node) (old new : Outside) (before after : Wired) : Type 0
+  where
+    pub loaded : IfSome old.left (λ bytes. IsLoadedAs 0 bytes s)
+    pub met : IfOk r (λ counts. Exchanges (before.ends 0) (after.ends 0) before.peer (side.meets s t counts))
+    pub stopped : IfErr r (λ why. Exchanges (before.ends 0) (after.ends 0) before.peer (side.stops s t why))
+    pub cut : (offset : ℕ) → r ≡ Err (node.Peer (Bytes offset Cut))
+        → IfSome before.peer (Appends (before.ends 0).received (after.ends 0).received)
+    pub later : IsLater s t
+    pub cause : OnlyLinkFails before.faults after.faults r
+    pub link : IsLinkedOnce side.role port before after
+    pub input : IsInput old new
+    pub at_end : IsAtEnd new.left
 
-said_more : (old new : End) (peer : Option (List ℕ)) (P Q : List ℕ → List ℕ → Type 0) → ((came gone : List ℕ) → P came gone → Q came gone) → Exchanges old new peer P → Exchanges old new peer Q
+said_more : (old new : End) (peer : Option (List ℕ)) (P Q : List ℕ → List ℕ → Type 0) → ((came gone : List ℕ) → P came gone → Q came gone)
+    → Exchanges old new peer P → Exchanges old new peer Q
 said_more old new peer P Q more x = record { came = x.came; gone = x.gone; talks = x.talks; said = more x.came x.gone x.said }
 
 -- the exchange, of which this is said
-met_by : (side : Side) (port : ℕ) (s t : State) (r : Result (ℕ × ℕ) Node) (old new : Outside) (before after : Wired) (says : State → State → List ℕ → List ℕ → Type 0)
-    → Meeting side port s t r old new before after → Exchanges (before.ends 0) (after.ends 0) before.peer (says s t) → IsMet side port says old new before after
+met_by : (side : Side) (port : ℕ) (s t : State) (r : Result (ℕ × ℕ) Node) (old new : Outside) (before after : Wired)
+    (says : State → State → List ℕ → List ℕ → Type 0)
+    → Meeting side port s t r old new before after → Exchanges (before.ends 0) (after.ends 0) before.peer (says s t)
+    → IsMet side port says old new before after
 met_by side port s t r old new before after says m said = record {
   site = s;
   left = t;
@@ -68,8 +73,10 @@ short old new input held faults = record {
 pub no_link : (why : Node) (refusal : Peer) → why ≡ node.Peer refusal → why ≡ node.Link → ⊥
 no_link why refusal is link = cc
 
-pub met_answered : (side : Side) (port : ℕ) (s t : State) (r : Result (ℕ × ℕ) Node) (old new : Outside) (before after : Wired) (status : Status)
-    → Meeting side port s t r old new before after → IsMetTold r (log_of t.history t.waiting) old new status → IsMeeting side port old new before after status
+pub met_answered : (side : Side) (port : ℕ) (s t : State) (r : Result (ℕ × ℕ) Node) (old new : Outside) (before after : Wired)
+    (status : Status)
+    → Meeting side port s t r old new before after → IsMetTold r (log_of t.history t.waiting) old new status
+    → IsMeeting side port old new before after status
 unfolding met_by
 met_answered side port s t (Ok counts) old new before after Done m told = record {
   met = met_by side port s t (Ok counts) old new before after (Meets side) m (said_more _ _ _ _ _ (λ came gone x. (counts, x)) m.met);
@@ -84,8 +91,14 @@ met_answered side port s t (Ok counts) old new before after WriteFault m told = 
   cut_off = told;
   faultless = m.cause.well refl;
 }))
-met_answered side port s t (Ok counts) old new before after Memory m told =
-    (short old new m.input told.0 told.1, inr (met_by side port s t (Ok counts) old new before after (MeetsOrStops side) m (said_more _ _ _ _ _ (λ came gone x. inl (counts, x)) m.met), m.cause.well refl))
+met_answered side port s t (Ok counts) old new before after Memory m told = (
+  short old new m.input told.0 told.1,
+  inr (
+    met_by side port s t (Ok counts) old new before after (MeetsOrStops side) m
+        (said_more _ _ _ _ _ (λ came gone x. inl (counts, x)) m.met),
+    m.cause.well refl,
+  ),
+)
 met_answered side port s t (Ok counts) old new before after LinkFault m told = absurd told
 met_answered side port s t (Ok counts) old new before after PeerRefused m told = absurd told
 met_answered side port s t (Err why) old new before after Done m told = absurd told
@@ -94,21 +107,30 @@ met_answered side port s t (Err why) old new before after Words m told = absurd 
 met_answered side port s t (Err why) old new before after ReadFault m told = absurd told
 met_answered side port s t (Err why) old new before after WriteFault m (refusal, is, cut_off) = inr (inr (record {
   why = refusal;
-  met = met_by side port s t (Err why) old new before after (Stops side (node.Peer refusal)) m (subst (λ n. Exchanges (before.ends 0) (after.ends 0) before.peer (side.stops s t n)) is m.stopped);
+  met = met_by side port s t (Err why) old new before after (Stops side (node.Peer refusal)) m
+      (subst (λ n. Exchanges (before.ends 0) (after.ends 0) before.peer (side.stops s t n)) is m.stopped);
   cut_off = cut_off;
   faultless = m.cause.other why refl (no_link why refusal is);
 }))
-met_answered side port s t (Err why) old new before after Memory m (other, kept) =
-    (short old new m.input kept.held kept.write_faults, inr (met_by side port s t (Err why) old new before after (MeetsOrStops side) m (said_more _ _ _ _ _ (λ came gone x. inr (why, other, x)) m.stopped), m.cause.other why refl other))
+met_answered side port s t (Err why) old new before after Memory m (other, kept) = (
+  short old new m.input kept.held kept.write_faults,
+  inr (
+    met_by side port s t (Err why) old new before after (MeetsOrStops side) m
+        (said_more _ _ _ _ _ (λ came gone x. inr (why, other, x)) m.stopped),
+    m.cause.other why refl other,
+  ),
+)
 met_answered side port s t (Err why) old new before after LinkFault m (is, kept) = record {
-  met = met_by side port s t (Err why) old new before after (Stops side node.Link) m (subst (λ n. Exchanges (before.ends 0) (after.ends 0) before.peer (side.stops s t n)) is m.stopped);
+  met = met_by side port s t (Err why) old new before after (Stops side node.Link) m
+      (subst (λ n. Exchanges (before.ends 0) (after.ends 0) before.peer (side.stops s t n)) is m.stopped);
   fault = m.cause.link (ap Err is);
   held = kept.held;
   write_faults = kept.write_faults;
 }
 met_answered side port s t (Err why) old new before after PeerRefused m (refusal, is, written) = record {
   why = refusal;
-  met = met_by side port s t (Err why) old new before after (Stops side (node.Peer refusal)) m (subst (λ n. Exchanges (before.ends 0) (after.ends 0) before.peer (side.stops s t n)) is m.stopped);
+  met = met_by side port s t (Err why) old new before after (Stops side (node.Peer refusal)) m
+      (subst (λ n. Exchanges (before.ends 0) (after.ends 0) before.peer (side.stops s t n)) is m.stopped);
   cut = λ offset same. m.cut offset (ap Err (is ∙ ap node.Peer same));
   written = written;
   faultless = m.cause.other why refl (no_link why refusal is);
@@ -116,7 +138,8 @@ met_answered side port s t (Err why) old new before after PeerRefused m (refusal
 
 -- ---- a refused input
 
-line_written : (held now left : Option (List ℕ)) (before line : List ℕ) → before ≡ [] → IfSome left (λ bytes. IsRefusedInto 0 bytes before line) → Appends held now line → IfSome left (IsReplied RefusesLog true held now)
+line_written : (held now left : Option (List ℕ)) (before line : List ℕ) → before ≡ []
+    → IfSome left (λ bytes. IsRefusedInto 0 bytes before line) → Appends held now line → IfSome left (IsReplied RefusesLog true held now)
 line_written held now None before line none refused written = tt
 line_written held now (Some bytes) before line none (text, is, added) written = record {
   reply = refusing text;
@@ -125,7 +148,9 @@ line_written held now (Some bytes) before line none (text, is, added) written = 
   written = subst (Appends held now) (added ∙ ap (λ xs. xs ++ text) none) written;
 }
 
-line_begun : (held now left : Option (List ℕ)) (before line : List ℕ) → before ≡ [] → IfSome left (λ bytes. IsRefusedInto 0 bytes before line) → WritesFront held now line → IfSome left (IsPartlyReplied RefusesLog held now)
+line_begun : (held now left : Option (List ℕ)) (before line : List ℕ) → before ≡ []
+    → IfSome left (λ bytes. IsRefusedInto 0 bytes before line) → WritesFront held now line
+    → IfSome left (IsPartlyReplied RefusesLog held now)
 line_begun held now None before line none refused written = tt
 line_begun held now (Some bytes) before line none (text, is, added) written = record {
   reply = refusing text;
@@ -164,7 +189,8 @@ refused_answered side port b line old new before after PeerRefused none refused 
 -- ---- completeness
 
 pub met_complete : (side : Side) (t : State) (r : Result (ℕ × ℕ) Node) (old new : Outside) (before after : Wired) (status : Status)
-    → OnlyLinkFails before.faults after.faults r → IsMetTold r (log_of t.history t.waiting) old new status → ((why : Peer) → r ≡ Err (node.Peer why) → ⊥)
+    → OnlyLinkFails before.faults after.faults r → IsMetTold r (log_of t.history t.waiting) old new status
+    → ((why : Peer) → r ≡ Err (node.Peer why) → ⊥)
     → AreFaultless old new before after → (status ≡ Done) ⊎ (status ≡ Memory)
 met_complete side t (Ok counts) old new before after Done cause told unrefused well = inl refl
 met_complete side t (Ok counts) old new before after Refused cause told unrefused well = absurd told
@@ -184,23 +210,28 @@ met_complete side t (Err why) old new before after LinkFault cause told unrefuse
 met_complete side t (Err why) old new before after PeerRefused cause told unrefused well = absurd (unrefused told.0 (ap Err told.1))
 
 -- the site that was loaded is the one that the log gives
-pub loaded_is : OneLoading → (left : Option (List ℕ)) (log : List ℕ) (s t : State) → left ≡ Some log → IfSome left (λ bytes. IsLoadedAs 0 bytes t) → IsLoadedAs 0 log s → t ≡ s
+pub loaded_is : OneLoading → (left : Option (List ℕ)) (log : List ℕ) (s t : State) → left ≡ Some log
+    → IfSome left (λ bytes. IsLoadedAs 0 bytes t) → IsLoadedAs 0 log s → t ≡ s
 loaded_is one left log s t is there given =
     let at : IsLoadedAs 0 log t = subst (λ o. IfSome o (λ bytes. IsLoadedAs 0 bytes t)) is there in
     (one 0 log s given.1).0 t at.1
 
-pub not_refused : OneLoading → (left : Option (List ℕ)) (log before line : List ℕ) (s : State) → left ≡ Some log → IfSome left (λ bytes. IsRefusedInto 0 bytes before line) → IsLoadedAs 0 log s → ⊥
+pub not_refused : OneLoading → (left : Option (List ℕ)) (log before line : List ℕ) (s : State) → left ≡ Some log
+    → IfSome left (λ bytes. IsRefusedInto 0 bytes before line) → IsLoadedAs 0 log s → ⊥
 not_refused one left log before line s is there given =
     let at : IsRefusedInto 0 log before line = subst (λ o. IfSome o (λ bytes. IsRefusedInto 0 bytes before line)) is there in
     not_both one 0 log at.0 s at.1 given
 
 -- ---- what was told
 
-pub told_of_log : (r : Result (ℕ × ℕ) Node) (counts : ℕ × ℕ) (log : List ℕ) (old new : Outside) (status : Status) → r ≡ Ok counts → IsMade log old new status → IsMetTold r log old new status
+pub told_of_log : (r : Result (ℕ × ℕ) Node) (counts : ℕ × ℕ) (log : List ℕ) (old new : Outside) (status : Status) → r ≡ Ok counts
+    → IsMade log old new status → IsMetTold r log old new status
 told_of_log r counts log old new status is made = subst (λ x. IsMetTold x log old new status) (sym is) made
 
-pub told_of_stop : (r : Result (ℕ × ℕ) Node) (why : Node) (log : List ℕ) (old new : Outside) (status : Status) → r ≡ Err why → IsStopTold why old new status → IsMetTold r log old new status
+pub told_of_stop : (r : Result (ℕ × ℕ) Node) (why : Node) (log : List ℕ) (old new : Outside) (status : Status) → r ≡ Err why
+    → IsStopTold why old new status → IsMetTold r log old new status
 told_of_stop r why log old new status is told = subst (λ x. IsMetTold x log old new status) (sym is) told
 
-pub stop_told_as : (why other : Node) (old new : Outside) (status : Status) → why ≡ other → IsStopTold other old new status → IsStopTold why old new status
+pub stop_told_as : (why other : Node) (old new : Outside) (status : Status) → why ≡ other → IsStopTold other old new status
+    → IsStopTold why old new status
 stop_told_as why other old new status is told = subst (λ x. IsStopTold x old new status) (sym is) told

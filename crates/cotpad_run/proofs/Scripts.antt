@@ -29,7 +29,8 @@ BeginsWith bytes front = (rest : List ℕ) × ((script_report bytes).written ≡
 
 -- ---- what is so of all that begins with the bytes taken is so of all that the source had
 
-of_all : (left now : Option (List ℕ)) (all : List ℕ) (P : List ℕ → Type 0) → Consumes left now all → ((more : List ℕ) → P (all ++ more)) → IfSome left P
+of_all : (left now : Option (List ℕ)) (all : List ℕ) (P : List ℕ → Type 0) → Consumes left now all → ((more : List ℕ) → P (all ++ more))
+    → IfSome left P
 of_all None now all P taken h = tt
 of_all (Some xs) None all P taken h = absurd taken
 of_all (Some xs) (Some ys) all P taken h = subst P (sym taken) (h ys)
@@ -37,7 +38,8 @@ of_all (Some xs) (Some ys) all P taken h = subst P (sym taken) (h ys)
 -- ---- what was written, as a reply
 
 replied : (held now : Option (List ℕ)) (bytes written : List ℕ) (refused : Bool) → ReportsAreThere
-    → script_report bytes ≡ record { written = written; refused = refused } → Appends held now written → IsReplied IsScriptReport refused held now bytes
+    → script_report bytes ≡ record { written = written; refused = refused } → Appends held now written
+    → IsReplied IsScriptReport refused held now bytes
 replied held now bytes written refused reports is sent = record {
   reply = script_report bytes;
   right = reports bytes;
@@ -45,7 +47,8 @@ replied held now bytes written refused reports is sent = record {
   written = subst (Appends held now) (sym (ap (λ (r : Report). r.written) is)) sent;
 }
 
-partly_replied : (held now : Option (List ℕ)) (bytes written : List ℕ) → ReportsAreThere → BeginsWith bytes written → Appends held now written → IsPartlyReplied IsScriptReport held now bytes
+partly_replied : (held now : Option (List ℕ)) (bytes written : List ℕ) → ReportsAreThere → BeginsWith bytes written
+    → Appends held now written → IsPartlyReplied IsScriptReport held now bytes
 partly_replied held now bytes written reports front sent = record {
   reply = script_report bytes;
   right = reports bytes;
@@ -56,16 +59,22 @@ partly_replied held now bytes written reports front sent = record {
 front_of_report : (old new : Outside) (all written : List ℕ) → ReportsAreThere → ((more : List ℕ) → BeginsWith (all ++ more) written)
     → Appends old.held new.held written → Consumes old.left new.left all → length all ≤ MAX_INPUT + 1 → IsFrontOfReport old new
 front_of_report old new all written reports front sent taken few = record {
-  front = of_all old.left new.left all (IsPartlyReplied IsScriptReport old.held new.held) taken (λ more. partly_replied old.held new.held (all ++ more) written reports (front more) sent);
+  front = of_all old.left new.left all (IsPartlyReplied IsScriptReport old.held new.held) taken
+      (λ more. partly_replied old.held new.held (all ++ more) written reports (front more) sent);
   kept = (written, sent);
   lost = record { front = all; few = few; lost = taken };
 }
 
 -- a front of a piece after all that was written before
-behind : (a b c : Option (List ℕ)) (bytes before piece : List ℕ) → Appends a b before → (w : WritesFront b c piece) → BeginsWith bytes (before ++ piece)
+behind : (a b c : Option (List ℕ)) (bytes before piece : List ℕ) → Appends a b before → (w : WritesFront b c piece)
+    → BeginsWith bytes (before ++ piece)
     → BeginsWith bytes (before ++ w.front) × Appends a c (before ++ w.front)
 behind a b c bytes before piece sent w front = (
-  (w.rest ++ front.0, front.1 ∙ ap (λ xs. (before ++ xs) ++ front.0) w.parts ∙ ap (λ xs. xs ++ front.0) (sym (append_assoc before w.front w.rest)) ∙ append_assoc (before ++ w.front) w.rest front.0),
+  (
+    w.rest ++ front.0,
+    front.1 ∙ ap (λ xs. (before ++ xs) ++ front.0) w.parts
+        ∙ ap (λ xs. xs ++ front.0) (sym (append_assoc before w.front w.rest)) ∙ append_assoc (before ++ w.front) w.rest front.0,
+  ),
   Appends-trans a b c before w.front sent w.written,
 )
 
@@ -80,7 +89,13 @@ without_rest bytes before rest front = (rest ++ front.0, front.1 ∙ append_asso
 
 -- a reader that keeps anything keeps it behind nothing
 pub behind_none : (r : ReaderData) (out : List ℕ) → KeepsSome r → out ≡ [] → KeepsAfter r out
-behind_none r out k none = record { all = k.all; before = k.written; keeps = subst (Keeps r k.all) (sym (append-nil k.written) ∙ ap (λ xs. k.written ++ xs) (sym none)) k.keeps }
+behind_none r out k none =
+    record {
+      all = k.all;
+      before = k.written;
+      keeps =
+          subst (Keeps r k.all) (sym (append-nil k.written) ∙ ap (λ xs. k.written ++ xs) (sym none)) k.keeps;
+    }
 
 -- a line was done, and a front of what stands in `out` was written
 pub behind_on : (r s : ReaderData) (held now : Option (List ℕ)) (out mid new : List ℕ) → KeepsAfter r out
@@ -91,14 +106,16 @@ behind_on r s held now out mid new k on p = record {
   keeps = subst (Keeps s k.all) (ap (λ xs. k.before ++ xs) p.parts ∙ sym (append_assoc k.before p.front new)) (on k.all k.before k.keeps);
 }
 
-pub reading_on : (old : Outside) (left : Option (List ℕ)) (reads : ℕ) (held now : Option (List ℕ)) (writes later : ℕ) (r s : ReaderData) (fed : ℕ) (out mid new : List ℕ)
+pub reading_on : (old : Outside) (left : Option (List ℕ)) (reads : ℕ) (held now : Option (List ℕ)) (writes later : ℕ) (r s : ReaderData)
+    (fed : ℕ) (out mid new : List ℕ)
     → IsReading old (told left reads held writes) r fed out
     → ((all before : List ℕ) → Keeps r all (before ++ out) → Keeps s all (before ++ mid)) → IsPassed held now mid new → later ≡ writes
     → IsReading old (told left reads now later) s fed new
 reading_on old left reads held now writes later r s fed out mid new i on p same = record {
   all = i.all;
   written = i.written ++ p.front;
-  keeps = subst (Keeps s i.all) (ap (λ xs. i.written ++ xs) p.parts ∙ sym (append_assoc i.written p.front new)) (on i.all i.written i.keeps);
+  keeps = subst (Keeps s i.all) (ap (λ xs. i.written ++ xs) p.parts ∙ sym (append_assoc i.written p.front new))
+      (on i.all i.written i.keeps);
   count = i.count;
   few = i.few;
   taken = i.taken;
@@ -107,7 +124,8 @@ reading_on old left reads held now writes later r s fed out mid new i on p same 
   write_faults = same ∙ i.write_faults;
 }
 
-waiting_on : (old : Outside) (left : Option (List ℕ)) (reads : ℕ) (held now : Option (List ℕ)) (writes later : ℕ) (r s : ReaderData) (fed : ℕ) (out mid : List ℕ)
+waiting_on : (old : Outside) (left : Option (List ℕ)) (reads : ℕ) (held now : Option (List ℕ)) (writes later : ℕ) (r s : ReaderData)
+    (fed : ℕ) (out mid : List ℕ)
     → IsReading old (told left reads held writes) r fed out
     → ((all before : List ℕ) → Keeps r all (before ++ out) → Awaits s all (before ++ mid)) → Appends held now mid → later ≡ writes
     → IsWaiting old (told left reads now later) s fed
@@ -129,14 +147,17 @@ few_taken : (all : List ℕ) (fed : ℕ) → length all ≡ fed → fed ≤ MAX_
 few_taken all fed count few = omega (arith, count, few)
 
 -- a line is refused
-pub refused_there : (old : Outside) (left : Option (List ℕ)) (reads : ℕ) (held now : Option (List ℕ)) (writes later : ℕ) (r : ReaderData) (fed : ℕ) (out mid : List ℕ) → ReportsAreThere
+pub refused_there : (old : Outside) (left : Option (List ℕ)) (reads : ℕ) (held now : Option (List ℕ)) (writes later : ℕ) (r : ReaderData)
+    (fed : ℕ) (out mid : List ℕ) → ReportsAreThere
     → IsReading old (told left reads held writes) r fed out
-    → ((all before : List ℕ) → Keeps r all (before ++ out) → (more : List ℕ) → script_report (all ++ more) ≡ record { written = before ++ mid; refused = true })
+    → ((all before : List ℕ) → Keeps r all (before ++ out) → (more : List ℕ)
+    → script_report (all ++ more) ≡ record { written = before ++ mid; refused = true })
     → Appends held now mid → later ≡ writes → IsReport true old (told left reads now later)
 refused_there old left reads held now writes later r fed out mid reports i is sent same =
     let both : Appends old.held now (i.written ++ mid) = Appends-trans old.held held now i.written mid i.sent sent in
     record {
-      reply = of_all old.left left i.all (IsReplied IsScriptReport true old.held now) i.taken (λ more. replied old.held now (i.all ++ more) (i.written ++ mid) true reports (is i.all i.written i.keeps more) both);
+      reply = of_all old.left left i.all (IsReplied IsScriptReport true old.held now) i.taken
+          (λ more. replied old.held now (i.all ++ more) (i.written ++ mid) true reports (is i.all i.written i.keeps more) both);
       kept = (i.written ++ mid, both);
       lost = record { front = i.all; few = few_taken i.all fed i.count i.few; lost = i.taken };
       read_faults = i.read_faults;
@@ -144,7 +165,8 @@ refused_there old left reads held now writes later r fed out mid reports i is se
     }
 
 -- a write failed
-unwritten_there : (old : Outside) (left : Option (List ℕ)) (reads : ℕ) (held now : Option (List ℕ)) (writes later : ℕ) (r : ReaderData) (fed : ℕ) (out mid : List ℕ) → ReportsAreThere
+unwritten_there : (old : Outside) (left : Option (List ℕ)) (reads : ℕ) (held now : Option (List ℕ)) (writes later : ℕ) (r : ReaderData)
+    (fed : ℕ) (out mid : List ℕ) → ReportsAreThere
     → IsReading old (told left reads held writes) r fed out
     → ((all before : List ℕ) → Keeps r all (before ++ out) → (more : List ℕ) → BeginsWith (all ++ more) (before ++ mid))
     → WritesFront held now mid → Rose writes later → IsUnwrittenReport old (told left reads now later)
@@ -152,46 +174,61 @@ unwritten_there old left reads held now writes later r fed out mid reports i fro
     let begins : (more : List ℕ) → BeginsWith (i.all ++ more) (i.written ++ mid) = front i.all i.written i.keeps in
     record {
       fault = subst (λ n. Rose n later) i.write_faults rose;
-      front = front_of_report old (told left reads now later) i.all (i.written ++ w.front) reports (λ more. (behind old.held held now (i.all ++ more) i.written mid i.sent w (begins more)).0)
+      front = front_of_report old (told left reads now later) i.all (i.written ++ w.front) reports
+          (λ more. (behind old.held held now (i.all ++ more) i.written mid i.sent w (begins more)).0)
           (behind old.held held now (i.all ++ []) i.written mid i.sent w (begins [])).1 i.taken (few_taken i.all fed i.count i.few);
       read_faults = i.read_faults;
     }
 
 -- of each answer of a line what was to be written begins the report
-pub begins_done : (r s : ReaderData) (out mid : List ℕ) → ((all before : List ℕ) → Keeps r all (before ++ out) → Keeps s all (before ++ mid))
+pub begins_done : (r s : ReaderData) (out mid : List ℕ)
+    → ((all before : List ℕ) → Keeps r all (before ++ out) → Keeps s all (before ++ mid))
     → (all before : List ℕ) → Keeps r all (before ++ out) → (more : List ℕ) → BeginsWith (all ++ more) (before ++ mid)
 begins_done r s out mid on all before k more = kept_front s all (before ++ mid) (on all before k) more
 
-pub begins_awaited : (r s : ReaderData) (out mid : List ℕ) → ((all before : List ℕ) → Keeps r all (before ++ out) → Awaits s all (before ++ mid))
+pub begins_awaited : (r s : ReaderData) (out mid : List ℕ)
+    → ((all before : List ℕ) → Keeps r all (before ++ out) → Awaits s all (before ++ mid))
     → (all before : List ℕ) → Keeps r all (before ++ out) → (more : List ℕ) → BeginsWith (all ++ more) (before ++ mid)
 begins_awaited r s out mid on all before k more = kept_front s all (before ++ mid) (on all before k).keeps more
 
-pub begins_refused : (r : ReaderData) (out mid : List ℕ) → ((all before : List ℕ) → Keeps r all (before ++ out) → (more : List ℕ) → script_report (all ++ more) ≡ record { written = before ++ mid; refused = true })
+pub begins_refused : (r : ReaderData) (out mid : List ℕ)
+    → ((all before : List ℕ) → Keeps r all (before ++ out) → (more : List ℕ)
+    → script_report (all ++ more) ≡ record { written = before ++ mid; refused = true })
     → (all before : List ℕ) → Keeps r all (before ++ out) → (more : List ℕ) → BeginsWith (all ++ more) (before ++ mid)
-begins_refused r out mid is all before k more = ([], ap (λ (x : Report). x.written) (is all before k more) ∙ sym (append-nil (before ++ mid)))
+begins_refused r out mid is all before k more =
+    ([], ap (λ (x : Report). x.written) (is all before k more) ∙ sym (append-nil (before ++ mid)))
 
 -- where the status says that a write failed
 pub faulted : (old new : Outside) (status : Status) → status ≡ WriteFault → IsUnwrittenReport old new → IsReplayed old new status
 faulted old new status is unwritten = subst (IsReplayed old new) (sym is) unwritten
 
 -- the lines are done: what the last write answers
-pub waiting_or_not : {T : Type 0} (result : Result T Status) (held now before : Option (List ℕ)) (writes later first : ℕ) (q r s : ReaderData) (old_out out mid : List ℕ)
-    → ((old : Outside) (left : Option (List ℕ)) (reads fed : ℕ) → IsReading old (told left reads before first) q fed old_out → IsReading old (told left reads held writes) r fed out)
+pub waiting_or_not : {T : Type 0} (result : Result T Status) (held now before : Option (List ℕ)) (writes later first : ℕ)
+    (q r s : ReaderData) (old_out out mid : List ℕ)
+    → ((old : Outside) (left : Option (List ℕ)) (reads fed : ℕ) → IsReading old (told left reads before first) q fed old_out
+    → IsReading old (told left reads held writes) r fed out)
     → ((all before : List ℕ) → Keeps r all (before ++ out) → Awaits s all (before ++ mid))
     → OnOk result (Appends held now mid) → HasCause writes later result
-    → OnOk result ((old : Outside) (left : Option (List ℕ)) (reads fed : ℕ) → IsReading old (told left reads before first) q fed old_out → IsWaiting old (told left reads now later) s fed)
+    → OnOk result ((old : Outside) (left : Option (List ℕ)) (reads fed : ℕ) → IsReading old (told left reads before first) q fed old_out
+    → IsWaiting old (told left reads now later) s fed)
 waiting_or_not (Ok t) held now before writes later first q r s old_out out mid so_far on sent cause =
-    λ old left reads fed i. waiting_on old left reads held now writes later r s fed out mid (so_far old left reads fed i) on sent (cause.well refl)
+    λ old left reads fed i. waiting_on old left reads held now writes later r s fed out mid (so_far old left reads fed i) on sent
+    (cause.well refl)
 waiting_or_not (Err e) held now before writes later first q r s old_out out mid so_far on sent cause = sent
 
-pub stopped_or_not : {T : Type 0} (result : Result T Status) (held now before : Option (List ℕ)) (writes later first : ℕ) (q r : ReaderData) (old_out out mid : List ℕ) → ReportsAreThere
-    → ((old : Outside) (left : Option (List ℕ)) (reads fed : ℕ) → IsReading old (told left reads before first) q fed old_out → IsReading old (told left reads held writes) r fed out)
+pub stopped_or_not : {T : Type 0} (result : Result T Status) (held now before : Option (List ℕ)) (writes later first : ℕ) (q r : ReaderData)
+    (old_out out mid : List ℕ) → ReportsAreThere
+    → ((old : Outside) (left : Option (List ℕ)) (reads fed : ℕ) → IsReading old (told left reads before first) q fed old_out
+    → IsReading old (told left reads held writes) r fed out)
     → ((all before : List ℕ) → Keeps r all (before ++ out) → (more : List ℕ) → BeginsWith (all ++ more) (before ++ mid))
     → OnErr result (WritesFront held now mid) → HasCause writes later result → IfErr result (λ status. status ≡ WriteFault)
-    → IfErr result (λ status. (old : Outside) (left : Option (List ℕ)) (reads fed : ℕ) → IsReading old (told left reads before first) q fed old_out → IsReplayed old (told left reads now later) status)
+    → IfErr result (λ status. (old : Outside) (left : Option (List ℕ)) (reads fed : ℕ)
+    → IsReading old (told left reads before first) q fed old_out → IsReplayed old (told left reads now later) status)
 stopped_or_not (Ok t) held now before writes later first q r old_out out mid reports so_far front w cause is = tt
 stopped_or_not (Err status) held now before writes later first q r old_out out mid reports so_far front w cause is =
-    λ old left reads fed i. faulted old (told left reads now later) status is (unwritten_there old left reads held now writes later r fed out mid reports (so_far old left reads fed i) front w (cause.failed refl))
+    λ old left reads fed i. faulted old (told left reads now later) status is
+    (unwritten_there old left reads held now writes later r fed out mid reports (so_far old left reads fed i) front w
+    (cause.failed refl))
 
 -- a status that is handed on
 pub handed_on : {T U : Type 0} (result : Result T Status) (later : Result U Status) (status : Status) (P : Status → Type 0)
@@ -200,10 +237,13 @@ handed_on {T} {U} result (Ok t) status P was is h = absurd is
 handed_on {T} {U} result (Err e) status P was is h = subst P (sym is) (subst (λ (r : Result T Status). IfErr r P) was h)
 
 -- out of memory while lines are done
-pub memory_there : (old : Outside) (left : Option (List ℕ)) (reads : ℕ) (held : Option (List ℕ)) (writes : ℕ) (r : ReaderData) (fed : ℕ) (out : List ℕ) → ReportsAreThere
+pub memory_there : (old : Outside) (left : Option (List ℕ)) (reads : ℕ) (held : Option (List ℕ)) (writes : ℕ) (r : ReaderData) (fed : ℕ)
+    (out : List ℕ) → ReportsAreThere
     → IsReading old (told left reads held writes) r fed out → IsReportOutOfMemory old (told left reads held writes)
 memory_there old left reads held writes r fed out reports i = record {
-  front = front_of_report old (told left reads held writes) i.all i.written reports (λ more. without_rest (i.all ++ more) i.written out (kept_front r i.all (i.written ++ out) i.keeps more)) i.sent i.taken (few_taken i.all fed i.count i.few);
+  front = front_of_report old (told left reads held writes) i.all i.written reports
+      (λ more. without_rest (i.all ++ more) i.written out (kept_front r i.all (i.written ++ out) i.keeps more)) i.sent i.taken
+      (few_taken i.all fed i.count i.few);
   read_faults = i.read_faults;
   write_faults = i.write_faults;
 }
@@ -211,7 +251,8 @@ memory_there old left reads held writes r fed out reports i = record {
 -- ---- the start
 
 -- nothing was read yet
-pub reading_first : (left : Option (List ℕ)) (reads : ℕ) (held : Option (List ℕ)) (writes : ℕ) (r : ReaderData) (out : List ℕ) → Keeps r [] [] → out ≡ []
+pub reading_first : (left : Option (List ℕ)) (reads : ℕ) (held : Option (List ℕ)) (writes : ℕ) (r : ReaderData) (out : List ℕ)
+    → Keeps r [] [] → out ≡ []
     → IsReading (told left reads held writes) (told left reads held writes) r 0 out
 reading_first left reads held writes r out k none = record {
   all = [];
@@ -226,9 +267,11 @@ reading_first left reads held writes r out k none = record {
 }
 
 -- out of memory for the reader
-pub memory_first : (left : Option (List ℕ)) (reads : ℕ) (held : Option (List ℕ)) (writes : ℕ) → ReportsAreThere → IsReportOutOfMemory (told left reads held writes) (told left reads held writes)
+pub memory_first : (left : Option (List ℕ)) (reads : ℕ) (held : Option (List ℕ)) (writes : ℕ) → ReportsAreThere
+    → IsReportOutOfMemory (told left reads held writes) (told left reads held writes)
 memory_first left reads held writes reports = record {
-  front = front_of_report (told left reads held writes) (told left reads held writes) [] [] reports (λ more. ((script_report more).written, refl)) (Appends-nil held) (Consumes-nil left) (omega arith);
+  front = front_of_report (told left reads held writes) (told left reads held writes) [] [] reports
+      (λ more. ((script_report more).written, refl)) (Appends-nil held) (Consumes-nil left) (omega arith);
   read_faults = refl;
   write_faults = refl;
 }
@@ -236,7 +279,8 @@ memory_first left reads held writes reports = record {
 -- ---- the next read
 
 -- these bytes were read and fed
-pub fed_on : (old : Outside) (left now : Option (List ℕ)) (reads later : ℕ) (held : Option (List ℕ)) (writes : ℕ) (r s : ReaderData) (fed most n : ℕ) (bytes : List ℕ)
+pub fed_on : (old : Outside) (left now : Option (List ℕ)) (reads later : ℕ) (held : Option (List ℕ)) (writes : ℕ) (r s : ReaderData)
+    (fed most n : ℕ) (bytes : List ℕ)
     → IsWaiting old (told left reads held writes) r fed → fed + most ≤ MAX_INPUT + 1 → n ≤ most → length bytes ≡ n → Consumes left now bytes
     → ((all written : List ℕ) → Keeps r all written → Keeps s (all ++ bytes) written) → later ≡ reads
     → IsReading old (told now later held writes) s (fed + n) []
@@ -253,19 +297,23 @@ fed_on old left now reads later held writes r s fed most n bytes i room few size
 }
 
 -- where nothing stands in `out`
-pub with_out : (old now : Outside) (r : ReaderData) (fed : ℕ) (out : List ℕ) → IsReading old now r fed [] → out ≡ [] → IsReading old now r fed out
+pub with_out : (old now : Outside) (r : ReaderData) (fed : ℕ) (out : List ℕ) → IsReading old now r fed [] → out ≡ []
+    → IsReading old now r fed out
 with_out old now r fed out i none = subst (IsReading old now r fed) (sym none) i
 
 -- nothing was fed
-pub same_kept : (r : ReaderData) (bytes : List ℕ) → bytes ≡ [] → (all written : List ℕ) → Keeps r all written → Keeps r (all ++ bytes) written
+pub same_kept : (r : ReaderData) (bytes : List ℕ) → bytes ≡ [] → (all written : List ℕ) → Keeps r all written
+    → Keeps r (all ++ bytes) written
 same_kept r bytes none all written k = subst (λ xs. Keeps r xs written) (sym (append-nil all) ∙ ap (λ xs. all ++ xs) (sym none)) k
 
 few_waiting : (all : List ℕ) (fed : ℕ) → length all ≡ fed → fed ≤ MAX_INPUT → length all ≤ MAX_INPUT + 1
 few_waiting all fed count few = omega (arith, count, few)
 
 -- a read failed
-pub unread_there : (old : Outside) (left now : Option (List ℕ)) (reads later : ℕ) (held : Option (List ℕ)) (writes : ℕ) (r : ReaderData) (fed : ℕ) → ReportsAreThere
-    → IsWaiting old (told left reads held writes) r fed → Stays left now → Rose reads later → IsUnreadReport old (told now later held writes)
+pub unread_there : (old : Outside) (left now : Option (List ℕ)) (reads later : ℕ) (held : Option (List ℕ)) (writes : ℕ) (r : ReaderData)
+    (fed : ℕ) → ReportsAreThere
+    → IsWaiting old (told left reads held writes) r fed → Stays left now → Rose reads later
+    → IsUnreadReport old (told now later held writes)
 unread_there old left now reads later held writes r fed reports i stays rose =
     let k : Keeps r i.all i.written = i.awaits.keeps in
     let taken : Consumes old.left now i.all = Consumes-kept old.left left now i.all i.taken stays in
@@ -279,19 +327,23 @@ unread_there old left now reads later held writes r fed reports i stays rose =
         no_line = i.awaits.no_feed;
         reply = replied old.held held k.done i.written false reports (done_is_reported r i.all i.written k) i.sent;
       };
-      front = front_of_report old (told now later held writes) i.all i.written reports (kept_front r i.all i.written k) i.sent taken (few_waiting i.all fed i.count i.few);
+      front = front_of_report old (told now later held writes) i.all i.written reports (kept_front r i.all i.written k) i.sent taken
+          (few_waiting i.all fed i.count i.few);
       write_faults = i.write_faults;
     }
 
 -- out of memory for what was read
-pub memory_read : (old : Outside) (left now : Option (List ℕ)) (reads later : ℕ) (held : Option (List ℕ)) (writes : ℕ) (r : ReaderData) (fed most : ℕ) (bytes : List ℕ) → ReportsAreThere
-    → IsWaiting old (told left reads held writes) r fed → fed + most ≤ MAX_INPUT + 1 → length bytes ≤ most → Consumes left now bytes → later ≡ reads
+pub memory_read : (old : Outside) (left now : Option (List ℕ)) (reads later : ℕ) (held : Option (List ℕ)) (writes : ℕ) (r : ReaderData)
+    (fed most : ℕ) (bytes : List ℕ) → ReportsAreThere
+    → IsWaiting old (told left reads held writes) r fed → fed + most ≤ MAX_INPUT + 1 → length bytes ≤ most → Consumes left now bytes
+    → later ≡ reads
     → IsReportOutOfMemory old (told now later held writes)
 memory_read old left now reads later held writes r fed most bytes reports i room few taken same =
     let both : Consumes old.left now (i.all ++ bytes) = Consumes-trans old.left left now i.all bytes i.taken taken in
     record {
       front = front_of_report old (told now later held writes) (i.all ++ bytes) i.written reports
-          (λ more. subst (λ xs. BeginsWith xs i.written) (sym (append_assoc i.all bytes more)) (kept_front r i.all i.written i.awaits.keeps (bytes ++ more))) i.sent both
+          (λ more. subst (λ xs. BeginsWith xs i.written) (sym (append_assoc i.all bytes more))
+          (kept_front r i.all i.written i.awaits.keeps (bytes ++ more))) i.sent both
           (omega (arith, length-append i.all bytes, i.count, room, few));
       read_faults = same ∙ i.read_faults;
       write_faults = i.write_faults;
@@ -306,18 +358,23 @@ some_awaited old now r fed i = record { all = i.all; written = i.written; awaits
 reported_at_end : (r : ReaderData) (all written out new : List ℕ) (refused : Bool) → Keeps r all written → out ≡ []
     → ((all before : List ℕ) → Keeps r all (before ++ out) → script_report all ≡ record { written = before ++ new; refused = refused })
     → script_report all ≡ record { written = written ++ new; refused = refused }
-reported_at_end r all written out new refused k none is = is all written (subst (Keeps r all) (sym (append-nil written) ∙ ap (λ xs. written ++ xs) (sym none)) k)
+reported_at_end r all written out new refused k none is =
+    is all written (subst (Keeps r all) (sym (append-nil written) ∙ ap (λ xs. written ++ xs) (sym none)) k)
 
 -- all was written
-pub ended_there : (old : Outside) (left : Option (List ℕ)) (reads : ℕ) (held now : Option (List ℕ)) (writes later : ℕ) (r : ReaderData) (fed : ℕ) (out new : List ℕ) (answer refused : Bool) → ReportsAreThere
+pub ended_there : (old : Outside) (left : Option (List ℕ)) (reads : ℕ) (held now : Option (List ℕ)) (writes later : ℕ) (r : ReaderData)
+    (fed : ℕ) (out new : List ℕ) (answer refused : Bool) → ReportsAreThere
     → IsWaiting old (told left reads held writes) r fed → IsAtEnd left → out ≡ [] → answer ≡ refused
     → ((all before : List ℕ) → Keeps r all (before ++ out) → script_report all ≡ record { written = before ++ new; refused = answer })
     → Appends held now new → later ≡ writes → IsReport refused old (told left reads now later)
 ended_there old left reads held now writes later r fed out new answer refused reports i end none said is sent same =
-    let whole : script_report i.all ≡ record { written = i.written ++ new; refused = refused } = subst (λ (b : Bool). script_report i.all ≡ record { written = i.written ++ new; refused = b }) said (reported_at_end r i.all i.written out new answer i.awaits.keeps none is) in
+    let whole : script_report i.all ≡ record { written = i.written ++ new; refused = refused } =
+    subst (λ (b : Bool). script_report i.all ≡ record { written = i.written ++ new; refused = b }) said
+    (reported_at_end r i.all i.written out new answer i.awaits.keeps none is) in
     let both : Appends old.held now (i.written ++ new) = Appends-trans old.held held now i.written new i.sent sent in
     record {
-      reply = Consumes-whole old.left left i.all (IsReplied IsScriptReport refused old.held now) i.taken end (replied old.held now i.all (i.written ++ new) refused reports whole both);
+      reply = Consumes-whole old.left left i.all (IsReplied IsScriptReport refused old.held now) i.taken end
+          (replied old.held now i.all (i.written ++ new) refused reports whole both);
       kept = (i.written ++ new, both);
       lost = record { front = i.all; few = few_waiting i.all fed i.count i.few; lost = i.taken };
       read_faults = i.read_faults;
@@ -325,7 +382,8 @@ ended_there old left reads held now writes later r fed out new answer refused re
     }
 
 -- the write failed
-pub unwritten_at_end : (old : Outside) (left : Option (List ℕ)) (reads : ℕ) (held now : Option (List ℕ)) (writes later : ℕ) (r : ReaderData) (fed : ℕ) (out new : List ℕ) (refused : Bool) → ReportsAreThere
+pub unwritten_at_end : (old : Outside) (left : Option (List ℕ)) (reads : ℕ) (held now : Option (List ℕ)) (writes later : ℕ) (r : ReaderData)
+    (fed : ℕ) (out new : List ℕ) (refused : Bool) → ReportsAreThere
     → IsWaiting old (told left reads held writes) r fed → IsAtEnd left → out ≡ []
     → ((all before : List ℕ) → Keeps r all (before ++ out) → script_report all ≡ record { written = before ++ new; refused = refused })
     → WritesFront held now new → Rose writes later → IsUnwrittenReport old (told left reads now later)
@@ -336,7 +394,8 @@ unwritten_at_end old left reads held now writes later r fed out new refused repo
     record {
       fault = subst (λ n. Rose n later) i.write_faults rose;
       front = record {
-        front = Consumes-whole old.left left i.all (IsPartlyReplied IsScriptReport old.held now) i.taken end (partly_replied old.held now i.all (i.written ++ w.front) reports b.0 b.1);
+        front = Consumes-whole old.left left i.all (IsPartlyReplied IsScriptReport old.held now) i.taken end
+            (partly_replied old.held now i.all (i.written ++ w.front) reports b.0 b.1);
         kept = (i.written ++ w.front, b.1);
         lost = record { front = i.all; few = few_waiting i.all fed i.count i.few; lost = i.taken };
       };
@@ -344,10 +403,12 @@ unwritten_at_end old left reads held now writes later r fed out new refused repo
     }
 
 -- out of memory
-pub memory_at_end : (old : Outside) (left : Option (List ℕ)) (reads : ℕ) (held : Option (List ℕ)) (writes : ℕ) (r : ReaderData) (fed : ℕ) → ReportsAreThere
+pub memory_at_end : (old : Outside) (left : Option (List ℕ)) (reads : ℕ) (held : Option (List ℕ)) (writes : ℕ) (r : ReaderData) (fed : ℕ)
+    → ReportsAreThere
     → IsWaiting old (told left reads held writes) r fed → IsReportOutOfMemory old (told left reads held writes)
 memory_at_end old left reads held writes r fed reports i = record {
-  front = front_of_report old (told left reads held writes) i.all i.written reports (kept_front r i.all i.written i.awaits.keeps) i.sent i.taken (few_waiting i.all fed i.count i.few);
+  front = front_of_report old (told left reads held writes) i.all i.written reports (kept_front r i.all i.written i.awaits.keeps) i.sent
+      i.taken (few_waiting i.all fed i.count i.few);
   read_faults = i.read_faults;
   write_faults = i.write_faults;
 }

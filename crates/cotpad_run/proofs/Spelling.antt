@@ -51,8 +51,10 @@ ins_from parts e h =
     let number = number_reads.from p.0.0 v.0 v.1 in
     let text = text_some w.0 t.0 t.1 in
     let spelled : parts ≡ decimal v.0 ∷ t.0 ∷ [] =
-    first_some parts p.0 p.1 ∙ ap (λ x. x ∷ p.0.1) number.0 ∙ ap (λ xs. decimal v.0 ∷ xs) (one_some p.0.1 w.0 w.1 ∙ ap (λ x. x ∷ []) text.0) in
-    subst (λ x. (codes "ins" ∷ parts ≡ edit_words x) × IsEditInRange x) (some_is (Ins v.0 t.0) e t.2) (ap (λ xs. codes "ins" ∷ xs) spelled, (number.1, text.1))
+    first_some parts p.0 p.1 ∙ ap (λ x. x ∷ p.0.1) number.0
+    ∙ ap (λ xs. decimal v.0 ∷ xs) (one_some p.0.1 w.0 w.1 ∙ ap (λ x. x ∷ []) text.0) in
+    subst (λ x. (codes "ins" ∷ parts ≡ edit_words x) × IsEditInRange x) (some_is (Ins v.0 t.0) e t.2)
+    (ap (λ xs. codes "ins" ∷ xs) spelled, (number.1, text.1))
 
 nl_from : (parts : List (List ℕ)) (e : EditData) → nl_in parts ≡ Some e → IsEdit (codes "nl" ∷ parts) e
 unfolding nl_in IsEdit
@@ -61,7 +63,8 @@ nl_from parts e h =
     let v = and_then_some (number_of w.0) _ e w.2 in
     let number = number_reads.from w.0 v.0 v.1 in
     let spelled : parts ≡ decimal v.0 ∷ [] = one_some parts w.0 w.1 ∙ ap (λ x. x ∷ []) number.0 in
-    subst (λ x. (codes "nl" ∷ parts ≡ edit_words x) × IsEditInRange x) (some_is (Nl v.0) e v.2) (ap (λ xs. codes "nl" ∷ xs) spelled, number.1)
+    subst (λ x. (codes "nl" ∷ parts ≡ edit_words x) × IsEditInRange x) (some_is (Nl v.0) e v.2)
+    (ap (λ xs. codes "nl" ∷ xs) spelled, number.1)
 
 del_from : (parts : List (List ℕ)) (e : EditData) → del_in parts ≡ Some e → IsEdit (codes "del" ∷ parts) e
 unfolding del_in IsEdit
@@ -70,7 +73,8 @@ del_from parts e h =
     let v = and_then_some (number_of w.0) _ e w.2 in
     let number = number_reads.from w.0 v.0 v.1 in
     let spelled : parts ≡ decimal v.0 ∷ [] = one_some parts w.0 w.1 ∙ ap (λ x. x ∷ []) number.0 in
-    subst (λ x. (codes "del" ∷ parts ≡ edit_words x) × IsEditInRange x) (some_is (Del v.0) e v.2) (ap (λ xs. codes "del" ∷ xs) spelled, number.1)
+    subst (λ x. (codes "del" ∷ parts ≡ edit_words x) × IsEditInRange x) (some_is (Del v.0) e v.2)
+    (ap (λ xs. codes "del" ∷ xs) spelled, number.1)
 
 undo_from : (parts : List (List ℕ)) (e : EditData) → undo_in parts ≡ Some e → IsEdit (codes "undo" ∷ parts) e
 unfolding undo_in IsEdit
@@ -79,7 +83,8 @@ undo_from parts e h =
     let v = and_then_some (name_of w.0) _ e w.2 in
     let name = name_reads.from w.0 v.0 v.1 in
     let spelled : parts ≡ name_text v.0 ∷ [] = one_some parts w.0 w.1 ∙ ap (λ x. x ∷ []) name.0 in
-    subst (λ x. (codes "undo" ∷ parts ≡ edit_words x) × IsEditInRange x) (some_is (Undo v.0) e v.2) (ap (λ xs. codes "undo" ∷ xs) spelled, name.1)
+    subst (λ x. (codes "undo" ∷ parts ≡ edit_words x) × IsEditInRange x) (some_is (Undo v.0) e v.2)
+    (ap (λ xs. codes "undo" ∷ xs) spelled, name.1)
 
 redo_from : (parts : List (List ℕ)) (e : EditData) → redo_in parts ≡ Some e → IsEdit (codes "redo" ∷ parts) e
 unfolding redo_in IsEdit
@@ -88,7 +93,8 @@ redo_from parts e h =
     let v = and_then_some (name_of w.0) _ e w.2 in
     let name = name_reads.from w.0 v.0 v.1 in
     let spelled : parts ≡ name_text v.0 ∷ [] = one_some parts w.0 w.1 ∙ ap (λ x. x ∷ []) name.0 in
-    subst (λ x. (codes "redo" ∷ parts ≡ edit_words x) × IsEditInRange x) (some_is (Redo v.0) e v.2) (ap (λ xs. codes "redo" ∷ xs) spelled, name.1)
+    subst (λ x. (codes "redo" ∷ parts ≡ edit_words x) × IsEditInRange x) (some_is (Redo v.0) e v.2)
+    (ap (λ xs. codes "redo" ∷ xs) spelled, name.1)
 
 -- a row of this word, or those after it
 row_or : {X : Type 0} (P : List (List ℕ) → X → Type 0) (word own : List ℕ) (parts : List (List ℕ)) (x : X) (row others : Option X)
@@ -125,9 +131,11 @@ editing_from parts c h =
     let edit = edit_from q.0.0 q.0.1 e.0 e.1 in
     let spelled : parts ≡ decimal s.0 ∷ edit_words e.0 =
     first_some parts p.0 p.1 ∙ ap (λ x. x ∷ p.0.1) site.0 ∙ ap (λ xs. decimal s.0 ∷ xs) (first_some p.0.1 q.0 q.1 ∙ edit.0) in
-    subst (λ x. (codes "edit" ∷ parts ≡ command_words x) × IsInRange x) (some_is (Edit s.0 e.0) c e.2) (ap (λ xs. codes "edit" ∷ xs) spelled, (site.1, edit.1))
+    subst (λ x. (codes "edit" ∷ parts ≡ command_words x) × IsInRange x) (some_is (Edit s.0 e.0) c e.2)
+    (ap (λ xs. codes "edit" ∷ xs) spelled, (site.1, edit.1))
 
-gen_of_some : (start events window : ℕ) (c : CommandData) → gen_of start events window ≡ Some c → (events ≤ MAX_EVENTS) × (1 ≤ window) × (window ≤ MAX_WINDOW) × (Gen start events window ≡ c)
+gen_of_some : (start events window : ℕ) (c : CommandData) → gen_of start events window ≡ Some c
+    → (events ≤ MAX_EVENTS) × (1 ≤ window) × (window ≤ MAX_WINDOW) × (Gen start events window ≡ c)
 gen_of_some start events window c h =
     cond_both (nat_le events MAX_EVENTS && (nat_le 1 window && nat_le window MAX_WINDOW)) (Some (Gen start events window)) None
     (λ o. o ≡ Some c → (events ≤ MAX_EVENTS) × (1 ≤ window) × (window ≤ MAX_WINDOW) × (Gen start events window ≡ c))
@@ -153,8 +161,10 @@ gen_from parts c h =
     let parts_in = gen_of_some s.0 e.0 v.0 c v.2 in
     let spelled : parts ≡ decimal s.0 ∷ decimal e.0 ∷ decimal v.0 ∷ [] =
     first_some parts p.0 p.1 ∙ ap (λ x. x ∷ p.0.1) start.0
-    ∙ ap (λ xs. decimal s.0 ∷ xs) (first_some p.0.1 q.0 q.1 ∙ ap (λ x. x ∷ q.0.1) events.0 ∙ ap (λ xs. decimal e.0 ∷ xs) (one_some q.0.1 w.0 w.1 ∙ ap (λ x. x ∷ []) window.0)) in
-    subst (λ x. (codes "gen" ∷ parts ≡ command_words x) × IsInRange x) parts_in.3 (ap (λ xs. codes "gen" ∷ xs) spelled, (start.1, parts_in.0, parts_in.1, parts_in.2))
+    ∙ ap (λ xs. decimal s.0 ∷ xs) (first_some p.0.1 q.0 q.1 ∙ ap (λ x. x ∷ q.0.1) events.0
+    ∙ ap (λ xs. decimal e.0 ∷ xs) (one_some q.0.1 w.0 w.1 ∙ ap (λ x. x ∷ []) window.0)) in
+    subst (λ x. (codes "gen" ∷ parts ≡ command_words x) × IsInRange x) parts_in.3
+    (ap (λ xs. codes "gen" ∷ xs) spelled, (start.1, parts_in.0, parts_in.1, parts_in.2))
 
 explain_from : (parts : List (List ℕ)) (c : CommandData) → explain_in parts ≡ Some c → IsCommand (codes "explain" ∷ parts) c
 unfolding explain_in IsCommand
@@ -163,7 +173,8 @@ explain_from parts c h =
     let m = and_then_some (member_of w.0) _ c w.2 in
     let member = member_reads.from w.0 m.0 m.1 in
     let spelled : parts ≡ member_text m.0 ∷ [] = one_some parts w.0 w.1 ∙ ap (λ x. x ∷ []) member.0 in
-    subst (λ x. (codes "explain" ∷ parts ≡ command_words x) × IsInRange x) (some_is (Explain m.0) c m.2) (ap (λ xs. codes "explain" ∷ xs) spelled, member.1)
+    subst (λ x. (codes "explain" ∷ parts ≡ command_words x) × IsInRange x) (some_is (Explain m.0) c m.2)
+    (ap (λ xs. codes "explain" ∷ xs) spelled, member.1)
 
 port_of_some : (n p : ℕ) → port_of n ≡ Some p → IsPort p × (n ≡ p)
 port_of_some n p h =
@@ -210,7 +221,8 @@ loop_from parts c h =
     let s = and_then_some (long_of w.0) _ c w.2 in
     let start = long_reads.from w.0 s.0 s.1 in
     let spelled : parts ≡ decimal s.0 ∷ [] = one_some parts w.0 w.1 ∙ ap (λ x. x ∷ []) start.0 in
-    subst (λ x. (codes "loop" ∷ parts ≡ command_words x) × IsInRange x) (some_is (Loop s.0) c s.2) (ap (λ xs. codes "loop" ∷ xs) spelled, start.1)
+    subst (λ x. (codes "loop" ∷ parts ≡ command_words x) × IsInRange x) (some_is (Loop s.0) c s.2)
+    (ap (λ xs. codes "loop" ∷ xs) spelled, start.1)
 
 port_of_to : (port : ℕ) → IsPort port → port_of port ≡ Some port
 port_of_to port in_range = rw (le-leb _ _ in_range.0, le-leb _ _ in_range.1) refl
@@ -219,7 +231,8 @@ port_to : (port : ℕ) → IsPort port → port_in (decimal port ∷ []) ≡ Som
 unfolding port_in
 port_to port in_range = rw (number_reads.to (decimal port) port (refl, omega (arith, in_range.1))) (port_of_to port in_range)
 
-gen_of_to : (start events window : ℕ) → events ≤ MAX_EVENTS → 1 ≤ window → window ≤ MAX_WINDOW → gen_of start events window ≡ Some (Gen start events window)
+gen_of_to : (start events window : ℕ) → events ≤ MAX_EVENTS → 1 ≤ window → window ≤ MAX_WINDOW
+    → gen_of start events window ≡ Some (Gen start events window)
 gen_of_to start events window few some small = rw (le-leb _ _ few, le-leb _ _ some, le-leb _ _ small) refl
 
 replay_from : (parts : List (List ℕ)) (c : CommandData) → alone_in Replay parts ≡ Some c → IsCommand (codes "replay" ∷ parts) c
@@ -271,22 +284,33 @@ command_to Show r = refl
 command_to Help r = refl
 command_to DashedHelp r = refl
 command_to (Gen start events window) r =
-    rw (long_reads.to (decimal start) start (refl, r.0), number_reads.to (decimal events) events (refl, omega (arith, r.1)), number_reads.to (decimal window) window (refl, omega (arith, r.3))) (gen_of_to start events window r.1 r.2 r.3)
+    rw (
+      long_reads.to (decimal start) start (refl, r.0),
+      number_reads.to (decimal events) events (refl, omega (arith, r.1)),
+      number_reads.to (decimal window) window (refl, omega (arith, r.3)),
+    ) (gen_of_to start events window r.1 r.2 r.3)
 command_to (Explain m) r = rw (member_reads.to (member_text m) m (refl, r)) refl
 command_to (Serve port) r = rw (port_to port r) refl
 command_to (Join port) r = rw (port_to port r) refl
 command_to (Loop start) r = rw (long_reads.to (decimal start) start (refl, r)) refl
-command_to (Edit site (Ins place text)) r = rw (site_reads.to (decimal site) site (refl, r.0), number_reads.to (decimal place) place (refl, r.1.0), text_to text r.1.1) refl
-command_to (Edit site (Nl place)) r = rw (site_reads.to (decimal site) site (refl, r.0), number_reads.to (decimal place) place (refl, r.1)) refl
-command_to (Edit site (Del place)) r = rw (site_reads.to (decimal site) site (refl, r.0), number_reads.to (decimal place) place (refl, r.1)) refl
-command_to (Edit site (Undo name)) r = rw (site_reads.to (decimal site) site (refl, r.0), name_reads.to (name_text name) name (refl, r.1)) refl
-command_to (Edit site (Redo name)) r = rw (site_reads.to (decimal site) site (refl, r.0), name_reads.to (name_text name) name (refl, r.1)) refl
+command_to (Edit site (Ins place text)) r =
+    rw (site_reads.to (decimal site) site (refl, r.0), number_reads.to (decimal place) place (refl, r.1.0), text_to text r.1.1) refl
+command_to (Edit site (Nl place)) r =
+    rw (site_reads.to (decimal site) site (refl, r.0), number_reads.to (decimal place) place (refl, r.1)) refl
+command_to (Edit site (Del place)) r =
+    rw (site_reads.to (decimal site) site (refl, r.0), number_reads.to (decimal place) place (refl, r.1)) refl
+command_to (Edit site (Undo name)) r =
+    rw (site_reads.to (decimal site) site (refl, r.0), name_reads.to (name_text name) name (refl, r.1)) refl
+command_to (Edit site (Redo name)) r =
+    rw (site_reads.to (decimal site) site (refl, r.0), name_reads.to (name_text name) name (refl, r.1)) refl
 
 -- the clauses of the call, from its answer
-pub found : {A : Type 0} (words : List (String A)) (r : Option Command) → option_map command_data r ≡ command_in (map string_bytes words) → IfSome r (λ c. Spells words (command_data c))
+pub found : {A : Type 0} (words : List (String A)) (r : Option Command) → option_map command_data r ≡ command_in (map string_bytes words)
+    → IfSome r (λ c. Spells words (command_data c))
 unfolding IsCommand
 found words None e = tt
 found words (Some c) e = command_from (map string_bytes words) (command_data c) (sym e)
 
-pub only : {A : Type 0} (words : List (String A)) (r : Option Command) → option_map command_data r ≡ command_in (map string_bytes words) → (c : CommandData) → Spells words c → option_map command_data r ≡ Some c
+pub only : {A : Type 0} (words : List (String A)) (r : Option Command) → option_map command_data r ≡ command_in (map string_bytes words)
+    → (c : CommandData) → Spells words c → option_map command_data r ≡ Some c
 only words r e c spelled = e ∙ ap command_in spelled.0 ∙ command_to c spelled.1

@@ -39,7 +39,8 @@ loses_nothing n left now is = subst (LosesFront n left) (sym is) (record { front
 
 -- ---- a command that reads its input and replies to it
 
-answered_taken : (replies : Replies) (old new : Outside) (r : Status) → IsAnswered replies old new r → LosesFront (MAX_INPUT + 1) old.left new.left
+answered_taken : (replies : Replies) (old new : Outside) (r : Status) → IsAnswered replies old new r
+    → LosesFront (MAX_INPUT + 1) old.left new.left
 answered_taken replies old new Done a = loses_input (MAX_INPUT + 1) old.left new.left a.0.input.read
 answered_taken replies old new Refused a = loses_input (MAX_INPUT + 1) old.left new.left a.input.read
 answered_taken replies old new Words a = absurd a
@@ -60,7 +61,8 @@ answered_held replies old new LinkFault a = absurd a
 answered_held replies old new PeerRefused a = absurd a
 
 answered_reported : (replies : Replies) (old new : Outside) (r : Status)
-    → IsAnswered replies old new r → ¬ Rose old.read_faults new.read_faults → ¬ Rose old.write_faults new.write_faults → IsReported r ⊎ (r ≡ Memory)
+    → IsAnswered replies old new r → ¬ Rose old.read_faults new.read_faults → ¬ Rose old.write_faults new.write_faults
+    → IsReported r ⊎ (r ≡ Memory)
 answered_reported replies old new Done a source sink = inl (inl refl)
 answered_reported replies old new Refused a source sink = inl (inr refl)
 answered_reported replies old new Words a source sink = absurd a
@@ -111,7 +113,8 @@ replay_held old new Memory a = a.front.kept
 replay_held old new LinkFault a = absurd a
 replay_held old new PeerRefused a = absurd a
 
-replay_reported : (old new : Outside) (r : Status) → IsReplayed old new r → ¬ Rose old.read_faults new.read_faults → ¬ Rose old.write_faults new.write_faults → IsReported r ⊎ (r ≡ Memory)
+replay_reported : (old new : Outside) (r : Status) → IsReplayed old new r → ¬ Rose old.read_faults new.read_faults
+    → ¬ Rose old.write_faults new.write_faults → IsReported r ⊎ (r ≡ Memory)
 replay_reported old new Done a source sink = inl (inl refl)
 replay_reported old new Refused a source sink = inl (inr refl)
 replay_reported old new Words a source sink = absurd a
@@ -121,7 +124,8 @@ replay_reported old new Memory a source sink = inr refl
 replay_reported old new LinkFault a source sink = absurd a
 replay_reported old new PeerRefused a source sink = absurd a
 
-pub replay_done : (old new : World) (r : Status) → IsReplayed old.outside new.outside r → new.wire ≡ old.wire → IsDone (row_of Replay) old new r
+pub replay_done : (old new : World) (r : Status) → IsReplayed old.outside new.outside r → new.wire ≡ old.wire
+    → IsDone (row_of Replay) old new r
 replay_done old new r a wire =
     let reported : WentWell (row_of Replay) old new → IsReported r ⊎ (r ≡ Memory) =
     λ well. replay_reported old.outside new.outside r a (well.source refl) well.sink in
@@ -146,7 +150,8 @@ made_held text old new Memory m = held_grows old.held new.held m.0
 made_held text old new LinkFault m = absurd m
 made_held text old new PeerRefused m = absurd m
 
-made_reported : (text : List ℕ) (old new : Outside) (r : Status) → IsMade text old new r → ¬ Rose old.write_faults new.write_faults → IsReported r ⊎ (r ≡ Memory)
+made_reported : (text : List ℕ) (old new : Outside) (r : Status) → IsMade text old new r → ¬ Rose old.write_faults new.write_faults
+    → IsReported r ⊎ (r ≡ Memory)
 made_reported text old new Done m sink = inl (inl refl)
 made_reported text old new Refused m sink = absurd m
 made_reported text old new Words m sink = absurd m
@@ -184,7 +189,8 @@ said_held text old new Memory m = absurd m
 said_held text old new LinkFault m = absurd m
 said_held text old new PeerRefused m = absurd m
 
-said_reported : (text : List ℕ) (old new : Outside) (r : Status) → IsSaid text old new r → ¬ Rose old.write_faults new.write_faults → IsReported r ⊎ (r ≡ Memory)
+said_reported : (text : List ℕ) (old new : Outside) (r : Status) → IsSaid text old new r → ¬ Rose old.write_faults new.write_faults
+    → IsReported r ⊎ (r ≡ Memory)
 said_reported text old new Done m sink = inl (inl refl)
 said_reported text old new Refused m sink = absurd m
 said_reported text old new Words m sink = absurd m
@@ -207,10 +213,12 @@ saying_done text old new r said left wire = record {
 
 -- ---- `serve` and `join`
 
-linked : (side : Side) (port : ℕ) (before after : Wired) → IsLinkedOnce side.role port before after → IsAskedFor (link.Peer side.role port) 1 before after
+linked : (side : Side) (port : ℕ) (before after : Wired) → IsLinkedOnce side.role port before after
+    → IsAskedFor (link.Peer side.role port) 1 before after
 linked side port before after l = inr (l.asked, omega (arith, l.asks, min-le_left (before.asks + 1) last_count))
 
-meeting_taken : (side : Side) (port : ℕ) (old new : Outside) (before after : Wired) (r : Status) → IsMeeting side port old new before after r → LosesFront (MAX_INPUT + 1) old.left new.left
+meeting_taken : (side : Side) (port : ℕ) (old new : Outside) (before after : Wired) (r : Status)
+    → IsMeeting side port old new before after r → LosesFront (MAX_INPUT + 1) old.left new.left
 meeting_taken side port old new before after Done m = loses_input (MAX_INPUT + 1) old.left new.left m.met.input.read
 meeting_taken side port old new before after Refused m = loses_input (MAX_INPUT + 1) old.left new.left m.0.input.read
 meeting_taken side port old new before after Words m = absurd m
@@ -222,7 +230,8 @@ meeting_taken side port old new before after Memory m = m.0.lost
 meeting_taken side port old new before after LinkFault m = loses_input (MAX_INPUT + 1) old.left new.left m.met.input.read
 meeting_taken side port old new before after PeerRefused m = loses_input (MAX_INPUT + 1) old.left new.left m.met.input.read
 
-meeting_held : (side : Side) (port : ℕ) (old new : Outside) (before after : Wired) (r : Status) → IsMeeting side port old new before after r → Grows old.held new.held
+meeting_held : (side : Side) (port : ℕ) (old new : Outside) (before after : Wired) (r : Status) → IsMeeting side port old new before after r
+    → Grows old.held new.held
 meeting_held side port old new before after Done m = written_grows _ old new m.written
 meeting_held side port old new before after Refused m = m.0.kept
 meeting_held side port old new before after Words m = absurd m
@@ -234,7 +243,8 @@ meeting_held side port old new before after Memory m = held_grows old.held new.h
 meeting_held side port old new before after LinkFault m = held_grows old.held new.held m.held
 meeting_held side port old new before after PeerRefused m = written_grows _ old new m.written
 
-meeting_asked : (side : Side) (port : ℕ) (old new : Outside) (before after : Wired) (r : Status) → IsMeeting side port old new before after r → IsAskedFor (link.Peer side.role port) 1 before after
+meeting_asked : (side : Side) (port : ℕ) (old new : Outside) (before after : Wired) (r : Status)
+    → IsMeeting side port old new before after r → IsAskedFor (link.Peer side.role port) 1 before after
 meeting_asked side port old new before after Done m = linked side port before after m.met.link
 meeting_asked side port old new before after Refused m = inl m.1
 meeting_asked side port old new before after Words m = absurd m
@@ -248,7 +258,8 @@ meeting_asked side port old new before after LinkFault m = linked side port befo
 meeting_asked side port old new before after PeerRefused m = linked side port before after m.met.link
 
 meeting_ends : (side : Side) (port : ℕ) (old new : World) (r : Status)
-    → IsMeeting side port old.outside new.outside old.wire new.wire r → WentWell (meeting side port) old new → EndsWell (meeting side port) r
+    → IsMeeting side port old.outside new.outside old.wire new.wire r → WentWell (meeting side port) old new
+    → EndsWell (meeting side port) r
 meeting_ends side port old new Done m well = inl (inl (inl refl))
 meeting_ends side port old new Refused m well = inl (inl (inr refl))
 meeting_ends side port old new Words m well = absurd m
@@ -278,7 +289,8 @@ meeting_done side port old new r m complete = record {
 paired : (before after : Wired) → AreLinked before after → IsAskedFor link.Pair 2 before after
 paired before after l = inr (l.asked, l.asks)
 
-looping_asked : (start : ℕ) (old new : Outside) (before after : Wired) (r : Status) → IsLooping start old new before after r → IsAskedFor link.Pair 2 before after
+looping_asked : (start : ℕ) (old new : Outside) (before after : Wired) (r : Status) → IsLooping start old new before after r
+    → IsAskedFor link.Pair 2 before after
 looping_asked start old new before after Done m = paired before after m.joined.link
 looping_asked start old new before after Refused m = absurd m
 looping_asked start old new before after Words m = absurd m
@@ -289,7 +301,8 @@ looping_asked start old new before after Memory m = elim m.link [ inl same ↦ i
 looping_asked start old new before after LinkFault m = paired before after m.link
 looping_asked start old new before after PeerRefused m = paired before after m.link
 
-looping_held : (start : ℕ) (old new : Outside) (before after : Wired) (r : Status) → IsLooping start old new before after r → Grows old.held new.held
+looping_held : (start : ℕ) (old new : Outside) (before after : Wired) (r : Status) → IsLooping start old new before after r
+    → Grows old.held new.held
 looping_held start old new before after Done m = written_grows _ old new m.written
 looping_held start old new before after Refused m = absurd m
 looping_held start old new before after Words m = absurd m
@@ -301,7 +314,8 @@ looping_held start old new before after LinkFault m = held_grows old.held new.he
 looping_held start old new before after PeerRefused m = written_grows _ old new m.written
 
 looping_ends : (start : ℕ) (old new : World) (r : Status)
-    → IsLooping start old.outside new.outside old.wire new.wire r → WentWell (row_of (Loop start)) old new → EndsWell (row_of (Loop start)) r
+    → IsLooping start old.outside new.outside old.wire new.wire r → WentWell (row_of (Loop start)) old new
+    → EndsWell (row_of (Loop start)) r
 looping_ends start old new Done m well = inl (inl (inl refl))
 looping_ends start old new Refused m well = absurd m
 looping_ends start old new Words m well = absurd m
@@ -321,7 +335,8 @@ told_complete row start old new before after r told (inl (inr short)) refused = 
 told_complete row start old new before after r told (inr p) refused = absurd (subst (IsLoopTold start old new before after) p.1 told)
 
 pub loop_done : (start : ℕ) (old new : World) (r : Status)
-    → IsLooping start old.outside new.outside old.wire new.wire r → ((row_of (Loop start)).matched old → IsLoopTold start old.outside new.outside old.wire new.wire r)
+    → IsLooping start old.outside new.outside old.wire new.wire r
+    → ((row_of (Loop start)).matched old → IsLoopTold start old.outside new.outside old.wire new.wire r)
     → new.outside.left ≡ old.outside.left → IsDone (row_of (Loop start)) old new r
 loop_done start old new r m told left =
     let row : Row = row_of (Loop start) in
@@ -332,7 +347,9 @@ loop_done start old new r m told left =
       held = looping_held start old.outside new.outside old.wire new.wire r m;
       link = looping_asked start old.outside new.outside old.wire new.wire r m;
       ends = looping_ends start old new r m;
-      complete = λ well telling. told_complete row start old.outside new.outside old.wire new.wire r (told telling) (looping_ends start old new r m well) unrefused;
+      complete =
+          λ well telling. told_complete row start old.outside new.outside old.wire new.wire r (told telling)
+          (looping_ends start old new r m well) unrefused;
     }
 
 -- ---- the command that the words spell

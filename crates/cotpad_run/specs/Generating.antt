@@ -19,7 +19,8 @@ plan_of start events window = record { start = start; events = events; window = 
 abbrev pub counts_text : ℕ → ℕ → Counts → List ℕ
 counts_text start events k =
     codes "gen " ++ (decimal start ++ (codes " events " ++ (decimal events ++ (codes " inserts " ++ (decimal k.inserts
-    ++ (codes " deletes " ++ (decimal k.deletes ++ (codes " undos " ++ (decimal k.undos ++ (codes " redos " ++ (decimal k.redos ++ codes "\n")))))))))))
+    ++ (codes " deletes " ++ (decimal k.deletes
+    ++ (codes " undos " ++ (decimal k.undos ++ (codes " redos " ++ (decimal k.redos ++ codes "\n")))))))))))
 
 -- how many of these sites show the same text as this one
 abbrev pub alike : State → List State → ℕ

@@ -48,7 +48,8 @@ pub record IsLinkedOnce (role : Role) (port : ℕ) (before after : Wired) : Type
 
 -- the source's log, read to its end, was loaded as site 0, in this state; at end 0 these bytes were received, which those of the peer
 -- begin with, and these sent, and they say this of the state and of the one afterwards, in which what was integrated stays so
-pub record IsMet (side : Side) (port : ℕ) (says : State → State → List ℕ → List ℕ → Type 0) (old new : Outside) (before after : Wired) : Type 0 where
+pub record IsMet (side : Side) (port : ℕ) (says : State → State → List ℕ → List ℕ → Type 0) (old new : Outside)
+    (before after : Wired) : Type 0 where
   pub site : State
   pub left : State
   pub loaded : IfSome old.left (λ bytes. IsLoadedAs 0 bytes site)
@@ -120,7 +121,8 @@ IsMeeting side port old new before after Refused = IsAnswer RefusesLog true old 
 IsMeeting side port old new before after Words = ⊥
 IsMeeting side port old new before after ReadFault = IsUnread old new × (after ≡ before)
 IsMeeting side port old new before after WriteFault =
-    (IsUnwritten RefusesLog old new × (after ≡ before)) ⊎ (IsLogCutOff side port old new before after ⊎ IsLineCutOff side port old new before after)
+    (IsUnwritten RefusesLog old new × (after ≡ before))
+    ⊎ (IsLogCutOff side port old new before after ⊎ IsLineCutOff side port old new before after)
 IsMeeting side port old new before after Memory = IsOutOfMemory old new × ((after ≡ before) ⊎ IsShortAfter side port old new before after)
 IsMeeting side port old new before after LinkFault = IsLinkLost side port old new before after
 IsMeeting side port old new before after PeerRefused = IsPeerRefused side port old new before after

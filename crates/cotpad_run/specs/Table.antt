@@ -44,7 +44,15 @@ pub record Row : Type 1 where
 
 -- a command that reads its input whole, and writes one reply to it
 abbrev pub replying : Replies → Row
-replying replies = record { answers = λ old new. IsAnswered replies old.outside new.outside; reads = true; streams = false; link = None; matched = λ _. Unit {0} }
+replying replies =
+    record {
+      answers = λ old new. IsAnswered replies old.outside new.outside;
+      reads = true;
+      streams = false;
+      link = None;
+      matched =
+          λ _. Unit {0};
+    }
 
 -- a command that loads a log, and exchanges with a peer at a port: it needs one that agrees, and whose messages come whole
 abbrev pub meeting : Side → ℕ → Row
@@ -58,11 +66,20 @@ meeting side port = record {
 
 -- a command that reads nothing, and writes this text
 abbrev pub saying : List ℕ → Row
-saying text = record { answers = λ old new. IsSaid text old.outside new.outside; reads = false; streams = false; link = None; matched = λ _. Unit {0} }
+saying text =
+    record {
+      answers = λ old new. IsSaid text old.outside new.outside;
+      reads = false;
+      streams = false;
+      link = None;
+      matched =
+          λ _. Unit {0};
+    }
 
 -- the row of each command
 abbrev pub row_of : CommandData → Row
-row_of Replay = record { answers = λ old new. IsReplayed old.outside new.outside; reads = true; streams = true; link = None; matched = λ _. Unit {0} }
+row_of Replay =
+    record { answers = λ old new. IsReplayed old.outside new.outside; reads = true; streams = true; link = None; matched = λ _. Unit {0} }
 row_of Show = replying IsShown
 row_of (Edit site edit) = replying (IsEdited site edit)
 row_of (Explain m) = replying (IsExplained m)
@@ -116,7 +133,8 @@ abbrev pub IsComplete : Row → Status → Type 0
 IsComplete row status = ((status ≡ Done) ⊎ (status ≡ Memory)) ⊎ ((¬ IsSome row.link) × IsReported status)
 
 -- a command of this row was done, and ended with this status: it answers as the row says; it takes no more of the source than an input
--- may have, and one byte; what the sink held stays in front; it asks for no link but the row's; where no call failed, it ends with a reply or
+-- may have, and one byte; what the sink held stays in front; it asks for no link but the row's; where no call failed, it ends with a
+-- reply or
 -- out of memory; and then, with whom it needs, it is complete
 pub record IsDone (row : Row) (old new : World) (status : Status) : Type 0 where
   pub answer : row.answers old new status

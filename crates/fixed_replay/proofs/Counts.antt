@@ -16,7 +16,8 @@ count-either p q d (x ∷ xs) =
     let ih = count-either p q d xs in
     elim (cases_Bool (p x)) [ inl h ↦ rw (h, d x h, ih) (omega arith) | inr h ↦ rw (h, ih) (omega arith) ]
 
-pub each-append : {K : Type 0} (p x : K → Bool) (q k : ℕ) (xs ys : List K) → EachAt p x q k (xs ++ ys) → EachAt p x q k xs × EachAt p x q (count p xs + k) ys
+pub each-append : {K : Type 0} (p x : K → Bool) (q k : ℕ) (xs ys : List K) → EachAt p x q k (xs ++ ys)
+    → EachAt p x q k xs × EachAt p x q (count p xs + k) ys
 each-append p x q k [] ys e = (tt, rw zero-add e)
 each-append p x q k (c ∷ cs) ys e =
     let ih = each-append p x q ((if p c then 1 else 0) + k) cs ys e.1 in
@@ -33,7 +34,8 @@ each-late p x q k (c ∷ cs) h e =
 pub each-between : {K : Type 0} (p x : K → Bool) (q k : ℕ) (cs : List K) → count p cs ≡ 0 → k ≢ q → EachAt p x q k cs → count x cs ≡ 0
 each-between p x q k [] h ne e = refl
 each-between p x q k (c ∷ cs) h ne e =
-    let ih = each-between p x q ((if p c then 1 else 0) + k) cs (omega arith) (λ (j : (if p c then 1 else 0) + k ≡ q). ne (omega arith)) e.1 in
+    let ih = each-between p x q ((if p c then 1 else 0) + k) cs (omega arith) (λ (j : (if p c then 1 else 0) + k ≡ q). ne (omega arith))
+    e.1 in
     elim (cases_Bool (x c)) [ inl t ↦ absurd (ne (e.0 t)) | inr f ↦ rw (f, ih) refl ]
 
 -- the list is empty or its first element passes
@@ -52,7 +54,8 @@ ends-count p c [] e = rw e (omega arith)
 ends-count p c (d ∷ ds) e = let ih = ends-count p d ds e in omega arith
 
 -- the list ends in p with too few of p
-pub each-early : {K : Type 0} (p x : K → Bool) → AreDisjoint p x → (q k : ℕ) (cs : List K) → EndsIn p cs → count p cs + k ≤ q → EachAt p x q k cs → count x cs ≡ 0
+pub each-early : {K : Type 0} (p x : K → Bool) → AreDisjoint p x → (q k : ℕ) (cs : List K) → EndsIn p cs → count p cs + k ≤ q
+    → EachAt p x q k cs → count x cs ≡ 0
 each-early p x d q k [] ends le e = refl
 each-early p x d q k (c ∷ []) ends le e = rw (d c ends) refl
 each-early p x d q k (c ∷ (c' ∷ cs)) ends le e =
@@ -61,7 +64,8 @@ each-early p x d q k (c ∷ (c' ∷ cs)) ends le e =
     elim (cases_Bool (x c)) [ inl t ↦ let b : k ≡ q = e.0 t in absurd (omega arith) | inr f ↦ rw (f, ih) refl ]
 
 -- the list begins in p, with enough of p in front
-pub begins-late : {K : Type 0} (p x : K → Bool) → AreDisjoint p x → (q k : ℕ) (cs : List K) → BeginsIn p cs → q ≤ k → EachAt p x q k cs → count x cs ≡ 0
+pub begins-late : {K : Type 0} (p x : K → Bool) → AreDisjoint p x → (q k : ℕ) (cs : List K) → BeginsIn p cs → q ≤ k → EachAt p x q k cs
+    → count x cs ≡ 0
 begins-late p x d q k [] b le e = refl
 begins-late p x d q k (c ∷ cs) b le e =
     let u : EachAt p x q (1 + k) cs = rw b at e.1 in
@@ -99,11 +103,17 @@ count_all p (x ∷ xs) a = rw (a x (inl refl), count_all p xs (λ c i. a c (inr 
 -- without one that passes, a test of the list fails
 pub any_count : {K : Type 0} (p : K → Bool) (xs : List K) → count p xs ≡ 0 → list_any p xs ≡ false
 any_count p [] h = refl
-any_count p (x ∷ xs) h = elim (cases_Bool (p x)) [ inl k ↦ let e : 1 + count p xs ≡ 0 = rw k at h in absurd (omega arith) | inr k ↦ let e : 0 + count p xs ≡ 0 = rw k at h in rw (k, any_count p xs (omega arith)) refl ]
+any_count p (x ∷ xs) h =
+    elim (cases_Bool (p x)) [
+      | inl k ↦ let e : 1 + count p xs ≡ 0 = rw k at h in absurd (omega arith)
+      | inr k ↦ let e : 0 + count p xs ≡ 0 =
+          rw k at h in rw (k, any_count p xs (omega arith)) refl
+    ]
 
 pub count_any : {K : Type 0} (p : K → Bool) (xs : List K) → list_any p xs ≡ false → count p xs ≡ 0
 count_any p [] h = refl
-count_any p (x ∷ xs) h = elim (cases_Bool (p x)) [ inl k ↦ not_both {b = true} refl (rw k at h) | inr k ↦ rw (k, count_any p xs (rw k at h)) refl ]
+count_any p (x ∷ xs) h =
+    elim (cases_Bool (p x)) [ inl k ↦ not_both {b = true} refl (rw k at h) | inr k ↦ rw (k, count_any p xs (rw k at h)) refl ]
 
 -- a list with no element that passes
 pub count_none : {K : Type 0} (p : K → Bool) (xs : List K) → ((c : K) → IsIn c xs → p c ≡ false) → count p xs ≡ 0

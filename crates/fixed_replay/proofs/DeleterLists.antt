@@ -12,9 +12,11 @@ abbrev pub Entry : Type 0
 Entry = NameData × ℕ
 
 -- an entry after a raise has the raised name or the name of an entry before it
-raised_cases : (d : NameData) (g : ℕ) (e x : Entry) (es : List Entry) → (IsIn x (raise_in d g es) → (x.0 ≡ d) ⊎ ((y : Entry) × IsIn y es × (y.0 ≡ x.0)))
+raised_cases : (d : NameData) (g : ℕ) (e x : Entry) (es : List Entry)
+    → (IsIn x (raise_in d g es) → (x.0 ≡ d) ⊎ ((y : Entry) × IsIn y es × (y.0 ≡ x.0)))
     → (l s : Bool) → (name_eq d e.0 ≡ true → s ≡ true → e.0 ≡ d) → name_eq d e.0 ≡ s
-    → IsIn x (if l then (d, g) ∷ (e ∷ es) else if s then (d, max e.1 g) ∷ es else e ∷ raise_in d g es) → (x.0 ≡ d) ⊎ ((y : Entry) × IsIn y (e ∷ es) × (y.0 ≡ x.0))
+    → IsIn x (if l then (d, g) ∷ (e ∷ es) else if s then (d, max e.1 g) ∷ es else e ∷ raise_in d g es)
+    → (x.0 ≡ d) ⊎ ((y : Entry) × IsIn y (e ∷ es) × (y.0 ≡ x.0))
 raised_cases d g e x es ih true s f q (inl p) = inl (ap (λ (z : Entry). z.0) p)
 raised_cases d g e x es ih true s f q (inr i) = inr (x, i, refl)
 raised_cases d g e x es ih false true f q (inl p) = inl (ap (λ (z : Entry). z.0) p)
@@ -22,17 +24,20 @@ raised_cases d g e x es ih false true f q (inr i) = inr (x, inr i, refl)
 raised_cases d g e x es ih false false f q (inl p) = inr (e, inl refl, ap (λ (z : Entry). z.0) (sym p))
 raised_cases d g e x es ih false false f q (inr i) = elim (ih i) [ inl p ↦ inl p | inr y ↦ inr (y.0, inr y.1, y.2) ]
 
-pub in-raise : (d : NameData) (g : ℕ) (x : Entry) (es : List Entry) → IsIn x (raise_in d g es) → (x.0 ≡ d) ⊎ ((y : Entry) × IsIn y es × (y.0 ≡ x.0))
+pub in-raise : (d : NameData) (g : ℕ) (x : Entry) (es : List Entry) → IsIn x (raise_in d g es)
+    → (x.0 ≡ d) ⊎ ((y : Entry) × IsIn y es × (y.0 ≡ x.0))
 unfolding raise_in
 in-raise d g x [] (inl p) = inl (ap (λ (z : Entry). z.0) p)
 in-raise d g x [] (inr i) = absurd i
-in-raise d g x (e ∷ es) i = raised_cases d g e x es (in-raise d g x es) (name_lt d e.0) (name_eq d e.0) (λ a c. sym (name_same d e.0 a)) refl i
+in-raise d g x (e ∷ es) i =
+    raised_cases d g e x es (in-raise d g x es) (name_lt d e.0) (name_eq d e.0) (λ a c. sym (name_same d e.0 a)) refl i
 
 -- a name before all of a sorted list is none of them
 before_best : (n d : NameData) (es : List Entry) → IsRising es → IsBefore d es → (n ≡ d) ⊎ (name_lt n d ≡ true) → best n es ≡ 0
 before_best n d [] r l e = refl
 before_best n d (x ∷ es) r l e =
-    let less : name_lt n x.0 ≡ true = elim e [ inl p ↦ subst (λ (m : NameData). name_lt m x.0 ≡ true) (sym p) l | inr k ↦ name_transitive n d x.0 k l ] in
+    let less : name_lt n x.0 ≡ true =
+    elim e [ inl p ↦ subst (λ (m : NameData). name_lt m x.0 ≡ true) (sym p) l | inr k ↦ name_transitive n d x.0 k l ] in
     let ih = before_best n x.0 es r.1 r.0 (inr less) in
     rw (name_less_other n x.0 less, ih) refl
 
@@ -71,6 +76,8 @@ best_entry d g (e ∷ es) h = elim (cases_Bool (name_eq d e.0)) [
 -- a raise lowers no best
 pub best_more : (d n : NameData) (g : ℕ) (es : List Entry) → best d es ≤ best d (raise_in n g es)
 best_more d n g es = elim (cases_Bool (name_eq d n)) [
-  | inl k ↦ let s : d ≡ n = name_same d n k in let e : best d (raise_in n g es) ≡ max (suc g) (best d es) = subst (λ (m : NameData). best d (raise_in m g es) ≡ max (suc g) (best d es)) s (best_raise d g es) in omega arith
+  | inl k ↦ let s : d ≡ n =
+      name_same d n k in let e : best d (raise_in n g es) ≡ max (suc g) (best d es) =
+      subst (λ (m : NameData). best d (raise_in m g es) ≡ max (suc g) (best d es)) s (best_raise d g es) in omega arith
   | inr k ↦ let e = best_raise_other d n g es k in omega arith
 ]

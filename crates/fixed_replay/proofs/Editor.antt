@@ -26,7 +26,16 @@ abbrev pub form_table : Table Form (List CellData)
 form_table = record { inclusion = form_inclusion; Fits = FitsCells; added = added_by; cells = cells_of; apply = applied }
 
 pub form_is_inclusion : IsInclusion form_inclusion
-form_is_inclusion = record { tp2 = form_tp2; apart_sym = form_apart_sym; apart_over = form_apart_over; extent_over = form_extent_over; bound_place = form_bound_place; bound_over = form_bound_over }
+form_is_inclusion =
+    record {
+      tp2 = form_tp2;
+      apart_sym = form_apart_sym;
+      apart_over = form_apart_over;
+      extent_over = form_extent_over;
+      bound_place =
+          form_bound_place;
+      bound_over = form_bound_over;
+    }
 
 pub form_is_table : IsTable form_table
 form_is_table = record {
@@ -60,7 +69,9 @@ pub record IsCoverOf (c : Cover) (f : Form) : Type 0 where
   pub mark : cover.mark ≡ c.mark
 
 insert_over : (a : Ins) (f k : Form) → IsInsertOf a f → IsInsertOf a (form_over f k)
-insert_over a (Insert c) (Insert d) i = let e : c ≡ i.ins = ins_once c i.ins i.is in record { ins = _; is = refl; name = ap (λ (x : Ins). x.name) e ∙ i.name; bare = ap bare_cells e ∙ i.bare }
+insert_over a (Insert c) (Insert d) i =
+    let e : c ≡ i.ins = ins_once c i.ins i.is in
+    record { ins = _; is = refl; name = ap (λ (x : Ins). x.name) e ∙ i.name; bare = ap bare_cells e ∙ i.bare }
   where
     ins_once : (x y : Ins) → Insert x ≡ Insert y → x ≡ y
     ins_once x y e = cc
@@ -69,23 +80,29 @@ insert_over a (Covered c) k i = absurd (let e = i.is in (cc))
 
 cover_over : (c : Cover) (f k : Form) → IsCoverOf c f → IsCoverOf c (form_over f k)
 cover_over c (Insert d) k i = absurd (let e = i.is in (cc))
-cover_over c (Covered d) (Insert a) i = record { cover = _; is = refl; mark = let e : d ≡ i.cover = cover_once d i.cover i.is in ap (λ (x : Cover). x.mark) e ∙ i.mark }
+cover_over c (Covered d) (Insert a) i =
+    record { cover = _; is = refl; mark = let e : d ≡ i.cover = cover_once d i.cover i.is in ap (λ (x : Cover). x.mark) e ∙ i.mark }
   where
     cover_once : (x y : Cover) → Covered x ≡ Covered y → x ≡ y
     cover_once x y e = cc
 cover_over c (Covered d) (Covered a) i = i
 
 -- the forms of a member are of the kind of its base form
-pub derived_insert : (b : Family Form) (a : Ins) (m : Member) (C : Member → Bool) (f : Form) → b.form m ≡ Insert a → Derived form_over b m C f → IsInsertOf a f
+pub derived_insert : (b : Family Form) (a : Ins) (m : Member) (C : Member → Bool) (f : Form) → b.form m ≡ Insert a
+    → Derived form_over b m C f → IsInsertOf a f
 derived_insert b a m C f base (at_base i s e) = record { ins = a; is = e ∙ base; name = refl; bare = refl }
-derived_insert b a m C f base (by_step D x g k i ne l s dg dk e) = subst (λ (h : Form). IsInsertOf a h) (sym e) (insert_over a g k (derived_insert b a m D g base dg))
+derived_insert b a m C f base (by_step D x g k i ne l s dg dk e) =
+    subst (λ (h : Form). IsInsertOf a h) (sym e) (insert_over a g k (derived_insert b a m D g base dg))
 
-pub derived_cover : (b : Family Form) (c : Cover) (m : Member) (C : Member → Bool) (f : Form) → b.form m ≡ Covered c → Derived form_over b m C f → IsCoverOf c f
+pub derived_cover : (b : Family Form) (c : Cover) (m : Member) (C : Member → Bool) (f : Form) → b.form m ≡ Covered c
+    → Derived form_over b m C f → IsCoverOf c f
 derived_cover b c m C f base (at_base i s e) = record { cover = c; is = e ∙ base; mark = refl }
-derived_cover b c m C f base (by_step D x g k i ne l s dg dk e) = subst (λ (h : Form). IsCoverOf c h) (sym e) (cover_over c g k (derived_cover b c m D g base dg))
+derived_cover b c m C f base (by_step D x g k i ne l s dg dk e) =
+    subst (λ (h : Form). IsCoverOf c h) (sym e) (cover_over c g k (derived_cover b c m D g base dg))
 
 -- an insert is of the member of its name
-pub insert_owner : (b : Family Form) → HasOwnNames form_table b → (x : Member) (a : Ins) → IsIn x b.members → b.form x ≡ Insert a → x ≡ Original a.name
+pub insert_owner : (b : Family Form) → HasOwnNames form_table b → (x : Member) (a : Ins) → IsIn x b.members → b.form x ≡ Insert a
+    → x ≡ Original a.name
 insert_owner b own_names x a i base = elim (member_cases x (Original a.name)) [
   | inl e ↦ e
   | inr ne ↦ absurd ((subst (λ (f : Form). LacksName (added_by f) a.name) base (own_names x a.name i ne)).0 refl)
@@ -103,10 +120,13 @@ names_of b (x ∷ xs) = named_by (b.form x) ++ names_of b xs
 
 pub names-append : (b : Family Form) (xs ys : List Member) → names_of b (xs ++ ys) ≡ names_of b xs ++ names_of b ys
 names-append b [] ys = refl
-names-append b (x ∷ xs) ys = ap (λ (ns : List NameData). named_by (b.form x) ++ ns) (names-append b xs ys) ∙ sym (append_assoc (named_by (b.form x)) (names_of b xs) (names_of b ys))
+names-append b (x ∷ xs) ys =
+    ap (λ (ns : List NameData). named_by (b.form x) ++ ns) (names-append b xs ys)
+    ∙ sym (append_assoc (named_by (b.form x)) (names_of b xs) (names_of b ys))
 
 -- names that pass a test are those of the members that pass
-names_kept : (b : Family Form) (sees : NameData → Bool) (D : Member → Bool) (x : Member) (xs : List Member) (f : Form) → b.form x ≡ f → ((a : Ins) → f ≡ Insert a → D x ≡ sees a.name) → filter (λ n. not (sees n)) (names_of b xs) ≡ names_of b (filter (λ z. not (D z)) xs)
+names_kept : (b : Family Form) (sees : NameData → Bool) (D : Member → Bool) (x : Member) (xs : List Member) (f : Form) → b.form x ≡ f
+    → ((a : Ins) → f ≡ Insert a → D x ≡ sees a.name) → filter (λ n. not (sees n)) (names_of b xs) ≡ names_of b (filter (λ z. not (D z)) xs)
     → filter (λ n. not (sees n)) (named_by f ++ names_of b xs) ≡ names_of b (filter (λ z. not (D z)) (x ∷ xs))
 names_kept b sees D x xs (Insert a) e h ih = elim (cases_Bool (D x)) [
   | inl k ↦ let l : sees a.name ≡ true = sym (h a refl) ∙ k in rw (l, k) ih
@@ -114,6 +134,10 @@ names_kept b sees D x xs (Insert a) e h ih = elim (cases_Bool (D x)) [
 ]
 names_kept b sees D x xs (Covered c) e h ih = elim (cases_Bool (D x)) [ inl k ↦ rw k ih | inr k ↦ rw (k, e) ih ]
 
-pub names_filter : (b : Family Form) → HasOwnNames form_table b → (D : Member → Bool) (xs : List Member) → ((z : Member) → IsIn z xs → IsIn z b.members) → filter (λ n. not (D (Original n))) (names_of b xs) ≡ names_of b (filter (λ z. not (D z)) xs)
+pub names_filter : (b : Family Form) → HasOwnNames form_table b → (D : Member → Bool) (xs : List Member)
+    → ((z : Member) → IsIn z xs → IsIn z b.members)
+    → filter (λ n. not (D (Original n))) (names_of b xs) ≡ names_of b (filter (λ z. not (D z)) xs)
 names_filter b own D [] l = refl
-names_filter b own D (x ∷ xs) l = names_kept b (λ n. D (Original n)) D x xs (b.form x) refl (λ a e. ap D (insert_owner b own x a (l x (inl refl)) e)) (names_filter b own D xs (λ z i. l z (inr i)))
+names_filter b own D (x ∷ xs) l =
+    names_kept b (λ n. D (Original n)) D x xs (b.form x) refl (λ a e. ap D (insert_owner b own x a (l x (inl refl)) e))
+    (names_filter b own D xs (λ z i. l z (inr i)))

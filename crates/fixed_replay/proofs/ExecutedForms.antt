@@ -27,7 +27,8 @@ use Rattle.fixed_replay.proofs.FixedList.{fixed_cells}
 use Rattle.fixed_replay.proofs.Reading.{replayed}
 use Rattle.fixed_replay.proofs.ValidFamilies.{valid_family, valid_own_names, valid_ranks, valid_groups, valid_is_family, same_inserts}
 
-pub executed_replayed : (h : List OpData) → IsValid h → (form : Member → Form) → AreBaseForms h form → (fs : List Form) → AreFormsFrom form_over (family_in h form) none (members_in h) fs → IsReplayed h (executed applied [] fs)
+pub executed_replayed : (h : List OpData) → IsValid h → (form : Member → Form) → AreBaseForms h form → (fs : List Form)
+    → AreFormsFrom form_over (family_in h form) none (members_in h) fs → IsReplayed h (executed applied [] fs)
 executed_replayed h v form forms fs df =
     let b = family_in h form in
     let known = valid_family h v form forms in
@@ -35,21 +36,26 @@ executed_replayed h v form forms fs df =
     let w = setting_of b known own in
     let st : At w none [] = empty_state w [] refl in
     let rising = sort_by-sorted is_earlier earlier_asym earlier_trans (insertions_in h) (insertions_comparable h (told_apart h v)) in
-    let cells = fixed_cells b known own (rank_in h v) (valid_ranks h v form forms) (valid_groups h v form forms) (fixed_order h) rising (same_inserts h v form forms) fs st df in
+    let cells =
+    fixed_cells b known own (rank_in h v) (valid_ranks h v form forms) (valid_groups h v form forms) (fixed_order h) rising
+    (same_inserts h v form forms) fs st df in
     replayed b known own (valid_groups h v form forms) h (valid_is_family h v form forms) fs st df (sym cells) (told_apart h v)
 
 -- the computed forms of a history are its forms
-pub computed_executed : (h : List OpData) → IsValid h → (form : Member → Form) → AreBaseForms h form → AreFormsFrom form_over (family_in h form) none (members_in h) (computed_forms form_over (family_in h form) (members_in h) none)
+pub computed_executed : (h : List OpData) → IsValid h → (form : Member → Form) → AreBaseForms h form
+    → AreFormsFrom form_over (family_in h form) none (members_in h) (computed_forms form_over (family_in h form) (members_in h) none)
 computed_executed h v form forms =
     let b = family_in h form in
     let known = valid_family h v form forms in
     computed_list (deriving_of (setting_of b known (valid_own_names h v form forms))) (members_in h) none (book_run b known.causal)
 
-pub history_forms : (h : List OpData) → IsValid h → (form : Member → Form) → AreBaseForms h form → (fs : List Form) × AreFormsFrom form_over (family_in h form) none (members_in h) fs
+pub history_forms : (h : List OpData) → IsValid h → (form : Member → Form) → AreBaseForms h form
+    → (fs : List Form) × AreFormsFrom form_over (family_in h form) none (members_in h) fs
 history_forms h v form forms = (computed_forms form_over (family_in h form) (members_in h) none, computed_executed h v form forms)
 
 -- whatever causal order the members are executed in
-pub any_order_replayed : (h : List OpData) → IsValid h → (form : Member → Form) → AreBaseForms h form → (ms : List Member) (fs : List Form) → SameElements ms (members_in h) → AreFormsFrom form_over (family_in h form) none ms fs → IsReplayed h (executed applied [] fs)
+pub any_order_replayed : (h : List OpData) → IsValid h → (form : Member → Form) → AreBaseForms h form → (ms : List Member) (fs : List Form)
+    → SameElements ms (members_in h) → AreFormsFrom form_over (family_in h form) none ms fs → IsReplayed h (executed applied [] fs)
 any_order_replayed h v form forms ms fs same df =
     let b = family_in h form in
     let known = valid_family h v form forms in
@@ -60,7 +66,9 @@ any_order_replayed h v form forms ms fs same df =
     subst (λ (cs : List CellData). IsReplayed h cs) (sym one) (executed_replayed h v form forms gs.0 gs.1)
 
 -- the replay along any causal list
-pub any_list_replayed : (h : List OpData) (form : Member → Form) (rank : NameData → ℕ) (ms : List Member) (fs : List Form) → IsValid h → AreBaseForms h form → AreFormsFrom form_over (family_in h form) none ms fs → replay [] [] (insertions_of (family_in h form) rank ms) ≡ cells_of (executed applied [] fs)
+pub any_list_replayed : (h : List OpData) (form : Member → Form) (rank : NameData → ℕ) (ms : List Member) (fs : List Form) → IsValid h
+    → AreBaseForms h form → AreFormsFrom form_over (family_in h form) none ms fs
+    → replay [] [] (insertions_of (family_in h form) rank ms) ≡ cells_of (executed applied [] fs)
 any_list_replayed h form rank ms fs v forms df =
     let b = family_in h form in
     let known = valid_family h v form forms in
@@ -70,7 +78,8 @@ any_list_replayed h form rank ms fs v forms df =
 
 -- ---- what is shown of such cells
 
-shown_part : (h : List OpData) (all cs : List CellData) → IsReplayed h all → ((d : CellData) → IsIn d cs → IsIn d all) → map cell_key (filter cell_shown cs) ≡ filter (is_shown h) (cells_of cs)
+shown_part : (h : List OpData) (all cs : List CellData) → IsReplayed h all → ((d : CellData) → IsIn d cs → IsIn d all)
+    → map cell_key (filter cell_shown cs) ≡ filter (is_shown h) (cells_of cs)
 shown_part h all [] r i = refl
 shown_part h all (d ∷ ds) r i =
     let ih = shown_part h all ds r (λ e j. i e (inr j)) in
@@ -83,15 +92,18 @@ shown_part h all (d ∷ ds) r i =
 pub replayed_shown : (h : List OpData) (cs : List CellData) → IsReplayed h cs → map cell_key (filter cell_shown cs) ≡ shown h
 replayed_shown h cs r = shown_part h cs cs r (λ d i. i) ∙ ap (filter (is_shown h)) r.cells
 
-characters_part : (h : List OpData) (all cs : List CellData) → IsReplayed h all → ((d : CellData) → IsIn d cs → IsIn d all) → map (λ (d : CellData). d.ch) (filter cell_shown cs) ≡ map (character_in h) (map cell_key (filter cell_shown cs))
+characters_part : (h : List OpData) (all cs : List CellData) → IsReplayed h all → ((d : CellData) → IsIn d cs → IsIn d all)
+    → map (λ (d : CellData). d.ch) (filter cell_shown cs) ≡ map (character_in h) (map cell_key (filter cell_shown cs))
 characters_part h all [] r i = refl
 characters_part h all (d ∷ ds) r i =
     let ih = characters_part h all ds r (λ e j. i e (inr j)) in
     let same = r.characters d (i d (inl refl)) in
     elim (cases_Bool (cell_shown d)) [ inl k ↦ rw (k, same, ih) refl | inr k ↦ rw (k, ih) refl ]
 
-pub replayed_characters : (h : List OpData) (cs : List CellData) → IsReplayed h cs → map (λ (d : CellData). d.ch) (filter cell_shown cs) ≡ characters_of h
+pub replayed_characters : (h : List OpData) (cs : List CellData) → IsReplayed h cs
+    → map (λ (d : CellData). d.ch) (filter cell_shown cs) ≡ characters_of h
 replayed_characters h cs r = characters_part h cs cs r (λ d i. i) ∙ ap (map (character_in h)) (replayed_shown h cs r)
 
-pub replayed_text : (h : List OpData) (cs : List CellData) → IsReplayed h cs → encode_utf8_all (map (λ (d : CellData). d.ch) (filter cell_shown cs)) ≡ text_of h
+pub replayed_text : (h : List OpData) (cs : List CellData) → IsReplayed h cs
+    → encode_utf8_all (map (λ (d : CellData). d.ch) (filter cell_shown cs)) ≡ text_of h
 replayed_text h cs r = ap encode_utf8_all (replayed_characters h cs r)

@@ -24,7 +24,8 @@ use Rattle.fixed_replay.proofs.Elements.{not_both}
 abbrev pub same_cell : Cell → Cell → Bool
 same_cell d c = name_eq d.0 c.0 && (d.1 == c.1)
 
-pub stands_behind : (xs : List Cell) (d : Cell) (ys : List Cell) (n : ℕ) (c : Cell) → length xs ≡ n → stands_at n (xs ++ (d ∷ ys)) c ≡ same_cell d c
+pub stands_behind : (xs : List Cell) (d : Cell) (ys : List Cell) (n : ℕ) (c : Cell) → length xs ≡ n
+    → stands_at n (xs ++ (d ∷ ys)) c ≡ same_cell d c
 unfolding stands_at
 stands_behind [] d ys zero c e = refl
 stands_behind [] d ys (suc n) c e = absurd (omega arith)
@@ -55,8 +56,14 @@ stands_in (suc n) (d ∷ ds) c h = inr (stands_in n ds c h)
 
 pub count_zero : {K : Type 0} (p : K → Bool) (xs : List K) (x : K) → count p xs ≡ 0 → IsIn x xs → p x ≡ false
 count_zero p [] x h i = absurd i
-count_zero p (y ∷ ys) x h (inl e) = elim (cases_Bool (p y)) [ inl k ↦ let u : 1 + count p ys ≡ 0 = rw k at h in absurd (omega arith) | inr k ↦ ap p e ∙ k ]
-count_zero p (y ∷ ys) x h (inr i) = elim (cases_Bool (p y)) [ inl k ↦ let u : 1 + count p ys ≡ 0 = rw k at h in absurd (omega arith) | inr k ↦ let u : 0 + count p ys ≡ 0 = rw k at h in count_zero p ys x (omega arith) i ]
+count_zero p (y ∷ ys) x h (inl e) =
+    elim (cases_Bool (p y)) [ inl k ↦ let u : 1 + count p ys ≡ 0 = rw k at h in absurd (omega arith) | inr k ↦ ap p e ∙ k ]
+count_zero p (y ∷ ys) x h (inr i) =
+    elim (cases_Bool (p y)) [
+      | inl k ↦ let u : 1 + count p ys ≡ 0 = rw k at h in absurd (omega arith)
+      | inr k ↦ let u : 0 + count p ys ≡ 0 =
+          rw k at h in count_zero p ys x (omega arith) i
+    ]
 
 -- ---- marks of covers
 
@@ -91,20 +98,29 @@ marks_of b S C c [] = bare_at c (b.form (Original c.0))
 marks_of b S C c (m ∷ ms) = mark_by (b.form m) (C m && hits_in b S m c) (marks_of b S C c ms)
 
 module _ (b : Family Form) (S : List Cell) where
-  pub marks_same : (C D : Member → Bool) (c : Cell) (ms : List Member) → ((z : Member) → IsIn z ms → C z ≡ D z) → marks_of b S C c ms ≡ marks_of b S D c ms
+  pub marks_same : (C D : Member → Bool) (c : Cell) (ms : List Member) → ((z : Member) → IsIn z ms → C z ≡ D z)
+      → marks_of b S C c ms ≡ marks_of b S D c ms
   marks_same C D c [] h = refl
-  marks_same C D c (m ∷ ms) h = ap₂ (λ (p : Bool) (d : CellData). mark_by (b.form m) (p && hits_in b S m c) d) (h m (inl refl)) (marks_same C D c ms (λ z i. h z (inr i)))
+  marks_same C D c (m ∷ ms) h =
+      ap₂ (λ (p : Bool) (d : CellData). mark_by (b.form m) (p && hits_in b S m c) d) (h m (inl refl))
+      (marks_same C D c ms (λ z i. h z (inr i)))
 
   -- one member more leaves its own mark
-  pub marks_plus : (C : Member → Bool) (x : Member) (c : Cell) (ms : List Member) → C x ≡ false → IsIn x ms → AreApart ms → marks_of b S (plus C x) c ms ≡ mark_by (b.form x) (hits_in b S x c) (marks_of b S C c ms)
+  pub marks_plus : (C : Member → Bool) (x : Member) (c : Cell) (ms : List Member) → C x ≡ false → IsIn x ms → AreApart ms
+      → marks_of b S (plus C x) c ms ≡ mark_by (b.form x) (hits_in b S x c) (marks_of b S C c ms)
   marks_plus C x c [] l i a = absurd i
   marks_plus C x c (m ∷ ms) l (inl e) a =
       let here : plus C x m ≡ true = subst (λ (z : Member). plus C x z ≡ true) e (plus_here C x) in
       let out : C m ≡ false = subst (λ (z : Member). C z ≡ false) e l in
-      let rest : marks_of b S (plus C x) c ms ≡ marks_of b S C c ms = marks_same (plus C x) C c ms (λ z i. plus_other C x z (λ (p : x ≡ z). a.0 z i (sym e ∙ p))) in
-      let left : marks_of b S (plus C x) c (m ∷ ms) ≡ mark_by (b.form m) (hits_in b S m c) (marks_of b S C c ms) = ap₂ (λ (p : Bool) (d : CellData). mark_by (b.form m) (p && hits_in b S m c) d) here rest in
-      let right : marks_of b S C c (m ∷ ms) ≡ marks_of b S C c ms = ap (λ (p : Bool). mark_by (b.form m) (p && hits_in b S m c) (marks_of b S C c ms)) out ∙ mark_none (b.form m) (marks_of b S C c ms) in
-      left ∙ (ap (λ (z : Member). mark_by (b.form z) (hits_in b S z c) (marks_of b S C c ms)) (sym e) ∙ ap (mark_by (b.form x) (hits_in b S x c)) (sym right))
+      let rest : marks_of b S (plus C x) c ms ≡ marks_of b S C c ms =
+      marks_same (plus C x) C c ms (λ z i. plus_other C x z (λ (p : x ≡ z). a.0 z i (sym e ∙ p))) in
+      let left : marks_of b S (plus C x) c (m ∷ ms) ≡ mark_by (b.form m) (hits_in b S m c) (marks_of b S C c ms) =
+      ap₂ (λ (p : Bool) (d : CellData). mark_by (b.form m) (p && hits_in b S m c) d) here rest in
+      let right : marks_of b S C c (m ∷ ms) ≡ marks_of b S C c ms =
+      ap (λ (p : Bool). mark_by (b.form m) (p && hits_in b S m c) (marks_of b S C c ms)) out
+      ∙ mark_none (b.form m) (marks_of b S C c ms) in
+      left ∙ (ap (λ (z : Member). mark_by (b.form z) (hits_in b S z c) (marks_of b S C c ms)) (sym e)
+      ∙ ap (mark_by (b.form x) (hits_in b S x c)) (sym right))
   marks_plus C x c (m ∷ ms) l (inr i) a =
       let other : plus C x m ≡ C m = plus_other C x m (λ (p : x ≡ m). a.0 x i (sym p)) in
       let ih = marks_plus C x c ms l i a.1 in
@@ -112,7 +128,8 @@ module _ (b : Family Form) (S : List Cell) where
       ∙ mark_two (b.form m) (b.form x) (C m && hits_in b S m c) (hits_in b S x c) (marks_of b S C c ms)
 
   -- a cell that no cover of C hits is as its insert made it
-  pub marks_none : (C : Member → Bool) (c : Cell) (ms : List Member) → ((z : Member) → C z ≡ true → hits_in b S z c ≡ false) → marks_of b S C c ms ≡ bare_at c (b.form (Original c.0))
+  pub marks_none : (C : Member → Bool) (c : Cell) (ms : List Member) → ((z : Member) → C z ≡ true → hits_in b S z c ≡ false)
+      → marks_of b S C c ms ≡ bare_at c (b.form (Original c.0))
   marks_none C c [] h = refl
   marks_none C c (m ∷ ms) h =
       let off : (C m && hits_in b S m c) ≡ false = elim (cases_Bool (C m)) [ inl k ↦ rw (k, h m k) refl | inr k ↦ rw k refl ] in

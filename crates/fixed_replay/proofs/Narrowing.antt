@@ -17,17 +17,22 @@ narrowed-append o (x ∷ xs) ys g = narrowed-append o xs ys (narrowed_by o x g)
 pub narrowed_seen : (o : Insertion) (x : NameData) (g : Gap Cell) → o.sees x ≡ true → narrowed_by o x g ≡ g
 narrowed_seen o x g h = rw h refl
 
-unseen_step : (o : Insertion) (x : NameData) (xs ys : List NameData) (g : Gap Cell) → (o.sees x ≡ true → ys ≡ xs) → (o.sees x ≡ false → ys ≡ x ∷ xs) → narrowed o xs (narrowed_by o x g) ≡ narrowed o ys g
+unseen_step : (o : Insertion) (x : NameData) (xs ys : List NameData) (g : Gap Cell) → (o.sees x ≡ true → ys ≡ xs)
+    → (o.sees x ≡ false → ys ≡ x ∷ xs) → narrowed o xs (narrowed_by o x g) ≡ narrowed o ys g
 unfolding narrowed
 unseen_step o x xs ys g f h = elim (cases_Bool (o.sees x)) [
   | inl k ↦ ap (λ (e : Gap Cell). narrowed o xs e) (narrowed_seen o x g k) ∙ ap (λ (zs : List NameData). narrowed o zs g) (sym (f k))
   | inr k ↦ ap (λ (zs : List NameData). narrowed o zs g) (sym (h k))
 ]
 
-pub narrowed_unseen : (o : Insertion) (xs : List NameData) (g : Gap Cell) → narrowed o xs g ≡ narrowed o (filter (λ (x : NameData). not (o.sees x)) xs) g
+pub narrowed_unseen : (o : Insertion) (xs : List NameData) (g : Gap Cell)
+    → narrowed o xs g ≡ narrowed o (filter (λ (x : NameData). not (o.sees x)) xs) g
 unfolding narrowed
 narrowed_unseen o [] g = refl
-narrowed_unseen o (x ∷ xs) g = narrowed_unseen o xs (narrowed_by o x g) ∙ unseen_step o x (filter (λ (y : NameData). not (o.sees y)) xs) (filter (λ (y : NameData). not (o.sees y)) (x ∷ xs)) g (λ h. rw h refl) (λ h. rw h refl)
+narrowed_unseen o (x ∷ xs) g =
+    narrowed_unseen o xs (narrowed_by o x g)
+    ∙ unseen_step o x (filter (λ (y : NameData). not (o.sees y)) xs) (filter (λ (y : NameData). not (o.sees y)) (x ∷ xs)) g (λ h. rw h refl)
+    (λ h. rw h refl)
 
 narrowed_by_whole : (o : Insertion) (x : NameData) (g : Gap Cell) → whole_of (narrowed_by o x g) ≡ whole_of g
 narrowed_by_whole o x g = elim (cases_Bool (o.sees x)) [ inl h ↦ rw h refl | inr h ↦ rw h (narrow_whole _ _ g) ]
@@ -41,7 +46,8 @@ pub gap_of_whole : (o : Insertion) (earlier : List NameData) (cells : List Cell)
 gap_of_whole o earlier cells = narrowed_whole o earlier (gap (λ c. o.sees c.0) o.place cells) ∙ gap_whole (λ c. o.sees c.0) o.place cells
 
 -- a put adds the cells of the insert and no others
-pub in-put : (c : Cell) (o : Insertion) (earlier : List NameData) (cells : List Cell) → IsIn c (put o earlier cells) → IsIn c cells ⊎ IsIn c (cells_from o)
+pub in-put : (c : Cell) (o : Insertion) (earlier : List NameData) (cells : List Cell) → IsIn c (put o earlier cells)
+    → IsIn c cells ⊎ IsIn c (cells_from o)
 in-put c o earlier cells i = in_parts (in_cases c g.before (g.between ++ (cells_from o ++ g.behind)) i)
   where
     g : Gap Cell
@@ -61,7 +67,8 @@ in-put c o earlier cells i = in_parts (in_cases c g.before (g.between ++ (cells_
     ]
 
 -- a cell of a replay stood there before, or is of an insert of the list
-pub in-replay : (c : Cell) (os : List Insertion) (earlier : List NameData) (cells : List Cell) → IsIn c (replay earlier cells os) → IsIn c cells ⊎ ((o : Insertion) × IsIn o os × IsIn c (cells_from o))
+pub in-replay : (c : Cell) (os : List Insertion) (earlier : List NameData) (cells : List Cell) → IsIn c (replay earlier cells os)
+    → IsIn c cells ⊎ ((o : Insertion) × IsIn o os × IsIn c (cells_from o))
 unfolding replay
 in-replay c [] earlier cells i = inl i
 in-replay c (o ∷ os) earlier cells i = elim (in-replay c os (earlier ++ (o.name ∷ [])) (put o earlier cells) i) [

@@ -40,7 +40,8 @@ pub record IsRead (h : List OpData) (i : Insertion) : Type 0 where
   pub is : i ≡ insertion name place context
 
 read_behind : (i : Insertion) (o : OpData) (os : List OpData) → IsRead os i → IsRead (o ∷ os) i
-read_behind i o os r = record { name = r.name; place = r.place; character = r.character; context = r.context; there = inr r.there; is = r.is }
+read_behind i o os r =
+    record { name = r.name; place = r.place; character = r.character; context = r.context; there = inr r.there; is = r.is }
 
 pub in-insertions : (i : Insertion) (h : List OpData) → IsIn i (insertions_in h) → IsRead h i
 in-insertions i [] a = absurd a
@@ -49,9 +50,11 @@ in-insertions i (inserting n p ch c ∷ os) (inr a) = read_behind i (inserting n
 in-insertions i (deleting n p c ∷ os) a = read_behind i (deleting n p c) os (in-insertions i os a)
 in-insertions i (undoing s n g c ∷ os) a = read_behind i (undoing s n g c) os (in-insertions i os a)
 
-pub insertions-in : (n : NameData) (p ch : ℕ) (c : ContextData) (h : List OpData) → IsIn (inserting n p ch c) h → IsIn (insertion n p c) (insertions_in h)
+pub insertions-in : (n : NameData) (p ch : ℕ) (c : ContextData) (h : List OpData) → IsIn (inserting n p ch c) h
+    → IsIn (insertion n p c) (insertions_in h)
 insertions-in n p ch c [] a = absurd a
-insertions-in n p ch c (inserting n' p' ch' c' ∷ os) (inl e) = inl (let a : n ≡ n' = (cc) in let b : p ≡ p' = (cc) in let d : c ≡ c' = (cc) in λ i. insertion (a i) (b i) (d i))
+insertions-in n p ch c (inserting n' p' ch' c' ∷ os) (inl e) =
+    inl (let a : n ≡ n' = (cc) in let b : p ≡ p' = (cc) in let d : c ≡ c' = (cc) in λ i. insertion (a i) (b i) (d i))
 insertions-in n p ch c (inserting n' p' ch' c' ∷ os) (inr a) = inr (insertions-in n p ch c os a)
 insertions-in n p ch c (deleting n' p' c' ∷ os) (inl e) = absurd (cc)
 insertions-in n p ch c (deleting n' p' c' ∷ os) (inr a) = insertions-in n p ch c os a
@@ -90,10 +93,12 @@ module _ (h k : List OpData) (told_h : AreToldApart h) (told_k : AreToldApart k)
   back : (o : OpData) → is_original o ≡ true → IsIn o k → IsIn o h
   back o e i = contains_in o h ((same.originals o e).1 (in_contains o k i))
 
-  moved : (a b : List OpData) → ((o : OpData) → is_original o ≡ true → IsIn o a → IsIn o b) → (z : Insertion) → IsIn z (insertions_in a) → IsIn z (insertions_in b)
+  moved : (a b : List OpData) → ((o : OpData) → is_original o ≡ true → IsIn o a → IsIn o b) → (z : Insertion) → IsIn z (insertions_in a)
+      → IsIn z (insertions_in b)
   moved a b f z i =
       let r = in-insertions z a i in
-      subst (λ (w : Insertion). IsIn w (insertions_in b)) (sym r.is) (insertions-in r.name r.place r.character r.context b (f (inserting r.name r.place r.character r.context) refl r.there))
+      subst (λ (w : Insertion). IsIn w (insertions_in b)) (sym r.is)
+      (insertions-in r.name r.place r.character r.context b (f (inserting r.name r.place r.character r.context) refl r.there))
 
   same_elements : SameElements (fixed_order h) (fixed_order k)
   same_elements = record {
@@ -128,11 +133,18 @@ in-replay_of h c i = elim (in-replay c (fixed_order h) [] [] i) [
     of_insert o j (inl e) =
         let r = in-insertions o h (in-sort_by is_earlier o (insertions_in h) j) in
         let name : c.0 ≡ r.name = ap (λ (d : Cell). d.0) e ∙ ap (λ (x : Insertion). x.name) r.is in
-        record { place = r.place; character = r.character; context = r.context; there = subst (λ (n : NameData). IsIn (inserting n r.place r.character r.context) h) (sym name) r.there }
+        record {
+          place = r.place;
+          character = r.character;
+          context = r.context;
+          there =
+              subst (λ (n : NameData). IsIn (inserting n r.place r.character r.context) h) (sym name) r.there;
+        }
 
 -- ---- characters
 
-pub character_at : (h : List OpData) → AreToldApart h → (n : NameData) (p ch : ℕ) (ctx : ContextData) (offset : ℕ) → IsIn (inserting n p ch ctx) h → character_in h (n, offset) ≡ ch
+pub character_at : (h : List OpData) → AreToldApart h → (n : NameData) (p ch : ℕ) (ctx : ContextData) (offset : ℕ)
+    → IsIn (inserting n p ch ctx) h → character_in h (n, offset) ≡ ch
 character_at [] t n p ch ctx offset i = absurd i
 character_at (inserting n' p' ch' ctx' ∷ os) t n p ch ctx offset (inl e) =
     let a : n' ≡ n = (cc) in
@@ -140,7 +152,8 @@ character_at (inserting n' p' ch' ctx' ∷ os) t n p ch ctx offset (inl e) =
     let eq : name_eq n' n ≡ true = subst (λ (m : NameData). name_eq n' m ≡ true) a (name_itself n') in
     rw eq b
 character_at (inserting n' p' ch' ctx' ∷ os) t n p ch ctx offset (inr i) = elim (cases_Bool (name_eq n' n)) [
-  | inl eq ↦ absurd ((told_from (inserting n' p' ch' ctx') os t.0 (inserting n p ch ctx) i).names refl refl (ap Original (name_same n' n eq)))
+  | inl eq ↦ absurd ((told_from (inserting n' p' ch' ctx') os t.0 (inserting n p ch ctx) i).names refl refl
+      (ap Original (name_same n' n eq)))
   | inr eq ↦ rw eq (character_at os t.1 n p ch ctx offset i)
 ]
 character_at (deleting n' p' ctx' ∷ os) t n p ch ctx offset (inl e) = absurd (cc)
@@ -155,7 +168,8 @@ module _ (h k : List OpData) (told_h : AreToldApart h) (told_k : AreToldApart k)
   same_force o n i e = ap is_even (same.generations n (known_as o (Original n) h i e))
 
   same_hits : (n : NameData) (p : ℕ) (ctx : ContextData) (c : Cell) → hits h (deleting n p ctx) c ≡ hits k (deleting n p ctx) c
-  same_hits n p ctx c = ap (λ (cs : List Cell). stands_at p (filter (λ d. has ctx (Original d.0)) cs) c) (same_replay h k told_h told_k same)
+  same_hits n p ctx c =
+      ap (λ (cs : List Cell). stands_at p (filter (λ d. has ctx (Original d.0)) cs) c) (same_replay h k told_h told_k same)
 
   same_covers : (o : OpData) (c : Cell) → IsIn o h → covers h c o ≡ covers k c o
   same_covers (inserting n p ch ctx) c i = refl
@@ -187,13 +201,15 @@ module _ (h k : List OpData) (told_h : AreToldApart h) (told_k : AreToldApart k)
       ap₂ (λ (a b : Bool). a && b) (same_force (inserting c.0 r.place r.character r.context) c.0 r.there refl) (ap not (same_covered c))
 
   pub same_shown : shown h ≡ shown k
-  same_shown = filter_same (is_shown h) (is_shown k) (replay_of h) same_is_shown ∙ ap (filter (is_shown k)) (same_replay h k told_h told_k same)
+  same_shown =
+      filter_same (is_shown h) (is_shown k) (replay_of h) same_is_shown ∙ ap (filter (is_shown k)) (same_replay h k told_h told_k same)
 
   same_character : (c : Cell) → IsIn c (shown h) → character_in h c ≡ character_in k c
   same_character c i =
       let r = in-replay_of h c (filter_in (is_shown h) c (replay_of h) i).0 in
       character_at h told_h c.0 r.place r.character r.context c.1 r.there
-      ∙ sym (character_at k told_k c.0 r.place r.character r.context c.1 (forth h k told_h told_k same (inserting c.0 r.place r.character r.context) refl r.there))
+      ∙ sym (character_at k told_k c.0 r.place r.character r.context c.1
+      (forth h k told_h told_k same (inserting c.0 r.place r.character r.context) refl r.there))
 
   pub same_characters : characters_of h ≡ characters_of k
   same_characters = map_same (character_in h) (character_in k) (shown h) same_character ∙ ap (map (character_in k)) same_shown

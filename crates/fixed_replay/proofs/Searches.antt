@@ -7,16 +7,19 @@ use Rattle.std.proofs.lemmas.List.{at_drop_more, at_drop_all}
 use Rattle.context_diff.specs.Code.GapEnds.{up_to_nth, before_first, up_to_last}
 
 -- what a function makes of the list from a place on, where the element there is known
-pub at_place : {X Y : Type 0} (f : List X → Y) (xs : List X) (i : ℕ) (x : X) → i < length xs → x ≡ get_or xs i x → f (drop i xs) ≡ f (x ∷ drop (i + 1) xs)
+pub at_place : {X Y : Type 0} (f : List X → Y) (xs : List X) (i : ℕ) (x : X) → i < length xs → x ≡ get_or xs i x
+    → f (drop i xs) ≡ f (x ∷ drop (i + 1) xs)
 at_place f xs i x within is = at_drop_more f xs i x within ∙ ap (λ y. f (y ∷ drop (i + 1) xs)) (sym is)
 
-pub nth_seen : {X : Type 0} (p : X → Bool) (n : ℕ) (xs : List X) (i : ℕ) (x : X) → i < length xs → x ≡ get_or xs i x → 0 < n → p x ≡ true → up_to_nth p n (drop i xs) ≡ suc (up_to_nth p (n - 1) (drop (i + 1) xs))
+pub nth_seen : {X : Type 0} (p : X → Bool) (n : ℕ) (xs : List X) (i : ℕ) (x : X) → i < length xs → x ≡ get_or xs i x → 0 < n → p x ≡ true
+    → up_to_nth p n (drop i xs) ≡ suc (up_to_nth p (n - 1) (drop (i + 1) xs))
 nth_seen p zero xs i x within is more passes = absurd (omega arith)
 nth_seen p (suc n) xs i x within is more passes =
     let e : n ≡ suc n - 1 = omega arith in
     at_place (up_to_nth p (suc n)) xs i x within is ∙ rw passes (ap (λ k. suc (up_to_nth p k (drop (i + 1) xs))) e)
 
-pub nth_past : {X : Type 0} (p : X → Bool) (n : ℕ) (xs : List X) (i : ℕ) (x : X) → i < length xs → x ≡ get_or xs i x → 0 < n → p x ≡ false → up_to_nth p n (drop i xs) ≡ suc (up_to_nth p n (drop (i + 1) xs))
+pub nth_past : {X : Type 0} (p : X → Bool) (n : ℕ) (xs : List X) (i : ℕ) (x : X) → i < length xs → x ≡ get_or xs i x → 0 < n → p x ≡ false
+    → up_to_nth p n (drop i xs) ≡ suc (up_to_nth p n (drop (i + 1) xs))
 nth_past p zero xs i x within is more fails = absurd (omega arith)
 nth_past p (suc n) xs i x within is more fails = at_place (up_to_nth p (suc n)) xs i x within is ∙ rw fails refl
 
@@ -34,23 +37,29 @@ last_start p xs = elim (cases_Bool (list_any p xs)) [
   | inr e ↦ rw e (no_last p xs e)
 ]
 
-last_here : {X : Type 0} (p : X → Bool) (so_far i : ℕ) (x : X) (xs : List X) → p x ≡ true → last_from p so_far i (x ∷ xs) ≡ last_from p (i + 1) (i + 1) xs
+last_here : {X : Type 0} (p : X → Bool) (so_far i : ℕ) (x : X) (xs : List X) → p x ≡ true
+    → last_from p so_far i (x ∷ xs) ≡ last_from p (i + 1) (i + 1) xs
 last_here p so_far i x xs passes = rw passes (elim (cases_Bool (list_any p xs)) [
   | inl e ↦ rw e (omega arith)
   | inr e ↦ rw e (let none = no_last p xs e in omega arith)
 ])
 
-last_later : {X : Type 0} (p : X → Bool) (so_far i : ℕ) (x : X) (xs : List X) → p x ≡ false → last_from p so_far i (x ∷ xs) ≡ last_from p so_far (i + 1) xs
+last_later : {X : Type 0} (p : X → Bool) (so_far i : ℕ) (x : X) (xs : List X) → p x ≡ false
+    → last_from p so_far i (x ∷ xs) ≡ last_from p so_far (i + 1) xs
 last_later p so_far i x xs fails = rw fails (elim (cases_Bool (list_any p xs)) [
   | inl e ↦ rw e (omega arith)
   | inr e ↦ rw e refl
 ])
 
-pub last_at : {X : Type 0} (p : X → Bool) (so_far : ℕ) (xs : List X) (i : ℕ) (x : X) → i < length xs → x ≡ get_or xs i x → p x ≡ true → last_from p so_far i (drop i xs) ≡ last_from p (i + 1) (i + 1) (drop (i + 1) xs)
-last_at p so_far xs i x within is passes = at_place (last_from p so_far i) xs i x within is ∙ last_here p so_far i x (drop (i + 1) xs) passes
+pub last_at : {X : Type 0} (p : X → Bool) (so_far : ℕ) (xs : List X) (i : ℕ) (x : X) → i < length xs → x ≡ get_or xs i x → p x ≡ true
+    → last_from p so_far i (drop i xs) ≡ last_from p (i + 1) (i + 1) (drop (i + 1) xs)
+last_at p so_far xs i x within is passes =
+    at_place (last_from p so_far i) xs i x within is ∙ last_here p so_far i x (drop (i + 1) xs) passes
 
-pub last_past : {X : Type 0} (p : X → Bool) (so_far : ℕ) (xs : List X) (i : ℕ) (x : X) → i < length xs → x ≡ get_or xs i x → p x ≡ false → last_from p so_far i (drop i xs) ≡ last_from p so_far (i + 1) (drop (i + 1) xs)
-last_past p so_far xs i x within is fails = at_place (last_from p so_far i) xs i x within is ∙ last_later p so_far i x (drop (i + 1) xs) fails
+pub last_past : {X : Type 0} (p : X → Bool) (so_far : ℕ) (xs : List X) (i : ℕ) (x : X) → i < length xs → x ≡ get_or xs i x → p x ≡ false
+    → last_from p so_far i (drop i xs) ≡ last_from p so_far (i + 1) (drop (i + 1) xs)
+last_past p so_far xs i x within is fails =
+    at_place (last_from p so_far i) xs i x within is ∙ last_later p so_far i x (drop (i + 1) xs) fails
 
 pub last_end : {X : Type 0} (p : X → Bool) (so_far : ℕ) (xs : List X) (i : ℕ) → length xs ≤ i → last_from p so_far i (drop i xs) ≡ so_far
 last_end p so_far xs i past = at_drop_all (last_from p so_far i) xs i past
@@ -72,7 +81,8 @@ up_to_last_map f p [] = refl
 up_to_last_map f p (x ∷ xs) =
     λ i. if p (f x) || list_any_map f p xs i then suc (up_to_last_map f p xs i) else 0
 
-pub up_to_nth_map : {X Y : Type 0} (f : X → Y) (p : Y → Bool) (n : ℕ) (xs : List X) → up_to_nth p n (map f xs) ≡ up_to_nth (λ x. p (f x)) n xs
+pub up_to_nth_map : {X Y : Type 0} (f : X → Y) (p : Y → Bool) (n : ℕ) (xs : List X)
+    → up_to_nth p n (map f xs) ≡ up_to_nth (λ x. p (f x)) n xs
 up_to_nth_map f p zero xs = refl
 up_to_nth_map f p (suc n) [] = refl
 up_to_nth_map f p (suc n) (x ∷ xs) = ap (λ k. suc k) (up_to_nth_map f p (if p (f x) then n else suc n) xs)

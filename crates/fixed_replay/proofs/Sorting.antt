@@ -10,7 +10,8 @@ use Rattle.fixed_replay.proofs.Elements.{not_both, IsPairwise}
 abbrev pub AreComparable : {A : Type 0} → (A → A → Bool) → List A → Type 0
 AreComparable {A} less xs = IsPairwise (λ (x y : A). (less x y ≡ true) ⊎ (less y x ≡ true)) xs
 
-passed : {A : Type 0} (less : A → A → Bool) (z x y : A) (ys : List A) → (IsIn z (put_by less x ys) → (z ≡ x) ⊎ IsIn z ys) → IsIn z (y ∷ put_by less x ys) → (z ≡ x) ⊎ IsIn z (y ∷ ys)
+passed : {A : Type 0} (less : A → A → Bool) (z x y : A) (ys : List A) → (IsIn z (put_by less x ys) → (z ≡ x) ⊎ IsIn z ys)
+    → IsIn z (y ∷ put_by less x ys) → (z ≡ x) ⊎ IsIn z (y ∷ ys)
 passed less z x y ys f (inl e) = inr (inl e)
 passed less z x y ys f (inr i) = elim (f i) [ inl e ↦ inl e | inr j ↦ inr (inr j) ]
 
@@ -18,7 +19,8 @@ pub in-put_by : {A : Type 0} (less : A → A → Bool) (z x : A) (ys : List A) �
 unfolding put_by
 in-put_by less z x [] (inl e) = inl e
 in-put_by less z x [] (inr i) = absurd i
-in-put_by less z x (y ∷ ys) i = elim (cases_Bool (less x y)) [ inl h ↦ rw h at i | inr h ↦ passed less z x y ys (in-put_by less z x ys) (rw h at i) ]
+in-put_by less z x (y ∷ ys) i =
+    elim (cases_Bool (less x y)) [ inl h ↦ rw h at i | inr h ↦ passed less z x y ys (in-put_by less z x ys) (rw h at i) ]
 
 pub put_by-new : {A : Type 0} (less : A → A → Bool) (x : A) (ys : List A) → IsIn x (put_by less x ys)
 unfolding put_by
@@ -29,7 +31,8 @@ pub put_by-old : {A : Type 0} (less : A → A → Bool) (z x : A) (ys : List A) 
 unfolding put_by
 put_by-old less z x [] i = absurd i
 put_by-old less z x (y ∷ ys) (inl e) = elim (cases_Bool (less x y)) [ inl h ↦ rw h (inr (inl e)) | inr h ↦ rw h (inl e) ]
-put_by-old less z x (y ∷ ys) (inr i) = elim (cases_Bool (less x y)) [ inl h ↦ rw h (inr (inr i)) | inr h ↦ rw h (inr (put_by-old less z x ys i)) ]
+put_by-old less z x (y ∷ ys) (inr i) =
+    elim (cases_Bool (less x y)) [ inl h ↦ rw h (inr (inr i)) | inr h ↦ rw h (inr (put_by-old less z x ys i)) ]
 
 pub in-sort_by : {A : Type 0} (less : A → A → Bool) (z : A) (xs : List A) → IsIn z (sort_by less xs) → IsIn z xs
 unfolding sort_by
@@ -38,12 +41,15 @@ in-sort_by less z (x ∷ xs) i = elim (in-put_by less z x (sort_by less xs) i) [
 
 pub sort_by-in : {A : Type 0} (less : A → A → Bool) (z : A) (xs : List A) → IsIn z xs → IsIn z (sort_by less xs)
 unfolding sort_by
-sort_by-in {A} less z (x ∷ xs) (inl e) = subst (λ (y : A). IsIn y (put_by less x (sort_by less xs))) (sym e) (put_by-new less x (sort_by less xs))
+sort_by-in {A} less z (x ∷ xs) (inl e) =
+    subst (λ (y : A). IsIn y (put_by less x (sort_by less xs))) (sym e) (put_by-new less x (sort_by less xs))
 sort_by-in less z (x ∷ xs) (inr i) = put_by-old less z x (sort_by less xs) (sort_by-in less z xs i)
 sort_by-in less z [] i = i
 
-module _ {A : Type 0} (less : A → A → Bool) (asym : (x y : A) → less x y ≡ true → less y x ≡ false) (trans : (x y z : A) → less x y ≡ true → less y z ≡ true → less x z ≡ true) where
-  pub put_by-sorted : (x : A) (ys : List A) → ((z : A) → IsIn z ys → (less x z ≡ true) ⊎ (less z x ≡ true)) → IsRising less ys → IsRising less (put_by less x ys)
+module _ {A : Type 0} (less : A → A → Bool) (asym : (x y : A) → less x y ≡ true → less y x ≡ false)
+    (trans : (x y z : A) → less x y ≡ true → less y z ≡ true → less x z ≡ true) where
+  pub put_by-sorted : (x : A) (ys : List A) → ((z : A) → IsIn z ys → (less x z ≡ true) ⊎ (less z x ≡ true)) → IsRising less ys
+      → IsRising less (put_by less x ys)
   unfolding put_by
   put_by-sorted x [] c s = (λ z i. absurd i, tt)
   put_by-sorted x (y ∷ ys) c s = elim (cases_Bool (less x y)) [

@@ -17,17 +17,21 @@ and_same false = refl
 abbrev pub stands_among : (NameData → Bool) → NameData → ℕ → List NameData → Bool
 stands_among sees c n names = stands_at n (seen sees (map cell_of names)) (cell_of c)
 
-pub stands_past : (sees : NameData → Bool) (c : NameData) (n : ℕ) (names : List NameData) (i : ℕ) (x : NameData) → i < length names → x ≡ get_or names i x → sees x ≡ false
+pub stands_past : (sees : NameData → Bool) (c : NameData) (n : ℕ) (names : List NameData) (i : ℕ) (x : NameData) → i < length names
+    → x ≡ get_or names i x → sees x ≡ false
     → stands_among sees c n (drop i names) ≡ stands_among sees c n (drop (i + 1) names)
 stands_past sees c n names i x within is unseen = at_place (stands_among sees c n) names i x within is ∙ rw unseen refl
 
-pub stands_here : (sees : NameData → Bool) (c : NameData) (n : ℕ) (names : List NameData) (i : ℕ) (x : NameData) → i < length names → x ≡ get_or names i x → sees x ≡ true → n ≡ 0
+pub stands_here : (sees : NameData → Bool) (c : NameData) (n : ℕ) (names : List NameData) (i : ℕ) (x : NameData) → i < length names
+    → x ≡ get_or names i x → sees x ≡ true → n ≡ 0
     → stands_among sees c n (drop i names) ≡ name_eq x c
 unfolding stands_at
-stands_here sees c zero names i x within is sees_it none = at_place (stands_among sees c 0) names i x within is ∙ rw sees_it (and_same (name_eq x c))
+stands_here sees c zero names i x within is sees_it none =
+    at_place (stands_among sees c 0) names i x within is ∙ rw sees_it (and_same (name_eq x c))
 stands_here sees c (suc n) names i x within is sees_it none = absurd (omega arith)
 
-pub stands_later : (sees : NameData → Bool) (c : NameData) (n : ℕ) (names : List NameData) (i : ℕ) (x : NameData) → i < length names → x ≡ get_or names i x → sees x ≡ true → 0 < n
+pub stands_later : (sees : NameData → Bool) (c : NameData) (n : ℕ) (names : List NameData) (i : ℕ) (x : NameData) → i < length names
+    → x ≡ get_or names i x → sees x ≡ true → 0 < n
     → stands_among sees c n (drop i names) ≡ stands_among sees c (n - 1) (drop (i + 1) names)
 unfolding stands_at
 stands_later sees c zero names i x within is sees_it some = absurd (omega arith)
@@ -35,18 +39,21 @@ stands_later sees c (suc n) names i x within is sees_it some =
     let e : n ≡ suc n - 1 = omega arith in
     at_place (stands_among sees c (suc n)) names i x within is ∙ rw sees_it (ap (λ k. stands_among sees c k (drop (i + 1) names)) e)
 
-pub stands_end : (sees : NameData → Bool) (c : NameData) (n : ℕ) (names : List NameData) (i : ℕ) → length names ≤ i → stands_among sees c n (drop i names) ≡ false
+pub stands_end : (sees : NameData → Bool) (c : NameData) (n : ℕ) (names : List NameData) (i : ℕ) → length names ≤ i
+    → stands_among sees c n (drop i names) ≡ false
 unfolding stands_at
 stands_end sees c n names i past = at_drop_all (stands_among sees c n) names i past
 
-among_split : (h : List OpData) (x : NameData) (names : List NameData) → characters_among h (x ∷ names) ≡ characters_among h (x ∷ []) ++ characters_among h names
+among_split : (h : List OpData) (x : NameData) (names : List NameData)
+    → characters_among h (x ∷ names) ≡ characters_among h (x ∷ []) ++ characters_among h names
 among_split h x names = elim (cases_Bool (is_shown h (cell_of x))) [
   | inl e ↦ rw e refl
   | inr e ↦ rw e refl
 ]
 
 -- the characters so far and those of the cells from a place on, once the cell there is done
-pub characters_more : (h : List OpData) (so_far after : List ℕ) (names : List NameData) (i : ℕ) (x : NameData) → i < length names → x ≡ get_or names i x → after ≡ so_far ++ characters_among h (x ∷ [])
+pub characters_more : (h : List OpData) (so_far after : List ℕ) (names : List NameData) (i : ℕ) (x : NameData) → i < length names
+    → x ≡ get_or names i x → after ≡ so_far ++ characters_among h (x ∷ [])
     → after ++ characters_among h (drop (i + 1) names) ≡ so_far ++ characters_among h (drop i names)
 characters_more h so_far after names i x within is added =
     let rest = characters_among h (drop (i + 1) names) in

@@ -15,7 +15,8 @@ use Rattle.fixed_replay.proofs.Counts.{count-either, any_count, count_any, count
 pub until-onward : {K : Type 0} (p : K → Bool) (xs : List K) → until p xs ++ onward p xs ≡ xs
 unfolding until onward
 until-onward p [] = refl
-until-onward {K} p (x ∷ xs) = elim (cases_Bool (p x)) [ inl h ↦ rw h refl | inr h ↦ rw h (ap (λ (ys : List K). x ∷ ys) (until-onward p xs)) ]
+until-onward {K} p (x ∷ xs) =
+    elim (cases_Bool (p x)) [ inl h ↦ rw h refl | inr h ↦ rw h (ap (λ (ys : List K). x ∷ ys) (until-onward p xs)) ]
 
 pub until_none : {K : Type 0} (p : K → Bool) (xs : List K) → count p (until p xs) ≡ 0
 unfolding until
@@ -30,12 +31,14 @@ onward_begins p (x ∷ xs) = elim (cases_Bool (p x)) [ inl h ↦ rw h h | inr h 
 pub through-beyond : {K : Type 0} (p : K → Bool) (xs : List K) → through p xs ++ beyond p xs ≡ xs
 unfolding through beyond
 through-beyond p [] = refl
-through-beyond {K} p (x ∷ xs) = elim (cases_Bool (p x || list_any p xs)) [ inl h ↦ rw h (ap (λ (ys : List K). x ∷ ys) (through-beyond p xs)) | inr h ↦ rw h refl ]
+through-beyond {K} p (x ∷ xs) =
+    elim (cases_Bool (p x || list_any p xs)) [ inl h ↦ rw h (ap (λ (ys : List K). x ∷ ys) (through-beyond p xs)) | inr h ↦ rw h refl ]
 
 pub beyond_none : {K : Type 0} (p : K → Bool) (xs : List K) → count p (beyond p xs) ≡ 0
 unfolding beyond
 beyond_none p [] = refl
-beyond_none p (x ∷ xs) = elim (cases_Bool (p x || list_any p xs)) [ inl h ↦ rw h (beyond_none p xs) | inr h ↦ rw h (count_any p (x ∷ xs) h) ]
+beyond_none p (x ∷ xs) =
+    elim (cases_Bool (p x || list_any p xs)) [ inl h ↦ rw h (beyond_none p xs) | inr h ↦ rw h (count_any p (x ∷ xs) h) ]
 
 through_some : {K : Type 0} (p : K → Bool) (xs : List K) → list_any p xs ≡ true → through p xs ≡ [] → ⊥
 unfolding through
@@ -48,19 +51,31 @@ ends_through p x xs h e = elim (cases_Bool (p x)) [ inl k ↦ k | inr k ↦ absu
 pub through_ends : {K : Type 0} (p : K → Bool) (xs : List K) → EndsIn p (through p xs)
 unfolding through
 through_ends p [] = tt
-through_ends p (x ∷ xs) = elim (cases_Bool (p x || list_any p xs)) [ inl h ↦ rw h (ends-cons p x (through p xs) (through_ends p xs) (ends_through p x xs h)) | inr h ↦ rw h tt ]
+through_ends p (x ∷ xs) =
+    elim (cases_Bool (p x || list_any p xs))
+    [ inl h ↦ rw h (ends-cons p x (through p xs) (through_ends p xs) (ends_through p x xs h)) | inr h ↦ rw h tt ]
 
 -- without an element that passes
 
 pub until_all : {K : Type 0} (p : K → Bool) (xs : List K) → count p xs ≡ 0 → until p xs ≡ xs
 unfolding until
 until_all p [] h = refl
-until_all {K} p (x ∷ xs) h = elim (cases_Bool (p x)) [ inl k ↦ let e : 1 + count p xs ≡ 0 = rw k at h in absurd (omega arith) | inr k ↦ let e : 0 + count p xs ≡ 0 = rw k at h in rw k (ap (λ (ys : List K). x ∷ ys) (until_all p xs (omega arith))) ]
+until_all {K} p (x ∷ xs) h =
+    elim (cases_Bool (p x)) [
+      | inl k ↦ let e : 1 + count p xs ≡ 0 = rw k at h in absurd (omega arith)
+      | inr k ↦ let e : 0 + count p xs ≡ 0 =
+          rw k at h in rw k (ap (λ (ys : List K). x ∷ ys) (until_all p xs (omega arith)))
+    ]
 
 pub onward_nothing : {K : Type 0} (p : K → Bool) (xs : List K) → count p xs ≡ 0 → onward p xs ≡ []
 unfolding onward
 onward_nothing p [] h = refl
-onward_nothing p (x ∷ xs) h = elim (cases_Bool (p x)) [ inl k ↦ let e : 1 + count p xs ≡ 0 = rw k at h in absurd (omega arith) | inr k ↦ let e : 0 + count p xs ≡ 0 = rw k at h in rw k (onward_nothing p xs (omega arith)) ]
+onward_nothing p (x ∷ xs) h =
+    elim (cases_Bool (p x)) [
+      | inl k ↦ let e : 1 + count p xs ≡ 0 = rw k at h in absurd (omega arith)
+      | inr k ↦ let e : 0 + count p xs ≡ 0 =
+          rw k at h in rw k (onward_nothing p xs (omega arith))
+    ]
 
 pub through_nothing : {K : Type 0} (p : K → Bool) (xs : List K) → count p xs ≡ 0 → through p xs ≡ []
 unfolding through
@@ -83,8 +98,14 @@ gap_whole p (suc n) [] = refl
 gap_whole {K} p (suc n) (c ∷ cs) = ap (λ (ys : List K). c ∷ ys) (gap_whole p (if p c then n else suc n) cs)
 
 pub narrow_whole : {K : Type 0} (left : Bool) (x : K → Bool) (g : Gap K) → whole_of (narrow left x g) ≡ whole_of g
-narrow_whole {K} true x g = append_assoc g.before (through x g.between) (beyond x g.between ++ g.behind) ∙ ap (λ (ys : List K). g.before ++ ys) (sym (append_assoc (through x g.between) (beyond x g.between) g.behind) ∙ ap (λ (ys : List K). ys ++ g.behind) (through-beyond x g.between))
-narrow_whole {K} false x g = ap (λ (ys : List K). g.before ++ ys) (sym (append_assoc (until x g.between) (onward x g.between) g.behind) ∙ ap (λ (ys : List K). ys ++ g.behind) (until-onward x g.between))
+narrow_whole {K} true x g =
+    append_assoc g.before (through x g.between) (beyond x g.between ++ g.behind)
+    ∙ ap (λ (ys : List K). g.before ++ ys)
+    (sym (append_assoc (through x g.between) (beyond x g.between) g.behind)
+    ∙ ap (λ (ys : List K). ys ++ g.behind) (through-beyond x g.between))
+narrow_whole {K} false x g =
+    ap (λ (ys : List K). g.before ++ ys)
+    (sym (append_assoc (until x g.between) (onward x g.between) g.behind) ∙ ap (λ (ys : List K). ys ++ g.behind) (until-onward x g.between))
 
 -- an insert with no cell in the gap leaves it
 pub narrow_none : {K : Type 0} (left : Bool) (x : K → Bool) (g : Gap K) → count x g.between ≡ 0 → narrow left x g ≡ g
@@ -100,12 +121,23 @@ pub record Stretch {K : Type 0} (S : List K) (p : K → Bool) (n : ℕ) (g : Gap
   pub begins : BeginsIn p g.behind
 
 grown_count : {K : Type 0} (p : K → Bool) (n : ℕ) (c : K) (cs : List K) → count p cs ≡ (if p c then n else suc n) → count p (c ∷ cs) ≡ suc n
-grown_count p n c cs h = elim (cases_Bool (p c)) [ inl k ↦ let e : count p cs ≡ n = rw k at h in rw k (omega arith) | inr k ↦ let e : count p cs ≡ suc n = rw k at h in rw k (omega arith) ]
+grown_count p n c cs h =
+    elim (cases_Bool (p c)) [
+      | inl k ↦ let e : count p cs ≡ n = rw k at h in rw k (omega arith)
+      | inr k ↦ let e : count p cs ≡ suc n =
+          rw k at h in rw k (omega arith)
+    ]
 
 grown_end : {K : Type 0} (p : K → Bool) (n : ℕ) (c : K) (cs : List K) → count p cs ≡ (if p c then n else suc n) → cs ≡ [] → p c ≡ true
-grown_end p n c cs h e = elim (cases_Bool (p c)) [ inl k ↦ k | inr k ↦ let u : count p cs ≡ suc n = rw k at h in let v : count p cs ≡ 0 = ap (count p) e in absurd (omega arith) ]
+grown_end p n c cs h e =
+    elim (cases_Bool (p c)) [
+      | inl k ↦ k
+      | inr k ↦ let u : count p cs ≡ suc n = rw k at h in let v : count p cs ≡ 0 = ap (count p) e in
+          absurd (omega arith)
+    ]
 
-grown : {K : Type 0} (p : K → Bool) (n : ℕ) (c : K) (cs : List K) (g : Gap K) → Stretch cs p (if p c then n else suc n) g → Stretch (c ∷ cs) p (suc n) (record g { before = c ∷ g.before })
+grown : {K : Type 0} (p : K → Bool) (n : ℕ) (c : K) (cs : List K) (g : Gap K) → Stretch cs p (if p c then n else suc n) g
+    → Stretch (c ∷ cs) p (suc n) (record g { before = c ∷ g.before })
 grown {K} p n c cs g s = record {
   whole = ap (λ (ys : List K). c ∷ ys) s.whole;
   at = grown_count p n c g.before s.at;
@@ -115,7 +147,12 @@ grown {K} p n c cs g s = record {
 }
 
 fewer : {K : Type 0} (p : K → Bool) (n : ℕ) (c : K) (cs : List K) → suc n ≤ count p (c ∷ cs) → (if p c then n else suc n) ≤ count p cs
-fewer p n c cs h = elim (cases_Bool (p c)) [ inl k ↦ let e : suc n ≤ 1 + count p cs = rw k at h in rw k (omega arith) | inr k ↦ let e : suc n ≤ 0 + count p cs = rw k at h in rw k (omega arith) ]
+fewer p n c cs h =
+    elim (cases_Bool (p c)) [
+      | inl k ↦ let e : suc n ≤ 1 + count p cs = rw k at h in
+          rw k (omega arith)
+      | inr k ↦ let e : suc n ≤ 0 + count p cs = rw k at h in rw k (omega arith)
+    ]
 
 pub start : {K : Type 0} (p : K → Bool) (n : ℕ) (S : List K) → n ≤ count p S → Stretch S p n (gap p n S)
 unfolding gap
@@ -127,23 +164,29 @@ pub three : (n q : ℕ) → (q < n) ⊎ ((n < q) ⊎ (n ≡ q))
 three zero zero = inr (inr refl)
 three zero (suc q) = inr (inl (omega arith))
 three (suc n) zero = inl (omega arith)
-three (suc n) (suc q) = elim (three n q) [ inl h ↦ inl (omega arith) | inr h ↦ elim h [ inl k ↦ inr (inl (omega arith)) | inr k ↦ inr (inr (ap suc k)) ] ]
+three (suc n) (suc q) =
+    elim (three n q) [ inl h ↦ inl (omega arith) | inr h ↦ elim h [ inl k ↦ inr (inl (omega arith)) | inr k ↦ inr (inr (ap suc k)) ] ]
 
 either_right : {K : Type 0} (p x : K → Bool) (c : K) → x c ≡ true → either p x c ≡ true
 either_right p x c h = elim (cases_Bool (p c)) [ inl k ↦ rw k refl | inr k ↦ rw (k, h) refl ]
 
-module _ {K : Type 0} (S : List K) (p x : K → Bool) (disjoint : AreDisjoint p x) (q : ℕ) (each : EachAt p x q 0 S) (n : ℕ) (g : Gap K) (s : Stretch S p n g) where
+module _ {K : Type 0} (S : List K) (p x : K → Bool) (disjoint : AreDisjoint p x) (q : ℕ) (each : EachAt p x q 0 S) (n : ℕ) (g : Gap K)
+    (s : Stretch S p n g) where
   -- the cells of x in the three lists
   parts : EachAt p x q 0 g.before × EachAt p x q n g.between × EachAt p x q n g.behind
   parts =
       let e : EachAt p x q 0 (whole_of g) = subst (λ (xs : List K). EachAt p x q 0 xs) s.whole each in
       let a = each-append p x q 0 g.before (g.between ++ g.behind) e in
       let at : count p g.before + 0 ≡ n = let m = s.at in omega arith in
-      let b = each-append p x q (count p g.before + 0) g.between g.behind a.1 in
-      (a.0, subst (λ (k : ℕ). EachAt p x q k g.between) at b.0, subst (λ (k : ℕ). EachAt p x q k g.behind) (let f = s.free in let m = s.at in omega arith) b.1)
+      let b = each-append p x q (count p g.before + 0) g.between g.behind a.1 in (
+        a.0,
+        subst (λ (k : ℕ). EachAt p x q k g.between) at b.0,
+        subst (λ (k : ℕ). EachAt p x q k g.behind) (let f = s.free in let m = s.at in omega arith) b.1,
+      )
 
   all_x : count x S ≡ count x g.before + (count x g.between + count x g.behind)
-  all_x = ap (count x) s.whole ∙ count-append x g.before (g.between ++ g.behind) ∙ ap (λ (k : ℕ). count x g.before + k) (count-append x g.between g.behind)
+  all_x = ap (count x) s.whole ∙ count-append x g.before (g.between ++ g.behind)
+      ∙ ap (λ (k : ℕ). count x g.before + k) (count-append x g.between g.behind)
 
   ends_either : EndsIn (either p x) g.before
   ends_either = ends-more p (either p x) (λ c h. rw h refl) g.before s.ends
@@ -175,7 +218,8 @@ module _ {K : Type 0} (S : List K) (p x : K → Bool) (disjoint : AreDisjoint p 
     free =
         let a = count-either p x disjoint (beyond x g.between) in
         let d = count_parts p in let h = beyond_none x g.between in let free = s.free in omega arith;
-    ends = ends-append (either p x) g.before (through x g.between) ends_either (ends-more x (either p x) (either_right p x) (through x g.between) (through_ends x g.between));
+    ends = ends-append (either p x) g.before (through x g.between) ends_either
+        (ends-more x (either p x) (either_right p x) (through x g.between) (through_ends x g.between));
     begins = begins_either;
   }
     where
@@ -192,7 +236,8 @@ module _ {K : Type 0} (S : List K) (p x : K → Bool) (disjoint : AreDisjoint p 
         let d = ap (count p) (sym (until-onward x g.between)) ∙ count-append p (until x g.between) (onward x g.between) in
         let h = until_none x g.between in let free = s.free in omega arith;
     ends = ends_either;
-    begins = begins-append (either p x) (onward x g.between) g.behind (begins-more x (either p x) (either_right p x) (onward x g.between) (onward_begins x g.between)) begins_either;
+    begins = begins-append (either p x) (onward x g.between) g.behind
+        (begins-more x (either p x) (either_right p x) (onward x g.between) (onward_begins x g.between)) begins_either;
   }
 
   -- the insert of x has its cells in one of the three lists, by its place and by the tie
@@ -230,11 +275,13 @@ seam : {K : Type 0} (xs new ys : List K) (n : ℕ) → length xs ≡ n → xs ++
 seam xs new ys n h = rw (← h, take-append_seam xs ys, drop-append_seam xs ys) refl
 
 -- when all cells pass, the gap after n of them is the place n
-pub whole_gap : {K : Type 0} (S new : List K) (p : K → Bool) (n : ℕ) (g : Gap K) → Stretch S p n g → ((c : K) → IsIn c S → p c ≡ true) → g.before ++ (g.between ++ (new ++ g.behind)) ≡ take n S ++ (new ++ drop n S)
+pub whole_gap : {K : Type 0} (S new : List K) (p : K → Bool) (n : ℕ) (g : Gap K) → Stretch S p n g → ((c : K) → IsIn c S → p c ≡ true)
+    → g.before ++ (g.between ++ (new ++ g.behind)) ≡ take n S ++ (new ++ drop n S)
 whole_gap {K} S new p n g s all =
     let in_whole = λ (c : K) (i : IsIn c (whole_of g)). all c (subst (λ (xs : List K). IsIn c xs) (sym s.whole) i) in
     let before = count_all p g.before (λ c i. in_whole c (in_left c g.before (g.between ++ g.behind) i)) in
-    let between = count_all p g.between (λ c i. in_whole c (in_right c g.before (g.between ++ g.behind) (in_left c g.between g.behind i))) in
+    let between =
+    count_all p g.between (λ c i. in_whole c (in_right c g.before (g.between ++ g.behind) (in_left c g.between g.behind i))) in
     let free = s.free in
     let none : g.between ≡ [] = no_length g.between (omega arith) in
     let at = s.at in

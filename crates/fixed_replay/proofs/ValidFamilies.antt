@@ -46,7 +46,8 @@ module _ (h : List OpData) (v : IsValid h) (form : Member → Form) (forms : Are
   listed_known m i = in_known h m i
 
   own_by : (x : Member) (n : NameData) → IsIn x (members_in h) → x ≢ Original n → (f : Form) → form x ≡ f → LacksName (added_by f) n
-  own_by x n i ne (Insert a) e = let r = insert_op h v form forms x a i e in (λ (q : a.name ≡ n). ne (r.is ∙ ap Original (sym r.named ∙ q)), tt)
+  own_by x n i ne (Insert a) e =
+      let r = insert_op h v form forms x a i e in (λ (q : a.name ≡ n). ne (r.is ∙ ap Original (sym r.named ∙ q)), tt)
   own_by x n i ne (Covered d) e = tt
 
   pub valid_own_names : HasOwnNames form_table b
@@ -77,7 +78,9 @@ module _ (h : List OpData) (v : IsValid h) (form : Member → Form) (forms : Are
     before = λ t g y i e. cases_of t g y i (base_group h t g y e).cases;
   }
     where
-      cases_of : (t : NameData) (g : ℕ) (y : Member) → IsIn (Group t g) (members_in h) → (has (original_context h t) y ≡ true) ⊎ ((y ≡ Original t) ⊎ ((k : ℕ) × (y ≡ Group t k) × (1 ≤ k) × (k < g))) → (base_has h (Original t) y ≡ true) ⊎ ((y ≡ Original t) ⊎ ((k : ℕ) × (y ≡ Group t k) × (k < g)))
+      cases_of : (t : NameData) (g : ℕ) (y : Member) → IsIn (Group t g) (members_in h)
+          → (has (original_context h t) y ≡ true) ⊎ ((y ≡ Original t) ⊎ ((k : ℕ) × (y ≡ Group t k) × (1 ≤ k) × (k < g)))
+          → (base_has h (Original t) y ≡ true) ⊎ ((y ≡ Original t) ⊎ ((k : ℕ) × (y ≡ Group t k) × (k < g)))
       cases_of t g y i (inl seen) = inl (in_original h t y (group_facts h complete_h t g (listed_known (Group t g) i)).target seen)
       cases_of t g y i (inr (inl e)) = inr (inl e)
       cases_of t g y i (inr (inr k)) = inr (inr (k.0, k.1, k.3))
@@ -89,12 +92,20 @@ module _ (h : List OpData) (v : IsValid h) (form : Member → Form) (forms : Are
 
   -- what a member with an insert as its form puts
   abbrev put_of : Member → Ins → Insertion
-  put_of m a = record { name = a.name; place = a.place; rank = rank_in h v (target_of m); sees = λ (n : NameData). base_has h m (Original n) }
+  put_of m a =
+      record { name = a.name; place = a.place; rank = rank_in h v (target_of m); sees = λ (n : NameData). base_has h m (Original n) }
 
-  put_is : (n : NameData) (p ch : ℕ) (c : ContextData) (a : Ins) → IsIn (inserting n p ch c) h → a.name ≡ n → a.place ≡ p → put_of (Original n) a ≡ insertion n p c
+  put_is : (n : NameData) (p ch : ℕ) (c : ContextData) (a : Ins) → IsIn (inserting n p ch c) h → a.name ≡ n → a.place ≡ p
+      → put_of (Original n) a ≡ insertion n p c
   put_is n p ch c a i name place =
       let r = rank_is h v (inserting n p ch c) n i refl in
-      λ j. record { name = name j; place = place j; rank = r j; sees = λ m. context_of_original h v (inserting n p ch c) n i refl (Original m) j }
+      λ j. record {
+        name = name j;
+        place = place j;
+        rank = r j;
+        sees =
+            λ m. context_of_original h v (inserting n p ch c) n i refl (Original m) j;
+      }
 
   pub same_inserts : SameElements (fixed_order h) (insertions_of b (rank_in h v) (members_in h))
   same_inserts = record {
@@ -103,10 +114,15 @@ module _ (h : List OpData) (v : IsValid h) (form : Member → Form) (forms : Are
         let o = inserting r.name r.place r.character r.context in
         let f = forms.inserts r.name r.place r.character r.context r.there in
         let there = insertions_of-in b (rank_in h v) (members_in h) (Original r.name) f.ins (member_listed o h r.there) f.is in
-        subst (λ (x : Insertion). IsIn x (insertions_of b (rank_in h v) (members_in h))) (put_is r.name r.place r.character r.context f.ins r.there f.name f.place ∙ sym r.is) there;
+        subst (λ (x : Insertion). IsIn x (insertions_of b (rank_in h v) (members_in h)))
+        (put_is r.name r.place r.character r.context f.ins r.there f.name f.place ∙ sym r.is) there;
     back = λ z i.
         let r = in-insertions_of b (rank_in h v) (members_in h) z i in
         let o = insert_op h v form forms r.member r.ins r.there r.form in
-        let same : z ≡ insertion o.name o.place o.context = r.is ∙ (ap (λ (m : Member). put_of m r.ins) o.is ∙ put_is o.name o.place o.character o.context r.ins o.there o.named o.placed) in
-        subst (λ (x : Insertion). IsIn x (fixed_order h)) (sym same) (sort_by-in is_earlier (insertion o.name o.place o.context) (insertions_in h) (insertions-in o.name o.place o.character o.context h o.there));
+        let same : z ≡ insertion o.name o.place o.context =
+        r.is ∙ (ap (λ (m : Member). put_of m r.ins) o.is
+        ∙ put_is o.name o.place o.character o.context r.ins o.there o.named o.placed) in
+        subst (λ (x : Insertion). IsIn x (fixed_order h)) (sym same)
+        (sort_by-in is_earlier (insertion o.name o.place o.context) (insertions_in h)
+        (insertions-in o.name o.place o.character o.context h o.there));
   }

@@ -31,19 +31,23 @@ module _ (h : List OpData) (v : IsValid h) where
   rank_is o n i e = ap rank_of (context_is h complete_h o n (in_contains o h i) e (known_as o (Original n) h i e))
 
   not_itself : (n : NameData) → is_known h (Original n) ≡ true → has (original_context h n) (Original n) ≡ false
-  not_itself n known = false_from_ne_true (has (original_context h n) (Original n)) (λ e. let less = own_alone h complete_h n known n refl e in omega arith)
+  not_itself n known =
+      false_from_ne_true (has (original_context h n) (Original n)) (λ e. let less = own_alone h complete_h n known n refl e in omega arith)
 
   closed_original : (n : NameData) → is_known h (Original n) ≡ true → IsClosedContext h (original_context h n)
   closed_original n known = let f = original_facts h complete_h n known in record { ready = f.ready; stray = f.stray; closed = f.closed }
 
   -- what an original sees has a smaller rank
-  pub rank_grows : (n m : NameData) → is_known h (Original n) ≡ true → is_known h (Original m) ≡ true → has (original_context h m) (Original n) ≡ true → rank_in n < rank_in m
+  pub rank_grows : (n m : NameData) → is_known h (Original n) ≡ true → is_known h (Original m) ≡ true
+      → has (original_context h m) (Original n) ≡ true → rank_in n < rank_in m
   rank_grows n m known_n known_m sees =
-      rank_less (original_context h n) (original_context h m) (original_facts h complete_h n known_n).form (original_facts h complete_h m known_m).form
+      rank_less (original_context h n) (original_context h m) (original_facts h complete_h n known_n).form
+      (original_facts h complete_h m known_m).form
       (holds_original h complete_h (original_context h m) (closed_original m known_m) n sees) n sees (not_itself n known_n)
 
   -- two originals of one rank have different sites
-  pub ranks_apart : (n m : NameData) → is_known h (Original n) ≡ true → is_known h (Original m) ≡ true → n ≢ m → rank_in n ≡ rank_in m → n.site ≢ m.site
+  pub ranks_apart : (n m : NameData) → is_known h (Original n) ≡ true → is_known h (Original m) ≡ true → n ≢ m → rank_in n ≡ rank_in m
+      → n.site ≢ m.site
   ranks_apart n m known_n known_m ne ranks sites = elim (related h complete_h n m known_n known_m ne sites) [
     | inl seen ↦ let less = rank_grows m n known_m known_n seen in omega arith
     | inr seen ↦ let less = rank_grows n m known_n known_m seen in omega arith
@@ -55,13 +59,16 @@ module _ (h : List OpData) (v : IsValid h) where
       site_is : (q : OpData) (n : NameData) → member_of q ≡ Original n → site_of q ≡ n.site
       site_is q n e = ap (λ (m : Member). (target_of m).site) e
 
-      differ : (n : NameData) × (member_of o ≡ Original n) → (m : NameData) × (member_of p ≡ Original m) → rank_of (context_of o) ≡ rank_of (context_of p) → site_of o ≡ site_of p → ⊥
+      differ : (n : NameData) × (member_of o ≡ Original n) → (m : NameData) × (member_of p ≡ Original m)
+          → rank_of (context_of o) ≡ rank_of (context_of p) → site_of o ≡ site_of p → ⊥
       differ n m ranks sites =
-          ranks_apart n.0 m.0 (known_as o (Original n.0) h i n.1) (known_as p (Original m.0) h j m.1) (λ (e : n.0 ≡ m.0). ne (n.1 ∙ (ap Original e ∙ sym m.1)))
+          ranks_apart n.0 m.0 (known_as o (Original n.0) h i n.1) (known_as p (Original m.0) h j m.1)
+          (λ (e : n.0 ≡ m.0). ne (n.1 ∙ (ap Original e ∙ sym m.1)))
           (rank_is o n.0 i n.1 ∙ (ranks ∙ sym (rank_is p m.0 j m.1)))
           (sym (site_is o n.0 n.1) ∙ (sites ∙ site_is p m.0 m.1))
 
-  told_behind : (o : OpData) (os : List OpData) → IsIn o h → ((p : OpData) → IsIn p os → IsIn p h × (member_of o ≢ member_of p)) → AreToldFrom o os
+  told_behind : (o : OpData) (os : List OpData) → IsIn o h → ((p : OpData) → IsIn p os → IsIn p h × (member_of o ≢ member_of p))
+      → AreToldFrom o os
   told_behind o [] i f = tt
   told_behind o (p ∷ ps) i f = let r = f p (inl refl) in (told o p i r.0 r.1, told_behind o ps i (λ q j. f q (inr j)))
 

@@ -43,7 +43,8 @@ module _ (b : Family Form) (known : IsFamily form_inclusion b) (own_names : HasO
     S = cells_of (run w s fs)
 
     -- an insert that isn't among them but sees none but them
-    module _ (o : Member) (a : Ins) (base : b.form o ≡ Insert a) (rank : ℕ) (listed : IsIn o b.members) (needs : IsSubset (b.context o) (plus_all none L)) (out : plus_all none L o ≡ false) where
+    module _ (o : Member) (a : Ins) (base : b.form o ≡ Insert a) (rank : ℕ) (listed : IsIn o b.members)
+        (needs : IsSubset (b.context o) (plus_all none L)) (out : plus_all none L o ≡ false) where
       abbrev insertion : Insertion
       insertion = record { name = a.name; place = a.place; rank = rank; sees = λ n. b.context o (Original n) }
 
@@ -60,40 +61,57 @@ module _ (b : Family Form) (known : IsFamily form_inclusion b) (own_names : HasO
       not_o z i e = both_ways (plus_all none L o) out (subst (λ (y : Member). plus_all none L y ≡ true) (sym e) (all_in L none z i))
 
       disjoint : (C : Member → Bool) (x : Member) (k : Form) → IsForm w x C k → (e : Cell) → keep C e ≡ true → own x e ≡ false
-      disjoint C x k dk e h = member_apart x (Original e.0) (λ (p : x ≡ Original e.0). both_ways (C x) (derived_sound (deriving_of w) x C k dk).lacks (subst (λ (y : Member). C y ≡ true) (sym p) h))
+      disjoint C x k dk e h =
+          member_apart x (Original e.0) (λ (p : x ≡ Original e.0).
+          both_ways (C x) (derived_sound (deriving_of w) x C k dk).lacks (subst (λ (y : Member). C y ≡ true) (sym p) h))
 
-      narrowed_is : (x : Member) (n : NameData) (c d : Ins) (g : Gap Cell) → c.name ≡ a.name → d.name ≡ n → x ≡ Original n → b.context o x ≡ false → narrow (nat_lt d.name.site c.name.site) (own x) g ≡ narrowed_by insertion n g
+      narrowed_is : (x : Member) (n : NameData) (c d : Ins) (g : Gap Cell) → c.name ≡ a.name → d.name ≡ n → x ≡ Original n
+          → b.context o x ≡ false → narrow (nat_lt d.name.site c.name.site) (own x) g ≡ narrowed_by insertion n g
       narrowed_is x n c d g name_c name_d x_is unseen =
-          let same : narrow (nat_lt d.name.site c.name.site) (own x) g ≡ narrow (nat_lt n.site a.name.site) (of_name n) g = λ i. narrow (nat_lt (name_d i).site (name_c i).site) (own (x_is i)) g in
+          let same : narrow (nat_lt d.name.site c.name.site) (own x) g ≡ narrow (nat_lt n.site a.name.site) (of_name n) g =
+          λ i. narrow (nat_lt (name_d i).site (name_c i).site) (own (x_is i)) g in
           let h : b.context o (Original n) ≡ false = subst (λ (y : Member). b.context o y ≡ false) x_is unseen in
           same ∙ (rw h refl)
 
       -- an insert that o doesn't see narrows the gap, and moves the place
-      insert_step : (C : Member → Bool) (x : Member) (c d : Ins) (g : Gap Cell) (n : NameData) → c.name ≡ a.name → d.name ≡ n → x ≡ Original n → b.context o x ≡ false → Reached C (Insert c) g → IsForm w x C (Insert d) → IsIn x L
+      insert_step : (C : Member → Bool) (x : Member) (c d : Ins) (g : Gap Cell) (n : NameData) → c.name ≡ a.name → d.name ≡ n
+          → x ≡ Original n → b.context o x ≡ false → Reached C (Insert c) g → IsForm w x C (Insert d) → IsIn x L
           → Stretch S (keep (plus C x)) (place_of (form_over (Insert c) (Insert d))) (narrowed_by insertion n g)
       insert_step C x c d g n name_c name_d x_is unseen r dk i =
           let before = before_cell w form_at_place C x (Insert d) L s fs st df r.within i dk in
           let sites : c.site ≢ d.site = forms_apart (deriving_of w) o x C (Insert c) (Insert d) (not_o x i) r.form dk in
           let left = nat_lt d.name.site c.name.site in
-          let moved : IsMoved c.place d.place (count (own x) S) left (place_of (form_over (Insert c) (Insert d))) = subst (λ (e : ℕ). IsMoved c.place d.place e left (place_of (form_over (Insert c) (Insert d)))) (sym before.1) (ins_moved c d sites) in
-          let stepped : Stretch S (keep (plus C x)) (place_of (form_over (Insert c) (Insert d))) (narrow left (own x) g) = walk_step S (keep C) (own x) (disjoint C x (Insert d) dk) d.place before.0 c.place g r.stretch left (place_of (form_over (Insert c) (Insert d))) moved in
-          subst (λ (h : Gap Cell). Stretch S (keep (plus C x)) (place_of (form_over (Insert c) (Insert d))) h) (narrowed_is x n c d g name_c name_d x_is unseen) stepped
+          let moved : IsMoved c.place d.place (count (own x) S) left (place_of (form_over (Insert c) (Insert d))) =
+          subst (λ (e : ℕ). IsMoved c.place d.place e left (place_of (form_over (Insert c) (Insert d)))) (sym before.1)
+          (ins_moved c d sites) in
+          let stepped : Stretch S (keep (plus C x)) (place_of (form_over (Insert c) (Insert d))) (narrow left (own x) g) =
+          walk_step S (keep C) (own x) (disjoint C x (Insert d) dk) d.place before.0 c.place g r.stretch left
+          (place_of (form_over (Insert c) (Insert d))) moved in
+          subst (λ (h : Gap Cell). Stretch S (keep (plus C x)) (place_of (form_over (Insert c) (Insert d))) h)
+          (narrowed_is x n c d g name_c name_d x_is unseen) stepped
 
       -- a cover has no cells: gap and place stay
-      cover_step : (C : Member → Bool) (x : Member) (f : Form) (d : Cover) (g : Gap Cell) → Reached C f g → IsForm w x C (Covered d) → IsIn x L → Stretch S (keep (plus C x)) (place_of (form_over f (Covered d))) g
+      cover_step : (C : Member → Bool) (x : Member) (f : Form) (d : Cover) (g : Gap Cell) → Reached C f g → IsForm w x C (Covered d)
+          → IsIn x L → Stretch S (keep (plus C x)) (place_of (form_over f (Covered d))) g
       cover_step C x f d g r dk i =
           let before = before_cell w form_at_place C x (Covered d) L s fs st df r.within i dk in
           let no_cell : count (own x) S ≡ 0 = before.1 in
           let place : place_of (form_over f (Covered d)) ≡ place_of f = ap place_of (form_over_cover f d) in
-          let moved : IsMoved (place_of f) d.place (count (own x) S) true (place_of (form_over f (Covered d))) = record { less = λ h. omega arith; more = λ h. place; tie_left = λ h t. omega arith; tie_right = λ h t. place } in
-          let stepped : Stretch S (keep (plus C x)) (place_of (form_over f (Covered d))) (narrow true (own x) g) = walk_step S (keep C) (own x) (disjoint C x (Covered d) dk) d.place before.0 (place_of f) g r.stretch true (place_of (form_over f (Covered d))) moved in
-          subst (λ (h : Gap Cell). Stretch S (keep (plus C x)) (place_of (form_over f (Covered d))) h) (narrow_none true (own x) g (none_between g r.stretch no_cell)) stepped
+          let moved : IsMoved (place_of f) d.place (count (own x) S) true (place_of (form_over f (Covered d))) =
+          record { less = λ h. omega arith; more = λ h. place; tie_left = λ h t. omega arith; tie_right = λ h t. place } in
+          let stepped : Stretch S (keep (plus C x)) (place_of (form_over f (Covered d))) (narrow true (own x) g) =
+          walk_step S (keep C) (own x) (disjoint C x (Covered d) dk) d.place before.0 (place_of f) g r.stretch true
+          (place_of (form_over f (Covered d))) moved in
+          subst (λ (h : Gap Cell). Stretch S (keep (plus C x)) (place_of (form_over f (Covered d))) h)
+          (narrow_none true (own x) g (none_between g r.stretch no_cell)) stepped
         where
           none_between : (h : Gap Cell) → Stretch S (keep C) (place_of f) h → count (own x) S ≡ 0 → count (own x) h.between ≡ 0
           none_between h t z = within_none (own x) h.before h.between h.behind (subst (λ (cs : List Cell). count (own x) cs ≡ 0) t.whole z)
 
       -- one member further
-      any_step : (C : Member → Bool) (x : Member) (f k base_x : Form) (g : Gap Cell) → b.form x ≡ base_x → IsInsertOf a f → Reached C f g → IsForm w x C k → IsIn x L → b.context o x ≡ false → Stretch S (keep (plus C x)) (place_of (form_over f k)) (narrowed insertion (named_by base_x) g)
+      any_step : (C : Member → Bool) (x : Member) (f k base_x : Form) (g : Gap Cell) → b.form x ≡ base_x → IsInsertOf a f → Reached C f g
+          → IsForm w x C k → IsIn x L → b.context o x ≡ false
+          → Stretch S (keep (plus C x)) (place_of (form_over f k)) (narrowed insertion (named_by base_x) g)
       unfolding narrowed
       any_step C x f k (Insert e) g bx fi r dk i unseen =
           let ki = derived_insert b e x C k bx dk in
@@ -101,13 +119,15 @@ module _ (b : Family Form) (known : IsFamily form_inclusion b) (own_names : HasO
           let there : Reached C (Insert fi.ins) g = subst (λ (h : Form). Reached C h g) fi.is r in
           let form : IsForm w x C (Insert ki.ins) = subst (λ (h : Form). IsForm w x C h) ki.is dk in
           let stepped = insert_step C x fi.ins ki.ins g e.name fi.name ki.name x_is unseen there form i in
-          subst₂ (λ (h l : Form). Stretch S (keep (plus C x)) (place_of (form_over h l)) (narrowed_by insertion e.name g)) (sym fi.is) (sym ki.is) stepped
+          subst₂ (λ (h l : Form). Stretch S (keep (plus C x)) (place_of (form_over h l)) (narrowed_by insertion e.name g)) (sym fi.is)
+          (sym ki.is) stepped
       any_step C x f k (Covered e) g bx fi r dk i unseen =
           let ki = derived_cover b e x C k bx dk in
           let form : IsForm w x C (Covered ki.cover) = subst (λ (h : Form). IsForm w x C h) ki.is dk in
           subst (λ (l : Form). Stretch S (keep (plus C x)) (place_of (form_over f l)) g) (sym ki.is) (cover_step C x f ki.cover g r form i)
 
-      step_on : (C : Member → Bool) (x : Member) (f : Form) (g : Gap Cell) → IsSound b x C → Reached C f g → IsIn x L → b.context o x ≡ false → (k : Form) × Reached (plus C x) (form_over f k) (narrowed insertion (named_by (b.form x)) g)
+      step_on : (C : Member → Bool) (x : Member) (f : Form) (g : Gap Cell) → IsSound b x C → Reached C f g → IsIn x L
+          → b.context o x ≡ false → (k : Form) × Reached (plus C x) (form_over f k) (narrowed insertion (named_by (b.form x)) g)
       step_on C x f g sound r i unseen =
           let k = exists (deriving_of w) x C sound in (
             k.0,
@@ -118,14 +138,21 @@ module _ (b : Family Form) (known : IsFamily form_inclusion b) (own_names : HasO
             },
           )
 
-      walk_along : (xs : List Member) (C : Member → Bool) (f : Form) (g : Gap Cell) → Run w C xs → ((z : Member) → IsIn z xs → IsIn z L × (b.context o z ≡ false)) → Reached C f g → (h : Form) × Reached (plus_all C xs) h (narrowed insertion (names_of b xs) g)
+      walk_along : (xs : List Member) (C : Member → Bool) (f : Form) (g : Gap Cell) → Run w C xs
+          → ((z : Member) → IsIn z xs → IsIn z L × (b.context o z ≡ false)) → Reached C f g
+          → (h : Form) × Reached (plus_all C xs) h (narrowed insertion (names_of b xs) g)
       unfolding narrowed
       walk_along [] C f g run_xs all r = (f, r)
       walk_along (x ∷ xs) C f g run_xs all r =
           let here = all x (inl refl) in
           let one = step_on C x f g run_xs.0 r here.0 here.1 in
-          let rest = walk_along xs (plus C x) (form_over f one.0) (narrowed insertion (named_by (b.form x)) g) run_xs.1 (λ z i. all z (inr i)) one.1 in
-          (rest.0, subst (λ (h : Gap Cell). Reached (plus_all (plus C x) xs) rest.0 h) (sym (narrowed-append insertion (named_by (b.form x)) (names_of b xs) g)) rest.1)
+          let rest =
+          walk_along xs (plus C x) (form_over f one.0) (narrowed insertion (named_by (b.form x)) g) run_xs.1 (λ z i. all z (inr i))
+          one.1 in (
+            rest.0,
+            subst (λ (h : Gap Cell). Reached (plus_all (plus C x) xs) rest.0 h)
+                (sym (narrowed-append insertion (named_by (b.form x)) (names_of b xs) g)) rest.1,
+          )
 
       -- ---- where the walk starts
 
@@ -136,19 +163,25 @@ module _ (b : Family Form) (known : IsFamily form_inclusion b) (own_names : HasO
       begun =
           let sound = base_sound b known.causal o listed in
           let part = part_state w (b.context o) L none s fs sound.set.closed st df (λ z e. not_both e refl) (λ z e. inr (base_needs z e)) in
-          let long : count (keep (b.context o)) S ≡ weight form_inclusion b (b.context o) = sym (length-count (keep (b.context o)) S) ∙ (ap length part.2 ∙ part.1.weighs) in
-          let bounded : a.place ≤ weight form_inclusion b (b.context o) = subst (λ (f : Form). IsBoundedForm f (weight form_inclusion b (b.context o))) base (known.bounded o listed) in
+          let long : count (keep (b.context o)) S ≡ weight form_inclusion b (b.context o) =
+          sym (length-count (keep (b.context o)) S) ∙ (ap length part.2 ∙ part.1.weighs) in
+          let bounded : a.place ≤ weight form_inclusion b (b.context o) =
+          subst (λ (f : Form). IsBoundedForm f (weight form_inclusion b (b.context o))) base (known.bounded o listed) in
           record {
             within = base_needs;
             form = at_base listed (λ z. refl) refl;
-            stretch = subst (λ (f : Form). Stretch S (keep (b.context o)) (place_of f) (gap (keep (b.context o)) a.place S)) (sym base) (start (keep (b.context o)) a.place S (omega arith));
+            stretch =
+                subst (λ (f : Form). Stretch S (keep (b.context o)) (place_of f) (gap (keep (b.context o)) a.place S)) (sym base)
+                (start (keep (b.context o)) a.place S (omega arith));
           }
 
       abbrev rest : List Member
       rest = filter (λ (z : Member). not (b.context o z)) L
 
       rest_is_run : Run w (b.context o) rest
-      rest_is_run = rest_run w (b.context o) L none (b.context o) (base_sound b known.causal o listed).set (λ z e. not_both e refl) (λ z i e. e) (λ z i e. e) (forms_run w L none fs df)
+      rest_is_run =
+          rest_run w (b.context o) L none (b.context o) (base_sound b known.causal o listed).set (λ z e. not_both e refl) (λ z i e. e)
+          (λ z i e. e) (forms_run w L none fs df)
 
       rest_unseen : (z : Member) → IsIn z rest → IsIn z L × (b.context o z ≡ false)
       rest_unseen z i = let r = filter_in (λ (y : Member). not (b.context o y)) z L i in (r.0, not-true (b.context o z) r.1)
@@ -156,15 +189,23 @@ module _ (b : Family Form) (known : IsFamily form_inclusion b) (own_names : HasO
       end_set : SameSet (plus_all (b.context o) rest) (plus_all none L)
       end_set = same_from (plus_all (b.context o) rest) (plus_all none L)
           (λ z e. elim (all_cases rest (b.context o) z e) [ inl h ↦ needs z h | inr i ↦ all_in L none z (rest_unseen z i).0 ])
-          (λ z e. elim (cases_Bool (b.context o z)) [ inl h ↦ all_keeps rest (b.context o) z h | inr h ↦ all_in rest (b.context o) z (in_filter (λ (y : Member). not (b.context o y)) z L (in_list z e) (rw h refl)) ])
+          (λ z e. elim (cases_Bool (b.context o z)) [
+            | inl h ↦ all_keeps rest (b.context o) z h
+            | inr h ↦
+                all_in rest (b.context o) z (in_filter (λ (y : Member). not (b.context o y)) z L (in_list z e) (rw h refl))
+          ])
 
       arrived : (h : Form) × Reached (plus_all none L) h (gap_of insertion (names_of b L) S)
       arrived =
           let first = gap (λ (c : Cell). b.context o (Original c.0)) a.place S in
           let along = walk_along rest (b.context o) (b.form o) first rest_is_run rest_unseen begun in
           let names : narrowed insertion (names_of b L) first ≡ narrowed insertion (names_of b rest) first =
-          narrowed_unseen insertion (names_of b L) first ∙ ap (λ (ns : List NameData). narrowed insertion ns first) (names_filter b own_names (b.context o) L (λ z i. run_listed w L none z (forms_run w L none fs df) i)) in
-          let there : Reached (plus_all none L) along.0 (narrowed insertion (names_of b rest) first) = subst (λ (C : Member → Bool). Reached C along.0 (narrowed insertion (names_of b rest) first)) (same_set (plus_all (b.context o) rest) (plus_all none L) end_set) along.1 in
+          narrowed_unseen insertion (names_of b L) first
+          ∙ ap (λ (ns : List NameData). narrowed insertion ns first)
+          (names_filter b own_names (b.context o) L (λ z i. run_listed w L none z (forms_run w L none fs df) i)) in
+          let there : Reached (plus_all none L) along.0 (narrowed insertion (names_of b rest) first) =
+          subst (λ (C : Member → Bool). Reached C along.0 (narrowed insertion (names_of b rest) first))
+          (same_set (plus_all (b.context o) rest) (plus_all none L) end_set) along.1 in
           (along.0, subst (λ (g : Gap Cell). Reached (plus_all none L) along.0 g) (sym names) there)
 
       -- the place by the two neighbours is that of the form at the members of the list
@@ -172,8 +213,12 @@ module _ (b : Family Form) (known : IsFamily form_inclusion b) (own_names : HasO
       walk f form =
           let end = arrived in
           let once : end.0 ≡ f = derived_once (deriving_of w) o (plus_all none L) end.0 f end.1.form form in
-          let at : Stretch S (keep (plus_all none L)) (place_of f) (gap_of insertion (names_of b L) S) = subst (λ (h : Form). Stretch S (keep (plus_all none L)) (place_of h) (gap_of insertion (names_of b L) S)) once end.1.stretch in
-          let whole = whole_gap S (cells_from insertion) (keep (plus_all none L)) (place_of f) (gap_of insertion (names_of b L) S) at (λ c i. (state_after w L none s fs st df).names c i) in
+          let at : Stretch S (keep (plus_all none L)) (place_of f) (gap_of insertion (names_of b L) S) =
+          subst (λ (h : Form). Stretch S (keep (plus_all none L)) (place_of h) (gap_of insertion (names_of b L) S)) once
+          end.1.stretch in
+          let whole =
+          whole_gap S (cells_from insertion) (keep (plus_all none L)) (place_of f) (gap_of insertion (names_of b L) S) at
+          (λ c i. (state_after w L none s fs st df).names c i) in
           let fi = derived_insert b a o (plus_all none L) f base form in
           let cells : added_by f ≡ cells_from insertion = ap added_by fi.is ∙ ap (λ (n : NameData). (n, 0) ∷ []) fi.name in
           whole ∙ ap (λ (new : List Cell). take (place_of f) S ++ (new ++ drop (place_of f) S)) (sym cells) ∙ sym (kept_at (run w s fs) f)
@@ -183,21 +228,29 @@ module _ (b : Family Form) (known : IsFamily form_inclusion b) (own_names : HasO
   cover_cells s f c e = kept_at s f ∙ (rw e (take-append-drop c.place (cells_of s)))
 
   -- one member further along a causal list
-  replay_on : (rank : NameData → ℕ) (L0 : List Member) (x : Member) (xs : List Member) (s : List CellData) (fs0 : List Form) (f : Form) → At w none s → Forms w none L0 fs0 → IsForm w x (plus_all none L0) f → (base : Form) → b.form x ≡ base
-      → replay (names_of b L0) (cells_of (run w s fs0)) (inserted_by base (rank (target_of x)) (λ n. b.context x (Original n)) ++ insertions_of b rank xs) ≡ replay (names_of b L0 ++ named_by base) (cells_of (applied (run w s fs0) f)) (insertions_of b rank xs)
+  replay_on : (rank : NameData → ℕ) (L0 : List Member) (x : Member) (xs : List Member) (s : List CellData) (fs0 : List Form) (f : Form)
+      → At w none s → Forms w none L0 fs0 → IsForm w x (plus_all none L0) f → (base : Form) → b.form x ≡ base
+      → replay (names_of b L0) (cells_of (run w s fs0))
+      (inserted_by base (rank (target_of x)) (λ n. b.context x (Original n)) ++ insertions_of b rank xs)
+      ≡ replay (names_of b L0 ++ named_by base) (cells_of (applied (run w s fs0) f)) (insertions_of b rank xs)
   unfolding replay
   replay_on rank L0 x xs s fs0 f st df dx (Insert a) e =
       let sound = derived_sound (deriving_of w) x (plus_all none L0) f dx in
-      ap (λ (cs : List Cell). replay (names_of b L0 ++ (a.name ∷ [])) cs (insertions_of b rank xs)) (walk L0 s fs0 st df x a e (rank (target_of x)) sound.listed sound.covers sound.lacks f dx)
+      ap (λ (cs : List Cell). replay (names_of b L0 ++ (a.name ∷ [])) cs (insertions_of b rank xs))
+      (walk L0 s fs0 st df x a e (rank (target_of x)) sound.listed sound.covers sound.lacks f dx)
   replay_on rank L0 x xs s fs0 f st df dx (Covered c) e =
       let fi = derived_cover b c x (plus_all none L0) f e dx in
-      ap₂ (λ (ns : List NameData) (cs : List Cell). replay ns cs (insertions_of b rank xs)) (sym (append-nil (names_of b L0))) (sym (cover_cells (run w s fs0) f fi.cover fi.is))
+      ap₂ (λ (ns : List NameData) (cs : List Cell). replay ns cs (insertions_of b rank xs)) (sym (append-nil (names_of b L0)))
+      (sym (cover_cells (run w s fs0) f fi.cover fi.is))
 
   one_name_more : (L0 : List Member) (x : Member) → names_of b L0 ++ named_by (b.form x) ≡ names_of b (L0 ++ (x ∷ []))
-  one_name_more L0 x = ap (λ (ns : List NameData). names_of b L0 ++ ns) (sym (append-nil (named_by (b.form x)))) ∙ sym (names-append b L0 (x ∷ []))
+  one_name_more L0 x =
+      ap (λ (ns : List NameData). names_of b L0 ++ ns) (sym (append-nil (named_by (b.form x)))) ∙ sym (names-append b L0 (x ∷ []))
 
   -- the replay of the inserts of a causal list, from what an earlier list gave
-  pub replay_from : (rank : NameData → ℕ) (L L0 : List Member) (s : List CellData) (fs0 fs : List Form) → At w none s → Forms w none L0 fs0 → Forms w (plus_all none L0) L fs → replay (names_of b L0) (cells_of (run w s fs0)) (insertions_of b rank L) ≡ cells_of (run w (run w s fs0) fs)
+  pub replay_from : (rank : NameData → ℕ) (L L0 : List Member) (s : List CellData) (fs0 fs : List Form) → At w none s → Forms w none L0 fs0
+      → Forms w (plus_all none L0) L fs
+      → replay (names_of b L0) (cells_of (run w s fs0)) (insertions_of b rank L) ≡ cells_of (run w (run w s fs0) fs)
   unfolding replay
   replay_from rank [] L0 s fs0 [] st df0 df = refl
   replay_from rank [] L0 s fs0 (f ∷ fs) st df0 df = absurd df
@@ -213,5 +266,6 @@ module _ (b : Family Form) (known : IsFamily form_inclusion b) (own_names : HasO
       ∙ (ih ∙ ap (λ (t : List CellData). cells_of (run w t fs)) state))
 
   -- along every causal list of members the replay gives the cells of the executed forms
-  pub replay_along : (rank : NameData → ℕ) (L : List Member) (fs : List Form) → At w none [] → Forms w none L fs → replay [] [] (insertions_of b rank L) ≡ cells_of (run w [] fs)
+  pub replay_along : (rank : NameData → ℕ) (L : List Member) (fs : List Form) → At w none [] → Forms w none L fs
+      → replay [] [] (insertions_of b rank L) ≡ cells_of (run w [] fs)
   replay_along rank L fs st df = replay_from rank L [] [] [] fs st tt df

@@ -22,6 +22,7 @@ pub record IsReplayed (h : List OpData) (cs : List CellData) : Type 0 where
   pub cells : cells_of cs ≡ replay_of h
   pub characters : (d : CellData) → IsIn d cs → d.ch ≡ character_in h (cell_key d)
   pub generations : (d : CellData) → IsIn d cs → d.generation ≡ generation_in h d.name
-  pub deleters : (d : CellData) → IsIn d cs → (n : NameData) (g : ℕ) → IsIn (n, g) d.deleters ↔ (IsDeleter h (cell_key d) n × (g ≡ generation_in h n))
+  pub deleters : (d : CellData) → IsIn d cs → (n : NameData) (g : ℕ)
+      → IsIn (n, g) d.deleters ↔ (IsDeleter h (cell_key d) n × (g ≡ generation_in h n))
   pub once : (d : CellData) → IsIn d cs → IsRising d.deleters
   pub shown : (d : CellData) → IsIn d cs → cell_shown d ≡ is_shown h (cell_key d)

@@ -31,6 +31,7 @@ spent es k = demoted (key_eq k) es
 abbrev pub asked : {F : Type 0} → Entries F → KeyData → Entries F
 asked es k = option_map_or (λ kept. if kept.once then spent es k else used es k) (lookup (key_eq k) es) es
 
--- the entries after a form was put first under its key, for one use alone if `once`; where the key is new, the last entry of a full cache is dropped
+-- the entries after a form was put first under its key, for one use alone if `once`; where the key is new, the last entry of a full
+-- cache is dropped
 abbrev pub with_form : {F : Type 0} → CacheData F → KeyData → F → Bool → Entries F
 with_form c k f once = put_entries key_eq (lru_cache c.entries c.capacity) k (record { form = f; once = once })

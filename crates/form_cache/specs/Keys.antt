@@ -29,7 +29,8 @@ key_eq_decides k l =
           let members = member_same k.member l.member (first_so (member_eq k.member l.member) (context_eq k.context l.context) e) in
           let sets = contexts.0 (second_so (member_eq k.member l.member) (context_eq k.context l.context) e) in
           λ i. record { member = members i; context = sets i },
-      λ e. subst (λ (x : KeyData). key_eq k x ≡ true) e (both _ _ (member_itself k.member) ((context_eq_decides k.context k.context).1 (λ i. k.context))),
+      λ e. subst (λ (x : KeyData). key_eq k x ≡ true) e
+          (both _ _ (member_itself k.member) ((context_eq_decides k.context k.context).1 (λ i. k.context))),
     )
 
 pub key_equiv : IsEquivalence key_eq

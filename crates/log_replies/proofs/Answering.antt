@@ -11,12 +11,14 @@ use Rattle.log_replies.specs.Replies.{IsLoadedAs, RepliesToLogBy, refusing, IsRe
 -- ---- what is appended
 
 -- where a state has one reply, this is appended
-pub once_replied : (to_state : State → Report) (s : State) (old new : List ℕ) (refused : Bool) → new ≡ old ++ (to_state s).written → (to_state s).refused ≡ refused
+pub once_replied : (to_state : State → Report) (s : State) (old new : List ℕ) (refused : Bool) → new ≡ old ++ (to_state s).written
+    → (to_state s).refused ≡ refused
     → IsAppended (λ t reply. reply ≡ to_state t) refused s old new
 once_replied to_state s old new refused added is = record { reply = to_state s; right = refl; told = is; appended = added }
 
 -- a site that was loaded from these bytes is replied to
-pub state_replied : (replies : List ℕ → Report → Type 0) (site : ℕ) (ToState : State → Report → Type 0) (s : State) (left : Option (List ℕ)) (old middle new : List ℕ) (refused : Bool)
+pub state_replied : (replies : List ℕ → Report → Type 0) (site : ℕ) (ToState : State → Report → Type 0) (s : State) (left : Option (List ℕ))
+    (old middle new : List ℕ) (refused : Bool)
     → ((bytes : List ℕ) (reply : Report) → RepliesToLogBy site ToState bytes reply → replies bytes reply)
     → IfSome left (λ bytes. IsLoadedAs site bytes s) → middle ≡ old → IsAppended ToState refused s middle new
     → IfSome left (λ bytes. IsAppended replies refused bytes old new)
@@ -29,7 +31,8 @@ state_replied replies site ToState s (Some bytes) old middle new refused by load
 }
 
 -- bytes that are refused are replied by their line
-pub line_replied : (replies : List ℕ → Report → Type 0) (site : ℕ) (ToState : State → Report → Type 0) (left : Option (List ℕ)) (old new : List ℕ)
+pub line_replied : (replies : List ℕ → Report → Type 0) (site : ℕ) (ToState : State → Report → Type 0) (left : Option (List ℕ))
+    (old new : List ℕ)
     → ((bytes : List ℕ) (reply : Report) → RepliesToLogBy site ToState bytes reply → replies bytes reply)
     → IfSome left (λ bytes. IsRefusedInto site bytes old new)
     → IfSome left (λ bytes. IsAppended replies true bytes old new)

@@ -36,7 +36,8 @@ cut_twice k n xs within = elim (cases_lt k n) [
 cut_more : (most : ℕ) (all xs : List ℕ) → length all ≤ most → take most (all ++ xs) ≡ take most all ++ take (most - length all) xs
 cut_more most all xs few =
     let sum : length all + (most - length all) ≡ most = omega (arith, few) in
-    ap (λ n. take n (all ++ xs)) (sym sum) ∙ take-append-add all xs (most - length all) ∙ ap (λ ys. ys ++ take (most - length all) xs) (sym (take_all most all few))
+    ap (λ n. take n (all ++ xs)) (sym sum) ∙ take-append-add all xs (most - length all)
+    ∙ ap (λ ys. ys ++ take (most - length all) xs) (sym (take_all most all few))
 
 -- n bytes more were read, and of these as many fed as may be
 pub feeds_more : (site : ℕ) (left a b : Option (List ℕ)) (read n : ℕ) (buf piece : List ℕ) (old new : ReaderData)
@@ -51,12 +52,14 @@ feeds_more site left a b read n buf piece old new few within took is keeps same 
       let short : length f.all ≤ MAX_INPUT = omega (arith, f.size, few) in
       let cut : take (MAX_INPUT - length f.all) (take n buf) ≡ piece =
       ap (λ k. take (MAX_INPUT - k) (take n buf)) f.size ∙ cut_twice (MAX_INPUT - read) n buf within ∙ sym is in
-      subst (Keeps new) (sym (cut_more MAX_INPUT f.all (take n buf) short ∙ ap (λ ys. take MAX_INPUT f.all ++ ys) cut)) (keeps (take MAX_INPUT f.all) f.kept);
+      subst (Keeps new) (sym (cut_more MAX_INPUT f.all (take n buf) short ∙ ap (λ ys. take MAX_INPUT f.all ++ ys) cut))
+      (keeps (take MAX_INPUT f.all) f.kept);
   number = same ∙ f.number;
 }
 
 -- before the limit all that was read was fed
-pub feeds_count : (site : ℕ) (left now : Option (List ℕ)) (read : ℕ) (r : ReaderData) → read ≤ MAX_INPUT → Feeds site left now read r → r.fed ≡ read
+pub feeds_count : (site : ℕ) (left now : Option (List ℕ)) (read : ℕ) (r : ReaderData) → read ≤ MAX_INPUT → Feeds site left now read r
+    → r.fed ≡ read
 feeds_count site left now read r few f =
     f.kept.fed ∙ ap length (take_all MAX_INPUT f.all (omega (arith, f.size, few))) ∙ f.size
 
@@ -75,7 +78,8 @@ feeds_none left r kept = record {
     same (Some xs) = refl
 
 -- what was read, and what was lost then, are lost
-pub loses_more : (site : ℕ) (left a b : Option (List ℕ)) (read : ℕ) (r : ReaderData) → read ≤ MAX_INPUT + 1 → Feeds site left a read r → LosesFront (MAX_INPUT + 1 - read) a b → LosesFront (MAX_INPUT + 1) left b
+pub loses_more : (site : ℕ) (left a b : Option (List ℕ)) (read : ℕ) (r : ReaderData) → read ≤ MAX_INPUT + 1 → Feeds site left a read r
+    → LosesFront (MAX_INPUT + 1 - read) a b → LosesFront (MAX_INPUT + 1) left b
 loses_more site left a b read r few f lost = record {
   front = f.all ++ lost.front;
   few = omega (arith, few, lost.few, f.size, length-append f.all lost.front);
@@ -85,7 +89,8 @@ loses_more site left a b read r few f lost = record {
 -- ---- at the end
 
 -- what was read of the bytes is all of them, or one past the limit
-pub fed_whole : (site : ℕ) (left now : Option (List ℕ)) (read : ℕ) (r : ReaderData) → read ≤ MAX_INPUT + 1 → (read ≤ MAX_INPUT → IsAtEnd now) → Feeds site left now read r
+pub fed_whole : (site : ℕ) (left now : Option (List ℕ)) (read : ℕ) (r : ReaderData) → read ≤ MAX_INPUT + 1
+    → (read ≤ MAX_INPUT → IsAtEnd now) → Feeds site left now read r
     → IfSome left (λ bytes. IsFed site bytes read r)
 fed_whole site None now read r few end f = tt
 fed_whole site (Some bytes) None read r few end f = absurd f.consumed
@@ -107,7 +112,8 @@ fed_whole site (Some bytes) (Some rest) read r few end f =
     ]
 
 -- and the rest of them is left
-pub fed_rest : (site : ℕ) (left now : Option (List ℕ)) (read : ℕ) (r : ReaderData) → read ≤ MAX_INPUT + 1 → (read ≤ MAX_INPUT → IsAtEnd now) → Feeds site left now read r
+pub fed_rest : (site : ℕ) (left now : Option (List ℕ)) (read : ℕ) (r : ReaderData) → read ≤ MAX_INPUT + 1 → (read ≤ MAX_INPUT → IsAtEnd now)
+    → Feeds site left now read r
     → IfSome left (λ bytes. now ≡ Some (drop (MAX_INPUT + 1) bytes))
 fed_rest site None now read r few end f = tt
 fed_rest site (Some bytes) None read r few end f = absurd f.consumed
@@ -137,21 +143,40 @@ short_fed : (bytes : List ℕ) (read : ℕ) → read ≤ MAX_INPUT → read ≡ 
 short_fed bytes read short is = omega (arith, short, is)
 
 -- a log was loaded
-pub loaded : (site read : ℕ) (bytes : List ℕ) (r : ReaderData) (s : State) → read ≤ MAX_INPUT → ((all : List ℕ) → Keeps r all → IsLoaded r.site all s) → IsFed site bytes read r → IsLoadedAs site bytes s
+pub loaded : (site read : ℕ) (bytes : List ℕ) (r : ReaderData) (s : State) → read ≤ MAX_INPUT
+    → ((all : List ℕ) → Keeps r all → IsLoaded r.site all s) → IsFed site bytes read r → IsLoadedAs site bytes s
 loaded site read bytes r s short at f =
-    let few = short_fed bytes read short f.size in
-    (few, subst (λ n. IsLoaded n bytes s) f.number (subst (λ xs. IsLoaded r.site xs s) (take_all MAX_INPUT bytes few) (at (take MAX_INPUT bytes) f.kept)))
+    let few = short_fed bytes read short f.size in (
+      few,
+      subst (λ n. IsLoaded n bytes s) f.number
+          (subst (λ xs. IsLoaded r.site xs s) (take_all MAX_INPUT bytes few) (at (take MAX_INPUT bytes) f.kept)),
+    )
 
 -- it was refused
-pub refused : (site read : ℕ) (bytes old new : List ℕ) (r : ReaderData) (why : LogBad) → read ≤ MAX_INPUT → why ≢ bad.Memory → ((all : List ℕ) → Keeps r all → IsUnloaded r.site all why) → new ≡ old ++ refused_log_text why
+pub refused : (site read : ℕ) (bytes old new : List ℕ) (r : ReaderData) (why : LogBad) → read ≤ MAX_INPUT → why ≢ bad.Memory
+    → ((all : List ℕ) → Keeps r all → IsUnloaded r.site all why) → new ≡ old ++ refused_log_text why
     → IsFed site bytes read r → IsRefusedInto site bytes old new
 refused site read bytes old new r why short some at added f =
-    let few = short_fed bytes read short f.size in
-    (refused_log_text why, inr (few, (why, some, subst (λ n. IsUnloaded n bytes why) f.number (subst (λ xs. IsUnloaded r.site xs why) (take_all MAX_INPUT bytes few) (at (take MAX_INPUT bytes) f.kept)), refl)), added)
+    let few = short_fed bytes read short f.size in (
+      refused_log_text why,
+      inr (
+        few,
+        (
+          why,
+          some,
+          subst (λ n. IsUnloaded n bytes why) f.number
+              (subst (λ xs. IsUnloaded r.site xs why) (take_all MAX_INPUT bytes few) (at (take MAX_INPUT bytes) f.kept)),
+          refl,
+        ),
+      ),
+      added,
+    )
 
 -- a log that the source had left was loaded
-pub loaded_of : (site read : ℕ) (left : Option (List ℕ)) (r : ReaderData) (o : Option SiteData) → IfSome left (λ bytes. IsFed site bytes read r)
-    → ((bytes : List ℕ) → IsFed site bytes read r → IfSome o (λ s. IsLoadedAs site bytes (state_of s))) → IfSome o (λ s. IfSome left (λ bytes. IsLoadedAs site bytes (state_of s)))
+pub loaded_of : (site read : ℕ) (left : Option (List ℕ)) (r : ReaderData) (o : Option SiteData)
+    → IfSome left (λ bytes. IsFed site bytes read r)
+    → ((bytes : List ℕ) → IsFed site bytes read r → IfSome o (λ s. IsLoadedAs site bytes (state_of s)))
+    → IfSome o (λ s. IfSome left (λ bytes. IsLoadedAs site bytes (state_of s)))
 loaded_of site read None r None fed loads = tt
 loaded_of site read None r (Some s) fed loads = tt
 loaded_of site read (Some bytes) r o fed loads = loads bytes fed

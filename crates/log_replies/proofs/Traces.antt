@@ -15,7 +15,8 @@ use Rattle.log_replies.specs.Answers.{IsAppended}
 use Rattle.log_replies.specs.Replies.{accepting, refusing}
 use Rattle.log_replies.specs.Explaining.{IsExplainedIn, IsExplanation, line_text, lines_text, unknown_text}
 
-lines_text-push : (n : ℕ) (ls : List TraceLine) (l : TraceLine) → lines_text n (ls ++ l ∷ []) ≡ lines_text n ls ++ line_text (n + length ls) l
+lines_text-push : (n : ℕ) (ls : List TraceLine) (l : TraceLine)
+    → lines_text n (ls ++ l ∷ []) ≡ lines_text n ls ++ line_text (n + length ls) l
 lines_text-push n [] l =
     let here : n ≡ n + length {A = TraceLine} [] = omega arith in
     append-nil (line_text n l) ∙ ap (λ k. line_text k l) here
@@ -30,32 +31,40 @@ abbrev pub AreWritten : List ℕ → List TraceLine → ℕ → List ℕ → Typ
 AreWritten start ls i now = now ≡ start ++ lines_text 1 (take i ls)
 
 module _ (start : List ℕ) (ls : List TraceLine) where
-  pub lines_more : (i number : ℕ) (l : TraceLine) (was now : List ℕ) → i < length ls → l ≡ get_or ls i l → number ≡ i + 1 → AreWritten start ls i was → now ≡ was ++ line_text number l → AreWritten start ls (i + 1) now
+  pub lines_more : (i number : ℕ) (l : TraceLine) (was now : List ℕ) → i < length ls → l ≡ get_or ls i l → number ≡ i + 1
+      → AreWritten start ls i was → now ≡ was ++ line_text number l → AreWritten start ls (i + 1) now
   lines_more i number l was now within at is up put =
       let size : 1 + length (take i ls) ≡ number = let t = length-take i ls in omega (arith, t, is, within) in
       let more : take (i + 1) ls ≡ take i ls ++ l ∷ [] = take_more ls i l within ∙ ap (λ (x : TraceLine). take i ls ++ x ∷ []) (sym at) in
       let text : lines_text 1 (take (i + 1) ls) ≡ lines_text 1 (take i ls) ++ line_text number l =
       ap (lines_text 1) more ∙ lines_text-push 1 (take i ls) l ∙ ap (λ k. lines_text 1 (take i ls) ++ line_text k l) size in
-      put ∙ ap (λ (t : List ℕ). t ++ line_text number l) up ∙ append_assoc start (lines_text 1 (take i ls)) (line_text number l) ∙ ap (λ (t : List ℕ). start ++ t) (sym text)
+      put ∙ ap (λ (t : List ℕ). t ++ line_text number l) up ∙ append_assoc start (lines_text 1 (take i ls)) (line_text number l)
+      ∙ ap (λ (t : List ℕ). start ++ t) (sym text)
 
   pub lines_end : (i : ℕ) (now : List ℕ) → ¬ (i < length ls) → AreWritten start ls i now → now ≡ start ++ lines_text 1 ls
   lines_end i now past up = up ∙ ap (λ (t : List TraceLine). start ++ lines_text 1 t) (take_all i ls (omega (arith, past)))
 
 -- three texts, one after the other
-pub three_written : (start a b c one two three : List ℕ) → one ≡ start ++ a → two ≡ one ++ b → three ≡ two ++ c → three ≡ start ++ (a ++ (b ++ c))
+pub three_written : (start a b c one two three : List ℕ) → one ≡ start ++ a → two ≡ one ++ b → three ≡ two ++ c
+    → three ≡ start ++ (a ++ (b ++ c))
 three_written start a b c one two three first second third =
-    third ∙ ap (λ (t : List ℕ). t ++ c) (second ∙ ap (λ (t : List ℕ). t ++ b) first) ∙ append_assoc (start ++ a) b c ∙ append_assoc start a (b ++ c)
+    third ∙ ap (λ (t : List ℕ). t ++ c) (second ∙ ap (λ (t : List ℕ). t ++ b) first) ∙ append_assoc (start ++ a) b c
+    ∙ append_assoc start a (b ++ c)
 
 -- the trace of m is its explanation
-pub explanation : (h : List OpData) (m : Member) (lines : List TraceLine) → IsValid h → length h < 4294967296 → EndsInExecutedForm → IsTraceOf h m lines → IsTrace h m lines → IsExplanation h m lines
+pub explanation : (h : List OpData) (m : Member) (lines : List TraceLine) → IsValid h → length h < 4294967296 → EndsInExecutedForm
+    → IsTraceOf h m lines → IsTrace h m lines → IsExplanation h m lines
 explanation h m lines valid short ends listed right = record {
   listed = listed;
   right = right;
-  executed = λ forms i f executed at form. ends h forms m i f lines (record { valid = valid; short = omega (arith, short) }) executed at form right;
+  executed =
+      λ forms i f executed at form. ends h forms m i f lines (record { valid = valid; short = omega (arith, short) }) executed at form
+      right;
 }
 
 -- the lines of the explanation were appended
-pub lines_replied : (m : Member) (s : State) (lines : List TraceLine) (old new : List ℕ) → is_known s.history m ≡ true → IsExplanation s.history m lines → new ≡ old ++ lines_text 1 lines → IsAppended (IsExplainedIn m) false s old new
+pub lines_replied : (m : Member) (s : State) (lines : List TraceLine) (old new : List ℕ) → is_known s.history m ≡ true
+    → IsExplanation s.history m lines → new ≡ old ++ lines_text 1 lines → IsAppended (IsExplainedIn m) false s old new
 lines_replied m s lines old new known is written = record {
   reply = accepting (lines_text 1 lines);
   right = inr (known, (lines, is, refl));
@@ -78,7 +87,8 @@ trace_replied h m s found first items given old new of valid short ends there kn
     (written ∙ ap (λ (ls : List TraceLine). old ++ lines_text 1 ls) lines)
 
 -- the line of a member that isn't integrated was appended
-pub unknown_replied : (m : Member) (s : State) (old new : List ℕ) → is_known s.history m ≡ false → new ≡ old ++ unknown_text m → IsAppended (IsExplainedIn m) true s old new
+pub unknown_replied : (m : Member) (s : State) (old new : List ℕ) → is_known s.history m ≡ false → new ≡ old ++ unknown_text m
+    → IsAppended (IsExplainedIn m) true s old new
 unknown_replied m s old new lacking written = record {
   reply = refusing (unknown_text m);
   right = inl (lacking, refl);
@@ -88,7 +98,8 @@ unknown_replied m s old new lacking written = record {
 
 -- the same where `trace` gave nothing
 pub nothing_replied : (h : List OpData) (m : Member) (s : State) (found : Bool) (old new : List ℕ)
-    → h ≡ s.history → found ≡ false → (IsTrue found ↔ (is_known h m ≡ true)) → new ≡ old ++ unknown_text m → IsAppended (IsExplainedIn m) true s old new
+    → h ≡ s.history → found ≡ false → (IsTrue found ↔ (is_known h m ≡ true)) → new ≡ old ++ unknown_text m
+    → IsAppended (IsExplainedIn m) true s old new
 nothing_replied h m s found old new of missing known written =
     unknown_replied m s old new
     (ap (λ (k : List OpData). is_known k m) (sym of) ∙ false_from_ne_true (is_known h m) (λ e. false≢true (sym missing ∙ known.1 e)))

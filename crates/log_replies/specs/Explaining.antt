@@ -30,18 +30,21 @@ lines_text number (l ∷ ls) = line_text number l ++ lines_text (suc number) ls
 abbrev pub unknown_text : Member → List ℕ
 unknown_text m = codes "refused unknown " ++ (member_text m ++ codes "\n")
 
--- the lines are those that the listing rule gives for m; each is a base form or an inclusion of earlier lines; and the last one has the form
+-- the lines are those that the listing rule gives for m; each is a base form or an inclusion of earlier lines; and the last one has the
+-- form
 -- in which m was executed, when the history was executed operation by operation in derived forms
 pub record IsExplanation (h : List OpData) (m : Member) (lines : List TraceLine) : Type 0 where
   pub listed : IsTraceOf h m lines
   pub right : IsTrace h m lines
-  pub executed : (forms : List Form) (i : ℕ) (f : Form) → AreExecuted h forms → slice_get (members_in h) i ≡ Some m → slice_get forms i ≡ Some f → EndsIn lines f
+  pub executed : (forms : List Form) (i : ℕ) (f : Form) → AreExecuted h forms → slice_get (members_in h) i ≡ Some m
+      → slice_get forms i ≡ Some f → EndsIn lines f
 
 -- the reply to the state: the steps of m, numbered from 1, or the line that m isn't integrated
 abbrev pub IsExplainedIn : Member → State → Report → Type 0
 IsExplainedIn m s reply =
     ((is_known s.history m ≡ false) × (reply ≡ refusing (unknown_text m)))
-    ⊎ ((is_known s.history m ≡ true) × ((lines : List TraceLine) × IsExplanation s.history m lines × (reply ≡ accepting (lines_text 1 lines))))
+    ⊎ ((is_known s.history m ≡ true)
+    × ((lines : List TraceLine) × IsExplanation s.history m lines × (reply ≡ accepting (lines_text 1 lines))))
 
 -- `explain`: the log is loaded as site 0
 abbrev pub IsExplained : Member → List ℕ → Report → Type 0

@@ -8,7 +8,9 @@ use Rattle.log_replies.specs.Explaining.{IsExplained}
 
 -- the bytes decide the reply: a command that loads its input as a log, and then replies to the state, has one reply at most
 abbrev pub OneReply : Type 0
-OneReply = (site : ℕ) (to_state : State → Report) (bytes : List ℕ) (a b : Report) → RepliesToLog site to_state bytes a → RepliesToLog site to_state bytes b → a ≡ b
+OneReply =
+    (site : ℕ) (to_state : State → Report) (bytes : List ℕ) (a b : Report) → RepliesToLog site to_state bytes a
+    → RepliesToLog site to_state bytes b → a ≡ b
 
 -- the same of `explain`
 abbrev pub OneExplanation : Type 0

@@ -12,8 +12,10 @@ use Rattle.outside_io.specs.declared.reading.Taken.TheVariants.{End, Past}
 use Rattle.outside_io.specs.declared.reading.ReadBad.{ReadBad}
 
 -- where more than `most` bytes were gathered, by one, the first `most` of them are the first that were left
-pub Gathers-first : (a b : Option (List ℕ)) (before now kept : List ℕ) (most start : ℕ) → Gathers a b before now → length now ≡ length before + most + 1
-    → start ≡ length before → kept ≡ take (start + most) now → IfSome a (λ bytes. (most < length bytes) × (kept ≡ before ++ take most bytes))
+pub Gathers-first : (a b : Option (List ℕ)) (before now kept : List ℕ) (most start : ℕ) → Gathers a b before now
+    → length now ≡ length before + most + 1
+    → start ≡ length before → kept ≡ take (start + most) now
+    → IfSome a (λ bytes. (most < length bytes) × (kept ≡ before ++ take most bytes))
 Gathers-first None b before now kept most start gathers long from cut = tt
 Gathers-first (Some xs) None before now kept most start gathers long from cut = absurd gathers.consumed
 Gathers-first (Some xs) (Some ys) before now kept most start gathers long from cut =
@@ -38,29 +40,41 @@ Gathers-rest (Some xs) (Some ys) before now most gathers long =
     ap Some (sym (ap (drop (most + 1)) read ∙ ap (λ n. drop n (gained ++ ys)) (sym size) ∙ drop-append_seam gained ys))
 
 -- none is left where no more than `most` bytes were gathered, to the end
-Gathers-end : (a b : Option (List ℕ)) (before now : List ℕ) (most : ℕ) → Gathers a b before now → IsAtEnd b → length now ≤ length before + most → IfSome a (λ bytes. b ≡ Some (drop (most + 1) bytes))
+Gathers-end : (a b : Option (List ℕ)) (before now : List ℕ) (most : ℕ) → Gathers a b before now → IsAtEnd b
+    → length now ≤ length before + most → IfSome a (λ bytes. b ≡ Some (drop (most + 1) bytes))
 Gathers-end None b before now most gathers end few = tt
 Gathers-end (Some xs) None before now most gathers end few = absurd gathers.consumed
 Gathers-end (Some xs) (Some ys) before now most gathers end few =
     let gained : List ℕ = drop (length before) now in
     let read : xs ≡ gained ++ ys = gathers.consumed in
-    let short : length xs ≤ most + 1 = omega (arith, few, ap length gathers.front, length-append before gained, ap length read, length-append gained ys, ap length end) in
+    let short : length xs ≤ most + 1 =
+    omega (arith, few, ap length gathers.front, length-append before gained, ap length read, length-append gained ys, ap length end) in
     ap Some (end ∙ sym (drop_all (most + 1) xs short))
 
 -- what is left once a source was read to its end, or to one byte past the most
-pub Gathers-left : (r : Result Taken ReadBad) (a b : Option (List ℕ)) (before now : List ℕ) (most : ℕ) → OnOk r (Gathers a b before now) → (r ≡ Ok End → IsAtEnd b) → (r ≡ Ok End → length now ≤ length before + most)
+pub Gathers-left : (r : Result Taken ReadBad) (a b : Option (List ℕ)) (before now : List ℕ) (most : ℕ) → OnOk r (Gathers a b before now)
+    → (r ≡ Ok End → IsAtEnd b) → (r ≡ Ok End → length now ≤ length before + most)
     → (r ≡ Ok Past → length now ≡ length before + most + 1) → OnOk r (IfSome a (λ bytes. b ≡ Some (drop (most + 1) bytes)))
 Gathers-left (Ok End) a b before now most gathers end few long = Gathers-end a b before now most gathers (end refl) (few refl)
 Gathers-left (Ok Past) a b before now most gathers end few long = Gathers-rest a b before now most gathers (long refl)
 Gathers-left (Err why) a b before now most gathers end few long = gathers
 
 -- what was gathered and what was lost then are lost
-pub LosesFront-more : (a b c : Option (List ℕ)) (before now : List ℕ) (few most : ℕ) → Gathers a b before now → LosesFront few b c → few + length now ≤ most + length before
+pub LosesFront-more : (a b c : Option (List ℕ)) (before now : List ℕ) (few most : ℕ) → Gathers a b before now → LosesFront few b c
+    → few + length now ≤ most + length before
     → LosesFront most a c
 LosesFront-more a b c before now few most gathers loses within = record {
   front = drop (length before) now ++ loses.front;
   few =
       let gained : length (drop (length before) now) ≡ length now - length before = length-drop (length before) now in
-      omega (arith, within, gained, loses.few, ap length gathers.front, length-append before (drop (length before) now), length-append (drop (length before) now) loses.front);
+      omega (
+        arith,
+        within,
+        gained,
+        loses.few,
+        ap length gathers.front,
+        length-append before (drop (length before) now),
+        length-append (drop (length before) now) loses.front,
+      );
   lost = Consumes-trans a b c (drop (length before) now) loses.front gathers.consumed loses.lost;
 }

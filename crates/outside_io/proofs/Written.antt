@@ -6,7 +6,8 @@ use Rattle.std.specs.Io.KnownBytes.{Appends, Keeps}
 use Rattle.outside_io.specs.Writing.{WritesFront}
 
 -- n bytes after the first i
-pub Appends-take : (a b c : Option (List ℕ)) (xs : List ℕ) (i n : ℕ) → Appends a b (take i xs) → Appends b c (take n (drop i xs)) → Appends a c (take (i + n) xs)
+pub Appends-take : (a b c : Option (List ℕ)) (xs : List ℕ) (i n : ℕ) → Appends a b (take i xs) → Appends b c (take n (drop i xs))
+    → Appends a c (take (i + n) xs)
 Appends-take a b c xs i n first second = rw take-add (Appends-trans a b c (take i xs) (take n (drop i xs)) first second)
 
 -- nothing after the first i

@@ -11,14 +11,18 @@ use Rattle.tombstone_text.specs.Code.Sums.{AreBlocks}
 use Rattle.tombstone_text.specs.declared.sums.TheConstants.{BLOCK}
 
 -- one block more
-pub block_next : (xs : List ℕ) (j : ℕ) → sum (take (BLOCK * (j + 1)) xs) ≡ sum (take (BLOCK * j) xs) + sum (take BLOCK (drop (BLOCK * j) xs))
+pub block_next : (xs : List ℕ) (j : ℕ)
+    → sum (take (BLOCK * (j + 1)) xs) ≡ sum (take (BLOCK * j) xs) + sum (take BLOCK (drop (BLOCK * j) xs))
 block_next xs j =
     let next : BLOCK * (j + 1) ≡ BLOCK * j + BLOCK = omega arith in
-    ap (λ k. sum (take k xs)) next ∙ ap sum (take-add (BLOCK * j) BLOCK xs) ∙ sum_by-append (λ (n : ℕ). n) (take (BLOCK * j) xs) (take BLOCK (drop (BLOCK * j) xs))
+    ap (λ k. sum (take k xs)) next ∙ ap sum (take-add (BLOCK * j) BLOCK xs)
+    ∙ sum_by-append (λ (n : ℕ). n) (take (BLOCK * j) xs) (take BLOCK (drop (BLOCK * j) xs))
 
-window-before : (xs : List ℕ) (i j y : ℕ) → BLOCK * j + BLOCK ≤ i → take BLOCK (drop (BLOCK * j) (set xs i y)) ≡ take BLOCK (drop (BLOCK * j) xs)
+window-before : (xs : List ℕ) (i j y : ℕ) → BLOCK * j + BLOCK ≤ i
+    → take BLOCK (drop (BLOCK * j) (set xs i y)) ≡ take BLOCK (drop (BLOCK * j) xs)
 window-before xs i j y le =
-    sym (drop-take (BLOCK * j) BLOCK (set xs i y)) ∙ ap (λ zs. drop (BLOCK * j) zs) (take-set-le (BLOCK * j + BLOCK) xs i y le) ∙ drop-take (BLOCK * j) BLOCK xs
+    sym (drop-take (BLOCK * j) BLOCK (set xs i y)) ∙ ap (λ zs. drop (BLOCK * j) zs) (take-set-le (BLOCK * j + BLOCK) xs i y le)
+    ∙ drop-take (BLOCK * j) BLOCK xs
 
 window-behind : (xs : List ℕ) (i j y : ℕ) → i < BLOCK * j → take BLOCK (drop (BLOCK * j) (set xs i y)) ≡ take BLOCK (drop (BLOCK * j) xs)
 window-behind xs i j y lt = ap (λ zs. take BLOCK zs) (drop-set-lt (BLOCK * j) xs i y lt)
@@ -40,14 +44,16 @@ window-at xs i j y lt low high =
     let here : i ≡ BLOCK * j + r = omega arith in
     let within : r < length (take BLOCK (drop (BLOCK * j) xs)) = length-window xs (BLOCK * j) r (omega arith) (omega arith) in
     let changed : take BLOCK (drop (BLOCK * j) (set xs i y)) ≡ set (take BLOCK (drop (BLOCK * j) xs)) r y =
-    ap (λ k. take BLOCK (drop (BLOCK * j) (set xs k y))) here ∙ ap (λ zs. take BLOCK zs) (drop-set-add (BLOCK * j) xs r y) ∙ take_set BLOCK r y (drop (BLOCK * j) xs) in
+    ap (λ k. take BLOCK (drop (BLOCK * j) (set xs k y))) here ∙ ap (λ zs. take BLOCK zs) (drop-set-add (BLOCK * j) xs r y)
+    ∙ take_set BLOCK r y (drop (BLOCK * j) xs) in
     let old : get_or (take BLOCK (drop (BLOCK * j) xs)) r 0 ≡ get_or xs i 0 =
     get_or-take BLOCK (drop (BLOCK * j) xs) r 0 (omega arith) ∙ get_or-drop (BLOCK * j) xs r 0 ∙ ap (λ k. get_or xs k 0) (sym here) in
     let sums = sum_by-set (λ (n : ℕ). n) (take BLOCK (drop (BLOCK * j) xs)) r y 0 within in
     ap (λ n. n + get_or xs i 0) (ap sum changed) ∙ ap (λ n. sum (set (take BLOCK (drop (BLOCK * j) xs)) r y) + n) (sym old) ∙ sums
 
 -- a number is one of those of its block
-pub in-window : (xs : List ℕ) (i j : ℕ) → i < length xs → BLOCK * j ≤ i → i < BLOCK * j + BLOCK → get_or xs i 0 ≤ sum (take BLOCK (drop (BLOCK * j) xs))
+pub in-window : (xs : List ℕ) (i j : ℕ) → i < length xs → BLOCK * j ≤ i → i < BLOCK * j + BLOCK
+    → get_or xs i 0 ≤ sum (take BLOCK (drop (BLOCK * j) xs))
 in-window xs i j lt low high =
     let r = i - BLOCK * j in
     let here : i ≡ BLOCK * j + r = omega arith in
@@ -72,7 +78,8 @@ blocks-set bs xs i j y b a lt low high e =
       sums = λ k l. by k (omega (arith, length-set bs j b)) (nat_lt k j) (nat_lt j k) refl refl;
     }
   where
-    by : (k : ℕ) → k < length bs → (p q : Bool) → nat_lt k j ≡ p → nat_lt j k ≡ q → get_or (set bs j b) k 0 ≡ sum (take BLOCK (drop (BLOCK * k) (set xs i y)))
+    by : (k : ℕ) → k < length bs → (p q : Bool) → nat_lt k j ≡ p → nat_lt j k ≡ q
+        → get_or (set bs j b) k 0 ≡ sum (take BLOCK (drop (BLOCK * k) (set xs i y)))
     by k l true q h g =
         let less : k < j = grind (arith, nat_tests) in
         get_or-set_other bs j k b 0 (λ s. absurd (omega arith)) ∙ a.sums k l ∙ ap sum (sym (window-before xs i k y (omega arith)))
@@ -95,7 +102,8 @@ pub record IsChanged (bs xs : List ℕ) (i j part old block : ℕ) : Type 0 wher
   pub some : old ≤ sum xs
   pub total : sum (set xs i part) + old ≡ sum xs + part
 
-pub changed : (bs xs : List ℕ) (i j part old block : ℕ) → AreBlocks bs xs → i < length xs → BLOCK * j ≤ i → i < BLOCK * j + BLOCK → old ≡ get_or xs i old → block ≡ get_or bs j block → IsChanged bs xs i j part old block
+pub changed : (bs xs : List ℕ) (i j part old block : ℕ) → AreBlocks bs xs → i < length xs → BLOCK * j ≤ i → i < BLOCK * j + BLOCK
+    → old ≡ get_or xs i old → block ≡ get_or bs j block → IsChanged bs xs i j part old block
 changed bs xs i j part old block a lt low high read_old read_block =
     let cover = a.cover in
     let there : j < length bs = omega arith in

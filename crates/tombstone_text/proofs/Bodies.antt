@@ -13,14 +13,20 @@ pub bodies_within : (cs : List ChunkData) (i : ℕ) → i < length (bodies cs) �
 bodies_within cs i lt = omega (arith, bodies_long cs)
 
 -- a chunk that was read
-pub body_read : (cs : List ChunkData) (i : ℕ) (x : ChunkData) → i < length (bodies cs) → x ≡ get_or cs i x → x.cells ≡ get_or (bodies cs) i []
-body_read cs i x lt read = ap (λ (c : ChunkData). c.cells) read ∙ sym (get_or-map (λ (c : ChunkData). c.cells) cs i x [] (bodies_within cs i lt))
+pub body_read : (cs : List ChunkData) (i : ℕ) (x : ChunkData) → i < length (bodies cs) → x ≡ get_or cs i x
+    → x.cells ≡ get_or (bodies cs) i []
+body_read cs i x lt read =
+    ap (λ (c : ChunkData). c.cells) read ∙ sym (get_or-map (λ (c : ChunkData). c.cells) cs i x [] (bodies_within cs i lt))
 
-pub body_there : (cs : List ChunkData) (i : ℕ) (x : ChunkData) → i < length (bodies cs) → x ≡ get_or cs i x → x.cells ≡ get_or (bodies cs) i x.cells
-body_there cs i x lt read = ap (λ (c : ChunkData). c.cells) read ∙ sym (get_or-map (λ (c : ChunkData). c.cells) cs i x x.cells (bodies_within cs i lt))
+pub body_there : (cs : List ChunkData) (i : ℕ) (x : ChunkData) → i < length (bodies cs) → x ≡ get_or cs i x
+    → x.cells ≡ get_or (bodies cs) i x.cells
+body_there cs i x lt read =
+    ap (λ (c : ChunkData). c.cells) read ∙ sym (get_or-map (λ (c : ChunkData). c.cells) cs i x x.cells (bodies_within cs i lt))
 
-pub room_read : (cs : List ChunkData) (i : ℕ) (x : ChunkData) → i < length (bodies cs) → x ≡ get_or cs i x → x.room ≡ get_or (rooms_of cs) i 0
-room_read cs i x lt read = ap (λ (c : ChunkData). c.room) read ∙ sym (get_or-map (λ (c : ChunkData). c.room) cs i x 0 (bodies_within cs i lt))
+pub room_read : (cs : List ChunkData) (i : ℕ) (x : ChunkData) → i < length (bodies cs) → x ≡ get_or cs i x
+    → x.room ≡ get_or (rooms_of cs) i 0
+room_read cs i x lt read =
+    ap (λ (c : ChunkData). c.room) read ∙ sym (get_or-map (λ (c : ChunkData). c.room) cs i x 0 (bodies_within cs i lt))
 
 -- a chunk that changed
 pub bodies_set : (cs : List ChunkData) (i : ℕ) (x : ChunkData) → bodies (set cs i x) ≡ set (bodies cs) i x.cells
@@ -30,8 +36,10 @@ pub rooms_set : (cs : List ChunkData) (i : ℕ) (x : ChunkData) → rooms_of (se
 rooms_set cs i x = map-set (λ (c : ChunkData). c.room) cs i x
 
 -- a chunk whose cells stayed
-pub bodies_kept : (cs : List ChunkData) (i : ℕ) (x y : ChunkData) → i < length (bodies cs) → x ≡ get_or cs i x → y.cells ≡ x.cells → bodies (set cs i y) ≡ bodies cs
-bodies_kept cs i x y lt read same = bodies_set cs i y ∙ ap (λ c. set (bodies cs) i c) (same ∙ body_read cs i x lt read) ∙ set-get_or (bodies cs) i []
+pub bodies_kept : (cs : List ChunkData) (i : ℕ) (x y : ChunkData) → i < length (bodies cs) → x ≡ get_or cs i x → y.cells ≡ x.cells
+    → bodies (set cs i y) ≡ bodies cs
+bodies_kept cs i x y lt read same =
+    bodies_set cs i y ∙ ap (λ c. set (bodies cs) i c) (same ∙ body_read cs i x lt read) ∙ set-get_or (bodies cs) i []
 
 -- a chunk that has room for a cell more now
 pub place_set : (cs : List ChunkData) (i : ℕ) (y : ChunkData) → i < length (bodies cs) → length y.cells < y.room

@@ -47,7 +47,8 @@ tail_place : (c : List CellData) (cs : List (List CellData)) (i o p : ℕ) → l
     → (length (flat (take i cs)) + o ≡ p - length c) × (length c ≤ p)
 tail_place c cs i o p e = let l = length-append c (flat (take i cs)) in (omega arith, omega arith)
 
-pub flat_put : (cs : List (List CellData)) (i o p : ℕ) (x : CellData) → IsSeat cs i o p → flat (set cs i (insert (get_or cs i []) o x)) ≡ insert (flat cs) p x
+pub flat_put : (cs : List (List CellData)) (i o p : ℕ) (x : CellData) → IsSeat cs i o p
+    → flat (set cs i (insert (get_or cs i []) o x)) ≡ insert (flat cs) p x
 flat_put [] i o p x s = let lt = s.chunk in absurd (omega arith)
 flat_put (c ∷ cs) zero o p x s =
     let place : 0 + o ≡ p = s.place_is in
@@ -65,14 +66,16 @@ flat_cut [] i k = refl
 flat_cut (c ∷ cs) zero k = sym (append_assoc (take k c) (drop k c) (flat cs)) ∙ ap (λ zs. zs ++ flat cs) (take-append-drop k c)
 flat_cut (c ∷ cs) (suc i) k = ap (λ zs. c ++ zs) (flat_cut cs i k)
 
-pub cut_is : (cs : List (List CellData)) (i k n : ℕ) → i < length cs → n ≡ suc i → insert (set cs i (take k (get_or cs i []))) n (drop k (get_or cs i [])) ≡ cut cs i k
+pub cut_is : (cs : List (List CellData)) (i k n : ℕ) → i < length cs → n ≡ suc i
+    → insert (set cs i (take k (get_or cs i []))) n (drop k (get_or cs i [])) ≡ cut cs i k
 cut_is [] i k n lt e = absurd (omega arith)
 cut_is (c ∷ cs) zero k n lt e = ap (λ m. insert (take k c ∷ cs) m (drop k c)) e
 cut_is (c ∷ cs) (suc i) k n lt e =
     ap (λ m. insert (c ∷ set cs i (take k (get_or cs i []))) m (drop k (get_or cs i []))) e
     ∙ ap (λ zs. c ∷ zs) (cut_is cs i k (suc i) (omega arith) refl)
 
-pub filled_cut : (cs : List (List CellData)) (i k : ℕ) → AreFilled cs → i < length cs → 1 ≤ k → k < length (get_or cs i []) → AreFilled (cut cs i k)
+pub filled_cut : (cs : List (List CellData)) (i k : ℕ) → AreFilled cs → i < length cs → 1 ≤ k → k < length (get_or cs i [])
+    → AreFilled (cut cs i k)
 filled_cut [] i k f lt l h = absurd (omega arith)
 filled_cut (c ∷ cs) zero k f lt l h = (omega (arith, length-take k c), (omega (arith, length-drop k c), f.1))
 filled_cut (c ∷ cs) (suc i) k f lt l h = (f.0, filled_cut cs i k f.1 (omega arith) l h)
@@ -114,7 +117,8 @@ seat_low cs i o p k s most le =
     let place = s.place_is in
     record { chunk = omega arith; within = omega (arith, length-take k (get_or cs i [])); place_is = omega arith }
 
-pub seat_high : (cs : List (List CellData)) (i n o q p k : ℕ) → IsSeat cs i o p → k ≤ length (get_or cs i []) → k < o → n ≡ suc i → q + k ≡ o → IsSeat (cut cs i k) n q p
+pub seat_high : (cs : List (List CellData)) (i n o q p k : ℕ) → IsSeat cs i o p → k ≤ length (get_or cs i []) → k < o → n ≡ suc i
+    → q + k ≡ o → IsSeat (cut cs i k) n q p
 seat_high cs i n o q p k s most gt next less =
     let lt = s.chunk in
     let long = length-cut cs i k lt in
@@ -139,13 +143,15 @@ pub record HasSeat (cs : List (List CellData)) (i o p full : ℕ) : Type 0 where
   pub room : length (get_or cs i []) < full
 
 -- after a full chunk was cut at k, a new cell has its seat in the lower part, which has room
-pub seat_in_low : (cs : List (List CellData)) (i o p k full : ℕ) → IsSeat cs i o p → length (get_or cs i []) ≡ full → k < full → o ≤ k → HasSeat (cut cs i k) i o p full
+pub seat_in_low : (cs : List (List CellData)) (i o p k full : ℕ) → IsSeat cs i o p → length (get_or cs i []) ≡ full → k < full → o ≤ k
+    → HasSeat (cut cs i k) i o p full
 seat_in_low cs i o p k full s all less side =
     let parts = parts_long cs i k s.chunk (omega arith) in
     record { seat = seat_low cs i o p k s (omega arith) side; room = omega (arith, parts.0) }
 
 -- or in the upper part
-pub seat_in_high : (cs : List (List CellData)) (i n o p k full : ℕ) → IsSeat cs i o p → length (get_or cs i []) ≡ full → 1 ≤ k → k < full → k < o → n ≡ suc i → HasSeat (cut cs i k) n (o - k) p full
+pub seat_in_high : (cs : List (List CellData)) (i n o p k full : ℕ) → IsSeat cs i o p → length (get_or cs i []) ≡ full → 1 ≤ k → k < full
+    → k < o → n ≡ suc i → HasSeat (cut cs i k) n (o - k) p full
 seat_in_high cs i n o p k full s all some less side next =
     let parts = parts_long cs i k s.chunk (omega arith) in
     let upper : length (get_or (cut cs i k) (suc i) []) < full = omega (arith, parts.1) in
@@ -160,7 +166,8 @@ change-left f [] ys k lt = absurd (omega arith)
 change-left f (x ∷ xs) ys zero lt = refl
 change-left f (x ∷ xs) ys (suc k) lt = ap (λ zs. x ∷ zs) (change-left f xs ys k (omega arith))
 
-change-right : (f : CellData → CellData) (xs ys : List CellData) (k n : ℕ) → length xs + k ≡ n → change_at n f (xs ++ ys) ≡ xs ++ change_at k f ys
+change-right : (f : CellData → CellData) (xs ys : List CellData) (k n : ℕ) → length xs + k ≡ n
+    → change_at n f (xs ++ ys) ≡ xs ++ change_at k f ys
 change-right f [] ys k n e = let z : 0 + k ≡ n = e in let same : n ≡ k = omega arith in ap (λ m. change_at m f ys) same
 change-right f (x ∷ xs) ys k zero e = absurd (omega arith)
 change-right f (x ∷ xs) ys k (suc n) e = ap (λ zs. x ∷ zs) (change-right f xs ys k n (omega arith))
@@ -171,7 +178,8 @@ pub record IsSpot (cs : List (List CellData)) (i o p : ℕ) : Type 0 where
   pub within : o < length (get_or cs i [])
   pub place_is : length (flat (take i cs)) + o ≡ p
 
-tail_spot : (c : List CellData) (cs : List (List CellData)) (i o p : ℕ) → IsSpot (c ∷ cs) (suc i) o p → IsSpot cs i o (p - length c) × (length c + (p - length c) ≡ p)
+tail_spot : (c : List CellData) (cs : List (List CellData)) (i o p : ℕ) → IsSpot (c ∷ cs) (suc i) o p
+    → IsSpot cs i o (p - length c) × (length c + (p - length c) ≡ p)
 tail_spot c cs i o p s =
     let t = tail_place c cs i o p s.place_is in
     let lt = s.chunk in
@@ -219,7 +227,8 @@ spot cs i o n t =
     }
 
 -- a new cell right after the cell there
-pub seat_behind : (cs : List (List CellData)) (i o q n p : ℕ) → IsPart (map (λ c. length c) cs) i o n → q ≡ o + 1 → n + 1 ≡ p → IsSeat cs i q p
+pub seat_behind : (cs : List (List CellData)) (i o q n p : ℕ) → IsPart (map (λ c. length c) cs) i o n → q ≡ o + 1 → n + 1 ≡ p
+    → IsSeat cs i q p
 seat_behind cs i o q n p t e f =
     let s = spot cs i o n t in
     let w = s.within in
@@ -249,7 +258,8 @@ pub shown-change : (f : CellData → CellData) (xs : List CellData) (k : ℕ) (d
 shown-change f [] k d lt = absurd (omega arith)
 shown-change f (x ∷ xs) zero d lt = two (cell_shown (f x)) (cell_shown x) x (f x) (filter cell_shown xs)
   where
-    two : (a b : Bool) (y z : CellData) (zs : List CellData) → length (cond a (z ∷ zs) zs) + (if b then 1 else 0) ≡ length (cond b (y ∷ zs) zs) + (if a then 1 else 0)
+    two : (a b : Bool) (y z : CellData) (zs : List CellData)
+        → length (cond a (z ∷ zs) zs) + (if b then 1 else 0) ≡ length (cond b (y ∷ zs) zs) + (if a then 1 else 0)
     two true true y z zs = omega arith
     two true false y z zs = omega arith
     two false true y z zs = omega arith
@@ -272,6 +282,7 @@ flag-le (x ∷ xs) zero d lt = one (cell_shown x)
     one false = omega arith
 flag-le (x ∷ xs) (suc k) d lt = by (cell_shown x) (flag-le xs k d (omega arith))
   where
-    by : (b : Bool) → flag_of (get_or xs k d) ≤ shown_in xs → flag_of (get_or xs k d) ≤ length (cond b (x ∷ filter cell_shown xs) (filter cell_shown xs))
+    by : (b : Bool) → flag_of (get_or xs k d) ≤ shown_in xs
+        → flag_of (get_or xs k d) ≤ length (cond b (x ∷ filter cell_shown xs) (filter cell_shown xs))
     by true le = omega arith
     by false le = le

@@ -41,15 +41,18 @@ pub record NoneBefore (n : NameData) (cs : List CellData) (k : ℕ) : Type 0 whe
 pub none_first : (n : NameData) (cs : List CellData) (k : ℕ) → k ≡ 0 → NoneBefore n cs k
 none_first n cs k e = record { none = λ j d lt. absurd (omega arith) }
 
-pub length-more : (cs : List (List CellData)) (i : ℕ) → i < length cs → length (flat (take (i + 1) cs)) ≡ length (flat (take i cs)) + length (get_or cs i [])
+pub length-more : (cs : List (List CellData)) (i : ℕ) → i < length cs
+    → length (flat (take (i + 1) cs)) ≡ length (flat (take i cs)) + length (get_or cs i [])
 length-more [] i lt = absurd (omega arith)
 length-more (c ∷ cs) zero lt = omega (arith, length-append c [])
 length-more (c ∷ cs) (suc i) lt =
     let rest = length-more cs i (omega arith) in
     let next : suc i + 1 ≡ suc (i + 1) = omega arith in
-    ap (λ k. length (flat (take k (c ∷ cs)))) next ∙ omega (arith, length-append c (flat (take (i + 1) cs)), length-append c (flat (take i cs)))
+    ap (λ k. length (flat (take k (c ∷ cs)))) next
+    ∙ omega (arith, length-append c (flat (take (i + 1) cs)), length-append c (flat (take i cs)))
 
-pub none_more : (n : NameData) (cs : List (List CellData)) (i start : ℕ) → i < length cs → start ≡ length (flat (take i cs)) → NoneBefore n (flat cs) start
+pub none_more : (n : NameData) (cs : List (List CellData)) (i start : ℕ) → i < length cs → start ≡ length (flat (take i cs))
+    → NoneBefore n (flat cs) start
     → position (λ (c : CellData). name_eq c.name n) (get_or cs i []) ≡ None → NoneBefore n (flat cs) (start + length (get_or cs i []))
 none_more n cs i start lt at before e =
     record { none = λ j d l. by j d l (nat_lt j start) refl }
@@ -57,7 +60,8 @@ none_more n cs i start lt at before e =
     p : CellData → Bool
     p c = name_eq c.name n
 
-    by : (j : ℕ) (d : CellData) → j < start + length (get_or cs i []) → (b : Bool) → nat_lt j start ≡ b → name_eq (get_or (flat cs) j d).name n ≡ false
+    by : (j : ℕ) (d : CellData) → j < start + length (get_or cs i []) → (b : Bool) → nat_lt j start ≡ b
+        → name_eq (get_or (flat cs) j d).name n ≡ false
     by j d l true h = before.none j d (grind (arith, nat_tests))
     by j d l false h =
         let low : start ≤ j = grind (arith, nat_tests) in
@@ -81,8 +85,10 @@ unplaced p cs e = by (nat_lt (position_or_len p cs) (length cs)) refl
     by true h = absurd (grind (arith, nat_tests))
     by false h = refl
 
-pub placed_in : (n : NameData) (cs : List (List CellData)) (i start at : ℕ) → i < length cs → start ≡ length (flat (take i cs)) → NoneBefore n (flat cs) start
-    → position (λ (c : CellData). name_eq c.name n) (get_or cs i []) ≡ Some at → at < length (get_or cs i []) → start + at < length (flat cs)
+pub placed_in : (n : NameData) (cs : List (List CellData)) (i start at : ℕ) → i < length cs → start ≡ length (flat (take i cs))
+    → NoneBefore n (flat cs) start
+    → position (λ (c : CellData). name_eq c.name n) (get_or cs i []) ≡ Some at → at < length (get_or cs i [])
+    → start + at < length (flat cs)
     → position (λ (c : CellData). name_eq c.name n) (flat cs) ≡ Some (start + at)
 placed_in n cs i start at lt is before e within all =
     placed (λ (c : CellData). name_eq c.name n) (flat cs) (start + at)
@@ -97,7 +103,8 @@ placed_in n cs i start at lt is before e within all =
         ap (λ k. name_eq (get_or (flat cs) k blank).name n) here
         ∙ ap (λ (c : CellData). name_eq c.name n) (get_or-flat_map (λ (c : List CellData). c) cs i at [] blank lt within)
         ∙ ap (λ k. name_eq (get_or (get_or cs i []) k blank).name n) first
-        ∙ passes_at_first (λ (c : CellData). name_eq c.name n) (get_or cs i []) blank (subst (λ k. k < length (get_or cs i [])) first within)
+        ∙ passes_at_first (λ (c : CellData). name_eq c.name n) (get_or cs i []) blank
+        (subst (λ k. k < length (get_or cs i [])) first within)
 
     none : (k : ℕ) → k < start + at → name_eq (get_or (flat cs) k blank).name n ≡ false
     none k l = by (nat_lt k start) refl
@@ -108,13 +115,17 @@ placed_in n cs i start at lt is before e within all =
             let low : start ≤ k = grind (arith, nat_tests) in
             let here : k ≡ length (flat (take i cs)) + (k - start) = omega arith in
             ap (λ m. name_eq (get_or (flat cs) m blank).name n) here
-            ∙ ap (λ (c : CellData). name_eq c.name n) (get_or-flat_map (λ (c : List CellData). c) cs i (k - start) [] blank lt (omega arith))
-            ∙ fails_before_first (λ (c : CellData). name_eq c.name n) (get_or cs i []) (k - start) blank (subst (λ m. k - start < m) first (omega arith))
+            ∙ ap (λ (c : CellData). name_eq c.name n)
+            (get_or-flat_map (λ (c : List CellData). c) cs i (k - start) [] blank lt (omega arith))
+            ∙ fails_before_first (λ (c : CellData). name_eq c.name n) (get_or cs i []) (k - start) blank
+            (subst (λ m. k - start < m) first (omega arith))
 
-pub none_at_all : (n : NameData) (cs : List CellData) (k : ℕ) → k ≡ length cs → NoneBefore n cs k → position (λ (c : CellData). name_eq c.name n) cs ≡ None
+pub none_at_all : (n : NameData) (cs : List CellData) (k : ℕ) → k ≡ length cs → NoneBefore n cs k
+    → position (λ (c : CellData). name_eq c.name n) cs ≡ None
 none_at_all n cs k e before =
     unplaced (λ (c : CellData). name_eq c.name n) cs
-    (position_or_len_is (λ (c : CellData). name_eq c.name n) cs (length cs) blank (omega arith) (λ j l. before.none j blank (omega arith)) (λ l. absurd (omega arith)))
+    (position_or_len_is (λ (c : CellData). name_eq c.name n) cs (length cs) blank (omega arith) (λ j l. before.none j blank (omega arith))
+    (λ l. absurd (omega arith)))
 
 pub taken-le : (cs : List (List CellData)) (i : ℕ) → length (flat (take i cs)) ≤ length (flat cs)
 taken-le cs zero = omega arith
@@ -124,7 +135,8 @@ taken-le (c ∷ cs) (suc i) = let rest = taken-le cs i in omega (arith, length-a
 pub placed_within : (n : NameData) (xs : List CellData) (i : ℕ) → position (λ (c : CellData). name_eq c.name n) xs ≡ Some i → i < length xs
 placed_within n xs i e = by (nat_lt (position_or_len (λ (c : CellData). name_eq c.name n) xs) (length xs)) refl e
   where
-    by : (b : Bool) → nat_lt (position_or_len (λ (c : CellData). name_eq c.name n) xs) (length xs) ≡ b → cond b (Some (position_or_len (λ (c : CellData). name_eq c.name n) xs)) None ≡ Some i → i < length xs
+    by : (b : Bool) → nat_lt (position_or_len (λ (c : CellData). name_eq c.name n) xs) (length xs) ≡ b
+        → cond b (Some (position_or_len (λ (c : CellData). name_eq c.name n) xs)) None ≡ Some i → i < length xs
     by true h f =
         let at : position_or_len (λ (c : CellData). name_eq c.name n) xs ≡ i = cc in
         subst (λ k. k < length xs) at (grind (arith, nat_tests))
@@ -137,7 +149,8 @@ pub record IsSearched (cs : List (List CellData)) (i start : ℕ) (chunk : List 
   pub all : start + length chunk ≤ length (flat cs)
   pub low : start + length chunk < 2 ^ 32
 
-pub searched : (cs : List (List CellData)) (ls ss : List ℕ) (f : Option ChunkData) (i start : ℕ) (was chunk : List CellData) → IsText cs ls ss f → sum ls < 2 ^ 32 → i < length cs
+pub searched : (cs : List (List CellData)) (ls ss : List ℕ) (f : Option ChunkData) (i start : ℕ) (was chunk : List CellData)
+    → IsText cs ls ss f → sum ls < 2 ^ 32 → i < length cs
     → start ≡ length (flat (take i cs)) → was ≡ get_or cs i was → chunk ≡ was → IsSearched cs i start chunk
 searched cs ls ss f i start was chunk t low lt at read is =
     let same : chunk ≡ get_or cs i [] = is ∙ get_or_read cs i was lt read [] in
@@ -148,6 +161,8 @@ searched cs ls ss f i start was chunk t low lt at read is =
     record { chunk_is = same; behind = omega arith; all = omega arith; low = omega arith }
 
 -- where the search of a chunk finds the name, and where it doesn't
-pub found_in : (n : NameData) (cs : List (List CellData)) (i at : ℕ) (chunk : List CellData) → chunk ≡ get_or cs i [] → position (λ (c : CellData). name_eq c.name n) chunk ≡ Some at
+pub found_in : (n : NameData) (cs : List (List CellData)) (i at : ℕ) (chunk : List CellData) → chunk ≡ get_or cs i []
+    → position (λ (c : CellData). name_eq c.name n) chunk ≡ Some at
     → (position (λ (c : CellData). name_eq c.name n) (get_or cs i []) ≡ Some at) × (at < length chunk)
-found_in n cs i at chunk is e = (ap (λ (s : List CellData). position (λ (c : CellData). name_eq c.name n) s) (sym is) ∙ e, placed_within n chunk at e)
+found_in n cs i at chunk is e =
+    (ap (λ (s : List CellData). position (λ (c : CellData). name_eq c.name n) s) (sym is) ∙ e, placed_within n chunk at e)

@@ -25,8 +25,11 @@ shown_at cs ls ss f i t lt = ap (λ (l : List ℕ). get_or l i 0) t.shown_are �
 
 pub lens_long : (cs : List (List CellData)) (ls ss : List ℕ) (f : Option ChunkData) → IsText cs ls ss f
     → (length ls ≡ length cs) × (length ss ≡ length cs)
-lens_long cs ls ss f t =
-    (ap (λ (l : List ℕ). length l) t.lens_are ∙ length-map cs (λ (c : List CellData). length c), ap (λ (l : List ℕ). length l) t.shown_are ∙ length-map cs shown_in)
+lens_long cs ls ss f t = (
+  ap (λ (l : List ℕ). length l) t.lens_are ∙ length-map cs (λ (c : List CellData). length c),
+  ap (λ (l : List ℕ). length l) t.shown_are
+      ∙ length-map cs shown_in,
+)
 
 -- a number changed in a column
 pub set-sum : (xs : List ℕ) (i y : ℕ) → i < length xs → sum (set xs i y) + get_or xs i 0 ≡ sum xs + y
@@ -43,20 +46,25 @@ pub text_put : (cs : List (List CellData)) (ls ss : List ℕ) (f : Option ChunkD
     → IsText cs ls ss f → i < length cs → o ≤ length (get_or cs i []) → d ≡ insert (get_or cs i []) o x → cell_shown x ≡ true
     → a ≡ get_or ls i 0 + 1 → b ≡ get_or ss i 0 + 1 → IsText (set cs i d) (set ls i a) (set ss i b) f
 text_put cs ls ss f i o x d a b t lt within new shows la sb =
-    let long : length d ≡ length (get_or cs i []) + 1 = ap (λ (c : List CellData). length c) new ∙ length-insert (get_or cs i []) o x within in
+    let long : length d ≡ length (get_or cs i []) + 1 =
+    ap (λ (c : List CellData). length c) new ∙ length-insert (get_or cs i []) o x within in
     let count : shown_in d ≡ shown_in (get_or cs i []) + 1 =
-    ap (λ (c : List CellData). shown_in c) new ∙ length-filter-insert cell_shown (get_or cs i []) o x ∙ ap (λ q. shown_in (get_or cs i []) + cond q 1 0) shows in
+    ap (λ (c : List CellData). shown_in c) new ∙ length-filter-insert cell_shown (get_or cs i []) o x
+    ∙ ap (λ q. shown_in (get_or cs i []) + cond q 1 0) shows in
     let old = len_at cs ls ss f i t lt in
     let seen = shown_at cs ls ss f i t lt in
     record {
-      lens_are = set_both ls (map (λ (c : List CellData). length c) cs) i a (length d) t.lens_are (omega arith) ∙ sym (map-set (λ (c : List CellData). length c) cs i d);
+      lens_are =
+          set_both ls (map (λ (c : List CellData). length c) cs) i a (length d) t.lens_are (omega arith)
+          ∙ sym (map-set (λ (c : List CellData). length c) cs i d);
       shown_are = set_both ss (map shown_in cs) i b (shown_in d) t.shown_are (omega arith) ∙ sym (map-set shown_in cs i d);
       filled = filled_set cs i d t.filled (omega arith);
       fresh_is = t.fresh_is;
     }
 
 -- a cell changed in a chunk
-pub text_change : (g : CellData → CellData) (cs : List (List CellData)) (ls ss : List ℕ) (f : Option ChunkData) (i o : ℕ) (d : List CellData) (b : ℕ)
+pub text_change : (g : CellData → CellData) (cs : List (List CellData)) (ls ss : List ℕ) (f : Option ChunkData) (i o : ℕ)
+    (d : List CellData) (b : ℕ)
     → IsText cs ls ss f → i < length cs → o < length (get_or cs i []) → d ≡ change_at o g (get_or cs i []) → b ≡ shown_in d
     → IsText (set cs i d) ls (set ss i b) f
 text_change g cs ls ss f i o d b t lt within new sb =
@@ -75,12 +83,14 @@ insert_both : (xs ys : List ℕ) (k a b : ℕ) → xs ≡ ys → a ≡ b → ins
 insert_both xs ys k a b e f = ap (λ l. insert l k a) e ∙ ap (λ n. insert ys k n) f
 
 -- a column of a text with a chunk cut in two
-column_cut : (h : List CellData → ℕ) (cs : List (List CellData)) (ls : List ℕ) (i n k low high : ℕ) → ls ≡ map h cs → i < length cs → n ≡ suc i
+column_cut : (h : List CellData → ℕ) (cs : List (List CellData)) (ls : List ℕ) (i n k low high : ℕ) → ls ≡ map h cs → i < length cs
+    → n ≡ suc i
     → low ≡ h (take k (get_or cs i [])) → high ≡ h (drop k (get_or cs i [])) → insert (set ls i low) n high ≡ map h (cut cs i k)
 column_cut h cs ls i n k low high e lt next l u =
     let lower = take k (get_or cs i []) in
     let upper = drop k (get_or cs i []) in
-    insert_both (set ls i low) (map h (set cs i lower)) n high (h upper) (set_both ls (map h cs) i low (h lower) e l ∙ sym (map-set h cs i lower)) u
+    insert_both (set ls i low) (map h (set cs i lower)) n high (h upper)
+    (set_both ls (map h cs) i low (h lower) e l ∙ sym (map-set h cs i lower)) u
     ∙ sym (map-insert h (set cs i lower) n upper)
     ∙ ap (λ ds. map h ds) (cut_is cs i k n lt next)
 
@@ -90,7 +100,9 @@ pub text_cut : (cs : List (List CellData)) (ls ss : List ℕ) (f : Option ChunkD
     → IsText (cut cs i k) (insert (set ls i k) n up) (insert (set ss i low) n high) None
 text_cut cs ls ss f i n k up low high t lt next some all more l u =
     record {
-      lens_are = column_cut (λ (c : List CellData). length c) cs ls i n k k up t.lens_are lt next (omega (arith, length-take k (get_or cs i []))) (omega (arith, length-drop k (get_or cs i [])));
+      lens_are =
+          column_cut (λ (c : List CellData). length c) cs ls i n k k up t.lens_are lt next (omega (arith, length-take k (get_or cs i [])))
+          (omega (arith, length-drop k (get_or cs i [])));
       shown_are = column_cut shown_in cs ss i n k low high t.shown_are lt next l u;
       filled = filled_cut cs i k t.filled lt some (omega arith);
       fresh_is = tt;
@@ -105,7 +117,8 @@ shown_parts xs k =
 
 -- the number of shown cells, counted anew by the two flags of the cell that changed
 pub counted_again : (g : CellData → CellData) (xs : List CellData) (k n before after : ℕ) (d : CellData) → k < length xs → n ≡ shown_in xs
-    → before ≡ flag_of (get_or xs k d) → after ≡ flag_of (get_or (change_at k g xs) k d) → (before ≤ n) × (n - before + after ≡ shown_in (change_at k g xs))
+    → before ≡ flag_of (get_or xs k d) → after ≡ flag_of (get_or (change_at k g xs) k d)
+    → (before ≤ n) × (n - before + after ≡ shown_in (change_at k g xs))
 counted_again g xs k n before after d lt e b a =
     let low = flag-le xs k d lt in
     let change = shown-change g xs k d lt in
@@ -118,8 +131,10 @@ pub record IsCut (cs : List (List CellData)) (ls ss : List ℕ) (i n k up low hi
   pub lens : sum (set ls i k) + up ≡ length (flat cs)
   pub shown : sum (set ss i low) + high ≤ length (flat cs)
 
-pub cut_text : (cs : List (List CellData)) (ls ss : List ℕ) (f : Option ChunkData) (i n k len low high : ℕ) (was lower upper : List CellData)
-    → IsText cs ls ss f → i < length cs → n ≡ suc i → 1 ≤ k → k < length (get_or cs i []) → was ≡ get_or cs i was → lower ≡ take k was → upper ≡ drop k was
+pub cut_text : (cs : List (List CellData)) (ls ss : List ℕ) (f : Option ChunkData) (i n k len low high : ℕ)
+    (was lower upper : List CellData)
+    → IsText cs ls ss f → i < length cs → n ≡ suc i → 1 ≤ k → k < length (get_or cs i []) → was ≡ get_or cs i was → lower ≡ take k was
+    → upper ≡ drop k was
     → len ≡ get_or ls i 0 → low ≡ shown_in lower → high ≡ shown_in upper → IsCut cs ls ss i n k (len - k) low high lower upper
 cut_text cs ls ss f i n k len low high was lower upper t lt next some less read is_lower is_upper is_len is_low is_high =
     let same : was ≡ get_or cs i [] = get_or_read cs i was lt read [] in
@@ -137,32 +152,39 @@ cut_text cs ls ss f i n k len low high was lower upper t lt next some less read 
     let lens = set-sum ls i k (omega (arith, long.0)) in
     let shown = set-sum ss i low (omega (arith, long.1)) in
     record {
-      chunks = ap (λ d. insert (set cs i d) n upper) lower_is ∙ ap (λ d. insert (set cs i (take k (get_or cs i []))) n d) upper_is ∙ cut_is cs i k n lt next;
+      chunks = ap (λ d. insert (set cs i d) n upper) lower_is ∙ ap (λ d. insert (set cs i (take k (get_or cs i []))) n d) upper_is
+          ∙ cut_is cs i k n lt next;
       text = text_cut cs ls ss f i n k (len - k) low high t lt next some (omega arith) (omega arith) low_is high_is;
       lens = omega arith;
       shown = omega arith;
     }
 
 -- the same, where the chunks are seen as those
-pub cut_seen : {seen cs : List (List CellData)} {ls ss : List ℕ} {f : Option ChunkData} {i n k len low high : ℕ} {was lower upper : List CellData}
-    → cs ≡ seen → IsText cs ls ss f → i < length seen → n ≡ suc i → 1 ≤ k → k < length (get_or seen i []) → was ≡ get_or cs i was → lower ≡ take k was → upper ≡ drop k was
+pub cut_seen : {seen cs : List (List CellData)} {ls ss : List ℕ} {f : Option ChunkData} {i n k len low high : ℕ}
+    {was lower upper : List CellData}
+    → cs ≡ seen → IsText cs ls ss f → i < length seen → n ≡ suc i → 1 ≤ k → k < length (get_or seen i []) → was ≡ get_or cs i was
+    → lower ≡ take k was → upper ≡ drop k was
     → len ≡ get_or ls i 0 → low ≡ shown_in lower → high ≡ shown_in upper → IsCut cs ls ss i n k (len - k) low high lower upper
 cut_seen {seen} {cs} {ls} {ss} {f} {i} {n} {k} {len} {low} {high} {was} {lower} {upper} is t lt next some less =
-    cut_text cs ls ss f i n k len low high was lower upper t (subst (λ ds. i < length ds) (sym is) lt) next some (subst (λ ds. k < length (get_or ds i [])) (sym is) less)
+    cut_text cs ls ss f i n k len low high was lower upper t (subst (λ ds. i < length ds) (sym is) lt) next some
+    (subst (λ ds. k < length (get_or ds i [])) (sym is) less)
 
 -- where a place of a text lies, found in the column of lengths
-pub text-spot : (cs : List (List CellData)) (ls ss : List ℕ) (f : Option ChunkData) (i o p : ℕ) → IsText cs ls ss f → IsPart ls i o p → IsSpot cs i o p
+pub text-spot : (cs : List (List CellData)) (ls ss : List ℕ) (f : Option ChunkData) (i o p : ℕ) → IsText cs ls ss f → IsPart ls i o p
+    → IsSpot cs i o p
 text-spot cs ls ss f i o p t part = spot cs i o p (subst (λ (l : List ℕ). IsPart l i o p) t.lens_are part)
 
 -- what stays true when a cell of a chunk is changed, and the chunk is d then, of which n - before + after cells are shown
-pub record IsChangedIn (g : CellData → CellData) (cs : List (List CellData)) (ls ss : List ℕ) (f : Option ChunkData) (i o n before after : ℕ) (d : List CellData) : Type 0 where
+pub record IsChangedIn (g : CellData → CellData) (cs : List (List CellData)) (ls ss : List ℕ) (f : Option ChunkData)
+    (i o n before after : ℕ) (d : List CellData) : Type 0 where
   pub chunk : d ≡ change_at o g (get_or cs i [])
   pub low : before ≤ n
   pub shown : n - before + after ≤ length (flat cs)
   pub all : sum (set ss i (n - before + after)) ≤ length (flat cs)
   pub text : IsText (set cs i d) ls (set ss i (n - before + after)) f
 
-pub changed_text : (g : CellData → CellData) (cs : List (List CellData)) (ls ss : List ℕ) (f : Option ChunkData) (i o n before after : ℕ) (was d : List CellData) (x : CellData)
+pub changed_text : (g : CellData → CellData) (cs : List (List CellData)) (ls ss : List ℕ) (f : Option ChunkData) (i o n before after : ℕ)
+    (was d : List CellData) (x : CellData)
     → IsText cs ls ss f → i < length cs → o < length (get_or cs i []) → was ≡ get_or cs i was → d ≡ change_at o g was → n ≡ get_or ss i 0
     → before ≡ flag_of (get_or was o x) → after ≡ flag_of (get_or d o x) → IsChangedIn g cs ls ss f i o n before after d
 changed_text g cs ls ss f i o n before after was d x t lt within read change is_n is_before is_after =

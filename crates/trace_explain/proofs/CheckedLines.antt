@@ -36,12 +36,15 @@ pub record AreRightUpTo (h : List OpData) (lines : List TraceLine) (rows : List 
 
 module _ (h : List OpData) (lines : List TraceLine) where
   pub right_first : (rows : List Row) → rows ≡ [] → AreRightUpTo h lines rows 0
-  right_first rows e = subst (λ (x : List Row). AreRightUpTo h lines x 0) (sym e) (record { derived = derived_none h; forth = λ all a. a; back = λ all a. a; few = omega arith })
+  right_first rows e =
+      subst (λ (x : List Row). AreRightUpTo h lines x 0) (sym e)
+      (record { derived = derived_none h; forth = λ all a. a; back = λ all a. a; few = omega arith })
 
   next_line : (i : ℕ) (l : TraceLine) → i < length lines → l ≡ get_or lines i l → drop i lines ≡ l ∷ drop (i + 1) lines
   next_line i l less e = drop_more lines i l less ∙ ap (λ (x : TraceLine). x ∷ drop (i + 1) lines) (sym e)
 
-  pub right_next : (rows more : List Row) (i : ℕ) (l : TraceLine) (r : Row) → i < length lines → l ≡ get_or lines i l → AreRightUpTo h lines rows i → IsLine h rows l r → IsFormAt h r.at r.form → more ≡ rows ++ r ∷ [] → AreRightUpTo h lines more (i + 1)
+  pub right_next : (rows more : List Row) (i : ℕ) (l : TraceLine) (r : Row) → i < length lines → l ≡ get_or lines i l
+      → AreRightUpTo h lines rows i → IsLine h rows l r → IsFormAt h r.at r.form → more ≡ rows ++ r ∷ [] → AreRightUpTo h lines more (i + 1)
   right_next rows more i l r less e w line d p =
       let next = next_line i l less e in
       subst (λ (x : List Row). AreRightUpTo h lines x (i + 1)) (sym p) (record {
@@ -53,42 +56,53 @@ module _ (h : List OpData) (lines : List TraceLine) where
         few = omega (arith, length-append rows (r ∷ []), w.few);
       })
 
-  pub wrong_line : (m : Member) (rows : List Row) (i : ℕ) (l : TraceLine) → i < length lines → l ≡ get_or lines i l → AreRightUpTo h lines rows i → ((r : Row) → IsLine h rows l r → ⊥) → IsTrace h m lines → ⊥
+  pub wrong_line : (m : Member) (rows : List Row) (i : ℕ) (l : TraceLine) → i < length lines → l ≡ get_or lines i l
+      → AreRightUpTo h lines rows i → ((r : Row) → IsLine h rows l r → ⊥) → IsTrace h m lines → ⊥
   wrong_line m rows i l less e w wrong t =
-      let b = subst (λ (x : List TraceLine). AreLines h rows x (t.earlier ++ t.last ∷ [])) (next_line i l less e) (w.back (t.earlier ++ t.last ∷ []) t.right) in
+      let b = subst (λ (x : List TraceLine). AreLines h rows x (t.earlier ++ t.last ∷ [])) (next_line i l less e)
+      (w.back (t.earlier ++ t.last ∷ []) t.right) in
       wrong b.0 b.1
 
-  pub right_to_end : (m : Member) (rows : List Row) (i : ℕ) → length lines ≤ i → AreRightUpTo h lines rows i → EndsAt h m rows → IsTrace h m lines
+  pub right_to_end : (m : Member) (rows : List Row) (i : ℕ) → length lines ≤ i → AreRightUpTo h lines rows i → EndsAt h m rows
+      → IsTrace h m lines
   right_to_end m rows i past w e = record {
     earlier = e.earlier;
     last = e.last;
-    right = w.forth (e.earlier ++ e.last ∷ []) (subst (λ (x : List TraceLine). AreLines h rows x (e.earlier ++ e.last ∷ [])) (sym (drop_all i lines past)) (sym e.whole));
+    right = w.forth (e.earlier ++ e.last ∷ [])
+        (subst (λ (x : List TraceLine). AreLines h rows x (e.earlier ++ e.last ∷ [])) (sym (drop_all i lines past)) (sym e.whole));
     executed = e.executed;
   }
 
-  pub right_from_end : (m : Member) (rows : List Row) (i : ℕ) → length lines ≤ i → AreRightUpTo h lines rows i → IsTrace h m lines → EndsAt h m rows
+  pub right_from_end : (m : Member) (rows : List Row) (i : ℕ) → length lines ≤ i → AreRightUpTo h lines rows i → IsTrace h m lines
+      → EndsAt h m rows
   right_from_end m rows i past w t = record {
     earlier = t.earlier;
     last = t.last;
-    whole = sym (subst (λ (x : List TraceLine). AreLines h rows x (t.earlier ++ t.last ∷ [])) (drop_all i lines past) (w.back (t.earlier ++ t.last ∷ []) t.right));
+    whole = sym (subst (λ (x : List TraceLine). AreLines h rows x (t.earlier ++ t.last ∷ [])) (drop_all i lines past)
+        (w.back (t.earlier ++ t.last ∷ []) t.right));
     executed = t.executed;
   }
 
 -- ---- the last row
 
 pub ends_row : (h : List OpData) (m : Member) (rows : List Row) (e : EndsAt h m rows) → IsRowOf rows (length rows) e.last
-ends_row h m rows e = subst (λ (x : List Row). IsRowOf x (length x) e.last) (sym e.whole) (row_end e.earlier (length (e.earlier ++ e.last ∷ [])) e.last (length-append e.earlier (e.last ∷ [])))
+ends_row h m rows e =
+    subst (λ (x : List Row). IsRowOf x (length x) e.last) (sym e.whole)
+    (row_end e.earlier (length (e.earlier ++ e.last ∷ [])) e.last (length-append e.earlier (e.last ∷ [])))
 
-pub ends_from : (h : List OpData) (m : Member) (rows : List Row) (r : Row) → IsRowOf rows (length rows) r → r.at ≡ pair m (context_before h m) → EndsAt h m rows
+pub ends_from : (h : List OpData) (m : Member) (rows : List Row) (r : Row) → IsRowOf rows (length rows) r
+    → r.at ≡ pair m (context_before h m) → EndsAt h m rows
 ends_from h m rows r i e = let part = last_part rows r i.0 i.1 in record { earlier = part.0; last = r; whole = part.1; executed = e }
 
-pub ends_at_row : (h : List OpData) (m : Member) (rows : List Row) (r : Row) → IsRowOf rows (length rows) r → EndsAt h m rows → r.at ≡ pair m (context_before h m)
+pub ends_at_row : (h : List OpData) (m : Member) (rows : List Row) (r : Row) → IsRowOf rows (length rows) r → EndsAt h m rows
+    → r.at ≡ pair m (context_before h m)
 ends_at_row h m rows r i e =
     let part = last_part rows r i.0 i.1 in
     subst (λ (q : Row). q.at ≡ pair m (context_before h m)) (last_once e.earlier part.0 e.last r (sym e.whole ∙ part.1)) e.executed
 
 -- what a book has
-pub known_from : (h : List OpData) (have v : VectorData) (m : Member) (b : Bool) → IsValid h → have.set ≡ context_of_all h → v ≡ have → b ≡ has v.set m → b ≡ is_known h m
+pub known_from : (h : List OpData) (have v : VectorData) (m : Member) (b : Bool) → IsValid h → have.set ≡ context_of_all h → v ≡ have
+    → b ≡ has v.set m → b ≡ is_known h m
 known_from h have v m b valid members e t = t ∙ (ap (λ (w : VectorData). has w.set m) e ∙ have_known h have.set valid members m)
 
 -- a fact holds where an error is answered, too

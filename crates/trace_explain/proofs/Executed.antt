@@ -39,7 +39,13 @@ pub split : (h : List OpData) (m : Member) → is_known h m ≡ true → IsSplit
 split [] m e = absurd (both_ways false refl e)
 split (o ∷ os) m e =
     elim (cases_Bool (member_eq (member_of o) m)) [
-      | inl t ↦ record { op = o; after = os; whole = ap (λ (l : List OpData). l ++ o ∷ os) (sym (before_here o os m t)); is = member_same (member_of o) m t }
+      | inl t ↦ record {
+        op = o;
+        after = os;
+        whole = ap (λ (l : List OpData). l ++ o ∷ os) (sym (before_here o os m t));
+        is =
+            member_same (member_of o) m t;
+      }
       | inr t ↦
           let later : is_known os m ≡ true = sym (ap (λ (b : Bool). b || is_known os m) t) ∙ e in
           let r = split os m later in
@@ -67,15 +73,20 @@ before_valid : (h : List OpData) → IsValid h → (m : Member) → is_known h m
 before_valid h v m known = let r = split h m known in (valid_parts (before h m) (r.op ∷ r.after) (subst IsValid r.whole v)).0
 
 -- the context before m has the members before m
-pub before_set : (h : List OpData) → IsValid h → (m : Member) → is_known h m ≡ true → SameSet (plus_all none (members_in (before h m))) (has (context_before h m))
+pub before_set : (h : List OpData) → IsValid h → (m : Member) → is_known h m ≡ true
+    → SameSet (plus_all none (members_in (before h m))) (has (context_before h m))
 before_set h v m known y = all_known (before h m) none y ∙ sym ((complete (before h m) (before_valid h v m known)).holds y)
 
-pub before_sound : (h : List OpData) → IsValid h → (m : Member) → is_known h m ≡ true → IsSound (family_in h (base_form h)) m (has (context_before h m))
+pub before_sound : (h : List OpData) → IsValid h → (m : Member) → is_known h m ≡ true
+    → IsSound (family_in h (base_form h)) m (has (context_before h m))
 before_sound h v m known =
     let r = split h m known in
-    let list : members_in h ≡ members_in (before h m) ++ member_of r.op ∷ members_in r.after = ap members_in r.whole ∙ members-append (before h m) (r.op ∷ r.after) in
+    let list : members_in h ≡ members_in (before h m) ++ member_of r.op ∷ members_in r.after =
+    ap members_in r.whole ∙ members-append (before h m) (r.op ∷ r.after) in
     let run = book_run (family_in h (base_form h)) (history_causal h (base_form h) v) in
-    let parts = causal_parts (family_in h (base_form h)) (members_in (before h m)) (member_of r.op ∷ members_in r.after) none (subst (λ (ms : List Member). IsCausalFrom (family_in h (base_form h)) none ms) list run) in
+    let parts =
+    causal_parts (family_in h (base_form h)) (members_in (before h m)) (member_of r.op ∷ members_in r.after) none
+    (subst (λ (ms : List Member). IsCausalFrom (family_in h (base_form h)) none ms) list run) in
     subst (λ (C : Member → Bool). IsSound (family_in h (base_form h)) m C) (same_set _ _ (before_set h v m known))
     (subst (λ (x : Member). IsSound (family_in h (base_form h)) x (plus_all none (members_in (before h m)))) r.is parts.1.0)
 
@@ -102,7 +113,8 @@ pub record IsAt (h : List OpData) (i : ℕ) (x : Member) : Type 0 where
   pub more : take (i + 1) h ≡ take i h ++ op ∷ []
   pub whole : h ≡ (take i h ++ op ∷ []) ++ drop (i + 1) h
 
-find_op : (h : List OpData) (i : ℕ) (x : Member) → slice_get (members_in h) i ≡ Some x → (o : OpData) × (slice_get h i ≡ Some o) × (member_of o ≡ x)
+find_op : (h : List OpData) (i : ℕ) (x : Member) → slice_get (members_in h) i ≡ Some x
+    → (o : OpData) × (slice_get h i ≡ Some o) × (member_of o ≡ x)
 find_op [] i x e = cc
 find_op (o ∷ os) zero x e = (o, refl, same_Some (member_of o) x e)
 find_op (o ∷ os) (suc i) x e = find_op os i x e
@@ -129,19 +141,29 @@ known_at h i x e = in_known h x (in_at (members_in h) i x e)
     in_at (y ∷ ys) zero x e = inl (sym (same_Some y x e))
     in_at (y ∷ ys) (suc i) x e = inr (in_at ys i x e)
 
-pub up_to_next : (h : List OpData) → IsValid h → (m x : Member) (i : ℕ) (c : ContextData) → slice_get (members_in h) i ≡ Some x → IsUpTo h m i c → IsNextMember c x
+pub up_to_next : (h : List OpData) → IsValid h → (m x : Member) (i : ℕ) (c : ContextData) → slice_get (members_in h) i ≡ Some x
+    → IsUpTo h m i c → IsNextMember c x
 up_to_next h v m x i c e u =
     let r = at_place h i x e in
     let parts = valid_pop (take i h) r.op (valid_parts (take i h ++ r.op ∷ []) (drop (i + 1) h) (subst IsValid r.whole v)).0 in
-    subst (λ (d : ContextData). IsNextMember d x) (sym u.context) (subst (λ (y : Member). IsNextMember (context_of_all (take i h)) y) r.is (next_member (take i h) (context_of_all (take i h)) r.op (complete (take i h) parts.0).holds parts.1))
+    subst (λ (d : ContextData). IsNextMember d x) (sym u.context)
+    (subst (λ (y : Member). IsNextMember (context_of_all (take i h)) y) r.is
+    (next_member (take i h) (context_of_all (take i h)) r.op (complete (take i h) parts.0).holds parts.1))
 
-pub up_to_more : (h : List OpData) (m x : Member) (i : ℕ) (c d : ContextData) → slice_get (members_in h) i ≡ Some x → x ≢ m → d ≡ raised c x → IsUpTo h m i c → IsUpTo h m (i + 1) d
+pub up_to_more : (h : List OpData) (m x : Member) (i : ℕ) (c d : ContextData) → slice_get (members_in h) i ≡ Some x → x ≢ m → d ≡ raised c x
+    → IsUpTo h m i c → IsUpTo h m (i + 1) d
 up_to_more h m x i c d e ne p u =
     let r = at_place h i x e in
     let other = member_apart (member_of r.op) m (λ s. ne (sym r.is ∙ s)) in
     record {
-      context = p ∙ (ap (λ (b : ContextData). raised b x) u.context ∙ (ap (λ (y : Member). raised (context_of_all (take i h)) y) (sym r.is) ∙ (sym (context_push (take i h) r.op) ∙ ap context_of_all (sym r.more))));
-      front = u.front ∙ (ap (λ (l : List OpData). take i h ++ before l m) r.rest ∙ (ap (λ (l : List OpData). take i h ++ l) (before_later r.op (drop (i + 1) h) m other) ∙ (sym (append_assoc (take i h) (r.op ∷ []) (before (drop (i + 1) h) m)) ∙ ap (λ (l : List OpData). l ++ before (drop (i + 1) h) m) (sym r.more))));
+      context =
+          p ∙ (ap (λ (b : ContextData). raised b x) u.context
+          ∙ (ap (λ (y : Member). raised (context_of_all (take i h)) y) (sym r.is)
+          ∙ (sym (context_push (take i h) r.op) ∙ ap context_of_all (sym r.more))));
+      front = u.front ∙ (ap (λ (l : List OpData). take i h ++ before l m) r.rest
+          ∙ (ap (λ (l : List OpData). take i h ++ l) (before_later r.op (drop (i + 1) h) m other)
+          ∙ (sym (append_assoc (take i h) (r.op ∷ []) (before (drop (i + 1) h) m))
+          ∙ ap (λ (l : List OpData). l ++ before (drop (i + 1) h) m) (sym r.more))));
     }
 
 no_more : {A : Type 0} (xs : List A) → xs ++ [] ≡ xs
@@ -151,7 +173,8 @@ no_more {A} (x ∷ xs) = ap (λ (l : List A). x ∷ l) (no_more xs)
 up_to_end : (h : List OpData) (m : Member) (i : ℕ) (c : ContextData) → before (drop i h) m ≡ [] → IsUpTo h m i c → c ≡ context_before h m
 up_to_end h m i c e u = u.context ∙ ap context_of_all (sym (u.front ∙ (ap (λ (l : List OpData). take i h ++ l) e ∙ no_more (take i h))))
 
-pub up_to_found : (h : List OpData) (m x : Member) (i : ℕ) (c : ContextData) → slice_get (members_in h) i ≡ Some x → x ≡ m → IsUpTo h m i c → c ≡ context_before h m
+pub up_to_found : (h : List OpData) (m x : Member) (i : ℕ) (c : ContextData) → slice_get (members_in h) i ≡ Some x → x ≡ m → IsUpTo h m i c
+    → c ≡ context_before h m
 up_to_found h m x i c e s u =
     let r = at_place h i x e in
     let here : member_eq (member_of r.op) m ≡ true = ap (λ (y : Member). member_eq y m) (r.is ∙ s) ∙ member_itself m in

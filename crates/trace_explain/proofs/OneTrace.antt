@@ -37,8 +37,13 @@ module _ (h : List OpData) where
   once {l = l} {k = k} (by_step x one two left over none c last f g p r) (by_step y one' two' left' over' none' c' last' f' g' q t) =
       let same : y ≡ x = last_member h k x y last last' in
       let left_same = once f (subst (λ (z : Member). Lists h l (left_of k z) one' left') same f') in
-      let over_same = once g (subst (λ (s : ListingData). Lists h s (over_of k x) two' over') (sym left_same.0) (subst (λ (z : Member). Lists h one' (over_of k z) two' over') same g')) in
-      (p ∙ ((λ i. with_step h (over_same.0 i) k (left_same.1 i) (over_same.1 i)) ∙ sym q), r ∙ ((λ i. stepped h (over_same.0 i) (left_same.1 i) (over_same.1 i)) ∙ sym t))
+      let over_same =
+      once g (subst (λ (s : ListingData). Lists h s (over_of k x) two' over') (sym left_same.0)
+      (subst (λ (z : Member). Lists h one' (over_of k z) two' over') same g')) in (
+        p ∙ ((λ i. with_step h (over_same.0 i) k (left_same.1 i) (over_same.1 i)) ∙ sym q),
+        r
+            ∙ ((λ i. stepped h (over_same.0 i) (left_same.1 i) (over_same.1 i)) ∙ sym t),
+      )
 
 pub one_trace_of : (h : List OpData) (m : Member) (ls ks : List TraceLine) → IsTraceOf h m ls → IsTraceOf h m ks → ls ≡ ks
 one_trace_of h m ls ks a b = a.lines_are ∙ (ap (λ (l : ListingData). l.lines) (once h a.listed b.listed).0 ∙ sym b.lines_are)

@@ -42,7 +42,8 @@ row_end rows n r e =
 
 -- ---- one line more
 
-lines_more : (h : List OpData) (start : List Row) (ls : List TraceLine) (rows : List Row) (l : TraceLine) (r : Row) → AreLines h start ls rows → IsLine h rows l r → AreLines h start (ls ++ l ∷ []) (rows ++ r ∷ [])
+lines_more : (h : List OpData) (start : List Row) (ls : List TraceLine) (rows : List Row) (l : TraceLine) (r : Row)
+    → AreLines h start ls rows → IsLine h rows l r → AreLines h start (ls ++ l ∷ []) (rows ++ r ∷ [])
 lines_more h start [] rows l r e i = (r, subst (λ (x : List Row). IsLine h x l r) e i, ap (λ (x : List Row). x ++ r ∷ []) e)
 lines_more h start (k ∷ ls) rows l r a i = (a.0, a.1, lines_more h (start ++ a.0 ∷ []) ls rows l r a.2 i)
 
@@ -56,7 +57,8 @@ pub record AreRows (h : List OpData) (l : ListingData) (rows : List Row) : Type 
   pub many : length rows ≡ length l.lines
   pub at : (k : KeyData) (a : Listed) → l.at k ≡ Some a → IsRowOf rows a.number (row_of k a)
 
-rows_more : (h : List OpData) (l : ListingData) (rows : List Row) (k : KeyData) (line : TraceLine) (a : Listed) → AreRows h l rows → a.number ≡ length l.lines + 1 → IsLine h rows line (row_of k a) → AreRows h (with_line l k line a) (rows ++ row_of k a ∷ [])
+rows_more : (h : List OpData) (l : ListingData) (rows : List Row) (k : KeyData) (line : TraceLine) (a : Listed) → AreRows h l rows
+    → a.number ≡ length l.lines + 1 → IsLine h rows line (row_of k a) → AreRows h (with_line l k line a) (rows ++ row_of k a ∷ [])
 rows_more h l rows k line a r n i = record {
   lines = lines_more h [] l.lines rows line (row_of k a) r.lines i;
   many = length-append rows (row_of k a ∷ []) ∙ (ap (λ (j : ℕ). j + 1) r.many ∙ sym (length-append l.lines (line ∷ [])));
@@ -64,7 +66,8 @@ rows_more h l rows k line a r n i = record {
     | inl t ↦
         let here : Some a ≡ Some b = sym (ap (λ (c : Bool). if c then Some a else l.at q) t) ∙ e in
         subst (λ (p : KeyData). IsRowOf (rows ++ row_of k a ∷ []) b.number (row_of p b)) ((key_eq_decides k q).0 t)
-        (subst (λ (c : Listed). IsRowOf (rows ++ row_of k a ∷ []) c.number (row_of k c)) (same_Some a b here) (row_end rows a.number (row_of k a) (n ∙ ap (λ (j : ℕ). j + 1) (sym r.many))))
+        (subst (λ (c : Listed). IsRowOf (rows ++ row_of k a ∷ []) c.number (row_of k c)) (same_Some a b here)
+        (row_end rows a.number (row_of k a) (n ∙ ap (λ (j : ℕ). j + 1) (sym r.many))))
     | inr t ↦ row_left rows (row_of k a ∷ []) b.number (row_of q b) (r.at q b (sym (ap (λ (c : Bool). if c then Some a else l.at q) t) ∙ e))
   ];
 }
@@ -82,7 +85,9 @@ no_more [] = refl
 no_more (r ∷ rows) = ap (λ (l : List Row). r ∷ l) (no_more rows)
 
 module _ (law : LastMayBeTakenOut) (h : List OpData) (v : IsValid h) where
-  longer_by : (k : KeyData) (l : ListingData) (rows more : List Row) (line : TraceLine) (a : Listed) (n : ListingData) (b : Listed) → AreRows h l (rows ++ more) → a.number ≡ length l.lines + 1 → IsLine h (rows ++ more) line (row_of k a) → n ≡ with_line l k line a → b ≡ a → AreLonger h k n b rows
+  longer_by : (k : KeyData) (l : ListingData) (rows more : List Row) (line : TraceLine) (a : Listed) (n : ListingData) (b : Listed)
+      → AreRows h l (rows ++ more) → a.number ≡ length l.lines + 1 → IsLine h (rows ++ more) line (row_of k a) → n ≡ with_line l k line a
+      → b ≡ a → AreLonger h k n b rows
   longer_by k l rows more line a n b r e i p q =
       let all = rows_more h l (rows ++ more) k line a r e i in
       let whole : (rows ++ more) ++ row_of k a ∷ [] ≡ rows ++ (more ++ row_of k a ∷ []) = append_assoc rows more (row_of k a ∷ []) in
@@ -94,7 +99,9 @@ module _ (law : LastMayBeTakenOut) (h : List OpData) (v : IsValid h) where
       }))
 
   -- the line of a step
-  step_right : (k : KeyData) (x : Member) (rows : List Row) (left over : Listed) (l : ListingData) → IsSmaller h k x → IsRowOf rows left.number (row_of (left_of k x) left) → IsRowOf rows over.number (row_of (over_of k x) over) → IsLine h rows (step_line h k left over) (row_of k (stepped h l left over))
+  step_right : (k : KeyData) (x : Member) (rows : List Row) (left over : Listed) (l : ListingData) → IsSmaller h k x
+      → IsRowOf rows left.number (row_of (left_of k x) left) → IsRowOf rows over.number (row_of (over_of k x) over)
+      → IsLine h rows (step_line h k left over) (row_of k (stepped h l left over))
   step_right k x rows left over l s a b = (
     row_of (left_of k x) left,
     row_of (over_of k x) over,
@@ -104,7 +111,8 @@ module _ (law : LastMayBeTakenOut) (h : List OpData) (v : IsValid h) where
     λ i. record { at = pair k.member (s.again i); form = form_over left.form over.form },
   )
 
-  pub longer : {l : ListingData} {k : KeyData} {n : ListingData} {a : Listed} → Lists h l k n a → IsContext k.context → IsPair h k → (rows : List Row) → AreRows h l rows → AreLonger h k n a rows
+  pub longer : {l : ListingData} {k : KeyData} {n : ListingData} {a : Listed} → Lists h l k n a → IsContext k.context → IsPair h k
+      → (rows : List Row) → AreRows h l rows → AreLonger h k n a rows
   longer {l = l} {k = k} {a = a} (there e p) is add rows r =
       subst (λ (m : ListingData). AreLonger h k m a rows) (sym p) (record {
         more = [];
@@ -133,7 +141,8 @@ not_listed a e f = cc
 nothing_listed : (a : Listed) → ◌≡◌ {A = Option Listed} None (Some a) → ⊥
 nothing_listed a e = cc
 
-pub last_part : (xs : List Row) (r : Row) → 1 ≤ length xs → slice_get xs (length xs - 1) ≡ Some r → (front : List Row) × (xs ≡ front ++ r ∷ [])
+pub last_part : (xs : List Row) (r : Row) → 1 ≤ length xs → slice_get xs (length xs - 1) ≡ Some r
+    → (front : List Row) × (xs ≡ front ++ r ∷ [])
 last_part [] r l e = absurd (omega arith)
 last_part (x ∷ []) r l e = ([], ap (λ (y : Row). y ∷ []) (same_Some x r e))
 last_part (x ∷ (y ∷ ys)) r l e =
@@ -142,34 +151,40 @@ last_part (x ∷ (y ∷ ys)) r l e =
     let rest = last_part (y ∷ ys) r (omega arith) there in
     (x ∷ rest.0, ap (λ (z : List Row). x ∷ z) rest.1)
 
-number_is : (h : List OpData) {l : ListingData} {k : KeyData} {n : ListingData} {a : Listed} → l.at k ≡ None → Lists h l k n a → a.number ≡ length n.lines
+number_is : (h : List OpData) {l : ListingData} {k : KeyData} {n : ListingData} {a : Listed} → l.at k ≡ None → Lists h l k n a
+    → a.number ≡ length n.lines
 number_is h {a = a} none (there e p) = absurd (not_listed a e none)
 number_is h {l = l} {k = k} {n = n} {a = a} none (at_base none' c p q) =
     ap (λ (b : Listed). b.number) q ∙ (sym (length-append l.lines (base_line h k ∷ [])) ∙ ap (λ (m : ListingData). length m.lines) (sym p))
 number_is h {k = k} {n = n} {a = a} none (by_step x one two left over none' c last f g p q) =
-    ap (λ (b : Listed). b.number) q ∙ (sym (length-append two.lines (step_line h k left over ∷ [])) ∙ ap (λ (m : ListingData). length m.lines) (sym p))
+    ap (λ (b : Listed). b.number) q
+    ∙ (sym (length-append two.lines (step_line h k left over ∷ [])) ∙ ap (λ (m : ListingData). length m.lines) (sym p))
 
 no_rows : (h : List OpData) → AreRows h no_lines []
 no_rows h = record { lines = refl; many = refl; at = λ k a e. absurd (nothing_listed a e) }
 
 -- what the listing rule gives is a trace
-pub listed_trace : LastMayBeTakenOut → (h : List OpData) → IsValid h → (m : Member) → IsContext (context_before h m) → IsPair h (pair m (context_before h m)) → (lines : List TraceLine) → IsTraceOf h m lines → IsTrace h m lines
+pub listed_trace : LastMayBeTakenOut → (h : List OpData) → IsValid h → (m : Member) → IsContext (context_before h m)
+    → IsPair h (pair m (context_before h m)) → (lines : List TraceLine) → IsTraceOf h m lines → IsTrace h m lines
 listed_trace law h v m is add lines t =
     let all = longer law h v t.listed is add [] (no_rows h) in
     let number = number_is h refl t.listed in
     let many = all.rows_are.many in
     let here = all.here in
-    let last : slice_get all.more (length all.more - 1) ≡ Some (row_of (pair m (context_before h m)) t.last) = subst (λ (j : ℕ). slice_get all.more (j - 1) ≡ Some (row_of (pair m (context_before h m)) t.last)) (number ∙ sym many) here.1 in
+    let last : slice_get all.more (length all.more - 1) ≡ Some (row_of (pair m (context_before h m)) t.last) =
+    subst (λ (j : ℕ). slice_get all.more (j - 1) ≡ Some (row_of (pair m (context_before h m)) t.last)) (number ∙ sym many) here.1 in
     let low : 1 ≤ length all.more = let one = here.0 in omega arith in
     let part = last_part all.more _ low last in
     record {
       earlier = part.0;
       last = row_of (pair m (context_before h m)) t.last;
-      right = subst (λ (ls : List TraceLine). AreLines h [] ls (part.0 ++ row_of (pair m (context_before h m)) t.last ∷ [])) (sym t.lines_are) (subst (λ (rows : List Row). AreLines h [] t.whole.lines rows) part.1 all.rows_are.lines);
+      right = subst (λ (ls : List TraceLine). AreLines h [] ls (part.0 ++ row_of (pair m (context_before h m)) t.last ∷ []))
+          (sym t.lines_are) (subst (λ (rows : List Row). AreLines h [] t.whole.lines rows) part.1 all.rows_are.lines);
       executed = refl;
     }
 
-pub trace_of_listed : (h : List OpData) (m : Member) (l n : ListingData) (c : ContextData) (a : Listed) → l ≡ no_lines → c ≡ context_before h m → Lists h l (pair m c) n a → IsTraceOf h m n.lines
+pub trace_of_listed : (h : List OpData) (m : Member) (l n : ListingData) (c : ContextData) (a : Listed) → l ≡ no_lines
+    → c ≡ context_before h m → Lists h l (pair m c) n a → IsTraceOf h m n.lines
 trace_of_listed h m l n c a e f g = record {
   whole = n;
   last = a;

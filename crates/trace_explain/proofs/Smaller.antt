@@ -32,11 +32,15 @@ least_of (inserting n p ch d) f = f.in_range.0.1
 least_of (deleting n p d) f = f.in_range.0.1
 least_of (undoing a t g d) f = f.in_range.2
 
-lowered_known : (h : List OpData) → IsComplete h → (c : ContextData) (x : Member) → is_known h x ≡ true → IsContext c → IsContext (lowered c x)
-lowered_known h w c x k is = let o = holder h x k in subst (λ (m : Member). IsContext (lowered c m)) o.is (lowered_by c o.op is (w.formed o.op o.there))
+lowered_known : (h : List OpData) → IsComplete h → (c : ContextData) (x : Member) → is_known h x ≡ true → IsContext c
+    → IsContext (lowered c x)
+lowered_known h w c x k is =
+    let o = holder h x k in subst (λ (m : Member). IsContext (lowered c m)) o.is (lowered_by c o.op is (w.formed o.op o.there))
 
-raised_known : (h : List OpData) → IsComplete h → (c : ContextData) (x : Member) → is_known h x ≡ true → IsContext c → IsContext (raised c x)
-raised_known h w c x k is = let o = holder h x k in subst (λ (m : Member). IsContext (raised c m)) o.is (raised_by c o.op is (w.formed o.op o.there))
+raised_known : (h : List OpData) → IsComplete h → (c : ContextData) (x : Member) → is_known h x ≡ true → IsContext c
+    → IsContext (raised c x)
+raised_known h w c x k is =
+    let o = holder h x k in subst (λ (m : Member). IsContext (raised c m)) o.is (raised_by c o.op is (w.formed o.op o.there))
 
 least_known : (h : List OpData) → IsComplete h → (x : Member) → is_known h x ≡ true → 1 ≤ size_of x
 least_known h w x k = let o = holder h x k in subst (λ (m : Member). 1 ≤ size_of m) o.is (least_of o.op (w.formed o.op o.there))
@@ -79,16 +83,20 @@ put_back true false f = refl
 put_back false true f = f refl
 put_back false false f = refl
 
-pub smaller : LastMayBeTakenOut → (h : List OpData) → IsValid h → (k : KeyData) → IsContext k.context → IsPair h k → (x : Member) → IsLastBetween h k x → IsSmaller h k x
+pub smaller : LastMayBeTakenOut → (h : List OpData) → IsValid h → (k : KeyData) → IsContext k.context → IsPair h k → (x : Member)
+    → IsLastBetween h k x → IsSmaller h k x
 smaller law h v k is a x l =
     let w = complete h v in
     let c = k.context in
     let d = lowered k.context x in
     let closed : IsClosedContext h k.context = record { ready = a.ready; stray = a.stray; closed = a.closed } in
     let base = base_same h v k.member a.known in
-    let taken = law h (base_context_of h k.member) k.context l.earlier x v is (base_is_closed h v k.member a.known) closed (λ y e. a.covers y (sym (base y) ∙ e)) l.last in
+    let taken =
+    law h (base_context_of h k.member) k.context l.earlier x v is (base_is_closed h v k.member a.known) closed
+    (λ y e. a.covers y (sym (base y) ∙ e)) l.last in
     let known : is_known h x ≡ true = a.ready x taken.0.there in
-    let members : (y : Member) → has (lowered k.context x) y ≡ (has k.context y && not (member_eq x y)) = λ (y : Member). has_lowered k.context x is taken.0.last (least_known h w x known) y in
+    let members : (y : Member) → has (lowered k.context x) y ≡ (has k.context y && not (member_eq x y)) =
+    λ (y : Member). has_lowered k.context x is taken.0.last (least_known h w x known) y in
     let whole : SameSet (has k.context) (plus (has (lowered k.context x)) x) = λ (y : Member).
     put_back (has k.context y) (member_eq x y) (λ e. subst (λ (z : Member). has k.context z ≡ true) (member_same x y e) taken.0.there)
     ∙ ap (λ (b : Bool). b || member_eq x y) (sym (members y)) in
@@ -98,7 +106,9 @@ smaller law h v k is a x l =
       ready = taken.0.left.ready;
       closed = taken.0.left.closed;
       stray = taken.0.left.stray;
-      covers = λ y e. members y ∙ and_from (has k.context y) (not (member_eq x y)) (set.closed x y taken.0.there e) (not_from_false (member_eq x y) (member_apart x y (λ s. base_itself h w x (subst (λ (z : Member). base_has h x z ≡ true) (sym s) e))));
+      covers = λ y e. members y ∙ and_from (has k.context y) (not (member_eq x y)) (set.closed x y taken.0.there e)
+          (not_from_false (member_eq x y)
+          (member_apart x y (λ s. base_itself h w x (subst (λ (z : Member). base_has h x z ≡ true) (sym s) e))));
       lacks = members x ∙ and_not (has k.context x) (member_eq x x) (member_itself x);
     } in
     record {
@@ -118,7 +128,8 @@ smaller law h v k is a x l =
       over = over;
       other = λ e. both_ways (has k.context k.member) a.lacks (subst (λ (z : Member). has k.context z ≡ true) (sym e) taken.0.there);
       whole = whole;
-      again = same_context k.context (raised (lowered k.context x) x) is (raised_known h w (lowered k.context x) x known (lowered_known h w k.context x known is))
+      again = same_context k.context (raised (lowered k.context x) x) is
+          (raised_known h w (lowered k.context x) x known (lowered_known h w k.context x known is))
           (λ y. whole y ∙ sym (has_raised (lowered k.context x) x (added_next h v (lowered k.context x) x over) y));
     }
 
@@ -130,11 +141,13 @@ one_most true false h = omega arith
 one_most false true h = absurd (both_ways false refl (h refl))
 one_most false false h = omega arith
 
-sum_most : (C D : Member → Bool) (xs : List Member) → ((y : Member) → D y ≡ true → C y ≡ true) → sum_where D (λ y. 1) xs ≤ sum_where C (λ y. 1) xs
+sum_most : (C D : Member → Bool) (xs : List Member) → ((y : Member) → D y ≡ true → C y ≡ true)
+    → sum_where D (λ y. 1) xs ≤ sum_where C (λ y. 1) xs
 sum_most C D [] h = omega arith
 sum_most C D (x ∷ xs) h = let a = one_most (C x) (D x) (h x) in let r = sum_most C D xs h in omega arith
 
-sum_less : (C D : Member → Bool) (xs : List Member) (x : Member) → IsIn x xs → C x ≡ true → D x ≡ false → ((y : Member) → D y ≡ true → C y ≡ true) → sum_where D (λ y. 1) xs < sum_where C (λ y. 1) xs
+sum_less : (C D : Member → Bool) (xs : List Member) (x : Member) → IsIn x xs → C x ≡ true → D x ≡ false
+    → ((y : Member) → D y ≡ true → C y ≡ true) → sum_where D (λ y. 1) xs < sum_where C (λ y. 1) xs
 sum_less C D [] x i c d h = absurd i
 sum_less C D (y ∷ ys) x (inl e) c d h =
     let cy : C y ≡ true = subst (λ (z : Member). C z ≡ true) e c in
@@ -143,7 +156,8 @@ sum_less C D (y ∷ ys) x (inl e) c d h =
     rw (cy, dy) (omega arith)
 sum_less C D (y ∷ ys) x (inr i) c d h = let a = one_most (C y) (D y) (h y) in let r = sum_less C D ys x i c d h in omega arith
 
-pub smaller_size : (h : List OpData) (k : KeyData) (x : Member) → IsSmaller h k x → size (family_in h (base_form h)) (has (lowered k.context x)) < size (family_in h (base_form h)) (has k.context)
+pub smaller_size : (h : List OpData) (k : KeyData) (x : Member) → IsSmaller h k x
+    → size (family_in h (base_form h)) (has (lowered k.context x)) < size (family_in h (base_form h)) (has k.context)
 smaller_size h k x s =
     sum_less (has k.context) (has (lowered k.context x)) (members_in h) x (known_in h x s.known) s.there s.over.lacks
     (λ y e. s.whole y ∙ or_left (has (lowered k.context x) y) (member_eq x y) e)
@@ -153,7 +167,8 @@ smaller_size h k x s =
 pub context_of_key : (a b : ContextData) → a ≡ b → IsContext a → IsContext b
 context_of_key a b e is = subst IsContext e is
 
-pub none_left : {A : Type 0} (old more items popped : List A) (n : ℕ) → old ≡ [] → items ≡ old ++ more → items ≡ popped ++ [] → popped ≡ take (n - 1) items → n ≡ 0 → more ≡ []
+pub none_left : {A : Type 0} (old more items popped : List A) (n : ℕ) → old ≡ [] → items ≡ old ++ more → items ≡ popped ++ []
+    → popped ≡ take (n - 1) items → n ≡ 0 → more ≡ []
 none_left {A} old more items popped n e f g h z =
     let none : n - 1 ≡ 0 = omega arith in
     let empty : popped ≡ [] = h ∙ ap (λ (k : ℕ). take k items) none in
@@ -163,12 +178,16 @@ none_left {A} old more items popped n e f g h z =
 nothing_in : (x : Member) → IsIn x [] → ⊥
 nothing_in x i = i
 
-pub nothing_between : (h : List OpData) → IsValid h → (m : Member) (c own : ContextData) → MayBeAddedTo h c m → own ≡ base_context_of h m → IsContext c → IsContext own → difference_of h own c ≡ [] → c ≡ base_context_of h m
+pub nothing_between : (h : List OpData) → IsValid h → (m : Member) (c own : ContextData) → MayBeAddedTo h c m → own ≡ base_context_of h m
+    → IsContext c → IsContext own → difference_of h own c ≡ [] → c ≡ base_context_of h m
 nothing_between h v m c own a e is io none =
     let base : SameSet (has own) (base_has h m) = λ (y : Member). ap (λ (d : ContextData). has d y) e ∙ base_same h v m a.known y in
     same_context c own is io (λ y. same_bool (has c y) (has own y)
     (λ t. elim (cases_Bool (has own y)) [
       | inl there ↦ there
-      | inr out ↦ absurd (nothing_in y (subst (λ (l : List Member). IsIn y l) none (in_filter (λ (z : Member). has c z && not (has own z)) y (members_in h) (known_in h y (a.ready y t)) (and_from (has c y) (not (has own y)) t (not_from_false (has own y) out)))))
+      | inr out ↦ absurd (nothing_in y
+          (subst (λ (l : List Member). IsIn y l) none
+          (in_filter (λ (z : Member). has c z && not (has own z)) y (members_in h) (known_in h y (a.ready y t))
+          (and_from (has c y) (not (has own y)) t (not_from_false (has own y) out)))))
     ])
     (λ t. a.covers y (sym (base y) ∙ t))) ∙ e

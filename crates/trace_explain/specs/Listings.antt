@@ -75,8 +75,11 @@ module _ (h : List OpData) where
   -- listed there, and then comes the step of the two
   pub data Lists : ListingData → KeyData → ListingData → Listed → Type 0 where
     there : {l : ListingData} {k : KeyData} {n : ListingData} {a : Listed} → l.at k ≡ Some a → n ≡ l → Lists l k n a
-    at_base : {l : ListingData} {k : KeyData} {n : ListingData} {a : Listed} → l.at k ≡ None → k.context ≡ base_context_of h k.member → n ≡ with_base l k → a ≡ based l k → Lists l k n a
-    by_step : {l : ListingData} {k : KeyData} {n : ListingData} {a : Listed} (x : Member) (one two : ListingData) (left over : Listed) → l.at k ≡ None → k.context ≢ base_context_of h k.member → IsLastBetween h k x → Lists l (left_of k x) one left → Lists one (over_of k x) two over → n ≡ with_step two k left over → a ≡ stepped two left over → Lists l k n a
+    at_base : {l : ListingData} {k : KeyData} {n : ListingData} {a : Listed} → l.at k ≡ None → k.context ≡ base_context_of h k.member
+        → n ≡ with_base l k → a ≡ based l k → Lists l k n a
+    by_step : {l : ListingData} {k : KeyData} {n : ListingData} {a : Listed} (x : Member) (one two : ListingData) (left over : Listed)
+        → l.at k ≡ None → k.context ≢ base_context_of h k.member → IsLastBetween h k x → Lists l (left_of k x) one left
+        → Lists one (over_of k x) two over → n ≡ with_step two k left over → a ≡ stepped two left over → Lists l k n a
 
 -- the lines that the listing rule gives for m at all members that the history holds before m
 pub record IsTraceOf (h : List OpData) (m : Member) (lines : List TraceLine) : Type 0 where

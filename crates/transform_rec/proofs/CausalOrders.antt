@@ -24,7 +24,8 @@ module _ {F : Type 0} (b : Family F) (c : IsCausalFamily b) where
   first_sound : (y : Member) (ys : List Member) (C : Member → Bool) → Remains C (y ∷ ys) → IsSound b y C
   first_sound y ys C r = record {
     listed = r.listed y (inl refl);
-    covers = λ z h. elim (r.covered z (c.listed y z (r.listed y (inl refl)) h)) [ inl a ↦ a | inr i ↦ absurd (both_ways (b.context y z) (r.causal.0 z i) h) ];
+    covers = λ z h. elim (r.covered z (c.listed y z (r.listed y (inl refl)) h))
+        [ inl a ↦ a | inr i ↦ absurd (both_ways (b.context y z) (r.causal.0 z i) h) ];
     set = r.set;
     lacks = r.lacks y (inl refl);
   }
@@ -36,7 +37,13 @@ module _ {F : Type 0} (b : Family F) (c : IsCausalFamily b) where
         s,
         remains_run ys (plus C y) (record {
           set = closed_plus b y C s;
-          covered = λ z i. elim (r.covered z i) [ inl a ↦ inl (plus_keeps C y z a) | inr (inl e) ↦ inl (subst (λ (x : Member). plus C y x ≡ true) (sym e) (plus_here C y)) | inr (inr j) ↦ inr j ];
+          covered =
+              λ z i. elim (r.covered z i) [
+                | inl a ↦ inl (plus_keeps C y z a)
+                | inr (inl e) ↦
+                    inl (subst (λ (x : Member). plus C y x ≡ true) (sym e) (plus_here C y))
+                | inr (inr j) ↦ inr j
+              ];
           listed = λ z i. r.listed z (inr i);
           lacks = λ z i. plus_lacks C y z (r.lacks z (inr i)) (r.apart.0 z i);
           apart = r.apart.1;
@@ -61,20 +68,29 @@ module _ {F : Type 0} (b : Family F) (c : IsCausalFamily b) where
 
   -- ---- sorted lists
 
-  rising_apart : (lt : Member → Member → Bool) → ((x y : Member) → lt x y ≡ true → lt y x ≡ true → ⊥) → (ys : List Member) → IsRising lt ys → AreApart ys
+  rising_apart : (lt : Member → Member → Bool) → ((x y : Member) → lt x y ≡ true → lt y x ≡ true → ⊥) → (ys : List Member) → IsRising lt ys
+      → AreApart ys
   rising_apart lt asym [] r = tt
-  rising_apart lt asym (y ∷ ys) r =
-      ((λ z i e. let less : lt y y ≡ true = subst (λ (x : Member). lt y x ≡ true) (sym e) (r.0 z i) in asym y y less less), rising_apart lt asym ys r.1)
+  rising_apart lt asym (y ∷ ys) r = (
+    (λ z i e. let less : lt y y ≡ true = subst (λ (x : Member). lt y x ≡ true) (sym e) (r.0 z i) in asym y y less less),
+    rising_apart lt asym ys r.1,
+  )
 
-  rising_causal : (lt : Member → Member → Bool) → ((x y : Member) → lt x y ≡ true → lt y x ≡ true → ⊥) → ((x y : Member) → IsIn x b.members → b.context x y ≡ true → lt y x ≡ true) → (ys : List Member) → ((z : Member) → IsIn z ys → IsIn z b.members) → IsRising lt ys → IsCausal b.context ys
+  rising_causal : (lt : Member → Member → Bool) → ((x y : Member) → lt x y ≡ true → lt y x ≡ true → ⊥)
+      → ((x y : Member) → IsIn x b.members → b.context x y ≡ true → lt y x ≡ true) → (ys : List Member)
+      → ((z : Member) → IsIn z ys → IsIn z b.members) → IsRising lt ys → IsCausal b.context ys
   rising_causal lt asym kept [] l r = tt
-  rising_causal lt asym kept (y ∷ ys) l r =
-      ((λ z i. false_from_ne_true (b.context y z) (λ h. not_behind y z (kept y z (l y (inl refl)) h) ys r.0 i)), rising_causal lt asym kept ys (λ z i. l z (inr i)) r.1)
+  rising_causal lt asym kept (y ∷ ys) l r = (
+    (λ z i. false_from_ne_true (b.context y z) (λ h. not_behind y z (kept y z (l y (inl refl)) h) ys r.0 i)),
+    rising_causal lt asym kept ys (λ z i. l z (inr i)) r.1,
+  )
     where
       not_behind : (v z : Member) → lt z v ≡ true → (zs : List Member) → ((x : Member) → IsIn x zs → lt v x ≡ true) → IsIn z (v ∷ zs) → ⊥
       not_behind v z less zs all (inl e) = let same : lt v v ≡ true = subst (λ (x : Member). lt x v ≡ true) e less in asym v v same same
       not_behind v z less zs all (inr i) = asym v z (all z i) less
 
   -- a sorted list of all members is causal, if what a member's base context has is less than the member
-  pub sorted_run : (lt : Member → Member → Bool) → ((x y : Member) → lt x y ≡ true → lt y x ≡ true → ⊥) → ((x y : Member) → IsIn x b.members → b.context x y ≡ true → lt y x ≡ true) → (ys : List Member) → IsRising lt ys → SameElements ys b.members → IsCausalFrom b none ys
+  pub sorted_run : (lt : Member → Member → Bool) → ((x y : Member) → lt x y ≡ true → lt y x ≡ true → ⊥)
+      → ((x y : Member) → IsIn x b.members → b.context x y ≡ true → lt y x ≡ true) → (ys : List Member) → IsRising lt ys
+      → SameElements ys b.members → IsCausalFrom b none ys
   sorted_run lt asym kept ys r e = causal_run ys e (rising_apart lt asym ys r) (rising_causal lt asym kept ys (λ z i. e.forth z i) r)

@@ -9,7 +9,8 @@ use Rattle.transform_rec.proofs.Lists.{LastOf, last_of}
 module _ {F : Type 0} (over : F → F → F) (b : Family F) where
   -- the members of C outside of m's base context: there is none, or the last one of the family's list
   abbrev pub Difference : Member → (Member → Bool) → Type 0
-  Difference m C = ((z : Member) → IsIn z b.members → (C z && not (b.context m z)) ≡ false) ⊎ LastOf (λ y. C y && not (b.context m y)) b.members
+  Difference m C =
+      ((z : Member) → IsIn z b.members → (C z && not (b.context m z)) ≡ false) ⊎ LastOf (λ y. C y && not (b.context m y)) b.members
 
   abbrev pub difference : (m : Member) (C : Member → Bool) → Difference m C
   difference m C = last_of (λ y. C y && not (b.context m y)) b.members

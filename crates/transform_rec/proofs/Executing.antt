@@ -30,7 +30,8 @@ pub lacks_all : (cs : List (NameData × ℕ)) (n : NameData) → ((c : NameData 
 lacks_all [] n h = tt
 lacks_all (c ∷ cs) n h = (h c (inl refl), lacks_all cs n (λ d i. h d (inr i)))
 
-pub new_names : (cs new : List (NameData × ℕ)) → ((a : NameData × ℕ) → IsIn a new → (c : NameData × ℕ) → IsIn c cs → c.0 ≢ a.0) → NewNames cs new
+pub new_names : (cs new : List (NameData × ℕ)) → ((a : NameData × ℕ) → IsIn a new → (c : NameData × ℕ) → IsIn c cs → c.0 ≢ a.0)
+    → NewNames cs new
 new_names cs [] h = tt
 new_names cs (a ∷ new) h = (lacks_all cs a.0 (h a (inl refl)), new_names cs new (λ d i. h d (inr i)))
 
@@ -57,11 +58,13 @@ module _ {F S : Type 0} (w : Setting F S) where
   derived_added m C f (by_step D x g k i ne l s dg dk e) = ap w.table.added e ∙ (w.laws.added_over g k ∙ derived_added m D g dg)
 
   -- each cell that a form adds has the name of the form's member
-  pub added_owner : (x : Member) (C : Member → Bool) (f : F) → IsForm x C f → (c : NameData × ℕ) → IsIn c (w.table.added f) → x ≡ Original c.0
+  pub added_owner : (x : Member) (C : Member → Bool) (f : F) → IsForm x C f → (c : NameData × ℕ) → IsIn c (w.table.added f)
+      → x ≡ Original c.0
   added_owner x C f df c i =
       let s = derived_sound (deriving_of w) x C f df in
       let j : IsIn c (w.table.added (w.family.form x)) = subst (λ (cs : List (NameData × ℕ)). IsIn c cs) (derived_added x C f df) i in
-      elim (member_cases x (Original c.0)) [ inl e ↦ e | inr ne ↦ absurd (lacks_in (w.table.added (w.family.form x)) c.0 c (w.own_names x c.0 s.listed ne) j refl) ]
+      elim (member_cases x (Original c.0))
+      [ inl e ↦ e | inr ne ↦ absurd (lacks_in (w.table.added (w.family.form x)) c.0 c (w.own_names x c.0 s.listed ne) j refl) ]
 
   pub added_own : (x : Member) (C : Member → Bool) (f : F) → IsForm x C f → (c : NameData × ℕ) → IsIn c (w.table.added f) → own x c ≡ true
   added_own x C f df c i = subst (λ (z : Member). own z c ≡ true) (sym (added_owner x C f df c i)) (member_itself (Original c.0))
@@ -71,7 +74,8 @@ module _ {F S : Type 0} (w : Setting F S) where
   pub addable_fits : (C : Member → Bool) (s : S) (x : Member) (f : F) → At C s → IsForm x C f → w.table.Fits s f
   addable_fits C s x f st df =
       let sound = derived_sound (deriving_of w) x C f df in
-      let bounded : w.table.inclusion.IsBounded f (length (w.table.cells s)) = subst (λ (n : ℕ). w.table.inclusion.IsBounded f n) (sym st.weighs) (derived_bounded (deriving_of w) x C f df) in
+      let bounded : w.table.inclusion.IsBounded f (length (w.table.cells s)) =
+      subst (λ (n : ℕ). w.table.inclusion.IsBounded f n) (sym st.weighs) (derived_bounded (deriving_of w) x C f df) in
       w.laws.fits s f bounded (new_names (w.table.cells s) (w.table.added f) (λ a i c j. λ p.
       let is : x ≡ Original c.0 = added_owner x C f df a i ∙ ap Original (sym p) in
       both_ways (C x) sound.lacks (subst (λ (y : Member). C y ≡ true) (sym is) (st.names c j))))
@@ -82,7 +86,8 @@ module _ {F S : Type 0} (w : Setting F S) where
       let put = w.laws.kept s f (addable_fits C s x f st df) in
       let p = put.at in
       let whole = put.is in
-      let long : length (w.table.cells (w.table.apply s f)) ≡ length cs + length (w.table.added f) = ap length whole ∙ length-put p cs (w.table.added f) in
+      let long : length (w.table.cells (w.table.apply s f)) ≡ length cs + length (w.table.added f) =
+      ap length whole ∙ length-put p cs (w.table.added f) in
       let many = w.laws.added_length f in
       let more = weight_plus (deriving_of w) x C f df in
       let was = st.weighs in
@@ -90,7 +95,15 @@ module _ {F S : Type 0} (w : Setting F S) where
         weighs = long ∙ (ap₂ (λ m n. m + n) was many ∙ sym more);
         names = λ c i.
             let j : IsIn c (take p cs ++ (w.table.added f ++ drop p cs)) = subst (λ (l : List (NameData × ℕ)). IsIn c l) whole i in
-            elim (in_cases c (take p cs) (w.table.added f ++ drop p cs) j) [ inl a ↦ plus_keeps C x (Original c.0) (st.names c (in_take c p cs a)) | inr a ↦ elim (in_cases c (w.table.added f) (drop p cs) a) [ inl e ↦ subst (λ (y : Member). plus C x y ≡ true) (added_owner x C f df c e) (plus_here C x) | inr e ↦ plus_keeps C x (Original c.0) (st.names c (in_drop c p cs e)) ] ];
+            elim (in_cases c (take p cs) (w.table.added f ++ drop p cs) j) [
+              | inl a ↦ plus_keeps C x (Original c.0) (st.names c (in_take c p cs a))
+              | inr a ↦
+                  elim (in_cases c (w.table.added f) (drop p cs) a) [
+                    | inl e ↦ subst (λ (y : Member). plus C x y ≡ true) (added_owner x C f df c e) (plus_here C x)
+                    | inr e ↦
+                        plus_keeps C x (Original c.0) (st.names c (in_drop c p cs e))
+                  ]
+            ];
       }
 
   -- a state without cells is a state at the empty set
@@ -119,15 +132,18 @@ module _ {F S : Type 0} (w : Setting F S) where
   forms_once [] C (f ∷ fs) gs df dg = absurd df
   forms_once (x ∷ xs) C [] gs df dg = absurd df
   forms_once (x ∷ xs) C (f ∷ fs) [] df dg = absurd dg
-  forms_once (x ∷ xs) C (f ∷ fs) (g ∷ gs) df dg = ap₂ (λ h hs. h ∷ hs) (derived_once (deriving_of w) x C f g df.0 dg.0) (forms_once xs (plus C x) fs gs df.1 dg.1)
+  forms_once (x ∷ xs) C (f ∷ fs) (g ∷ gs) df dg =
+      ap₂ (λ h hs. h ∷ hs) (derived_once (deriving_of w) x C f g df.0 dg.0) (forms_once xs (plus C x) fs gs df.1 dg.1)
 
   -- the forms of a longer list begin with those of its front
-  pub forms_begin : (xs ys : List Member) (C : Member → Bool) (fs gs : List F) → Forms C xs fs → Forms C (xs ++ ys) gs → take (length fs) gs ≡ fs
+  pub forms_begin : (xs ys : List Member) (C : Member → Bool) (fs gs : List F) → Forms C xs fs → Forms C (xs ++ ys) gs
+      → take (length fs) gs ≡ fs
   forms_begin [] ys C [] gs df dg = refl
   forms_begin [] ys C (f ∷ fs) gs df dg = absurd df
   forms_begin (x ∷ xs) ys C [] gs df dg = absurd df
   forms_begin (x ∷ xs) ys C (f ∷ fs) [] df dg = absurd dg
-  forms_begin (x ∷ xs) ys C (f ∷ fs) (g ∷ gs) df dg = ap₂ (λ h hs. h ∷ hs) (derived_once (deriving_of w) x C g f dg.0 df.0) (forms_begin xs ys (plus C x) fs gs df.1 dg.1)
+  forms_begin (x ∷ xs) ys C (f ∷ fs) (g ∷ gs) df dg =
+      ap₂ (λ h hs. h ∷ hs) (derived_once (deriving_of w) x C g f dg.0 df.0) (forms_begin xs ys (plus C x) fs gs df.1 dg.1)
 
   -- a list with forms is causal
   pub forms_run : (xs : List Member) (C : Member → Bool) (fs : List F) → Forms C xs fs → Run C xs
@@ -147,7 +163,8 @@ module _ {F S : Type 0} (w : Setting F S) where
   pub run_parts : (xs ys : List Member) (C : Member → Bool) → Run C (xs ++ ys) → Run C xs × Run (plus_all C xs) ys
   run_parts xs ys C r = causal_parts w.family xs ys C r
 
-  pub forms-append : (xs ys : List Member) (C : Member → Bool) (fs gs : List F) → Forms C xs fs → Forms (plus_all C xs) ys gs → Forms C (xs ++ ys) (fs ++ gs)
+  pub forms-append : (xs ys : List Member) (C : Member → Bool) (fs gs : List F) → Forms C xs fs → Forms (plus_all C xs) ys gs
+      → Forms C (xs ++ ys) (fs ++ gs)
   forms-append [] ys C [] gs df dg = dg
   forms-append [] ys C (f ∷ fs) gs df dg = absurd df
   forms-append (x ∷ xs) ys C [] gs df dg = absurd df

@@ -18,13 +18,19 @@ use Rattle.transform_rec.specs.Histories.{family_in, MayBeAddedTo}
 
 apart_behind : (b os : List OpData) → IsValid (b ++ os) → AreApart (members_in os)
 apart_behind b [] v = tt
-apart_behind b (o ∷ os) v =
-    ((λ y i e. both_ways (is_known os (member_of o)) (members_apart b o os v).1 (subst (λ (x : Member). is_known os x ≡ true) (sym e) (in_known os y i))), apart_behind (b ++ (o ∷ [])) os (subst IsValid (sym (shifted b o os)) v))
+apart_behind b (o ∷ os) v = (
+  (λ y i e. both_ways (is_known os (member_of o)) (members_apart b o os v).1
+      (subst (λ (x : Member). is_known os x ≡ true) (sym e) (in_known os y i))),
+  apart_behind (b ++ (o ∷ [])) os (subst IsValid (sym (shifted b o os)) v),
+)
 
 causal_behind : (b os : List OpData) → IsValid (b ++ os) → IsCausal (base_has (b ++ os)) (members_in os)
 causal_behind b [] v = tt
-causal_behind b (o ∷ os) v =
-    ((λ z i. not_later b o os v z (in_known (o ∷ os) z i)), subst (λ (k : List OpData). IsCausal (base_has k) (members_in os)) (shifted b o os) (causal_behind (b ++ (o ∷ [])) os (subst IsValid (sym (shifted b o os)) v)))
+causal_behind b (o ∷ os) v = (
+  (λ z i. not_later b o os v z (in_known (o ∷ os) z i)),
+  subst (λ (k : List OpData). IsCausal (base_has k) (members_in os)) (shifted b o os)
+      (causal_behind (b ++ (o ∷ [])) os (subst IsValid (sym (shifted b o os)) v)),
+)
 
 pub history_causal : {F : Type 0} (h : List OpData) (form : Member → F) → IsValid h → IsCausalFamily (family_in h form)
 history_causal h form v = record {
@@ -43,7 +49,8 @@ pub closed_is_set : {F : Type 0} (h : List OpData) (form : Member → F) (c : Me
 closed_is_set h form c s = record { known = λ x e. in_known h x (s.listed x e); closed = λ x y e k. s.closed x e y k }
 
 -- where a member may be added to a context, it may be added to the set of its members
-pub added_sound : {F : Type 0} (h : List OpData) (form : Member → F) → IsValid h → (c : ContextData) (m : Member) → MayBeAddedTo h c m → IsSound (family_in h form) m (has c)
+pub added_sound : {F : Type 0} (h : List OpData) (form : Member → F) → IsValid h → (c : ContextData) (m : Member) → MayBeAddedTo h c m
+    → IsSound (family_in h form) m (has c)
 added_sound h form v c m a = record {
   listed = known_in h m a.known;
   covers = a.covers;
@@ -51,7 +58,8 @@ added_sound h form v c m a = record {
   lacks = a.lacks;
 }
 
-pub sound_added : {F : Type 0} (h : List OpData) (form : Member → F) → IsValid h → (c : ContextData) (m : Member) → IsSound (family_in h form) m (has c) → MayBeAddedTo h c m
+pub sound_added : {F : Type 0} (h : List OpData) (form : Member → F) → IsValid h → (c : ContextData) (m : Member)
+    → IsSound (family_in h form) m (has c) → MayBeAddedTo h c m
 sound_added h form v c m s =
     let r = closed_context h (complete h v) c (closed_is_set h form (has c) s.set) in
     record { known = in_known h m s.listed; ready = r.ready; closed = r.closed; stray = r.stray; covers = s.covers; lacks = s.lacks }
@@ -62,7 +70,9 @@ pub known_generation : (h : List OpData) → IsValid h → (m : Member) → is_k
 known_generation h v (Original n) known = tt
 known_generation h v (Group t g) known = (group_facts h (complete h v) t g known).generation
 
-next_original : (h : List OpData) → IsComplete h → (c : ContextData) (n : NameData) → MayBeAddedTo h c (Original n) → (count_of (original_context h n) n.site ≡ 0) ⊎ (1 ≤ count_of (original_context h n) n.site) → count_of (original_context h n) n.site ≤ count_of c n.site
+next_original : (h : List OpData) → IsComplete h → (c : ContextData) (n : NameData) → MayBeAddedTo h c (Original n)
+    → (count_of (original_context h n) n.site ≡ 0) ⊎ (1 ≤ count_of (original_context h n) n.site)
+    → count_of (original_context h n) n.site ≤ count_of c n.site
 next_original h w c n a (inl z) = omega arith
 next_original h w c n a (inr low) =
     let facts = original_facts h w n a.known in
@@ -84,7 +94,8 @@ group_least : (h : List OpData) (c : ContextData) (t : NameData) (g : ℕ) → M
 group_least h c t zero a low = omega arith
 group_least h c t (suc zero) a low = omega arith
 group_least h c t (suc (suc k)) a low =
-    let below = in_group_below h t (suc (suc k)) (Group t (suc k)) a.known (below_group t (suc (suc k)) (suc k) (omega arith) (omega arith)) in
+    let below =
+    in_group_below h t (suc (suc k)) (Group t (suc k)) a.known (below_group t (suc (suc k)) (suc k) (omega arith) (omega arith)) in
     let there = has_generation c t (suc k) (a.covers (Group t (suc k)) below) in
     let high = there.1 in
     omega arith
@@ -97,7 +108,8 @@ added_next h v c (Original n) a =
     let least = next_original h w c n a (zero_or_more (count_of (original_context h n) n.site)) in
     let own = facts.own in
     let low = facts.number in
-    let most : n.number ≤ count_of c n.site → ⊥ = λ (high : n.number ≤ count_of c n.site). both_ways (has c (Original n)) a.lacks (has_original c n low high) in
+    let most : n.number ≤ count_of c n.site → ⊥ =
+    λ (high : n.number ≤ count_of c n.site). both_ways (has c (Original n)) a.lacks (has_original c n low high) in
     elim (at_most_or_more n.number (count_of c n.site)) [ inl high ↦ absurd (most high) | inr more ↦ omega arith ]
 added_next h v c (Group t g) a =
     let w = complete h v in

@@ -33,7 +33,8 @@ module _ {F S : Type 0} (w : Setting F S) where
   addable_form_fits C s x f st df = (addable_fits w C s x f st df, state_more w C s x f st df)
 
   -- two members that may each be added may be added in either order
-  two_run : (x y : Member) (after : List Member) (C : Member → Bool) → Run w C (x ∷ (y ∷ after)) → IsSound w.family y C → Run w C (y ∷ (x ∷ after))
+  two_run : (x y : Member) (after : List Member) (C : Member → Bool) → Run w C (x ∷ (y ∷ after)) → IsSound w.family y C
+      → Run w C (y ∷ (x ∷ after))
   two_run x y after C r sy =
       let ne : x ≢ y = (plus_parts C x y r.1.0.lacks).1 in
       (sy, (sound_plus w.family x y C r.0 sy ne, run_moves w (plus (plus C x) y) (plus (plus C y) x) after (plus_swap C x y) r.1.1))
@@ -42,7 +43,8 @@ module _ {F S : Type 0} (w : Setting F S) where
   swap_neighbours C s before x y after fs st df sy =
       let r = run_parts w before (x ∷ (y ∷ after)) C (forms_run w (before ++ (x ∷ (y ∷ after))) C fs df) in (
         run-append w before (y ∷ (x ∷ after)) C r.0 (two_run x y after (plus_all C before) r.1 sy),
-        λ gs dg. any_order w (before ++ (x ∷ (y ∷ after))) (before ++ (y ∷ (x ∷ after))) C s fs gs st (record { forth = λ z i. in_swap z x y before after i; back = λ z i. in_swap z y x before after i }) df dg,
+        λ gs dg. any_order w (before ++ (x ∷ (y ∷ after))) (before ++ (y ∷ (x ∷ after))) C s fs gs st
+            (record { forth = λ z i. in_swap z x y before after i; back = λ z i. in_swap z y x before after i }) df dg,
       )
 
   pub to_the_front : ToTheFront w.table w.family

@@ -61,8 +61,10 @@ pub record LastOf {A : Type 0} (p : A → Bool) (xs : List A) : Type 0 where
   pub passes : p it ≡ true
   pub rest : (z : A) → IsIn z after → p z ≡ false
 
-last_by : {A : Type 0} (p : A → Bool) (x : A) (xs : List A) → ((z : A) → IsIn z xs → p z ≡ false) ⊎ LastOf p xs → (p x ≡ true) ⊎ (p x ≡ false) → ((z : A) → IsIn z (x ∷ xs) → p z ≡ false) ⊎ LastOf p (x ∷ xs)
-last_by p x xs (inr l) c = inr (record { it = l.it; before = x ∷ l.before; after = l.after; whole = ap (λ ys. x ∷ ys) l.whole; passes = l.passes; rest = l.rest })
+last_by : {A : Type 0} (p : A → Bool) (x : A) (xs : List A) → ((z : A) → IsIn z xs → p z ≡ false) ⊎ LastOf p xs
+    → (p x ≡ true) ⊎ (p x ≡ false) → ((z : A) → IsIn z (x ∷ xs) → p z ≡ false) ⊎ LastOf p (x ∷ xs)
+last_by p x xs (inr l) c =
+    inr (record { it = l.it; before = x ∷ l.before; after = l.after; whole = ap (λ ys. x ∷ ys) l.whole; passes = l.passes; rest = l.rest })
 last_by p x xs (inl n) (inl e) = inr (record { it = x; before = []; after = xs; whole = refl; passes = e; rest = n })
 last_by {A} p x xs (inl n) (inr e) = inl (each_cons (λ (z : A). p z ≡ false) x xs e n)
 
@@ -91,11 +93,17 @@ filter_drops p x xs h = filter_false p x xs h
 -- an element that passes is in the filtered list
 pub in_filter : {A : Type 0} (p : A → Bool) (z : A) (xs : List A) → IsIn z xs → p z ≡ true → IsIn z (filter p xs)
 in_filter p z [] i h = absurd i
-in_filter {A} p z (x ∷ xs) (inl e) h = subst (λ (l : List A). IsIn z l) (sym (filter_true p x xs (subst (λ (y : A). p y ≡ true) e h))) (inl e)
+in_filter {A} p z (x ∷ xs) (inl e) h =
+    subst (λ (l : List A). IsIn z l) (sym (filter_true p x xs (subst (λ (y : A). p y ≡ true) e h))) (inl e)
 in_filter {A} p z (x ∷ xs) (inr i) h =
-    elim (cases_Bool (p x)) [ inl t ↦ subst (λ (l : List A). IsIn z l) (sym (filter_true p x xs t)) (inr (in_filter p z xs i h)) | inr f ↦ subst (λ (l : List A). IsIn z l) (sym (filter_false p x xs f)) (in_filter p z xs i h) ]
+    elim (cases_Bool (p x)) [
+      | inl t ↦ subst (λ (l : List A). IsIn z l) (sym (filter_true p x xs t)) (inr (in_filter p z xs i h))
+      | inr f ↦
+          subst (λ (l : List A). IsIn z l) (sym (filter_false p x xs f)) (in_filter p z xs i h)
+    ]
 
-filter_in_cons : {A : Type 0} (p : A → Bool) (z x : A) (xs : List A) → (IsIn z (filter p xs) → IsIn z xs × (p z ≡ true)) → p x ≡ true → IsIn z (x ∷ filter p xs) → IsIn z (x ∷ xs) × (p z ≡ true)
+filter_in_cons : {A : Type 0} (p : A → Bool) (z x : A) (xs : List A) → (IsIn z (filter p xs) → IsIn z xs × (p z ≡ true)) → p x ≡ true
+    → IsIn z (x ∷ filter p xs) → IsIn z (x ∷ xs) × (p z ≡ true)
 filter_in_cons {A} p z x xs ih t (inl e) = (inl e, subst (λ (y : A). p y ≡ true) (sym e) t)
 filter_in_cons p z x xs ih t (inr i) = let r = ih i in (inr r.0, r.1)
 
@@ -103,7 +111,12 @@ filter_in_cons p z x xs ih t (inr i) = let r = ih i in (inr r.0, r.1)
 pub filter_in : {A : Type 0} (p : A → Bool) (z : A) (xs : List A) → IsIn z (filter p xs) → IsIn z xs × (p z ≡ true)
 filter_in p z [] i = absurd i
 filter_in {A} p z (x ∷ xs) i =
-    elim (cases_Bool (p x)) [ inl t ↦ filter_in_cons p z x xs (filter_in p z xs) t (subst (λ (l : List A). IsIn z l) (filter_true p x xs t) i) | inr f ↦ let r = filter_in p z xs (subst (λ (l : List A). IsIn z l) (filter_false p x xs f) i) in (inr r.0, r.1) ]
+    elim (cases_Bool (p x)) [
+      | inl t ↦
+          filter_in_cons p z x xs (filter_in p z xs) t (subst (λ (l : List A). IsIn z l) (filter_true p x xs t) i)
+      | inr f ↦ let r =
+          filter_in p z xs (subst (λ (l : List A). IsIn z l) (filter_false p x xs f) i) in (inr r.0, r.1)
+    ]
 
 pub filter_all : {A : Type 0} (p : A → Bool) (xs : List A) → ((z : A) → IsIn z xs → p z ≡ true) → filter p xs ≡ xs
 filter_all p [] h = refl
@@ -120,7 +133,8 @@ filter_same p q (x ∷ xs) h = ap₂ (λ b ys. cond b (x ∷ ys) ys) (h x (inl r
 
 -- ---- sums
 
-pub sum_same : {A : Type 0} (p q : A → Bool) (f : A → ℕ) (xs : List A) → ((z : A) → IsIn z xs → p z ≡ q z) → sum_where p f xs ≡ sum_where q f xs
+pub sum_same : {A : Type 0} (p q : A → Bool) (f : A → ℕ) (xs : List A) → ((z : A) → IsIn z xs → p z ≡ q z)
+    → sum_where p f xs ≡ sum_where q f xs
 sum_same p q f [] h = refl
 sum_same p q f (x ∷ xs) h = ap₂ (λ b n. (if b then f x else 0) + n) (h x (inl refl)) (sum_same p q f xs (λ z i. h z (inr i)))
 
@@ -141,7 +155,8 @@ count-append p (x ∷ xs) ys = let ih = count-append p xs ys in omega arith
 
 pub length-count : {A : Type 0} (p : A → Bool) (xs : List A) → length (filter p xs) ≡ count p xs
 length-count p [] = refl
-length-count p (x ∷ xs) = let ih = length-count p xs in elim (cases_Bool (p x)) [ inl h ↦ rw (h, ih) (omega arith) | inr h ↦ rw (h, ih) (omega arith) ]
+length-count p (x ∷ xs) =
+    let ih = length-count p xs in elim (cases_Bool (p x)) [ inl h ↦ rw (h, ih) (omega arith) | inr h ↦ rw (h, ih) (omega arith) ]
 
 -- ---- parts
 
@@ -164,10 +179,12 @@ length-put n xs ys =
     omega arith
 
 -- what is put into a list at a place and fails the test isn't seen by the filter
-pub filter_put : {A : Type 0} (p : A → Bool) (n : ℕ) (xs ys : List A) → ((z : A) → IsIn z ys → p z ≡ false) → filter p (take n xs ++ (ys ++ drop n xs)) ≡ filter p xs
+pub filter_put : {A : Type 0} (p : A → Bool) (n : ℕ) (xs ys : List A) → ((z : A) → IsIn z ys → p z ≡ false)
+    → filter p (take n xs ++ (ys ++ drop n xs)) ≡ filter p xs
 filter_put p n xs ys h =
     let a = filter-append p (take n xs) (ys ++ drop n xs) in
-    let b : filter p (ys ++ drop n xs) ≡ filter p (drop n xs) = filter-append p ys (drop n xs) ∙ ap (λ l. l ++ filter p (drop n xs)) (filter_none p ys h) in
+    let b : filter p (ys ++ drop n xs) ≡ filter p (drop n xs) =
+    filter-append p ys (drop n xs) ∙ ap (λ l. l ++ filter p (drop n xs)) (filter_none p ys h) in
     a ∙ (ap (λ l. filter p (take n xs) ++ l) b ∙ filter-parts p n xs)
 
 -- ---- how many elements of one kind stand before each element of another
@@ -178,16 +195,24 @@ cons_head x y xs ys e = cc
 cons_tail : {A : Type 0} (x y : A) (xs ys : List A) → x ∷ xs ≡ y ∷ ys → xs ≡ ys
 cons_tail x y xs ys e = cc
 
-pub count-either : {A : Type 0} (p x : A → Bool) → ((c : A) → p c ≡ true → x c ≡ false) → (S : List A) → count (either p x) S ≡ count p S + count x S
+pub count-either : {A : Type 0} (p x : A → Bool) → ((c : A) → p c ≡ true → x c ≡ false) → (S : List A)
+    → count (either p x) S ≡ count p S + count x S
 count-either p x d [] = omega arith
-count-either p x d (c ∷ S) = let ih = count-either p x d S in elim (cases_Bool (p c)) [ inl h ↦ rw (h, d c h) (omega arith) | inr h ↦ rw h (omega arith) ]
+count-either p x d (c ∷ S) =
+    let ih = count-either p x d S in elim (cases_Bool (p c)) [ inl h ↦ rw (h, d c h) (omega arith) | inr h ↦ rw h (omega arith) ]
 
 pub each_none : {A : Type 0} (p x : A → Bool) (q k : ℕ) (S : List A) → count x S ≡ 0 → EachAt p x q k S
 each_none p x q k [] h = tt
 each_none p x q k (c ∷ S) h =
-    elim (cases_Bool (x c)) [ inl e ↦ let f : 1 + count x S ≡ 0 = rw e at h in absurd (omega arith) | inr e ↦ let f : 0 + count x S ≡ 0 = rw e at h in let g : count x S ≡ 0 = omega arith in ((λ t. absurd (both_ways (x c) e t)), each_none p x q ((if p c then 1 else 0) + k) S g) ]
+    elim (cases_Bool (x c)) [
+      | inl e ↦ let f : 1 + count x S ≡ 0 = rw e at h in absurd (omega arith)
+      | inr e ↦ let f : 0 + count x S ≡ 0 =
+          rw e at h in let g : count x S ≡ 0 = omega arith in
+          ((λ t. absurd (both_ways (x c) e t)), each_none p x q ((if p c then 1 else 0) + k) S g)
+    ]
 
-pub count_own : {A : Type 0} (p x : A → Bool) → ((c : A) → p c ≡ true → x c ≡ false) → (S P As Q : List A) → filter p S ≡ P ++ Q → filter (either p x) S ≡ P ++ (As ++ Q) → count x S ≡ length As
+pub count_own : {A : Type 0} (p x : A → Bool) → ((c : A) → p c ≡ true → x c ≡ false) → (S P As Q : List A) → filter p S ≡ P ++ Q
+    → filter (either p x) S ≡ P ++ (As ++ Q) → count x S ≡ length As
 count_own p x d S P As Q fp fe =
     let a = length-count p S in
     let b = length-count (either p x) S in
@@ -212,11 +237,18 @@ either_none p x c h k = ap₂ (λ a b. a || b) h k
 -- ends at q
 module _ {A : Type 0} (p x : A → Bool) (d : (c : A) → p c ≡ true → x c ≡ false) (q : ℕ) (Q : List A) where
   abbrev pub Before : List A → Type 0
-  Before S = (P As : List A) (k : ℕ) → ((c : A) → IsIn c As → x c ≡ true) → filter p S ≡ P ++ Q → filter (either p x) S ≡ P ++ (As ++ Q) → k + length P ≡ q → EachAt p x q k S
+  Before S =
+      (P As : List A) (k : ℕ) → ((c : A) → IsIn c As → x c ≡ true) → filter p S ≡ P ++ Q → filter (either p x) S ≡ P ++ (As ++ Q)
+      → k + length P ≡ q → EachAt p x q k S
 
-  at_first : (c : A) (S : List A) → Before S → (P As : List A) (k : ℕ) → ((e : A) → IsIn e As → x e ≡ true) → p c ≡ true → c ∷ filter p S ≡ P ++ Q → c ∷ filter (either p x) S ≡ P ++ (As ++ Q) → k + length P ≡ q → EachAt p x q (1 + k) S
-  at_first c S again (r ∷ P) As k mine h fp fe e = again P As (1 + k) mine (cons_tail c r (filter p S) (P ++ Q) fp) (cons_tail c r (filter (either p x) S) (P ++ (As ++ Q)) fe) (omega arith)
-  at_first c S again [] (a ∷ As) k mine h fp fe e = absurd (both_ways (x c) (d c h) (subst (λ (y : A). x y ≡ true) (sym (cons_head c a (filter (either p x) S) (As ++ Q) fe)) (mine a (inl refl))))
+  at_first : (c : A) (S : List A) → Before S → (P As : List A) (k : ℕ) → ((e : A) → IsIn e As → x e ≡ true) → p c ≡ true
+      → c ∷ filter p S ≡ P ++ Q → c ∷ filter (either p x) S ≡ P ++ (As ++ Q) → k + length P ≡ q → EachAt p x q (1 + k) S
+  at_first c S again (r ∷ P) As k mine h fp fe e =
+      again P As (1 + k) mine (cons_tail c r (filter p S) (P ++ Q) fp) (cons_tail c r (filter (either p x) S) (P ++ (As ++ Q)) fe)
+      (omega arith)
+  at_first c S again [] (a ∷ As) k mine h fp fe e =
+      absurd (both_ways (x c) (d c h)
+      (subst (λ (y : A). x y ≡ true) (sym (cons_head c a (filter (either p x) S) (As ++ Q) fe)) (mine a (inl refl))))
   at_first c S again [] [] k mine h fp fe e =
       let same : filter (either p x) S ≡ filter p S = cons_tail c c (filter (either p x) S) (filter p S) (fe ∙ sym fp) in
       let long : length (filter (either p x) S) ≡ length (filter p S) = ap length same in
@@ -225,12 +257,14 @@ module _ {A : Type 0} (p x : A → Bool) (d : (c : A) → p c ≡ true → x c �
       let n = count-either p x d S in
       each_none p x q (1 + k) S (omega arith)
 
-  at_second : (c : A) (S : List A) → Before S → (P As : List A) (k : ℕ) → ((e : A) → IsIn e As → x e ≡ true) → p c ≡ false → filter p S ≡ P ++ Q → c ∷ filter (either p x) S ≡ P ++ (As ++ Q) → k + length P ≡ q → (k ≡ q) × EachAt p x q (0 + k) S
+  at_second : (c : A) (S : List A) → Before S → (P As : List A) (k : ℕ) → ((e : A) → IsIn e As → x e ≡ true) → p c ≡ false
+      → filter p S ≡ P ++ Q → c ∷ filter (either p x) S ≡ P ++ (As ++ Q) → k + length P ≡ q → (k ≡ q) × EachAt p x q (0 + k) S
   at_second c S again (r ∷ P) As k mine h fp fe e =
       let is : c ≡ r = cons_head c r (filter (either p x) S) (P ++ (As ++ Q)) fe in
       let passes : p r ≡ true = (filter_in p r S (subst (λ (l : List A). IsIn r l) (sym fp) (inl refl))).1 in
       absurd (both_ways (p c) h (subst (λ (y : A). p y ≡ true) (sym is) passes))
-  at_second c S again [] (a ∷ As) k mine h fp fe e = (omega arith, again [] As (0 + k) (λ y i. mine y (inr i)) fp (cons_tail c a (filter (either p x) S) (As ++ Q) fe) (omega arith))
+  at_second c S again [] (a ∷ As) k mine h fp fe e =
+      (omega arith, again [] As (0 + k) (λ y i. mine y (inr i)) fp (cons_tail c a (filter (either p x) S) (As ++ Q) fe) (omega arith))
   at_second c S again [] [] k mine h fp fe e =
       let passes : p c ≡ true = (filter_in p c S (subst (λ (l : List A). IsIn c l) (fe ∙ sym fp) (inl refl))).1 in
       absurd (both_ways (p c) h passes)
@@ -239,11 +273,23 @@ module _ {A : Type 0} (p x : A → Bool) (d : (c : A) → p c ≡ true → x c �
   before_each [] P As k mine fp fe e = tt
   before_each (c ∷ S) P As k mine fp fe e =
       elim (cases_Bool (p c)) [
-        | inl h ↦ ((λ t. absurd (both_ways (x c) (d c h) t)), subst (λ (b : Bool). EachAt p x q ((if b then 1 else 0) + k) S) (sym h) (at_first c S (before_each S) P As k mine h (sym (filter_keeps p c S h) ∙ fp) (sym (filter_keeps (either p x) c S (either_left p x c h)) ∙ fe) e))
+        | inl h ↦ (
+          (λ t. absurd (both_ways (x c) (d c h) t)),
+          subst (λ (b : Bool). EachAt p x q ((if b then 1 else 0) + k) S) (sym h)
+              (at_first c S (before_each S) P As k mine h (sym (filter_keeps p c S h) ∙ fp)
+              (sym (filter_keeps (either p x) c S (either_left p x c h)) ∙ fe) e),
+        )
         | inr h ↦ elim (cases_Bool (x c)) [
-          | inl t ↦ let r = at_second c S (before_each S) P As k mine h (sym (filter_drops p c S h) ∙ fp) (sym (filter_keeps (either p x) c S (either_right p x c t)) ∙ fe) e in
+          | inl t ↦ let r =
+              at_second c S (before_each S) P As k mine h (sym (filter_drops p c S h) ∙ fp)
+              (sym (filter_keeps (either p x) c S (either_right p x c t)) ∙ fe) e in
               ((λ u. r.0), subst (λ (b : Bool). EachAt p x q ((if b then 1 else 0) + k) S) (sym h) r.1)
-          | inr t ↦ ((λ u. absurd (both_ways (x c) t u)), subst (λ (b : Bool). EachAt p x q ((if b then 1 else 0) + k) S) (sym h) (before_each S P As (0 + k) mine (sym (filter_drops p c S h) ∙ fp) (sym (filter_drops (either p x) c S (either_none p x c h t)) ∙ fe) (omega arith)))
+          | inr t ↦ (
+            (λ u. absurd (both_ways (x c) t u)),
+            subst (λ (b : Bool). EachAt p x q ((if b then 1 else 0) + k) S) (sym h)
+                (before_each S P As (0 + k) mine (sym (filter_drops p c S h) ∙ fp)
+                (sym (filter_drops (either p x) c S (either_none p x c h t)) ∙ fe) (omega arith)),
+          )
         ]
       ]
 

@@ -20,15 +20,18 @@ same_turned h k s t e = sym (s.generations t e)
 original_forth : (h k : List OpData) → Same h k → (n : NameData) → is_known h (Original n) ≡ true → is_known k (Original n) ≡ true
 original_forth h k s n e =
     let held = original_holder h n e in
-    subst (λ (m : Member). is_known k m ≡ true) held.is (known_member k held.op ((s.originals held.op (named_original held.op n held.is)).0 held.there))
+    subst (λ (m : Member). is_known k m ≡ true) held.is
+    (known_member k held.op ((s.originals held.op (named_original held.op n held.is)).0 held.there))
 
 original_back : (h k : List OpData) → Same h k → (n : NameData) → is_known k (Original n) ≡ true → is_known h (Original n) ≡ true
 original_back h k s n e =
     let held = original_holder k n e in
-    subst (λ (m : Member). is_known h m ≡ true) held.is (known_member h held.op ((s.originals held.op (named_original held.op n held.is)).1 held.there))
+    subst (λ (m : Member). is_known h m ≡ true) held.is
+    (known_member h held.op ((s.originals held.op (named_original held.op n held.is)).1 held.there))
 
 -- a group at a generation that the other history reaches
-group_there : (h k : List OpData) → IsValid h → IsValid k → (t : NameData) (g : ℕ) → generation_in h t ≡ generation_in k t → is_known h (Group t g) ≡ true → is_known k (Group t g) ≡ true
+group_there : (h k : List OpData) → IsValid h → IsValid k → (t : NameData) (g : ℕ) → generation_in h t ≡ generation_in k t
+    → is_known h (Group t g) ≡ true → is_known k (Group t g) ≡ true
 group_there h k v u t g e known =
     let range = has_generation (context_of_all h) t g ((complete h v).holds (Group t g) ∙ known) in
     let low = range.0 in
@@ -50,28 +53,38 @@ known_back h k v u s (Group t g) e =
 pub same_known : (h k : List OpData) → IsValid h → IsValid k → Same h k → (m : Member) → is_known h m ≡ is_known k m
 same_known h k v u s m = same_bool (is_known h m) (is_known k m) (known_forth h k v u s m) (known_back h k v u s m)
 
-pub same_original_context : (h k : List OpData) → IsValid k → Same h k → (n : NameData) → is_known h (Original n) ≡ true → original_context h n ≡ original_context k n
+pub same_original_context : (h k : List OpData) → IsValid k → Same h k → (n : NameData) → is_known h (Original n) ≡ true
+    → original_context h n ≡ original_context k n
 same_original_context h k u s n e =
     let held = original_holder h n e in
-    held.context ∙ sym (context_is k (complete k u) held.op n ((s.originals held.op (named_original held.op n held.is)).0 held.there) held.is (original_forth h k s n e))
+    held.context ∙ sym (context_is k (complete k u) held.op n ((s.originals held.op (named_original held.op n held.is)).0 held.there)
+    held.is (original_forth h k s n e))
 
-same_before : (h k : List OpData) → IsValid h → IsValid k → Same h k → (m y : Member) → is_known h m ≡ true → is_before h m y ≡ is_before k m y
+same_before : (h k : List OpData) → IsValid h → IsValid k → Same h k → (m y : Member) → is_known h m ≡ true
+    → is_before h m y ≡ is_before k m y
 same_before h k v u s (Original n) y e = ap (λ (c : ContextData). has c y) (same_original_context h k u s n e)
-same_before h k v u s (Group t g) y e = ap (λ (c : ContextData). has c y || is_below t g y) (same_original_context h k u s t (group_facts h (complete h v) t g e).target)
+same_before h k v u s (Group t g) y e =
+    ap (λ (c : ContextData). has c y || is_below t g y) (same_original_context h k u s t (group_facts h (complete h v) t g e).target)
 
 pub same_base : (h k : List OpData) → IsValid h → IsValid k → Same h k → (m y : Member) → base_has h m y ≡ base_has k m y
 same_base h k v u s m y =
     let known = same_known h k v u s m in
-    elim (cases_Bool (is_known h m)) [ inl e ↦ ap₂ (λ a b. a && b) known (same_before h k v u s m y e) | inr e ↦ ap (λ b. b && is_before h m y) e ∙ ap (λ b. b && is_before k m y) (sym (sym known ∙ e)) ]
+    elim (cases_Bool (is_known h m)) [
+      | inl e ↦ ap₂ (λ a b. a && b) known (same_before h k v u s m y e)
+      | inr e ↦
+          ap (λ b. b && is_before h m y) e ∙ ap (λ b. b && is_before k m y) (sym (sym known ∙ e))
+    ]
 
-pub same_holds : {F : Type 0} (h k : List OpData) (form other : Member → F) → IsValid h → IsValid k → Same h k → ((x : Member) → is_known h x ≡ true → form x ≡ other x) → Holds (family_in h form) (family_in k other)
+pub same_holds : {F : Type 0} (h k : List OpData) (form other : Member → F) → IsValid h → IsValid k → Same h k
+    → ((x : Member) → is_known h x ≡ true → form x ≡ other x) → Holds (family_in h form) (family_in k other)
 same_holds h k form other v u s f = record {
   members = λ x i. known_in k x (known_forth h k v u s x (in_known h x i));
   context = λ x i y. same_base h k v u s x y;
   form = λ x i. f x (in_known h x i);
 }
 
-pub same_holds_back : {F : Type 0} (h k : List OpData) (form other : Member → F) → IsValid h → IsValid k → Same h k → ((x : Member) → is_known h x ≡ true → form x ≡ other x) → Holds (family_in k other) (family_in h form)
+pub same_holds_back : {F : Type 0} (h k : List OpData) (form other : Member → F) → IsValid h → IsValid k → Same h k
+    → ((x : Member) → is_known h x ≡ true → form x ≡ other x) → Holds (family_in k other) (family_in h form)
 same_holds_back h k form other v u s f = record {
   members = λ x i. known_in h x (known_back h k v u s x (in_known k x i));
   context = λ x i y. sym (same_base h k v u s x y);

@@ -38,7 +38,8 @@ pub plus_parts : (C : Member → Bool) (x y : Member) → plus C x y ≡ false �
 plus_parts C x y l = let r = or_parts (C y) (member_eq x y) l in (r.0, member_other x y r.1)
 
 pub plus_other : (C : Member → Bool) (x y : Member) → x ≢ y → plus C x y ≡ C y
-plus_other C x y ne = same_bool (plus C x y) (C y) (λ h. elim (plus_cases C x y h) [ inl a ↦ a | inr e ↦ absurd (ne e) ]) (λ h. plus_keeps C x y h)
+plus_other C x y ne =
+    same_bool (plus C x y) (C y) (λ h. elim (plus_cases C x y h) [ inl a ↦ a | inr e ↦ absurd (ne e) ]) (λ h. plus_keeps C x y h)
 
 or_swap : (a b c : Bool) → ((a || b) || c) ≡ ((a || c) || b)
 or_swap true b c = refl
@@ -77,7 +78,8 @@ minus_here C x = false_from_ne_true (minus C x x) (λ e. (minus_parts C x x e).1
 pub minus_plus : (C : Member → Bool) (x : Member) → C x ≡ true → SameSet C (plus (minus C x) x)
 minus_plus C x h =
     same_from C (plus (minus C x) x)
-    (λ z i. elim (cases_Bool (member_eq x z)) [ inl e ↦ or_right (minus C x z) (member_eq x z) e | inr e ↦ plus_keeps (minus C x) x z (minus_from C x z i (member_other x z e)) ])
+    (λ z i. elim (cases_Bool (member_eq x z))
+    [ inl e ↦ or_right (minus C x z) (member_eq x z) e | inr e ↦ plus_keeps (minus C x) x z (minus_from C x z i (member_other x z e)) ])
     (plus_within (minus C x) C x (λ z i. (minus_parts C x z i).0) h)
 
 -- put in and taken out
@@ -106,7 +108,8 @@ all_in (x ∷ xs) C z (inr i) = all_in xs (plus C x) z i
 pub all_cases : (xs : List Member) (C : Member → Bool) (z : Member) → plus_all C xs z ≡ true → (C z ≡ true) ⊎ IsIn z xs
 all_cases [] C z h = inl h
 all_cases (x ∷ xs) C z h =
-    elim (all_cases xs (plus C x) z h) [ inl a ↦ elim (plus_cases C x z a) [ inl b ↦ inl b | inr e ↦ inr (inl (sym e)) ] | inr i ↦ inr (inr i) ]
+    elim (all_cases xs (plus C x) z h)
+    [ inl a ↦ elim (plus_cases C x z a) [ inl b ↦ inl b | inr e ↦ inr (inl (sym e)) ] | inr i ↦ inr (inr i) ]
 
 pub all-append : (C : Member → Bool) (xs ys : List Member) → plus_all C (xs ++ ys) ≡ plus_all (plus_all C xs) ys
 all-append C [] ys = refl
@@ -115,10 +118,12 @@ all-append C (x ∷ xs) ys = all-append (plus C x) xs ys
 -- ---- sums over a set
 
 -- one member more adds its own amount
-pub sum_plus : (C : Member → Bool) (x : Member) (f : Member → ℕ) (xs : List Member) → AreApart xs → IsIn x xs → C x ≡ false → sum_where (plus C x) f xs ≡ sum_where C f xs + f x
+pub sum_plus : (C : Member → Bool) (x : Member) (f : Member → ℕ) (xs : List Member) → AreApart xs → IsIn x xs → C x ≡ false
+    → sum_where (plus C x) f xs ≡ sum_where C f xs + f x
 sum_plus C x f [] a i l = absurd i
 sum_plus C x f (y ∷ ys) a (inl e) l =
-    let rest : sum_where (plus C x) f ys ≡ sum_where C f ys = sum_same (plus C x) C f ys (λ z i. plus_other C x z (λ p. a.0 z i (sym e ∙ p))) in
+    let rest : sum_where (plus C x) f ys ≡ sum_where C f ys =
+    sum_same (plus C x) C f ys (λ z i. plus_other C x z (λ p. a.0 z i (sym e ∙ p))) in
     let here : plus C x y ≡ true = subst (λ (z : Member). plus C x z ≡ true) e (plus_here C x) in
     let out : C y ≡ false = subst (λ (z : Member). C z ≡ false) e l in
     let lhs : sum_where (plus C x) f (y ∷ ys) ≡ f y + sum_where C f ys = ap₂ (λ b n. (if b then f y else 0) + n) here rest in
@@ -128,7 +133,8 @@ sum_plus C x f (y ∷ ys) a (inl e) l =
 sum_plus C x f (y ∷ ys) a (inr i) l =
     let ih = sum_plus C x f ys a.1 i l in
     let here : plus C x y ≡ C y = plus_other C x y (λ e. a.0 x i (sym e)) in
-    let lhs : sum_where (plus C x) f (y ∷ ys) ≡ (if C y then f y else 0) + (sum_where C f ys + f x) = ap₂ (λ b n. (if b then f y else 0) + n) here ih in
+    let lhs : sum_where (plus C x) f (y ∷ ys) ≡ (if C y then f y else 0) + (sum_where C f ys + f x) =
+    ap₂ (λ b n. (if b then f y else 0) + n) here ih in
     lhs ∙ omega arith
 
 -- a greater set has a greater sum

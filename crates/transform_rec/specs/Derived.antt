@@ -11,7 +11,8 @@ module _ {F : Type 0} (over : F → F → F) (b : Family F) where
   -- the inclusion of a form of x at that same set (COT 2009)
   pub data Derived : Member → (Member → Bool) → F → Type 0 where
     at_base : {m : Member} {C : Member → Bool} {f : F} → IsIn m b.members → SameSet C (b.context m) → f ≡ b.form m → Derived m C f
-    by_step : {m : Member} {C : Member → Bool} {f : F} (D : Member → Bool) (x : Member) (g k : F) → IsIn x b.members → m ≢ x → D x ≡ false → SameSet C (plus D x) → Derived m D g → Derived x D k → f ≡ over g k → Derived m C f
+    by_step : {m : Member} {C : Member → Bool} {f : F} (D : Member → Bool) (x : Member) (g k : F) → IsIn x b.members → m ≢ x → D x ≡ false
+        → SameSet C (plus D x) → Derived m D g → Derived x D k → f ≡ over g k → Derived m C f
 
 -- f is a derived form of m at C, and there is no other
 abbrev pub IsOnlyFormAt : {F : Type 0} → (F → F → F) → Family F → Member → (Member → Bool) → F → Type 0
@@ -22,7 +23,8 @@ IsOnlyFormAt {F} over b m C f = Derived over b m C f × ((g : F) → Derived ove
 abbrev pub DerivationsNameMembers : {F : Type 0} → (F → F → F) → Type 0
 DerivationsNameMembers {F} over =
     (b c : Family F) (m : Member) (C : Member → Bool) (f : F)
-    → ((x : Member) → (x ≡ m) ⊎ (C x ≡ true) → IsIn x b.members → IsIn x c.members × (SameSet (b.context x) (c.context x) × (b.form x ≡ c.form x)))
+    → ((x : Member) → (x ≡ m) ⊎ (C x ≡ true) → IsIn x b.members
+    → IsIn x c.members × (SameSet (b.context x) (c.context x) × (b.form x ≡ c.form x)))
     → Derived over b m C f → Derived over c m C f
 
 -- a type of forms with its inclusion
@@ -49,7 +51,8 @@ weight i b C = sum_where C (λ x. i.extent (b.form x)) b.members
 -- unrelated base forms are apart, and each base form is bounded by the weight of its base context
 pub record IsFamily {F : Type 0} (i : Inclusion F) (b : Family F) : Type 0 where
   pub causal : IsCausalFamily b
-  pub apart : (m x : Member) → IsIn m b.members → IsIn x b.members → m ≢ x → b.context m x ≡ false → b.context x m ≡ false → i.Apart (b.form m) (b.form x)
+  pub apart : (m x : Member) → IsIn m b.members → IsIn x b.members → m ≢ x → b.context m x ≡ false → b.context x m ≡ false
+      → i.Apart (b.form m) (b.form x)
   pub bounded : (m : Member) → IsIn m b.members → i.IsBounded (b.form m) (weight i b (b.context m))
 
 -- all that derived forms rest on

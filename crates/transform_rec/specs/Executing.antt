@@ -22,7 +22,8 @@ pub record Table (F S : Type 0) : Type 1 where
 pub record IsTable {F S : Type 0} (t : Table F S) : Type 0 where
   pub inclusion : IsInclusion t.inclusion
   pub fits : (s : S) (a : F) → t.inclusion.IsBounded a (length (t.cells s)) → NewNames (t.cells s) (t.added a) → t.Fits s a
-  pub tp1 : (s : S) (a b : F) → t.inclusion.Apart a b → t.Fits s a → t.Fits s b → t.apply (t.apply s a) (t.inclusion.over b a) ≡ t.apply (t.apply s b) (t.inclusion.over a b)
+  pub tp1 : (s : S) (a b : F) → t.inclusion.Apart a b → t.Fits s a → t.Fits s b
+      → t.apply (t.apply s a) (t.inclusion.over b a) ≡ t.apply (t.apply s b) (t.inclusion.over a b)
   pub kept : (s : S) (a : F) → t.Fits s a → IsPutAmong (t.cells s) (t.added a) (t.cells (t.apply s a))
   pub added_length : (a : F) → length (t.added a) ≡ t.inclusion.extent a
   pub added_over : (a b : F) → t.added (t.inclusion.over a b) ≡ t.added a
@@ -30,7 +31,8 @@ pub record IsTable {F S : Type 0} (t : Table F S) : Type 0 where
 -- each form puts the cells that it adds at its place
 abbrev pub AddsAtPlace : {F S : Type 0} → Table F S → Type 0
 AddsAtPlace {F} {S} t =
-    (s : S) (a : F) → t.Fits s a → t.cells (t.apply s a) ≡ take (t.inclusion.place a) (t.cells s) ++ (t.added a ++ drop (t.inclusion.place a) (t.cells s))
+    (s : S) (a : F) → t.Fits s a → t.cells (t.apply s a) ≡ take (t.inclusion.place a) (t.cells s)
+    ++ (t.added a ++ drop (t.inclusion.place a) (t.cells s))
 
 -- an original's base form adds cells of its own name alone, and a group's base form adds none
 abbrev pub HasOwnNames : {F S : Type 0} → Table F S → Family F → Type 0

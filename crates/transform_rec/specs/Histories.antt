@@ -39,5 +39,6 @@ pub record MayBeAddedTo (h : List OpData) (c : ContextData) (m : Member) : Type 
 -- the only form of a member over one history is the only one over every history with the same operations, whatever their order
 abbrev pub SameOperationsSameForm : {F : Type 0} → (F → F → F) → Type 0
 SameOperationsSameForm {F} over =
-    (h k : List OpData) (form other : Member → F) → IsValid h → IsValid k → Same h k → ((x : Member) → is_known h x ≡ true → form x ≡ other x)
+    (h k : List OpData) (form other : Member → F) → IsValid h → IsValid k → Same h k
+    → ((x : Member) → is_known h x ≡ true → form x ≡ other x)
     → (m : Member) (C : Member → Bool) (f : F) → IsOnlyFormAt over (family_in h form) m C f → IsOnlyFormAt over (family_in k other) m C f

@@ -16,7 +16,8 @@ abbrev pub inclusion_of : {F : Type 0} → Include.Ghosts F → Inclusion F
 inclusion_of i = record { Apart = i.Apart; IsBounded = i.IsBounded; over = i.over; place = i.place; extent = i.extent }
 
 -- what the trait of applying means for a type
-abbrev pub table_of : {F S : Type 0} → Include.Ghosts F → (S → F → Type 0) → (F → List (NameData × ℕ)) → (S → List (NameData × ℕ)) → (S → F → S) → Table F S
+abbrev pub table_of : {F S : Type 0} → Include.Ghosts F → (S → F → Type 0) → (F → List (NameData × ℕ)) → (S → List (NameData × ℕ))
+    → (S → F → S) → Table F S
 table_of i fits added cells apply = record { inclusion = inclusion_of i; Fits = fits; added = added; cells = cells; apply = apply }
 
 -- the members of a value of a type of bases, with their base contexts and base forms
@@ -30,12 +31,14 @@ OneForm {F} i b = (m : Member) (C : Member → Bool) → IsSound b m C → (f : 
 -- the family's members may be executed in the order of its list, and each list that may be executed has its forms
 abbrev pub CausalListsHaveForms : {F : Type 0} → Inclusion F → Family F → Type 0
 CausalListsHaveForms {F} i b =
-    IsCausalFrom b none b.members × ((xs : List Member) (C : Member → Bool) → IsCausalFrom b C xs → (fs : List F) × AreFormsFrom i.over b C xs fs)
+    IsCausalFrom b none b.members × ((xs : List Member) (C : Member → Bool) → IsCausalFrom b C xs
+    → (fs : List F) × AreFormsFrom i.over b C xs fs)
 
 -- the form of a member that may be added fits, and leaves a state at the set with that member
 abbrev pub AddableFormFits : {F S : Type 0} → Table F S → Family F → Type 0
 AddableFormFits {F} {S} t b =
-    (C : Member → Bool) (s : S) (x : Member) (f : F) → IsStateAt t b C s → Derived t.inclusion.over b x C f → t.Fits s f × IsStateAt t b (plus C x) (t.apply s f)
+    (C : Member → Bool) (s : S) (x : Member) (f : F) → IsStateAt t b C s → Derived t.inclusion.over b x C f
+    → t.Fits s f × IsStateAt t b (plus C x) (t.apply s f)
 
 -- two neighbours that may each be added may change places: the list stays causal, and gives the same state
 abbrev pub Swap : {F S : Type 0} → Table F S → Family F → Type 0
@@ -65,12 +68,15 @@ Restriction {F} {S} t b =
     (C D : Member → Bool) (s : S) (xs : List Member) (fs : List F) → IsStateAt t b C s → AreFormsFrom t.inclusion.over b C xs fs
     → IsSubset C D → ((x : Member) → D x ≡ true → IsSubset (b.context x) D)
     → IsCausalFrom b C (filter D xs)
-    × ((gs : List F) → AreFormsFrom t.inclusion.over b C (filter D xs) gs → filter (keep D) (t.cells (executed t.apply s fs)) ≡ t.cells (executed t.apply s gs))
+    × ((gs : List F) → AreFormsFrom t.inclusion.over b C (filter D xs) gs
+    → filter (keep D) (t.cells (executed t.apply s fs)) ≡ t.cells (executed t.apply s gs))
 
 -- the cells of a part with one member more are the cells of the part, with those of the member at the place of its form
 abbrev pub OneMoreMember : {F S : Type 0} → Table F S → Family F → Type 0
 OneMoreMember {F} {S} t b =
-    (C D : Member → Bool) (s : S) (xs : List Member) (fs : List F) (x : Member) (f : F) → IsStateAt t b C s → AreFormsFrom t.inclusion.over b C xs fs
+    (C D : Member → Bool) (s : S) (xs : List Member) (fs : List F) (x : Member) (f : F) → IsStateAt t b C s
+    → AreFormsFrom t.inclusion.over b C xs fs
     → IsSubset C D → ((z : Member) → D z ≡ true → (C z ≡ true) ⊎ IsIn z xs) → IsIn x xs → Derived t.inclusion.over b x D f
     → filter (keep (plus D x)) (t.cells (executed t.apply s fs))
-    ≡ take (t.inclusion.place f) (filter (keep D) (t.cells (executed t.apply s fs))) ++ (t.added f ++ drop (t.inclusion.place f) (filter (keep D) (t.cells (executed t.apply s fs))))
+    ≡ take (t.inclusion.place f) (filter (keep D) (t.cells (executed t.apply s fs)))
+    ++ (t.added f ++ drop (t.inclusion.place f) (filter (keep D) (t.cells (executed t.apply s fs))))

@@ -33,7 +33,8 @@ a_redone_delete_hides : cell_shown (marked (By first_delete 2) (marked (By first
 unfolding raise_in
 a_redone_delete_hides = refl
 
-one_of_two_deletes_undone_hides : cell_shown (marked (By first_delete 1) (marked (By other_delete 0) (marked (By first_delete 0) letter))) ≡ false
+one_of_two_deletes_undone_hides : cell_shown (marked (By first_delete 1) (marked (By other_delete 0) (marked (By first_delete 0) letter)))
+    ≡ false
 unfolding raise_in
 one_of_two_deletes_undone_hides = refl
 
@@ -43,7 +44,8 @@ an_undone_insert_is_hidden = refl
 a_redone_insert_is_shown : cell_shown (marked (Own 2) (marked (Own 1) letter)) ≡ true
 a_redone_insert_is_shown = refl
 
-deleters_are_sorted : (marked (By first_delete 0) (marked (By other_delete 0) letter)).deleters ≡ (first_delete, 0) ∷ ((other_delete, 0) ∷ [])
+deleters_are_sorted : (marked (By first_delete 0) (marked (By other_delete 0) letter)).deleters
+    ≡ (first_delete, 0) ∷ ((other_delete, 0) ∷ [])
 unfolding raise_in
 deleters_are_sorted = refl
 

@@ -32,7 +32,8 @@ reached k (undoing a n g c) t repeat =
 
 no_further : (h k : List OpData) (t : NameData) → All (IsRepeat k) h → generation_in h t ≤ generation_in k t
 no_further h k t all =
-    max_least (λ os. generation_in os t) (λ o. generation_at o t) refl (λ o os. refl) h nothing (generation_in k t) (λ i at. reached k _ t (all i nothing at))
+    max_least (λ os. generation_in os t) (λ o. generation_at o t) refl (λ o os. refl) h nothing (generation_in k t)
+    (λ i at. reached k _ t (all i nothing at))
   where
     nothing : OpData
     nothing = undoing 0 t 0 (record { counts = []; entries = [] })
@@ -57,7 +58,8 @@ same_back h k same = record {
       sym (same.generations t (ap (is_known h) (sym held.is) ∙ known_member h held.op at));
 }
 
-repeat_of : (h k : List OpData) (o : OpData) → IsValid h → Same h k → Contains h o → ((t : NameData) → generation_at o t ≤ generation_in h t) → IsRepeat k o
+repeat_of : (h k : List OpData) (o : OpData) → IsValid h → Same h k → Contains h o
+    → ((t : NameData) → generation_at o t ≤ generation_in h t) → IsRepeat k o
 repeat_of h k (inserting n p ch c) valid same at within = (same.originals (inserting n p ch c) refl).0 at
 repeat_of h k (deleting n p c) valid same at within = (same.originals (deleting n p c) refl).0 at
 repeat_of h k (undoing a t g c) valid same at within =
@@ -68,7 +70,8 @@ repeat_of h k (undoing a t g c) valid same at within =
 
 repeats : (h k : List OpData) → IsValid h → Same h k → All (IsRepeat k) h
 repeats h k valid same i d at =
-    repeat_of h k _ valid same (Contains-get_or h i d at) (λ t. max_bounds (λ os. generation_in os t) (λ o. generation_at o t) refl (λ o os. refl) h i d at)
+    repeat_of h k _ valid same (Contains-get_or h i d at)
+    (λ t. max_bounds (λ os. generation_in os t) (λ o. generation_at o t) refl (λ o os. refl) h i d at)
 
 pub same_is : (h k : List OpData) → IsValid h → IsValid k → (All (IsRepeat k) h × All (IsRepeat h) k) ↔ Same h k
 same_is h k v w = (λ both. same_from h k both.0 both.1, λ same. (repeats h k v same, repeats k h w (same_back h k same)))

@@ -18,7 +18,8 @@ use Rattle.uses.specs.Mail.{is_taken, last_first, AreTaken, IsReceived, IsUnrece
 -- ---- one operation
 
 -- bytes that begin with the frame of an operation aren't received for the reason for which that one isn't taken in
-pub unreceived : (bytes : List ℕ) (o : OpData) (used : ℕ) (s t : State) (why : Stop) → IsFrame bytes o used → IsUnsent o s t why → IsUnreceived bytes s t why
+pub unreceived : (bytes : List ℕ) (o : OpData) (used : ℕ) (s t : State) (why : Stop) → IsFrame bytes o used → IsUnsent o s t why
+    → IsUnreceived bytes s t why
 unreceived bytes o used s t stop.Memory begins unsent = record { op = o; used = used; begins = begins; state = unsent }
 unreceived bytes o used s t stop.Edit begins unsent = absurd unsent
 unreceived bytes o used s t stop.NoFrame begins unsent = absurd unsent
@@ -40,15 +41,18 @@ module _ (o : OpData) (formed : IsWellFormed o) (bytes : List ℕ) (is : bytes �
       is = record {
         well = formed;
         size = refl;
-        parts = is ∙ sym (ap (λ (rest : List ℕ). frame o ++ rest) (ap (drop (length (frame o))) is ∙ drop-length (frame o)) ∙ append-nil (frame o));
+        parts = is ∙ sym (ap (λ (rest : List ℕ). frame o ++ rest) (ap (drop (length (frame o))) is ∙ drop-length (frame o))
+            ∙ append-nil (frame o));
       };
     },
   )
 
   pub received_is : (s t : State) → IsReceived bytes s t → (t ≡ settled (delivered s o)) × (is_taken (judged s o) ≡ true)
   received_is s t received =
-      let same : received.op ≡ o = only received.op received.used received.begins in
-      (received.state ∙ ap (λ (p : OpData). settled (delivered s p)) same, subst (λ (p : OpData). is_taken (judged s p) ≡ true) same received.taken)
+      let same : received.op ≡ o = only received.op received.used received.begins in (
+        received.state ∙ ap (λ (p : OpData). settled (delivered s p)) same,
+        subst (λ (p : OpData). is_taken (judged s p) ≡ true) same received.taken,
+      )
 
   pub unsent_is : (s t : State) (why : Stop) → IsUnreceived bytes s t why → IsUnsent o s t why
   unsent_is s t stop.Memory broken = subst (λ (p : OpData). IsBrokenOff p s t) (only broken.op broken.used broken.begins) broken.state
@@ -76,7 +80,8 @@ module _ (s : State) (h : List OpData) (i : ℕ) (o : OpData) (at : slice_get h 
       ∙ ap (λ (p : OpData). p ∷ drop (i + 1) h) (get_or_from_slice_get h i o o at)
 
   -- with the one before these
-  pub sent_more : (t u : State) → AreSentFrom s h (i + 1) t → u ≡ settled (delivered t o) → is_taken (judged t o) ≡ true → AreSentFrom s h i u
+  pub sent_more : (t u : State) → AreSentFrom s h (i + 1) t → u ≡ settled (delivered t o) → is_taken (judged t o) ≡ true
+      → AreSentFrom s h i u
   sent_more t u sent state taken =
       let here : t ≡ last_first s (drop (i + 1) h) = sent.state in
       record {

@@ -55,7 +55,8 @@ flag_shown : (c : CellData) (b : Bool) → flag_of c ≡ 1 → cell_shown c ≡ 
 flag_shown c true e s = refl
 flag_shown c false e s = let no : flag_of c ≡ 0 = ap (λ t. if t then 1 else 0) s in absurd (omega arith)
 
-pub length-flat-spot : (ds : List (List CellData)) (j o : ℕ) → j < length ds → o < length (get_or ds j []) → length (flat (take j ds)) + o < length (flat ds)
+pub length-flat-spot : (ds : List (List CellData)) (j o : ℕ) → j < length ds → o < length (get_or ds j [])
+    → length (flat (take j ds)) + o < length (flat ds)
 length-flat-spot [] j o l w = absurd (omega arith)
 length-flat-spot (d ∷ ds) zero o l w = omega (arith, length-append d (flat ds))
 length-flat-spot (d ∷ ds) (suc j) o l w =
@@ -64,7 +65,8 @@ length-flat-spot (d ∷ ds) (suc j) o l w =
 
 -- the one after so many in the flags of its chunk is the v-th shown cell
 pub found_in_chunk : (cs : List (List CellData)) (i before at start v : ℕ) → IsPart (map shown_in cs) i before v
-    → IsSelected (map flag_of (get_or cs i [])) before at → start ≡ length (flat (take i cs)) → slice_get (shown_places (flat cs)) v ≡ Some (start + at)
+    → IsSelected (map flag_of (get_or cs i [])) before at → start ≡ length (flat (take i cs))
+    → slice_get (shown_places (flat cs)) v ≡ Some (start + at)
 found_in_chunk cs i before at start v part one from =
     let lt : i < length cs = let l = part.part in omega (arith, length-map cs shown_in) in
     let within : at < length (get_or cs i []) = let w = one.within in omega (arith, length-map (get_or cs i []) flag_of) in
@@ -72,10 +74,12 @@ found_in_chunk cs i before at start v part one from =
     let long = length-flat-spot cs i at lt within in
     let there : start + at < length (flat cs) = omega arith in
     let shown : cell_shown (get_or (get_or cs i []) at blank) ≡ true =
-    flag_shown (get_or (get_or cs i []) at blank) (cell_shown (get_or (get_or cs i []) at blank)) (sym (get_or-map flag_of (get_or cs i []) at blank 0 within) ∙ one.one) refl in
+    flag_shown (get_or (get_or cs i []) at blank) (cell_shown (get_or (get_or cs i []) at blank))
+    (sym (get_or-map flag_of (get_or cs i []) at blank 0 within) ∙ one.one) refl in
     let tells : TellsShown (flat cs) (start + at) true =
     λ c l. ap (λ k. cell_shown (get_or (flat cs) k c)) place
-    ∙ ap (λ (d : CellData). cell_shown d) (get_or-flat_map (λ (d : List CellData). d) cs i at [] c lt within ∙ get_or_default (get_or cs i []) at c blank within)
+    ∙ ap (λ (d : CellData). cell_shown d)
+    (get_or-flat_map (λ (d : List CellData). d) cs i at [] c lt within ∙ get_or_default (get_or cs i []) at c blank within)
     ∙ shown in
     let front : shown_before (flat cs) (start + at) ≡ shown_in (flat (take i cs)) + shown_in (take at (get_or cs i [])) =
     ap (λ (s : List CellData). length (filter cell_shown s)) (flat_take cs i at (start + at) lt (omega arith) (sym place))
@@ -89,7 +93,8 @@ found_in_chunk cs i before at start v part one from =
     found_at (flat cs) (start + at) v there tells (omega arith)
 
 -- there is one
-pub one_there : (cs : List (List CellData)) (i before v : ℕ) → IsPart (map shown_in cs) i before v → ones_of (map flag_of (get_or cs i [])) ≤ before → ⊥
+pub one_there : (cs : List (List CellData)) (i before v : ℕ) → IsPart (map shown_in cs) i before v
+    → ones_of (map flag_of (get_or cs i [])) ≤ before → ⊥
 one_there cs i before v part le =
     let lt : i < length cs = let l = part.part in omega (arith, length-map cs shown_in) in
     let w = part.within in

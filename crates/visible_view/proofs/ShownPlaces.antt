@@ -23,7 +23,8 @@ pub shown_at : (n : ℕ) (cs : List CellData) (i : ℕ) (d : CellData) → i < l
     → slice_get (places_from cell_shown n cs) (length (shown_cells (take i cs))) ≡ Some (n + i)
 shown_at n [] i d lt e = absurd (omega arith)
 shown_at n (c ∷ cs) zero d lt e =
-    ap (λ b. slice_get (if b then n ∷ places_from cell_shown (suc n) cs else places_from cell_shown (suc n) cs) 0) e ∙ ap (λ k. Some k) (omega arith)
+    ap (λ b. slice_get (if b then n ∷ places_from cell_shown (suc n) cs else places_from cell_shown (suc n) cs) 0) e
+    ∙ ap (λ k. Some k) (omega arith)
 shown_at n (c ∷ cs) (suc i) d lt e =
     further (cell_shown c) n c (places_from cell_shown (suc n) cs) (shown_cells (take i cs)) (Some (n + suc i))
     (shown_at (suc n) cs i d (omega arith) e ∙ ap (λ k. Some k) (omega arith))
@@ -38,7 +39,8 @@ cell_at : (n : ℕ) (cs : List CellData) (v p : ℕ) → slice_get (places_from 
 cell_at n [] v p e = cc
 cell_at n (c ∷ cs) v p e = by (λ w f. cell_at (suc n) cs w p f) (cell_shown c) refl v e
   where
-    by : ((w : ℕ) → slice_get (places_from cell_shown (suc n) cs) w ≡ Some p → IsCellOf (suc n) cs w p) → (b : Bool) → cell_shown c ≡ b → (w : ℕ)
+    by : ((w : ℕ) → slice_get (places_from cell_shown (suc n) cs) w ≡ Some p → IsCellOf (suc n) cs w p) → (b : Bool) → cell_shown c ≡ b
+        → (w : ℕ)
         → slice_get (if b then n ∷ places_from cell_shown (suc n) cs else places_from cell_shown (suc n) cs) w ≡ Some p
         → IsCellOf n (c ∷ cs) w p
     by rest true is zero f =
@@ -82,7 +84,8 @@ is_some_within (x ∷ xs) (suc v) = let rest = is_some_within xs v in (λ h. let
 
 -- there is a v-th shown cell exactly where so many are shown
 pub found_within : (cs : List CellData) (v : ℕ)
-    → (IsSome (slice_get (shown_places cs) v) → v < length (shown_cells cs)) × (v < length (shown_cells cs) → IsSome (slice_get (shown_places cs) v))
+    → (IsSome (slice_get (shown_places cs) v) → v < length (shown_cells cs))
+    × (v < length (shown_cells cs) → IsSome (slice_get (shown_places cs) v))
 found_within cs v =
     let e = length-places 0 cs in
     let i = is_some_within (shown_places cs) v in
@@ -107,12 +110,14 @@ found_if_placed cs v o e =
     let found = found_within cs v in
     (λ h. found.0 (ap (λ x. is_some x) (sym e) ∙ h), λ h. ap (λ x. is_some x) e ∙ found.1 h)
 
-pub after_placed : (cs : List CellData) (v p : ℕ) → (v ≡ 0 → ⊥) → Some p ≡ slice_get (shown_places cs) (v - 1) → Some (p + 1) ≡ slice_get (places_after (shown_places cs)) v
+pub after_placed : (cs : List CellData) (v p : ℕ) → (v ≡ 0 → ⊥) → Some p ≡ slice_get (shown_places cs) (v - 1)
+    → Some (p + 1) ≡ slice_get (places_after (shown_places cs)) v
 after_placed cs v p some e =
     let low : 0 < v = omega arith in
     ap (λ k. Some k) (omega arith) ∙ ap (λ o. option_map suc o) e ∙ sym (after_some (shown_places cs) v low)
 
-pub after_none : (cs : List CellData) (v : ℕ) → (v ≡ 0 → ⊥) → None ≡ slice_get (shown_places cs) (v - 1) → None ≡ slice_get (places_after (shown_places cs)) v
+pub after_none : (cs : List CellData) (v : ℕ) → (v ≡ 0 → ⊥) → None ≡ slice_get (shown_places cs) (v - 1)
+    → None ≡ slice_get (places_after (shown_places cs)) v
 after_none cs v some e =
     let low : 0 < v = omega arith in
     ap (λ o. option_map suc o) e ∙ sym (after_some (shown_places cs) v low)

@@ -28,7 +28,8 @@ flat_more cs i lt =
     ∙ ap (λ (c : List CellData). flat (take i cs) ++ c) (append-nil (get_or cs i []))
 
 -- one chunk more of the text
-pub text_more : (cs : List (List CellData)) (i : ℕ) → i < length cs → shown_text (flat (take (i + 1) cs)) ≡ shown_text (flat (take i cs)) ++ shown_text (get_or cs i [])
+pub text_more : (cs : List (List CellData)) (i : ℕ) → i < length cs
+    → shown_text (flat (take (i + 1) cs)) ≡ shown_text (flat (take i cs)) ++ shown_text (get_or cs i [])
 text_more cs i lt = ap (λ (s : List CellData). shown_text s) (flat_more cs i lt) ∙ shown_text-append (flat (take i cs)) (get_or cs i [])
 
 no_characters : (xs : List CellData) → length xs ≡ 0 → encode_utf8_all (map (λ c. c.ch) xs) ≡ []
@@ -36,14 +37,16 @@ no_characters [] e = refl
 no_characters (x ∷ xs) e = absurd (omega arith)
 
 -- a chunk without shown cells adds nothing
-pub text_same : (cs : List (List CellData)) (i : ℕ) → i < length cs → shown_in (get_or cs i []) ≡ 0 → shown_text (flat (take (i + 1) cs)) ≡ shown_text (flat (take i cs))
+pub text_same : (cs : List (List CellData)) (i : ℕ) → i < length cs → shown_in (get_or cs i []) ≡ 0
+    → shown_text (flat (take (i + 1) cs)) ≡ shown_text (flat (take i cs))
 text_same cs i lt none =
     text_more cs i lt
     ∙ ap (λ (bs : List ℕ). shown_text (flat (take i cs)) ++ bs) (no_characters (shown_cells (get_or cs i [])) none)
     ∙ append-nil (shown_text (flat (take i cs)))
 
 -- what a text began with is what it begins with after a part was taken back
-pub front_stays : (front more now next : List ℕ) (n m : ℕ) → now ≡ front ++ more → length front ≡ n → take m next ≡ now → take n next ≡ front
+pub front_stays : (front more now next : List ℕ) (n m : ℕ) → now ≡ front ++ more → length front ≡ n → take m next ≡ now
+    → take n next ≡ front
 front_stays front more now next n m is long kept =
     ap (λ (bs : List ℕ). take n bs) (sym (take-append-drop m next))
     ∙ ap (λ (bs : List ℕ). take n (bs ++ drop m next)) (kept ∙ is)

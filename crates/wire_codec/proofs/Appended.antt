@@ -15,6 +15,7 @@ front_of_front old x z more is stays =
     let shorter : length old ≤ length x = omega (arith, ap length is, length-append old more) in
     sym (take-take (length old) (length x) z shorter) ∙ ap (take (length old)) stays ∙ front_stays old more x is
 
-pub front_on : {A B : Type 0} (r : Result A B) (old x z more : List ℕ) → x ≡ old ++ more → OnErr r (take (length x) z ≡ x) → OnErr r (take (length old) z ≡ old)
+pub front_on : {A B : Type 0} (r : Result A B) (old x z more : List ℕ) → x ≡ old ++ more → OnErr r (take (length x) z ≡ x)
+    → OnErr r (take (length old) z ≡ old)
 front_on (Ok v) old x z more is stays = tt
 front_on (Err e) old x z more is stays = front_of_front old x z more is stays

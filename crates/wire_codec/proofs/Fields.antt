@@ -58,7 +58,8 @@ pub name_reads : Reads name_at name_bytes IsNamed
 unfolding name_at
 name_reads =
     in_words name_at name_bytes name_bytes (λ n. IsSite n.site × (((1 ≤ n.number) × (n.number ≤ NUMBERS)) × (n ≡ n))) IsNamed
-    (bind site_at (λ s m. ◌>>=◌ {B = NameData × LeftData} (number_at m) (λ k. Ok (record { site = s; number = k.0 }, k.1))) site_bytes (λ n. to_be_bytes w32 n.number) IsSite
+    (bind site_at (λ s m. ◌>>=◌ {B = NameData × LeftData} (number_at m) (λ k. Ok (record { site = s; number = k.0 }, k.1))) site_bytes
+    (λ n. to_be_bytes w32 n.number) IsSite
     (λ s n. ((1 ≤ n.number) × (n.number ≤ NUMBERS)) × (record { site = s; number = n.number } ≡ n)) (λ n. n.site)
     site_reads
     (λ s h. mapped number_at (to_be_bytes w32) (λ k. (1 ≤ k) × (k ≤ NUMBERS)) (λ k. record { site = s; number = k }) (λ n. n.number)
@@ -110,7 +111,8 @@ insert_of (Undo a t g) f = absurd (let no = f.1 in omega arith)
 insert_reads : Reads insert_at field_bytes (OfKind 1)
 unfolding insert_at
 insert_reads =
-    in_words insert_at (λ h. name_bytes (name_in h) ++ (to_be_bytes w32 (place_in h) ++ to_be_bytes w32 (char_in h))) field_bytes InsertParts (OfKind 1)
+    in_words insert_at (λ h. name_bytes (name_in h) ++ (to_be_bytes w32 (place_in h) ++ to_be_bytes w32 (char_in h))) field_bytes
+    InsertParts (OfKind 1)
     (bind {X = Head} name_at (λ n m. place_at m >>= λ p. ◌>>=◌ {B = Head × LeftData} (char_at p.1) (λ c. Ok (Insert n p.0 c.0, c.1)))
     name_bytes (λ h. to_be_bytes w32 (place_in h) ++ to_be_bytes w32 (char_in h)) IsNamed
     (λ n h. IsPlace (place_in h) × (IsScalar (char_in h) × (Insert n (place_in h) (char_in h) ≡ h))) name_in
@@ -149,7 +151,8 @@ delete_reads =
     (λ h f. ap field_bytes f.1.1)
 
 abbrev UndoParts : Head → Type 0
-UndoParts h = IsSite (author_in h) × (IsNamed (name_in h) × (IsGeneration (generation_in h) × (Undo (author_in h) (name_in h) (generation_in h) ≡ h)))
+UndoParts h =
+    IsSite (author_in h) × (IsNamed (name_in h) × (IsGeneration (generation_in h) × (Undo (author_in h) (name_in h) (generation_in h) ≡ h)))
 
 undo_of : (h : Head) → OfKind 3 h → UndoParts h
 undo_of (Insert n p ch) f = absurd (let no = f.1 in omega arith)
@@ -159,7 +162,8 @@ undo_of (Undo a t g) f = (f.0.0, (f.0.1.0, (f.0.1.1, refl)))
 undo_reads : Reads undo_at field_bytes (OfKind 3)
 unfolding undo_at
 undo_reads =
-    in_words undo_at (λ h. site_bytes (author_in h) ++ (name_bytes (name_in h) ++ to_be_bytes w16 (generation_in h))) field_bytes UndoParts (OfKind 3)
+    in_words undo_at (λ h. site_bytes (author_in h) ++ (name_bytes (name_in h) ++ to_be_bytes w16 (generation_in h))) field_bytes UndoParts
+    (OfKind 3)
     (bind {X = Head} site_at (λ a m. name_at m >>= λ t. ◌>>=◌ {B = Head × LeftData} (generation_at t.1) (λ g. Ok (Undo a t.0 g.0, g.1)))
     site_bytes (λ h. name_bytes (name_in h) ++ to_be_bytes w16 (generation_in h)) IsSite
     (λ a h. IsNamed (name_in h) × (IsGeneration (generation_in h) × (Undo a (name_in h) (generation_in h) ≡ h))) author_in

@@ -22,7 +22,8 @@ use Rattle.wire_codec.proofs.Growth.{bad_stays}
 use Rattle.wire_codec.proofs.Judgement.{judge_takes, judge_again, judge_more, judge_within}
 
 -- a frame is judged to be there, whatever follows it
-pub judged_only : (bytes : List ℕ) (o : OpData) (rest : List ℕ) → IsWellFormed o → bytes ≡ frame o ++ rest → judge bytes ≡ Ok (o, length (frame o))
+pub judged_only : (bytes : List ℕ) (o : OpData) (rest : List ℕ) → IsWellFormed o → bytes ≡ frame o ++ rest
+    → judge bytes ≡ Ok (o, length (frame o))
 judged_only bytes o rest well e = ap judge e ∙ judge_again o rest well
 
 -- ---- after a fault
@@ -61,15 +62,18 @@ decode_tells bytes (decoded.More n) fits e = judge_more bytes n (sym e)
 decode_tells bytes (decoded.Bad cause offset) fits e = bad_says bytes (fault cause offset) fits (sym e)
 
 -- the counts of an operation that was judged good
-pub judged_counts : (bytes : List ℕ) (judged : Result (LentOp × ℕ) Refused) → IsBytes bytes → judged_as op_seen judged ≡ judge bytes → IfOk judged (λ p. AreCounts 0 p.0.context.counts)
+pub judged_counts : (bytes : List ℕ) (judged : Result (LentOp × ℕ) Refused) → IsBytes bytes → judged_as op_seen judged ≡ judge bytes
+    → IfOk judged (λ p. AreCounts 0 p.0.context.counts)
 judged_counts bytes (Ok p) fits e =
     let o = p.0 in
     let in_range = (judge_takes bytes (op_seen o) p.1 fits (sym e)).well.in_range in
-    subst (λ (c : ContextData). AreCounts 0 c.counts) (context_of-op_of o.head (context_seen o.context)) (context_in_range (op_seen o) in_range).is.counts
+    subst (λ (c : ContextData). AreCounts 0 c.counts) (context_of-op_of o.head (context_seen o.context))
+    (context_in_range (op_seen o) in_range).is.counts
 judged_counts bytes (Err r) fits e = tt
 
 -- out of memory only where there is a frame
-pub judged_frame : (bytes : List ℕ) (judged : Result (LentOp × ℕ) Refused) → IsBytes bytes → judged_as op_seen judged ≡ judge bytes → IsOk judged → HasFrame bytes
+pub judged_frame : (bytes : List ℕ) (judged : Result (LentOp × ℕ) Refused) → IsBytes bytes → judged_as op_seen judged ≡ judge bytes
+    → IsOk judged → HasFrame bytes
 judged_frame bytes (Ok p) fits e ok = has_frame bytes fits (subst (λ (j : Result (OpData × ℕ) Refused). IsOk j) e refl)
 judged_frame bytes (Err r) fits e ok = absurd (let no = ok in cc)
 
@@ -77,5 +81,6 @@ judged_frame bytes (Err r) fits e ok = absurd (let no = ok in cc)
 pub used_within : (bytes : List ℕ) (o : OpData) (used : ℕ) → IsFrame bytes o used → used ≤ length bytes
 used_within bytes o used is =
     let size = is.size in
-    let long : length bytes ≡ length (frame o) + length (drop used bytes) = ap length is.parts ∙ length-append (frame o) (drop used bytes) in
+    let long : length bytes ≡ length (frame o) + length (drop used bytes) =
+    ap length is.parts ∙ length-append (frame o) (drop used bytes) in
     omega (arith, size, long)

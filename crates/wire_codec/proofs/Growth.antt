@@ -35,9 +35,12 @@ bad_stays bytes more f e =
                   let short_all : ltb longest (length_of all) ≡ false = ap (λ (n : ℕ). ltb longest n) same ∙ short.0 in
                   let there_all : ltb (length all) (4 + length_of all) ≡ false = le-ltb _ _ (omega (arith, enough, total, same)) in
                   let body_long : size ≤ length (drop 4 bytes) = omega (arith, enough, length-drop 4 bytes) in
-                  let text : take (length_of all) (drop 4 all) ≡ take size (drop 4 bytes) = ap (λ (n : ℕ). take n (drop 4 all)) same ∙ (ap (take size) (drop-append-le 4 bytes more long) ∙ take-append-le size (drop 4 bytes) more body_long) in
+                  let text : take (length_of all) (drop 4 all) ≡ take size (drop 4 bytes) =
+                  ap (λ (n : ℕ). take n (drop 4 all)) same
+                  ∙ (ap (take size) (drop-append-le 4 bytes more long) ∙ take-append-le size (drop 4 bytes) more body_long) in
                   let good : judged (4 + length_of all) (body_at (left_at 4 (take (length_of all) (drop 4 all)))) ≡ whole =
-                  ap (λ (n : ℕ). judged (4 + n) (body_at (left_at 4 (take (length_of all) (drop 4 all))))) same ∙ ap (λ (t : List ℕ). judged (4 + size) (body_at (left_at 4 t))) text in
+                  ap (λ (n : ℕ). judged (4 + n) (body_at (left_at 4 (take (length_of all) (drop 4 all))))) same
+                  ∙ ap (λ (t : List ℕ). judged (4 + size) (body_at (left_at 4 t))) text in
                   cond-false _ _ _ four_all ∙ (cond-false _ _ _ short_all ∙ (cond-false _ _ _ there_all ∙ (good ∙ there.1)))
             ]
           ]

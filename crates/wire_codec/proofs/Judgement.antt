@@ -53,7 +53,8 @@ body_again o at well =
       read,
       own_to o well.own,
       target_to o well.target,
-      stray_again (context_of o) (entries_begin o (at + length (body_bytes o))) (context_of o).entries (has_no_stray (context_of o) entries well.stray),
+      stray_again (context_of o) (entries_begin o (at + length (body_bytes o))) (context_of o).entries
+          (has_no_stray (context_of o) entries well.stray),
     ) refl
 
 body_faults : (l : LeftData) (f : Fault) → IsBytes l.bytes → l.at ≡ 4 → body_at l ≡ Err f → f.offset ≤ 4 + length l.bytes
@@ -73,12 +74,13 @@ body_faults l f fits start e =
               | inl here ↦ omega (arith, start, here, ends, took.place, long)
               | inr after_own ↦ elim (want_err (has_target x) Target own_at _ f after_own) [
                 | inl here ↦ omega (arith, start, here, ends, took.place, long)
-                | inr after_target ↦ elim (bind_err (stray_from (context_of x) (entries_begin x m.at) (context_of x).entries) (λ _. Ok x) f after_target) [
-                  | inl here ↦
-                      let bound = stray_faults (context_of x) (entries_begin x m.at) (context_of x).entries f here in
-                      omega (arith, start, bound, ends, took.place, long)
-                  | inr on ↦ absurd (let no = on.2 in cc)
-                ]
+                | inr after_target ↦ elim (bind_err (stray_from (context_of x) (entries_begin x m.at) (context_of x).entries) (λ _. Ok x) f
+                    after_target) [
+                      | inl here ↦
+                          let bound = stray_faults (context_of x) (entries_begin x m.at) (context_of x).entries f here in
+                          omega (arith, start, bound, ends, took.place, long)
+                      | inr on ↦ absurd (let no = on.2 in cc)
+                    ]
               ]
             ]
           ]
@@ -101,13 +103,15 @@ whole_body bytes = body_at (left_at 4 (take (length_of bytes) (drop 4 bytes)))
 
 -- the answers of the rules, one after the other
 after_longest : List ℕ → Result (OpData × ℕ) Refused
-after_longest bytes = cond (ltb (length bytes) (4 + length_of bytes)) (Err (More (4 + length_of bytes))) (judged (4 + length_of bytes) (whole_body bytes))
+after_longest bytes =
+    cond (ltb (length bytes) (4 + length_of bytes)) (Err (More (4 + length_of bytes))) (judged (4 + length_of bytes) (whole_body bytes))
 
 pub judge_takes : (bytes : List ℕ) (o : OpData) (used : ℕ) → IsBytes bytes → judge bytes ≡ Ok (o, used) → IsFrame bytes o used
 unfolding judge after_longest
 judge_takes bytes o used fits e =
     let size = length_of bytes in
-    let four = cond_ok (ltb (length bytes) 4) (More 4) (cond (ltb longest size) (Err (Bad (fault TooLong 0))) (after_longest bytes)) (o, used) e in
+    let four =
+    cond_ok (ltb (length bytes) 4) (More 4) (cond (ltb longest size) (Err (Bad (fault TooLong 0))) (after_longest bytes)) (o, used) e in
     let short = cond_ok (ltb longest size) (Bad (fault TooLong 0)) (after_longest bytes) (o, used) four.1 in
     let there = cond_ok (ltb (length bytes) (4 + size)) (More (4 + size)) (judged (4 + size) (whole_body bytes)) (o, used) short.1 in
     let good = judged_ok (4 + size) used (whole_body bytes) o there.1 in
@@ -119,7 +123,9 @@ judge_takes bytes o used fits e =
     let body_len : length (body_bytes o) ≡ size = ap length (sym body.0) ∙ text_len in
     let front_len : length (take 4 bytes) ≡ 4 = omega (arith, long, length-take 4 bytes) in
     let front : to_be_bytes w32 size ≡ take 4 bytes = be_bytes_4 (take 4 bytes) size front_len (IsBytes-take 4 bytes fits) refl in
-    let spelled : frame o ≡ take 4 bytes ++ text = ap (λ (n : ℕ). to_be_bytes w32 n ++ body_bytes o) body_len ∙ ap (λ (t : List ℕ). t ++ body_bytes o) front ∙ ap (λ (t : List ℕ). take 4 bytes ++ t) (sym body.0) in
+    let spelled : frame o ≡ take 4 bytes ++ text =
+    ap (λ (n : ℕ). to_be_bytes w32 n ++ body_bytes o) body_len ∙ ap (λ (t : List ℕ). t ++ body_bytes o) front
+    ∙ ap (λ (t : List ℕ). take 4 bytes ++ t) (sym body.0) in
     let frame_len : length (frame o) ≡ 4 + size = omega (arith, body_len) in
     let parts : bytes ≡ frame o ++ drop size (drop 4 bytes) =
     sym (take-append-drop 4 bytes)
@@ -127,7 +133,8 @@ judge_takes bytes o used fits e =
     ∙ sym (append_assoc (take 4 bytes) text (drop size (drop 4 bytes)))
     ∙ ap (λ (t : List ℕ). t ++ drop size (drop 4 bytes)) (sym spelled) in
     let used_len : length (frame o) ≡ used = frame_len ∙ good.1 in
-    let rest : drop used bytes ≡ drop size (drop 4 bytes) = ap (drop used) parts ∙ drop_at (frame o) (drop size (drop 4 bytes)) used used_len in
+    let rest : drop used bytes ≡ drop size (drop 4 bytes) =
+    ap (drop used) parts ∙ drop_at (frame o) (drop size (drop 4 bytes)) used used_len in
     record { well = body.1; size = sym used_len; parts = parts ∙ ap (λ (t : List ℕ). frame o ++ t) (sym rest) }
 
 pub judge_again : (o : OpData) (rest : List ℕ) → IsWellFormed o → judge (frame o ++ rest) ≡ Ok (o, length (frame o))
@@ -145,7 +152,8 @@ judge_again o rest well =
     let there : ltb (length bytes) (4 + length_of bytes) ≡ false = le-ltb _ _ (omega (arith, size, total)) in
     let text : take (length_of bytes) (drop 4 bytes) ≡ body = ap (λ (k : ℕ). take k (body ++ rest)) size ∙ take_at body rest n refl in
     let read : whole_body bytes ≡ Ok o = ap (λ (t : List ℕ). body_at (left_at 4 t)) text ∙ body_again o 4 well in
-    let good : judged (4 + length_of bytes) (whole_body bytes) ≡ Ok (o, length (frame o)) = ap (judged (4 + length_of bytes)) read ∙ ap (λ (k : ℕ). Ok (o, 4 + k)) size ∙ ap (λ (k : ℕ). Ok (o, k)) frame_len in
+    let good : judged (4 + length_of bytes) (whole_body bytes) ≡ Ok (o, length (frame o)) =
+    ap (judged (4 + length_of bytes)) read ∙ ap (λ (k : ℕ). Ok (o, 4 + k)) size ∙ ap (λ (k : ℕ). Ok (o, k)) frame_len in
     cond-false _ _ _ four ∙ (cond-false _ _ _ not_long ∙ (cond-false _ _ _ there ∙ good))
 
 -- a fault is in the bytes or at their end
@@ -157,15 +165,18 @@ judge_within bytes f fits e =
       | inl never ↦ absurd (let is = never.1 in cc)
       | inr four ↦ elim (cond_err (ltb longest size) (Bad (fault TooLong 0)) (Bad f) (after_longest bytes) four.1) [
         | inl here ↦ let same : fault TooLong 0 ≡ f = (let is = here.1 in cc) in omega (arith, ap (λ (x : Fault). x.offset) same)
-        | inr short ↦ elim (cond_err (ltb (length bytes) (4 + size)) (More (4 + size)) (Bad f) (judged (4 + size) (whole_body bytes)) short.1) [
-          | inl never ↦ absurd (let is = never.1 in cc)
-          | inr there ↦
-              let bad = judged_err (4 + size) (whole_body bytes) (Bad f) there.1 in
-              let same : bad.0 ≡ f = (let is = bad.2 in cc) in
-              let inside = body_faults (left_at 4 (take size (drop 4 bytes))) bad.0 (IsBytes-take size (drop 4 bytes) (IsBytes-drop 4 bytes fits)) refl bad.1 in
-              let enough = ltb-false _ _ there.0 in
-              omega (arith, inside, enough, ap (λ (x : Fault). x.offset) same, length-take size (drop 4 bytes), length-drop 4 bytes)
-        ]
+        | inr short ↦ elim (cond_err (ltb (length bytes) (4 + size)) (More (4 + size)) (Bad f) (judged (4 + size) (whole_body bytes))
+            short.1) [
+              | inl never ↦ absurd (let is = never.1 in cc)
+              | inr there ↦
+                  let bad = judged_err (4 + size) (whole_body bytes) (Bad f) there.1 in
+                  let same : bad.0 ≡ f = (let is = bad.2 in cc) in
+                  let inside =
+                  body_faults (left_at 4 (take size (drop 4 bytes))) bad.0 (IsBytes-take size (drop 4 bytes) (IsBytes-drop 4 bytes fits))
+                  refl bad.1 in
+                  let enough = ltb-false _ _ there.0 in
+                  omega (arith, inside, enough, ap (λ (x : Fault). x.offset) same, length-take size (drop 4 bytes), length-drop 4 bytes)
+            ]
       ]
     ]
 
@@ -178,10 +189,11 @@ judge_more bytes n e =
       | inl here ↦ let same : 4 ≡ n = (let is = here.1 in cc) in omega (arith, same, ltb-true _ _ here.0)
       | inr four ↦ elim (cond_err (ltb longest size) (Bad (fault TooLong 0)) (More n) (after_longest bytes) four.1) [
         | inl never ↦ absurd (let is = never.1 in cc)
-        | inr short ↦ elim (cond_err (ltb (length bytes) (4 + size)) (More (4 + size)) (More n) (judged (4 + size) (whole_body bytes)) short.1) [
-          | inl here ↦ let same : 4 + size ≡ n = (let is = here.1 in cc) in omega (arith, same, ltb-true _ _ here.0)
-          | inr there ↦ let bad = judged_err (4 + size) (whole_body bytes) (More n) there.1 in absurd (let never = bad.2 in cc)
-        ]
+        | inr short ↦ elim (cond_err (ltb (length bytes) (4 + size)) (More (4 + size)) (More n) (judged (4 + size) (whole_body bytes))
+            short.1) [
+              | inl here ↦ let same : 4 + size ≡ n = (let is = here.1 in cc) in omega (arith, same, ltb-true _ _ here.0)
+              | inr there ↦ let bad = judged_err (4 + size) (whole_body bytes) (More n) there.1 in absurd (let never = bad.2 in cc)
+            ]
       ]
     ]
 
@@ -190,7 +202,8 @@ judge_more bytes n e =
 -- bytes that begin with a frame begin with no other, and two operations share no frame
 pub frame_once : (a b : OpData) (x y : List ℕ) → IsWellFormed a → IsWellFormed b → frame a ++ x ≡ frame b ++ y → a ≡ b
 frame_once a b x y well_a well_b e =
-    let both : ◌≡◌ {A = Result (OpData × ℕ) Refused} (Ok (a, length (frame a))) (Ok (b, length (frame b))) = sym (judge_again a x well_a) ∙ ap judge e ∙ judge_again b y well_b in
+    let both : ◌≡◌ {A = Result (OpData × ℕ) Refused} (Ok (a, length (frame a))) (Ok (b, length (frame b))) =
+    sym (judge_again a x well_a) ∙ ap judge e ∙ judge_again b y well_b in
     let same : ◌≡◌ {A = OpData × ℕ} (a, length (frame a)) (b, length (frame b)) = cc in
     ap (λ (p : OpData × ℕ). p.0) same
 

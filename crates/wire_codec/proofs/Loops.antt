@@ -35,11 +35,13 @@ module _ (count : ℕ) (start : LeftData) where
   counts_begin = begins count_at site_after raw_count count_len count_bytes IsCount count_reads (λ p. refl) count_back count 0 start
 
   pub counts_go_on : (i low : ℕ) (now m : LeftData) (p : ℕ × ℕ) → IsBytes start.bytes → i < count → count_at low now ≡ Ok (p, m)
-      → IsUnderWay count_at site_after raw_count count_len count 0 start i low now → IsUnderWay count_at site_after raw_count count_len count 0 start (i + 1) (site_after p) m
+      → IsUnderWay count_at site_after raw_count count_len count 0 start i low now
+      → IsUnderWay count_at site_after raw_count count_len count 0 start (i + 1) (site_after p) m
   counts_go_on i low now m p fits lt h way =
       let more : suc i ≡ i + 1 = omega arith in
       subst (λ (k : ℕ). IsUnderWay count_at site_after raw_count count_len count 0 start k (site_after p) m) more
-      (goes_on count_at site_after raw_count count_len count_bytes IsCount count_reads (λ p. refl) count_back count 0 start i low now m p fits lt h way)
+      (goes_on count_at site_after raw_count count_len count_bytes IsCount count_reads (λ p. refl) count_back count 0 start i low now m p
+      fits lt h way)
 
   pub counts_end : (i low : ℕ) (now : LeftData) (f : Fault) → i < count → count_at low now ≡ Err f
       → IsUnderWay count_at site_after raw_count count_len count 0 start i low now → many count_at site_after count 0 start ≡ Err f
@@ -52,24 +54,31 @@ module _ (count : ℕ) (start : LeftData) where
   pub entries_begin : IsUnderWay entry_at name_of raw_entry entry_len count None start 0 None start
   entries_begin = begins entry_at name_of raw_entry entry_len entry_bytes IsEntry entry_reads (λ e. refl) entry_back count None start
 
-  pub entries_go_on : (i : ℕ) (before : Option NameData) (now m : LeftData) (e : NameData × ℕ) → IsBytes start.bytes → i < count → entry_at before now ≡ Ok (e, m)
-      → IsUnderWay entry_at name_of raw_entry entry_len count None start i before now → IsUnderWay entry_at name_of raw_entry entry_len count None start (i + 1) (name_of e) m
+  pub entries_go_on : (i : ℕ) (before : Option NameData) (now m : LeftData) (e : NameData × ℕ) → IsBytes start.bytes → i < count
+      → entry_at before now ≡ Ok (e, m)
+      → IsUnderWay entry_at name_of raw_entry entry_len count None start i before now
+      → IsUnderWay entry_at name_of raw_entry entry_len count None start (i + 1) (name_of e) m
   entries_go_on i before now m e fits lt h way =
       let more : suc i ≡ i + 1 = omega arith in
       subst (λ (k : ℕ). IsUnderWay entry_at name_of raw_entry entry_len count None start k (name_of e) m) more
-      (goes_on entry_at name_of raw_entry entry_len entry_bytes IsEntry entry_reads (λ e. refl) entry_back count None start i before now m e fits lt h way)
+      (goes_on entry_at name_of raw_entry entry_len entry_bytes IsEntry entry_reads (λ e. refl) entry_back count None start i before now m e
+      fits lt h way)
 
   pub entries_end : (i : ℕ) (before : Option NameData) (now : LeftData) (f : Fault) → i < count → entry_at before now ≡ Err f
       → IsUnderWay entry_at name_of raw_entry entry_len count None start i before now → many entry_at name_of count None start ≡ Err f
   entries_end = ends entry_at name_of raw_entry entry_len entry_bytes IsEntry entry_reads (λ e. refl) entry_back count None start
 
-  pub entries_done : (i : ℕ) (before : Option NameData) (now : LeftData) → count ≤ i → IsUnderWay entry_at name_of raw_entry entry_len count None start i before now
+  pub entries_done : (i : ℕ) (before : Option NameData) (now : LeftData) → count ≤ i
+      → IsUnderWay entry_at name_of raw_entry entry_len count None start i before now
       → many entry_at name_of count None start ≡ Ok (elements raw_entry entry_len i start.bytes, now)
   entries_done = is_done entry_at name_of raw_entry entry_len entry_bytes IsEntry entry_reads (λ e. refl) entry_back count None start
 
   -- what was read is in order
-  pub entries_are : (i : ℕ) (before : Option NameData) (now : LeftData) → IsBytes start.bytes → count ≤ i → IsUnderWay entry_at name_of raw_entry entry_len count None start i before now
+  pub entries_are : (i : ℕ) (before : Option NameData) (now : LeftData) → IsBytes start.bytes → count ≤ i
+      → IsUnderWay entry_at name_of raw_entry entry_len count None start i before now
       → AreEntries (elements raw_entry entry_len i start.bytes)
   entries_are i before now fits le way =
       let all = entries_done i before now le way in
-      entries_in_order (elements raw_entry entry_len i start.bytes) ((many_reads entry_at name_of entry_bytes IsEntry entry_reads count None).takes start now (elements raw_entry entry_len i start.bytes) fits all).1.1
+      entries_in_order (elements raw_entry entry_len i start.bytes)
+      ((many_reads entry_at name_of entry_bytes IsEntry entry_reads count None).takes start now
+      (elements raw_entry entry_len i start.bytes) fits all).1.1

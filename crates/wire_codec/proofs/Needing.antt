@@ -21,35 +21,45 @@ asked n m e = cc
 
 -- ---- the undone names
 
-entries_stop : (counts : List (ℕ × ℕ)) (begin stop : ℕ) (d : ContextData) (used : ℕ) (r : Found (List (NameData × ℕ))) → judge_entries counts begin stop r ≡ Ok (d, used) → used ≡ stop
+entries_stop : (counts : List (ℕ × ℕ)) (begin stop : ℕ) (d : ContextData) (used : ℕ) (r : Found (List (NameData × ℕ)))
+    → judge_entries counts begin stop r ≡ Ok (d, used) → used ≡ stop
 entries_stop counts begin stop d used r is =
     let read = entries_done counts begin stop d used r is in
     let c : ContextData = record { counts = counts; entries = read.0.0 } in
     sym (stray_done c d stop used (stray_from c begin read.0.0) read.2).2
 
-entries_ask : (counts : List (ℕ × ℕ)) (begin stop m : ℕ) (r : Found (List (NameData × ℕ))) → judge_entries counts begin stop r ≡ Err (More m) → ⊥
+entries_ask : (counts : List (ℕ × ℕ)) (begin stop m : ℕ) (r : Found (List (NameData × ℕ)))
+    → judge_entries counts begin stop r ≡ Err (More m) → ⊥
 entries_ask counts begin stop m r is =
     let bad = entries_bad counts begin stop (More m) r is in
     let never : Bad bad.0 ≡ More m = bad.1 in
     cc
 
 -- they end where their number says
-named_stops : (counts : List (ℕ × ℕ)) (at : ℕ) (bytes : List ℕ) (d : ContextData) (used : ℕ) → judge_named counts at bytes ≡ Ok (d, used) → used ≡ at + (4 + entry_len * length_of bytes)
+named_stops : (counts : List (ℕ × ℕ)) (at : ℕ) (bytes : List ℕ) (d : ContextData) (used : ℕ) → judge_named counts at bytes ≡ Ok (d, used)
+    → used ≡ at + (4 + entry_len * length_of bytes)
 unfolding judge_named entries_read
 named_stops counts at bytes d used e =
     let stop = at + (4 + entry_len * length_of bytes) in
-    let four = cond_ok (ltb (length bytes) 4) (More (at + 4)) (cond (ltb (length bytes) (4 + entry_len * length_of bytes)) (Err (More stop)) (judge_entries counts (at + 4) stop (entries_read bytes at))) (d, used) e in
-    let there = cond_ok (ltb (length bytes) (4 + entry_len * length_of bytes)) (More stop) (judge_entries counts (at + 4) stop (entries_read bytes at)) (d, used) four.1 in
+    let four =
+    cond_ok (ltb (length bytes) 4) (More (at + 4))
+    (cond (ltb (length bytes) (4 + entry_len * length_of bytes)) (Err (More stop))
+    (judge_entries counts (at + 4) stop (entries_read bytes at))) (d, used) e in
+    let there =
+    cond_ok (ltb (length bytes) (4 + entry_len * length_of bytes)) (More stop)
+    (judge_entries counts (at + 4) stop (entries_read bytes at)) (d, used) four.1 in
     entries_stop counts (at + 4) stop d used (entries_read bytes at) there.1
 
 -- more bytes are asked for up to their number, or, once that is there, up to their end
 named_asks : (counts : List (ℕ × ℕ)) (at : ℕ) (bytes : List ℕ) (m : ℕ) → judge_named counts at bytes ≡ Err (More m)
-    → ((length bytes < 4) × (m ≡ at + 4)) ⊎ ((4 ≤ length bytes) × (length bytes < 4 + entry_len * length_of bytes) × (m ≡ at + (4 + entry_len * length_of bytes)))
+    → ((length bytes < 4) × (m ≡ at + 4))
+    ⊎ ((4 ≤ length bytes) × (length bytes < 4 + entry_len * length_of bytes) × (m ≡ at + (4 + entry_len * length_of bytes)))
 unfolding judge_named entries_read
 named_asks counts at bytes m e =
     let stop = at + (4 + entry_len * length_of bytes) in
     let last = judge_entries counts (at + 4) stop (entries_read bytes at) in
-    elim (cond_err (ltb (length bytes) 4) (More (at + 4)) (More m) (cond (ltb (length bytes) (4 + entry_len * length_of bytes)) (Err (More stop)) last) e) [
+    elim (cond_err (ltb (length bytes) 4) (More (at + 4)) (More m)
+    (cond (ltb (length bytes) (4 + entry_len * length_of bytes)) (Err (More stop)) last) e) [
       | inl few ↦ inl (ltb-true _ _ few.0, sym (asked (at + 4) m few.1))
       | inr four ↦ elim (cond_err (ltb (length bytes) (4 + entry_len * length_of bytes)) (More stop) (More m) last four.1) [
         | inl short ↦ inr (ltb-false _ _ four.0, ltb-true _ _ short.0, sym (asked stop m short.1))
@@ -62,38 +72,49 @@ named_asks counts at bytes m e =
 after_counts : List ℕ → List ℕ
 after_counts bytes = drop (count_len * sites_of bytes) (drop 1 bytes)
 
-counted_stops : (at : ℕ) (rest : List ℕ) (d : ContextData) (used : ℕ) (r : Found (List (ℕ × ℕ))) → judge_counted at rest r ≡ Ok (d, used) → used ≡ at + (4 + entry_len * length_of rest)
+counted_stops : (at : ℕ) (rest : List ℕ) (d : ContextData) (used : ℕ) (r : Found (List (ℕ × ℕ))) → judge_counted at rest r ≡ Ok (d, used)
+    → used ≡ at + (4 + entry_len * length_of rest)
 counted_stops at rest d used (Ok x) e = named_stops x.0 at rest d used e
 counted_stops at rest d used (Err f) e = absurd (let no = e in cc)
 
 counted_asks : (at : ℕ) (rest : List ℕ) (m : ℕ) (r : Found (List (ℕ × ℕ))) → judge_counted at rest r ≡ Err (More m)
-    → ((length rest < 4) × (m ≡ at + 4)) ⊎ ((4 ≤ length rest) × (length rest < 4 + entry_len * length_of rest) × (m ≡ at + (4 + entry_len * length_of rest)))
+    → ((length rest < 4) × (m ≡ at + 4))
+    ⊎ ((4 ≤ length rest) × (length rest < 4 + entry_len * length_of rest) × (m ≡ at + (4 + entry_len * length_of rest)))
 counted_asks at rest m (Ok x) e = named_asks x.0 at rest m e
 counted_asks at rest m (Err f) e = absurd (let no = e in cc)
 
-state_stops : (bytes : List ℕ) (d : ContextData) (used : ℕ) → judge_state bytes ≡ Ok (d, used) → used ≡ (1 + count_len * sites_of bytes) + (4 + entry_len * length_of (after_counts bytes))
+state_stops : (bytes : List ℕ) (d : ContextData) (used : ℕ) → judge_state bytes ≡ Ok (d, used)
+    → used ≡ (1 + count_len * sites_of bytes) + (4 + entry_len * length_of (after_counts bytes))
 unfolding judge_state counts_read counted after_counts
 state_stops bytes d used e =
     let n = sites_of bytes in
-    let some = cond_ok (ltb (length bytes) 1) (More 1) (cond (ltb FRAME_SITES n) (Err (Bad (fault Range 0))) (cond (ltb (length bytes) (1 + count_len * n)) (Err (More (1 + count_len * n))) (counted bytes))) (d, used) e in
-    let few = cond_ok (ltb FRAME_SITES n) (Bad (fault Range 0)) (cond (ltb (length bytes) (1 + count_len * n)) (Err (More (1 + count_len * n))) (counted bytes)) (d, used) some.1 in
+    let some =
+    cond_ok (ltb (length bytes) 1) (More 1)
+    (cond (ltb FRAME_SITES n) (Err (Bad (fault Range 0)))
+    (cond (ltb (length bytes) (1 + count_len * n)) (Err (More (1 + count_len * n))) (counted bytes))) (d, used) e in
+    let few =
+    cond_ok (ltb FRAME_SITES n) (Bad (fault Range 0))
+    (cond (ltb (length bytes) (1 + count_len * n)) (Err (More (1 + count_len * n))) (counted bytes)) (d, used) some.1 in
     let there = cond_ok (ltb (length bytes) (1 + count_len * n)) (More (1 + count_len * n)) (counted bytes) (d, used) few.1 in
     counted_stops (1 + count_len * n) (after_counts bytes) d used (counts_read bytes) there.1
 
 -- what the whole bytes begin with has what their front asks for
-pub state_needs : (bytes tail : List ℕ) (d : ContextData) (used m : ℕ) → judge_state bytes ≡ Err (More m) → judge_state (bytes ++ tail) ≡ Ok (d, used) → m ≤ used
+pub state_needs : (bytes tail : List ℕ) (d : ContextData) (used m : ℕ) → judge_state bytes ≡ Err (More m)
+    → judge_state (bytes ++ tail) ≡ Ok (d, used) → m ≤ used
 unfolding judge_state counts_read counted after_counts
 state_needs bytes tail d used m e good =
     let all = bytes ++ tail in
     let n = sites_of bytes in
     let stop = state_stops all d used good in
     let at = 1 + count_len * n in
-    elim (cond_err (ltb (length bytes) 1) (More 1) (More m) (cond (ltb FRAME_SITES n) (Err (Bad (fault Range 0))) (cond (ltb (length bytes) at) (Err (More at)) (counted bytes))) e) [
+    elim (cond_err (ltb (length bytes) 1) (More 1) (More m)
+    (cond (ltb FRAME_SITES n) (Err (Bad (fault Range 0))) (cond (ltb (length bytes) at) (Err (More at)) (counted bytes))) e) [
       | inl none ↦ let one = asked 1 m none.1 in omega (arith, one, stop)
       | inr some ↦
           let long = ltb-false _ _ some.0 in
           let same : sites_of all ≡ n = ap (λ (t : List ℕ). from_be_bytes w8 t) (take-append-le 1 bytes tail long) in
-          elim (cond_err (ltb FRAME_SITES n) (Bad (fault Range 0)) (More m) (cond (ltb (length bytes) at) (Err (More at)) (counted bytes)) some.1) [
+          elim (cond_err (ltb FRAME_SITES n) (Bad (fault Range 0)) (More m) (cond (ltb (length bytes) at) (Err (More at)) (counted bytes))
+          some.1) [
             | inl bad ↦ absurd (let no = bad.1 in cc)
             | inr few ↦ elim (cond_err (ltb (length bytes) at) (More at) (More m) (counted bytes) few.1) [
               | inl short ↦ let is = asked at m short.1 in omega (arith, is, stop, same)
@@ -102,12 +123,14 @@ state_needs bytes tail d used m e good =
                   let inner : drop 1 all ≡ drop 1 bytes ++ tail = drop-append-le 1 bytes tail long in
                   let rest : after_counts all ≡ after_counts bytes ++ tail =
                   ap (λ (k : ℕ). drop (count_len * k) (drop 1 all)) same
-                  ∙ (ap (drop (count_len * n)) inner ∙ drop-append-le (count_len * n) (drop 1 bytes) tail (omega (arith, enough, length-drop 1 bytes))) in
+                  ∙ (ap (drop (count_len * n)) inner
+                  ∙ drop-append-le (count_len * n) (drop 1 bytes) tail (omega (arith, enough, length-drop 1 bytes))) in
                   elim (counted_asks at (after_counts bytes) m (counts_read bytes) there.1) [
                     | inl number ↦ omega (arith, number.1, stop, same)
                     | inr ending ↦
                         let names : length_of (after_counts all) ≡ length_of (after_counts bytes) =
-                        ap length_of rest ∙ ap (λ (t : List ℕ). from_be_bytes w32 t) (take-append-le 4 (after_counts bytes) tail ending.0) in
+                        ap length_of rest ∙ ap (λ (t : List ℕ). from_be_bytes w32 t)
+                        (take-append-le 4 (after_counts bytes) tail ending.0) in
                         omega (arith, ending.2, stop, same, names)
                   ]
             ]
@@ -120,22 +143,26 @@ unfolding judge_state counts_read counted after_counts
 state_bound bytes m fits e =
     let n = sites_of bytes in
     let at = 1 + count_len * n in
-    elim (cond_err (ltb (length bytes) 1) (More 1) (More m) (cond (ltb FRAME_SITES n) (Err (Bad (fault Range 0))) (cond (ltb (length bytes) at) (Err (More at)) (counted bytes))) e) [
+    elim (cond_err (ltb (length bytes) 1) (More 1) (More m)
+    (cond (ltb FRAME_SITES n) (Err (Bad (fault Range 0))) (cond (ltb (length bytes) at) (Err (More at)) (counted bytes))) e) [
       | inl none ↦ let one = asked 1 m none.1 in omega (arith, one)
-      | inr some ↦ elim (cond_err (ltb FRAME_SITES n) (Bad (fault Range 0)) (More m) (cond (ltb (length bytes) at) (Err (More at)) (counted bytes)) some.1) [
-        | inl bad ↦ absurd (let no = bad.1 in cc)
-        | inr few ↦
-            let sites = ltb-false _ _ few.0 in
-            elim (cond_err (ltb (length bytes) at) (More at) (More m) (counted bytes) few.1) [
-              | inl short ↦ let is = asked at m short.1 in omega (arith, is, sites)
-              | inr there ↦
-                  let names : length_of (after_counts bytes) < 4294967296 = wide32.below (take 4 (after_counts bytes)) (IsBytes-take 4 (after_counts bytes) (IsBytes-drop (count_len * n) (drop 1 bytes) (IsBytes-drop 1 bytes fits))) in
-                  elim (counted_asks at (after_counts bytes) m (counts_read bytes) there.1) [
-                    | inl number ↦ omega (arith, number.1, sites)
-                    | inr ending ↦ omega (arith, ending.2, sites, names)
-                  ]
-            ]
-      ]
+      | inr some ↦ elim (cond_err (ltb FRAME_SITES n) (Bad (fault Range 0)) (More m)
+          (cond (ltb (length bytes) at) (Err (More at)) (counted bytes)) some.1) [
+            | inl bad ↦ absurd (let no = bad.1 in cc)
+            | inr few ↦
+                let sites = ltb-false _ _ few.0 in
+                elim (cond_err (ltb (length bytes) at) (More at) (More m) (counted bytes) few.1) [
+                  | inl short ↦ let is = asked at m short.1 in omega (arith, is, sites)
+                  | inr there ↦
+                      let names : length_of (after_counts bytes) < 4294967296 =
+                      wide32.below (take 4 (after_counts bytes))
+                      (IsBytes-take 4 (after_counts bytes) (IsBytes-drop (count_len * n) (drop 1 bytes) (IsBytes-drop 1 bytes fits))) in
+                      elim (counted_asks at (after_counts bytes) m (counts_read bytes) there.1) [
+                        | inl number ↦ omega (arith, number.1, sites)
+                        | inr ending ↦ omega (arith, ending.2, sites, names)
+                      ]
+                ]
+          ]
     ]
 
 -- a state has a byte

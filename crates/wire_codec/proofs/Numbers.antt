@@ -59,7 +59,8 @@ module _ (w : Width) (limit : ℕ) (wide : IsWide w limit) where
       let long : byte_len w ≤ length bytes = ltb-false _ _ g.0 in
       let front_len : length (take (byte_len w) bytes) ≡ byte_len w = omega (arith, length-take (byte_len w) bytes) in
       let front_fits = IsBytes-take (byte_len w) bytes fits in
-      let front : to_be_bytes w (from_be_bytes w (take (byte_len w) bytes)) ≡ take (byte_len w) bytes = wide.back (take (byte_len w) bytes) front_len front_fits in
+      let front : to_be_bytes w (from_be_bytes w (take (byte_len w) bytes)) ≡ take (byte_len w) bytes =
+      wide.back (take (byte_len w) bytes) front_len front_fits in
       let took : Takes l (take (byte_len w) bytes) after = record {
         parts = sym (take-append-drop (byte_len w) bytes);
         place = omega (arith, front_len);
@@ -68,15 +69,19 @@ module _ (w : Width) (limit : ℕ) (wide : IsWide w limit) where
       subst (λ (x : ℕ × LeftData). Takes l (to_be_bytes w x.0) x.1 × (x.0 < limit)) g.1
       (subst (λ (text : List ℕ). Takes l text after) (sym front) took, wide.below (take (byte_len w) bytes) front_fits)
 
-  number_again : (n : ℕ) (at : ℕ) (rest : List ℕ) → n < limit → number w (left_at at (to_be_bytes w n ++ rest)) ≡ Ok (n, left_at (at + length (to_be_bytes w n)) rest)
+  number_again : (n : ℕ) (at : ℕ) (rest : List ℕ) → n < limit
+      → number w (left_at at (to_be_bytes w n ++ rest)) ≡ Ok (n, left_at (at + length (to_be_bytes w n)) rest)
   number_again n at rest lt =
       let len = wide.len n in
-      let long : ltb (length (to_be_bytes w n ++ rest)) (byte_len w) ≡ false = le-ltb _ _ (omega (arith, len, length-append (to_be_bytes w n) rest)) in
-      rw (long, take_at (to_be_bytes w n) rest (byte_len w) len, drop_at (to_be_bytes w n) rest (byte_len w) len, wide.again n lt) (ap (λ (k : ℕ). Ok (n, left_at (at + k) rest)) (sym len))
+      let long : ltb (length (to_be_bytes w n ++ rest)) (byte_len w) ≡ false =
+      le-ltb _ _ (omega (arith, len, length-append (to_be_bytes w n) rest)) in
+      rw (long, take_at (to_be_bytes w n) rest (byte_len w) len, drop_at (to_be_bytes w n) rest (byte_len w) len, wide.again n lt)
+      (ap (λ (k : ℕ). Ok (n, left_at (at + k) rest)) (sym len))
 
   number_faults : (l : LeftData) (f : Fault) → IsBytes l.bytes → number w l ≡ Err f → f.offset ≤ l.at + length l.bytes
   number_faults l f fits e =
-      let g = guard_err (ltb (length l.bytes) (byte_len w)) (fault Length l.at) f (from_be_bytes w (take (byte_len w) l.bytes), left_at (l.at + byte_len w) (drop (byte_len w) l.bytes)) e in
+      let g = guard_err (ltb (length l.bytes) (byte_len w)) (fault Length l.at) f
+      (from_be_bytes w (take (byte_len w) l.bytes), left_at (l.at + byte_len w) (drop (byte_len w) l.bytes)) e in
       let here : l.at ≡ f.offset = ap (λ (x : Fault). x.offset) g in
       omega (arith, here)
 
@@ -84,10 +89,13 @@ module _ (w : Width) (limit : ℕ) (wide : IsWide w limit) where
   number_reads = record { takes = number_takes; again = number_again; faults = number_faults }
 
   -- a number from `low` to `high`
-  pub bounded_reads : (low high : ℕ) (cause : Cause) → high < limit → Reads (bounded w low high cause) (to_be_bytes w) (λ n. (low ≤ n) × (n ≤ high))
+  pub bounded_reads : (low high : ℕ) (cause : Cause) → high < limit
+      → Reads (bounded w low high cause) (to_be_bytes w) (λ n. (low ≤ n) × (n ≤ high))
   bounded_reads low high cause fits =
-      in_words (bounded w low high cause) (to_be_bytes w) (to_be_bytes w) (λ n. (n < limit) × ((leb low n && leb n high) ≡ true)) (λ n. (low ≤ n) × (n ≤ high))
+      in_words (bounded w low high cause) (to_be_bytes w) (to_be_bytes w) (λ n. (n < limit) × ((leb low n && leb n high) ≡ true))
+      (λ n. (low ≤ n) × (n ≤ high))
       (tested_reads (λ n. leb low n && leb n high) cause (number w) (to_be_bytes w) (λ n. n < limit) number_reads)
       (λ n h. let parts = and_parts (leb low n) (leb n high) h.1 in (leb-true _ _ parts.0, leb-true _ _ parts.1))
-      (λ n h. let below : n < limit = omega (arith, h.1, fits) in (below, and_from (leb low n) (leb n high) (le-leb _ _ h.0) (le-leb _ _ h.1)))
+      (λ n h. let below : n < limit = omega (arith, h.1, fits) in
+      (below, and_from (leb low n) (leb n high) (le-leb _ _ h.0) (le-leb _ _ h.1)))
       (λ n h. refl)

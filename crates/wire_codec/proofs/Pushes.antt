@@ -21,7 +21,8 @@ pub record FollowsCounts (before : List (ℕ × ℕ)) (p : ℕ × ℕ) : Type 0 
   pub least : 1 ≤ p.1
   pub greatest : p.1 ≤ NUMBERS
 
-counts_from_low : (low : ℕ) (xs : List (ℕ × ℕ)) (p : ℕ × ℕ) (ys : List (ℕ × ℕ)) → AreCounts low (xs ++ p ∷ ys) → (low ≤ p.0) × FollowsCounts xs p
+counts_from_low : (low : ℕ) (xs : List (ℕ × ℕ)) (p : ℕ × ℕ) (ys : List (ℕ × ℕ)) → AreCounts low (xs ++ p ∷ ys)
+    → (low ≤ p.0) × FollowsCounts xs p
 counts_from_low low [] p ys h = (h.0, record { last = tt; site = h.1; least = h.2; greatest = h.3 })
 counts_from_low low (x ∷ xs) p ys h =
     let rest = counts_from_low (x.0 + 1) xs p ys h.4 in
@@ -32,18 +33,21 @@ counts_from_low low (x ∷ xs) p ys h =
 pub follows_counts : (all before after : List (ℕ × ℕ)) (p : ℕ × ℕ) → AreCounts 0 all → before ++ p ∷ after ≡ all → FollowsCounts before p
 follows_counts all before after p h e = (counts_from_low 0 before p after (subst (AreCounts 0) (sym e) h)).1
 
-names_below : (xs : List (NameData × ℕ)) (e : NameData × ℕ) (ys : List (NameData × ℕ)) → AreEntries (xs ++ e ∷ ys) → NamesBelow xs e.0 × (1 ≤ e.1)
+names_below : (xs : List (NameData × ℕ)) (e : NameData × ℕ) (ys : List (NameData × ℕ)) → AreEntries (xs ++ e ∷ ys)
+    → NamesBelow xs e.0 × (1 ≤ e.1)
 names_below [] e ys h = (tt, h.1)
 names_below (x ∷ []) e ys h = let rest = names_below [] e ys h.4 in ((h.3, tt), rest.1)
 names_below (x ∷ (y ∷ xs)) e ys h =
     let rest = names_below (y ∷ xs) e ys h.4 in
     ((name_transitive x.0 y.0 e.0 h.3 rest.0.0, rest.0), rest.1)
 
-pub follows_entries : (all before after : List (NameData × ℕ)) (e : NameData × ℕ) → AreEntries all → before ++ e ∷ after ≡ all → NamesBelow before e.0 × (1 ≤ e.1)
+pub follows_entries : (all before after : List (NameData × ℕ)) (e : NameData × ℕ) → AreEntries all → before ++ e ∷ after ≡ all
+    → NamesBelow before e.0 × (1 ≤ e.1)
 follows_entries all before after e h is = names_below before e after (subst AreEntries (sym is) h)
 
 -- one more is taken over
-pub taken_over : {A : Type 0} (all before now after : List A) (x : A) → before ++ now ≡ all → now ≡ x ∷ after → (before ++ x ∷ []) ++ after ≡ all
+pub taken_over : {A : Type 0} (all before now after : List A) (x : A) → before ++ now ≡ all → now ≡ x ∷ after
+    → (before ++ x ∷ []) ++ after ≡ all
 taken_over {A = A} all before now after x e is = append_assoc before (x ∷ []) after ∙ (ap (λ (t : List A). before ++ t) (sym is) ∙ e)
 
 pub all_taken : {A : Type 0} (all before now : List A) → before ++ now ≡ all → now ≡ [] → before ≡ all
@@ -58,10 +62,14 @@ site_is_site low (q ∷ ps) (suc i) p are at = site_is_site (q.0 + 1) ps i p are
 -- ---- pieces put one after the other
 
 take_more_at : {A : Type 0} (xs : List A) (i : ℕ) (x : A) → slice_get xs i ≡ Some x → take (i + 1) xs ≡ take i xs ++ x ∷ []
-take_more_at {A = A} xs i x e = take_more xs i x (slice_get_within xs i x e) ∙ ap (λ (y : A). take i xs ++ y ∷ []) (get_or_from_slice_get xs i x x e)
+take_more_at {A = A} xs i x e =
+    take_more xs i x (slice_get_within xs i x e) ∙ ap (λ (y : A). take i xs ++ y ∷ []) (get_or_from_slice_get xs i x x e)
 
-pub pieces_more : {A : Type 0} (piece : A → List ℕ) (xs : List A) (i : ℕ) (x : A) → slice_get xs i ≡ Some x → flat_map piece (take (i + 1) xs) ≡ flat_map piece (take i xs) ++ piece x
-pieces_more piece xs i x e = ap (flat_map piece) (take_more_at xs i x e) ∙ (flat_map-append piece (take i xs) (x ∷ []) ∙ ap (λ (t : List ℕ). flat_map piece (take i xs) ++ t) (append-nil (piece x)))
+pub pieces_more : {A : Type 0} (piece : A → List ℕ) (xs : List A) (i : ℕ) (x : A) → slice_get xs i ≡ Some x
+    → flat_map piece (take (i + 1) xs) ≡ flat_map piece (take i xs) ++ piece x
+pieces_more piece xs i x e =
+    ap (flat_map piece) (take_more_at xs i x e)
+    ∙ (flat_map-append piece (take i xs) (x ∷ []) ∙ ap (λ (t : List ℕ). flat_map piece (take i xs) ++ t) (append-nil (piece x)))
 
 -- the pieces of the first i elements stand there, and there is room for the others
 pub record IsPutUpTo {A : Type 0} (piece : A → List ℕ) (size : ℕ) (xs : List A) (old : Vec ℕ) (i : ℕ) (new : Vec ℕ) : Type 0 where
@@ -73,17 +81,21 @@ module _ {A : Type 0} (piece : A → List ℕ) (size : ℕ) (sized : (x : A) →
   put_room i x now e up =
       let within = slice_get_within xs i x e in
       let k : length xs - i ≡ suc (length xs - (i + 1)) = omega (arith, within) in
-      let split : size * (length xs - i) ≡ size * (length xs - (i + 1)) + size = ap (λ (n : ℕ). size * n) k ∙ mul-suc size (length xs - (i + 1)) in
+      let split : size * (length xs - i) ≡ size * (length xs - (i + 1)) + size =
+      ap (λ (n : ℕ). size * n) k ∙ mul-suc size (length xs - (i + 1)) in
       let before = up.room in
       omega (arith, before, split)
 
-  pub put_more : (i : ℕ) (x : A) (now new : Vec ℕ) → slice_get xs i ≡ Some x → IsPutUpTo piece size xs old i now → Puts now new (piece x) → IsPutUpTo piece size xs old (i + 1) new
+  pub put_more : (i : ℕ) (x : A) (now new : Vec ℕ) → slice_get xs i ≡ Some x → IsPutUpTo piece size xs old i now → Puts now new (piece x)
+      → IsPutUpTo piece size xs old (i + 1) new
   put_more i x now new e up put =
       let within = slice_get_within xs i x e in
       let k : length xs - i ≡ suc (length xs - (i + 1)) = omega (arith, within) in
-      let split : size * (length xs - i) ≡ size * (length xs - (i + 1)) + size = ap (λ (n : ℕ). size * n) k ∙ mul-suc size (length xs - (i + 1)) in
+      let split : size * (length xs - i) ≡ size * (length xs - (i + 1)) + size =
+      ap (λ (n : ℕ). size * n) k ∙ mul-suc size (length xs - (i + 1)) in
       let text = pieces_more piece xs i x e in
-      let items : new.items ≡ old.items ++ (flat_map piece (take i xs) ++ piece x) = put.items ∙ (ap (λ (t : List ℕ). t ++ piece x) up.puts.items ∙ append_assoc old.items (flat_map piece (take i xs)) (piece x)) in
+      let items : new.items ≡ old.items ++ (flat_map piece (take i xs) ++ piece x) =
+      put.items ∙ (ap (λ (t : List ℕ). t ++ piece x) up.puts.items ∙ append_assoc old.items (flat_map piece (take i xs)) (piece x)) in
       let long = length-append (flat_map piece (take i xs)) (piece x) in
       let text_len = ap length text in
       let len_1 = up.puts.len in
@@ -93,7 +105,12 @@ module _ {A : Type 0} (piece : A → List ℕ) (size : ℕ) (sized : (x : A) →
       let wide = sized x in
       let before = up.room in
       record {
-        puts = record { items = items ∙ ap (λ (t : List ℕ). old.items ++ t) (sym text); len = omega (arith, len_1, len_2, long, text_len); capacity = omega (arith, cap_1, cap_2) };
+        puts = record {
+          items = items ∙ ap (λ (t : List ℕ). old.items ++ t) (sym text);
+          len =
+              omega (arith, len_1, len_2, long, text_len);
+          capacity = omega (arith, cap_1, cap_2);
+        };
         room = omega (arith, before, split, len_2, cap_2, wide);
       }
 

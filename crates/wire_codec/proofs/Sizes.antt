@@ -16,11 +16,13 @@ use Rattle.wire_codec.proofs.Contexts.{counts_few, context_in_range}
 
 pub length-counts : (ps : List (ℕ × ℕ)) → length (flat_map count_bytes ps) ≡ count_len * length ps
 length-counts [] = refl
-length-counts (p ∷ ps) = omega (arith, length-counts ps, ap length (flat_map-cons count_bytes p ps), length-append (count_bytes p) (flat_map count_bytes ps))
+length-counts (p ∷ ps) =
+    omega (arith, length-counts ps, ap length (flat_map-cons count_bytes p ps), length-append (count_bytes p) (flat_map count_bytes ps))
 
 pub length-entries : (es : List (NameData × ℕ)) → length (flat_map entry_bytes es) ≡ entry_len * length es
 length-entries [] = refl
-length-entries (e ∷ es) = omega (arith, length-entries es, ap length (flat_map-cons entry_bytes e es), length-append (entry_bytes e) (flat_map entry_bytes es))
+length-entries (e ∷ es) =
+    omega (arith, length-entries es, ap length (flat_map-cons entry_bytes e es), length-append (entry_bytes e) (flat_map entry_bytes es))
 
 pub length-context_bytes : (c : ContextData) → length (context_bytes c) ≡ 3 + count_len * length c.counts + entry_len * length c.entries
 unfolding context_bytes
@@ -40,9 +42,16 @@ head_len_bounds (Insert n p ch) = (omega arith, omega arith)
 head_len_bounds (Delete n p) = (omega arith, omega arith)
 head_len_bounds (Undo a t g) = (omega arith, omega arith)
 
-pub body_size : (o : OpData) → length (body_bytes o) ≡ head_len (head_of o) + (3 + count_len * length (context_of o).counts + entry_len * length (context_of o).entries)
+pub body_size : (o : OpData) → length (body_bytes o)
+    ≡ head_len (head_of o) + (3 + count_len * length (context_of o).counts + entry_len * length (context_of o).entries)
 unfolding body_bytes
-body_size o = omega (arith, length-append (head_bytes (head_of o)) (context_bytes (context_of o)), length-head_bytes (head_of o), length-context_bytes (context_of o))
+body_size o =
+    omega (
+      arith,
+      length-append (head_bytes (head_of o)) (context_bytes (context_of o)),
+      length-head_bytes (head_of o),
+      length-context_bytes (context_of o),
+    )
 
 -- no body is longer than the longest
 pub body_short : (o : OpData) → IsInRange o → length (body_bytes o) ≤ longest
@@ -56,6 +65,8 @@ pub body_long : (o : OpData) → 12 + entry_len * length (context_of o).entries 
 body_long o = omega (arith, body_size o, (head_len_bounds (head_of o)).0)
 
 -- a frame in four pieces
-pub frame_pieces : (o : OpData) → to_be_bytes w32 (length (body_bytes o)) ++ (head_bytes (head_of o) ++ (counts_bytes (context_of o).counts ++ entries_bytes (context_of o).entries)) ≡ frame o
+pub frame_pieces : (o : OpData)
+    → to_be_bytes w32 (length (body_bytes o))
+    ++ (head_bytes (head_of o) ++ (counts_bytes (context_of o).counts ++ entries_bytes (context_of o).entries)) ≡ frame o
 unfolding body_bytes context_bytes
 frame_pieces o = refl

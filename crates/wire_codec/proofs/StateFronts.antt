@@ -15,7 +15,8 @@ use Rattle.wire_codec.proofs.Steps.{IsBytes}
 use Rattle.wire_codec.proofs.StateJudgement.{state_takes, state_again, state_stays, state_more, state_within}
 
 -- a state is judged to be there, whatever follows it
-pub state_only : (bytes : List ℕ) (c : ContextData) (rest : List ℕ) → IsState c → bytes ≡ state_bytes c ++ rest → judge_state bytes ≡ Ok (c, length (state_bytes c))
+pub state_only : (bytes : List ℕ) (c : ContextData) (rest : List ℕ) → IsState c → bytes ≡ state_bytes c ++ rest
+    → judge_state bytes ≡ Ok (c, length (state_bytes c))
 state_only bytes c rest is e = ap judge_state e ∙ state_again c rest is
 
 -- no continuation of bad bytes begins with a state
@@ -29,7 +30,8 @@ never_a_state bytes more f e has =
 state_bad_says : (bytes : List ℕ) (f : Fault) → IsBytes bytes → judge_state bytes ≡ Err (Bad f) → IsBadState bytes f.offset
 state_bad_says bytes f fits e = record { within = state_within bytes f fits e; never = λ more. never_a_state bytes more f e }
 
-says_of : (bytes : List ℕ) (j : Result (ContextData × ℕ) Unread) → IsBytes bytes → judge_state bytes ≡ j → SaysOfState bytes (state_scan_of j)
+says_of : (bytes : List ℕ) (j : Result (ContextData × ℕ) Unread) → IsBytes bytes → judge_state bytes ≡ j
+    → SaysOfState bytes (state_scan_of j)
 says_of bytes (Ok x) fits e = (x.0, state_takes bytes x.0 x.1 fits e)
 says_of bytes (Err (More n)) fits e = state_more bytes n fits e
 says_of bytes (Err (Bad f)) fits e = state_bad_says bytes f fits e
@@ -43,11 +45,13 @@ state_tells bytes (decoded.More n) fits e = state_more bytes n fits (sym e)
 state_tells bytes (decoded.Bad cause offset) fits e = state_bad_says bytes (fault cause offset) fits (sym e)
 
 -- the counts of a state that was judged good
-pub state_counts : (bytes : List ℕ) (judged : Result (LentContext × ℕ) Unread) → IsBytes bytes → state_as judged ≡ judge_state bytes → IfOk judged (λ p. AreCounts 0 p.0.counts)
+pub state_counts : (bytes : List ℕ) (judged : Result (LentContext × ℕ) Unread) → IsBytes bytes → state_as judged ≡ judge_state bytes
+    → IfOk judged (λ p. AreCounts 0 p.0.counts)
 state_counts bytes (Ok p) fits e = (state_takes bytes _ p.1 fits (sym e)).is.is.counts
 state_counts bytes (Err r) fits e = tt
 
 -- out of memory only where there is a state
-pub judged_state : (bytes : List ℕ) (judged : Result (LentContext × ℕ) Unread) → IsBytes bytes → state_as judged ≡ judge_state bytes → IsOk judged → HasState bytes
+pub judged_state : (bytes : List ℕ) (judged : Result (LentContext × ℕ) Unread) → IsBytes bytes → state_as judged ≡ judge_state bytes
+    → IsOk judged → HasState bytes
 judged_state bytes (Ok p) fits e ok = (_, p.1, state_takes bytes _ p.1 fits (sym e))
 judged_state bytes (Err r) fits e ok = absurd (let no = ok in cc)

@@ -26,48 +26,62 @@ use Rattle.wire_codec.proofs.Sizes.{length-counts, length-entries}
 
 -- ---- a list in its section of the bytes
 
-module _ {S A : Type 0} (step : S → LeftData → Found A) (next : A → S) (spell : A → List ℕ) (Is : S → A → Type 0) (one : (s : S) → Reads (step s) spell (Is s))
+module _ {S A : Type 0} (step : S → LeftData → Found A) (next : A → S) (spell : A → List ℕ) (Is : S → A → Type 0)
+    (one : (s : S) → Reads (step s) spell (Is s))
     (size : ℕ) (long : (xs : List A) → length (flat_map spell xs) ≡ size * length xs) (first : S) where
   -- what is read of a section of the right length is spelled there
   section_takes : (n at : ℕ) (bytes : List ℕ) (xs : List A) (m : LeftData) → IsBytes bytes → size * n ≤ length bytes
       → many step next n first (left_at at (take (size * n) bytes)) ≡ Ok (xs, m)
-      → (bytes ≡ flat_map spell xs ++ drop (size * n) bytes) × (length (flat_map spell xs) ≡ size * n) × (length xs ≡ n) × Follow Is next first xs
+      → (bytes ≡ flat_map spell xs ++ drop (size * n) bytes) × (length (flat_map spell xs) ≡ size * n) × (length xs ≡ n)
+      × Follow Is next first xs
   section_takes n at bytes xs m fits enough e =
-      let took = (many_reads step next spell Is one n first).takes (left_at at (take (size * n) bytes)) m xs (IsBytes-take (size * n) bytes fits) e in
+      let took =
+      (many_reads step next spell Is one n first).takes (left_at at (take (size * n) bytes)) m xs (IsBytes-take (size * n) bytes fits)
+      e in
       let count : length xs ≡ n = took.1.0 in
       let wide : length (flat_map spell xs) ≡ size * n = long xs ∙ ap (λ (k : ℕ). size * k) count in
       let cut : length (take (size * n) bytes) ≡ size * n = omega (arith, enough, length-take (size * n) bytes) in
       let parts : take (size * n) bytes ≡ flat_map spell xs ++ m.bytes = took.0.parts in
-      let total : length (take (size * n) bytes) ≡ length (flat_map spell xs) + length m.bytes = ap length parts ∙ length-append (flat_map spell xs) m.bytes in
+      let total : length (take (size * n) bytes) ≡ length (flat_map spell xs) + length m.bytes =
+      ap length parts ∙ length-append (flat_map spell xs) m.bytes in
       let none : m.bytes ≡ [] = nil_from_length m.bytes (omega (arith, total, wide, cut)) in
-      let whole : take (size * n) bytes ≡ flat_map spell xs = parts ∙ ap (λ (t : List ℕ). flat_map spell xs ++ t) none ∙ append-nil (flat_map spell xs) in
-      let all : bytes ≡ flat_map spell xs ++ drop (size * n) bytes = sym (take-append-drop (size * n) bytes) ∙ ap (λ (t : List ℕ). t ++ drop (size * n) bytes) whole in
+      let whole : take (size * n) bytes ≡ flat_map spell xs =
+      parts ∙ ap (λ (t : List ℕ). flat_map spell xs ++ t) none ∙ append-nil (flat_map spell xs) in
+      let all : bytes ≡ flat_map spell xs ++ drop (size * n) bytes =
+      sym (take-append-drop (size * n) bytes) ∙ ap (λ (t : List ℕ). t ++ drop (size * n) bytes) whole in
       (all, wide, count, took.1.1)
 
   section_again : (xs : List A) (n at : ℕ) (rest : List ℕ) → length xs ≡ n → Follow Is next first xs
       → (m : LeftData) × (many step next n first (left_at at (take (size * n) (flat_map spell xs ++ rest))) ≡ Ok (xs, m))
   section_again xs n at rest count are =
       let wide : length (flat_map spell xs) ≡ size * n = long xs ∙ ap (λ (k : ℕ). size * k) count in
-      let text : take (size * n) (flat_map spell xs ++ rest) ≡ flat_map spell xs ++ [] = take_at (flat_map spell xs) rest (size * n) wide ∙ sym (append-nil (flat_map spell xs)) in
+      let text : take (size * n) (flat_map spell xs ++ rest) ≡ flat_map spell xs ++ [] =
+      take_at (flat_map spell xs) rest (size * n) wide ∙ sym (append-nil (flat_map spell xs)) in
       let read = (many_reads step next spell Is one n first).again xs at [] (count, are) in
       (left_at (at + length (flat_map spell xs)) [], ap (λ (t : List ℕ). many step next n first (left_at at t)) text ∙ read)
 
-  section_faults : (n at : ℕ) (bytes : List ℕ) (f : Fault) → IsBytes bytes → many step next n first (left_at at (take (size * n) bytes)) ≡ Err f → f.offset ≤ at + size * n
+  section_faults : (n at : ℕ) (bytes : List ℕ) (f : Fault) → IsBytes bytes
+      → many step next n first (left_at at (take (size * n) bytes)) ≡ Err f → f.offset ≤ at + size * n
   section_faults n at bytes f fits e =
-      let inside = (many_reads step next spell Is one n first).faults (left_at at (take (size * n) bytes)) f (IsBytes-take (size * n) bytes fits) e in
+      let inside =
+      (many_reads step next spell Is one n first).faults (left_at at (take (size * n) bytes)) f (IsBytes-take (size * n) bytes fits)
+      e in
       omega (arith, inside, length-take (size * n) bytes)
 
 counts_section : (n at : ℕ) (bytes : List ℕ) (ps : List (ℕ × ℕ)) (m : LeftData) → IsBytes bytes → count_len * n ≤ length bytes
     → many count_at site_after n 0 (left_at at (take (count_len * n) bytes)) ≡ Ok (ps, m)
-    → (bytes ≡ flat_map count_bytes ps ++ drop (count_len * n) bytes) × (length (flat_map count_bytes ps) ≡ count_len * n) × (length ps ≡ n) × Follow IsCount site_after 0 ps
+    → (bytes ≡ flat_map count_bytes ps ++ drop (count_len * n) bytes) × (length (flat_map count_bytes ps) ≡ count_len * n) × (length ps ≡ n)
+    × Follow IsCount site_after 0 ps
 counts_section = section_takes count_at site_after count_bytes IsCount count_reads count_len length-counts 0
 
 entries_section : (n at : ℕ) (bytes : List ℕ) (es : List (NameData × ℕ)) (m : LeftData) → IsBytes bytes → entry_len * n ≤ length bytes
     → many entry_at name_of n None (left_at at (take (entry_len * n) bytes)) ≡ Ok (es, m)
-    → (bytes ≡ flat_map entry_bytes es ++ drop (entry_len * n) bytes) × (length (flat_map entry_bytes es) ≡ entry_len * n) × (length es ≡ n) × Follow IsEntry name_of None es
+    → (bytes ≡ flat_map entry_bytes es ++ drop (entry_len * n) bytes) × (length (flat_map entry_bytes es) ≡ entry_len * n) × (length es ≡ n)
+    × Follow IsEntry name_of None es
 entries_section = section_takes entry_at name_of entry_bytes IsEntry entry_reads entry_len length-entries None
 
-pub entries_listed : (n : ℕ) (l m : LeftData) (es : List (NameData × ℕ)) → IsBytes l.bytes → many entry_at name_of n None l ≡ Ok (es, m) → length es ≡ n
+pub entries_listed : (n : ℕ) (l m : LeftData) (es : List (NameData × ℕ)) → IsBytes l.bytes → many entry_at name_of n None l ≡ Ok (es, m)
+    → length es ≡ n
 entries_listed n l m es fits e = ((many_reads entry_at name_of entry_bytes IsEntry entry_reads n None).takes l m es fits e).1.0
 
 -- ---- undone names
@@ -85,24 +99,34 @@ record Named (counts : List (ℕ × ℕ)) (at : ℕ) (bytes : List ℕ) (c : Con
 unfoldable pub entries_read : List ℕ → ℕ → Found (List (NameData × ℕ))
 entries_read bytes at = many entry_at name_of (length_of bytes) None (left_at (at + 4) (take (entry_len * length_of bytes) (drop 4 bytes)))
 
-pub stray_done : (c d : ContextData) (stop used : ℕ) (r : Result (Unit {0}) Fault) → unless_stray c stop r ≡ Ok (d, used) → (r ≡ Ok tt) × (c ≡ d) × (stop ≡ used)
+pub stray_done : (c d : ContextData) (stop used : ℕ) (r : Result (Unit {0}) Fault) → unless_stray c stop r ≡ Ok (d, used)
+    → (r ≡ Ok tt) × (c ≡ d) × (stop ≡ used)
 stray_done c d stop used (Ok u) e =
     let both : ◌≡◌ {A = ContextData × ℕ} (c, stop) (d, used) = cc in
     (refl, ap (λ (p : ContextData × ℕ). p.0) both, ap (λ (p : ContextData × ℕ). p.1) both)
 stray_done c d stop used (Err f) e = absurd (let no = e in cc)
 
-pub entries_done : (counts : List (ℕ × ℕ)) (begin stop : ℕ) (d : ContextData) (used : ℕ) (r : Found (List (NameData × ℕ))) → judge_entries counts begin stop r ≡ Ok (d, used)
-    → (e : List (NameData × ℕ) × LeftData) × (r ≡ Ok e) × (unless_stray (record { counts = counts; entries = e.0 }) stop (stray_from (record { counts = counts; entries = e.0 }) begin e.0) ≡ Ok (d, used))
+pub entries_done : (counts : List (ℕ × ℕ)) (begin stop : ℕ) (d : ContextData) (used : ℕ) (r : Found (List (NameData × ℕ)))
+    → judge_entries counts begin stop r ≡ Ok (d, used)
+    → (e : List (NameData × ℕ) × LeftData) × (r ≡ Ok e)
+    × (unless_stray (record { counts = counts; entries = e.0 }) stop (stray_from (record { counts = counts; entries = e.0 }) begin e.0)
+    ≡ Ok (d, used))
 entries_done counts begin stop d used (Ok e) is = (e, refl, is)
 entries_done counts begin stop d used (Err f) is = absurd (let no = is in cc)
 
-named_takes : (counts : List (ℕ × ℕ)) (at : ℕ) (bytes : List ℕ) (c : ContextData) (used : ℕ) → IsBytes bytes → judge_named counts at bytes ≡ Ok (c, used) → Named counts at bytes c used
+named_takes : (counts : List (ℕ × ℕ)) (at : ℕ) (bytes : List ℕ) (c : ContextData) (used : ℕ) → IsBytes bytes
+    → judge_named counts at bytes ≡ Ok (c, used) → Named counts at bytes c used
 unfolding judge_named entries_read
 named_takes counts at bytes c used fits e =
     let n = length_of bytes in
     let stop = at + (4 + entry_len * n) in
-    let four = cond_ok (ltb (length bytes) 4) (More (at + 4)) (cond (ltb (length bytes) (4 + entry_len * n)) (Err (More stop)) (judge_entries counts (at + 4) stop (entries_read bytes at))) (c, used) e in
-    let there = cond_ok (ltb (length bytes) (4 + entry_len * n)) (More stop) (judge_entries counts (at + 4) stop (entries_read bytes at)) (c, used) four.1 in
+    let four =
+    cond_ok (ltb (length bytes) 4) (More (at + 4))
+    (cond (ltb (length bytes) (4 + entry_len * n)) (Err (More stop)) (judge_entries counts (at + 4) stop (entries_read bytes at)))
+    (c, used) e in
+    let there =
+    cond_ok (ltb (length bytes) (4 + entry_len * n)) (More stop) (judge_entries counts (at + 4) stop (entries_read bytes at)) (c, used)
+    four.1 in
     let long = ltb-false _ _ four.0 in
     let enough = ltb-false _ _ there.0 in
     let read = entries_done counts (at + 4) stop c used (entries_read bytes at) there.1 in
@@ -145,11 +169,16 @@ named_again c at rest are originals few =
     let named_len : length (named_bytes es) ≡ 4 + entry_len * n = omega (arith, listed) in
     let four : ltb (length bytes) 4 ≡ false = le-ltb _ _ (omega (arith, total)) in
     let there : ltb (length bytes) (4 + entry_len * length_of bytes) ≡ false = le-ltb _ _ (omega (arith, size, total)) in
-    let section = section_again entry_at name_of entry_bytes IsEntry entry_reads entry_len length-entries None es n (at + 4) rest refl (entries_in_turn es are) in
-    let read : entries_read bytes at ≡ Ok (es, section.0) = ap (λ (k : ℕ). many entry_at name_of k None (left_at (at + 4) (take (entry_len * k) (flat_map entry_bytes es ++ rest)))) size ∙ section.1 in
+    let section =
+    section_again entry_at name_of entry_bytes IsEntry entry_reads entry_len length-entries None es n (at + 4) rest refl
+    (entries_in_turn es are) in
+    let read : entries_read bytes at ≡ Ok (es, section.0) =
+    ap (λ (k : ℕ). many entry_at name_of k None (left_at (at + 4) (take (entry_len * k) (flat_map entry_bytes es ++ rest)))) size
+    ∙ section.1 in
     let kept : stray_from c (at + 4) es ≡ Ok tt = stray_again c (at + 4) es originals in
     let stop = at + (4 + entry_len * length_of bytes) in
-    let good : judge_entries c.counts (at + 4) stop (entries_read bytes at) ≡ Ok (c, stop) = ap (judge_entries c.counts (at + 4) stop) read ∙ ap (unless_stray c stop) kept in
+    let good : judge_entries c.counts (at + 4) stop (entries_read bytes at) ≡ Ok (c, stop) =
+    ap (judge_entries c.counts (at + 4) stop) read ∙ ap (unless_stray c stop) kept in
     let ends : stop ≡ at + length (named_bytes es) = omega (arith, size, named_len) in
     cond-false _ _ _ four ∙ (cond-false _ _ _ there ∙ (good ∙ ap (λ (k : ℕ). Ok (c, k)) ends))
 
@@ -170,8 +199,13 @@ pub state_takes : (bytes : List ℕ) (c : ContextData) (used : ℕ) → IsBytes 
 unfolding judge_state counts_read counted state_bytes
 state_takes bytes c used fits e =
     let n = sites_of bytes in
-    let some = cond_ok (ltb (length bytes) 1) (More 1) (cond (ltb FRAME_SITES n) (Err (Bad (fault Range 0))) (cond (ltb (length bytes) (1 + count_len * n)) (Err (More (1 + count_len * n))) (counted bytes))) (c, used) e in
-    let few = cond_ok (ltb FRAME_SITES n) (Bad (fault Range 0)) (cond (ltb (length bytes) (1 + count_len * n)) (Err (More (1 + count_len * n))) (counted bytes)) (c, used) some.1 in
+    let some =
+    cond_ok (ltb (length bytes) 1) (More 1)
+    (cond (ltb FRAME_SITES n) (Err (Bad (fault Range 0)))
+    (cond (ltb (length bytes) (1 + count_len * n)) (Err (More (1 + count_len * n))) (counted bytes))) (c, used) e in
+    let few =
+    cond_ok (ltb FRAME_SITES n) (Bad (fault Range 0))
+    (cond (ltb (length bytes) (1 + count_len * n)) (Err (More (1 + count_len * n))) (counted bytes)) (c, used) some.1 in
     let there = cond_ok (ltb (length bytes) (1 + count_len * n)) (More (1 + count_len * n)) (counted bytes) (c, used) few.1 in
     let long = ltb-false _ _ some.0 in
     let enough = ltb-false _ _ there.0 in
@@ -180,7 +214,8 @@ state_takes bytes c used fits e =
     let ps = read.0.0 in
     let rest_fits = IsBytes-drop (count_len * n) (drop 1 bytes) (IsBytes-drop 1 bytes fits) in
     let named = named_takes ps (1 + count_len * n) rest c used rest_fits read.2 in
-    let section = counts_section n 1 (drop 1 bytes) ps read.0.1 (IsBytes-drop 1 bytes fits) (omega (arith, enough, length-drop 1 bytes)) read.1 in
+    let section =
+    counts_section n 1 (drop 1 bytes) ps read.0.1 (IsBytes-drop 1 bytes fits) (omega (arith, enough, length-drop 1 bytes)) read.1 in
     let front_len : length (take 1 bytes) ≡ 1 = omega (arith, long, length-take 1 bytes) in
     let front : to_be_bytes w8 n ≡ take 1 bytes = wide8.back (take 1 bytes) front_len (IsBytes-take 1 bytes fits) in
     let number : to_be_bytes w8 (length ps) ≡ take 1 bytes = ap (to_be_bytes w8) section.2 ∙ front in
@@ -194,8 +229,10 @@ state_takes bytes c used fits e =
     ∙ (ap (λ (t : List ℕ). counts_bytes ps ++ t) named.parts
     ∙ (ap (λ (t : List (ℕ × ℕ)). counts_bytes t ++ (named_bytes c.entries ++ named.rest)) (sym named.same)
     ∙ sym (append_assoc (counts_bytes c.counts) (named_bytes c.entries) named.rest))) in
-    let counts_size : length (counts_bytes c.counts) ≡ 1 + count_len * n = ap (λ (t : List (ℕ × ℕ)). length (counts_bytes t)) named.same ∙ (let wide = section.1 in omega (arith, wide)) in
-    let size : length (state_bytes c) ≡ used = (let is = named.ends in omega (arith, is, counts_size, length-append (counts_bytes c.counts) (named_bytes c.entries))) in
+    let counts_size : length (counts_bytes c.counts) ≡ 1 + count_len * n =
+    ap (λ (t : List (ℕ × ℕ)). length (counts_bytes t)) named.same ∙ (let wide = section.1 in omega (arith, wide)) in
+    let size : length (state_bytes c) ≡ used =
+    (let is = named.ends in omega (arith, is, counts_size, length-append (counts_bytes c.counts) (named_bytes c.entries))) in
     let left : drop used bytes ≡ named.rest = ap (drop used) all ∙ drop_at (state_bytes c) named.rest used size in
     record {
       is = record {
@@ -218,20 +255,29 @@ state_again c rest is =
     let few : n ≤ SITES = (let most = counts_few 0 ps is.is.counts (omega arith) in omega (arith, most)) in
     let size : sites_of bytes ≡ n = wide8.again n (omega (arith, few)) in
     let listed : length (flat_map count_bytes ps) ≡ count_len * n = length-counts ps in
-    let total : length bytes ≡ 1 + (count_len * n + length behind) = omega (arith, listed, length-append (flat_map count_bytes ps) behind) in
+    let total : length bytes ≡ 1 + (count_len * n + length behind) =
+    omega (arith, listed, length-append (flat_map count_bytes ps) behind) in
     let some : ltb (length bytes) 1 ≡ false = le-ltb _ _ (omega (arith, total)) in
     let not_many : ltb FRAME_SITES (sites_of bytes) ≡ false = le-ltb _ _ (omega (arith, size, few)) in
     let there : ltb (length bytes) (1 + count_len * sites_of bytes) ≡ false = le-ltb _ _ (omega (arith, size, total)) in
-    let section = section_again count_at site_after count_bytes IsCount count_reads count_len length-counts 0 ps n 1 behind refl (counts_to 0 ps is.is.counts) in
-    let read : counts_read bytes ≡ Ok (ps, section.0) = ap (λ (k : ℕ). many count_at site_after k 0 (left_at 1 (take (count_len * k) (flat_map count_bytes ps ++ behind)))) size ∙ section.1 in
+    let section =
+    section_again count_at site_after count_bytes IsCount count_reads count_len length-counts 0 ps n 1 behind refl
+    (counts_to 0 ps is.is.counts) in
+    let read : counts_read bytes ≡ Ok (ps, section.0) =
+    ap (λ (k : ℕ). many count_at site_after k 0 (left_at 1 (take (count_len * k) (flat_map count_bytes ps ++ behind)))) size
+    ∙ section.1 in
     let at = 1 + count_len * sites_of bytes in
-    let left : drop (count_len * sites_of bytes) (drop 1 bytes) ≡ behind = ap (λ (k : ℕ). drop (count_len * k) (flat_map count_bytes ps ++ behind)) size ∙ drop_at (flat_map count_bytes ps) behind (count_len * n) listed in
+    let left : drop (count_len * sites_of bytes) (drop 1 bytes) ≡ behind =
+    ap (λ (k : ℕ). drop (count_len * k) (flat_map count_bytes ps ++ behind)) size
+    ∙ drop_at (flat_map count_bytes ps) behind (count_len * n) listed in
     let named = named_again c at rest is.is.entries (has_no_stray c is.is.entries is.stray) is.few in
     let good : counted bytes ≡ Ok (c, at + length (named_bytes c.entries)) =
     ap (judge_counted at (drop (count_len * sites_of bytes) (drop 1 bytes))) read ∙ (ap (judge_named ps at) left ∙ named) in
     let counts_size : length (counts_bytes ps) ≡ 1 + count_len * n = omega (arith, listed) in
-    let ends : at + length (named_bytes c.entries) ≡ length (state_bytes c) = omega (arith, size, counts_size, length-append (counts_bytes ps) (named_bytes c.entries)) in
-    ap judge_state same ∙ (cond-false _ _ _ some ∙ (cond-false _ _ _ not_many ∙ (cond-false _ _ _ there ∙ (good ∙ ap (λ (k : ℕ). Ok (c, k)) ends))))
+    let ends : at + length (named_bytes c.entries) ≡ length (state_bytes c) =
+    omega (arith, size, counts_size, length-append (counts_bytes ps) (named_bytes c.entries)) in
+    ap judge_state same ∙ (cond-false _ _ _ some
+    ∙ (cond-false _ _ _ not_many ∙ (cond-false _ _ _ there ∙ (good ∙ ap (λ (k : ℕ). Ok (c, k)) ends))))
 
 -- ---- what isn't there, and what is wrong
 
@@ -243,7 +289,8 @@ split false r x y e = inr (refl, e)
 IsTold : Result (ContextData × ℕ) Unread → Type 0
 IsTold y = (n : ℕ) → ¬ (Err (More n) ≡ y)
 
-named_stays : (counts : List (ℕ × ℕ)) (at : ℕ) (bytes more : List ℕ) (y : Result (ContextData × ℕ) Unread) → IsTold y → judge_named counts at bytes ≡ y → judge_named counts at (bytes ++ more) ≡ y
+named_stays : (counts : List (ℕ × ℕ)) (at : ℕ) (bytes more : List ℕ) (y : Result (ContextData × ℕ) Unread) → IsTold y
+    → judge_named counts at bytes ≡ y → judge_named counts at (bytes ++ more) ≡ y
 unfolding judge_named entries_read IsTold
 named_stays counts at bytes more y told e =
     let n = length_of bytes in
@@ -262,19 +309,23 @@ named_stays counts at bytes more y told e =
             let four_all : ltb (length all) 4 ≡ false = le-ltb _ _ (omega (arith, long, total)) in
             let there_all : ltb (length all) (4 + entry_len * length_of all) ≡ false = le-ltb _ _ (omega (arith, enough, total, same)) in
             let section : entry_len * n ≤ length (drop 4 bytes) = omega (arith, enough, length-drop 4 bytes) in
-            let text : take (entry_len * n) (drop 4 all) ≡ take (entry_len * n) (drop 4 bytes) = ap (take (entry_len * n)) (drop-append-le 4 bytes more long) ∙ take-append-le (entry_len * n) (drop 4 bytes) more section in
+            let text : take (entry_len * n) (drop 4 all) ≡ take (entry_len * n) (drop 4 bytes) =
+            ap (take (entry_len * n)) (drop-append-le 4 bytes more long) ∙ take-append-le (entry_len * n) (drop 4 bytes) more section in
             let good : judge_entries counts (at + 4) (at + (4 + entry_len * length_of all)) (entries_read all at) ≡ whole =
-            ap (λ (k : ℕ). judge_entries counts (at + 4) (at + (4 + entry_len * k)) (many entry_at name_of k None (left_at (at + 4) (take (entry_len * k) (drop 4 all))))) same
+            ap (λ (k : ℕ). judge_entries counts (at + 4) (at + (4 + entry_len * k))
+            (many entry_at name_of k None (left_at (at + 4) (take (entry_len * k) (drop 4 all))))) same
             ∙ ap (λ (t : List ℕ). judge_entries counts (at + 4) stop (many entry_at name_of n None (left_at (at + 4) t))) text in
             cond-false _ _ _ four_all ∙ (cond-false _ _ _ there_all ∙ (good ∙ there.1))
       ]
     ]
 
-counted_stays : (at : ℕ) (rest more : List ℕ) (r : Found (List (ℕ × ℕ))) (y : Result (ContextData × ℕ) Unread) → IsTold y → judge_counted at rest r ≡ y → judge_counted at (rest ++ more) r ≡ y
+counted_stays : (at : ℕ) (rest more : List ℕ) (r : Found (List (ℕ × ℕ))) (y : Result (ContextData × ℕ) Unread) → IsTold y
+    → judge_counted at rest r ≡ y → judge_counted at (rest ++ more) r ≡ y
 counted_stays at rest more (Ok x) y told e = named_stays x.0 at rest more y told e
 counted_stays at rest more (Err f) y told e = e
 
-pub state_stays : (bytes more : List ℕ) (y : Result (ContextData × ℕ) Unread) → ((n : ℕ) → ¬ (Err (More n) ≡ y)) → judge_state bytes ≡ y → judge_state (bytes ++ more) ≡ y
+pub state_stays : (bytes more : List ℕ) (y : Result (ContextData × ℕ) Unread) → ((n : ℕ) → ¬ (Err (More n) ≡ y)) → judge_state bytes ≡ y
+    → judge_state (bytes ++ more) ≡ y
 unfolding judge_state counts_read counted IsTold
 state_stays bytes more y told e =
     let n = sites_of bytes in
@@ -294,27 +345,38 @@ state_stays bytes more y told e =
               | inr there ↦
                   let enough = ltb-false (length bytes) (1 + count_len * n) there.0 in
                   let few_all : ltb FRAME_SITES (sites_of all) ≡ false = ap (λ (k : ℕ). ltb FRAME_SITES k) same ∙ few.0 in
-                  let there_all : ltb (length all) (1 + count_len * sites_of all) ≡ false = le-ltb _ _ (omega (arith, enough, total, same)) in
+                  let there_all : ltb (length all) (1 + count_len * sites_of all) ≡ false =
+                  le-ltb _ _ (omega (arith, enough, total, same)) in
                   let section : count_len * n ≤ length (drop 1 bytes) = omega (arith, enough, length-drop 1 bytes) in
                   let front : drop 1 all ≡ drop 1 bytes ++ more = drop-append-le 1 bytes more long in
-                  let text : take (count_len * n) (drop 1 all) ≡ take (count_len * n) (drop 1 bytes) = ap (take (count_len * n)) front ∙ take-append-le (count_len * n) (drop 1 bytes) more section in
-                  let left : drop (count_len * n) (drop 1 all) ≡ drop (count_len * n) (drop 1 bytes) ++ more = ap (drop (count_len * n)) front ∙ drop-append-le (count_len * n) (drop 1 bytes) more section in
-                  let good : counted all ≡ judge_counted (1 + count_len * n) (drop (count_len * n) (drop 1 bytes) ++ more) (counts_read bytes) =
-                  ap (λ (k : ℕ). judge_counted (1 + count_len * k) (drop (count_len * k) (drop 1 all)) (many count_at site_after k 0 (left_at 1 (take (count_len * k) (drop 1 all))))) same
-                  ∙ (ap (λ (t : List ℕ). judge_counted (1 + count_len * n) (drop (count_len * n) (drop 1 all)) (many count_at site_after n 0 (left_at 1 t))) text
+                  let text : take (count_len * n) (drop 1 all) ≡ take (count_len * n) (drop 1 bytes) =
+                  ap (take (count_len * n)) front ∙ take-append-le (count_len * n) (drop 1 bytes) more section in
+                  let left : drop (count_len * n) (drop 1 all) ≡ drop (count_len * n) (drop 1 bytes) ++ more =
+                  ap (drop (count_len * n)) front ∙ drop-append-le (count_len * n) (drop 1 bytes) more section in
+                  let good : counted all ≡ judge_counted (1 + count_len * n) (drop (count_len * n) (drop 1 bytes) ++ more)
+                  (counts_read bytes) =
+                  ap (λ (k : ℕ). judge_counted (1 + count_len * k) (drop (count_len * k) (drop 1 all))
+                  (many count_at site_after k 0 (left_at 1 (take (count_len * k) (drop 1 all))))) same
+                  ∙ (ap (λ (t : List ℕ). judge_counted (1 + count_len * n) (drop (count_len * n) (drop 1 all))
+                  (many count_at site_after n 0 (left_at 1 t))) text
                   ∙ ap (λ (t : List ℕ). judge_counted (1 + count_len * n) t (counts_read bytes)) left) in
-                  cond-false _ _ _ some_all ∙ (cond-false _ _ _ few_all ∙ (cond-false _ _ _ there_all ∙ (good ∙ counted_stays (1 + count_len * n) (drop (count_len * n) (drop 1 bytes)) more (counts_read bytes) y told there.1)))
+                  cond-false _ _ _ some_all ∙ (cond-false _ _ _ few_all
+                  ∙ (cond-false _ _ _ there_all ∙ (good
+                  ∙ counted_stays (1 + count_len * n) (drop (count_len * n) (drop 1 bytes)) more (counts_read bytes) y told there.1)))
             ]
           ]
     ]
 
-stray_bad : (c : ContextData) (stop : ℕ) (q : Unread) (r : Result (Unit {0}) Fault) → unless_stray c stop r ≡ Err q → (f : Fault) × (Bad f ≡ q) × (r ≡ Err f)
+stray_bad : (c : ContextData) (stop : ℕ) (q : Unread) (r : Result (Unit {0}) Fault) → unless_stray c stop r ≡ Err q
+    → (f : Fault) × (Bad f ≡ q) × (r ≡ Err f)
 stray_bad c stop q (Ok u) e = absurd (let no = e in cc)
 stray_bad c stop q (Err f) e = let same : Bad f ≡ q = cc in (f, same, refl)
 
 -- a fault of the undone names, or one that is no original
-pub entries_bad : (counts : List (ℕ × ℕ)) (begin stop : ℕ) (q : Unread) (r : Found (List (NameData × ℕ))) → judge_entries counts begin stop r ≡ Err q
-    → (f : Fault) × (Bad f ≡ q) × ((r ≡ Err f) ⊎ ((e : List (NameData × ℕ) × LeftData) × (r ≡ Ok e) × (stray_from (record { counts = counts; entries = e.0 }) begin e.0 ≡ Err f)))
+pub entries_bad : (counts : List (ℕ × ℕ)) (begin stop : ℕ) (q : Unread) (r : Found (List (NameData × ℕ)))
+    → judge_entries counts begin stop r ≡ Err q
+    → (f : Fault) × (Bad f ≡ q) × ((r ≡ Err f)
+    ⊎ ((e : List (NameData × ℕ) × LeftData) × (r ≡ Ok e) × (stray_from (record { counts = counts; entries = e.0 }) begin e.0 ≡ Err f)))
 entries_bad counts begin stop q (Ok e) is =
     let d : ContextData = record { counts = counts; entries = e.0 } in
     let b = stray_bad d stop q (stray_from d begin e.0) is in
@@ -326,7 +388,8 @@ IsRefusedIn : ℕ → Unread → Type 0
 IsRefusedIn stop (More n) = stop < n
 IsRefusedIn stop (Bad f) = f.offset ≤ stop
 
-named_refused : (counts : List (ℕ × ℕ)) (at : ℕ) (bytes : List ℕ) (q : Unread) → IsBytes bytes → judge_named counts at bytes ≡ Err q → IsRefusedIn (at + length bytes) q
+named_refused : (counts : List (ℕ × ℕ)) (at : ℕ) (bytes : List ℕ) (q : Unread) → IsBytes bytes → judge_named counts at bytes ≡ Err q
+    → IsRefusedIn (at + length bytes) q
 unfolding judge_named entries_read IsRefusedIn
 named_refused counts at bytes q fits e =
     let n = length_of bytes in
@@ -343,17 +406,22 @@ named_refused counts at bytes q fits e =
             subst (IsRefusedIn (at + length bytes)) bad.1
             (elim bad.2 [
               | inl listed ↦
-                  let inside = section_faults entry_at name_of entry_bytes IsEntry entry_reads entry_len length-entries None n (at + 4) (drop 4 bytes) bad.0 rest_fits listed in
+                  let inside =
+                  section_faults entry_at name_of entry_bytes IsEntry entry_reads entry_len length-entries None n (at + 4)
+                  (drop 4 bytes) bad.0 rest_fits listed in
                   omega (arith, inside, enough)
               | inr stray ↦
-                  let section = entries_section n (at + 4) (drop 4 bytes) stray.0.0 stray.0.1 rest_fits (omega (arith, enough, length-drop 4 bytes)) stray.1 in
+                  let section =
+                  entries_section n (at + 4) (drop 4 bytes) stray.0.0 stray.0.1 rest_fits (omega (arith, enough, length-drop 4 bytes))
+                  stray.1 in
                   let inside = stray_faults (record { counts = counts; entries = stray.0.0 }) (at + 4) stray.0.0 bad.0 stray.2 in
                   omega (arith, inside, enough, section.2)
             ])
       ]
     ]
 
-counted_refused : (n : ℕ) (bytes rest : List ℕ) (q : Unread) (r : Found (List (ℕ × ℕ))) → IsBytes rest → length bytes ≡ 1 + count_len * n + length rest → ((f : Fault) → r ≡ Err f → f.offset ≤ 1 + count_len * n)
+counted_refused : (n : ℕ) (bytes rest : List ℕ) (q : Unread) (r : Found (List (ℕ × ℕ))) → IsBytes rest
+    → length bytes ≡ 1 + count_len * n + length rest → ((f : Fault) → r ≡ Err f → f.offset ≤ 1 + count_len * n)
     → judge_counted (1 + count_len * n) rest r ≡ Err q → IsRefusedIn (length bytes) q
 unfolding IsRefusedIn
 counted_refused n bytes rest q (Ok x) fits long inside e =
@@ -378,9 +446,11 @@ state_refused bytes q fits e =
               let enough = ltb-false _ _ there.0 in
               let front_fits = IsBytes-drop 1 bytes fits in
               let rest = drop (count_len * n) (drop 1 bytes) in
-              let long : length bytes ≡ 1 + count_len * n + length rest = omega (arith, enough, length-drop 1 bytes, length-drop (count_len * n) (drop 1 bytes)) in
+              let long : length bytes ≡ 1 + count_len * n + length rest =
+              omega (arith, enough, length-drop 1 bytes, length-drop (count_len * n) (drop 1 bytes)) in
               counted_refused n bytes rest q (counts_read bytes) (IsBytes-drop (count_len * n) (drop 1 bytes) front_fits) long
-              (λ f faulty. section_faults count_at site_after count_bytes IsCount count_reads count_len length-counts 0 n 1 (drop 1 bytes) f front_fits faulty) there.1
+              (λ f faulty. section_faults count_at site_after count_bytes IsCount count_reads count_len length-counts 0 n 1 (drop 1 bytes) f
+              front_fits faulty) there.1
         ]
       ]
     ]

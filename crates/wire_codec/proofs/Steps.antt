@@ -32,15 +32,18 @@ bind_ok (Ok x) f y e = (x, refl, e)
 bind_ok (Err d) f y e = absurd cc
 
 -- the step at which it failed
-pub bind_err : {A B : Type 0} (r : Result A Fault) (f : A → Result B Fault) (d : Fault) → (r >>= f) ≡ Err d → (r ≡ Err d) ⊎ ((x : A) × (r ≡ Ok x) × (f x ≡ Err d))
+pub bind_err : {A B : Type 0} (r : Result A Fault) (f : A → Result B Fault) (d : Fault) → (r >>= f) ≡ Err d
+    → (r ≡ Err d) ⊎ ((x : A) × (r ≡ Ok x) × (f x ≡ Err d))
 bind_err (Ok x) f d e = inr (x, refl, e)
 bind_err (Err c) f d e = inl cc
 
-pub want_ok : {B : Type 0} (b : Bool) (cause : Cause) (offset : ℕ) (f : Unit {0} → Result B Fault) (y : B) → (want b cause offset >>= f) ≡ Ok y → (b ≡ true) × (f tt ≡ Ok y)
+pub want_ok : {B : Type 0} (b : Bool) (cause : Cause) (offset : ℕ) (f : Unit {0} → Result B Fault) (y : B)
+    → (want b cause offset >>= f) ≡ Ok y → (b ≡ true) × (f tt ≡ Ok y)
 want_ok true cause offset f y e = (refl, e)
 want_ok false cause offset f y e = absurd cc
 
-pub want_err : {B : Type 0} (b : Bool) (cause : Cause) (offset : ℕ) (f : Unit {0} → Result B Fault) (d : Fault) → (want b cause offset >>= f) ≡ Err d → (d.offset ≡ offset) ⊎ (f tt ≡ Err d)
+pub want_err : {B : Type 0} (b : Bool) (cause : Cause) (offset : ℕ) (f : Unit {0} → Result B Fault) (d : Fault)
+    → (want b cause offset >>= f) ≡ Err d → (d.offset ≡ offset) ⊎ (f tt ≡ Err d)
 want_err true cause offset f d e = inr e
 want_err false cause offset f d e = let same : fault cause offset ≡ d = cc in inl (ap (λ (x : Fault). x.offset) (sym same))
 
@@ -49,7 +52,8 @@ pub cond_ok : {A E : Type 0} (b : Bool) (r : E) (x : Result A E) (y : A) → con
 cond_ok true r x y e = absurd (let no = e in cc)
 cond_ok false r x y e = (refl, e)
 
-pub cond_err : {A E : Type 0} (b : Bool) (r q : E) (x : Result A E) → cond b (Err r) x ≡ Err q → ((b ≡ true) × (r ≡ q)) ⊎ ((b ≡ false) × (x ≡ Err q))
+pub cond_err : {A E : Type 0} (b : Bool) (r q : E) (x : Result A E) → cond b (Err r) x ≡ Err q
+    → ((b ≡ true) × (r ≡ q)) ⊎ ((b ≡ false) × (x ≡ Err q))
 cond_err true r q x e = let same : r ≡ q = cc in inl (refl, same)
 cond_err false r q x e = inr (refl, e)
 

@@ -20,7 +20,8 @@ stream_bytes (feed piece ∷ calls) old new runs =
 stream_bytes (take op ∷ calls) old new runs =
     let fed = flat_map bytes_fed calls in
     let ops = flat_map ops_taken calls in
-    let taken : flat_map frame (flat_map ops_taken (take op ∷ calls)) ≡ frame op ++ flat_map frame ops = ap (flat_map frame) (flat_map-cons ops_taken (take op) calls) ∙ flat_map-cons frame op ops in
+    let taken : flat_map frame (flat_map ops_taken (take op ∷ calls)) ≡ frame op ++ flat_map frame ops =
+    ap (flat_map frame) (flat_map-cons ops_taken (take op) calls) ∙ flat_map-cons frame op ops in
     ap (λ (t : List ℕ). old.left ++ t) (flat_map-cons bytes_fed (take op) calls)
     ∙ (ap (λ (t : List ℕ). t ++ fed) runs.1.left
     ∙ (append_assoc (frame op) runs.0.left fed
@@ -45,8 +46,10 @@ stream_taken (take op ∷ calls) old new runs =
     let rest = stream_taken calls runs.0 new runs.2 in
     let here = runs.1.taken in
     let ops = flat_map ops_taken calls in
-    let taken : flat_map frame (flat_map ops_taken (take op ∷ calls)) ≡ frame op ++ flat_map frame ops = ap (flat_map frame) (flat_map-cons ops_taken (take op) calls) ∙ flat_map-cons frame op ops in
-    let long : length (flat_map frame (flat_map ops_taken (take op ∷ calls))) ≡ length (frame op) + length (flat_map frame ops) = ap length taken ∙ length-append (frame op) (flat_map frame ops) in
+    let taken : flat_map frame (flat_map ops_taken (take op ∷ calls)) ≡ frame op ++ flat_map frame ops =
+    ap (flat_map frame) (flat_map-cons ops_taken (take op) calls) ∙ flat_map-cons frame op ops in
+    let long : length (flat_map frame (flat_map ops_taken (take op ∷ calls))) ≡ length (frame op) + length (flat_map frame ops) =
+    ap length taken ∙ length-append (frame op) (flat_map frame ops) in
     omega (arith, rest, here, long)
 stream_taken (stay ∷ calls) old new runs =
     let rest = stream_taken calls runs.0 new runs.2 in

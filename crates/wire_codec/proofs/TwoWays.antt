@@ -22,7 +22,8 @@ Takes-then l m k x y p q = record {
 
 -- where the bytes end
 pub Takes-ends : (l m : LeftData) (x : List ℕ) → Takes l x m → l.at + length l.bytes ≡ m.at + length m.bytes
-Takes-ends l m x p = let long : length l.bytes ≡ length x + length m.bytes = ap length p.parts ∙ length-append x m.bytes in omega (arith, long, p.place)
+Takes-ends l m x p =
+    let long : length l.bytes ≡ length x + length m.bytes = ap length p.parts ∙ length-append x m.bytes in omega (arith, long, p.place)
 
 -- what is read fits and is spelled so; what fits is read again from its spelling; a fault is in the bytes
 pub record Reads {X : Type 0} (read : LeftData → Found X) (spell : X → List ℕ) (Fits : X → Type 0) : Type 0 where
@@ -30,9 +31,11 @@ pub record Reads {X : Type 0} (read : LeftData → Found X) (spell : X → List 
   pub again : (x : X) (at : ℕ) (rest : List ℕ) → Fits x → read (left_at at (spell x ++ rest)) ≡ Ok (x, left_at (at + length (spell x)) rest)
   pub faults : (l : LeftData) (f : Fault) → IsBytes l.bytes → read l ≡ Err f → f.offset ≤ l.at + length l.bytes
 
-module _ {A X : Type 0} (r : LeftData → Found A) (k : A → LeftData → Found X) (s : A → List ℕ) (t : X → List ℕ) (F : A → Type 0) (H : A → X → Type 0) (p : X → A)
+module _ {A X : Type 0} (r : LeftData → Found A) (k : A → LeftData → Found X) (s : A → List ℕ) (t : X → List ℕ) (F : A → Type 0)
+    (H : A → X → Type 0) (p : X → A)
     (first : Reads r s F) (second : (a : A) → F a → Reads (k a) t (H a)) (same : (a : A) (x : X) → H a x → p x ≡ a) where
-  bind_takes : (l m : LeftData) (x : X) → IsBytes l.bytes → (r l >>= λ a. k a.0 a.1) ≡ Ok (x, m) → Takes l (s (p x) ++ t x) m × (F (p x) × H (p x) x)
+  bind_takes : (l m : LeftData) (x : X) → IsBytes l.bytes → (r l >>= λ a. k a.0 a.1) ≡ Ok (x, m)
+      → Takes l (s (p x) ++ t x) m × (F (p x) × H (p x) x)
   bind_takes l m x fits e =
       let b = bind_ok (r l) (λ a. k a.0 a.1) (x, m) e in
       let one = first.takes l b.0.1 b.0.0 fits b.1 in
@@ -40,7 +43,8 @@ module _ {A X : Type 0} (r : LeftData → Found A) (k : A → LeftData → Found
       let is : p x ≡ b.0.0 = same b.0.0 x two.1 in
       subst (λ (a : A). Takes l (s a ++ t x) m × (F a × H a x)) (sym is) (Takes-then l b.0.1 m (s b.0.0) (t x) one.0 two.0, (one.1, two.1))
 
-  bind_again : (x : X) (at : ℕ) (rest : List ℕ) → F (p x) × H (p x) x → (r (left_at at ((s (p x) ++ t x) ++ rest)) >>= λ a. k a.0 a.1) ≡ Ok (x, left_at (at + length (s (p x) ++ t x)) rest)
+  bind_again : (x : X) (at : ℕ) (rest : List ℕ) → F (p x) × H (p x) x
+      → (r (left_at at ((s (p x) ++ t x) ++ rest)) >>= λ a. k a.0 a.1) ≡ Ok (x, left_at (at + length (s (p x) ++ t x)) rest)
   bind_again x at rest fits =
       let one = first.again (p x) at (t x ++ rest) fits.0 in
       let two = (second (p x) fits.0).again x (at + length (s (p x))) rest fits.1 in
@@ -61,8 +65,10 @@ module _ {A X : Type 0} (r : LeftData → Found A) (k : A → LeftData → Found
   pub bind : Reads (λ l. r l >>= λ a. k a.0 a.1) (λ x. s (p x) ++ t x) (λ x. F (p x) × H (p x) x)
   bind = record { takes = bind_takes; again = bind_again; faults = bind_faults }
 
-module _ {A X : Type 0} (r : LeftData → Found A) (s : A → List ℕ) (F : A → Type 0) (f : A → X) (p : X → A) (first : Reads r s F) (back : (a : A) → p (f a) ≡ a) where
-  mapped_takes : (l m : LeftData) (x : X) → IsBytes l.bytes → (◌>>=◌ {B = X × LeftData} (r l) (λ a. Ok (f a.0, a.1))) ≡ Ok (x, m) → Takes l (s (p x)) m × (F (p x) × (f (p x) ≡ x))
+module _ {A X : Type 0} (r : LeftData → Found A) (s : A → List ℕ) (F : A → Type 0) (f : A → X) (p : X → A) (first : Reads r s F)
+    (back : (a : A) → p (f a) ≡ a) where
+  mapped_takes : (l m : LeftData) (x : X) → IsBytes l.bytes → (◌>>=◌ {B = X × LeftData} (r l) (λ a. Ok (f a.0, a.1))) ≡ Ok (x, m)
+      → Takes l (s (p x)) m × (F (p x) × (f (p x) ≡ x))
   mapped_takes l m x fits e =
       let b = bind_ok (r l) (λ a. Ok (f a.0, a.1)) (x, m) e in
       let made : X × LeftData = (f b.0.0, b.0.1) in
@@ -70,10 +76,12 @@ module _ {A X : Type 0} (r : LeftData → Found A) (s : A → List ℕ) (F : A �
       subst (λ (y : X × LeftData). Takes l (s (p y.0)) y.1 × (F (p y.0) × (f (p y.0) ≡ y.0))) (ok_is made (x, m) b.2)
       (subst (λ (a : A). Takes l (s a) b.0.1 × (F a × (f a ≡ f b.0.0))) (sym (back b.0.0)) (one.0, (one.1, refl)))
 
-  mapped_again : (x : X) (at : ℕ) (rest : List ℕ) → F (p x) × (f (p x) ≡ x) → (◌>>=◌ {B = X × LeftData} (r (left_at at (s (p x) ++ rest))) (λ a. Ok (f a.0, a.1))) ≡ Ok (x, left_at (at + length (s (p x))) rest)
+  mapped_again : (x : X) (at : ℕ) (rest : List ℕ) → F (p x) × (f (p x) ≡ x)
+      → (◌>>=◌ {B = X × LeftData} (r (left_at at (s (p x) ++ rest))) (λ a. Ok (f a.0, a.1))) ≡ Ok (x, left_at (at + length (s (p x))) rest)
   mapped_again x at rest fits = rw (first.again (p x) at rest fits.0) (ap (λ (y : X). Ok (y, left_at (at + length (s (p x))) rest)) fits.1)
 
-  mapped_faults : (l : LeftData) (d : Fault) → IsBytes l.bytes → (◌>>=◌ {B = X × LeftData} (r l) (λ a. Ok (f a.0, a.1))) ≡ Err d → d.offset ≤ l.at + length l.bytes
+  mapped_faults : (l : LeftData) (d : Fault) → IsBytes l.bytes → (◌>>=◌ {B = X × LeftData} (r l) (λ a. Ok (f a.0, a.1))) ≡ Err d
+      → d.offset ≤ l.at + length l.bytes
   mapped_faults l d fits e =
       elim (bind_err (r l) (λ a. Ok (f a.0, a.1)) d e) [
         | inl at_first ↦ first.faults l d fits at_first
@@ -93,35 +101,39 @@ module _ {X : Type 0} (r : LeftData → Found X) (s t : X → List ℕ) (F G : X
     faults = first.faults;
   }
 
-module _ {X : Type 0} (test : X → Bool) (cause : Cause) (r : LeftData → Found X) (s : X → List ℕ) (F : X → Type 0) (first : Reads r s F) where
-  tested_takes : (l m : LeftData) (x : X) → IsBytes l.bytes → tested test cause r l ≡ Ok (x, m) → Takes l (s x) m × (F x × (test x ≡ true))
-  tested_takes l m x fits e =
-      let b = bind_ok (r l) (λ y. want (test y.0) cause l.at >>= λ _. Ok y) (x, m) e in
-      let w = want_ok (test b.0.0) cause l.at (λ _. Ok b.0) (x, m) b.2 in
-      let one = first.takes l b.0.1 b.0.0 fits b.1 in
-      subst (λ (y : X × LeftData). Takes l (s y.0) y.1 × (F y.0 × (test y.0 ≡ true))) (ok_is b.0 (x, m) w.1) (one.0, (one.1, w.0))
+module _ {X : Type 0} (test : X → Bool) (cause : Cause) (r : LeftData → Found X) (s : X → List ℕ) (F : X → Type 0) (first : Reads r s F)
+  where
+    tested_takes : (l m : LeftData) (x : X) → IsBytes l.bytes → tested test cause r l ≡ Ok (x, m) → Takes l (s x) m × (F x × (test x ≡ true))
+    tested_takes l m x fits e =
+        let b = bind_ok (r l) (λ y. want (test y.0) cause l.at >>= λ _. Ok y) (x, m) e in
+        let w = want_ok (test b.0.0) cause l.at (λ _. Ok b.0) (x, m) b.2 in
+        let one = first.takes l b.0.1 b.0.0 fits b.1 in
+        subst (λ (y : X × LeftData). Takes l (s y.0) y.1 × (F y.0 × (test y.0 ≡ true))) (ok_is b.0 (x, m) w.1) (one.0, (one.1, w.0))
 
-  tested_again : (x : X) (at : ℕ) (rest : List ℕ) → F x × (test x ≡ true) → tested test cause r (left_at at (s x ++ rest)) ≡ Ok (x, left_at (at + length (s x)) rest)
-  tested_again x at rest fits = rw (first.again x at rest fits.0, fits.1) refl
+    tested_again : (x : X) (at : ℕ) (rest : List ℕ) → F x × (test x ≡ true)
+        → tested test cause r (left_at at (s x ++ rest)) ≡ Ok (x, left_at (at + length (s x)) rest)
+    tested_again x at rest fits = rw (first.again x at rest fits.0, fits.1) refl
 
-  tested_faults : (l : LeftData) (d : Fault) → IsBytes l.bytes → tested test cause r l ≡ Err d → d.offset ≤ l.at + length l.bytes
-  tested_faults l d fits e =
-      elim (bind_err (r l) (λ y. want (test y.0) cause l.at >>= λ _. Ok y) d e) [
-        | inl at_first ↦ first.faults l d fits at_first
-        | inr b ↦ elim (want_err (test b.0.0) cause l.at (λ _. Ok b.0) d b.2) [
-          | inl here ↦ omega (arith, here)
-          | inr on ↦ absurd (let no = on in cc)
+    tested_faults : (l : LeftData) (d : Fault) → IsBytes l.bytes → tested test cause r l ≡ Err d → d.offset ≤ l.at + length l.bytes
+    tested_faults l d fits e =
+        elim (bind_err (r l) (λ y. want (test y.0) cause l.at >>= λ _. Ok y) d e) [
+          | inl at_first ↦ first.faults l d fits at_first
+          | inr b ↦ elim (want_err (test b.0.0) cause l.at (λ _. Ok b.0) d b.2) [
+            | inl here ↦ omega (arith, here)
+            | inr on ↦ absurd (let no = on in cc)
+          ]
         ]
-      ]
 
-  pub tested_reads : Reads (tested test cause r) s (λ x. F x × (test x ≡ true))
-  tested_reads = record { takes = tested_takes; again = tested_again; faults = tested_faults }
+    pub tested_reads : Reads (tested test cause r) s (λ x. F x × (test x ≡ true))
+    tested_reads = record { takes = tested_takes; again = tested_again; faults = tested_faults }
 
 module _ {X : Type 0} (x : X) where
   -- nothing is read, and the value is known
   pub end : Reads (λ l. Ok (x, l)) (λ _. []) (λ y. x ≡ y)
   end = record {
-    takes = λ l m y fits e. subst (λ (z : X × LeftData). Takes l [] z.1 × (x ≡ z.0)) (ok_is (x, l) (y, m) e) (record { parts = refl; place = omega arith; rest_fits = fits }, refl);
-    again = λ y at rest e. let place : at ≡ at + 0 = omega arith in ap (λ (z : X). Ok (z, left_at at rest)) e ∙ ap (λ (n : ℕ). Ok (y, left_at n rest)) place;
+    takes = λ l m y fits e. subst (λ (z : X × LeftData). Takes l [] z.1 × (x ≡ z.0)) (ok_is (x, l) (y, m) e)
+        (record { parts = refl; place = omega arith; rest_fits = fits }, refl);
+    again = λ y at rest e. let place : at ≡ at + 0 =
+        omega arith in ap (λ (z : X). Ok (z, left_at at rest)) e ∙ ap (λ (n : ℕ). Ok (y, left_at n rest)) place;
     faults = λ l f fits e. absurd (let no = e in cc);
   }

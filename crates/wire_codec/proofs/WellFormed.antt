@@ -48,18 +48,21 @@ found_first : (b : Bool) (g k : ℕ) → b ≡ true → 1 ≤ g → 1 ≤ cond b
 found_first true g k e h = h
 found_first false g k e h = absurd cc
 
-originals_from : (c : ContextData) (es : List (NameData × ℕ)) → AreEntries es → ((n : NameData) → 1 ≤ entry_in es n → has c (Original n) ≡ true) → AreOriginals c es
+originals_from : (c : ContextData) (es : List (NameData × ℕ)) → AreEntries es
+    → ((n : NameData) → 1 ≤ entry_in es n → has c (Original n) ≡ true) → AreOriginals c es
 originals_from c [] are h = tt
 originals_from c (e ∷ es) are h = (
   h e.0 (found_first (name_eq e.0 e.0) e.1 (entry_in es e.0) (name_itself e.0) are.1),
   originals_from c es are.4 (λ n found. h n (found_later (name_eq e.0 n) e.1 (entry_in es n) are.1 found)),
 )
 
-originals_at : (c : ContextData) (m n : NameData) (b : Bool) (g k : ℕ) → name_eq m n ≡ b → has c (Original m) ≡ true → (1 ≤ k → has c (Original n) ≡ true) → 1 ≤ cond b g k → has c (Original n) ≡ true
+originals_at : (c : ContextData) (m n : NameData) (b : Bool) (g k : ℕ) → name_eq m n ≡ b → has c (Original m) ≡ true
+    → (1 ≤ k → has c (Original n) ≡ true) → 1 ≤ cond b g k → has c (Original n) ≡ true
 originals_at c m n true g k same is later found = subst (λ (x : NameData). has c (Original x) ≡ true) (name_same m n same) is
 originals_at c m n false g k same is later found = later found
 
-originals_to : (c : ContextData) (es : List (NameData × ℕ)) → AreOriginals c es → (n : NameData) → 1 ≤ entry_in es n → has c (Original n) ≡ true
+originals_to : (c : ContextData) (es : List (NameData × ℕ)) → AreOriginals c es → (n : NameData) → 1 ≤ entry_in es n
+    → has c (Original n) ≡ true
 originals_to c [] are n found = absurd (omega arith)
 originals_to c (e ∷ es) are n found = originals_at c e.0 n (name_eq e.0 n) e.1 (entry_in es n) refl are.0 (originals_to c es are.1 n) found
 
@@ -72,7 +75,9 @@ stray_keeps c are n g h =
 
 pub has_no_stray : (c : ContextData) → AreEntries c.entries → HasNoStray c → AreOriginals c c.entries
 has_no_stray c entries keeps =
-    originals_from c c.entries entries (λ n found. keeps n (entry_of c n) (and_from (leb 1 (entry_of c n)) (leb (entry_of c n) (entry_of c n)) (le-leb _ _ found) (le-leb _ _ (omega arith))))
+    originals_from c c.entries entries
+    (λ n found. keeps n (entry_of c n)
+    (and_from (leb 1 (entry_of c n)) (leb (entry_of c n) (entry_of c n)) (le-leb _ _ found) (le-leb _ _ (omega arith))))
 
 pub stray_ok : (c : ContextData) (at : ℕ) (es : List (NameData × ℕ)) → stray_from c at es ≡ Ok tt → AreOriginals c es
 unfolding stray_from
@@ -86,7 +91,8 @@ unfolding stray_from
 stray_again c at [] h = refl
 stray_again c at (e ∷ es) h = rw (h.0) (stray_again c (at + entry_len) es h.1)
 
-pub stray_faults : (c : ContextData) (at : ℕ) (es : List (NameData × ℕ)) (f : Fault) → stray_from c at es ≡ Err f → f.offset ≤ at + entry_len * length es
+pub stray_faults : (c : ContextData) (at : ℕ) (es : List (NameData × ℕ)) (f : Fault) → stray_from c at es ≡ Err f
+    → f.offset ≤ at + entry_len * length es
 unfolding stray_from
 stray_faults c at [] f h = absurd (let no = h in cc)
 stray_faults c at (e ∷ es) f h =
@@ -96,8 +102,10 @@ stray_faults c at (e ∷ es) f h =
     ]
 
 -- one step over undo entries
-module _ (c : ContextData) (at : ℕ) (before after : List (NameData × ℕ)) (total : Result (Unit {0}) Fault) (so_far : stray_from c at before ≡ total) where
-  pub stray_passes : (e : NameData × ℕ) → before ≡ e ∷ after → want (has c (Original e.0)) Stray at ≡ Ok tt → stray_from c (at + entry_len) after ≡ total
+module _ (c : ContextData) (at : ℕ) (before after : List (NameData × ℕ)) (total : Result (Unit {0}) Fault)
+    (so_far : stray_from c at before ≡ total) where
+  pub stray_passes : (e : NameData × ℕ) → before ≡ e ∷ after → want (has c (Original e.0)) Stray at ≡ Ok tt
+      → stray_from c (at + entry_len) after ≡ total
   unfolding stray_from
   stray_passes e is known =
       let step : stray_from c at before ≡ stray_from c (at + entry_len) after = rw (is, known) refl in

@@ -34,5 +34,6 @@ IsLeftAfter s t j k why old new = IsUnlooped s t j k why old new ⊎ IsLeftMidwa
 
 -- what is answered after both exchanges: the summary is written, or one of them stopped
 abbrev pub IsLoopEnded : State → State → Result ((ℕ × ℕ) × (ℕ × ℕ)) Node → Outside → Outside → Status → Type 0
-IsLoopEnded server joiner (Ok counts) old new status = IsMade (loop_text counts.0 counts.1 (alike server (server ∷ joiner ∷ []))) old new status
+IsLoopEnded server joiner (Ok counts) old new status =
+    IsMade (loop_text counts.0 counts.1 (alike server (server ∷ joiner ∷ []))) old new status
 IsLoopEnded server joiner (Err why) old new status = IsStopTold why old new status

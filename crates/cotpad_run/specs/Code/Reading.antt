@@ -78,7 +78,8 @@ edit_in ws = do
 
 -- events and a window in their ranges
 abbrev pub gen_of : ℕ → ℕ → ℕ → Option CommandData
-gen_of start events window = if nat_le events MAX_EVENTS && (nat_le 1 window && nat_le window MAX_WINDOW) then Some (Gen start events window) else None
+gen_of start events window =
+    if nat_le events MAX_EVENTS && (nat_le 1 window && nat_le window MAX_WINDOW) then Some (Gen start events window) else None
 
 unfoldable pub gen_in : List (List ℕ) → Option CommandData
 gen_in ws = do

@@ -15,11 +15,12 @@ use Rattle.transform_rec.specs.Histories.{members_alone}
 use Rattle.transform_rec.specs.declared.pending.Pending.{Pending}
 
 -- f is a derived form of m at C, and the rest may be added to C one after the other, which gives T, a set without m
-pub record IsOnWay {F : Type 0} (over : F → F → F) (b : Family F) (m : Member) (T C : Member → Bool) (f : F) (rest : List Member) : Type 0 where
-  pub derived : Derived over b m C f
-  pub path : IsCausalFrom b C rest
-  pub whole : SameSet (plus_all C rest) T
-  pub lacks : T m ≡ false
+pub record IsOnWay {F : Type 0} (over : F → F → F) (b : Family F) (m : Member) (T C : Member → Bool) (f : F) (rest : List Member) : Type 0
+  where
+    pub derived : Derived over b m C f
+    pub path : IsCausalFrom b C rest
+    pub whole : SameSet (plus_all C rest) T
+    pub lacks : T m ≡ false
 
 -- m may be added to C, and the rest to C one after the other, which gives T
 pub record IsWayBack {F : Type 0} (b : Family F) (m : Member) (T C : Member → Bool) (rest : List Member) : Type 0 where

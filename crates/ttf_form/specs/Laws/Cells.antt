@@ -42,10 +42,12 @@ pub kept_at : (s : List CellData) (a : Form) → cells_of (applied s a) ≡ put_
 kept_at s (Insert a) = map-put cell_key a.place (bare_cells a) s
 kept_at s (Covered c) = map-change cell_key (marked c.mark) (marked_key c.mark) c.place s ∙ sym (put_none c.place (cells_of s))
 
-pub form_kept : (a : Form) → (length (added_by a) ≡ extent_of a) × ((s : List CellData) → FitsCells s a → IsPutAmong (cells_of s) (added_by a) (cells_of (applied s a)))
+pub form_kept : (a : Form) → (length (added_by a) ≡ extent_of a)
+    × ((s : List CellData) → FitsCells s a → IsPutAmong (cells_of s) (added_by a) (cells_of (applied s a)))
 form_kept a = (form_added_length a, λ s h. record { at = place_of a; is = kept_at s a })
 
-pub length-applied : (s : List CellData) (a : Form) → place_of a ≤ length (cells_of s) → length (cells_of (applied s a)) ≡ length (cells_of s) + extent_of a
+pub length-applied : (s : List CellData) (a : Form) → place_of a ≤ length (cells_of s)
+    → length (cells_of (applied s a)) ≡ length (cells_of s) + extent_of a
 length-applied s a h =
     ap length (kept_at s a)
     ∙ length-put (place_of a) (added_by a) (cells_of s) h
@@ -65,7 +67,8 @@ lacks-put (suc k) new (x ∷ xs) n h g = (h.0, lacks-put k new xs n h.1 g)
 pub lacks-added : (a b : Ins) → a.site ≢ b.site → LacksName (added_by (Insert a)) b.name
 lacks-added a b h = (λ e. h (a.own ∙ ap (λ (n : NameData). n.site) e ∙ sym b.own), tt)
 
-pub form_fits : (s : List CellData) (a : Form) → FitsCells s a ↔ (IsBoundedForm a (length (cells_of s)) × NewNames (cells_of s) (added_by a))
+pub form_fits : (s : List CellData) (a : Form)
+    → FitsCells s a ↔ (IsBoundedForm a (length (cells_of s)) × NewNames (cells_of s) (added_by a))
 form_fits s a = (λ h. h, λ h. h)
 
 new_after : (s : List CellData) (a b : Form) → ApartForms a b → FitsCells s b → NewNames (cells_of (applied s a)) (added_by b)
@@ -77,7 +80,8 @@ new_after s (Covered a) (Insert b) h k =
     (lacks-put a.place [] (cells_of s) b.name k.1.0 tt, tt)
 new_after s a (Covered b) h k = tt
 
-pub form_fits_after : (s : List CellData) (a b : Form) → ApartForms a b → FitsCells s a → FitsCells s b → FitsCells (applied s a) (form_over b a)
+pub form_fits_after : (s : List CellData) (a b : Form) → ApartForms a b → FitsCells s a → FitsCells s b
+    → FitsCells (applied s a) (form_over b a)
 form_fits_after s a b h f g = (
   subst (λ n. IsBoundedForm (form_over b a) n) (sym (length-applied s a (form_bound_place a (length (cells_of s)) f.0)))
       (form_bound_over b a (length (cells_of s)) g.0),
@@ -98,7 +102,8 @@ ins_cover : (s : List CellData) (a : Ins) (c : Cover) → c.place < length s
     → applied (applied s (Insert a)) (form_over (Covered c) (Insert a)) ≡ applied (applied s (Covered c)) (Insert a)
 ins_cover s a c k = by (nat_lt c.place a.place) refl
   where
-    by : (t : Bool) → nat_lt c.place a.place ≡ t → applied (applied s (Insert a)) (form_over (Covered c) (Insert a)) ≡ applied (applied s (Covered c)) (Insert a)
+    by : (t : Bool) → nat_lt c.place a.place ≡ t
+        → applied (applied s (Insert a)) (form_over (Covered c) (Insert a)) ≡ applied (applied s (Covered c)) (Insert a)
     by true e =
         let l : c.place < a.place = grind (arith, nat_tests) in
         ap (λ p. change_at p (marked c.mark) (put_in a.place (bare_cells a) s)) (cover_stays c.place a.place (ins_extent a) e)
@@ -116,7 +121,8 @@ pub form_tp1 : (s : List CellData) (a b : Form) → ApartForms a b → FitsCells
 form_tp1 s (Insert a) (Insert b) h f g = by (goes_before a.place a.site b.place b.site) refl
   where
     by : (t : Bool) → goes_before a.place a.site b.place b.site ≡ t
-        → applied (applied s (Insert a)) (form_over (Insert b) (Insert a)) ≡ applied (applied s (Insert b)) (form_over (Insert a) (Insert b))
+        → applied (applied s (Insert a)) (form_over (Insert b) (Insert a))
+        ≡ applied (applied s (Insert b)) (form_over (Insert a) (Insert b))
     by true e = ins_front s a b e (within s b.place g.0)
     by false e = sym (ins_front s b a (before_other a.place a.site b.place b.site h e) (within s a.place f.0))
 form_tp1 s (Insert a) (Covered c) h f g = ins_cover s a c (within s (suc c.place) g.0)

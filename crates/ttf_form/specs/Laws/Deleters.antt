@@ -65,14 +65,16 @@ raise_front d g e h es l =
 pub raise_at : (d : NameData) (g h : ℕ) (es : List (NameData × ℕ)) → raise_in d g ((d, h) ∷ es) ≡ (d, max h g) ∷ es
 unfolding raise_in
 raise_at d g h es =
-    ap (λ (t : Bool). if t then (d, g) ∷ ((d, h) ∷ es) else if name_eq d d then (d, max h g) ∷ es else (d, h) ∷ raise_in d g es) (name_less_self d)
+    ap (λ (t : Bool). if t then (d, g) ∷ ((d, h) ∷ es) else if name_eq d d then (d, max h g) ∷ es else (d, h) ∷ raise_in d g es)
+    (name_less_self d)
     ∙ ap (λ (t : Bool). if t then (d, max h g) ∷ es else (d, h) ∷ raise_in d g es) (name_self d)
 
 pub raise_on : (d : NameData) (g : ℕ) (e : NameData) (h : ℕ) (es : List (NameData × ℕ)) → name_lt e d ≡ true
     → raise_in d g ((e, h) ∷ es) ≡ (e, h) ∷ raise_in d g es
 unfolding raise_in
 raise_on d g e h es l =
-    ap (λ (t : Bool). if t then (d, g) ∷ ((e, h) ∷ es) else if name_eq d e then (d, max h g) ∷ es else (e, h) ∷ raise_in d g es) (name_less_asym e d l)
+    ap (λ (t : Bool). if t then (d, g) ∷ ((e, h) ∷ es) else if name_eq d e then (d, max h g) ∷ es else (e, h) ∷ raise_in d g es)
+    (name_less_asym e d l)
     ∙ ap (λ (t : Bool). if t then (d, max h g) ∷ es else (e, h) ∷ raise_in d g es) (name_more_other e d l)
 
 pub max_assoc : (a b c : ℕ) → max (max a b) c ≡ max a (max b c)
@@ -165,7 +167,8 @@ unfolding raise_in
 best_raise d g [] = ap (λ (t : Bool). max (if t then suc g else 0) 0) (name_self d)
 best_raise d g ((e, h) ∷ es) = by (best_raise d g es) (compared d e)
   where
-    by : best d (raise_in d g es) ≡ max (suc g) (best d es) → Compared d e → best d (raise_in d g ((e, h) ∷ es)) ≡ max (suc g) (best d ((e, h) ∷ es))
+    by : best d (raise_in d g es) ≡ max (suc g) (best d es) → Compared d e
+        → best d (raise_in d g ((e, h) ∷ es)) ≡ max (suc g) (best d ((e, h) ∷ es))
     by rest (less l) =
         ap (best d) (raise_front d g e h es l)
         ∙ ap (λ (t : Bool). max (if t then suc g else 0) (best d ((e, h) ∷ es))) (name_self d)

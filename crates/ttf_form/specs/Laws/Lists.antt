@@ -24,7 +24,8 @@ put_put (suc p) (suc q) (suc n) xs ys (z ∷ s) pq qs e =
     let h : q ≤ length s = omega arith in
     ap (λ zs. z ∷ zs) (put_put p q n xs ys s g h f)
 
-pub change_behind : {A : Type 0} (f : A → A) (q n : ℕ) (xs ys : List A) → n ≡ q + length xs → change_at n f (xs ++ ys) ≡ xs ++ change_at q f ys
+pub change_behind : {A : Type 0} (f : A → A) (q n : ℕ) (xs ys : List A) → n ≡ q + length xs
+    → change_at n f (xs ++ ys) ≡ xs ++ change_at q f ys
 change_behind f q n [] ys e = let g : n ≡ q = omega arith in ap (λ k. change_at k f ys) g
 change_behind f q zero (x ∷ xs) ys e = absurd (omega arith)
 change_behind f q (suc n) (x ∷ xs) ys e =

@@ -107,7 +107,9 @@ cover_place_moved p q n =
       tie_right = λ e h. cc;
     }
 
-rises : (b c : Bool) (p n m : ℕ) → (if b then (if c then p else p + n) else (if c then p else p + n) + m) ≡ (if c then (if b then p else p + m) else (if b then p else p + m) + n)
+rises : (b c : Bool) (p n m : ℕ)
+    → (if b then (if c then p else p + n) else (if c then p else p + n) + m)
+    ≡ (if c then (if b then p else p + m) else (if b then p else p + m) + n)
 rises true true p n m = refl
 rises true false p n m = refl
 rises false true p n m = refl

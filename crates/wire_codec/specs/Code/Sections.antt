@@ -15,4 +15,7 @@ raw_count bytes = (from_be_bytes site_width (take 1 bytes), from_be_bytes w32 (d
 
 -- an undone name with its generation
 abbrev pub raw_entry : List ℕ → NameData × ℕ
-raw_entry bytes = (record { site = from_be_bytes site_width (take 1 bytes); number = from_be_bytes w32 (take 4 (drop 1 bytes)) }, from_be_bytes w16 (drop 5 bytes))
+raw_entry bytes = (
+  record { site = from_be_bytes site_width (take 1 bytes); number = from_be_bytes w32 (take 4 (drop 1 bytes)) },
+  from_be_bytes w16 (drop 5 bytes),
+)

@@ -13,5 +13,6 @@ returns-in-Some-clause-done c = λ _.
     let place = c.args.place in
     let after = reached c.edit.new.self in
     let did : Did n (local_insert s place c.in-Some.ch) (from s) after =
-    subst (λ (h : HostedData). Did n (local_insert (state_of h.site) place c.in-Some.ch) (reached h) after) c.forget.ensures c.edit.ensures in
+    subst (λ (h : HostedData). Did n (local_insert (state_of h.site) place c.in-Some.ch) (reached h) after) c.forget.ensures
+    c.edit.ensures in
     subst (λ (ch : ℕ). Did n (local_insert s place ch) (from s) after) c.in-Some.ensures.value.1 did

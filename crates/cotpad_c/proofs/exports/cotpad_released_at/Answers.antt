@@ -6,4 +6,5 @@ use Rattle.cotpad_c.proofs.exports.cotpad_released_at.Goals as goal
 
 pub returns-clause-found : goal.returns-clause-found
 returns-clause-found c = λ r at.
-    c.released_at.ensures.found r (subst (λ (o : Option HostedData). slice_get (held_releases o) c.args.index ≡ Some r) c.inner.ensures.value at)
+    c.released_at.ensures.found r (subst (λ (o : Option HostedData). slice_get (held_releases o) c.args.index ≡ Some r)
+    c.inner.ensures.value at)

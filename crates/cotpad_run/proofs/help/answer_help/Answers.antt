@@ -4,6 +4,7 @@ use Rattle.cotpad_run.proofs.help.answer_help.Goals as goal
 
 pub returns-in-Err-clause-answer : goal.returns-in-Err-clause-answer
 returns-in-Err-clause-answer g c = λ left faults. record {
-  front = subst (WritesFront (g.K.Sink.held c.args.sink.now) (g.K.Sink.held c.write_whole.new.sink)) c.as_bytes.ensures.value c.in-Err.ensures.front;
+  front = subst (WritesFront (g.K.Sink.held c.args.sink.now) (g.K.Sink.held c.write_whole.new.sink)) c.as_bytes.ensures.value
+      c.in-Err.ensures.front;
   fault = c.in-Err.ensures.cause.failed refl;
 }

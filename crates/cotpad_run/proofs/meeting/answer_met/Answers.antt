@@ -15,9 +15,11 @@ returns-in-Ok-Some-clause-answer g c =
     let f = k.site-is in
     let is : k.field-0 ≡ Some k.site = cc in
     let m = c.meet-met.ensures in
-    met_answered (g.P.Meets.side c.args.peer.now) (g.P.Meets.port c.args.peer.now) (state_of k.site) (state_of c.meet-met.new.site) c.meet-met.result _ _ _ _ c.tell_met.result
+    met_answered (g.P.Meets.side c.args.peer.now) (g.P.Meets.port c.args.peer.now) (state_of k.site) (state_of c.meet-met.new.site)
+    c.meet-met.result _ _ _ _ c.tell_met.result
     (record {
-      loaded = if_some k.field-0 k.site (λ s. IfSome (g.S.Source.left c.args.source.now) (λ bytes. IsLoadedAs 0 bytes (state_of s))) is k.ensures.loaded;
+      loaded = if_some k.field-0 k.site (λ s. IfSome (g.S.Source.left c.args.source.now) (λ bytes. IsLoadedAs 0 bytes (state_of s))) is
+          k.ensures.loaded;
       met = m.met;
       stopped = m.stopped;
       cut = m.cut;
@@ -38,9 +40,12 @@ returns-in-Ok-Some-clause-complete g c = λ agrees well.
     let m = c.meet-met.ensures in
     let left = g.S.Source.left c.args.source.now in
     let loaded = if_some k.field-0 k.site (λ s. IfSome left (λ bytes. IsLoadedAs 0 bytes (state_of s))) is k.ensures.loaded in
-    let same : state_of k.site ≡ agrees.site = loaded_is c.one_loading.ensures left agrees.log agrees.site (state_of k.site) agrees.left loaded agrees.loaded in
-    met_complete (g.P.Meets.side c.args.peer.now) (state_of c.meet-met.new.site) c.meet-met.result _ _ _ _ c.tell_met.result m.cause (c.tell_met.ensures.told _ _ _ _)
-    (λ why. m.unrefused agrees.other agrees.theirs agrees.received why agrees.peer agrees.told (subst (λ s. (g.P.Meets.side c.args.peer.now).theirs s agrees.other agrees.theirs) (sym same) agrees.messages))
+    let same : state_of k.site ≡ agrees.site =
+    loaded_is c.one_loading.ensures left agrees.log agrees.site (state_of k.site) agrees.left loaded agrees.loaded in
+    met_complete (g.P.Meets.side c.args.peer.now) (state_of c.meet-met.new.site) c.meet-met.result _ _ _ _ c.tell_met.result m.cause
+    (c.tell_met.ensures.told _ _ _ _)
+    (λ why. m.unrefused agrees.other agrees.theirs agrees.received why agrees.peer agrees.told
+    (subst (λ s. (g.P.Meets.side c.args.peer.now).theirs s agrees.other agrees.theirs) (sym same) agrees.messages))
     well
 
 pub returns-in-Ok-None-clause-answer : goal.returns-in-Ok-None-clause-answer
@@ -49,8 +54,11 @@ returns-in-Ok-None-clause-answer g c =
     let e = k.field-0-is in
     let is : k.field-0 ≡ None = cc in
     let left = g.S.Source.left c.args.source.now in
-    let refused = if_none k.field-0 (IfSome left (λ bytes. IsRefusedInto 0 bytes c.new-out.result.items c.load_input.new.out.items)) is k.ensures.refused in
-    refused_answered (g.P.Meets.side c.args.peer.now) (g.P.Meets.port c.args.peer.now) c.new-out.result.items c.deref.result.now _ _ _ _ c.write_refusal.result c.new-out.ensures.items
+    let refused =
+    if_none k.field-0 (IfSome left (λ bytes. IsRefusedInto 0 bytes c.new-out.result.items c.load_input.new.out.items)) is
+    k.ensures.refused in
+    refused_answered (g.P.Meets.side c.args.peer.now) (g.P.Meets.port c.args.peer.now) c.new-out.result.items c.deref.result.now _ _ _ _
+    c.write_refusal.result c.new-out.ensures.items
     (subst (λ line. IfSome left (λ bytes. IsRefusedInto 0 bytes c.new-out.result.items line)) (sym c.deref.ensures.value) refused)
     (record { read = k.ensures.rest; faultless = k.ensures.no_fault (λ e. absurd cc) }) refl
     (c.write_refusal.ensures.written _ _ _ _)
@@ -61,8 +69,11 @@ returns-in-Ok-None-clause-complete g c = λ agrees well.
     let e = k.field-0-is in
     let is : k.field-0 ≡ None = cc in
     let left = g.S.Source.left c.args.source.now in
-    let refused = if_none k.field-0 (IfSome left (λ bytes. IsRefusedInto 0 bytes c.new-out.result.items c.load_input.new.out.items)) is k.ensures.refused in
-    absurd (not_refused c.one_loading.ensures left agrees.log c.new-out.result.items c.load_input.new.out.items agrees.site agrees.left refused agrees.loaded)
+    let refused =
+    if_none k.field-0 (IfSome left (λ bytes. IsRefusedInto 0 bytes c.new-out.result.items c.load_input.new.out.items)) is
+    k.ensures.refused in
+    absurd (not_refused c.one_loading.ensures left agrees.log c.new-out.result.items c.load_input.new.out.items agrees.site agrees.left
+    refused agrees.loaded)
 
 -- a fault of the source is none that a faultless call has
 pub returns-in-Err-Fault-clause-complete : goal.returns-in-Err-Fault-clause-complete

@@ -17,7 +17,9 @@ loop-status-preserved g c =
     let waiting = c.in-Ok-do_lines.ensures.done _ _ _ _ c.loop-status.invariant.reading in
     let room : c.loop-status.fed + (MAX_INPUT + 1 - c.loop-status.fed) ≤ MAX_INPUT + 1 = omega (arith, waiting.few) in
     record {
-      reading = with_out _ _ c.read_on.new.reader _ c.do_lines.new.out.items (c.in-Ok-read_on.ensures.fed _ _ _ _ waiting room) c.in-Ok-do_lines.ensures.written;
+      reading =
+          with_out _ _ c.read_on.new.reader _ c.do_lines.new.out.items (c.in-Ok-read_on.ensures.fed _ _ _ _ waiting room)
+          c.in-Ok-do_lines.ensures.written;
       empty = c.in-Ok-do_lines.ensures.written;
     }
 

@@ -7,8 +7,10 @@ use Rattle.cotpad_run.proofs.replay.answer_replay.Given as goal
 
 abbrev pub invariant-loop-status : goal.invariant-loop-status
 invariant-loop-status g l = record {
-  reading : IsReading (told (g.S.Source.left l.fn.source) (g.S.Source.faults l.fn.source) (g.K.Sink.held l.fn.sink) (g.K.Sink.faults l.fn.sink))
-      (told (g.S.Source.left l.source) (g.S.Source.faults l.source) (g.K.Sink.held l.sink) (g.K.Sink.faults l.sink)) l.reader l.fed l.out.items;
+  reading : IsReading (told (g.S.Source.left l.fn.source) (g.S.Source.faults l.fn.source) (g.K.Sink.held l.fn.sink)
+      (g.K.Sink.faults l.fn.sink))
+      (told (g.S.Source.left l.source) (g.S.Source.faults l.source) (g.K.Sink.held l.sink) (g.K.Sink.faults l.sink)) l.reader l.fed
+      l.out.items;
   empty : l.out.items ≡ [];
 }
 

@@ -13,7 +13,8 @@ returns-in-Some-Replay-clause-run g c =
     let f = k.field-0-is in
     let is : k.field-0 ≡ command.Replay = cc in
     record {
-      done = λ asked spelled. same_row k.field-0 (command.Replay) asked _ _ _ is (k.ensures.only asked spelled) (replay_done _ _ _ c.answer_replay.ensures.answer refl);
+      done = λ asked spelled. same_row k.field-0 (command.Replay) asked _ _ _ is (k.ensures.only asked spelled)
+          (replay_done _ _ _ c.answer_replay.ensures.answer refl);
       wrong = λ none. absurd (none (command_data k.field-0) k.ensures.found);
     }
 
@@ -37,7 +38,8 @@ returns-in-Some-Show-clause-run g c =
     let f = k.field-0-is in
     let is : k.field-0 ≡ command.Show = cc in
     record {
-      done = λ asked spelled. same_row k.field-0 (command.Show) asked _ _ _ is (k.ensures.only asked spelled) (replying_done _ _ _ _ c.answer.ensures.answer refl);
+      done = λ asked spelled. same_row k.field-0 (command.Show) asked _ _ _ is (k.ensures.only asked spelled)
+          (replying_done _ _ _ _ c.answer.ensures.answer refl);
       wrong = λ none. absurd (none (command_data k.field-0) k.ensures.found);
     }
 
@@ -54,7 +56,8 @@ returns-in-Some-Edit-clause-run g c =
     let f = k.field-0-is in
     let is : k.field-0 ≡ command.Edit k.site k.edit = cc in
     record {
-      done = λ asked spelled. same_row k.field-0 (command.Edit k.site k.edit) asked _ _ _ is (k.ensures.only asked spelled) (replying_done _ _ _ _ c.answer-in-Some-Edit.ensures.answer refl);
+      done = λ asked spelled. same_row k.field-0 (command.Edit k.site k.edit) asked _ _ _ is (k.ensures.only asked spelled)
+          (replying_done _ _ _ _ c.answer-in-Some-Edit.ensures.answer refl);
       wrong = λ none. absurd (none (command_data k.field-0) k.ensures.found);
     }
 
@@ -71,7 +74,8 @@ returns-in-Some-Explain-clause-run g c =
     let f = k.field-0-is in
     let is : k.field-0 ≡ command.Explain k.member = cc in
     record {
-      done = λ asked spelled. same_row k.field-0 (command.Explain k.member) asked _ _ _ is (k.ensures.only asked spelled) (replying_done _ _ _ _ c.answer-in-Some-Explain.ensures.answer refl);
+      done = λ asked spelled. same_row k.field-0 (command.Explain k.member) asked _ _ _ is (k.ensures.only asked spelled)
+          (replying_done _ _ _ _ c.answer-in-Some-Explain.ensures.answer refl);
       wrong = λ none. absurd (none (command_data k.field-0) k.ensures.found);
     }
 
@@ -88,7 +92,10 @@ returns-in-Some-Gen-clause-run g c =
     let f = k.field-0-is in
     let is : k.field-0 ≡ command.Gen k.start k.events k.window = cc in
     record {
-      done = λ asked spelled. same_row k.field-0 (command.Gen k.start k.events k.window) asked _ _ _ is (k.ensures.only asked spelled) (gen_done k.start k.events k.window _ _ _ (c.answer_generated.ensures.answer (g.S.Source.left c.args.source.now) (g.S.Source.faults c.args.source.now)) c.answer_generated.ensures.counted refl refl);
+      done = λ asked spelled. same_row k.field-0 (command.Gen k.start k.events k.window) asked _ _ _ is (k.ensures.only asked spelled)
+          (gen_done k.start k.events k.window _ _ _
+          (c.answer_generated.ensures.answer (g.S.Source.left c.args.source.now) (g.S.Source.faults c.args.source.now))
+          c.answer_generated.ensures.counted refl refl);
       wrong = λ none. absurd (none (command_data k.field-0) k.ensures.found);
     }
 
@@ -98,7 +105,8 @@ returns-in-Some-Serve-clause-run g c =
     let f = k.field-0-is in
     let is : k.field-0 ≡ command.Serve k.port = cc in
     record {
-      done = λ asked spelled. same_row k.field-0 (command.Serve k.port) asked _ _ _ is (k.ensures.only asked spelled) (meeting_done serving k.port _ _ _ c.answer_met.ensures.answer c.answer_met.ensures.complete);
+      done = λ asked spelled. same_row k.field-0 (command.Serve k.port) asked _ _ _ is (k.ensures.only asked spelled)
+          (meeting_done serving k.port _ _ _ c.answer_met.ensures.answer c.answer_met.ensures.complete);
       wrong = λ none. absurd (none (command_data k.field-0) k.ensures.found);
     }
 
@@ -122,7 +130,8 @@ returns-in-Some-Join-clause-run g c =
     let f = k.field-0-is in
     let is : k.field-0 ≡ command.Join k.port = cc in
     record {
-      done = λ asked spelled. same_row k.field-0 (command.Join k.port) asked _ _ _ is (k.ensures.only asked spelled) (meeting_done joining k.port _ _ _ c.answer_met-in-Some-Join.ensures.answer c.answer_met-in-Some-Join.ensures.complete);
+      done = λ asked spelled. same_row k.field-0 (command.Join k.port) asked _ _ _ is (k.ensures.only asked spelled)
+          (meeting_done joining k.port _ _ _ c.answer_met-in-Some-Join.ensures.answer c.answer_met-in-Some-Join.ensures.complete);
       wrong = λ none. absurd (none (command_data k.field-0) k.ensures.found);
     }
 
@@ -146,7 +155,10 @@ returns-in-Some-Loop-clause-run g c =
     let f = k.field-0-is in
     let is : k.field-0 ≡ command.Loop k.start = cc in
     record {
-      done = λ asked spelled. same_row k.field-0 (command.Loop k.start) asked _ _ _ is (k.ensures.only asked spelled) (loop_done k.start _ _ _ (c.answer_looped.ensures.answer (g.S.Source.left c.args.source.now) (g.S.Source.faults c.args.source.now)) (c.answer_looped.ensures.told (g.S.Source.left c.args.source.now) (g.S.Source.faults c.args.source.now)) refl);
+      done = λ asked spelled. same_row k.field-0 (command.Loop k.start) asked _ _ _ is (k.ensures.only asked spelled)
+          (loop_done k.start _ _ _ (c.answer_looped.ensures.answer (g.S.Source.left c.args.source.now)
+          (g.S.Source.faults c.args.source.now))
+          (c.answer_looped.ensures.told (g.S.Source.left c.args.source.now) (g.S.Source.faults c.args.source.now)) refl);
       wrong = λ none. absurd (none (command_data k.field-0) k.ensures.found);
     }
 
@@ -163,7 +175,9 @@ returns-in-Some-Help-clause-run g c =
     let f = k.field-0-is in
     let is : k.field-0 ≡ command.Help = cc in
     record {
-      done = λ asked spelled. same_row k.field-0 command.Help asked _ _ _ is (k.ensures.only asked spelled) (saying_done help_text _ _ _ (c.answer_help.ensures.answer (g.S.Source.left c.args.source.now) (g.S.Source.faults c.args.source.now)) refl refl);
+      done = λ asked spelled. same_row k.field-0 command.Help asked _ _ _ is (k.ensures.only asked spelled)
+          (saying_done help_text _ _ _ (c.answer_help.ensures.answer (g.S.Source.left c.args.source.now)
+          (g.S.Source.faults c.args.source.now)) refl refl);
       wrong = λ none. absurd (none (command_data k.field-0) k.ensures.found);
     }
 
@@ -173,7 +187,9 @@ returns-in-Some-DashedHelp-clause-run g c =
     let f = k.field-0-is in
     let is : k.field-0 ≡ command.DashedHelp = cc in
     record {
-      done = λ asked spelled. same_row k.field-0 command.DashedHelp asked _ _ _ is (k.ensures.only asked spelled) (saying_done help_text _ _ _ (c.answer_help-in-Some-DashedHelp.ensures.answer (g.S.Source.left c.args.source.now) (g.S.Source.faults c.args.source.now)) refl refl);
+      done = λ asked spelled. same_row k.field-0 command.DashedHelp asked _ _ _ is (k.ensures.only asked spelled)
+          (saying_done help_text _ _ _ (c.answer_help-in-Some-DashedHelp.ensures.answer (g.S.Source.left c.args.source.now)
+          (g.S.Source.faults c.args.source.now)) refl refl);
       wrong = λ none. absurd (none (command_data k.field-0) k.ensures.found);
     }
 

@@ -9,5 +9,7 @@ use Rattle.layer_rows.proofs.book.form_in.Goals as goal
 pub base_of-requires : goal.base_of-requires
 base_of-requires c =
     let b = c.args.book.now in
-    let there : has b.have.set c.args.m.now ≡ true = (λ i. has (sym c.have.ensures i).set c.args.m.now) ∙ (sym c.contains.ensures ∙ c.if-contains.true) in
-    subst (λ (d : BookData). IsIn c.args.m.now (members_in d.ops)) (sym c.new.ensures) (known_in b.ops c.args.m.now (sym (have_known b.ops b.have.set c.known.ensures.valid c.known.ensures.have c.args.m.now) ∙ there))
+    let there : has b.have.set c.args.m.now ≡ true =
+    (λ i. has (sym c.have.ensures i).set c.args.m.now) ∙ (sym c.contains.ensures ∙ c.if-contains.true) in
+    subst (λ (d : BookData). IsIn c.args.m.now (members_in d.ops)) (sym c.new.ensures)
+    (known_in b.ops c.args.m.now (sym (have_known b.ops b.have.set c.known.ensures.valid c.known.ensures.have c.args.m.now) ∙ there))

@@ -22,5 +22,7 @@ pub returns-in-None : goal.returns-in-None
 returns-in-None c alone =
     let o = c.args.op.now in
     let is : member_of (data_of o) ≡ Original c.in-Insert.name = search rules in
-    let unknown : is_known c.args.pool.now (member_of (data_of o)) ≡ false = subst (λ (m : Member). is_known c.args.pool.now m ≡ false) (sym is) (c.in-None.ensures.none.0 refl) in
-    λ x n there at mine. absurd (false≢true (sym unknown ∙ ap (is_known c.args.pool.now) (mine ∙ sym at) ∙ known_member c.args.pool.now x there))
+    let unknown : is_known c.args.pool.now (member_of (data_of o)) ≡ false =
+    subst (λ (m : Member). is_known c.args.pool.now m ≡ false) (sym is) (c.in-None.ensures.none.0 refl) in
+    λ x n there at mine. absurd (false≢true
+    (sym unknown ∙ ap (is_known c.args.pool.now) (mine ∙ sym at) ∙ known_member c.args.pool.now x there))

@@ -15,25 +15,36 @@ loop-ch-init c = refl
 
 pub overflow_add-place : goal.overflow_add-place
 overflow_add-place c =
-    let small : c.loop-ch.place ≤ PLACES = place_small (state_of c.loop-ch.site) (state_of c.insert.new.site) c.loop-ch.place c.in-Some.ch c.known.ensures.history c.in-Ok.ensures in
+    let small : c.loop-ch.place ≤ PLACES =
+    place_small (state_of c.loop-ch.site) (state_of c.insert.new.site) c.loop-ch.place c.in-Some.ch c.known.ensures.history
+    c.in-Ok.ensures in
     omega arith
 
 pub loop-ch-preserved : goal.loop-ch-preserved
 loop-ch-preserved c =
     let text = chars c.args.text.now in
-    let turn = YieldsList-turn (YieldsList-from_chars c.args.text.now c.utf8.text cc) c.loop-ch.yielded _ c.loop-ch.yielded_by _ _ c.in-Some.ch c.in-Some.is c.next.ensures.steps in
+    let turn =
+    YieldsList-turn (YieldsList-from_chars c.args.text.now c.utf8.text cc) c.loop-ch.yielded _ c.loop-ch.yielded_by _ _ c.in-Some.ch
+    c.in-Some.is c.next.ensures.steps in
     c.loop-ch.invariant
-    ∙ typed_more c.loop-ch.place (length c.loop-ch.yielded) text (state_of c.loop-ch.site) (state_of c.insert.new.site) c.in-Some.ch turn.0 turn.1 c.in-Ok.ensures
+    ∙ typed_more c.loop-ch.place (length c.loop-ch.yielded) text (state_of c.loop-ch.site) (state_of c.insert.new.site) c.in-Some.ch turn.0
+    turn.1 c.in-Ok.ensures
     ∙ ap (λ n. typed (c.loop-ch.place + 1) (drop n text) (state_of c.insert.new.site)) (sym (length_push c.loop-ch.yielded c.in-Some.ch))
 
 pub returns-in-Err : goal.returns-in-Err
 returns-in-Err c =
     let text = chars c.args.text.now in
-    let turn = YieldsList-turn (YieldsList-from_chars c.args.text.now c.utf8.text cc) c.loop-ch.yielded _ c.loop-ch.yielded_by _ _ c.in-Some.ch c.in-Some.is c.next.ensures.steps in
+    let turn =
+    YieldsList-turn (YieldsList-from_chars c.args.text.now c.utf8.text cc) c.loop-ch.yielded _ c.loop-ch.yielded_by _ _ c.in-Some.ch
+    c.in-Some.is c.next.ensures.steps in
     subst (λ x. IsDone x (Err c.in-Err.why) (state_of c.insert.new.site)) (sym c.loop-ch.invariant)
-    (typed_refused c.loop-ch.place (length c.loop-ch.yielded) text (state_of c.loop-ch.site) (state_of c.insert.new.site) c.in-Some.ch c.in-Err.why turn.0 turn.1 c.in-Err.ensures)
+    (typed_refused c.loop-ch.place (length c.loop-ch.yielded) text (state_of c.loop-ch.site) (state_of c.insert.new.site) c.in-Some.ch
+    c.in-Err.why turn.0 turn.1 c.in-Err.ensures)
 
 pub returns : goal.returns
 returns c =
-    let end = YieldsList-end (YieldsList-from_chars c.args.text.now c.utf8.text cc) c.loop-ch.yielded _ c.loop-ch.yielded_by _ _ c.in-None.is c.next.ensures.steps in
-    c.loop-ch.invariant ∙ typed_none c.loop-ch.place (length c.loop-ch.yielded) (chars c.args.text.now) (state_of c.loop-ch.site) (omega (arith, end.1))
+    let end =
+    YieldsList-end (YieldsList-from_chars c.args.text.now c.utf8.text cc) c.loop-ch.yielded _ c.loop-ch.yielded_by _ _ c.in-None.is
+    c.next.ensures.steps in
+    c.loop-ch.invariant ∙ typed_none c.loop-ch.place (length c.loop-ch.yielded) (chars c.args.text.now) (state_of c.loop-ch.site)
+    (omega (arith, end.1))

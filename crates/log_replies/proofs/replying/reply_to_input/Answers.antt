@@ -18,7 +18,8 @@ returns-in-Ok-None-clause-reply g c =
     let left = g.S.Source.left c.args.source.now in
     let old = c.args.out.now.items in
     let new = c.load_input.new.out.items in
-    line_replied (g.C.Replies.replies command) (g.C.Replies.number command) (g.C.Replies.replies_to command) left old new (g.met.C.Replies.by_log command)
+    line_replied (g.C.Replies.replies command) (g.C.Replies.number command) (g.C.Replies.replies_to command) left old new
+    (g.met.C.Replies.by_log command)
     (subst (λ n. IfSome left (λ bytes. IsRefusedInto n bytes old new)) c.site.ensures.number
     (if_none k.field-0 (IfSome left (λ bytes. IsRefusedInto c.site.result bytes old new)) is k.ensures.refused))
 
@@ -32,7 +33,8 @@ returns-in-Ok-clause-reply g c =
     let left = g.S.Source.left c.args.source.now in
     let old = c.args.out.now.items in
     let middle = c.load_input.new.out.items in
-    state_replied (g.C.Replies.replies command) (g.C.Replies.number command) (g.C.Replies.replies_to command) (state_of k.site) left old middle c.reply_to_site.new.out.items c.in-Ok.refused (g.met.C.Replies.by_log command)
+    state_replied (g.C.Replies.replies command) (g.C.Replies.number command) (g.C.Replies.replies_to command) (state_of k.site) left old
+    middle c.reply_to_site.new.out.items c.in-Ok.refused (g.met.C.Replies.by_log command)
     (subst (λ n. IfSome left (λ bytes. IsLoadedAs n bytes (state_of k.site))) c.site.ensures.number
     (if_some k.field-0 k.site (λ s. IfSome left (λ bytes. IsLoadedAs c.site.result bytes (state_of s))) is k.ensures.loaded))
     (if_some k.field-0 k.site (λ s. middle ≡ old) is k.ensures.same)

@@ -14,13 +14,19 @@ returns-then-len-start-gt-MAX_INPUT-clause-past g c = λ is.
 pub returns-then-len-start-gt-MAX_INPUT-clause-rest :
     goal.returns-then-len-start-gt-MAX_INPUT-clause-rest
 returns-then-len-start-gt-MAX_INPUT-clause-rest g c =
-    let few : c.gather-gathered.result ≡ Ok End → length c.gather-gathered.new.out.items ≤ length c.args.out.now.items + MAX_INPUT = λ is. search rules in
-    let long : c.gather-gathered.result ≡ Ok Past → length c.gather-gathered.new.out.items ≡ length c.args.out.now.items + MAX_INPUT + 1 = λ is. search rules in
-    Gathers-left c.gather-gathered.result _ _ c.args.out.now.items c.gather-gathered.new.out.items MAX_INPUT c.gather-gathered.ensures.gathers c.gather-gathered.ensures.end few long
+    let few : c.gather-gathered.result ≡ Ok End → length c.gather-gathered.new.out.items ≤ length c.args.out.now.items + MAX_INPUT =
+    λ is. search rules in
+    let long : c.gather-gathered.result ≡ Ok Past → length c.gather-gathered.new.out.items ≡ length c.args.out.now.items + MAX_INPUT + 1 =
+    λ is. search rules in
+    Gathers-left c.gather-gathered.result _ _ c.args.out.now.items c.gather-gathered.new.out.items MAX_INPUT
+    c.gather-gathered.ensures.gathers c.gather-gathered.ensures.end few long
 
 pub returns-else-len-start-gt-MAX_INPUT-clause-rest :
     goal.returns-else-len-start-gt-MAX_INPUT-clause-rest
 returns-else-len-start-gt-MAX_INPUT-clause-rest g c =
-    let few : c.gather-gathered.result ≡ Ok End → length c.gather-gathered.new.out.items ≤ length c.args.out.now.items + MAX_INPUT = λ is. search rules in
-    let long : c.gather-gathered.result ≡ Ok Past → length c.gather-gathered.new.out.items ≡ length c.args.out.now.items + MAX_INPUT + 1 = λ is. search rules in
-    Gathers-left c.gather-gathered.result _ _ c.args.out.now.items c.gather-gathered.new.out.items MAX_INPUT c.gather-gathered.ensures.gathers c.gather-gathered.ensures.end few long
+    let few : c.gather-gathered.result ≡ Ok End → length c.gather-gathered.new.out.items ≤ length c.args.out.now.items + MAX_INPUT =
+    λ is. search rules in
+    let long : c.gather-gathered.result ≡ Ok Past → length c.gather-gathered.new.out.items ≡ length c.args.out.now.items + MAX_INPUT + 1 =
+    λ is. search rules in
+    Gathers-left c.gather-gathered.result _ _ c.args.out.now.items c.gather-gathered.new.out.items MAX_INPUT
+    c.gather-gathered.ensures.gathers c.gather-gathered.ensures.end few long

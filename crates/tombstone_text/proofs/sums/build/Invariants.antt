@@ -6,7 +6,8 @@ use Rattle.tombstone_text.proofs.sums.build.Given as goal
 
 abbrev pub invariant-loop-at : goal.invariant-loop-at
 invariant-loop-at l =
-    (l.at ≡ BLOCK * length l.blocks.items) × (BLOCK * length l.blocks.items < length l.parts + BLOCK) × (vec_capacity l.blocks ≡ vec_capacity l.fn.blocks)
+    (l.at ≡ BLOCK * length l.blocks.items) × (BLOCK * length l.blocks.items < length l.parts + BLOCK)
+    × (vec_capacity l.blocks ≡ vec_capacity l.fn.blocks)
     × ((j : ℕ) → j < length l.blocks.items → get_or l.blocks.items j 0 ≡ sum (take BLOCK (drop (BLOCK * j) l.parts)))
 
 abbrev pub decreases-loop-at : goal.decreases-loop-at

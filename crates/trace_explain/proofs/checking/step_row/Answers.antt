@@ -13,21 +13,28 @@ pub include-requires : goal.include-requires
 include-requires c =
     let s = short_history c.args.book.now.ops c.known.ensures.valid c.known.ensures.short in
     let y = c.may_include.ensures.0 c.if-not-may_include.false in
-    room c.args.book.now.ops s c.args.member.now c.args.b.now.at.member c.args.a.now.at.context c.args.a.now.form c.args.b.now.form (left_derived c.args.book.now.ops c.args.a.now c.args.member.now y.0 c.requires.left) (over_derived c.args.book.now.ops c.args.a.now c.args.b.now y.1 c.requires.over)
+    room c.args.book.now.ops s c.args.member.now c.args.b.now.at.member c.args.a.now.at.context c.args.a.now.form c.args.b.now.form
+    (left_derived c.args.book.now.ops c.args.a.now c.args.member.now y.0 c.requires.left)
+    (over_derived c.args.book.now.ops c.args.a.now c.args.b.now y.1 c.requires.over)
 
 pub add_reserved-requires-clause-member : goal.add_reserved-requires-clause-member
 add_reserved-requires-clause-member c =
     let s = short_history c.args.book.now.ops c.known.ensures.valid c.known.ensures.short in
     let y = c.may_include.ensures.0 c.if-not-may_include.false in
-    subst IsMember (sym c.member_in-x.ensures) (known_generation c.args.book.now.ops c.known.ensures.valid c.args.b.now.at.member (over_added c.args.book.now.ops s c.args.a.now c.args.b.now y.1 c.requires.over).known)
+    subst IsMember (sym c.member_in-x.ensures)
+    (known_generation c.args.book.now.ops c.known.ensures.valid c.args.b.now.at.member
+    (over_added c.args.book.now.ops s c.args.a.now c.args.b.now y.1 c.requires.over).known)
 
 pub add_reserved-requires-clause-next : goal.add_reserved-requires-clause-next
 add_reserved-requires-clause-next c =
     let s = short_history c.args.book.now.ops c.known.ensures.valid c.known.ensures.short in
     let y = c.may_include.ensures.0 c.if-not-may_include.false in
-    let next = added_next c.args.book.now.ops c.known.ensures.valid c.args.a.now.at.context c.args.b.now.at.member (over_added c.args.book.now.ops s c.args.a.now c.args.b.now y.1 c.requires.over) in
+    let next =
+    added_next c.args.book.now.ops c.known.ensures.valid c.args.a.now.at.context c.args.b.now.at.member
+    (over_added c.args.book.now.ops s c.args.a.now c.args.b.now y.1 c.requires.over) in
     let set = c.reserve.ensures.same ∙ (c.in_ok-context.ensures ∙ c.context_in.ensures) in
-    subst (λ (m : Member). IsNextMember c.reserve.new.self.set m) (sym c.member_in-x.ensures) (subst (λ (d : ContextData). IsNextMember d c.args.b.now.at.member) (sym set) next)
+    subst (λ (m : Member). IsNextMember c.reserve.new.self.set m) (sym c.member_in-x.ensures)
+    (subst (λ (d : ContextData). IsNextMember d c.args.b.now.at.member) (sym set) next)
 
 pub returns-clause-derived : goal.returns-clause-derived
 returns-clause-derived c =
@@ -37,4 +44,5 @@ returns-clause-derived c =
     let grown = c.add_reserved.ensures.added ∙ (λ i. raised (set i) (c.member_in-x.ensures i)) in
     let form = sym (c.is_same.ensures.0 c.if-not-is_same.false) ∙ c.include.ensures in
     subst (λ (d : ContextData). IsFormAt c.args.book.now.ops (pair c.args.member.now d) c.args.form.now) (sym grown)
-    (step_row_derived c.args.book.now.ops s c.args.a.now c.args.b.now c.args.member.now c.args.form.now c.requires.left c.requires.over (record { member = y.0; equal = y.1; other = y.2; lacks = y.3; form = form }))
+    (step_row_derived c.args.book.now.ops s c.args.a.now c.args.b.now c.args.member.now c.args.form.now c.requires.left c.requires.over
+    (record { member = y.0; equal = y.1; other = y.2; lacks = y.3; form = form }))

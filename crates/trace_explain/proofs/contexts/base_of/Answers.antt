@@ -6,4 +6,6 @@ use Rattle.context_diff.proofs.CallerLemmas.{known_in}
 use Rattle.trace_explain.proofs.contexts.base_of.Goals as goal
 
 pub base-requires : goal.base-requires
-base-requires c = subst (λ (b : BookData). IsIn c.args.m.now (members_in b.ops)) (sym c.new.ensures) (known_in c.args.book.now.ops c.args.m.now c.requires)
+base-requires c =
+    subst (λ (b : BookData). IsIn c.args.m.now (members_in b.ops)) (sym c.new.ensures)
+    (known_in c.args.book.now.ops c.args.m.now c.requires)

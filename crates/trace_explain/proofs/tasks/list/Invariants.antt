@@ -8,7 +8,8 @@ abbrev pub invariant-loop-task : goal.invariant-loop-task
 invariant-loop-task l = record {
   derived : AreDerived l.book.ops (data_of l.listing);
   can : CanBeDone l.book.ops l.work.tasks l.work.done;
-  gives : (end : ListingData) (e : Listed) → Gives l.book.ops l.work.tasks (data_of l.listing) l.work.done end e → Lists l.book.ops (data_of l.fn.listing) l.fn.key end e;
+  gives : (end : ListingData) (e : Listed) → Gives l.book.ops l.work.tasks (data_of l.listing) l.work.done end e
+      → Lists l.book.ops (data_of l.fn.listing) l.fn.key end e;
 }
 
 -- the most turns that the tasks take

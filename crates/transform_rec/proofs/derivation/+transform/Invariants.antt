@@ -10,4 +10,6 @@ abbrev pub decreases-transform : goal.decreases-transform
 decreases-transform g l = size (family_in l.book.now.ops (g.B.Bases.base_form l.bases.now)) (has l.to.now.set)
 
 abbrev pub invariant-loop-x : goal.invariant-loop-x
-invariant-loop-x g l = IsOnWay g.F.Include.over (family_in l.book.ops (g.B.Bases.base_form l.bases)) l.m (has l.to.set) (has l.context.set) l.form (drop l.x-index l.x-items)
+invariant-loop-x g l =
+    IsOnWay g.F.Include.over (family_in l.book.ops (g.B.Bases.base_form l.bases)) l.m (has l.to.set) (has l.context.set) l.form
+    (drop l.x-index l.x-items)

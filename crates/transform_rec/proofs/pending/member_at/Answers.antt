@@ -9,7 +9,8 @@ use Rattle.transform_rec.proofs.pending.member_at.Goals as goal
 
 pub unreachable-requires : goal.unreachable-requires
 unreachable-requires c =
-    let within : c.args.i < length (members_in c.args.book.now.ops) = subst (λ (n : ℕ). c.args.i < n) (sym (length-map c.args.book.now.ops member_of)) c.requires in
+    let within : c.args.i < length (members_in c.args.book.now.ops) =
+    subst (λ (n : ℕ). c.args.i < n) (sym (length-map c.args.book.now.ops member_of)) c.requires in
     not_past (members_in c.args.book.now.ops) c.args.i within (sym c.member.ensures ∙ c.in-None.is)
 
 pub returns-clause-range : goal.returns-clause-range

@@ -8,7 +8,9 @@ use Rattle.cot_site.proofs.CallerLemmas.{formed_at}
 use Rattle.uses.proofs.alike.has_all.Goals as goal
 
 pub has-requires : goal.has-requires
-has-requires c = formed_at c.args.book.now.ops c.loop-i.i (data_of c.in-Some.op.now) (complete c.args.book.now.ops c.known.ensures.valid).formed (sym c.in-Some.ensures)
+has-requires c =
+    formed_at c.args.book.now.ops c.loop-i.i (data_of c.in-Some.op.now) (complete c.args.book.now.ops c.known.ensures.valid).formed
+    (sym c.in-Some.ensures)
 
 pub loop-i-preserved : goal.loop-i-preserved
 loop-i-preserved c =

@@ -11,15 +11,19 @@ pub returns-clause-state : goal.returns-clause-state
 returns-clause-state c =
     let o = data_of c.args.op.now in
     let bytes = c.deref.result.now in
-    let is : bytes ≡ frame o = c.deref.ensures.value ∙ c.in_ok-encode.ensures.ok ∙ ap (λ (b : List ℕ). b ++ frame o) c.new-frame.ensures.items in
-    on_ok_weaker c.receive.result (λ received. (received_is o c.requires bytes is (state_of c.args.to.now) (state_of c.receive.new.site) received).0) c.receive.ensures.taken
+    let is : bytes ≡ frame o =
+    c.deref.ensures.value ∙ c.in_ok-encode.ensures.ok ∙ ap (λ (b : List ℕ). b ++ frame o) c.new-frame.ensures.items in
+    on_ok_weaker c.receive.result (λ received.
+    (received_is o c.requires bytes is (state_of c.args.to.now) (state_of c.receive.new.site) received).0) c.receive.ensures.taken
 
 pub returns-clause-taken : goal.returns-clause-taken
 returns-clause-taken c =
     let o = data_of c.args.op.now in
     let bytes = c.deref.result.now in
-    let is : bytes ≡ frame o = c.deref.ensures.value ∙ c.in_ok-encode.ensures.ok ∙ ap (λ (b : List ℕ). b ++ frame o) c.new-frame.ensures.items in
-    on_ok_weaker c.receive.result (λ received. (received_is o c.requires bytes is (state_of c.args.to.now) (state_of c.receive.new.site) received).1) c.receive.ensures.taken
+    let is : bytes ≡ frame o =
+    c.deref.ensures.value ∙ c.in_ok-encode.ensures.ok ∙ ap (λ (b : List ℕ). b ++ frame o) c.new-frame.ensures.items in
+    on_ok_weaker c.receive.result (λ received.
+    (received_is o c.requires bytes is (state_of c.args.to.now) (state_of c.receive.new.site) received).1) c.receive.ensures.taken
 
 pub returns-clause-refused : goal.returns-clause-refused
 returns-clause-refused c =
@@ -27,5 +31,7 @@ returns-clause-refused c =
     let s = state_of c.args.to.now in
     let t = state_of c.receive.new.site in
     let bytes = c.deref.result.now in
-    let is : bytes ≡ frame o = c.deref.ensures.value ∙ c.in_ok-encode.ensures.ok ∙ ap (λ (b : List ℕ). b ++ frame o) c.new-frame.ensures.items in
-    IfErr-weaker c.receive.result (IsUnreceived bytes s t) (IsUnsent o s t) (λ why. unsent_is o c.requires bytes is s t why) c.receive.ensures.refused
+    let is : bytes ≡ frame o =
+    c.deref.ensures.value ∙ c.in_ok-encode.ensures.ok ∙ ap (λ (b : List ℕ). b ++ frame o) c.new-frame.ensures.items in
+    IfErr-weaker c.receive.result (IsUnreceived bytes s t) (IsUnsent o s t) (λ why. unsent_is o c.requires bytes is s t why)
+    c.receive.ensures.refused

@@ -26,7 +26,8 @@ loop-left-preserved c =
     let place : c.loop-left.left ≡ i + 1 = omega (arith, c.loop-left-test.true) in
     let sent : AreSentFrom s h (i + 1) t = subst (λ k. AreSentFrom s h k t) place c.loop-left.invariant.1 in (
       omega (arith, c.loop-left.invariant.0),
-      sent_more s h i (data_of c.in-Some.op.now) (sym c.in-Some.ensures) t (state_of c.send.new.to) sent c.in_ok-send-in-Some.ensures.state c.in_ok-send-in-Some.ensures.taken,
+      sent_more s h i (data_of c.in-Some.op.now) (sym c.in-Some.ensures) t (state_of c.send.new.to) sent c.in_ok-send-in-Some.ensures.state
+          c.in_ok-send-in-Some.ensures.taken,
     )
 
 pub returns-in_err-send-in-Some-clause-refused : goal.returns-in_err-send-in-Some-clause-refused
@@ -39,7 +40,8 @@ returns-in_err-send-in-Some-clause-refused c =
     let why = c.in_err-send-in-Some.field-0.0 in
     let place : c.loop-left.left ≡ i + 1 = omega (arith, c.loop-left-test.true) in
     let sent : AreSentFrom s h (i + 1) t = subst (λ k. AreSentFrom s h k t) place c.loop-left.invariant.1 in
-    let cut : IsPartlySent h s u why = partly_sent s h i (data_of c.in-Some.op.now) (sym c.in-Some.ensures) t u why sent c.in_err-send-in-Some.ensures.refused in
+    let cut : IsPartlySent h s u why =
+    partly_sent s h i (data_of c.in-Some.op.now) (sym c.in-Some.ensures) t u why sent c.in_err-send-in-Some.ensures.refused in
     handed_on (IsPartlySent c.args.from.now.history s u) c.from_residual.result why c.from_residual.ensures.1
     (subst (λ (k : List OpData). IsPartlySent k s u why) c.book-book.ensures cut)
 

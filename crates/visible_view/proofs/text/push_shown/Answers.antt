@@ -11,7 +11,8 @@ returns-in_err-push_chunk-clause-err c =
     let more = shown_text (flat (take c.loop-i.i c.args.cells.now.chunks)) in
     let long : length c.args.out.now.items ≡ vec_len c.args.out.now = omega (arith, c.args.out.now.ok.0) in
     on_err c.from_residual.result
-    (front_stays c.args.out.now.items more c.loop-i.out.items c.push_chunk.new.out.items (vec_len c.args.out.now) (vec_len c.loop-i.out) c.loop-i.invariant long c.in_err-push_chunk.ensures.err)
+    (front_stays c.args.out.now.items more c.loop-i.out.items c.push_chunk.new.out.items (vec_len c.args.out.now) (vec_len c.loop-i.out)
+    c.loop-i.invariant long c.in_err-push_chunk.ensures.err)
 
 pub loop-i-preserved : goal.loop-i-preserved
 loop-i-preserved c =

@@ -31,4 +31,5 @@ returns-clause-only c = λ o rest well e.
 
 pub returns-clause-memory : goal.returns-clause-memory
 returns-clause-memory c =
-    on_err_weaker c.decoded.result (judged_frame c.args.bytes.now c.judge.result (λ i. omega (arith, c.type_inv.bytes i)) c.judge.ensures.exact) c.decoded.ensures.memory
+    on_err_weaker c.decoded.result (judged_frame c.args.bytes.now c.judge.result (λ i. omega (arith, c.type_inv.bytes i))
+    c.judge.ensures.exact) c.decoded.ensures.memory

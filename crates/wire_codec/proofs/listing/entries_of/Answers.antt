@@ -15,20 +15,26 @@ loop-init c = (entries_begin c.args.len c.args.left.now, c.bytes-bytes.ensures)
 pub returns-in_err-name : goal.returns-in_err-name
 returns-in_err-name c =
     let p = err_from_is_err_and c.from_residual.result c.from_residual.ensures.1 in
-    rw (p.1, p.2) (sym (entries_end c.args.len c.args.left.now c.loop.counter c.loop.before c.loop.left c.in_err-name.field-0.0 c.loop-test.true (sym c.in_err-name.ensures) c.loop.invariant.0))
+    rw (p.1, p.2) (sym (entries_end c.args.len c.args.left.now c.loop.counter c.loop.before c.loop.left c.in_err-name.field-0.0
+    c.loop-test.true (sym c.in_err-name.ensures) c.loop.invariant.0))
 
 pub loop-preserved : goal.loop-preserved
 loop-preserved c =
     let raw : IsBytes c.bytes-bytes.result.now = λ i. omega (arith, c.type_inv.bytes i) in
-    let fits : IsBytes c.args.left.now.bytes = subst IsBytes c.bytes-bytes.ensures raw in
-    (entries_go_on c.args.len c.args.left.now c.loop.counter c.loop.before c.loop.left c.entry.new.left (c.in_ok-name.name, c.in_ok-name.field-0-1) fits c.loop-test.true (sym c.in_ok-name.ensures) c.loop.invariant.0, c.bytes-bytes.ensures)
+    let fits : IsBytes c.args.left.now.bytes = subst IsBytes c.bytes-bytes.ensures raw in (
+      entries_go_on c.args.len c.args.left.now c.loop.counter c.loop.before c.loop.left c.entry.new.left
+          (c.in_ok-name.name, c.in_ok-name.field-0-1) fits c.loop-test.true (sym c.in_ok-name.ensures) c.loop.invariant.0,
+      c.bytes-bytes.ensures,
+    )
 
 pub returns : goal.returns
 returns c =
     let start : LeftData = c.args.left.now in
     let whole : c.loop.counter ≡ c.args.len = omega arith in
     let all = entries_done c.args.len start c.loop.counter c.loop.before c.loop.left c.loop-test.false c.loop.invariant.0 in
-    let list : c.new.result ≡ elements raw_entry entry_len c.loop.counter start.bytes = c.new.ensures ∙ (ap (λ (b : List ℕ). elements raw_entry entry_len c.args.len b) c.bytes-bytes.ensures ∙ ap (λ (k : ℕ). elements raw_entry entry_len k start.bytes) (sym whole)) in
+    let list : c.new.result ≡ elements raw_entry entry_len c.loop.counter start.bytes =
+    c.new.ensures ∙ (ap (λ (b : List ℕ). elements raw_entry entry_len c.args.len b) c.bytes-bytes.ensures
+    ∙ ap (λ (k : ℕ). elements raw_entry entry_len k start.bytes) (sym whole)) in
     ap (λ (es : List (NameData × ℕ)). Ok (es, c.loop.left)) list ∙ sym all
 
 pub new-requires-clause-named : goal.new-requires-clause-named

@@ -6,4 +6,5 @@ use Rattle.wire_codec.proofs.Elements.{IsUnderWay}
 use Rattle.wire_codec.proofs.listing.entries_of.Given as goal
 
 abbrev pub invariant-loop : goal.invariant-loop
-invariant-loop l = IsUnderWay entry_at name_of raw_entry entry_len l.len None l.fn.left l.counter l.before l.left × (l.bytes ≡ l.fn.left.bytes)
+invariant-loop l =
+    IsUnderWay entry_at name_of raw_entry entry_len l.len None l.fn.left l.counter l.before l.left × (l.bytes ≡ l.fn.left.bytes)

@@ -11,7 +11,8 @@ decoded-requires c = state_counts c.args.bytes.now c.judge.result (λ i. omega (
 
 answer : (c : goal.After-decoded) → IfOk c.decoded.result (λ d. state_judgement_of d ≡ judge_state c.args.bytes.now)
 answer c =
-    IfOk-weaker c.decoded.result (λ d. state_judgement_of d ≡ state_as c.judge.result) (λ d. state_judgement_of d ≡ judge_state c.args.bytes.now)
+    IfOk-weaker c.decoded.result (λ d. state_judgement_of d ≡ state_as c.judge.result)
+    (λ d. state_judgement_of d ≡ judge_state c.args.bytes.now)
     (λ d e. e ∙ c.judge.ensures) c.decoded.ensures.exact
 
 pub returns-clause-tells : goal.returns-clause-tells
@@ -21,9 +22,11 @@ returns-clause-tells c =
 
 pub returns-clause-only : goal.returns-clause-only
 returns-clause-only c = λ s rest is e.
-    IfOk-weaker c.decoded.result (λ d. state_judgement_of d ≡ judge_state c.args.bytes.now) (λ d. state_judgement_of d ≡ Ok (s, length (state_bytes s)))
+    IfOk-weaker c.decoded.result (λ d. state_judgement_of d ≡ judge_state c.args.bytes.now)
+    (λ d. state_judgement_of d ≡ Ok (s, length (state_bytes s)))
     (λ d same. same ∙ state_only c.args.bytes.now s rest is e) (answer c)
 
 pub returns-clause-memory : goal.returns-clause-memory
 returns-clause-memory c =
-    on_err_weaker c.decoded.result (judged_state c.args.bytes.now c.judge.result (λ i. omega (arith, c.type_inv.bytes i)) c.judge.ensures) c.decoded.ensures.memory
+    on_err_weaker c.decoded.result (judged_state c.args.bytes.now c.judge.result (λ i. omega (arith, c.type_inv.bytes i)) c.judge.ensures)
+    c.decoded.ensures.memory

@@ -11,7 +11,9 @@ unless_stray-requires c =
     let len = c.from_be_bytes-len.result in
     let all : IsBytes c.args.bytes.now = λ i. omega (arith, c.type_inv.bytes i) in
     let back : IsBytes c.split_at.result.1.now = subst IsBytes (sym c.split_at.ensures.back) (IsBytes-drop 4 c.args.bytes.now all) in
-    let fits : IsBytes start.bytes = subst IsBytes (sym (ap (λ (l : LeftData). l.bytes) c.new-left.ensures)) (IsBytes-take (entry_len * len) c.split_at.result.1.now back) in
+    let fits : IsBytes start.bytes =
+    subst IsBytes (sym (ap (λ (l : LeftData). l.bytes) c.new-left.ensures))
+    (IsBytes-take (entry_len * len) c.split_at.result.1.now back) in
     let count : length c.in-Ok.listed ≡ len = entries_listed len start c.entries_of.new.left c.in-Ok.listed fits (sym c.in-Ok.ensures) in
     let enough = c.if-bytes-entries.false in
     let short = c.requires in

@@ -7,7 +7,8 @@ follows : (c : goal.After-vector-1) → FollowsCounts c.loop-site.vector.set.cou
 follows c =
     let pair : ℕ × ℕ = (c.in-Some.site, c.in-Some.count) in
     let before : List (ℕ × ℕ) = c.loop-site.vector.set.counts in
-    let parts : before ++ pair ∷ c.next.new.self ≡ c.args.counts.now = ap (λ (t : List (ℕ × ℕ)). before ++ t) (sym c.in-Some.ensures.steps) ∙ c.loop-site.invariant.0 in
+    let parts : before ++ pair ∷ c.next.new.self ≡ c.args.counts.now =
+    ap (λ (t : List (ℕ × ℕ)). before ++ t) (sym c.in-Some.ensures.steps) ∙ c.loop-site.invariant.0 in
     follows_counts c.args.counts.now before c.next.new.self pair c.requires parts
 
 pub push_count-requires-clause-last : goal.push_count-requires-clause-last

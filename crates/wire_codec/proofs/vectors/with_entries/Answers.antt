@@ -9,7 +9,8 @@ follows : (c : goal.After-vector-1) → NamesBelow c.loop-name.vector.set.entrie
 follows c =
     let pair : NameData × ℕ = (c.in-Some.name, c.in-Some.generation) in
     let before : List (NameData × ℕ) = c.loop-name.vector.set.entries in
-    let parts : before ++ pair ∷ c.next.new.self ≡ c.args.entries.now = ap (λ (t : List (NameData × ℕ)). before ++ t) (sym c.in-Some.ensures.steps) ∙ c.loop-name.invariant.0 in
+    let parts : before ++ pair ∷ c.next.new.self ≡ c.args.entries.now =
+    ap (λ (t : List (NameData × ℕ)). before ++ t) (sym c.in-Some.ensures.steps) ∙ c.loop-name.invariant.0 in
     follows_entries c.args.entries.now before c.next.new.self pair c.known.ensures parts
 
 pub push_entry-requires-clause-last : goal.push_entry-requires-clause-last

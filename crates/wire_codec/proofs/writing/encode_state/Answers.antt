@@ -11,7 +11,8 @@ put_named-requires-clause-room c =
     let listed = length-counts c.args.members.now.set.counts in
     let l = c.put_counts.ensures.len in
     let k = c.put_counts.ensures.capacity in
-    let named : length c.as_slice.result.now ≡ length c.args.members.now.set.entries = ap length (c.as_slice.ensures.value ∙ c.in_ok-entries.ensures) in
+    let named : length c.as_slice.result.now ≡ length c.args.members.now.set.entries =
+    ap length (c.as_slice.ensures.value ∙ c.in_ok-entries.ensures) in
     omega (arith, room, size, listed, l, k, named)
 
 pub put_named-requires-clause-len : goal.put_named-requires-clause-len
@@ -23,6 +24,9 @@ returns-clause-ok c =
     let start = c.args.out.now.items in
     let counts = counts_bytes c.args.members.now.set.counts in
     let named = named_bytes c.args.members.now.set.entries in
-    let first : c.put_counts.new.out.items ≡ start ++ counts = c.put_counts.ensures.items ∙ ap (λ (t : List ℕ). t ++ counts) c.in_ok-reserve.ensures.items in
-    let second : c.put_named.new.out.items ≡ c.put_counts.new.out.items ++ named = c.put_named.ensures.items ∙ ap (λ es. c.put_counts.new.out.items ++ named_bytes es) (c.as_slice.ensures.value ∙ c.in_ok-entries.ensures) in
+    let first : c.put_counts.new.out.items ≡ start ++ counts =
+    c.put_counts.ensures.items ∙ ap (λ (t : List ℕ). t ++ counts) c.in_ok-reserve.ensures.items in
+    let second : c.put_named.new.out.items ≡ c.put_counts.new.out.items ++ named =
+    c.put_named.ensures.items ∙ ap (λ es. c.put_counts.new.out.items ++ named_bytes es)
+    (c.as_slice.ensures.value ∙ c.in_ok-entries.ensures) in
     second ∙ (ap (λ (t : List ℕ). t ++ named) first ∙ append_assoc start counts named)

@@ -7,7 +7,8 @@ use Rattle.wire_codec.proofs.writing.put_insert.Goals as goal
 pub returns : goal.returns
 unfolding head_bytes
 returns c =
-    let place : c.put-2.new.out.items ≡ c.put_name.new.out.items ++ to_be_bytes w32 c.args.place = rw (← c.to_be_bytes.ensures) c.put-2.ensures.items in
+    let place : c.put-2.new.out.items ≡ c.put_name.new.out.items ++ to_be_bytes w32 c.args.place =
+    rw (← c.to_be_bytes.ensures) c.put-2.ensures.items in
     let wide : length c.to_be_bytes.result ≡ 4 = rw (c.to_be_bytes.ensures) refl in
     let l1 = c.put.ensures.len in
     let l2 = c.put_name.ensures.len in
@@ -18,7 +19,8 @@ returns c =
     let k3 = c.put-2.ensures.capacity in
     let k4 = c.put_character.ensures.capacity in
     record {
-      items = four_pieces c.args.out.now.items c.put.new.out.items c.put_name.new.out.items c.put-2.new.out.items c.put_character.new.out.items
+      items = four_pieces c.args.out.now.items c.put.new.out.items c.put_name.new.out.items c.put-2.new.out.items
+          c.put_character.new.out.items
           (to_be_bytes w8 1) (name_bytes c.args.name.now) (to_be_bytes w32 c.args.place) (to_be_bytes w32 c.args.ch)
           c.put.ensures.items c.put_name.ensures.items place c.put_character.ensures.items;
       len = omega (arith, l1, l2, l3, l4, wide);

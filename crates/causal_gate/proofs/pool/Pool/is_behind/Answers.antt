@@ -9,7 +9,8 @@ use Rattle.causal_gate.proofs.pool.Pool.is_behind.Goals as goal
 pub returns-in-Some-Some-clause-waits : goal.returns-in-Some-Some-clause-waits
 returns-in-Some-Some-clause-waits c = λ behind o there.
     let ns = c.self.inside.befores.items in
-    let seen : c.name_in.result ≡ slice_get ns c.args.i = c.name_in.ensures ∙ ap (λ (ks : List (Option NameData)). slice_get ks c.args.i) c.as_slice.ensures.value in
+    let seen : c.name_in.result ≡ slice_get ns c.args.i =
+    c.name_in.ensures ∙ ap (λ (ks : List (Option NameData)). slice_get ks c.args.i) c.as_slice.ensures.value in
     let is = c.in-Some-Some.is in
     let field = c.in-Some-Some.field-0-is in
     let at : slice_get ns c.args.i ≡ Some (Some c.in-Some-Some.before) = cc in

@@ -44,15 +44,19 @@ empty_spec 𝓤 𝓛 𝓜 𝓡 wired =
     let a = z.0.3.0 in let Post : Val → SProp 𝓤 = (walk_of 𝓛 F.ended stayed c).post z in
     let Run : List Val → SProp 𝓤 = λ ws. WpFn 𝓤 𝓛.H 𝓣.C 𝓣.Λ code.function ws Post in
     let made : (Handle.the_row).Denot = record { at = null_ptr; alloc = a; site = None } in
-    qed 𝓛 ((‵ ftrue ⊛ ‵ (owns (types_at F.signature.params z.0.0) z.0.3 z.0.4)) ∷ raw ((c z.0.0 z.0.3).requires z.1) ∷ []) ∵ move ! (1 ∷ []) $ drop ! $ split ! $ drop ! $ fsplit ! $
+    qed 𝓛 ((‵ ftrue ⊛ ‵ (owns (types_at F.signature.params z.0.0) z.0.3 z.0.4)) ∷ raw ((c z.0.0 z.0.3).requires z.1) ∷ []) ∵ move ! (1 ∷ [])
+    $ drop ! $ split ! $ drop ! $ fsplit ! $
     handle_tells E.al ! a z.0.4.0 (λ h eh fits. move ! (1 ∷ []) $ drop ! $
     suffices ! (Run (h ∷ [])) (subst (λ (us : List Val). ent 𝓤 (Run (h ∷ [])) (Run us)) (sym (λ i. eh i ++ [])) (id⊢ 𝓤 (Run (h ∷ [])))) $
     enter ! 𝓣.C 𝓣.Λ code.function (h ∷ []) Post $ alloc_all ! (λ l. pass_all ! refl (fits, tt) $
-    sets ! (agg ! (and_then ! (lit ! tt) (and_then ! (get ! refl) (no_more !)))) refl (and_tt _ fits.0, (record { fits = lit< tt }, (fits.1, tt))) $
+    sets ! (agg ! (and_then ! (lit ! tt) (and_then ! (get ! refl) (no_more !)))) refl
+    (and_tt _ fits.0, (record { fits = lit< tt }, (fits.1, tt))) $
     returns ! (look_at ! 0 refl) $ free_all ! refl $
     -- [the allocator]
-    nothing ! $ move ! (1 ∷ 0 ∷ []) $ nothing ! $ move ! (1 ∷ 0 ∷ []) $ fjoin ! $ feq_i ! (List Val) (vint w64 0 ∷ []) (ptr_val null_ptr ∷ []) refl $ fjoin ! $
+    nothing ! $ move ! (1 ∷ 0 ∷ []) $ nothing ! $ move ! (1 ∷ 0 ∷ []) $ fjoin ! $ feq_i ! (List Val) (vint w64 0 ∷ [])
+    (ptr_val null_ptr ∷ []) refl $ fjoin ! $
     feq_i ! (List Val) (word h ∷ []) (word h ∷ []) refl $ fjoin ! $
-    fpack ! (Valss (RawPtr ∷ (Heap.the_field).row ∷ [])) (within (shape Handle.the_type) (to Handle.the_type made) (word h ∷ [])) (vint w64 0 ∷ [], (h ∷ [], tt)) $ fjoin ! $
+    fpack ! (Valss (RawPtr ∷ (Heap.the_field).row ∷ [])) (within (shape Handle.the_type) (to Handle.the_type made) (word h ∷ []))
+    (vint w64 0 ∷ [], (h ∷ [], tt)) $ fjoin ! $
     suffices ! _ (ends_at 𝓛 F.ended stayed c z (word h) made (tt, tt) (tt, tt)) $ says ! refl $
     nothing ! $ nothing ! $ fjoin ! $ join ! $ nothing ! $ join ! $ done !)))

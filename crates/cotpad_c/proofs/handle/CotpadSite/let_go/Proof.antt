@@ -25,7 +25,14 @@ use Rattle.cotpad_c.proofs.handle.CotpadSite.let_go.Code as code
 
 -- the handle's row, for its machine value
 abbrev A : Al
-A = record { row = Handle.the_row; laws = handle.the_row_laws; g = record { dealloc_token = λ _ _ _. ftrue }; d = impl [] tnil dnil; drops = impl [] tnil dnil }
+A = record {
+  row = Handle.the_row;
+  laws = handle.the_row_laws;
+  g = record { dealloc_token = λ _ _ _. ftrue };
+  d = impl [] tnil dnil;
+  drops =
+      impl [] tnil dnil;
+}
 
 abbrev stayed : Stays (F.ended).signature.params (F.ended).kept
 stayed = (stay_dropped (plain (λ _. Handle.the_row)) yes, tt)
@@ -37,7 +44,8 @@ let_go_spec 𝓤 𝓛 𝓜 𝓡 wired =
     #self code.function (code.unfolded 𝓤 𝓛.H 𝓜 𝓡 wired) (λ z are.
     let Post : Val → SProp 𝓤 = (walk_of 𝓛 F.ended stayed c).post z in
     let Run : List Val → SProp 𝓤 = λ ws. WpFn 𝓤 𝓛.H 𝓣.C 𝓣.Λ code.function ws Post in
-    qed 𝓛 ((‵ ftrue ⊛ ‵ (owns (types_at F.signature.params z.0.0) z.0.3 z.0.4)) ∷ raw ((c z.0.0 z.0.3).requires z.1) ∷ []) ∵ move ! (1 ∷ []) $ drop ! $ split ! $ drop ! $ fsplit ! $
+    qed 𝓛 ((‵ ftrue ⊛ ‵ (owns (types_at F.signature.params z.0.0) z.0.3 z.0.4)) ∷ raw ((c z.0.0 z.0.3).requires z.1) ∷ []) ∵ move ! (1 ∷ [])
+    $ drop ! $ split ! $ drop ! $ fsplit ! $
     handle_tells A ! z.0.3.0 z.0.4.0 (λ v ev fits. drop ! $ drop ! $
     suffices ! (Run (v ∷ [])) (subst (λ (us : List Val). ent 𝓤 (Run (v ∷ [])) (Run us)) (sym (λ i. ev i ++ [])) (id⊢ 𝓤 (Run (v ∷ [])))) $
     enter ! 𝓣.C 𝓣.Λ code.function (v ∷ []) Post $ alloc_all ! (λ l. pass_all ! refl (fits, tt) $

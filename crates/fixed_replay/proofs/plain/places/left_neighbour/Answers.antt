@@ -16,10 +16,12 @@ loop-i-preserved c =
     elim c.if-knows.branch [
       | then-knows w ↦
           let step = nth_seen p more cells i x c.loop-i-test.true c.index-cells-i.is some (sym c.knows.ensures ∙ w.if-knows.true) in
-          let same : up_to_nth p c.if-knows.more (drop (i + 1) cells) ≡ up_to_nth p (more - 1) (drop (i + 1) cells) = ap (λ n. up_to_nth p n (drop (i + 1) cells)) w.more-is in
+          let same : up_to_nth p c.if-knows.more (drop (i + 1) cells) ≡ up_to_nth p (more - 1) (drop (i + 1) cells) =
+          ap (λ n. up_to_nth p n (drop (i + 1) cells)) w.more-is in
           omega (arith, c.loop-i.invariant, step, same)
       | else-knows w ↦
           let step = nth_past p more cells i x c.loop-i-test.true c.index-cells-i.is some (sym c.knows.ensures ∙ w.if-knows.false) in
-          let same : up_to_nth p c.if-knows.more (drop (i + 1) cells) ≡ up_to_nth p more (drop (i + 1) cells) = ap (λ n. up_to_nth p n (drop (i + 1) cells)) w.more-is in
+          let same : up_to_nth p c.if-knows.more (drop (i + 1) cells) ≡ up_to_nth p more (drop (i + 1) cells) =
+          ap (λ n. up_to_nth p n (drop (i + 1) cells)) w.more-is in
           omega (arith, c.loop-i.invariant, step, same)
     ]

@@ -7,13 +7,15 @@ use Rattle.fixed_replay.proofs.plain.places.narrowed_by.Goals as goal
 pub returns-then-goes_after-clause-stretch : goal.returns-then-goes_after-clause-stretch
 returns-then-goes_after-clause-stretch c =
     let names = c.args.cells.now in
-    narrowed_left (insertion_of c.args.inserted.now) c.args.other.now names c.args.stretch.left c.args.stretch.right c.requires.rising c.requires.within
+    narrowed_left (insertion_of c.args.inserted.now) c.args.other.now names c.args.stretch.left c.args.stretch.right c.requires.rising
+    c.requires.within
     (sym c.knows.ensures ∙ c.if-knows.false) (sym c.goes_after.ensures ∙ c.if-goes_after.true)
     ∙ ap (λ n. gap_between (map cell_of names) (c.args.stretch.left + n) c.args.stretch.right) (sym c.past_last.ensures.place)
 
 pub returns-else-goes_after-clause-stretch : goal.returns-else-goes_after-clause-stretch
 returns-else-goes_after-clause-stretch c =
     let names = c.args.cells.now in
-    narrowed_right (insertion_of c.args.inserted.now) c.args.other.now names c.args.stretch.left c.args.stretch.right c.requires.rising c.requires.within
+    narrowed_right (insertion_of c.args.inserted.now) c.args.other.now names c.args.stretch.left c.args.stretch.right c.requires.rising
+    c.requires.within
     (sym c.knows.ensures ∙ c.if-knows.false) (sym c.goes_after.ensures ∙ c.if-goes_after.false)
     ∙ ap (λ n. gap_between (map cell_of names) c.args.stretch.left (c.args.stretch.left + n)) (sym c.before_name.ensures.place)

@@ -15,19 +15,22 @@ loop-i-preserved c =
     let x = c.index-cells-i.result in
     elim c.if-eq.branch [
       | then-eq w ↦ record {
-        place = c.loop-i.invariant.place ∙ (last_at p c.loop-i.past cells i x c.loop-i-test.true c.index-cells-i.is (sym c.eq.ensures ∙ w.if-eq.true)
+        place = c.loop-i.invariant.place
+            ∙ (last_at p c.loop-i.past cells i x c.loop-i-test.true c.index-cells-i.is (sym c.eq.ensures ∙ w.if-eq.true)
             ∙ ap (λ n. last_from p n (i + 1) (drop (i + 1) cells)) (sym w.past-is));
         within = let is = w.past-is in omega arith;
       }
       | else-eq w ↦ record {
-        place = c.loop-i.invariant.place ∙ (last_past p c.loop-i.past cells i x c.loop-i-test.true c.index-cells-i.is (sym c.eq.ensures ∙ w.if-eq.false)
+        place = c.loop-i.invariant.place
+            ∙ (last_past p c.loop-i.past cells i x c.loop-i-test.true c.index-cells-i.is (sym c.eq.ensures ∙ w.if-eq.false)
             ∙ ap (λ n. last_from p n (i + 1) (drop (i + 1) cells)) (sym w.past-is));
         within = let is = w.past-is in let was = c.loop-i.invariant.within in omega arith;
       }
     ]
 
 pub returns-clause-place : goal.returns-clause-place
-returns-clause-place c = sym (c.loop-i.invariant.place ∙ last_end (name_eq c.args.name.now) c.loop-i.past c.args.cells.now c.loop-i.i c.loop-i-test.false)
+returns-clause-place c =
+    sym (c.loop-i.invariant.place ∙ last_end (name_eq c.args.name.now) c.loop-i.past c.args.cells.now c.loop-i.i c.loop-i-test.false)
 
 pub returns-clause-within : goal.returns-clause-within
 returns-clause-within c = let was = c.loop-i.invariant.within in let end = c.loop-i.auto.i-end in omega arith

@@ -5,4 +5,6 @@ use Rattle.fixed_replay.proofs.plain.places.replay.Given as goal
 
 -- what is left of the replay begins at these cells
 abbrev pub invariant-loop-i : goal.invariant-loop-i
-invariant-loop-i l = replay [] [] (map insertion_of l.order) ≡ replay (map name_of (take l.i l.order)) (map cell_of l.cells.items) (map insertion_of (drop l.i l.order))
+invariant-loop-i l =
+    replay [] [] (map insertion_of l.order)
+    ≡ replay (map name_of (take l.i l.order)) (map cell_of l.cells.items) (map insertion_of (drop l.i l.order))

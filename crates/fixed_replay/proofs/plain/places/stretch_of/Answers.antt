@@ -10,7 +10,9 @@ loop-other-init c =
     let l = c.left_neighbour-left.result in
     let f = c.first_known.result in
     record {
-      stretch = gap_of_starts c.args.inserted.now (map name_of c.args.earlier.now) c.args.cells.now l f c.left_neighbour-left.ensures.place c.first_known.ensures.place;
+      stretch =
+          gap_of_starts c.args.inserted.now (map name_of c.args.earlier.now) c.args.cells.now l f c.left_neighbour-left.ensures.place
+          c.first_known.ensures.place;
       rising = omega arith;
       within = start_within c.args.cells.now l f c.left_neighbour-left.ensures.within c.first_known.ensures.within;
     }
@@ -24,7 +26,8 @@ loop-other-preserved c =
     record {
       stretch = c.loop-other.invariant.stretch
           ∙ (narrowed_more o earlier i c.other-item.result g c.loop-other-test.true c.other-item.is
-          ∙ ap (narrowed o (map name_of (drop (i + 1) earlier))) (ap (λ n. narrowed_by o n g) (sym c.name.ensures) ∙ c.narrowed_by-stretch.ensures.stretch));
+          ∙ ap (narrowed o (map name_of (drop (i + 1) earlier)))
+          (ap (λ n. narrowed_by o n g) (sym c.name.ensures) ∙ c.narrowed_by-stretch.ensures.stretch));
       rising = c.narrowed_by-stretch.ensures.rising;
       within = c.narrowed_by-stretch.ensures.within;
     }
@@ -32,4 +35,5 @@ loop-other-preserved c =
 pub returns-clause-stretch : goal.returns-clause-stretch
 returns-clause-stretch c =
     let g = gap_between (map cell_of c.args.cells.now) c.loop-other.stretch.left c.loop-other.stretch.right in
-    c.loop-other.invariant.stretch ∙ narrowed_end (insertion_of c.args.inserted.now) c.args.earlier.now c.loop-other.other-index g c.loop-other-test.false
+    c.loop-other.invariant.stretch ∙ narrowed_end (insertion_of c.args.inserted.now) c.args.earlier.now c.loop-other.other-index g
+    c.loop-other-test.false

@@ -8,7 +8,8 @@ use Rattle.fixed_replay.proofs.plain.places.stretch_of.Given as goal
 abbrev pub invariant-loop-other : goal.invariant-loop-other
 invariant-loop-other l = record {
   stretch : gap_of (insertion_of l.inserted) (map name_of l.earlier) (map cell_of l.cells)
-      ≡ narrowed (insertion_of l.inserted) (map name_of (drop l.other-index l.earlier)) (gap_between (map cell_of l.cells) l.stretch.left l.stretch.right);
+      ≡ narrowed (insertion_of l.inserted) (map name_of (drop l.other-index l.earlier))
+      (gap_between (map cell_of l.cells) l.stretch.left l.stretch.right);
   rising : l.stretch.left ≤ l.stretch.right;
   within : l.stretch.right ≤ length l.cells;
 }

@@ -6,4 +6,5 @@ use Rattle.fixed_replay.proofs.plain.shown.character_in.Given as goal
 
 -- no insert so far has the name
 abbrev pub invariant-loop-op : goal.invariant-loop-op
-invariant-loop-op l = character_in (map data_of l.ops) (cell_of l.cell) ≡ character_in (map data_of (drop l.op-index l.ops)) (cell_of l.cell)
+invariant-loop-op l =
+    character_in (map data_of l.ops) (cell_of l.cell) ≡ character_in (map data_of (drop l.op-index l.ops)) (cell_of l.cell)

@@ -12,7 +12,8 @@ returns-then-before-eq0 c =
     let x = c.other-item.result in
     let same : c.eq.result ≡ name_eq x c.args.cell.now = c.eq.ensures in
     same ∙ sym (c.loop-other.invariant
-    ∙ stands_here sees c.args.cell.now c.loop-other.before c.args.cells.now c.loop-other.other-index x c.loop-other-test.true c.other-item.is (sym c.contains.ensures ∙ c.if-contains.true) c.if-before-eq0.true)
+    ∙ stands_here sees c.args.cell.now c.loop-other.before c.args.cells.now c.loop-other.other-index x c.loop-other-test.true
+    c.other-item.is (sym c.contains.ensures ∙ c.if-contains.true) c.if-before-eq0.true)
 
 pub loop-other-preserved : goal.loop-other-preserved
 loop-other-preserved c =
@@ -26,7 +27,8 @@ loop-other-preserved c =
       | then-contains+else-before-eq0 w ↦
           let some : 0 < before = let other = w.if-before-eq0.false in omega arith in
           c.loop-other.invariant
-          ∙ (stands_later sees cell before cells i x c.loop-other-test.true c.other-item.is (sym c.contains.ensures ∙ w.if-contains.true) some
+          ∙ (stands_later sees cell before cells i x c.loop-other-test.true c.other-item.is (sym c.contains.ensures ∙ w.if-contains.true)
+          some
           ∙ ap (λ n. stands_among sees cell n (drop (i + 1) cells)) (sym w.before-is))
       | else-contains w ↦
           c.loop-other.invariant
@@ -37,4 +39,5 @@ loop-other-preserved c =
 pub returns : goal.returns
 returns c =
     let sees : NameData → Bool = λ n. has c.args.context.now.set (Original n) in
-    sym (c.loop-other.invariant ∙ stands_end sees c.args.cell.now c.loop-other.before c.args.cells.now c.loop-other.other-index c.loop-other-test.false)
+    sym (c.loop-other.invariant ∙ stands_end sees c.args.cell.now c.loop-other.before c.args.cells.now c.loop-other.other-index
+    c.loop-other-test.false)

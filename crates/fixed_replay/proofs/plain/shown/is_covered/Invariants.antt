@@ -7,4 +7,6 @@ use Rattle.fixed_replay.proofs.plain.shown.is_covered.Given as goal
 
 -- no operation so far covers the cell
 abbrev pub invariant-loop-op : goal.invariant-loop-op
-invariant-loop-op l = list_any (covers (map data_of l.ops) (cell_of l.cell)) (map data_of l.ops) ≡ list_any (covers (map data_of l.ops) (cell_of l.cell)) (map data_of (drop l.op-index l.ops))
+invariant-loop-op l =
+    list_any (covers (map data_of l.ops) (cell_of l.cell)) (map data_of l.ops)
+    ≡ list_any (covers (map data_of l.ops) (cell_of l.cell)) (map data_of (drop l.op-index l.ops))

@@ -13,7 +13,8 @@ invariant_of-self c =
     record {
       flags_are =
           c.shrink_to-2.ensures.items ∙ c.move_flags.ensures.lower ∙ ap (λ (fs : List ℕ). take c.args.keep fs) c.self.invariant.flags_are
-          ∙ take-map flag_of c.args.keep xs ∙ ap (λ (s : List CellData). map flag_of s) (sym (c.shrink_to.ensures.items ∙ c.move_cells.ensures.lower));
+          ∙ take-map flag_of c.args.keep xs
+          ∙ ap (λ (s : List CellData). map flag_of s) (sym (c.shrink_to.ensures.items ∙ c.move_cells.ensures.lower));
       most = subst (λ (s : List CellData). length s ≤ FULL) (sym (c.shrink_to.ensures.items ∙ c.move_cells.ensures.lower)) most;
     }
 

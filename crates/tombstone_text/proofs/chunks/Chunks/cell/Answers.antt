@@ -12,7 +12,8 @@ returns-then-i-total c =
     let cs = (bodies c.self.inside.list.items) in
     let part = subst (λ ls. IsPart ls c.find-k.result.0 c.find-k.result.1 c.args.i) c.self.invariant.lens_are c.find-k.ensures in
     let spot = chunked.spot cs c.find-k.result.0 c.find-k.result.1 c.args.i part in
-    let read : c.index.result.now.cells ≡ get_or cs c.find-k.result.0 [] = body.body_read c.self.inside.list.items c.find-k.result.0 c.index.result.now spot.chunk c.index.ensures in
+    let read : c.index.result.now.cells ≡ get_or cs c.find-k.result.0 [] =
+    body.body_read c.self.inside.list.items c.find-k.result.0 c.index.result.now spot.chunk c.index.ensures in
     c.cell.ensures
     ∙ ap (λ (s : List CellData). slice_get s c.find-k.result.1) read
     ∙ sym (chunked.flat_get cs c.find-k.result.0 c.find-k.result.1 c.args.i spot)

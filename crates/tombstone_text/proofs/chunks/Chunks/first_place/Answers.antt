@@ -10,49 +10,78 @@ use Rattle.tombstone_text.proofs.chunks.Chunks.first_place.Goals as goal
 
 pub overflow_add-result : goal.overflow_add-result
 overflow_add-result c =
-    let lt : c.loop-i.i < length (bodies c.self.inside.list.items) = let t = c.loop-i-test.true in let l = c.len.ensures in omega (arith, body.bodies_long c.self.inside.list.items) in
-    let chunk = named.searched _ _ _ _ _ _ _ _ c.self.invariant c.total.ensures.low lt c.loop-i.invariant.1 (body.body_there _ _ _ lt c.index.ensures) c.cells-cells.ensures in
-    let found = named.found_in c.args.name.now (bodies c.self.inside.list.items) c.loop-i.i _ _ chunk.chunk_is (sym c.position_of.ensures ∙ c.in-Some.is) in
+    let lt : c.loop-i.i < length (bodies c.self.inside.list.items) =
+    let t = c.loop-i-test.true in let l = c.len.ensures in omega (arith, body.bodies_long c.self.inside.list.items) in
+    let chunk =
+    named.searched _ _ _ _ _ _ _ _ c.self.invariant c.total.ensures.low lt c.loop-i.invariant.1
+    (body.body_there _ _ _ lt c.index.ensures) c.cells-cells.ensures in
+    let found =
+    named.found_in c.args.name.now (bodies c.self.inside.list.items) c.loop-i.i _ _ chunk.chunk_is
+    (sym c.position_of.ensures ∙ c.in-Some.is) in
     record { fits = omega (arith, chunk.low, found.1) }
 
 pub overflow_cast-result : goal.overflow_cast-result
 overflow_cast-result c =
-    let lt : c.loop-i.i < length (bodies c.self.inside.list.items) = let t = c.loop-i-test.true in let l = c.len.ensures in omega (arith, body.bodies_long c.self.inside.list.items) in
-    let chunk = named.searched _ _ _ _ _ _ _ _ c.self.invariant c.total.ensures.low lt c.loop-i.invariant.1 (body.body_there _ _ _ lt c.index.ensures) c.cells-cells.ensures in
-    let found = named.found_in c.args.name.now (bodies c.self.inside.list.items) c.loop-i.i _ _ chunk.chunk_is (sym c.position_of.ensures ∙ c.in-Some.is) in
+    let lt : c.loop-i.i < length (bodies c.self.inside.list.items) =
+    let t = c.loop-i-test.true in let l = c.len.ensures in omega (arith, body.bodies_long c.self.inside.list.items) in
+    let chunk =
+    named.searched _ _ _ _ _ _ _ _ c.self.invariant c.total.ensures.low lt c.loop-i.invariant.1
+    (body.body_there _ _ _ lt c.index.ensures) c.cells-cells.ensures in
+    let found =
+    named.found_in c.args.name.now (bodies c.self.inside.list.items) c.loop-i.i _ _ chunk.chunk_is
+    (sym c.position_of.ensures ∙ c.in-Some.is) in
     record { fits = omega (arith, chunk.low, found.1) }
 
 pub returns-in-Some : goal.returns-in-Some
 returns-in-Some c =
-    let lt : c.loop-i.i < length (bodies c.self.inside.list.items) = let t = c.loop-i-test.true in let l = c.len.ensures in omega (arith, body.bodies_long c.self.inside.list.items) in
-    let chunk = named.searched _ _ _ _ _ _ _ _ c.self.invariant c.total.ensures.low lt c.loop-i.invariant.1 (body.body_there _ _ _ lt c.index.ensures) c.cells-cells.ensures in
-    let found = named.found_in c.args.name.now (bodies c.self.inside.list.items) c.loop-i.i _ _ chunk.chunk_is (sym c.position_of.ensures ∙ c.in-Some.is) in
+    let lt : c.loop-i.i < length (bodies c.self.inside.list.items) =
+    let t = c.loop-i-test.true in let l = c.len.ensures in omega (arith, body.bodies_long c.self.inside.list.items) in
+    let chunk =
+    named.searched _ _ _ _ _ _ _ _ c.self.invariant c.total.ensures.low lt c.loop-i.invariant.1
+    (body.body_there _ _ _ lt c.index.ensures) c.cells-cells.ensures in
+    let found =
+    named.found_in c.args.name.now (bodies c.self.inside.list.items) c.loop-i.i _ _ chunk.chunk_is
+    (sym c.position_of.ensures ∙ c.in-Some.is) in
     let within = ap (λ (s : List CellData). length s) chunk.chunk_is in
-    sym (named.placed_in c.args.name.now (bodies c.self.inside.list.items) c.loop-i.i c.loop-i.start c.in-Some.at lt c.loop-i.invariant.1 c.loop-i.invariant.2 found.0 (omega (arith, found.1)) (omega (arith, chunk.all, found.1)))
+    sym (named.placed_in c.args.name.now (bodies c.self.inside.list.items) c.loop-i.i c.loop-i.start c.in-Some.at lt c.loop-i.invariant.1
+    c.loop-i.invariant.2 found.0 (omega (arith, found.1)) (omega (arith, chunk.all, found.1)))
     ∙ ap (λ v. position (λ (x : CellData). name_eq x.name c.args.name.now) v.cells) c.self.view_is
 
 pub overflow_add-start : goal.overflow_add-start
 overflow_add-start c =
-    let lt : c.loop-i.i < length (bodies c.self.inside.list.items) = let t = c.loop-i-test.true in let l = c.len.ensures in omega (arith, body.bodies_long c.self.inside.list.items) in
-    let chunk = named.searched _ _ _ _ _ _ _ _ c.self.invariant c.total.ensures.low lt c.loop-i.invariant.1 (body.body_there _ _ _ lt c.index.ensures) c.cells-cells.ensures in
+    let lt : c.loop-i.i < length (bodies c.self.inside.list.items) =
+    let t = c.loop-i-test.true in let l = c.len.ensures in omega (arith, body.bodies_long c.self.inside.list.items) in
+    let chunk =
+    named.searched _ _ _ _ _ _ _ _ c.self.invariant c.total.ensures.low lt c.loop-i.invariant.1
+    (body.body_there _ _ _ lt c.index.ensures) c.cells-cells.ensures in
     record { fits = omega (arith, chunk.low) }
 
 pub loop-i-preserved : goal.loop-i-preserved
 loop-i-preserved c =
-    let lt : c.loop-i.i < length (bodies c.self.inside.list.items) = let t = c.loop-i-test.true in let l = c.len.ensures in omega (arith, body.bodies_long c.self.inside.list.items) in
-    let chunk = named.searched _ _ _ _ _ _ _ _ c.self.invariant c.total.ensures.low lt c.loop-i.invariant.1 (body.body_there _ _ _ lt c.index.ensures) c.cells-cells.ensures in
+    let lt : c.loop-i.i < length (bodies c.self.inside.list.items) =
+    let t = c.loop-i-test.true in let l = c.len.ensures in omega (arith, body.bodies_long c.self.inside.list.items) in
+    let chunk =
+    named.searched _ _ _ _ _ _ _ _ c.self.invariant c.total.ensures.low lt c.loop-i.invariant.1
+    (body.body_there _ _ _ lt c.index.ensures) c.cells-cells.ensures in
     let none : position (λ (x : CellData). name_eq x.name c.args.name.now) (get_or (bodies c.self.inside.list.items) c.loop-i.i []) ≡ None =
-    ap (λ (s : List CellData). position (λ (x : CellData). name_eq x.name c.args.name.now) s) (sym chunk.chunk_is) ∙ sym c.position_of.ensures ∙ c.in-None.is in
-    let behind = named.none_more c.args.name.now (bodies c.self.inside.list.items) c.loop-i.i c.loop-i.start lt c.loop-i.invariant.1 c.loop-i.invariant.2 none in
-    let long = ap (λ (s : List CellData). length s) chunk.chunk_is in
-    (omega arith, omega (arith, chunk.behind), subst (λ k. named.NoneBefore c.args.name.now (flat (bodies c.self.inside.list.items)) (c.loop-i.start + k)) (sym long) behind)
+    ap (λ (s : List CellData). position (λ (x : CellData). name_eq x.name c.args.name.now) s) (sym chunk.chunk_is)
+    ∙ sym c.position_of.ensures ∙ c.in-None.is in
+    let behind =
+    named.none_more c.args.name.now (bodies c.self.inside.list.items) c.loop-i.i c.loop-i.start lt c.loop-i.invariant.1
+    c.loop-i.invariant.2 none in
+    let long = ap (λ (s : List CellData). length s) chunk.chunk_is in (
+      omega arith,
+      omega (arith, chunk.behind),
+      subst (λ k. named.NoneBefore c.args.name.now (flat (bodies c.self.inside.list.items)) (c.loop-i.start + k)) (sym long) behind,
+    )
 
 pub returns : goal.returns
 returns c =
     let cs = (bodies c.self.inside.list.items) in
     let inv = c.loop-i.invariant in
     let start = inv.1 in
-    let done : length cs ≤ c.loop-i.i = let t = c.loop-i-test.false in let l = c.len.ensures in omega (arith, body.bodies_long c.self.inside.list.items) in
+    let done : length cs ≤ c.loop-i.i =
+    let t = c.loop-i-test.false in let l = c.len.ensures in omega (arith, body.bodies_long c.self.inside.list.items) in
     let all = ap (λ (ds : List (List CellData)). length (flat ds)) (take_all c.loop-i.i cs done) in
     sym (named.none_at_all c.args.name.now (flat cs) c.loop-i.start (start ∙ all) inv.2)
     ∙ ap (λ v. position (λ (x : CellData). name_eq x.name c.args.name.now) v.cells) c.self.view_is

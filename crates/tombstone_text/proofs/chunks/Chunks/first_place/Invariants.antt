@@ -5,7 +5,9 @@ use Rattle.tombstone_text.proofs.Named.{NoneBefore}
 use Rattle.tombstone_text.proofs.chunks.Chunks.first_place.Given as goal
 
 abbrev pub invariant-loop-i : goal.invariant-loop-i
-invariant-loop-i l = (l.i ≤ length (bodies l.self-inside.list.items)) × (l.start ≡ length (flat (take l.i (bodies l.self-inside.list.items)))) × NoneBefore l.name (flat (bodies l.self-inside.list.items)) l.start
+invariant-loop-i l =
+    (l.i ≤ length (bodies l.self-inside.list.items)) × (l.start ≡ length (flat (take l.i (bodies l.self-inside.list.items))))
+    × NoneBefore l.name (flat (bodies l.self-inside.list.items)) l.start
 
 abbrev pub decreases-loop-i : goal.decreases-loop-i
 decreases-loop-i l = length (bodies l.self-inside.list.items) - l.i

@@ -8,19 +8,23 @@ use Rattle.tombstone_text.proofs.chunks.Chunks.grow.Goals as goal
 pub invariant_of-self : goal.invariant_of-self
 invariant_of-self c =
     let lt : c.args.i < length (bodies c.self.inside.list.items) = let n = ap (λ v. length v.chunks) c.self.view_is in omega arith in
-    let kept = body.bodies_kept c.self.inside.list.items c.args.i c.index_mut.result.now c.grow.new.self lt c.index_mut.ensures.value c.grow.ensures.cells in
+    let kept =
+    body.bodies_kept c.self.inside.list.items c.args.i c.index_mut.result.now c.grow.new.self lt c.index_mut.ensures.value
+    c.grow.ensures.cells in
     rw kept c.self.invariant
 
 pub returns-clause-chunks : goal.returns-clause-chunks
 returns-clause-chunks c =
     let lt : c.args.i < length (bodies c.self.inside.list.items) = let n = ap (λ v. length v.chunks) c.self.view_is in omega arith in
-    body.bodies_kept c.self.inside.list.items c.args.i c.index_mut.result.now c.grow.new.self lt c.index_mut.ensures.value c.grow.ensures.cells
+    body.bodies_kept c.self.inside.list.items c.args.i c.index_mut.result.now c.grow.new.self lt c.index_mut.ensures.value
+    c.grow.ensures.cells
     ∙ ap (λ v. v.chunks) c.self.view_is
 
 pub returns-clause-cells : goal.returns-clause-cells
 returns-clause-cells c =
     let lt : c.args.i < length (bodies c.self.inside.list.items) = let n = ap (λ v. length v.chunks) c.self.view_is in omega arith in
-    ap (λ ds. flat ds) (body.bodies_kept c.self.inside.list.items c.args.i c.index_mut.result.now c.grow.new.self lt c.index_mut.ensures.value c.grow.ensures.cells)
+    ap (λ ds. flat ds) (body.bodies_kept c.self.inside.list.items c.args.i c.index_mut.result.now c.grow.new.self lt
+    c.index_mut.ensures.value c.grow.ensures.cells)
     ∙ ap (λ v. v.cells) c.self.view_is
 
 pub returns-clause-place : goal.returns-clause-place

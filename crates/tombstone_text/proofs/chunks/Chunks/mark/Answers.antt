@@ -22,8 +22,11 @@ cover-requires-clause-room c =
     let o = c.find-i.result.1 in
     let p = c.args.cover.now.place in
     let spot = texts.text-spot _ _ _ _ _ _ _ c.self.invariant c.find-i.ensures in
-    let read : c.index_mut-chunk.result.now.cells ≡ get_or cs i [] = body.body_read c.self.inside.list.items i c.index_mut-chunk.result.now spot.chunk c.index_mut-chunk.ensures.value in
-    let there = ap (λ v. slice_get v.cells p) (sym c.self.view_is) ∙ chunked.flat_get cs i o p spot ∙ chunked.some_at (get_or cs i []) o blank spot.within in
+    let read : c.index_mut-chunk.result.now.cells ≡ get_or cs i [] =
+    body.body_read c.self.inside.list.items i c.index_mut-chunk.result.now spot.chunk c.index_mut-chunk.ensures.value in
+    let there =
+    ap (λ v. slice_get v.cells p) (sym c.self.view_is) ∙ chunked.flat_get cs i o p spot
+    ∙ chunked.some_at (get_or cs i []) o blank spot.within in
     let room : HasRoomOn c.args.cover.now.mark (get_or (get_or cs i []) o blank) c.args.spare.now =
     subst (λ q. IfSome q (λ d. HasRoomOn c.args.cover.now.mark d c.args.spare.now)) there c.requires.room in
     subst (λ s. HasRoomOn c.args.cover.now.mark (get_or s o blank) c.args.spare.now) (sym read) room
@@ -32,7 +35,8 @@ pub flag_at-before-requires : goal.flag_at-before-requires
 flag_at-before-requires c =
     let spot = texts.text-spot _ _ _ _ _ _ _ c.self.invariant c.find-i.ensures in
     let within = spot.within in
-    let read = body.body_read c.self.inside.list.items c.find-i.result.0 c.index_mut-chunk.result.now spot.chunk c.index_mut-chunk.ensures.value in
+    let read =
+    body.body_read c.self.inside.list.items c.find-i.result.0 c.index_mut-chunk.result.now spot.chunk c.index_mut-chunk.ensures.value in
     let long = ap (λ (s : List CellData). length s) read in
     omega arith
 
@@ -40,7 +44,8 @@ pub cover-requires-clause-within : goal.cover-requires-clause-within
 cover-requires-clause-within c =
     let spot = texts.text-spot _ _ _ _ _ _ _ c.self.invariant c.find-i.ensures in
     let within = spot.within in
-    let read = body.body_read c.self.inside.list.items c.find-i.result.0 c.index_mut-chunk.result.now spot.chunk c.index_mut-chunk.ensures.value in
+    let read =
+    body.body_read c.self.inside.list.items c.find-i.result.0 c.index_mut-chunk.result.now spot.chunk c.index_mut-chunk.ensures.value in
     let long = ap (λ (s : List CellData). length s) read in
     omega arith
 
@@ -48,18 +53,21 @@ pub flag_at-after-requires : goal.flag_at-after-requires
 flag_at-after-requires c =
     let spot = texts.text-spot _ _ _ _ _ _ _ c.self.invariant c.find-i.ensures in
     let within = spot.within in
-    let read = body.body_read c.self.inside.list.items c.find-i.result.0 c.index_mut-chunk.result.now spot.chunk c.index_mut-chunk.ensures.value in
+    let read =
+    body.body_read c.self.inside.list.items c.find-i.result.0 c.index_mut-chunk.result.now spot.chunk c.index_mut-chunk.ensures.value in
     let new = c.cover.ensures.cells ∙ ap (λ (s : List CellData). change_at c.find-i.result.1 (marked c.args.cover.now.mark) s) read in
     let long =
     ap (λ (s : List CellData). length s) new
-    ∙ chunked.length-change (marked c.args.cover.now.mark) (get_or (bodies c.self.inside.list.items) c.find-i.result.0 []) c.find-i.result.1 in
+    ∙ chunked.length-change (marked c.args.cover.now.mark) (get_or (bodies c.self.inside.list.items) c.find-i.result.0 [])
+    c.find-i.result.1 in
     omega arith
 
 pub overflow_sub-shown : goal.overflow_sub-shown
 overflow_sub-shown c =
     let spot = texts.text-spot _ _ _ _ _ _ _ c.self.invariant c.find-i.ensures in
     let changed =
-    texts.changed_text (marked c.args.cover.now.mark) _ _ _ _ _ _ _ _ _ _ _ blank c.self.invariant spot.chunk spot.within (body.body_there _ _ _ spot.chunk c.index_mut-chunk.ensures.value)
+    texts.changed_text (marked c.args.cover.now.mark) _ _ _ _ _ _ _ _ _ _ _ blank c.self.invariant spot.chunk spot.within
+    (body.body_there _ _ _ spot.chunk c.index_mut-chunk.ensures.value)
     c.cover.ensures.cells c.part-shown.ensures c.flag_at-before.ensures c.flag_at-after.ensures in
     changed.low
 
@@ -67,7 +75,8 @@ pub overflow_add-shown : goal.overflow_add-shown
 overflow_add-shown c =
     let spot = texts.text-spot _ _ _ _ _ _ _ c.self.invariant c.find-i.ensures in
     let changed =
-    texts.changed_text (marked c.args.cover.now.mark) _ _ _ _ _ _ _ _ _ _ _ blank c.self.invariant spot.chunk spot.within (body.body_there _ _ _ spot.chunk c.index_mut-chunk.ensures.value)
+    texts.changed_text (marked c.args.cover.now.mark) _ _ _ _ _ _ _ _ _ _ _ blank c.self.invariant spot.chunk spot.within
+    (body.body_there _ _ _ spot.chunk c.index_mut-chunk.ensures.value)
     c.cover.ensures.cells c.part-shown.ensures c.flag_at-before.ensures c.flag_at-after.ensures in
     let all = chunked.text-len _ _ _ _ c.self.invariant in
     let low = c.total.ensures.low in
@@ -77,7 +86,8 @@ pub set-requires-clause-low : goal.set-requires-clause-low
 set-requires-clause-low c =
     let spot = texts.text-spot _ _ _ _ _ _ _ c.self.invariant c.find-i.ensures in
     let changed =
-    texts.changed_text (marked c.args.cover.now.mark) _ _ _ _ _ _ _ _ _ _ _ blank c.self.invariant spot.chunk spot.within (body.body_there _ _ _ spot.chunk c.index_mut-chunk.ensures.value)
+    texts.changed_text (marked c.args.cover.now.mark) _ _ _ _ _ _ _ _ _ _ _ blank c.self.invariant spot.chunk spot.within
+    (body.body_there _ _ _ spot.chunk c.index_mut-chunk.ensures.value)
     c.cover.ensures.cells c.part-shown.ensures c.flag_at-before.ensures c.flag_at-after.ensures in
     let all = chunked.text-len _ _ _ _ c.self.invariant in
     let low = c.total.ensures.low in
@@ -87,7 +97,8 @@ pub invariant_of-self : goal.invariant_of-self
 invariant_of-self c =
     let spot = texts.text-spot _ _ _ _ _ _ _ c.self.invariant c.find-i.ensures in
     let changed =
-    texts.changed_text (marked c.args.cover.now.mark) _ _ _ _ _ _ _ _ _ _ _ blank c.self.invariant spot.chunk spot.within (body.body_there _ _ _ spot.chunk c.index_mut-chunk.ensures.value)
+    texts.changed_text (marked c.args.cover.now.mark) _ _ _ _ _ _ _ _ _ _ _ blank c.self.invariant spot.chunk spot.within
+    (body.body_there _ _ _ spot.chunk c.index_mut-chunk.ensures.value)
     c.cover.ensures.cells c.part-shown.ensures c.flag_at-before.ensures c.flag_at-after.ensures in
     rw (c.set.ensures.parts, body.bodies_set c.self.inside.list.items c.find-i.result.0 c.cover.new.self) changed.text
 
@@ -95,9 +106,11 @@ pub returns : goal.returns
 returns c =
     let spot = texts.text-spot _ _ _ _ _ _ _ c.self.invariant c.find-i.ensures in
     let changed =
-    texts.changed_text (marked c.args.cover.now.mark) _ _ _ _ _ _ _ _ _ _ _ blank c.self.invariant spot.chunk spot.within (body.body_there _ _ _ spot.chunk c.index_mut-chunk.ensures.value)
+    texts.changed_text (marked c.args.cover.now.mark) _ _ _ _ _ _ _ _ _ _ _ blank c.self.invariant spot.chunk spot.within
+    (body.body_there _ _ _ spot.chunk c.index_mut-chunk.ensures.value)
     c.cover.ensures.cells c.part-shown.ensures c.flag_at-before.ensures c.flag_at-after.ensures in
     ap (λ ds. flat ds) (body.bodies_set c.self.inside.list.items c.find-i.result.0 c.cover.new.self)
     ∙ ap (λ d. flat (set (bodies c.self.inside.list.items) c.find-i.result.0 d)) changed.chunk
-    ∙ chunked.flat_change (marked c.args.cover.now.mark) (bodies c.self.inside.list.items) c.find-i.result.0 c.find-i.result.1 c.args.cover.now.place spot
+    ∙ chunked.flat_change (marked c.args.cover.now.mark) (bodies c.self.inside.list.items) c.find-i.result.0 c.find-i.result.1
+    c.args.cover.now.place spot
     ∙ ap (λ v. change_at c.args.cover.now.place (marked c.args.cover.now.mark) v.cells) c.self.view_is

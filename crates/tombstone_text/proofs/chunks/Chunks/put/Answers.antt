@@ -50,67 +50,80 @@ returns-in-Into c =
 
 pub split-requires-clause-room : goal.split-requires-clause-room
 split-requires-clause-room c =
-    let cut = way.cut_way c.args.self.now c.args.ready c.in-Cut.chunk c.in-Cut.at c.in-Cut.keep c.requires.ready c.in-Cut.is c.requires.place in
+    let cut =
+    way.cut_way c.args.self.now c.args.ready c.in-Cut.chunk c.in-Cut.at c.in-Cut.keep c.requires.ready c.in-Cut.is c.requires.place in
     let full = cut.1.full in
     let fresh = cut.1.fresh in
     omega arith
 
 pub split-requires-clause-spare : goal.split-requires-clause-spare
 split-requires-clause-spare c =
-    let cut = way.cut_way c.args.self.now c.args.ready c.in-Cut.chunk c.in-Cut.at c.in-Cut.keep c.requires.ready c.in-Cut.is c.requires.place in
+    let cut =
+    way.cut_way c.args.self.now c.args.ready c.in-Cut.chunk c.in-Cut.at c.in-Cut.keep c.requires.ready c.in-Cut.is c.requires.place in
     cut.1.spare
 
 pub split-requires-clause-chunk : goal.split-requires-clause-chunk
 split-requires-clause-chunk c =
-    let cut = way.cut_way c.args.self.now c.args.ready c.in-Cut.chunk c.in-Cut.at c.in-Cut.keep c.requires.ready c.in-Cut.is c.requires.place in
+    let cut =
+    way.cut_way c.args.self.now c.args.ready c.in-Cut.chunk c.in-Cut.at c.in-Cut.keep c.requires.ready c.in-Cut.is c.requires.place in
     cut.0.chunk
 
 pub split-requires-clause-some : goal.split-requires-clause-some
 split-requires-clause-some c =
-    let cut = way.cut_way c.args.self.now c.args.ready c.in-Cut.chunk c.in-Cut.at c.in-Cut.keep c.requires.ready c.in-Cut.is c.requires.place in
+    let cut =
+    way.cut_way c.args.self.now c.args.ready c.in-Cut.chunk c.in-Cut.at c.in-Cut.keep c.requires.ready c.in-Cut.is c.requires.place in
     cut.1.some
 
 pub split-requires-clause-less : goal.split-requires-clause-less
 split-requires-clause-less c =
-    let cut = way.cut_way c.args.self.now c.args.ready c.in-Cut.chunk c.in-Cut.at c.in-Cut.keep c.requires.ready c.in-Cut.is c.requires.place in
+    let cut =
+    way.cut_way c.args.self.now c.args.ready c.in-Cut.chunk c.in-Cut.at c.in-Cut.keep c.requires.ready c.in-Cut.is c.requires.place in
     let full = cut.1.full in
     let less = cut.1.less in
     omega arith
 
 pub put_at-requires-then-at-keep-clause-chunk : goal.put_at-requires-then-at-keep-clause-chunk
 put_at-requires-then-at-keep-clause-chunk c =
-    let cut = way.cut_way c.args.self.now c.args.ready c.in-Cut.chunk c.in-Cut.at c.in-Cut.keep c.requires.ready c.in-Cut.is c.requires.place in
+    let cut =
+    way.cut_way c.args.self.now c.args.ready c.in-Cut.chunk c.in-Cut.at c.in-Cut.keep c.requires.ready c.in-Cut.is c.requires.place in
     let low = chunked.seat_in_low _ _ _ _ _ _ cut.0 cut.1.full cut.1.less c.if-at-keep.true in
     rw c.split.ensures.chunks low.seat.chunk
 
 pub put_at-requires-then-at-keep-clause-within : goal.put_at-requires-then-at-keep-clause-within
 put_at-requires-then-at-keep-clause-within c =
-    let cut = way.cut_way c.args.self.now c.args.ready c.in-Cut.chunk c.in-Cut.at c.in-Cut.keep c.requires.ready c.in-Cut.is c.requires.place in
+    let cut =
+    way.cut_way c.args.self.now c.args.ready c.in-Cut.chunk c.in-Cut.at c.in-Cut.keep c.requires.ready c.in-Cut.is c.requires.place in
     let low = chunked.seat_in_low _ _ _ _ _ _ cut.0 cut.1.full cut.1.less c.if-at-keep.true in
     rw c.split.ensures.chunks low.seat.within
 
 pub overflow_add-chunk : goal.overflow_add-chunk
 overflow_add-chunk c =
-    let cut = way.cut_way c.args.self.now c.args.ready c.in-Cut.chunk c.in-Cut.at c.in-Cut.keep c.requires.ready c.in-Cut.is c.requires.place in
+    let cut =
+    way.cut_way c.args.self.now c.args.ready c.in-Cut.chunk c.in-Cut.at c.in-Cut.keep c.requires.ready c.in-Cut.is c.requires.place in
     let lt = cut.0.chunk in
     let few = c.known.ensures.few in
     record { fits = omega arith }
 
 pub put_at-requires-else-at-keep-clause-chunk : goal.put_at-requires-else-at-keep-clause-chunk
 put_at-requires-else-at-keep-clause-chunk c =
-    let cut = way.cut_way c.args.self.now c.args.ready c.in-Cut.chunk c.in-Cut.at c.in-Cut.keep c.requires.ready c.in-Cut.is c.requires.place in
-    let high = chunked.seat_in_high _ _ (c.in-Cut.chunk + 1) _ _ _ _ cut.0 cut.1.full cut.1.some cut.1.less c.if-at-keep.false (omega arith) in
+    let cut =
+    way.cut_way c.args.self.now c.args.ready c.in-Cut.chunk c.in-Cut.at c.in-Cut.keep c.requires.ready c.in-Cut.is c.requires.place in
+    let high =
+    chunked.seat_in_high _ _ (c.in-Cut.chunk + 1) _ _ _ _ cut.0 cut.1.full cut.1.some cut.1.less c.if-at-keep.false (omega arith) in
     rw c.split.ensures.chunks high.seat.chunk
 
 pub put_at-requires-else-at-keep-clause-within : goal.put_at-requires-else-at-keep-clause-within
 put_at-requires-else-at-keep-clause-within c =
-    let cut = way.cut_way c.args.self.now c.args.ready c.in-Cut.chunk c.in-Cut.at c.in-Cut.keep c.requires.ready c.in-Cut.is c.requires.place in
-    let high = chunked.seat_in_high _ _ (c.in-Cut.chunk + 1) _ _ _ _ cut.0 cut.1.full cut.1.some cut.1.less c.if-at-keep.false (omega arith) in
+    let cut =
+    way.cut_way c.args.self.now c.args.ready c.in-Cut.chunk c.in-Cut.at c.in-Cut.keep c.requires.ready c.in-Cut.is c.requires.place in
+    let high =
+    chunked.seat_in_high _ _ (c.in-Cut.chunk + 1) _ _ _ _ cut.0 cut.1.full cut.1.some cut.1.less c.if-at-keep.false (omega arith) in
     rw c.split.ensures.chunks high.seat.within
 
 pub returns-then-at-keep : goal.returns-then-at-keep
 returns-then-at-keep c =
-    let cut = way.cut_way c.args.self.now c.args.ready c.in-Cut.chunk c.in-Cut.at c.in-Cut.keep c.requires.ready c.in-Cut.is c.requires.place in
+    let cut =
+    way.cut_way c.args.self.now c.args.ready c.in-Cut.chunk c.in-Cut.at c.in-Cut.keep c.requires.ready c.in-Cut.is c.requires.place in
     let low = chunked.seat_in_low _ _ _ _ _ _ cut.0 cut.1.full cut.1.less c.if-at-keep.true in
     let p = c.args.ready.place in
     c.put_at-then-at-keep.ensures p (subst (λ ds. IsSeat ds c.in-Cut.chunk c.in-Cut.at p) (sym c.split.ensures.chunks) low.seat)
@@ -118,8 +131,11 @@ returns-then-at-keep c =
 
 pub returns-else-at-keep : goal.returns-else-at-keep
 returns-else-at-keep c =
-    let cut = way.cut_way c.args.self.now c.args.ready c.in-Cut.chunk c.in-Cut.at c.in-Cut.keep c.requires.ready c.in-Cut.is c.requires.place in
-    let high = chunked.seat_in_high _ _ (c.in-Cut.chunk + 1) _ _ _ _ cut.0 cut.1.full cut.1.some cut.1.less c.if-at-keep.false (omega arith) in
+    let cut =
+    way.cut_way c.args.self.now c.args.ready c.in-Cut.chunk c.in-Cut.at c.in-Cut.keep c.requires.ready c.in-Cut.is c.requires.place in
+    let high =
+    chunked.seat_in_high _ _ (c.in-Cut.chunk + 1) _ _ _ _ cut.0 cut.1.full cut.1.some cut.1.less c.if-at-keep.false (omega arith) in
     let p = c.args.ready.place in
-    c.put_at-else-at-keep.ensures p (subst (λ ds. IsSeat ds (c.in-Cut.chunk + 1) (c.in-Cut.at - c.in-Cut.keep) p) (sym c.split.ensures.chunks) high.seat)
+    c.put_at-else-at-keep.ensures p
+    (subst (λ ds. IsSeat ds (c.in-Cut.chunk + 1) (c.in-Cut.at - c.in-Cut.keep) p) (sym c.split.ensures.chunks) high.seat)
     ∙ ap (λ (s : List CellData). insert s p c.args.cell) c.split.ensures.cells

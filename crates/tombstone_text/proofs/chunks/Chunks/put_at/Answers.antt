@@ -57,10 +57,15 @@ pub invariant_of-self : goal.invariant_of-self
 invariant_of-self c =
     let cs = (bodies c.self.inside.list.items) in
     let lt : c.args.i < length cs = let n = ap (λ v. length v.chunks) c.self.view_is in omega arith in
-    let read : c.index_mut-chunk.result.now.cells ≡ get_or cs c.args.i [] = body.body_read c.self.inside.list.items c.args.i c.index_mut-chunk.result.now lt c.index_mut-chunk.ensures.value in
-    let within : c.args.at ≤ length (get_or cs c.args.i []) = let e = ap (λ v. length (get_or v.chunks c.args.i [])) c.self.view_is in omega arith in
-    let new : c.put.new.self.cells ≡ insert (get_or cs c.args.i []) c.args.at c.args.cell = c.put.ensures ∙ ap (λ (s : List CellData). insert s c.args.at c.args.cell) read in
-    let text = texts.text_put _ _ _ _ c.args.i c.args.at c.args.cell c.put.new.self.cells (c.part-len.result + 1) (c.part-shown.result + 1) c.self.invariant lt within new c.requires.shown
+    let read : c.index_mut-chunk.result.now.cells ≡ get_or cs c.args.i [] =
+    body.body_read c.self.inside.list.items c.args.i c.index_mut-chunk.result.now lt c.index_mut-chunk.ensures.value in
+    let within : c.args.at ≤ length (get_or cs c.args.i []) =
+    let e = ap (λ v. length (get_or v.chunks c.args.i [])) c.self.view_is in omega arith in
+    let new : c.put.new.self.cells ≡ insert (get_or cs c.args.i []) c.args.at c.args.cell =
+    c.put.ensures ∙ ap (λ (s : List CellData). insert s c.args.at c.args.cell) read in
+    let text =
+    texts.text_put _ _ _ _ c.args.i c.args.at c.args.cell c.put.new.self.cells (c.part-len.result + 1) (c.part-shown.result + 1)
+    c.self.invariant lt within new c.requires.shown
     (ap (λ n. n + 1) c.part-len.ensures) (ap (λ n. n + 1) c.part-shown.ensures) in
     rw (c.set.ensures.parts, c.set-2.ensures.parts, body.bodies_set c.self.inside.list.items c.args.i c.put.new.self) text
 
@@ -68,8 +73,10 @@ pub returns : goal.returns
 returns c p s =
     let cs = (bodies c.self.inside.list.items) in
     let lt : c.args.i < length cs = let n = ap (λ v. length v.chunks) c.self.view_is in omega arith in
-    let read : c.index_mut-chunk.result.now.cells ≡ get_or cs c.args.i [] = body.body_read c.self.inside.list.items c.args.i c.index_mut-chunk.result.now lt c.index_mut-chunk.ensures.value in
-    let new : c.put.new.self.cells ≡ insert (get_or cs c.args.i []) c.args.at c.args.cell = c.put.ensures ∙ ap (λ (s : List CellData). insert s c.args.at c.args.cell) read in
+    let read : c.index_mut-chunk.result.now.cells ≡ get_or cs c.args.i [] =
+    body.body_read c.self.inside.list.items c.args.i c.index_mut-chunk.result.now lt c.index_mut-chunk.ensures.value in
+    let new : c.put.new.self.cells ≡ insert (get_or cs c.args.i []) c.args.at c.args.cell =
+    c.put.ensures ∙ ap (λ (s : List CellData). insert s c.args.at c.args.cell) read in
     let seat : IsSeat cs c.args.i c.args.at p = subst (λ ds. IsSeat ds c.args.i c.args.at p) (sym (ap (λ v. v.chunks) c.self.view_is)) s in
     ap (λ ds. flat ds) (body.bodies_set c.self.inside.list.items c.args.i c.put.new.self)
     ∙ ap (λ d. flat (set cs c.args.i d)) new

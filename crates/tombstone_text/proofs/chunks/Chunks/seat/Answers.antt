@@ -18,5 +18,6 @@ returns-else-place-eq0 c =
     let part = subst (λ ls. IsPart ls c.find-i.result.0 c.find-i.result.1 (c.args.place - 1)) c.self.invariant.lens_are c.find-i.ensures in
     let some = c.if-place-eq0.false in
     let seat : IsSeat cs c.find-i.result.0 (c.find-i.result.1 + 1) c.args.place =
-    chunked.seat_behind cs c.find-i.result.0 c.find-i.result.1 (c.find-i.result.1 + 1) (c.args.place - 1) c.args.place part refl (omega arith) in
+    chunked.seat_behind cs c.find-i.result.0 c.find-i.result.1 (c.find-i.result.1 + 1) (c.args.place - 1) c.args.place part refl
+    (omega arith) in
     subst (λ ds. IsSeat ds c.find-i.result.0 (c.find-i.result.1 + 1) c.args.place) (ap (λ v. v.chunks) c.self.view_is) seat

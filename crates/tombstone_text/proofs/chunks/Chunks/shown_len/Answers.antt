@@ -4,4 +4,5 @@ use Rattle.tombstone_text.proofs.Chunked as chunked
 use Rattle.tombstone_text.proofs.chunks.Chunks.shown_len.Goals as goal
 
 pub returns : goal.returns
-returns c = c.total.ensures.total ∙ chunked.text-shown _ _ _ _ c.self.invariant ∙ ap (λ v. length (filter cell_shown v.cells)) c.self.view_is
+returns c =
+    c.total.ensures.total ∙ chunked.text-shown _ _ _ _ c.self.invariant ∙ ap (λ v. length (filter cell_shown v.cells)) c.self.view_is

@@ -12,8 +12,10 @@ pub set-requires-clause-low : goal.set-requires-clause-low
 set-requires-clause-low c =
     let lt : c.args.i < length (bodies c.self.inside.list.items) = let n = ap (λ v. length v.chunks) c.self.view_is in omega arith in
     let parts =
-    texts.cut_seen {n = c.args.i + 1} (ap (λ v. v.chunks) c.self.view_is) c.self.invariant c.requires.chunk (omega arith) c.requires.some c.requires.less
-    (body.body_there _ _ _ lt c.index_mut-lower.ensures.value) c.split.ensures.lower c.split.ensures.upper c.part-len.ensures c.shown-low.ensures c.shown-high.ensures in
+    texts.cut_seen {n = c.args.i + 1} (ap (λ v. v.chunks) c.self.view_is) c.self.invariant c.requires.chunk (omega arith) c.requires.some
+    c.requires.less
+    (body.body_there _ _ _ lt c.index_mut-lower.ensures.value) c.split.ensures.lower c.split.ensures.upper c.part-len.ensures
+    c.shown-low.ensures c.shown-high.ensures in
     let seen = ap (λ v. length v.cells) c.self.view_is in
     let bound = c.requires.bound in
     omega (arith, parts.lens)
@@ -22,8 +24,10 @@ pub insert-requires-clause-low : goal.insert-requires-clause-low
 insert-requires-clause-low c =
     let lt : c.args.i < length (bodies c.self.inside.list.items) = let n = ap (λ v. length v.chunks) c.self.view_is in omega arith in
     let parts =
-    texts.cut_seen {n = c.args.i + 1} (ap (λ v. v.chunks) c.self.view_is) c.self.invariant c.requires.chunk (omega arith) c.requires.some c.requires.less
-    (body.body_there _ _ _ lt c.index_mut-lower.ensures.value) c.split.ensures.lower c.split.ensures.upper c.part-len.ensures c.shown-low.ensures c.shown-high.ensures in
+    texts.cut_seen {n = c.args.i + 1} (ap (λ v. v.chunks) c.self.view_is) c.self.invariant c.requires.chunk (omega arith) c.requires.some
+    c.requires.less
+    (body.body_there _ _ _ lt c.index_mut-lower.ensures.value) c.split.ensures.lower c.split.ensures.upper c.part-len.ensures
+    c.shown-low.ensures c.shown-high.ensures in
     let seen = ap (λ v. length v.cells) c.self.view_is in
     let bound = c.requires.bound in
     let now = ap sum c.set.ensures.parts in
@@ -33,8 +37,10 @@ pub set-requires-in-Some-clause-low : goal.set-requires-in-Some-clause-low
 set-requires-in-Some-clause-low c =
     let lt : c.args.i < length (bodies c.self.inside.list.items) = let n = ap (λ v. length v.chunks) c.self.view_is in omega arith in
     let parts =
-    texts.cut_seen {n = c.args.i + 1} (ap (λ v. v.chunks) c.self.view_is) c.self.invariant c.requires.chunk (omega arith) c.requires.some c.requires.less
-    (body.body_there _ _ _ lt c.index_mut-lower.ensures.value) c.split.ensures.lower c.split.ensures.upper c.part-len.ensures c.shown-low.ensures c.shown-high.ensures in
+    texts.cut_seen {n = c.args.i + 1} (ap (λ v. v.chunks) c.self.view_is) c.self.invariant c.requires.chunk (omega arith) c.requires.some
+    c.requires.less
+    (body.body_there _ _ _ lt c.index_mut-lower.ensures.value) c.split.ensures.lower c.split.ensures.upper c.part-len.ensures
+    c.shown-low.ensures c.shown-high.ensures in
     let seen = ap (λ v. length v.cells) c.self.view_is in
     let bound = c.requires.bound in
     omega (arith, parts.shown)
@@ -43,8 +49,10 @@ pub insert-requires-in-Some-clause-low : goal.insert-requires-in-Some-clause-low
 insert-requires-in-Some-clause-low c =
     let lt : c.args.i < length (bodies c.self.inside.list.items) = let n = ap (λ v. length v.chunks) c.self.view_is in omega arith in
     let parts =
-    texts.cut_seen {n = c.args.i + 1} (ap (λ v. v.chunks) c.self.view_is) c.self.invariant c.requires.chunk (omega arith) c.requires.some c.requires.less
-    (body.body_there _ _ _ lt c.index_mut-lower.ensures.value) c.split.ensures.lower c.split.ensures.upper c.part-len.ensures c.shown-low.ensures c.shown-high.ensures in
+    texts.cut_seen {n = c.args.i + 1} (ap (λ v. v.chunks) c.self.view_is) c.self.invariant c.requires.chunk (omega arith) c.requires.some
+    c.requires.less
+    (body.body_there _ _ _ lt c.index_mut-lower.ensures.value) c.split.ensures.lower c.split.ensures.upper c.part-len.ensures
+    c.shown-low.ensures c.shown-high.ensures in
     let seen = ap (λ v. length v.cells) c.self.view_is in
     let bound = c.requires.bound in
     let now = ap sum c.set-in-Some.ensures.parts in
@@ -54,22 +62,38 @@ pub invariant_of-self : goal.invariant_of-self
 invariant_of-self c =
     let lt : c.args.i < length (bodies c.self.inside.list.items) = let n = ap (λ v. length v.chunks) c.self.view_is in omega arith in
     let parts =
-    texts.cut_seen {n = c.args.i + 1} (ap (λ v. v.chunks) c.self.view_is) c.self.invariant c.requires.chunk (omega arith) c.requires.some c.requires.less
-    (body.body_there _ _ _ lt c.index_mut-lower.ensures.value) c.split.ensures.lower c.split.ensures.upper c.part-len.ensures c.shown-low.ensures c.shown-high.ensures in
-    rw (ap (λ ds. bodies ds) c.in-Ok.ensures.items ∙ body.bodies_cut _ _ _ _ _ _ parts.chunks, c.insert.ensures.parts, c.set.ensures.parts, c.insert-in-Some.ensures.parts, c.set-in-Some.ensures.parts, c.take.ensures.after) parts.text
+    texts.cut_seen {n = c.args.i + 1} (ap (λ v. v.chunks) c.self.view_is) c.self.invariant c.requires.chunk (omega arith) c.requires.some
+    c.requires.less
+    (body.body_there _ _ _ lt c.index_mut-lower.ensures.value) c.split.ensures.lower c.split.ensures.upper c.part-len.ensures
+    c.shown-low.ensures c.shown-high.ensures in
+    rw (
+      ap (λ ds. bodies ds) c.in-Ok.ensures.items
+          ∙ body.bodies_cut _ _ _ _ _ _ parts.chunks,
+      c.insert.ensures.parts,
+      c.set.ensures.parts,
+      c.insert-in-Some.ensures.parts,
+      c.set-in-Some.ensures.parts,
+      c.take.ensures.after,
+    ) parts.text
 
 pub returns-clause-chunks : goal.returns-clause-chunks
 returns-clause-chunks c =
     let lt : c.args.i < length (bodies c.self.inside.list.items) = let n = ap (λ v. length v.chunks) c.self.view_is in omega arith in
     let parts =
-    texts.cut_seen {n = c.args.i + 1} (ap (λ v. v.chunks) c.self.view_is) c.self.invariant c.requires.chunk (omega arith) c.requires.some c.requires.less
-    (body.body_there _ _ _ lt c.index_mut-lower.ensures.value) c.split.ensures.lower c.split.ensures.upper c.part-len.ensures c.shown-low.ensures c.shown-high.ensures in
-    ap (λ ds. bodies ds) c.in-Ok.ensures.items ∙ body.bodies_cut _ _ _ _ _ _ parts.chunks ∙ ap (λ v. cut v.chunks c.args.i c.args.keep) c.self.view_is
+    texts.cut_seen {n = c.args.i + 1} (ap (λ v. v.chunks) c.self.view_is) c.self.invariant c.requires.chunk (omega arith) c.requires.some
+    c.requires.less
+    (body.body_there _ _ _ lt c.index_mut-lower.ensures.value) c.split.ensures.lower c.split.ensures.upper c.part-len.ensures
+    c.shown-low.ensures c.shown-high.ensures in
+    ap (λ ds. bodies ds) c.in-Ok.ensures.items ∙ body.bodies_cut _ _ _ _ _ _ parts.chunks
+    ∙ ap (λ v. cut v.chunks c.args.i c.args.keep) c.self.view_is
 
 pub returns-clause-cells : goal.returns-clause-cells
 returns-clause-cells c =
     let lt : c.args.i < length (bodies c.self.inside.list.items) = let n = ap (λ v. length v.chunks) c.self.view_is in omega arith in
     let parts =
-    texts.cut_seen {n = c.args.i + 1} (ap (λ v. v.chunks) c.self.view_is) c.self.invariant c.requires.chunk (omega arith) c.requires.some c.requires.less
-    (body.body_there _ _ _ lt c.index_mut-lower.ensures.value) c.split.ensures.lower c.split.ensures.upper c.part-len.ensures c.shown-low.ensures c.shown-high.ensures in
-    ap (λ ds. flat ds) (ap (λ ds. bodies ds) c.in-Ok.ensures.items ∙ body.bodies_cut _ _ _ _ _ _ parts.chunks) ∙ chunked.flat_cut (bodies c.self.inside.list.items) c.args.i c.args.keep ∙ ap (λ v. v.cells) c.self.view_is
+    texts.cut_seen {n = c.args.i + 1} (ap (λ v. v.chunks) c.self.view_is) c.self.invariant c.requires.chunk (omega arith) c.requires.some
+    c.requires.less
+    (body.body_there _ _ _ lt c.index_mut-lower.ensures.value) c.split.ensures.lower c.split.ensures.upper c.part-len.ensures
+    c.shown-low.ensures c.shown-high.ensures in
+    ap (λ ds. flat ds) (ap (λ ds. bodies ds) c.in-Ok.ensures.items ∙ body.bodies_cut _ _ _ _ _ _ parts.chunks)
+    ∙ chunked.flat_cut (bodies c.self.inside.list.items) c.args.i c.args.keep ∙ ap (λ v. v.cells) c.self.view_is

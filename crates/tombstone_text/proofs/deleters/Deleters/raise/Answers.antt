@@ -36,5 +36,6 @@ returns-else-eq c =
     let g = c.args.generation in
     let one = c.in-One.one in
     let was : c.args.self.now ≡ one ∷ [] = sym c.self.view_is ∙ ap entries_in c.in-One.is in
-    let raised : c.pair-list.result.value.items ≡ raise_in d g c.args.self.now = c.pair-list.ensures ∙ raised_pair d g one (sym c.eq.ensures ∙ c.if-eq.false) ∙ ap (raise_in d g) (sym was) in
+    let raised : c.pair-list.result.value.items ≡ raise_in d g c.args.self.now =
+    c.pair-list.ensures ∙ raised_pair d g one (sym c.eq.ensures ∙ c.if-eq.false) ∙ ap (raise_in d g) (sym was) in
     record { raised = elim c.match-self-3.branch [ in-More-2 w ↦ w.self-is ∙ raised | in-Nothing-2 w ↦ w.self-is ∙ raised ] }
