@@ -1,8 +1,10 @@
 -- What is known of a context by an operation that was made with it, or right after it.
-use Rattle.std.proofs.Common.{◌≡◌, ℕ, zero, suc, ◌+◌, ◌<◌, ◌≤◌, Bool, true, false, inl, inr, List, [], ◌∷◌, ◌++◌, refl, ap, sym, subst, ◌∙◌, arith, length}
-use Rattle.std.specs.Prelude.{◌==◌, ◌&&◌, ◌||◌, Contains, Option, Some, None, IfSome, slice_get, if◌then◌else◌}
+use Rattle.std.proofs.Common.{◌≡◌, ℕ, zero, suc, ◌+◌, ◌<◌, ◌≤◌, Bool, true, false, inl, inr, List, [], ◌∷◌, ◌++◌, refl, ap, sym, subst, ◌∙◌, arith, length, length-append}
+use Rattle.std.specs.Prelude.{◌==◌, ◌&&◌, ◌||◌, Contains, Option, Some, None, IfSome, slice_get, option_map, if◌then◌else◌}
 use Rattle.std.proofs.lemmas.Bool.{cases_Bool, eqb-true, false≢true, or_cases, or_left, or_parts}
+use Rattle.std.proofs.lemmas.List.{length-map}
 use Rattle.std.proofs.lemmas.List.Elements.{Contains-push_cases}
+use Rattle.std.proofs.lemmas.Option.{slice_get-map}
 use Rattle.op_name.specs.declared.member.Member.{Member}
 use Rattle.op_name.specs.declared.member.Member.TheVariants.{Original}
 use Rattle.op_name.specs.NameData.{NameData}
@@ -10,7 +12,7 @@ use Rattle.op_name.specs.Members.{member_eq}
 use Rattle.op_name.proofs.CallerLemmas.{member_apart, same_parts}
 use Rattle.context_vector.specs.Contexts.{ContextData, IsNextMember, Within, count_of, has, raised}
 use Rattle.context_diff.specs.Operations.{OpData, inserting, deleting, undoing, member_of, context_of, is_insert, is_original, IsWellFormed}
-use Rattle.context_diff.specs.Histories.{is_known, inserts_in, IsClosed, IsNext, IsValid, LacksNothing}
+use Rattle.context_diff.specs.Histories.{is_known, inserts_in, members_in, IsClosed, IsNext, IsValid, LacksNothing}
 use Rattle.context_diff.specs.Books.{IsJudged}
 use Rattle.context_diff.specs.Code.Judged.{IsLately, IsCellsBy}
 use Rattle.context_diff.specs.declared.judged.Lately.{Lately}
@@ -217,9 +219,9 @@ get_on [] o i p at = let none : None ≡ Some p = at in cc
 get_on (q ∷ qs) o zero p at = at
 get_on (q ∷ qs) o (suc i) p at = get_on qs o i p at
 
-pub get_last : (h : List OpData) (o : OpData) → slice_get (h ++ o ∷ []) (length h) ≡ Some o
-get_last [] o = refl
-get_last (q ∷ qs) o = get_last qs o
+get_last : {A : Type 0} (xs : List A) (x : A) → slice_get (xs ++ x ∷ []) (length xs) ≡ Some x
+get_last [] x = refl
+get_last (y ∷ ys) x = get_last ys x
 
 -- what is known stays so
 pub lately_on : (h : List OpData) (o : OpData) → IsComplete h → IsNext h o → (l : Option Lately) → IfSome l (IsLately h) → IfSome l (IsLately (h ++ o ∷ []))
@@ -231,11 +233,26 @@ lately_on h o w next (Some l) known = record {
   cells = known.cells ∙ sym (inserts_stay h o (context_of known.op) (w.ready known.op (contains_get h l.place known.op known.there)) next.new);
 }
 
--- and of a next operation as much is known
-pub lately_new : (h : List OpData) (o : OpData) → IsNext h o → is_original o ≡ true → (l : Lately) → l.place ≡ length h → l.cells ≡ inserts_in h (context_of o) → IsLately (h ++ o ∷ []) l
-lately_new h o next original l place cells = record {
+-- and of a next operation as much is known, if its context was counted
+pub lately_new : (h : List OpData) (o : OpData) → IsNext h o → (cells : ℕ) → (is_original o ≡ true → cells ≡ inserts_in h (context_of o)) → (r : Option Lately)
+    → IfSome r (λ l. (is_original o ≡ true) × (l.place ≡ length h) × (l.cells ≡ cells)) → IfSome r (IsLately (h ++ o ∷ []))
+lately_new h o next cells counted None kept = tt
+lately_new h o next cells counted (Some l) kept = record {
   op = o;
-  there = ap (slice_get (h ++ o ∷ [])) place ∙ get_last h o;
-  original = original;
-  cells = cells ∙ sym (inserts_stay h o (context_of o) next.ready next.new);
+  there = ap (slice_get (h ++ o ∷ [])) kept.1 ∙ get_last h o;
+  original = kept.0;
+  cells = kept.2 ∙ (counted kept.0 ∙ sym (inserts_stay h o (context_of o) next.ready next.new));
 }
+
+-- ---- The last operation
+
+-- the operation whose member comes last is the one at the last place
+pub last_known : (h : List OpData) → IsValid h → (l : Lately) → IsLately h l → l.place + 1 ≡ length h → (o : OpData) (before : List Member) → Contains h o
+    → members_in h ≡ before ++ member_of o ∷ [] → l.cells ≡ inserts_in h (context_of o)
+last_known h valid l known last o before there whole =
+    let end : l.place ≡ length before = omega (arith, last, sym (length-map h member_of) ∙ (ap length whole ∙ length-append before (member_of o ∷ []))) in
+    let member : option_map member_of (Some known.op) ≡ Some (member_of o) = ap (option_map member_of) (sym known.there)
+    ∙ (sym (slice_get-map member_of h l.place) ∙ ((λ i. slice_get (whole i) (end i)) ∙ get_last before (member_of o))) in
+    let named : member_of known.op ≡ member_of o = cc in
+    let one : known.op ≡ o = (complete h valid).one known.op o (contains_get h l.place known.op known.there) there named in
+    known.cells ∙ ap (λ (x : OpData). inserts_in h (context_of x)) one

@@ -38,6 +38,14 @@ count_at low (q ∷ qs) are (suc i) p at =
       count = ap (λ b. if b then q.1 else count_in qs p.0) other ∙ rest.count;
     }
 
+-- as many lesser sites as stand before it, a site has at least
+pub place_at_most : (low : ℕ) (ps : List (ℕ × ℕ)) → AreCounts low ps → (i : ℕ) (p : ℕ × ℕ) → slice_get ps i ≡ Some p → low + i ≤ p.0
+place_at_most low [] are i p at = let none : None ≡ Some p = at in cc
+place_at_most low (q ∷ qs) are zero p at =
+    let is : q.0 ≡ p.0 = cc in
+    omega (arith, are.0, is)
+place_at_most low (q ∷ qs) are (suc i) p at = omega (arith, are.0, place_at_most (q.0 + 1) qs are.4 i p at)
+
 -- each site that is counted stands somewhere
 pub record CountPlace (ps : List (ℕ × ℕ)) (s : ℕ) : Type 0 where
   pub place : ℕ
@@ -179,18 +187,17 @@ entry_more (d ∷ ds) are (suc i) e at n =
       | false ↦ λ f. refl
     ] refl
 
--- what holds of each entry before this one, and of this one, holds of each before the next
-pub each_more : (P : NameData → Type 0) (es : List (NameData × ℕ)) (i : ℕ) (e : NameData × ℕ) → slice_get es i ≡ Some e → P e.0
-    → ((j : ℕ) (f : NameData × ℕ) → j < i → slice_get es j ≡ Some f → P f.0) → (j : ℕ) (f : NameData × ℕ) → j < i + 1
-    → slice_get es j ≡ Some f → P f.0
-each_more P es i e at here each j f less read =
+-- what holds of each element before this one, and of this one, holds of each before the next
+pub each_more : {A : Type 0} (P : A → Type 0) (xs : List A) (i : ℕ) (x : A) → slice_get xs i ≡ Some x → P x
+    → ((j : ℕ) (y : A) → j < i → slice_get xs j ≡ Some y → P y) → (j : ℕ) (y : A) → j < i + 1 → slice_get xs j ≡ Some y → P y
+each_more P xs i x at here each j y less read =
     elim (cases_lt j i) [
-      | inl before ↦ each j f before read
+      | inl before ↦ each j y before read
       | inr past ↦
           let same : j ≡ i = omega arith in
-          let both : Some e ≡ Some f = sym at ∙ (ap (slice_get es) (sym same) ∙ read) in
-          let one : e ≡ f = cc in
-          subst (λ (x : NameData × ℕ). P x.0) one here
+          let both : Some x ≡ Some y = sym at ∙ (ap (slice_get xs) (sym same) ∙ read) in
+          let one : x ≡ y = cc in
+          subst P one here
     ]
 
 -- where each entry's original is in the context, it keeps the rule on stray entries

@@ -1,10 +1,11 @@
 //! The book: a valid history, with its members and an index of them.
 
-ghost use Rattle.std.specs.Prelude.{◌≡◌, ◌↔◌, ◌+◌, ◌<◌, ◌≤◌, ◌++◌, ◌∷◌, [], false, Contains, IsNone, OnOk, IfSome, if◌then◌else◌, length, map, option_map, slice_get};
+ghost use Rattle.std.specs.Prelude.{◌≡◌, ◌↔◌, ◌+◌, ◌<◌, ◌≤◌, ◌++◌, ◌∷◌, [], List, true, false, Contains, IsNone, OnOk, IfSome, if◌then◌else◌, length, map, option_map, slice_get};
 ghost use Rattle.std.specs.Option.{option_to_list};
+ghost use Rattle.op_name.specs.declared.member.Member.{Member};
 ghost use Rattle.op_name.specs.declared.member.Member.TheVariants.{Original};
 ghost use Rattle.context_vector.specs.Contexts.{Within};
-ghost use Rattle.context_diff.specs.Operations.{member_of};
+ghost use Rattle.context_diff.specs.Operations.{OpData, member_of, context_of, is_original};
 ghost use Rattle.context_diff.specs.Histories.{is_known, members_in, inserts_in, context_of_all, IsNext, IsValid};
 ghost use Rattle.context_diff.specs.Ops.{data_of};
 ghost use Rattle.context_diff.specs.Books.{HasRoom, IsJudged};
@@ -13,7 +14,7 @@ ghost use Rattle.context_diff.specs.Code.Kept.{IsPlaceOf};
 
 use crate::groups;
 use crate::growth::reserve_one;
-use crate::judged::{Lately, cells_by};
+use crate::judged::{Lately, cells_by, kept_of};
 use crate::op::Op;
 use crate::tally::Tallies;
 use context_vector::Vector;
@@ -164,7 +165,18 @@ impl Book {
         requires next { IsNext self.old.ops (data_of op) }
         ensures { self.new.ops ≡ self.old.ops ++ data_of op ∷ [] }
     {
-        let lately = self.lately(&op);
+        let cells = self.cells_of(&op);
+        self.push_counted(op, cells);
+    }
+
+    /// The same, of an operation that is known to be next, where it is known too how many inserts its context has, if it is an insert
+    /// or a delete: nothing is compared.
+    pub fn push_counted(&mut self, op: Op, cells: u32)
+        requires room { HasRoom self.old (data_of op) }
+        requires next { IsNext self.old.ops (data_of op) }
+        requires counted { is_original (data_of op) ≡ true → cells ≡ inserts_in self.old.ops (context_of (data_of op)) }
+        ensures { self.new.ops ≡ self.old.ops ++ data_of op ∷ [] }
+    {
         let member = op.member();
         let place = self.len();
         self.tallies.push(&member, op.is_insert(), place);
@@ -172,22 +184,19 @@ impl Book {
         self.have.add_reserved(&member);
         self.inserts = with_insert(self.inserts, op.is_insert());
         self.earlier = self.last;
-        self.last = lately;
+        self.last = kept_of(&op, place, cells);
         self.ops.push_reserved(op);
     }
 
-    // What is kept of the operation, which is next, if it is an insert or delete.
-    fn lately(&self, op: &Op) -> Option<Lately>
+    // How many inserts the context of the operation, which is next, has, if it is an insert or delete.
+    fn cells_of(&self, op: &Op) -> u32
         requires { IsNext self.now.ops (data_of op.now) }
-        ensures { IfSome result (IsLately (self.now.ops ++ data_of op.now ∷ [])) }
+        ensures { is_original (data_of op.now) ≡ true → result ≡ inserts_in self.now.ops (context_of (data_of op.now)) }
     {
         self.known();
         match op {
-            Op::Insert { context, .. } | Op::Delete { context, .. } => Some(Lately {
-                place: self.len(),
-                cells: self.inserts_in(context),
-            }),
-            Op::Undo { .. } => None,
+            Op::Insert { context, .. } | Op::Delete { context, .. } => self.inserts_in(context),
+            Op::Undo { .. } => 0,
         }
     }
 
@@ -223,6 +232,20 @@ impl Book {
         match self.judged_by(v, self.last) {
             Some(cells) => Some(cells),
             None => self.judged_by(v, self.earlier),
+        }
+    }
+
+    /// How many inserts the context of the last operation has, if that is an insert or a delete and none was taken out since it came.
+    /// None says nothing.
+    pub fn last_cells(&self) -> Option<u32>
+        ensures { IfSome result (λ n. (o : OpData) (before : List Member) → Contains self.now.ops o → members_in self.now.ops ≡ before ++ member_of o ∷ [] → n ≡ inserts_in self.now.ops (context_of o)) }
+    {
+        self.known();
+        let known = self.last?;
+        if known.place + 1 == self.len() {
+            Some(known.cells)
+        } else {
+            None
         }
     }
 

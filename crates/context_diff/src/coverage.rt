@@ -25,21 +25,13 @@ pub fn closed(book: &Book, v: &Vector) -> Option<u16>
     v.known();
     book.known();
     let part = closed_part(book, v);
-    for i in 0..v.sites() {
-        if let Some(counted) = v.site_at(i) {
-            if !is_covered(
-                book,
-                v,
-                part,
-                i,
-                &Name {
-                    site: counted.0,
-                    number: counted.1,
-                },
-            ) {
-                return Some(counted.0);
-            }
+    let mut i = 0;
+    let mut left = v.sites_read();
+    while let Some((site, number)) = left.next() {
+        if !is_covered(book, v, part, i, &Name { site, number }) {
+            return Some(site);
         }
+        i += 1;
     }
     None
 }

@@ -1,9 +1,10 @@
 //! What is known of contexts by the operations that came last: where many operations of one site follow each other, or many sites
 //! write at the same time, their contexts are those of others that were judged before, or those with one original more.
 
-ghost use Rattle.std.specs.Prelude.{◌≡◌, ◌⊎◌, ◌+◌, ◌<◌, IsTrue, IfSome};
+ghost use Rattle.std.specs.Prelude.{◌≡◌, ◌⊎◌, ◌+◌, ◌<◌, true, IsTrue, IfSome};
 ghost use Rattle.op_name.specs.declared.member.Member.TheVariants.{Original};
 ghost use Rattle.context_vector.specs.Contexts.{raised};
+ghost use Rattle.context_diff.specs.Operations.{is_original};
 ghost use Rattle.context_diff.specs.Ops.{data_of};
 ghost use Rattle.context_diff.specs.Code.Judged.{IsCellsBy};
 
@@ -16,6 +17,16 @@ use op_name::Name;
 pub(crate) struct Lately {
     pub(crate) place: u32,
     pub(crate) cells: u32,
+}
+
+/// What is kept of the operation at this place, if it is an insert or delete, whose context has so many inserts.
+pub(crate) fn kept_of(op: &Op, place: u32, cells: u32) -> Option<Lately>
+    ensures { IfSome result (λ l. (is_original (data_of op.now) ≡ true) × (l.place ≡ place) × (l.cells ≡ cells)) }
+{
+    match op {
+        Op::Insert { .. } | Op::Delete { .. } => Some(Lately { place, cells }),
+        Op::Undo { .. } => None,
+    }
 }
 
 /// How many inserts `v` has, where it is the context of the operation, an insert or delete, of so many inserts, or that context

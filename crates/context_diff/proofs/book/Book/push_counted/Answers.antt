@@ -1,19 +1,19 @@
-use Rattle.std.proofs.Common.{◌≡◌, ◌+◌, List, [], ◌∷◌, ◌++◌, ap, sym, subst, subst₂, ◌∙◌, arith, length}
+use Rattle.std.proofs.Common.{◌≡◌, ◌+◌, true, List, [], ◌∷◌, ◌++◌, ap, sym, subst, subst₂, ◌∙◌, arith, length}
 use Rattle.std.specs.Prelude.{map, IfSome, if◌then◌else◌}
 use Rattle.op_name.specs.declared.member.Member.{Member}
 use Rattle.context_vector.specs.Contexts.{ContextData, raised, IsNextMember}
-use Rattle.context_diff.specs.Operations.{OpData, member_of}
-use Rattle.context_diff.specs.Histories.{context_of_all, IsNext}
+use Rattle.context_diff.specs.Operations.{OpData, member_of, context_of, is_original}
+use Rattle.context_diff.specs.Histories.{context_of_all, inserts_in, IsNext}
 use Rattle.context_diff.specs.Ops.{data_of}
 use Rattle.context_diff.specs.Books.{BookData}
-use Rattle.context_diff.specs.Code.Judged.{IsLately}
 use Rattle.context_diff.specs.Code.Kept.{IsBook}
 use Rattle.context_diff.specs.Code.Tallies.{counts_of, places_of, counted, placed}
 use Rattle.context_diff.proofs.Inserts.{made_at_most}
 use Rattle.context_diff.proofs.Tallies.{total_short}
 use Rattle.context_diff.proofs.Complete.{complete, next_member}
+use Rattle.context_diff.proofs.Judging.{lately_new}
 use Rattle.context_diff.proofs.Kept.{book_push, seen_push}
-use Rattle.context_diff.proofs.book.Book.push.Goals as goal
+use Rattle.context_diff.proofs.book.Book.push_counted.Goals as goal
 
 pub add_reserved-requires-clause-next : goal.add_reserved-requires-clause-next
 add_reserved-requires-clause-next c =
@@ -50,19 +50,20 @@ invariant_of-self c =
     let book =
     book_push h c.self.inside.have.set c.self.inside.have.room.own c.add_reserved.new.self.room.own c.self.inside.inserts
     (counts_of c.self.inside.tallies) (counts_of c.push.new.self) (places_of c.self.inside.tallies) (places_of c.push.new.self)
-    c.self.inside.groups.entries c.note.new.groups.entries c.self.inside.last c.self.inside.earlier c.lately-lately.result o
+    c.self.inside.groups.entries c.note.new.groups.entries c.self.inside.last c.self.inside.earlier c.kept_of-self-inside.result o
     c.self.invariant next
     (λ s. c.push.ensures.counts s ∙ (λ i. counted (is i) (c.is_insert.ensures i) s (counts_of c.self.inside.tallies s)))
     (λ s. c.push.ensures.places s ∙ (λ i. placed (is i) (place i) s (places_of c.self.inside.tallies s)))
     (c.note.ensures h o (sym is) place)
-    (subst (λ (k : List OpData). IfSome c.lately-lately.result (IsLately (k ++ o ∷ []))) (sym ops) c.lately-lately.ensures)
+    (lately_new h o next c.args.cells (λ original. c.requires.counted original ∙ ap (λ (k : List OpData). inserts_in k (context_of o)) (sym ops)) c.kept_of-self-inside.result
+    (subst (λ n. IfSome c.kept_of-self-inside.result (λ l. (is_original o ≡ true) × (l.place ≡ n) × (l.cells ≡ c.args.cells))) place c.kept_of-self-inside.ensures))
     (omega (arith, c.requires.room.short)) c.add_reserved.ensures.own in
     subst₂ (λ (k : List OpData) (d : ContextData). IsBook k d c.add_reserved.new.self.room.own c.with_insert-self-inside.result
-    (counts_of c.push.new.self) (places_of c.push.new.self) c.note.new.groups.entries c.lately-lately.result c.self.inside.last)
+    (counts_of c.push.new.self) (places_of c.push.new.self) c.note.new.groups.entries c.kept_of-self-inside.result c.self.inside.last)
     (sym (ap (map data_of) c.push_reserved.ensures.items ∙ seen_push c.self.inside.ops.items c.args.op))
     (sym (c.add_reserved.ensures.added ∙ ap (raised c.self.inside.have.set) is))
     (subst (λ n. IsBook (h ++ o ∷ []) (raised c.self.inside.have.set (member_of o)) c.add_reserved.new.self.room.own n
-    (counts_of c.push.new.self) (places_of c.push.new.self) c.note.new.groups.entries c.lately-lately.result c.self.inside.last)
+    (counts_of c.push.new.self) (places_of c.push.new.self) c.note.new.groups.entries c.kept_of-self-inside.result c.self.inside.last)
     (sym (c.with_insert-self-inside.ensures ∙ ap (λ b. c.self.inside.inserts + (if b then 1 else 0)) c.is_insert-2.ensures)) book)
 
 pub returns : goal.returns

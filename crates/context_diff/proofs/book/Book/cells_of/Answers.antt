@@ -1,12 +1,11 @@
-use Rattle.std.proofs.Common.{◌≡◌, true, inl, inr, sym, ap, subst, ◌∙◌}
+use Rattle.std.proofs.Common.{◌≡◌, inl, inr, ap, sym, subst, ◌∙◌}
 use Rattle.context_vector.specs.Contexts.{ContextData, Within}
-use Rattle.context_diff.specs.Operations.{context_of, is_original}
+use Rattle.context_diff.specs.Operations.{context_of}
 use Rattle.context_diff.specs.Histories.{inserts_in}
 use Rattle.context_diff.specs.Ops.{data_of}
 use Rattle.context_diff.specs.declared.op.Op.{Op}
-use Rattle.context_diff.proofs.Judging.{lately_new}
 use Rattle.context_diff.proofs.Next.{ready_covered}
-use Rattle.context_diff.proofs.book.Book.lately.Goals as goal
+use Rattle.context_diff.proofs.book.Book.cells_of.Goals as goal
 
 pub inserts_in-requires : goal.inserts_in-requires
 inserts_in-requires c =
@@ -14,7 +13,6 @@ inserts_in-requires c =
     subst (λ (d : ContextData). Within d c.args.self.now.have.set) same (ready_covered c.args.self.now.ops c.args.self.now.have.set (context_of (data_of c.args.op.now)) c.known.ensures.valid c.known.ensures.have c.requires.ready)
 
 pub returns-in-Insert : goal.returns-in-Insert
-returns-in-Insert c =
+returns-in-Insert c original =
     let same : context_of (data_of c.args.op.now) ≡ c.in-Insert.context.set = elim c.in-Insert.is [ inl w ↦ ap (λ (o : Op). context_of (data_of o)) w.3 | inr w ↦ ap (λ (o : Op). context_of (data_of o)) w.2 ] in
-    let original : is_original (data_of c.args.op.now) ≡ true = elim c.in-Insert.is [ inl w ↦ ap (λ (o : Op). is_original (data_of o)) w.3 | inr w ↦ ap (λ (o : Op). is_original (data_of o)) w.2 ] in
-    lately_new c.args.self.now.ops (data_of c.args.op.now) c.requires original _ c.len.ensures (c.inserts_in.ensures ∙ ap (inserts_in c.args.self.now.ops) (sym same))
+    c.inserts_in.ensures ∙ ap (inserts_in c.args.self.now.ops) (sym same)
