@@ -1,4 +1,5 @@
--- Histories that agree: an operation that is next in one is next in any other that has its context, and two with the same members are the same.
+-- Histories that agree: an operation that is next in one is next in any other that has its context, and two with the same members are
+-- the same.
 use Rattle.std.proofs.Common.{◌≡◌, ℕ, zero, suc, ◌+◌, ◌≤◌, Bool, true, false, inl, inr, List, [], ◌∷◌, ◌++◌, refl, ap, sym, subst, ◌∙◌, arith}
 use Rattle.std.specs.Prelude.{Contains, Some, slice_get, ◌&&◌, if◌then◌else◌}
 use Rattle.std.proofs.lemmas.Bool.{false≢true, or_parts}
@@ -37,7 +38,10 @@ named : List OpData → NameData → ℕ
 named [] n = 0
 named (o ∷ os) n = (if is_insert o && member_eq (member_of o) (Original n) then 1 else 0) + named os n
 
-one_more : (o : OpData) (s k : ℕ) → ◌≡◌ {A = ℕ} (if is_insert_of s (suc k) o then 1 else 0) ((if is_insert_of s k o then 1 else 0) + (if is_insert o && member_eq (member_of o) (Original (record { site = s; number = suc k })) then 1 else 0))
+one_more : (o : OpData) (s k : ℕ)
+    → ◌≡◌ {A = ℕ} (if is_insert_of s (suc k) o then 1 else 0)
+    ((if is_insert_of s k o then 1 else 0) +
+    (if is_insert o && member_eq (member_of o) (Original (record { site = s; number = suc k })) then 1 else 0))
 one_more (inserting n p ch c) s k = grind (arith, nat_tests)
 one_more (deleting n p c) s k = refl
 one_more (undoing a t g c) s k = refl
@@ -48,7 +52,8 @@ unfolding named
 named_step [] s k = refl
 named_step (o ∷ os) s k = rw (named_step os s k) (rw (one_more o s k) (omega arith))
 
-named_push : (h : List OpData) (o : OpData) (n : NameData) → named (h ++ o ∷ []) n ≡ named h n + (if is_insert o && member_eq (member_of o) (Original n) then 1 else 0)
+named_push : (h : List OpData) (o : OpData) (n : NameData)
+    → named (h ++ o ∷ []) n ≡ named h n + (if is_insert o && member_eq (member_of o) (Original n) then 1 else 0)
 unfolding named
 named_push [] o n = omega arith
 named_push (p ∷ ps) o n = rw (named_push ps o n) (omega arith)
@@ -69,26 +74,32 @@ named_none (o ∷ os) n new =
     rw (named_none os n parts.1) (rw parts.0 (omega (arith, no_bit (is_insert o))))
 
 -- in a valid history a name is one operation's
-named_once : (h : List OpData) → IsValid h → (n : NameData) (o : OpData) → Contains h o → member_of o ≡ Original n → named h n ≡ (if is_insert o then 1 else 0)
+named_once : (h : List OpData) → IsValid h → (n : NameData) (o : OpData) → Contains h o → member_of o ≡ Original n
+    → named h n ≡ (if is_insert o then 1 else 0)
 named_once h v =
     by_pushes (λ k. (n : NameData) (o : OpData) → Contains k o → member_of o ≡ Original n → named k n ≡ (if is_insert o then 1 else 0))
     (λ n o at. absurd (contains_none o at))
     (λ k p valid was next n o at is. named_push k p n ∙ elim (Contains-push_cases k p o at) [
       | inl old ↦
-          let apart : member_eq (member_of p) (Original n) ≡ false = member_apart (member_of p) (Original n) (λ e. false≢true (sym next.new ∙ (ap (is_known k) (e ∙ sym is) ∙ known_member k o old))) in
+          let apart : member_eq (member_of p) (Original n) ≡ false =
+          member_apart (member_of p) (Original n)
+          (λ e. false≢true (sym next.new ∙ (ap (is_known k) (e ∙ sym is) ∙ known_member k o old))) in
           rw (was n o old is) (rw apart (rw (no_bit (is_insert p)) (omega arith)))
       | inr now ↦
           let name : member_of p ≡ Original n = ap member_of now ∙ is in
           let new : is_known k (Original n) ≡ false = ap (is_known k) (sym name) ∙ next.new in
           let same : member_eq (member_of p) (Original n) ≡ true = ap (λ m. member_eq m (Original n)) name ∙ member_itself (Original n) in
           let kind : is_insert p ≡ is_insert o = ap is_insert now in
-          let one : ◌≡◌ {A = ℕ} (if is_insert p && true then 1 else 0) (if is_insert o then 1 else 0) = bit (is_insert p) ∙ ap (λ b. if b then 1 else 0) kind in
+          let one : ◌≡◌ {A = ℕ} (if is_insert p && true then 1 else 0) (if is_insert o then 1 else 0) =
+          bit (is_insert p) ∙ ap (λ b. if b then 1 else 0) kind in
           rw (named_none k n new) (rw same (omega (arith, one)))
     ]) h v
 
 -- both histories have the first k originals of a site
 abbrev BothKnow : (g q : List OpData) (s k : ℕ) → Type 0
-BothKnow g q s k = (j : ℕ) → 1 ≤ j → j ≤ k → (is_known g (Original (record { site = s; number = j })) ≡ true) × (is_known q (Original (record { site = s; number = j })) ≡ true)
+BothKnow g q s k =
+    (j : ℕ) → 1 ≤ j → j ≤ k → (is_known g (Original (record { site = s; number = j })) ≡ true)
+    × (is_known q (Original (record { site = s; number = j })) ≡ true)
 
 of_same : (g q : List OpData) → IsValid g → IsValid q → Agree g q → (s k : ℕ) → BothKnow g q s k → inserts_of g s k ≡ inserts_of q s k
 of_same g q v w agree s zero both = no_inserts g s (complete g v).formed ∙ sym (no_inserts q s (complete q w).formed)
@@ -99,9 +110,12 @@ of_same g q v w agree s (suc k) both =
     let b = holder q (Original n) known.1 in
     let same : a.op ≡ b.op = agree a.op b.op n a.there b.there a.is b.is in
     let before = of_same g q v w agree s k (λ j low high. both j low (omega arith)) in
-    named_step g s k ∙ ((λ i. before i + ((named_once g v n a.op a.there a.is ∙ (ap (λ x. if is_insert x then 1 else 0) same ∙ sym (named_once q w n b.op b.there b.is))) i)) ∙ sym (named_step q s k))
+    named_step g s k ∙ ((λ i. before i +
+    ((named_once g v n a.op a.there a.is ∙ (ap (λ x. if is_insert x then 1 else 0) same ∙ sym (named_once q w n b.op b.there b.is))) i))
+    ∙ sym (named_step q s k))
 
-listed_same : (g q : List OpData) → IsValid g → IsValid q → Agree g q → (ps : List (ℕ × ℕ)) → ((i : ℕ) (p : ℕ × ℕ) → slice_get ps i ≡ Some p → BothKnow g q p.0 p.1) → inserts_listed g ps ≡ inserts_listed q ps
+listed_same : (g q : List OpData) → IsValid g → IsValid q → Agree g q → (ps : List (ℕ × ℕ))
+    → ((i : ℕ) (p : ℕ × ℕ) → slice_get ps i ≡ Some p → BothKnow g q p.0 p.1) → inserts_listed g ps ≡ inserts_listed q ps
 listed_same g q v w agree [] both = refl
 listed_same g q v w agree (p ∷ ps) both =
     let first = of_same g q v w agree p.0 p.1 (both 0 p refl) in
@@ -109,7 +123,8 @@ listed_same g q v w agree (p ∷ ps) both =
     λ i. first i + rest i
 
 -- histories that agree count the same inserts in a context that both have
-same_inserts : (g q : List OpData) → IsValid g → IsValid q → Agree g q → (c : ContextData) → AreCounts 0 c.counts → LacksNothing g c → LacksNothing q c → inserts_in g c ≡ inserts_in q c
+same_inserts : (g q : List OpData) → IsValid g → IsValid q → Agree g q → (c : ContextData) → AreCounts 0 c.counts → LacksNothing g c
+    → LacksNothing q c → inserts_in g c ≡ inserts_in q c
 same_inserts g q v w agree c are ready ready' =
     sym (inserts_by_site g c are (complete g v).formed)
     ∙ (listed_same g q v w agree c.counts (λ i p at j low high.
@@ -133,7 +148,8 @@ placed_by g q (deleting n p c) same fits = omega (arith, same, fits)
 placed_by g q (undoing a t g' c) same fits = tt
 
 -- what is next after one history is next after any other that agrees with it, has the context, and hasn't the member
-pub next_elsewhere : (g q : List OpData) (o : OpData) → IsValid g → IsValid q → Agree g q → LacksNothing g (context_of o) → is_known g (member_of o) ≡ false → IsNext q o → IsNext g o
+pub next_elsewhere : (g q : List OpData) (o : OpData) → IsValid g → IsValid q → Agree g q → LacksNothing g (context_of o)
+    → is_known g (member_of o) ≡ false → IsNext q o → IsNext g o
 next_elsewhere g q o v w agree ready new next =
     let c = context_of o in
     record {
@@ -141,7 +157,8 @@ next_elsewhere g q o v w agree ready new next =
       new = new;
       ready = ready;
       closed = λ original s x n at is site number.
-          let there : has c (Original n) ≡ true = has_original c n (formed_number x ((complete g v).formed x at) n is) (omega (arith, number, ap (count_of c) site)) in
+          let there : has c (Original n) ≡ true =
+          has_original c n (formed_number x ((complete g v).formed x at) n is) (omega (arith, number, ap (count_of c) site)) in
           let held = holder q (Original n) (next.ready (Original n) there) in
           let same : x ≡ held.op = agree x held.op n at held.there is held.is in
           subst (λ (y : OpData). Within (context_of y) c) (sym same) (next.closed original s held.op n held.there held.is site number);
@@ -150,14 +167,16 @@ next_elsewhere g q o v w agree ready new next =
 
 -- ---- the same members
 
-moved : (h p : List OpData) → Agree h p → ((m : Member) → is_known h m ≡ true → is_known p m ≡ true) → (o : OpData) → is_original o ≡ true → Contains h o → Contains p o
+moved : (h p : List OpData) → Agree h p → ((m : Member) → is_known h m ≡ true → is_known p m ≡ true) → (o : OpData) → is_original o ≡ true
+    → Contains h o → Contains p o
 moved h p agree within o original at =
     let name = original_name o original in
     let held = holder p (Original name.0) (within (Original name.0) (ap (is_known h) (sym name.1) ∙ known_member h o at)) in
     subst (λ (x : OpData). Contains p x) (sym (agree o held.op name.0 at held.there name.1 held.is)) held.there
 
 -- valid histories that agree and have the same members are the same
-pub same_by_members : (h p : List OpData) → IsValid h → IsValid p → Agree h p → ((m : Member) → is_known h m ≡ true → is_known p m ≡ true) → ((m : Member) → is_known p m ≡ true → is_known h m ≡ true) → Same h p
+pub same_by_members : (h p : List OpData) → IsValid h → IsValid p → Agree h p → ((m : Member) → is_known h m ≡ true → is_known p m ≡ true)
+    → ((m : Member) → is_known p m ≡ true → is_known h m ≡ true) → Same h p
 same_by_members h p v w agree to from = record {
   originals = λ o original. (moved h p agree to o original, moved p h (agree_back h p agree) from o original);
   generations = λ t known. generation_is h v t ∙ (ap (λ c. entry_of c t) contexts ∙ sym (generation_is p w t));

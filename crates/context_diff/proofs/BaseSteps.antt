@@ -19,7 +19,8 @@ use Rattle.context_diff.proofs.Histories.{original_facts, group_facts}
 use Rattle.context_diff.proofs.BaseValues.{base_value}
 
 -- up to an original: it and the earlier ones of its site, which it knew
-with_original : (h : List OpData) → IsComplete h → (t : NameData) → is_known h (Original t) ≡ true → (y : Member) → (has (original_context h t) y || up_to y (Original t)) ≡ (has (original_context h t) y || is_below t 1 y)
+with_original : (h : List OpData) → IsComplete h → (t : NameData) → is_known h (Original t) ≡ true → (y : Member)
+    → (has (original_context h t) y || up_to y (Original t)) ≡ (has (original_context h t) y || is_below t 1 y)
 with_original h w t known (Original x) =
     let facts = original_facts h w t known in
     let c = original_context h t in
@@ -35,7 +36,8 @@ with_original h w t known (Original x) =
 with_original h w t known (Group x g) = grind (arith, nat_tests)
 
 -- up to the group before: the groups below this one
-with_groups : (t : NameData) (g : ℕ) → 1 < g → (b : Bool) (y : Member) → ((b || is_below t 1 y) || up_to y (Group t (g - 1))) ≡ (b || is_below t g y)
+with_groups : (t : NameData) (g : ℕ) → 1 < g → (b : Bool) (y : Member)
+    → ((b || is_below t 1 y) || up_to y (Group t (g - 1))) ≡ (b || is_below t g y)
 with_groups t g more b (Original x) = grind (arith, nat_tests)
 with_groups t g more b (Group x k) = grind (arith, nat_tests)
 
@@ -43,7 +45,9 @@ below_one : (t : NameData) (g : ℕ) → 1 ≤ g → g ≤ 1 → (y : Member) �
 below_one t g low high y = ap (λ k. is_below t k y) (let e : 1 ≡ g = omega arith in e)
 
 -- the first group of an original knows it and what it knew
-pub first_group : (h : List OpData) → IsComplete h → (t : NameData) (g : ℕ) → is_known h (Group t g) ≡ true → g ≤ 1 → (b c d : ContextData) → b ≡ original_context h t → ((y : Member) → has c y ≡ (has b y || up_to y (Original t))) → (y : Member) → has c y ≡ base_has h (Group t g) y
+pub first_group : (h : List OpData) → IsComplete h → (t : NameData) (g : ℕ) → is_known h (Group t g) ≡ true → g ≤ 1 → (b c d : ContextData)
+    → b ≡ original_context h t → ((y : Member) → has c y ≡ (has b y || up_to y (Original t))) → (y : Member)
+    → has c y ≡ base_has h (Group t g) y
 first_group h w t g known low b c d is raised_has y =
     let facts = group_facts h w t g known in
     raised_has y
@@ -52,12 +56,15 @@ first_group h w t g known low b c d is raised_has y =
     ∙ (ap (λ x. has (original_context h t) y || x) (below_one t g facts.generation low y)
     ∙ sym (ap (λ x. x && (has (original_context h t) y || is_below t g y)) known))))
 
-pub later_group : (h : List OpData) → IsComplete h → (t : NameData) (g : ℕ) → is_known h (Group t g) ≡ true → 1 < g → (b c d : ContextData) → b ≡ original_context h t → ((y : Member) → has c y ≡ (has b y || up_to y (Original t))) → ((y : Member) → has d y ≡ (has c y || up_to y (Group t (g - 1))))
+pub later_group : (h : List OpData) → IsComplete h → (t : NameData) (g : ℕ) → is_known h (Group t g) ≡ true → 1 < g → (b c d : ContextData)
+    → b ≡ original_context h t → ((y : Member) → has c y ≡ (has b y || up_to y (Original t)))
+    → ((y : Member) → has d y ≡ (has c y || up_to y (Group t (g - 1))))
     → (y : Member) → has d y ≡ base_has h (Group t g) y
 later_group h w t g known more b c d is raised_has again y =
     let facts = group_facts h w t g known in
     again y
-    ∙ (ap (λ x. x || up_to y (Group t (g - 1))) (raised_has y ∙ (ap (λ (x : ContextData). has x y || up_to y (Original t)) is ∙ with_original h w t facts.target y))
+    ∙ (ap (λ x. x || up_to y (Group t (g - 1)))
+    (raised_has y ∙ (ap (λ (x : ContextData). has x y || up_to y (Original t)) is ∙ with_original h w t facts.target y))
     ∙ (with_groups t g more (has (original_context h t) y) y
     ∙ sym (ap (λ x. x && (has (original_context h t) y || is_below t g y)) known)))
 
@@ -82,11 +89,13 @@ base_is_context h w (Group t g) known =
     let high = generation_range held.op (w.formed held.op held.there) t g held.is in
     let inner = raised_is_context (original_context h t) (Original t) (original_facts h w t facts.target).form range tt range.2 in
     elim (cases_lt 1 g) [
-      | inl more ↦ rw (lt-ltb 1 g more) (raised_is_context (raised (original_context h t) (Original t)) (Group t (g - 1)) inner range (omega arith) (omega arith))
+      | inl more ↦ rw (lt-ltb 1 g more)
+          (raised_is_context (raised (original_context h t) (Original t)) (Group t (g - 1)) inner range (omega arith) (omega arith))
       | inr one ↦ rw (le-ltb 1 g one) inner
     ]
 
 -- a context that has what the base context has is the base context
-pub base_is : (h : List OpData) → IsComplete h → (m : Member) → is_known h m ≡ true → (d : ContextData) → IsContext d → ((y : Member) → has d y ≡ base_has h m y) → d ≡ base_context_of h m
+pub base_is : (h : List OpData) → IsComplete h → (m : Member) → is_known h m ≡ true → (d : ContextData) → IsContext d
+    → ((y : Member) → has d y ≡ base_has h m y) → d ≡ base_context_of h m
 base_is h w m known d form members =
     same_context d (base_context_of h m) form (base_is_context h w m known) (λ y. members y ∙ sym (base_value h w m known y))

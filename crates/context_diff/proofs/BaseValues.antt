@@ -21,7 +21,9 @@ no_entry h w t known =
     elim (cases_lt 0 (entry_of (original_context h t) t)) [
       | inl some ↦
           let facts = original_facts h w t known in
-          let there = facts.stray t (entry_of (original_context h t) t) (has_group (original_context h t) t (entry_of (original_context h t) t) some (omega arith)) in
+          let there =
+          facts.stray t (entry_of (original_context h t) t)
+          (has_group (original_context h t) t (entry_of (original_context h t) t) some (omega arith)) in
           let less = own_alone h w t known t refl there in
           absurd (omega arith)
       | inr none ↦ omega arith
@@ -50,7 +52,8 @@ below_value c t g next none (Group x k) =
           ]
     ]
 
-pub base_value : (h : List OpData) → IsComplete h → (m : Member) → is_known h m ≡ true → (y : Member) → has (base_context_of h m) y ≡ base_has h m y
+pub base_value : (h : List OpData) → IsComplete h → (m : Member) → is_known h m ≡ true → (y : Member)
+    → has (base_context_of h m) y ≡ base_has h m y
 base_value h w (Original n) known y = sym (ap (λ b. b && has (original_context h n) y) known)
 base_value h w (Group t g) known y =
     let target = (group_facts h w t g known).target in

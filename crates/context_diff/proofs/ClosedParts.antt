@@ -12,7 +12,8 @@ use Rattle.context_diff.proofs.Covering.{covers_to}
 use Rattle.context_diff.proofs.Listings.{count_at}
 
 -- the same of the site's last original: all that it was made after is in the greater one
-pub last_covered : (h : List OpData) (v c : ContextData) → IsClosedPart h v c → (n : NameData) → is_known h (Original n) ≡ true → count_of c n.site ≡ n.number → Within (original_context h n) v
+pub last_covered : (h : List OpData) (v c : ContextData) → IsClosedPart h v c → (n : NameData) → is_known h (Original n) ≡ true
+    → count_of c n.site ≡ n.number → Within (original_context h n) v
 last_covered h v c part n known last m e = part.within m (covers_to h c n (part.closed n.site) known (sym last) m e)
 
 -- a pair of the counts is its site's

@@ -27,10 +27,12 @@ abbrev pub HasNoStraySet : (Member → Bool) → Type 0
 HasNoStraySet c = (t : NameData) (g : ℕ) → c (Group t g) ≡ true → c (Original t) ≡ true
 
 -- what a base context holds: of an original what it knew, of a group what its original knew, that original, and the groups before
-pub base_original : (h : List OpData) (n : NameData) (y : Member) → base_has h (Original n) y ≡ true → (is_known h (Original n) ≡ true) × (has (original_context h n) y ≡ true)
+pub base_original : (h : List OpData) (n : NameData) (y : Member) → base_has h (Original n) y ≡ true
+    → (is_known h (Original n) ≡ true) × (has (original_context h n) y ≡ true)
 base_original h n y e = let parts = and_parts (is_known h (Original n)) (has (original_context h n) y) e in (parts.0, parts.1)
 
-pub below_cases : (t : NameData) (g : ℕ) (y : Member) → is_below t g y ≡ true → (y ≡ Original t) ⊎ ((k : ℕ) × (y ≡ Group t k) × (1 ≤ k) × (k < g))
+pub below_cases : (t : NameData) (g : ℕ) (y : Member) → is_below t g y ≡ true
+    → (y ≡ Original t) ⊎ ((k : ℕ) × (y ≡ Group t k) × (1 ≤ k) × (k < g))
 below_cases t g (Original n) e = inl (ap (λ x. Original x) (sym (name_same t n e)))
 below_cases t g (Group n k) e =
     let parts = and_parts (name_eq t n) (nat_le 1 k && nat_lt k g) e in
@@ -41,7 +43,9 @@ pub below_original : (t : NameData) (g : ℕ) → is_below t g (Original t) ≡ 
 below_original t g = name_itself t
 
 pub below_group : (t : NameData) (g k : ℕ) → 1 ≤ k → k < g → is_below t g (Group t k) ≡ true
-below_group t g k low high = and_from (name_eq t t) (nat_le 1 k && nat_lt k g) (name_itself t) (and_from (nat_le 1 k) (nat_lt k g) (le-leb 1 k low) (lt-ltb k g high))
+below_group t g k low high =
+    and_from (name_eq t t) (nat_le 1 k && nat_lt k g) (name_itself t)
+    (and_from (nat_le 1 k) (nat_lt k g) (le-leb 1 k low) (lt-ltb k g high))
 
 pub record InGroupBase (h : List OpData) (t : NameData) (g : ℕ) (y : Member) : Type 0 where
   pub known : is_known h (Group t g) ≡ true
@@ -58,21 +62,29 @@ base_group h t g y e =
       ];
     }
 
-pub in_original : (h : List OpData) (n : NameData) (y : Member) → is_known h (Original n) ≡ true → has (original_context h n) y ≡ true → base_has h (Original n) y ≡ true
+pub in_original : (h : List OpData) (n : NameData) (y : Member) → is_known h (Original n) ≡ true → has (original_context h n) y ≡ true
+    → base_has h (Original n) y ≡ true
 in_original h n y known seen = and_from (is_known h (Original n)) (has (original_context h n) y) known seen
 
-pub in_group : (h : List OpData) (t : NameData) (g : ℕ) (y : Member) → is_known h (Group t g) ≡ true → has (original_context h t) y ≡ true → base_has h (Group t g) y ≡ true
-in_group h t g y known seen = and_from (is_known h (Group t g)) (has (original_context h t) y || is_below t g y) known (or_left (has (original_context h t) y) (is_below t g y) seen)
+pub in_group : (h : List OpData) (t : NameData) (g : ℕ) (y : Member) → is_known h (Group t g) ≡ true → has (original_context h t) y ≡ true
+    → base_has h (Group t g) y ≡ true
+in_group h t g y known seen =
+    and_from (is_known h (Group t g)) (has (original_context h t) y || is_below t g y) known
+    (or_left (has (original_context h t) y) (is_below t g y) seen)
 
-pub in_group_below : (h : List OpData) (t : NameData) (g : ℕ) (y : Member) → is_known h (Group t g) ≡ true → is_below t g y ≡ true → base_has h (Group t g) y ≡ true
-in_group_below h t g y known below = and_from (is_known h (Group t g)) (has (original_context h t) y || is_below t g y) known (or_right (has (original_context h t) y) (is_below t g y) below)
+pub in_group_below : (h : List OpData) (t : NameData) (g : ℕ) (y : Member) → is_known h (Group t g) ≡ true → is_below t g y ≡ true
+    → base_has h (Group t g) y ≡ true
+in_group_below h t g y known below =
+    and_from (is_known h (Group t g)) (has (original_context h t) y || is_below t g y) known
+    (or_right (has (original_context h t) y) (is_below t g y) below)
 
 -- a group knows its original
 pub group_has_target : (h : List OpData) (t : NameData) (g : ℕ) → is_known h (Group t g) ≡ true → base_has h (Group t g) (Original t) ≡ true
 group_has_target h t g known = in_group_below h t g (Original t) known (below_original t g)
 
 -- a closed context holds what each of its originals knew
-pub holds_original : (h : List OpData) → IsComplete h → (v : ContextData) → IsClosedContext h v → (n : NameData) → has v (Original n) ≡ true → Within (original_context h n) v
+pub holds_original : (h : List OpData) → IsComplete h → (v : ContextData) → IsClosedContext h v → (n : NameData) → has v (Original n) ≡ true
+    → Within (original_context h n) v
 holds_original h w v closed n there =
     let range = has_number v n there in
     let last : NameData = record { site = n.site; number = count_of v n.site } in
@@ -92,14 +104,16 @@ holds_original h w v closed n there =
 group_in : (v : ContextData) (t : NameData) (g k : ℕ) → has v (Group t g) ≡ true → 1 ≤ k → k ≤ g → has v (Group t k) ≡ true
 group_in v t g k e low high = let range = has_generation v t g e in has_group v t k low (omega (arith, range.1))
 
-closed_at : (h : List OpData) → IsComplete h → (v : ContextData) → IsClosedContext h v → (m y : Member) → has v m ≡ true → base_has h m y ≡ true → has v y ≡ true
+closed_at : (h : List OpData) → IsComplete h → (v : ContextData) → IsClosedContext h v → (m y : Member) → has v m ≡ true
+    → base_has h m y ≡ true → has v y ≡ true
 closed_at h w v closed (Original n) y there e = holds_original h w v closed n there y (base_original h n y e).1
 closed_at h w v closed (Group t g) y there e =
     let target = closed.stray t g there in
     elim (base_group h t g y e).cases [
       | inl seen ↦ holds_original h w v closed t target y seen
       | inr (inl is) ↦ subst (λ (x : Member). has v x ≡ true) (sym is) target
-      | inr (inr below) ↦ subst (λ (x : Member). has v x ≡ true) (sym below.1) (group_in v t g below.0 there below.2 (omega (arith, below.3)))
+      | inr (inr below) ↦ subst (λ (x : Member). has v x ≡ true) (sym below.1)
+          (group_in v t g below.0 there below.2 (omega (arith, below.3)))
     ]
 
 -- a closed context is a closed set of members
@@ -108,7 +122,8 @@ closed_set h w v closed = record { known = closed.ready; closed = closed_at h w 
 
 -- a closed set keeps the original of each of its groups
 pub set_has_no_stray : (h : List OpData) (c : Member → Bool) → IsClosedSet h c → HasNoStraySet c
-set_has_no_stray h c closed t g there = closed.closed (Group t g) (Original t) there (group_has_target h t g (closed.known (Group t g) there))
+set_has_no_stray h c closed t g there =
+    closed.closed (Group t g) (Original t) there (group_has_target h t g (closed.known (Group t g) there))
 
 -- a context that is a closed set of members is closed as the rules on operations say it
 pub closed_context : (h : List OpData) → IsComplete h → (v : ContextData) → IsClosedSet h (has v) → IsClosedContext h v
@@ -125,7 +140,8 @@ closed_context h w v set = record {
 }
 
 -- the context of an original is closed
-pub original_closed : (h : List OpData) → IsComplete h → (n : NameData) → is_known h (Original n) ≡ true → IsClosedSet h (has (original_context h n))
+pub original_closed : (h : List OpData) → IsComplete h → (n : NameData) → is_known h (Original n) ≡ true
+    → IsClosedSet h (has (original_context h n))
 original_closed h w n known =
     let facts = original_facts h w n known in
     closed_set h w (original_context h n) (record { ready = facts.ready; stray = facts.stray; closed = facts.closed })
@@ -145,7 +161,8 @@ base_listed h w (Original n) y e = let parts = base_original h n y e in (origina
 base_listed h w (Group t g) y e = listed_group h w t g y (base_group h t g y e)
 
 -- within a base context of a group: what the base context of one of its members holds
-group_closed : (h : List OpData) → IsComplete h → (t : NameData) (g : ℕ) (x y : Member) → InGroupBase h t g x → base_has h x y ≡ true → base_has h (Group t g) y ≡ true
+group_closed : (h : List OpData) → IsComplete h → (t : NameData) (g : ℕ) (x y : Member) → InGroupBase h t g x → base_has h x y ≡ true
+    → base_has h (Group t g) y ≡ true
 group_closed h w t g x y e f =
     let group = group_facts h w t g e.known in
     let of_target = original_closed h w t group.target in
@@ -164,7 +181,8 @@ group_closed h w t g x y e f =
     ]
 
 -- each base context is closed
-pub base_closed : (h : List OpData) → IsComplete h → (m x y : Member) → base_has h m x ≡ true → base_has h x y ≡ true → base_has h m y ≡ true
+pub base_closed : (h : List OpData) → IsComplete h → (m x y : Member) → base_has h m x ≡ true → base_has h x y ≡ true
+    → base_has h m y ≡ true
 base_closed h w (Original n) x y e f =
     let parts = base_original h n x e in
     in_original h n y parts.0 ((original_closed h w n parts.0).closed x y parts.1 f)
@@ -174,7 +192,8 @@ pub base_set : (h : List OpData) → IsComplete h → (m : Member) → IsClosedS
 base_set h w m = record { known = base_listed h w m; closed = base_closed h w m }
 
 -- with a group a base context has its original
-pub base_stray : (h : List OpData) → IsComplete h → (m : Member) (t : NameData) (g : ℕ) → base_has h m (Group t g) ≡ true → base_has h m (Original t) ≡ true
+pub base_stray : (h : List OpData) → IsComplete h → (m : Member) (t : NameData) (g : ℕ) → base_has h m (Group t g) ≡ true
+    → base_has h m (Original t) ≡ true
 base_stray h w m = set_has_no_stray h (base_has h m) (base_set h w m)
 
 -- the target of a group is none of those that the target knew

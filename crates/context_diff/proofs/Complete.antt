@@ -28,7 +28,8 @@ formed_number (deleting m p c) f n is = let same : m ≡ n = cc in subst (λ (x 
 formed_number (undoing a t g c) f n is = cc
 
 -- a context that names only what a history has counts no further than the history
-pub count_within : (h : List OpData) (a c : ContextData) → LacksNothing h c → ((m : Member) → has a m ≡ is_known h m) → (s : ℕ) → count_of c s ≤ count_of a s
+pub count_within : (h : List OpData) (a c : ContextData) → LacksNothing h c → ((m : Member) → has a m ≡ is_known h m) → (s : ℕ)
+    → count_of c s ≤ count_of a s
 count_within h a c ready holds s =
     elim (cases_lt 0 (count_of c s)) [
       | inl some ↦
@@ -38,7 +39,8 @@ count_within h a c ready holds s =
       | inr none ↦ omega arith
     ]
 
-pub entry_within : (h : List OpData) (a c : ContextData) → LacksNothing h c → ((m : Member) → has a m ≡ is_known h m) → (t : NameData) → entry_of c t ≤ entry_of a t
+pub entry_within : (h : List OpData) (a c : ContextData) → LacksNothing h c → ((m : Member) → has a m ≡ is_known h m) → (t : NameData)
+    → entry_of c t ≤ entry_of a t
 entry_within h a c ready holds t =
     elim (cases_lt 0 (entry_of c t)) [
       | inl some ↦
@@ -48,7 +50,8 @@ entry_within h a c ready holds t =
     ]
 
 -- an original that knows all earlier ones of its site, and that the history hasn't, is the next of its site
-next_original : (h : List OpData) (a c : ContextData) (n : NameData) → LacksNothing h c → ((m : Member) → has a m ≡ is_known h m) → 1 ≤ n.number → count_of c n.site + 1 ≡ n.number → is_known h (Original n) ≡ false → n.number ≡ count_of a n.site + 1
+next_original : (h : List OpData) (a c : ContextData) (n : NameData) → LacksNothing h c → ((m : Member) → has a m ≡ is_known h m)
+    → 1 ≤ n.number → count_of c n.site + 1 ≡ n.number → is_known h (Original n) ≡ false → n.number ≡ count_of a n.site + 1
 next_original h a c n ready holds low own new =
     let within = count_within h a c ready holds n.site in
     elim (cases_lt (count_of a n.site) n.number) [
@@ -56,7 +59,8 @@ next_original h a c n ready holds low own new =
       | inr below ↦ absurd (false≢true (sym new ∙ (sym (holds (Original n)) ∙ has_original a n low below)))
     ]
 
-next_group : (h : List OpData) (a c : ContextData) (t : NameData) (g : ℕ) → LacksNothing h c → ((m : Member) → has a m ≡ is_known h m) → 1 ≤ g → entry_of c t + 1 ≡ g → is_known h (Group t g) ≡ false → g ≡ entry_of a t + 1
+next_group : (h : List OpData) (a c : ContextData) (t : NameData) (g : ℕ) → LacksNothing h c → ((m : Member) → has a m ≡ is_known h m)
+    → 1 ≤ g → entry_of c t + 1 ≡ g → is_known h (Group t g) ≡ false → g ≡ entry_of a t + 1
 next_group h a c t g ready holds low target new =
     let within = entry_within h a c ready holds t in
     elim (cases_lt (entry_of a t) g) [
@@ -65,12 +69,14 @@ next_group h a c t g ready holds low target new =
     ]
 
 -- a next operation is the next of its site or its original, among the members of the history
-pub next_member : (h : List OpData) (a : ContextData) (o : OpData) → ((m : Member) → has a m ≡ is_known h m) → IsNext h o → IsNextMember a (member_of o)
+pub next_member : (h : List OpData) (a : ContextData) (o : OpData) → ((m : Member) → has a m ≡ is_known h m) → IsNext h o
+    → IsNextMember a (member_of o)
 next_member h a (inserting n p ch c) holds next = next_original h a c n next.ready holds next.formed.in_range.0.1 next.formed.own next.new
 next_member h a (deleting n p c) holds next = next_original h a c n next.ready holds next.formed.in_range.0.1 next.formed.own next.new
 next_member h a (undoing u t g c) holds next = next_group h a c t g next.ready holds next.formed.in_range.2 next.formed.target.1 next.new
 
-pub context_push_after : (c : ContextData) (h : List OpData) (o : OpData) → context_after c (h ++ o ∷ []) ≡ raised (context_after c h) (member_of o)
+pub context_push_after : (c : ContextData) (h : List OpData) (o : OpData)
+    → context_after c (h ++ o ∷ []) ≡ raised (context_after c h) (member_of o)
 context_push_after c [] o = refl
 context_push_after c (p ∷ ps) o = context_push_after (raised c (member_of p)) ps o
 
@@ -79,7 +85,8 @@ pub context_push : (h : List OpData) (o : OpData) → context_of_all (h ++ o ∷
 context_push h o = context_push_after empty h o
 
 -- a new operation is in no context that names only what was there
-pub closed_on : (h : List OpData) (o : OpData) (c : ContextData) → IsWellFormed o → is_known h (member_of o) ≡ false → LacksNothing h c → IsClosed h c → IsClosed (h ++ o ∷ []) c
+pub closed_on : (h : List OpData) (o : OpData) (c : ContextData) → IsWellFormed o → is_known h (member_of o) ≡ false → LacksNothing h c
+    → IsClosed h c → IsClosed (h ++ o ∷ []) c
 closed_on h o c formed new ready closed s q n at is site number =
     elim (Contains-push_cases h o q at) [
       | inl old ↦ closed s q n old is site number
@@ -93,7 +100,8 @@ closed_on h o c formed new ready closed s q n at is site number =
 complete_push : (h : List OpData) (o : OpData) → IsComplete h → IsNext h o → IsComplete (h ++ o ∷ [])
 complete_push h o was next =
     let kept : (c : ContextData) → LacksNothing h c → LacksNothing (h ++ o ∷ []) c = λ c r m e. known_on h (o ∷ []) m (r m e) in
-    let apart : (p : OpData) → Contains h p → member_of p ≡ member_of o → ⊥ = λ p at is. false≢true (sym next.new ∙ (ap (is_known h) (sym is) ∙ known_member h p at)) in
+    let apart : (p : OpData) → Contains h p → member_of p ≡ member_of o → ⊥ =
+    λ p at is. false≢true (sym next.new ∙ (ap (is_known h) (sym is) ∙ known_member h p at)) in
     record {
       formed = λ p at. elim (Contains-push_cases h o p at) [
         | inl old ↦ was.formed p old
@@ -107,7 +115,8 @@ complete_push h o was next =
         | inl old ↦ closed_on h o (context_of p) next.formed next.new (was.ready p old) (was.closed p old original)
         | inr now ↦
             let own : is_original o ≡ true = ap is_original now ∙ original in
-            subst (λ (x : OpData). IsClosed (h ++ o ∷ []) (context_of x)) now (closed_on h o (context_of o) next.formed next.new next.ready (next.closed own))
+            subst (λ (x : OpData). IsClosed (h ++ o ∷ []) (context_of x)) now
+            (closed_on h o (context_of o) next.formed next.new next.ready (next.closed own))
       ];
       holds = λ m.
           ap (λ c. has c m) (context_push h o)

@@ -18,6 +18,7 @@ pub by_member : (m : Member) (es : List (Member × ℕ)) → lookup (eq-value.it
 by_member m es = ap (λ (t : Member → Bool). lookup t es) (λ i. λ (x : Member). derived_eq m x i)
 
 -- also after a change under one member
-pub changed_by_member : (es new : List (Member × ℕ)) (k : Member) (w : Option ℕ) → ((q : Member) → lookup (eq-value.it q) new ≡ (if eq-value.it k q then w else lookup (eq-value.it q) es))
+pub changed_by_member : (es new : List (Member × ℕ)) (k : Member) (w : Option ℕ)
+    → ((q : Member) → lookup (eq-value.it q) new ≡ (if eq-value.it k q then w else lookup (eq-value.it q) es))
     → (q : Member) → lookup (member_eq q) new ≡ (if member_eq k q then w else lookup (member_eq q) es)
 changed_by_member es new k w change q = sym (by_member q new) ∙ change q ∙ (λ i. if derived_eq k q i then w else by_member q es i)

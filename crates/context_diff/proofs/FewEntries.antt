@@ -11,7 +11,8 @@ use Rattle.context_diff.specs.Histories.{context_after, context_of_all}
 put_few : (n : NameData) (g : ℕ) (es : List (NameData × ℕ)) → length (put_entry n g es) ≤ length es + 1
 put_few n g [] = omega arith
 put_few n g (e ∷ es) =
-    elim (name_eq e.0 n) as (λ t. length (if t then (n, g) ∷ es else if name_lt n e.0 then (n, g) ∷ (e ∷ es) else e ∷ put_entry n g es) ≤ length (e ∷ es) + 1) [
+    elim (name_eq e.0 n) as (λ t. length (if t then (n, g) ∷ es else if name_lt n e.0 then (n, g) ∷ (e ∷ es) else e ∷ put_entry n g es)
+    ≤ length (e ∷ es) + 1) [
       | true ↦ omega arith
       | false ↦ elim (name_lt n e.0) as (λ t. length (if t then (n, g) ∷ (e ∷ es) else e ∷ put_entry n g es) ≤ length (e ∷ es) + 1) [
         | true ↦ omega arith

@@ -110,11 +110,13 @@ joined : {K : Type 0} (l k r : ℕ) (cs : List K) → l + k ≤ r → l ≤ r �
 joined l k r cs le less =
     let n = r - (l + k) in
     let whole : take n (drop (l + k) cs) ++ drop n (drop (l + k) cs) ≡ drop (l + k) cs = take-append-drop n (drop (l + k) cs) in
-    let far : drop n (drop (l + k) cs) ≡ drop r cs = drop_more (l + k) n cs ∙ (let e : (l + k) + n ≡ r = omega arith in ap (λ m. drop m cs) e) in
+    let far : drop n (drop (l + k) cs) ≡ drop r cs =
+    drop_more (l + k) n cs ∙ (let e : (l + k) + n ≡ r = omega arith in ap (λ m. drop m cs) e) in
     (λ i. middle l k r cs le i ++ sym far i) ∙ whole
 
 -- the gap at the n-th cell that passes, by its ends
-pub gap_ends : {K : Type 0} (p : K → Bool) (n : ℕ) (cs : List K) → gap p n cs ≡ gap_between cs (up_to_nth p n cs) (up_to_nth p n cs + before_first p (drop (up_to_nth p n cs) cs))
+pub gap_ends : {K : Type 0} (p : K → Bool) (n : ℕ) (cs : List K)
+    → gap p n cs ≡ gap_between cs (up_to_nth p n cs) (up_to_nth p n cs + before_first p (drop (up_to_nth p n cs) cs))
 unfolding gap
 gap_ends p zero cs =
     let b = before_first p cs in

@@ -10,11 +10,13 @@ use Rattle.context_diff.proofs.Raising.{entry_put}
 use Rattle.context_diff.proofs.Valid.{by_pushes}
 use Rattle.context_diff.proofs.Complete.{complete, next_member, context_push}
 
-pub generation_push : (h : List OpData) (o : OpData) (t : NameData) → generation_in (h ++ o ∷ []) t ≡ max (generation_in h t) (generation_at o t)
+pub generation_push : (h : List OpData) (o : OpData) (t : NameData)
+    → generation_in (h ++ o ∷ []) t ≡ max (generation_in h t) (generation_at o t)
 generation_push [] o t = omega arith
 generation_push (p ∷ ps) o t = rw (generation_push ps o t) (omega arith)
 
-entry_raised : (a : ContextData) (o : OpData) (t : NameData) → IsNextMember a (member_of o) → entry_of (raised a (member_of o)) t ≡ max (entry_of a t) (generation_at o t)
+entry_raised : (a : ContextData) (o : OpData) (t : NameData) → IsNextMember a (member_of o)
+    → entry_of (raised a (member_of o)) t ≡ max (entry_of a t) (generation_at o t)
 entry_raised a (inserting n p ch c) t next = omega arith
 entry_raised a (deleting n p c) t next = omega arith
 entry_raised a (undoing u n g c) t next =

@@ -12,7 +12,8 @@ use Rattle.context_diff.specs.Code.Counting.{is_insert_of, inserts_of, inserts_l
 use Rattle.context_diff.proofs.Known.{contains_here, contains_later}
 use Rattle.context_diff.proofs.Complete.{IsComplete, next_member}
 
-pub inserts_of_push : (h : List OpData) (o : OpData) (s k : ℕ) → inserts_of (h ++ o ∷ []) s k ≡ inserts_of h s k + (if is_insert_of s k o then 1 else 0)
+pub inserts_of_push : (h : List OpData) (o : OpData) (s k : ℕ)
+    → inserts_of (h ++ o ∷ []) s k ≡ inserts_of h s k + (if is_insert_of s k o then 1 else 0)
 inserts_of_push [] o s k = omega arith
 inserts_of_push (p ∷ ps) o s k = rw (inserts_of_push ps o s k) (omega arith)
 
@@ -21,7 +22,8 @@ named_by : List (ℕ × ℕ) → OpData → ℕ
 named_by [] o = 0
 named_by (p ∷ ps) o = (if is_insert_of p.0 p.1 o then 1 else 0) + named_by ps o
 
-named_none : (low : ℕ) (ps : List (ℕ × ℕ)) → AreCounts low ps → (n : NameData) (p ch : ℕ) (c : ContextData) → n.site < low → named_by ps (inserting n p ch c) ≡ 0
+named_none : (low : ℕ) (ps : List (ℕ × ℕ)) → AreCounts low ps → (n : NameData) (p ch : ℕ) (c : ContextData) → n.site < low
+    → named_by ps (inserting n p ch c) ≡ 0
 unfolding named_by
 named_none low [] are n p ch c less = refl
 named_none low (q ∷ qs) are n p ch c less =
@@ -30,7 +32,8 @@ named_none low (q ∷ qs) are n p ch c less =
     rw other (rw rest refl)
 
 -- of the sites, each once, the one of an insert names it if its number is among the first
-named_once : (low : ℕ) (ps : List (ℕ × ℕ)) → AreCounts low ps → (n : NameData) (p ch : ℕ) (c : ContextData) → 1 ≤ n.number → ◌≡◌ {A = ℕ} (named_by ps (inserting n p ch c)) (if nat_le n.number (count_in ps n.site) then 1 else 0)
+named_once : (low : ℕ) (ps : List (ℕ × ℕ)) → AreCounts low ps → (n : NameData) (p ch : ℕ) (c : ContextData) → 1 ≤ n.number
+    → ◌≡◌ {A = ℕ} (named_by ps (inserting n p ch c)) (if nat_le n.number (count_in ps n.site) then 1 else 0)
 unfolding named_by
 named_once low [] are n p ch c some = grind (arith, nat_tests)
 named_once low (q ∷ qs) are n p ch c some =
@@ -62,7 +65,8 @@ listed_nothing : (ps : List (ℕ × ℕ)) → inserts_listed [] ps ≡ 0
 listed_nothing [] = refl
 listed_nothing (q ∷ qs) = rw (listed_nothing qs) refl
 
-named_here : (v : ContextData) → AreCounts 0 v.counts → (o : OpData) → IsWellFormed o → ◌≡◌ {A = ℕ} (named_by v.counts o) (if is_insert o && has v (member_of o) then 1 else 0)
+named_here : (v : ContextData) → AreCounts 0 v.counts → (o : OpData) → IsWellFormed o
+    → ◌≡◌ {A = ℕ} (named_by v.counts o) (if is_insert o && has v (member_of o) then 1 else 0)
 named_here v are (inserting n p ch c) f =
     let low : 1 ≤ n.number = f.in_range.0.1 in
     named_once 0 v.counts are n p ch c low ∙ grind (arith, nat_tests)
@@ -70,7 +74,8 @@ named_here v are (deleting n p c) f = named_nothing v.counts (deleting n p c) re
 named_here v are (undoing a t g c) f = named_nothing v.counts (undoing a t g c) refl
 
 -- the inserts of a context, site by site
-pub inserts_by_site : (h : List OpData) (v : ContextData) → AreCounts 0 v.counts → ((o : OpData) → Contains h o → IsWellFormed o) → inserts_listed h v.counts ≡ inserts_in h v
+pub inserts_by_site : (h : List OpData) (v : ContextData) → AreCounts 0 v.counts → ((o : OpData) → Contains h o → IsWellFormed o)
+    → inserts_listed h v.counts ≡ inserts_in h v
 inserts_by_site [] v are f = listed_nothing v.counts
 inserts_by_site (o ∷ os) v are f =
     listed_step o os v.counts
@@ -104,12 +109,14 @@ inserts_of_at_most (o ∷ os) s k =
     ]
 
 -- a next operation is none of the first k originals of a site, where the history has those k
-beyond : (h : List OpData) → IsComplete h → (o : OpData) → IsNext h o → (s k : ℕ) → k ≤ count_of (context_of_all h) s → is_insert_of s k o ≡ false
+beyond : (h : List OpData) → IsComplete h → (o : OpData) → IsNext h o → (s k : ℕ) → k ≤ count_of (context_of_all h) s
+    → is_insert_of s k o ≡ false
 beyond h w (inserting n p ch c) next s k within =
     let after : n.number ≡ count_of (context_of_all h) n.site + 1 = next_member h (context_of_all h) (inserting n p ch c) w.holds next in
     elim (cases_Bool (n.site == s)) [
       | inl same ↦
-          let counts : count_of (context_of_all h) n.site ≡ count_of (context_of_all h) s = ap (count_of (context_of_all h)) (eqb-true n.site s same) in
+          let counts : count_of (context_of_all h) n.site ≡ count_of (context_of_all h) s =
+          ap (count_of (context_of_all h)) (eqb-true n.site s same) in
           grind (arith, nat_tests)
       | inr other ↦ grind (arith, nat_tests)
     ]
@@ -117,11 +124,13 @@ beyond h w (deleting n p c) next s k within = refl
 beyond h w (undoing a t g c) next s k within = refl
 
 -- the inserts among the first originals of a site stay the same when a next operation comes
-pub inserts_of_on : (h : List OpData) → IsComplete h → (o : OpData) → IsNext h o → (s k : ℕ) → k ≤ count_of (context_of_all h) s → inserts_of (h ++ o ∷ []) s k ≡ inserts_of h s k
+pub inserts_of_on : (h : List OpData) → IsComplete h → (o : OpData) → IsNext h o → (s k : ℕ) → k ≤ count_of (context_of_all h) s
+    → inserts_of (h ++ o ∷ []) s k ≡ inserts_of h s k
 inserts_of_on h w o next s k within = inserts_of_push h o s k ∙ rw (beyond h w o next s k within) (omega arith)
 
 -- in a list that hasn't the last of them, the first k originals have the inserts of the first k - 1
-pub inserts_of_less : (h : List OpData) (n : NameData) (k : ℕ) → is_known h (Original n) ≡ false → n.number ≡ k + 1 → inserts_of h n.site n.number ≡ inserts_of h n.site k
+pub inserts_of_less : (h : List OpData) (n : NameData) (k : ℕ) → is_known h (Original n) ≡ false → n.number ≡ k + 1
+    → inserts_of h n.site n.number ≡ inserts_of h n.site k
 inserts_of_less [] n k new at = refl
 inserts_of_less (inserting m p ch c ∷ os) n k new at =
     let parts = or_parts (name_eq m n) (is_known os (Original n)) new in
@@ -131,7 +140,8 @@ inserts_of_less (deleting m p c ∷ os) n k new at =
     rw (inserts_of_less os n k (or_parts (name_eq m n) (is_known os (Original n)) new).1 at) refl
 inserts_of_less (undoing a t g c ∷ os) n k new at = rw (inserts_of_less os n k new at) refl
 
-bit_of : (o : OpData) (n : NameData) → member_of o ≡ Original n → ◌≡◌ {A = ℕ} (if is_insert_of n.site n.number o then 1 else 0) (if is_insert o then 1 else 0)
+bit_of : (o : OpData) (n : NameData) → member_of o ≡ Original n
+    → ◌≡◌ {A = ℕ} (if is_insert_of n.site n.number o then 1 else 0) (if is_insert o then 1 else 0)
 bit_of (inserting m p ch c) n is =
     let same : m ≡ n = cc in
     let number : m.number ≡ n.number = ap (λ (x : NameData). x.number) same in
@@ -141,7 +151,8 @@ bit_of (deleting m p c) n is = refl
 bit_of (undoing a t g c) n is = refl
 
 -- a new original has the inserts up to the one before it, and itself if it is one
-pub inserts_of_new : (h : List OpData) (o : OpData) (n : NameData) (k : ℕ) → member_of o ≡ Original n → is_known h (Original n) ≡ false → n.number ≡ k + 1 → inserts_of (h ++ o ∷ []) n.site n.number ≡ inserts_of h n.site k + (if is_insert o then 1 else 0)
+pub inserts_of_new : (h : List OpData) (o : OpData) (n : NameData) (k : ℕ) → member_of o ≡ Original n → is_known h (Original n) ≡ false
+    → n.number ≡ k + 1 → inserts_of (h ++ o ∷ []) n.site n.number ≡ inserts_of h n.site k + (if is_insert o then 1 else 0)
 inserts_of_new h o n k is new at =
     inserts_of_push h o n.site n.number ∙ (λ i. inserts_of_less h n k new at i + bit_of o n is i)
 

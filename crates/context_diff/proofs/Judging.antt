@@ -29,13 +29,15 @@ bit b = if b then 1 else 0
 
 -- ---- Counting
 
-inserts_push : (h : List OpData) (o : OpData) (v : ContextData) → inserts_in (h ++ o ∷ []) v ≡ inserts_in h v + bit (is_insert o && has v (member_of o))
+inserts_push : (h : List OpData) (o : OpData) (v : ContextData)
+    → inserts_in (h ++ o ∷ []) v ≡ inserts_in h v + bit (is_insert o && has v (member_of o))
 unfolding bit
 inserts_push [] o v = omega arith
 inserts_push (p ∷ ps) o v = rw (inserts_push ps o v) (omega arith)
 
 -- what comes next is in no context whose members were there
-pub inserts_stay : (h : List OpData) (o : OpData) (c : ContextData) → LacksNothing h c → is_known h (member_of o) ≡ false → inserts_in (h ++ o ∷ []) c ≡ inserts_in h c
+pub inserts_stay : (h : List OpData) (o : OpData) (c : ContextData) → LacksNothing h c → is_known h (member_of o) ≡ false
+    → inserts_in (h ++ o ∷ []) c ≡ inserts_in h c
 unfolding bit
 inserts_stay h o c ready new =
     elim (cases_Bool (has c (member_of o))) [
@@ -48,12 +50,15 @@ inserts_stay h o c ready new =
     and_none false = refl
 
 -- a member more changes nothing for operations that are other members
-unknown_same : (h : List OpData) (m : Member) (c v : ContextData) → ((y : Member) → has v y ≡ (has c y || member_eq m y)) → is_known h m ≡ false → inserts_in h v ≡ inserts_in h c
+unknown_same : (h : List OpData) (m : Member) (c v : ContextData) → ((y : Member) → has v y ≡ (has c y || member_eq m y))
+    → is_known h m ≡ false → inserts_in h v ≡ inserts_in h c
 unknown_same [] m c v more new = refl
 unknown_same (p ∷ ps) m c v more new =
     let parts = or_parts (member_eq (member_of p) m) (is_known ps m) new in
-    let apart : member_eq m (member_of p) ≡ false = member_apart m (member_of p) (λ e. false≢true (sym parts.0 ∙ (ap (member_eq (member_of p)) e ∙ member_itself (member_of p)))) in
-    let same : has v (member_of p) ≡ has c (member_of p) = more (member_of p) ∙ (ap (λ b. has c (member_of p) || b) apart ∙ or_none (has c (member_of p))) in
+    let apart : member_eq m (member_of p) ≡ false =
+    member_apart m (member_of p) (λ e. false≢true (sym parts.0 ∙ (ap (member_eq (member_of p)) e ∙ member_itself (member_of p)))) in
+    let same : has v (member_of p) ≡ has c (member_of p) =
+    more (member_of p) ∙ (ap (λ b. has c (member_of p) || b) apart ∙ or_none (has c (member_of p))) in
     rw (same, unknown_same ps m c v more parts.1) refl
   where
     or_none : (b : Bool) → (b || false) ≡ b
@@ -69,27 +74,38 @@ and_none true = refl
 and_none false = refl
 
 -- a context with one operation of the history more has that one more, if it is an insert
-inserts_with : (h : List OpData) → IsValid h → (o : OpData) → Contains h o → (c v : ContextData) → ((y : Member) → has v y ≡ (has c y || member_eq (member_of o) y)) → has c (member_of o) ≡ false → inserts_in h v ≡ inserts_in h c + bit (is_insert o)
+inserts_with : (h : List OpData) → IsValid h → (o : OpData) → Contains h o → (c v : ContextData)
+    → ((y : Member) → has v y ≡ (has c y || member_eq (member_of o) y)) → has c (member_of o) ≡ false
+    → inserts_in h v ≡ inserts_in h c + bit (is_insert o)
 unfolding bit
 inserts_with h valid o there c v more lacks =
-    by_pushes (λ k. Contains k o → inserts_in k v ≡ inserts_in k c + bit (is_insert o)) (λ at. absurd (contains_none o at)) step h valid there
+    by_pushes (λ k. Contains k o → inserts_in k v ≡ inserts_in k c + bit (is_insert o)) (λ at. absurd (contains_none o at)) step h valid
+    there
   where
-    step : (k : List OpData) (q : OpData) → IsValid k → (Contains k o → inserts_in k v ≡ inserts_in k c + bit (is_insert o)) → IsNext k q → Contains (k ++ q ∷ []) o → inserts_in (k ++ q ∷ []) v ≡ inserts_in (k ++ q ∷ []) c + bit (is_insert o)
+    step : (k : List OpData) (q : OpData) → IsValid k → (Contains k o → inserts_in k v ≡ inserts_in k c + bit (is_insert o)) → IsNext k q
+        → Contains (k ++ q ∷ []) o → inserts_in (k ++ q ∷ []) v ≡ inserts_in (k ++ q ∷ []) c + bit (is_insert o)
     step k q valid_k rest next at =
         elim (Contains-push_cases k q o at) [
           | inl old ↦
-              let apart : member_eq (member_of o) (member_of q) ≡ false = member_apart (member_of o) (member_of q) (λ e. false≢true (sym next.new ∙ (ap (is_known k) (sym e) ∙ known_member k o old))) in
-              let same : has v (member_of q) ≡ has c (member_of q) = more (member_of q) ∙ (ap (λ b. has c (member_of q) || b) apart ∙ or_none (has c (member_of q))) in
-              let here : bit (is_insert q && has v (member_of q)) ≡ bit (is_insert q && has c (member_of q)) = ap (λ b. bit (is_insert q && b)) same in
+              let apart : member_eq (member_of o) (member_of q) ≡ false =
+              member_apart (member_of o) (member_of q)
+              (λ e. false≢true (sym next.new ∙ (ap (is_known k) (sym e) ∙ known_member k o old))) in
+              let same : has v (member_of q) ≡ has c (member_of q) =
+              more (member_of q) ∙ (ap (λ b. has c (member_of q) || b) apart ∙ or_none (has c (member_of q))) in
+              let here : bit (is_insert q && has v (member_of q)) ≡ bit (is_insert q && has c (member_of q)) =
+              ap (λ b. bit (is_insert q && b)) same in
               omega (arith, inserts_push k q v, inserts_push k q c, rest old, here)
           | inr now ↦
               let new : is_known k (member_of o) ≡ false = ap (λ (x : OpData). is_known k (member_of x)) (sym now) ∙ next.new in
               let before = unknown_same k (member_of o) c v more new in
-              let there_now : has v (member_of o) ≡ true = more (member_of o) ∙ (ap (λ b. has c (member_of o) || b) (member_itself (member_of o)) ∙ or_all (has c (member_of o))) in
+              let there_now : has v (member_of o) ≡ true =
+              more (member_of o) ∙ (ap (λ b. has c (member_of o) || b) (member_itself (member_of o)) ∙ or_all (has c (member_of o))) in
               let with_it : bit (is_insert q && has v (member_of q)) ≡ bit (is_insert o) =
-              ap (λ (x : OpData). bit (is_insert x && has v (member_of x))) now ∙ ap bit (ap (λ b. is_insert o && b) there_now ∙ and_all (is_insert o)) in
+              ap (λ (x : OpData). bit (is_insert x && has v (member_of x))) now
+              ∙ ap bit (ap (λ b. is_insert o && b) there_now ∙ and_all (is_insert o)) in
               let without : bit (is_insert q && has c (member_of q)) ≡ 0 =
-              ap (λ (x : OpData). bit (is_insert x && has c (member_of x))) now ∙ ap bit (ap (λ b. is_insert o && b) lacks ∙ and_none (is_insert o)) in
+              ap (λ (x : OpData). bit (is_insert x && has c (member_of x))) now
+              ∙ ap bit (ap (λ b. is_insert o && b) lacks ∙ and_none (is_insert o)) in
               omega (arith, inserts_push k q v, inserts_push k q c, before, with_it, without)
         ]
       where
@@ -117,7 +133,8 @@ not_own c k next =
       | inr missing ↦ missing
     ]
 
-module _ (h : List OpData) (w : IsComplete h) (o : OpData) (there : Contains h o) (more : (y : Member) → has (raised (context_of o) (member_of o)) y ≡ (has (context_of o) y || member_eq (member_of o) y)) where
+module _ (h : List OpData) (w : IsComplete h) (o : OpData) (there : Contains h o)
+    (more : (y : Member) → has (raised (context_of o) (member_of o)) y ≡ (has (context_of o) y || member_eq (member_of o) y)) where
   within_more : Within (context_of o) (raised (context_of o) (member_of o))
   within_more y e = more y ∙ or_left (has (context_of o) y) (member_eq (member_of o) y) e
 
@@ -131,7 +148,8 @@ module _ (h : List OpData) (w : IsComplete h) (o : OpData) (there : Contains h o
   closed_with : (k : NameData) → member_of o ≡ Original k → is_original o ≡ true → IsClosed h (raised (context_of o) (member_of o))
   closed_with k is original s q r at named site last =
       let c = context_of o in
-      let counts : count_of (raised c (member_of o)) s ≡ (if k.site == s then k.number else count_of c s) = ap (λ (m : Member). count_of (raised c m) s) is ∙ count_put k.site k.number c.counts s in
+      let counts : count_of (raised c (member_of o)) s ≡ (if k.site == s then k.number else count_of c s) =
+      ap (λ (m : Member). count_of (raised c m) s) is ∙ count_put k.site k.number c.counts s in
       elim (cases_Bool (k.site == s)) [
         | inl here ↦
             let number : r.number ≡ k.number = last ∙ (counts ∙ rw here refl) in
@@ -144,13 +162,15 @@ module _ (h : List OpData) (w : IsComplete h) (o : OpData) (there : Contains h o
       ]
 
 -- a context with the operation that was made in it
-judged_with : (h : List OpData) → IsValid h → (o : OpData) → Contains h o → is_original o ≡ true → (n : ℕ) → n ≡ inserts_in h (context_of o) + bit (is_insert o) → IsJudged h (raised (context_of o) (member_of o)) n
+judged_with : (h : List OpData) → IsValid h → (o : OpData) → Contains h o → is_original o ≡ true → (n : ℕ)
+    → n ≡ inserts_in h (context_of o) + bit (is_insert o) → IsJudged h (raised (context_of o) (member_of o)) n
 judged_with h valid o there original n number =
     let w = complete h valid in
     let own = original_name o original in
     let next = next_there o (w.formed o there) original in
     let more = has_raised (context_of o) (member_of o) next in
-    let lacks : has (context_of o) (member_of o) ≡ false = ap (has (context_of o)) own.1 ∙ not_own (context_of o) own.0 (subst (IsNextMember (context_of o)) own.1 next) in
+    let lacks : has (context_of o) (member_of o) ≡ false =
+    ap (has (context_of o)) own.1 ∙ not_own (context_of o) own.0 (subst (IsNextMember (context_of o)) own.1 next) in
     record {
       ready = ready_with h w o there more;
       closed = closed_with h w o there more own.0 own.1 original;
@@ -166,7 +186,8 @@ some_same : (p o : OpData) → Some p ≡ Some o → p ≡ o
 some_same p o e = cc
 
 -- what the last operations tell of a context
-pub judged_by : (h : List OpData) → IsValid h → (l : Lately) → IsLately h l → (o : OpData) → slice_get h l.place ≡ Some o → (v : ContextData) (n : ℕ) → IsCellsBy o v l.cells n → IsJudged h v n
+pub judged_by : (h : List OpData) → IsValid h → (l : Lately) → IsLately h l → (o : OpData) → slice_get h l.place ≡ Some o
+    → (v : ContextData) (n : ℕ) → IsCellsBy o v l.cells n → IsJudged h v n
 unfolding bit
 judged_by h valid l known o at v n by =
     let one : known.op ≡ o = some_same known.op o (sym known.there ∙ at) in
@@ -179,11 +200,13 @@ judged_by h valid l known o at v n by =
         closed = subst (IsClosed h) (sym same.0) (w.closed o there by.0);
         cells = same.1 ∙ (cells ∙ ap (inserts_in h) (sym same.0));
       }
-      | inr next ↦ subst (λ (x : ContextData). IsJudged h x n) (sym next.0) (judged_with h valid o there by.0 n (next.1 ∙ ap (λ x. x + (if is_insert o then 1 else 0)) cells))
+      | inr next ↦ subst (λ (x : ContextData). IsJudged h x n) (sym next.0)
+          (judged_with h valid o there by.0 n (next.1 ∙ ap (λ x. x + (if is_insert o then 1 else 0)) cells))
     ]
 
 -- the same of an answer
-pub judged_some : (h : List OpData) → IsValid h → (l : Lately) → IsLately h l → (o : OpData) → slice_get h l.place ≡ Some o → (v : ContextData) (r : Option ℕ) → IfSome r (IsCellsBy o v l.cells) → IfSome r (IsJudged h v)
+pub judged_some : (h : List OpData) → IsValid h → (l : Lately) → IsLately h l → (o : OpData) → slice_get h l.place ≡ Some o
+    → (v : ContextData) (r : Option ℕ) → IfSome r (IsCellsBy o v l.cells) → IfSome r (IsJudged h v)
 judged_some h valid l known o at v None by = tt
 judged_some h valid l known o at v (Some n) by = judged_by h valid l known o at v n by
 
@@ -209,7 +232,8 @@ lately_fits h valid l known short =
     let there = contains_get h l.place o known.there in
     let own = original_name o known.original in
     let next = next_there o ((complete h valid).formed o there) known.original in
-    let lacks : has (context_of o) (member_of o) ≡ false = ap (has (context_of o)) own.1 ∙ not_own (context_of o) own.0 (subst (IsNextMember (context_of o)) own.1 next) in
+    let lacks : has (context_of o) (member_of o) ≡ false =
+    ap (has (context_of o)) own.1 ∙ not_own (context_of o) own.0 (subst (IsNextMember (context_of o)) own.1 next) in
     omega (arith, known.cells, inserts_less h o (context_of o) there lacks)
 
 -- ---- A history that grows
@@ -224,13 +248,15 @@ get_last [] x = refl
 get_last (y ∷ ys) x = get_last ys x
 
 -- what is known stays so
-pub lately_on : (h : List OpData) (o : OpData) → IsComplete h → IsNext h o → (l : Option Lately) → IfSome l (IsLately h) → IfSome l (IsLately (h ++ o ∷ []))
+pub lately_on : (h : List OpData) (o : OpData) → IsComplete h → IsNext h o → (l : Option Lately) → IfSome l (IsLately h)
+    → IfSome l (IsLately (h ++ o ∷ []))
 lately_on h o w next None known = tt
 lately_on h o w next (Some l) known = record {
   op = known.op;
   there = get_on h o l.place known.op known.there;
   original = known.original;
-  cells = known.cells ∙ sym (inserts_stay h o (context_of known.op) (w.ready known.op (contains_get h l.place known.op known.there)) next.new);
+  cells = known.cells ∙ sym (inserts_stay h o (context_of known.op) (w.ready known.op (contains_get h l.place known.op known.there))
+      next.new);
 }
 
 -- and of a next operation as much is known, if its context was counted

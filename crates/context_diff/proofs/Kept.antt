@@ -25,7 +25,8 @@ pub seen_push : (os : List Op) (o : Op) → map data_of (os ++ o ∷ []) ≡ map
 seen_push [] o = refl
 seen_push (p ∷ ps) o = ap (λ xs. data_of p ∷ xs) (seen_push ps o)
 
-pub seen_pop : (os left : List Op) (r : Option Op) (o : Op) → os ≡ left ++ option_to_list r → r ≡ Some o → map data_of os ≡ map data_of left ++ data_of o ∷ []
+pub seen_pop : (os left : List Op) (r : Option Op) (o : Op) → os ≡ left ++ option_to_list r → r ≡ Some o
+    → map data_of os ≡ map data_of left ++ data_of o ∷ []
 seen_pop os left r o parts some = ap (map data_of) (parts ∙ ap (λ (x : Option Op). left ++ option_to_list x) some) ∙ seen_push left o
 
 pub seen_length : (os : List Op) → length (map data_of os) ≡ length os
@@ -63,7 +64,9 @@ book_still h have own own' inserts counts places groups last earlier book stays 
 pub book_push : (h : List OpData) (have : ContextData) (own own' : Bool) (inserts : ℕ)
     (counts counts' places places' : ℕ → List ℕ) (groups groups' : List (Member × ℕ)) (last earlier new : Option Lately) (o : OpData)
     → IsBook h have own inserts counts places groups last earlier → IsNext h o
-    → ((s : ℕ) → counts' s ≡ counted (member_of o) (is_insert o) s (counts s)) → ((s : ℕ) → places' s ≡ placed (member_of o) (length h) s (places s)) → (AreGroups h groups → AreGroups (h ++ o ∷ []) groups') → IfSome new (IsLately (h ++ o ∷ []))
+    → ((s : ℕ) → counts' s ≡ counted (member_of o) (is_insert o) s (counts s))
+    → ((s : ℕ) → places' s ≡ placed (member_of o) (length h) s (places s)) → (AreGroups h groups → AreGroups (h ++ o ∷ []) groups')
+    → IfSome new (IsLately (h ++ o ∷ []))
     → length h + 1 < 4294967296 → own' ≡ true
     → IsBook (h ++ o ∷ []) (raised have (member_of o)) own' (inserts + (if is_insert o then 1 else 0)) counts' places'
     groups' new last
@@ -88,7 +91,8 @@ pub book_pop : (h : List OpData) (have : ContextData) (own own' : Bool) (inserts
     (counts counts' places places' : ℕ → List ℕ) (groups groups' : List (Member × ℕ)) (last earlier : Option Lately) (o : OpData)
     → IsBook (h ++ o ∷ []) have own inserts counts places groups last earlier → own' ≡ true
     → inserts ≡ inserts' + (if is_insert o then 1 else 0)
-    → ((s : ℕ) → counts' s ≡ without_last (member_of o) s (counts s)) → ((s : ℕ) → places' s ≡ without_last (member_of o) s (places s)) → (AreGroups (h ++ o ∷ []) groups → AreGroups h groups')
+    → ((s : ℕ) → counts' s ≡ without_last (member_of o) s (counts s)) → ((s : ℕ) → places' s ≡ without_last (member_of o) s (places s))
+    → (AreGroups (h ++ o ∷ []) groups → AreGroups h groups')
     → IsBook h (context_of_all h) own' inserts' counts' places' groups' None None
 book_pop h have own own' inserts inserts' counts counts' places places' groups groups' last earlier o book still one_less less fewer
     forgot =

@@ -58,7 +58,8 @@ pub known_member : (h : List OpData) (o : OpData) → Contains h o → is_known 
 known_member [] o c = absurd (contains_none o c)
 known_member (p ∷ ps) o c =
     elim (contains_cases p ps o c) [
-      | inl is ↦ or_left (member_eq (member_of p) (member_of o)) (is_known ps (member_of o)) (ap (λ x. member_eq (member_of p) (member_of x)) (sym is) ∙ member_itself (member_of p))
+      | inl is ↦ or_left (member_eq (member_of p) (member_of o)) (is_known ps (member_of o))
+          (ap (λ x. member_eq (member_of p) (member_of x)) (sym is) ∙ member_itself (member_of p))
       | inr later ↦ or_right (member_eq (member_of p) (member_of o)) (is_known ps (member_of o)) (known_member ps o later)
     ]
 
@@ -73,7 +74,8 @@ known_in (o ∷ os) m e =
 
 pub in_known : (h : List OpData) (m : Member) → IsIn m (members_in h) → is_known h m ≡ true
 in_known [] m i = absurd i
-in_known (o ∷ os) m (inl e) = or_left (member_eq (member_of o) m) (is_known os m) (ap (λ (x : Member). member_eq x m) (sym e) ∙ member_itself m)
+in_known (o ∷ os) m (inl e) =
+    or_left (member_eq (member_of o) m) (is_known os m) (ap (λ (x : Member). member_eq x m) (sym e) ∙ member_itself m)
 in_known (o ∷ os) m (inr i) = or_right (member_eq (member_of o) m) (is_known os m) (in_known os m i)
 
 -- the operation of a history that is this member
@@ -146,7 +148,8 @@ context_on (p ∷ ps) k n e =
     ]
 
 -- behind a part that hasn't the original its context is found in the rest
-pub context_behind : (h k : List OpData) (n : NameData) → is_known h (Original n) ≡ false → original_context (h ++ k) n ≡ original_context k n
+pub context_behind : (h k : List OpData) (n : NameData) → is_known h (Original n) ≡ false
+    → original_context (h ++ k) n ≡ original_context k n
 context_behind [] k n e = refl
 context_behind (p ∷ ps) k n e =
     elim (cases_Bool (member_eq (member_of p) (Original n))) [

@@ -66,7 +66,8 @@ count_place (q ∷ qs) s some =
     ]
 
 -- lesser sites stand before greater ones
-pub count_order : (low : ℕ) (ps : List (ℕ × ℕ)) → AreCounts low ps → (i j : ℕ) (p q : ℕ × ℕ) → slice_get ps i ≡ Some p → slice_get ps j ≡ Some q → p.0 < q.0 → i < j
+pub count_order : (low : ℕ) (ps : List (ℕ × ℕ)) → AreCounts low ps → (i j : ℕ) (p q : ℕ × ℕ) → slice_get ps i ≡ Some p
+    → slice_get ps j ≡ Some q → p.0 < q.0 → i < j
 count_order low [] are i j p q at bt less = let none : None ≡ Some p = at in cc
 count_order low (x ∷ xs) are zero zero p q at bt less =
     let one : x ≡ p = cc in
@@ -82,7 +83,8 @@ count_order low (x ∷ xs) are (suc i) zero p q at bt less =
 count_order low (x ∷ xs) are (suc i) (suc j) p q at bt less = omega (arith, count_order (x.0 + 1) xs are.4 i j p q at bt less)
 
 -- a site is not among those before its place
-pub count_before : (low : ℕ) (ps : List (ℕ × ℕ)) → AreCounts low ps → (i : ℕ) (p : ℕ × ℕ) → slice_get ps i ≡ Some p → count_in (take i ps) p.0 ≡ 0
+pub count_before : (low : ℕ) (ps : List (ℕ × ℕ)) → AreCounts low ps → (i : ℕ) (p : ℕ × ℕ) → slice_get ps i ≡ Some p
+    → count_in (take i ps) p.0 ≡ 0
 count_before low [] are i p at = let none : None ≡ Some p = at in cc
 count_before low (q ∷ qs) are zero p at = refl
 count_before low (q ∷ qs) are (suc i) p at =
@@ -91,7 +93,8 @@ count_before low (q ∷ qs) are (suc i) p at =
     ap (λ b. if b then q.1 else count_in (take i qs) p.0) other ∙ count_before (q.0 + 1) qs are.4 i p at
 
 -- the counts with one more place
-pub count_more : (low : ℕ) (ps : List (ℕ × ℕ)) → AreCounts low ps → (i : ℕ) (p : ℕ × ℕ) → slice_get ps i ≡ Some p → (s : ℕ) → count_in (take (suc i) ps) s ≡ (if p.0 == s then p.1 else count_in (take i ps) s)
+pub count_more : (low : ℕ) (ps : List (ℕ × ℕ)) → AreCounts low ps → (i : ℕ) (p : ℕ × ℕ) → slice_get ps i ≡ Some p → (s : ℕ)
+    → count_in (take (suc i) ps) s ≡ (if p.0 == s then p.1 else count_in (take i ps) s)
 count_more low [] are i p at s = let none : None ≡ Some p = at in cc
 count_more low (q ∷ qs) are zero p at s =
     let is : q ≡ p = cc in
@@ -107,7 +110,8 @@ count_more low (q ∷ qs) are (suc i) p at s =
     ]
 
 -- names behind the first one are greater
-entry_later : (n : NameData) (es : List (NameData × ℕ)) → IsBefore n es → AreEntries es → (i : ℕ) (x : NameData × ℕ) → slice_get es i ≡ Some x → name_lt n x.0 ≡ true
+entry_later : (n : NameData) (es : List (NameData × ℕ)) → IsBefore n es → AreEntries es → (i : ℕ) (x : NameData × ℕ)
+    → slice_get es i ≡ Some x → name_lt n x.0 ≡ true
 entry_later n [] before are i x at = let none : None ≡ Some x = at in cc
 entry_later n (e ∷ es) before are zero x at =
     let is : e ≡ x = cc in
@@ -157,7 +161,8 @@ entry_place (d ∷ ds) n some =
     ]
 
 -- a name is not among those before its place
-pub entry_before : (es : List (NameData × ℕ)) → AreEntries es → (i : ℕ) (e : NameData × ℕ) → slice_get es i ≡ Some e → entry_in (take i es) e.0 ≡ 0
+pub entry_before : (es : List (NameData × ℕ)) → AreEntries es → (i : ℕ) (e : NameData × ℕ) → slice_get es i ≡ Some e
+    → entry_in (take i es) e.0 ≡ 0
 entry_before [] are i e at = let none : None ≡ Some e = at in cc
 entry_before (d ∷ ds) are zero e at = refl
 entry_before (d ∷ ds) are (suc i) e at =
@@ -165,7 +170,8 @@ entry_before (d ∷ ds) are (suc i) e at =
     ap (λ b. if b then d.1 else entry_in (take i ds) e.0) other ∙ entry_before ds are.4 i e at
 
 -- the entries with one more place
-pub entry_more : (es : List (NameData × ℕ)) → AreEntries es → (i : ℕ) (e : NameData × ℕ) → slice_get es i ≡ Some e → (n : NameData) → entry_in (take (suc i) es) n ≡ (if name_eq e.0 n then e.1 else entry_in (take i es) n)
+pub entry_more : (es : List (NameData × ℕ)) → AreEntries es → (i : ℕ) (e : NameData × ℕ) → slice_get es i ≡ Some e → (n : NameData)
+    → entry_in (take (suc i) es) n ≡ (if name_eq e.0 n then e.1 else entry_in (take i es) n)
 entry_more [] are i e at n = let none : None ≡ Some e = at in cc
 entry_more (d ∷ ds) are zero e at n =
     let is : d ≡ e = cc in
@@ -201,14 +207,16 @@ each_more P xs i x at here each j y less read =
     ]
 
 -- where each entry's original is in the context, it keeps the rule on stray entries
-pub stray_kept : (c : ContextData) → ((i : ℕ) (e : NameData × ℕ) → i < length c.entries → slice_get c.entries i ≡ Some e → has c (Original e.0) ≡ true) → HasNoStray c
+pub stray_kept : (c : ContextData)
+    → ((i : ℕ) (e : NameData × ℕ) → i < length c.entries → slice_get c.entries i ≡ Some e → has c (Original e.0) ≡ true) → HasNoStray c
 stray_kept c each n g there =
     let range = has_generation c n g there in
     let at = entry_place c.entries n (omega (arith, range.0, range.1)) in
     each at.place (n, entry_in c.entries n) at.within at.at
 
 -- an entry whose original the context hasn't breaks that rule
-pub stray_broken : (c : ContextData) → AreEntries c.entries → (i : ℕ) (e : NameData × ℕ) → slice_get c.entries i ≡ Some e → has c (Original e.0) ≡ false → HasNoStray c → ⊥
+pub stray_broken : (c : ContextData) → AreEntries c.entries → (i : ℕ) (e : NameData × ℕ) → slice_get c.entries i ≡ Some e
+    → has c (Original e.0) ≡ false → HasNoStray c → ⊥
 stray_broken c are i e at lacks keeps =
     let here = entry_at c.entries are i e at in
     false≢true (sym lacks ∙ keeps e.0 1 (has_group c e.0 1 (omega arith) (omega (arith, here.least, here.entry))))

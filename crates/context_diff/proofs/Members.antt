@@ -47,13 +47,16 @@ all_is_context h v =
     subst IsContext (sym (context_push k o)) (raised_by (context_of_all k) o was next.formed)) h v
 
 -- a context that was raised by a next operation and then lacks its member again is the context before
-pub lowered_back : (h : List OpData) (o : OpData) (c d : ContextData) (m : Member) → IsValid h → IsNext h o → m ≡ member_of o → c ≡ raised (context_of_all h) (member_of o) → IsContext d → ((y : Member) → has d y ≡ (has c y && not (member_eq m y))) → d ≡ context_of_all h
+pub lowered_back : (h : List OpData) (o : OpData) (c d : ContextData) (m : Member) → IsValid h → IsNext h o → m ≡ member_of o
+    → c ≡ raised (context_of_all h) (member_of o) → IsContext d → ((y : Member) → has d y ≡ (has c y && not (member_eq m y)))
+    → d ≡ context_of_all h
 lowered_back h o c d m v next is was form members =
     let a = context_of_all h in
     let w = complete h v in
     let raised_has = has_raised a (member_of o) (next_member h a o w.holds next) in
     same_context d a form (all_is_context h v) (λ y.
-    members y ∙ ((λ i. has (was i) y && not (member_eq (is i) y)) ∙ ((ap (λ b. b && not (member_eq (member_of o) y)) (raised_has y)) ∙ back y)))
+    members y ∙ ((λ i. has (was i) y && not (member_eq (is i) y))
+    ∙ ((ap (λ b. b && not (member_eq (member_of o) y)) (raised_has y)) ∙ back y)))
   where
     apart : (a b : Bool) → (b ≡ true → a ≡ false) → ((a || b) && not b) ≡ a
     apart true true f = sym (f refl)
@@ -61,6 +64,7 @@ lowered_back h o c d m v next is was form members =
     apart false true f = refl
     apart false false f = refl
 
-    back : (y : Member) → ((has (context_of_all h) y || member_eq (member_of o) y) && not (member_eq (member_of o) y)) ≡ has (context_of_all h) y
+    back : (y : Member) → ((has (context_of_all h) y || member_eq (member_of o) y) && not (member_eq (member_of o) y))
+        ≡ has (context_of_all h) y
     back y = apart (has (context_of_all h) y) (member_eq (member_of o) y) (λ e.
         (complete h v).holds y ∙ (ap (is_known h) (sym (member_same (member_of o) y e)) ∙ next.new))

@@ -8,7 +8,8 @@ use Rattle.context_diff.proofs.Complete.{complete}
 use Rattle.context_diff.proofs.Books.{covered_ready}
 
 -- an operation that is well formed and new, made after members that are there, closed and at a place is next
-pub next_from : (h : List OpData) (have : ContextData) (o : OpData) → IsValid h → have ≡ context_of_all h → IsWellFormed o → has have (member_of o) ≡ false → Within (context_of o) have
+pub next_from : (h : List OpData) (have : ContextData) (o : OpData) → IsValid h → have ≡ context_of_all h → IsWellFormed o
+    → has have (member_of o) ≡ false → Within (context_of o) have
     → (is_original o ≡ true → IsClosed h (context_of o)) → HasPlace h o → IsNext h o
 next_from h have o valid members formed new ready closed placed = record {
   formed = formed;

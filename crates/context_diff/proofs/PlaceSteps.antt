@@ -32,7 +32,8 @@ passes_same t u (m ∷ ms) zero same = same m
 passes_same t u (m ∷ ms) (suc p) same = passes_same t u ms p same
 
 -- tests that agree have the same places
-pub places_same : (ms : List Member) (t u : Member → Bool) (ps : List ℕ) → ((y : Member) → t y ≡ u y) → ArePlacesOf ms t ps → ArePlacesOf ms u ps
+pub places_same : (ms : List Member) (t u : Member → Bool) (ps : List ℕ) → ((y : Member) → t y ≡ u y) → ArePlacesOf ms t ps
+    → ArePlacesOf ms u ps
 places_same ms t u ps same are p = are p ∙ ap (λ b. if b then 1 else 0) (passes_same t u ms p same)
 
 -- no places where nothing passes
@@ -47,33 +48,41 @@ places_nothing ms t none p = ap (λ b. if b then 1 else 0) (sym (fails ms p))
 -- what stands in a history is known
 pub known_at : (h : List OpData) (p : ℕ) (m : Member) → slice_get (members_in h) p ≡ Some m → is_known h m ≡ true
 known_at [] p m at = let none : None ≡ Some m = at in cc
-known_at (o ∷ os) zero m at = let is : member_of o ≡ m = cc in ap (λ b. b || is_known os m) (ap (member_eq (member_of o)) (sym is) ∙ member_itself (member_of o))
+known_at (o ∷ os) zero m at =
+    let is : member_of o ≡ m = cc in ap (λ b. b || is_known os m) (ap (member_eq (member_of o)) (sym is) ∙ member_itself (member_of o))
 known_at (o ∷ os) (suc p) m at = or_right (member_eq (member_of o) m) (is_known os m) (known_at os p m at)
 
-places_once_after : (b os : List OpData) → IsValidAfter b os → (p q : ℕ) (m : Member) → slice_get (members_in os) p ≡ Some m → slice_get (members_in os) q ≡ Some m → p ≡ q
+places_once_after : (b os : List OpData) → IsValidAfter b os → (p q : ℕ) (m : Member) → slice_get (members_in os) p ≡ Some m
+    → slice_get (members_in os) q ≡ Some m → p ≡ q
 places_once_after b [] v p q m at bt = let none : None ≡ Some m = at in cc
 places_once_after b (o ∷ os) v zero zero m at bt = refl
 places_once_after b (o ∷ os) v zero (suc q) m at bt =
     let is : member_of o ≡ m = cc in
-    absurd (false≢true (sym (later_new_after (b ++ o ∷ []) os m (ap (is_known (b ++ o ∷ [])) (sym is) ∙ known_end b o) v.1) ∙ known_at os q m bt))
+    absurd (false≢true (sym (later_new_after (b ++ o ∷ []) os m (ap (is_known (b ++ o ∷ [])) (sym is) ∙ known_end b o) v.1)
+    ∙ known_at os q m bt))
 places_once_after b (o ∷ os) v (suc p) zero m at bt =
     let is : member_of o ≡ m = cc in
-    absurd (false≢true (sym (later_new_after (b ++ o ∷ []) os m (ap (is_known (b ++ o ∷ [])) (sym is) ∙ known_end b o) v.1) ∙ known_at os p m at))
+    absurd (false≢true (sym (later_new_after (b ++ o ∷ []) os m (ap (is_known (b ++ o ∷ [])) (sym is) ∙ known_end b o) v.1)
+    ∙ known_at os p m at))
 places_once_after b (o ∷ os) v (suc p) (suc q) m at bt = ap suc (places_once_after (b ++ o ∷ []) os v.1 p q m at bt)
 
 -- each member of a valid history stands at one place
-pub places_once : (h : List OpData) → IsValid h → (p q : ℕ) (m : Member) → slice_get (members_in h) p ≡ Some m → slice_get (members_in h) q ≡ Some m → p ≡ q
+pub places_once : (h : List OpData) → IsValid h → (p q : ℕ) (m : Member) → slice_get (members_in h) p ≡ Some m
+    → slice_get (members_in h) q ≡ Some m → p ≡ q
 places_once h v p q m at bt = places_once_after [] h v p q m at bt
 
 times_push : (q : ℕ) (ps : List ℕ) (p : ℕ) → times q (ps ++ p ∷ []) ≡ times q ps + (if p == q then 1 else 0)
 times_push q [] p = omega arith
 times_push q (x ∷ xs) p = rw (times_push q xs p) (omega arith)
 
-more_at : (h : List OpData) → IsValid h → (t : Member → Bool) (p : ℕ) (m : Member) → slice_get (members_in h) p ≡ Some m → t m ≡ false → (q : ℕ) (o : Option Member) → slice_get (members_in h) q ≡ o
-    → (if passes_at t (members_in h) q then 1 else 0) + (if p == q then 1 else 0) ≡ (if passes_at (λ y. t y || member_eq m y) (members_in h) q then 1 else 0)
+more_at : (h : List OpData) → IsValid h → (t : Member → Bool) (p : ℕ) (m : Member) → slice_get (members_in h) p ≡ Some m → t m ≡ false
+    → (q : ℕ) (o : Option Member) → slice_get (members_in h) q ≡ o
+    → (if passes_at t (members_in h) q then 1 else 0) + (if p == q then 1 else 0)
+    ≡ (if passes_at (λ y. t y || member_eq m y) (members_in h) q then 1 else 0)
 more_at h v t p m at outside q None bt =
     let apart : (p == q) ≡ false = elim (cases_Bool (p == q)) [
-      | inl same ↦ let is : p ≡ q = eqb-true p q same in let clash : None ≡ Some m = sym bt ∙ (ap (slice_get (members_in h)) (sym is) ∙ at) in cc
+      | inl same ↦ let is : p ≡ q =
+          eqb-true p q same in let clash : None ≡ Some m = sym bt ∙ (ap (slice_get (members_in h)) (sym is) ∙ at) in cc
       | inr other ↦ other
     ] in
     rw (passes_none t (members_in h) q bt, passes_none (λ y. t y || member_eq m y) (members_in h) q bt, apart) refl
@@ -104,16 +113,20 @@ more_at h v t p m at outside q (Some y) bt =
     or_plus false = refl
 
 -- one more member, at its place
-pub place_more : (h : List OpData) → IsValid h → (t : Member → Bool) (ps : List ℕ) (p : ℕ) (m : Member) → slice_get (members_in h) p ≡ Some m → t m ≡ false → ArePlacesOf (members_in h) t ps → ArePlacesOf (members_in h) (λ y. t y || member_eq m y) (ps ++ p ∷ [])
+pub place_more : (h : List OpData) → IsValid h → (t : Member → Bool) (ps : List ℕ) (p : ℕ) (m : Member)
+    → slice_get (members_in h) p ≡ Some m → t m ≡ false → ArePlacesOf (members_in h) t ps
+    → ArePlacesOf (members_in h) (λ y. t y || member_eq m y) (ps ++ p ∷ [])
 place_more h v t ps p m at outside are q =
     times_push q ps p ∙ (ap (λ n. n + (if p == q then 1 else 0)) (are q) ∙ more_at h v t p m at outside q (slice_get (members_in h) q) refl)
 
 -- with the next number one more original is between the bounds
-pub between_more : (s low high : ℕ) → low ≤ high → (y : Member) → is_between s low (suc high) y ≡ (is_between s low high y || member_eq (Original (record { site = s; number = suc high })) y)
+pub between_more : (s low high : ℕ) → low ≤ high → (y : Member)
+    → is_between s low (suc high) y ≡ (is_between s low high y || member_eq (Original (record { site = s; number = suc high })) y)
 between_more s low high le (Original n) = grind (arith, nat_tests)
 between_more s low high le (Group t g) = refl
 
-pub group_between_more : (t : NameData) (low high : ℕ) → low ≤ high → (y : Member) → is_group_between t low (suc high) y ≡ (is_group_between t low high y || member_eq (Group t (suc high)) y)
+pub group_between_more : (t : NameData) (low high : ℕ) → low ≤ high → (y : Member)
+    → is_group_between t low (suc high) y ≡ (is_group_between t low high y || member_eq (Group t (suc high)) y)
 group_between_more t low high le (Original n) = refl
 group_between_more t low high le (Group n g) = grind (arith, nat_tests)
 
@@ -140,7 +153,8 @@ sites_more from to are i p at (Original n) =
     ])
 sites_more from to are i p at (Group t g) = grind (arith, nat_tests)
 
-pub site_is_new : (from to : ContextData) → AreCounts 0 to.counts → (i : ℕ) (p : ℕ × ℕ) → slice_get to.counts i ≡ Some p → (y : Member) → is_between p.0 (count_of from p.0) p.1 y ≡ true → is_missing from (first_sites to i) y ≡ false
+pub site_is_new : (from to : ContextData) → AreCounts 0 to.counts → (i : ℕ) (p : ℕ × ℕ) → slice_get to.counts i ≡ Some p → (y : Member)
+    → is_between p.0 (count_of from p.0) p.1 y ≡ true → is_missing from (first_sites to i) y ≡ false
 site_is_new from to are i p at (Original n) e =
     let before = count_before 0 to.counts are i p at in
     let parts = and_parts (n.site == p.0) (nat_lt (count_of from p.0) n.number && nat_le n.number p.1) e in
@@ -150,10 +164,13 @@ site_is_new from to are i p at (Original n) e =
 site_is_new from to are i p at (Group t g) e = absurd (false≢true e)
 
 -- all sites and no names yet
-pub sites_all : (from to : ContextData) (i : ℕ) → length to.counts ≤ i → (y : Member) → is_missing from (first_sites to i) y ≡ is_missing from (first_names to 0) y
-sites_all from to i past y = ap (λ (ps : List (ℕ × ℕ)). is_missing from (record { counts = ps; entries = [] }) y) (take_all i to.counts past)
+pub sites_all : (from to : ContextData) (i : ℕ) → length to.counts ≤ i → (y : Member)
+    → is_missing from (first_sites to i) y ≡ is_missing from (first_names to 0) y
+sites_all from to i past y =
+    ap (λ (ps : List (ℕ × ℕ)). is_missing from (record { counts = ps; entries = [] }) y) (take_all i to.counts past)
 
-pub names_more : (from to : ContextData) → AreEntries to.entries → (i : ℕ) (e : NameData × ℕ) → slice_get to.entries i ≡ Some e → (y : Member)
+pub names_more : (from to : ContextData) → AreEntries to.entries → (i : ℕ) (e : NameData × ℕ) → slice_get to.entries i ≡ Some e
+    → (y : Member)
     → is_missing from (first_names to (suc i)) y ≡ (is_missing from (first_names to i) y || is_group_between e.0 (entry_of from e.0) e.1 y)
 names_more from to are i e at (Original n) = grind (arith, nat_tests)
 names_more from to are i e at (Group n g) =
@@ -171,7 +188,8 @@ names_more from to are i e at (Group n g) =
           rw (other, back) (grind (arith, nat_tests))
     ])
 
-pub name_is_new : (from to : ContextData) → AreEntries to.entries → (i : ℕ) (e : NameData × ℕ) → slice_get to.entries i ≡ Some e → (y : Member) → is_group_between e.0 (entry_of from e.0) e.1 y ≡ true → is_missing from (first_names to i) y ≡ false
+pub name_is_new : (from to : ContextData) → AreEntries to.entries → (i : ℕ) (e : NameData × ℕ) → slice_get to.entries i ≡ Some e
+    → (y : Member) → is_group_between e.0 (entry_of from e.0) e.1 y ≡ true → is_missing from (first_names to i) y ≡ false
 name_is_new from to are i e at (Original n) f = absurd (false≢true f)
 name_is_new from to are i e at (Group n g) f =
     let before = entry_before to.entries are i e at in
@@ -180,8 +198,10 @@ name_is_new from to are i e at (Group n g) f =
     let none : entry_in (take i to.entries) n ≡ 0 = ap (entry_in (take i to.entries)) is ∙ before in
     rw none (grind (arith, nat_tests))
 
-pub names_all : (from to : ContextData) (i : ℕ) → length to.entries ≤ i → (y : Member) → is_missing from (first_names to i) y ≡ is_missing from to y
-names_all from to i past y = ap (λ (es : List (NameData × ℕ)). is_missing from (record { counts = to.counts; entries = es }) y) (take_all i to.entries past)
+pub names_all : (from to : ContextData) (i : ℕ) → length to.entries ≤ i → (y : Member)
+    → is_missing from (first_names to i) y ≡ is_missing from to y
+names_all from to i past y =
+    ap (λ (es : List (NameData × ℕ)). is_missing from (record { counts = to.counts; entries = es }) y) (take_all i to.entries past)
 
 -- where both undo the same, no group is missing
 pub no_names_missing : (from to : ContextData) → from.entries ≡ to.entries → (y : Member)
@@ -234,9 +254,11 @@ and_or true c d e is = refl
 and_or false c d e is = is
 
 -- one more number
-pub between_step : (h : List OpData) → IsValid h → (t : Member → Bool) (s low high step : ℕ) (ps : List ℕ) (p : ℕ) → slice_get (members_in h) p ≡ Some (Original (record { site = s; number = (low + step) + 1 })) → step < high - low
+pub between_step : (h : List OpData) → IsValid h → (t : Member → Bool) (s low high step : ℕ) (ps : List ℕ) (p : ℕ)
+    → slice_get (members_in h) p ≡ Some (Original (record { site = s; number = (low + step) + 1 })) → step < high - low
     → ((y : Member) → is_between s low high y ≡ true → t y ≡ false)
-    → ArePlacesOf (members_in h) (λ y. t y || is_between s low (low + step) y) ps → ArePlacesOf (members_in h) (λ y. t y || is_between s low (low + (step + 1)) y) (ps ++ p ∷ [])
+    → ArePlacesOf (members_in h) (λ y. t y || is_between s low (low + step) y) ps
+    → ArePlacesOf (members_in h) (λ y. t y || is_between s low (low + (step + 1)) y) (ps ++ p ∷ [])
 between_step h v t s low high step ps p at less apart are =
     let m = Original (record { site = s; number = (low + step) + 1 }) in
     let inside : is_between s low high m ≡ true = grind (arith, nat_tests) in
@@ -244,25 +266,31 @@ between_step h v t s low high step ps p at less apart are =
     let fresh : (t m || is_between s low (low + step) m) ≡ false = (λ i. apart m inside i || outside i) in
     let next : (low + step) + 1 ≡ suc (low + step) = omega arith in
     let far : suc (low + step) ≡ low + (step + 1) = omega arith in
-    let same : (y : Member) → ((t y || is_between s low (low + step) y) || member_eq m y) ≡ (t y || is_between s low (low + (step + 1)) y) = λ y.
+    let same : (y : Member) → ((t y || is_between s low (low + step) y) || member_eq m y) ≡ (t y || is_between s low (low + (step + 1)) y) =
+    λ y.
     and_or (t y) (is_between s low (low + step) y) (member_eq m y) (is_between s low (low + (step + 1)) y)
     (ap (λ k. is_between s low (low + step) y || member_eq (Original (record { site = s; number = k })) y) next
     ∙ (sym (between_more s low (low + step) (omega arith) y) ∙ ap (λ k. is_between s low k y) far)) in
-    places_same (members_in h) (λ y. (t y || is_between s low (low + step) y) || member_eq m y) (λ y. t y || is_between s low (low + (step + 1)) y) (ps ++ p ∷ []) same
+    places_same (members_in h) (λ y. (t y || is_between s low (low + step) y) || member_eq m y)
+    (λ y. t y || is_between s low (low + (step + 1)) y) (ps ++ p ∷ []) same
     (place_more h v (λ y. t y || is_between s low (low + step) y) ps p m at fresh are)
 
 -- all numbers
-pub between_end : (ms : List Member) (t : Member → Bool) (s low high step : ℕ) (ps : List ℕ) → high - low ≤ step → step ≤ high - low → ArePlacesOf ms (λ y. t y || is_between s low (low + step) y) ps → ArePlacesOf ms (λ y. t y || is_between s low high y) ps
+pub between_end : (ms : List Member) (t : Member → Bool) (s low high step : ℕ) (ps : List ℕ) → high - low ≤ step → step ≤ high - low
+    → ArePlacesOf ms (λ y. t y || is_between s low (low + step) y) ps → ArePlacesOf ms (λ y. t y || is_between s low high y) ps
 between_end ms t s low high step ps most least are =
-    places_same ms (λ y. t y || is_between s low (low + step) y) (λ y. t y || is_between s low high y) ps (λ y. ap (λ b. t y || b) (same y)) are
+    places_same ms (λ y. t y || is_between s low (low + step) y) (λ y. t y || is_between s low high y) ps (λ y. ap (λ b. t y || b) (same y))
+    are
   where
     same : (y : Member) → is_between s low (low + step) y ≡ is_between s low high y
     same (Original n) = grind (arith, nat_tests)
     same (Group x g) = refl
 
-pub groups_step : (h : List OpData) → IsValid h → (t : Member → Bool) (n : NameData) (low high step : ℕ) (ps : List ℕ) (p : ℕ) → slice_get (members_in h) p ≡ Some (Group n ((low + step) + 1)) → step < high - low
+pub groups_step : (h : List OpData) → IsValid h → (t : Member → Bool) (n : NameData) (low high step : ℕ) (ps : List ℕ) (p : ℕ)
+    → slice_get (members_in h) p ≡ Some (Group n ((low + step) + 1)) → step < high - low
     → ((y : Member) → is_group_between n low high y ≡ true → t y ≡ false)
-    → ArePlacesOf (members_in h) (λ y. t y || is_group_between n low (low + step) y) ps → ArePlacesOf (members_in h) (λ y. t y || is_group_between n low (low + (step + 1)) y) (ps ++ p ∷ [])
+    → ArePlacesOf (members_in h) (λ y. t y || is_group_between n low (low + step) y) ps
+    → ArePlacesOf (members_in h) (λ y. t y || is_group_between n low (low + (step + 1)) y) (ps ++ p ∷ [])
 groups_step h v t n low high step ps p at less apart are =
     let m = Group n ((low + step) + 1) in
     let inside : is_group_between n low high m ≡ true = grind (arith, nat_tests) in
@@ -270,16 +298,21 @@ groups_step h v t n low high step ps p at less apart are =
     let fresh : (t m || is_group_between n low (low + step) m) ≡ false = (λ i. apart m inside i || outside i) in
     let next : (low + step) + 1 ≡ suc (low + step) = omega arith in
     let far : suc (low + step) ≡ low + (step + 1) = omega arith in
-    let same : (y : Member) → ((t y || is_group_between n low (low + step) y) || member_eq m y) ≡ (t y || is_group_between n low (low + (step + 1)) y) = λ y.
+    let same : (y : Member) → ((t y || is_group_between n low (low + step) y) || member_eq m y)
+    ≡ (t y || is_group_between n low (low + (step + 1)) y) = λ y.
     and_or (t y) (is_group_between n low (low + step) y) (member_eq m y) (is_group_between n low (low + (step + 1)) y)
     (ap (λ k. is_group_between n low (low + step) y || member_eq (Group n k) y) next
     ∙ (sym (group_between_more n low (low + step) (omega arith) y) ∙ ap (λ k. is_group_between n low k y) far)) in
-    places_same (members_in h) (λ y. (t y || is_group_between n low (low + step) y) || member_eq m y) (λ y. t y || is_group_between n low (low + (step + 1)) y) (ps ++ p ∷ []) same
+    places_same (members_in h) (λ y. (t y || is_group_between n low (low + step) y) || member_eq m y)
+    (λ y. t y || is_group_between n low (low + (step + 1)) y) (ps ++ p ∷ []) same
     (place_more h v (λ y. t y || is_group_between n low (low + step) y) ps p m at fresh are)
 
-pub groups_end : (ms : List Member) (t : Member → Bool) (n : NameData) (low high step : ℕ) (ps : List ℕ) → high - low ≤ step → step ≤ high - low → ArePlacesOf ms (λ y. t y || is_group_between n low (low + step) y) ps → ArePlacesOf ms (λ y. t y || is_group_between n low high y) ps
+pub groups_end : (ms : List Member) (t : Member → Bool) (n : NameData) (low high step : ℕ) (ps : List ℕ) → high - low ≤ step
+    → step ≤ high - low → ArePlacesOf ms (λ y. t y || is_group_between n low (low + step) y) ps
+    → ArePlacesOf ms (λ y. t y || is_group_between n low high y) ps
 groups_end ms t n low high step ps most least are =
-    places_same ms (λ y. t y || is_group_between n low (low + step) y) (λ y. t y || is_group_between n low high y) ps (λ y. ap (λ b. t y || b) (same y)) are
+    places_same ms (λ y. t y || is_group_between n low (low + step) y) (λ y. t y || is_group_between n low high y) ps
+    (λ y. ap (λ b. t y || b) (same y)) are
   where
     same : (y : Member) → is_group_between n low (low + step) y ≡ is_group_between n low high y
     same (Original x) = refl

@@ -18,7 +18,8 @@ IsSortedFrom : ℕ → List ℕ → Type 0
 IsSortedFrom low [] = Unit {0}
 IsSortedFrom low (p ∷ ps) = (low ≤ p) × IsSortedFrom p ps
 
-sorted_from : (low : ℕ) (ps : List ℕ) → IsNonDecreasingBy (λ x. x) ps → ((d : ℕ) → 0 < length ps → low ≤ get_or ps 0 d) → IsSortedFrom low ps
+sorted_from : (low : ℕ) (ps : List ℕ) → IsNonDecreasingBy (λ x. x) ps → ((d : ℕ) → 0 < length ps → low ≤ get_or ps 0 d)
+    → IsSortedFrom low ps
 unfolding IsSortedFrom
 sorted_from low [] up least = tt
 sorted_from low (p ∷ ps) up least = (
@@ -47,7 +48,8 @@ same_sorted a b (p ∷ ps) [] up up' same = let at = same p in absurd (grind (ar
 same_sorted a b (p ∷ ps) (q ∷ qs) up up' same =
     elim (cases_order p q) [
       | inl is ↦
-          let bits : (z : ℕ) → ◌≡◌ {A = ℕ} (if p == z then 1 else 0) (if q == z then 1 else 0) = λ z. ap (λ (x : ℕ). if x == z then 1 else 0) is in
+          let bits : (z : ℕ) → ◌≡◌ {A = ℕ} (if p == z then 1 else 0) (if q == z then 1 else 0) =
+          λ z. ap (λ (x : ℕ). if x == z then 1 else 0) is in
           let tails : (z : ℕ) → times z ps ≡ times z qs = λ z. omega (arith, same z, bits z) in
           ap (λ x. x ∷ ps) is ∙ ap (λ xs. q ∷ xs) (same_sorted p q ps qs up.1 up'.1 tails)
       | inr (inl less) ↦
@@ -73,7 +75,8 @@ places_sorted t k (m ∷ ms) =
 places_before : (t : Member → Bool) (k : ℕ) (ms : List Member) (q : ℕ) → q < k → times q (places_from t k ms) ≡ 0
 places_before t k ms q less = times_below q k (places_from t k ms) less (places_sorted t k ms)
 
-places_times : (t : Member → Bool) (k : ℕ) (ms : List Member) (p q : ℕ) → q ≡ k + p → times q (places_from t k ms) ≡ (if passes_at t ms p then 1 else 0)
+places_times : (t : Member → Bool) (k : ℕ) (ms : List Member) (p q : ℕ) → q ≡ k + p
+    → times q (places_from t k ms) ≡ (if passes_at t ms p then 1 else 0)
 places_times t k [] p q at = refl
 places_times t k (m ∷ ms) zero q at =
     let none = places_before t (suc k) ms q (omega arith) in
@@ -104,9 +107,11 @@ places_members t b (m ∷ ms) =
     let longer : length (b ++ m ∷ []) ≡ suc (length b) = simp length-append (omega arith) in
     let rest : members_at (b ++ m ∷ ms) (places_from t (suc (length b)) ms) ≡ filter t ms =
     subst (λ (n : ℕ). members_at (b ++ m ∷ ms) (places_from t n ms) ≡ filter t ms) longer
-    (subst (λ (all : List Member). members_at all (places_from t (length (b ++ m ∷ [])) ms) ≡ filter t ms) moved (places_members t (b ++ m ∷ []) ms)) in
+    (subst (λ (all : List Member). members_at all (places_from t (length (b ++ m ∷ [])) ms) ≡ filter t ms) moved
+    (places_members t (b ++ m ∷ []) ms)) in
     elim (cases_Bool (t m)) [
-      | inl passes ↦ rw passes (at_one (b ++ m ∷ ms) (length b) (places_from t (suc (length b)) ms) m (nth_behind b m ms) ∙ ap (λ xs. m ∷ xs) rest)
+      | inl passes ↦ rw passes (at_one (b ++ m ∷ ms) (length b) (places_from t (suc (length b)) ms) m (nth_behind b m ms)
+          ∙ ap (λ xs. m ∷ xs) rest)
       | inr fails ↦ rw fails rest
     ]
 
@@ -117,17 +122,21 @@ pub times_permutation : (z : ℕ) (ps qs : List ℕ) → IsPermutation ps qs →
 times_permutation z ps qs moved = times_sum z qs ∙ (sum_by-IsPermutation (λ q. if q == z then 1 else 0) ps qs moved ∙ sym (times_sum z ps))
 
 -- once sorted, the places of the members that pass name them in order
-pub members_of_places : (ms : List Member) (t : Member → Bool) (ps qs : List ℕ) → ArePlacesOf ms t ps → IsPermutation ps qs → IsSorted nat_cmp qs → members_at ms qs ≡ filter t ms
+pub members_of_places : (ms : List Member) (t : Member → Bool) (ps qs : List ℕ) → ArePlacesOf ms t ps → IsPermutation ps qs
+    → IsSorted nat_cmp qs → members_at ms qs ≡ filter t ms
 members_of_places ms t ps qs are moved sorted =
     let up : IsNonDecreasingBy (λ x. x) qs = IsNonDecreasingBy-from_sort (λ x. x) qs sorted in
-    let counts : (z : ℕ) → times z qs ≡ times z (places_from t 0 ms) = λ z. times_permutation z ps qs moved ∙ (are z ∙ sym (places_times t 0 ms z z (omega arith))) in
-    let same : qs ≡ places_from t 0 ms = same_sorted 0 0 qs (places_from t 0 ms) (sorted_from 0 qs up (λ d some. omega arith)) (places_sorted t 0 ms) counts in
+    let counts : (z : ℕ) → times z qs ≡ times z (places_from t 0 ms) =
+    λ z. times_permutation z ps qs moved ∙ (are z ∙ sym (places_times t 0 ms z z (omega arith))) in
+    let same : qs ≡ places_from t 0 ms =
+    same_sorted 0 0 qs (places_from t 0 ms) (sorted_from 0 qs up (λ d some. omega arith)) (places_sorted t 0 ms) counts in
     ap (members_at ms) same ∙ places_members t [] ms
 
 at_none : (all : List Member) (p : ℕ) (ps : List ℕ) → slice_get all p ≡ None → members_at all (p ∷ ps) ≡ members_at all ps
 at_none all p ps at = ap (λ (o : Option Member). elim o [ None ↦ members_at all ps | Some x ↦ x ∷ members_at all ps ]) at
 
-push_by : (ms : List Member) (x : ℕ) (xs : List ℕ) (p : ℕ) → members_at ms (xs ++ p ∷ []) ≡ members_at ms xs ++ members_at ms (p ∷ []) → (o : Option Member) → slice_get ms x ≡ o → members_at ms ((x ∷ xs) ++ p ∷ []) ≡ members_at ms (x ∷ xs) ++ members_at ms (p ∷ [])
+push_by : (ms : List Member) (x : ℕ) (xs : List ℕ) (p : ℕ) → members_at ms (xs ++ p ∷ []) ≡ members_at ms xs ++ members_at ms (p ∷ [])
+    → (o : Option Member) → slice_get ms x ≡ o → members_at ms ((x ∷ xs) ++ p ∷ []) ≡ members_at ms (x ∷ xs) ++ members_at ms (p ∷ [])
 push_by ms x xs p rest None at =
     at_none ms x (xs ++ p ∷ []) at ∙ (rest ∙ ap (λ ys. ys ++ members_at ms (p ∷ [])) (sym (at_none ms x xs at)))
 push_by ms x xs p rest (Some m) at =
@@ -138,7 +147,8 @@ members_at_push ms [] p = refl
 members_at_push ms (x ∷ xs) p = push_by ms x xs p (members_at_push ms xs p) (slice_get ms x) refl
 
 -- the members at one more place
-pub members_at_more : (ms : List Member) (ps : List ℕ) (i : ℕ) → i < length ps → members_at ms (take (i + 1) ps) ≡ members_at ms (take i ps) ++ members_at ms (get_or ps i 0 ∷ [])
+pub members_at_more : (ms : List Member) (ps : List ℕ) (i : ℕ) → i < length ps
+    → members_at ms (take (i + 1) ps) ≡ members_at ms (take i ps) ++ members_at ms (get_or ps i 0 ∷ [])
 members_at_more ms ps i less =
     ap (members_at ms) (take_at_read ps i 0 less).1 ∙ members_at_push ms (take i ps) (get_or ps i 0)
 

@@ -23,7 +23,8 @@ use Rattle.context_diff.proofs.Tallies.{counts_put, number_is, size_put, group_s
 -- ---- Lists with one more at their end
 
 -- what stands in a history stands there with one more
-some_on : (h : List OpData) (o : OpData) (i : ℕ) (m : Member) → slice_get (members_in h) i ≡ Some m → slice_get (members_in (h ++ o ∷ [])) i ≡ Some m
+some_on : (h : List OpData) (o : OpData) (i : ℕ) (m : Member) → slice_get (members_in h) i ≡ Some m
+    → slice_get (members_in (h ++ o ∷ [])) i ≡ Some m
 some_on [] o i m at = let none : None ≡ Some m = at in cc
 some_on (p ∷ ps) o zero m at = at
 some_on (p ∷ ps) o (suc i) m at = some_on ps o i m at
@@ -33,7 +34,8 @@ last_at [] o = refl
 last_at (p ∷ ps) o = last_at ps o
 
 -- and without it, if it is another member
-some_back : (h : List OpData) (o : OpData) (i : ℕ) (m : Member) → (member_of o ≡ m → ⊥) → slice_get (members_in (h ++ o ∷ [])) i ≡ Some m → slice_get (members_in h) i ≡ Some m
+some_back : (h : List OpData) (o : OpData) (i : ℕ) (m : Member) → (member_of o ≡ m → ⊥) → slice_get (members_in (h ++ o ∷ [])) i ≡ Some m
+    → slice_get (members_in h) i ≡ Some m
 some_back [] o zero m other at = let is : member_of o ≡ m = cc in absurd (other is)
 some_back [] o (suc i) m other at = let none : None ≡ Some m = at in cc
 some_back (p ∷ ps) o zero m other at = at
@@ -64,17 +66,20 @@ numbered places (suc n) p at = (omega arith, omega (arith, slice_get_within plac
 
 -- ---- Undo groups
 
-place_push : (h : List OpData) (o : OpData) (m : Member) (r : Option ℕ) → member_eq (member_of o) m ≡ false → IsPlaceOf h m r → IsPlaceOf (h ++ o ∷ []) m r
+place_push : (h : List OpData) (o : OpData) (m : Member) (r : Option ℕ) → member_eq (member_of o) m ≡ false → IsPlaceOf h m r
+    → IsPlaceOf (h ++ o ∷ []) m r
 place_push h o m None other unknown = known_push h o m ∙ (λ i. unknown i || other i)
 place_push h o m (Some i) other at = some_on h o i m at
 
-place_pop : (h : List OpData) (o : OpData) (m : Member) (r : Option ℕ) → (member_of o ≡ m → ⊥) → IsPlaceOf (h ++ o ∷ []) m r → IsPlaceOf h m r
+place_pop : (h : List OpData) (o : OpData) (m : Member) (r : Option ℕ) → (member_of o ≡ m → ⊥) → IsPlaceOf (h ++ o ∷ []) m r
+    → IsPlaceOf h m r
 place_pop h o m None other unknown = (or_parts (is_known h m) (member_eq (member_of o) m) (sym (known_push h o m) ∙ unknown)).0
 place_pop h o m (Some i) other at = some_back h o i m other at
 
 -- the places with a group more
 pub groups_push : (h : List OpData) (o : OpData) (m : Member) (old new : List (Member × ℕ)) → member_of o ≡ m
-    → ((q : Member) → lookup (member_eq q) new ≡ (if member_eq m q then Some (length h) else lookup (member_eq q) old)) → AreGroups h old → AreGroups (h ++ o ∷ []) new
+    → ((q : Member) → lookup (member_eq q) new ≡ (if member_eq m q then Some (length h) else lookup (member_eq q) old)) → AreGroups h old
+    → AreGroups (h ++ o ∷ []) new
 groups_push h o m old new is put groups t g =
     let q : Member = Group t g in
     elim (cases_Bool (member_eq m q)) [
@@ -83,16 +88,19 @@ groups_push h o m old new is put groups t g =
           subst (IsPlaceOf (h ++ o ∷ []) q) (sym found) (last_at h o ∙ ap (λ (x : Member). Some x) (is ∙ member_same m q same))
       | inr other ↦
           let found : lookup (member_eq q) new ≡ lookup (member_eq q) old = put q ∙ rw other refl in
-          subst (IsPlaceOf (h ++ o ∷ []) q) (sym found) (place_push h o q (lookup (member_eq q) old) (ap (λ (x : Member). member_eq x q) is ∙ other) (groups t g))
+          subst (IsPlaceOf (h ++ o ∷ []) q) (sym found)
+          (place_push h o q (lookup (member_eq q) old) (ap (λ (x : Member). member_eq x q) is ∙ other) (groups t g))
     ]
 
-pub groups_push_original : (h : List OpData) (o : OpData) (n : NameData) (places : List (Member × ℕ)) → member_of o ≡ Original n → AreGroups h places → AreGroups (h ++ o ∷ []) places
+pub groups_push_original : (h : List OpData) (o : OpData) (n : NameData) (places : List (Member × ℕ)) → member_of o ≡ Original n
+    → AreGroups h places → AreGroups (h ++ o ∷ []) places
 groups_push_original h o n places is groups t g =
     place_push h o (Group t g) (lookup (member_eq (Group t g)) places) (ap (λ (x : Member). member_eq x (Group t g)) is) (groups t g)
 
 -- and with one less
 pub groups_pop : (h : List OpData) (o : OpData) (m : Member) (old new : List (Member × ℕ)) → member_of o ≡ m → is_known h m ≡ false
-    → ((q : Member) → lookup (member_eq q) new ≡ (if member_eq m q then None else lookup (member_eq q) old)) → AreGroups (h ++ o ∷ []) old → AreGroups h new
+    → ((q : Member) → lookup (member_eq q) new ≡ (if member_eq m q then None else lookup (member_eq q) old)) → AreGroups (h ++ o ∷ []) old
+    → AreGroups h new
 groups_pop h o m old new is unknown took groups t g =
     let q : Member = Group t g in
     elim (cases_Bool (member_eq m q)) [
@@ -105,7 +113,8 @@ groups_pop h o m old new is unknown took groups t g =
           subst (IsPlaceOf h q) (sym found) (place_pop h o q (lookup (member_eq q) old) apart (groups t g))
     ]
 
-pub groups_pop_original : (h : List OpData) (o : OpData) (n : NameData) (places : List (Member × ℕ)) → member_of o ≡ Original n → AreGroups (h ++ o ∷ []) places → AreGroups h places
+pub groups_pop_original : (h : List OpData) (o : OpData) (n : NameData) (places : List (Member × ℕ)) → member_of o ≡ Original n
+    → AreGroups (h ++ o ∷ []) places → AreGroups h places
 groups_pop_original h o n places is groups t g =
     let apart : member_of o ≡ Group t g → ⊥ = λ e. (let no : Original n ≡ Group t g = sym is ∙ e in cc) in
     place_pop h o (Group t g) (lookup (member_eq (Group t g)) places) apart (groups t g)
@@ -120,15 +129,19 @@ module _ (h : List OpData) (o : OpData) (w : IsComplete h) (next : IsNext h o) w
       false≢true (sym next.new ∙ (ap (is_known h) e ∙ (sym (w.holds (Original m)) ∙ has_original (context_of_all h) m low high)))
 
   -- the places of a site that has no original more
-  same_push : (s : ℕ) (places : List ℕ) → count_of (context_of_all (h ++ o ∷ [])) s ≡ count_of (context_of_all h) s → ArePlaces h s places → ArePlaces (h ++ o ∷ []) s places
-  same_push s places same are = record { size = are.size ∙ sym same; there = λ n p at. some_on h o p (Original (record { site = s; number = n })) (are.there n p at) }
+  same_push : (s : ℕ) (places : List ℕ) → count_of (context_of_all (h ++ o ∷ [])) s ≡ count_of (context_of_all h) s → ArePlaces h s places
+      → ArePlaces (h ++ o ∷ []) s places
+  same_push s places same are =
+      record { size = are.size ∙ sym same; there = λ n p at. some_on h o p (Original (record { site = s; number = n })) (are.there n p at) }
 
-  same_pop : (s : ℕ) (places : List ℕ) → count_of (context_of_all (h ++ o ∷ [])) s ≡ count_of (context_of_all h) s → ArePlaces (h ++ o ∷ []) s places → ArePlaces h s places
+  same_pop : (s : ℕ) (places : List ℕ) → count_of (context_of_all (h ++ o ∷ [])) s ≡ count_of (context_of_all h) s
+      → ArePlaces (h ++ o ∷ []) s places → ArePlaces h s places
   same_pop s places same are = record {
     size = are.size ∙ same;
     there = λ n p at.
         let within = numbered places n p at in
-        some_back h o p (Original (record { site = s; number = n })) (apart_from_next s n within.0 (omega (arith, within.1, are.size, same))) (are.there n p at);
+        some_back h o p (Original (record { site = s; number = n }))
+        (apart_from_next s n within.0 (omega (arith, within.1, are.size, same))) (are.there n p at);
   }
 
   module _ (n : NameData) (is : member_of o ≡ Original n) where
@@ -138,11 +151,13 @@ module _ (h : List OpData) (o : OpData) (w : IsComplete h) (next : IsNext h o) w
         let longer : length (places ++ length h ∷ []) ≡ length places + 1 = simp length-append (omega arith) in
         record { size = longer ∙ size_put h o w next n is n.site (length places + 1) refl number; there = λ k p at. entry number k p at }
       where
-        entry : n.number ≡ length places + 1 → (k p : ℕ) → place_at (places ++ length h ∷ []) k ≡ Some p → slice_get (members_in (h ++ o ∷ [])) p ≡ Some (Original (record { site = n.site; number = k }))
+        entry : n.number ≡ length places + 1 → (k p : ℕ) → place_at (places ++ length h ∷ []) k ≡ Some p
+            → slice_get (members_in (h ++ o ∷ [])) p ≡ Some (Original (record { site = n.site; number = k }))
         entry number zero p at = let none : None ≡ Some p = at in cc
         entry number (suc k) p at =
             elim (cases_lt k (length places)) [
-              | inl before ↦ some_on h o p (Original (record { site = n.site; number = suc k })) (are.there (suc k) p (sym (get_left places (length h ∷ []) k before) ∙ at))
+              | inl before ↦ some_on h o p (Original (record { site = n.site; number = suc k }))
+                  (are.there (suc k) p (sym (get_left places (length h ∷ []) k before) ∙ at))
               | inr last ↦
                   let end = get_end places (length h) k p at last in
                   let same : n.number ≡ suc k = omega (arith, number, end.0) in
@@ -159,7 +174,8 @@ module _ (h : List OpData) (o : OpData) (w : IsComplete h) (next : IsNext h o) w
           size = less ∙ omega arith;
           there = λ k p at.
               let within = numbered (take (length places - 1) places) k p at in
-              some_back h o p (Original (record { site = n.site; number = k })) (apart_from_next n.site k within.0 (omega (arith, within.1, less, all, number))) (are.there k p (whole k p at));
+              some_back h o p (Original (record { site = n.site; number = k }))
+              (apart_from_next n.site k within.0 (omega (arith, within.1, less, all, number))) (are.there k p (whole k p at));
         }
       where
         whole : (k p : ℕ) → place_at (take (length places - 1) places) k ≡ Some p → place_at places k ≡ Some p
@@ -180,25 +196,32 @@ module _ (h : List OpData) (o : OpData) (w : IsComplete h) (next : IsNext h o) w
         elim (cases_Bool (n.site == s)) [
           | inl same ↦
               let at : n.site ≡ s = eqb-true n.site s same in
-              rw same (subst (λ t. ArePlaces (h ++ o ∷ []) t places → ArePlaces h t (take (length places - 1) places)) at (here_pop places) are)
+              rw same (subst (λ t. ArePlaces (h ++ o ∷ []) t places → ArePlaces h t (take (length places - 1) places)) at (here_pop places)
+              are)
           | inr other ↦ rw other (same_pop s places (counts_put h o w next n is s ∙ rw other refl) are)
         ]
 
-  member_push : (m : Member) → member_of o ≡ m → (s : ℕ) (places : List ℕ) → ArePlaces h s places → ArePlaces (h ++ o ∷ []) s (placed m (length h) s places)
+  member_push : (m : Member) → member_of o ≡ m → (s : ℕ) (places : List ℕ) → ArePlaces h s places
+      → ArePlaces (h ++ o ∷ []) s (placed m (length h) s places)
   member_push (Original n) is s places are = original_push n is s places are
   member_push (Group t g) is s places are = same_push s places (group_same h o w next t g s is) are
 
-  member_pop : (m : Member) → member_of o ≡ m → (s : ℕ) (places : List ℕ) → ArePlaces (h ++ o ∷ []) s places → ArePlaces h s (without_last m s places)
+  member_pop : (m : Member) → member_of o ≡ m → (s : ℕ) (places : List ℕ) → ArePlaces (h ++ o ∷ []) s places
+      → ArePlaces h s (without_last m s places)
   member_pop (Original n) is s places are = original_pop n is s places are
   member_pop (Group t g) is s places are = same_pop s places (group_same h o w next t g s is) are
 
   -- the places with a next operation
-  pub placed_push : (places now : ℕ → List ℕ) → ArePlaced h places → ((s : ℕ) → now s ≡ placed (member_of o) (length h) s (places s)) → ArePlaced (h ++ o ∷ []) now
-  placed_push places now are more s = subst (λ (t : List ℕ). ArePlaces (h ++ o ∷ []) s t) (sym (more s)) (member_push (member_of o) refl s (places s) (are s))
+  pub placed_push : (places now : ℕ → List ℕ) → ArePlaced h places → ((s : ℕ) → now s ≡ placed (member_of o) (length h) s (places s))
+      → ArePlaced (h ++ o ∷ []) now
+  placed_push places now are more s =
+      subst (λ (t : List ℕ). ArePlaces (h ++ o ∷ []) s t) (sym (more s)) (member_push (member_of o) refl s (places s) (are s))
 
   -- and without it
-  pub placed_pop : (places now : ℕ → List ℕ) → ArePlaced (h ++ o ∷ []) places → ((s : ℕ) → now s ≡ without_last (member_of o) s (places s)) → ArePlaced h now
-  placed_pop places now are less s = subst (λ (t : List ℕ). ArePlaces h s t) (sym (less s)) (member_pop (member_of o) refl s (places s) (are s))
+  pub placed_pop : (places now : ℕ → List ℕ) → ArePlaced (h ++ o ∷ []) places → ((s : ℕ) → now s ≡ without_last (member_of o) s (places s))
+      → ArePlaced h now
+  placed_pop places now are less s =
+      subst (λ (t : List ℕ). ArePlaces h s t) (sym (less s)) (member_pop (member_of o) refl s (places s) (are s))
 
 -- ---- Reading
 
@@ -213,11 +236,13 @@ unlisted places zero none low high = omega arith
 unlisted places (suc k) none low high = not_past places k (omega arith) none
 
 -- the place of an original, or that it isn't there
-pub original_place : (h : List OpData) → IsComplete h → (n : NameData) (places : List ℕ) → ArePlaces h n.site places → (r : Option ℕ) → r ≡ place_at places n.number → IsPlaceOf h (Original n) r
+pub original_place : (h : List OpData) → IsComplete h → (n : NameData) (places : List ℕ) → ArePlaces h n.site places → (r : Option ℕ)
+    → r ≡ place_at places n.number → IsPlaceOf h (Original n) r
 original_place h w n places are None none =
     sym (w.holds (Original n))
     ∙ elim (cases_Bool (has (context_of_all h) (Original n))) [
-      | inl there ↦ let within = has_number (context_of_all h) n there in absurd (unlisted places n.number (sym none) within.0 (omega (arith, within.1, are.size)))
+      | inl there ↦ let within =
+          has_number (context_of_all h) n there in absurd (unlisted places n.number (sym none) within.0 (omega (arith, within.1, are.size)))
       | inr missing ↦ missing
     ]
 original_place h w n places are (Some p) some = are.there n.number p (sym some)
@@ -227,7 +252,8 @@ pub record IsAtPlace (h : List OpData) (m : Member) (o : OpData) : Type 0 where
   pub there : Contains h o
   pub is : member_of o ≡ m
 
-pub at_place : (h : List OpData) (m : Member) (i : ℕ) (o : OpData) → slice_get (members_in h) i ≡ Some m → slice_get h i ≡ Some o → IsAtPlace h m o
+pub at_place : (h : List OpData) (m : Member) (i : ℕ) (o : OpData) → slice_get (members_in h) i ≡ Some m → slice_get h i ≡ Some o
+    → IsAtPlace h m o
 at_place [] m i o named at = let none : None ≡ Some o = at in cc
 at_place (p ∷ ps) m zero o named at =
     let is : p ≡ o = cc in

@@ -26,14 +26,17 @@ pub record IsCutAt (p : Member → Bool) (h : List OpData) (xs : List Member) (m
   pub first : filter p (members_in before) ≡ xs
   pub rest : filter p (members_in after) ≡ ys
 
-passing : (p : Member → Bool) (o : OpData) (os : List OpData) → p (member_of o) ≡ true → filter p (members_in (o ∷ os)) ≡ member_of o ∷ filter p (members_in os)
+passing : (p : Member → Bool) (o : OpData) (os : List OpData) → p (member_of o) ≡ true
+    → filter p (members_in (o ∷ os)) ≡ member_of o ∷ filter p (members_in os)
 passing p o os e = ap (λ (b : Bool). if b then member_of o ∷ filter p (members_in os) else filter p (members_in os)) e
 
-failing : (p : Member → Bool) (o : OpData) (os : List OpData) → p (member_of o) ≡ false → filter p (members_in (o ∷ os)) ≡ filter p (members_in os)
+failing : (p : Member → Bool) (o : OpData) (os : List OpData) → p (member_of o) ≡ false
+    → filter p (members_in (o ∷ os)) ≡ filter p (members_in os)
 failing p o os e = ap (λ (b : Bool). if b then member_of o ∷ filter p (members_in os) else filter p (members_in os)) e
 
 -- an operation in front that fails, and one that passes
-past_one : (p : Member → Bool) (o : OpData) (os : List OpData) (xs : List Member) (m : Member) (ys : List Member) → p (member_of o) ≡ false → IsCutAt p os xs m ys → IsCutAt p (o ∷ os) xs m ys
+past_one : (p : Member → Bool) (o : OpData) (os : List OpData) (xs : List Member) (m : Member) (ys : List Member) → p (member_of o) ≡ false
+    → IsCutAt p os xs m ys → IsCutAt p (o ∷ os) xs m ys
 past_one p o os xs m ys fails c = record {
   before = o ∷ c.before;
   op = c.op;
@@ -45,7 +48,8 @@ past_one p o os xs m ys fails c = record {
   rest = c.rest;
 }
 
-past_member : (p : Member → Bool) (o : OpData) (os : List OpData) (xs : List Member) (m : Member) (ys : List Member) → p (member_of o) ≡ true → IsCutAt p os xs m ys → IsCutAt p (o ∷ os) (member_of o ∷ xs) m ys
+past_member : (p : Member → Bool) (o : OpData) (os : List OpData) (xs : List Member) (m : Member) (ys : List Member)
+    → p (member_of o) ≡ true → IsCutAt p os xs m ys → IsCutAt p (o ∷ os) (member_of o ∷ xs) m ys
 past_member p o os xs m ys passes c = record {
   before = o ∷ c.before;
   op = c.op;
@@ -60,7 +64,8 @@ past_member p o os xs m ys passes c = record {
 no_member : (m : Member) (ms : List Member) → [] ≡ m ∷ ms → ⊥
 no_member m ms e = cc
 
-pub cut_at : (p : Member → Bool) (h : List OpData) (xs : List Member) (m : Member) (ys : List Member) → filter p (members_in h) ≡ xs ++ m ∷ ys → IsCutAt p h xs m ys
+pub cut_at : (p : Member → Bool) (h : List OpData) (xs : List Member) (m : Member) (ys : List Member)
+    → filter p (members_in h) ≡ xs ++ m ∷ ys → IsCutAt p h xs m ys
 cut_at p [] [] m ys e = absurd (no_member m ys e)
 cut_at p [] (x ∷ xs) m ys e = absurd (no_member x (xs ++ m ∷ ys) e)
 cut_at p (o ∷ os) [] m ys e =
@@ -83,14 +88,16 @@ cut_at p (o ∷ os) (x ∷ xs) m ys e =
     ]
 
 -- a member of the history that passes is in the list of those that do
-pub passing_there : (p : Member → Bool) (h : List OpData) (y : Member) → is_known h y ≡ true → p y ≡ true → Contains (filter p (members_in h)) y
+pub passing_there : (p : Member → Bool) (h : List OpData) (y : Member) → is_known h y ≡ true → p y ≡ true
+    → Contains (filter p (members_in h)) y
 passing_there p [] y known passes = absurd (false≢true known)
 passing_there p (o ∷ os) y known passes =
     let rest : List Member = filter p (members_in os) in
     elim (or_cases (member_eq (member_of o) y) (is_known os y) known) [
       | inl same ↦
           let is : member_of o ≡ y = member_same (member_of o) y same in
-          subst (λ (ms : List Member). Contains ms y) (sym (passing p o os (ap p is ∙ passes))) (subst (λ (z : Member). Contains (z ∷ rest) y) (sym is) (contains_here y rest))
+          subst (λ (ms : List Member). Contains ms y) (sym (passing p o os (ap p is ∙ passes)))
+          (subst (λ (z : Member). Contains (z ∷ rest) y) (sym is) (contains_here y rest))
       | inr later ↦
           let there : Contains rest y = passing_there p os y later passes in
           elim (cases_Bool (p (member_of o))) [
@@ -103,12 +110,14 @@ pub difference_is_ready : DifferenceIsReady
 difference_is_ready h from to before m after v closed_to e y needs =
     let c = cut_at (λ z. has to z && not (has from z)) h before m after e in
     let k = c.before ++ c.op ∷ c.after in
-    let there : has to y ≡ true = (closed_set h (complete h v) to closed_to).closed m y (and_parts (has to m) (not (has from m)) c.passes).0 needs in
+    let there : has to y ≡ true =
+    (closed_set h (complete h v) to closed_to).closed m y (and_parts (has to m) (not (has from m)) c.passes).0 needs in
     let needs' : base_has k (member_of c.op) y ≡ true = (λ i. base_has (sym c.whole i) (c.is i) y) ∙ needs in
     let early : is_known c.before y ≡ true = earlier c.before c.op c.after (subst IsValid c.whole v) y needs' in
     elim (cases_Bool (has from y)) [
       | inl seen ↦ inl seen
       | inr lacking ↦
           inr (subst (λ (ms : List Member). Contains ms y) c.first
-          (passing_there (λ z. has to z && not (has from z)) c.before y early (and_from (has to y) (not (has from y)) there (not_from_false (has from y) lacking))))
+          (passing_there (λ z. has to z && not (has from z)) c.before y early
+          (and_from (has to y) (not (has from y)) there (not_from_false (has from y) lacking))))
     ]

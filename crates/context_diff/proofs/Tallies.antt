@@ -17,7 +17,8 @@ use Rattle.context_diff.proofs.Inserts.{inserts_of_on, inserts_of_new, inserts_o
 use Rattle.context_diff.proofs.Raising.{count_put}
 
 -- the entry of a number, also of 0
-pub entry_is : (h : List OpData) → ((o : OpData) → Contains h o → IsWellFormed o) → (s : ℕ) (counts : List ℕ) → IsTally h s counts → (n : ℕ) → n ≤ length counts → entry_at counts n ≡ inserts_of h s n
+pub entry_is : (h : List OpData) → ((o : OpData) → Contains h o → IsWellFormed o) → (s : ℕ) (counts : List ℕ) → IsTally h s counts → (n : ℕ)
+    → n ≤ length counts → entry_at counts n ≡ inserts_of h s n
 entry_is h formed s counts tally zero within = sym (no_inserts h s formed)
 entry_is h formed s counts tally (suc n) within = tally.entries (suc n) (omega arith) within
 
@@ -28,11 +29,13 @@ total_entry (x ∷ xs) =
     ap (λ i. get_or (x ∷ xs) i 0) last
 
 -- the last entry counts all inserts of the site
-pub total_is : (h : List OpData) → ((o : OpData) → Contains h o → IsWellFormed o) → (s : ℕ) (counts : List ℕ) → IsTally h s counts → total counts ≡ inserts_of h s (length counts)
+pub total_is : (h : List OpData) → ((o : OpData) → Contains h o → IsWellFormed o) → (s : ℕ) (counts : List ℕ) → IsTally h s counts
+    → total counts ≡ inserts_of h s (length counts)
 total_is h formed s counts tally = total_entry counts ∙ entry_is h formed s counts tally (length counts) (omega arith)
 
 -- it is less than the number of operations
-pub total_short : (h : List OpData) → ((o : OpData) → Contains h o → IsWellFormed o) → (s : ℕ) (counts : List ℕ) → IsTally h s counts → length h + 1 < 4294967296 → total counts + 1 < 4294967296
+pub total_short : (h : List OpData) → ((o : OpData) → Contains h o → IsWellFormed o) → (s : ℕ) (counts : List ℕ) → IsTally h s counts
+    → length h + 1 < 4294967296 → total counts + 1 < 4294967296
 total_short h formed s counts tally short = omega (arith, total_is h formed s counts tally, inserts_of_at_most h s (length counts))
 
 module _ (h : List OpData) (o : OpData) (w : IsComplete h) (next : IsNext h o) where
@@ -41,13 +44,15 @@ module _ (h : List OpData) (o : OpData) (w : IsComplete h) (next : IsNext h o) w
   count_of_push s = ap (λ (c : ContextData). count_of c s) (context_push h o)
 
   -- the list of a site that has no original more
-  same_push : (s : ℕ) (counts : List ℕ) → count_of (context_of_all (h ++ o ∷ [])) s ≡ count_of (context_of_all h) s → IsTally h s counts → IsTally (h ++ o ∷ []) s counts
+  same_push : (s : ℕ) (counts : List ℕ) → count_of (context_of_all (h ++ o ∷ [])) s ≡ count_of (context_of_all h) s → IsTally h s counts
+      → IsTally (h ++ o ∷ []) s counts
   same_push s counts same tally = record {
     size = tally.size ∙ sym same;
     entries = λ n low high. tally.entries n low high ∙ sym (inserts_of_on h w o next s n (omega (arith, tally.size)));
   }
 
-  same_pop : (s : ℕ) (counts : List ℕ) → count_of (context_of_all (h ++ o ∷ [])) s ≡ count_of (context_of_all h) s → IsTally (h ++ o ∷ []) s counts → IsTally h s counts
+  same_pop : (s : ℕ) (counts : List ℕ) → count_of (context_of_all (h ++ o ∷ [])) s ≡ count_of (context_of_all h) s
+      → IsTally (h ++ o ∷ []) s counts → IsTally h s counts
   same_pop s counts same tally = record {
     size = tally.size ∙ same;
     entries = λ n low high. tally.entries n low high ∙ inserts_of_on h w o next s n (omega (arith, tally.size));
@@ -56,16 +61,20 @@ module _ (h : List OpData) (o : OpData) (w : IsComplete h) (next : IsNext h o) w
   module _ (n : NameData) (is : member_of o ≡ Original n) where
     -- the number of originals of each site, where one comes
     pub counts_put : (s : ℕ) → count_of (context_of_all (h ++ o ∷ [])) s ≡ (if n.site == s then n.number else count_of (context_of_all h) s)
-    counts_put s = count_of_push s ∙ (ap (λ (m : Member). count_of (raised (context_of_all h) m) s) is ∙ count_put n.site n.number (context_of_all h).counts s)
+    counts_put s =
+        count_of_push s ∙ (ap (λ (m : Member). count_of (raised (context_of_all h) m) s) is
+        ∙ count_put n.site n.number (context_of_all h).counts s)
 
     pub number_is : n.number ≡ count_of (context_of_all h) n.site + 1
     number_is = subst (λ (m : Member). IsNextMember (context_of_all h) m) is (next_member h (context_of_all h) o w.holds next)
 
     pub size_put : (s k : ℕ) → n.site ≡ s → n.number ≡ k → k ≡ count_of (context_of_all (h ++ o ∷ [])) s
-    size_put s k site number = sym (counts_put s ∙ (ap (λ b. if b then n.number else count_of (context_of_all h) s) (eq-eqb n.site s site) ∙ number))
+    size_put s k site number =
+        sym (counts_put s ∙ (ap (λ b. if b then n.number else count_of (context_of_all h) s) (eq-eqb n.site s site) ∙ number))
 
     -- the entries of the site's list with one more
-    entry_push : (counts : List ℕ) (new : ℕ) → IsTally h n.site counts → n.number ≡ length counts + 1 → new ≡ inserts_of (h ++ o ∷ []) n.site n.number
+    entry_push : (counts : List ℕ) (new : ℕ) → IsTally h n.site counts → n.number ≡ length counts + 1
+        → new ≡ inserts_of (h ++ o ∷ []) n.site n.number
         → (i : ℕ) → 1 ≤ i → i ≤ length counts + 1 → entry_at (counts ++ new ∷ []) i ≡ inserts_of (h ++ o ∷ []) n.site i
     entry_push counts new tally number is_new zero low high = absurd (omega arith)
     entry_push counts new tally number is_new (suc j) low high =
@@ -76,24 +85,28 @@ module _ (h : List OpData) (o : OpData) (w : IsComplete h) (next : IsNext h o) w
           | inr last ↦
               let at : j ≡ length counts = omega arith in
               let here : n.number ≡ suc j = omega arith in
-              ap (λ k. get_or (counts ++ new ∷ []) k 0) at ∙ (get_or-append_seam counts new [] 0 ∙ (is_new ∙ ap (inserts_of (h ++ o ∷ []) n.site) here))
+              ap (λ k. get_or (counts ++ new ∷ []) k 0) at
+              ∙ (get_or-append_seam counts new [] 0 ∙ (is_new ∙ ap (inserts_of (h ++ o ∷ []) n.site) here))
         ]
 
-    here_push : (counts : List ℕ) → IsTally h n.site counts → IsTally (h ++ o ∷ []) n.site (counts ++ (total counts + (if is_insert o then 1 else 0)) ∷ [])
+    here_push : (counts : List ℕ) → IsTally h n.site counts
+        → IsTally (h ++ o ∷ []) n.site (counts ++ (total counts + (if is_insert o then 1 else 0)) ∷ [])
     here_push counts tally =
         let new : ℕ = total counts + (if is_insert o then 1 else 0) in
         let number : n.number ≡ length counts + 1 = number_is ∙ ap (λ x. x + 1) (sym tally.size) in
         let longer : length (counts ++ new ∷ []) ≡ length counts + 1 = simp length-append (omega arith) in
         let unknown : is_known h (Original n) ≡ false = ap (is_known h) (sym is) ∙ next.new in
         let is_new : new ≡ inserts_of (h ++ o ∷ []) n.site n.number =
-        ap (λ x. x + (if is_insert o then 1 else 0)) (total_is h w.formed n.site counts tally) ∙ sym (inserts_of_new h o n (length counts) is unknown number) in
+        ap (λ x. x + (if is_insert o then 1 else 0)) (total_is h w.formed n.site counts tally)
+        ∙ sym (inserts_of_new h o n (length counts) is unknown number) in
         record {
           size = longer ∙ size_put n.site (length counts + 1) refl number;
           entries = λ i low high. entry_push counts new tally number is_new i low (omega (arith, longer));
         }
 
     -- the entries of the site's list with one less
-    entry_pop : (counts : List ℕ) → IsTally (h ++ o ∷ []) n.site counts → (i : ℕ) → 1 ≤ i → i ≤ length counts - 1 → i ≤ count_of (context_of_all h) n.site → entry_at (take (length counts - 1) counts) i ≡ inserts_of h n.site i
+    entry_pop : (counts : List ℕ) → IsTally (h ++ o ∷ []) n.site counts → (i : ℕ) → 1 ≤ i → i ≤ length counts - 1
+        → i ≤ count_of (context_of_all h) n.site → entry_at (take (length counts - 1) counts) i ≡ inserts_of h n.site i
     entry_pop counts tally zero low high within = absurd (omega arith)
     entry_pop counts tally (suc j) low high within =
         get_or-take (length counts - 1) counts j 0 (omega arith)
@@ -114,7 +127,8 @@ module _ (h : List OpData) (o : OpData) (w : IsComplete h) (next : IsNext h o) w
         elim (cases_Bool (n.site == s)) [
           | inl same ↦
               let at : n.site ≡ s = eqb-true n.site s same in
-              rw same (subst (λ t. IsTally h t counts → IsTally (h ++ o ∷ []) t (counts ++ (total counts + (if is_insert o then 1 else 0)) ∷ [])) at (here_push counts) tally)
+              rw same (subst (λ t. IsTally h t counts
+              → IsTally (h ++ o ∷ []) t (counts ++ (total counts + (if is_insert o then 1 else 0)) ∷ [])) at (here_push counts) tally)
           | inr other ↦ rw other (same_push s counts (counts_put s ∙ rw other refl) tally)
         ]
 
@@ -123,26 +137,34 @@ module _ (h : List OpData) (o : OpData) (w : IsComplete h) (next : IsNext h o) w
         elim (cases_Bool (n.site == s)) [
           | inl same ↦
               let at : n.site ≡ s = eqb-true n.site s same in
-              rw same (subst (λ t. IsTally (h ++ o ∷ []) t counts → IsTally h t (take (length counts - 1) counts)) at (here_pop counts) tally)
+              rw same (subst (λ t. IsTally (h ++ o ∷ []) t counts → IsTally h t (take (length counts - 1) counts)) at (here_pop counts)
+              tally)
           | inr other ↦ rw other (same_pop s counts (counts_put s ∙ rw other refl) tally)
         ]
 
   -- a group is no original
-  pub group_same : (t : NameData) (g s : ℕ) → member_of o ≡ Group t g → count_of (context_of_all (h ++ o ∷ [])) s ≡ count_of (context_of_all h) s
+  pub group_same : (t : NameData) (g s : ℕ) → member_of o ≡ Group t g
+      → count_of (context_of_all (h ++ o ∷ [])) s ≡ count_of (context_of_all h) s
   group_same t g s is = count_of_push s ∙ ap (λ (m : Member). count_of (raised (context_of_all h) m) s) is
 
-  member_push : (m : Member) → member_of o ≡ m → (s : ℕ) (counts : List ℕ) → IsTally h s counts → IsTally (h ++ o ∷ []) s (counted m (is_insert o) s counts)
+  member_push : (m : Member) → member_of o ≡ m → (s : ℕ) (counts : List ℕ) → IsTally h s counts
+      → IsTally (h ++ o ∷ []) s (counted m (is_insert o) s counts)
   member_push (Original n) is s counts tally = original_push n is s counts tally
   member_push (Group t g) is s counts tally = same_push s counts (group_same t g s is) tally
 
-  member_pop : (m : Member) → member_of o ≡ m → (s : ℕ) (counts : List ℕ) → IsTally (h ++ o ∷ []) s counts → IsTally h s (without_last m s counts)
+  member_pop : (m : Member) → member_of o ≡ m → (s : ℕ) (counts : List ℕ) → IsTally (h ++ o ∷ []) s counts
+      → IsTally h s (without_last m s counts)
   member_pop (Original n) is s counts tally = original_pop n is s counts tally
   member_pop (Group t g) is s counts tally = same_pop s counts (group_same t g s is) tally
 
   -- the lists with a next operation counted
-  pub tallies_push : (counts now : ℕ → List ℕ) → AreTallies h counts → ((s : ℕ) → now s ≡ counted (member_of o) (is_insert o) s (counts s)) → AreTallies (h ++ o ∷ []) now
-  tallies_push counts now tallies more s = subst (λ (t : List ℕ). IsTally (h ++ o ∷ []) s t) (sym (more s)) (member_push (member_of o) refl s (counts s) (tallies s))
+  pub tallies_push : (counts now : ℕ → List ℕ) → AreTallies h counts → ((s : ℕ) → now s ≡ counted (member_of o) (is_insert o) s (counts s))
+      → AreTallies (h ++ o ∷ []) now
+  tallies_push counts now tallies more s =
+      subst (λ (t : List ℕ). IsTally (h ++ o ∷ []) s t) (sym (more s)) (member_push (member_of o) refl s (counts s) (tallies s))
 
   -- and without it
-  pub tallies_pop : (counts now : ℕ → List ℕ) → AreTallies (h ++ o ∷ []) counts → ((s : ℕ) → now s ≡ without_last (member_of o) s (counts s)) → AreTallies h now
-  tallies_pop counts now tallies less s = subst (λ (t : List ℕ). IsTally h s t) (sym (less s)) (member_pop (member_of o) refl s (counts s) (tallies s))
+  pub tallies_pop : (counts now : ℕ → List ℕ) → AreTallies (h ++ o ∷ []) counts
+      → ((s : ℕ) → now s ≡ without_last (member_of o) s (counts s)) → AreTallies h now
+  tallies_pop counts now tallies less s =
+      subst (λ (t : List ℕ). IsTally h s t) (sym (less s)) (member_pop (member_of o) refl s (counts s) (tallies s))

@@ -31,9 +31,12 @@ pub valid_before : (h : List OpData) (o : OpData) (k : List OpData) → IsValid 
 valid_before h o k v = let parts = valid_parts h (o ∷ k) v in (parts.0, parts.1.0)
 
 -- what holds of no operations, and after each next one, holds of every valid history
-by_pushes_after : (P : List OpData → Type 0) → ((h : List OpData) (o : OpData) → IsValid h → P h → IsNext h o → P (h ++ o ∷ [])) → (b os : List OpData) → IsValid b → P b → IsValidAfter b os → P (b ++ os)
+by_pushes_after : (P : List OpData → Type 0) → ((h : List OpData) (o : OpData) → IsValid h → P h → IsNext h o → P (h ++ o ∷ []))
+    → (b os : List OpData) → IsValid b → P b → IsValidAfter b os → P (b ++ os)
 by_pushes_after P step b [] valid p v = subst P (sym (append-nil b)) p
-by_pushes_after P step b (o ∷ os) valid p v = subst P (shifted b o os) (by_pushes_after P step (b ++ o ∷ []) os (valid_push b o valid v.0) (step b o valid p v.0) v.1)
+by_pushes_after P step b (o ∷ os) valid p v =
+    subst P (shifted b o os) (by_pushes_after P step (b ++ o ∷ []) os (valid_push b o valid v.0) (step b o valid p v.0) v.1)
 
-pub by_pushes : (P : List OpData → Type 0) → P [] → ((h : List OpData) (o : OpData) → IsValid h → P h → IsNext h o → P (h ++ o ∷ [])) → (h : List OpData) → IsValid h → P h
+pub by_pushes : (P : List OpData → Type 0) → P [] → ((h : List OpData) (o : OpData) → IsValid h → P h → IsNext h o → P (h ++ o ∷ []))
+    → (h : List OpData) → IsValid h → P h
 by_pushes P first step h v = by_pushes_after P step [] h tt first v

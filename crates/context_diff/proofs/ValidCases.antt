@@ -44,7 +44,8 @@ typed_2_lacks_nothing : LacksNothing (inserting (name 0 1) 0 97 (after []) ∷ [
 typed_2_lacks_nothing (Original n) e = grind (arith, nat_tests)
 typed_2_lacks_nothing (Group n g) e = grind (arith, nat_tests)
 
-typed_3_lacks_nothing : LacksNothing (inserting (name 0 1) 0 97 (after []) ∷ inserting (name 0 2) 1 233 (after ((0, 1) ∷ [])) ∷ []) (after ((0, 2) ∷ []))
+typed_3_lacks_nothing : LacksNothing (inserting (name 0 1) 0 97 (after []) ∷ inserting (name 0 2) 1 233 (after ((0, 1) ∷ [])) ∷ [])
+    (after ((0, 2) ∷ []))
 typed_3_lacks_nothing (Original n) e = grind (arith, nat_tests)
 typed_3_lacks_nothing (Group n g) e = grind (arith, nat_tests)
 
@@ -52,11 +53,14 @@ within_0_1_0_2 : Within (after ((0, 1) ∷ [])) (after ((0, 2) ∷ []))
 within_0_1_0_2 (Original n) e = grind (arith, nat_tests)
 within_0_1_0_2 (Group n g) e = grind (arith, nat_tests)
 
-word_typed_backwards_reversed_4_lacks_nothing : LacksNothing (inserting (name 3 1) 0 110 (after []) ∷ inserting (name 1 1) 0 109 (after []) ∷ inserting (name 2 1) 0 120 (after []) ∷ []) (after ((2, 1) ∷ []))
+word_typed_backwards_reversed_4_lacks_nothing : LacksNothing
+    (inserting (name 3 1) 0 110 (after []) ∷ inserting (name 1 1) 0 109 (after []) ∷ inserting (name 2 1) 0 120 (after []) ∷ [])
+    (after ((2, 1) ∷ []))
 word_typed_backwards_reversed_4_lacks_nothing (Original n) e = grind (arith, nat_tests)
 word_typed_backwards_reversed_4_lacks_nothing (Group n g) e = grind (arith, nat_tests)
 
-abc_3_lacks_nothing : LacksNothing (inserting (name 0 1) 0 97 (after []) ∷ inserting (name 0 2) 1 98 (after ((0, 1) ∷ [])) ∷ []) (after ((0, 2) ∷ []))
+abc_3_lacks_nothing : LacksNothing (inserting (name 0 1) 0 97 (after []) ∷ inserting (name 0 2) 1 98 (after ((0, 1) ∷ [])) ∷ [])
+    (after ((0, 2) ∷ []))
 abc_3_lacks_nothing (Original n) e = grind (arith, nat_tests)
 abc_3_lacks_nothing (Group n g) e = grind (arith, nat_tests)
 
@@ -64,7 +68,8 @@ abc_4_lacks_nothing : LacksNothing (abc []) (after ((0, 3) ∷ []))
 abc_4_lacks_nothing (Original n) e = grind (arith, nat_tests)
 abc_4_lacks_nothing (Group n g) e = grind (arith, nat_tests)
 
-undone_and_redone_5_lacks_nothing : LacksNothing (abc (undoing 0 (name 0 2) 1 (after ((0, 3) ∷ [])) ∷ [])) (after_undos ((0, 3) ∷ []) ((name 0 2, 1) ∷ []))
+undone_and_redone_5_lacks_nothing : LacksNothing (abc (undoing 0 (name 0 2) 1 (after ((0, 3) ∷ [])) ∷ []))
+    (after_undos ((0, 3) ∷ []) ((name 0 2, 1) ∷ []))
 undone_and_redone_5_lacks_nothing (Original n) e = grind (arith, nat_tests)
 undone_and_redone_5_lacks_nothing (Group n g) e = grind (arith, nat_tests)
 
@@ -87,11 +92,14 @@ within_0_3_0_3 : Within (after ((0, 3) ∷ [])) (after ((0, 3) ∷ []))
 within_0_3_0_3 (Original n) e = grind (arith, nat_tests)
 within_0_3_0_3 (Group n g) e = grind (arith, nat_tests)
 
-both_deletes_undone_6_lacks_nothing : LacksNothing (abc (deleting (name 0 4) 1 (after ((0, 3) ∷ [])) ∷ deleting (name 1 1) 1 (after ((0, 3) ∷ [])) ∷ [])) (after ((0, 4) ∷ (1, 1) ∷ []))
+both_deletes_undone_6_lacks_nothing : LacksNothing
+    (abc (deleting (name 0 4) 1 (after ((0, 3) ∷ [])) ∷ deleting (name 1 1) 1 (after ((0, 3) ∷ [])) ∷ [])) (after ((0, 4) ∷ (1, 1) ∷ []))
 both_deletes_undone_6_lacks_nothing (Original n) e = grind (arith, nat_tests)
 both_deletes_undone_6_lacks_nothing (Group n g) e = grind (arith, nat_tests)
 
-both_deletes_undone_7_lacks_nothing : LacksNothing (abc (deleting (name 0 4) 1 (after ((0, 3) ∷ [])) ∷ deleting (name 1 1) 1 (after ((0, 3) ∷ [])) ∷ undoing 0 (name 0 4) 1 (after ((0, 4) ∷ (1, 1) ∷ [])) ∷ [])) (after_undos ((0, 4) ∷ (1, 1) ∷ []) ((name 0 4, 1) ∷ []))
+both_deletes_undone_7_lacks_nothing : LacksNothing
+    (abc (deleting (name 0 4) 1 (after ((0, 3) ∷ [])) ∷ deleting (name 1 1) 1 (after ((0, 3) ∷ [])) ∷ undoing 0 (name 0 4) 1
+    (after ((0, 4) ∷ (1, 1) ∷ [])) ∷ [])) (after_undos ((0, 4) ∷ (1, 1) ∷ []) ((name 0 4, 1) ∷ []))
 both_deletes_undone_7_lacks_nothing (Original n) e = grind (arith, nat_tests)
 both_deletes_undone_7_lacks_nothing (Group n g) e = grind (arith, nat_tests)
 
@@ -102,7 +110,8 @@ first_of_two : (x : Member) → has (after ((0, 2) ∷ [])) x ≡ true → is_kn
 first_of_two (Original n) e f = grind (arith, nat_tests)
 first_of_two (Group n g) e f = refl
 
-first_is_the_group : (x : Member) → has (after_undos ((0, 1) ∷ []) ((name 0 1, 1) ∷ [])) x ≡ true → is_known (inserting (name 0 1) 0 97 (after []) ∷ []) x ≡ false → member_lt x (Group (name 0 1) 1) ≡ false
+first_is_the_group : (x : Member) → has (after_undos ((0, 1) ∷ []) ((name 0 1, 1) ∷ [])) x ≡ true
+    → is_known (inserting (name 0 1) 0 97 (after []) ∷ []) x ≡ false → member_lt x (Group (name 0 1) 1) ≡ false
 first_is_the_group (Original n) e f = grind (arith, nat_tests)
 first_is_the_group (Group n g) e f = grind (arith, nat_tests)
 
@@ -115,7 +124,13 @@ pub typed_is_valid : IsValid typed
 unfolding EachWithin
 typed_is_valid = (
   record {
-    formed = record { in_range = ((lit< tt, lit≤ tt, lit≤ tt), lit≤ tt, refl, record { counts = tt; entries = tt }, lit≤ tt); own = refl; target = tt; stray = no_stray [] };
+    formed = record {
+      in_range = ((lit< tt, lit≤ tt, lit≤ tt), lit≤ tt, refl, record { counts = tt; entries = tt }, lit≤ tt);
+      own =
+          refl;
+      target = tt;
+      stray = no_stray [];
+    };
     new = refl;
     ready = nothing_lacks [];
     closed = λ e. closed_where [] (after []) tt;
@@ -123,18 +138,44 @@ typed_is_valid = (
   },
   (
     record {
-      formed = record { in_range = ((lit< tt, lit≤ tt, lit≤ tt), lit≤ tt, refl, record { counts = (lit≤ tt, lit< tt, lit≤ tt, lit≤ tt, tt); entries = tt }, lit≤ tt); own = refl; target = tt; stray = no_stray ((0, 1) ∷ []) };
+      formed = record {
+        in_range = (
+          (lit< tt, lit≤ tt, lit≤ tt),
+          lit≤ tt,
+          refl,
+          record { counts = (lit≤ tt, lit< tt, lit≤ tt, lit≤ tt, tt); entries = tt },
+          lit≤ tt,
+        );
+        own = refl;
+        target = tt;
+        stray =
+            no_stray ((0, 1) ∷ []);
+      };
       new = refl;
       ready = typed_2_lacks_nothing;
-      closed = λ e. closed_where (inserting (name 0 1) 0 97 (after []) ∷ []) (after ((0, 1) ∷ [])) (nothing_within (after ((0, 1) ∷ [])), tt);
+      closed = λ e. closed_where (inserting (name 0 1) 0 97 (after []) ∷ []) (after ((0, 1) ∷ []))
+          (nothing_within (after ((0, 1) ∷ [])), tt);
       placed = lit≤ tt;
     },
     (
       record {
-        formed = record { in_range = ((lit< tt, lit≤ tt, lit≤ tt), lit≤ tt, refl, record { counts = (lit≤ tt, lit< tt, lit≤ tt, lit≤ tt, tt); entries = tt }, lit≤ tt); own = refl; target = tt; stray = no_stray ((0, 2) ∷ []) };
+        formed = record {
+          in_range = (
+            (lit< tt, lit≤ tt, lit≤ tt),
+            lit≤ tt,
+            refl,
+            record { counts = (lit≤ tt, lit< tt, lit≤ tt, lit≤ tt, tt); entries = tt },
+            lit≤ tt,
+          );
+          own = refl;
+          target = tt;
+          stray =
+              no_stray ((0, 2) ∷ []);
+        };
         new = refl;
         ready = typed_3_lacks_nothing;
-        closed = λ e. closed_where (inserting (name 0 1) 0 97 (after []) ∷ inserting (name 0 2) 1 233 (after ((0, 1) ∷ [])) ∷ []) (after ((0, 2) ∷ [])) (nothing_within (after ((0, 2) ∷ [])), (within_0_1_0_2, tt));
+        closed = λ e. closed_where (inserting (name 0 1) 0 97 (after []) ∷ inserting (name 0 2) 1 233 (after ((0, 1) ∷ [])) ∷ [])
+            (after ((0, 2) ∷ [])) (nothing_within (after ((0, 2) ∷ [])), (within_0_1_0_2, tt));
         placed = lit≤ tt;
       },
       tt,
@@ -147,7 +188,13 @@ pub tie_is_valid : IsValid tie
 unfolding EachWithin
 tie_is_valid = (
   record {
-    formed = record { in_range = ((lit< tt, lit≤ tt, lit≤ tt), lit≤ tt, refl, record { counts = tt; entries = tt }, lit≤ tt); own = refl; target = tt; stray = no_stray [] };
+    formed = record {
+      in_range = ((lit< tt, lit≤ tt, lit≤ tt), lit≤ tt, refl, record { counts = tt; entries = tt }, lit≤ tt);
+      own =
+          refl;
+      target = tt;
+      stray = no_stray [];
+    };
     new = refl;
     ready = nothing_lacks [];
     closed = λ e. closed_where [] (after []) tt;
@@ -155,7 +202,13 @@ tie_is_valid = (
   },
   (
     record {
-      formed = record { in_range = ((lit< tt, lit≤ tt, lit≤ tt), lit≤ tt, refl, record { counts = tt; entries = tt }, lit≤ tt); own = refl; target = tt; stray = no_stray [] };
+      formed = record {
+        in_range = ((lit< tt, lit≤ tt, lit≤ tt), lit≤ tt, refl, record { counts = tt; entries = tt }, lit≤ tt);
+        own =
+            refl;
+        target = tt;
+        stray = no_stray [];
+      };
       new = refl;
       ready = nothing_lacks (inserting (name 1 1) 0 112 (after []) ∷ []);
       closed = λ e. closed_where (inserting (name 1 1) 0 112 (after []) ∷ []) (after []) (nothing_within (after []), tt);
@@ -170,7 +223,13 @@ pub word_typed_backwards_reversed_is_valid : IsValid word_typed_backwards_revers
 unfolding EachWithin
 word_typed_backwards_reversed_is_valid = (
   record {
-    formed = record { in_range = ((lit< tt, lit≤ tt, lit≤ tt), lit≤ tt, refl, record { counts = tt; entries = tt }, lit≤ tt); own = refl; target = tt; stray = no_stray [] };
+    formed = record {
+      in_range = ((lit< tt, lit≤ tt, lit≤ tt), lit≤ tt, refl, record { counts = tt; entries = tt }, lit≤ tt);
+      own =
+          refl;
+      target = tt;
+      stray = no_stray [];
+    };
     new = refl;
     ready = nothing_lacks [];
     closed = λ e. closed_where [] (after []) tt;
@@ -178,7 +237,13 @@ word_typed_backwards_reversed_is_valid = (
   },
   (
     record {
-      formed = record { in_range = ((lit< tt, lit≤ tt, lit≤ tt), lit≤ tt, refl, record { counts = tt; entries = tt }, lit≤ tt); own = refl; target = tt; stray = no_stray [] };
+      formed = record {
+        in_range = ((lit< tt, lit≤ tt, lit≤ tt), lit≤ tt, refl, record { counts = tt; entries = tt }, lit≤ tt);
+        own =
+            refl;
+        target = tt;
+        stray = no_stray [];
+      };
       new = refl;
       ready = nothing_lacks (inserting (name 3 1) 0 110 (after []) ∷ []);
       closed = λ e. closed_where (inserting (name 3 1) 0 110 (after []) ∷ []) (after []) (nothing_within (after []), tt);
@@ -186,18 +251,39 @@ word_typed_backwards_reversed_is_valid = (
     },
     (
       record {
-        formed = record { in_range = ((lit< tt, lit≤ tt, lit≤ tt), lit≤ tt, refl, record { counts = tt; entries = tt }, lit≤ tt); own = refl; target = tt; stray = no_stray [] };
+        formed = record {
+          in_range = ((lit< tt, lit≤ tt, lit≤ tt), lit≤ tt, refl, record { counts = tt; entries = tt }, lit≤ tt);
+          own =
+              refl;
+          target = tt;
+          stray = no_stray [];
+        };
         new = refl;
         ready = nothing_lacks (inserting (name 3 1) 0 110 (after []) ∷ inserting (name 1 1) 0 109 (after []) ∷ []);
-        closed = λ e. closed_where (inserting (name 3 1) 0 110 (after []) ∷ inserting (name 1 1) 0 109 (after []) ∷ []) (after []) (nothing_within (after []), (nothing_within (after []), tt));
+        closed = λ e. closed_where (inserting (name 3 1) 0 110 (after []) ∷ inserting (name 1 1) 0 109 (after []) ∷ []) (after [])
+            (nothing_within (after []), (nothing_within (after []), tt));
         placed = lit≤ tt;
       },
       (
         record {
-          formed = record { in_range = ((lit< tt, lit≤ tt, lit≤ tt), lit≤ tt, refl, record { counts = (lit≤ tt, lit< tt, lit≤ tt, lit≤ tt, tt); entries = tt }, lit≤ tt); own = refl; target = tt; stray = no_stray ((2, 1) ∷ []) };
+          formed = record {
+            in_range = (
+              (lit< tt, lit≤ tt, lit≤ tt),
+              lit≤ tt,
+              refl,
+              record { counts = (lit≤ tt, lit< tt, lit≤ tt, lit≤ tt, tt); entries = tt },
+              lit≤ tt,
+            );
+            own = refl;
+            target = tt;
+            stray =
+                no_stray ((2, 1) ∷ []);
+          };
           new = refl;
           ready = word_typed_backwards_reversed_4_lacks_nothing;
-          closed = λ e. closed_where (inserting (name 3 1) 0 110 (after []) ∷ inserting (name 1 1) 0 109 (after []) ∷ inserting (name 2 1) 0 120 (after []) ∷ []) (after ((2, 1) ∷ [])) (nothing_within (after ((2, 1) ∷ [])), (nothing_within (after ((2, 1) ∷ [])), (nothing_within (after ((2, 1) ∷ [])), tt)));
+          closed = λ e. closed_where (inserting (name 3 1) 0 110 (after []) ∷ inserting (name 1 1) 0 109 (after []) ∷ inserting (name 2 1) 0
+              120 (after []) ∷ []) (after ((2, 1) ∷ []))
+              (nothing_within (after ((2, 1) ∷ [])), (nothing_within (after ((2, 1) ∷ [])), (nothing_within (after ((2, 1) ∷ [])), tt)));
           placed = lit≤ tt;
         },
         tt,
@@ -211,7 +297,13 @@ pub undone_and_redone_is_valid : IsValid undone_and_redone
 unfolding EachWithin
 undone_and_redone_is_valid = (
   record {
-    formed = record { in_range = ((lit< tt, lit≤ tt, lit≤ tt), lit≤ tt, refl, record { counts = tt; entries = tt }, lit≤ tt); own = refl; target = tt; stray = no_stray [] };
+    formed = record {
+      in_range = ((lit< tt, lit≤ tt, lit≤ tt), lit≤ tt, refl, record { counts = tt; entries = tt }, lit≤ tt);
+      own =
+          refl;
+      target = tt;
+      stray = no_stray [];
+    };
     new = refl;
     ready = nothing_lacks [];
     closed = λ e. closed_where [] (after []) tt;
@@ -219,23 +311,62 @@ undone_and_redone_is_valid = (
   },
   (
     record {
-      formed = record { in_range = ((lit< tt, lit≤ tt, lit≤ tt), lit≤ tt, refl, record { counts = (lit≤ tt, lit< tt, lit≤ tt, lit≤ tt, tt); entries = tt }, lit≤ tt); own = refl; target = tt; stray = no_stray ((0, 1) ∷ []) };
+      formed = record {
+        in_range = (
+          (lit< tt, lit≤ tt, lit≤ tt),
+          lit≤ tt,
+          refl,
+          record { counts = (lit≤ tt, lit< tt, lit≤ tt, lit≤ tt, tt); entries = tt },
+          lit≤ tt,
+        );
+        own = refl;
+        target = tt;
+        stray =
+            no_stray ((0, 1) ∷ []);
+      };
       new = refl;
       ready = typed_2_lacks_nothing;
-      closed = λ e. closed_where (inserting (name 0 1) 0 97 (after []) ∷ []) (after ((0, 1) ∷ [])) (nothing_within (after ((0, 1) ∷ [])), tt);
+      closed = λ e. closed_where (inserting (name 0 1) 0 97 (after []) ∷ []) (after ((0, 1) ∷ []))
+          (nothing_within (after ((0, 1) ∷ [])), tt);
       placed = lit≤ tt;
     },
     (
       record {
-        formed = record { in_range = ((lit< tt, lit≤ tt, lit≤ tt), lit≤ tt, refl, record { counts = (lit≤ tt, lit< tt, lit≤ tt, lit≤ tt, tt); entries = tt }, lit≤ tt); own = refl; target = tt; stray = no_stray ((0, 2) ∷ []) };
+        formed = record {
+          in_range = (
+            (lit< tt, lit≤ tt, lit≤ tt),
+            lit≤ tt,
+            refl,
+            record { counts = (lit≤ tt, lit< tt, lit≤ tt, lit≤ tt, tt); entries = tt },
+            lit≤ tt,
+          );
+          own = refl;
+          target = tt;
+          stray =
+              no_stray ((0, 2) ∷ []);
+        };
         new = refl;
         ready = abc_3_lacks_nothing;
-        closed = λ e. closed_where (inserting (name 0 1) 0 97 (after []) ∷ inserting (name 0 2) 1 98 (after ((0, 1) ∷ [])) ∷ []) (after ((0, 2) ∷ [])) (nothing_within (after ((0, 2) ∷ [])), (within_0_1_0_2, tt));
+        closed = λ e. closed_where (inserting (name 0 1) 0 97 (after []) ∷ inserting (name 0 2) 1 98 (after ((0, 1) ∷ [])) ∷ [])
+            (after ((0, 2) ∷ [])) (nothing_within (after ((0, 2) ∷ [])), (within_0_1_0_2, tt));
         placed = lit≤ tt;
       },
       (
         record {
-          formed = record { in_range = (lit< tt, (lit< tt, lit≤ tt, lit≤ tt), lit≤ tt, lit≤ tt, record { counts = (lit≤ tt, lit< tt, lit≤ tt, lit≤ tt, tt); entries = tt }, lit≤ tt); own = tt; target = (refl, refl); stray = no_stray ((0, 3) ∷ []) };
+          formed = record {
+            in_range = (
+              lit< tt,
+              (lit< tt, lit≤ tt, lit≤ tt),
+              lit≤ tt,
+              lit≤ tt,
+              record { counts = (lit≤ tt, lit< tt, lit≤ tt, lit≤ tt, tt); entries = tt },
+              lit≤ tt,
+            );
+            own = tt;
+            target = (refl, refl);
+            stray =
+                no_stray ((0, 3) ∷ []);
+          };
           new = refl;
           ready = abc_4_lacks_nothing;
           closed = λ e. cc;
@@ -243,7 +374,24 @@ undone_and_redone_is_valid = (
         },
         (
           record {
-            formed = record { in_range = (lit< tt, (lit< tt, lit≤ tt, lit≤ tt), lit≤ tt, lit≤ tt, record { counts = (lit≤ tt, lit< tt, lit≤ tt, lit≤ tt, tt); entries = ((lit< tt, lit≤ tt, lit≤ tt), lit≤ tt, lit≤ tt, tt, tt) }, lit≤ tt); own = tt; target = (refl, refl); stray = stray_0_3_undone_0_2_1 };
+            formed = record {
+              in_range = (
+                lit< tt,
+                (lit< tt, lit≤ tt, lit≤ tt),
+                lit≤ tt,
+                lit≤ tt,
+                record {
+                  counts = (lit≤ tt, lit< tt, lit≤ tt, lit≤ tt, tt);
+                  entries =
+                      ((lit< tt, lit≤ tt, lit≤ tt), lit≤ tt, lit≤ tt, tt, tt);
+                },
+                lit≤ tt,
+              );
+              own = tt;
+              target = (refl, refl);
+              stray =
+                  stray_0_3_undone_0_2_1;
+            };
             new = refl;
             ready = undone_and_redone_5_lacks_nothing;
             closed = λ e. cc;
@@ -261,7 +409,13 @@ pub both_deletes_undone_is_valid : IsValid both_deletes_undone
 unfolding EachWithin
 both_deletes_undone_is_valid = (
   record {
-    formed = record { in_range = ((lit< tt, lit≤ tt, lit≤ tt), lit≤ tt, refl, record { counts = tt; entries = tt }, lit≤ tt); own = refl; target = tt; stray = no_stray [] };
+    formed = record {
+      in_range = ((lit< tt, lit≤ tt, lit≤ tt), lit≤ tt, refl, record { counts = tt; entries = tt }, lit≤ tt);
+      own =
+          refl;
+      target = tt;
+      stray = no_stray [];
+    };
     new = refl;
     ready = nothing_lacks [];
     closed = λ e. closed_where [] (after []) tt;
@@ -269,39 +423,101 @@ both_deletes_undone_is_valid = (
   },
   (
     record {
-      formed = record { in_range = ((lit< tt, lit≤ tt, lit≤ tt), lit≤ tt, refl, record { counts = (lit≤ tt, lit< tt, lit≤ tt, lit≤ tt, tt); entries = tt }, lit≤ tt); own = refl; target = tt; stray = no_stray ((0, 1) ∷ []) };
+      formed = record {
+        in_range = (
+          (lit< tt, lit≤ tt, lit≤ tt),
+          lit≤ tt,
+          refl,
+          record { counts = (lit≤ tt, lit< tt, lit≤ tt, lit≤ tt, tt); entries = tt },
+          lit≤ tt,
+        );
+        own = refl;
+        target = tt;
+        stray =
+            no_stray ((0, 1) ∷ []);
+      };
       new = refl;
       ready = typed_2_lacks_nothing;
-      closed = λ e. closed_where (inserting (name 0 1) 0 97 (after []) ∷ []) (after ((0, 1) ∷ [])) (nothing_within (after ((0, 1) ∷ [])), tt);
+      closed = λ e. closed_where (inserting (name 0 1) 0 97 (after []) ∷ []) (after ((0, 1) ∷ []))
+          (nothing_within (after ((0, 1) ∷ [])), tt);
       placed = lit≤ tt;
     },
     (
       record {
-        formed = record { in_range = ((lit< tt, lit≤ tt, lit≤ tt), lit≤ tt, refl, record { counts = (lit≤ tt, lit< tt, lit≤ tt, lit≤ tt, tt); entries = tt }, lit≤ tt); own = refl; target = tt; stray = no_stray ((0, 2) ∷ []) };
+        formed = record {
+          in_range = (
+            (lit< tt, lit≤ tt, lit≤ tt),
+            lit≤ tt,
+            refl,
+            record { counts = (lit≤ tt, lit< tt, lit≤ tt, lit≤ tt, tt); entries = tt },
+            lit≤ tt,
+          );
+          own = refl;
+          target = tt;
+          stray =
+              no_stray ((0, 2) ∷ []);
+        };
         new = refl;
         ready = abc_3_lacks_nothing;
-        closed = λ e. closed_where (inserting (name 0 1) 0 97 (after []) ∷ inserting (name 0 2) 1 98 (after ((0, 1) ∷ [])) ∷ []) (after ((0, 2) ∷ [])) (nothing_within (after ((0, 2) ∷ [])), (within_0_1_0_2, tt));
+        closed = λ e. closed_where (inserting (name 0 1) 0 97 (after []) ∷ inserting (name 0 2) 1 98 (after ((0, 1) ∷ [])) ∷ [])
+            (after ((0, 2) ∷ [])) (nothing_within (after ((0, 2) ∷ [])), (within_0_1_0_2, tt));
         placed = lit≤ tt;
       },
       (
         record {
-          formed = record { in_range = ((lit< tt, lit≤ tt, lit≤ tt), lit≤ tt, record { counts = (lit≤ tt, lit< tt, lit≤ tt, lit≤ tt, tt); entries = tt }, lit≤ tt); own = refl; target = tt; stray = no_stray ((0, 3) ∷ []) };
+          formed = record {
+            in_range = (
+              (lit< tt, lit≤ tt, lit≤ tt),
+              lit≤ tt,
+              record { counts = (lit≤ tt, lit< tt, lit≤ tt, lit≤ tt, tt); entries = tt },
+              lit≤ tt,
+            );
+            own = refl;
+            target = tt;
+            stray =
+                no_stray ((0, 3) ∷ []);
+          };
           new = refl;
           ready = abc_4_lacks_nothing;
-          closed = λ e. closed_where (abc []) (after ((0, 3) ∷ [])) (nothing_within (after ((0, 3) ∷ [])), (within_0_1_0_3, (within_0_2_0_3, tt)));
+          closed = λ e. closed_where (abc []) (after ((0, 3) ∷ []))
+              (nothing_within (after ((0, 3) ∷ [])), (within_0_1_0_3, (within_0_2_0_3, tt)));
           placed = lit< tt;
         },
         (
           record {
-            formed = record { in_range = ((lit< tt, lit≤ tt, lit≤ tt), lit≤ tt, record { counts = (lit≤ tt, lit< tt, lit≤ tt, lit≤ tt, tt); entries = tt }, lit≤ tt); own = refl; target = tt; stray = no_stray ((0, 3) ∷ []) };
+            formed = record {
+              in_range = (
+                (lit< tt, lit≤ tt, lit≤ tt),
+                lit≤ tt,
+                record { counts = (lit≤ tt, lit< tt, lit≤ tt, lit≤ tt, tt); entries = tt },
+                lit≤ tt,
+              );
+              own = refl;
+              target = tt;
+              stray =
+                  no_stray ((0, 3) ∷ []);
+            };
             new = refl;
             ready = both_deletes_undone_5_lacks_nothing;
-            closed = λ e. closed_where (abc (deleting (name 0 4) 1 (after ((0, 3) ∷ [])) ∷ [])) (after ((0, 3) ∷ [])) (nothing_within (after ((0, 3) ∷ [])), (within_0_1_0_3, (within_0_2_0_3, (within_0_3_0_3, tt))));
+            closed = λ e. closed_where (abc (deleting (name 0 4) 1 (after ((0, 3) ∷ [])) ∷ [])) (after ((0, 3) ∷ []))
+                (nothing_within (after ((0, 3) ∷ [])), (within_0_1_0_3, (within_0_2_0_3, (within_0_3_0_3, tt))));
             placed = lit< tt;
           },
           (
             record {
-              formed = record { in_range = (lit< tt, (lit< tt, lit≤ tt, lit≤ tt), lit≤ tt, lit≤ tt, record { counts = (lit≤ tt, lit< tt, lit≤ tt, lit≤ tt, (lit≤ tt, lit< tt, lit≤ tt, lit≤ tt, tt)); entries = tt }, lit≤ tt); own = tt; target = (refl, refl); stray = no_stray ((0, 4) ∷ (1, 1) ∷ []) };
+              formed = record {
+                in_range = (
+                  lit< tt,
+                  (lit< tt, lit≤ tt, lit≤ tt),
+                  lit≤ tt,
+                  lit≤ tt,
+                  record { counts = (lit≤ tt, lit< tt, lit≤ tt, lit≤ tt, (lit≤ tt, lit< tt, lit≤ tt, lit≤ tt, tt)); entries = tt },
+                  lit≤ tt,
+                );
+                own = tt;
+                target = (refl, refl);
+                stray = no_stray ((0, 4) ∷ (1, 1) ∷ []);
+              };
               new = refl;
               ready = both_deletes_undone_6_lacks_nothing;
               closed = λ e. cc;
@@ -309,7 +525,24 @@ both_deletes_undone_is_valid = (
             },
             (
               record {
-                formed = record { in_range = (lit< tt, (lit< tt, lit≤ tt, lit≤ tt), lit≤ tt, lit≤ tt, record { counts = (lit≤ tt, lit< tt, lit≤ tt, lit≤ tt, (lit≤ tt, lit< tt, lit≤ tt, lit≤ tt, tt)); entries = ((lit< tt, lit≤ tt, lit≤ tt), lit≤ tt, lit≤ tt, tt, tt) }, lit≤ tt); own = tt; target = (refl, refl); stray = stray_0_4_1_1_undone_0_4_1 };
+                formed = record {
+                  in_range = (
+                    lit< tt,
+                    (lit< tt, lit≤ tt, lit≤ tt),
+                    lit≤ tt,
+                    lit≤ tt,
+                    record {
+                      counts = (lit≤ tt, lit< tt, lit≤ tt, lit≤ tt, (lit≤ tt, lit< tt, lit≤ tt, lit≤ tt, tt));
+                      entries =
+                          ((lit< tt, lit≤ tt, lit≤ tt), lit≤ tt, lit≤ tt, tt, tt);
+                    },
+                    lit≤ tt,
+                  );
+                  own = tt;
+                  target = (refl, refl);
+                  stray =
+                      stray_0_4_1_1_undone_0_4_1;
+                };
                 new = refl;
                 ready = both_deletes_undone_7_lacks_nothing;
                 closed = λ e. cc;
@@ -329,7 +562,8 @@ pub first_original_is_lacked_first : LacksFirst [] (after ((0, 2) ∷ [])) (Orig
 first_original_is_lacked_first = record { named = refl; missing = refl; first = first_of_two }
 
 -- an undo group is lacked where its original is there
-pub group_is_lacked_after_its_original : LacksFirst (inserting (name 0 1) 0 97 (after []) ∷ []) (after_undos ((0, 1) ∷ []) ((name 0 1, 1) ∷ [])) (Group (name 0 1) 1)
+pub group_is_lacked_after_its_original : LacksFirst (inserting (name 0 1) 0 97 (after []) ∷ [])
+    (after_undos ((0, 1) ∷ []) ((name 0 1, 1) ∷ [])) (Group (name 0 1) 1)
 group_is_lacked_after_its_original = record { named = refl; missing = refl; first = first_is_the_group }
 
 -- site 0 writes a character, and site 1 one behind it
@@ -338,17 +572,21 @@ in_turn = inserting (name 0 1) 0 97 (after []) ∷ inserting (name 1 1) 1 98 (af
 
 -- a context that names an original but not what it was made after isn't closed, at the site of that original
 pub context_without_a_cause_is_not_closed : CoversSite in_turn (after ((1, 1) ∷ [])) 1 → ⊥
-context_without_a_cause_is_not_closed covers = absurd (false≢true (covers (inserting (name 1 1) 1 98 (after ((0, 1) ∷ []))) (name 1 1) (1, lit< tt, refl) refl refl refl (Original (name 0 1)) refl))
+context_without_a_cause_is_not_closed covers =
+    absurd (false≢true (covers (inserting (name 1 1) 1 98 (after ((0, 1) ∷ []))) (name 1 1) (1, lit< tt, refl) refl refl refl
+    (Original (name 0 1)) refl))
 
 -- with the cause it is closed
 pub context_with_its_cause_is_closed : IsClosed in_turn (after ((0, 1) ∷ (1, 1) ∷ []))
 unfolding EachWithin
-context_with_its_cause_is_closed = closed_where in_turn (after ((0, 1) ∷ (1, 1) ∷ [])) (nothing_within (after ((0, 1) ∷ (1, 1) ∷ [])), (within_both, tt))
+context_with_its_cause_is_closed =
+    closed_where in_turn (after ((0, 1) ∷ (1, 1) ∷ [])) (nothing_within (after ((0, 1) ∷ (1, 1) ∷ [])), (within_both, tt))
 
 -- behind no cell there is place 0 alone
 pub place_1_of_no_cells_is_out : HasPlace [] (inserting (name 0 1) 1 97 (after [])) → ⊥
 place_1_of_no_cells_is_out in_place = absurd (omega arith)
 
 -- a delete needs a cell at its place
-pub delete_behind_the_last_cell_is_out : HasPlace (inserting (name 0 1) 0 97 (after []) ∷ []) (deleting (name 0 2) 1 (after ((0, 1) ∷ []))) → ⊥
+pub delete_behind_the_last_cell_is_out : HasPlace (inserting (name 0 1) 0 97 (after []) ∷ []) (deleting (name 0 2) 1 (after ((0, 1) ∷ [])))
+    → ⊥
 delete_behind_the_last_cell_is_out in_place = absurd (omega arith)

@@ -111,7 +111,8 @@ unfolding put_by sort_by replay narrowed until onward through beyond gap stands_
 delete_hits_the_cell_that_it_was_made_for = refl
 
 -- the cell that stands at this place now isn't hit
-pub delete_misses_the_cell_that_came_to_its_place : hits edits_at_first_site (deleting (name 0 4) 1 (after ((0, 3) ∷ []))) (cell 2 1) ≡ false
+pub delete_misses_the_cell_that_came_to_its_place : hits edits_at_first_site (deleting (name 0 4) 1 (after ((0, 3) ∷ []))) (cell 2 1)
+    ≡ false
 unfolding put_by sort_by replay narrowed until onward through beyond gap stands_at
 delete_misses_the_cell_that_came_to_its_place = refl
 
@@ -279,7 +280,8 @@ unfolding put_by sort_by replay narrowed until onward through beyond gap stands_
 redo_redoes_the_undo_of_another_site_too = refl
 
 -- two undos of one generation leave it at 1
-pub two_undos_at_one_generation_count_once : generation_in (undoing 0 (name 0 2) 1 (after ((0, 3) ∷ [])) ∷ undoing 1 (name 0 2) 1 (after ((0, 3) ∷ [])) ∷ []) (name 0 2) ≡ 1
+pub two_undos_at_one_generation_count_once : generation_in
+    (undoing 0 (name 0 2) 1 (after ((0, 3) ∷ [])) ∷ undoing 1 (name 0 2) 1 (after ((0, 3) ∷ [])) ∷ []) (name 0 2) ≡ 1
 two_undos_at_one_generation_count_once = refl
 
 -- two sites delete `b` at once
@@ -341,7 +343,8 @@ pub second_of_two_undone_deletes_is_not_in_force : in_force both_deletes_undone 
 second_of_two_undone_deletes_is_not_in_force = refl
 
 -- a local operation after that knows all originals and both groups
-pub next_local_context_holds_originals_and_groups : context_of_all both_deletes_undone ≡ after_undos ((0, 4) ∷ (1, 1) ∷ []) ((name 0 4, 1) ∷ (name 1 1, 1) ∷ [])
+pub next_local_context_holds_originals_and_groups : context_of_all both_deletes_undone
+    ≡ after_undos ((0, 4) ∷ (1, 1) ∷ []) ((name 0 4, 1) ∷ (name 1 1, 1) ∷ [])
 next_local_context_holds_originals_and_groups = refl
 
 -- `b` is deleted, then its insert is undone, then the delete
@@ -414,7 +417,8 @@ crossing_to_the_left =
     ∷ []
 
 -- site 1's cell narrows the gap first, so site 3's cell in front of it plays no part: place 4 and not 2
-pub earlier_insert_of_a_smaller_site_shuts_out_what_is_in_front_of_it : replay_of crossing_to_the_left ≡ cell 0 2 ∷ cell 0 1 ∷ cell 3 1 ∷ cell 1 1 ∷ cell 2 1 ∷ []
+pub earlier_insert_of_a_smaller_site_shuts_out_what_is_in_front_of_it : replay_of crossing_to_the_left
+    ≡ cell 0 2 ∷ cell 0 1 ∷ cell 3 1 ∷ cell 1 1 ∷ cell 2 1 ∷ []
 unfolding put_by sort_by replay narrowed until onward through beyond gap stands_at
 earlier_insert_of_a_smaller_site_shuts_out_what_is_in_front_of_it = refl
 
@@ -467,6 +471,8 @@ two_write_notes =
     ∷ []
 
 -- both words stand whole where they were written
-pub notes_of_two_stand_where_they_were_written : characters_of two_write_notes ≡ 65 ∷ 103 ∷ 101 ∷ 110 ∷ 100 ∷ 97 ∷ 58 ∷ 32 ∷ 100 ∷ 114 ∷ 97 ∷ 102 ∷ 116 ∷ 32 ∷ 98 ∷ 117 ∷ 100 ∷ 103 ∷ 101 ∷ 116 ∷ 44 ∷ 32 ∷ 115 ∷ 116 ∷ 97 ∷ 102 ∷ 102 ∷ []
+pub notes_of_two_stand_where_they_were_written : characters_of two_write_notes
+    ≡ 65 ∷ 103 ∷ 101 ∷ 110 ∷ 100 ∷ 97 ∷ 58 ∷ 32 ∷ 100 ∷ 114 ∷ 97 ∷ 102 ∷ 116 ∷ 32 ∷ 98 ∷ 117 ∷ 100 ∷ 103 ∷ 101 ∷ 116 ∷ 44 ∷ 32 ∷ 115 ∷ 116 ∷
+    97 ∷ 102 ∷ 102 ∷ []
 unfolding put_by sort_by replay narrowed until onward through beyond gap stands_at
 notes_of_two_stand_where_they_were_written = refl

@@ -1,4 +1,5 @@
--- A gap is the interval between two neighbours in which a place is searched, as three lists. A deleted cell stays and counts (tombstones, TTF 2006).
+-- A gap is the interval between two neighbours in which a place is searched, as three lists. A deleted cell stays and counts
+-- (tombstones, TTF 2006).
 use Rattle.std.specs.Prelude.{ℕ, zero, suc, Bool, List, [], ◌∷◌, ◌++◌, ◌||◌, if◌then◌else◌}
 use Rattle.std.specs.List.{list_any}
 

@@ -46,7 +46,8 @@ is_insert (undoing a t g c) = false
 abbrev pub IsInRange : OpData → Type 0
 IsInRange (inserting n p ch c) = IsName n.site n.number × (p ≤ PLACES) × IsScalar ch × IsContext c × (length c.entries ≤ UNDO_ENTRIES)
 IsInRange (deleting n p c) = IsName n.site n.number × (p ≤ PLACES) × IsContext c × (length c.entries ≤ UNDO_ENTRIES)
-IsInRange (undoing a t g c) = (a < SITES) × IsName t.site t.number × (1 ≤ g) × (g ≤ GENERATIONS) × IsContext c × (length c.entries ≤ UNDO_ENTRIES)
+IsInRange (undoing a t g c) =
+    (a < SITES) × IsName t.site t.number × (1 ≤ g) × (g ≤ GENERATIONS) × IsContext c × (length c.entries ≤ UNDO_ENTRIES)
 
 -- Own: an original knows all earlier originals of its site and no others of it
 abbrev pub KeepsOwn : OpData → Type 0

@@ -23,7 +23,8 @@ Cell = NameData × ℕ
 -- the inserts of a history, in its order
 abbrev pub insertions_in : List OpData → List Insertion
 insertions_in [] = []
-insertions_in (inserting n p ch c ∷ os) = record { name = n; place = p; rank = rank_of c; sees = λ m. has c (Original m) } ∷ insertions_in os
+insertions_in (inserting n p ch c ∷ os) =
+    record { name = n; place = p; rank = rank_of c; sees = λ m. has c (Original m) } ∷ insertions_in os
 insertions_in (deleting n p c ∷ os) = insertions_in os
 insertions_in (undoing a t g c ∷ os) = insertions_in os
 

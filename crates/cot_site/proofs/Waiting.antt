@@ -146,12 +146,15 @@ module _ (h : List OpData) (valid : IsValid h) (w : List OpData) (all : AllForme
   pub ready_found : (r : Option ℕ) → (IsNone r ↔ NoneReady (context_of_all h) w) → IfSome r (IsFirstReady (context_of_all h) w) → r ≡ first_ready h w
   ready_found r none first = found_by r none first (first_ready h w) (first_answer h w)
 
+-- one operation stands at a place
+pub one_at : (w : List OpData) (i : ℕ) (o p : OpData) → slice_get w i ≡ Some p → slice_get w i ≡ Some o → p ≡ o
+one_at w i o p at there =
+    let same : Some p ≡ Some o = sym at ∙ there in
+    cc
+
 -- the verdict on the one at a place
 pub judged_at : (h w : List OpData) (i : ℕ) (o p : OpData) (v : Verdict) → slice_get w i ≡ Some p → v ≡ verdict_of h w p → slice_get w i ≡ Some o → v ≡ verdict_of h (remove w i) o
-judged_at h w i o p v at is there =
-    let same : Some p ≡ Some o = sym at ∙ there in
-    let po : p ≡ o = cc in
-    is ∙ (ap (verdict_of h w) po ∙ verdict_alone h w i o there)
+judged_at h w i o p v at is there = is ∙ (ap (verdict_of h w) (one_at w i o p at there) ∙ verdict_alone h w i o there)
 
 pub formed_at : (w : List OpData) (i : ℕ) (o : OpData) → AllFormed w → slice_get w i ≡ Some o → IsWellFormed o
 formed_at w i o all at = all o (got_there w i o at)

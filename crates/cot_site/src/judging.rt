@@ -6,6 +6,8 @@ ghost use Rattle.op_name.specs.declared.member.Member.TheVariants.{Original};
 ghost use Rattle.context_diff.specs.Operations.{OpData, member_of, context_of, IsWellFormed};
 ghost use Rattle.context_diff.specs.Histories.{LacksNothing, inserts_in};
 ghost use Rattle.context_diff.specs.Ops.{data_of, op_eq};
+ghost use Rattle.site_answers.specs.declared.verdict.Verdict.TheVariants.{Integrated};
+ghost use Rattle.cot_site.specs.Code.Judging.{HasCells};
 ghost use Rattle.cot_site.specs.Verdicts.{is_repeat, is_other, is_forged, lacked, first_uncovered, placed_verdict, ready_verdict, waiting_verdict, verdict_of};
 
 use causal_gate::Pool;
@@ -15,45 +17,66 @@ use op_name::{Member, Name};
 use site_answers::Verdict;
 use undo_group::generation;
 
-/// The verdict on a well-formed operation over a book and a pool: the first case that holds.
-pub(crate) fn verdict_on(book: &Book, pool: &Pool, op: &Op) -> Verdict
+/// A verdict, and the number of inserts of the operation's context, which is told of an insert or delete that is to be integrated:
+/// whoever integrates it needs the number, and counts nothing again. Beside other verdicts it says nothing.
+#[derive(Drop)]
+pub(crate) struct Judgement {
+    pub(crate) verdict: Verdict,
+    pub(crate) cells: u32,
+}
+
+/// The verdict on a well-formed operation over a book and a pool: the first case that holds; with the inserts of its context.
+pub(crate) fn judgement_on(book: &Book, pool: &Pool, op: &Op) -> Judgement
     requires { IsWellFormed (data_of op.now) }
-    ensures { result ≡ verdict_of book.now.ops pool.now (data_of op.now) }
+    ensures verdict { result.verdict ≡ verdict_of book.now.ops pool.now (data_of op.now) }
+    ensures cells { result.verdict ≡ Integrated → HasCells book.now.ops (data_of op.now) result.cells }
 {
     if is_repeat(book, op) {
-        return Verdict::Repeat;
+        return uncounted(Verdict::Repeat);
     }
     if is_forged(book, pool, op) {
-        return Verdict::Forged {
+        return uncounted(Verdict::Forged {
             name: op.member().target(),
-        };
+        });
     }
     book.known();
     match book.judged(op.context()) {
-        Some(cells) => judged_verdict(op, cells),
-        None => unjudged_verdict(book, op),
+        Some(cells) => Judgement {
+            verdict: ready_verdict(op, None, cells),
+            cells,
+        },
+        None => unjudged(book, op),
     }
 }
 
-// The verdict on an operation whose context is there, closed, and has so many inserts.
-fn judged_verdict(op: &Op, cells: u32) -> Verdict
-    ensures { (h : List OpData) → first_uncovered h (context_of (data_of op.now)) (context_of (data_of op.now)).counts ≡ None → cells ≡ inserts_in h (context_of (data_of op.now)) → result ≡ ready_verdict h (data_of op.now) }
+// The judgement by a verdict beside which nothing is counted.
+fn uncounted(verdict: Verdict) -> Judgement
+    ensures { result.verdict ≡ verdict }
+{
+    Judgement { verdict, cells: 0 }
+}
+
+// The verdict on an operation whose context is there, by the first open site of the context and the number of its inserts; an undo
+// asks for neither.
+fn ready_verdict(op: &Op, first: Option<u16>, cells: u32) -> Verdict
+    ensures { (h : List OpData) → first ≡ first_uncovered h (context_of (data_of op.now)) (context_of (data_of op.now)).counts → cells ≡ inserts_in h (context_of (data_of op.now)) → result ≡ ready_verdict h (data_of op.now) }
 {
     match op {
-        Op::Insert { place, .. } => placed_verdict(None, *place <= cells, *place, cells),
-        Op::Delete { place, .. } => placed_verdict(None, *place < cells, *place, cells),
+        Op::Insert { place, .. } => placed_verdict(first, *place <= cells, *place, cells),
+        Op::Delete { place, .. } => placed_verdict(first, *place < cells, *place, cells),
         Op::Undo { .. } => Verdict::Integrated,
     }
 }
 
-// The verdict on an operation that is no repeat and not forged.
-fn unjudged_verdict(book: &Book, op: &Op) -> Verdict
+// The judgement on an operation that is no repeat and not forged.
+fn unjudged(book: &Book, op: &Op) -> Judgement
     requires { IsWellFormed (data_of op.now) }
-    ensures { result ≡ waiting_verdict (lacked book.now.ops (context_of (data_of op.now))) (ready_verdict book.now.ops (data_of op.now)) }
+    ensures verdict { result.verdict ≡ waiting_verdict (lacked book.now.ops (context_of (data_of op.now))) (ready_verdict book.now.ops (data_of op.now)) }
+    ensures cells { result.verdict ≡ Integrated → HasCells book.now.ops (data_of op.now) result.cells }
 {
     match lacked(book, op) {
-        Some(missing) => Verdict::Waits { missing },
-        None => ready_verdict(book, op),
+        Some(missing) => uncounted(Verdict::Waits { missing }),
+        None => ready(book, op),
     }
 }
 
@@ -137,21 +160,22 @@ fn other_waits(pool: &Pool, name: &Name, op: &Op) -> bool
     }
 }
 
-// The verdict on an operation whose context the book has.
-fn ready_verdict(book: &Book, op: &Op) -> Verdict
+// The judgement on an operation whose context the book has.
+fn ready(book: &Book, op: &Op) -> Judgement
     requires { LacksNothing book.now.ops (context_of (data_of op.now)) }
-    ensures { result ≡ ready_verdict book.now.ops (data_of op.now) }
+    ensures verdict { result.verdict ≡ ready_verdict book.now.ops (data_of op.now) }
+    ensures cells { HasCells book.now.ops (data_of op.now) result.cells }
 {
     match op {
-        Op::Insert { place, context, .. } => {
+        Op::Insert { context, .. } | Op::Delete { context, .. } => {
             let cells = cells_of(book, context);
-            placed_verdict(open_site(book, context), *place <= cells, *place, cells)
+            let first = open_site(book, context);
+            Judgement {
+                verdict: ready_verdict(op, first, cells),
+                cells,
+            }
         }
-        Op::Delete { place, context, .. } => {
-            let cells = cells_of(book, context);
-            placed_verdict(open_site(book, context), *place < cells, *place, cells)
-        }
-        Op::Undo { .. } => Verdict::Integrated,
+        Op::Undo { .. } => uncounted(Verdict::Integrated),
     }
 }
 

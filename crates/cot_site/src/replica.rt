@@ -24,6 +24,7 @@ ghost use Rattle.form_rows.specs.Kept.{IsFormWith};
 ghost use Rattle.form_rows.specs.Stretches.{AreNoted};
 ghost use Rattle.cot_site.specs.Commands.{place_of_shown, place_behind};
 ghost use Rattle.cot_site.specs.Sites.{AreExecuted, AreCached, IsFormOf, KeepsForms};
+ghost use Rattle.cot_site.specs.Code.Judging.{HasCells};
 ghost use Rattle.cot_site.specs.Code.Notes.{AreFormsNoted};
 ghost use Rattle.cot_site.specs.declared.notes.TheConstants.{CACHED_FORMS};
 ghost use Rattle.cot_site.specs.Code.Replicas.{AreRowsOf, IsExecutedAsBefore, IsLastMember, IsStep, IsNextAfter, KnowsAll, KnowsBefore, before_last};
@@ -174,18 +175,19 @@ impl Replica {
     }
 
     /// Appends the operation, which is next, and executes its form at the members that were integrated before
-    /// it. After out of memory the history, the forms and the cells are as before, and the notes are the old ones or
-    /// none.
-    pub fn integrate(&mut self, op: Op) -> Result<(), Memory>
-        requires { IsNext self.old.history (data_of op) }
+    /// it. The context of an insert or delete has so many inserts. After out of memory the history, the forms and the cells are as
+    /// before, and the notes are the old ones or none.
+    pub fn integrate(&mut self, op: Op, cells: u32) -> Result<(), Memory>
+        requires next { IsNext self.old.history (data_of op) }
+        requires cells { HasCells self.old.history (data_of op) cells }
         ensures history { OnOk result (self.new.history ≡ self.old.history ++ data_of op ∷ []) }
         ensures forms { OnOk result (KeepsForms self.old.forms self.new.forms) }
         ensures err { OnErr result (IsExecutedAsBefore self.old self.new) }
     {
         self.book.known();
         let op = with_shared_lists(&self.book, op);
-        let alone = knows_all(&self.book, &op);
-        self.integrate_after(op, alone)
+        let alone = knows_all(&self.book, &op, cells);
+        self.integrate_after(op, cells, alone)
     }
 
     /// The same of an operation whose context is all members: one that was made here. So contexts aren't compared, and
@@ -197,12 +199,15 @@ impl Replica {
         ensures forms { OnOk result (KeepsForms self.old.forms self.new.forms) }
         ensures err { OnErr result (IsExecutedAsBefore self.old self.new) }
     {
-        self.integrate_after(op, true)
+        self.book.known();
+        let cells = self.book.inserts();
+        self.integrate_after(op, cells, true)
     }
 
     // The same, where it is told whether the operation knows all members before it, which says nothing of an undo.
-    fn integrate_after(&mut self, op: Op, knows_all: bool) -> Result<(), Memory>
+    fn integrate_after(&mut self, op: Op, cells: u32, knows_all: bool) -> Result<(), Memory>
         requires next { IsNext self.old.history (data_of op) }
+        requires cells { HasCells self.old.history (data_of op) cells }
         requires knows { IsTrue knows_all → KnowsAll (context_of_all self.old.history) (data_of op) }
         ensures history { OnOk result (self.new.history ≡ self.old.history ++ data_of op ∷ []) }
         ensures forms { OnOk result (KeepsForms self.old.forms self.new.forms) }
@@ -212,7 +217,7 @@ impl Replica {
         let member = op.member();
         reserve_one(&mut self.forms)?;
         self.book.reserve(&op)?;
-        self.book.push(op);
+        self.book.push_counted(op, cells);
         match execute(
             &self.book,
             &mut self.notes,
@@ -265,10 +270,11 @@ fn with_shared_lists(book: &Book, op: Op) -> Op
 }
 
 // Whether the operation, which comes next, was made after just the members of the book, or is an undo: then its form needs no row.
-fn knows_all(book: &Book, op: &Op) -> bool
+// A context that has fewer inserts than the book isn't compared.
+fn knows_all(book: &Book, op: &Op, cells: u32) -> bool
     ensures { IsTrue result → KnowsAll book.now.have.set (data_of op.now) }
 {
-    is_undo(op) || are_same(op.context(), book.have())
+    is_undo(op) || (cells == book.inserts() && are_same(op.context(), book.have()))
 }
 
 // Whether the operation is an undo or a redo.

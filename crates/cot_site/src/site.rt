@@ -5,11 +5,13 @@ ghost use Rattle.context_diff.specs.Operations.{IsWellFormed};
 ghost use Rattle.context_diff.specs.Histories.{context_of_all, IsValid};
 ghost use Rattle.context_diff.specs.Replays.{shown, text_of};
 ghost use Rattle.context_diff.specs.Ops.{data_of};
+ghost use Rattle.site_answers.specs.declared.verdict.Verdict.TheVariants.{Integrated};
 ghost use Rattle.cot_site.specs.Verdicts.{verdict_of};
 ghost use Rattle.form_cache.specs.Entries.{form_at, used};
 ghost use Rattle.cot_site.specs.Sites.{AreExecuted, AreCached, AllFormed, IsFormOf, state_of};
+ghost use Rattle.cot_site.specs.Code.Judging.{HasCells};
 
-use crate::judging::verdict_on;
+use crate::judging::{Judgement, judgement_on};
 use crate::notes::CACHED_FORMS;
 use crate::replica::Replica;
 use causal_gate::Pool;
@@ -171,6 +173,15 @@ impl Site {
         requires { IsWellFormed (data_of op.now) }
         ensures { result ≡ verdict_of self.now.history self.now.waiting (data_of op.now) }
     {
-        verdict_on(self.replica.book(), &self.pool, op)
+        self.judge(op).verdict
+    }
+
+    // That verdict, with the inserts of the operation's context.
+    fn judge(&self, op: &Op) -> Judgement
+        requires { IsWellFormed (data_of op.now) }
+        ensures verdict { result.verdict ≡ verdict_of self.now.history self.now.waiting (data_of op.now) }
+        ensures cells { result.verdict ≡ Integrated → HasCells self.now.history (data_of op.now) result.cells }
+    {
+        judgement_on(self.replica.book(), &self.pool, op)
     }
 }

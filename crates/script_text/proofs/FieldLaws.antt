@@ -38,7 +38,8 @@ pub cut_by_parts : (c : ℕ) (bs : List ℕ) (r : Option (Bor (List ℕ) × Bor 
 cut_by_parts c bs r h ascii = by r (split_parts c bs r h ascii)
   where
     by : (r : Option (Bor (List ℕ) × Bor (List ℕ)))
-        → MatchOption r ((i : ℕ) → i < length bs → get_or bs i 0 ≢ c) (λ x. (bs ≡ x.0.now ++ (c ∷ x.1.now)) × ((i : ℕ) → i < length x.0.now → get_or x.0.now i 0 ≢ c))
+        → MatchOption r ((i : ℕ) → i < length bs → get_or bs i 0 ≢ c)
+        (λ x. (bs ≡ x.0.now ++ (c ∷ x.1.now)) × ((i : ℕ) → i < length x.0.now → get_or x.0.now i 0 ≢ c))
         → MatchOption r (cut c bs ≡ None) (λ p. cut c bs ≡ Some (p.0.now, p.1.now))
     by None lacks = cut-lacks c bs lacks
     by (Some x) parts = ap (cut c) parts.0 ∙ cut-append c x.0.now x.1.now parts.1
@@ -71,10 +72,12 @@ pub no_if : {A : Type 0} (t : Bool) (x : A) → (t ≡ true → ⊥) → (if t t
 no_if t x never = rw (not_true t never) refl
 
 -- what `parse` answers where a digit comes first is the number
-pub numeral_parsed : {E : Type 0} (width : ℕ) (bs : List ℕ) (r : Result ℕ E) → ParsesUnsigned width 10 bs r → starts_numeral bs ≡ true → result_ok r ≡ number_below (2 ^ width) bs
+pub numeral_parsed : {E : Type 0} (width : ℕ) (bs : List ℕ) (r : Result ℕ E) → ParsesUnsigned width 10 bs r → starts_numeral bs ≡ true
+    → result_ok r ≡ number_below (2 ^ width) bs
 numeral_parsed width bs r h s = by r (parse_plain own width bs r h (starts bs s).no_plus)
   where
-    by : {E : Type 0} (r : Result ℕ E) → OkIff r ((all_ascii_digits bs ≡ true) × (0 < length bs) × (digits_value 10 bs < 2 ^ width)) (digits_value 10 bs)
+    by : {E : Type 0} (r : Result ℕ E)
+        → OkIff r ((all_ascii_digits bs ≡ true) × (0 < length bs) × (digits_value 10 bs < 2 ^ width)) (digits_value 10 bs)
         → result_ok r ≡ number_below (2 ^ width) bs
     by (Ok n) h = rw (s, h.0.0, lt-ltb _ _ h.0.2, h.1) refl
     by (Err e) h = rw (no_if _ _ (λ t. let p = and_parts _ _ t in h ((and_parts _ _ p.0).1, (starts bs s).nonempty, ltb-true _ _ p.1))) refl
@@ -82,7 +85,8 @@ numeral_parsed width bs r h s = by r (parse_plain own width bs r h (starts bs s)
 pub numeral_no : (limit : ℕ) (bs : List ℕ) → starts_numeral bs ≡ false → number_below limit bs ≡ None
 numeral_no limit bs s = rw s refl
 
-pub number_parsed : {E : Type 0} (bs : List ℕ) (r : Result ℕ E) → ParsesUnsigned 32 10 bs r → starts_numeral bs ≡ true → result_ok r ≡ number_of bs
+pub number_parsed : {E : Type 0} (bs : List ℕ) (r : Result ℕ E) → ParsesUnsigned 32 10 bs r → starts_numeral bs ≡ true
+    → result_ok r ≡ number_of bs
 unfolding number_of
 number_parsed bs r h s = numeral_parsed 32 bs r h s
 
@@ -163,7 +167,8 @@ text_reads = record {
 }
 
 -- two fields
-pub and_then_some : {A B : Type 0} (o : Option A) (f : A → Option B) (y : B) → option_and_then f o ≡ Some y → (x : A) × (o ≡ Some x) × (f x ≡ Some y)
+pub and_then_some : {A B : Type 0} (o : Option A) (f : A → Option B) (y : B) → option_and_then f o ≡ Some y
+    → (x : A) × (o ≡ Some x) × (f x ≡ Some y)
 and_then_some None f y e = cc
 and_then_some (Some x) f y e = (x, refl, e)
 
@@ -181,7 +186,8 @@ cut_some c (x ∷ bs) p e = by (x == c) refl (cut c bs) (cut_some c bs) e
     by false t None rest e = cc
     by false t (Some q) rest e = ap (λ y. x ∷ y) (rest q refl) ∙ ap (λ (q : List ℕ × List ℕ). q.0 ++ c ∷ q.1) (some_is (x ∷ q.0, q.1) p e)
 
-pub pair_reads : {A B : Type 0} (c : ℕ) (first : List ℕ → Option A) (First : List ℕ → A → Type 0) (second : List ℕ → Option B) (Second : List ℕ → B → Type 0)
+pub pair_reads : {A B : Type 0} (c : ℕ) (first : List ℕ → Option A) (First : List ℕ → A → Type 0) (second : List ℕ → Option B)
+    (Second : List ℕ → B → Type 0)
     → Reads first First → Reads second Second → ((bs : List ℕ) (x : A) → First bs x → Lacks c bs)
     → Reads (pair_by c first second) (IsPair c First Second)
 pair_reads {A = A} {B = B} c first First second Second f s lacks = record {
@@ -229,11 +235,13 @@ site_reads =
     }
 
 -- a number from 1 on
-pub from_one_reads : (most : ℕ) → most < 2 ^ 32 → Reads (tested (λ n. nat_le 1 n && nat_le n most) number_of) (λ bs n. (bs ≡ decimal n) × (1 ≤ n) × (n ≤ most))
+pub from_one_reads : (most : ℕ) → most < 2 ^ 32
+    → Reads (tested (λ n. nat_le 1 n && nat_le n most) number_of) (λ bs n. (bs ≡ decimal n) × (1 ≤ n) × (n ≤ most))
 from_one_reads most fits =
     let t = tested_reads (λ n. nat_le 1 n && nat_le n most) number_of IsNumber number_reads in
     record {
-      from = λ bs x e. let h = t.from bs x e in let p = and_parts (nat_le 1 x) (nat_le x most) h.1 in (h.0.0, leb-true 1 x p.0, leb-true x most p.1);
+      from = λ bs x e. let h =
+          t.from bs x e in let p = and_parts (nat_le 1 x) (nat_le x most) h.1 in (h.0.0, leb-true 1 x p.0, leb-true x most p.1);
       to = λ bs x h. let wide : x < 2 ^ 32 = omega (arith, h.2, fits) in
           t.to bs x ((h.0, wide), and_from (nat_le 1 x) (nat_le x most) (le-leb 1 x h.1) (le-leb x most h.2));
     }
@@ -249,13 +257,16 @@ point_no_digit : ¬ (IsInRange 48 57 46)
 point_no_digit h = omega (arith, h)
 
 -- what `Name::new` answers is the name, if the parts are in range
-pub named_new : {E : Type 0} (s n : ℕ) (r : Result NameData E) → (IsOk r ↔ IsName s n) → IfOk r (λ m. m.site ≡ s) → IfOk r (λ m. m.number ≡ n) → s < SITES
+pub named_new : {E : Type 0} (s n : ℕ) (r : Result NameData E) → (IsOk r ↔ IsName s n) → IfOk r (λ m. m.site ≡ s)
+    → IfOk r (λ m. m.number ≡ n) → s < SITES
     → result_ok r ≡ named (s, n)
 named_new s n (Ok m) accepted site number small =
     let name = accepted.0 refl in
-    rw (le-leb 1 n name.1, le-leb n NUMBERS name.2) (ap₂ (λ (a b : ℕ). let x : NameData = record { site = a; number = b } in Some x) site number)
+    rw (le-leb 1 n name.1, le-leb n NUMBERS name.2)
+    (ap₂ (λ (a b : ℕ). let x : NameData = record { site = a; number = b } in Some x) site number)
 named_new s n (Err e) accepted site number small =
-    sym (no_if (nat_le 1 n && nat_le n NUMBERS) _ (λ t. let p = and_parts _ _ t in absurd (refused (accepted.1 (small, leb-true 1 n p.0, leb-true n NUMBERS p.1)))))
+    sym (no_if (nat_le 1 n && nat_le n NUMBERS) _
+    (λ t. let p = and_parts _ _ t in absurd (refused (accepted.1 (small, leb-true 1 n p.0, leb-true n NUMBERS p.1)))))
   where
     refused : false ≡ true → ⊥
     refused t = cc
@@ -270,7 +281,8 @@ name_reads =
           let h = pair.from bs a.0 a.1 in
           let q = some_if (nat_le 1 a.0.1 && nat_le a.0.1 NUMBERS) _ n a.2 in
           let p = and_parts (nat_le 1 a.0.1) (nat_le a.0.1 NUMBERS) q.0 in
-          let spelled : bs ≡ decimal a.0.0 ++ 46 ∷ decimal a.0.1 = h.2 ∙ ap (λ x. x ++ 46 ∷ h.1) h.3.0 ∙ ap (λ y. decimal a.0.0 ++ 46 ∷ y) h.4.0 in
+          let spelled : bs ≡ decimal a.0.0 ++ 46 ∷ decimal a.0.1 =
+          h.2 ∙ ap (λ x. x ++ 46 ∷ h.1) h.3.0 ∙ ap (λ y. decimal a.0.0 ++ 46 ∷ y) h.4.0 in
           subst (λ (m : NameData). IsNameText bs m) q.1 (spelled, (h.3.1, leb-true _ _ p.0, leb-true _ _ p.1));
       to = λ bs n h.
           let wide : n.number < 2 ^ 32 = omega (arith, h.1.2) in
@@ -295,6 +307,7 @@ octets_reads = record {
       rw (ne_eqb (length hex) 0 more, h.0) refl;
 }
   where
-    hex_some : {E : Type 0} (t : Bool) (r : Result (List ℕ) E) (x : List ℕ) → (if t then None else result_ok r) ≡ Some x → (t ≡ false) × (r ≡ Ok x)
+    hex_some : {E : Type 0} (t : Bool) (r : Result (List ℕ) E) (x : List ℕ) → (if t then None else result_ok r) ≡ Some x
+        → (t ≡ false) × (r ≡ Ok x)
     hex_some true r x e = cc
     hex_some false r x e = (refl, result_some r x e)

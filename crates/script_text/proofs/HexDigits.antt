@@ -10,10 +10,12 @@ unfolding hex_digits
 hex_none zero number now none = sym (append-nil now)
 hex_none (suc k) number now none = absurd (omega (arith, none))
 
-pub hex_more : (count number : ℕ) (start was now : List ℕ) → 0 < count → was ≡ start ++ hex_digits (count - 1) (number / 16) → now ≡ was ++ slice_index upper_digits (number % 16) ∷ [] → now ≡ start ++ hex_digits count number
+pub hex_more : (count number : ℕ) (start was now : List ℕ) → 0 < count → was ≡ start ++ hex_digits (count - 1) (number / 16)
+    → now ≡ was ++ slice_index upper_digits (number % 16) ∷ [] → now ≡ start ++ hex_digits count number
 unfolding hex_digits
 hex_more zero number start was now some up put = absurd (omega (arith, some))
 hex_more (suc k) number start was now some up put =
     let d : List ℕ = slice_index upper_digits (number % 16) ∷ [] in
     let less : (suc k) - 1 ≡ k = omega arith in
-    put ∙ ap (λ (t : List ℕ). t ++ d) (up ∙ ap (λ j. start ++ hex_digits j (number / 16)) less) ∙ append_assoc start (hex_digits k (number / 16)) d
+    put ∙ ap (λ (t : List ℕ). t ++ d) (up ∙ ap (λ j. start ++ hex_digits j (number / 16)) less)
+    ∙ append_assoc start (hex_digits k (number / 16)) d

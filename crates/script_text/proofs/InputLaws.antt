@@ -32,7 +32,8 @@ twice_lines : (ls : List LeftLine) (m n : ℕ) (a b : List ℕ) → n ≡ m - mi
     → followed_by (followed_by ls (lines_in (take m a))) (lines_in (take n b)) ≡ followed_by ls (lines_in (take m (a ++ b)))
 twice_lines ls m n a b e =
     followed_assoc ls (lines_in (take m a)) (lines_in (take n b))
-    ∙ (ap (followed_by ls) (sym (lines_in-append (take m a) (take n b))) ∙ ap (λ (bs : List ℕ). followed_by ls (lines_in bs)) (looked_twice m n a b e))
+    ∙ (ap (followed_by ls) (sym (lines_in-append (take m a) (take n b)))
+    ∙ ap (λ (bs : List ℕ). followed_by ls (lines_in bs)) (looked_twice m n a b e))
 
 twice_fed : (k fed : ℕ) (a b : List ℕ) → min k (min k (fed + length a) + length b) ≡ min k (fed + length (a ++ b))
 twice_fed k fed a b = omega (arith, length-append a b)
@@ -43,9 +44,12 @@ twice_left k fed n h = omega (arith, h)
 pub fed_twice : (s : InputData) (a b : List ℕ) → s.fed ≤ MAX_SCRIPT + 1 → fed_with (fed_with s a) b ≡ fed_with s (a ++ b)
 unfolding with_lines
 fed_twice s a b h =
-    let lines = twice_lines s.lines (MAX_SCRIPT + 1 - s.fed) (MAX_SCRIPT + 1 - min (MAX_SCRIPT + 1) (s.fed + length a)) a b (twice_left (MAX_SCRIPT + 1) s.fed (length a) h) in
+    let lines =
+    twice_lines s.lines (MAX_SCRIPT + 1 - s.fed) (MAX_SCRIPT + 1 - min (MAX_SCRIPT + 1) (s.fed + length a)) a b
+    (twice_left (MAX_SCRIPT + 1) s.fed (length a) h) in
     ap (λ (ls : List LeftLine). with_lines s ls (min (MAX_SCRIPT + 1) (min (MAX_SCRIPT + 1) (s.fed + length a) + length b))) lines
-    ∙ ap (λ (n : ℕ). with_lines s (followed_by s.lines (lines_in (take (MAX_SCRIPT + 1 - s.fed) (a ++ b)))) n) (twice_fed (MAX_SCRIPT + 1) s.fed a b)
+    ∙ ap (λ (n : ℕ). with_lines s (followed_by s.lines (lines_in (take (MAX_SCRIPT + 1 - s.fed) (a ++ b)))) n)
+    (twice_fed (MAX_SCRIPT + 1) s.fed a b)
 
 pub taken_first : (s : InputData) (line : LeftLine) (rest : List LeftLine) (piece : List ℕ) → line.ended ≡ true
     → (fed_with (record s { lines = line ∷ rest }) piece).lines ≡ line ∷ (fed_with (record s { lines = rest }) piece).lines

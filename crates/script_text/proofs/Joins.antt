@@ -33,7 +33,8 @@ take_past n xs ys h =
 -- a line cut in two
 pub continued_line : (a b : List ℕ) (ended : Bool) → continued (line_of a false) (line_of b ended) ≡ line_of (a ++ b) ended
 continued_line a b ended =
-    let bytes : seen (seen a ++ seen b) ≡ seen (a ++ b) = take_front (LONGEST + 1) a (seen b) ∙ take_back (LONGEST + 1) (LONGEST + 1) a b (omega arith) in
+    let bytes : seen (seen a ++ seen b) ≡ seen (a ++ b) =
+    take_front (LONGEST + 1) a (seen b) ∙ take_back (LONGEST + 1) (LONGEST + 1) a b (omega arith) in
     let len : length a + length b ≡ length (a ++ b) = sym (length-append a b) in
     ap (λ (bs : List ℕ). record { bytes = bs; len = length a + length b; ended = ended }) bytes
     ∙ ap (λ (n : ℕ). record { bytes = seen (a ++ b); len = n; ended = ended }) len
@@ -42,7 +43,8 @@ pub continued_assoc : (l m n : LeftLine) → continued (continued l m) n ≡ con
 continued_assoc l m n =
     let k = LONGEST + 1 in
     let bytes : seen (seen (l.bytes ++ m.bytes) ++ n.bytes) ≡ seen (l.bytes ++ seen (m.bytes ++ n.bytes)) =
-    take_front k (l.bytes ++ m.bytes) n.bytes ∙ (ap (take k) (append_assoc l.bytes m.bytes n.bytes) ∙ sym (take_back k k l.bytes (m.bytes ++ n.bytes) (omega arith))) in
+    take_front k (l.bytes ++ m.bytes) n.bytes
+    ∙ (ap (take k) (append_assoc l.bytes m.bytes n.bytes) ∙ sym (take_back k k l.bytes (m.bytes ++ n.bytes) (omega arith))) in
     let len : l.len + m.len + n.len ≡ l.len + (m.len + n.len) = omega arith in
     ap (λ (bs : List ℕ). record { bytes = bs; len = l.len + m.len + n.len; ended = n.ended }) bytes
     ∙ ap (λ (k : ℕ). record { bytes = seen (l.bytes ++ seen (m.bytes ++ n.bytes)); len = k; ended = n.ended }) len
@@ -107,13 +109,16 @@ one_assoc l (m ∷ ms) c = elim (cases_Bool l.ended) [
     unended_one : (l m : LeftLine) (c : List LeftLine) → l.ended ≡ false → going_on (continued l m) c ≡ going_on l (going_on m c)
     unended_one l m [] e = sym (going_open l m [] e)
     unended_one l m (n ∷ ns) e = elim (cases_Bool m.ended) [
-      | inl d ↦ going_ended (continued l m) (n ∷ ns) d ∙ (sym (going_open l m (n ∷ ns) e) ∙ ap (going_on l) (sym (going_ended m (n ∷ ns) d)))
+      | inl d ↦ going_ended (continued l m) (n ∷ ns) d
+          ∙ (sym (going_open l m (n ∷ ns) e) ∙ ap (going_on l) (sym (going_ended m (n ∷ ns) d)))
       | inr d ↦
           going_open (continued l m) n ns d
-          ∙ (ap (λ k. k ∷ ns) (continued_assoc l m n) ∙ (sym (going_open l (continued m n) ns e) ∙ ap (going_on l) (sym (going_open m n ns d))))
+          ∙ (ap (λ k. k ∷ ns) (continued_assoc l m n)
+          ∙ (sym (going_open l (continued m n) ns e) ∙ ap (going_on l) (sym (going_open m n ns d))))
     ]
 
-    unended : (l m : LeftLine) (ms c : List LeftLine) → l.ended ≡ false → followed_by (continued l m ∷ ms) c ≡ going_on l (followed_by (m ∷ ms) c)
+    unended : (l m : LeftLine) (ms c : List LeftLine) → l.ended ≡ false
+        → followed_by (continued l m ∷ ms) c ≡ going_on l (followed_by (m ∷ ms) c)
     unended l m [] c e = unended_one l m c e
     unended l m (k ∷ ks) c e = sym (going_open l m (followed_by (k ∷ ks) c) e)
 
@@ -136,7 +141,9 @@ some_parts : (bs : List ℕ) → Some_parts bs
 some_parts bs = of (slice_split (λ b. b == 10) bs) refl
   where
     of : (ps : List (List ℕ)) → slice_split (λ b. b == 10) bs ≡ ps → Some_parts bs
-    of [] e = absurd (let none : length (slice_split (λ b. b == 10) bs) ≡ 0 = ap length e in omega (arith, none, length-slice_split (λ b. b == 10) bs))
+    of [] e =
+        absurd (let none : length (slice_split (λ b. b == 10) bs) ≡ 0 = ap length e in
+        omega (arith, none, length-slice_split (λ b. b == 10) bs))
     of (p ∷ ps) e = record { part = p; parts = ps; are = e }
 
 pub lines_in-nil : lines_in [] ≡ []
@@ -157,7 +164,8 @@ lines_in_feed p rest none =
     ∙ ap (λ ps. line_of p true ∷ all_but_last_ended ps) (sym some.are)
 
 -- one byte before others
-not_alone : (b : ℕ) (ps : List (List ℕ)) (p : List ℕ) → all_but_last_ended ((b ∷ p) ∷ ps) ≡ followed_by (line_of (b ∷ []) false ∷ []) (all_but_last_ended (p ∷ ps))
+not_alone : (b : ℕ) (ps : List (List ℕ)) (p : List ℕ)
+    → all_but_last_ended ((b ∷ p) ∷ ps) ≡ followed_by (line_of (b ∷ []) false ∷ []) (all_but_last_ended (p ∷ ps))
 unfolding all_but_last_ended followed_by
 not_alone b [] [] = refl
 not_alone b [] (c ∷ cs) = ap (λ l. l ∷ []) (sym (continued_line (b ∷ []) (c ∷ cs) false))
@@ -195,7 +203,8 @@ lines_in-append [] b = refl
 lines_in-append (x ∷ xs) b =
     lines_in-cons x (xs ++ b)
     ∙ (ap (followed_by (lines_in (x ∷ []))) (lines_in-append xs b)
-    ∙ (sym (followed_assoc (lines_in (x ∷ [])) (lines_in xs) (lines_in b)) ∙ ap (λ ls. followed_by ls (lines_in b)) (sym (lines_in-cons x xs))))
+    ∙ (sym (followed_assoc (lines_in (x ∷ [])) (lines_in xs) (lines_in b))
+    ∙ ap (λ ls. followed_by ls (lines_in b)) (sym (lines_in-cons x xs))))
 
 -- ---- how many bytes they are
 

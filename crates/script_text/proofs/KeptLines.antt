@@ -33,7 +33,8 @@ pub last_some : (bytes : List ℕ) (n : ℕ) → 0 < n → last_line bytes n ≡
 last_some bytes zero h = absurd (omega (arith, h))
 last_some bytes (suc n) h = refl
 
-more_kept : (bytes : List ℕ) (n : ℕ) (p : List ℕ) → length bytes ≡ kept_of n → seen (bytes ++ seen p) ≡ bytes ++ take (LONGEST + 1 - kept_of n) p
+more_kept : (bytes : List ℕ) (n : ℕ) (p : List ℕ) → length bytes ≡ kept_of n
+    → seen (bytes ++ seen p) ≡ bytes ++ take (LONGEST + 1 - kept_of n) p
 more_kept bytes n p h =
     take_back (LONGEST + 1) (LONGEST + 1) bytes p (lit≤ tt)
     ∙ (take_past (LONGEST + 1) bytes p (omega (arith, h)) ∙ ap (λ m. bytes ++ take (LONGEST + 1 - m) p) h)
@@ -61,7 +62,8 @@ last_part bytes (suc n) [] h =
     nothing_more xs (suc k) = append-nil xs
 last_part bytes (suc n) (b ∷ bs) h =
     last_some (bytes ++ take (LONGEST + 1 - kept_of (suc n)) (b ∷ bs)) (suc n + length (b ∷ bs)) (omega arith)
-    ∙ ap (λ (xs : List ℕ). record { bytes = xs; len = suc n + length (b ∷ bs); ended = false } ∷ []) (sym (more_kept bytes (suc n) (b ∷ bs) h))
+    ∙ ap (λ (xs : List ℕ). record { bytes = xs; len = suc n + length (b ∷ bs); ended = false } ∷ [])
+    (sym (more_kept bytes (suc n) (b ∷ bs) h))
 
 cut_part : (ns bytes : List ℕ) (last : ℕ) (p : List ℕ) → length bytes ≡ kept_len ns last
     → lines_cut (bytes ++ take (LONGEST + 1 - kept_of last) p) ns (last + length p) ≡ followed_by (lines_cut bytes ns last) (open_line p)
@@ -71,10 +73,14 @@ cut_part (n ∷ ns) bytes last p h =
     let more = take (LONGEST + 1 - kept_of last) p in
     let few : kept_of n ≤ length bytes = omega (arith, h) in
     let left : length (drop (kept_of n) bytes) ≡ kept_len ns last = omega (arith, length-drop (kept_of n) bytes, h) in
-    ap (λ (bs : List ℕ). record { bytes = bs; len = n; ended = true } ∷ lines_cut (drop (kept_of n) (bytes ++ more)) ns (last + length p)) (take-append-le (kept_of n) bytes more few)
-    ∙ (ap (λ (bs : List ℕ). record { bytes = take (kept_of n) bytes; len = n; ended = true } ∷ lines_cut bs ns (last + length p)) (drop-append-le (kept_of n) bytes more few)
-    ∙ (ap (λ (ls : List LeftLine). record { bytes = take (kept_of n) bytes; len = n; ended = true } ∷ ls) (cut_part ns (drop (kept_of n) bytes) last p left)
-    ∙ sym (followed_ended (record { bytes = take (kept_of n) bytes; len = n; ended = true }) (lines_cut (drop (kept_of n) bytes) ns last) (open_line p) refl)))
+    ap (λ (bs : List ℕ). record { bytes = bs; len = n; ended = true } ∷ lines_cut (drop (kept_of n) (bytes ++ more)) ns (last + length p))
+    (take-append-le (kept_of n) bytes more few)
+    ∙ (ap (λ (bs : List ℕ). record { bytes = take (kept_of n) bytes; len = n; ended = true } ∷ lines_cut bs ns (last + length p))
+    (drop-append-le (kept_of n) bytes more few)
+    ∙ (ap (λ (ls : List LeftLine). record { bytes = take (kept_of n) bytes; len = n; ended = true } ∷ ls)
+    (cut_part ns (drop (kept_of n) bytes) last p left)
+    ∙ sym (followed_ended (record { bytes = take (kept_of n) bytes; len = n; ended = true }) (lines_cut (drop (kept_of n) bytes) ns last)
+    (open_line p) refl)))
 
 -- ---- a line feed ends the last line
 
@@ -86,7 +92,8 @@ whole_kept bytes n h =
     take_all (kept_of n) bytes (omega (arith, h)) ∙ sym (ap seen (append-nil bytes) ∙ take_all (LONGEST + 1) bytes (omega (arith, h)))
 
 last_end : (bytes : List ℕ) (last : ℕ) → length bytes ≡ kept_of last
-    → ◌≡◌ {A = List LeftLine} (record { bytes = take (kept_of last) bytes; len = last; ended = true } ∷ []) (followed_by (last_line bytes last) (line_of [] true ∷ []))
+    → ◌≡◌ {A = List LeftLine} (record { bytes = take (kept_of last) bytes; len = last; ended = true } ∷ [])
+    (followed_by (last_line bytes last) (line_of [] true ∷ []))
 unfolding followed_by
 last_end bytes zero h = refl
 last_end bytes (suc n) h =
@@ -99,8 +106,10 @@ unfolding kept_len lines_cut
 cut_end [] bytes last h = last_end bytes last h
 cut_end (n ∷ ns) bytes last h =
     let left : length (drop (kept_of n) bytes) ≡ kept_len ns last = omega (arith, length-drop (kept_of n) bytes, h) in
-    ap (λ (ls : List LeftLine). record { bytes = take (kept_of n) bytes; len = n; ended = true } ∷ ls) (cut_end ns (drop (kept_of n) bytes) last left)
-    ∙ sym (followed_ended (record { bytes = take (kept_of n) bytes; len = n; ended = true }) (lines_cut (drop (kept_of n) bytes) ns last) (line_of [] true ∷ []) refl)
+    ap (λ (ls : List LeftLine). record { bytes = take (kept_of n) bytes; len = n; ended = true } ∷ ls)
+    (cut_end ns (drop (kept_of n) bytes) last left)
+    ∙ sym (followed_ended (record { bytes = take (kept_of n) bytes; len = n; ended = true }) (lines_cut (drop (kept_of n) bytes) ns last)
+    (line_of [] true ∷ []) refl)
 
 -- ---- both, for the loop over a piece
 
@@ -131,9 +140,13 @@ adds_line d p rest bytes h none is =
     cut_end d.ended (with_part p d).bytes (with_part p d).last part in
     let whole : followed_by (followed_by (open_line p) (line_of [] true ∷ [])) (lines_in rest) ≡ lines_in bytes =
     ap (λ ls. followed_by ls (lines_in rest)) (open_ended p [])
-    ∙ (followed_ended (line_of p true) [] (lines_in rest) refl ∙ (no_line (line_of p true) (lines_in rest) ∙ (sym (lines_in_feed p rest none) ∙ ap lines_in (sym is)))) in
-    ap (λ ls. followed_by ls (lines_in rest)) (ended ∙ (ap (λ ls. followed_by ls (line_of [] true ∷ [])) (cut_part d.ended d.bytes d.last p h) ∙ followed_assoc (lines_kept d) (open_line p) (line_of [] true ∷ [])))
-    ∙ (followed_assoc (lines_kept d) (followed_by (open_line p) (line_of [] true ∷ [])) (lines_in rest) ∙ ap (followed_by (lines_kept d)) whole)
+    ∙ (followed_ended (line_of p true) [] (lines_in rest) refl
+    ∙ (no_line (line_of p true) (lines_in rest) ∙ (sym (lines_in_feed p rest none) ∙ ap lines_in (sym is)))) in
+    ap (λ ls. followed_by ls (lines_in rest))
+    (ended ∙ (ap (λ ls. followed_by ls (line_of [] true ∷ [])) (cut_part d.ended d.bytes d.last p h)
+    ∙ followed_assoc (lines_kept d) (open_line p) (line_of [] true ∷ [])))
+    ∙ (followed_assoc (lines_kept d) (followed_by (open_line p) (line_of [] true ∷ [])) (lines_in rest)
+    ∙ ap (followed_by (lines_kept d)) whole)
 
 -- ---- what was there before is the front of what is there
 
@@ -158,7 +171,8 @@ pub kept_front : (n : ℕ) (ns bytes : List ℕ) (last : ℕ) → length bytes �
 unfolding kept_len
 kept_front n ns bytes last h = omega (arith, h)
 
-pub kept_dropped : (n : ℕ) (ns bytes : List ℕ) (last : ℕ) → length bytes ≡ kept_len (n ∷ ns) last → length (drop (kept_of n) bytes) ≡ kept_len ns last
+pub kept_dropped : (n : ℕ) (ns bytes : List ℕ) (last : ℕ) → length bytes ≡ kept_len (n ∷ ns) last
+    → length (drop (kept_of n) bytes) ≡ kept_len ns last
 unfolding kept_len
 kept_dropped n ns bytes last h = omega (arith, h, length-drop (kept_of n) bytes)
 
@@ -174,7 +188,9 @@ pub cut_last : (bytes : List ℕ) (n : ℕ) → 0 < n → lines_cut bytes [] n �
 unfolding lines_cut
 cut_last bytes n h = last_some bytes n h
 
-pub cut_more : (bytes : List ℕ) (n : ℕ) (ns : List ℕ) (last : ℕ) → lines_cut bytes (n ∷ ns) last ≡ record { bytes = take (kept_of n) bytes; len = n; ended = true } ∷ lines_cut (drop (kept_of n) bytes) ns last
+pub cut_more : (bytes : List ℕ) (n : ℕ) (ns : List ℕ) (last : ℕ)
+    → lines_cut bytes (n ∷ ns) last
+    ≡ record { bytes = take (kept_of n) bytes; len = n; ended = true } ∷ lines_cut (drop (kept_of n) bytes) ns last
 unfolding lines_cut
 cut_more bytes n ns last = refl
 
@@ -248,7 +264,8 @@ none_of xs zero never e = empty_of xs (sym e)
 none_of xs (suc n) never e = absurd (let f : false ≡ true = never (omega arith) in cc)
 
 -- a line more of the piece
-pub adding_line : (old d now : KeptData) (piece rest p after : List ℕ) → AreKept d → HasNoFeed p → rest ≡ p ++ 10 ∷ after → now ≡ with_end (with_part p d) → Adding old piece d rest → Adding old piece now after
+pub adding_line : (old d now : KeptData) (piece rest p after : List ℕ) → AreKept d → HasNoFeed p → rest ≡ p ++ 10 ∷ after
+    → now ≡ with_end (with_part p d) → Adding old piece d rest → Adding old piece now after
 adding_line old d now piece rest p after kept none is e h =
     let len = ap length is in
     let all = length-append p (10 ∷ after) in

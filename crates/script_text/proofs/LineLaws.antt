@@ -57,16 +57,20 @@ sites_found bs l e =
     subst (IsLine (command (codes "sites") bs)) m.2 (ap (command (codes "sites")) h.0, (h.1, h.2))
 
 -- a row of a site and a second field, which has one spelling
-pair_found : {A : Type 0} (second : List ℕ → Option A) (Second : List ℕ → A → Type 0) (spell : A → List ℕ) → Reads (pair_by 32 site_of second) (IsPair 32 IsSite Second) → ((bs : List ℕ) (x : A) → Second bs x → bs ≡ spell x)
-    → (word : List ℕ) (make : ℕ → A → Line) → ((site : ℕ) (x : A) → site < SITES → Second (spell x) x → IsLine (command word (two (decimal site) (spell x))) (make site x))
-    → (bs : List ℕ) (l : Line) → option_map (λ (x : ℕ × A). make x.0 x.1) (pair_by 32 site_of second bs) ≡ Some l → IsLine (command word bs) l
+pair_found : {A : Type 0} (second : List ℕ → Option A) (Second : List ℕ → A → Type 0) (spell : A → List ℕ)
+    → Reads (pair_by 32 site_of second) (IsPair 32 IsSite Second) → ((bs : List ℕ) (x : A) → Second bs x → bs ≡ spell x)
+    → (word : List ℕ) (make : ℕ → A → Line)
+    → ((site : ℕ) (x : A) → site < SITES → Second (spell x) x → IsLine (command word (two (decimal site) (spell x))) (make site x))
+    → (bs : List ℕ) (l : Line) → option_map (λ (x : ℕ × A). make x.0 x.1) (pair_by 32 site_of second bs) ≡ Some l
+    → IsLine (command word bs) l
 pair_found second Second spell reads back word make is bs l e =
     let m = mapped_some _ (pair_by 32 site_of second bs) l e in
     let h = reads.from bs m.0 m.1 in
     let same = back h.1 m.0.1 h.4 in
     let spelled = two_is bs h.0 h.1 (decimal m.0.0) (spell m.0.1) h.2 h.3.0 same in
     subst (IsLine (command word bs)) m.2
-    (subst (λ (t : List ℕ). IsLine (command word t) (make m.0.0 m.0.1)) (sym spelled) (is m.0.0 m.0.1 h.3.1 (subst (λ (t : List ℕ). Second t m.0.1) same h.4)))
+    (subst (λ (t : List ℕ). IsLine (command word t) (make m.0.0 m.0.1)) (sym spelled)
+    (is m.0.0 m.0.1 h.3.1 (subst (λ (t : List ℕ). Second t m.0.1) same h.4)))
 
 -- a row of a site alone
 site_found : (word : List ℕ) (make : ℕ → Line) → ((site : ℕ) → site < SITES → IsLine (command word (decimal site)) (make site))
@@ -78,23 +82,28 @@ site_found word make is bs l e =
 
 nl_found : (bs : List ℕ) (l : Line) → nl_row bs ≡ Some l → IsLine (command (codes "nl") bs) l
 unfolding nl_row
-nl_found = pair_found number_of IsNumber decimal site_and_number (λ bs n h. h.0) (codes "nl") (λ s n. Nl s n) (λ s n few h. (refl, (few, h.1)))
+nl_found =
+    pair_found number_of IsNumber decimal site_and_number (λ bs n h. h.0) (codes "nl") (λ s n. Nl s n) (λ s n few h. (refl, (few, h.1)))
 
 del_found : (bs : List ℕ) (l : Line) → del_row bs ≡ Some l → IsLine (command (codes "del") bs) l
 unfolding del_row
-del_found = pair_found number_of IsNumber decimal site_and_number (λ bs n h. h.0) (codes "del") (λ s n. Del s n) (λ s n few h. (refl, (few, h.1)))
+del_found =
+    pair_found number_of IsNumber decimal site_and_number (λ bs n h. h.0) (codes "del") (λ s n. Del s n) (λ s n few h. (refl, (few, h.1)))
 
 give_found : (bs : List ℕ) (l : Line) → give_row bs ≡ Some l → IsLine (command (codes "give") bs) l
 unfolding give_row
-give_found = pair_found number_of IsNumber decimal site_and_number (λ bs n h. h.0) (codes "give") (λ s n. Give s n) (λ s n few h. (refl, (few, h.1)))
+give_found =
+    pair_found number_of IsNumber decimal site_and_number (λ bs n h. h.0) (codes "give") (λ s n. Give s n) (λ s n few h. (refl, (few, h.1)))
 
 undo_found : (bs : List ℕ) (l : Line) → undo_row bs ≡ Some l → IsLine (command (codes "undo") bs) l
 unfolding undo_row
-undo_found = pair_found name_of IsNameText name_text site_and_name (λ bs n h. h.0) (codes "undo") (λ s n. Undo s n) (λ s n few h. (refl, (few, h.1)))
+undo_found =
+    pair_found name_of IsNameText name_text site_and_name (λ bs n h. h.0) (codes "undo") (λ s n. Undo s n) (λ s n few h. (refl, (few, h.1)))
 
 redo_found : (bs : List ℕ) (l : Line) → redo_row bs ≡ Some l → IsLine (command (codes "redo") bs) l
 unfolding redo_row
-redo_found = pair_found name_of IsNameText name_text site_and_name (λ bs n h. h.0) (codes "redo") (λ s n. Redo s n) (λ s n few h. (refl, (few, h.1)))
+redo_found =
+    pair_found name_of IsNameText name_text site_and_name (λ bs n h. h.0) (codes "redo") (λ s n. Redo s n) (λ s n few h. (refl, (few, h.1)))
 
 all_found : (bs : List ℕ) (l : Line) → all_row bs ≡ Some l → IsLine (command (codes "all") bs) l
 unfolding all_row
@@ -134,9 +143,19 @@ AllFound (r ∷ rs) = Found r × AllFound rs
 
 table_found : AllFound table
 unfolding AllFound Found
-table_found = (ins_found, (raw_found, (sites_found, (nl_found, (del_found, (undo_found, (redo_found, (give_found, (all_found, (show_found, (state_found, tt)))))))))))
+table_found = (
+  ins_found,
+  (
+    raw_found,
+    (
+      sites_found,
+      (nl_found, (del_found, (undo_found, (redo_found, (give_found, (all_found, (show_found, (state_found, tt)))))))),
+    ),
+  ),
+)
 
-row_found : (rs : List Row) → AllFound rs → (word fields : List ℕ) (l : Line) → row_in rs word fields ≡ Some l → IsLine (command word fields) l
+row_found : (rs : List Row) → AllFound rs → (word fields : List ℕ) (l : Line) → row_in rs word fields ≡ Some l
+    → IsLine (command word fields) l
 unfolding AllFound Found
 row_found [] all word fields l e = cc
 row_found (r ∷ rs) all word fields l e =
@@ -164,15 +183,20 @@ line_only bs Blank (inl e, r) = rw e refl
 line_only bs Blank (inr h, r) = rw h.1 refl
 line_only bs (Sites count) (e, r) = ap line_in e ∙ ap (option_map (λ n. Sites n)) (count_reads.to (decimal count) count (refl, r.0, r.1))
 line_only bs (Nl site place) (e, r) =
-    ap line_in e ∙ ap (option_map (λ (x : ℕ × ℕ). Nl x.0 x.1)) (site_and_number.to _ (site, place) (decimal site, decimal place, refl, (refl, r.0), (refl, r.1)))
+    ap line_in e ∙ ap (option_map (λ (x : ℕ × ℕ). Nl x.0 x.1))
+    (site_and_number.to _ (site, place) (decimal site, decimal place, refl, (refl, r.0), (refl, r.1)))
 line_only bs (Del site place) (e, r) =
-    ap line_in e ∙ ap (option_map (λ (x : ℕ × ℕ). Del x.0 x.1)) (site_and_number.to _ (site, place) (decimal site, decimal place, refl, (refl, r.0), (refl, r.1)))
+    ap line_in e ∙ ap (option_map (λ (x : ℕ × ℕ). Del x.0 x.1))
+    (site_and_number.to _ (site, place) (decimal site, decimal place, refl, (refl, r.0), (refl, r.1)))
 line_only bs (Give site message) (e, r) =
-    ap line_in e ∙ ap (option_map (λ (x : ℕ × ℕ). Give x.0 x.1)) (site_and_number.to _ (site, message) (decimal site, decimal message, refl, (refl, r.0), (refl, r.1)))
+    ap line_in e ∙ ap (option_map (λ (x : ℕ × ℕ). Give x.0 x.1))
+    (site_and_number.to _ (site, message) (decimal site, decimal message, refl, (refl, r.0), (refl, r.1)))
 line_only bs (Undo site name) (e, r) =
-    ap line_in e ∙ ap (option_map (λ (x : ℕ × NameData). Undo x.0 x.1)) (site_and_name.to _ (site, name) (decimal site, name_text name, refl, (refl, r.0), (refl, r.1)))
+    ap line_in e ∙ ap (option_map (λ (x : ℕ × NameData). Undo x.0 x.1))
+    (site_and_name.to _ (site, name) (decimal site, name_text name, refl, (refl, r.0), (refl, r.1)))
 line_only bs (Redo site name) (e, r) =
-    ap line_in e ∙ ap (option_map (λ (x : ℕ × NameData). Redo x.0 x.1)) (site_and_name.to _ (site, name) (decimal site, name_text name, refl, (refl, r.0), (refl, r.1)))
+    ap line_in e ∙ ap (option_map (λ (x : ℕ × NameData). Redo x.0 x.1))
+    (site_and_name.to _ (site, name) (decimal site, name_text name, refl, (refl, r.0), (refl, r.1)))
 line_only bs (All site) (e, r) = ap line_in e ∙ ap (option_map (λ n. All n)) (site_reads.to (decimal site) site (refl, r))
 line_only bs (Show site) (e, r) = ap line_in e ∙ ap (option_map (λ n. Show n)) (site_reads.to (decimal site) site (refl, r))
 line_only bs (State site) (e, r) = ap line_in e ∙ ap (option_map (λ n. State n)) (site_reads.to (decimal site) site (refl, r))
@@ -187,7 +211,8 @@ line_only bs (Raw site bytes) (h, r) =
     (site_and_octets.to _ (site, bytes) (decimal site, h.0, refl, (refl, r.0), (h.2, r.1)))
 
 -- the clauses of the call, from its answer
-pub answers_line : (bs text : List ℕ) (r : Result Line LineBad) → length bs ≤ LONGEST → (text ≡ bs) × IsUtf8 bs → LineAnswers r (line_in text) → Answers bs r
+pub answers_line : (bs text : List ℕ) (r : Result Line LineBad) → length bs ≤ LONGEST → (text ≡ bs) × IsUtf8 bs
+    → LineAnswers r (line_in text) → Answers bs r
 answers_line bs text (Ok l) short t h = ((short, t.1), ap line_in (sym t.0) ∙ h)
 answers_line bs text (Err Form) short t h = ((short, t.1), ap line_in (sym t.0) ∙ h)
 answers_line bs text (Err Memory) short t h = ((short, t.1), subst (λ (o : Option Line). IsSomeAnd o HasContent) (ap line_in t.0) h)
@@ -219,7 +244,8 @@ content_of : (bs : List ℕ) (o : Option Line) → line_in bs ≡ o → IsSomeAn
 content_of bs None e h = absurd h
 content_of bs (Some l) e h = (l, line_found bs l e, h)
 
-pub answers_memory : (bs : List ℕ) (r : Result Line LineBad) → Answers bs r → r ≡ Err Memory → (l : Line) × IsText bs × IsLine bs l × HasContent l
+pub answers_memory : (bs : List ℕ) (r : Result Line LineBad) → Answers bs r → r ≡ Err Memory
+    → (l : Line) × IsText bs × IsLine bs l × HasContent l
 answers_memory bs (Ok k) h e = cc
 answers_memory bs (Err Form) h e = cc
 answers_memory bs (Err Memory) h e = let c = content_of bs (line_in bs) refl h.1 in (c.0, h.0, c.1, c.2)
@@ -269,7 +295,9 @@ blank_utf8 : (first second : List ℕ) → IsUtf8 first → IsUtf8 second → Is
 blank_utf8 first second x y = then_utf8 32 first second (omega arith) x y
 
 name_utf8 : (n : NameData) → IsName n.site n.number → IsUtf8 (name_text n)
-name_utf8 n h = then_utf8 46 (decimal n.site) (decimal n.number) (omega arith) (number_utf8 n.site (omega (arith, h.0))) (number_utf8 n.number (omega (arith, h.2)))
+name_utf8 n h =
+    then_utf8 46 (decimal n.site) (decimal n.number) (omega arith) (number_utf8 n.site (omega (arith, h.0)))
+    (number_utf8 n.number (omega (arith, h.2)))
 
 lower_ascii : IsAscii lower_digits
 lower_ascii = low_ascii lower_digits refl
@@ -280,11 +308,16 @@ spelling_utf8 (Sites count) r = blank_utf8 _ _ (word_utf8 (codes "sites") refl) 
 spelling_utf8 (Ins site place text) r =
     blank_utf8 _ _ (word_utf8 (codes "ins") refl) (blank_utf8 _ _ (number_utf8 site (omega arith))
     (blank_utf8 _ _ (number_utf8 place (omega arith)) (text, (r.3, refl))))
-spelling_utf8 (Nl site place) r = blank_utf8 _ _ (word_utf8 (codes "nl") refl) (blank_utf8 _ _ (number_utf8 site (omega arith)) (number_utf8 place (omega arith)))
-spelling_utf8 (Del site place) r = blank_utf8 _ _ (word_utf8 (codes "del") refl) (blank_utf8 _ _ (number_utf8 site (omega arith)) (number_utf8 place (omega arith)))
-spelling_utf8 (Give site message) r = blank_utf8 _ _ (word_utf8 (codes "give") refl) (blank_utf8 _ _ (number_utf8 site (omega arith)) (number_utf8 message (omega arith)))
-spelling_utf8 (Undo site name) r = blank_utf8 _ _ (word_utf8 (codes "undo") refl) (blank_utf8 _ _ (number_utf8 site (omega arith)) (name_utf8 name r.1))
-spelling_utf8 (Redo site name) r = blank_utf8 _ _ (word_utf8 (codes "redo") refl) (blank_utf8 _ _ (number_utf8 site (omega arith)) (name_utf8 name r.1))
+spelling_utf8 (Nl site place) r =
+    blank_utf8 _ _ (word_utf8 (codes "nl") refl) (blank_utf8 _ _ (number_utf8 site (omega arith)) (number_utf8 place (omega arith)))
+spelling_utf8 (Del site place) r =
+    blank_utf8 _ _ (word_utf8 (codes "del") refl) (blank_utf8 _ _ (number_utf8 site (omega arith)) (number_utf8 place (omega arith)))
+spelling_utf8 (Give site message) r =
+    blank_utf8 _ _ (word_utf8 (codes "give") refl) (blank_utf8 _ _ (number_utf8 site (omega arith)) (number_utf8 message (omega arith)))
+spelling_utf8 (Undo site name) r =
+    blank_utf8 _ _ (word_utf8 (codes "undo") refl) (blank_utf8 _ _ (number_utf8 site (omega arith)) (name_utf8 name r.1))
+spelling_utf8 (Redo site name) r =
+    blank_utf8 _ _ (word_utf8 (codes "redo") refl) (blank_utf8 _ _ (number_utf8 site (omega arith)) (name_utf8 name r.1))
 spelling_utf8 (All site) r = blank_utf8 _ _ (word_utf8 (codes "all") refl) (number_utf8 site (omega arith))
 spelling_utf8 (Show site) r = blank_utf8 _ _ (word_utf8 (codes "show") refl) (number_utf8 site (omega arith))
 spelling_utf8 (State site) r = blank_utf8 _ _ (word_utf8 (codes "state") refl) (number_utf8 site (omega arith))

@@ -9,13 +9,17 @@ use Rattle.script_text.specs.Report.{listed, with_commas}
 pub listed_first : {A : Type 0} (text : A → List ℕ) (x : A) (xs : List A) → listed (map text (x ∷ xs)) ≡ text x ++ with_commas text xs
 listed_first text x [] = sym (append-nil (text x))
 listed_first text x (y ∷ ys) =
-    ap (λ (t : List ℕ). text x ++ 44 ∷ t) (listed_first text y ys) ∙ ap (λ (t : List ℕ). text x ++ t) (sym (flat_map-cons (λ z. 44 ∷ text z) y ys))
+    ap (λ (t : List ℕ). text x ++ 44 ∷ t) (listed_first text y ys)
+    ∙ ap (λ (t : List ℕ). text x ++ t) (sym (flat_map-cons (λ z. 44 ∷ text z) y ys))
 
 -- the first item and then the others
-pub listed_both : {A : Type 0} (text : A → List ℕ) (all : List A) (x : A) (xs : List A) (start was now : List ℕ) → all ≡ x ∷ xs → was ≡ start ++ text x → now ≡ was ++ with_commas text xs → now ≡ start ++ listed (map text all)
+pub listed_both : {A : Type 0} (text : A → List ℕ) (all : List A) (x : A) (xs : List A) (start was now : List ℕ) → all ≡ x ∷ xs
+    → was ≡ start ++ text x → now ≡ was ++ with_commas text xs → now ≡ start ++ listed (map text all)
 listed_both {A = A} text all x xs start was now is first others =
-    let list : listed (map text all) ≡ text x ++ with_commas text xs = ap (λ (l : List A). listed (map text l)) is ∙ listed_first text x xs in
-    others ∙ (ap (λ (t : List ℕ). t ++ with_commas text xs) first ∙ (append_assoc start (text x) (with_commas text xs) ∙ ap (λ (t : List ℕ). start ++ t) (sym list)))
+    let list : listed (map text all) ≡ text x ++ with_commas text xs =
+    ap (λ (l : List A). listed (map text l)) is ∙ listed_first text x xs in
+    others ∙ (ap (λ (t : List ℕ). t ++ with_commas text xs) first
+    ∙ (append_assoc start (text x) (with_commas text xs) ∙ ap (λ (t : List ℕ). start ++ t) (sym list)))
 
 -- the items before the i-th stand there
 abbrev pub IsListedUpTo : {A : Type 0} → (A → List ℕ) → List ℕ → List A → ℕ → List ℕ → Type 0
@@ -25,12 +29,16 @@ module _ {A : Type 0} (text : A → List ℕ) (start : List ℕ) (xs : List A) w
   pub listed_none : (now : List ℕ) → now ≡ start → IsListedUpTo text start xs 0 now
   listed_none now e = e ∙ sym (append-nil start)
 
-  pub listed_more : (i : ℕ) (d : A) (was now : List ℕ) → i < length xs → IsListedUpTo text start xs i was → now ≡ was ++ (44 ∷ text (slice_index_or xs i d)) → IsListedUpTo text start xs (i + 1) now
+  pub listed_more : (i : ℕ) (d : A) (was now : List ℕ) → i < length xs → IsListedUpTo text start xs i was
+      → now ≡ was ++ (44 ∷ text (slice_index_or xs i d)) → IsListedUpTo text start xs (i + 1) now
   listed_more i d was now within up put =
       let x = slice_index_or xs i d in
       let items : with_commas text (take (i + 1) xs) ≡ with_commas text (take i xs) ++ (44 ∷ text x) =
-      ap (with_commas text) (take_more xs i d within) ∙ (flat_map-append (λ z. 44 ∷ text z) (take i xs) (x ∷ []) ∙ ap (λ (t : List ℕ). with_commas text (take i xs) ++ t) (append-nil (44 ∷ text x))) in
-      put ∙ (ap (λ (t : List ℕ). t ++ (44 ∷ text x)) up ∙ (append_assoc start (with_commas text (take i xs)) (44 ∷ text x) ∙ ap (λ (t : List ℕ). start ++ t) (sym items)))
+      ap (with_commas text) (take_more xs i d within)
+      ∙ (flat_map-append (λ z. 44 ∷ text z) (take i xs) (x ∷ [])
+      ∙ ap (λ (t : List ℕ). with_commas text (take i xs) ++ t) (append-nil (44 ∷ text x))) in
+      put ∙ (ap (λ (t : List ℕ). t ++ (44 ∷ text x)) up
+      ∙ (append_assoc start (with_commas text (take i xs)) (44 ∷ text x) ∙ ap (λ (t : List ℕ). start ++ t) (sym items)))
 
   pub listed_end : (i : ℕ) (now : List ℕ) → ¬ (i < length xs) → IsListedUpTo text start xs i now → now ≡ start ++ with_commas text xs
   listed_end i now past up = up ∙ ap (λ (t : List A). start ++ with_commas text t) (take_all i xs (omega (arith, past)))

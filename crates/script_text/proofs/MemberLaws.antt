@@ -31,7 +31,8 @@ name_lacks : (n : NameData) → IsNameText (name_text n) n → Lacks 47 (name_te
 name_lacks n is =
     lacks_both 47 (decimal n.site) (46 ∷ decimal n.number)
     (number_lacks 47 slash_no_digit (decimal n.site) n.site (refl, omega (arith, is.1.0)))
-    (lacks_first 47 46 (decimal n.number) (λ e. cc) (number_lacks 47 slash_no_digit (decimal n.number) n.number (refl, omega (arith, is.1.2))))
+    (lacks_first 47 46 (decimal n.number) (λ e. cc)
+    (number_lacks 47 slash_no_digit (decimal n.number) n.number (refl, omega (arith, is.1.2))))
 
 generation_reads : Reads generation_of IsGeneration
 unfolding generation_of
@@ -41,7 +42,8 @@ generation_reads = let r = from_one_reads GENERATIONS (omega arith) in record { 
 spelled : (n : NameData) (g : ℕ) → name_text n ++ 47 ∷ decimal g ≡ group_text n g
 spelled n g = append_assoc (decimal n.site) (46 ∷ decimal n.number) (47 ∷ decimal g)
 
-member_from : (bs : List ℕ) (o : Option (List ℕ × List ℕ)) → ((p : List ℕ × List ℕ) → o ≡ Some p → bs ≡ p.0 ++ 47 ∷ p.1) → (m : Member) → member_by o bs ≡ Some m → IsMemberText bs m
+member_from : (bs : List ℕ) (o : Option (List ℕ × List ℕ)) → ((p : List ℕ × List ℕ) → o ≡ Some p → bs ≡ p.0 ++ 47 ∷ p.1) → (m : Member)
+    → member_by o bs ≡ Some m → IsMemberText bs m
 member_from bs None parts m e = by (name_of bs) refl e
   where
     by : (r : Option NameData) → name_of bs ≡ r → option_map (λ n. Original n) r ≡ Some m → IsMemberText bs m
@@ -62,7 +64,8 @@ member_to (Original n) bs is =
     let none : cut 47 (name_text n) ≡ None = cut-lacks 47 (name_text n) (name_lacks n (refl, is.1)) in
     ap member_of is.0 ∙ rw (none, name_reads.to (name_text n) n (refl, is.1)) refl
 member_to (Group n g) bs is =
-    let found : cut 47 (name_text n ++ 47 ∷ decimal g) ≡ Some (name_text n, decimal g) = cut-append 47 (name_text n) (decimal g) (name_lacks n (refl, is.1.0)) in
+    let found : cut 47 (name_text n ++ 47 ∷ decimal g) ≡ Some (name_text n, decimal g) =
+    cut-append 47 (name_text n) (decimal g) (name_lacks n (refl, is.1.0)) in
     ap member_of (is.0 ∙ sym (spelled n g))
     ∙ rw (found, name_reads.to (name_text n) n (refl, is.1.0), generation_reads.to (decimal g) g (refl, is.1.1, is.1.2)) refl
 

@@ -38,27 +38,44 @@ none_left s never e =
       ],
     )
 
-pub none_ended : (s : InputData) (l : LeftLine) (rest : List LeftLine) → HasFrontLine s.lines → ¬ IsPastLimit s → s.lines ≡ l ∷ rest → l.ended ≡ false → s.over ≡ false → HasNoLine s
+pub none_ended : (s : InputData) (l : LeftLine) (rest : List LeftLine) → HasFrontLine s.lines → ¬ IsPastLimit s → s.lines ≡ l ∷ rest
+    → l.ended ≡ false → s.over ≡ false → HasNoLine s
 none_ended s l rest front never e unended on =
     let alone : rest ≡ [] = (front l rest e).alone unended in
     let one : s.lines ≡ l ∷ [] = e ∙ ap (λ ls. l ∷ ls) alone in
-    let count : length s.lines ≡ 1 = ap length one in
-    (within_limit s never (omega (arith, count)), inr (on, subst (All (λ l. l.ended ≡ false)) (sym one) (All-cons (λ (l : LeftLine). l.ended ≡ false) l [] unended (All-nil (λ (l : LeftLine). l.ended ≡ false)))))
+    let count : length s.lines ≡ 1 = ap length one in (
+      within_limit s never (omega (arith, count)),
+      inr (
+        on,
+        subst (All (λ l. l.ended ≡ false)) (sym one)
+            (All-cons (λ (l : LeftLine). l.ended ≡ false) l [] unended (All-nil (λ (l : LeftLine). l.ended ≡ false))),
+      ),
+    )
 
 pub no_next : (s : InputData) (l : LeftLine) (rest : List LeftLine) → HasNoLine s → IsNext s l rest → ⊥
 no_next s l rest none next = of none.1 next.whole
   where
-    of : ((s.over ≡ true) × (s.lines ≡ [])) ⊎ ((s.over ≡ false) × All (λ l. l.ended ≡ false) s.lines) → (l.ended ≡ true) ⊎ (s.over ≡ true) → ⊥
+    of : ((s.over ≡ true) × (s.lines ≡ [])) ⊎ ((s.over ≡ false) × All (λ l. l.ended ≡ false) s.lines) → (l.ended ≡ true) ⊎ (s.over ≡ true)
+        → ⊥
     of (inl h) w = let e : l ∷ rest ≡ [] = sym next.front ∙ h.1 in cc
-    of (inr h) (inl w) = let e : l.ended ≡ false = All-head (λ (k : LeftLine). k.ended ≡ false) l rest (subst (All (λ k. k.ended ≡ false)) next.front h.1) in let t : true ≡ false = sym w ∙ e in cc
+    of (inr h) (inl w) =
+        let e : l.ended ≡ false = All-head (λ (k : LeftLine). k.ended ≡ false) l rest (subst (All (λ k. k.ended ≡ false)) next.front h.1) in
+        let t : true ≡ false = sym w ∙ e in cc
     of (inr h) (inr w) = let t : true ≡ false = sym w ∙ h.0 in cc
 
 -- ---- the front line is read
 
-pub front_read : (s : InputData) (l : LeftLine) (rest : List LeftLine) (bytes : List ℕ) (r : Result Line LineBad) → s.lines ≡ l ∷ rest → l.bytes ≡ bytes → (l.ended ≡ true) ⊎ (s.over ≡ true)
+pub front_read : (s : InputData) (l : LeftLine) (rest : List LeftLine) (bytes : List ℕ) (r : Result Line LineBad) → s.lines ≡ l ∷ rest
+    → l.bytes ≡ bytes → (l.ended ≡ true) ⊎ (s.over ≡ true)
     → ¬ IsPastLimit s → Answers bytes r → Reads s r
 front_read s l rest bytes r e same whole never read =
-    record { line = l; rest = rest; next = record { front = e; whole = whole; within = never }; read = subst (λ (bs : List ℕ). Answers bs r) (sym same) read }
+    record {
+      line = l;
+      rest = rest;
+      next = record { front = e; whole = whole; within = never };
+      read =
+          subst (λ (bs : List ℕ). Answers bs r) (sym same) read;
+    }
 
 pub front_refused : (s : InputData) (why : LineBad) → Reads s (Err why) → FrontIs s (Err why)
 front_refused s Limit r = absurd r.read
@@ -99,9 +116,30 @@ cause_of s Memory c never = absurd (never refl)
 -- a cause doesn't look at the refusal
 cause_same : (s : InputData) (r : Option LineBad) (why : LineBad) → IsCause s why → IsCause (record s { refusal = r }) why
 cause_same s r Limit c = c
-cause_same s r Long c = record { line = c.line; rest = c.rest; next = record { front = c.next.front; whole = c.next.whole; within = c.next.within }; read = c.read }
-cause_same s r Utf8 c = record { line = c.line; rest = c.rest; next = record { front = c.next.front; whole = c.next.whole; within = c.next.within }; read = c.read }
-cause_same s r Form c = record { line = c.line; rest = c.rest; next = record { front = c.next.front; whole = c.next.whole; within = c.next.within }; read = c.read }
+cause_same s r Long c =
+    record {
+      line = c.line;
+      rest = c.rest;
+      next = record { front = c.next.front; whole = c.next.whole; within = c.next.within };
+      read =
+          c.read;
+    }
+cause_same s r Utf8 c =
+    record {
+      line = c.line;
+      rest = c.rest;
+      next = record { front = c.next.front; whole = c.next.whole; within = c.next.within };
+      read =
+          c.read;
+    }
+cause_same s r Form c =
+    record {
+      line = c.line;
+      rest = c.rest;
+      next = record { front = c.next.front; whole = c.next.whole; within = c.next.within };
+      read =
+          c.read;
+    }
 cause_same s r Memory c = c
 
 some_same : (a b : LineBad) → Some a ≡ Some b → a ≡ b
@@ -109,14 +147,21 @@ some_same a b e = cc
 
 pub input_refused : (s : InputData) (why : LineBad) → IsInput s → FrontIs s (Err why) → why ≢ Memory → IsInput (refused_for why s)
 input_refused s why h c never =
-    record { fed = h.fed; size = h.size; past = h.past; cause = λ w e. subst (IsCause (refused_for why s)) (some_same why w e) (cause_same s (Some why) why (cause_of s why c never)) }
+    record {
+      fed = h.fed;
+      size = h.size;
+      past = h.past;
+      cause =
+          λ w e. subst (IsCause (refused_for why s)) (some_same why w e) (cause_same s (Some why) why (cause_of s why c never));
+    }
 
 -- ---- the front line is taken
 
 pub dropped_rest : (s : InputData) (l : LeftLine) (rest : List LeftLine) → IsNext s l rest → drop 1 s.lines ≡ rest
 dropped_rest s l rest next = ap (drop 1) next.front
 
-pub input_taken : (s : InputData) (l : LeftLine) (rest : List LeftLine) → IsInput s → s.refusal ≡ None → IsNext s l rest → IsInput (record s { lines = drop 1 s.lines })
+pub input_taken : (s : InputData) (l : LeftLine) (rest : List LeftLine) → IsInput s → s.refusal ≡ None → IsNext s l rest
+    → IsInput (record s { lines = drop 1 s.lines })
 unfolding size_of
 input_taken s l rest h none next =
     let is = dropped_rest s l rest next in
@@ -125,7 +170,11 @@ input_taken s l rest h none next =
     record {
       fed = h.fed;
       size = omega (arith, all, fewer, h.size);
-      past = λ m e. next.within (m, (let empty : rest ≡ [] = sym is ∙ e in let count : length s.lines ≡ length (l ∷ rest) = ap length next.front in let zero : length rest ≡ 0 = ap length empty in omega (arith, count, zero)));
+      past = λ m e. next.within (
+        m,
+        (let empty : rest ≡ [] = sym is ∙ e in let count : length s.lines ≡ length (l ∷ rest) =
+            ap length next.front in let zero : length rest ≡ 0 = ap length empty in omega (arith, count, zero)),
+      );
       cause = λ why e. absurd (let never : None ≡ Some why = sym none ∙ e in cc);
     }
 
@@ -133,9 +182,12 @@ input_taken s l rest h none next =
 
 cause_over : (s : InputData) (why : LineBad) → IsCause s why → IsCause (record s { over = true }) why
 cause_over s Limit c = c
-cause_over s Long c = record { line = c.line; rest = c.rest; next = record { front = c.next.front; whole = inr refl; within = c.next.within }; read = c.read }
-cause_over s Utf8 c = record { line = c.line; rest = c.rest; next = record { front = c.next.front; whole = inr refl; within = c.next.within }; read = c.read }
-cause_over s Form c = record { line = c.line; rest = c.rest; next = record { front = c.next.front; whole = inr refl; within = c.next.within }; read = c.read }
+cause_over s Long c =
+    record { line = c.line; rest = c.rest; next = record { front = c.next.front; whole = inr refl; within = c.next.within }; read = c.read }
+cause_over s Utf8 c =
+    record { line = c.line; rest = c.rest; next = record { front = c.next.front; whole = inr refl; within = c.next.within }; read = c.read }
+cause_over s Form c =
+    record { line = c.line; rest = c.rest; next = record { front = c.next.front; whole = inr refl; within = c.next.within }; read = c.read }
 cause_over s Memory c = c
 
 pub input_over : (s : InputData) → IsInput s → IsInput (record s { over = true })
@@ -147,18 +199,22 @@ pub either : (m n : ℕ) → (m < n) ⊎ (n ≤ m)
 either m n = grind arith
 
 -- behind the limit nothing changes
-lines_stay : (s : InputData) (ls : List LeftLine) (piece : List ℕ) → MAX_SCRIPT < s.fed → followed_by ls (lines_in (looked_at s.fed piece)) ≡ ls
+lines_stay : (s : InputData) (ls : List LeftLine) (piece : List ℕ) → MAX_SCRIPT < s.fed
+    → followed_by ls (lines_in (looked_at s.fed piece)) ≡ ls
 lines_stay s ls piece h =
     let none : MAX_SCRIPT + 1 - s.fed ≡ 0 = omega (arith, h) in
     ap (λ n. followed_by ls (lines_in (take n piece))) none ∙ (ap (followed_by ls) lines_in-nil ∙ followed-nil ls)
 
-looked_len : (s : InputData) (piece : List ℕ) → s.fed ≤ MAX_SCRIPT + 1 → s.fed + length (looked_at s.fed piece) ≡ min (MAX_SCRIPT + 1) (s.fed + length piece)
+looked_len : (s : InputData) (piece : List ℕ) → s.fed ≤ MAX_SCRIPT + 1
+    → s.fed + length (looked_at s.fed piece) ≡ min (MAX_SCRIPT + 1) (s.fed + length piece)
 looked_len s piece h = omega (arith, h, length-take (MAX_SCRIPT + 1 - s.fed) piece)
 
-pub fed_len : (fed : ℕ) (piece : List ℕ) → fed ≤ MAX_SCRIPT + 1 → fed + length (looked_at fed piece) ≡ min (MAX_SCRIPT + 1) (fed + length piece)
+pub fed_len : (fed : ℕ) (piece : List ℕ) → fed ≤ MAX_SCRIPT + 1
+    → fed + length (looked_at fed piece) ≡ min (MAX_SCRIPT + 1) (fed + length piece)
 fed_len fed piece h = omega (arith, h, length-take (MAX_SCRIPT + 1 - fed) piece)
 
-more_lines : (s : InputData) (ls : List LeftLine) (piece : List ℕ) → s.fed ≤ MAX_SCRIPT + 1 → s.fed ≤ MAX_SCRIPT → MAX_SCRIPT < min (MAX_SCRIPT + 1) (s.fed + length piece)
+more_lines : (s : InputData) (ls : List LeftLine) (piece : List ℕ) → s.fed ≤ MAX_SCRIPT + 1 → s.fed ≤ MAX_SCRIPT
+    → MAX_SCRIPT < min (MAX_SCRIPT + 1) (s.fed + length piece)
     → followed_by ls (lines_in (looked_at s.fed piece)) ≢ []
 more_lines s ls piece h few more =
     let looked = looked_len s piece h in
@@ -166,11 +222,13 @@ more_lines s ls piece h few more =
     let added = size-lines_in (looked_at s.fed piece) in
     size_some (followed_by ls (lines_in (looked_at s.fed piece))) (omega (arith, looked, size, added, few, more))
 
-next_fed : (s : InputData) (piece : List ℕ) (l : LeftLine) (rest : List LeftLine) → IsInput s → s.over ≡ false → IsNext s l rest → IsNext (fed_with s piece) l (followed_by rest (lines_in (looked_at s.fed piece)))
+next_fed : (s : InputData) (piece : List ℕ) (l : LeftLine) (rest : List LeftLine) → IsInput s → s.over ≡ false → IsNext s l rest
+    → IsNext (fed_with s piece) l (followed_by rest (lines_in (looked_at s.fed piece)))
 next_fed s piece l rest h on next =
     let ended : l.ended ≡ true = of next.whole in
     let front : (fed_with s piece).lines ≡ l ∷ followed_by rest (lines_in (looked_at s.fed piece)) =
-    ap (λ ls. followed_by ls (lines_in (looked_at s.fed piece))) next.front ∙ followed_ended l rest (lines_in (looked_at s.fed piece)) ended in
+    ap (λ ls. followed_by ls (lines_in (looked_at s.fed piece))) next.front
+    ∙ followed_ended l rest (lines_in (looked_at s.fed piece)) ended in
     record { front = front; whole = inl ended; within = λ past. out front past (either MAX_SCRIPT s.fed) }
   where
     of : (l.ended ≡ true) ⊎ (s.over ≡ true) → l.ended ≡ true
@@ -181,7 +239,8 @@ next_fed s piece l rest h on next =
     none [] h = refl
     none (x ∷ xs) h = absurd (omega (arith, h))
 
-    out : (fed_with s piece).lines ≡ l ∷ followed_by rest (lines_in (looked_at s.fed piece)) → IsPastLimit (fed_with s piece) → (MAX_SCRIPT < s.fed) ⊎ (s.fed ≤ MAX_SCRIPT) → ⊥
+    out : (fed_with s piece).lines ≡ l ∷ followed_by rest (lines_in (looked_at s.fed piece)) → IsPastLimit (fed_with s piece)
+        → (MAX_SCRIPT < s.fed) ⊎ (s.fed ≤ MAX_SCRIPT) → ⊥
     out front past (inl m) =
         let same = lines_stay s s.lines piece m in
         let count : length (fed_with s piece).lines ≡ length s.lines = ap length same in
@@ -194,9 +253,30 @@ cause_fed : (s : InputData) (piece : List ℕ) → IsInput s → s.over ≡ fals
 cause_fed s piece h on Limit c =
     let count : length (fed_with s piece).lines ≡ length s.lines = ap length (lines_stay s s.lines piece c.0) in
     (omega (arith, h.fed, c.0), omega (arith, count, c.1))
-cause_fed s piece h on Long c = record { line = c.line; rest = followed_by c.rest (lines_in (looked_at s.fed piece)); next = next_fed s piece c.line c.rest h on c.next; read = c.read }
-cause_fed s piece h on Utf8 c = record { line = c.line; rest = followed_by c.rest (lines_in (looked_at s.fed piece)); next = next_fed s piece c.line c.rest h on c.next; read = c.read }
-cause_fed s piece h on Form c = record { line = c.line; rest = followed_by c.rest (lines_in (looked_at s.fed piece)); next = next_fed s piece c.line c.rest h on c.next; read = c.read }
+cause_fed s piece h on Long c =
+    record {
+      line = c.line;
+      rest = followed_by c.rest (lines_in (looked_at s.fed piece));
+      next =
+          next_fed s piece c.line c.rest h on c.next;
+      read = c.read;
+    }
+cause_fed s piece h on Utf8 c =
+    record {
+      line = c.line;
+      rest = followed_by c.rest (lines_in (looked_at s.fed piece));
+      next =
+          next_fed s piece c.line c.rest h on c.next;
+      read = c.read;
+    }
+cause_fed s piece h on Form c =
+    record {
+      line = c.line;
+      rest = followed_by c.rest (lines_in (looked_at s.fed piece));
+      next =
+          next_fed s piece c.line c.rest h on c.next;
+      read = c.read;
+    }
 cause_fed s piece h on Memory c = c
 
 pub input_fed : (s : InputData) (piece : List ℕ) → IsInput s → s.over ≡ false → IsInput (fed_with s piece)
@@ -211,7 +291,8 @@ input_fed s piece h on =
       cause = λ why e. cause_fed s piece h on why (h.cause why e);
     }
   where
-    of : MAX_SCRIPT < min (MAX_SCRIPT + 1) (s.fed + length piece) → (MAX_SCRIPT < s.fed) ⊎ (s.fed ≤ MAX_SCRIPT) → (fed_with s piece).lines ≢ []
+    of : MAX_SCRIPT < min (MAX_SCRIPT + 1) (s.fed + length piece) → (MAX_SCRIPT < s.fed) ⊎ (s.fed ≤ MAX_SCRIPT)
+        → (fed_with s piece).lines ≢ []
     of m (inl old) e = h.past old (sym (lines_stay s s.lines piece old) ∙ e)
     of m (inr few) e = more_lines s s.lines piece h.fed few m e
 
@@ -257,7 +338,8 @@ limit_exact s new r h = (to r h, from r h)
 pub first_same : (k l : LeftLine) (ks ls : List LeftLine) → k ∷ ks ≡ l ∷ ls → k ≡ l
 first_same k l ks ls e = cc
 
-pub long_exact : (s new : InputData) (r : Result (Option Line) LineBad) → HasFrontLine s.lines → TakesLine s r new → (r ≡ Err Long) ↔ HasLongLine s
+pub long_exact : (s new : InputData) (r : Result (Option Line) LineBad) → HasFrontLine s.lines → TakesLine s r new
+    → (r ≡ Err Long) ↔ HasLongLine s
 long_exact s new r front h = (to r h, from r h)
   where
     to : (r : Result (Option Line) LineBad) → TakesLine s r new → r ≡ Err Long → HasLongLine s

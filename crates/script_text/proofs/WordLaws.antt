@@ -8,11 +8,13 @@ use Rattle.script_text.specs.Fields.{number_of, long_of, site_of, name_of, start
 use Rattle.script_text.proofs.FieldLaws.{Reads, numeral_parsed, numeral_no, number_reads, long_reads, site_reads, name_reads}
 
 -- what a reader of fields answers is spelled so, and what is spelled so it answers
-pub found : {X : Type 0} (read : List ℕ → Option X) (Is : List ℕ → X → Type 0) → Reads read Is → (bs : List ℕ) (r : Option X) → r ≡ read bs → IfSome r (λ x. Is bs x)
+pub found : {X : Type 0} (read : List ℕ → Option X) (Is : List ℕ → X → Type 0) → Reads read Is → (bs : List ℕ) (r : Option X) → r ≡ read bs
+    → IfSome r (λ x. Is bs x)
 found read Is reads bs None e = tt
 found read Is reads bs (Some x) e = reads.from bs x (sym e)
 
-pub only : {X : Type 0} (read : List ℕ → Option X) (Is : List ℕ → X → Type 0) → Reads read Is → (bs : List ℕ) (r : Option X) → r ≡ read bs → (x : X) → Is bs x → r ≡ Some x
+pub only : {X : Type 0} (read : List ℕ → Option X) (Is : List ℕ → X → Type 0) → Reads read Is → (bs : List ℕ) (r : Option X) → r ≡ read bs
+    → (x : X) → Is bs x → r ≡ Some x
 only read Is reads bs r e x is = e ∙ reads.to bs x is
 
 pub number_found : (bs : List ℕ) (r : Option ℕ) → r ≡ number_of bs → IfSome r (λ n. IsNumber bs n)
@@ -35,7 +37,8 @@ name_only bs r e n is = only name_of IsNameText name_reads bs r e n is
 
 -- ---- numbers of 64 bits
 
-pub long_parsed : {E : Type 0} (bs : List ℕ) (r : Result ℕ E) → ParsesUnsigned 64 10 bs r → starts_numeral bs ≡ true → result_ok r ≡ long_of bs
+pub long_parsed : {E : Type 0} (bs : List ℕ) (r : Result ℕ E) → ParsesUnsigned 64 10 bs r → starts_numeral bs ≡ true
+    → result_ok r ≡ long_of bs
 unfolding long_of
 long_parsed bs r h s = numeral_parsed 64 bs r h s
 

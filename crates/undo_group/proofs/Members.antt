@@ -8,5 +8,6 @@ use Rattle.context_diff.proofs.CallerLemmas.{have_known, known_in}
 use Rattle.ttf_form.specs.Families.{IsIn}
 
 -- a member of a book stands in the list of its members
-pub had_listed : (h : List OpData) (have : ContextData) → IsValid h → have ≡ context_of_all h → (m : Member) → has have m ≡ true → IsIn m (members_in h)
+pub had_listed : (h : List OpData) (have : ContextData) → IsValid h → have ≡ context_of_all h → (m : Member) → has have m ≡ true
+    → IsIn m (members_in h)
 had_listed h have valid all m there = known_in h m (sym (have_known h have valid all m) ∙ there)

@@ -35,8 +35,10 @@ pub record IsCoverForm (p : ℕ) (m : Mark) (f : Form) : Type 0 where
 pub record AreBaseForms (h : List OpData) (form : Member → Form) : Type 0 where
   pub inserts : (n : NameData) (p ch : ℕ) (c : ContextData) → IsIn (inserting n p ch c) h → IsInsertForm n p ch (form (Original n))
   pub deletes : (n : NameData) (p : ℕ) (c : ContextData) → IsIn (deleting n p c) h → IsCoverForm p (By n 0) (form (Original n))
-  pub insert_groups : (t : NameData) (g : ℕ) (a : Ins) → IsIn (Group t g) (members_in h) → form (Original t) ≡ Insert a → IsCoverForm a.place (Own g) (form (Group t g))
-  pub delete_groups : (t : NameData) (g : ℕ) (d : Cover) → IsIn (Group t g) (members_in h) → form (Original t) ≡ Covered d → IsCoverForm d.place (By t g) (form (Group t g))
+  pub insert_groups : (t : NameData) (g : ℕ) (a : Ins) → IsIn (Group t g) (members_in h) → form (Original t) ≡ Insert a
+      → IsCoverForm a.place (Own g) (form (Group t g))
+  pub delete_groups : (t : NameData) (g : ℕ) (d : Cover) → IsIn (Group t g) (members_in h) → form (Original t) ≡ Covered d
+      → IsCoverForm d.place (By t g) (form (Group t g))
 
 -- the form of an original, as its operation says
 abbrev pub form_of : OpData → Form

@@ -1,6 +1,6 @@
 //! The family of the editor over a book.
 
-ghost use Rattle.std.specs.Prelude.{◌≡◌, true, List};
+ghost use Rattle.std.specs.Prelude.{◌≡◌, true};
 ghost use Rattle.op_name.specs.declared.member.Member.TheVariants.{Original};
 ghost use Rattle.context_diff.specs.Operations.{member_of};
 ghost use Rattle.context_diff.specs.Histories.{is_known};
@@ -9,29 +9,40 @@ ghost use Rattle.undo_group.specs.BaseForms.{form_of, original_form, group_form}
 
 use context_diff::{Book, Op};
 use op_name::{Member, Name};
+use std::marker::Model;
 use ttf_form::{Bases, Cover, Form, Ins, Mark};
 
 /// The members of a book, each with its base form: what it does to the cells of its own base context.
 ///
 /// The base form of an insert or a delete is what the operation says. An undo group marks the cell of its
-/// original at its generation: the cell of an insert itself, or the cell of a delete among its deleters.
+/// original at its generation: the cell of an insert itself, or the cell of a delete among its deleters. Contracts see the
+/// operations of the book.
 #[derive(Drop)]
 pub struct TextBases<'a> {
     book: &'a Book,
 }
 
+impl<'a> Model for TextBases<'a> {
+    ghost use Rattle.std.specs.Prelude.{List};
+    ghost use Rattle.context_diff.specs.Operations.{OpData};
+
+    ghost Value = { List OpData };
+
+    ghost view = { λ s. s.book.now.ops };
+}
+
 impl<'a> TextBases<'a> {
     /// The family of this book. It takes no memory.
     pub fn new(book: &'a Book) -> TextBases<'a>
-        ensures { result.book.now ≡ book.now }
+        ensures { result ≡ book.now.ops }
     {
         TextBases { book }
     }
 
     // What the insert or delete of this name does; the book has it.
     fn original_form(&self, name: &Name) -> Form
-        requires { is_known self.now.book.now.ops (Original name.now) ≡ true }
-        ensures { result ≡ original_form self.now.book.now.ops name.now }
+        requires { is_known self.now (Original name.now) ≡ true }
+        ensures { result ≡ original_form self.now name.now }
     {
         self.book.known();
         match self.book.original(name) {
@@ -48,19 +59,19 @@ impl Bases<Form> for TextBases<'_> {
     ghost use Rattle.undo_group.specs.Bounds.{IsShortHistory};
     ghost use Rattle.undo_group.specs.Laws.Texts.{base_forms_apart, base_forms_bounded, base_forms_total};
 
-    ghost members = { λ s. members_in s.book.now.ops };
+    ghost members = { λ s. members_in s };
 
-    ghost base_form = { λ s. base_form s.book.now.ops };
+    ghost base_form = { λ s. base_form s };
 
-    ghost base_context = { λ s. base_has s.book.now.ops };
+    ghost base_context = { λ s. base_has s };
 
-    ghost IsKnown = { λ s. IsShortHistory s.book.now.ops };
+    ghost IsKnown = { λ s. IsShortHistory s };
 
-    ghost apart = { λ s. base_forms_apart s.book.now.ops };
+    ghost apart = { λ s. base_forms_apart s };
 
-    ghost bounded = { λ s. base_forms_bounded s.book.now.ops };
+    ghost bounded = { λ s. base_forms_bounded s };
 
-    ghost total = { λ s. base_forms_total s.book.now.ops };
+    ghost total = { λ s. base_forms_total s };
 
     /// What the operation of an original says; of a group a mark on the cell of its original.
     fn base(&self, m: &Member) -> Form {

@@ -8,7 +8,9 @@ ghost use Rattle.causal_gate.specs.Waiting.{NamesAgree};
 ghost use Rattle.site_answers.specs.declared.verdict.Verdict.TheVariants.{Integrated};
 ghost use Rattle.cot_site.specs.States.{delivered, judged, with_last, with_held};
 ghost use Rattle.cot_site.specs.Sites.{KeepsForms, IsAsBefore, state_of};
+ghost use Rattle.cot_site.specs.Code.Judging.{HasCells};
 
+use crate::judging::Judgement;
 use crate::site::Site;
 use context_diff::Op;
 use op_name::Memory;
@@ -29,11 +31,11 @@ impl Site {
         ensures err { OnErr result (IsAsBefore self.old self.new) }
     {
         self.known();
-        let verdict = self.check(op);
+        let Judgement { verdict, cells } = self.judge(op);
         match verdict {
             Verdict::Integrated => {
                 let copy = op.try_clone()?;
-                self.integrate(copy)?;
+                self.integrate(copy, cells)?;
                 Ok(Verdict::Integrated)
             }
             Verdict::Waits { missing } => {
@@ -47,14 +49,15 @@ impl Site {
         }
     }
 
-    // Integrates the operation, which is next.
-    pub(super) fn integrate(&mut self, op: Op) -> Result<(), Memory>
-        requires { IsNext self.old.history (data_of op) }
+    // Integrates the operation, which is next, and whose context, if it is an insert or delete, has so many inserts.
+    pub(super) fn integrate(&mut self, op: Op, cells: u32) -> Result<(), Memory>
+        requires next { IsNext self.old.history (data_of op) }
+        requires cells { HasCells self.old.history (data_of op) cells }
         ensures state { OnOk result (state_of self.new ≡ with_last (state_of self.old) (data_of op)) }
         ensures forms { OnOk result (KeepsForms self.old.forms self.new.forms) }
         ensures err { OnErr result (IsAsBefore self.old self.new) }
     {
-        self.replica.integrate(op)?;
+        self.replica.integrate(op, cells)?;
         self.pool.renew(self.replica.vector());
         Ok(())
     }

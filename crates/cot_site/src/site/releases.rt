@@ -7,8 +7,10 @@ ghost use Rattle.site_answers.specs.declared.verdict.Verdict.TheVariants.{Integr
 ghost use Rattle.cot_site.specs.States.{judged, released, is_ready, first_ready, after_release, after_verdict, without_waiting, IsSettled};
 ghost use Rattle.cot_site.specs.Sites.{KeepsForms, IsAsBefore, AreKeptOrGone, state_of, IsRelease};
 ghost use Rattle.cot_site.specs.Releases.{all_releases, settled, release_of, IsPartlySettled};
+ghost use Rattle.cot_site.specs.Code.Judging.{HasCells};
 ghost use Rattle.cot_site.specs.Code.Releasing.{IsReleasedInto};
 
+use crate::judging::Judgement;
 use crate::site::Site;
 use context_diff::Op;
 use op_name::Memory;
@@ -101,23 +103,24 @@ impl Site {
         ensures err { OnErr result (IsAsBefore self.old self.new) }
     {
         self.known();
-        let verdict = self.verdict_at(place);
+        let Judgement { verdict, cells } = self.judgement_at(place);
         if is_integrated(&verdict) {
             let copy = self.copy_at(place)?;
-            self.integrate(copy)?;
+            self.integrate(copy, cells)?;
             return Ok((self.take(place), Verdict::Integrated));
         }
         Ok((self.take(place), verdict))
     }
 
-    // The verdict on the waiting operation at this place.
-    fn verdict_at(&self, place: u32) -> Verdict
+    // The verdict on the waiting operation at this place, with the inserts of its context.
+    fn judgement_at(&self, place: u32) -> Judgement
         requires { place < length self.now.waiting }
-        ensures { (o : OpData) → slice_get self.now.waiting place ≡ Some o → result ≡ judged (without_waiting (state_of self.now) place) o }
+        ensures verdict { (o : OpData) → slice_get self.now.waiting place ≡ Some o → result.verdict ≡ judged (without_waiting (state_of self.now) place) o }
+        ensures cells { (o : OpData) → slice_get self.now.waiting place ≡ Some o → result.verdict ≡ Integrated → HasCells self.now.history o result.cells }
     {
         self.known();
         match self.pool().get(place) {
-            Some(op) => self.check(op),
+            Some(op) => self.judge(op),
             None => unreachable!(),
         }
     }

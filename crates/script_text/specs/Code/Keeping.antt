@@ -26,7 +26,8 @@ last_line bytes (suc n) = record { bytes = bytes; len = suc n; ended = false } �
 
 unfoldable pub lines_cut : List ℕ → List ℕ → ℕ → List LeftLine
 lines_cut bytes [] last = last_line bytes last
-lines_cut bytes (n ∷ ns) last = record { bytes = take (kept_of n) bytes; len = n; ended = true } ∷ lines_cut (drop (kept_of n) bytes) ns last
+lines_cut bytes (n ∷ ns) last =
+    record { bytes = take (kept_of n) bytes; len = n; ended = true } ∷ lines_cut (drop (kept_of n) bytes) ns last
 
 -- the lines that are kept so
 abbrev pub lines_kept : KeptData → List LeftLine

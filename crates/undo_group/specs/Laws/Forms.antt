@@ -17,7 +17,8 @@ module _ (n : NameData) (o : OpData) (is : member_of o ≡ Original n) where
   form_among : (h : List OpData) → ((p : OpData) → IsIn p h → member_of p ≡ member_of o → p ≡ o) → IsIn o h → original_form h n ≡ form_of o
   form_among [] once i = absurd i
   form_among (p ∷ ps) once (inl e) =
-      let same : member_eq (member_of p) (Original n) ≡ true = subst (λ (m : Member). member_eq m (Original n) ≡ true) (sym is ∙ ap member_of e) (member_itself (Original n)) in
+      let same : member_eq (member_of p) (Original n) ≡ true =
+      subst (λ (m : Member). member_eq m (Original n) ≡ true) (sym is ∙ ap member_of e) (member_itself (Original n)) in
       rw same (ap form_of (sym e))
   form_among (p ∷ ps) once (inr i) = elim (cases_Bool (member_eq (member_of p) (Original n))) [
     | inl same ↦ rw same (ap form_of (once p (inl refl) (member_same (member_of p) (Original n) same ∙ sym is)))
@@ -25,7 +26,8 @@ module _ (n : NameData) (o : OpData) (is : member_of o ≡ Original n) where
   ]
 
 -- the form that the history has for a name is that of the operation of this name
-pub form_at : (h : List OpData) → IsValid h → (o : OpData) (n : NameData) → IsIn o h → member_of o ≡ Original n → original_form h n ≡ form_of o
+pub form_at : (h : List OpData) → IsValid h → (o : OpData) (n : NameData) → IsIn o h → member_of o ≡ Original n
+    → original_form h n ≡ form_of o
 form_at h v o n i is = form_among n o is h (λ p j e. (complete h v).one p o (in_contains p h j) (in_contains o h i) e) i
 
 pub base_forms_hold : (h : List OpData) → IsValid h → AreBaseForms h (base_form h)

@@ -20,7 +20,8 @@ use Rattle.undo_group.specs.Following.{following, mark_of, Follows}
 -- what was included in both, a mark on the cell of a form is a mark on the cell of what the form has become
 pub form_follows : (m : Mark) (f k : Form) → ApartForms f k → form_over (following m f) (form_over k f) ≡ following m (form_over f k)
 form_follows m (Insert a) (Insert b) ne =
-    ap (λ p. Covered (record { place = p; mark = m })) (cell_follows a.place a.site b.place b.site (ins_extent b) (ins_extent a) ne (lit≤ tt))
+    ap (λ p. Covered (record { place = p; mark = m }))
+    (cell_follows a.place a.site b.place b.site (ins_extent b) (ins_extent a) ne (lit≤ tt))
 form_follows m (Insert a) (Covered d) ne = refl
 form_follows m (Covered c) (Insert b) ne = refl
 form_follows m (Covered c) (Covered d) ne = refl
@@ -62,13 +63,17 @@ set_more a p q r s u ep eq er = grind arith
 pub first_follower : (h : List OpData) (t : NameData) → is_known h (Original t) ≡ true → is_known h (Group t 1) ≡ true
     → Follows h (mark_of (original_form h t) t 1) (Original t) (Group t 1)
 first_follower h t before known = record {
-  context = λ y. set_parts (has (original_context h t) y) (is_known h (Group t 1)) (is_known h (Original t)) (is_below t 1 y) (member_eq (Original t) y) known before (below_first t y);
+  context =
+      λ y. set_parts (has (original_context h t) y) (is_known h (Group t 1)) (is_known h (Original t)) (is_below t 1 y)
+      (member_eq (Original t) y) known before (below_first t y);
   form = first_marks (original_form h t) t 1;
 }
 
 pub next_follower : (h : List OpData) (t : NameData) (g : ℕ) → 1 ≤ g → is_known h (Group t g) ≡ true → is_known h (Group t (g + 1)) ≡ true
     → Follows h (mark_of (original_form h t) t (g + 1)) (Group t g) (Group t (g + 1))
 next_follower h t g least before known = record {
-  context = λ y. set_more (has (original_context h t) y) (is_known h (Group t (g + 1))) (is_known h (Group t g)) (is_below t (g + 1) y) (is_below t g y) (member_eq (Group t g) y) known before (below_next t g y least);
+  context =
+      λ y. set_more (has (original_context h t) y) (is_known h (Group t (g + 1))) (is_known h (Group t g)) (is_below t (g + 1) y)
+      (is_below t g y) (member_eq (Group t g) y) known before (below_next t g y least);
   form = next_marks (original_form h t) t g (g + 1);
 }

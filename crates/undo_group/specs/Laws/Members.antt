@@ -47,7 +47,8 @@ pub record IsPlacedIn (h : List OpData) (o : OpData) : Type 0 where
 
 placed_after : (b os : List OpData) → IsValidAfter b os → (o : OpData) → IsIn o os → IsPlacedIn (b ++ os) o
 placed_after b [] v o i = absurd i
-placed_after b (p ∷ ps) v o (inl e) = record { before = b; after = ps; whole = ap (λ (q : OpData). b ++ (q ∷ ps)) (sym e); next = subst (IsNext b) (sym e) v.0 }
+placed_after b (p ∷ ps) v o (inl e) =
+    record { before = b; after = ps; whole = ap (λ (q : OpData). b ++ (q ∷ ps)) (sym e); next = subst (IsNext b) (sym e) v.0 }
 placed_after b (p ∷ ps) v o (inr i) = subst (λ (h : List OpData). IsPlacedIn h o) (shifted b p ps) (placed_after (b ++ (p ∷ [])) ps v.1 o i)
 
 pub placed_in : (h : List OpData) → IsValid h → (o : OpData) → IsIn o h → IsPlacedIn h o

@@ -27,28 +27,34 @@ module _ (h : List OpData) (v : IsValid h) (form : Member → Form) (forms : Are
   weight_of D = sum_where D (λ x. extent_of (form x)) (members_in h)
 
   -- the inserts of a context weigh at least as much as they are many
-  inserts_weigh : (os : List OpData) (c : ContextData) (D : Member → Bool) → ((o : OpData) → IsIn o os → IsIn o h) → ((y : Member) → has c y ≡ true → D y ≡ true) → inserts_in os c ≤ sum_where D (λ x. extent_of (form x)) (members_in os)
+  inserts_weigh : (os : List OpData) (c : ContextData) (D : Member → Bool) → ((o : OpData) → IsIn o os → IsIn o h)
+      → ((y : Member) → has c y ≡ true → D y ≡ true) → inserts_in os c ≤ sum_where D (λ x. extent_of (form x)) (members_in os)
   inserts_weigh [] c D all within = omega arith
   inserts_weigh (o ∷ os) c D all within =
       let ih = inserts_weigh os c D (λ p i. all p (inr i)) within in
       let here = weigh o (all o (inl refl)) in
       omega arith
     where
-      weigh : (p : OpData) → IsIn p h → (if is_insert p && has c (member_of p) then 1 else 0) ≤ (if D (member_of p) then extent_of (form (member_of p)) else 0)
+      weigh : (p : OpData) → IsIn p h
+          → (if is_insert p && has c (member_of p) then 1 else 0) ≤ (if D (member_of p) then extent_of (form (member_of p)) else 0)
       weigh (inserting n p ch k) i = elim (cases_Bool (has c (Original n))) [
-        | inl q ↦ let f = forms.inserts n p ch k i in let one : extent_of (form (Original n)) ≡ 1 = ap extent_of f.is in rw (q, within (Original n) q, one) (omega arith)
+        | inl q ↦ let f =
+            forms.inserts n p ch k i in let one : extent_of (form (Original n)) ≡ 1 = ap extent_of f.is in
+            rw (q, within (Original n) q, one) (omega arith)
         | inr q ↦ rw q (omega arith)
       ]
       weigh (deleting n p k) i = omega arith
       weigh (undoing a t g k) i = omega arith
 
   -- the inserts before an operation, of its own context, weigh at most as much as that context
-  placed_weight : (o : OpData) (n : NameData) (i : IsIn o h) → member_of o ≡ Original n → inserts_in (placed_in h v o i).before (context_of o) ≤ weight_of (base_has h (Original n))
+  placed_weight : (o : OpData) (n : NameData) (i : IsIn o h) → member_of o ≡ Original n
+      → inserts_in (placed_in h v o i).before (context_of o) ≤ weight_of (base_has h (Original n))
   placed_weight o n i is =
       let a = placed_in h v o i in
       let one = inserts_weigh h (context_of o) (base_has h (Original n)) (λ p j. j) (λ y e. context_of_original h v o n i is y ∙ e) in
       let two = inserts_behind a.before (o ∷ a.after) (context_of o) in
-      let all : inserts_in h (context_of o) ≡ inserts_in (a.before ++ (o ∷ a.after)) (context_of o) = ap (λ (l : List OpData). inserts_in l (context_of o)) a.whole in
+      let all : inserts_in h (context_of o) ≡ inserts_in (a.before ++ (o ∷ a.after)) (context_of o) =
+      ap (λ (l : List OpData). inserts_in l (context_of o)) a.whole in
       omega arith
 
   insert_place : (n : NameData) (p ch : ℕ) (c : ContextData) → IsIn (inserting n p ch c) h → p ≤ weight_of (base_has h (Original n))
@@ -65,22 +71,29 @@ module _ (h : List OpData) (v : IsValid h) (form : Member → Form) (forms : Are
       let q : p < inserts_in (placed_in h v o i).before c = (placed_in h v o i).next.placed in
       omega arith
 
-  group_wider : (t : NameData) (g : ℕ) → IsIn (Group t g) (members_in h) → (y : Member) → base_has h (Original t) y ≡ true → base_has h (Group t g) y ≡ true
+  group_wider : (t : NameData) (g : ℕ) → IsIn (Group t g) (members_in h) → (y : Member) → base_has h (Original t) y ≡ true
+      → base_has h (Group t g) y ≡ true
   group_wider t g i y e = base_closed h complete_h (Group t g) (Original t) y (group_has_target h t g (in_known h (Group t g) i)) e
 
   target_listed : (t : NameData) (g : ℕ) → IsIn (Group t g) (members_in h) → IsIn (Original t) (members_in h)
-  target_listed t g i = known_in h (Original t) (base_listed h complete_h (Group t g) (Original t) (group_has_target h t g (in_known h (Group t g) i)))
+  target_listed t g i =
+      known_in h (Original t) (base_listed h complete_h (Group t g) (Original t) (group_has_target h t g (in_known h (Group t g) i)))
 
   -- the base context of a group of an insert weighs more than that of the insert
-  group_heavier : (t : NameData) (g : ℕ) (a : Ins) → IsIn (Group t g) (members_in h) → form (Original t) ≡ Insert a → weight_of (base_has h (Original t)) + 1 ≤ weight_of (base_has h (Group t g))
+  group_heavier : (t : NameData) (g : ℕ) (a : Ins) → IsIn (Group t g) (members_in h) → form (Original t) ≡ Insert a
+      → weight_of (base_has h (Original t)) + 1 ≤ weight_of (base_has h (Group t g))
   group_heavier t g a i e =
       let target = group_has_target h t g (in_known h (Group t g) i) in
-      let lacks : base_has h (Original t) (Original t) ≡ false = false_from_ne_true (base_has h (Original t) (Original t)) (λ q. base_itself h complete_h (Original t) q) in
-      let more = sum_more (base_has h (Original t)) (base_has h (Group t g)) (group_wider t g i) (λ (x : Member). extent_of (form x)) (Original t) (members_in h) lacks target (target_listed t g i) in
+      let lacks : base_has h (Original t) (Original t) ≡ false =
+      false_from_ne_true (base_has h (Original t) (Original t)) (λ q. base_itself h complete_h (Original t) q) in
+      let more =
+      sum_more (base_has h (Original t)) (base_has h (Group t g)) (group_wider t g i) (λ (x : Member). extent_of (form x)) (Original t)
+      (members_in h) lacks target (target_listed t g i) in
       let one : extent_of (form (Original t)) ≡ 1 = ap extent_of e in
       omega arith
 
-  bounded_original : (n : NameData) (o : OpData) → IsIn o h → member_of o ≡ Original n → IsBoundedForm (form (Original n)) (weight_of (base_has h (Original n)))
+  bounded_original : (n : NameData) (o : OpData) → IsIn o h → member_of o ≡ Original n
+      → IsBoundedForm (form (Original n)) (weight_of (base_has h (Original n)))
   bounded_original n (inserting m p ch c) i e =
       let s : m ≡ n = (cc) in
       let there : IsIn (inserting n p ch c) h = subst (λ (x : NameData). IsIn (inserting x p ch c) h) s i in
@@ -97,22 +110,29 @@ module _ (h : List OpData) (v : IsValid h) (form : Member → Form) (forms : Are
       subst (λ (x : Form). IsBoundedForm x (weight_of (base_has h (Original n)))) (sym f.is) (omega arith)
   bounded_original n (undoing s m g c) i e = absurd (cc)
 
-  bounded_group : (t : NameData) (g : ℕ) → IsIn (Group t g) (members_in h) → IsBoundedForm (form (Original t)) (weight_of (base_has h (Original t))) → (f : Form) → form (Original t) ≡ f → IsBoundedForm (form (Group t g)) (weight_of (base_has h (Group t g)))
+  bounded_group : (t : NameData) (g : ℕ) → IsIn (Group t g) (members_in h)
+      → IsBoundedForm (form (Original t)) (weight_of (base_has h (Original t))) → (f : Form) → form (Original t) ≡ f
+      → IsBoundedForm (form (Group t g)) (weight_of (base_has h (Group t g)))
   bounded_group t g i low (Insert a) e =
       let f = forms.insert_groups t g a i e in
       let more = group_heavier t g a i e in
       let place = f.place in
-      let bound : a.place ≤ weight_of (base_has h (Original t)) = subst (λ (x : Form). IsBoundedForm x (weight_of (base_has h (Original t)))) e low in
+      let bound : a.place ≤ weight_of (base_has h (Original t)) =
+      subst (λ (x : Form). IsBoundedForm x (weight_of (base_has h (Original t)))) e low in
       subst (λ (x : Form). IsBoundedForm x (weight_of (base_has h (Group t g)))) (sym f.is) (omega arith)
   bounded_group t g i low (Covered d) e =
       let f = forms.delete_groups t g d i e in
-      let wide = sum_within (base_has h (Original t)) (base_has h (Group t g)) (group_wider t g i) (λ (x : Member). extent_of (form x)) (members_in h) in
+      let wide =
+      sum_within (base_has h (Original t)) (base_has h (Group t g)) (group_wider t g i) (λ (x : Member). extent_of (form x))
+      (members_in h) in
       let place = f.place in
-      let bound : d.place < weight_of (base_has h (Original t)) = subst (λ (x : Form). IsBoundedForm x (weight_of (base_has h (Original t)))) e low in
+      let bound : d.place < weight_of (base_has h (Original t)) =
+      subst (λ (x : Form). IsBoundedForm x (weight_of (base_has h (Original t)))) e low in
       subst (λ (x : Form). IsBoundedForm x (weight_of (base_has h (Group t g)))) (sym f.is) (omega arith)
 
   -- each base form is bounded by the cells of its base context
-  pub forms_bounded : (m : Member) → IsIn m (members_in h) → IsBoundedForm (form m) (sum_where (base_has h m) (λ x. extent_of (form x)) (members_in h))
+  pub forms_bounded : (m : Member) → IsIn m (members_in h)
+      → IsBoundedForm (form m) (sum_where (base_has h m) (λ x. extent_of (form x)) (members_in h))
   forms_bounded (Original n) i = let r = listed_member (Original n) h i in bounded_original n r.0 r.1 r.2
   forms_bounded (Group t g) i =
       let r = listed_member (Original t) h (target_listed t g i) in

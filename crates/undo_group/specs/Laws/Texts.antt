@@ -16,10 +16,12 @@ use Rattle.undo_group.specs.Laws.Forms.{base_forms_hold}
 use Rattle.undo_group.specs.Laws.Inserts.{forms_apart}
 use Rattle.undo_group.specs.Laws.Places.{forms_bounded}
 
-pub base_forms_apart : (h : List OpData) (m x : Member) → IsShortHistory h → IsIn m (members_in h) → IsIn x (members_in h) → m ≢ x → base_has h m x ≡ false → base_has h x m ≡ false → ApartForms (base_form h m) (base_form h x)
+pub base_forms_apart : (h : List OpData) (m x : Member) → IsShortHistory h → IsIn m (members_in h) → IsIn x (members_in h) → m ≢ x
+    → base_has h m x ≡ false → base_has h x m ≡ false → ApartForms (base_form h m) (base_form h x)
 base_forms_apart h m x s i j ne l k = forms_apart h s.valid (base_form h) (base_forms_hold h s.valid) m x i j ne l k
 
-pub base_forms_bounded : (h : List OpData) (m : Member) → IsShortHistory h → IsIn m (members_in h) → IsBoundedForm (base_form h m) (sum_where (base_has h m) (λ x. extent_of (base_form h x)) (members_in h))
+pub base_forms_bounded : (h : List OpData) (m : Member) → IsShortHistory h → IsIn m (members_in h)
+    → IsBoundedForm (base_form h m) (sum_where (base_has h m) (λ x. extent_of (base_form h x)) (members_in h))
 base_forms_bounded h m s i = forms_bounded h s.valid (base_form h) (base_forms_hold h s.valid) m i
 
 -- a form adds one cell at most

@@ -11,5 +11,6 @@ returns-then-covers c =
     let o = data_of c.in_ok-op.op.now in
     record {
       within = c.covers.ensures.0 c.if-covers.true;
-      closed = subst (λ (d : ContextData). IsClosed h d) (sym c.context-part.ensures) ((complete h c.known.ensures.valid).closed o c.in_ok-op.ensures.there c.in_ok-op.ensures.original);
+      closed = subst (λ (d : ContextData). IsClosed h d) (sym c.context-part.ensures)
+          ((complete h c.known.ensures.valid).closed o c.in_ok-op.ensures.there c.in_ok-op.ensures.original);
     }

@@ -13,7 +13,8 @@ returns-then-count_near-name c =
     let v = c.args.v.now.set in
     let d = c.in-Some.closed.now.set in
     let n : NameData = c.args.name.now in
-    let part : IsClosedPart h v d = subst (λ (p : Option (Bor VectorData)). IfSome p (λ x. IsClosedPart h v x.now.set)) c.in-Some.is c.requires.part in
+    let part : IsClosedPart h v d =
+    subst (λ (p : Option (Bor VectorData)). IfSome p (λ x. IsClosedPart h v x.now.set)) c.in-Some.is c.requires.part in
     let number : c.name.inside.number ≡ n.number = ap (λ (x : NameData). x.number) c.name.view_is in
     let counts : count_of d c.name.inside.site ≡ count_of d n.site = ap (λ (x : NameData). count_of d x.site) c.name.view_is in
     let last : count_of d n.site ≡ n.number = omega (arith, c.count_near.ensures, c.if-count_near-name.true, number, counts) in

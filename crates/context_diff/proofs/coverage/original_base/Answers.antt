@@ -16,7 +16,8 @@ returns-in-Some c =
     let h = c.args.book.now.ops in
     let o = data_of c.in-Some.op.now in
     let n : NameData = c.args.name.now in
-    let known : is_known h (Original n) ≡ true = ap (is_known h) (sym (c.in-Some.ensures).named) ∙ known_member h o (c.in-Some.ensures).there in
+    let known : is_known h (Original n) ≡ true =
+    ap (is_known h) (sym (c.in-Some.ensures).named) ∙ known_member h o (c.in-Some.ensures).there in
     let is = context_is h (complete h c.known.ensures.valid) o n (c.in-Some.ensures).there (c.in-Some.ensures).named known in
     let same : c.context.result.now.set ≡ original_context h n = c.context.ensures ∙ sym is in
     subst (λ (d : ContextData). IfOk c.try_clone.result (λ v. v.set ≡ d)) same c.try_clone.ensures

@@ -16,15 +16,21 @@ loop-step-preserved c t apart first =
     let step = c.loop-step.step in
     elim c.match-place_of.branch [
       | in-Some+in_ok-add_place w ↦
-          let at : slice_get (members_in h) w.in-Some.place ≡ Some (Original (record { site = s; number = (low + step) + 1 })) = (w.in-Some.ensures).place in
-          let items : c.match-place_of.places.items ≡ c.loop-step.places.items ++ w.in-Some.place ∷ [] = (λ i. (w.places-is i).items) ∙ (w.in_ok-add_place.ensures) in
+          let at : slice_get (members_in h) w.in-Some.place ≡ Some (Original (record { site = s; number = (low + step) + 1 })) =
+          (w.in-Some.ensures).place in
+          let items : c.match-place_of.places.items ≡ c.loop-step.places.items ++ w.in-Some.place ∷ [] =
+          (λ i. (w.places-is i).items) ∙ (w.in_ok-add_place.ensures) in
           subst (λ (ps : List ℕ). ArePlacesOf (members_in h) (λ y. t y || is_between s low (low + (step + 1)) y) ps) (sym items)
-          (between_step h c.known.ensures.valid t s low c.args.high step c.loop-step.places.items w.in-Some.place at (omega (arith, c.saturating_sub-step-end.ensures)) apart (c.loop-step.invariant t apart first))
+          (between_step h c.known.ensures.valid t s low c.args.high step c.loop-step.places.items w.in-Some.place at
+          (omega (arith, c.saturating_sub-step-end.ensures)) apart (c.loop-step.invariant t apart first))
       | in_default w ↦
-          let there : is_known h (Original (record { site = s; number = (low + step) + 1 })) ≡ true = c.requires.there ((low + step) + 1) (omega arith) (omega (arith, c.saturating_sub-step-end.ensures)) in
+          let there : is_known h (Original (record { site = s; number = (low + step) + 1 })) ≡ true =
+          c.requires.there ((low + step) + 1) (omega arith) (omega (arith, c.saturating_sub-step-end.ensures)) in
           absurd (false≢true (sym ((w.in_default.ensures).none.0 refl) ∙ there))
     ]
 
 pub returns-clause-places : goal.returns-clause-places
 returns-clause-places c t apart first =
-    between_end (members_in c.args.book.now.ops) t c.args.site c.args.low c.args.high c.loop-step.step c.loop-step.places.items (omega (arith, c.saturating_sub-step-end.ensures)) (omega (arith, c.saturating_sub-step-end.ensures)) (c.loop-step.invariant t apart first)
+    between_end (members_in c.args.book.now.ops) t c.args.site c.args.low c.args.high c.loop-step.step c.loop-step.places.items
+    (omega (arith, c.saturating_sub-step-end.ensures)) (omega (arith, c.saturating_sub-step-end.ensures))
+    (c.loop-step.invariant t apart first)

@@ -7,5 +7,6 @@ use Rattle.context_diff.proofs.gathering.add_numbers.Given as goal
 -- the places so far are those of the test, and of the members up to this step
 abbrev pub invariant-loop-step : goal.invariant-loop-step
 invariant-loop-step l =
-    (t : Member → Bool) → ((y : Member) → is_between l.site l.low l.high y ≡ true → t y ≡ false) → ArePlacesOf (members_in l.book.ops) t l.initial.places.items
+    (t : Member → Bool) → ((y : Member) → is_between l.site l.low l.high y ≡ true → t y ≡ false)
+    → ArePlacesOf (members_in l.book.ops) t l.initial.places.items
     → ArePlacesOf (members_in l.book.ops) (λ y. t y || is_between l.site l.low (l.low + l.step) y) l.places.items

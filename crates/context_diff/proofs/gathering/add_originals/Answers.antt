@@ -48,7 +48,8 @@ add_numbers-requires-clause-there c k low high =
     let here = count_at 0 to.counts c.known-2.ensures.counts i p (read_first to.counts c.loop-site.left i p c.loop-site.invariant.1
     c.in-Some.ensures.first) in
     let n : NameData = record { site = p.0; number = k } in
-    covered_ready h c.args.book.now.have.set to c.known.ensures.valid c.known.ensures.have c.requires.covered (Original n) (has_original to n (omega arith) (omega (arith, here.count)))
+    covered_ready h c.args.book.now.have.set to c.known.ensures.valid c.known.ensures.have c.requires.covered (Original n)
+    (has_original to n (omega arith) (omega (arith, here.count)))
 
 pub loop-site-preserved : goal.loop-site-preserved
 loop-site-preserved c =

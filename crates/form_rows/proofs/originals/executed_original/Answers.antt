@@ -5,11 +5,10 @@ use Rattle.std.proofs.lemmas.List.{length-map}
 use Rattle.op_name.specs.declared.member.Member.{Member}
 use Rattle.op_name.specs.declared.member.Member.TheVariants.{Original}
 use Rattle.context_vector.specs.Contexts.{ContextData, has, Within}
-use Rattle.context_diff.specs.Operations.{member_of}
+use Rattle.context_diff.specs.Operations.{OpData, member_of}
 use Rattle.context_diff.specs.Ops.{data_of}
 use Rattle.context_diff.specs.Bases.{base_has}
 use Rattle.context_diff.specs.Histories.{is_known, members_in}
-use Rattle.context_diff.specs.Books.{BookData}
 use Rattle.ttf_form.specs.Forms.{form_over, IsInertForm}
 use Rattle.ttf_form.specs.Families.{IsIn}
 use Rattle.transform_rec.specs.Sets.{none, plus_all}
@@ -27,18 +26,18 @@ use Rattle.form_rows.proofs.originals.executed_original.Goals as goal
 
 pub executed_form-requires-clause-causal : goal.executed_form-requires-clause-causal
 executed_form-requires-clause-causal c =
-    subst (λ (b : BookData). IsCausalFamily (family_in b.ops (base_form b.ops))) (sym c.new-bases.ensures) (history_causal c.args.book.now.ops (base_form c.args.book.now.ops) c.known.ensures.valid)
+    subst (λ (os : List OpData). IsCausalFamily (family_in os (base_form os))) (sym c.new-bases.ensures) (history_causal c.args.book.now.ops (base_form c.args.book.now.ops) c.known.ensures.valid)
 
 pub executed_form-requires-clause-names : goal.executed_form-requires-clause-names
 executed_form-requires-clause-names c =
-    subst (λ (b : BookData). AreNamed insert_of IsInertForm (family_in b.ops (base_form b.ops))) (sym c.new-bases.ensures) (text_names c.args.book.now.ops c.known.ensures.valid)
+    subst (λ (os : List OpData). AreNamed insert_of IsInertForm (family_in os (base_form os))) (sym c.new-bases.ensures) (text_names c.args.book.now.ops c.known.ensures.valid)
 
 pub executed_form-requires-clause-members : goal.executed_form-requires-clause-members
-executed_form-requires-clause-members c = ap (λ (b : BookData). members_in b.ops) c.new-bases.ensures
+executed_form-requires-clause-members c = ap members_in c.new-bases.ensures
 
 pub executed_form-requires-clause-covers : goal.executed_form-requires-clause-covers
 executed_form-requires-clause-covers c =
-    subst (λ (b : BookData). CoversAreInert IsInertForm (base_form b.ops) c.args.book.now.ops) (sym c.new-bases.ensures) (text_covers c.args.book.now.ops c.known.ensures.valid)
+    subst (λ (os : List OpData). CoversAreInert IsInertForm (base_form os) c.args.book.now.ops) (sym c.new-bases.ensures) (text_covers c.args.book.now.ops c.known.ensures.valid)
 
 pub executed_form-requires-clause-within : goal.executed_form-requires-clause-within
 executed_form-requires-clause-within c =
@@ -50,7 +49,7 @@ pub executed_form-requires-clause-context : goal.executed_form-requires-clause-c
 executed_form-requires-clause-context c y =
     let o = data_of c.in-Some.op.now in
     ap (λ (k : ContextData). has k y) c.context.ensures ∙ (original_base c.args.book.now.ops c.known.ensures.valid o c.args.name.now c.in-Some.ensures.there c.in-Some.ensures.named y
-    ∙ ap (λ (b : BookData). base_has b.ops (Original c.args.name.now) y) (sym c.new-bases.ensures))
+    ∙ ap (λ (os : List OpData). base_has os (Original c.args.name.now) y) (sym c.new-bases.ensures))
 
 pub executed_form-requires-clause-short : goal.executed_form-requires-clause-short
 executed_form-requires-clause-short c =
@@ -66,7 +65,7 @@ pub executed_form-requires-clause-ready : goal.executed_form-requires-clause-rea
 executed_form-requires-clause-ready c =
     let w = c.requires.1 in (
       c.requires.0,
-      subst (λ (b : BookData). IsLast form_over IsInertForm (family_in b.ops (base_form b.ops)) (Original c.args.name.now) c.requires.0 c.args.executed.now c.args.rows.now.kept.items) (sym c.new-bases.ensures)
+      subst (λ (os : List OpData). IsLast form_over IsInertForm (family_in os (base_form os)) (Original c.args.name.now) c.requires.0 c.args.executed.now c.args.rows.now.kept.items) (sym c.new-bases.ensures)
           (record { whole = w.whole; forms = w.forms; known = w.rows }),
     )
 
@@ -80,22 +79,22 @@ unreachable-requires c =
 pub returns-in-Ok-clause-form : goal.returns-in-Ok-clause-form
 returns-in-Ok-clause-form c = λ before w.
     let m : Member = Original c.args.name.now in
-    let last = subst (λ (b : BookData). IsLast form_over IsInertForm (family_in b.ops (base_form b.ops)) m before c.args.executed.now c.args.rows.now.kept.items) (sym c.new-bases.ensures) (record { whole = w.whole; forms = w.forms; known = w.rows }) in
-    subst (λ (b : BookData). IsOnlyFormAt form_over (family_in b.ops (base_form b.ops)) m (plus_all none before) c.in-Ok.made.0) c.new-bases.ensures (c.in-Ok.ensures.form before last)
+    let last = subst (λ (os : List OpData). IsLast form_over IsInertForm (family_in os (base_form os)) m before c.args.executed.now c.args.rows.now.kept.items) (sym c.new-bases.ensures) (record { whole = w.whole; forms = w.forms; known = w.rows }) in
+    subst (λ (os : List OpData). IsOnlyFormAt form_over (family_in os (base_form os)) m (plus_all none before) c.in-Ok.made.0) c.new-bases.ensures (c.in-Ok.ensures.form before last)
 
 pub returns-in-Ok-clause-first : goal.returns-in-Ok-clause-first
 returns-in-Ok-clause-first c =
     let m : Member = Original c.args.name.now in
     let w = c.requires.1 in
-    let last = subst (λ (b : BookData). IsLast form_over IsInertForm (family_in b.ops (base_form b.ops)) m c.requires.0 c.args.executed.now c.args.rows.now.kept.items) (sym c.new-bases.ensures) (record { whole = w.whole; forms = w.forms; known = w.rows }) in
-    subst (λ (b : BookData). IfSome c.in-Ok.made.1 (IsFormWith form_over insert_of (family_in b.ops (base_form b.ops)) m)) c.new-bases.ensures (c.in-Ok.ensures.first c.requires.0 last)
+    let last = subst (λ (os : List OpData). IsLast form_over IsInertForm (family_in os (base_form os)) m c.requires.0 c.args.executed.now c.args.rows.now.kept.items) (sym c.new-bases.ensures) (record { whole = w.whole; forms = w.forms; known = w.rows }) in
+    subst (λ (os : List OpData). IfSome c.in-Ok.made.1 (IsFormWith form_over insert_of (family_in os (base_form os)) m)) c.new-bases.ensures (c.in-Ok.ensures.first c.requires.0 last)
 
 pub returns-in-Ok-clause-rows : goal.returns-in-Ok-clause-rows
 returns-in-Ok-clause-rows c =
     let h = c.args.book.now.ops in
     let m : Member = Original c.args.name.now in
     let w = c.requires.1 in
-    let last = subst (λ (b : BookData). IsLast form_over IsInertForm (family_in b.ops (base_form b.ops)) m c.requires.0 c.args.executed.now c.args.rows.now.kept.items) (sym c.new-bases.ensures) (record { whole = w.whole; forms = w.forms; known = w.rows }) in
+    let last = subst (λ (os : List OpData). IsLast form_over IsInertForm (family_in os (base_form os)) m c.requires.0 c.args.executed.now c.args.rows.now.kept.items) (sym c.new-bases.ensures) (record { whole = w.whole; forms = w.forms; known = w.rows }) in
     let kept = c.executed_form.new.rows.kept.items in
     subst (λ (l : List Member). AreRows form_over IsInertForm (family_in h (base_form h)) l kept) (sym w.whole)
-    (subst (λ (b : BookData). AreRows form_over IsInertForm (family_in b.ops (base_form b.ops)) (c.requires.0 ++ m ∷ []) kept) c.new-bases.ensures (c.in-Ok.ensures.rows c.requires.0 last))
+    (subst (λ (os : List OpData). AreRows form_over IsInertForm (family_in os (base_form os)) (c.requires.0 ++ m ∷ []) kept) c.new-bases.ensures (c.in-Ok.ensures.rows c.requires.0 last))

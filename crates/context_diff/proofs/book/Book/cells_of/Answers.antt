@@ -9,10 +9,14 @@ use Rattle.context_diff.proofs.book.Book.cells_of.Goals as goal
 
 pub inserts_in-requires : goal.inserts_in-requires
 inserts_in-requires c =
-    let same : context_of (data_of c.args.op.now) ≡ c.in-Insert.context.set = elim c.in-Insert.is [ inl w ↦ ap (λ (o : Op). context_of (data_of o)) w.3 | inr w ↦ ap (λ (o : Op). context_of (data_of o)) w.2 ] in
-    subst (λ (d : ContextData). Within d c.args.self.now.have.set) same (ready_covered c.args.self.now.ops c.args.self.now.have.set (context_of (data_of c.args.op.now)) c.known.ensures.valid c.known.ensures.have c.requires.ready)
+    let same : context_of (data_of c.args.op.now) ≡ c.in-Insert.context.set =
+    elim c.in-Insert.is [ inl w ↦ ap (λ (o : Op). context_of (data_of o)) w.3 | inr w ↦ ap (λ (o : Op). context_of (data_of o)) w.2 ] in
+    subst (λ (d : ContextData). Within d c.args.self.now.have.set) same
+    (ready_covered c.args.self.now.ops c.args.self.now.have.set (context_of (data_of c.args.op.now)) c.known.ensures.valid
+    c.known.ensures.have c.requires.ready)
 
 pub returns-in-Insert : goal.returns-in-Insert
 returns-in-Insert c original =
-    let same : context_of (data_of c.args.op.now) ≡ c.in-Insert.context.set = elim c.in-Insert.is [ inl w ↦ ap (λ (o : Op). context_of (data_of o)) w.3 | inr w ↦ ap (λ (o : Op). context_of (data_of o)) w.2 ] in
+    let same : context_of (data_of c.args.op.now) ≡ c.in-Insert.context.set =
+    elim c.in-Insert.is [ inl w ↦ ap (λ (o : Op). context_of (data_of o)) w.3 | inr w ↦ ap (λ (o : Op). context_of (data_of o)) w.2 ] in
     c.inserts_in.ensures ∙ ap (inserts_in c.args.self.now.ops) (sym same)

@@ -16,7 +16,9 @@ next c =
     let ps = c.args.v.now.set.counts in
     let i = c.loop-site.invariant.0 in
     let p : ℕ × ℕ = (c.in-Some.site, c.in-Some.number) in
-    let tallies : AreTallies h (counts_of c.self.inside.tallies) = subst (λ (k : List OpData). AreTallies k (counts_of c.self.inside.tallies)) (ap (λ (b : BookData). b.ops) c.self.view_is) c.self.invariant.tallies in
+    let tallies : AreTallies h (counts_of c.self.inside.tallies) =
+    subst (λ (k : List OpData). AreTallies k (counts_of c.self.inside.tallies)) (ap (λ (b : BookData). b.ops) c.self.view_is)
+    c.self.invariant.tallies in
     let at = read_first ps c.loop-site.left i p c.loop-site.invariant.1 c.in-Some.ensures.first in
     listed_next h c.args.self.now.have.set c.args.v.now.set (counts_of c.self.inside.tallies) c.known-2.ensures.valid
     c.known-2.ensures.have c.requires c.known.ensures.counts tallies i p at

@@ -15,5 +15,6 @@ returns c =
     let h = map data_of c.self.inside.ops.items in
     let have = c.self.inside.have.set in
     let there : (o : OpData) → Contains h o → has have (member_of o) ≡ true = λ o at.
-    (λ i. has (c.self.invariant.members i) (member_of o)) ∙ ((complete h c.self.invariant.valid).holds (member_of o) ∙ known_member h o at) in
+    (λ i. has (c.self.invariant.members i) (member_of o))
+    ∙ ((complete h c.self.invariant.valid).holds (member_of o) ∙ known_member h o at) in
     c.self.invariant.inserts ∙ (sym (all_made h have there) ∙ ap (λ (b : BookData). inserts_in b.ops b.have.set) c.self.view_is)

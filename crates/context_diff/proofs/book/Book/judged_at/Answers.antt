@@ -11,4 +11,5 @@ cells_by-requires c = lately_fits c.args.self.now.ops c.known.ensures.valid c.ar
 pub returns-in-Some : goal.returns-in-Some
 returns-in-Some c =
     let at = sym c.op.ensures ∙ ap (option_map (λ (o : Bor Op). data_of o.now)) c.in-Some.is in
-    judged_some c.args.self.now.ops c.known.ensures.valid c.args.lately c.requires (data_of c.in-Some.op.now) at c.args.v.now.set c.cells_by.result c.cells_by.ensures
+    judged_some c.args.self.now.ops c.known.ensures.valid c.args.lately c.requires (data_of c.in-Some.op.now) at c.args.v.now.set
+    c.cells_by.result c.cells_by.ensures

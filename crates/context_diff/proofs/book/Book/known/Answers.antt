@@ -6,5 +6,6 @@ use Rattle.context_diff.proofs.book.Book.known.Goals as goal
 
 pub returns-clause-short : goal.returns-clause-short
 returns-clause-short c =
-    let size : length (map data_of c.self.inside.ops.items) ≡ length c.args.self.now.ops = ap (λ (b : BookData). length b.ops) c.self.view_is in
+    let size : length (map data_of c.self.inside.ops.items) ≡ length c.args.self.now.ops =
+    ap (λ (b : BookData). length b.ops) c.self.view_is in
     omega (arith, c.self.invariant.short)

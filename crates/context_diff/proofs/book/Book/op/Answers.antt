@@ -9,4 +9,5 @@ use Rattle.context_diff.proofs.book.Book.op.Goals as goal
 pub returns : goal.returns
 returns c =
     let ops : map data_of c.self.inside.ops.items ≡ c.args.self.now.ops = ap (λ (b : BookData). b.ops) c.self.view_is in
-    c.op_at.ensures ∙ (ap (λ (os : List Op). slice_get (map data_of os) c.args.i) c.as_slice.ensures.value ∙ ap (λ (h : List OpData). slice_get h c.args.i) ops)
+    c.op_at.ensures ∙ (ap (λ (os : List Op). slice_get (map data_of os) c.args.i) c.as_slice.ensures.value
+    ∙ ap (λ (h : List OpData). slice_get h c.args.i) ops)

@@ -34,7 +34,8 @@ drop_last-requires-clause-last c =
     let book = book_before c.self.inside.ops.items c.pop.new.self.items c.pop.result c.in_ok-op.op c.self.inside.have.set
     c.self.inside.have.room.own c.self.inside.inserts (counts_of c.self.inside.tallies) (places_of c.self.inside.tallies)
     c.self.inside.groups.entries c.self.inside.last c.self.inside.earlier c.self.invariant c.pop.ensures.items c.in_ok-op.was in
-    subst (IsLastMember c.self.inside.have.set) (sym c.as_member-member.ensures) (pop_last (map data_of c.pop.new.self.items) o c.self.inside.have.set book.members)
+    subst (IsLastMember c.self.inside.have.set) (sym c.as_member-member.ensures)
+    (pop_last (map data_of c.pop.new.self.items) o c.self.inside.have.set book.members)
 
 pub drop_last-requires-clause-own : goal.drop_last-requires-clause-own
 drop_last-requires-clause-own c =
@@ -48,7 +49,8 @@ without_insert-self-inside-requires c =
     let book = book_before c.self.inside.ops.items c.pop.new.self.items c.pop.result c.in_ok-op.op c.self.inside.have.set
     c.self.inside.have.room.own c.self.inside.inserts (counts_of c.self.inside.tallies) (places_of c.self.inside.tallies)
     c.self.inside.groups.entries c.self.inside.last c.self.inside.earlier c.self.invariant c.pop.ensures.items c.in_ok-op.was in
-    let bits : ◌≡◌ {A = ℕ} (if c.is_insert.result then 1 else 0) (if is_insert (data_of c.in_ok-op.op) then 1 else 0) = ap (λ b. if b then 1 else 0) c.is_insert.ensures in
+    let bits : ◌≡◌ {A = ℕ} (if c.is_insert.result then 1 else 0) (if is_insert (data_of c.in_ok-op.op) then 1 else 0) =
+    ap (λ b. if b then 1 else 0) c.is_insert.ensures in
     omega (arith, bits, book.inserts, made_push (map data_of c.pop.new.self.items) (data_of c.in_ok-op.op))
 
 pub invariant_of-self-2 : goal.invariant_of-self-2
@@ -70,7 +72,9 @@ invariant_of-self-2 c =
     (λ s. c.pop-2.ensures.counts s ∙ ap (λ (m : Member). without_last m s (counts_of c.self.inside.tallies s)) is)
     (λ s. c.pop-2.ensures.places s ∙ ap (λ (m : Member). without_last m s (places_of c.self.inside.tallies s)) is)
     (c.forget.ensures h o (sym is) unknown) in
-    let back = lowered_back h o c.self.inside.have.set c.drop_last.new.self.set c.as_member-member.result parts.0 parts.1 is (book.members ∙ context_push h o) c.known.ensures c.drop_last.ensures.members in
+    let back =
+    lowered_back h o c.self.inside.have.set c.drop_last.new.self.set c.as_member-member.result parts.0 parts.1 is
+    (book.members ∙ context_push h o) c.known.ensures c.drop_last.ensures.members in
     subst (λ (d : ContextData). IsBook h d c.drop_last.new.self.room.own c.without_insert-self-inside.result (counts_of c.pop-2.new.self)
     (places_of c.pop-2.new.self) c.forget.new.groups.entries None None) (sym back) less
 
@@ -78,7 +82,8 @@ pub returns-clause-none : goal.returns-clause-none
 returns-clause-none c =
     let whole = seen_pop c.self.inside.ops.items c.pop.new.self.items c.pop.result c.in_ok-op.op c.pop.ensures.items c.in_ok-op.was in
     let ops : map data_of c.self.inside.ops.items ≡ c.args.self.now.ops = ap (λ (b : BookData). b.ops) c.self.view_is in
-    let size : length c.args.self.now.ops ≡ length (map data_of c.pop.new.self.items) + 1 = ap length (sym ops ∙ whole) ∙ simp length-append (omega arith) in
+    let size : length c.args.self.now.ops ≡ length (map data_of c.pop.new.self.items) + 1 =
+    ap length (sym ops ∙ whole) ∙ simp length-append (omega arith) in
     (λ no. absurd (true≢false no), λ none. absurd (omega arith))
 
 pub returns-clause-ops : goal.returns-clause-ops

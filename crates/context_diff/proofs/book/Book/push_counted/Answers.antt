@@ -30,7 +30,8 @@ push-requires-clause-short c s =
     let h = map data_of c.self.inside.ops.items in
     let ops : h ≡ c.args.self.now.ops = ap (λ (b : BookData). b.ops) c.self.view_is in
     let size : length h ≡ length c.args.self.now.ops = ap length ops in
-    total_short h (complete h c.self.invariant.valid).formed s (counts_of c.self.inside.tallies s) (c.self.invariant.tallies s) (omega (arith, c.requires.room.short))
+    total_short h (complete h c.self.invariant.valid).formed s (counts_of c.self.inside.tallies s) (c.self.invariant.tallies s)
+    (omega (arith, c.requires.room.short))
 
 pub with_insert-self-inside-requires : goal.with_insert-self-inside-requires
 with_insert-self-inside-requires c =
@@ -72,4 +73,5 @@ invariant_of-self c =
 pub returns : goal.returns
 returns c =
     let ops : map data_of c.self.inside.ops.items ≡ c.args.self.now.ops = ap (λ (b : BookData). b.ops) c.self.view_is in
-    ap (map data_of) c.push_reserved.ensures.items ∙ (seen_push c.self.inside.ops.items c.args.op ∙ ap (λ (j : List OpData). j ++ data_of c.args.op ∷ []) ops)
+    ap (map data_of) c.push_reserved.ensures.items
+    ∙ (seen_push c.self.inside.ops.items c.args.op ∙ ap (λ (j : List OpData). j ++ data_of c.args.op ∷ []) ops)

@@ -19,7 +19,8 @@ returns-in-Original c =
     let n = c.in-Original.name in
     subst (λ (k : List OpData). IsPlaceOf k c.args.m.now c.place.result) ops
     (subst (λ (m : Member). IsPlaceOf h m c.place.result) (sym c.in-Original.is)
-    (original_place h (complete h c.self.invariant.valid) n _ (c.self.invariant.placed n.site) c.place.result (c.place.ensures ∙ (λ i. place_at (places_of c.self.inside.tallies (c.name.view_is i).site) (c.name.view_is i).number))))
+    (original_place h (complete h c.self.invariant.valid) n _ (c.self.invariant.placed n.site) c.place.result
+    (c.place.ensures ∙ (λ i. place_at (places_of c.self.inside.tallies (c.name.view_is i).site) (c.name.view_is i).number))))
 
 pub returns-in-Group : goal.returns-in-Group
 returns-in-Group c =
@@ -27,4 +28,5 @@ returns-in-Group c =
     let ops : h ≡ c.args.self.now.ops = ap (λ (b : BookData). b.ops) c.self.view_is in
     subst (λ (k : List OpData). IsPlaceOf k c.args.m.now c.place_of.result) ops
     (subst (IsPlaceOf h c.args.m.now) (sym c.place_of.ensures)
-    (subst (λ (m : Member). IsPlaceOf h m (lookup (member_eq m) c.self.inside.groups.entries)) (sym c.in-Group.is) (c.self.invariant.groups c.in-Group.field-0 c.in-Group.field-1)))
+    (subst (λ (m : Member). IsPlaceOf h m (lookup (member_eq m) c.self.inside.groups.entries)) (sym c.in-Group.is)
+    (c.self.invariant.groups c.in-Group.field-0 c.in-Group.field-1)))

@@ -8,10 +8,12 @@ returns-in-Some c =
     let n = c.in-Some.len.now in
     let bytes = c.self.inside.bytes.items in
     let ended : c.self.inside.ended.items ≡ n ∷ drop 1 c.self.inside.ended.items =
-    first_of n c.self.inside.ended.items (omega (arith, c.in-Some.ensures.variant.0 refl, c.self.inside.ended.ok.0)) c.in-Some.ensures.lookup in (
+    first_of n c.self.inside.ended.items (omega (arith, c.in-Some.ensures.variant.0 refl, c.self.inside.ended.ok.0))
+    c.in-Some.ensures.lookup in (
       record { bytes = take (kept_of n) bytes; len = n; ended = true },
       lines_cut (drop (kept_of n) bytes) (drop 1 c.self.inside.ended.items) c.self.inside.last,
-      rw (← c.self.view_is) (ap (λ (ns : List ℕ). lines_cut bytes ns c.self.inside.last) ended ∙ cut_more bytes n (drop 1 c.self.inside.ended.items) c.self.inside.last),
+      rw (← c.self.view_is) (ap (λ (ns : List ℕ). lines_cut bytes ns c.self.inside.last) ended
+          ∙ cut_more bytes n (drop 1 c.self.inside.ended.items) c.self.inside.last),
       rw (c.first.ensures, c.kept_of.ensures, c.as_slice.ensures) refl,
       refl,
     )
@@ -19,10 +21,12 @@ returns-in-Some c =
 pub returns-in-None : goal.returns-in-None
 returns-in-None c =
     let bytes = c.self.inside.bytes.items in
-    let none : c.self.inside.ended.items ≡ [] = none_of c.self.inside.ended.items _ c.in-None.ensures.variant.1 c.self.inside.ended.ok.0 in (
+    let none : c.self.inside.ended.items ≡ [] =
+    none_of c.self.inside.ended.items _ c.in-None.ensures.variant.1 c.self.inside.ended.ok.0 in (
       record { bytes = bytes; len = c.self.inside.last; ended = false },
       [],
-      rw (← c.self.view_is) (ap (λ (ns : List ℕ). lines_cut bytes ns c.self.inside.last) none ∙ cut_last bytes c.self.inside.last c.if-self-gt0.true),
+      rw (← c.self.view_is) (ap (λ (ns : List ℕ). lines_cut bytes ns c.self.inside.last) none
+          ∙ cut_last bytes c.self.inside.last c.if-self-gt0.true),
       sym c.as_slice-in-None.ensures,
       refl,
     )
@@ -32,4 +36,5 @@ returns-in-None-2 c =
     let bytes = c.self.inside.bytes.items in
     let none : c.self.inside.ended.items ≡ [] = none_of c.self.inside.ended.items _ c.in-None.ensures.variant.1 c.self.inside.ended.ok.0 in
     let zero : c.self.inside.last ≡ 0 = omega (arith, c.if-self-gt0.false) in
-    rw (← c.self.view_is) (ap (λ (ns : List ℕ). lines_cut bytes ns c.self.inside.last) none ∙ (ap (λ (n : ℕ). lines_cut bytes [] n) zero ∙ cut_none bytes))
+    rw (← c.self.view_is) (ap (λ (ns : List ℕ). lines_cut bytes ns c.self.inside.last) none
+    ∙ (ap (λ (n : ℕ). lines_cut bytes [] n) zero ∙ cut_none bytes))
