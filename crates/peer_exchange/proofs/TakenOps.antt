@@ -12,7 +12,8 @@ use Rattle.cot_site.proofs.CallerLemmas.{settled_stays, next_integrated, integra
 use Rattle.peer_exchange.specs.Joins.{unseen}
 use Rattle.peer_exchange.proofs.ValidJoins.{lacked_operations_are_next}
 use Rattle.peer_exchange.proofs.BothSides.{third_is}
-use Rattle.peer_exchange.specs.Taking.{Refusal, by_verdict, taken_in, NextOperationsAreTaken, BothSidesTakeAll, AreNew, NewOperationsAreAppended}
+use Rattle.peer_exchange.specs.Taking.{Refusal, by_verdict, taken_in, NextOperationsAreTaken, BothSidesTakeAll, AreNew}
+use Rattle.peer_exchange.specs.Taking.{NewOperationsAreAppended}
 
 abbrev state : ℕ → List OpData → State
 state n h = record { number = n; history = h; waiting = [] }
@@ -63,7 +64,8 @@ appended n h (o ∷ os) t v new e = go (λ valid got. appended n (h ++ o ∷ [])
     next : State → Result State Refusal
     next x = taken_in x os
 
-    go : (IsValid (h ++ o ∷ []) → taken_in (state n (h ++ o ∷ [])) os ≡ Ok t → t ≡ state n ((h ++ o ∷ []) ++ os)) → (x : Verdict) → verdict_of h [] o ≡ x → by_verdict x o (state n h) next ≡ Ok t → t ≡ state n (h ++ o ∷ os)
+    go : (IsValid (h ++ o ∷ []) → taken_in (state n (h ++ o ∷ [])) os ≡ Ok t → t ≡ state n ((h ++ o ∷ []) ++ os)) → (x : Verdict)
+        → verdict_of h [] o ≡ x → by_verdict x o (state n h) next ≡ Ok t → t ≡ state n (h ++ o ∷ os)
     go again Repeat is got = absurd (unknown_no_repeat h v o new.0 new.1 ((verdicts_exact h [] o Repeat v new.0).1 (sym is)))
     go again (Forged m) is got = absurd cc
     go again (Waits m) is got = absurd cc

@@ -15,32 +15,47 @@ loop-next-init c = taking_begins (state_of c.args.site.now) c.args.bytes.now c.r
 
 pub take_in-requires : goal.take_in-requires
 take_in-requires c =
-    let first = subst (λ (p : Option (Op × ℕ)). (os : List OpData) → IsThird c.loop-next.left.now os → IsFirstOf c.loop-next.left.now os p) c.in-Ok-Some.field-0-is c.in-Ok-Some.ensures.first in
-    next_formed (state_of c.args.site.now) c.args.bytes.now c.loop-next.left.now (state_of c.loop-next.site) c.loop-next.count c.in-Ok-Some.next c.loop-next.invariant first
+    let first =
+    subst (λ (p : Option (Op × ℕ)). (os : List OpData) → IsThird c.loop-next.left.now os → IsFirstOf c.loop-next.left.now os p)
+    c.in-Ok-Some.field-0-is c.in-Ok-Some.ensures.first in
+    next_formed (state_of c.args.site.now) c.args.bytes.now c.loop-next.left.now (state_of c.loop-next.site) c.loop-next.count
+    c.in-Ok-Some.next c.loop-next.invariant first
 
 pub overflow_add-count : goal.overflow_add-count
 overflow_add-count c =
     let few = c.loop-next.invariant.few in
-    let within = subst (λ (p : Option (Op × ℕ)). IfSome p (λ q. (1 ≤ q.1) × (q.1 ≤ length c.loop-next.left.now))) c.in-Ok-Some.field-0-is c.in-Ok-Some.ensures.within in
+    let within =
+    subst (λ (p : Option (Op × ℕ)). IfSome p (λ q. (1 ≤ q.1) × (q.1 ≤ length c.loop-next.left.now))) c.in-Ok-Some.field-0-is
+    c.in-Ok-Some.ensures.within in
     let short = c.requires.short in
     omega (arith, few, within.0, within.1, short)
 
 pub loop-next-preserved : goal.loop-next-preserved
 loop-next-preserved c =
-    let first = subst (λ (p : Option (Op × ℕ)). (os : List OpData) → IsThird c.loop-next.left.now os → IsFirstOf c.loop-next.left.now os p) c.in-Ok-Some.field-0-is c.in-Ok-Some.ensures.first in
-    let more = taking_more (state_of c.args.site.now) c.args.bytes.now c.loop-next.left.now (state_of c.loop-next.site) c.loop-next.count c.in-Ok-Some.next c.loop-next.invariant first
+    let first =
+    subst (λ (p : Option (Op × ℕ)). (os : List OpData) → IsThird c.loop-next.left.now os → IsFirstOf c.loop-next.left.now os p)
+    c.in-Ok-Some.field-0-is c.in-Ok-Some.ensures.first in
+    let more =
+    taking_more (state_of c.args.site.now) c.args.bytes.now c.loop-next.left.now (state_of c.loop-next.site) c.loop-next.count
+    c.in-Ok-Some.next c.loop-next.invariant first
     (state_of c.take_in.new.site) c.in_ok-take_in-in-Ok-Some.ensures.taken in
-    subst (λ (left : List ℕ). IsTaking (state_of c.args.site.now) c.args.bytes.now left (state_of c.take_in.new.site) (c.loop-next.count + 1)) (sym c.split_at.ensures.back) more
+    subst (λ (left : List ℕ). IsTaking (state_of c.args.site.now) c.args.bytes.now left (state_of c.take_in.new.site)
+    (c.loop-next.count + 1)) (sym c.split_at.ensures.back) more
 
 pub returns-in_err-take_in-in-Ok-Some-clause-untaken : goal.returns-in_err-take_in-in-Ok-Some-clause-untaken
 returns-in_err-take_in-in-Ok-Some-clause-untaken c =
     let s = state_of c.args.site.now in
     let t = state_of c.take_in.new.site in
     let why = c.in_err-take_in-in-Ok-Some.field-0.0 in
-    let first = subst (λ (p : Option (Op × ℕ)). (os : List OpData) → IsThird c.loop-next.left.now os → IsFirstOf c.loop-next.left.now os p) c.in-Ok-Some.field-0-is c.in-Ok-Some.ensures.first in
-    handed_on (λ (e : Peer). (os : List OpData) × IsThird c.args.bytes.now os × AreUntaken s os t e) c.from_residual.result why c.from_residual.ensures.1
-    (taking_stops s c.args.bytes.now c.loop-next.left.now (state_of c.loop-next.site) c.loop-next.count c.in-Ok-Some.next c.loop-next.invariant first t why c.in_err-take_in-in-Ok-Some.ensures.untaken)
+    let first =
+    subst (λ (p : Option (Op × ℕ)). (os : List OpData) → IsThird c.loop-next.left.now os → IsFirstOf c.loop-next.left.now os p)
+    c.in-Ok-Some.field-0-is c.in-Ok-Some.ensures.first in
+    handed_on (λ (e : Peer). (os : List OpData) × IsThird c.args.bytes.now os × AreUntaken s os t e) c.from_residual.result why
+    c.from_residual.ensures.1
+    (taking_stops s c.args.bytes.now c.loop-next.left.now (state_of c.loop-next.site) c.loop-next.count c.in-Ok-Some.next
+    c.loop-next.invariant first t why c.in_err-take_in-in-Ok-Some.ensures.untaken)
 
 pub returns-in-Err-clause-untaken : goal.returns-in-Err-clause-untaken
 returns-in-Err-clause-untaken c =
-    taking_fails (state_of c.args.site.now) c.args.bytes.now c.loop-next.left.now (state_of c.loop-next.site) c.loop-next.count c.loop-next.invariant
+    taking_fails (state_of c.args.site.now) c.args.bytes.now c.loop-next.left.now (state_of c.loop-next.site) c.loop-next.count
+    c.loop-next.invariant
