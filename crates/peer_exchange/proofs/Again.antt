@@ -11,14 +11,16 @@ use Rattle.context_diff.specs.Operations.{OpData, inserting, deleting, undoing, 
 use Rattle.context_diff.specs.Histories.{is_known, IsValid}
 use Rattle.context_diff.proofs.CallerLemmas.{contains_cases, contains_here, contains_later, contains_none, known_member}
 use Rattle.site_answers.specs.declared.verdict.Verdict.{Verdict}
-use Rattle.site_answers.specs.declared.verdict.Verdict.TheVariants.{Repeat, Forged, Waits, NotClosed, PlaceOut, Integrated}
+use Rattle.site_answers.specs.declared.verdict.Verdict.TheVariants.{Repeat}
 use Rattle.cot_site.specs.Verdicts.{IsRepeat}
 use Rattle.cot_site.specs.States.{State, Released, judged, delivered, after_verdict, released, released_at, IsSettled}
 use Rattle.cot_site.specs.Releases.{IsSound, IsLater, and_more, releases, all_releases, state_after, settled}
 use Rattle.cot_site.specs.Sites.{AllFormed}
 use Rattle.cot_site.proofs.CallerLemmas.{group_reached, settled_settles, settled_stays, sound_along, sound_delivered, unknown_no_repeat}
 use Rattle.cot_site.proofs.CallerLemmas.{verdicts_exact, after_append, after_more, after_none, later_on}
-use Rattle.peer_exchange.specs.Taking.{by_verdict, taken_in, IsPartlyTaken, IsBefore, IsOnTheWay}
+use Rattle.participant.specs.Taking.{is_had}
+use Rattle.peer_exchange.specs.Taking.{taken_in, IsPartlyTaken, IsBefore, IsOnTheWay}
+use Rattle.peer_exchange.proofs.FirstTaken.{had_cases, same_after_none, taken_first, first_taken}
 use Rattle.peer_exchange.proofs.LackedTaken.{known_later, has_later}
 use Rattle.peer_exchange.proofs.Later.{later_delivered, later_settled, settled_later, taking_in_keeps_histories}
 use Rattle.peer_exchange.proofs.Receivings.{taken_append}
@@ -59,35 +61,21 @@ judged_repeat : (t : State) (o : OpData) → IsSound t → IsWellFormed o → Ha
 judged_repeat t o sound formed has =
     sym ((verdicts_exact t.history t.waiting o Repeat sound.history formed).0 (repeat_of t.history o sound.history has))
 
--- so it is after a delivery that was accepted
-accepted_has : (s : State) (o : OpData) → IsSound s → IsWellFormed o → (judged s o ≡ Integrated) ⊎ (judged s o ≡ Repeat)
-    → Has (delivered s o).history o
-accepted_has s o sound formed (inl is) =
-    let more : (delivered s o).history ≡ s.history ++ o ∷ [] = ap (λ (x : Verdict). (after_verdict x o s).history) is in
-    let there : Contains (delivered s o).history o =
-    subst (λ (h : List OpData). Contains h o) (sym more) (Contains-append_right s.history (o ∷ []) o (contains_here o [])) in
-    record { known = known_member (delivered s o).history o there; same = λ n named. there }
-accepted_has s o sound formed (inr is) =
-    let same : delivered s o ≡ s = ap (λ (x : Verdict). after_verdict x o s) is in
-    let repeated : IsRepeat s.history o = (verdicts_exact s.history s.waiting o Repeat sound.history formed).1 (sym is) in
-    subst (λ (t : State). Has t.history o) (sym same) (has_of s.history o sound.history formed repeated)
+-- so it is after the delivery of an operation that is taken in
+had_has : (s : State) (o : OpData) → IsSound s → IsWellFormed o → is_had (judged s o) ≡ true → Has (delivered s o).history o
+had_has s o sound formed had = elim (had_cases (judged s o) had) [
+  | inl is ↦
+      let more : (delivered s o).history ≡ s.history ++ o ∷ [] = ap (λ (x : Verdict). (after_verdict x o s).history) is in
+      let there : Contains (delivered s o).history o =
+      subst (λ (h : List OpData). Contains h o) (sym more) (Contains-append_right s.history (o ∷ []) o (contains_here o [])) in
+      record { known = known_member (delivered s o).history o there; same = λ n named. there }
+  | inr is ↦
+      let same : delivered s o ≡ s = ap (λ (x : Verdict). after_verdict x o s) is in
+      let repeated : IsRepeat s.history o = (verdicts_exact s.history s.waiting o Repeat sound.history formed).1 (sym is) in
+      subst (λ (t : State). Has t.history o) (sym same) (has_of s.history o sound.history formed repeated)
+]
 
 -- ---- what was taken in is there
-
--- one operation, and what follows it
-first_taken : (s t : State) (o : OpData) (os : List OpData) → taken_in s (o ∷ os) ≡ Ok t
-    → ((judged s o ≡ Integrated) ⊎ (judged s o ≡ Repeat)) × (taken_in (settled (delivered s o)) os ≡ Ok t)
-unfolding taken_in
-first_taken s t o os e = go (judged s o) refl e
-  where
-    go : (v : Verdict) → judged s o ≡ v → by_verdict v o s (λ x. taken_in x os) ≡ Ok t
-        → ((judged s o ≡ Integrated) ⊎ (judged s o ≡ Repeat)) × (taken_in (settled (delivered s o)) os ≡ Ok t)
-    go Repeat is got = (inr is, got)
-    go (Forged n) is got = absurd (let never = got in cc)
-    go (Waits m) is got = absurd (let never = got in cc)
-    go (NotClosed k) is got = absurd (let never = got in cc)
-    go (PlaceOut p k) is got = absurd (let never = got in cc)
-    go Integrated is got = (inl is, got)
 
 all_behind : (o : OpData) (os : List OpData) → AllFormed (o ∷ os) → AllFormed os
 all_behind o os formed p at = formed p (contains_later o os p at)
@@ -104,14 +92,13 @@ taken_has s t (p ∷ os) sound formed e o at =
     elim (contains_cases p os o at) [
       | inl same ↦ subst (Has t.history) same
           (has_on (delivered s p) t p (later_on (delivered s p) next t (settled_later s p sound fine) to_end)
-          (accepted_has s p sound fine first.0))
+          (had_has s p sound fine first.0))
       | inr later ↦ taken_has next t os sound_next (all_behind p os formed) first.1 o later
     ]
 
 -- and nothing is ready then
 taken_settled : (s t : State) (os : List OpData) → IsSound s → AllFormed os → IsSettled s → taken_in s os ≡ Ok t → IsSettled t
-unfolding taken_in
-taken_settled s t [] sound formed settles e = let same : s ≡ t = cc in subst IsSettled same settles
+taken_settled s t [] sound formed settles e = subst IsSettled (same_after_none s t e) settles
 taken_settled s t (o ∷ os) sound formed settles e =
     let fine = formed o (contains_here o os) in
     let first = first_taken s t o os e in
@@ -121,10 +108,9 @@ taken_settled s t (o ∷ os) sound formed settles e =
 -- ---- repeats once more
 
 repeat_first : (t : State) (o : OpData) (os : List OpData) → judged t o ≡ Repeat → taken_in t (o ∷ os) ≡ taken_in (settled t) os
-unfolding taken_in
 repeat_first t o os is =
     let same : delivered t o ≡ t = ap (λ (x : Verdict). after_verdict x o t) is in
-    ap (λ (x : Verdict). by_verdict x o t (λ y. taken_in y os)) is ∙ ap (λ (y : State). taken_in (settled y) os) same
+    taken_first t o os (ap is_had is) ∙ ap (λ (y : State). taken_in (settled y) os) same
 
 repeats_pass : (u : State) (xs os : List OpData) → IsSound u → IsSettled u → AllFormed xs → ((o : OpData) → Contains xs o → Has u.history o)
     → taken_in u (xs ++ os) ≡ taken_in u os
@@ -212,13 +198,6 @@ taken_again s at (o ∷ before) behind sound formed e =
     (settled_settles (delivered s o) (sound_delivered s o sound fine)) first.1 in
     repeats_pass at (o ∷ before) behind later.0 settles formed (taken_has s at (o ∷ before) sound formed e)
 
--- an accepted operation is taken in, and those after it
-accepted_first : (at : State) (o : OpData) (os : List OpData) → (judged at o ≡ Integrated) ⊎ (judged at o ≡ Repeat)
-    → taken_in at (o ∷ os) ≡ taken_in (settled (delivered at o)) os
-unfolding taken_in
-accepted_first at o os (inl is) = ap (λ (x : Verdict). by_verdict x o at (λ y. taken_in y os)) is
-accepted_first at o os (inr is) = ap (λ (x : Verdict). by_verdict x o at (λ y. taken_in y os)) is
-
 -- all operations of the front that are there again are repeats, the first of which lets go what is ready
 front_again : (t : State) (before : List OpData) (o : OpData) (os : List OpData) → IsSound t → AllFormed (before ++ o ∷ [])
     → ((p : OpData) → Contains (before ++ o ∷ []) p → Has t.history p)
@@ -237,9 +216,11 @@ partly_again s at t before o os sound formed e p =
     let to_at = taking_in_keeps_histories s at before sound front e in
     let d = delivered at o in
     let sound_d = sound_delivered at o to_at.0 fine in
-    let along = sound_along (length d.waiting) d p.done p.left sound_d p.releases in
-    let sound_t : IsSound t = subst IsSound (sym p.state) along.0 in
-    let later_d : IsLater d t = subst (IsLater d) (sym p.state) along.1 in
+    let half = p.untaken.2 in
+    let had : is_had (judged at o) ≡ true = subst (λ (v : Verdict). is_had v ≡ true) p.untaken.1 p.untaken.0 in
+    let along = sound_along (length d.waiting) d half.done half.left sound_d half.parts in
+    let sound_t : IsSound t = subst IsSound (sym half.state) along.0 in
+    let later_d : IsLater d t = subst (IsLater d) (sym half.state) along.1 in
     let all : AllFormed (before ++ o ∷ []) = λ q there. elim (Contains-append_cases before (o ∷ []) q there) [
       | inl old ↦ front q old
       | inr last ↦ elim (contains_cases o [] q last) [
@@ -253,13 +234,13 @@ partly_again s at t before o os sound formed e p =
     λ q there. elim (Contains-append_cases before (o ∷ []) q there) [
       | inl old ↦ has_on at t q later_at (taken_has s at before sound front e q old)
       | inr last ↦ elim (contains_cases o [] q last) [
-        | inl same ↦ subst (Has t.history) same (has_on d t o later_d (accepted_has at o to_at.0 fine p.accepted))
+        | inl same ↦ subst (Has t.history) same (has_on d t o later_d (had_has at o to_at.0 fine had))
         | inr never ↦ absurd (contains_none q never)
       ]
     ] in
     front_again t before o os sound_t all has
-    ∙ (ap (λ (x : State). taken_in x os) (ap settled p.state ∙ left_settles d p.done p.left sound_d p.releases)
-    ∙ sym (accepted_first at o os p.accepted))
+    ∙ (ap (λ (x : State). taken_in x os) (ap settled half.state ∙ left_settles d half.done half.left sound_d half.parts)
+    ∙ sym (taken_first at o os had))
 
 reached_again : (s at t : State) (before behind : List OpData) → IsSound s → AllFormed (before ++ behind)
     → taken_in s before ≡ Ok at → IsBefore at behind t

@@ -19,10 +19,12 @@ use Rattle.cot_site.specs.Verdicts.{IsRepeat, HasOther}
 use Rattle.cot_site.specs.States.{State, judged, delivered, after_verdict}
 use Rattle.cot_site.specs.Releases.{IsSound, IsLater, settled}
 use Rattle.cot_site.proofs.CallerLemmas.{group_reached, next_integrated, verdicts_exact}
+use Rattle.participant.specs.Taking.{is_had}
 use Rattle.peer_exchange.specs.Joins.{unseen}
 use Rattle.peer_exchange.specs.Taking.{taken_in, LackedOperationsAreTaken}
 use Rattle.peer_exchange.proofs.Unseen.{unseen_contains, unseen_old, unseen_new}
-use Rattle.peer_exchange.proofs.Receivings.{taken_append, taken_by, taken_none}
+use Rattle.peer_exchange.proofs.FirstTaken.{taken_none, taken_first}
+use Rattle.peer_exchange.proofs.Receivings.{taken_append}
 use Rattle.peer_exchange.proofs.Later.{later_settled, settled_later, taking_in_keeps_histories}
 use Rattle.peer_exchange.proofs.Origins.{comes_taken}
 
@@ -128,11 +130,13 @@ module _ (s : State) (p : List OpData) (sound : IsSound s) (w : IsValid p) (agre
           let there = next_elsewhere took.t.history q o later.0.history v agrees (λ m e. took.knows m (next.ready m e)) fresh next in
           next_integrated took.t.history took.t.waiting o later.0.history next.formed there alone
 
-      accepted : (judged took.t o ≡ Integrated) ⊎ (judged took.t o ≡ Repeat)
-      accepted = elim (cases_Bool (is_known took.t.history (member_of o))) [
-        | inl known ↦ inr (repeated known)
-        | inr fresh ↦ inl (integrated fresh)
-      ]
+      had : is_had (judged took.t o) ≡ true
+      had =
+          elim (cases_Bool (is_known took.t.history (member_of o))) [
+            | inl known ↦ ap is_had (repeated known)
+            | inr fresh ↦ ap is_had
+                (integrated fresh)
+          ]
 
       known_then : is_known (delivered took.t o).history (member_of o) ≡ true
       known_then = elim (cases_Bool (is_known took.t.history (member_of o))) [
@@ -151,7 +155,7 @@ module _ (s : State) (p : List OpData) (sound : IsSound s) (w : IsValid p) (agre
         t = settled (delivered took.t o);
         taken = ap (taken_in s) (unseen_new (is_known s.history) q o new)
             ∙ (taken_append s took.t (unseen (is_known s.history) q) (o ∷ []) took.taken
-            ∙ taken_by took.t (settled (delivered took.t o)) o accepted refl);
+            ∙ (taken_first took.t o [] had ∙ taken_none (settled (delivered took.t o))));
         knows = λ m e. elim (or_cases (is_known q m) (member_eq (member_of o) m) (sym (known_push q o m) ∙ e)) [
           | inl old ↦ known_later took.t (settled (delivered took.t o)) (later_settled took.t o later.0 next.formed).1 m (took.knows m old)
           | inr same ↦ ap (is_known (settled (delivered took.t o)).history) (sym (member_same (member_of o) m same)) ∙ known_at_end

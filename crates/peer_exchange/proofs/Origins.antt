@@ -12,8 +12,9 @@ use Rattle.site_answers.specs.declared.verdict.Verdict.TheVariants.{Repeat, Forg
 use Rattle.cot_site.specs.States.{State, Released, held, judged, delivered, after_verdict, first_ready, released, released_at}
 use Rattle.cot_site.specs.States.{without_waiting, delivered_again}
 use Rattle.cot_site.specs.Releases.{and_more, releases, state_after, settled}
-use Rattle.peer_exchange.specs.Taking.{by_verdict, taken_in}
 use Rattle.cot_site.proofs.CallerLemmas.{got_there}
+use Rattle.peer_exchange.specs.Taking.{taken_in}
+use Rattle.peer_exchange.proofs.FirstTaken.{same_after_none, first_taken}
 
 pub record ComesFrom (s t : State) (os : List OpData) : Type 0 where
   pub history : (x : OpData) → Contains t.history x → Contains s.history x ⊎ (Contains s.waiting x ⊎ Contains os x)
@@ -145,24 +146,13 @@ comes_by_one s o =
     (comes_settled (length d.waiting) d)
 
 pub comes_taken : (s t : State) (os : List OpData) → taken_in s os ≡ Ok t → ComesFrom s t os
-unfolding taken_in
-comes_taken s t [] e = let same : s ≡ t = cc in subst (λ (x : State). ComesFrom s x []) same (comes_same s [])
-comes_taken s t (o ∷ os) e = go (λ got. comes_taken (settled (delivered s o)) t os got) (judged s o) e
+comes_taken s t [] e = subst (λ (x : State). ComesFrom s x []) (same_after_none s t e) (comes_same s [])
+comes_taken s t (o ∷ os) e =
+    comes_on s (settled (delivered s o)) t (o ∷ []) os (o ∷ os) here (λ x at. contains_later o os x at) (comes_by_one s o)
+    (comes_taken (settled (delivered s o)) t os (first_taken s t o os e).1)
   where
     here : (x : OpData) → Contains (o ∷ []) x → Contains (o ∷ os) x
     here x at = elim (contains_cases o [] x at) [
       | inl same ↦ subst (λ (z : OpData). Contains (o ∷ os) z) same (contains_here o os)
       | inr none ↦ absurd (contains_none x none)
     ]
-
-    on : ComesFrom (settled (delivered s o)) t os → ComesFrom s t (o ∷ os)
-    on rest = comes_on s (settled (delivered s o)) t (o ∷ []) os (o ∷ os) here (λ x at. contains_later o os x at) (comes_by_one s o) rest
-
-    go : (taken_in (settled (delivered s o)) os ≡ Ok t → ComesFrom (settled (delivered s o)) t os) → (v : Verdict)
-        → by_verdict v o s (λ x. taken_in x os) ≡ Ok t → ComesFrom s t (o ∷ os)
-    go again Repeat got = on (again got)
-    go again (Forged n) got = absurd (let never = got in cc)
-    go again (Waits m) got = absurd (let never = got in cc)
-    go again (NotClosed k) got = absurd (let never = got in cc)
-    go again (PlaceOut p k) got = absurd (let never = got in cc)
-    go again Integrated got = on (again got)

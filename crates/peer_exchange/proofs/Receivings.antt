@@ -11,64 +11,30 @@ use Rattle.context_diff.specs.Operations.{OpData, IsWellFormed}
 use Rattle.context_diff.specs.declared.op.Op.{Op}
 use Rattle.context_diff.specs.Ops.{data_of}
 use Rattle.context_diff.proofs.CallerLemmas.{contains_here, contains_later}
-use Rattle.site_answers.specs.declared.verdict.Verdict.{Verdict}
-use Rattle.site_answers.specs.declared.verdict.Verdict.TheVariants.{Repeat, Forged, Waits, NotClosed, PlaceOut, Integrated}
-use Rattle.cot_site.specs.States.{State, judged, delivered}
-use Rattle.site_answers.specs.declared.release.Release.{Release}
-use Rattle.cot_site.specs.Releases.{all_releases, state_after, settled, IsPartlySettled}
+use Rattle.cot_site.specs.States.{State, delivered}
+use Rattle.cot_site.specs.Releases.{settled}
 use Rattle.wire_codec.specs.declared.fault.Refused.{Refused}
 use Rattle.wire_codec.specs.Spelling.{frame, body_bytes}
 use Rattle.wire_codec.specs.Judging.{length_of}
+use Rattle.wire_codec.specs.Answers.{HasFrame}
 use Rattle.wire_codec.proofs.CallerLemmas.{body_short, body_long}
 use Rattle.peer_exchange.specs.declared.peer.Peer.{Peer}
 use Rattle.peer_exchange.specs.declared.peer.Peer.TheVariants as peer
 use Rattle.peer_exchange.specs.Messages.{end_mark, IsThird}
-use Rattle.peer_exchange.specs.Taking.{Refusal, by_verdict, taken_in, IsPartlyTaken, IsBefore, IsOnTheWay, IsRefusedAt}
+use Rattle.peer_exchange.specs.Taking.{Refusal, taken_in, IsBefore, IsOnTheWay, IsRefusedAt}
 use Rattle.peer_exchange.specs.Code.Receiving.{no_frame, IsUntaken, AreUntaken, IsFirstOf}
+use Rattle.peer_exchange.proofs.FirstTaken.{taken_none, same_after_none, taken_first, first_taken, still_refused}
 
 -- what follows is taken in at the state that those before left
 pub taken_append : (s at : State) (before os : List OpData) → taken_in s before ≡ Ok at → taken_in s (before ++ os) ≡ taken_in at os
-unfolding taken_in
-taken_append s at [] os e = let same : s ≡ at = cc in ap (λ (t : State). taken_in t os) same
-taken_append s at (o ∷ before) os e = go (λ t got. taken_append t at before os got) (judged s o) e
-  where
-    go : ((t : State) → taken_in t before ≡ Ok at → taken_in t (before ++ os) ≡ taken_in at os)
-        → (v : Verdict) → by_verdict v o s (λ t. taken_in t before) ≡ Ok at → by_verdict v o s
-        (λ t. taken_in t (before ++ os)) ≡ taken_in at os
-    go again Repeat got = again (settled (delivered s o)) got
-    go again (Forged n) got = absurd (let never = got in cc)
-    go again (Waits m) got = absurd (let never = got in cc)
-    go again (NotClosed k) got = absurd (let never = got in cc)
-    go again (PlaceOut p k) got = absurd (let never = got in cc)
-    go again Integrated got = again (settled (delivered s o)) got
-
-pub taken_none : (s : State) → taken_in s [] ≡ Ok s
-unfolding taken_in
-taken_none s = refl
-
--- a refusal is one whatever follows it
-refused_first : (t : State) (o : OpData) (os : List OpData) (why : Refusal) → taken_in t (o ∷ []) ≡ Err why → taken_in t (o ∷ os) ≡ Err why
-unfolding taken_in
-refused_first t o os why e = go (judged t o) e
-  where
-    go : (v : Verdict) → by_verdict v o t (λ x. taken_in x []) ≡ Err why → by_verdict v o t (λ x. taken_in x os) ≡ Err why
-    go Repeat is = absurd (let never = is in cc)
-    go (Forged n) is = is
-    go (Waits m) is = is
-    go (NotClosed k) is = is
-    go (PlaceOut p k) is = is
-    go Integrated is = absurd (let never = is in cc)
+taken_append s at [] os e = ap (λ (t : State). taken_in t os) (same_after_none s at e)
+taken_append s at (o ∷ before) os e =
+    let first = first_taken s at o before e in
+    taken_first s o (before ++ os) first.0 ∙ taken_append (settled (delivered s o)) at before os first.1
 
 pub refused_is : (s : State) (os : List OpData) (t : State) (why : Refusal) → IsRefusedAt s os t why → taken_in s os ≡ Err why
 refused_is s os t why r =
-    ap (taken_in s) r.parts ∙ (taken_append s t r.before (r.op ∷ r.behind) r.taken ∙ refused_first t r.op r.behind why r.refused)
-
--- the states after one operation
-pub taken_by : (s t : State) (o : OpData) → (judged s o ≡ Integrated) ⊎ (judged s o ≡ Repeat) → t ≡ settled (delivered s o)
-    → taken_in s (o ∷ []) ≡ Ok t
-unfolding taken_in
-taken_by s t o (inl v) e = ap (λ (x : Verdict). by_verdict x o s (λ y. Ok y)) v ∙ ap (λ (y : State). Ok y) (sym e)
-taken_by s t o (inr v) e = ap (λ (x : Verdict). by_verdict x o s (λ y. Ok y)) v ∙ ap (λ (y : State). Ok y) (sym e)
+    ap (taken_in s) r.parts ∙ (taken_append s t r.before (r.op ∷ r.behind) r.taken ∙ still_refused t r.op r.behind why r.refused)
 
 -- so many operations were taken in, and the frames of the others are left
 pub record IsTaking (s : State) (bytes left : List ℕ) (now : State) (count : ℕ) : Type 0 where
@@ -81,9 +47,8 @@ pub record IsTaking (s : State) (bytes left : List ℕ) (now : State) (count : �
   pub few : count + length left ≤ length bytes
 
 pub taking_begins : (s : State) (bytes : List ℕ) → (os : List OpData) × IsThird bytes os → IsTaking s bytes bytes s 0
-unfolding taken_in
 taking_begins s bytes are =
-    record { done = []; others = are.0; all = are.1; behind = are.1; taken = refl; counted = refl; few = omega arith }
+    record { done = []; others = are.0; all = are.1; behind = are.1; taken = taken_none s; counted = refl; few = omega arith }
 
 module _ (s : State) (bytes left : List ℕ) (now : State) (count : ℕ) (p : Op × ℕ) (w : IsTaking s bytes left now count)
     (first : (os : List OpData) → IsThird left os → IsFirstOf left os (Some p)) where
@@ -170,17 +135,6 @@ module _ (s : State) (bytes left : List ℕ) (now : State) (count : ℕ) (p : Op
             reached = is;
           }
 
--- delivered, with some of the releases after it
-pub partly : (s d t : State) (o : OpData) (old new : List Release) → (judged s o ≡ Integrated) ⊎ (judged s o ≡ Repeat) → d ≡ delivered s o
-    → IsPartlySettled d t old new → IsPartlyTaken s o t
-partly s d t o old new accepted is p = record {
-  accepted = accepted;
-  done = p.done;
-  left = p.left;
-  releases = ap all_releases (sym is) ∙ p.parts;
-  state = p.state ∙ ap (λ (x : State). state_after x p.done) is;
-}
-
 -- where none of these operations is taken in yet
 pub none_taken : (s : State) (os : List OpData) → IsBefore s os s
 none_taken s [] = refl
@@ -188,23 +142,6 @@ none_taken s (o ∷ os) = inl refl
 
 pub none_on_the_way : (s : State) (os : List OpData) → IsOnTheWay s os s
 none_on_the_way s os = record { before = []; behind = os; parts = refl; at = s; taken = taken_none s; reached = none_taken s os }
-
--- out of memory before the next operation was there
-pub taking_fails : (s : State) (bytes left : List ℕ) (now : State) (count : ℕ) → IsTaking s bytes left now count
-    → (os : List OpData) × IsThird bytes os × AreUntaken s os now peer.Memory
-taking_fails s bytes left now count w = (
-  w.done ++ w.others,
-  w.all,
-  record {
-    before = w.done;
-    behind = w.others;
-    parts = refl;
-    at = now;
-    taken = w.taken;
-    reached = none_taken
-        now w.others;
-  },
-)
 
 -- ---- the first frame
 
@@ -280,3 +217,57 @@ decoded_never bytes r e only os are =
     let t = frame_there bytes os e are in
     let is = only t.op (flat_map frame t.later ++ end_mark) t.formed t.parts in
     cc
+
+-- ---- a message with an operation begins with a frame
+
+begins_with : (bytes : List ℕ) (o : OpData) (os : List OpData) → IsThird bytes (o ∷ os) → HasFrame bytes
+begins_with bytes o os are =
+    let behind = flat_map frame os ++ end_mark in
+    let n = length (frame o) in
+    let text = first_frame bytes o os are in
+    let rest : drop n bytes ≡ behind = ap (drop n) text ∙ drop_at (frame o) behind n refl in (
+      n,
+      record {
+        op = o;
+        is = record {
+          well = are.formed o (contains_here o os);
+          size = refl;
+          parts = text
+              ∙ ap (λ (xs : List ℕ). frame o ++ xs) (sym rest);
+        };
+      },
+    )
+
+has_frame : (bytes : List ℕ) (done : List OpData) (o : OpData) (behind : List OpData) → IsThird bytes (done ++ o ∷ behind) → HasFrame bytes
+has_frame bytes [] o behind are = begins_with bytes o behind are
+has_frame bytes (p ∷ done) o behind are = begins_with bytes p (done ++ o ∷ behind) are
+
+-- a frame is left
+pub frame_left : (s : State) (bytes left : List ℕ) (now : State) (count : ℕ) → IsTaking s bytes left now count → no_frame left ≡ false
+    → HasFrame bytes
+frame_left s bytes left now count w e =
+    let t = frame_there left w.others e w.behind in
+    has_frame bytes w.done t.op t.later (subst (λ (os : List OpData). IsThird bytes (w.done ++ os)) t.split w.all)
+
+-- out of memory before the next operation was there
+pub taking_fails : (s : State) (bytes left : List ℕ) (now : State) (count : ℕ) → IsTaking s bytes left now count
+    → (os : List OpData) × IsThird bytes os × AreUntaken s os now peer.Memory
+taking_fails s bytes left now count w = (
+  w.done ++ w.others,
+  w.all,
+  record {
+    before = w.done;
+    behind = w.others;
+    parts = refl;
+    at = now;
+    taken = w.taken;
+    reached = none_taken
+        now w.others;
+  },
+)
+
+pub next_left : (s : State) (bytes left : List ℕ) (now : State) (count : ℕ) (p : Op × ℕ) → IsTaking s bytes left now count
+    → ((os : List OpData) → IsThird left os → IsFirstOf left os (Some p)) → HasFrame bytes
+next_left s bytes left now count p w first =
+    let n = next_of s bytes left now count p w first in
+    has_frame bytes w.done (data_of p.0) n.later (subst (λ (os : List OpData). IsThird bytes (w.done ++ os)) n.split w.all)
