@@ -19,7 +19,17 @@ use std::alloc::Global;
 use wire_codec::{Decoded, decode};
 
 // Takes in an operation that a peer sent, unless its verdict refuses it. The list is only room.
-fn take_next(site: &mut Site, op: &mut Op, room: &mut Vec<Release>) -> Result<(), Peer>
+fn take_next(site: &mut Site, op: Op, room: &mut Vec<Release>) -> Result<(), Peer>
+    requires { IsWellFormed (data_of op) }
+    ensures taken { OnOk result (taken_in (state_of site.old) (data_of op ∷ []) ≡ Ok (state_of site.new)) }
+    ensures untaken { IfErr result (IsUntaken (state_of site.old) (data_of op) (state_of site.new)) }
+{
+    let mut op = op;
+    take_lent(site, &mut op, room)
+}
+
+// The same of an operation that the caller gives up: a loop with many exits over an owned one makes its proof long.
+fn take_lent(site: &mut Site, op: &mut Op, room: &mut Vec<Release>) -> Result<(), Peer>
     requires { IsWellFormed (data_of op.old) }
     ensures taken { OnOk result (taken_in (state_of site.old) (data_of op.old ∷ []) ≡ Ok (state_of site.new)) }
     ensures untaken { IfErr result (IsUntaken (state_of site.old) (data_of op.old) (state_of site.new)) }
@@ -78,8 +88,7 @@ pub(crate) fn take_frames(alloc: Global, site: &mut Site, bytes: &[u8]) -> Resul
         match first(alloc, left) {
             Ok(Some(next)) => {
                 let (op, used) = next;
-                let mut op = op;
-                take_next(site, &mut op, &mut room)?;
+                take_next(site, op, &mut room)?;
                 let (_, rest) = left.split_at(used as usize);
                 left = rest;
                 count += 1;
