@@ -1,7 +1,7 @@
 -- Operations of a message are taken in one after the other.
 use Rattle.std.proofs.Common.{◌≡◌, ℕ, ◌+◌, ◌≤◌, ltb, eqb, true, false, inl, inr, List, [], ◌∷◌, ◌++◌, length, drop, refl, ap, sym}
 use Rattle.std.proofs.Common.{subst, ◌∙◌, append_assoc, Result, Ok, Err, arith}
-use Rattle.std.specs.Prelude.{Contains, ◌⊎◌, Some, None}
+use Rattle.std.specs.Prelude.{Contains, Some, None}
 use Rattle.std.proofs.lemmas.Bool.{cases_Bool, false≢true, le-ltb, eqb-true}
 use Rattle.std.proofs.lemmas.Nat.{from_be_bytes-to_be_bytes_4}
 use Rattle.std.specs.List.{flat_map}

@@ -6,7 +6,6 @@ use Rattle.std.specs.Io.KnownBytes.{Appends}
 use Rattle.outside_io.specs.Ends.{End, nothing_of, linked_to, shut_of}
 use Rattle.context_diff.specs.Histories.{IsValid}
 use Rattle.cot_site.specs.States.{State}
-use Rattle.peer_exchange.specs.declared.messages.Which.{Which}
 use Rattle.peer_exchange.specs.declared.messages.Which.TheVariants.{First, Second, Third}
 use Rattle.peer_exchange.specs.declared.messages.PeerCause.{PeerCause}
 use Rattle.peer_exchange.specs.declared.messages.PeerCause.TheVariants.{Limit}
