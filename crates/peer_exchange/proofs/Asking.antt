@@ -1,5 +1,6 @@
 -- A message that was read no further than it asked for is read to no byte past its end.
-use Rattle.std.proofs.Common.{◌≡◌, ℕ, suc, zero, ◌+◌, ◌-◌, ◌<◌, ◌≤◌, ltb, eqb, Bool, true, false, cond, List, [], ◌++◌, length, take, drop, Result, Ok, Err, refl, sym, ap, subst, ◌∙◌, arith, inl, inr}
+use Rattle.std.proofs.Common.{◌≡◌, ℕ, suc, zero, ◌+◌, ◌-◌, ◌<◌, ◌≤◌, ltb, eqb, Bool, true, false, cond, List, [], ◌++◌, length, take}
+use Rattle.std.proofs.Common.{drop, Result, Ok, Err, refl, sym, ap, subst, ◌∙◌, arith, inl, inr}
 use Rattle.std.specs.List.{starts_with}
 use Rattle.std.specs.Int.{w32, from_be_bytes}
 use Rattle.std.proofs.lemmas.Bool.{cases_Bool, ltb-true, ltb-false, le-ltb}
@@ -18,7 +19,8 @@ use Rattle.wire_codec.specs.Answers.{scan_of}
 use Rattle.wire_codec.specs.declared.fault.Unread.{Unread}
 use Rattle.wire_codec.specs.declared.fault.Unread.TheVariants as unread
 use Rattle.wire_codec.specs.States.{state_bytes, judge_state, state_scan_of}
-use Rattle.wire_codec.proofs.CallerLemmas.{IsBytes, IsBytes-drop, IsBytes-take, body_short, judge_takes, judge_more, cond_err, state_takes, state_more, state_needs}
+use Rattle.wire_codec.proofs.CallerLemmas.{IsBytes, IsBytes-drop, IsBytes-take, body_short, judge_takes, judge_more, cond_err}
+use Rattle.wire_codec.proofs.CallerLemmas.{state_takes, state_more, state_needs}
 use Rattle.peer_exchange.specs.declared.messages.Which.{Which}
 use Rattle.peer_exchange.specs.declared.stages.Stage.{Stage}
 use Rattle.peer_exchange.specs.declared.stages.Stage.TheVariants.{Head, State, Frames}
@@ -27,7 +29,8 @@ use Rattle.peer_exchange.specs.declared.stages.Piece.TheVariants as part
 use Rattle.peer_exchange.specs.declared.messages.PeerCause.TheVariants as causes
 use Rattle.peer_exchange.specs.declared.messages.Measure.{Measure}
 use Rattle.peer_exchange.specs.declared.messages.Measure.TheVariants as whole
-use Rattle.peer_exchange.specs.Measuring.{start, head, head_piece, stated, state_piece, framed, frame_piece, piece_of, after_piece, pieces, measure_of}
+use Rattle.peer_exchange.specs.Measuring.{start, head, head_piece, stated, state_piece, framed, frame_piece, piece_of, after_piece}
+use Rattle.peer_exchange.specs.Measuring.{pieces, measure_of}
 use Rattle.peer_exchange.specs.Measuring.{NotPast}
 use Rattle.peer_exchange.proofs.Staying.{is_there, first_no, first_yes, by_false, by_true}
 use Rattle.peer_exchange.proofs.Going.{enough}
@@ -49,10 +52,13 @@ EndsAt n (part.Whole used) = used ≡ n
 EndsAt n (part.More k) = Unit {0}
 EndsAt n (part.Bad offset cause) = Unit {0}
 
-head_ends : (frames : Bool) (bytes tail : List ℕ) (m : ℕ) → head_piece frames bytes ≡ part.More m → length (bytes ++ tail) ≤ m → EndsAt (length (bytes ++ tail)) (head_piece frames (bytes ++ tail))
+head_ends : (frames : Bool) (bytes tail : List ℕ) (m : ℕ) → head_piece frames bytes ≡ part.More m → length (bytes ++ tail) ≤ m
+    → EndsAt (length (bytes ++ tail)) (head_piece frames (bytes ++ tail))
 head_ends frames bytes tail m e within =
     let is_head = starts_with (λ (x : ℕ) (y : ℕ). eqb x y) bytes head in
-    let short = first_yes (ltb (length bytes) 8) (part.More 8) (cond is_head (part.Got (State frames) 8) (part.Bad 0 causes.Head)) (part.More m) e (not_more is_head m) in
+    let short =
+    first_yes (ltb (length bytes) 8) (part.More 8) (cond is_head (part.Got (State frames) 8) (part.Bad 0 causes.Head)) (part.More m) e
+    (not_more is_head m) in
     let eight : 8 ≡ m = let is = short.1 in cc in
     by_cases (bytes ++ tail) (omega (arith, within, eight))
   where
@@ -72,13 +78,15 @@ head_ends frames bytes tail m e within =
 
 -- ---- states
 
-stated_more : (frames : Bool) (j : Result (ContextData × ℕ) Unread) (m : ℕ) → stated frames (state_scan_of j) ≡ part.More m → j ≡ Err (unread.More m)
+stated_more : (frames : Bool) (j : Result (ContextData × ℕ) Unread) (m : ℕ) → stated frames (state_scan_of j) ≡ part.More m
+    → j ≡ Err (unread.More m)
 stated_more true (Ok x) m e = absurd cc
 stated_more false (Ok x) m e = absurd cc
 stated_more frames (Err (unread.More n)) m e = let same : n ≡ m = cc in λ i. Err (unread.More (same i))
 stated_more frames (Err (unread.Bad f)) m e = absurd cc
 
-state_ends : (frames : Bool) (bytes tail : List ℕ) (m : ℕ) → IsBytes (bytes ++ tail) → state_piece frames bytes ≡ part.More m → length (bytes ++ tail) ≤ m → EndsAt (length (bytes ++ tail)) (state_piece frames (bytes ++ tail))
+state_ends : (frames : Bool) (bytes tail : List ℕ) (m : ℕ) → IsBytes (bytes ++ tail) → state_piece frames bytes ≡ part.More m
+    → length (bytes ++ tail) ≤ m → EndsAt (length (bytes ++ tail)) (state_piece frames (bytes ++ tail))
 state_ends frames bytes tail m fits e within = go (judge_state all) refl
   where
     all : List ℕ
@@ -92,7 +100,8 @@ state_ends frames bytes tail m fits e within = go (judge_state all) refl
     go (Ok x) got =
         let is = state_takes all x.0 x.1 fits got in
         let size = is.size in
-        let total : length all ≡ length (state_bytes x.0) + length (drop x.1 all) = ap length is.parts ∙ length-append (state_bytes x.0) (drop x.1 all) in
+        let total : length all ≡ length (state_bytes x.0) + length (drop x.1 all) =
+        ap length is.parts ∙ length-append (state_bytes x.0) (drop x.1 all) in
         let needs = state_needs bytes tail x.0 x.1 m (stated_more frames (judge_state bytes) m e) got in
         both frames x.0 x.1 (omega (arith, within, needs, size, total))
     go (Err (unread.More n)) got = tt
@@ -128,7 +137,8 @@ framed_ends all fits few = go (judge all) refl
     go : (j : Result (OpData × ℕ) Refused) → judge all ≡ j → EndsAt (length all) (framed (scan_of j))
     go (Ok x) e =
         let is = judge_takes all x.0 x.1 fits e in
-        let total : length all ≡ length (frame x.0) + length (drop x.1 all) = ap length is.parts ∙ length-append (frame x.0) (drop x.1 all) in
+        let total : length all ≡ length (frame x.0) + length (drop x.1 all) =
+        ap length is.parts ∙ length-append (frame x.0) (drop x.1 all) in
         omega (arith, few, used_is all x.0 x.1 fits e, is.size, total)
     go (Err (More n)) e = tt
     go (Err (Bad f)) e = tt
@@ -138,19 +148,24 @@ framed_more (Ok x) m e = absurd cc
 framed_more (Err (More n)) m e = let same : n ≡ m = cc in λ i. Err (More (same i))
 framed_more (Err (Bad f)) m e = absurd cc
 
-frames_end : (bytes tail : List ℕ) (m : ℕ) → IsBytes (bytes ++ tail) → frame_piece bytes ≡ part.More m → length (bytes ++ tail) ≤ m → EndsAt (length (bytes ++ tail)) (frame_piece (bytes ++ tail))
+frames_end : (bytes tail : List ℕ) (m : ℕ) → IsBytes (bytes ++ tail) → frame_piece bytes ≡ part.More m → length (bytes ++ tail) ≤ m
+    → EndsAt (length (bytes ++ tail)) (frame_piece (bytes ++ tail))
 frames_end bytes tail m fits e within =
     let all = bytes ++ tail in
     elim (cases_Bool (ltb (length bytes) 4)) [
       | inl few ↦
-          let four : part.More 4 ≡ part.More m = sym (by_true (ltb (length bytes) 4) (part.More 4) (cond (eqb (length_of bytes) 0) (part.Whole 4) (framed (scan_of (judge bytes)))) few) ∙ e in
+          let four : part.More 4 ≡ part.More m =
+          sym (by_true (ltb (length bytes) 4) (part.More 4) (cond (eqb (length_of bytes) 0) (part.Whole 4)
+          (framed (scan_of (judge bytes)))) few) ∙ e in
           let is : 4 ≡ m = cc in
           front all fits (omega (arith, within, is))
       | inr ready ↦
           let long = ltb-false _ _ ready in
           let second : cond (eqb (length_of bytes) 0) (part.Whole 4) (framed (scan_of (judge bytes))) ≡ part.More m =
-          sym (by_false (ltb (length bytes) 4) (part.More 4) (cond (eqb (length_of bytes) 0) (part.Whole 4) (framed (scan_of (judge bytes)))) ready) ∙ e in
-          let third = first_no (eqb (length_of bytes) 0) (part.Whole 4) (framed (scan_of (judge bytes))) (part.More m) second (λ other. cc) in
+          sym (by_false (ltb (length bytes) 4) (part.More 4) (cond (eqb (length_of bytes) 0) (part.Whole 4)
+          (framed (scan_of (judge bytes)))) ready) ∙ e in
+          let third =
+          first_no (eqb (length_of bytes) 0) (part.Whole 4) (framed (scan_of (judge bytes))) (part.More m) second (λ other. cc) in
           let is = more_is bytes m long (framed_more (judge bytes) m third.1) in
           let same : length_of all ≡ length_of bytes = ap (λ (t : List ℕ). from_be_bytes w32 t) (take-append-le 4 bytes tail long) in
           let more : ltb (length all) 4 ≡ false = le-ltb _ _ (omega (arith, long, length-append bytes tail)) in
@@ -170,7 +185,8 @@ frames_end bytes tail m fits e within =
               ]
         ]
 
-ends : (s : Stage) (bytes tail : List ℕ) (m : ℕ) → IsBytes (bytes ++ tail) → piece_of s bytes ≡ part.More m → length (bytes ++ tail) ≤ m → EndsAt (length (bytes ++ tail)) (piece_of s (bytes ++ tail))
+ends : (s : Stage) (bytes tail : List ℕ) (m : ℕ) → IsBytes (bytes ++ tail) → piece_of s bytes ≡ part.More m → length (bytes ++ tail) ≤ m
+    → EndsAt (length (bytes ++ tail)) (piece_of s (bytes ++ tail))
 ends (Head frames) bytes tail m fits e within = head_ends frames bytes tail m e within
 ends (State frames) bytes tail m fits e within = state_ends frames bytes tail m fits e within
 ends Frames bytes tail m fits e within = frames_end bytes tail m fits e within
@@ -183,10 +199,13 @@ nothing_whole (suc n) (Head frames) at used e = cc
 nothing_whole (suc n) (State frames) at used e = cc
 nothing_whole (suc n) Frames at used e = cc
 
-not_past_from : (n : ℕ) (s : Stage) (at : ℕ) (rest tail : List ℕ) (k used : ℕ) → IsBytes rest → IsBytes (rest ++ tail) → pieces n s at rest ≡ whole.More k → at + length (rest ++ tail) ≤ k → pieces n s at (rest ++ tail) ≡ whole.Whole used → used ≡ at + length (rest ++ tail)
+not_past_from : (n : ℕ) (s : Stage) (at : ℕ) (rest tail : List ℕ) (k used : ℕ) → IsBytes rest → IsBytes (rest ++ tail)
+    → pieces n s at rest ≡ whole.More k → at + length (rest ++ tail) ≤ k → pieces n s at (rest ++ tail) ≡ whole.Whole used
+    → used ≡ at + length (rest ++ tail)
 unfolding pieces
 not_past_from zero s at rest tail k used fits all_fit more within got = absurd cc
-not_past_from (suc n) s at rest tail k used fits all_fit more within got = go (λ next place later. not_past_from n next place later tail k used) (piece_of s rest) refl more
+not_past_from (suc n) s at rest tail k used fits all_fit more within got =
+    go (λ next place later. not_past_from n next place later tail k used) (piece_of s rest) refl more
   where
     after : Piece → List ℕ → Measure
     after p bytes = after_piece (λ next u. pieces n next (at + u) (drop u bytes)) at p
@@ -199,7 +218,9 @@ not_past_from (suc n) s at rest tail k used fits all_fit more within got = go (�
     last (part.More j) is e = absurd cc
     last (part.Bad offset cause) is e = absurd cc
 
-    go : ((next : Stage) (place : ℕ) (later : List ℕ) → IsBytes later → IsBytes (later ++ tail) → pieces n next place later ≡ whole.More k → place + length (later ++ tail) ≤ k → pieces n next place (later ++ tail) ≡ whole.Whole used → used ≡ place + length (later ++ tail))
+    go : ((next : Stage) (place : ℕ) (later : List ℕ) → IsBytes later → IsBytes (later ++ tail) → pieces n next place later ≡ whole.More k
+        → place + length (later ++ tail) ≤ k → pieces n next place (later ++ tail) ≡ whole.Whole used
+        → used ≡ place + length (later ++ tail))
         → (p : Piece) → piece_of s rest ≡ p → after p rest ≡ whole.More k → used ≡ at + length (rest ++ tail)
     go again (part.Got next u) e says =
         let there = is_there s rest next u fits e in
@@ -209,7 +230,9 @@ not_past_from (suc n) s at rest tail k used fits all_fit more within got = go (�
         let long : u ≤ length (rest ++ tail) = omega (arith, inside, length-append rest tail) in
         let got' : pieces n next (at + u) (drop u rest ++ tail) ≡ whole.Whole used =
         ap (pieces n next (at + u)) (sym split) ∙ (ap (λ (q : Piece). after q (rest ++ tail)) (sym (there.stays tail)) ∙ got) in
-        let is = again next (at + u) (drop u rest) (IsBytes-drop u rest fits) (subst IsBytes split (IsBytes-drop u (rest ++ tail) all_fit)) says (omega (arith, within, size, long)) got' in
+        let is =
+        again next (at + u) (drop u rest) (IsBytes-drop u rest fits) (subst IsBytes split (IsBytes-drop u (rest ++ tail) all_fit)) says
+        (omega (arith, within, size, long)) got' in
         omega (arith, is, size, long)
     go again (part.Whole u) e says = absurd cc
     go again (part.More m) e says =
@@ -221,7 +244,8 @@ pub nothing_past : (which : Which) → NotPast which []
 nothing_past which used e = absurd (nothing_whole 1 (start which) 0 used e)
 
 -- no more bytes than were asked for leave it so
-pub not_past : (which : Which) (bytes piece : List ℕ) (k : ℕ) → IsBytes bytes → IsBytes (bytes ++ piece) → measure_of which bytes ≡ whole.More k → length (bytes ++ piece) ≤ k → NotPast which (bytes ++ piece)
+pub not_past : (which : Which) (bytes piece : List ℕ) (k : ℕ) → IsBytes bytes → IsBytes (bytes ++ piece)
+    → measure_of which bytes ≡ whole.More k → length (bytes ++ piece) ≤ k → NotPast which (bytes ++ piece)
 not_past which bytes piece k fits all_fit more within used got =
     let n = suc (length (bytes ++ piece)) in
     let is = not_past_from n (start which) 0 bytes piece k used fits all_fit
@@ -230,11 +254,13 @@ not_past which bytes piece k fits all_fit more within used got =
     omega (arith, is)
 
 -- the same of all bytes in two parts
-pub not_past_at : (which : Which) (all : List ℕ) (before : ℕ) → IsBytes all → (k : ℕ) → measure_of which (take before all) ≡ whole.More k → length all ≤ k → NotPast which all
+pub not_past_at : (which : Which) (all : List ℕ) (before : ℕ) → IsBytes all → (k : ℕ) → measure_of which (take before all) ≡ whole.More k
+    → length all ≤ k → NotPast which all
 not_past_at which all before fits k more few =
     let parts : take before all ++ drop before all ≡ all = take-append-drop before all in
     let size : length (take before all ++ drop before all) ≤ k = subst (λ (t : List ℕ). length t ≤ k) (sym parts) few in
-    subst (NotPast which) parts (not_past which (take before all) (drop before all) k (IsBytes-take before all fits) (subst IsBytes (sym parts) fits) more size)
+    subst (NotPast which) parts (not_past which (take before all) (drop before all) k (IsBytes-take before all fits)
+    (subst IsBytes (sym parts) fits) more size)
 
 -- the same of bytes that a piece was appended to
 pub fed_past : (which : Which) (old now all piece : List ℕ) (before : ℕ) → all ≡ now → now ≡ old ++ piece → length old ≡ before
@@ -249,7 +275,9 @@ fed_past which old now all piece before same grown size law k more few =
 head_asks : (frames : Bool) (bytes : List ℕ) (m : ℕ) → head_piece frames bytes ≡ part.More m → length bytes < m
 head_asks frames bytes m e =
     let is_head = starts_with (λ (x : ℕ) (y : ℕ). eqb x y) bytes head in
-    let short = first_yes (ltb (length bytes) 8) (part.More 8) (cond is_head (part.Got (State frames) 8) (part.Bad 0 causes.Head)) (part.More m) e (not_more is_head m) in
+    let short =
+    first_yes (ltb (length bytes) 8) (part.More 8) (cond is_head (part.Got (State frames) 8) (part.Bad 0 causes.Head)) (part.More m) e
+    (not_more is_head m) in
     let eight : 8 ≡ m = let is = short.1 in cc in
     omega (arith, eight, ltb-true _ _ short.0)
   where
@@ -267,7 +295,8 @@ frame_asks bytes m e =
           omega (arith, is, ltb-true _ _ few)
       | inr ready ↦
           let second : last ≡ part.More m = sym (by_false (ltb (length bytes) 4) (part.More 4) last ready) ∙ e in
-          let third = first_no (eqb (length_of bytes) 0) (part.Whole 4) (framed (scan_of (judge bytes))) (part.More m) second (λ other. cc) in
+          let third =
+          first_no (eqb (length_of bytes) 0) (part.Whole 4) (framed (scan_of (judge bytes))) (part.More m) second (λ other. cc) in
           judge_more bytes m (framed_more (judge bytes) m third.1)
     ]
 
@@ -276,13 +305,16 @@ piece_asks (Head frames) bytes m fits e = head_asks frames bytes m e
 piece_asks (State frames) bytes m fits e = state_more bytes m fits (stated_more frames (judge_state bytes) m e)
 piece_asks Frames bytes m fits e = frame_asks bytes m e
 
-pieces_ask : (n : ℕ) (s : Stage) (at : ℕ) (bytes : List ℕ) (k : ℕ) → IsBytes bytes → length bytes < n → pieces n s at bytes ≡ whole.More k → at + length bytes < k
+pieces_ask : (n : ℕ) (s : Stage) (at : ℕ) (bytes : List ℕ) (k : ℕ) → IsBytes bytes → length bytes < n → pieces n s at bytes ≡ whole.More k
+    → at + length bytes < k
 unfolding pieces
 pieces_ask zero s at bytes k fits few e = absurd (omega (arith, few))
 pieces_ask (suc n) s at bytes k fits few e = go (λ next place later. pieces_ask n next place later k) (piece_of s bytes) refl e
   where
-    go : ((next : Stage) (place : ℕ) (later : List ℕ) → IsBytes later → length later < n → pieces n next place later ≡ whole.More k → place + length later < k)
-        → (p : Piece) → piece_of s bytes ≡ p → after_piece (λ next u. pieces n next (at + u) (drop u bytes)) at p ≡ whole.More k → at + length bytes < k
+    go : ((next : Stage) (place : ℕ) (later : List ℕ) → IsBytes later → length later < n → pieces n next place later ≡ whole.More k
+        → place + length later < k)
+        → (p : Piece) → piece_of s bytes ≡ p → after_piece (λ next u. pieces n next (at + u) (drop u bytes)) at p ≡ whole.More k
+        → at + length bytes < k
     go again (part.Got next u) is says =
         let there = is_there s bytes next u fits is in
         let some = there.some in
@@ -299,4 +331,5 @@ pieces_ask (suc n) s at bytes k fits few e = go (λ next place later. pieces_ask
 
 -- a message that isn't whole asks for more bytes than there are
 pub asks_more : (which : Which) (bytes : List ℕ) (k : ℕ) → IsBytes bytes → measure_of which bytes ≡ whole.More k → length bytes < k
-asks_more which bytes k fits e = let more = pieces_ask (suc (length bytes)) (start which) 0 bytes k fits (omega arith) e in omega (arith, more)
+asks_more which bytes k fits e =
+    let more = pieces_ask (suc (length bytes)) (start which) 0 bytes k fits (omega arith) e in omega (arith, more)

@@ -7,7 +7,8 @@ use Rattle.context_diff.specs.Operations.{OpData, member_of}
 use Rattle.context_diff.specs.Histories.{is_known, context_of_all, IsValid, Agree}
 use Rattle.context_diff.proofs.CallerLemmas.{agree_back, agree_itself, complete, known_member, same_by_members}
 use Rattle.fixed_replay.proofs.CallerLemmas.{same_text, told_apart}
-use Rattle.peer_exchange.specs.Joins.{unseen, joined, EqualMembersAreAlike, BothSidesAreJoined, JoinsCommute, JoinsAssociate, JoinsAreIdempotent, AreSound, IsExchanged, AreExchanged, latest, AnyExchangesMeet}
+use Rattle.peer_exchange.specs.Joins.{unseen, joined, EqualMembersAreAlike, BothSidesAreJoined, JoinsCommute, JoinsAssociate}
+use Rattle.peer_exchange.specs.Joins.{JoinsAreIdempotent, AreSound, IsExchanged, AreExchanged, latest, AnyExchangesMeet}
 use Rattle.peer_exchange.proofs.Unseen.{known_joined, unseen_nothing, unseen_append, unseen_contains, unseen_same}
 use Rattle.peer_exchange.proofs.ValidJoins.{joined_cases, joined_is_valid}
 
@@ -52,7 +53,8 @@ both_agree h p v w agree =
 
 -- no member of the one join is lacking in the other
 pub nothing_more : (h p : List OpData) → unseen (is_known (joined h p)) (joined p h) ≡ []
-nothing_more h p = unseen_nothing (is_known (joined h p)) (joined p h) (λ o at. both_members h p (member_of o) ∙ known_member (joined p h) o at)
+nothing_more h p =
+    unseen_nothing (is_known (joined h p)) (joined p h) (λ o at. both_members h p (member_of o) ∙ known_member (joined p h) o at)
 
 pub both_sides_are_joined : BothSidesAreJoined
 both_sides_are_joined h p = record {
@@ -77,7 +79,8 @@ joins_commute h p v w agree =
 pub third_is : (h p : List OpData) → unseen (is_known h) (joined p h) ≡ unseen (is_known h) p
 third_is h p =
     unseen_append (is_known h) p (unseen (is_known p) h)
-    ∙ (ap (λ xs. unseen (is_known h) p ++ xs) (unseen_nothing (is_known h) (unseen (is_known p) h) (λ o at. known_member h o (unseen_contains (is_known p) h o at)))
+    ∙ (ap (λ xs. unseen (is_known h) p ++ xs) (unseen_nothing (is_known h) (unseen (is_known p) h)
+    (λ o at. known_member h o (unseen_contains (is_known p) h o at)))
     ∙ append-nil (unseen (is_known h) p))
 
 -- what is lacking can be told from the context of all members alone
@@ -100,7 +103,8 @@ joins_associate h p l v w u agree_hp agree_hl agree_pl =
     let all_h : Agree (joined (joined h p) l) h = agree_joined (joined h p) l h hp_h (agree_back h l agree_hl) in
     let all : Agree (joined (joined h p) l) (joined h (joined p l)) =
     agree_back (joined h (joined p l)) (joined (joined h p) l)
-    (agree_joined h (joined p l) (joined (joined h p) l) (agree_back (joined (joined h p) l) h all_h) (agree_back (joined (joined h p) l) (joined p l) all_right)) in
+    (agree_joined h (joined p l) (joined (joined h p) l) (agree_back (joined (joined h p) l) h all_h)
+    (agree_back (joined (joined h p) l) (joined p l) all_right)) in
     equal_members_are_alike (joined (joined h p) l) (joined h (joined p l))
     (joined_is_valid (joined h p) l hp u left)
     (joined_is_valid h (joined p l) v pl right)
@@ -120,11 +124,13 @@ exchanged_valid : (hs js : List (List OpData)) → AreSound hs → IsExchanged h
 exchanged_valid hs js sound is j at =
     elim (is j at) [
       | inl old ↦ sound.valid j old
-      | inr new ↦ subst IsValid (sym new.4) (joined_is_valid new.0 new.1 (sound.valid new.0 new.2) (sound.valid new.1 new.3) (sound.agree new.0 new.1 new.2 new.3))
+      | inr new ↦ subst IsValid (sym new.4) (joined_is_valid new.0 new.1 (sound.valid new.0 new.2) (sound.valid new.1 new.3)
+          (sound.agree new.0 new.1 new.2 new.3))
     ]
 
 -- a history that agrees with all that were there agrees with all that are there
-agree_later : (hs js : List (List OpData)) → IsExchanged hs js → (l : List OpData) → ((h : List OpData) → Contains hs h → Agree h l) → (j : List OpData) → Contains js j → Agree j l
+agree_later : (hs js : List (List OpData)) → IsExchanged hs js → (l : List OpData) → ((h : List OpData) → Contains hs h → Agree h l)
+    → (j : List OpData) → Contains js j → Agree j l
 agree_later hs js is l agree j at =
     elim (is j at) [
       | inl old ↦ agree j old
@@ -138,7 +144,8 @@ exchanges_keep_sound hs js sound is = record {
       agree_later hs js is k (λ h ht. agree_back k h (agree_later hs js is h (λ p pt. sound.agree p h pt ht) k bt)) j at;
 }
 
-latest_sound : (hs : List (List OpData)) (rounds : List (List (List OpData))) → AreSound hs → AreExchanged hs rounds → AreSound (latest hs rounds)
+latest_sound : (hs : List (List OpData)) (rounds : List (List (List OpData))) → AreSound hs → AreExchanged hs rounds
+    → AreSound (latest hs rounds)
 latest_sound hs [] sound are = sound
 latest_sound hs (js ∷ rest) sound are = latest_sound js rest (exchanges_keep_sound hs js sound are.0) are.1
 

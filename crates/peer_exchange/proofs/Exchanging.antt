@@ -27,7 +27,8 @@ use Rattle.peer_exchange.specs.Messages.{end_mark, telling, first_message, IsSec
 use Rattle.peer_exchange.specs.Refusals.{IsWhole, IsUnread, Spoils}
 use Rattle.peer_exchange.specs.Taking.{Refusal, taken_in, with_history, IsRefusedAt}
 use Rattle.peer_exchange.specs.Closing.{IsClosed, IsUnclosed, IsUnfinished}
-use Rattle.peer_exchange.specs.Exchanges.{Talk, IsExchange, IsQuiet, AgreeInAll, UnrefusedCallsJoin, AgreeingSitesMeet, AgreeingSitesAreNotRefused, SecondExchangesAreEmpty}
+use Rattle.peer_exchange.specs.Exchanges.{Talk, IsExchange, IsQuiet, AgreeInAll, UnrefusedCallsJoin, AgreeingSitesMeet}
+use Rattle.peer_exchange.specs.Exchanges.{AgreeingSitesAreNotRefused, SecondExchangesAreEmpty}
 use Rattle.peer_exchange.proofs.BothSides.{both_sides_are_joined, joins_commute, nothing_more, third_is, unseen_by_state}
 use Rattle.peer_exchange.proofs.Unseen.{unseen_contains}
 use Rattle.peer_exchange.proofs.Unrefused.{unrefused_exchanges_join}
@@ -47,8 +48,10 @@ formed_unseen k h v o at = (complete h v).formed o (unseen_contains k h o at)
 pub answered_is : (h p : List OpData) (second : List ℕ) (n : ℕ) → IsValid h → IsValid p → IsAnswered h (first_message p) [] second n
     → IsSecond second (context_of_all h) (unseen (is_known p) h) × (n ≡ length (unseen (is_known p) h))
 answered_is h p second n v w a =
-    let state : a.state ≡ context_of_all p = messages_tell_one_thing.first (first_message p) a.state (context_of_all p) a.told (first_of p w) in
-    let lacked : unseen (has a.state) h ≡ unseen (is_known p) h = ap (λ (c : ContextData). unseen (has c) h) state ∙ unseen_by_state p h w in (
+    let state : a.state ≡ context_of_all p =
+    messages_tell_one_thing.first (first_message p) a.state (context_of_all p) a.told (first_of p w) in
+    let lacked : unseen (has a.state) h ≡ unseen (is_known p) h =
+    ap (λ (c : ContextData). unseen (has c) h) state ∙ unseen_by_state p h w in (
       record {
         is = history_is_state h v;
         formed = formed_unseen (is_known p) h v;
@@ -65,7 +68,8 @@ pub record IsReplied (s t t' : State) (third : List ℕ) (took sent : ℕ) : Typ
   pub received : took ≡ length (unseen (is_known t.history) s.history)
   pub replied : sent ≡ length (unseen (is_known s.history) t'.history)
 
-pub closed_is : (s t t' : State) (second third : List ℕ) (took sent : ℕ) → IsSound s → IsSound t → IsSecond second (context_of_all s.history) (unseen (is_known t.history) s.history)
+pub closed_is : (s t t' : State) (second third : List ℕ) (took sent : ℕ) → IsSound s → IsSound t
+    → IsSecond second (context_of_all s.history) (unseen (is_known t.history) s.history)
     → IsClosed t second t' [] third (took, sent) → IsReplied s t t' third took sent
 closed_is s t t' second third took sent ss st is c =
     let h = s.history in
@@ -75,11 +79,17 @@ closed_is s t t' second third took sent ss st is c =
     let ops : c.ops ≡ os = messages_tell_one_thing.second second c.state (context_of_all h) c.ops os c.read is in
     let takes : taken_in t os ≡ Ok t' = ap (taken_in t) (sym ops) ∙ c.taken in
     let valid : IsValid t'.history = (taking_in_keeps_histories t t' os st (formed_unseen (is_known t.history) h v) takes).0.history in
-    let lacked : unseen (has c.state) t'.history ≡ unseen (is_known h) t'.history = ap (λ (x : ContextData). unseen (has x) t'.history) state ∙ unseen_by_state h t'.history v in
+    let lacked : unseen (has c.state) t'.history ≡ unseen (is_known h) t'.history =
+    ap (λ (x : ContextData). unseen (has x) t'.history) state ∙ unseen_by_state h t'.history v in
     record {
       takes = takes;
       valid = valid;
-      sends = record { formed = formed_unseen (is_known h) t'.history valid; parts = c.appended ∙ ap (λ (ps : List OpData). flat_map frame ps ++ end_mark) lacked };
+      sends =
+          record {
+            formed = formed_unseen (is_known h) t'.history valid;
+            parts = c.appended
+                ∙ ap (λ (ps : List OpData). flat_map frame ps ++ end_mark) lacked;
+          };
       received = c.received ∙ ap length ops;
       replied = c.sent ∙ ap length lacked;
     }
@@ -97,7 +107,8 @@ talk_is s t s' t' x qs qt e =
     (subst (λ (first : List ℕ). IsAnswered s.history first [] x.second x.server_sent) e.offered e.answered) in
     let reply = closed_is s t t' x.second x.third x.joiner_took x.joiner_sent qs.sound qt.sound answered.0 e.closed in
     let f = e.finished in
-    let ops : f.ops ≡ unseen (is_known s.history) t'.history = messages_tell_one_thing.third x.third f.ops (unseen (is_known s.history) t'.history) f.read reply.sends in
+    let ops : f.ops ≡ unseen (is_known s.history) t'.history =
+    messages_tell_one_thing.third x.third f.ops (unseen (is_known s.history) t'.history) f.read reply.sends in
     record {
       reply = reply;
       server_sent = answered.1;
@@ -132,7 +143,8 @@ agreeing_sites_meet s t s' t' x qs qt agree e =
     let alike = joins_commute s.history t.history qs.sound.history qt.sound.history agree in
     let server : joined s.history t.history ≡ s'.history = sym (ap (λ (u : State). u.history) j.server) in
     let joiner : joined t.history s.history ≡ t'.history = sym (ap (λ (u : State). u.history) j.joiner) in
-    subst (λ (a : List OpData). AreAlike a t'.history) server (subst (λ (b : List OpData). AreAlike (joined s.history t.history) b) joiner alike)
+    subst (λ (a : List OpData). AreAlike a t'.history) server (subst (λ (b : List OpData). AreAlike (joined s.history t.history) b) joiner
+    alike)
 
 -- ---- refusals
 
@@ -140,23 +152,30 @@ not_spoiled : (len : ℕ) (m : Measure) (offset : ℕ) (cause : PeerCause) → m
 not_spoiled len m offset cause is spoils = let of_whole = subst (λ (x : Measure). Spoils len x offset cause) is spoils in of_whole.0 refl
 
 not_refused : (s t' u : State) (os ps : List OpData) (why : Refusal) → taken_in s os ≡ Ok u → ps ≡ os → IsRefusedAt s ps t' why → ⊥
-not_refused s t' u os ps why takes same r = let never : Err why ≡ Ok u = sym (refused_is s ps t' why r) ∙ (ap (taken_in s) same ∙ takes) in cc
+not_refused s t' u os ps why takes same r =
+    let never : Err why ≡ Ok u = sym (refused_is s ps t' why r) ∙ (ap (taken_in s) same ∙ takes) in cc
 
 unread_first : (bytes : List ℕ) (why : Peer) → IsWhole First bytes → IsUnread First bytes why → why ≡ peer.Memory
 unread_first bytes (peer.Bytes offset cause) whole is = absurd (not_spoiled (length bytes) (measure_of First bytes) offset cause whole is)
 unread_first bytes (peer.Op member verdict) whole is = absurd is
 unread_first bytes peer.Memory whole is = refl
 
-unclosed_why : (t t' u : State) (second : List ℕ) (c : ContextData) (os : List OpData) (why : Peer) → IsSecond second c os → taken_in t os ≡ Ok u → IsUnclosed t second t' why → why ≡ peer.Memory
-unclosed_why t t' u second c os (peer.Bytes offset cause) is takes why = absurd (not_spoiled (length second) (measure_of Second second) offset cause (messages_are_whole.second second c os is) why.1)
+unclosed_why : (t t' u : State) (second : List ℕ) (c : ContextData) (os : List OpData) (why : Peer) → IsSecond second c os
+    → taken_in t os ≡ Ok u → IsUnclosed t second t' why → why ≡ peer.Memory
+unclosed_why t t' u second c os (peer.Bytes offset cause) is takes why =
+    absurd (not_spoiled (length second) (measure_of Second second) offset cause (messages_are_whole.second second c os is) why.1)
 unclosed_why t t' u second c os (peer.Op member verdict) is takes why =
-    absurd (not_refused t t' u os why.1 (record { member = member; verdict = verdict }) takes (messages_tell_one_thing.second second why.0 c why.1 os why.2 is) why.3)
+    absurd (not_refused t t' u os why.1 (record { member = member; verdict = verdict }) takes
+    (messages_tell_one_thing.second second why.0 c why.1 os why.2 is) why.3)
 unclosed_why t t' u second c os peer.Memory is takes why = refl
 
-unfinished_why : (s s' u : State) (third : List ℕ) (os : List OpData) (why : Peer) → IsThird third os → taken_in s os ≡ Ok u → IsUnfinished s third s' why → why ≡ peer.Memory
-unfinished_why s s' u third os (peer.Bytes offset cause) is takes why = absurd (not_spoiled (length third) (measure_of Third third) offset cause (messages_are_whole.third third os is) why.1)
+unfinished_why : (s s' u : State) (third : List ℕ) (os : List OpData) (why : Peer) → IsThird third os → taken_in s os ≡ Ok u
+    → IsUnfinished s third s' why → why ≡ peer.Memory
+unfinished_why s s' u third os (peer.Bytes offset cause) is takes why =
+    absurd (not_spoiled (length third) (measure_of Third third) offset cause (messages_are_whole.third third os is) why.1)
 unfinished_why s s' u third os (peer.Op member verdict) is takes why =
-    absurd (not_refused s s' u os why.0 (record { member = member; verdict = verdict }) takes (messages_tell_one_thing.third third why.0 os why.1 is) why.2)
+    absurd (not_refused s s' u os why.0 (record { member = member; verdict = verdict }) takes
+    (messages_tell_one_thing.third third why.0 os why.1 is) why.2)
 unfinished_why s s' u third os peer.Memory is takes why = refl
 
 -- what a history lacks isn't known there
@@ -175,7 +194,8 @@ unseen_lacks k (p ∷ ps) o c =
 
 -- the joiner takes in all that it lacks of the server, and the server then all that it lacks of the joiner
 module _ (s t : State) (ss : IsSound s) (st : IsSound t) (agree : AgreeInAll s t) where
-  one_content : (x y : OpData) (n : NameData) → Contains s.history x ⊎ Contains s.waiting x → Contains t.history y ⊎ Contains t.waiting y → member_of x ≡ Original n → member_of y ≡ Original n → x ≡ y
+  one_content : (x y : OpData) (n : NameData) → Contains s.history x ⊎ Contains s.waiting x → Contains t.history y ⊎ Contains t.waiting y
+      → member_of x ≡ Original n → member_of y ≡ Original n → x ≡ y
   one_content x y n at bt is js = agree x y n (either s x at) (either t y bt) is js
     where
       either : (u : State) (z : OpData) → Contains u.history z ⊎ Contains u.waiting z → Contains (u.history ++ u.waiting) z
@@ -218,7 +238,8 @@ agreeing_sites_are_not_refused s t ss st agree =
     let w = st.history in
     let joiner = joiner_takes s t ss st agree in
     record {
-      answering = λ why is. unread_first (first_message p) why (messages_are_whole.first (first_message p) (context_of_all p) (first_of p w)) is;
+      answering =
+          λ why is. unread_first (first_message p) why (messages_are_whole.first (first_message p) (context_of_all p) (first_of p w)) is;
       closing = λ second n t' why a is.
           unclosed_why t t' joiner.0 second (context_of_all h) (unseen (is_known p) h) why (answered_is h p second n v w a).0 joiner.1 is;
       finishing = λ second third n m k t' s' why a c is.
@@ -238,9 +259,14 @@ second_exchanges_are_empty s t s' t' s'' t'' x y qs qt e f =
     let p = t.history in
     let talk = talk_is s t s' t' x qs qt e in
     let one = unrefused_calls_join s t s' t' x qs qt e in
-    let sound_t = (taking_in_keeps_histories t t' (unseen (is_known p) h) qt.sound (formed_unseen (is_known p) h qs.sound.history) talk.reply.takes).0 in
-    let sound_s = (taking_in_keeps_histories s s' (unseen (is_known h) t'.history) qs.sound (formed_unseen (is_known h) t'.history sound_t.history) talk.takes).0 in
-    let two = unrefused_calls_join s' t' s'' t'' y (quiet_after s s' (joined h p) qs sound_s one.server) (quiet_after t t' (joined p h) qt sound_t one.joiner) f in
+    let sound_t =
+    (taking_in_keeps_histories t t' (unseen (is_known p) h) qt.sound (formed_unseen (is_known p) h qs.sound.history) talk.reply.takes).0 in
+    let sound_s =
+    (taking_in_keeps_histories s s' (unseen (is_known h) t'.history) qs.sound (formed_unseen (is_known h) t'.history sound_t.history)
+    talk.takes).0 in
+    let two =
+    unrefused_calls_join s' t' s'' t'' y (quiet_after s s' (joined h p) qs sound_s one.server)
+    (quiet_after t t' (joined p h) qt sound_t one.joiner) f in
     let server : s'.history ≡ joined h p = ap (λ (u : State). u.history) one.server in
     let joiner : t'.history ≡ joined p h = ap (λ (u : State). u.history) one.joiner in
     let none_at_joiner : unseen (is_known t'.history) s'.history ≡ [] = (λ i. unseen (is_known (joiner i)) (server i)) ∙ nothing_more p h in

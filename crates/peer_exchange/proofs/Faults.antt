@@ -58,14 +58,17 @@ piece_inside : (s : Stage) (bytes : List ℕ) → FailsInside (piece_of s bytes)
 piece_inside (Head frames) bytes =
     let is_head = starts_with (λ (x : ℕ) (y : ℕ). eqb x y) bytes head in
     let fault : Piece = part.Bad 0 cause.Head in
-    either (ltb (length bytes) 8) (part.More 8) (cond is_head (part.Got (State frames) 8) fault) tt (either is_head (part.Got (State frames) 8) fault tt tt)
+    either (ltb (length bytes) 8) (part.More 8) (cond is_head (part.Got (State frames) 8) fault) tt
+    (either is_head (part.Got (State frames) 8) fault tt tt)
 piece_inside (State frames) bytes = stated_inside frames (judge_state bytes)
 piece_inside Frames bytes =
     let is_end = eqb (length_of bytes) 0 in
     let said = framed (scan_of (judge bytes)) in
-    either (ltb (length bytes) 4) (part.More 4) (cond is_end (part.Whole 4) said) tt (either is_end (part.Whole 4) said tt (framed_inside (judge bytes)))
+    either (ltb (length bytes) 4) (part.More 4) (cond is_end (part.Whole 4) said) tt
+    (either is_end (part.Whole 4) said tt (framed_inside (judge bytes)))
 
-on_inside : (follows : Stage → ℕ → Measure) (at : ℕ) (p : Piece) → ((next : Stage) (used : ℕ) → SaysInside (follows next used)) → FailsInside p → SaysInside (after_piece follows at p)
+on_inside : (follows : Stage → ℕ → Measure) (at : ℕ) (p : Piece) → ((next : Stage) (used : ℕ) → SaysInside (follows next used))
+    → FailsInside p → SaysInside (after_piece follows at p)
 on_inside follows at (part.Got next used) later here = later next used
 on_inside follows at (part.Whole used) later here = tt
 on_inside follows at (part.More n) later here = tt
@@ -74,7 +77,10 @@ on_inside follows at (part.Bad offset why) later here = here
 pieces_inside : (n : ℕ) (s : Stage) (at : ℕ) (bytes : List ℕ) → SaysInside (pieces n s at bytes)
 unfolding pieces
 pieces_inside zero s at bytes = tt
-pieces_inside (suc n) s at bytes = on_inside (λ next used. pieces n next (at + used) (drop used bytes)) at (piece_of s bytes) (λ next used. pieces_inside n next (at + used) (drop used bytes)) (piece_inside s bytes)
+pieces_inside (suc n) s at bytes =
+    on_inside (λ next used. pieces n next (at + used) (drop used bytes)) at (piece_of s bytes)
+    (λ next used. pieces_inside n next (at + used) (drop used bytes)) (piece_inside s bytes)
 
-pub bad_inside : (which : Which) (bytes : List ℕ) (offset : ℕ) (why : PeerCause) → measure_of which bytes ≡ message.Bad offset why → IsInside why
+pub bad_inside : (which : Which) (bytes : List ℕ) (offset : ℕ) (why : PeerCause) → measure_of which bytes ≡ message.Bad offset why
+    → IsInside why
 bad_inside which bytes offset why e = subst SaysInside e (pieces_inside (suc (length bytes)) (start which) 0 bytes)

@@ -13,14 +13,16 @@ use Rattle.peer_exchange.specs.Code.Places.{GoesOn, Stands}
 use Rattle.peer_exchange.proofs.Staying.{is_there}
 
 -- two ways to follow that agree after a part that is there
-follow_alike : (f g : Stage → ℕ → Measure) (at : ℕ) (p : Piece) → ((next : Stage) (used : ℕ) → p ≡ part.Got next used → f next used ≡ g next used) → after_piece f at p ≡ after_piece g at p
+follow_alike : (f g : Stage → ℕ → Measure) (at : ℕ) (p : Piece)
+    → ((next : Stage) (used : ℕ) → p ≡ part.Got next used → f next used ≡ g next used) → after_piece f at p ≡ after_piece g at p
 follow_alike f g at (part.Got next used) same = same next used refl
 follow_alike f g at (part.Whole used) same = refl
 follow_alike f g at (part.More n) same = refl
 follow_alike f g at (part.Bad offset cause) same = refl
 
 -- more steps than bytes are alike
-pub enough : (n m : ℕ) (s : Stage) (at : ℕ) (bytes : List ℕ) → IsBytes bytes → length bytes < n → length bytes < m → pieces n s at bytes ≡ pieces m s at bytes
+pub enough : (n m : ℕ) (s : Stage) (at : ℕ) (bytes : List ℕ) → IsBytes bytes → length bytes < n → length bytes < m
+    → pieces n s at bytes ≡ pieces m s at bytes
 unfolding pieces
 enough zero m s at bytes fits few many = absurd (omega (arith, few))
 enough (suc n) zero s at bytes fits few many = absurd (omega (arith, many))
@@ -29,24 +31,29 @@ enough (suc n) (suc m) s at bytes fits few many =
     let there = is_there s bytes next used fits e in
     let some = there.some in
     let within = there.within in
-    enough n m next (at + used) (drop used bytes) (IsBytes-drop used bytes fits) (omega (arith, few, some, within, length-drop used bytes)) (omega (arith, many, some, within, length-drop used bytes)))
+    enough n m next (at + used) (drop used bytes) (IsBytes-drop used bytes fits)
+    (omega (arith, few, some, within, length-drop used bytes)) (omega (arith, many, some, within, length-drop used bytes)))
 
 -- after a part that is there the message says what follows says
-pub step : (s : Stage) (at : ℕ) (bytes : List ℕ) (next : Stage) (used : ℕ) → IsBytes bytes → piece_of s bytes ≡ part.Got next used → measured s at bytes ≡ measured next (at + used) (drop used bytes)
+pub step : (s : Stage) (at : ℕ) (bytes : List ℕ) (next : Stage) (used : ℕ) → IsBytes bytes → piece_of s bytes ≡ part.Got next used
+    → measured s at bytes ≡ measured next (at + used) (drop used bytes)
 unfolding pieces
 step s at bytes next used fits e =
     let there = is_there s bytes next used fits e in
     let some = there.some in
     let within = there.within in
     ap (after_piece (λ next' used'. pieces (length bytes) next' (at + used') (drop used' bytes)) at) e
-    ∙ enough (length bytes) (suc (length (drop used bytes))) next (at + used) (drop used bytes) (IsBytes-drop used bytes fits) (omega (arith, some, within, length-drop used bytes)) (omega arith)
+    ∙ enough (length bytes) (suc (length (drop used bytes))) next (at + used) (drop used bytes) (IsBytes-drop used bytes fits)
+    (omega (arith, some, within, length-drop used bytes)) (omega arith)
 
-pub stop : (s : Stage) (at : ℕ) (bytes : List ℕ) (p : Piece) → piece_of s bytes ≡ p → measured s at bytes ≡ after_piece (λ next used. pieces (length bytes) next (at + used) (drop used bytes)) at p
+pub stop : (s : Stage) (at : ℕ) (bytes : List ℕ) (p : Piece) → piece_of s bytes ≡ p
+    → measured s at bytes ≡ after_piece (λ next used. pieces (length bytes) next (at + used) (drop used bytes)) at p
 unfolding pieces
 stop s at bytes p e = ap (after_piece (λ next used. pieces (length bytes) next (at + used) (drop used bytes)) at) e
 
 -- a place may go on after a part that is there
-pub one_on : (bytes : List ℕ) (from to : Place) (next : Stage) (used : ℕ) → IsBytes bytes → from.at ≤ length bytes → piece_of from.stage (drop from.at bytes) ≡ part.Got next used → to.stage ≡ next → to.at ≡ from.at + used → GoesOn bytes from to
+pub one_on : (bytes : List ℕ) (from to : Place) (next : Stage) (used : ℕ) → IsBytes bytes → from.at ≤ length bytes
+    → piece_of from.stage (drop from.at bytes) ≡ part.Got next used → to.stage ≡ next → to.at ≡ from.at + used → GoesOn bytes from to
 one_on bytes from to next used fits inside e stage at =
     let rest = drop from.at bytes in
     let there = is_there from.stage rest next used (IsBytes-drop from.at bytes fits) e in
@@ -58,7 +65,8 @@ one_on bytes from to next used fits inside e stage at =
           let split : whole ≡ rest ++ tail = drop-append-le from.at bytes tail inside in
           let got : piece_of from.stage whole ≡ part.Got next used = ap (piece_of from.stage) split ∙ there.stays tail in
           let on = step from.stage from.at whole next used (IsBytes-drop from.at (bytes ++ tail) all_fit) got in
-          let further : drop used whole ≡ drop to.at (bytes ++ tail) = drop-drop used from.at (bytes ++ tail) ∙ ap (λ (n : ℕ). drop n (bytes ++ tail)) (sym at) in
+          let further : drop used whole ≡ drop to.at (bytes ++ tail) =
+          drop-drop used from.at (bytes ++ tail) ∙ ap (λ (n : ℕ). drop n (bytes ++ tail)) (sym at) in
           on ∙ (λ i. measured (sym stage i) (sym at i) (further i));
     }
 
@@ -69,7 +77,8 @@ pub on_itself : (bytes : List ℕ) (a : Place) → a.at ≤ length bytes → Goe
 on_itself bytes a inside = record { within = inside; says = λ tail fits. refl }
 
 -- with nothing after the bytes
-pub says_here : (bytes : List ℕ) (a b : Place) → IsBytes bytes → GoesOn bytes a b → measured a.stage a.at (drop a.at bytes) ≡ measured b.stage b.at (drop b.at bytes)
+pub says_here : (bytes : List ℕ) (a b : Place) → IsBytes bytes → GoesOn bytes a b
+    → measured a.stage a.at (drop a.at bytes) ≡ measured b.stage b.at (drop b.at bytes)
 says_here bytes a b fits on =
     let none = append-nil bytes in
     let all : IsBytes (bytes ++ []) = λ i. rw none (fits i) in
@@ -77,7 +86,8 @@ says_here bytes a b fits on =
     rw none at says
 
 -- the message says what is said from the place where it stands
-pub stands_says : (which : Which) (bytes : List ℕ) (place : Place) → IsBytes bytes → Stands which bytes place → measure_of which bytes ≡ measured place.stage place.at (drop place.at bytes)
+pub stands_says : (which : Which) (bytes : List ℕ) (place : Place) → IsBytes bytes → Stands which bytes place
+    → measure_of which bytes ≡ measured place.stage place.at (drop place.at bytes)
 stands_says which bytes place fits stands =
     let none = append-nil bytes in
     let all : IsBytes (bytes ++ []) = λ i. rw none (fits i) in

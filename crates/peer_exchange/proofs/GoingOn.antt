@@ -27,7 +27,8 @@ close_again : (s : State) (ts : List State) (second : List ℕ) (state : Context
 close_again s ts second state os sound are is = all_again (λ s t. IsUnclosed s second t peer.Memory) os is.formed on s ts sound are
   where
     on : (s t : State) → IsUnclosed s second t peer.Memory → IsOnTheWay s os t
-    on s t (told, ps, read, way) = subst (λ (qs : List OpData). IsOnTheWay s qs t) (messages_tell_one_thing.second second told state ps os read is) way
+    on s t (told, ps, read, way) =
+        subst (λ (qs : List OpData). IsOnTheWay s qs t) (messages_tell_one_thing.second second told state ps os read is) way
 
 finish_again : (s : State) (ts : List State) (third : List ℕ) (os : List OpData) → IsSound s
     → AreUnfinished third s ts → IsThird third os → taken_in (last_left s ts) os ≡ taken_in s os

@@ -1,6 +1,7 @@
 -- A site takes in what it lacks of a history that agrees with all that it has and holds, also where operations wait.
-use Rattle.std.proofs.Common.{◌≡◌, Bool, true, false, inl, inr, List, [], ◌∷◌, ◌++◌, length, drop, Ok, refl, ap, sym, subst, ◌∙◌, append-nil}
-use Rattle.std.specs.Prelude.{Contains, ◌⊎◌}
+use Rattle.std.proofs.Common.{◌≡◌, Bool, true, false, inl, inr, List, [], ◌∷◌, ◌++◌, length, drop, Ok, refl, ap, sym, subst, ◌∙◌}
+use Rattle.std.proofs.Common.{append-nil}
+use Rattle.std.specs.Prelude.{Contains}
 use Rattle.std.proofs.lemmas.Bool.{cases_Bool, false≢true, or_cases}
 use Rattle.std.proofs.lemmas.List.{take-append-drop}
 use Rattle.std.proofs.lemmas.List.Elements.{Contains-append_left, Contains-append_right}
@@ -10,29 +11,36 @@ use Rattle.op_name.specs.NameData.{NameData}
 use Rattle.op_name.specs.Members.{member_eq}
 use Rattle.context_diff.specs.Operations.{OpData, inserting, deleting, undoing, member_of}
 use Rattle.context_diff.specs.Histories.{is_known, IsNext, IsValid, Agree}
-use Rattle.context_diff.proofs.CallerLemmas.{by_pushes, complete, contains_cases, contains_here, contains_later, contains_none, holder, known_member, known_on, known_push, member_same, next_elsewhere}
+use Rattle.context_diff.proofs.CallerLemmas.{by_pushes, complete, contains_cases, contains_here, contains_later, contains_none, holder}
+use Rattle.context_diff.proofs.CallerLemmas.{known_member, known_on, known_push, member_same, next_elsewhere}
 use Rattle.site_answers.specs.declared.verdict.Verdict.{Verdict}
 use Rattle.site_answers.specs.declared.verdict.Verdict.TheVariants.{Repeat, Integrated}
 use Rattle.cot_site.specs.Verdicts.{IsRepeat, HasOther}
 use Rattle.cot_site.specs.States.{State, judged, delivered, after_verdict}
 use Rattle.cot_site.specs.Releases.{IsSound, IsLater, settled}
 use Rattle.cot_site.proofs.CallerLemmas.{group_reached, next_integrated, verdicts_exact}
+use Rattle.participant.specs.Taking.{is_had}
 use Rattle.peer_exchange.specs.Joins.{unseen}
 use Rattle.peer_exchange.specs.Taking.{taken_in, LackedOperationsAreTaken}
 use Rattle.peer_exchange.proofs.Unseen.{unseen_contains, unseen_old, unseen_new}
-use Rattle.peer_exchange.proofs.Receivings.{taken_append, taken_by, taken_none}
+use Rattle.peer_exchange.proofs.FirstTaken.{taken_none, taken_first}
+use Rattle.peer_exchange.proofs.Receivings.{taken_append}
 use Rattle.peer_exchange.proofs.Later.{later_settled, settled_later, taking_in_keeps_histories}
 use Rattle.peer_exchange.proofs.Origins.{comes_taken}
 
 -- a later site has what the site had
 pub known_later : (s t : State) → IsLater s t → (m : Member) → is_known s.history m ≡ true → is_known t.history m ≡ true
 known_later s t later m known =
-    let parts : s.history ++ drop (length s.history) t.history ≡ t.history = ap (λ (xs : List OpData). xs ++ drop (length s.history) t.history) (sym later.history) ∙ take-append-drop (length s.history) t.history in
+    let parts : s.history ++ drop (length s.history) t.history ≡ t.history =
+    ap (λ (xs : List OpData). xs ++ drop (length s.history) t.history) (sym later.history)
+    ∙ take-append-drop (length s.history) t.history in
     ap (λ (h : List OpData). is_known h m) (sym parts) ∙ known_on s.history (drop (length s.history) t.history) m known
 
 pub has_later : (s t : State) → IsLater s t → (x : OpData) → Contains s.history x → Contains t.history x
 has_later s t later x at =
-    let parts : s.history ++ drop (length s.history) t.history ≡ t.history = ap (λ (xs : List OpData). xs ++ drop (length s.history) t.history) (sym later.history) ∙ take-append-drop (length s.history) t.history in
+    let parts : s.history ++ drop (length s.history) t.history ≡ t.history =
+    ap (λ (xs : List OpData). xs ++ drop (length s.history) t.history) (sym later.history)
+    ∙ take-append-drop (length s.history) t.history in
     subst (λ (h : List OpData). Contains h x) parts (Contains-append_left s.history (drop (length s.history) t.history) x at)
 
 is_unseen : (k : Member → Bool) (os : List OpData) (o : OpData) → Contains os o → k (member_of o) ≡ false → Contains (unseen k os) o
@@ -49,7 +57,8 @@ is_unseen k (p ∷ ps) o at new =
     ]
 
 -- an operation that the history has, under agreement on its name, is a repeat
-repeats : (h : List OpData) (o : OpData) → IsValid h → is_known h (member_of o) ≡ true → ((x : OpData) (n : NameData) → Contains h x → member_of x ≡ Original n → member_of o ≡ Original n → x ≡ o) → IsRepeat h o
+repeats : (h : List OpData) (o : OpData) → IsValid h → is_known h (member_of o) ≡ true
+    → ((x : OpData) (n : NameData) → Contains h x → member_of x ≡ Original n → member_of o ≡ Original n → x ≡ o) → IsRepeat h o
 repeats h (inserting n p ch c) v known same =
     let held = holder h (Original n) known in
     subst (λ (x : OpData). Contains h x) (same held.op n held.there held.is refl) held.there
@@ -58,7 +67,8 @@ repeats h (deleting n p c) v known same =
     subst (λ (x : OpData). Contains h x) (same held.op n held.there held.is refl) held.there
 repeats h (undoing a t g c) v known same = group_reached h v t g known
 
-module _ (s : State) (p : List OpData) (sound : IsSound s) (w : IsValid p) (agree : Agree s.history p) (held : Agree s.waiting (unseen (is_known s.history) p)) where
+module _ (s : State) (p : List OpData) (sound : IsSound s) (w : IsValid p) (agree : Agree s.history p)
+    (held : Agree s.waiting (unseen (is_known s.history) p)) where
   -- what the site lacks of the first operations is taken in, and then it has all of these
   record Took (q : List OpData) : Type 0 where
     t : State
@@ -67,10 +77,13 @@ module _ (s : State) (p : List OpData) (sound : IsSound s) (w : IsValid p) (agre
 
   module _ (q : List OpData) (v : IsValid q) (within : (x : OpData) → Contains q x → Contains p x) (took : Took q) where
     later : IsSound took.t × IsLater s took.t
-    later = taking_in_keeps_histories s took.t (unseen (is_known s.history) q) sound (λ o at. (complete q v).formed o (unseen_contains (is_known s.history) q o at)) took.taken
+    later =
+        taking_in_keeps_histories s took.t (unseen (is_known s.history) q) sound
+        (λ o at. (complete q v).formed o (unseen_contains (is_known s.history) q o at)) took.taken
 
     -- an operation of this name in the history that is lacking at the site is the one of the other history
-    one_new : (x y : OpData) (n : NameData) → Contains took.t.history x → Contains p y → member_of x ≡ Original n → member_of y ≡ Original n → is_known s.history (member_of y) ≡ false
+    one_new : (x y : OpData) (n : NameData) → Contains took.t.history x → Contains p y → member_of x ≡ Original n
+        → member_of y ≡ Original n → is_known s.history (member_of y) ≡ false
         → (Contains q x → x ≡ y) → x ≡ y
     one_new x y n at bt is js new in_q =
         elim ((comes_taken s took.t (unseen (is_known s.history) q) took.taken).history x at) [
@@ -79,10 +92,12 @@ module _ (s : State) (p : List OpData) (sound : IsSound s) (w : IsValid p) (agre
           | inr (inr came) ↦ in_q (unseen_contains (is_known s.history) q x came)
         ]
 
-    agrees_known : (x y : OpData) (n : NameData) → Contains took.t.history x → Contains p y → member_of x ≡ Original n → member_of y ≡ Original n → is_known s.history (member_of y) ≡ true → x ≡ y
+    agrees_known : (x y : OpData) (n : NameData) → Contains took.t.history x → Contains p y → member_of x ≡ Original n
+        → member_of y ≡ Original n → is_known s.history (member_of y) ≡ true → x ≡ y
     agrees_known x y n at bt is js known =
         let z = holder s.history (member_of y) known in
-        let first : x ≡ z.op = (complete took.t.history later.0.history).one x z.op at (has_later s took.t later.1 z.op z.there) (is ∙ sym (z.is ∙ js)) in
+        let first : x ≡ z.op =
+        (complete took.t.history later.0.history).one x z.op at (has_later s took.t later.1 z.op z.there) (is ∙ sym (z.is ∙ js)) in
         first ∙ agree z.op y n z.there bt (z.is ∙ js) js
 
     agrees : Agree took.t.history q
@@ -100,7 +115,8 @@ module _ (s : State) (p : List OpData) (sound : IsSound s) (w : IsValid p) (agre
       repeated : is_known took.t.history (member_of o) ≡ true → judged took.t o ≡ Repeat
       repeated known =
           sym ((verdicts_exact took.t.history took.t.waiting o Repeat later.0.history next.formed).0
-          (repeats took.t.history o later.0.history known (λ x n at is js. one_new x o n at is_in is js new (λ ct. absurd (none_in x n ct is js)))))
+          (repeats took.t.history o later.0.history known (λ x n at is js. one_new x o n at is_in is js new
+          (λ ct. absurd (none_in x n ct is js)))))
 
       alone : (n : NameData) → member_of o ≡ Original n → HasOther took.t.waiting o n → ⊥
       alone n js other =
@@ -114,11 +130,13 @@ module _ (s : State) (p : List OpData) (sound : IsSound s) (w : IsValid p) (agre
           let there = next_elsewhere took.t.history q o later.0.history v agrees (λ m e. took.knows m (next.ready m e)) fresh next in
           next_integrated took.t.history took.t.waiting o later.0.history next.formed there alone
 
-      accepted : (judged took.t o ≡ Integrated) ⊎ (judged took.t o ≡ Repeat)
-      accepted = elim (cases_Bool (is_known took.t.history (member_of o))) [
-        | inl known ↦ inr (repeated known)
-        | inr fresh ↦ inl (integrated fresh)
-      ]
+      had : is_had (judged took.t o) ≡ true
+      had =
+          elim (cases_Bool (is_known took.t.history (member_of o))) [
+            | inl known ↦ ap is_had (repeated known)
+            | inr fresh ↦ ap is_had
+                (integrated fresh)
+          ]
 
       known_then : is_known (delivered took.t o).history (member_of o) ≡ true
       known_then = elim (cases_Bool (is_known took.t.history (member_of o))) [
@@ -126,15 +144,18 @@ module _ (s : State) (p : List OpData) (sound : IsSound s) (w : IsValid p) (agre
             let same : delivered took.t o ≡ took.t = ap (λ (x : Verdict). after_verdict x o took.t) (repeated known) in
             ap (λ (x : State). is_known x.history (member_of o)) same ∙ known
         | inr fresh ↦
-            let more : (delivered took.t o).history ≡ took.t.history ++ o ∷ [] = ap (λ (x : Verdict). (after_verdict x o took.t).history) (integrated fresh) in
-            known_member (delivered took.t o).history o (subst (λ (h : List OpData). Contains h o) (sym more) (Contains-append_right took.t.history (o ∷ []) o (contains_here o [])))
+            let more : (delivered took.t o).history ≡ took.t.history ++ o ∷ [] =
+            ap (λ (x : Verdict). (after_verdict x o took.t).history) (integrated fresh) in
+            known_member (delivered took.t o).history o (subst (λ (h : List OpData). Contains h o) (sym more)
+            (Contains-append_right took.t.history (o ∷ []) o (contains_here o [])))
       ]
 
       took_new : Took (q ++ o ∷ [])
       took_new = record {
         t = settled (delivered took.t o);
         taken = ap (taken_in s) (unseen_new (is_known s.history) q o new)
-            ∙ (taken_append s took.t (unseen (is_known s.history) q) (o ∷ []) took.taken ∙ taken_by took.t (settled (delivered took.t o)) o accepted refl);
+            ∙ (taken_append s took.t (unseen (is_known s.history) q) (o ∷ []) took.taken
+            ∙ (taken_first took.t o [] had ∙ taken_none (settled (delivered took.t o))));
         knows = λ m e. elim (or_cases (is_known q m) (member_eq (member_of o) m) (sym (known_push q o m) ∙ e)) [
           | inl old ↦ known_later took.t (settled (delivered took.t o)) (later_settled took.t o later.0 next.formed).1 m (took.knows m old)
           | inr same ↦ ap (is_known (settled (delivered took.t o)).history) (sym (member_same (member_of o) m same)) ∙ known_at_end
@@ -142,7 +163,9 @@ module _ (s : State) (p : List OpData) (sound : IsSound s) (w : IsValid p) (agre
       }
         where
           known_at_end : is_known (settled (delivered took.t o)).history (member_of o) ≡ true
-          known_at_end = known_later (delivered took.t o) (settled (delivered took.t o)) (settled_later took.t o later.0 next.formed) (member_of o) known_then
+          known_at_end =
+              known_later (delivered took.t o) (settled (delivered took.t o)) (settled_later took.t o later.0 next.formed) (member_of o)
+              known_then
 
     took_old : (o : OpData) → is_known s.history (member_of o) ≡ true → Took (q ++ o ∷ [])
     took_old o known = record {
@@ -150,7 +173,8 @@ module _ (s : State) (p : List OpData) (sound : IsSound s) (w : IsValid p) (agre
       taken = ap (taken_in s) (unseen_old (is_known s.history) q o known ∙ append-nil (unseen (is_known s.history) q)) ∙ took.taken;
       knows = λ m e. elim (or_cases (is_known q m) (member_eq (member_of o) m) (sym (known_push q o m) ∙ e)) [
         | inl old ↦ took.knows m old
-        | inr same ↦ ap (is_known took.t.history) (sym (member_same (member_of o) m same)) ∙ known_later s took.t later.1 (member_of o) known
+        | inr same ↦ ap (is_known took.t.history) (sym (member_same (member_of o) m same))
+            ∙ known_later s took.t later.1 (member_of o) known
       ];
     }
 

@@ -51,20 +51,24 @@ third_short h c v =
     let os = unseen (has c) h in
     omega (arith, frames_short os (lacked_formed c h v), unseen_few (has c) h, length-append (flat_map frame os) end_mark)
 
-second_short : (h : List OpData) (c : ContextData) → IsValid h → length (second_message h c) ≤ longest_first (length h) + longest_third (length h)
+second_short : (h : List OpData) (c : ContextData) → IsValid h
+    → length (second_message h c) ≤ longest_first (length h) + longest_third (length h)
 second_short h c v = omega (arith, first_short h v, third_short h c v, length-append (first_message h) (third_message h c))
 
 -- ---- an exchange
 
 -- what the joiner has after it took in what it lacked
-after_few : (s t t' : State) → IsQuiet s → IsQuiet t → (third : List ℕ) (took sent : ℕ) → IsReplied s t t' third took sent → length t'.history ≤ length s.history + length t.history
+after_few : (s t t' : State) → IsQuiet s → IsQuiet t → (third : List ℕ) (took sent : ℕ) → IsReplied s t t' third took sent
+    → length t'.history ≤ length s.history + length t.history
 after_few s t t' qs qt third took sent reply =
     let os = unseen (is_known t.history) s.history in
-    let is = new_operations_are_appended t t' os qt.sound.history qt.none (lacked_are_new t.history s.history qs.sound.history) reply.takes in
+    let is =
+    new_operations_are_appended t t' os qt.sound.history qt.none (lacked_are_new t.history s.history qs.sound.history) reply.takes in
     omega (arith, ap (λ (u : State). length u.history) is, length-append t.history os, unseen_few (is_known t.history) s.history)
 
 no_long_second : (s t : State) → IsQuiet s → length s.history ≤ few_operations → HasLongSecond s t → ⊥
-no_long_second s t qs few l = absurd (omega (arith, l.long, ap length l.answered.appended, second_short s.history l.answered.state qs.sound.history, few))
+no_long_second s t qs few l =
+    absurd (omega (arith, l.long, ap length l.answered.appended, second_short s.history l.answered.state qs.sound.history, few))
 
 no_long_third : (s t : State) → IsQuiet s → IsQuiet t → length s.history + length t.history ≤ few_operations → HasLongThird s t → ⊥
 no_long_third s t qs qt few l =

@@ -6,6 +6,7 @@ pub mod Going
 pub mod Asking
 pub mod Lacked
 pub mod FirstMessages
+pub mod FirstTaken
 pub mod TakenOps
 pub mod Unrefused
 pub mod Receivings

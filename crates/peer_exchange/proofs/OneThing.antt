@@ -1,5 +1,6 @@
 -- A message tells one state, and has one list of operations.
-use Rattle.std.proofs.Common.{◌≡◌, ℕ, List, [], ◌∷◌, ◌++◌, length, drop, Result, Ok, refl, ap, sym, subst, ◌∙◌, append_assoc, append-nil, arith}
+use Rattle.std.proofs.Common.{◌≡◌, ℕ, List, [], ◌∷◌, ◌++◌, length, drop, Result, Ok, refl, ap, sym, subst, ◌∙◌, append_assoc}
+use Rattle.std.proofs.Common.{append-nil, arith}
 use Rattle.std.specs.List.{flat_map}
 use Rattle.std.proofs.lemmas.Bool.{false≢true}
 use Rattle.std.proofs.lemmas.List.{drop_at}
@@ -36,12 +37,15 @@ history_is_state h v =
 -- two states, with whatever follows them
 one_state : (c d : ContextData) (x y : List ℕ) → IsState c → IsState d → telling c ++ x ≡ telling d ++ y → (c ≡ d) × (x ≡ y)
 one_state c d x y is js e =
-    let behind : state_bytes c ++ x ≡ state_bytes d ++ y = ap (drop 8) (sym (append_assoc head (state_bytes c) x) ∙ (e ∙ append_assoc head (state_bytes d) y)) in
-    let read : ◌≡◌ {A = Result (ContextData × ℕ) Unread} (Ok (c, length (state_bytes c))) (Ok (d, length (state_bytes d))) = sym (state_again c x is) ∙ (ap judge_state behind ∙ state_again d y js) in
+    let behind : state_bytes c ++ x ≡ state_bytes d ++ y =
+    ap (drop 8) (sym (append_assoc head (state_bytes c) x) ∙ (e ∙ append_assoc head (state_bytes d) y)) in
+    let read : ◌≡◌ {A = Result (ContextData × ℕ) Unread} (Ok (c, length (state_bytes c))) (Ok (d, length (state_bytes d))) =
+    sym (state_again c x is) ∙ (ap judge_state behind ∙ state_again d y js) in
     let both : ◌≡◌ {A = ContextData × ℕ} (c, length (state_bytes c)) (d, length (state_bytes d)) = cc in
     let size : length (state_bytes c) ≡ length (state_bytes d) = ap (λ (p : ContextData × ℕ). p.1) both in (
       ap (λ (p : ContextData × ℕ). p.0) both,
-      sym (drop_at (state_bytes c) x (length (state_bytes c)) refl) ∙ (ap (drop (length (state_bytes c))) behind ∙ drop_at (state_bytes d) y (length (state_bytes c)) (sym size)),
+      sym (drop_at (state_bytes c) x (length (state_bytes c)) refl)
+          ∙ (ap (drop (length (state_bytes c))) behind ∙ drop_at (state_bytes d) y (length (state_bytes c)) (sym size)),
     )
 
 one_third : (bytes : List ℕ) (os ps : List OpData) → IsThird bytes os → IsThird bytes ps → os ≡ ps
@@ -49,18 +53,25 @@ one_third bytes [] [] is js = refl
 one_third bytes [] (p ∷ ps) is js = absurd (false≢true (sym (frame_says bytes p ps js) ∙ ap no_frame is.parts))
 one_third bytes (o ∷ os) [] is js = absurd (false≢true (sym (frame_says bytes o os is) ∙ ap no_frame js.parts))
 one_third bytes (o ∷ os) (p ∷ ps) is js =
-    let same : o ≡ p = frame_once o p (flat_map frame os ++ end_mark) (flat_map frame ps ++ end_mark) (is.formed o (contains_here o os)) (js.formed p (contains_here p ps)) (sym (first_frame bytes o os is) ∙ first_frame bytes p ps js) in
-    let later : IsThird (drop (length (frame o)) bytes) ps = subst (λ (x : OpData). IsThird (drop (length (frame x)) bytes) ps) (sym same) (behind_frame bytes p ps js) in
+    let same : o ≡ p =
+    frame_once o p (flat_map frame os ++ end_mark) (flat_map frame ps ++ end_mark) (is.formed o (contains_here o os))
+    (js.formed p (contains_here p ps)) (sym (first_frame bytes o os is) ∙ first_frame bytes p ps js) in
+    let later : IsThird (drop (length (frame o)) bytes) ps =
+    subst (λ (x : OpData). IsThird (drop (length (frame x)) bytes) ps) (sym same) (behind_frame bytes p ps js) in
     let rest = one_third (drop (length (frame o)) bytes) os ps (behind_frame bytes o os is) later in
     λ i. same i ∷ rest i
 
 one_first : (bytes : List ℕ) (c d : ContextData) → IsFirst bytes c → IsFirst bytes d → c ≡ d
-one_first bytes c d is js = (one_state c d [] [] is.is js.is (append-nil (telling c) ∙ (sym is.parts ∙ (js.parts ∙ sym (append-nil (telling d)))))).0
+one_first bytes c d is js =
+    (one_state c d [] [] is.is js.is (append-nil (telling c) ∙ (sym is.parts ∙ (js.parts ∙ sym (append-nil (telling d)))))).0
 
 one_second : (bytes : List ℕ) (c d : ContextData) (os ps : List OpData) → IsSecond bytes c os → IsSecond bytes d ps → (c ≡ d) × (os ≡ ps)
 one_second bytes c d os ps is js =
-    let both = one_state c d (flat_map frame os ++ end_mark) (flat_map frame ps ++ end_mark) is.is js.is (sym is.parts ∙ js.parts) in
-    (both.0, one_third (flat_map frame os ++ end_mark) os ps (record { formed = is.formed; parts = refl }) (record { formed = js.formed; parts = both.1 }))
+    let both = one_state c d (flat_map frame os ++ end_mark) (flat_map frame ps ++ end_mark) is.is js.is (sym is.parts ∙ js.parts) in (
+      both.0,
+      one_third (flat_map frame os ++ end_mark) os ps (record { formed = is.formed; parts = refl })
+          (record { formed = js.formed; parts = both.1 }),
+    )
 
 pub messages_tell_one_thing : MessagesTellOneThing
 messages_tell_one_thing = record {

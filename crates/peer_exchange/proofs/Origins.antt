@@ -9,10 +9,12 @@ use Rattle.context_diff.specs.Ops.{op_eq}
 use Rattle.context_diff.proofs.CallerLemmas.{contains_cases, contains_here, contains_later, contains_none}
 use Rattle.site_answers.specs.declared.verdict.Verdict.{Verdict}
 use Rattle.site_answers.specs.declared.verdict.Verdict.TheVariants.{Repeat, Forged, Waits, NotClosed, PlaceOut, Integrated}
-use Rattle.cot_site.specs.States.{State, Released, held, judged, delivered, after_verdict, first_ready, released, released_at, without_waiting, delivered_again}
+use Rattle.cot_site.specs.States.{State, Released, held, judged, delivered, after_verdict, first_ready, released, released_at}
+use Rattle.cot_site.specs.States.{without_waiting, delivered_again}
 use Rattle.cot_site.specs.Releases.{and_more, releases, state_after, settled}
-use Rattle.peer_exchange.specs.Taking.{by_verdict, taken_in}
 use Rattle.cot_site.proofs.CallerLemmas.{got_there}
+use Rattle.peer_exchange.specs.Taking.{taken_in}
+use Rattle.peer_exchange.proofs.FirstTaken.{same_after_none, first_taken}
 
 pub record ComesFrom (s t : State) (os : List OpData) : Type 0 where
   pub history : (x : OpData) → Contains t.history x → Contains s.history x ⊎ (Contains s.waiting x ⊎ Contains os x)
@@ -22,7 +24,8 @@ comes_same : (s : State) (os : List OpData) → ComesFrom s s os
 comes_same s os = record { history = λ x at. inl at; waiting = λ x at. inl at }
 
 -- one step after another; what came in the first or the second is among these
-comes_on : (s t u : State) (os ps qs : List OpData) → ((x : OpData) → Contains os x → Contains qs x) → ((x : OpData) → Contains ps x → Contains qs x)
+comes_on : (s t u : State) (os ps qs : List OpData) → ((x : OpData) → Contains os x → Contains qs x)
+    → ((x : OpData) → Contains ps x → Contains qs x)
     → ComesFrom s t os → ComesFrom t u ps → ComesFrom s u qs
 comes_on s t u os ps qs first second a b = record {
   history = λ x at. elim (b.history x at) [
@@ -40,7 +43,8 @@ comes_on s t u os ps qs first second a b = record {
     from_waiting x (inl held) = inl held
     from_waiting x (inr new) = inr (first x new)
 
-    from_history : (x : OpData) → Contains s.history x ⊎ (Contains s.waiting x ⊎ Contains os x) → Contains s.history x ⊎ (Contains s.waiting x ⊎ Contains qs x)
+    from_history : (x : OpData) → Contains s.history x ⊎ (Contains s.waiting x ⊎ Contains os x)
+        → Contains s.history x ⊎ (Contains s.waiting x ⊎ Contains qs x)
     from_history x (inl old) = inl old
     from_history x (inr held) = inr (from_waiting x held)
 
@@ -108,7 +112,8 @@ comes_again s i o there =
 comes_released : (s : State) (r : Released) → released s ≡ Some r → ComesFrom s r.after []
 comes_released s r is = at_place (first_ready s.history s.waiting) is
   where
-    found : (i : ℕ) (p : Option OpData) → slice_get s.waiting i ≡ p → option_map (delivered_again (without_waiting s i)) p ≡ Some r → ComesFrom s r.after []
+    found : (i : ℕ) (p : Option OpData) → slice_get s.waiting i ≡ p → option_map (delivered_again (without_waiting s i)) p ≡ Some r
+        → ComesFrom s r.after []
     found i None at e = absurd (let never = e in cc)
     found i (Some o) at e =
         let same : delivered_again (without_waiting s i) o ≡ r = cc in
@@ -126,35 +131,28 @@ unfolding releases state_after
 comes_settled zero s = comes_same s []
 comes_settled (suc n) s = go (λ t. comes_settled n t) (released s) refl
   where
-    go : ((t : State) → ComesFrom t (state_after t (releases n t)) []) → (p : Option Released) → released s ≡ p → ComesFrom s (state_after s (and_more (releases n) p)) []
+    go : ((t : State) → ComesFrom t (state_after t (releases n t)) []) → (p : Option Released) → released s ≡ p
+        → ComesFrom s (state_after s (and_more (releases n) p)) []
     go again None is = comes_same s []
-    go again (Some r) is = comes_on s r.after (state_after r.after (releases n r.after)) [] [] [] none_new none_new (comes_released s r is) (again r.after)
+    go again (Some r) is =
+        comes_on s r.after (state_after r.after (releases n r.after)) [] [] [] none_new none_new (comes_released s r is) (again r.after)
 
 -- ---- taking in
 
 comes_by_one : (s : State) (o : OpData) → ComesFrom s (settled (delivered s o)) (o ∷ [])
 comes_by_one s o =
     let d = delivered s o in
-    comes_on s d (settled d) (o ∷ []) [] (o ∷ []) (λ x at. at) (λ x at. absurd (contains_none x at)) (comes_delivered s o) (comes_settled (length d.waiting) d)
+    comes_on s d (settled d) (o ∷ []) [] (o ∷ []) (λ x at. at) (λ x at. absurd (contains_none x at)) (comes_delivered s o)
+    (comes_settled (length d.waiting) d)
 
 pub comes_taken : (s t : State) (os : List OpData) → taken_in s os ≡ Ok t → ComesFrom s t os
-unfolding taken_in
-comes_taken s t [] e = let same : s ≡ t = cc in subst (λ (x : State). ComesFrom s x []) same (comes_same s [])
-comes_taken s t (o ∷ os) e = go (λ got. comes_taken (settled (delivered s o)) t os got) (judged s o) e
+comes_taken s t [] e = subst (λ (x : State). ComesFrom s x []) (same_after_none s t e) (comes_same s [])
+comes_taken s t (o ∷ os) e =
+    comes_on s (settled (delivered s o)) t (o ∷ []) os (o ∷ os) here (λ x at. contains_later o os x at) (comes_by_one s o)
+    (comes_taken (settled (delivered s o)) t os (first_taken s t o os e).1)
   where
     here : (x : OpData) → Contains (o ∷ []) x → Contains (o ∷ os) x
     here x at = elim (contains_cases o [] x at) [
       | inl same ↦ subst (λ (z : OpData). Contains (o ∷ os) z) same (contains_here o os)
       | inr none ↦ absurd (contains_none x none)
     ]
-
-    on : ComesFrom (settled (delivered s o)) t os → ComesFrom s t (o ∷ os)
-    on rest = comes_on s (settled (delivered s o)) t (o ∷ []) os (o ∷ os) here (λ x at. contains_later o os x at) (comes_by_one s o) rest
-
-    go : (taken_in (settled (delivered s o)) os ≡ Ok t → ComesFrom (settled (delivered s o)) t os) → (v : Verdict) → by_verdict v o s (λ x. taken_in x os) ≡ Ok t → ComesFrom s t (o ∷ os)
-    go again Repeat got = on (again got)
-    go again (Forged n) got = absurd (let never = got in cc)
-    go again (Waits m) got = absurd (let never = got in cc)
-    go again (NotClosed k) got = absurd (let never = got in cc)
-    go again (PlaceOut p k) got = absurd (let never = got in cc)
-    go again Integrated got = on (again got)

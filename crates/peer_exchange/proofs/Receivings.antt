@@ -1,6 +1,7 @@
 -- Operations of a message are taken in one after the other.
-use Rattle.std.proofs.Common.{◌≡◌, ℕ, ◌+◌, ◌≤◌, ltb, eqb, true, false, inl, inr, List, [], ◌∷◌, ◌++◌, length, drop, refl, ap, sym, subst, ◌∙◌, append_assoc, Result, Ok, Err, arith}
-use Rattle.std.specs.Prelude.{Contains, ◌⊎◌, Some, None}
+use Rattle.std.proofs.Common.{◌≡◌, ℕ, ◌+◌, ◌≤◌, ltb, eqb, true, false, inl, inr, List, [], ◌∷◌, ◌++◌, length, drop, refl, ap, sym}
+use Rattle.std.proofs.Common.{subst, ◌∙◌, append_assoc, Result, Ok, Err, arith}
+use Rattle.std.specs.Prelude.{Contains, Some, None}
 use Rattle.std.proofs.lemmas.Bool.{cases_Bool, false≢true, le-ltb, eqb-true}
 use Rattle.std.proofs.lemmas.Nat.{from_be_bytes-to_be_bytes_4}
 use Rattle.std.specs.List.{flat_map}
@@ -10,61 +11,30 @@ use Rattle.context_diff.specs.Operations.{OpData, IsWellFormed}
 use Rattle.context_diff.specs.declared.op.Op.{Op}
 use Rattle.context_diff.specs.Ops.{data_of}
 use Rattle.context_diff.proofs.CallerLemmas.{contains_here, contains_later}
-use Rattle.site_answers.specs.declared.verdict.Verdict.{Verdict}
-use Rattle.site_answers.specs.declared.verdict.Verdict.TheVariants.{Repeat, Forged, Waits, NotClosed, PlaceOut, Integrated}
-use Rattle.cot_site.specs.States.{State, judged, delivered}
-use Rattle.site_answers.specs.declared.release.Release.{Release}
-use Rattle.cot_site.specs.Releases.{all_releases, state_after, settled, IsPartlySettled}
+use Rattle.cot_site.specs.States.{State, delivered}
+use Rattle.cot_site.specs.Releases.{settled}
 use Rattle.wire_codec.specs.declared.fault.Refused.{Refused}
 use Rattle.wire_codec.specs.Spelling.{frame, body_bytes}
 use Rattle.wire_codec.specs.Judging.{length_of}
+use Rattle.wire_codec.specs.Answers.{HasFrame}
 use Rattle.wire_codec.proofs.CallerLemmas.{body_short, body_long}
 use Rattle.peer_exchange.specs.declared.peer.Peer.{Peer}
 use Rattle.peer_exchange.specs.declared.peer.Peer.TheVariants as peer
 use Rattle.peer_exchange.specs.Messages.{end_mark, IsThird}
-use Rattle.peer_exchange.specs.Taking.{Refusal, by_verdict, taken_in, IsPartlyTaken, IsBefore, IsOnTheWay, IsRefusedAt}
+use Rattle.peer_exchange.specs.Taking.{Refusal, taken_in, IsBefore, IsOnTheWay, IsRefusedAt}
 use Rattle.peer_exchange.specs.Code.Receiving.{no_frame, IsUntaken, AreUntaken, IsFirstOf}
+use Rattle.peer_exchange.proofs.FirstTaken.{taken_none, same_after_none, taken_first, first_taken, still_refused}
 
 -- what follows is taken in at the state that those before left
 pub taken_append : (s at : State) (before os : List OpData) → taken_in s before ≡ Ok at → taken_in s (before ++ os) ≡ taken_in at os
-unfolding taken_in
-taken_append s at [] os e = let same : s ≡ at = cc in ap (λ (t : State). taken_in t os) same
-taken_append s at (o ∷ before) os e = go (λ t got. taken_append t at before os got) (judged s o) e
-  where
-    go : ((t : State) → taken_in t before ≡ Ok at → taken_in t (before ++ os) ≡ taken_in at os)
-        → (v : Verdict) → by_verdict v o s (λ t. taken_in t before) ≡ Ok at → by_verdict v o s (λ t. taken_in t (before ++ os)) ≡ taken_in at os
-    go again Repeat got = again (settled (delivered s o)) got
-    go again (Forged n) got = absurd (let never = got in cc)
-    go again (Waits m) got = absurd (let never = got in cc)
-    go again (NotClosed k) got = absurd (let never = got in cc)
-    go again (PlaceOut p k) got = absurd (let never = got in cc)
-    go again Integrated got = again (settled (delivered s o)) got
-
-pub taken_none : (s : State) → taken_in s [] ≡ Ok s
-unfolding taken_in
-taken_none s = refl
-
--- a refusal is one whatever follows it
-refused_first : (t : State) (o : OpData) (os : List OpData) (why : Refusal) → taken_in t (o ∷ []) ≡ Err why → taken_in t (o ∷ os) ≡ Err why
-unfolding taken_in
-refused_first t o os why e = go (judged t o) e
-  where
-    go : (v : Verdict) → by_verdict v o t (λ x. taken_in x []) ≡ Err why → by_verdict v o t (λ x. taken_in x os) ≡ Err why
-    go Repeat is = absurd (let never = is in cc)
-    go (Forged n) is = is
-    go (Waits m) is = is
-    go (NotClosed k) is = is
-    go (PlaceOut p k) is = is
-    go Integrated is = absurd (let never = is in cc)
+taken_append s at [] os e = ap (λ (t : State). taken_in t os) (same_after_none s at e)
+taken_append s at (o ∷ before) os e =
+    let first = first_taken s at o before e in
+    taken_first s o (before ++ os) first.0 ∙ taken_append (settled (delivered s o)) at before os first.1
 
 pub refused_is : (s : State) (os : List OpData) (t : State) (why : Refusal) → IsRefusedAt s os t why → taken_in s os ≡ Err why
-refused_is s os t why r = ap (taken_in s) r.parts ∙ (taken_append s t r.before (r.op ∷ r.behind) r.taken ∙ refused_first t r.op r.behind why r.refused)
-
--- the states after one operation
-pub taken_by : (s t : State) (o : OpData) → (judged s o ≡ Integrated) ⊎ (judged s o ≡ Repeat) → t ≡ settled (delivered s o) → taken_in s (o ∷ []) ≡ Ok t
-unfolding taken_in
-taken_by s t o (inl v) e = ap (λ (x : Verdict). by_verdict x o s (λ y. Ok y)) v ∙ ap (λ (y : State). Ok y) (sym e)
-taken_by s t o (inr v) e = ap (λ (x : Verdict). by_verdict x o s (λ y. Ok y)) v ∙ ap (λ (y : State). Ok y) (sym e)
+refused_is s os t why r =
+    ap (taken_in s) r.parts ∙ (taken_append s t r.before (r.op ∷ r.behind) r.taken ∙ still_refused t r.op r.behind why r.refused)
 
 -- so many operations were taken in, and the frames of the others are left
 pub record IsTaking (s : State) (bytes left : List ℕ) (now : State) (count : ℕ) : Type 0 where
@@ -77,10 +47,11 @@ pub record IsTaking (s : State) (bytes left : List ℕ) (now : State) (count : �
   pub few : count + length left ≤ length bytes
 
 pub taking_begins : (s : State) (bytes : List ℕ) → (os : List OpData) × IsThird bytes os → IsTaking s bytes bytes s 0
-unfolding taken_in
-taking_begins s bytes are = record { done = []; others = are.0; all = are.1; behind = are.1; taken = refl; counted = refl; few = omega arith }
+taking_begins s bytes are =
+    record { done = []; others = are.0; all = are.1; behind = are.1; taken = taken_none s; counted = refl; few = omega arith }
 
-module _ (s : State) (bytes left : List ℕ) (now : State) (count : ℕ) (p : Op × ℕ) (w : IsTaking s bytes left now count) (first : (os : List OpData) → IsThird left os → IsFirstOf left os (Some p)) where
+module _ (s : State) (bytes left : List ℕ) (now : State) (count : ℕ) (p : Op × ℕ) (w : IsTaking s bytes left now count)
+    (first : (os : List OpData) → IsThird left os → IsFirstOf left os (Some p)) where
   -- the first operation of those that are left, and the others
   pub record IsNext : Type 0 where
     pub later : List OpData
@@ -94,18 +65,29 @@ module _ (s : State) (bytes left : List ℕ) (now : State) (count : ℕ) (p : Op
       go [] are is = absurd (first [] are)
       go (o ∷ os) are is =
           let f = first (o ∷ os) are in
-          record { later = os; split = is ∙ ap (λ (x : OpData). x ∷ os) (sym f.0); size = f.1 ∙ ap (λ (x : OpData). length (frame x)) (sym f.0) }
+          record {
+            later = os;
+            split = is ∙ ap (λ (x : OpData). x ∷ os) (sym f.0);
+            size = f.1
+                ∙ ap (λ (x : OpData). length (frame x)) (sym f.0);
+          }
 
   pub next_formed : IsWellFormed (data_of p.0)
-  next_formed = let n = next_of in w.behind.formed (data_of p.0) (subst (λ (os : List OpData). Contains os (data_of p.0)) (sym n.split) (contains_here (data_of p.0) n.later))
+  next_formed =
+      let n =
+      next_of in w.behind.formed (data_of p.0) (subst (λ (os : List OpData). Contains os (data_of p.0)) (sym n.split)
+      (contains_here (data_of p.0) n.later))
 
   pub taking_more : (t : State) → taken_in now (data_of p.0 ∷ []) ≡ Ok t → IsTaking s bytes (drop p.1 left) t (count + 1)
   taking_more t e =
       let n = next_of in
       let o = data_of p.0 in
-      let shifted : w.done ++ w.others ≡ (w.done ++ o ∷ []) ++ n.later = ap (λ (os : List OpData). w.done ++ os) n.split ∙ sym (append_assoc w.done (o ∷ []) n.later) in
+      let shifted : w.done ++ w.others ≡ (w.done ++ o ∷ []) ++ n.later =
+      ap (λ (os : List OpData). w.done ++ os) n.split ∙ sym (append_assoc w.done (o ∷ []) n.later) in
       let here : IsThird left (o ∷ n.later) = subst (IsThird left) n.split w.behind in
-      let text : left ≡ frame o ++ (flat_map frame n.later ++ end_mark) = here.parts ∙ (ap (λ (xs : List ℕ). xs ++ end_mark) (flat_map-cons frame o n.later) ∙ append_assoc (frame o) (flat_map frame n.later) end_mark) in
+      let text : left ≡ frame o ++ (flat_map frame n.later ++ end_mark) =
+      here.parts ∙ (ap (λ (xs : List ℕ). xs ++ end_mark) (flat_map-cons frame o n.later)
+      ∙ append_assoc (frame o) (flat_map frame n.later) end_mark) in
       let counted = w.counted in
       record {
         done = w.done ++ o ∷ [];
@@ -120,12 +102,14 @@ module _ (s : State) (bytes left : List ℕ) (now : State) (count : ℕ) (p : Op
         few = (
             let few = w.few in
             let size = n.size in
-            let total : length left ≡ length (frame o) + length (flat_map frame n.later ++ end_mark) = ap length text ∙ length-append (frame o) (flat_map frame n.later ++ end_mark) in
+            let total : length left ≡ length (frame o) + length (flat_map frame n.later ++ end_mark) =
+            ap length text ∙ length-append (frame o) (flat_map frame n.later ++ end_mark) in
             omega (arith, few, size, total, length-drop p.1 left)
             );
       }
 
-  pub taking_stops : (t : State) (why : Peer) → IsUntaken now (data_of p.0) t why → (os : List OpData) × IsThird bytes os × AreUntaken s os t why
+  pub taking_stops : (t : State) (why : Peer) → IsUntaken now (data_of p.0) t why
+      → (os : List OpData) × IsThird bytes os × AreUntaken s os t why
   taking_stops t why u = (w.done ++ w.others, w.all, stopped why u)
     where
       stopped : (y : Peer) → IsUntaken now (data_of p.0) t y → AreUntaken s (w.done ++ w.others) t y
@@ -151,16 +135,6 @@ module _ (s : State) (bytes left : List ℕ) (now : State) (count : ℕ) (p : Op
             reached = is;
           }
 
--- delivered, with some of the releases after it
-pub partly : (s d t : State) (o : OpData) (old new : List Release) → (judged s o ≡ Integrated) ⊎ (judged s o ≡ Repeat) → d ≡ delivered s o → IsPartlySettled d t old new → IsPartlyTaken s o t
-partly s d t o old new accepted is p = record {
-  accepted = accepted;
-  done = p.done;
-  left = p.left;
-  releases = ap all_releases (sym is) ∙ p.parts;
-  state = p.state ∙ ap (λ (x : State). state_after x p.done) is;
-}
-
 -- where none of these operations is taken in yet
 pub none_taken : (s : State) (os : List OpData) → IsBefore s os s
 none_taken s [] = refl
@@ -168,11 +142,6 @@ none_taken s (o ∷ os) = inl refl
 
 pub none_on_the_way : (s : State) (os : List OpData) → IsOnTheWay s os s
 none_on_the_way s os = record { before = []; behind = os; parts = refl; at = s; taken = taken_none s; reached = none_taken s os }
-
--- out of memory before the next operation was there
-pub taking_fails : (s : State) (bytes left : List ℕ) (now : State) (count : ℕ) → IsTaking s bytes left now count → (os : List OpData) × IsThird bytes os × AreUntaken s os now peer.Memory
-taking_fails s bytes left now count w =
-    (w.done ++ w.others, w.all, record { before = w.done; behind = w.others; parts = refl; at = now; taken = w.taken; reached = none_taken now w.others })
 
 -- ---- the first frame
 
@@ -184,8 +153,10 @@ pub record IsThere (bytes : List ℕ) (os : List OpData) : Type 0 where
   pub formed : IsWellFormed op
   pub parts : bytes ≡ frame op ++ (flat_map frame later ++ end_mark)
 
-pub first_frame : (bytes : List ℕ) (o : OpData) (os : List OpData) → IsThird bytes (o ∷ os) → bytes ≡ frame o ++ (flat_map frame os ++ end_mark)
-first_frame bytes o os are = are.parts ∙ (ap (λ (xs : List ℕ). xs ++ end_mark) (flat_map-cons frame o os) ∙ append_assoc (frame o) (flat_map frame os) end_mark)
+pub first_frame : (bytes : List ℕ) (o : OpData) (os : List OpData) → IsThird bytes (o ∷ os)
+    → bytes ≡ frame o ++ (flat_map frame os ++ end_mark)
+first_frame bytes o os are =
+    are.parts ∙ (ap (λ (xs : List ℕ). xs ++ end_mark) (flat_map-cons frame o os) ∙ append_assoc (frame o) (flat_map frame os) end_mark)
 
 pub frame_says : (bytes : List ℕ) (o : OpData) (os : List OpData) → IsThird bytes (o ∷ os) → no_frame bytes ≡ false
 frame_says bytes o os are =
@@ -209,20 +180,24 @@ none_at_end bytes (o ∷ os) e are = absurd (false≢true (sym (frame_says bytes
 
 pub frame_there : (bytes : List ℕ) (os : List OpData) → no_frame bytes ≡ false → IsThird bytes os → IsThere bytes os
 frame_there bytes [] e are = absurd (false≢true (sym e ∙ ap no_frame are.parts))
-frame_there bytes (o ∷ os) e are = record { op = o; later = os; split = refl; formed = are.formed o (contains_here o os); parts = first_frame bytes o os are }
+frame_there bytes (o ∷ os) e are =
+    record { op = o; later = os; split = refl; formed = are.formed o (contains_here o os); parts = first_frame bytes o os are }
 
 -- what is decoded there is that operation
 pub decoded_first : (bytes : List ℕ) (op : Op) (used : ℕ) → no_frame bytes ≡ false
-    → ((o : OpData) (rest : List ℕ) → IsWellFormed o → bytes ≡ frame o ++ rest → ◌≡◌ {A = Result (OpData × ℕ) Refused} (Ok (data_of op, used)) (Ok (o, length (frame o))))
+    → ((o : OpData) (rest : List ℕ) → IsWellFormed o → bytes ≡ frame o ++ rest
+    → ◌≡◌ {A = Result (OpData × ℕ) Refused} (Ok (data_of op, used)) (Ok (o, length (frame o))))
     → (os : List OpData) → IsThird bytes os → IsFirstOf bytes os (Some (op, used))
 decoded_first bytes op used e only os are =
     let t = frame_there bytes os e are in
     let is = only t.op (flat_map frame t.later ++ end_mark) t.formed t.parts in
     let both : ◌≡◌ {A = OpData × ℕ} (data_of op, used) (t.op, length (frame t.op)) = cc in
-    subst (λ (xs : List OpData). IsFirstOf bytes xs (Some (op, used))) (sym t.split) (ap (λ (x : OpData × ℕ). x.0) both, ap (λ (x : OpData × ℕ). x.1) both)
+    subst (λ (xs : List OpData). IsFirstOf bytes xs (Some (op, used))) (sym t.split)
+    (ap (λ (x : OpData × ℕ). x.0) both, ap (λ (x : OpData × ℕ). x.1) both)
 
 pub decoded_within : (bytes : List ℕ) (op : Op) (used : ℕ) → no_frame bytes ≡ false
-    → ((o : OpData) (rest : List ℕ) → IsWellFormed o → bytes ≡ frame o ++ rest → ◌≡◌ {A = Result (OpData × ℕ) Refused} (Ok (data_of op, used)) (Ok (o, length (frame o))))
+    → ((o : OpData) (rest : List ℕ) → IsWellFormed o → bytes ≡ frame o ++ rest
+    → ◌≡◌ {A = Result (OpData × ℕ) Refused} (Ok (data_of op, used)) (Ok (o, length (frame o))))
     → (os : List OpData) → IsThird bytes os → (1 ≤ used) × (used ≤ length bytes)
 decoded_within bytes op used e only os are =
     let t = frame_there bytes os e are in
@@ -235,9 +210,64 @@ decoded_within bytes op used e only os are =
 
 -- an answer without an operation never comes there
 pub decoded_never : (bytes : List ℕ) (r : Refused) → no_frame bytes ≡ false
-    → ((o : OpData) (rest : List ℕ) → IsWellFormed o → bytes ≡ frame o ++ rest → ◌≡◌ {A = Result (OpData × ℕ) Refused} (Err r) (Ok (o, length (frame o))))
+    → ((o : OpData) (rest : List ℕ) → IsWellFormed o → bytes ≡ frame o ++ rest
+    → ◌≡◌ {A = Result (OpData × ℕ) Refused} (Err r) (Ok (o, length (frame o))))
     → (os : List OpData) → IsThird bytes os → ⊥
 decoded_never bytes r e only os are =
     let t = frame_there bytes os e are in
     let is = only t.op (flat_map frame t.later ++ end_mark) t.formed t.parts in
     cc
+
+-- ---- a message with an operation begins with a frame
+
+begins_with : (bytes : List ℕ) (o : OpData) (os : List OpData) → IsThird bytes (o ∷ os) → HasFrame bytes
+begins_with bytes o os are =
+    let behind = flat_map frame os ++ end_mark in
+    let n = length (frame o) in
+    let text = first_frame bytes o os are in
+    let rest : drop n bytes ≡ behind = ap (drop n) text ∙ drop_at (frame o) behind n refl in (
+      n,
+      record {
+        op = o;
+        is = record {
+          well = are.formed o (contains_here o os);
+          size = refl;
+          parts = text
+              ∙ ap (λ (xs : List ℕ). frame o ++ xs) (sym rest);
+        };
+      },
+    )
+
+has_frame : (bytes : List ℕ) (done : List OpData) (o : OpData) (behind : List OpData) → IsThird bytes (done ++ o ∷ behind) → HasFrame bytes
+has_frame bytes [] o behind are = begins_with bytes o behind are
+has_frame bytes (p ∷ done) o behind are = begins_with bytes p (done ++ o ∷ behind) are
+
+-- a frame is left
+pub frame_left : (s : State) (bytes left : List ℕ) (now : State) (count : ℕ) → IsTaking s bytes left now count → no_frame left ≡ false
+    → HasFrame bytes
+frame_left s bytes left now count w e =
+    let t = frame_there left w.others e w.behind in
+    has_frame bytes w.done t.op t.later (subst (λ (os : List OpData). IsThird bytes (w.done ++ os)) t.split w.all)
+
+-- out of memory before the next operation was there
+pub taking_fails : (s : State) (bytes left : List ℕ) (now : State) (count : ℕ) → IsTaking s bytes left now count
+    → (os : List OpData) × IsThird bytes os × AreUntaken s os now peer.Memory
+taking_fails s bytes left now count w = (
+  w.done ++ w.others,
+  w.all,
+  record {
+    before = w.done;
+    behind = w.others;
+    parts = refl;
+    at = now;
+    taken = w.taken;
+    reached = none_taken
+        now w.others;
+  },
+)
+
+pub next_left : (s : State) (bytes left : List ℕ) (now : State) (count : ℕ) (p : Op × ℕ) → IsTaking s bytes left now count
+    → ((os : List OpData) → IsThird left os → IsFirstOf left os (Some p)) → HasFrame bytes
+next_left s bytes left now count p w first =
+    let n = next_of s bytes left now count p w first in
+    has_frame bytes w.done (data_of p.0) n.later (subst (λ (os : List OpData). IsThird bytes (w.done ++ os)) n.split w.all)

@@ -21,7 +21,8 @@ offered_whole h bytes v is = messages_are_whole.first bytes (context_of_all h) (
 
 pub answered_whole : (h : List OpData) (first second : List ℕ) (n : ℕ) → IsValid h → IsAnswered h first [] second n → IsWhole Second second
 answered_whole h first second n v a =
-    messages_are_whole.second second (context_of_all h) (unseen (has a.state) h) (record { is = history_is_state h v; formed = lacked_formed a.state h v; parts = a.appended })
+    messages_are_whole.second second (context_of_all h) (unseen (has a.state) h)
+    (record { is = history_is_state h v; formed = lacked_formed a.state h v; parts = a.appended })
 
 pub closing_whole : (h : List OpData) (c : ContextData) (third : List ℕ) → IsValid h → third ≡ third_message h c → IsWhole Third third
 closing_whole h c third v is = messages_are_whole.third third (unseen (has c) h) (record { formed = lacked_formed c h v; parts = is })

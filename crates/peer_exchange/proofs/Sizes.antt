@@ -1,5 +1,5 @@
 -- How many bytes the parts of messages have, at most.
-use Rattle.std.proofs.Common.{ℕ, ◌+◌, ◌*◌, ◌≤◌, List, [], ◌∷◌, length, if◌then◌else◌, ap, arith}
+use Rattle.std.proofs.Common.{ℕ, ◌+◌, ◌*◌, ◌≤◌, List, [], ◌∷◌, length, ap, arith}
 use Rattle.std.specs.Prelude.{Contains}
 use Rattle.std.specs.List.{flat_map}
 use Rattle.std.proofs.Math.Nat.{mul-suc}
@@ -16,11 +16,20 @@ use Rattle.wire_codec.specs.States.{named_bytes, state_bytes}
 use Rattle.wire_codec.proofs.CallerLemmas.{body_short, counts_few}
 
 -- pieces of at most k bytes each
-pieces_short : {A : Type 0} (f : A → List ℕ) (k : ℕ) (xs : List A) → ((x : A) → Contains xs x → length (f x) ≤ k) → length (flat_map f xs) ≤ k * length xs
+pieces_short : {A : Type 0} (f : A → List ℕ) (k : ℕ) (xs : List A) → ((x : A) → Contains xs x → length (f x) ≤ k)
+    → length (flat_map f xs) ≤ k * length xs
 pieces_short f k [] each = omega arith
 pieces_short f k (x ∷ xs) each =
     let rest = pieces_short f k xs (λ y at. each y (contains_later x xs y at)) in
-    omega (arith, rest, each x (contains_here x xs), ap length (flat_map-cons f x xs), length-append (f x) (flat_map f xs), mul-suc k (length xs))
+    omega (
+      arith,
+      rest,
+      each x (contains_here x xs),
+      ap length (flat_map-cons f x xs),
+      length-append (f x) (flat_map f xs),
+      mul-suc k
+          (length xs),
+    )
 
 -- ---- frames
 

@@ -1,5 +1,6 @@
 -- A part that is there stays, whatever follows it, and has a byte.
-use Rattle.std.proofs.Common.{◌≡◌, ℕ, ◌+◌, ◌≤◌, ltb, eqb, Bool, true, false, cond, List, ◌++◌, length, drop, Result, Ok, Err, refl, sym, ap, ◌∙◌, append_assoc, arith}
+use Rattle.std.proofs.Common.{◌≡◌, ℕ, ◌+◌, ◌≤◌, ltb, eqb, Bool, true, false, cond, List, ◌++◌, length, drop, Result, Ok, Err, refl, sym}
+use Rattle.std.proofs.Common.{ap, ◌∙◌, append_assoc, arith}
 use Rattle.std.specs.List.{starts_with}
 use Rattle.std.proofs.lemmas.Bool.{ltb-false, le-ltb}
 use Rattle.std.proofs.lemmas.List.{length-append, take-append-le}
@@ -13,7 +14,8 @@ use Rattle.wire_codec.specs.Answers.{scan_of}
 use Rattle.wire_codec.specs.declared.fault.Unread.{Unread}
 use Rattle.wire_codec.specs.declared.fault.Unread.TheVariants as unread
 use Rattle.wire_codec.specs.States.{judge_state, state_bytes, state_scan_of}
-use Rattle.wire_codec.proofs.CallerLemmas.{IsBytes, judge_takes, judge_again, state_bound, state_some, state_stays, state_takes, state_within}
+use Rattle.wire_codec.proofs.CallerLemmas.{IsBytes, judge_takes, judge_again, state_bound, state_some, state_stays, state_takes}
+use Rattle.wire_codec.proofs.CallerLemmas.{state_within}
 use Rattle.peer_exchange.specs.declared.stages.Stage.{Stage}
 use Rattle.peer_exchange.specs.declared.stages.Stage.TheVariants.{Head, State, Frames}
 use Rattle.peer_exchange.specs.declared.stages.Piece.{Piece}
@@ -41,10 +43,13 @@ by_false b x y e = ap (λ (c : Bool). cond c x y) e
 pub by_true : (b : Bool) (x y : Piece) → b ≡ true → cond b x y ≡ x
 by_true b x y e = ap (λ (c : Bool). cond c x y) e
 
-head_there : (frames : Bool) (bytes : List ℕ) (next : Stage) (used : ℕ) → head_piece frames bytes ≡ part.Got next used → IsThere (Head frames) bytes next used
+head_there : (frames : Bool) (bytes : List ℕ) (next : Stage) (used : ℕ) → head_piece frames bytes ≡ part.Got next used
+    → IsThere (Head frames) bytes next used
 head_there frames bytes next used e =
     let is_head = starts_with (λ (x : ℕ) (y : ℕ). eqb x y) bytes head in
-    let long = first_no (ltb (length bytes) 8) (part.More 8) (cond is_head (part.Got (State frames) 8) (part.Bad 0 _)) (part.Got next used) e (λ other. cc) in
+    let long =
+    first_no (ltb (length bytes) 8) (part.More 8) (cond is_head (part.Got (State frames) 8) (part.Bad 0 _)) (part.Got next used) e
+    (λ other. cc) in
     let same = first_yes is_head (part.Got (State frames) 8) (part.Bad 0 _) (part.Got next used) long.1 (λ other. cc) in
     let size : 8 ≡ used = let got = same.1 in cc in
     let enough = ltb-false _ _ long.0 in
@@ -57,13 +62,15 @@ head_there frames bytes next used e =
           ∙ same.1);
     }
   where
-    head_front : (bytes tail : List ℕ) → 8 ≤ length bytes → starts_with (λ (x : ℕ) (y : ℕ). eqb x y) (bytes ++ tail) head ≡ starts_with (λ (x : ℕ) (y : ℕ). eqb x y) bytes head
+    head_front : (bytes tail : List ℕ) → 8 ≤ length bytes
+        → starts_with (λ (x : ℕ) (y : ℕ). eqb x y) (bytes ++ tail) head ≡ starts_with (λ (x : ℕ) (y : ℕ). eqb x y) bytes head
     head_front bytes tail enough = rw (take-append-le 8 bytes tail enough) refl
 
 -- ---- states
 
 -- a state that frames follow
-stated_got : (frames : Bool) (j : Result (ContextData × ℕ) Unread) (next : Stage) (used : ℕ) → stated frames (state_scan_of j) ≡ part.Got next used
+stated_got : (frames : Bool) (j : Result (ContextData × ℕ) Unread) (next : Stage) (used : ℕ)
+    → stated frames (state_scan_of j) ≡ part.Got next used
     → (c : ContextData) × (j ≡ Ok (c, used)) × (part.Got next used ≡ stated frames (state_scan_of (Ok (c, used))))
 stated_got true (Ok x) next used e =
     let size : x.1 ≡ used = cc in
@@ -73,17 +80,21 @@ stated_got false (Ok x) next used e = absurd cc
 stated_got frames (Err (unread.More n)) next used e = absurd cc
 stated_got frames (Err (unread.Bad f)) next used e = absurd cc
 
-state_there : (frames : Bool) (bytes : List ℕ) (next : Stage) (used : ℕ) → IsBytes bytes → state_piece frames bytes ≡ part.Got next used → IsThere (State frames) bytes next used
+state_there : (frames : Bool) (bytes : List ℕ) (next : Stage) (used : ℕ) → IsBytes bytes → state_piece frames bytes ≡ part.Got next used
+    → IsThere (State frames) bytes next used
 state_there frames bytes next used fits e =
     let got = stated_got frames (judge_state bytes) next used e in
     let is = state_takes bytes got.0 used fits got.1 in
     let size = is.size in
     let some = state_some got.0 in
-    let total : length bytes ≡ length (state_bytes got.0) + length (drop used bytes) = ap length is.parts ∙ length-append (state_bytes got.0) (drop used bytes) in
+    let total : length bytes ≡ length (state_bytes got.0) + length (drop used bytes) =
+    ap length is.parts ∙ length-append (state_bytes got.0) (drop used bytes) in
     record {
       some = omega (arith, size, some);
       within = omega (arith, size, total);
-      stays = λ tail. ap (λ (j : Result (ContextData × ℕ) Unread). stated frames (state_scan_of j)) (state_stays bytes tail (Ok (got.0, used)) (λ n no. cc) got.1) ∙ sym got.2;
+      stays =
+          λ tail. ap (λ (j : Result (ContextData × ℕ) Unread). stated frames (state_scan_of j))
+          (state_stays bytes tail (Ok (got.0, used)) (λ n no. cc) got.1) ∙ sym got.2;
     }
 
 -- a state lies within its bytes, or asks for no more than the largest has
@@ -94,7 +105,8 @@ state_fits frames bytes fits = go frames (judge_state bytes) refl
     within c used e =
         let is = state_takes bytes c used fits e in
         let size = is.size in
-        let total : length bytes ≡ length (state_bytes c) + length (drop used bytes) = ap length is.parts ∙ length-append (state_bytes c) (drop used bytes) in
+        let total : length bytes ≡ length (state_bytes c) + length (drop used bytes) =
+        ap length is.parts ∙ length-append (state_bytes c) (drop used bytes) in
         omega (arith, size, total)
 
     go : (b : Bool) (j : Result (ContextData × ℕ) Unread) → judge_state bytes ≡ j → Fits (length bytes) (stated b (state_scan_of j))
@@ -105,7 +117,8 @@ state_fits frames bytes fits = go frames (judge_state bytes) refl
 
 -- ---- frames
 
-pub framed_got : (j : Result (OpData × ℕ) Refused) (next : Stage) (used : ℕ) → framed (scan_of j) ≡ part.Got next used → (o : OpData) × (j ≡ Ok (o, used)) × (next ≡ Frames)
+pub framed_got : (j : Result (OpData × ℕ) Refused) (next : Stage) (used : ℕ) → framed (scan_of j) ≡ part.Got next used
+    → (o : OpData) × (j ≡ Ok (o, used)) × (next ≡ Frames)
 framed_got (Ok x) next used e =
     let size : x.1 ≡ used = cc in
     let is : next ≡ Frames = cc in
@@ -113,36 +126,43 @@ framed_got (Ok x) next used e =
 framed_got (Err (More n)) next used e = absurd cc
 framed_got (Err (Bad f)) next used e = absurd cc
 
-pub judge_stays : (bytes : List ℕ) (o : OpData) (used : ℕ) → IsBytes bytes → judge bytes ≡ Ok (o, used) → (tail : List ℕ) → judge (bytes ++ tail) ≡ Ok (o, used)
+pub judge_stays : (bytes : List ℕ) (o : OpData) (used : ℕ) → IsBytes bytes → judge bytes ≡ Ok (o, used) → (tail : List ℕ)
+    → judge (bytes ++ tail) ≡ Ok (o, used)
 judge_stays bytes o used fits e tail =
     let is = judge_takes bytes o used fits e in
     ap (λ (t : List ℕ). judge (t ++ tail)) is.parts
     ∙ (ap judge (append_assoc (frame o) (drop used bytes) tail)
     ∙ (judge_again o (drop used bytes ++ tail) is.well ∙ ap (λ (n : ℕ). Ok (o, n)) (sym is.size)))
 
-frame_there : (bytes : List ℕ) (next : Stage) (used : ℕ) → IsBytes bytes → frame_piece bytes ≡ part.Got next used → IsThere Frames bytes next used
+frame_there : (bytes : List ℕ) (next : Stage) (used : ℕ) → IsBytes bytes → frame_piece bytes ≡ part.Got next used
+    → IsThere Frames bytes next used
 frame_there bytes next used fits e =
     let ended = eqb (length_of bytes) 0 in
-    let long = first_no (ltb (length bytes) 4) (part.More 4) (cond ended (part.Whole 4) (framed (scan_of (judge bytes)))) (part.Got next used) e (λ other. cc) in
+    let long =
+    first_no (ltb (length bytes) 4) (part.More 4) (cond ended (part.Whole 4) (framed (scan_of (judge bytes)))) (part.Got next used) e
+    (λ other. cc) in
     let more = first_no ended (part.Whole 4) (framed (scan_of (judge bytes))) (part.Got next used) long.1 (λ other. cc) in
     let enough = ltb-false _ _ long.0 in
     let got = framed_got (judge bytes) next used more.1 in
     let is = judge_takes bytes got.0 used fits got.1 in
     let size = is.size in
-    let total : length bytes ≡ length (frame got.0) + length (drop used bytes) = ap length is.parts ∙ length-append (frame got.0) (drop used bytes) in
+    let total : length bytes ≡ length (frame got.0) + length (drop used bytes) =
+    ap length is.parts ∙ length-append (frame got.0) (drop used bytes) in
     record {
       some = omega (arith, size);
       within = omega (arith, size, total);
       stays = λ tail.
           by_false (ltb (length (bytes ++ tail)) 4) _ _ (le-ltb _ _ (omega (arith, length-append bytes tail)))
           ∙ (by_false (eqb (length_of (bytes ++ tail)) 0) _ _ (same_length bytes tail enough ∙ more.0)
-          ∙ (ap (λ (j : Result (OpData × ℕ) Refused). framed (scan_of j)) (judge_stays bytes got.0 used fits got.1 tail ∙ sym got.1) ∙ more.1));
+          ∙ (ap (λ (j : Result (OpData × ℕ) Refused). framed (scan_of j)) (judge_stays bytes got.0 used fits got.1 tail ∙ sym got.1)
+          ∙ more.1));
     }
   where
     same_length : (bytes tail : List ℕ) → 4 ≤ length bytes → eqb (length_of (bytes ++ tail)) 0 ≡ eqb (length_of bytes) 0
     same_length bytes tail enough = rw (take-append-le 4 bytes tail enough) refl
 
-pub is_there : (s : Stage) (bytes : List ℕ) (next : Stage) (used : ℕ) → IsBytes bytes → piece_of s bytes ≡ part.Got next used → IsThere s bytes next used
+pub is_there : (s : Stage) (bytes : List ℕ) (next : Stage) (used : ℕ) → IsBytes bytes → piece_of s bytes ≡ part.Got next used
+    → IsThere s bytes next used
 is_there (Head frames) bytes next used fits e = head_there frames bytes next used e
 is_there (State frames) bytes next used fits e = state_there frames bytes next used fits e
 is_there Frames bytes next used fits e = frame_there bytes next used fits e

@@ -1,10 +1,10 @@
 -- At a site at which nothing waits, what is next is integrated, one after the other.
-use Rattle.std.proofs.Common.{◌≡◌, ℕ, List, [], ◌∷◌, ◌++◌, refl, ap, sym, ◌∙◌, append-nil, Result, Ok}
-use Rattle.context_diff.specs.Operations.{OpData}
+use Rattle.std.proofs.Common.{◌≡◌, ℕ, true, false, inl, inr, List, [], ◌∷◌, ◌++◌, refl, ap, sym, ◌∙◌, append-nil, Ok}
+use Rattle.context_diff.specs.Operations.{OpData, member_of, IsWellFormed}
 use Rattle.context_diff.specs.Histories.{is_known, IsNext, IsValid, IsValidAfter}
 use Rattle.context_diff.proofs.CallerLemmas.{agree_back, contains_none, shifted, valid_push}
 use Rattle.site_answers.specs.declared.verdict.Verdict.{Verdict}
-use Rattle.site_answers.specs.declared.verdict.Verdict.TheVariants.{Repeat, Forged, Waits, NotClosed, PlaceOut, Integrated}
+use Rattle.site_answers.specs.declared.verdict.Verdict.TheVariants.{Repeat, Integrated}
 use Rattle.cot_site.specs.Verdicts.{verdict_of}
 use Rattle.cot_site.specs.States.{State, delivered, after_verdict}
 use Rattle.cot_site.specs.Releases.{settled}
@@ -12,7 +12,9 @@ use Rattle.cot_site.proofs.CallerLemmas.{settled_stays, next_integrated, integra
 use Rattle.peer_exchange.specs.Joins.{unseen}
 use Rattle.peer_exchange.proofs.ValidJoins.{lacked_operations_are_next}
 use Rattle.peer_exchange.proofs.BothSides.{third_is}
-use Rattle.peer_exchange.specs.Taking.{Refusal, by_verdict, taken_in, NextOperationsAreTaken, BothSidesTakeAll, AreNew, NewOperationsAreAppended}
+use Rattle.participant.specs.Taking.{is_had}
+use Rattle.peer_exchange.specs.Taking.{taken_in, NextOperationsAreTaken, BothSidesTakeAll, AreNew, NewOperationsAreAppended}
+use Rattle.peer_exchange.proofs.FirstTaken.{had_cases, taken_none, same_after_none, taken_first, first_taken}
 
 abbrev state : ℕ → List OpData → State
 state n h = record { number = n; history = h; waiting = [] }
@@ -23,17 +25,17 @@ next_is_integrated h o v next = next_integrated h [] o v next.formed next (λ n 
 settles : (n : ℕ) (h : List OpData) → settled (state n h) ≡ state n h
 settles n h = settled_stays (state n h) refl
 
+-- an integrated operation is the last, and nothing waits then
+integrated_is : (n : ℕ) (h : List OpData) (o : OpData) → verdict_of h [] o ≡ Integrated
+    → settled (delivered (state n h) o) ≡ state n (h ++ o ∷ [])
+integrated_is n h o is = ap (λ (x : Verdict). settled (after_verdict x o (state n h))) is ∙ settles n (h ++ o ∷ [])
+
 taken : (n : ℕ) (h os : List OpData) → IsValid h → IsValidAfter h os → taken_in (state n h) os ≡ Ok (state n (h ++ os))
-unfolding taken_in
-taken n h [] v after = ap (λ (k : List OpData). Ok (state n k)) (sym (append-nil h))
+taken n h [] v after = taken_none (state n h) ∙ ap (λ (k : List OpData). Ok (state n k)) (sym (append-nil h))
 taken n h (o ∷ os) v after =
-    let s = state n h in
-    let next : State → Result State Refusal = λ t. taken_in t os in
     let verdict = next_is_integrated h o v after.0 in
-    let moved : delivered s o ≡ state n (h ++ o ∷ []) = ap (λ (x : Verdict). after_verdict x o s) verdict in
-    let settled : settled (delivered s o) ≡ state n (h ++ o ∷ []) = ap settled moved ∙ settles n (h ++ o ∷ []) in
-    ap (λ (x : Verdict). by_verdict x o s next) verdict
-    ∙ (ap next settled
+    taken_first (state n h) o os (ap is_had verdict)
+    ∙ (ap (λ (t : State). taken_in t os) (integrated_is n h o verdict)
     ∙ (taken n (h ++ o ∷ []) os (valid_push h o v after.0) after.1
     ∙ ap (λ (k : List OpData). Ok (state n k)) (shifted h o os)))
 
@@ -55,25 +57,22 @@ both_sides_take_all s t v w none_s none_t agree = (
       (lacked_operations_are_next s.history t.history v w agree),
 )
 
-appended : (n : ℕ) (h os : List OpData) (t : State) → IsValid h → AreNew h os → taken_in (state n h) os ≡ Ok t → t ≡ state n (h ++ os)
-unfolding taken_in
-appended n h [] t v new e = let is : state n h ≡ t = cc in sym is ∙ ap (state n) (sym (append-nil h))
-appended n h (o ∷ os) t v new e = go (λ valid got. appended n (h ++ o ∷ []) os t valid new.2 got) (verdict_of h [] o) refl e
-  where
-    next : State → Result State Refusal
-    next x = taken_in x os
+new_is_integrated : (h : List OpData) (o : OpData) → IsValid h → IsWellFormed o → is_known h (member_of o) ≡ false
+    → is_had (verdict_of h [] o) ≡ true
+    → verdict_of h [] o ≡ Integrated
+new_is_integrated h o v formed new had = elim (had_cases (verdict_of h [] o) had) [
+  | inl is ↦ is
+  | inr is ↦ absurd (unknown_no_repeat h v o formed new ((verdicts_exact h [] o Repeat v formed).1 (sym is)))
+]
 
-    go : (IsValid (h ++ o ∷ []) → taken_in (state n (h ++ o ∷ [])) os ≡ Ok t → t ≡ state n ((h ++ o ∷ []) ++ os)) → (x : Verdict) → verdict_of h [] o ≡ x → by_verdict x o (state n h) next ≡ Ok t → t ≡ state n (h ++ o ∷ os)
-    go again Repeat is got = absurd (unknown_no_repeat h v o new.0 new.1 ((verdicts_exact h [] o Repeat v new.0).1 (sym is)))
-    go again (Forged m) is got = absurd cc
-    go again (Waits m) is got = absurd cc
-    go again (NotClosed k) is got = absurd cc
-    go again (PlaceOut p k) is got = absurd cc
-    go again Integrated is got =
-        let s = state n h in
-        let moved : delivered s o ≡ state n (h ++ o ∷ []) = ap (λ (x : Verdict). after_verdict x o s) is in
-        let settled : settled (delivered s o) ≡ state n (h ++ o ∷ []) = ap settled moved ∙ settles n (h ++ o ∷ []) in
-        again (valid_push h o v (integrated_next h [] o v new.0 is)) (ap next (sym settled) ∙ got) ∙ ap (state n) (shifted h o os)
+appended : (n : ℕ) (h os : List OpData) (t : State) → IsValid h → AreNew h os → taken_in (state n h) os ≡ Ok t → t ≡ state n (h ++ os)
+appended n h [] t v new e = sym (same_after_none (state n h) t e) ∙ ap (state n) (sym (append-nil h))
+appended n h (o ∷ os) t v new e =
+    let first = first_taken (state n h) t o os e in
+    let is = new_is_integrated h o v new.0 new.1 first.0 in
+    appended n (h ++ o ∷ []) os t (valid_push h o v (integrated_next h [] o v new.0 is)) new.2
+    (ap (λ (x : State). taken_in x os) (sym (integrated_is n h o is)) ∙ first.1)
+    ∙ ap (state n) (shifted h o os)
 
 pub new_operations_are_appended : NewOperationsAreAppended
 new_operations_are_appended s t os v none new e =

@@ -21,7 +21,8 @@ unseen_append k (o ∷ os) ps =
 pub unseen_old : (k : Member → Bool) (os : List OpData) (o : OpData) → k (member_of o) ≡ true → unseen k (os ++ o ∷ []) ≡ unseen k os ++ []
 unseen_old k os o seen = unseen_append k os (o ∷ []) ∙ rw seen refl
 
-pub unseen_new : (k : Member → Bool) (os : List OpData) (o : OpData) → k (member_of o) ≡ false → unseen k (os ++ o ∷ []) ≡ unseen k os ++ o ∷ []
+pub unseen_new : (k : Member → Bool) (os : List OpData) (o : OpData) → k (member_of o) ≡ false
+    → unseen k (os ++ o ∷ []) ≡ unseen k os ++ o ∷ []
 unseen_new k os o new = unseen_append k os (o ∷ []) ∙ rw new refl
 
 -- the members of what is lacking
@@ -68,7 +69,9 @@ either false true = refl
 either false false = refl
 
 pub known_joined : (h p : List OpData) (m : Member) → is_known (joined h p) m ≡ (is_known h m || is_known p m)
-known_joined h p m = known_append h (unseen (is_known h) p) m ∙ (ap (λ b. is_known h m || b) (unseen_known (is_known h) p m) ∙ either (is_known h m) (is_known p m))
+known_joined h p m =
+    known_append h (unseen (is_known h) p) m ∙ (ap (λ b. is_known h m || b) (unseen_known (is_known h) p m)
+    ∙ either (is_known h m) (is_known p m))
 
 -- of what is known nothing is lacking
 pub unseen_nothing : (k : Member → Bool) (os : List OpData) → ((o : OpData) → Contains os o → k (member_of o) ≡ true) → unseen k os ≡ []

@@ -29,7 +29,8 @@ joined_agrees h q w agree x y n at bt is js =
     ]
 
 -- what is next in the second, and lacking in the first, is next in the join so far
-next_in_join : (h q : List OpData) (o : OpData) → IsValid q → Agree h q → IsValid (joined h q) → IsNext q o → is_known h (member_of o) ≡ false → IsNext (joined h q) o
+next_in_join : (h q : List OpData) (o : OpData) → IsValid q → Agree h q → IsValid (joined h q) → IsNext q o
+    → is_known h (member_of o) ≡ false → IsNext (joined h q) o
 next_in_join h q o w agree v next new =
     next_elsewhere (joined h q) q o v w (joined_agrees h q w agree)
     (λ m e. known_joined h q m ∙ or_right (is_known h m) (is_known q m) (next.ready m e))
@@ -40,7 +41,8 @@ join_push : (h q : List OpData) (o : OpData) → IsValid q → Agree h q → IsV
 join_push h q o w agree v next =
     elim (cases_Bool (is_known h (member_of o))) [
       | inl seen ↦ subst IsValid (sym (ap (λ xs. h ++ xs) (unseen_old (is_known h) q o seen ∙ append-nil (unseen (is_known h) q)))) v
-      | inr new ↦ subst IsValid (sym (ap (λ xs. h ++ xs) (unseen_new (is_known h) q o new) ∙ sym (append_assoc h (unseen (is_known h) q) (o ∷ [])))) (valid_push (joined h q) o v (next_in_join h q o w agree v next new))
+      | inr new ↦ subst IsValid (sym (ap (λ xs. h ++ xs) (unseen_new (is_known h) q o new)
+          ∙ sym (append_assoc h (unseen (is_known h) q) (o ∷ [])))) (valid_push (joined h q) o v (next_in_join h q o w agree v next new))
     ]
 
 pub joined_is_valid : (h p : List OpData) → IsValid h → IsValid p → Agree h p → IsValid (joined h p)

@@ -1,5 +1,6 @@
 -- A message that was written is whole.
-use Rattle.std.proofs.Common.{◌≡◌, ℕ, zero, suc, ◌+◌, ◌-◌, ◌<◌, ◌≤◌, ltb, eqb, Bool, true, false, List, [], ◌∷◌, ◌++◌, length, drop, Result, Ok, refl, ap, sym, subst, ◌∙◌, append_assoc, append-nil, arith}
+use Rattle.std.proofs.Common.{◌≡◌, ℕ, zero, suc, ◌+◌, ◌-◌, ◌<◌, ◌≤◌, ltb, eqb, Bool, true, false, List, [], ◌∷◌, ◌++◌, length, drop}
+use Rattle.std.proofs.Common.{Result, Ok, refl, ap, sym, subst, ◌∙◌, append_assoc, append-nil, arith}
 use Rattle.std.specs.List.{flat_map, starts_with}
 use Rattle.std.proofs.lemmas.Bool.{le-ltb, or_parts}
 use Rattle.std.proofs.lemmas.List.{length-append, drop_at}
@@ -28,29 +29,35 @@ use Rattle.peer_exchange.proofs.Receivings.{first_frame, frame_says}
 
 -- ---- frames
 
-frame_got : (bytes : List ℕ) (o : OpData) (os : List OpData) → IsThird bytes (o ∷ os) → frame_piece bytes ≡ part.Got stage.Frames (length (frame o))
+frame_got : (bytes : List ℕ) (o : OpData) (os : List OpData) → IsThird bytes (o ∷ os)
+    → frame_piece bytes ≡ part.Got stage.Frames (length (frame o))
 frame_got bytes o os is =
     let there = or_parts (ltb (length bytes) 4) (eqb (length_of bytes) 0) (frame_says bytes o os is) in
-    let read : judge bytes ≡ Ok (o, length (frame o)) = ap judge (first_frame bytes o os is) ∙ judge_again o (flat_map frame os ++ end_mark) (is.formed o (contains_here o os)) in
+    let read : judge bytes ≡ Ok (o, length (frame o)) =
+    ap judge (first_frame bytes o os is) ∙ judge_again o (flat_map frame os ++ end_mark) (is.formed o (contains_here o os)) in
     by_false (ltb (length bytes) 4) _ _ there.0
     ∙ (by_false (eqb (length_of bytes) 0) _ _ there.1 ∙ ap (λ (j : Result (OpData × ℕ) Refused). framed (scan_of j)) read)
 
 pub behind_frame : (bytes : List ℕ) (o : OpData) (os : List OpData) → IsThird bytes (o ∷ os) → IsThird (drop (length (frame o)) bytes) os
 behind_frame bytes o os is = record {
   formed = λ p at. is.formed p (contains_later o os p at);
-  parts = ap (drop (length (frame o))) (first_frame bytes o os is) ∙ drop_at (frame o) (flat_map frame os ++ end_mark) (length (frame o)) refl;
+  parts =
+      ap (drop (length (frame o))) (first_frame bytes o os is) ∙ drop_at (frame o) (flat_map frame os ++ end_mark) (length (frame o)) refl;
 }
 
-frames_whole : (n at : ℕ) (os : List OpData) (bytes : List ℕ) → IsThird bytes os → length os < n → pieces n stage.Frames at bytes ≡ message.Whole (at + length bytes)
+frames_whole : (n at : ℕ) (os : List OpData) (bytes : List ℕ) → IsThird bytes os → length os < n
+    → pieces n stage.Frames at bytes ≡ message.Whole (at + length bytes)
 unfolding pieces
 frames_whole zero at os bytes is few = absurd (omega (arith, few))
-frames_whole (suc n) at [] bytes is few = subst (λ (xs : List ℕ). pieces (suc n) stage.Frames at xs ≡ message.Whole (at + length xs)) (sym is.parts) refl
+frames_whole (suc n) at [] bytes is few =
+    subst (λ (xs : List ℕ). pieces (suc n) stage.Frames at xs ≡ message.Whole (at + length xs)) (sym is.parts) refl
 frames_whole (suc n) at (o ∷ os) bytes is few =
     let size = length (frame o) in
     let behind = flat_map frame os ++ end_mark in
     let parts = first_frame bytes o os is in
     let left : drop size bytes ≡ behind = (behind_frame bytes o os is).parts in
-    let total : length bytes ≡ size + length (drop size bytes) = ap length parts ∙ (length-append (frame o) behind ∙ ap (λ (xs : List ℕ). size + length xs) (sym left)) in
+    let total : length bytes ≡ size + length (drop size bytes) =
+    ap length parts ∙ (length-append (frame o) behind ∙ ap (λ (xs : List ℕ). size + length xs) (sym left)) in
     ap (after_piece (λ next used. pieces n next (at + used) (drop used bytes)) at) (frame_got bytes o os is)
     ∙ (frames_whole n (at + size) os (drop size bytes) (behind_frame bytes o os is) (omega (arith, few))
     ∙ ap (λ (k : ℕ). message.Whole k) (omega (arith, total)))
@@ -87,17 +94,21 @@ module _ (bytes : List ℕ) (c : ContextData) (rest : List ℕ) (is : IsState c)
   behind_state = ap (drop (length (state_bytes c))) behind_head ∙ drop_at (state_bytes c) rest (length (state_bytes c)) refl
 
   told_says : (frames : Bool) (n : ℕ) → pieces (suc (suc n)) (stage.Head frames) 0 bytes
-      ≡ after_piece (λ next used. pieces n next (8 + used) (drop used (drop 8 bytes))) 8 (stated frames (state_scan_of (Ok (c, length (state_bytes c)))))
+      ≡ after_piece (λ next used. pieces n next (8 + used) (drop used (drop 8 bytes))) 8
+      (stated frames (state_scan_of (Ok (c, length (state_bytes c)))))
   unfolding pieces
   told_says frames n =
-      let got : head_piece frames bytes ≡ part.Got (stage.State frames) 8 = ap (head_piece frames) (parts ∙ append_assoc head (state_bytes c) rest) ∙ head_got frames (state_bytes c ++ rest) in
+      let got : head_piece frames bytes ≡ part.Got (stage.State frames) 8 =
+      ap (head_piece frames) (parts ∙ append_assoc head (state_bytes c) rest) ∙ head_got frames (state_bytes c ++ rest) in
       let read : judge_state (drop 8 bytes) ≡ Ok (c, length (state_bytes c)) = ap judge_state behind_head ∙ state_again c rest is in
       ap (after_piece (λ next used. pieces (suc n) next (0 + used) (drop used bytes)) 0) got
-      ∙ ap (λ (j : Result (ContextData × ℕ) Unread). after_piece (λ next used. pieces n next (8 + used) (drop used (drop 8 bytes))) 8 (stated frames (state_scan_of j))) read
+      ∙ ap (λ (j : Result (ContextData × ℕ) Unread). after_piece (λ next used. pieces n next (8 + used) (drop used (drop 8 bytes))) 8
+      (stated frames (state_scan_of j))) read
 
   -- as many steps as there are bytes, and one
   told_measure : (frames : Bool) → pieces (suc (length bytes)) (stage.Head frames) 0 bytes
-      ≡ after_piece (λ next used. pieces (length bytes - 1) next (8 + used) (drop used (drop 8 bytes))) 8 (stated frames (state_scan_of (Ok (c, length (state_bytes c)))))
+      ≡ after_piece (λ next used. pieces (length bytes - 1) next (8 + used) (drop used (drop 8 bytes))) 8
+      (stated frames (state_scan_of (Ok (c, length (state_bytes c)))))
   told_measure frames =
       let size = told_size in
       let steps : length bytes ≡ suc (length bytes - 1) = omega (arith, size) in
@@ -119,7 +130,8 @@ second_whole bytes c os is =
     let third : IsThird (drop used (drop 8 bytes)) os = record { formed = is.formed; parts = left } in
     let total : length (drop used (drop 8 bytes)) ≡ length rest = ap length left in
     told_measure bytes c rest is.is is.parts true
-    ∙ (frames_whole (length bytes - 1) (8 + used) os (drop used (drop 8 bytes)) third (omega (arith, size, few, length-append (flat_map frame os) end_mark))
+    ∙ (frames_whole (length bytes - 1) (8 + used) os (drop used (drop 8 bytes)) third
+    (omega (arith, size, few, length-append (flat_map frame os) end_mark))
     ∙ ap (λ (k : ℕ). message.Whole k) (omega (arith, size, total)))
 
 pub messages_are_whole : MessagesAreWhole

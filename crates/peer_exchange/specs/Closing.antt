@@ -35,11 +35,13 @@ pub record IsFinished (s : State) (third : List ℕ) (t : State) (count : ℕ) :
 abbrev pub IsUnclosed : State → List ℕ → State → Peer → Type 0
 IsUnclosed s second t (Bytes offset cause) = (t ≡ s) × Spoils (length second) (measure_of Second second) offset cause
 IsUnclosed s second t (Op member verdict) =
-    (state : ContextData) × (os : List OpData) × IsSecond second state os × IsRefusedAt s os t (record { member = member; verdict = verdict })
+    (state : ContextData) × (os : List OpData) × IsSecond second state os
+    × IsRefusedAt s os t (record { member = member; verdict = verdict })
 IsUnclosed s second t Memory = (state : ContextData) × (os : List OpData) × IsSecond second state os × IsOnTheWay s os t
 
 -- the same for the third message
 abbrev pub IsUnfinished : State → List ℕ → State → Peer → Type 0
 IsUnfinished s third t (Bytes offset cause) = (t ≡ s) × Spoils (length third) (measure_of Third third) offset cause
-IsUnfinished s third t (Op member verdict) = (os : List OpData) × IsThird third os × IsRefusedAt s os t (record { member = member; verdict = verdict })
+IsUnfinished s third t (Op member verdict) =
+    (os : List OpData) × IsThird third os × IsRefusedAt s os t (record { member = member; verdict = verdict })
 IsUnfinished s third t Memory = (os : List OpData) × IsThird third os × IsOnTheWay s os t

@@ -79,8 +79,10 @@ AgreeInAll s t = Agree (s.history ++ s.waiting) (t.history ++ t.waiting)
 -- each of the calls between a server s and a joiner t refuses only when it is out of memory
 pub record OnlyMemoryRefuses (s t : State) : Type 0 where
   pub answering : (why : Peer) → IsUnread First (first_message t.history) why → why ≡ peer.Memory
-  pub closing : (second : List ℕ) (n : ℕ) (t' : State) (why : Peer) → IsAnswered s.history (first_message t.history) [] second n → IsUnclosed t second t' why → why ≡ peer.Memory
-  pub finishing : (second third : List ℕ) (n m k : ℕ) (t' s' : State) (why : Peer) → IsAnswered s.history (first_message t.history) [] second n
+  pub closing : (second : List ℕ) (n : ℕ) (t' : State) (why : Peer) → IsAnswered s.history (first_message t.history) [] second n
+      → IsUnclosed t second t' why → why ≡ peer.Memory
+  pub finishing : (second third : List ℕ) (n m k : ℕ) (t' s' : State) (why : Peer)
+      → IsAnswered s.history (first_message t.history) [] second n
       → IsClosed t second t' [] third (m, k) → IsUnfinished s third s' why → why ≡ peer.Memory
 
 -- so it is where the two agree, also where operations wait

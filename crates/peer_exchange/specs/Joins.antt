@@ -75,7 +75,8 @@ pub record AreSound (hs : List (List OpData)) : Type 0 where
 
 -- each later history was there, or is the join of two that were
 abbrev pub IsExchanged : List (List OpData) → List (List OpData) → Type 0
-IsExchanged hs js = (j : List OpData) → Contains js j → Contains hs j ⊎ ((h p : List OpData) × Contains hs h × Contains hs p × (j ≡ joined h p))
+IsExchanged hs js =
+    (j : List OpData) → Contains js j → Contains hs j ⊎ ((h p : List OpData) × Contains hs h × Contains hs p × (j ≡ joined h p))
 
 -- the histories of the sites after one exchange and another
 abbrev pub AreExchanged : List (List OpData) → List (List (List OpData)) → Type 0
@@ -94,4 +95,5 @@ AnyExchangesMeet =
     → AreSound hs
     → AreExchanged hs rounds
     → AreSound (latest hs rounds)
-    × ((h p : List OpData) → Contains (latest hs rounds) h → Contains (latest hs rounds) p → ((m : Member) → is_known h m ≡ is_known p m) → AreAlike h p)
+    × ((h p : List OpData) → Contains (latest hs rounds) h → Contains (latest hs rounds) p → ((m : Member) → is_known h m ≡ is_known p m)
+    → AreAlike h p)

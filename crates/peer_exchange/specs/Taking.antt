@@ -1,13 +1,18 @@
--- Taking in operations that a peer sent: each is judged; one that is integrated or a repeat is delivered, and what it frees is released.
-use Rattle.std.specs.Prelude.{◌≡◌, ◌⊎◌, false, List, [], ◌∷◌, ◌++◌, Result, Ok, Err}
+-- Taking in operations that a peer sent: a participant takes in each one whose member the history has then, and the first other one
+-- ends it.
+use Rattle.std.specs.Prelude.{◌≡◌, ◌⊎◌, if◌then◌else◌, false, List, [], ◌∷◌, ◌++◌, Result, Ok, Err}
 use Rattle.op_name.specs.declared.member.Member.{Member}
 use Rattle.context_diff.specs.Operations.{OpData, member_of, IsWellFormed}
 use Rattle.context_diff.specs.Histories.{IsValid, IsValidAfter, Agree, is_known}
+use Rattle.site_answers.specs.declared.release.Release.{Release}
 use Rattle.site_answers.specs.declared.verdict.Verdict.{Verdict}
-use Rattle.site_answers.specs.declared.verdict.Verdict.TheVariants.{Repeat, Forged, Waits, NotClosed, PlaceOut, Integrated}
-use Rattle.cot_site.specs.States.{State, Released, judged, delivered}
-use Rattle.cot_site.specs.Releases.{IsSound, IsLater, all_releases, state_after, settled}
+use Rattle.cot_site.specs.States.{State, judged}
+use Rattle.cot_site.specs.Releases.{IsSound, IsLater}
 use Rattle.cot_site.specs.Sites.{AllFormed}
+use Rattle.participant.specs.declared.taking.Taking.TheVariants.{Had}
+use Rattle.participant.specs.declared.taking.Untaken.TheVariants.{Unsettled}
+use Rattle.participant.specs.Reached.{from}
+use Rattle.participant.specs.Taking as one
 use Rattle.peer_exchange.specs.Joins.{unseen, joined}
 
 -- why an operation isn't taken in: its member, and its verdict
@@ -18,19 +23,14 @@ pub record Refusal : Type 0 where
 abbrev pub refused : OpData → Verdict → Refusal
 refused o v = record { member = member_of o; verdict = v }
 
--- an operation by its verdict, and the state before what follows
-abbrev pub by_verdict : Verdict → OpData → State → (State → Result State Refusal) → Result State Refusal
-by_verdict Repeat o s next = next (settled (delivered s o))
-by_verdict (Forged n) o s next = Err (refused o (Forged n))
-by_verdict (Waits m) o s next = Err (refused o (Waits m))
-by_verdict (NotClosed k) o s next = Err (refused o (NotClosed k))
-by_verdict (PlaceOut p k) o s next = Err (refused o (PlaceOut p k))
-by_verdict Integrated o s next = next (settled (delivered s o))
+-- the state after a participant took in one operation
+abbrev pub with_taken : State → OpData → State
+with_taken s o = (one.taken_in Had (from s) o).state
 
 -- TakenIn: the state after these operations were taken in, one after the other, or the first refusal
 unfoldable pub taken_in : State → List OpData → Result State Refusal
 taken_in s [] = Ok s
-taken_in s (o ∷ os) = by_verdict (judged s o) o s (λ t. taken_in t os)
+taken_in s (o ∷ os) = if one.takes Had (judged s o) then taken_in (with_taken s o) os else Err (refused o (judged s o))
 
 -- the first refusal: the operations before it were taken in, and it changed nothing
 pub record IsRefusedAt (s : State) (os : List OpData) (t : State) (why : Refusal) : Type 0 where
@@ -41,13 +41,11 @@ pub record IsRefusedAt (s : State) (os : List OpData) (t : State) (why : Refusal
   pub taken : taken_in s before ≡ Ok t
   pub refused : taken_in t (op ∷ []) ≡ Err why
 
--- the operation was delivered, integrated or a repeat, and some of the releases after it are done
+-- the operation was delivered, as one that is taken in, and memory ran out among the releases after it
 pub record IsPartlyTaken (s : State) (o : OpData) (t : State) : Type 0 where
-  pub accepted : (judged s o ≡ Integrated) ⊎ (judged s o ≡ Repeat)
-  pub done : List Released
-  pub left : List Released
-  pub releases : all_releases (delivered s o) ≡ done ++ left
-  pub state : t ≡ state_after (delivered s o) done
+  pub verdict : Verdict
+  pub released : List Release
+  pub untaken : one.IsUntaken Had (from s) o (Unsettled verdict) (record { state = t; released = released })
 
 -- none of these operations was taken in, or the first of them in part
 abbrev pub IsBefore : State → List OpData → State → Type 0

@@ -1,8 +1,9 @@
 //! The joiner's answer to the server, and the end of the exchange at the server.
 
-ghost use Rattle.std.specs.Prelude.{◌≡◌, ◌≤◌, length, IfOk, IfErr, OnErr};
+ghost use Rattle.std.specs.Prelude.{◌≡◌, ◌≤◌, Err, length, IfOk, IfErr, OnErr};
 ghost use Rattle.cot_site.specs.Releases.{IsLater};
 ghost use Rattle.cot_site.specs.Sites.{state_of};
+ghost use Rattle.wire_codec.specs.Answers.{HasFrame};
 ghost use Rattle.peer_exchange.specs.declared.messages.TheConstants.{MAX_MESSAGE};
 ghost use Rattle.peer_exchange.specs.Refusals.{IsWhole};
 ghost use Rattle.peer_exchange.specs.Closing.{IsClosed, IsFinished, IsUnclosed, IsUnfinished};
@@ -64,11 +65,13 @@ pub fn close(
     }
 }
 
-/// Takes in the operations of a third message, as `close` does, and answers how many they are.
+/// Takes in the operations of a third message, as `close` does, and answers how many they are. A message without frames
+/// takes no memory.
 pub fn finish(alloc: Global, site: &mut Site, third: &[u8]) -> Result<u32, Peer>
     requires { length third.now ≤ MAX_MESSAGE }
     ensures finished { IfOk result (IsFinished (state_of site.old) third.now (state_of site.new)) }
     ensures refused { IfErr result (IsUnfinished (state_of site.old) third.now (state_of site.new)) }
+    ensures needed { result ≡ Err Peer.Memory → HasFrame third.now }
     // The old history stays the first part of the new one, whatever the answer.
     ensures later { IsLater (state_of site.old) (state_of site.new) }
 {

@@ -1,8 +1,8 @@
 //! The frames that another site lacks.
 
-ghost use Rattle.std.specs.Prelude.{◌≡◌, ◌++◌, ◌≤◌, [], ◌∷◌, length, take, IfOk, OnOk, OnErr};
+ghost use Rattle.std.specs.Prelude.{◌≡◌, ◌++◌, ◌≤◌, [], ◌∷◌, false, length, take, IfOk, OnOk, OnErr};
 ghost use Rattle.context_vector.specs.Contexts.{has};
-ghost use Rattle.context_diff.specs.Operations.{IsWellFormed};
+ghost use Rattle.context_diff.specs.Operations.{member_of, IsWellFormed};
 ghost use Rattle.context_diff.specs.Ops.{data_of};
 ghost use Rattle.peer_exchange.specs.Joins.{unseen};
 ghost use Rattle.peer_exchange.specs.Messages.{lacked_frames};
@@ -36,6 +36,7 @@ fn put_if_lacked(op: &Op, state: &Vector, out: &mut Vec<u8>) -> Result<u32, Memo
     ensures count { IfOk result (λ n. n ≡ length (unseen (has state.now.set) (data_of op.now ∷ []))) }
     ensures few { IfOk result (λ n. n ≤ 1) }
     ensures ok { OnOk result (out.new.items ≡ out.old.items ++ lacked_frames state.now.set (data_of op.now ∷ [])) }
+    ensures needed { OnErr result (has state.now.set (member_of (data_of op.now)) ≡ false) }
     ensures err { OnErr result (out.new.items ≡ out.old.items) }
 {
     if state.contains(&op.member()) {

@@ -1,6 +1,6 @@
 //! The joiner's first message, and the server's answer to it.
 
-ghost use Rattle.std.specs.Prelude.{◌≡◌, ◌++◌, ◌≤◌, length, take, IfOk, IfErr, OnOk, OnErr};
+ghost use Rattle.std.specs.Prelude.{◌≡◌, ◌≢◌, ◌++◌, ◌≤◌, length, take, IfOk, IfErr, OnOk, OnErr};
 ghost use Rattle.context_vector.specs.Contexts.{has};
 ghost use Rattle.peer_exchange.specs.declared.messages.TheConstants.{MAX_MESSAGE};
 ghost use Rattle.peer_exchange.specs.Joins.{unseen};
@@ -72,6 +72,7 @@ pub(crate) fn whole(which: Which, bytes: &[u8]) -> Result<(), Peer>
     requires { length bytes.now ≤ MAX_MESSAGE }
     ensures whole { OnOk result (IsWhole which bytes.now) }
     ensures refused { IfErr result (IsUnread which bytes.now) }
+    ensures memory { IfErr result (λ why. why ≢ Peer.Memory) }
 {
     match measure(which, bytes) {
         Measure::Whole { used } if used as usize == bytes.len() => Ok(()),

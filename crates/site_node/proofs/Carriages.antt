@@ -1,5 +1,6 @@
 -- A message on its way from one end of a pair to the other.
-use Rattle.std.proofs.Common.{◌≡◌, ℕ, zero, suc, ◌+◌, ◌-◌, ◌<◌, ◌≤◌, true, List, [], ◌∷◌, ◌++◌, length, take, drop, refl, sym, ap, subst, ◌∙◌, append-nil, append_assoc, arith, take-append-drop, inl, inr, ◌⊎◌, Bool}
+use Rattle.std.proofs.Common.{◌≡◌, ℕ, zero, suc, ◌+◌, ◌-◌, ◌<◌, ◌≤◌, true, List, [], ◌∷◌, ◌++◌, length, take, drop, refl, sym, ap}
+use Rattle.std.proofs.Common.{subst, ◌∙◌, append-nil, append_assoc, arith, take-append-drop, inl, inr, ◌⊎◌, Bool}
 use Rattle.std.specs.Prelude.{Option, Some, None}
 use Rattle.std.proofs.Math.Seq.{take-add}
 use Rattle.std.proofs.lemmas.List.{length-append, length-drop, length-take-le, nil_from_length, take_at}
@@ -34,17 +35,22 @@ use Rattle.site_node.proofs.Moving.{received_none, midway}
 -- ---- a piece of the bytes
 
 -- a front of what is left of them
-pub piece_of_rest : (bytes rest piece : List ℕ) (at n : ℕ) → rest ≡ drop at bytes → piece ≡ take n rest → length piece ≡ n → take (at + length piece) bytes ≡ take at bytes ++ piece
+pub piece_of_rest : (bytes rest piece : List ℕ) (at n : ℕ) → rest ≡ drop at bytes → piece ≡ take n rest → length piece ≡ n
+    → take (at + length piece) bytes ≡ take at bytes ++ piece
 piece_of_rest bytes rest piece at n left is size =
-    let same : take (length piece) (drop at bytes) ≡ piece = ap (λ (k : ℕ). take k (drop at bytes)) size ∙ (ap (take n) (sym left) ∙ sym is) in
+    let same : take (length piece) (drop at bytes) ≡ piece =
+    ap (λ (k : ℕ). take k (drop at bytes)) size ∙ (ap (take n) (sym left) ∙ sym is) in
     take-add at (length piece) bytes ∙ ap (λ (t : List ℕ). take at bytes ++ t) same
 
 -- all of a piece is to come at the other end of a pair that is linked
-all_brought : (a b : Option (List ℕ)) (asked : Asked) (linked : Bool) (piece : List ℕ) → asked ≡ Pair → linked ≡ true → Appends a b (brought asked linked piece) → Appends a b piece
+all_brought : (a b : Option (List ℕ)) (asked : Asked) (linked : Bool) (piece : List ℕ) → asked ≡ Pair → linked ≡ true
+    → Appends a b (brought asked linked piece) → Appends a b piece
 all_brought a b asked linked piece pair link came = subst (Appends a b) (λ i. brought (pair i) (link i) piece) came
 
-pub sends_piece : (a b o p : End) (bytes rest piece : List ℕ) (n : ℕ) (asked : Asked) (at : ℕ) → rest ≡ drop at bytes → piece ≡ take n rest → length piece ≡ n
-    → Appends a.sent b.sent piece → asked ≡ Pair → o.linked ≡ true → Appends o.to_come p.to_come (brought asked o.linked piece) → SendsOn a b o p bytes at (at + length piece)
+pub sends_piece : (a b o p : End) (bytes rest piece : List ℕ) (n : ℕ) (asked : Asked) (at : ℕ) → rest ≡ drop at bytes
+    → piece ≡ take n rest → length piece ≡ n
+    → Appends a.sent b.sent piece → asked ≡ Pair → o.linked ≡ true → Appends o.to_come p.to_come (brought asked o.linked piece)
+    → SendsOn a b o p bytes at (at + length piece)
 sends_piece a b o p bytes rest piece n asked at left is size sent pair link came = record {
   piece = piece;
   parts = piece_of_rest bytes rest piece at n left is size;
@@ -53,11 +59,14 @@ sends_piece a b o p bytes rest piece n asked at left is size sent pair link came
 }
 
 -- a front of a piece is one of what is left
-pub front_of_rest : (a b : Option (List ℕ)) (bytes rest piece : List ℕ) (at n : ℕ) → rest ≡ drop at bytes → piece ≡ take n rest → WritesFront a b piece → WritesFront a b (drop at bytes)
+pub front_of_rest : (a b : Option (List ℕ)) (bytes rest piece : List ℕ) (at n : ℕ) → rest ≡ drop at bytes → piece ≡ take n rest
+    → WritesFront a b piece → WritesFront a b (drop at bytes)
 front_of_rest a b bytes rest piece at n left is written = record {
   front = written.front;
   rest = written.rest ++ drop n rest;
-  parts = sym left ∙ (sym (take-append-drop n rest) ∙ (ap (λ (t : List ℕ). t ++ drop n rest) (sym is ∙ written.parts) ∙ append_assoc written.front written.rest (drop n rest)));
+  parts =
+      sym left ∙ (sym (take-append-drop n rest)
+      ∙ (ap (λ (t : List ℕ). t ++ drop n rest) (sym is ∙ written.parts) ∙ append_assoc written.front written.rest (drop n rest)));
   written = written.written;
 }
 
@@ -71,7 +80,8 @@ pub way_none : (a : Option (List ℕ)) (came : List ℕ) → came ≡ [] → IsU
 way_none None came none = tt
 way_none (Some xs) came none = append-nil xs ∙ ap (λ (t : List ℕ). t ++ xs) (sym none)
 
-pub way_sent : (a b c : Option (List ℕ)) (sent piece later came : List ℕ) → IsUnderWay a b sent came → Appends b c piece → later ≡ sent ++ piece → IsUnderWay a c later came
+pub way_sent : (a b c : Option (List ℕ)) (sent piece later came : List ℕ) → IsUnderWay a b sent came → Appends b c piece
+    → later ≡ sent ++ piece → IsUnderWay a c later came
 way_sent None b c sent piece later came way written is = tt
 way_sent (Some xs) None c sent piece later came way written is = absurd way
 way_sent (Some xs) (Some ys) None sent piece later came way written is = absurd written
@@ -83,7 +93,8 @@ way_sent (Some xs) (Some ys) (Some zs) sent piece later came way written is =
     ∙ ap (λ (t : List ℕ). came ++ t) (sym written))))
 
 -- where nothing was to come at first
-pub way_told : (a b : Option (List ℕ)) (sent came : List ℕ) → a ≡ Some [] → IsUnderWay a b sent came → (ys : List ℕ) × (b ≡ Some ys) × (sent ≡ came ++ ys)
+pub way_told : (a b : Option (List ℕ)) (sent came : List ℕ) → a ≡ Some [] → IsUnderWay a b sent came
+    → (ys : List ℕ) × (b ≡ Some ys) × (sent ≡ came ++ ys)
 way_told a b sent came none way = go b (subst (λ (x : Option (List ℕ)). IsUnderWay x b sent came) none way)
   where
     go : (x : Option (List ℕ)) → IsUnderWay (Some []) x sent came → (ys : List ℕ) × (x ≡ Some ys) × (sent ≡ came ++ ys)
@@ -91,7 +102,8 @@ way_told a b sent came none way = go b (subst (λ (x : Option (List ℕ)). IsUnd
     go (Some ys) told = (ys, refl, told)
 
 -- some of them come
-pub way_read : (a b c : Option (List ℕ)) (sent came piece : List ℕ) → IsUnderWay a b sent came → Consumes b c piece → IsUnderWay a c sent (came ++ piece)
+pub way_read : (a b c : Option (List ℕ)) (sent came piece : List ℕ) → IsUnderWay a b sent came → Consumes b c piece
+    → IsUnderWay a c sent (came ++ piece)
 way_read a b c sent came piece way consumed = Consumes-trans (append_known a sent) b c came piece way consumed
 
 -- ---- fronts of a whole message
@@ -102,16 +114,20 @@ front_bytes front rest all fits parts =
     subst IsBytes is (IsBytes-take (length front) all fits)
 
 -- a front of a whole message that is a message itself is all of it
-pub whole_front : (which : Which) (bytes came : List ℕ) → IsBytes bytes → IsWhole which bytes → IsFrontOf came bytes → IsWhole which came → came ≡ bytes
+pub whole_front : (which : Which) (bytes came : List ℕ) → IsBytes bytes → IsWhole which bytes → IsFrontOf came bytes → IsWhole which came
+    → came ≡ bytes
 whole_front which bytes came fits whole front own =
-    let still : measure_of which bytes ≡ message.Whole (length came) = ap (measure_of which) front.1 ∙ says_still which came front.0 (message.Whole (length came)) (front_bytes came front.0 bytes fits front.1) (λ n never. cc) own in
+    let still : measure_of which bytes ≡ message.Whole (length came) =
+    ap (measure_of which) front.1 ∙ says_still which came front.0 (message.Whole (length came))
+    (front_bytes came front.0 bytes fits front.1) (λ n never. cc) own in
     let same : ◌≡◌ {A = Measure} (message.Whole (length bytes)) (message.Whole (length came)) = sym whole ∙ still in
     let size : length bytes ≡ length came = cc in
     let none : front.0 ≡ [] = nil_from_length front.0 (omega (arith, size, ap length front.1, length-append came front.0)) in
     sym (front.1 ∙ (ap (λ (t : List ℕ). came ++ t) none ∙ append-nil came))
 
 -- one that asks for more isn't all of it
-pub more_front : (which : Which) (bytes came : List ℕ) (k : ℕ) → IsWhole which bytes → IsFrontOf came bytes → measure_of which came ≡ message.More k → length came < length bytes
+pub more_front : (which : Which) (bytes came : List ℕ) (k : ℕ) → IsWhole which bytes → IsFrontOf came bytes
+    → measure_of which came ≡ message.More k → length came < length bytes
 more_front which bytes came k whole front more = go front.0 front.1
   where
     go : (rest : List ℕ) → bytes ≡ came ++ rest → length came < length bytes
@@ -121,9 +137,12 @@ more_front which bytes came k whole front more = go front.0 front.1
     go (x ∷ xs) parts = omega (arith, ap length parts, length-append came (x ∷ xs))
 
 -- and none has a fault
-pub bad_front : (which : Which) (bytes came : List ℕ) (offset : ℕ) (cause : PeerCause) → IsBytes bytes → IsWhole which bytes → IsFrontOf came bytes → measure_of which came ≡ message.Bad offset cause → ⊥
+pub bad_front : (which : Which) (bytes came : List ℕ) (offset : ℕ) (cause : PeerCause) → IsBytes bytes → IsWhole which bytes
+    → IsFrontOf came bytes → measure_of which came ≡ message.Bad offset cause → ⊥
 bad_front which bytes came offset cause fits whole front bad =
-    let still : measure_of which bytes ≡ message.Bad offset cause = ap (measure_of which) front.1 ∙ says_still which came front.0 (message.Bad offset cause) (front_bytes came front.0 bytes fits front.1) (λ n never. cc) bad in
+    let still : measure_of which bytes ≡ message.Bad offset cause =
+    ap (measure_of which) front.1 ∙ says_still which came front.0 (message.Bad offset cause) (front_bytes came front.0 bytes fits front.1)
+    (λ n never. cc) bad in
     let never = sym whole ∙ still in cc
 
 -- ---- carrying a message
@@ -141,14 +160,16 @@ carrying_none a o bytes came none = record {
   way = way_none o.to_come came none;
 }
 
-pub carrying_sent : (a b c o p q : End) (bytes : List ℕ) (at next : ℕ) (came : List ℕ) → Carrying a b o p bytes at came → SendsOn b c p q bytes at next → q.received ≡ p.received → Carrying a c o q bytes next came
+pub carrying_sent : (a b c o p q : End) (bytes : List ℕ) (at next : ℕ) (came : List ℕ) → Carrying a b o p bytes at came
+    → SendsOn b c p q bytes at next → q.received ≡ p.received → Carrying a c o q bytes next came
 carrying_sent a b c o p q bytes at next came r s same = record {
   sent = subst (Appends a.sent c.sent) (sym s.parts) (Appends-trans a.sent b.sent c.sent (take at bytes) s.piece r.sent s.sent);
   received = subst (λ (x : Option (List ℕ)). Appends o.received x came) (sym same) r.received;
   way = way_sent o.to_come p.to_come q.to_come (take at bytes) s.piece (take next bytes) came r.way s.brought s.parts;
 }
 
-pub carrying_read : (a b c o p q : End) (bytes : List ℕ) (at : ℕ) (came piece : List ℕ) → Carrying a b o p bytes at came → c ≡ b → Receives p q piece → Carrying a c o q bytes at (came ++ piece)
+pub carrying_read : (a b c o p q : End) (bytes : List ℕ) (at : ℕ) (came piece : List ℕ) → Carrying a b o p bytes at came → c ≡ b
+    → Receives p q piece → Carrying a c o q bytes at (came ++ piece)
 carrying_read a b c o p q bytes at came piece r same moved = record {
   sent = subst (λ (x : End). Appends a.sent x.sent (take at bytes)) (sym same) r.sent;
   received = Appends-trans o.received p.received q.received came piece r.received moved.received;
@@ -156,40 +177,53 @@ carrying_read a b c o p q bytes at came piece r same moved = record {
 }
 
 -- where one more piece came
-pub carrying_gain : (a b c o p q : End) (bytes : List ℕ) (at : ℕ) (came now after : List ℕ) → Carrying a b o p bytes at came → c ≡ b → now ≡ came → Gains p q now after → Carrying a c o q bytes at after
+pub carrying_gain : (a b c o p q : End) (bytes : List ℕ) (at : ℕ) (came now after : List ℕ) → Carrying a b o p bytes at came → c ≡ b
+    → now ≡ came → Gains p q now after → Carrying a c o q bytes at after
 carrying_gain a b c o p q bytes at came now after r same is gains =
-    subst (Carrying a c o q bytes at) (sym (gains.grown ∙ ap (λ (t : List ℕ). t ++ gains.piece) is)) (carrying_read a b c o p q bytes at came gains.piece r same gains.moved)
+    subst (Carrying a c o q bytes at) (sym (gains.grown ∙ ap (λ (t : List ℕ). t ++ gains.piece) is))
+    (carrying_read a b c o p q bytes at came gains.piece r same gains.moved)
 
 -- where nothing was to come at first, what came is a front of what went, and this is left of that
-told : (a b o p : End) (bytes : List ℕ) (at : ℕ) (came : List ℕ) → Carrying a b o p bytes at came → o.to_come ≡ Some [] → (ys : List ℕ) × (p.to_come ≡ Some ys) × (take at bytes ≡ came ++ ys)
+told : (a b o p : End) (bytes : List ℕ) (at : ℕ) (came : List ℕ) → Carrying a b o p bytes at came → o.to_come ≡ Some []
+    → (ys : List ℕ) × (p.to_come ≡ Some ys) × (take at bytes ≡ came ++ ys)
 told a b o p bytes at came r none = way_told o.to_come p.to_come (take at bytes) came none r.way
 
 front_of_all : (bytes : List ℕ) (at : ℕ) (came ys : List ℕ) → take at bytes ≡ came ++ ys → IsFrontOf came bytes
-front_of_all bytes at came ys parts =
-    (ys ++ drop at bytes, sym (take-append-drop at bytes) ∙ (ap (λ (t : List ℕ). t ++ drop at bytes) parts ∙ append_assoc came ys (drop at bytes)))
+front_of_all bytes at came ys parts = (
+  ys ++ drop at bytes,
+  sym (take-append-drop at bytes)
+      ∙ (ap (λ (t : List ℕ). t ++ drop at bytes) parts ∙ append_assoc came ys (drop at bytes)),
+)
 
 -- ---- all of it went
 
-pub all_went : (a b c : Option (List ℕ)) (bytes rest : List ℕ) (at : ℕ) → rest ≡ drop at bytes → Appends a b (take at bytes) → Appends b c rest → Appends a c bytes
+pub all_went : (a b c : Option (List ℕ)) (bytes rest : List ℕ) (at : ℕ) → rest ≡ drop at bytes → Appends a b (take at bytes)
+    → Appends b c rest → Appends a c bytes
 all_went a b c bytes rest at left first second =
-    subst (Appends a c) (take-append-drop at bytes) (Appends-trans a b c (take at bytes) (drop at bytes) first (subst (Appends b c) left second))
+    subst (Appends a c) (take-append-drop at bytes) (Appends-trans a b c (take at bytes) (drop at bytes) first
+    (subst (Appends b c) left second))
 
 -- a whole message came, and the rest goes
-pub carried : (which : Which) (a b o p q : End) (bytes rest came message : List ℕ) (asked : Asked) (at : ℕ) → IsBytes bytes → at ≤ length bytes → Carrying a b o p bytes at came → IsWhole which came
-    → message ≡ came → rest ≡ drop at bytes → q.received ≡ p.received → asked ≡ Pair → p.linked ≡ true → Appends p.to_come q.to_come (brought asked p.linked rest) → IsCarried o q which bytes message
-carried which a b o p q bytes rest came message asked at fits within r own whole_is left same pair link goes = subst (IsCarried o q which bytes) (sym whole_is) (record {
-  received = subst (λ (x : Option (List ℕ)). Appends o.received x came) (sym same) r.received;
-  same = λ whole none.
-      let t = told a b o p bytes at came r none in
-      let is : came ≡ bytes = whole_front which bytes came fits whole (front_of_all bytes at came t.0 t.2) own in
-      let size : length (take at bytes) ≡ at = length-take-le at bytes within in
-      let total : length (take at bytes) ≡ length came + length t.0 = ap length t.2 ∙ length-append came t.0 in
-      let all : length came ≡ length bytes = ap length is in
-      let nothing : t.0 ≡ [] = nil_from_length t.0 (omega (arith, size, total, all, within)) in
-      let no_rest : drop at bytes ≡ [] = nil_from_length (drop at bytes) (omega (arith, size, total, all, within, length-drop at bytes)) in
-      let more : Appends p.to_come q.to_come [] = subst (Appends p.to_come q.to_come) (left ∙ no_rest) (all_brought p.to_come q.to_come asked p.linked rest pair link goes) in
-      (is, nothing_more q.to_come (subst (λ (x : Option (List ℕ)). Appends x q.to_come []) (t.1 ∙ ap Some nothing) more));
-})
+pub carried : (which : Which) (a b o p q : End) (bytes rest came message : List ℕ) (asked : Asked) (at : ℕ) → IsBytes bytes
+    → at ≤ length bytes → Carrying a b o p bytes at came → IsWhole which came
+    → message ≡ came → rest ≡ drop at bytes → q.received ≡ p.received → asked ≡ Pair → p.linked ≡ true
+    → Appends p.to_come q.to_come (brought asked p.linked rest) → IsCarried o q which bytes message
+carried which a b o p q bytes rest came message asked at fits within r own whole_is left same pair link goes =
+    subst (IsCarried o q which bytes) (sym whole_is) (record {
+      received = subst (λ (x : Option (List ℕ)). Appends o.received x came) (sym same) r.received;
+      same = λ whole none.
+          let t = told a b o p bytes at came r none in
+          let is : came ≡ bytes = whole_front which bytes came fits whole (front_of_all bytes at came t.0 t.2) own in
+          let size : length (take at bytes) ≡ at = length-take-le at bytes within in
+          let total : length (take at bytes) ≡ length came + length t.0 = ap length t.2 ∙ length-append came t.0 in
+          let all : length came ≡ length bytes = ap length is in
+          let nothing : t.0 ≡ [] = nil_from_length t.0 (omega (arith, size, total, all, within)) in
+          let no_rest : drop at bytes ≡ [] =
+          nil_from_length (drop at bytes) (omega (arith, size, total, all, within, length-drop at bytes)) in
+          let more : Appends p.to_come q.to_come [] =
+          subst (Appends p.to_come q.to_come) (left ∙ no_rest) (all_brought p.to_come q.to_come asked p.linked rest pair link goes) in
+          (is, nothing_more q.to_come (subst (λ (x : Option (List ℕ)). Appends x q.to_come []) (t.1 ∙ ap Some nothing) more));
+    })
   where
     nothing_more : (x : Option (List ℕ)) → Appends (Some []) x [] → x ≡ Some []
     nothing_more None never = absurd never
@@ -198,11 +232,17 @@ carried which a b o p q bytes rest came message asked at fits within r own whole
 -- ---- it doesn't
 
 -- the wire failed while it went
-pub wire_failed : (which : Which) (a b c o p q : End) (bytes rest came : List ℕ) (at : ℕ) → Carrying a b o p bytes at came → rest ≡ drop at bytes → WritesFront b.sent c.sent rest → q.received ≡ p.received
+pub wire_failed : (which : Which) (a b c o p q : End) (bytes rest came : List ℕ) (at : ℕ) → Carrying a b o p bytes at came
+    → rest ≡ drop at bytes → WritesFront b.sent c.sent rest → q.received ≡ p.received
     → AreAskedFor which came → IsUncarried a c o q which bytes node.Link
 wire_failed which a b c o p q bytes rest came at r left written same asked = record {
   gone = take at bytes ++ written.front;
-  front = (written.rest, sym (take-append-drop at bytes) ∙ (ap (λ (t : List ℕ). take at bytes ++ t) (sym left ∙ written.parts) ∙ sym (append_assoc (take at bytes) written.front written.rest)));
+  front = (
+    written.rest,
+    sym (take-append-drop at bytes)
+        ∙ (ap (λ (t : List ℕ). take at bytes ++ t) (sym left ∙ written.parts)
+        ∙ sym (append_assoc (take at bytes) written.front written.rest)),
+  );
   sent = Appends-trans a.sent b.sent c.sent (take at bytes) written.front r.sent written.written;
   came = came;
   received = subst (λ (x : Option (List ℕ)). Appends o.received x came) (sym same) r.received;
@@ -214,7 +254,8 @@ wire_failed which a b c o p q bytes rest came at r left written same asked = rec
 }
 
 -- what came has this to say, and isn't what is said of a front of a whole message
-stopped : (which : Which) (a b o p : End) (bytes came : List ℕ) (at : ℕ) (why : Node) → Carrying a b o p bytes at came → Explains which came why
+stopped : (which : Which) (a b o p : End) (bytes came : List ℕ) (at : ℕ) (why : Node) → Carrying a b o p bytes at came
+    → Explains which came why
     → (IsWhole which bytes → o.to_come ≡ Some [] → IsUnspoilt why) → IsUncarried a b o p which bytes why
 stopped which a b o p bytes came at why r explains unspoilt = record {
   gone = take at bytes;
@@ -228,8 +269,10 @@ stopped which a b o p bytes came at why r explains unspoilt = record {
 }
 
 -- the bytes that came have a fault
-pub bad_came : (which : Which) (a b o p : End) (bytes came : List ℕ) (at offset : ℕ) (cause : PeerCause) (why : Node) → IsBytes bytes → why ≡ node.Peer (refused.Bytes offset cause)
-    → Carrying a b o p bytes at came → AreAskedFor which came → measure_of which came ≡ message.Bad offset cause → IsUncarried a b o p which bytes why
+pub bad_came : (which : Which) (a b o p : End) (bytes came : List ℕ) (at offset : ℕ) (cause : PeerCause) (why : Node) → IsBytes bytes
+    → why ≡ node.Peer (refused.Bytes offset cause)
+    → Carrying a b o p bytes at came → AreAskedFor which came → measure_of which came ≡ message.Bad offset cause
+    → IsUncarried a b o p which bytes why
 bad_came which a b o p bytes came at offset cause why fits is r asked bad = stopped which a b o p bytes came at why r
     (subst (Explains which came) (sym is) (asked, bad_spoils which came offset cause bad))
     (λ whole none.
@@ -237,20 +280,27 @@ bad_came which a b o p bytes came at offset cause why fits is r asked bad = stop
     absurd (bad_front which bytes came offset cause fits whole (front_of_all bytes at came t.0 t.2) bad))
 
 -- they are as many as a message may have
-pub limit_reached : (which : Which) (a b o p : End) (bytes came : List ℕ) (at k offset : ℕ) (why : Node) → why ≡ node.Peer (refused.Bytes offset Limit) → Carrying a b o p bytes at came → AreAskedFor which came
+pub limit_reached : (which : Which) (a b o p : End) (bytes came : List ℕ) (at k offset : ℕ) (why : Node)
+    → why ≡ node.Peer (refused.Bytes offset Limit) → Carrying a b o p bytes at came → AreAskedFor which came
     → measure_of which came ≡ message.More k → length came ≡ MAX_MESSAGE → offset ≡ MAX_MESSAGE → IsUncarried a b o p which bytes why
 limit_reached which a b o p bytes came at k offset why is r asked more size here = stopped which a b o p bytes came at why r
     (subst (Explains which came) (sym is) (asked, ((k, more), size, here)))
     (λ whole none. subst IsUnspoilt (sym is) tt)
 
 -- they end too early, which the fronts of a whole message don't
-pub cut_short : (which : Which) (a b c d o p q x : End) (bytes came now after : List ℕ) (at next k offset : ℕ) (why : Node) → why ≡ node.Peer (refused.Bytes offset Cut)
-    → Carrying a b o p bytes at came → SendsOn b c p q bytes at next → q.received ≡ p.received → at ≤ next → next ≤ length bytes → (length came ≡ at → next ≡ at → at ≡ length bytes)
-    → Gains q x now after → length after ≡ length now → d ≡ c → IsAtEnd x.to_come → measure_of which came ≡ message.More k → length came < MAX_MESSAGE → offset ≡ length came
+pub cut_short : (which : Which) (a b c d o p q x : End) (bytes came now after : List ℕ) (at next k offset : ℕ) (why : Node)
+    → why ≡ node.Peer (refused.Bytes offset Cut)
+    → Carrying a b o p bytes at came → SendsOn b c p q bytes at next → q.received ≡ p.received → at ≤ next → next ≤ length bytes
+    → (length came ≡ at → next ≡ at → at ≡ length bytes)
+    → Gains q x now after → length after ≡ length now → d ≡ c → IsAtEnd x.to_come → measure_of which came ≡ message.More k
+    → length came < MAX_MESSAGE → offset ≡ length came
     → AreAskedFor which came → IsUncarried a d o x which bytes why
-cut_short which a b c d o p q x bytes came now after at next k offset why is r s same up within some gains none other ended more few here asked =
+cut_short which a b c d o p q x bytes came now after at next k offset why is r s same up within some gains none other ended more few here
+    asked =
     let sent = carrying_sent a b c o p q bytes at next came r s same in
-    let read = subst (Carrying a d o x bytes next) (append-nil came) (carrying_read a c d o q x bytes next came [] sent other (received_none q x now after gains none)) in
+    let read =
+    subst (Carrying a d o x bytes next) (append-nil came) (carrying_read a c d o q x bytes next came [] sent other
+    (received_none q x now after gains none)) in
     stopped which a d o x bytes came next why read
     (subst (Explains which came) (sym is) (asked, ((k, more), few, here)))
     (λ whole quiet.
@@ -271,7 +321,8 @@ cut_short which a b c d o p q x bytes came now after at next k offset why is r s
 -- the wire failed to read, or there was no memory
 pub read_failed : (which : Which) (a b c d o p q x : End) (bytes came piece : List ℕ) (at next : ℕ) (why : Node)
     → Carrying a b o p bytes at came → SendsOn b c p q bytes at next → q.received ≡ p.received
-    → Receives q x piece → AreAskedFor which (came ++ piece) → d ≡ c → (why ≡ node.Link) ⊎ (why ≡ node.Memory) → IsUncarried a d o x which bytes why
+    → Receives q x piece → AreAskedFor which (came ++ piece) → d ≡ c → (why ≡ node.Link) ⊎ (why ≡ node.Memory)
+    → IsUncarried a d o x which bytes why
 read_failed which a b c d o p q x bytes came piece at next why r s same lost asked other cause =
     let sent = carrying_sent a b c o p q bytes at next came r s same in
     let read = carrying_read a c d o q x bytes next came piece sent other lost in
@@ -287,7 +338,8 @@ front_then : (a b c : List ℕ) → IsFrontOf a b → IsFrontOf b c → IsFrontO
 front_then a b c one two = (one.0 ++ two.0, two.1 ∙ (ap (λ (t : List ℕ). t ++ two.0) one.1 ∙ append_assoc a one.0 two.0))
 
 -- where they came without an end, the message that was sent is longer
-pub limit_too_long : (which : Which) (a b o p : End) (bytes : List ℕ) (why : Node) (offset : ℕ) → IsUncarried a b o p which bytes why → IsWhole which bytes → o.to_come ≡ Some []
+pub limit_too_long : (which : Which) (a b o p : End) (bytes : List ℕ) (why : Node) (offset : ℕ) → IsUncarried a b o p which bytes why
+    → IsWhole which bytes → o.to_come ≡ Some []
     → why ≡ node.Peer (refused.Bytes offset Limit) → IsTooLong bytes
 limit_too_long which a b o p bytes why offset un whole none is =
     let said = subst (Explains which un.came) is un.explains in

@@ -19,7 +19,8 @@ use Rattle.site_node.specs.Pairs.{IsUnspoilt}
 use Rattle.site_node.specs.Stops.{node_of, IsSpoilt}
 
 -- a fault of the bytes themselves
-pub bad_spoils : (which : Which) (bytes : List ℕ) (offset : ℕ) (why : PeerCause) → measure_of which bytes ≡ message.Bad offset why → IsSpoilt which bytes offset why
+pub bad_spoils : (which : Which) (bytes : List ℕ) (offset : ℕ) (why : PeerCause) → measure_of which bytes ≡ message.Bad offset why
+    → IsSpoilt which bytes offset why
 bad_spoils which bytes offset Head e = e
 bad_spoils which bytes offset (Frame cause) e = e
 bad_spoils which bytes offset Cut e = absurd (bad_inside which bytes offset Cut e)
@@ -27,7 +28,8 @@ bad_spoils which bytes offset Extra e = absurd (bad_inside which bytes offset Ex
 bad_spoils which bytes offset Limit e = absurd (bad_inside which bytes offset Limit e)
 
 -- a whole message has no fault
-pub whole_unspoilt : (which : Which) (bytes : List ℕ) (offset : ℕ) (cause : PeerCause) → IsWhole which bytes → Spoils (length bytes) (measure_of which bytes) offset cause → ⊥
+pub whole_unspoilt : (which : Which) (bytes : List ℕ) (offset : ℕ) (cause : PeerCause) → IsWhole which bytes
+    → Spoils (length bytes) (measure_of which bytes) offset cause → ⊥
 whole_unspoilt which bytes offset cause whole spoils =
     let none = subst (λ (m : Measure). Spoils (length bytes) m offset cause) whole spoils in
     none.0 refl
@@ -45,14 +47,17 @@ no_link (refused.Op member verdict) e = cc
 no_link refused.Memory e = cc
 
 -- a fault of the bytes themselves isn't that they end too early
-pub never_cut : (which : Which) (bytes : List ℕ) (offset at : ℕ) (cause : PeerCause) (why : Node) → measure_of which bytes ≡ message.Bad offset cause → why ≡ node.Peer (refused.Bytes offset cause) → why ≡ node.Peer (refused.Bytes at Cut) → ⊥
+pub never_cut : (which : Which) (bytes : List ℕ) (offset at : ℕ) (cause : PeerCause) (why : Node)
+    → measure_of which bytes ≡ message.Bad offset cause → why ≡ node.Peer (refused.Bytes offset cause)
+    → why ≡ node.Peer (refused.Bytes at Cut) → ⊥
 never_cut which bytes offset at cause why bad is cut =
     let both : ◌≡◌ {A = Node} (node.Peer (refused.Bytes offset cause)) (node.Peer (refused.Bytes at Cut)) = sym is ∙ cut in
     let same : cause ≡ Cut = cc in
     subst IsInside same (bad_inside which bytes offset cause bad)
 
 -- where no bytes were at fault and no operation was refused, all that is left of a refusal is that a message has too many bytes
-pub only_limit : (why : Node) (refusal : Peer) → IsUnspoilt why → ((member : Member) (verdict : Verdict) → why ≢ node.Peer (refused.Op member verdict)) → why ≡ node.Peer refusal
+pub only_limit : (why : Node) (refusal : Peer) → IsUnspoilt why
+    → ((member : Member) (verdict : Verdict) → why ≢ node.Peer (refused.Op member verdict)) → why ≡ node.Peer refusal
     → (offset : ℕ) × (refusal ≡ refused.Bytes offset Limit)
 only_limit why (refused.Bytes offset Head) unspoilt none is = absurd (subst IsUnspoilt is unspoilt)
 only_limit why (refused.Bytes offset (Frame cause)) unspoilt none is = absurd (subst IsUnspoilt is unspoilt)

@@ -1,5 +1,5 @@
 -- How an exchange goes at a joiner, message by message.
-use Rattle.std.proofs.Common.{◌≡◌, ℕ, List, [], ◌++◌, refl, sym, ap, subst, ◌∙◌, append-nil, inl, inr}
+use Rattle.std.proofs.Common.{◌≡◌, ℕ, List, [], ◌++◌, refl, sym, ap, subst, ◌∙◌, inl, inr}
 use Rattle.std.specs.Prelude.{Option}
 use Rattle.std.specs.Io.KnownBytes.{Appends}
 use Rattle.outside_io.specs.Ends.{End}
@@ -19,7 +19,13 @@ use Rattle.site_node.proofs.Talking.{Moves, moves_none, receives_then, sends_the
 
 -- there was no memory for the first message
 pub unoffered : (a : End) (s : State) → Exchanges a a a.to_come (IsUnjoined s s node.Memory)
-unoffered a s = nothing_said a a a.to_come (IsUnjoined s s node.Memory) refl (inl (record { same = refl; unheard = refl; offered = (first_message s.history, refl); cause = inr (refl, refl) }))
+unoffered a s =
+    nothing_said a a a.to_come (IsUnjoined s s node.Memory) refl (inl (record {
+      same = refl;
+      unheard = refl;
+      offered = (first_message s.history, refl);
+      cause = inr (refl, refl);
+    }))
 
 -- the wire failed while it went
 pub unsent : (a b : End) (s : State) (before first : List ℕ) → before ≡ [] → first ≡ before ++ first_message s.history
@@ -49,7 +55,8 @@ offered_by a b s before first none offered written received to_come = record {
 }
 
 -- no whole second message came
-pub unheard : (a b c : End) (s : State) (first : List ℕ) (why : Node) → Offered a b s first → IsStopped Second b c why → Exchanges a c a.to_come (IsUnjoined s s why)
+pub unheard : (a b c : End) (s : State) (first : List ℕ) (why : Node) → Offered a b s first → IsStopped Second b c why
+    → Exchanges a c a.to_come (IsUnjoined s s why)
 unheard a b c s first why r stopped = record {
   came = stopped.came;
   gone = first;
@@ -58,7 +65,8 @@ unheard a b c s first why r stopped = record {
 }
 
 -- its operations weren't all taken in, or there was no memory for the third one
-pub unclosed : (a b c : End) (s t : State) (first second : List ℕ) (why : Peer) → Offered a b s first → IsWhole Second second → Receives b c second → IsUnclosed s second t why
+pub unclosed : (a b c : End) (s t : State) (first second : List ℕ) (why : Peer) → Offered a b s first → IsWhole Second second
+    → Receives b c second → IsUnclosed s second t why
     → Exchanges a c a.to_come (IsUnjoined s t (node_of why))
 unclosed a b c s t first second why r whole came untaken = record {
   came = second;
@@ -74,7 +82,8 @@ pub record Closed (a c : End) (s t : State) (first second third : List ℕ) (cou
   pub closed : IsClosed s second t [] third counts
   pub moves : Moves a c second first
 
-pub closed_by : (a b c : End) (s t : State) (first second before third : List ℕ) (counts : ℕ × ℕ) → Offered a b s first → IsWhole Second second → Receives b c second → before ≡ []
+pub closed_by : (a b c : End) (s t : State) (first second before third : List ℕ) (counts : ℕ × ℕ) → Offered a b s first
+    → IsWhole Second second → Receives b c second → before ≡ []
     → IsClosed s second t before third counts → Closed a c s t first second third counts
 closed_by a b c s t first second before third counts r whole came none closed = record {
   is = r.is;
@@ -89,7 +98,8 @@ pub cut_off : (a c d : End) (s t : State) (first second third : List ℕ) (count
 cut_off a c d s t first second third counts r written received to_come = record {
   came = second;
   gone = first ++ written.front;
-  talks = talks_of a d second (first ++ written.front) (sends_then a c d second first written.front r.moves written.written received to_come);
+  talks =
+      talks_of a d second (first ++ written.front) (sends_then a c d second first written.front r.moves written.written received to_come);
   said = inr (inr (inr (record {
     theirs = r.closed.state;
     ops = r.closed.ops;
@@ -105,7 +115,8 @@ cut_off a c d s t first second third counts r written received to_come = record 
 
 -- it went
 pub joined : (a c d : End) (s t : State) (first second third : List ℕ) (counts : ℕ × ℕ) → Closed a c s t first second third counts
-    → Appends c.sent d.sent third → d.received ≡ c.received → d.to_come ≡ c.to_come → Exchanges a d a.to_come (IsBrought s t (counts.1, counts.0))
+    → Appends c.sent d.sent third → d.received ≡ c.received → d.to_come ≡ c.to_come
+    → Exchanges a d a.to_come (IsBrought s t (counts.1, counts.0))
 joined a c d s t first second third counts r written received to_come = record {
   came = second;
   gone = first ++ third;
@@ -124,4 +135,10 @@ joined a c d s t first second third counts r written received to_come = record {
 
 -- the wire failed to link
 pub unlinked : (a b : End) (peer : Option (List ℕ)) (s : State) → b ≡ a → Exchanges a b peer (IsUnjoined s s node.Link)
-unlinked a b peer s same = nothing_said a b peer (IsUnjoined s s node.Link) same (inl (record { same = refl; unheard = refl; offered = (first_message s.history, refl); cause = inl refl }))
+unlinked a b peer s same =
+    nothing_said a b peer (IsUnjoined s s node.Link) same (inl (record {
+      same = refl;
+      unheard = refl;
+      offered = (first_message s.history, refl);
+      cause = inl refl;
+    }))

@@ -6,7 +6,6 @@ use Rattle.std.specs.Io.KnownBytes.{Appends}
 use Rattle.outside_io.specs.Ends.{End, nothing_of, linked_to, shut_of}
 use Rattle.context_diff.specs.Histories.{IsValid}
 use Rattle.cot_site.specs.States.{State}
-use Rattle.peer_exchange.specs.declared.messages.Which.{Which}
 use Rattle.peer_exchange.specs.declared.messages.Which.TheVariants.{First, Second, Third}
 use Rattle.peer_exchange.specs.declared.messages.PeerCause.{PeerCause}
 use Rattle.peer_exchange.specs.declared.messages.PeerCause.TheVariants.{Limit}
@@ -32,7 +31,8 @@ pub record NothingToCome (ends : ℕ → End) : Type 0 where
   pub first : (ends 0).to_come ≡ Some []
   pub second : (ends 1).to_come ≡ Some []
 
-pub quiet_by : (w : ℕ → End) → ((w 0).to_come ≡ nothing_of (w 0).to_come) × ((w 1).to_come ≡ nothing_of (w 1).to_come) → IsTelling w → NothingToCome w
+pub quiet_by : (w : ℕ → End) → ((w 0).to_come ≡ nothing_of (w 0).to_come) × ((w 1).to_come ≡ nothing_of (w 1).to_come) → IsTelling w
+    → NothingToCome w
 quiet_by w none tells = record { first = none.0 ∙ ap nothing_of tells.0.1; second = none.1 ∙ ap nothing_of tells.1.1 }
 
 -- what carrying a message does at the end from which it goes
@@ -50,7 +50,8 @@ speaks_none w = record {
 }
 
 -- bytes went from the joiner, and these came to the server
-pub to_server_then : (a b c : ℕ → End) (ts fs tj fj bytes came : List ℕ) → Speaks a b ts fs tj fj → Goes (b 1) (c 1) bytes → Appends (b 0).received (c 0).received came → (c 0).sent ≡ (b 0).sent
+pub to_server_then : (a b c : ℕ → End) (ts fs tj fj bytes came : List ℕ) → Speaks a b ts fs tj fj → Goes (b 1) (c 1) bytes
+    → Appends (b 0).received (c 0).received came → (c 0).sent ≡ (b 0).sent
     → Speaks a c (ts ++ came) fs tj (fj ++ bytes)
 to_server_then a b c ts fs tj fj bytes came talk goes received sent = record {
   server_received = Appends-trans (a 0).received (b 0).received (c 0).received ts came talk.server_received received;
@@ -60,7 +61,8 @@ to_server_then a b c ts fs tj fj bytes came talk goes received sent = record {
 }
 
 -- bytes went from the server, and these came to the joiner
-pub to_joiner_then : (a b c : ℕ → End) (ts fs tj fj bytes came : List ℕ) → Speaks a b ts fs tj fj → Goes (b 0) (c 0) bytes → Appends (b 1).received (c 1).received came → (c 1).sent ≡ (b 1).sent
+pub to_joiner_then : (a b c : ℕ → End) (ts fs tj fj bytes came : List ℕ) → Speaks a b ts fs tj fj → Goes (b 0) (c 0) bytes
+    → Appends (b 1).received (c 1).received came → (c 1).sent ≡ (b 1).sent
     → Speaks a c ts (fs ++ bytes) (tj ++ came) fj
 to_joiner_then a b c ts fs tj fj bytes came talk goes received sent = record {
   server_received = subst (λ (x : Option (List ℕ)). Appends (a 0).received x ts) (sym goes.received) talk.server_received;
@@ -81,7 +83,8 @@ front_behind first a b front = (front.0, ap (λ (t : List ℕ). first ++ t) fron
 -- ---- before the first message
 
 -- the wire wasn't linked, or there was no memory for the first message
-pub unstarted : (w v : ℕ → End) (s j : State) (why : Node) → v 0 ≡ w 0 → v 1 ≡ w 1 → (why ≡ node.Link) ⊎ (why ≡ node.Memory) → IsUnlooped s s j j why w v
+pub unstarted : (w v : ℕ → End) (s j : State) (why : Node) → v 0 ≡ w 0 → v 1 ≡ w 1 → (why ≡ node.Link) ⊎ (why ≡ node.Memory)
+    → IsUnlooped s s j j why w v
 unstarted w v s j why first second cause = record {
   to_server = [];
   from_server = [];
@@ -104,8 +107,18 @@ unstarted w v s j why first second cause = record {
   );
   carried = λ tells. (no_front [], no_front []);
   unspoilt = λ tells. elim cause [ inl link ↦ subst IsUnspoilt (sym link) tt | inr memory ↦ subst IsUnspoilt (sym memory) tt ];
-  limited = λ tells offset is. absurd (elim cause [ inl link ↦ (let never = sym link ∙ is in cc) | inr memory ↦ (let never = sym memory ∙ is in cc) ]);
-  agreed = λ tells agree member verdict is. elim cause [ inl link ↦ (let never = sym link ∙ is in cc) | inr memory ↦ (let never = sym memory ∙ is in cc) ];
+  limited =
+      λ tells offset is. absurd (elim cause [
+        | inl link ↦ (let never = sym link ∙ is in cc)
+        | inr memory ↦
+            (let never = sym memory ∙ is in cc)
+      ]);
+  agreed =
+      λ tells agree member verdict is. elim cause [
+        | inl link ↦ (let never = sym link ∙ is in cc)
+        | inr memory ↦
+            (let never = sym memory ∙ is in cc)
+      ];
 }
 
 -- ---- the first message
@@ -115,22 +128,31 @@ pub record Offer (j : State) (first : List ℕ) : Type 0 where
   pub is : first ≡ first_message j.history
   pub whole : IsWhole First first
 
-pub offer_by : (j : State) (before first : List ℕ) → IsValid j.history → before ≡ [] → first ≡ before ++ first_message j.history → Offer j first
+pub offer_by : (j : State) (before first : List ℕ) → IsValid j.history → before ≡ [] → first ≡ before ++ first_message j.history
+    → Offer j first
 offer_by j before first valid none offered =
     let is : first ≡ first_message j.history = offered ∙ ap (λ (t : List ℕ). t ++ first_message j.history) none in
     record { is = is; whole = offered_whole j.history first valid is }
 
 -- no whole first message came to the server
 pub unasked : (w v : ℕ → End) (s j : State) (first : List ℕ) (why : Node) → (IsTelling w → NothingToCome w) → Offer j first
-    → IsUncarried (w 1) (v 1) (w 0) (v 0) First first why → (v 1).received ≡ (w 1).received → (v 1).to_come ≡ (w 1).to_come → (v 0).sent ≡ (w 0).sent
+    → IsUncarried (w 1) (v 1) (w 0) (v 0) First first why → (v 1).received ≡ (w 1).received → (v 1).to_come ≡ (w 1).to_come
+    → (v 0).sent ≡ (w 0).sent
     → IsUnlooped s s j j why w v
 unasked w v s j first why quiet offer un received to_come sent = record {
   to_server = un.came;
   from_server = [];
   to_joiner = [];
   from_joiner = un.gone;
-  speaks = to_server_then w w v [] [] [] [] un.gone un.came (speaks_none w) (record { sent = un.sent; received = received; to_come = to_come }) un.received sent;
-  stopped = inl (inl (record { same = refl; silent = refl; explained = un.explains }), inl (record { same = refl; unheard = refl; offered = (un.front.0, sym offer.is ∙ un.front.1) }));
+  speaks =
+      to_server_then w w v [] [] [] [] un.gone un.came (speaks_none w) (record { sent = un.sent; received = received; to_come = to_come })
+      un.received sent;
+  stopped =
+      inl (
+        inl (record { same = refl; silent = refl; explained = un.explains }),
+        inl
+            (record { same = refl; unheard = refl; offered = (un.front.0, sym offer.is ∙ un.front.1) }),
+      );
   carried = λ tells. (un.carried (quiet tells).first, no_front []);
   unspoilt = λ tells. un.unspoilt offer.whole (quiet tells).first;
   limited = λ tells offset is.
@@ -147,7 +169,8 @@ pub record Heard (w v : ℕ → End) (j : State) (first asked : List ℕ) : Type
   pub same : IsTelling w → (asked ≡ first) × NothingToCome v
 
 pub heard_by : (w v : ℕ → End) (j : State) (first asked : List ℕ) → (IsTelling w → NothingToCome w) → Offer j first → IsWhole First asked
-    → AreAskedFor First asked → IsCarried (w 0) (v 0) First first asked → Goes (w 1) (v 1) first → (v 0).sent ≡ (w 0).sent → Heard w v j first asked
+    → AreAskedFor First asked → IsCarried (w 0) (v 0) First first asked → Goes (w 1) (v 1) first → (v 0).sent ≡ (w 0).sent
+    → Heard w v j first asked
 heard_by w v j first asked quiet offer whole wanted carried goes sent = record {
   offer = offer;
   whole = whole;
@@ -164,7 +187,8 @@ no_refusal : (why refusal : Peer) → why ≡ refused.Memory → node_of why ≡
 no_refusal why refusal memory is = let never : ◌≡◌ {A = Node} node.Memory (node.Peer refusal) = sym (ap node_of memory) ∙ is in cc
 
 -- there was no memory for the second one
-pub unanswered : (w v : ℕ → End) (s j : State) (first asked : List ℕ) (why : Peer) → Heard w v j first asked → IsUnread First asked why → IsUnlooped s s j j (node_of why) w v
+pub unanswered : (w v : ℕ → End) (s j : State) (first asked : List ℕ) (why : Peer) → Heard w v j first asked → IsUnread First asked why
+    → IsUnlooped s s j j (node_of why) w v
 unanswered w v s j first asked why h unread =
     let memory : why ≡ refused.Memory = unread_memory First asked why h.whole unread in
     record {
@@ -194,21 +218,26 @@ pub record Answer (s : State) (asked second : List ℕ) (count : ℕ) : Type 0 w
   pub is : IsAnswered s.history asked [] second count
   pub whole : IsWhole Second second
 
-pub answer_by : (s : State) (asked before second : List ℕ) (count : ℕ) → IsValid s.history → before ≡ [] → IsAnswered s.history asked before second count → Answer s asked second count
+pub answer_by : (s : State) (asked before second : List ℕ) (count : ℕ) → IsValid s.history → before ≡ []
+    → IsAnswered s.history asked before second count → Answer s asked second count
 answer_by s asked before second count valid none answered =
     let is = subst (λ (t : List ℕ). IsAnswered s.history asked t second count) none answered in
     record { is = is; whole = answered_whole s.history asked second count valid is }
 
 -- no whole second message came to the joiner
-pub unbrought : (w v u : ℕ → End) (s j : State) (first asked second : List ℕ) (count : ℕ) (why : Node) → Heard w v j first asked → Answer s asked second count
-    → IsUncarried (v 0) (u 0) (v 1) (u 1) Second second why → (u 0).received ≡ (v 0).received → (u 0).to_come ≡ (v 0).to_come → (u 1).sent ≡ (v 1).sent
+pub unbrought : (w v u : ℕ → End) (s j : State) (first asked second : List ℕ) (count : ℕ) (why : Node) → Heard w v j first asked
+    → Answer s asked second count
+    → IsUncarried (v 0) (u 0) (v 1) (u 1) Second second why → (u 0).received ≡ (v 0).received → (u 0).to_come ≡ (v 0).to_come
+    → (u 1).sent ≡ (v 1).sent
     → IsUnlooped s s j j why w u
 unbrought w v u s j first asked second count why h answer un received to_come sent = record {
   to_server = asked;
   from_server = un.gone;
   to_joiner = un.came;
   from_joiner = first;
-  speaks = to_joiner_then w v u asked [] [] first un.gone un.came h.speaks (record { sent = un.sent; received = received; to_come = to_come }) un.received sent;
+  speaks =
+      to_joiner_then w v u asked [] [] first un.gone un.came h.speaks (record { sent = un.sent; received = received; to_come = to_come })
+      un.received sent;
   stopped = inr (
     inr (record {
       theirs = answer.is.state;
@@ -241,8 +270,10 @@ pub record Told (w u : ℕ → End) (s j : State) (first asked second answered :
   pub speaks : Speaks w u asked second answered first
   pub same : IsTelling w → (asked ≡ first) × (answered ≡ second) × NothingToCome u
 
-pub told_by : (w v u : ℕ → End) (s j : State) (first asked second answered : List ℕ) (count : ℕ) → Heard w v j first asked → Answer s asked second count → IsWhole Second answered
-    → IsCarried (v 1) (u 1) Second second answered → Goes (v 0) (u 0) second → (u 1).sent ≡ (v 1).sent → Told w u s j first asked second answered count
+pub told_by : (w v u : ℕ → End) (s j : State) (first asked second answered : List ℕ) (count : ℕ) → Heard w v j first asked
+    → Answer s asked second count → IsWhole Second answered
+    → IsCarried (v 1) (u 1) Second second answered → Goes (v 0) (u 0) second → (u 1).sent ≡ (v 1).sent
+    → Told w u s j first asked second answered count
 told_by w v u s j first asked second answered count h answer whole carried goes sent = record {
   offer = h.offer;
   asked_whole = h.whole;
@@ -261,30 +292,35 @@ unclosed_unspoilt s t bytes (refused.Bytes offset cause) whole un = absurd (whol
 unclosed_unspoilt s t bytes (refused.Op member verdict) whole un = tt
 unclosed_unspoilt s t bytes refused.Memory whole un = tt
 
-unfinished_unspoilt : (s t : State) (bytes : List ℕ) (why : Peer) → IsWhole Third bytes → IsUnfinished s bytes t why → IsUnspoilt (node_of why)
+unfinished_unspoilt : (s t : State) (bytes : List ℕ) (why : Peer) → IsWhole Third bytes → IsUnfinished s bytes t why
+    → IsUnspoilt (node_of why)
 unfinished_unspoilt s t bytes (refused.Bytes offset cause) whole un = absurd (whole_unspoilt Third bytes offset cause whole un.1)
 unfinished_unspoilt s t bytes (refused.Op member verdict) whole un = tt
 unfinished_unspoilt s t bytes refused.Memory whole un = tt
 
-unclosed_bytes : (s t : State) (bytes : List ℕ) (why : Peer) (offset : ℕ) (cause : PeerCause) → IsWhole Second bytes → IsUnclosed s bytes t why → node_of why ≡ node.Peer (refused.Bytes offset cause) → ⊥
+unclosed_bytes : (s t : State) (bytes : List ℕ) (why : Peer) (offset : ℕ) (cause : PeerCause) → IsWhole Second bytes
+    → IsUnclosed s bytes t why → node_of why ≡ node.Peer (refused.Bytes offset cause) → ⊥
 unclosed_bytes s t bytes (refused.Bytes at why) offset cause whole un is = whole_unspoilt Second bytes at why whole un.1
 unclosed_bytes s t bytes (refused.Op member verdict) offset cause whole un is = cc
 unclosed_bytes s t bytes refused.Memory offset cause whole un is = cc
 
-unfinished_bytes : (s t : State) (bytes : List ℕ) (why : Peer) (offset : ℕ) (cause : PeerCause) → IsWhole Third bytes → IsUnfinished s bytes t why → node_of why ≡ node.Peer (refused.Bytes offset cause) → ⊥
+unfinished_bytes : (s t : State) (bytes : List ℕ) (why : Peer) (offset : ℕ) (cause : PeerCause) → IsWhole Third bytes
+    → IsUnfinished s bytes t why → node_of why ≡ node.Peer (refused.Bytes offset cause) → ⊥
 unfinished_bytes s t bytes (refused.Bytes at why) offset cause whole un is = whole_unspoilt Third bytes at why whole un.1
 unfinished_bytes s t bytes (refused.Op member verdict) offset cause whole un is = cc
 unfinished_bytes s t bytes refused.Memory offset cause whole un is = cc
 
 -- what the joiner was told is the server's answer to its own message
-own_answer : (s j : State) (first asked second answered : List ℕ) (count : ℕ) → Offer j first → Answer s asked second count → asked ≡ first → answered ≡ second
+own_answer : (s j : State) (first asked second answered : List ℕ) (count : ℕ) → Offer j first → Answer s asked second count
+    → asked ≡ first → answered ≡ second
     → IsAnswered s.history (first_message j.history) [] answered count
 own_answer s j first asked second answered count offer answer same_first same_second =
     subst (λ (x : List ℕ). IsAnswered s.history (first_message j.history) [] x count) (sym same_second)
     (subst (λ (x : List ℕ). IsAnswered s.history x [] second count) (same_first ∙ offer.is) answer.is)
 
 -- the joiner didn't take all in
-pub unclosed : (w u : ℕ → End) (s j k : State) (first asked second answered : List ℕ) (count : ℕ) (why : Peer) → (AgreeInAll s j → OnlyMemoryRefuses s j) → Told w u s j first asked second answered count
+pub unclosed : (w u : ℕ → End) (s j k : State) (first asked second answered : List ℕ) (count : ℕ) (why : Peer)
+    → (AgreeInAll s j → OnlyMemoryRefuses s j) → Told w u s j first asked second answered count
     → IsUnclosed j answered k why → IsUnlooped s s j k (node_of why) w u
 unclosed w u s j k first asked second answered count why only r untaken = record {
   to_server = asked;
@@ -307,7 +343,8 @@ unclosed w u s j k first asked second answered count why only r untaken = record
   limited = λ tells offset is. absurd (unclosed_bytes j k answered why offset Limit r.whole untaken is);
   agreed = λ tells agree member verdict is.
       let same = r.same tells in
-      let memory = (only agree).closing answered count k why (own_answer s j first asked second answered count r.offer r.answer same.0 same.1) untaken in
+      let memory =
+      (only agree).closing answered count k why (own_answer s j first asked second answered count r.offer r.answer same.0 same.1) untaken in
       no_refusal why (refused.Op member verdict) memory is;
 }
 
@@ -318,21 +355,26 @@ pub record Closing (j k : State) (answered third : List ℕ) (counts : ℕ × �
   pub is : IsClosed j answered k [] third counts
   pub whole : IsWhole Third third
 
-pub closing_by : (j k : State) (answered before third : List ℕ) (counts : ℕ × ℕ) → IsValid k.history → before ≡ [] → IsClosed j answered k before third counts → Closing j k answered third counts
+pub closing_by : (j k : State) (answered before third : List ℕ) (counts : ℕ × ℕ) → IsValid k.history → before ≡ []
+    → IsClosed j answered k before third counts → Closing j k answered third counts
 closing_by j k answered before third counts valid none closed =
     let is = subst (λ (t : List ℕ). IsClosed j answered k t third counts) none closed in
     record { is = is; whole = closing_whole k.history is.state third valid is.appended }
 
 -- no whole third message came to the server
-pub unheard : (w u t : ℕ → End) (s j k : State) (first asked second answered third : List ℕ) (count : ℕ) (counts : ℕ × ℕ) (why : Node) → Told w u s j first asked second answered count → Closing j k answered third counts
-    → IsUncarried (u 1) (t 1) (u 0) (t 0) Third third why → (t 1).received ≡ (u 1).received → (t 1).to_come ≡ (u 1).to_come → (t 0).sent ≡ (u 0).sent
+pub unheard : (w u t : ℕ → End) (s j k : State) (first asked second answered third : List ℕ) (count : ℕ) (counts : ℕ × ℕ) (why : Node)
+    → Told w u s j first asked second answered count → Closing j k answered third counts
+    → IsUncarried (u 1) (t 1) (u 0) (t 0) Third third why → (t 1).received ≡ (u 1).received → (t 1).to_come ≡ (u 1).to_come
+    → (t 0).sent ≡ (u 0).sent
     → IsUnlooped s s j k why w t
 unheard w u t s j k first asked second answered third count counts why r closing un received to_come sent = record {
   to_server = asked ++ un.came;
   from_server = second;
   to_joiner = answered;
   from_joiner = first ++ un.gone;
-  speaks = to_server_then w u t asked second answered first un.gone un.came r.speaks (record { sent = un.sent; received = received; to_come = to_come }) un.received sent;
+  speaks =
+      to_server_then w u t asked second answered first un.gone un.came r.speaks
+      (record { sent = un.sent; received = received; to_come = to_come }) un.received sent;
   stopped = inl (
     inr (inr (inl (record {
       first = asked;
@@ -357,8 +399,11 @@ unheard w u t s j k first asked second answered third count counts why r closing
     }),
   );
   carried = λ tells.
-      let is = r.same tells in
-      (subst (λ (x : List ℕ). IsFrontOf (x ++ un.came) (first ++ un.gone)) (sym is.0) (front_behind first un.came un.gone (un.carried is.2.first)), ([], sym is.1 ∙ sym (append-nil answered)));
+      let is = r.same tells in (
+        subst (λ (x : List ℕ). IsFrontOf (x ++ un.came) (first ++ un.gone)) (sym is.0)
+            (front_behind first un.came un.gone (un.carried is.2.first)),
+        ([], sym is.1 ∙ sym (append-nil answered)),
+      );
   unspoilt = λ tells. un.unspoilt closing.whole (r.same tells).2.first;
   limited = λ tells offset is.
       let same = r.same tells in
@@ -376,7 +421,8 @@ unheard w u t s j k first asked second answered third count counts why r closing
 }
 
 -- a whole one came
-pub record Ended (w t : ℕ → End) (s j k : State) (first asked second answered third closed : List ℕ) (count : ℕ) (counts : ℕ × ℕ) : Type 0 where
+pub record Ended (w t : ℕ → End) (s j k : State) (first asked second answered third closed : List ℕ) (count : ℕ)
+    (counts : ℕ × ℕ) : Type 0 where
   pub offer : Offer j first
   pub asked_whole : IsWhole First asked
   pub answer : Answer s asked second count
@@ -386,8 +432,10 @@ pub record Ended (w t : ℕ → End) (s j k : State) (first asked second answere
   pub speaks : Speaks w t (asked ++ closed) second answered (first ++ third)
   pub same : IsTelling w → (asked ≡ first) × (answered ≡ second) × (closed ≡ third) × NothingToCome t
 
-pub ended_by : (w u t : ℕ → End) (s j k : State) (first asked second answered third closed : List ℕ) (count : ℕ) (counts : ℕ × ℕ) → Told w u s j first asked second answered count → Closing j k answered third counts
-    → IsWhole Third closed → IsCarried (u 0) (t 0) Third third closed → Goes (u 1) (t 1) third → (t 0).sent ≡ (u 0).sent → Ended w t s j k first asked second answered third closed count counts
+pub ended_by : (w u t : ℕ → End) (s j k : State) (first asked second answered third closed : List ℕ) (count : ℕ) (counts : ℕ × ℕ)
+    → Told w u s j first asked second answered count → Closing j k answered third counts
+    → IsWhole Third closed → IsCarried (u 0) (t 0) Third third closed → Goes (u 1) (t 1) third → (t 0).sent ≡ (u 0).sent
+    → Ended w t s j k first asked second answered third closed count counts
 ended_by w u t s j k first asked second answered third closed count counts r closing whole carried goes sent = record {
   offer = r.offer;
   asked_whole = r.asked_whole;
@@ -403,8 +451,10 @@ ended_by w u t s j k first asked second answered third closed count counts r clo
 }
 
 -- the server didn't take all in
-pub unserved : (w t : ℕ → End) (s v j k : State) (first asked second answered third closed : List ℕ) (count : ℕ) (counts : ℕ × ℕ) (why : Peer) → (AgreeInAll s j → OnlyMemoryRefuses s j)
-    → Ended w t s j k first asked second answered third closed count counts → IsUnfinished s closed v why → IsUnlooped s v j k (node_of why) w t
+pub unserved : (w t : ℕ → End) (s v j k : State) (first asked second answered third closed : List ℕ) (count : ℕ) (counts : ℕ × ℕ)
+    (why : Peer) → (AgreeInAll s j → OnlyMemoryRefuses s j)
+    → Ended w t s j k first asked second answered third closed count counts → IsUnfinished s closed v why
+    → IsUnlooped s v j k (node_of why) w t
 unserved w t s v j k first asked second answered third closed count counts why only r untaken = record {
   to_server = asked ++ closed;
   from_server = second;
@@ -451,7 +501,8 @@ unserved w t s v j k first asked second answered third closed count counts why o
 }
 
 -- it did
-pub looped : (w t : ℕ → End) (s v j k : State) (first asked second answered third closed : List ℕ) (count taken : ℕ) (counts : ℕ × ℕ) → Ended w t s j k first asked second answered third closed count counts
+pub looped : (w t : ℕ → End) (s v j k : State) (first asked second answered third closed : List ℕ) (count taken : ℕ) (counts : ℕ × ℕ)
+    → Ended w t s j k first asked second answered third closed count counts
     → IsFinished s closed v taken → IsLooped s v j k (count, counts.1) w t
 looped w t s v j k first asked second answered third closed count taken counts r done = record {
   to_server = asked ++ closed;
@@ -492,7 +543,16 @@ looped w t s v j k first asked second answered third closed count taken counts r
   messages = λ tells.
       let is = r.same tells in
       record {
-        talk = record { first = first; second = second; third = third; server_sent = count; joiner_took = counts.0; joiner_sent = counts.1; server_took = taken };
+        talk =
+            record {
+              first = first;
+              second = second;
+              third = third;
+              server_sent = count;
+              joiner_took = counts.0;
+              joiner_sent = counts.1;
+              server_took = taken;
+            };
         calls = record {
           offered = r.offer.is;
           answered = subst (λ (x : List ℕ). IsAnswered s.history x [] second count) is.0 r.answer.is;
@@ -520,7 +580,12 @@ pub linked_same : (a b : End) (bytes : Option (List ℕ)) → b ≡ linked_to by
 linked_same a b bytes is = record { sent = ap (λ (e : End). e.sent) is; received = ap (λ (e : End). e.received) is }
 
 pub shut_same : (a b c : End) → b ≡ a → c ≡ shut_of b → SameBytes a c
-shut_same a b c first second = record { sent = ap (λ (e : End). e.sent) (second ∙ ap shut_of first); received = ap (λ (e : End). e.received) (second ∙ ap shut_of first) }
+shut_same a b c first second =
+    record {
+      sent = ap (λ (e : End). e.sent) (second ∙ ap shut_of first);
+      received = ap (λ (e : End). e.received)
+          (second ∙ ap shut_of first);
+    }
 
 -- an exchange over the pair `v` goes from its ends before they were linked to those after they were shut
 pub record Between (w v u x : ℕ → End) : Type 0 where
@@ -532,17 +597,23 @@ pub record Between (w v u x : ℕ → End) : Type 0 where
   pub telling_after : IsTelling u → IsTelling x
 
 appends_between : (a b c d : Option (List ℕ)) (bytes : List ℕ) → b ≡ a → d ≡ c → Appends b c bytes → Appends a d bytes
-appends_between a b c d bytes before after goes = subst (λ (x : Option (List ℕ)). Appends x d bytes) before (subst (λ (x : Option (List ℕ)). Appends b x bytes) (sym after) goes)
+appends_between a b c d bytes before after goes =
+    subst (λ (x : Option (List ℕ)). Appends x d bytes) before (subst (λ (x : Option (List ℕ)). Appends b x bytes) (sym after) goes)
 
 speaks_between : (w v u x : ℕ → End) (ts fs tj fj : List ℕ) → Between w v u x → Speaks v u ts fs tj fj → Speaks w x ts fs tj fj
 speaks_between w v u x ts fs tj fj b talk = record {
-  server_received = appends_between (w 0).received (v 0).received (u 0).received (x 0).received ts b.first_before.received b.first_after.received talk.server_received;
+  server_received =
+      appends_between (w 0).received (v 0).received (u 0).received (x 0).received ts b.first_before.received b.first_after.received
+      talk.server_received;
   server_sent = appends_between (w 0).sent (v 0).sent (u 0).sent (x 0).sent fs b.first_before.sent b.first_after.sent talk.server_sent;
-  joiner_received = appends_between (w 1).received (v 1).received (u 1).received (x 1).received tj b.second_before.received b.second_after.received talk.joiner_received;
+  joiner_received =
+      appends_between (w 1).received (v 1).received (u 1).received (x 1).received tj b.second_before.received b.second_after.received
+      talk.joiner_received;
   joiner_sent = appends_between (w 1).sent (v 1).sent (u 1).sent (x 1).sent fj b.second_before.sent b.second_after.sent talk.joiner_sent;
 }
 
-pub looped_between : (w v u x : ℕ → End) (s t j k : State) (counts : ℕ × ℕ) → Between w v u x → IsLooped s t j k counts v u → IsLooped s t j k counts w x
+pub looped_between : (w v u x : ℕ → End) (s t j k : State) (counts : ℕ × ℕ) → Between w v u x → IsLooped s t j k counts v u
+    → IsLooped s t j k counts w x
 looped_between w v u x s t j k counts b r = record {
   to_server = r.to_server;
   from_server = r.from_server;
@@ -558,7 +629,8 @@ looped_between w v u x s t j k counts b r = record {
   telling = λ tells. b.telling_after (r.telling (b.telling tells));
 }
 
-pub unlooped_between : (w v u x : ℕ → End) (s t j k : State) (why : Node) → Between w v u x → IsUnlooped s t j k why v u → IsUnlooped s t j k why w x
+pub unlooped_between : (w v u x : ℕ → End) (s t j k : State) (why : Node) → Between w v u x → IsUnlooped s t j k why v u
+    → IsUnlooped s t j k why w x
 unlooped_between w v u x s t j k why b r = record {
   to_server = r.to_server;
   from_server = r.from_server;
@@ -573,16 +645,19 @@ unlooped_between w v u x s t j k why b r = record {
 }
 
 -- the same of an answer, whichever it is
-pub looped_all : (w v u x : ℕ → End) (s t j k : State) (r : Result (ℕ × ℕ) Node) → Between w v u x → IfOk r (λ counts. IsLooped s t j k counts v u) → IfOk r (λ counts. IsLooped s t j k counts w x)
+pub looped_all : (w v u x : ℕ → End) (s t j k : State) (r : Result (ℕ × ℕ) Node) → Between w v u x
+    → IfOk r (λ counts. IsLooped s t j k counts v u) → IfOk r (λ counts. IsLooped s t j k counts w x)
 looped_all w v u x s t j k (Ok counts) b is = looped_between w v u x s t j k counts b is
 looped_all w v u x s t j k (Err why) b is = tt
 
-pub unlooped_all : (w v u x : ℕ → End) (s t j k : State) (r : Result (ℕ × ℕ) Node) → Between w v u x → IfErr r (λ why. IsUnlooped s t j k why v u) → IfErr r (λ why. IsUnlooped s t j k why w x)
+pub unlooped_all : (w v u x : ℕ → End) (s t j k : State) (r : Result (ℕ × ℕ) Node) → Between w v u x
+    → IfErr r (λ why. IsUnlooped s t j k why v u) → IfErr r (λ why. IsUnlooped s t j k why w x)
 unlooped_all w v u x s t j k (Ok counts) b is = tt
 unlooped_all w v u x s t j k (Err why) b is = unlooped_between w v u x s t j k why b is
 
 -- what linking the pair and shutting its ends one after the other does
-pub between : (w v u y x : ℕ → End) → ((end : ℕ) → end < 2 → v end ≡ linked_to (nothing_of (w end).to_come) (w end)) → y 0 ≡ shut_of (u 0) → y 1 ≡ u 1 → x 0 ≡ y 0 → x 1 ≡ shut_of (y 1) → Between w v u x
+pub between : (w v u y x : ℕ → End) → ((end : ℕ) → end < 2 → v end ≡ linked_to (nothing_of (w end).to_come) (w end)) → y 0 ≡ shut_of (u 0)
+    → y 1 ≡ u 1 → x 0 ≡ y 0 → x 1 ≡ shut_of (y 1) → Between w v u x
 between w v u y x linked first_shut first_other second_other second_shut = record {
   first_before = linked_same (w 0) (v 0) (nothing_of (w 0).to_come) (linked 0 (omega arith));
   second_before = linked_same (w 1) (v 1) (nothing_of (w 1).to_come) (linked 1 (omega arith));

@@ -16,7 +16,8 @@ use Rattle.site_node.specs.Moves.{Receives, Gains, IsStopped}
 use Rattle.site_node.specs.Stops.{AreAskedFor, Explains, IsSpoilt}
 
 pub receives_none : (a : End) (bytes : List ℕ) → bytes ≡ [] → Receives a a bytes
-receives_none a bytes none = subst (Receives a a) (sym none) (record { received = Appends-nil a.received; consumed = Consumes-nil a.to_come; sent = refl })
+receives_none a bytes none =
+    subst (Receives a a) (sym none) (record { received = Appends-nil a.received; consumed = Consumes-nil a.to_come; sent = refl })
 
 receives_on : (a b c : End) (x y : List ℕ) → Receives a b x → Receives b c y → Receives a c (x ++ y)
 receives_on a b c x y first second = record {
@@ -26,13 +27,16 @@ receives_on a b c x y first second = record {
 }
 
 -- all that came so far, where one more piece came
-pub receives_gain : (a b c : End) (before now after : List ℕ) → now ≡ before → Receives a b before → Gains b c now after → Receives a c after
+pub receives_gain : (a b c : End) (before now after : List ℕ) → now ≡ before → Receives a b before → Gains b c now after
+    → Receives a c after
 receives_gain a b c before now after same first gains =
-    subst (Receives a c) (sym (gains.grown ∙ ap (λ (t : List ℕ). t ++ gains.piece) same)) (receives_on a b c before gains.piece first gains.moved)
+    subst (Receives a c) (sym (gains.grown ∙ ap (λ (t : List ℕ). t ++ gains.piece) same))
+    (receives_on a b c before gains.piece first gains.moved)
 
 -- a piece that is no more than was asked for was asked for
 pub asked_on : (which : Which) (before piece : List ℕ) (k room : ℕ)
-    → measure_of which before ≡ message.More k → length piece ≤ room → length before + room ≤ k → length before + room ≤ MAX_MESSAGE → AreAskedFor which (before ++ piece)
+    → measure_of which before ≡ message.More k → length piece ≤ room → length before + room ≤ k → length before + room ≤ MAX_MESSAGE
+    → AreAskedFor which (before ++ piece)
 asked_on which before piece k room more few asked short = inr (record {
   front = before;
   piece = piece;
@@ -45,12 +49,14 @@ asked_on which before piece k room more few asked short = inr (record {
 
 -- the same of all bytes, where they are no more than was asked for
 pub asked_to : (which : Which) (before piece after : List ℕ) (k : ℕ)
-    → after ≡ before ++ piece → measure_of which before ≡ message.More k → length after ≤ k → length after ≤ MAX_MESSAGE → AreAskedFor which after
+    → after ≡ before ++ piece → measure_of which before ≡ message.More k → length after ≤ k → length after ≤ MAX_MESSAGE
+    → AreAskedFor which after
 asked_to which before piece after k parts more within short =
     inr (record { front = before; piece = piece; parts = parts; at_least = k; asked = more; within = within; short = short })
 
 -- where no byte came that wasn't asked for, a failure of the wire or a lack of memory is explained
-pub midway : (which : Which) (bytes : List ℕ) (why : Node) → AreAskedFor which bytes → (why ≡ Link) ⊎ (why ≡ Memory) → Explains which bytes why
+pub midway : (which : Which) (bytes : List ℕ) (why : Node) → AreAskedFor which bytes → (why ≡ Link) ⊎ (why ≡ Memory)
+    → Explains which bytes why
 midway which bytes why asked (inl link) = subst (Explains which bytes) (sym link) asked
 midway which bytes why asked (inr memory) = subst (Explains which bytes) (sym memory) asked
 
@@ -66,7 +72,8 @@ stopped_midway which a b c came piece why first lost asked cause = record {
 -- the bytes that came have a fault
 pub stopped_by : (which : Which) (a b : End) (came : List ℕ) (offset : ℕ) (cause : PeerCause) (why : Node) → why ≡ Peer (Bytes offset cause)
     → Receives a b came → AreAskedFor which came → IsSpoilt which came offset cause → IsStopped which a b why
-stopped_by which a b came offset cause why is receives asked spoilt = record { came = came; receives = receives; explains = subst (Explains which came) (sym is) (asked, spoilt) }
+stopped_by which a b came offset cause why is receives asked spoilt =
+    record { came = came; receives = receives; explains = subst (Explains which came) (sym is) (asked, spoilt) }
 
 -- no byte was received
 pub received_none : (b c : End) (now after : List ℕ) → Gains b c now after → length after ≡ length now → Receives b c []
@@ -82,8 +89,10 @@ nothing_gained b c now after gains none =
     gains.grown ∙ (ap (λ (t : List ℕ). now ++ t) nothing ∙ append-nil now)
 
 -- nothing more is to come, where the message asks for more
-pub stopped_short : (which told : Which) (a b c : End) (before now after : List ℕ) (k offset : ℕ) (why : Node) → told ≡ which → now ≡ before → Receives a b before → Gains b c now after
-    → length after ≡ length now → measure_of told before ≡ message.More k → length before < MAX_MESSAGE → offset ≡ length before → why ≡ Peer (Bytes offset Cut)
+pub stopped_short : (which told : Which) (a b c : End) (before now after : List ℕ) (k offset : ℕ) (why : Node) → told ≡ which
+    → now ≡ before → Receives a b before → Gains b c now after
+    → length after ≡ length now → measure_of told before ≡ message.More k → length before < MAX_MESSAGE → offset ≡ length before
+    → why ≡ Peer (Bytes offset Cut)
     → AreAskedFor which before → IsStopped which a c why
 stopped_short which told a b c before now after k offset why kind same first gains none asks few at is asked =
     let unchanged : after ≡ before = nothing_gained b c now after gains none ∙ same in

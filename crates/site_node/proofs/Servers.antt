@@ -1,5 +1,5 @@
 -- How an exchange goes at a server, message by message.
-use Rattle.std.proofs.Common.{◌≡◌, ℕ, List, [], ◌++◌, refl, sym, ap, subst, ◌∙◌, append-nil, inl, inr}
+use Rattle.std.proofs.Common.{◌≡◌, ℕ, List, [], ◌++◌, refl, sym, ap, subst, ◌∙◌, inl, inr}
 use Rattle.std.specs.Prelude.{Option}
 use Rattle.std.specs.Io.KnownBytes.{Appends}
 use Rattle.outside_io.specs.Ends.{End}
@@ -25,7 +25,8 @@ pub record Asked (a b : End) (first : List ℕ) : Type 0 where
   pub moves : Moves a b first []
 
 pub asked_by : (a b : End) (first : List ℕ) → IsWhole First first → AreAskedFor First first → Receives a b first → Asked a b first
-asked_by a b first whole wanted came = record { whole = whole; wanted = wanted; moves = receives_then a a b [] [] first (moves_none a) came }
+asked_by a b first whole wanted came =
+    record { whole = whole; wanted = wanted; moves = receives_then a a b [] [] first (moves_none a) came }
 
 -- no whole first message came
 pub unasked : (a b : End) (s : State) (why : Node) → IsStopped First a b why → Exchanges a b a.to_come (IsUnserved s s why)
@@ -37,17 +38,26 @@ unasked a b s why stopped = record {
 }
 
 -- there was no memory for the second one
-pub unanswered : (a b : End) (s : State) (first : List ℕ) (why : Peer) → Asked a b first → IsUnread First first why → Exchanges a b a.to_come (IsUnserved s s (node_of why))
+pub unanswered : (a b : End) (s : State) (first : List ℕ) (why : Peer) → Asked a b first → IsUnread First first why
+    → Exchanges a b a.to_come (IsUnserved s s (node_of why))
 unanswered a b s first why asked unread = record {
   came = first;
   gone = [];
   talks = talks_of a b first [] asked.moves;
-  said = inl (record { same = refl; silent = refl; explained = subst (λ (p : Peer). Explains First first (node_of p)) (sym (unread_memory First first why asked.whole unread)) asked.wanted });
+  said =
+      inl (record {
+        same = refl;
+        silent = refl;
+        explained = subst (λ (p : Peer). Explains First first (node_of p))
+            (sym (unread_memory First first why asked.whole unread)) asked.wanted;
+      });
 }
 
 -- the wire failed while it went
-pub unsent : (a b c : End) (s : State) (first before second : List ℕ) (count : ℕ) → Asked a b first → before ≡ [] → IsAnswered s.history first before second count
-    → WritesFront b.sent c.sent second → c.received ≡ b.received → c.to_come ≡ b.to_come → Exchanges a c a.to_come (IsUnserved s s node.Link)
+pub unsent : (a b c : End) (s : State) (first before second : List ℕ) (count : ℕ) → Asked a b first → before ≡ []
+    → IsAnswered s.history first before second count
+    → WritesFront b.sent c.sent second → c.received ≡ b.received → c.to_come ≡ b.to_come
+    → Exchanges a c a.to_come (IsUnserved s s node.Link)
 unsent a b c s first before second count asked none answered written received to_come = record {
   came = first;
   gone = written.front;
@@ -56,7 +66,8 @@ unsent a b c s first before second count asked none answered written received to
     theirs = answered.state;
     first_whole = asked.whole;
     told = answered.told;
-    answered = (written.rest, sym (answered.appended ∙ ap (λ (t : List ℕ). t ++ second_message s.history answered.state) none) ∙ written.parts);
+    answered =
+        (written.rest, sym (answered.appended ∙ ap (λ (t : List ℕ). t ++ second_message s.history answered.state) none) ∙ written.parts);
     same = refl;
     cause = refl;
   }));
@@ -68,7 +79,8 @@ pub record Answered (a c : End) (s : State) (first second : List ℕ) (count : �
   pub answered : IsAnswered s.history first [] second count
   pub moves : Moves a c first second
 
-pub answered_by : (a b c : End) (s : State) (first before second : List ℕ) (count : ℕ) → Asked a b first → before ≡ [] → IsAnswered s.history first before second count
+pub answered_by : (a b c : End) (s : State) (first before second : List ℕ) (count : ℕ) → Asked a b first → before ≡ []
+    → IsAnswered s.history first before second count
     → Appends b.sent c.sent second → c.received ≡ b.received → c.to_come ≡ b.to_come → Answered a c s first second count
 answered_by a b c s first before second count asked none answered written received to_come = record {
   whole = asked.whole;
@@ -77,7 +89,8 @@ answered_by a b c s first before second count asked none answered written receiv
 }
 
 -- no whole third message came
-pub unheard : (a c d : End) (s : State) (first second : List ℕ) (count : ℕ) (why : Node) → Answered a c s first second count → IsStopped Third c d why → Exchanges a d a.to_come (IsUnserved s s why)
+pub unheard : (a c d : End) (s : State) (first second : List ℕ) (count : ℕ) (why : Node) → Answered a c s first second count
+    → IsStopped Third c d why → Exchanges a d a.to_come (IsUnserved s s why)
 unheard a c d s first second count why r stopped = record {
   came = first ++ stopped.came;
   gone = second;
@@ -96,7 +109,8 @@ unheard a c d s first second count why r stopped = record {
 }
 
 -- its operations weren't all taken in
-pub unserved : (a c d : End) (s t : State) (first second third : List ℕ) (count : ℕ) (why : Peer) → Answered a c s first second count → IsWhole Third third → Receives c d third
+pub unserved : (a c d : End) (s t : State) (first second third : List ℕ) (count : ℕ) (why : Peer) → Answered a c s first second count
+    → IsWhole Third third → Receives c d third
     → IsUnfinished s third t why → Exchanges a d a.to_come (IsUnserved s t (node_of why))
 unserved a c d s t first second third count why r whole came untaken = record {
   came = first ++ third;
@@ -118,7 +132,8 @@ unserved a c d s t first second third count why r whole came untaken = record {
 }
 
 -- they were
-pub served : (a c d : End) (s t : State) (first second third : List ℕ) (sent count : ℕ) → Answered a c s first second sent → IsWhole Third third → Receives c d third
+pub served : (a c d : End) (s t : State) (first second third : List ℕ) (sent count : ℕ) → Answered a c s first second sent
+    → IsWhole Third third → Receives c d third
     → IsFinished s third t count → Exchanges a d a.to_come (IsServed s t (sent, count))
 served a c d s t first second third sent count r whole came done = record {
   came = first ++ third;
@@ -143,4 +158,5 @@ served a c d s t first second third sent count r whole came done = record {
 
 -- the wire failed to link
 pub unlinked : (a b : End) (peer : Option (List ℕ)) (s : State) → b ≡ a → Exchanges a b peer (IsUnserved s s node.Link)
-unlinked a b peer s same = nothing_said a b peer (IsUnserved s s node.Link) same (inl (record { same = refl; silent = refl; explained = inl refl }))
+unlinked a b peer s same =
+    nothing_said a b peer (IsUnserved s s node.Link) same (inl (record { same = refl; silent = refl; explained = inl refl }))

@@ -23,7 +23,8 @@ receives_then a b c came gone bytes first second = record {
   sent = subst (λ (s : Option (List ℕ)). Appends a.sent s gone) (sym second.sent) first.sent;
 }
 
-pub sends_then : (a b c : End) (came gone bytes : List ℕ) → Moves a b came gone → Appends b.sent c.sent bytes → c.received ≡ b.received → c.to_come ≡ b.to_come → Moves a c came (gone ++ bytes)
+pub sends_then : (a b c : End) (came gone bytes : List ℕ) → Moves a b came gone → Appends b.sent c.sent bytes → c.received ≡ b.received
+    → c.to_come ≡ b.to_come → Moves a c came (gone ++ bytes)
 sends_then a b c came gone bytes first written received to_come = record {
   received = subst (λ (s : Option (List ℕ)). Appends a.received s came) (sym received) first.received;
   consumed = subst (λ (s : Option (List ℕ)). Consumes a.to_come s came) (sym to_come) first.consumed;
@@ -43,7 +44,8 @@ nothing_said a b peer says same said = subst (λ (x : End). Exchanges a x peer s
 })
 
 -- all that was to come was received
-pub all_received : (a b : End) (came gone : List ℕ) → Moves a b came gone → IsAtEnd b.to_come → IfSome a.to_come (Appends a.received b.received)
+pub all_received : (a b : End) (came gone : List ℕ) → Moves a b came gone → IsAtEnd b.to_come
+    → IfSome a.to_come (Appends a.received b.received)
 all_received a b came gone m ended = go a.to_come b.to_come m.consumed ended
   where
     go : (before after : Option (List ℕ)) → Consumes before after came → IsAtEnd after → IfSome before (Appends a.received b.received)

@@ -12,12 +12,14 @@ use Rattle.peer_exchange.specs.Measuring.{measured, measure_of}
 -- from the later place the bytes, however they go on, say what they say from the earlier one
 pub record GoesOn (bytes : List ℕ) (from to : Place) : Type 0 where
   pub within : to.at ≤ length bytes
-  pub says : (tail : List ℕ) → IsBytes (bytes ++ tail) → measured from.stage from.at (drop from.at (bytes ++ tail)) ≡ measured to.stage to.at (drop to.at (bytes ++ tail))
+  pub says : (tail : List ℕ) → IsBytes (bytes ++ tail)
+      → measured from.stage from.at (drop from.at (bytes ++ tail)) ≡ measured to.stage to.at (drop to.at (bytes ++ tail))
 
 -- the same from the front of the message
 pub record Stands (which : Which) (bytes : List ℕ) (place : Place) : Type 0 where
   pub within : place.at ≤ length bytes
-  pub says : (tail : List ℕ) → IsBytes (bytes ++ tail) → measure_of which (bytes ++ tail) ≡ measured place.stage place.at (drop place.at (bytes ++ tail))
+  pub says : (tail : List ℕ) → IsBytes (bytes ++ tail)
+      → measure_of which (bytes ++ tail) ≡ measured place.stage place.at (drop place.at (bytes ++ tail))
 
 -- a part lies within so many bytes, or asks for no more than the largest state has
 abbrev pub Fits : ℕ → Piece → Type 0

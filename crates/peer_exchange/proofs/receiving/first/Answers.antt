@@ -11,8 +11,10 @@ unreachable-requires c =
     let are = c.requires in
     let there = sym c.ends.ensures ∙ c.if-ends.false in
     elim c.in-More.is [
-      | inl m ↦ decoded_never c.args.bytes.now _ there (λ o rest well e. ap judgement_of (sym m.1) ∙ c.in_ok-op.ensures.only o rest well e) are.0 are.1
-      | inr b ↦ decoded_never c.args.bytes.now _ there (λ o rest well e. ap judgement_of (sym b.2) ∙ c.in_ok-op.ensures.only o rest well e) are.0 are.1
+      | inl m ↦ decoded_never c.args.bytes.now _ there (λ o rest well e. ap judgement_of (sym m.1)
+          ∙ c.in_ok-op.ensures.only o rest well e) are.0 are.1
+      | inr b ↦ decoded_never c.args.bytes.now _ there (λ o rest well e. ap judgement_of (sym b.2)
+          ∙ c.in_ok-op.ensures.only o rest well e) are.0 are.1
     ]
 
 pub returns-clause-first : goal.returns-clause-first

@@ -14,7 +14,8 @@ invariant-loop-rest g l = record {
   within : l.at ≤ length l.bytes;
   under_way : l.at ≤ length l.reader.bytes + UNDER_WAY;
   which : l.reader.which ≡ l.fn.reader.which;
-  carrying : Carrying (g.W.Wire.ends l.fn.wire l.fn.from) (g.W.Wire.ends l.wire l.fn.from) (g.W.Wire.ends l.fn.wire (1 - l.fn.from)) (g.W.Wire.ends l.wire (1 - l.fn.from)) l.bytes l.at l.reader.bytes;
+  carrying : Carrying (g.W.Wire.ends l.fn.wire l.fn.from) (g.W.Wire.ends l.wire l.fn.from) (g.W.Wire.ends l.fn.wire (1 - l.fn.from))
+      (g.W.Wire.ends l.wire (1 - l.fn.from)) l.bytes l.at l.reader.bytes;
   past : NotPast l.reader.which l.reader.bytes;
   wanted : AreAskedFor l.fn.reader.which l.reader.bytes;
   kept : KeepLinked (g.W.Wire.ends l.fn.wire) (g.W.Wire.ends l.wire);

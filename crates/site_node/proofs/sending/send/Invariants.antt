@@ -8,7 +8,8 @@ abbrev pub invariant-loop-at : goal.invariant-loop-at
 invariant-loop-at g l = record {
   within : l.at ≤ length l.bytes;
   sent : Appends (g.W.Wire.ends l.fn.wire l.fn.end).sent (g.W.Wire.ends l.wire l.fn.end).sent (take l.at l.bytes);
-  brought : Appends (g.W.Wire.ends l.fn.wire (1 - l.fn.end)).to_come (g.W.Wire.ends l.wire (1 - l.fn.end)).to_come (brought (g.W.Wire.asked l.fn.wire) (g.W.Wire.ends l.fn.wire (1 - l.fn.end)).linked (take l.at l.bytes));
+  brought : Appends (g.W.Wire.ends l.fn.wire (1 - l.fn.end)).to_come (g.W.Wire.ends l.wire (1 - l.fn.end)).to_come
+      (brought (g.W.Wire.asked l.fn.wire) (g.W.Wire.ends l.fn.wire (1 - l.fn.end)).linked (take l.at l.bytes));
   kept : KeepLinked (g.W.Wire.ends l.fn.wire) (g.W.Wire.ends l.wire);
   received : (g.W.Wire.ends l.wire l.fn.end).received ≡ (g.W.Wire.ends l.fn.wire l.fn.end).received;
   to_come : (g.W.Wire.ends l.wire l.fn.end).to_come ≡ (g.W.Wire.ends l.fn.wire l.fn.end).to_come;
