@@ -1,5 +1,5 @@
 -- What an operation and the releases after it leave: a later state of the same site.
-use Rattle.std.proofs.Common.{◌≡◌, ◌<◌, ◌≤◌, List, [], ◌∷◌, refl, sym, ap, subst, length, take, append-nil, arith}
+use Rattle.std.proofs.Common.{◌≡◌, ◌<◌, ◌≤◌, List, [], ◌∷◌, refl, sym, ap, subst, length, append-nil, arith}
 use Rattle.std.proofs.Math.Seq.{take-append_seam, take-length}
 use Rattle.std.proofs.lemmas.List.{length-take, length_push}
 use Rattle.context_diff.specs.Operations.{OpData}

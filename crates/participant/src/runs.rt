@@ -83,6 +83,7 @@ pub fn delete_range(site: &mut Site, place: u32, count: u32, released: &mut Vec<
 /// passed over where the same names are given again.
 pub fn undo_all(site: &mut Site, names: &[Name], released: &mut Vec<Release>) -> Run
     ensures run { IsRun (undos names.now) (at site.old released.old.items) result (at site.new released.new.items) }
+    ensures within { result.made ≤ length names.now }
     ensures settled { IsSettled (state_of site.old) → result.end ≢ Err Stopped.Unsettled → IsSettled (state_of site.new) }
     ensures later { IsLater (state_of site.old) (state_of site.new) }
 {
@@ -96,6 +97,7 @@ pub fn undo_all(site: &mut Site, names: &[Name], released: &mut Vec<Release>) ->
 /// passed over where the same names are given again.
 pub fn redo_all(site: &mut Site, names: &[Name], released: &mut Vec<Release>) -> Run
     ensures run { IsRun (redos names.now) (at site.old released.old.items) result (at site.new released.new.items) }
+    ensures within { result.made ≤ length names.now }
     ensures settled { IsSettled (state_of site.old) → result.end ≢ Err Stopped.Unsettled → IsSettled (state_of site.new) }
     ensures later { IsLater (state_of site.old) (state_of site.new) }
 {
@@ -140,6 +142,7 @@ fn delete_all(site: &mut Site, place: u32, count: u32, released: &mut Vec<Releas
 // Undoes what has these names, the last of them first; or redoes it.
 fn turn_all(site: &mut Site, names: &[Name], redo: bool, released: &mut Vec<Release>) -> Run
     ensures run { IsRun (map (turning redo) (reverse names.now)) (at site.old released.old.items) result (at site.new released.new.items) }
+    ensures within { result.made ≤ length names.now }
     ensures settled { IsSettled (state_of site.old) → result.end ≢ Err Stopped.Unsettled → IsSettled (state_of site.new) }
     ensures later { IsLater (state_of site.old) (state_of site.new) }
 {
@@ -184,6 +187,7 @@ fn step(
     ensures stop { OnErr result (StopsAt edit (progress site.old released.old.items made.old) result
         (progress site.new released.new.items made.new)) }
     ensures count { made.new ≤ length site.new.history }
+    ensures one { made.new ≤ made.old + 1 }
     ensures settled { IsSettled (state_of site.old) → result ≢ Err Stopped.Unsettled → IsSettled (state_of site.new) }
     ensures later { IsLater (state_of site.old) (state_of site.new) }
 {

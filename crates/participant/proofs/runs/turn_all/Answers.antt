@@ -1,4 +1,4 @@
-use Rattle.std.proofs.Common.{◌≡◌, ℕ, ◌-◌, ◌<◌, map, reverse, take, ap, arith}
+use Rattle.std.proofs.Common.{◌≡◌, ℕ, ◌-◌, ◌<◌, ◌≤◌, length, map, reverse, take, ap, arith}
 use Rattle.std.specs.Prelude.{Err}
 use Rattle.cot_site.specs.Sites.{state_of}
 use Rattle.cot_site.proofs.CallerLemmas.{later_on}
@@ -17,13 +17,14 @@ loop-left-preserved c =
     let now : Progress = progress c.loop-left.site c.loop-left.released.items c.loop-left.made in
     let next : Progress = progress c.step.new.site c.step.new.released.items c.step.new.made in
     let some : 0 < left = omega arith in
+    let within : left ≤ length names = omega (arith, c.loop-left.invariant.1) in
     let turns =
     turns_next f names left c.index-names-left.result c.turning.result some
-    c.loop-left.invariant.1 c.index-names-left.is c.turning.ensures in (
+    within c.index-names-left.is c.turning.ensures in (
       leads_more (map f (reverse names)) first c.turning.result (map f (reverse (take left names)))
           (map f (reverse (take (left - 1) names))) now next
           c.loop-left.invariant.0 turns c.in-Ok.ensures.next,
-      omega (arith, c.loop-left.invariant.1),
+      omega (arith, some, c.loop-left.invariant.1, c.step.ensures.one),
       c.step.ensures.count,
       λ was. c.step.ensures.settled (c.loop-left.invariant.3 was) (λ half. cc),
       later_on (state_of c.args.site.now) (state_of c.loop-left.site) (state_of c.step.new.site)
@@ -39,9 +40,10 @@ returns-in-Err-clause-run c =
     let now : Progress = progress c.loop-left.site c.loop-left.released.items c.loop-left.made in
     let next : Progress = progress c.step.new.site c.step.new.released.items c.step.new.made in
     let some : 0 < left = omega arith in
+    let within : left ≤ length names = omega (arith, c.loop-left.invariant.1) in
     let turns =
     turns_next f names left c.index-names-left.result c.turning.result some
-    c.loop-left.invariant.1 c.index-names-left.is c.turning.ensures in
+    within c.index-names-left.is c.turning.ensures in
     leads_stop (map f (reverse names)) first c.turning.result (map f (reverse (take left names)))
     (map f (reverse (take (left - 1) names))) now (Err c.in-Err.why) next
     c.loop-left.invariant.0 turns c.in-Err.ensures.stop
