@@ -234,7 +234,8 @@ lately_on h o w next (Some l) known = record {
 }
 
 -- and of a next operation as much is known, if its context was counted
-pub lately_new : (h : List OpData) (o : OpData) → IsNext h o → (cells : ℕ) → (is_original o ≡ true → cells ≡ inserts_in h (context_of o)) → (r : Option Lately)
+pub lately_new : (h : List OpData) (o : OpData) → IsNext h o → (cells : ℕ)
+    → (is_original o ≡ true → cells ≡ inserts_in h (context_of o)) → (r : Option Lately)
     → IfSome r (λ l. (is_original o ≡ true) × (l.place ≡ length h) × (l.cells ≡ cells)) → IfSome r (IsLately (h ++ o ∷ []))
 lately_new h o next cells counted None kept = tt
 lately_new h o next cells counted (Some l) kept = record {
@@ -247,10 +248,12 @@ lately_new h o next cells counted (Some l) kept = record {
 -- ---- The last operation
 
 -- the operation whose member comes last is the one at the last place
-pub last_known : (h : List OpData) → IsValid h → (l : Lately) → IsLately h l → l.place + 1 ≡ length h → (o : OpData) (before : List Member) → Contains h o
+pub last_known : (h : List OpData) → IsValid h → (l : Lately) → IsLately h l → l.place + 1 ≡ length h
+    → (o : OpData) (before : List Member) → Contains h o
     → members_in h ≡ before ++ member_of o ∷ [] → l.cells ≡ inserts_in h (context_of o)
 last_known h valid l known last o before there whole =
-    let end : l.place ≡ length before = omega (arith, last, sym (length-map h member_of) ∙ (ap length whole ∙ length-append before (member_of o ∷ []))) in
+    let end : l.place ≡ length before =
+    omega (arith, last, sym (length-map h member_of) ∙ (ap length whole ∙ length-append before (member_of o ∷ []))) in
     let member : option_map member_of (Some known.op) ≡ Some (member_of o) = ap (option_map member_of) (sym known.there)
     ∙ (sym (slice_get-map member_of h l.place) ∙ ((λ i. slice_get (whole i) (end i)) ∙ get_last before (member_of o))) in
     let named : member_of known.op ≡ member_of o = cc in

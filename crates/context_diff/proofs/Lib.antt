@@ -12,6 +12,7 @@ pub mod Inserts
 pub mod Ready
 pub mod BaseValues
 pub mod Places
+pub mod Sites
 pub mod Tallies
 pub mod Placing
 pub mod Judging

@@ -1,8 +1,8 @@
 -- What is kept of the originals of each site, as operations come and go.
-use Rattle.std.proofs.Common.{◌≡◌, ℕ, zero, suc, ◌+◌, ◌-◌, ◌<◌, ◌≤◌, false, inl, inr, List, [], ◌∷◌, ◌++◌, refl, ap, sym, subst, ◌∙◌, arith, length, length-append, take, get_or, set}
+use Rattle.std.proofs.Common.{◌≡◌, ℕ, zero, suc, ◌+◌, ◌-◌, ◌<◌, ◌≤◌, false, inl, inr, List, [], ◌∷◌, ◌++◌, refl, ap, sym, subst, ◌∙◌, arith, length, length-append, take, get_or}
 use Rattle.std.specs.Prelude.{Contains, ◌==◌, if◌then◌else◌}
 use Rattle.std.proofs.lemmas.Bool.{cases_Bool, cases_lt, eqb-true, eq-eqb}
-use Rattle.std.proofs.lemmas.List.{get_or_append_left, get_or_default, get_or-take, length-take-le}
+use Rattle.std.proofs.lemmas.List.{get_or_append_left, get_or-take, length-take-le}
 use Rattle.std.proofs.Math.Seq.{get_or-append_seam}
 use Rattle.op_name.specs.declared.member.Member.{Member}
 use Rattle.op_name.specs.declared.member.Member.TheVariants.{Original, Group}
@@ -11,43 +11,10 @@ use Rattle.context_vector.specs.Contexts.{ContextData, IsNextMember, count_of, r
 use Rattle.context_diff.specs.Operations.{OpData, member_of, is_insert, IsWellFormed}
 use Rattle.context_diff.specs.Histories.{is_known, IsNext, context_of_all}
 use Rattle.context_diff.specs.Code.Counting.{inserts_of}
-use Rattle.context_diff.specs.Code.Tallies.{TallyData, no_tally, spares_of, IsTally, AreTallies, entry_at, total, counted, without_last}
+use Rattle.context_diff.specs.Code.Tallies.{IsTally, AreTallies, entry_at, total, counted, without_last}
 use Rattle.context_diff.proofs.Complete.{IsComplete, context_push, next_member}
 use Rattle.context_diff.proofs.Inserts.{inserts_of_on, inserts_of_new, inserts_of_at_most, no_inserts}
 use Rattle.context_diff.proofs.Raising.{count_put}
-
--- what is read of the lists of a site, whatever it is
-module _ (f : TallyData → List ℕ) where
-  -- empty lists more change nothing
-  pub one_more_list : (ts : List TallyData) (t : TallyData) → f t ≡ f no_tally → ((s : ℕ) → f (get_or (ts ++ t ∷ []) s no_tally) ≡ f (get_or ts s no_tally))
-  one_more_list [] t none zero = none
-  one_more_list [] t none (suc s) = refl
-  one_more_list (x ∷ xs) t none zero = refl
-  one_more_list (x ∷ xs) t none (suc s) = one_more_list xs t none s
-
-  -- nor does room in those of one site
-  pub list_with_room : (ts : List TallyData) (i : ℕ) (t : TallyData) → f t ≡ f (get_or ts i no_tally) → ((s : ℕ) → f (get_or (set ts i t) s no_tally) ≡ f (get_or ts s no_tally))
-  list_with_room [] i t same s = refl
-  list_with_room (x ∷ xs) zero t same zero = same
-  list_with_room (x ∷ xs) zero t same (suc s) = refl
-  list_with_room (x ∷ xs) (suc k) t same zero = refl
-  list_with_room (x ∷ xs) (suc k) t same (suc s) = list_with_room xs k t same s
-
-  -- the lists at a place, as they are read there
-  pub list_at : (ts : List TallyData) (i : ℕ) (t : TallyData) → i < length ts → t ≡ get_or ts i t → f t ≡ f (get_or ts i no_tally)
-  list_at ts i t within at = ap f (at ∙ get_or_default ts i t no_tally within)
-
--- a place is spare only in a list that is there
-pub spare_within : (ts : List TallyData) (i : ℕ) → 0 < get_or (spares_of ts) i 0 → i < length ts
-spare_within [] i some = absurd (omega arith)
-spare_within (x ∷ xs) zero some = omega arith
-spare_within (x ∷ xs) (suc i) some = omega (arith, spare_within xs i some)
-
--- the places of a list that was put
-pub spare_put : (ts : List TallyData) (i : ℕ) (t : TallyData) → i < length ts → get_or (spares_of (set ts i t)) i 0 ≡ t.spare
-spare_put [] i t within = absurd (omega arith)
-spare_put (x ∷ xs) zero t within = refl
-spare_put (x ∷ xs) (suc i) t within = spare_put xs i t (omega arith)
 
 -- the entry of a number, also of 0
 pub entry_is : (h : List OpData) → ((o : OpData) → Contains h o → IsWellFormed o) → (s : ℕ) (counts : List ℕ) → IsTally h s counts → (n : ℕ) → n ≤ length counts → entry_at counts n ≡ inserts_of h s n

@@ -1,22 +1,22 @@
 -- Books as contracts see them: a valid history beside its members and the room that is left.
-use Rattle.std.specs.Prelude.{◌≡◌, ℕ, ◌+◌, ◌<◌, List, length, slice_index_or}
+use Rattle.std.specs.Prelude.{◌≡◌, ℕ, ◌+◌, ◌<◌, List, length}
 use Rattle.op_name.specs.declared.member.Member.{Member}
 use Rattle.op_name.specs.declared.member.Member.TheVariants.{Original, Group}
 use Rattle.context_diff.specs.Operations.{OpData, member_of}
-use Rattle.context_vector.specs.Contexts.{ContextData}
+use Rattle.context_vector.specs.Contexts.{ContextData, count_in}
 use Rattle.context_diff.specs.Histories.{CoversSite, IsClosed, LacksNothing, inserts_in}
 use Rattle.context_vector.specs.Vectors.{VectorData, HasRoomFor}
 
--- the history, its members, for how many more operations there is room, and for how many more originals of each site
+-- the history, its members, for how many more operations there is room, and for how many more originals of each site: pairs of both
 pub record BookData : Type 0 where
   pub ops : List OpData
   pub have : VectorData
   pub spare : ℕ
-  pub site_spares : List ℕ
+  pub site_spares : List (ℕ × ℕ)
 
 -- an original needs a spare place in the lists of its site
-abbrev pub HasSpareFor : List ℕ → Member → Type 0
-HasSpareFor spares (Original n) = 0 < slice_index_or spares n.site 0
+abbrev pub HasSpareFor : List (ℕ × ℕ) → Member → Type 0
+HasSpareFor spares (Original n) = 0 < count_in spares n.site
 HasSpareFor spares (Group t g) = Unit {0}
 
 -- the operation can be appended without memory: there is room for it, and the history has at most 4,294,967,294 operations

@@ -1,8 +1,9 @@
 //! What a book keeps of its originals, site by site: where each stands, and how many of the first ones of a site are inserts.
 
-ghost use Rattle.std.specs.Prelude.{◌≡◌, ℕ, ◌+◌, ◌-◌, ◌<◌, ◌++◌, ◌∷◌, [], length, take, slice_index_or, OnOk, if◌then◌else◌};
+ghost use Rattle.std.specs.Prelude.{◌≡◌, ℕ, ◌+◌, ◌-◌, ◌<◌, ◌++◌, ◌∷◌, ◌==◌, [], length, take, IfErr, IfOk, OnOk, if◌then◌else◌};
+ghost use Rattle.context_vector.specs.Contexts.{count_in};
 ghost use Rattle.context_diff.specs.Books.{HasSpareFor};
-ghost use Rattle.context_diff.specs.Code.Tallies.{total, entry_at, place_at, counts_of, places_of, spares_of, counted, placed, without_last};
+ghost use Rattle.context_diff.specs.Code.Tallies.{total, entry_at, place_at, counts_of, places_of, spares_of, counted, placed, without_last, StandsAt, GoesTo};
 
 use crate::growth::reserve_one;
 use op_name::{Member, Memory};
@@ -13,6 +14,7 @@ use std::marker::Model;
 /// the first n are inserts.
 #[derive(Drop)]
 pub(crate) struct Tally {
+    site: u16,
     counts: Vec<u32>,
     places: Vec<u32>,
 }
@@ -24,6 +26,7 @@ impl Model for Tally {
     ghost Value = { TallyData };
 
     ghost view = { λ t. record {
+      site = t.site;
       counts = t.counts.items;
       places = t.places.items;
       spare = min (vec_capacity t.counts - length t.counts.items) (vec_capacity t.places - length t.places.items);
@@ -31,12 +34,14 @@ impl Model for Tally {
 }
 
 impl Tally {
-    // No originals. It takes no memory.
-    fn new(alloc: Global) -> Tally
+    // No originals of the site. It takes no memory.
+    fn new(alloc: Global, site: u16) -> Tally
+        ensures site { result.site ≡ site }
         ensures counts { result.counts ≡ [] }
         ensures places { result.places ≡ [] }
     {
         Tally {
+            site,
             counts: Vec::new(alloc),
             places: Vec::new(alloc),
         }
@@ -64,6 +69,7 @@ impl Tally {
 
     // Makes room for one more original.
     fn reserve(&mut self) -> Result<(), Memory>
+        ensures site { self.new.site ≡ self.old.site }
         ensures counts { self.new.counts ≡ self.old.counts }
         ensures places { self.new.places ≡ self.old.places }
         ensures room { OnOk result (0 < self.new.spare) }
@@ -76,6 +82,7 @@ impl Tally {
     fn push(&mut self, is_insert: bool, place: u32)
         requires room { 0 < self.old.spare }
         requires short { total self.old.counts + 1 < 4294967296 }
+        ensures site { self.new.site ≡ self.old.site }
         ensures counts { self.new.counts ≡ self.old.counts ++ (total self.old.counts + (if is_insert then 1 else 0)) ∷ [] }
         ensures places { self.new.places ≡ self.old.places ++ place ∷ [] }
     {
@@ -86,6 +93,7 @@ impl Tally {
 
     // Forgets the last original.
     fn pop(&mut self)
+        ensures site { self.new.site ≡ self.old.site }
         ensures counts { self.new.counts ≡ take (length self.old.counts - 1) self.old.counts }
         ensures places { self.new.places ≡ take (length self.old.places - 1) self.old.places }
     {
@@ -94,9 +102,9 @@ impl Tally {
     }
 }
 
-/// The originals of all sites, those of each in lists of its own, at the site's number.
+/// The originals of all sites, those of each in lists of its own, sites rising.
 ///
-/// There are lists up to the greatest site for which room was made.
+/// There are lists for each site for which room was made.
 #[derive(Drop)]
 pub(crate) struct Tallies {
     sites: Vec<Tally>,
@@ -104,11 +112,13 @@ pub(crate) struct Tallies {
 
 impl Model for Tallies {
     ghost use Rattle.std.specs.Prelude.{List};
-    ghost use Rattle.context_diff.specs.Code.Tallies.{TallyData};
+    ghost use Rattle.context_diff.specs.Code.Tallies.{TallyData, AreRising};
 
     ghost Value = { List TallyData };
 
     ghost view = { λ t. t.sites.items };
+
+    ghost invariant = { λ t. AreRising t.sites.items };
 }
 
 impl Tallies {
@@ -125,9 +135,9 @@ impl Tallies {
     pub(crate) fn inserts(&self, site: u16, number: u32) -> u32
         ensures { result ≡ entry_at (counts_of self.now site) number }
     {
-        match self.sites.get(site as usize) {
-            Some(tally) => tally.inserts(number),
-            None => 0,
+        match self.find(site) {
+            Ok(at) => self.sites[at].inserts(number),
+            Err(_) => 0,
         }
     }
 
@@ -135,9 +145,21 @@ impl Tallies {
     pub(crate) fn place(&self, site: u16, number: u32) -> Option<u32>
         ensures { result ≡ place_at (places_of self.now site) number }
     {
+        match self.find(site) {
+            Ok(at) => self.sites[at].place(number),
+            Err(_) => None,
+        }
+    }
+
+    // Where the lists of the site stand, or where they would go. Where all lower sites have lists too, they stand at the place
+    // of the site's number, and nothing is searched.
+    fn find(&self, site: u16) -> Result<usize, usize>
+        ensures found { IfOk result (StandsAt self.now site) }
+        ensures absent { IfErr result (GoesTo self.now site) }
+    {
         match self.sites.get(site as usize) {
-            Some(tally) => tally.place(number),
-            None => None,
+            Some(tally) if tally.site == site => Ok(site as usize),
+            _ => self.sites.binary_search_by_key(&site, |tally| tally.site),
         }
     }
 
@@ -157,26 +179,26 @@ impl Tallies {
     fn reserve_at(&mut self, site: u16) -> Result<(), Memory>
         ensures counts { counts_of self.new ≡ counts_of self.old }
         ensures places { places_of self.new ≡ places_of self.old }
-        ensures room { OnOk result (0 < slice_index_or (spares_of self.new) site 0) }
+        ensures room { OnOk result (0 < count_in (spares_of self.new) site) }
     {
-        self.grow(site)?;
-        self.sites[site as usize].reserve()
+        let at = self.open(site)?;
+        self.sites[at].reserve()
     }
 
-    // Makes lists for each site up to this one.
-    fn grow(&mut self, site: u16) -> Result<(), Memory>
+    // Where the lists of the site stand, which are made where it has none.
+    fn open(&mut self, site: u16) -> Result<usize, Memory>
         ensures counts { counts_of self.new ≡ counts_of self.old }
         ensures places { places_of self.new ≡ places_of self.old }
-        ensures there { OnOk result (site < length self.new) }
+        ensures there { IfOk result (StandsAt self.new site) }
     {
-        let alloc = *self.sites.allocator();
-        for _ in self.sites.len()..site as usize + 1 {
-            match self.sites.push(Tally::new(alloc)) {
-                Ok(()) => {}
-                Err(_) => return Err(Memory),
+        match self.find(site) {
+            Ok(at) => Ok(at),
+            Err(at) => {
+                let tally = Tally::new(*self.sites.allocator(), site);
+                self.sites.insert(at, tally)?;
+                Ok(at)
             }
         }
-        Ok(())
     }
 
     /// Takes the member in, which stands at this place of the book, in the room that was made for it. It takes no memory.
@@ -187,8 +209,21 @@ impl Tallies {
         ensures places { (s : ℕ) → places_of self.new s ≡ placed m.now place s (places_of self.old s) }
     {
         match m {
-            Member::Original(name) => self.sites[name.site as usize].push(is_insert, place),
+            Member::Original(name) => self.push_at(name.site, is_insert, place),
             Member::Group(_, _) => {}
+        }
+    }
+
+    // Takes one more original of this site in.
+    fn push_at(&mut self, site: u16, is_insert: bool, place: u32)
+        requires room { 0 < count_in (spares_of self.old) site }
+        requires short { total (counts_of self.old site) + 1 < 4294967296 }
+        ensures counts { (s : ℕ) → counts_of self.new s ≡ (if site == s then counts_of self.old s ++ (total (counts_of self.old s) + (if is_insert then 1 else 0)) ∷ [] else counts_of self.old s) }
+        ensures places { (s : ℕ) → places_of self.new s ≡ (if site == s then places_of self.old s ++ place ∷ [] else places_of self.old s) }
+    {
+        match self.find(site) {
+            Ok(at) => self.sites[at].push(is_insert, place),
+            Err(_) => unreachable!(),
         }
     }
 
@@ -198,12 +233,18 @@ impl Tallies {
         ensures places { (s : ℕ) → places_of self.new s ≡ without_last m.now s (places_of self.old s) }
     {
         match m {
-            Member::Original(name) => {
-                if let Some(tally) = self.sites.get_mut(name.site as usize) {
-                    tally.pop();
-                }
-            }
+            Member::Original(name) => self.pop_at(name.site),
             Member::Group(_, _) => {}
+        }
+    }
+
+    // Forgets the last original of this site.
+    fn pop_at(&mut self, site: u16)
+        ensures counts { (s : ℕ) → counts_of self.new s ≡ (if site == s then take (length (counts_of self.old s) - 1) (counts_of self.old s) else counts_of self.old s) }
+        ensures places { (s : ℕ) → places_of self.new s ≡ (if site == s then take (length (places_of self.old s) - 1) (places_of self.old s) else places_of self.old s) }
+    {
+        if let Ok(at) = self.find(site) {
+            self.sites[at].pop();
         }
     }
 }

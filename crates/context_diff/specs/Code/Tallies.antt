@@ -1,6 +1,6 @@
 -- What is kept of the originals of each site: two lists whose n-th entries are the number of inserts among its first n originals, and
 -- the place of the n-th one in the book.
-use Rattle.std.specs.Prelude.{◌≡◌, ℕ, zero, suc, ◌+◌, ◌-◌, ◌≤◌, Bool, List, [], ◌∷◌, ◌++◌, ◌==◌, Option, Some, None, length, map, take, slice_get, slice_index_or, if◌then◌else◌}
+use Rattle.std.specs.Prelude.{◌≡◌, ℕ, zero, suc, ◌+◌, ◌-◌, ◌<◌, ◌≤◌, Bool, List, [], ◌∷◌, ◌++◌, ◌==◌, Option, Some, None, length, map, take, slice_get, slice_index_or, if◌then◌else◌}
 use Rattle.op_name.specs.declared.member.Member.{Member}
 use Rattle.op_name.specs.declared.member.Member.TheVariants.{Original, Group}
 use Rattle.context_vector.specs.Contexts.{count_of}
@@ -8,24 +8,50 @@ use Rattle.context_diff.specs.Operations.{OpData}
 use Rattle.context_diff.specs.Histories.{context_of_all, members_in}
 use Rattle.context_diff.specs.Code.Counting.{inserts_of}
 
--- the counts of a site, the places of its originals, and how many more both lists have room for
+-- a site, its counts, the places of its originals, and how many more both lists have room for
 pub record TallyData : Type 0 where
+  pub site : ℕ
   pub counts : List ℕ
   pub places : List ℕ
   pub spare : ℕ
 
 -- what a site without lists has
 abbrev pub no_tally : TallyData
-no_tally = record { counts = []; places = []; spare = 0 }
+no_tally = record { site = 0; counts = []; places = []; spare = 0 }
+
+-- the lists of a site
+abbrev pub tally_of : List TallyData → ℕ → TallyData
+tally_of [] s = no_tally
+tally_of (t ∷ ts) s = if t.site == s then t else tally_of ts s
 
 abbrev pub counts_of : List TallyData → ℕ → List ℕ
-counts_of ts s = (slice_index_or ts s no_tally).counts
+counts_of ts s = (tally_of ts s).counts
 
 abbrev pub places_of : List TallyData → ℕ → List ℕ
-places_of ts s = (slice_index_or ts s no_tally).places
+places_of ts s = (tally_of ts s).places
 
-abbrev pub spares_of : List TallyData → List ℕ
-spares_of ts = map (λ t. t.spare) ts
+-- each site with the room of its lists
+abbrev pub spares_of : List TallyData → List (ℕ × ℕ)
+spares_of ts = map (λ t. (t.site, t.spare)) ts
+
+-- the site whose lists stand at a place
+abbrev pub site_at : List TallyData → ℕ → ℕ
+site_at ts i = (slice_index_or ts i no_tally).site
+
+-- the sites rise, so none has lists twice
+abbrev pub AreRising : List TallyData → Type 0
+AreRising ts = (i j : ℕ) → i < j → j < length ts → site_at ts i < site_at ts j
+
+-- the lists of the site stand at place i
+pub record StandsAt (ts : List TallyData) (s i : ℕ) : Type 0 where
+  pub within : i < length ts
+  pub site : site_at ts i ≡ s
+
+-- lists of the site would go to place i: lesser sites before it, and greater ones from it on
+pub record GoesTo (ts : List TallyData) (s i : ℕ) : Type 0 where
+  pub within : i ≤ length ts
+  pub before : (j : ℕ) → j < i → site_at ts j < s
+  pub after : (j : ℕ) → i ≤ j → j < length ts → s < site_at ts j
 
 -- the n-th entry, from 1; 0 before the first one and past the end
 abbrev pub entry_at : List ℕ → ℕ → ℕ

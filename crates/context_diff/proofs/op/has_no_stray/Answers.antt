@@ -21,7 +21,8 @@ loop-undone-preserved c =
     let i = c.loop-undone.invariant.0 in
     let at = read_first v.entries c.loop-undone.left i c.in-Some.undone c.loop-undone.invariant.1 c.in-Some.ensures.first in
     let there : has v (Original c.in-Some.undone.0) ≡ true = sym c.contains.ensures ∙ c.if-not-contains.false in
-    let each = each_more (λ (e : NameData × ℕ). has v (Original e.0) ≡ true) v.entries i c.in-Some.undone at there c.loop-undone.invariant.2 in
+    let each = each_more (λ (e : NameData × ℕ). has v (Original e.0) ≡ true)
+    v.entries i c.in-Some.undone at there c.loop-undone.invariant.2 in
     (i + 1, read_more v.entries c.loop-undone.left c.next.new.self i c.loop-undone.invariant.1 c.next.ensures.rest, each)
 
 pub returns : goal.returns

@@ -14,4 +14,5 @@ returns-then-known-len c o before there whole =
     let ops : h ≡ c.args.self.now.ops = ap (λ (b : BookData). b.ops) c.self.view_is in
     let l = c.in_ok-known.known in
     let kept : IsLately h l = subst (λ (r : Option Lately). IfSome r (IsLately h)) c.in_ok-known.was c.self.invariant.lately in
-    last_known c.args.self.now.ops c.known.ensures.valid l (subst (λ (k : List OpData). IsLately k l) ops kept) (omega (arith, c.if-known-len.true, c.len.ensures)) o before there whole
+    last_known c.args.self.now.ops c.known.ensures.valid l (subst (λ (k : List OpData). IsLately k l) ops kept)
+    (omega (arith, c.if-known-len.true, c.len.ensures)) o before there whole

@@ -47,6 +47,10 @@ invariant_of-self c =
     let next : IsNext h o = subst (λ (j : List OpData). IsNext j o) (sym ops) c.requires.next in
     let is : c.member-member.result ≡ member_of o = c.member-member.ensures.member in
     let place : c.len-place.result ≡ length h = c.len-place.ensures ∙ sym size in
+    let counted_now : is_original o ≡ true → c.args.cells ≡ inserts_in h (context_of o) =
+    λ original. c.requires.counted original ∙ ap (λ (k : List OpData). inserts_in k (context_of o)) (sym ops) in
+    let kept = subst (λ n. IfSome c.kept_of-self-inside.result (λ l. (is_original o ≡ true) × (l.place ≡ n) × (l.cells ≡ c.args.cells)))
+    place c.kept_of-self-inside.ensures in
     let book =
     book_push h c.self.inside.have.set c.self.inside.have.room.own c.add_reserved.new.self.room.own c.self.inside.inserts
     (counts_of c.self.inside.tallies) (counts_of c.push.new.self) (places_of c.self.inside.tallies) (places_of c.push.new.self)
@@ -55,8 +59,7 @@ invariant_of-self c =
     (λ s. c.push.ensures.counts s ∙ (λ i. counted (is i) (c.is_insert.ensures i) s (counts_of c.self.inside.tallies s)))
     (λ s. c.push.ensures.places s ∙ (λ i. placed (is i) (place i) s (places_of c.self.inside.tallies s)))
     (c.note.ensures h o (sym is) place)
-    (lately_new h o next c.args.cells (λ original. c.requires.counted original ∙ ap (λ (k : List OpData). inserts_in k (context_of o)) (sym ops)) c.kept_of-self-inside.result
-    (subst (λ n. IfSome c.kept_of-self-inside.result (λ l. (is_original o ≡ true) × (l.place ≡ n) × (l.cells ≡ c.args.cells))) place c.kept_of-self-inside.ensures))
+    (lately_new h o next c.args.cells counted_now c.kept_of-self-inside.result kept)
     (omega (arith, c.requires.room.short)) c.add_reserved.ensures.own in
     subst₂ (λ (k : List OpData) (d : ContextData). IsBook k d c.add_reserved.new.self.room.own c.with_insert-self-inside.result
     (counts_of c.push.new.self) (places_of c.push.new.self) c.note.new.groups.entries c.kept_of-self-inside.result c.self.inside.last)

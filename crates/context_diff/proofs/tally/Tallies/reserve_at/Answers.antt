@@ -1,29 +1,41 @@
-use Rattle.std.proofs.Common.{◌≡◌, ℕ, ◌<◌, List, length, ap, sym, subst, ◌∙◌, get_or, set, OnOk}
-use Rattle.context_diff.specs.Code.Tallies.{TallyData, no_tally, counts_of, places_of}
-use Rattle.context_diff.proofs.Tallies.{list_with_room, list_at, spare_put}
+use Rattle.std.proofs.Common.{◌<◌, List, OnOk, set, ap, sym, subst, ◌∙◌}
+use Rattle.context_diff.specs.Code.Tallies.{TallyData, StandsAt, counts_of, places_of}
+use Rattle.context_diff.proofs.Sites.{at_site, put_at, read_at, same_lists, spare_is}
 use Rattle.context_diff.proofs.tally.Tallies.reserve_at.Goals as goal
-
--- the lists are there
-within : (c : goal.After-self-1) → c.args.site < length c.self.inside.sites.items
-within c = subst (λ (ts : List TallyData). c.args.site < length ts) (sym c.self.view_is) (c.in_ok-grow.ensures).there
-
--- what is read of the lists of any site stays, if it stays for this one
-kept : (f : TallyData → List ℕ) (c : goal.After-self-1) (t : TallyData) → f t ≡ f c.index_mut.result.now → (s : ℕ) → f (get_or (set c.self.inside.sites.items c.args.site t) s no_tally) ≡ f (get_or c.self.inside.sites.items s no_tally)
-kept f c t same =
-    let ts = c.self.inside.sites.items in
-    list_with_room f ts c.args.site t (same ∙ list_at f ts c.args.site c.index_mut.result.now (within c) c.index_mut.ensures.value)
 
 pub returns-clause-counts : goal.returns-clause-counts
 returns-clause-counts c =
-    (λ i s. kept (λ (t : TallyData). t.counts) c c.reserve.new.self c.reserve.ensures.counts s i)
-    ∙ (ap counts_of c.self.view_is ∙ (c.in_ok-grow.ensures).counts)
+    let ts = c.self.inside.sites.items in
+    let s = c.args.site in
+    let i = c.in_ok-at.at in
+    let at : StandsAt ts s i = subst (λ (xs : List TallyData). StandsAt xs s i) (sym c.self.view_is) c.in_ok-at.ensures.there in
+    let new = c.reserve.new.self in
+    let found = read_at ts c.self.invariant s i at c.index_mut.result.now c.index_mut.ensures.value in
+    let have = put_at ts c.self.invariant s i at c.index_mut.result.now new c.index_mut.ensures.value c.reserve.ensures.site in
+    let same = c.reserve.ensures.counts ∙ ap (λ (t : TallyData). t.counts) found in
+    (λ j q. same_lists (λ (t : TallyData). t.counts) ts (set ts i new) s new have same q j) ∙ (ap counts_of c.self.view_is
+    ∙ c.in_ok-at.ensures.counts)
 
 pub returns-clause-places : goal.returns-clause-places
 returns-clause-places c =
-    (λ i s. kept (λ (t : TallyData). t.places) c c.reserve.new.self c.reserve.ensures.places s i)
-    ∙ (ap places_of c.self.view_is ∙ (c.in_ok-grow.ensures).places)
+    let ts = c.self.inside.sites.items in
+    let s = c.args.site in
+    let i = c.in_ok-at.at in
+    let at : StandsAt ts s i = subst (λ (xs : List TallyData). StandsAt xs s i) (sym c.self.view_is) c.in_ok-at.ensures.there in
+    let new = c.reserve.new.self in
+    let found = read_at ts c.self.invariant s i at c.index_mut.result.now c.index_mut.ensures.value in
+    let have = put_at ts c.self.invariant s i at c.index_mut.result.now new c.index_mut.ensures.value c.reserve.ensures.site in
+    let same = c.reserve.ensures.places ∙ ap (λ (t : TallyData). t.places) found in
+    (λ j q. same_lists (λ (t : TallyData). t.places) ts (set ts i new) s new have same q j) ∙ (ap places_of c.self.view_is
+    ∙ c.in_ok-at.ensures.places)
 
 pub returns-clause-room : goal.returns-clause-room
 returns-clause-room c =
-    let at = spare_put c.self.inside.sites.items c.args.site c.reserve.new.self (within c) in
-    subst (λ n. OnOk c.reserve.result (0 < n)) (sym at) c.reserve.ensures.room
+    let ts = c.self.inside.sites.items in
+    let s = c.args.site in
+    let i = c.in_ok-at.at in
+    let at : StandsAt ts s i = subst (λ (xs : List TallyData). StandsAt xs s i) (sym c.self.view_is) c.in_ok-at.ensures.there in
+    let new = c.reserve.new.self in
+    let have = put_at ts c.self.invariant s i at c.index_mut.result.now new c.index_mut.ensures.value c.reserve.ensures.site in
+    subst (λ n. OnOk c.reserve.result (0 < n)) (sym (spare_is (set ts i new) s ∙ ap (λ (t : TallyData). t.spare) (at_site ts
+    (set ts i new) s new have))) c.reserve.ensures.room
