@@ -59,7 +59,8 @@ fn uncounted(verdict: Verdict) -> Judgement
 // The verdict on an operation whose context is there, by the first open site of the context and the number of its inserts; an undo
 // asks for neither.
 fn ready_verdict(op: &Op, first: Option<u16>, cells: u32) -> Verdict
-    ensures { (h : List OpData) → first ≡ first_uncovered h (context_of (data_of op.now)) (context_of (data_of op.now)).counts → cells ≡ inserts_in h (context_of (data_of op.now)) → result ≡ ready_verdict h (data_of op.now) }
+    ensures { (h : List OpData) → first ≡ first_uncovered h (context_of (data_of op.now)) (context_of (data_of op.now)).counts
+        → cells ≡ inserts_in h (context_of (data_of op.now)) → result ≡ ready_verdict h (data_of op.now) }
 {
     match op {
         Op::Insert { place, .. } => placed_verdict(first, *place <= cells, *place, cells),
@@ -71,7 +72,8 @@ fn ready_verdict(op: &Op, first: Option<u16>, cells: u32) -> Verdict
 // The judgement on an operation that is no repeat and not forged.
 fn unjudged(book: &Book, op: &Op) -> Judgement
     requires { IsWellFormed (data_of op.now) }
-    ensures verdict { result.verdict ≡ waiting_verdict (lacked book.now.ops (context_of (data_of op.now))) (ready_verdict book.now.ops (data_of op.now)) }
+    ensures verdict { result.verdict ≡ waiting_verdict (lacked book.now.ops (context_of (data_of op.now)))
+        (ready_verdict book.now.ops (data_of op.now)) }
     ensures cells { result.verdict ≡ Integrated → HasCells book.now.ops (data_of op.now) result.cells }
 {
     match lacked(book, op) {

@@ -115,8 +115,10 @@ impl Site {
     // The verdict on the waiting operation at this place, with the inserts of its context.
     fn judgement_at(&self, place: u32) -> Judgement
         requires { place < length self.now.waiting }
-        ensures verdict { (o : OpData) → slice_get self.now.waiting place ≡ Some o → result.verdict ≡ judged (without_waiting (state_of self.now) place) o }
-        ensures cells { (o : OpData) → slice_get self.now.waiting place ≡ Some o → result.verdict ≡ Integrated → HasCells self.now.history o result.cells }
+        ensures verdict { (o : OpData) → slice_get self.now.waiting place ≡ Some o
+            → result.verdict ≡ judged (without_waiting (state_of self.now) place) o }
+        ensures cells { (o : OpData) → slice_get self.now.waiting place ≡ Some o
+            → result.verdict ≡ Integrated → HasCells self.now.history o result.cells }
     {
         self.known();
         match self.pool().get(place) {

@@ -20,4 +20,6 @@ returns-in-Some-clause-cells c _ _ = c.in-Some.ensures.cells ∙ ap (inserts_in 
 
 pub returns-in-None-clause-verdict : goal.returns-in-None-clause-verdict
 returns-in-None-clause-verdict c =
-    c.unjudged.ensures.verdict ∙ sym (waiting_is c.args.book.now.ops c.args.pool.now (data_of c.args.op.now) (sym c.is_repeat.ensures ∙ c.if-is_repeat.false) (sym c.is_forged.ensures ∙ c.if-is_forged.false))
+    c.unjudged.ensures.verdict
+    ∙ sym (waiting_is c.args.book.now.ops c.args.pool.now (data_of c.args.op.now) (sym c.is_repeat.ensures ∙ c.if-is_repeat.false)
+    (sym c.is_forged.ensures ∙ c.if-is_forged.false))

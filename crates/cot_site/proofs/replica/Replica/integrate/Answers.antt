@@ -12,7 +12,8 @@ integrate_after-requires-clause-next c = subst (λ (d : OpData). IsNext c.args.s
     c.requires.next
 
 pub integrate_after-requires-clause-cells : goal.integrate_after-requires-clause-cells
-integrate_after-requires-clause-cells c = subst (λ (d : OpData). HasCells c.args.self.now.history d c.args.cells) (sym c.with_shared_lists-op.ensures) c.requires.cells
+integrate_after-requires-clause-cells c =
+    subst (λ (d : OpData). HasCells c.args.self.now.history d c.args.cells) (sym c.with_shared_lists-op.ensures) c.requires.cells
 
 pub integrate_after-requires-clause-knows : goal.integrate_after-requires-clause-knows
 integrate_after-requires-clause-knows c sure =

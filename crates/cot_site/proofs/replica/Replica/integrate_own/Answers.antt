@@ -10,4 +10,5 @@ pub integrate_after-requires-clause-cells : goal.integrate_after-requires-clause
 integrate_after-requires-clause-cells c _ =
     c.inserts-cells.ensures
     ∙ (ap (inserts_in c.self.inside.book.ops) c.known.ensures.have
-    ∙ (ap (λ (r : ReplicaData). inserts_in r.history (context_of_all r.history)) c.self.view_is ∙ ap (inserts_in c.args.self.now.history) (sym c.requires.own)))
+    ∙ (ap (λ (r : ReplicaData). inserts_in r.history (context_of_all r.history)) c.self.view_is
+    ∙ ap (inserts_in c.args.self.now.history) (sym c.requires.own)))

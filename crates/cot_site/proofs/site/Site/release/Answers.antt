@@ -11,7 +11,8 @@ use Rattle.cot_site.proofs.Waiting.{ready_integrated, ready_quiet}
 use Rattle.cot_site.proofs.site.Site.release.Goals as goal
 
 pub integrate-requires-clause-cells : goal.integrate-requires-clause-cells
-integrate-requires-clause-cells c = c.judgement_at-verdict.ensures.cells (data_of c.in_ok-copy.copy) c.in_ok-copy.ensures (c.is_integrated.ensures.0 c.if-is_integrated.true)
+integrate-requires-clause-cells c =
+    c.judgement_at-verdict.ensures.cells (data_of c.in_ok-copy.copy) c.in_ok-copy.ensures (c.is_integrated.ensures.0 c.if-is_integrated.true)
 
 pub integrate-requires-clause-next : goal.integrate-requires-clause-next
 integrate-requires-clause-next c =
