@@ -32,7 +32,7 @@ is_some_of : (f : Option LogBad) → is_some f ≡ true → (why : LogBad) × (f
 is_some_of None e = absurd (false≢true e)
 is_some_of (Some why) e = (why, refl)
 
-is_none_of : (f : Option LogBad) → is_some f ≡ false → f ≡ None
+pub is_none_of : (f : Option LogBad) → is_some f ≡ false → f ≡ None
 is_none_of None e = refl
 is_none_of (Some why) e = absurd (true≢false e)
 

@@ -18,7 +18,7 @@ use Rattle.session_log.specs.declared.log_bad.LogBad.{LogBad}
 use Rattle.session_log.specs.declared.log_bad.LogBad.TheVariants as bad
 use Rattle.session_log.specs.Logs.{header, frames, BeginsWith, offset_after}
 use Rattle.session_log.specs.Readings.{IsCutAt, IsFaultyAt, IsUnread}
-use Rattle.session_log.specs.Loadings.{first_refusal, verdicts_after, taken_in, after_all, AreTakenIn, new_state, IsRefusedAt, IsUnloaded}
+use Rattle.session_log.specs.Loadings.{first_refusal, verdicts_after, after_one, after_all, AreTakenIn, new_state, IsRefusedAt, IsUnloaded}
 use Rattle.session_log.proofs.Frames.{formed_back, good_not_err, continues, log_no_fault, one_log}
 use Rattle.session_log.proofs.TakingIn.{taken_one}
 
@@ -109,8 +109,8 @@ comes_later s (f ∷ fs) [] others o after r all is first = let same : f ≡ o =
 comes_later s (f ∷ fs) (b ∷ before) others o after r all is first =
     let same : f ≡ b = cc in
     let rest : fs ++ others ≡ before ++ o ∷ after = cc in
-    let first_f = subst (λ (x : OpData). first_refusal (verdicts_after (after_all (taken_in s x) before) o) ≡ Some r) (sym same) first in
-    let l = comes_later (taken_in s f) fs before others o after r all.1 rest first_f in
+    let first_f = subst (λ (x : OpData). first_refusal (verdicts_after (after_all (after_one s x) before) o) ≡ Some r) (sym same) first in
+    let l = comes_later (after_one s f) fs before others o after r all.1 rest first_f in
     record { between = l.between; parts = ap (λ (x : OpData). x ∷ before) (sym same) ∙ ap (λ (xs : List OpData). f ∷ xs) l.parts; others_are = l.others_are }
 
 refused_once : (s : State) (fs gs : List OpData) (f g : OpData) (xs ys : List OpData) (a b : Release) → fs ++ f ∷ xs ≡ gs ++ g ∷ ys → AreTakenIn s fs → refusal_at (after_all s fs) f ≡ Some a → AreTakenIn s gs → refusal_at (after_all s gs) g ≡ Some b → IsSameStop fs gs f g

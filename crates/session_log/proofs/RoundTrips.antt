@@ -19,14 +19,16 @@ use Rattle.wire_codec.specs.Spelling.{frame}
 use Rattle.site_answers.specs.declared.verdict.Verdict.{Verdict}
 use Rattle.site_answers.specs.declared.verdict.Verdict.TheVariants.{Waits, Integrated}
 use Rattle.cot_site.specs.Verdicts.{HasOther, IsNew, lacked, verdict_of}
-use Rattle.cot_site.specs.States.{State, Released, held, after_verdict, judged, delivered, is_ready, IsSettled}
+use Rattle.cot_site.specs.States.{State, held, after_verdict, judged, delivered, is_ready, IsSettled}
 use Rattle.cot_site.specs.Sites.{AllFormed}
-use Rattle.cot_site.specs.Releases.{IsSound, all_releases, settled, release_of}
+use Rattle.cot_site.specs.Releases.{IsSound, release_of}
 use Rattle.cot_site.proofs.CallerLemmas.{formed_context, unknown_no_repeat, next_integrated, verdict_only, first_lacked_is, same_any, settled_none, settled_has_none, settled_stays}
+use Rattle.participant.specs.Reached.{Reached, from, all_settled}
+use Rattle.participant.specs.Taking.{is_refusal}
 use Rattle.session_log.specs.Logs.{header, frames, log_of, IsLogOf}
-use Rattle.session_log.specs.Loadings.{is_refusal, first_refusal, verdicts_after, after_all, AreTakenIn, new_state, IsLoaded}
+use Rattle.session_log.specs.Loadings.{led_to, after_all, AreTakenIn, new_state, IsLoaded}
 use Rattle.session_log.proofs.Frames.{formed_append}
-use Rattle.session_log.proofs.TakingIn.{after-append, taken-append}
+use Rattle.session_log.proofs.TakingIn.{led_unrefused, first_released, after-append, taken-append}
 
 -- these operations are taken in, and lead from the one state to the other
 abbrev Leads : State → List OpData → State → Type 0
@@ -35,12 +37,13 @@ Leads s os t = AreTakenIn s os × (after_all s os ≡ t)
 -- an operation whose verdict is no refusal and leads to a settled state
 leads_one : (s t : State) (o : OpData) (v : Verdict) → judged s o ≡ v → is_refusal v ≡ false → after_verdict v o s ≡ t → IsSettled t → Leads s (o ∷ []) t
 leads_one s t o v is no_refusal after settles =
+    let fine : is_refusal (judged s o) ≡ false = ap is_refusal is ∙ no_refusal in
     let there : delivered s o ≡ t = ap (λ (w : Verdict). after_verdict w o s) is ∙ after in
-    let none : all_releases (delivered s o) ≡ [] = ap (λ (x : State). all_releases x) there ∙ settled_has_none t settles in
-    let one : verdicts_after s o ≡ record { member = member_of o; verdict = judged s o } ∷ [] = ap (λ (rs : List Released). record { member = member_of o; verdict = judged s o } ∷ map release_of rs) none in
-    let fine : is_refusal (judged s o) ≡ false = ap is_refusal is ∙ no_refusal in (
-      (ap first_refusal one ∙ cond-false _ _ _ fine, tt),
-      ap settled there ∙ settled_stays t settles,
+    let led : led_to s o ≡ all_settled (from t) = led_unrefused s o fine ∙ ap (λ (x : State). all_settled (from x)) there in
+    let none : [] ≡ (led_to s o).released =
+    ap (map release_of) (sym (settled_has_none t settles)) ∙ ap (λ (r : Reached). r.released) (sym led) in (
+      (first_released s o [] fine none, tt),
+      ap (λ (r : Reached). r.state) led ∙ settled_stays t settles,
     )
 
 leads_on : (s t u : State) (fs bs : List OpData) → Leads s fs t → Leads t bs u → Leads s (fs ++ bs) u

@@ -19,7 +19,7 @@ use Rattle.session_log.specs.declared.log_bad.LogBad.TheVariants as bad
 use Rattle.session_log.specs.declared.placed.Placed.{Placed}
 use Rattle.session_log.specs.Logs.{header, frames, BeginsWith, offset_after, IsLogOf}
 use Rattle.session_log.specs.Readings.{IsUnread}
-use Rattle.session_log.specs.Loadings.{first_refusal, verdicts_after, taken_in, IsRefusal, IsUnloaded}
+use Rattle.session_log.specs.Loadings.{first_refusal, verdicts_after, after_one, IsRefusal, IsUnloaded}
 use Rattle.session_log.proofs.Frames.{begins_next}
 use Rattle.session_log.proofs.TakingIn.{taken_more, refused_at}
 use Rattle.session_log.specs.Readers.{IsFaultOf, IsRefusalOf, AreTakenTo, HasTaken}
@@ -61,7 +61,7 @@ has_taken_on site all left s refused more h = record {
 
 -- the first refusal is kept
 pub takes_next : {A : Type 0} (s t : State) (at : ℕ) (o : OpData) (taken : Result A LogBad) (now : Option LogBad)
-    → OnOk taken (first_refusal (verdicts_after s o) ≡ None) → OnOk taken (t ≡ taken_in s o) → IfErr taken (IsRefusal at (verdicts_after s o))
+    → OnOk taken (first_refusal (verdicts_after s o) ≡ None) → OnOk taken (t ≡ after_one s o) → IfErr taken (IsRefusal at (verdicts_after s o))
     → (now ≡ result_err taken) × (taken ≢ Err bad.Memory) → TakesIn s None at o t now
 takes_next s t at o (Ok x) now free state refusal kept = subst (TakesIn s None at o t) (sym kept.0) (free, state)
 takes_next s t at o (Err why) now free state refusal kept = subst (TakesIn s None at o t) (sym kept.0) (λ e. kept.1 (ap Err e), refusal)

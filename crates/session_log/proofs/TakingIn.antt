@@ -1,40 +1,56 @@
 -- Taking in the operations of a log, one after the other.
-use Rattle.std.proofs.Common.{◌≡◌, ◌≢◌, List, [], ◌∷◌, ◌++◌, refl, ap, sym, subst, ◌∙◌, append_assoc}
+use Rattle.std.proofs.Common.{◌≡◌, ◌≢◌, false, List, [], ◌∷◌, ◌++◌, refl, ap, sym, subst, ◌∙◌, append_assoc}
 use Rattle.std.specs.Prelude.{ℕ, Some, None}
+use Rattle.std.proofs.lemmas.Bool.{cond-true, cond-false}
 use Rattle.std.proofs.lemmas.Option.{none-some}
 use Rattle.context_diff.specs.Operations.{OpData}
-use Rattle.cot_site.specs.States.{State}
+use Rattle.cot_site.specs.States.{State, judged}
+use Rattle.participant.specs.Reached.{from, with_delivered, all_settled}
+use Rattle.participant.specs.Taking.{is_refusal}
 use Rattle.site_answers.specs.declared.release.Release.{Release}
 use Rattle.session_log.specs.declared.log_bad.LogBad.{LogBad}
 use Rattle.session_log.specs.declared.log_bad.LogBad.TheVariants as bad
 use Rattle.session_log.specs.Logs.{BeginsWith, offset_after, IsLogOf}
-use Rattle.session_log.specs.Loadings.{first_refusal, verdicts_after, taken_in, IsRefusal, after_all, AreTakenIn, new_state, IsLoaded, IsRefusedAt, IsUnloaded}
+use Rattle.session_log.specs.Loadings.{led_to, first_refusal, verdicts_after, after_one, IsRefusal, after_all, AreTakenIn, new_state, IsLoaded, IsRefusedAt, IsUnloaded}
 use Rattle.session_log.specs.Code.Passing.{LeftData, PassesOver, HasNoStep}
 use Rattle.session_log.proofs.Frames.{IsPassed, passed_more, passed_end, unread, log_continues, one_log, log_no_fault}
 
+-- ---- one operation
+
+-- one that isn't refused is delivered, and all that is ready then is released
+pub led_unrefused : (s : State) (o : OpData) → is_refusal (judged s o) ≡ false → led_to s o ≡ all_settled (with_delivered (from s) o)
+led_unrefused s o fine = cond-true _ _ _ (cond-false _ _ _ fine)
+
+-- after one that isn't refused, the first refusal is that of a release
+pub first_released : (s : State) (o : OpData) (rs : List Release)
+    → is_refusal (judged s o) ≡ false → rs ≡ (led_to s o).released → first_refusal (verdicts_after s o) ≡ first_refusal rs
+first_released s o rs fine is = cond-false _ _ _ fine ∙ ap first_refusal (sym is)
+
+-- ---- one operation after the other
+
 pub after-append : (s : State) (fs bs : List OpData) → after_all s (fs ++ bs) ≡ after_all (after_all s fs) bs
 after-append s [] bs = refl
-after-append s (a ∷ fs) bs = after-append (taken_in s a) fs bs
+after-append s (a ∷ fs) bs = after-append (after_one s a) fs bs
 
 pub taken-append : (s : State) (fs bs : List OpData) → AreTakenIn s fs → AreTakenIn (after_all s fs) bs → AreTakenIn s (fs ++ bs)
 taken-append s [] bs first rest = rest
-taken-append s (a ∷ fs) bs first rest = (first.0, taken-append (taken_in s a) fs bs first.1 rest)
+taken-append s (a ∷ fs) bs first rest = (first.0, taken-append (after_one s a) fs bs first.1 rest)
 
 pub taken_one : (s : State) (fs : List OpData) (o : OpData) (bs : List OpData) → AreTakenIn s (fs ++ o ∷ bs) → first_refusal (verdicts_after (after_all s fs) o) ≡ None
 taken_one s [] o bs all = all.0
-taken_one s (a ∷ fs) o bs all = taken_one (taken_in s a) fs o bs all.1
+taken_one s (a ∷ fs) o bs all = taken_one (after_one s a) fs o bs all.1
 
 pub taken_back : (s : State) (fs bs : List OpData) → AreTakenIn s (fs ++ bs) → AreTakenIn (after_all s fs) bs
 taken_back s [] bs all = all
-taken_back s (a ∷ fs) bs all = taken_back (taken_in s a) fs bs all.1
+taken_back s (a ∷ fs) bs all = taken_back (after_one s a) fs bs all.1
 
 -- one more is taken in
-pub taken_more : (site : ℕ) (ops : List OpData) (o : OpData) (s t : State) → AreTakenIn (new_state site) ops → s ≡ after_all (new_state site) ops → first_refusal (verdicts_after s o) ≡ None → t ≡ taken_in s o
+pub taken_more : (site : ℕ) (ops : List OpData) (o : OpData) (s t : State) → AreTakenIn (new_state site) ops → s ≡ after_all (new_state site) ops → first_refusal (verdicts_after s o) ≡ None → t ≡ after_one s o
     → AreTakenIn (new_state site) (ops ++ o ∷ []) × (t ≡ after_all (new_state site) (ops ++ o ∷ []))
 taken_more site ops o s t taken state none is =
     let none_at : first_refusal (verdicts_after (after_all (new_state site) ops) o) ≡ None = ap (λ (x : State). first_refusal (verdicts_after x o)) (sym state) ∙ none in (
       taken-append (new_state site) ops (o ∷ []) taken (none_at, tt),
-      is ∙ ap (λ (x : State). taken_in x o) state ∙ sym (after-append (new_state site) ops (o ∷ [])),
+      is ∙ ap (λ (x : State). after_one x o) state ∙ sym (after-append (new_state site) ops (o ∷ [])),
     )
 
 -- the operation after these is refused
@@ -63,7 +79,7 @@ pub record IsLoading (site : ℕ) (bytes : List ℕ) (left : LeftData) (s : Stat
   pub taken : AreTakenIn (new_state site) ops
   pub state : s ≡ after_all (new_state site) ops
 
-pub loading_more : (site : ℕ) (bytes : List ℕ) (left next : LeftData) (s t : State) (o : OpData) → IsLoading site bytes left s → PassesOver left o next → first_refusal (verdicts_after s o) ≡ None → t ≡ taken_in s o → IsLoading site bytes next t
+pub loading_more : (site : ℕ) (bytes : List ℕ) (left next : LeftData) (s t : State) (o : OpData) → IsLoading site bytes left s → PassesOver left o next → first_refusal (verdicts_after s o) ≡ None → t ≡ after_one s o → IsLoading site bytes next t
 loading_more site bytes left next s t o w step none is =
     let more = taken_more site w.ops o s t w.taken w.state none is in
     record {

@@ -1,37 +1,33 @@
--- Loading a log: its operations are delivered one after the other, each with the releases after it.
-use Rattle.std.specs.Prelude.{◌≡◌, ◌≢◌, ◌⊎◌, ℕ, Bool, true, false, List, [], ◌∷◌, ◌++◌, Option, Some, None, map}
+-- Loading a log: its operations are taken in one after the other, each with the releases after it.
+use Rattle.std.specs.Prelude.{◌≡◌, ℕ, List, [], ◌∷◌, ◌++◌, Option, Some, None}
 use Rattle.std.specs.List.{find}
 use Rattle.context_diff.specs.Operations.{OpData, member_of}
 use Rattle.site_answers.specs.declared.release.Release.{Release}
-use Rattle.site_answers.specs.declared.verdict.Verdict.{Verdict}
-use Rattle.site_answers.specs.declared.verdict.Verdict.TheVariants.{Repeat, Forged, Waits, NotClosed, PlaceOut, Integrated}
-use Rattle.cot_site.specs.States.{State, judged, delivered}
-use Rattle.cot_site.specs.Releases.{all_releases, settled, release_of, IsPartlySettled}
+use Rattle.cot_site.specs.States.{State, judged}
+use Rattle.participant.specs.declared.taking.Taking.TheVariants.{Unrefused}
+use Rattle.participant.specs.declared.taking.Untaken.{Untaken}
+use Rattle.participant.specs.Reached.{Reached, from}
+use Rattle.participant.specs.Taking.{is_refusal, taken_in, IsUntaken}
 use Rattle.session_log.specs.declared.log_bad.LogBad.{LogBad}
 use Rattle.session_log.specs.declared.log_bad.LogBad.TheVariants as bad
 use Rattle.session_log.specs.Logs.{offset_after, IsLogOf}
 use Rattle.session_log.specs.Readings.{IsUnread}
 
--- the verdicts that refuse an operation: other content of its name is known, its context isn't closed, or its place is out
-abbrev pub is_refusal : Verdict → Bool
-is_refusal Repeat = false
-is_refusal (Forged n) = true
-is_refusal (Waits m) = false
-is_refusal (NotClosed s) = true
-is_refusal (PlaceOut p k) = true
-is_refusal Integrated = false
+-- what an operation of a log leads to: unless it is refused, it is delivered, and all that is ready then is released
+abbrev pub led_to : State → OpData → Reached
+led_to s o = taken_in Unrefused (from s) o
 
--- the verdicts that a delivery brings: that on the operation, and those of the releases after it
+-- the verdicts on the way there: that on the operation, and those of the releases after it
 abbrev pub verdicts_after : State → OpData → List Release
-verdicts_after s o = record { member = member_of o; verdict = judged s o } ∷ map release_of (all_releases (delivered s o))
+verdicts_after s o = record { member = member_of o; verdict = judged s o } ∷ (led_to s o).released
 
 -- the first verdict among these that is a refusal
 abbrev pub first_refusal : List Release → Option Release
 first_refusal rs = find (λ r. is_refusal r.verdict) rs
 
--- the state after the operation was delivered, and all were released that are ready
-abbrev pub taken_in : State → OpData → State
-taken_in s o = settled (delivered s o)
+-- the state that an operation leads to
+abbrev pub after_one : State → OpData → State
+after_one s o = (led_to s o).state
 
 -- why an operation whose frame begins at this offset was not taken in: the first refusal among these verdicts, or out of memory
 abbrev pub IsRefusal : ℕ → List Release → LogBad → Type 0
@@ -41,22 +37,19 @@ IsRefusal at rs (bad.Bad offset cause) = ⊥
 IsRefusal at rs (bad.Refused offset member verdict) = (offset ≡ at) × (first_refusal rs ≡ Some (record { member = member; verdict = verdict }))
 IsRefusal at rs bad.Memory = Unit {0}
 
--- the state where memory ran out: the old one, as the operation, which would change it, was not delivered; or the one after
--- the delivery, which refuses nothing, and after the first releases, while an operation is ready yet
+-- the state where memory ran out: the operation wasn't taken in, or not wholly
 abbrev pub IsCutShort : State → OpData → State → Type 0
-IsCutShort s o t =
-    ((t ≡ s) × (delivered s o ≢ s))
-    ⊎ ((is_refusal (judged s o) ≡ false) × ((listed : List Release) × IsPartlySettled (delivered s o) t [] listed))
+IsCutShort s o t = (why : Untaken) × (listed : List Release) × IsUntaken Unrefused (from s) o why (record { state = t; released = listed })
 
 -- the state after these operations were taken in, one after the other
 abbrev pub after_all : State → List OpData → State
 after_all s [] = s
-after_all s (o ∷ os) = after_all (taken_in s o) os
+after_all s (o ∷ os) = after_all (after_one s o) os
 
 -- and no verdict on the way is a refusal
 abbrev pub AreTakenIn : State → List OpData → Type 0
 AreTakenIn s [] = Unit {0}
-AreTakenIn s (o ∷ os) = (first_refusal (verdicts_after s o) ≡ None) × AreTakenIn (taken_in s o) os
+AreTakenIn s (o ∷ os) = (first_refusal (verdicts_after s o) ≡ None) × AreTakenIn (after_one s o) os
 
 -- the state of a site that has done nothing
 abbrev pub new_state : ℕ → State

@@ -76,6 +76,12 @@ pub record IsUnloadedOn (r : ReaderData) (more : List ℕ) (why : LogBad) : Type
 abbrev pub KeepsSome : ReaderData → Type 0
 KeepsSome r = (all : List ℕ) × Keeps r all
 
+-- with what came of the header before, where so many bytes were fed, the piece is the header and then some bytes
+pub record GoesPastHeader (fed : ℕ) (piece : List ℕ) : Type 0 where
+  pub rest : List ℕ
+  pub some : rest ≢ []
+  pub parts : take fed header ++ piece ≡ header ++ rest
+
 -- whatever follows is loaded, or refused, as what follows these bytes at the reader before
 pub record GoesOn (old : ReaderData) (piece : List ℕ) (new : ReaderData) : Type 0 where
   pub loaded : (more : List ℕ) (s : State) → IsLoadedOn new more s ↔ IsLoadedOn old (piece ++ more) s

@@ -6,16 +6,18 @@ ghost use Rattle.context_diff.specs.Ops.{data_of};
 ghost use Rattle.cot_site.specs.Sites.{state_of};
 ghost use Rattle.cot_site.specs.States.{judged};
 ghost use Rattle.site_answers.specs.declared.release.Release.{Release};
+ghost use Rattle.participant.specs.Taking.{is_refusal};
 ghost use Rattle.session_log.specs.Logs.{IsLogOf};
-ghost use Rattle.session_log.specs.Loadings.{is_refusal, first_refusal, verdicts_after, taken_in, IsRefusal, IsCutShort, new_state, IsLoaded, IsUnloaded};
+ghost use Rattle.session_log.specs.Loadings.{first_refusal, verdicts_after, after_one, IsRefusal, IsCutShort, new_state, IsLoaded, IsUnloaded};
 
 use crate::left::Left;
 use crate::log_bad::LogBad;
 use crate::placed::Placed;
 use crate::reading::{MAX_LOG, check};
 use context_diff::Op;
-use cot_site::{Release, Site, Verdict};
+use cot_site::{Release, Site};
 use op_name::SITES;
+use participant::{Taking, is_refusal};
 use std::alloc::Global;
 
 /// Makes the site of this number from a log of at most `MAX_LOG` bytes: delivers its operations in the order of their
@@ -52,8 +54,8 @@ fn deliver_all(alloc: Global, site: &mut Site, bytes: &[u8]) -> Result<(), LogBa
     Ok(())
 }
 
-/// Takes in the operation whose frame begins at this offset of a log: delivers it to the site, and releases what is ready
-/// after it. The list is only room for the releases; what it holds is lost.
+/// Takes in the operation whose frame begins at this offset of a log, as `participant` does: unless it is refused, it is
+/// delivered, and what is ready then is released. The list is only room for the releases; what it holds is lost.
 ///
 /// Refused by Refused, with this offset and the first verdict of the delivery and the releases that is Forged, NotClosed or
 /// PlaceOut; or by Memory. Where the operation itself is refused, the site stays as it was. Where a release after it is, the
@@ -67,57 +69,45 @@ pub fn take_in(
 ) -> Result<(), LogBad>
     requires { IsWellFormed (data_of op) }
     ensures taken { OnOk result (first_refusal (verdicts_after (state_of site.old) (data_of op)) ≡ None) }
-    ensures state { OnOk result (state_of site.new ≡ taken_in (state_of site.old) (data_of op)) }
+    ensures state { OnOk result (state_of site.new ≡ after_one (state_of site.old) (data_of op)) }
     ensures refused { IfErr result (IsRefusal offset (verdicts_after (state_of site.old) (data_of op))) }
 
     // What the site is after a refusal: of the operation itself, of a release after it, and out of memory.
     ensures stays { is_refusal (judged (state_of site.old) (data_of op)) ≡ true → state_of site.new ≡ state_of site.old }
     ensures released { IfErr result (λ why. why ≢ LogBad.Memory → is_refusal (judged (state_of site.old) (data_of op)) ≡ false
-        → state_of site.new ≡ taken_in (state_of site.old) (data_of op)) }
+        → state_of site.new ≡ after_one (state_of site.old) (data_of op)) }
     ensures memory { result ≡ Err LogBad.Memory → IsCutShort (state_of site.old) (data_of op) (state_of site.new) }
 {
-    let op = with_shared_lists(site, op);
-    take_known(site, offset, &op, released)
+    let mut op = op;
+    take_known(site, offset, &mut op, released)
 }
 
 // The same of an operation that the caller gives up: a match with many exits over an owned one makes its proof long.
 fn take_known(
     site: &mut Site,
     offset: u32,
-    op: &Op,
+    op: &mut Op,
     released: &mut Vec<Release>,
 ) -> Result<(), LogBad>
-    requires { IsWellFormed (data_of op.now) }
-    ensures taken { OnOk result (first_refusal (verdicts_after (state_of site.old) (data_of op.now)) ≡ None) }
-    ensures state { OnOk result (state_of site.new ≡ taken_in (state_of site.old) (data_of op.now)) }
-    ensures refused { IfErr result (IsRefusal offset (verdicts_after (state_of site.old) (data_of op.now))) }
-    ensures stays { is_refusal (judged (state_of site.old) (data_of op.now)) ≡ true → state_of site.new ≡ state_of site.old }
-    ensures released { IfErr result (λ why. why ≢ LogBad.Memory → is_refusal (judged (state_of site.old) (data_of op.now)) ≡ false
-        → state_of site.new ≡ taken_in (state_of site.old) (data_of op.now)) }
-    ensures memory { result ≡ Err LogBad.Memory → IsCutShort (state_of site.old) (data_of op.now) (state_of site.new) }
+    requires { IsWellFormed (data_of op.old) }
+    ensures taken { OnOk result (first_refusal (verdicts_after (state_of site.old) (data_of op.old)) ≡ None) }
+    ensures state { OnOk result (state_of site.new ≡ after_one (state_of site.old) (data_of op.old)) }
+    ensures refused { IfErr result (IsRefusal offset (verdicts_after (state_of site.old) (data_of op.old))) }
+    ensures stays { is_refusal (judged (state_of site.old) (data_of op.old)) ≡ true → state_of site.new ≡ state_of site.old }
+    ensures released { IfErr result (λ why. why ≢ LogBad.Memory → is_refusal (judged (state_of site.old) (data_of op.old)) ≡ false
+        → state_of site.new ≡ after_one (state_of site.old) (data_of op.old)) }
+    ensures memory { result ≡ Err LogBad.Memory → IsCutShort (state_of site.old) (data_of op.old) (state_of site.new) }
 {
-    match site.deliver(op) {
+    released.clear();
+    match participant::take_in(site, op, Taking::Unrefused, released) {
         Ok(verdict) if is_refusal(&verdict) => Err(LogBad::Refused {
             offset,
             member: op.member(),
             verdict,
         }),
-        Ok(_) => {
-            released.clear();
-            site.settle(released)?;
-            unless_refused(offset, first_refusal(released.as_slice()))
-        }
+        Ok(_) => unless_refused(offset, first_refusal(released.as_slice())),
         Err(_) => Err(LogBad::Memory),
     }
-}
-
-// The operation, of whose context what the site's last operation has too is kept once.
-fn with_shared_lists(site: &Site, op: Op) -> Op
-    ensures { data_of result ≡ data_of op }
-{
-    let mut op = op;
-    op.share_with(site.vector());
-    op
 }
 
 // An error where there was a refusal.
@@ -145,14 +135,4 @@ fn first_refusal(released: &[Release]) -> Option<Release>
         }
     }
     None
-}
-
-// Whether the verdict refuses the operation.
-fn is_refusal(verdict: &Verdict) -> bool
-    ensures { result ≡ is_refusal verdict.now }
-{
-    match verdict {
-        Verdict::Forged { .. } | Verdict::NotClosed { .. } | Verdict::PlaceOut { .. } => true,
-        Verdict::Repeat | Verdict::Waits { .. } | Verdict::Integrated => false,
-    }
 }

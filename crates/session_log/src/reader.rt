@@ -1,9 +1,9 @@
 //! Loading a log that comes in pieces.
 
-ghost use Rattle.std.specs.Prelude.{◌≡◌, ◌≢◌, ◌+◌, ◌<◌, ◌≤◌, ◌++◌, [], ℕ, List, true, false, None, Err, IfOk, IfErr, OnOk, OnErr, IsErr, length};
+ghost use Rattle.std.specs.Prelude.{◌≡◌, ◌≢◌, ◌⊎◌, ◌+◌, ◌<◌, ◌≤◌, ◌++◌, [], ℕ, List, true, false, None, Err, IfOk, IfErr, OnOk, OnErr, IsErr, length};
 ghost use Rattle.cot_site.specs.Sites.{state_of};
 ghost use Rattle.session_log.specs.Loadings.{IsLoaded, IsUnloaded};
-ghost use Rattle.session_log.specs.Readers.{Keeps, KeepsSome, Begins, GoesOn, IsLoadedOn, IsUnloadedOn};
+ghost use Rattle.session_log.specs.Readers.{Keeps, KeepsSome, Begins, GoesPastHeader, GoesOn, IsLoadedOn, IsUnloadedOn};
 ghost use Rattle.session_log.specs.ReaderData.{IsCounted, reader_of};
 ghost use Rattle.session_log.specs.Code.Steps.{end_fault};
 
@@ -83,13 +83,15 @@ impl LogReader {
     /// Appends a piece: takes in the operation of each whole frame, unless an earlier one was refused, and keeps the first
     /// fault of the bytes and the first refused verdict for `finish`. At most `MAX_LOG` bytes are fed in all.
     ///
-    /// Out of memory, each later call answers so too.
+    /// Out of memory comes only where no fault was met before, and bytes of the piece come after the header; then each later
+    /// call answers so too.
     pub fn feed(&mut self, piece: &[u8]) -> Result<(), Memory>
         requires { self.old.fed + length piece.now ≤ MAX_LOG }
         ensures keeps { (all : List ℕ) → Keeps self.old all → OnOk result (Keeps self.new (all ++ piece.now)) }
         ensures load_on { KeepsSome self.old → OnOk result (GoesOn self.old piece.now self.new) }
         ensures fed { self.new.fed ≡ self.old.fed + length piece.now }
         ensures site { self.new.site ≡ self.old.site }
+        ensures needed { OnErr result ((self.old.spent ≡ true) ⊎ ((self.old.fault ≡ None) × GoesPastHeader self.old.fed piece.now)) }
         ensures spent { OnErr result (self.new.spent ≡ true) }
         ensures stays { self.old.spent ≡ true → IsErr result }
     {
@@ -164,7 +166,7 @@ fn fault_at_end(spent: bool, fault: Option<LogBad>, fed: u32, rest: u32) -> Opti
 }
 
 // Reads on where so many bytes were fed before, which have no fault: takes in the operations of whole frames, and answers
-// the first fault.
+// the first fault. Memory is asked for only where bytes come after the header.
 fn read_piece(
     before: u32,
     piece: &[u8],
@@ -176,11 +178,12 @@ fn read_piece(
     ensures keeps { (site : ℕ) (all : List ℕ) → Keeps (reader_of site before frames.old.left (state_of taking.old.site) taking.old.refused None false) all
         → IfOk result (λ why. Keeps (reader_of site (before + length piece.now) frames.new.left (state_of taking.new.site) taking.new.refused why false) (all ++ piece.now)) }
     ensures counted { IfOk result (λ why. why ≡ None → IsCounted (before + length piece.now) frames.new) }
+    ensures needed { OnErr result (GoesPastHeader before piece.now) }
 {
     let fed = before + piece.len() as u32;
     match after_header((before as usize).min(HEADER.len()), piece) {
         None => Ok(Some(LogBad::Header)),
-        Some(_) if fed < HEADER.len() as u32 => Ok(None),
+        Some(rest) if rest.is_empty() => Ok(None),
         Some(rest) => {
             frames.feed(rest)?;
             take_frames(frames, fed, taking)

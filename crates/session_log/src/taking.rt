@@ -1,6 +1,6 @@
 //! A site that takes in the operations of a log as they come.
 
-ghost use Rattle.std.specs.Prelude.{◌≡◌, ◌≢◌, ◌⊎◌, ◌<◌, Some, None, Err, OnOk, IfOk, IfErr};
+ghost use Rattle.std.specs.Prelude.{◌≡◌, ◌≢◌, ◌⊎◌, ◌<◌, Some, None, Err, OnOk, OnErr, IfOk, IfErr};
 ghost use Rattle.std.specs.Result.{result_err};
 ghost use Rattle.context_diff.specs.Operations.{IsWellFormed};
 ghost use Rattle.context_diff.specs.Ops.{data_of};
@@ -38,10 +38,11 @@ impl Taking {
         })
     }
 
-    /// Takes in the operation, unless one was refused before; the first refusal is kept.
+    /// Takes in the operation, unless one was refused before, which takes no memory; the first refusal is kept.
     pub(crate) fn take(&mut self, placed: Placed) -> Result<(), Memory>
         requires { IsWellFormed (data_of placed.op) }
-        ensures { OnOk result (TakesIn (state_of self.old.site) self.old.refused placed.offset (data_of placed.op) (state_of self.new.site) self.new.refused) }
+        ensures takes { OnOk result (TakesIn (state_of self.old.site) self.old.refused placed.offset (data_of placed.op) (state_of self.new.site) self.new.refused) }
+        ensures needed { OnErr result (self.old.refused ≡ None) }
     {
         if self.refused.is_some() {
             Ok(())

@@ -12,7 +12,7 @@ use Rattle.session_log.specs.declared.log_bad.LogBad.{LogBad}
 use Rattle.session_log.specs.declared.log_bad.LogBad.TheVariants as bad
 use Rattle.session_log.specs.declared.placed.Placed.{Placed}
 use Rattle.session_log.specs.Logs.{header}
-use Rattle.session_log.specs.Loadings.{first_refusal, verdicts_after, taken_in, IsRefusal}
+use Rattle.session_log.specs.Loadings.{first_refusal, verdicts_after, after_one, IsRefusal}
 use Rattle.session_log.specs.Readers.{IsFaultOf, HasTaken, NeedsMore}
 
 -- why the log ends where so many bytes were fed, and so many are left: out of memory, the first fault, no whole header, a
@@ -38,7 +38,7 @@ Stops fed s bad.Memory = Unit {0}
 -- an operation was taken in, unless one was refused before, or is now
 abbrev pub TakesIn : State → Option LogBad → ℕ → OpData → State → Option LogBad → Type 0
 TakesIn s (Some why) at o t now = now ≡ Some why
-TakesIn s None at o t None = (first_refusal (verdicts_after s o) ≡ None) × (t ≡ taken_in s o)
+TakesIn s None at o t None = (first_refusal (verdicts_after s o) ≡ None) × (t ≡ after_one s o)
 TakesIn s None at o t (Some why) = (why ≢ bad.Memory) × IsRefusal at (verdicts_after s o) why
 
 -- each whole frame was taken, and its operation taken in; or there is a fault

@@ -14,7 +14,7 @@ loop-placed-preserved c =
     let takes = subst (λ (p : Option Placed). TakesFrame c.args.fed old p new) c.in-Ok-Some.field-0-is c.in-Ok-Some.ensures.takes in (
       c.in-Ok-Some.ensures.counted,
       λ site all count h. steps site all c.args.fed old new c.in-Ok-Some.placed (state_of c.loop-placed.taking.site) (state_of c.take.new.self.site) c.loop-placed.taking.refused c.take.new.self.refused
-          count (c.loop-placed.invariant.1 site all count h) takes c.in_ok-take-in-Ok-Some.ensures,
+          count (c.loop-placed.invariant.1 site all count h) takes c.in_ok-take-in-Ok-Some.ensures.takes,
     )
 
 pub returns-in-Err-Bad : goal.returns-in-Err-Bad

@@ -1,7 +1,8 @@
-use Rattle.std.proofs.Common.{◌+◌, ap, sym, ◌∙◌, length}
+use Rattle.std.proofs.Common.{◌+◌, ℕ, inr, ap, sym, subst, ◌∙◌, length}
 use Rattle.cot_site.specs.Sites.{state_of}
 use Rattle.session_log.specs.ReaderData.{ReaderData, reader_of}
-use Rattle.session_log.proofs.Endings.{still_fault, fed_on}
+use Rattle.session_log.specs.Readers.{GoesPastHeader}
+use Rattle.session_log.proofs.Endings.{is_none_of, still_fault, fed_on}
 use Rattle.session_log.proofs.On.{goes_on_by}
 use Rattle.session_log.proofs.reader.LogReader.feed.Goals as goal
 
@@ -34,3 +35,11 @@ returns-in-Ok-clause-load_on c =
     (fed_on r.number r.fed r.frames.left (state_of r.taking.site) r.taking.refused r.fault r.spent c.args.self.now c.args.piece.now c.self.view_is (sym c.is_some.ensures ∙ c.if-is_some.false) c.if-self.false
     (r.fed + length c.args.piece.now) c.read_piece.new.frames.left (state_of taking.site) taking.refused c.in-Ok.fault
     (λ all k. c.in-Ok.ensures.keeps r.number all k))
+
+pub returns-in-Err-clause-needed : goal.returns-in-Err-clause-needed
+returns-in-Err-clause-needed c =
+    let r = c.self.inside in
+    inr (
+      ap (λ (x : ReaderData). x.fault) (sym c.self.view_is) ∙ is_none_of r.fault (sym c.is_some.ensures ∙ c.if-is_some.false),
+      subst (λ (n : ℕ). GoesPastHeader n c.args.piece.now) (ap (λ (x : ReaderData). x.fed) c.self.view_is) c.in-Err.ensures.needed,
+    )
