@@ -18,17 +18,21 @@ pub cached_none : (h : List OpData) (es : Entries Form) → es ≡ [] → AreCac
 cached_none h es e = subst (λ (l : Entries Form). AreCached h l) (sym e) (no_entries form_over (family_in h (base_form h)))
 
 pub cached_same : (h k : List OpData) (es new : Entries Form) → AreCached h es → k ≡ h → new ≡ es → AreCached k new
-cached_same h k es new are a b = subst (λ (l : List OpData). AreCached l new) (sym a) (subst (λ (l : Entries Form). AreCached h l) (sym b) are)
+cached_same h k es new are a b =
+    subst (λ (l : List OpData). AreCached l new) (sym a) (subst (λ (l : Entries Form). AreCached h l) (sym b) are)
 
-pub cached_more : (h : List OpData) (o : OpData) (k : List OpData) (es : Entries Form) → IsValid h → IsNext h o → k ≡ h ++ o ∷ [] → AreCached h es → AreCached k es
+pub cached_more : (h : List OpData) (o : OpData) (k : List OpData) (es : Entries Form) → IsValid h → IsNext h o → k ≡ h ++ o ∷ []
+    → AreCached h es → AreCached k es
 cached_more h o k es valid next grown are =
     let long = valid_push h o valid next in
-    subst (λ (l : List OpData). AreCached l es) (sym grown) (next_keeps form_over h o (base_form h) (base_form (h ++ o ∷ [])) es long (base_form_on h (o ∷ []) long) are)
+    subst (λ (l : List OpData). AreCached l es) (sym grown)
+    (next_keeps form_over h o (base_form h) (base_form (h ++ o ∷ [])) es long (base_form_on h (o ∷ []) long) are)
 
 pub cached_used : (h : List OpData) (es new : Entries Form) (k : KeyData) → AreCached h es → new ≡ used es k → AreCached h new
 cached_used h es new k are e = forms_used form_over (family_in h (base_form h)) es new k are e
 
 -- what is found under a key is the form of the key
-pub cached_found : (h : List OpData) (es : Entries Form) (k : KeyData) (r : Option Form) → AreCached h es → r ≡ form_at es k → IfSome r (IsFormOf h k)
+pub cached_found : (h : List OpData) (es : Entries Form) (k : KeyData) (r : Option Form) → AreCached h es → r ≡ form_at es k
+    → IfSome r (IsFormOf h k)
 cached_found h es k None are e = tt
 cached_found h es k (Some f) are e = found_form form_over (family_in h (base_form h)) es k f are (sym e)

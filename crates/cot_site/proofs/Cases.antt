@@ -27,7 +27,9 @@ any_passes p [] e = absurd (false≢true e)
 any_passes p (x ∷ xs) e =
     elim (or_cases (p x) (list_any p xs) e) [
       | inl here ↦ record { element = x; there = contains_here x xs; passes = here }
-      | inr later ↦ let rest = any_passes p xs later in record { element = rest.element; there = contains_later x xs rest.element rest.there; passes = rest.passes }
+      | inr later ↦ let rest =
+          any_passes p xs later in record
+          { element = rest.element; there = contains_later x xs rest.element rest.there; passes = rest.passes }
     ]
 
 pub passes_any : {A : Type 0} (p : A → Bool) (xs : List A) (x : A) → Contains xs x → p x ≡ true → list_any p xs ≡ true
@@ -56,7 +58,8 @@ repeat_decides h (undoing a t g c) = le_decides g (generation_in h t)
 
 -- ---- forgeries
 
-pub other_any : (o : OpData) (os : List OpData) (n : NameData) → member_of o ≡ Original n → Decides (list_any (is_other o) os) (HasOther os o n)
+pub other_any : (o : OpData) (os : List OpData) (n : NameData) → member_of o ≡ Original n
+    → Decides (list_any (is_other o) os) (HasOther os o n)
 other_any o os n is = (
   λ e.
       let found = any_passes (is_other o) os e in
@@ -68,16 +71,21 @@ other_any o os n is = (
         differs = λ same. not_both (op_eq o found.element) ((op_eq_decides o found.element).1 (sym same)) parts.1;
       },
   λ has.
-      let same : member_eq (member_of o) (member_of has.other) ≡ true = ap (λ m. member_eq (member_of o) m) (has.same_name ∙ sym is) ∙ member_itself (member_of o) in
-      let apart : op_eq o has.other ≡ false = false_from_ne_true (op_eq o has.other) (λ e. has.differs (sym ((op_eq_decides o has.other).0 e))) in
-      passes_any (is_other o) os has.other has.there (and_from (member_eq (member_of o) (member_of has.other)) (not (op_eq o has.other)) same (not_from_false (op_eq o has.other) apart)),
+      let same : member_eq (member_of o) (member_of has.other) ≡ true =
+      ap (λ m. member_eq (member_of o) m) (has.same_name ∙ sym is) ∙ member_itself (member_of o) in
+      let apart : op_eq o has.other ≡ false =
+      false_from_ne_true (op_eq o has.other) (λ e. has.differs (sym ((op_eq_decides o has.other).0 e))) in
+      passes_any (is_other o) os has.other has.there
+      (and_from (member_eq (member_of o) (member_of has.other)) (not (op_eq o has.other)) same
+      (not_from_false (op_eq o has.other) apart)),
 )
   where
     not_both : (b : Bool) → b ≡ true → not b ≡ true → ⊥
     not_both true e f = false≢true f
     not_both false e f = false≢true e
 
-pub forged_decides : (h w : List OpData) (o : OpData) (n : NameData) → member_of o ≡ Original n → Decides (is_forged h w o) (IsForgery h w o n)
+pub forged_decides : (h w : List OpData) (o : OpData) (n : NameData) → member_of o ≡ Original n
+    → Decides (is_forged h w o) (IsForgery h w o n)
 forged_decides h w o n is =
     let in_h = other_any o h n is in
     let in_w = other_any o w n is in (
@@ -87,7 +95,8 @@ forged_decides h w o n is =
             | inl one ↦ record { name = is; known = inl (in_h.0 one) }
             | inr two ↦ record { name = is; known = inr (in_w.0 two) }
           ],
-      λ forgery. and_from (is_original o) (list_any (is_other o) h || list_any (is_other o) w) (named_original o n is) (known forgery.known),
+      λ forgery. and_from (is_original o) (list_any (is_other o) h || list_any (is_other o) w) (named_original o n is)
+          (known forgery.known),
     )
   where
     known : HasOther h o n ⊎ HasOther w o n → (list_any (is_other o) h || list_any (is_other o) w) ≡ true

@@ -34,7 +34,8 @@ integrated_longer s o e = one_more s.history o (ap (λ (t : State). t.history) e
 -- an operation that didn't wait is one more that waits
 pub held_longer : (s : State) (o : OpData) → ¬ Contains s.waiting o → with_held s o ≢ s
 held_longer s o new e =
-    let apart : list_any (op_eq o) s.waiting ≡ false = false_from_ne_true (list_any (op_eq o) s.waiting) (λ there. new ((same_any o s.waiting).0 there)) in
+    let apart : list_any (op_eq o) s.waiting ≡ false =
+    false_from_ne_true (list_any (op_eq o) s.waiting) (λ there. new ((same_any o s.waiting).0 there)) in
     one_more s.waiting o (ap (λ (b : Bool). if b then s.waiting else s.waiting ++ o ∷ []) (sym apart) ∙ ap (λ (t : State). t.waiting) e)
 
 -- a delivery changes the state where the operation is integrated, and where it is held
@@ -45,7 +46,9 @@ pub holding_changes : (s : State) (o : OpData) (m : Member) → judged s o ≡ W
 holding_changes s o m is longer e = longer (ap (λ (v : Verdict). after_verdict v o s) (sym is) ∙ e)
 
 -- the verdict of the release, where it is known of the first operation that is ready
-pub first_integrates : (s : State) (i : ℕ) → first_ready s.history s.waiting ≡ Some i → ((o : OpData) → slice_get s.waiting i ≡ Some o → judged (without_waiting s i) o ≡ Integrated) → IsSomeAnd (released s) (λ r. r.verdict ≡ Integrated)
+pub first_integrates : (s : State) (i : ℕ) → first_ready s.history s.waiting ≡ Some i
+    → ((o : OpData) → slice_get s.waiting i ≡ Some o → judged (without_waiting s i) o ≡ Integrated)
+    → IsSomeAnd (released s) (λ r. r.verdict ≡ Integrated)
 first_integrates s i first verdict = from (first_answer s.history s.waiting)
   where
     from : FirstAnswer s.history s.waiting (first_ready s.history s.waiting) → IsSomeAnd (released s) (λ r. r.verdict ≡ Integrated)
@@ -54,7 +57,8 @@ first_integrates s i first verdict = from (first_answer s.history s.waiting)
         let same : Some j ≡ Some i = sym some ∙ first in
         let ji : j ≡ i = cc in
         let at : slice_get s.waiting i ≡ Some found.op = ap (slice_get s.waiting) (sym ji) ∙ found.at in
-        subst (λ (r : Option Released). IsSomeAnd r (λ (q : Released). q.verdict ≡ Integrated)) (sym (release_is s i found.op first at)) (verdict found.op at)
+        subst (λ (r : Option Released). IsSomeAnd r (λ (q : Released). q.verdict ≡ Integrated)) (sym (release_is s i found.op first at))
+        (verdict found.op at)
 
 -- a history that an integrated operation made longer isn't the old one
 pub not_as_before : (s t u : State) (o : OpData) (i : ℕ) → t ≡ with_last s o → u ≡ without_waiting t i → u.history ≢ s.history
@@ -77,11 +81,13 @@ pub record KeepsCache (s t : SiteData) : Type 0 where
 pub cache_same : (s : SiteData) → KeepsCache s s
 cache_same s = record { history = take-length s.history; entries = λ same. refl }
 
-pub cache_on : (s t u : SiteData) → KeepsCache s t → take (length t.history) u.history ≡ t.history → (u.history ≡ t.history → u.entries ≡ t.entries) → KeepsCache s u
+pub cache_on : (s t u : SiteData) → KeepsCache s t → take (length t.history) u.history ≡ t.history
+    → (u.history ≡ t.history → u.entries ≡ t.entries) → KeepsCache s u
 cache_on s t u kept later entries = record {
   history = begins_on s.history t.history u.history kept.history later;
   entries = λ same.
-      let back : t.history ≡ s.history = both_begin t.history s.history (subst (λ (h : List OpData). take (length t.history) h ≡ t.history) same later) kept.history in
+      let back : t.history ≡ s.history =
+      both_begin t.history s.history (subst (λ (h : List OpData). take (length t.history) h ≡ t.history) same later) kept.history in
       entries (same ∙ sym back) ∙ kept.entries back;
 }
 
@@ -89,6 +95,9 @@ pub cache_stopped : (s t u : SiteData) → KeepsCache s t → IsAsBefore t u →
 cache_stopped s t u kept (state, forms, inl stays) same = inl (stays ∙ kept.entries (sym (ap (λ (x : State). x.history) state) ∙ same))
 cache_stopped s t u kept (state, forms, inr gone) same = inr gone
 
-pub into_later : (now next : State) (old new : List Release) (more : Bool) → IsReleasedInto now next old new more → take (length now.history) next.history ≡ now.history
-into_later now next old new true (r, is, after, listed) = ap (λ (t : State). take (length now.history) t.history) after ∙ release_history now r is
-into_later now next old new false (none, same, listed) = ap (λ (t : State). take (length now.history) t.history) same ∙ take-length now.history
+pub into_later : (now next : State) (old new : List Release) (more : Bool) → IsReleasedInto now next old new more
+    → take (length now.history) next.history ≡ now.history
+into_later now next old new true (r, is, after, listed) =
+    ap (λ (t : State). take (length now.history) t.history) after ∙ release_history now r is
+into_later now next old new false (none, same, listed) =
+    ap (λ (t : State). take (length now.history) t.history) same ∙ take-length now.history

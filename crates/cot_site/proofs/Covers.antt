@@ -21,7 +21,8 @@ pub none_true : (r : Option Member) → is_none r ≡ true → r ≡ None
 none_true None e = refl
 none_true (Some m) e = absurd (false≢true e)
 
-pub covered_decides : (h : List OpData) → IsComplete h → (c : ContextData) (n : NameData) → is_known h (Original n) ≡ true → Decides (is_covered h c n) (Within (original_context h n) c)
+pub covered_decides : (h : List OpData) → IsComplete h → (c : ContextData) (n : NameData) → is_known h (Original n) ≡ true
+    → Decides (is_covered h c n) (Within (original_context h n) c)
 covered_decides h w c n known =
     let d = original_context h n in
     let answer = lacking c d (original_facts h w n known).form in (
@@ -53,14 +54,17 @@ module _ (h : List OpData) (w : IsComplete h) (v : ContextData) (ready : LacksNo
             subst (λ (x : ℕ × ℕ). Within (original_context h (last_of x)) v) pq within
       ]
 
-  uncovered_from : (ps : List (ℕ × ℕ)) (i : ℕ) → ((j : ℕ) → slice_get ps j ≡ slice_get v.counts (i + j)) → length v.counts ≡ i + length ps → DoneTo i → SiteAnswer h v (first_uncovered h v ps)
+  uncovered_from : (ps : List (ℕ × ℕ)) (i : ℕ) → ((j : ℕ) → slice_get ps j ≡ slice_get v.counts (i + j)) → length v.counts ≡ i + length ps
+      → DoneTo i → SiteAnswer h v (first_uncovered h v ps)
   uncovered_from [] i rest long done = inr (refl, all_covered h w v are (λ j p less at. done j p (omega arith) at))
   uncovered_from (p ∷ ps) i rest long done =
       let at : slice_get v.counts i ≡ Some p = ap (slice_get v.counts) (let z : i ≡ i + 0 = omega arith in z) ∙ sym (rest 0) in
       let decides = covered_decides h w v (last_of p) (named_known h v ready are i p at) in
       elim (cases_Bool (is_covered h v (last_of p))) [
         | inl so ↦
-            let next = uncovered_from ps (suc i) (λ j. rest (suc j) ∙ ap (slice_get v.counts) (let z : i + suc j ≡ suc i + j = omega arith in z)) (omega arith) (done_more i p at (decides.0 so) done) in
+            let next =
+            uncovered_from ps (suc i) (λ j. rest (suc j) ∙ ap (slice_get v.counts) (let z : i + suc j ≡ suc i + j = omega arith in z))
+            (omega arith) (done_more i p at (decides.0 so) done) in
             subst (SiteAnswer h v) (sym (cond-true _ _ _ so)) next
         | inr isnt ↦
             let open_site = not_covered h v ready are i p at (λ within. false≢true (sym isnt ∙ decides.1 within)) in
@@ -69,7 +73,9 @@ module _ (h : List OpData) (w : IsComplete h) (v : ContextData) (ready : LacksNo
       ]
 
   pub uncovered : SiteAnswer h v (first_uncovered h v v.counts)
-  uncovered = uncovered_from v.counts 0 (λ j. ap (slice_get v.counts) (let z : j ≡ 0 + j = omega arith in z)) (omega arith) (λ j p less at. absurd (omega arith))
+  uncovered =
+      uncovered_from v.counts 0 (λ j. ap (slice_get v.counts) (let z : j ≡ 0 + j = omega arith in z)) (omega arith)
+      (λ j p less at. absurd (omega arith))
 
 -- there is one first open site
 pub open_once : (h : List OpData) (v : ContextData) (s r : ℕ) → IsFirstOpenSite h v s → IsFirstOpenSite h v r → s ≡ r

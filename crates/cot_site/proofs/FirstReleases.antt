@@ -25,7 +25,8 @@ words_ready h o valid formed = (forth, back)
     forth e =
         elim (or_cases (is_known h (member_of o)) (is_none (lacked h (context_of o))) e) [
           | inl known ↦ inl known
-          | inr there ↦ inr (nothing_lacked h (complete h valid) (context_of o) (formed_context o formed) (none_true (lacked h (context_of o)) there))
+          | inr there ↦ inr (nothing_lacked h (complete h valid) (context_of o) (formed_context o formed)
+              (none_true (lacked h (context_of o)) there))
         ]
 
     back : IsReady h o → is_ready h o ≡ true
@@ -42,8 +43,10 @@ module _ (s : State) (sound : IsSound s) where
   ready_not o there isnt ready = true≢false (sym ((words_ready s.history o sound.history (sound.waiting o there)).1 ready) ∙ isnt)
 
   pub none_is_ready : IsSettled s ↔ NoneIsReady s
-  none_is_ready =
-      (λ settles o there. ready_not o there ((settled_none s).0 settles o there), λ none. (settled_none s).1 (λ o there. not_so o there (none o there)))
+  none_is_ready = (
+    λ settles o there. ready_not o there ((settled_none s).0 settles o there),
+    λ none. (settled_none s).1 (λ o there. not_so o there (none o there)),
+  )
     where
       not_so : (o : OpData) → Contains s.waiting o → ¬ IsReady s.history o → is_ready s.history o ≡ false
       not_so o there isnt = false_from_ne_true (is_ready s.history o) (λ e. isnt (ready_so o there e))
@@ -55,12 +58,14 @@ module _ (s : State) (sound : IsSound s) where
         | inl less ↦ absurd (w.first i found.op less found.at (ready_so found.op found.there found.ready))
         | inr from ↦
             elim (cases_lt w.place i) [
-              | inl less ↦ absurd (ready_not r.op (got_there s.waiting w.place r.op w.there) (found.first w.place r.op less w.there) w.ready)
+              | inl less ↦ absurd (ready_not r.op (got_there s.waiting w.place r.op w.there) (found.first w.place r.op less w.there)
+                  w.ready)
               | inr back ↦ omega arith
             ]
       ]
 
-  first_found : (r : Released) → (w : IsFirstRelease s r) → FirstAnswer s.history s.waiting (first_ready s.history s.waiting) → first_ready s.history s.waiting ≡ Some w.place
+  first_found : (r : Released) → (w : IsFirstRelease s r) → FirstAnswer s.history s.waiting (first_ready s.history s.waiting)
+      → first_ready s.history s.waiting ≡ Some w.place
   first_found r w (inl (i, is, found)) = is ∙ ap (λ k. Some k) (same_place i r found w)
   first_found r w (inr (is, none)) =
       let there = got_there s.waiting w.place r.op w.there in
@@ -70,12 +75,16 @@ module _ (s : State) (sound : IsSound s) where
   words_released r w =
       let rest = without_waiting s w.place in
       let there = got_there s.waiting w.place r.op w.there in
-      let verdict : r.verdict ≡ judged rest r.op = verdict_only s.history (remove s.waiting w.place) sound.history r.op (sound.waiting r.op there) r.verdict w.verdict in
+      let verdict : r.verdict ≡ judged rest r.op =
+      verdict_only s.history (remove s.waiting w.place) sound.history r.op (sound.waiting r.op there) r.verdict w.verdict in
       let after : r.after ≡ delivered rest r.op = w.after ∙ ap (λ v. after_verdict v r.op rest) verdict in
-      let same : delivered_again rest r.op ≡ r = sym (ap (λ (v : Verdict). record { op = r.op; verdict = v; after = r.after }) verdict ∙ ap (λ (t : State). record { op = r.op; verdict = judged rest r.op; after = t }) after) in
+      let same : delivered_again rest r.op ≡ r =
+      sym (ap (λ (v : Verdict). record { op = r.op; verdict = v; after = r.after }) verdict
+      ∙ ap (λ (t : State). record { op = r.op; verdict = judged rest r.op; after = t }) after) in
       release_is s w.place r.op (first_found r w (first_answer s.history s.waiting)) w.there ∙ ap (λ x. Some x) same
 
-  at_place : (i : ℕ) → IsFirstAt s.history s.waiting i → (o : OpData) → slice_get s.waiting i ≡ Some o → Contains s.waiting o → is_ready s.history o ≡ true → IsFirstRelease s (delivered_again (without_waiting s i) o)
+  at_place : (i : ℕ) → IsFirstAt s.history s.waiting i → (o : OpData) → slice_get s.waiting i ≡ Some o → Contains s.waiting o
+      → is_ready s.history o ≡ true → IsFirstRelease s (delivered_again (without_waiting s i) o)
   at_place i found o at there ready = record {
     place = i;
     there = at;
@@ -85,10 +94,12 @@ module _ (s : State) (sound : IsSound s) where
     after = refl;
   }
 
-  released_words : (r : Released) → released s ≡ Some r → FirstAnswer s.history s.waiting (first_ready s.history s.waiting) → IsFirstRelease s r
+  released_words : (r : Released) → released s ≡ Some r → FirstAnswer s.history s.waiting (first_ready s.history s.waiting)
+      → IsFirstRelease s r
   released_words r is (inr (none, _)) = absurd (none-some r (sym (ap (released_at s) none) ∙ is))
   released_words r is (inl (i, some, found)) =
-      let whole : Some (delivered_again (without_waiting s i) found.op) ≡ Some r = sym (ap (released_at s) some ∙ ap (option_map (delivered_again (without_waiting s i))) found.at) ∙ is in
+      let whole : Some (delivered_again (without_waiting s i) found.op) ≡ Some r =
+      sym (ap (released_at s) some ∙ ap (option_map (delivered_again (without_waiting s i))) found.at) ∙ is in
       let same : delivered_again (without_waiting s i) found.op ≡ r = cc in
       subst (IsFirstRelease s) same (at_place i found found.op found.at found.there found.ready)
 

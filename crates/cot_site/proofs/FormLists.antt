@@ -30,12 +30,16 @@ pub one_list : (h : List OpData) (fs gs : List Form) → IsValid h → AreExecut
 one_list h fs gs valid df dg = forms_once (setting h valid) (members_in h) none fs gs df dg
 
 -- and the list of a longer history begins with it
-forms_kept : (h : List OpData) (o : OpData) (fs gs : List Form) → IsValid (h ++ o ∷ []) → AreExecuted h fs → AreExecuted (h ++ o ∷ []) gs → KeepsForms fs gs
+forms_kept : (h : List OpData) (o : OpData) (fs gs : List Form) → IsValid (h ++ o ∷ []) → AreExecuted h fs → AreExecuted (h ++ o ∷ []) gs
+    → KeepsForms fs gs
 forms_kept h o fs gs valid df dg =
     let k = h ++ o ∷ [] in
     let b = family_in k (base_form k) in
-    let old = forms_on form_over (family_in h (base_form h)) b (holds_more h (o ∷ []) (base_form h) (base_form k) valid (base_form_on h (o ∷ []) valid)) (members_in h) none fs df in
-    let new : AreFormsFrom form_over b none (members_in h ++ members_in (o ∷ [])) gs = subst (λ (ms : List Member). AreFormsFrom form_over b none ms gs) (members-append h (o ∷ [])) dg in
+    let old =
+    forms_on form_over (family_in h (base_form h)) b
+    (holds_more h (o ∷ []) (base_form h) (base_form k) valid (base_form_on h (o ∷ []) valid)) (members_in h) none fs df in
+    let new : AreFormsFrom form_over b none (members_in h ++ members_in (o ∷ [])) gs =
+    subst (λ (ms : List Member). AreFormsFrom form_over b none ms gs) (members-append h (o ∷ [])) dg in
     forms_begin (setting k valid) (members_in h) (members_in (o ∷ [])) none fs gs old new
 
 -- the forms that can be computed from the history of a state
@@ -49,7 +53,8 @@ pub computed_lists : AreFormLists computed_of
 computed_lists = computed_are
 
 -- the forms beside a history stay when it grows
-pub lists_stay : (forms : State → List Form) (s t : State) (o : OpData) → AreFormLists forms → IsValid t.history → t.history ≡ s.history ++ o ∷ [] → KeepsForms (forms s) (forms t)
+pub lists_stay : (forms : State → List Form) (s t : State) (o : OpData) → AreFormLists forms → IsValid t.history
+    → t.history ≡ s.history ++ o ∷ [] → KeepsForms (forms s) (forms t)
 lists_stay forms s t o are valid grown =
     let longer : IsValid (s.history ++ o ∷ []) = subst IsValid grown valid in
     forms_kept s.history o (forms s) (forms t) longer (are s (valid_pop s.history o longer).0)
@@ -59,4 +64,5 @@ lists_stay forms s t o are valid grown =
 pub lists_show : (forms : State → List Form) (s : State) → AreFormLists forms → IsValid s.history → forms_view forms s ≡ history_view s
 lists_show forms s are valid =
     let fs = forms s in
-    view_is s (executed applied [] fs) (cells_replayed s.history fs (executed applied [] fs) valid (record { forms = are s valid; cells = refl }))
+    view_is s (executed applied [] fs)
+    (cells_replayed s.history fs (executed applied [] fs) valid (record { forms = are s valid; cells = refl }))

@@ -25,7 +25,8 @@ pub record IsFirstAt (h w : List OpData) (i : ℕ) : Type 0 where
 abbrev pub FirstAnswer : List OpData → List OpData → Option ℕ → Type 0
 FirstAnswer h w r = ((i : ℕ) × (r ≡ Some i) × IsFirstAt h w i) ⊎ ((r ≡ None) × ((o : OpData) → Contains w o → is_ready h o ≡ false))
 
-later_answer : (h : List OpData) (o : OpData) (os : List OpData) → is_ready h o ≡ false → (r : Option ℕ) → FirstAnswer h os r → FirstAnswer h (o ∷ os) (option_map suc r)
+later_answer : (h : List OpData) (o : OpData) (os : List OpData) → is_ready h o ≡ false → (r : Option ℕ) → FirstAnswer h os r
+    → FirstAnswer h (o ∷ os) (option_map suc r)
 later_answer h o os isnt r (inl (i, is, found)) =
     inl (
       suc i,
@@ -43,7 +44,11 @@ later_answer h o os isnt r (inl (i, is, found)) =
     first zero p less e = let same : o ≡ p = cc in subst (λ x. is_ready h x ≡ false) same isnt
     first (suc j) p less e = found.first j p (omega arith) e
 later_answer h o os isnt r (inr (is, none)) =
-    inr (ap (option_map suc) is, λ p at. elim (contains_cases o os p at) [ inl same ↦ subst (λ x. is_ready h x ≡ false) same isnt | inr later ↦ none p later ])
+    inr (
+      ap (option_map suc) is,
+      λ p at.
+          elim (contains_cases o os p at) [ inl same ↦ subst (λ x. is_ready h x ≡ false) same isnt | inr later ↦ none p later ],
+    )
 
 pub first_answer : (h w : List OpData) → FirstAnswer h w (first_ready h w)
 first_answer h [] = inr (refl, λ o at. absurd (contains_none o at))
@@ -52,7 +57,8 @@ first_answer h (o ∷ os) =
       | inl so ↦
           subst (FirstAnswer h (o ∷ os)) (sym (cond-true _ _ _ so))
           (inl (0, refl, record { op = o; at = refl; there = contains_here o os; ready = so; first = λ j p less at. absurd (omega arith) }))
-      | inr isnt ↦ subst (FirstAnswer h (o ∷ os)) (sym (cond-false _ _ _ isnt)) (later_answer h o os isnt (first_ready h os) (first_answer h os))
+      | inr isnt ↦ subst (FirstAnswer h (o ∷ os)) (sym (cond-false _ _ _ isnt))
+          (later_answer h o os isnt (first_ready h os) (first_answer h os))
     ]
 
 pub settled_none : (s : State) → IsSettled s ↔ ((o : OpData) → Contains s.waiting o → is_ready s.history o ≡ false)
@@ -61,16 +67,19 @@ settled_none s = (forth (first_answer s.history s.waiting), back (first_answer s
     r : Option ℕ
     r = first_ready s.history s.waiting
 
-    forth : FirstAnswer s.history s.waiting (first_ready s.history s.waiting) → IsSettled s → (o : OpData) → Contains s.waiting o → is_ready s.history o ≡ false
+    forth : FirstAnswer s.history s.waiting (first_ready s.history s.waiting) → IsSettled s → (o : OpData) → Contains s.waiting o
+        → is_ready s.history o ≡ false
     forth (inl (i, is, found)) e = absurd (none-some i (sym e ∙ is))
     forth (inr (is, none)) e = none
 
-    back : FirstAnswer s.history s.waiting (first_ready s.history s.waiting) → ((o : OpData) → Contains s.waiting o → is_ready s.history o ≡ false) → IsSettled s
+    back : FirstAnswer s.history s.waiting (first_ready s.history s.waiting)
+        → ((o : OpData) → Contains s.waiting o → is_ready s.history o ≡ false) → IsSettled s
     back (inl (i, is, found)) none = absurd (true≢false (sym found.ready ∙ none found.op found.there))
     back (inr (is, _)) none = is
 
 -- a ready operation doesn't wait
-pub ready_not_waits : (h w : List OpData) (o : OpData) (m : Member) → IsValid h → IsWellFormed o → is_ready h o ≡ true → verdict_of h w o ≡ Waits m → ⊥
+pub ready_not_waits : (h w : List OpData) (o : OpData) (m : Member) → IsValid h → IsWellFormed o → is_ready h o ≡ true
+    → verdict_of h w o ≡ Waits m → ⊥
 ready_not_waits h w o m valid formed ready e =
     let is : IsVerdict h w o (Waits m) = subst (IsVerdict h w o) e (verdict_holds h w valid o formed) in
     elim (or_cases (is_known h (member_of o)) (is_none (lacked h (context_of o))) ready) [
@@ -80,13 +89,15 @@ ready_not_waits h w o m valid formed ready e =
           false≢true (ap (λ r. is_none r) (sym some) ∙ there)
     ]
 
-pub release_not_waits : (s : State) (r : Released) (m : Member) → IsValid s.history → ((o : OpData) → Contains s.waiting o → IsWellFormed o) → released s ≡ Some r → ¬ (r.verdict ≡ Waits m)
+pub release_not_waits : (s : State) (r : Released) (m : Member) → IsValid s.history → ((o : OpData) → Contains s.waiting o → IsWellFormed o)
+    → released s ≡ Some r → ¬ (r.verdict ≡ Waits m)
 release_not_waits s r m valid formed is waits = from (first_answer s.history s.waiting)
   where
     from : FirstAnswer s.history s.waiting (first_ready s.history s.waiting) → ⊥
     from (inr (none, _)) = none-some r (sym (ap (released_at s) none) ∙ is)
     from (inl (i, some, found)) =
-        let whole : Some (delivered_again (without_waiting s i) found.op) ≡ Some r = sym (ap (released_at s) some ∙ ap (option_map (delivered_again (without_waiting s i))) found.at) ∙ is in
+        let whole : Some (delivered_again (without_waiting s i) found.op) ≡ Some r =
+        sym (ap (released_at s) some ∙ ap (option_map (delivered_again (without_waiting s i))) found.at) ∙ is in
         let same : delivered_again (without_waiting s i) found.op ≡ r = cc in
         let verdict : verdict_of s.history (remove s.waiting i) found.op ≡ Waits m = ap (λ (x : Released). x.verdict) same ∙ waits in
         ready_not_waits s.history (remove s.waiting i) found.op m valid (formed found.op found.there) found.ready verdict

@@ -34,16 +34,19 @@ pub rows_same : (h k : List OpData) (kept : List (AuthorRow Form)) → AreRowsOf
 rows_same h k kept rows e = subst (λ (l : List OpData). AreRowsOf l kept) (sym e) rows
 
 -- the rows of the members before the last one are rows of all
-pub rows_after : (h : List OpData) (m : Member) (to : Member → Bool) (fs : List Form) (kept : List (AuthorRow Form)) → IsNextAfter h m to fs kept → AreRowsOf h kept
+pub rows_after : (h : List OpData) (m : Member) (to : Member → Bool) (fs : List Form) (kept : List (AuthorRow Form))
+    → IsNextAfter h m to fs kept → AreRowsOf h kept
 rows_after h m to fs kept n =
     subst (λ (l : List Member). AreRows form_over IsInertForm (family_in h (base_form h)) l kept) (sym n.executed.whole)
     (rows_stay form_over IsInertForm (family_in h (base_form h)) n.before m kept n.executed.rows)
 
 -- the base form of an original is its form at the members before it, where these are its base context
-pub base_after : (h : List OpData) (n : NameData) (to : ContextData) (fs : List Form) (kept : List (AuthorRow Form)) (f : Form) → IsNextAfter h (Original n) (has to) fs kept → ((y : Member) → has to y ≡ base_has h (Original n) y) → f ≡ base_form h (Original n)
+pub base_after : (h : List OpData) (n : NameData) (to : ContextData) (fs : List Form) (kept : List (AuthorRow Form)) (f : Form)
+    → IsNextAfter h (Original n) (has to) fs kept → ((y : Member) → has to y ≡ base_has h (Original n) y) → f ≡ base_form h (Original n)
     → Derived form_over (family_in h (base_form h)) (Original n) (has to) f
 base_after h n to fs kept f next same e =
-    at_base (subst (λ (l : List Member). IsIn (Original n) l) (sym next.executed.whole) (in_right (Original n) next.before (Original n ∷ []) (inl refl))) same e
+    at_base (subst (λ (l : List Member). IsIn (Original n) l) (sym next.executed.whole)
+    (in_right (Original n) next.before (Original n ∷ []) (inl refl))) same e
 
 -- the members before the last operation, when that came next
 module _ (h : List OpData) (o : OpData) (k : List OpData) (valid : IsValid h) (next : IsNext h o) (grown : k ≡ h ++ o ∷ []) where
@@ -56,20 +59,27 @@ module _ (h : List OpData) (o : OpData) (k : List OpData) (valid : IsValid h) (n
   knows_before c m is member same n y original =
       let named : member_of o ≡ Original n = sym member ∙ original in
       let valid_k : IsValid k = subst IsValid (sym grown) (valid_push h o valid next) in
-      let there : Contains k o = subst (λ (l : List OpData). Contains l o) (sym grown) (Contains-append_right h (o ∷ []) o (contains_here o [])) in
+      let there : Contains k o =
+      subst (λ (l : List OpData). Contains l o) (sym grown) (Contains-append_right h (o ∷ []) o (contains_here o [])) in
       ap (λ (d : ContextData). has d y) (before_last_is ∙ sym is ∙ sym (same (named_original o n named)))
       ∙ original_base k valid_k o n there named y
       ∙ ap (λ (x : Member). base_has k x y) (sym original)
 
 -- a form at the members before the last one
-pub form_after_at : (h : List OpData) (m : Member) (to : Member → Bool) (fs : List Form) (kept : List (AuthorRow Form)) (f : Form) (n : IsNextAfter h m to fs kept)
-    → IsOnlyFormAt form_over (family_in h (base_form h)) m (plus_all none n.before) f → IsOnlyFormAt form_over (family_in h (base_form h)) m to f
-form_after_at h m to fs kept f n only = subst (λ (C : Member → Bool). IsOnlyFormAt form_over (family_in h (base_form h)) m C f) (same_set (plus_all none n.before) to n.set) only
+pub form_after_at : (h : List OpData) (m : Member) (to : Member → Bool) (fs : List Form) (kept : List (AuthorRow Form)) (f : Form)
+    (n : IsNextAfter h m to fs kept)
+    → IsOnlyFormAt form_over (family_in h (base_form h)) m (plus_all none n.before) f
+    → IsOnlyFormAt form_over (family_in h (base_form h)) m to f
+form_after_at h m to fs kept f n only =
+    subst (λ (C : Member → Bool). IsOnlyFormAt form_over (family_in h (base_form h)) m C f) (same_set (plus_all none n.before) to n.set)
+    only
 
 -- the last member of a history
-pub last_after : (h : List OpData) (m : Member) (to : Member → Bool) (fs : List Form) (kept : List (AuthorRow Form)) → IsNextAfter h m to fs kept → IsLastMember h m
+pub last_after : (h : List OpData) (m : Member) (to : Member → Bool) (fs : List Form) (kept : List (AuthorRow Form))
+    → IsNextAfter h m to fs kept → IsLastMember h m
 last_after h m to fs kept n =
-    let counted : length h ≡ length n.before + 1 = sym (length-map h member_of) ∙ ap length n.executed.whole ∙ length-append n.before (m ∷ []) in
+    let counted : length h ≡ length n.before + 1 =
+    sym (length-map h member_of) ∙ ap length n.executed.whole ∙ length-append n.before (m ∷ []) in
     let place : length h - 1 ≡ length n.before = omega (arith, counted) in (
       omega (arith, counted),
       ap (slice_get (members_in h)) place ∙ ap (λ (l : List Member). slice_get l (length n.before)) n.executed.whole ∙ at_end n.before m,
@@ -80,8 +90,10 @@ last_after h m to fs kept n =
     at_end (y ∷ ys) x = at_end ys x
 
 -- the first form of a row at the context of an original with that
-pub first_at : (h : List OpData) (n x : NameData) (c w : ContextData) (f : Form) → ((y : Member) → has c y ≡ base_has h (Original n) y) → ((y : Member) → has w y ≡ plus (has c) (Original n) y) → ((y : Member) → base_has h (Original x) y ≡ true → has w y ≡ true)
-    → insert_of f ≡ Some x → IsFormWith form_over insert_of (family_in h (base_form h)) (Original n) f → IsOnlyFormAt form_over (family_in h (base_form h)) (Original x) (has w) f
+pub first_at : (h : List OpData) (n x : NameData) (c w : ContextData) (f : Form) → ((y : Member) → has c y ≡ base_has h (Original n) y)
+    → ((y : Member) → has w y ≡ plus (has c) (Original n) y) → ((y : Member) → base_has h (Original x) y ≡ true → has w y ≡ true)
+    → insert_of f ≡ Some x → IsFormWith form_over insert_of (family_in h (base_form h)) (Original n) f
+    → IsOnlyFormAt form_over (family_in h (base_form h)) (Original x) (has w) f
 first_at h n x c w f context with within is form =
     let m : Member = Original n in
     let C = plus (base_has h m) m in

@@ -63,7 +63,8 @@ taken_at s r is = from (first_answer s.history s.waiting)
     from : FirstAnswer s.history s.waiting (first_ready s.history s.waiting) → (i : ℕ) × IsTakenAt s r i
     from (inr (none, _)) = absurd (none-some r (sym (ap (released_at s) none) ∙ is))
     from (inl (i, some, found)) =
-        let whole : Some (delivered_again (without_waiting s i) found.op) ≡ Some r = sym (ap (released_at s) some ∙ ap (option_map (delivered_again (without_waiting s i))) found.at) ∙ is in
+        let whole : Some (delivered_again (without_waiting s i) found.op) ≡ Some r =
+        sym (ap (released_at s) some ∙ ap (option_map (delivered_again (without_waiting s i))) found.at) ∙ is in
         let same : delivered_again (without_waiting s i) found.op ≡ r = cc in
         let op : found.op ≡ r.op = ap (λ (x : Released). x.op) same in (
           i,
@@ -77,8 +78,10 @@ taken_at s r is = from (first_answer s.history s.waiting)
 pub sound_released : (s : State) (r : Released) → IsSound s → released s ≡ Some r → IsSound r.after
 sound_released s r sound is =
     let t = taken_at s r is in
-    let left : IsSound (without_waiting s t.0) = record { number = sound.number; history = sound.history; waiting = removed_formed s.waiting t.0 sound.waiting } in
-    subst IsSound (sym (ap (λ (x : Released). x.after) t.1.is)) (sound_delivered (without_waiting s t.0) r.op left (sound.waiting r.op t.1.there))
+    let left : IsSound (without_waiting s t.0) =
+    record { number = sound.number; history = sound.history; waiting = removed_formed s.waiting t.0 sound.waiting } in
+    subst IsSound (sym (ap (λ (x : Released). x.after) t.1.is))
+    (sound_delivered (without_waiting s t.0) r.op left (sound.waiting r.op t.1.there))
 
 waiting_kept : (v : Verdict) (o : OpData) (s : State) → ((m : Member) → ¬ (v ≡ Waits m)) → (after_verdict v o s).waiting ≡ s.waiting
 waiting_kept Repeat o s other = refl
@@ -93,8 +96,10 @@ pub release_fewer : (s : State) (r : Released) → IsSound s → released s ≡ 
 release_fewer s r sound is =
     let t = taken_at s r is in
     let rest = without_waiting s t.0 in
-    let waits : (m : Member) → ¬ (judged rest r.op ≡ Waits m) = λ m e. release_not_waits s r m sound.history sound.waiting is (ap (λ (x : Released). x.verdict) t.1.is ∙ e) in
-    let left : r.after.waiting ≡ remove s.waiting t.0 = ap (λ (x : Released). x.after.waiting) t.1.is ∙ waiting_kept (judged rest r.op) r.op rest waits in
+    let waits : (m : Member) → ¬ (judged rest r.op ≡ Waits m) =
+    λ m e. release_not_waits s r m sound.history sound.waiting is (ap (λ (x : Released). x.verdict) t.1.is ∙ e) in
+    let left : r.after.waiting ≡ remove s.waiting t.0 =
+    ap (λ (x : Released). x.after.waiting) t.1.is ∙ waiting_kept (judged rest r.op) r.op rest waits in
     let shorter = length-remove s.waiting t.0 t.1.place in
     omega (arith, shorter, ap length left)
 
@@ -126,7 +131,8 @@ verdict_history Integrated o s = take-append_seam s.history (o ∷ [])
 pub release_history : (s : State) (r : Released) → released s ≡ Some r → take (length s.history) r.after.history ≡ s.history
 release_history s r is =
     let t = taken_at s r is in
-    ap (λ (x : Released). take (length s.history) x.after.history) t.1.is ∙ verdict_history (judged (without_waiting s t.0) r.op) r.op (without_waiting s t.0)
+    ap (λ (x : Released). take (length s.history) x.after.history) t.1.is
+    ∙ verdict_history (judged (without_waiting s t.0) r.op) r.op (without_waiting s t.0)
 
 -- a list that begins with one that begins with a third begins with the third
 pub begins_on : {X : Type 0} (a b c : List X) → take (length a) b ≡ a → take (length b) c ≡ b → take (length a) c ≡ a
@@ -177,7 +183,8 @@ none_settled s is = from (first_answer s.history s.waiting)
     from : FirstAnswer s.history s.waiting (first_ready s.history s.waiting) → IsSettled s
     from (inr (none, _)) = none
     from (inl (i, some, found)) =
-        absurd (none-some (delivered_again (without_waiting s i) found.op) (sym is ∙ (ap (released_at s) some ∙ ap (option_map (delivered_again (without_waiting s i))) found.at)))
+        absurd (none-some (delivered_again (without_waiting s i) found.op)
+        (sym is ∙ (ap (released_at s) some ∙ ap (option_map (delivered_again (without_waiting s i))) found.at)))
 
 pub settled_has_none : (s : State) → IsSettled s → all_releases s ≡ []
 settled_has_none s settles = releases_none (length s.waiting) s (none_released s settles)
@@ -198,8 +205,11 @@ releases_zero : (s : State) → releases zero s ≡ []
 unfolding releases
 releases_zero s = refl
 
-settle_by : (n : ℕ) → ((r : Released) → IsSound r.after → length r.after.waiting ≤ n → IsSettled (state_after r.after (releases n r.after))) → (s : State) → IsSound s → length s.waiting ≤ suc n → (r : Option Released) → released s ≡ r → IsSettled (state_after s (releases (suc n) s))
-settle_by n rest s sound few None none = subst IsSettled (sym (ap (state_after s) (releases_none (suc n) s none) ∙ after_none s)) (none_settled s none)
+settle_by : (n : ℕ) → ((r : Released) → IsSound r.after → length r.after.waiting ≤ n → IsSettled (state_after r.after (releases n r.after)))
+    → (s : State) → IsSound s → length s.waiting ≤ suc n → (r : Option Released) → released s ≡ r
+    → IsSettled (state_after s (releases (suc n) s))
+settle_by n rest s sound few None none =
+    subst IsSettled (sym (ap (state_after s) (releases_none (suc n) s none) ∙ after_none s)) (none_settled s none)
 settle_by n rest s sound few (Some r) some =
     subst IsSettled (sym (ap (state_after s) (releases_some n s r some) ∙ after_more s r (releases n r.after)))
     (rest r (sound_released s r sound some) (omega (arith, few, release_fewer s r sound some)))
@@ -212,9 +222,11 @@ releases_settle (suc n) s sound few = settle_by n (λ r after less. releases_set
 pub settled_settles : (s : State) → IsSound s → IsSettled (settled s)
 settled_settles s sound = releases_settle (length s.waiting) s sound (omega arith)
 
-few_by : (n : ℕ) → ((s : State) → length (releases n s) ≤ n) → (s : State) (r : Option Released) → released s ≡ r → length (releases (suc n) s) ≤ suc n
+few_by : (n : ℕ) → ((s : State) → length (releases n s) ≤ n) → (s : State) (r : Option Released) → released s ≡ r
+    → length (releases (suc n) s) ≤ suc n
 few_by n rest s None none = subst (λ (rs : List Released). length rs ≤ suc n) (sym (releases_none (suc n) s none)) (omega arith)
-few_by n rest s (Some r) some = subst (λ (rs : List Released). length rs ≤ suc n) (sym (releases_some n s r some)) (omega (arith, rest r.after))
+few_by n rest s (Some r) some =
+    subst (λ (rs : List Released). length rs ≤ suc n) (sym (releases_some n s r some)) (omega (arith, rest r.after))
 
 pub releases_few : (n : ℕ) (s : State) → length (releases n s) ≤ n
 releases_few zero s = subst (λ (rs : List Released). length rs ≤ zero) (sym (releases_zero s)) (omega arith)
@@ -227,13 +239,21 @@ pub record IsFirstOf (n : ℕ) (s : State) (r : Released) (rs : List Released) :
   pub one_more : n ≡ suc more
   pub rest : releases more r.after ≡ rs
 
-first_of_some : (n : ℕ) (s : State) (q r : Released) (rs : List Released) → released s ≡ Some q → q ∷ releases n q.after ≡ r ∷ rs → IsFirstOf (suc n) s r rs
+first_of_some : (n : ℕ) (s : State) (q r : Released) (rs : List Released) → released s ≡ Some q → q ∷ releases n q.after ≡ r ∷ rs
+    → IsFirstOf (suc n) s r rs
 first_of_some n s q r rs some at =
     let same : q ≡ r = cc in
     let others : releases n q.after ≡ rs = cc in
-    record { release = some ∙ ap (λ x. Some x) same; more = n; one_more = refl; rest = ap (λ (x : Released). releases n x.after) (sym same) ∙ others }
+    record {
+      release = some ∙ ap (λ x. Some x) same;
+      more = n;
+      one_more = refl;
+      rest =
+          ap (λ (x : Released). releases n x.after) (sym same) ∙ others;
+    }
 
-first_of_by : (n : ℕ) (s : State) (r : Released) (rs : List Released) (q : Option Released) → released s ≡ q → releases (suc n) s ≡ r ∷ rs → IsFirstOf (suc n) s r rs
+first_of_by : (n : ℕ) (s : State) (r : Released) (rs : List Released) (q : Option Released) → released s ≡ q → releases (suc n) s ≡ r ∷ rs
+    → IsFirstOf (suc n) s r rs
 first_of_by n s r rs None none at = absurd (empty r rs (sym (releases_none (suc n) s none) ∙ at))
   where
     empty : (r : Released) (rs : List Released) → [] ≡ r ∷ rs → ⊥
@@ -248,7 +268,8 @@ first_of zero s r rs at = absurd (empty r rs (sym (releases_zero s) ∙ at))
 first_of (suc n) s r rs at = first_of_by n s r rs (released s) refl at
 
 -- each release is the first ready one of the state before it
-pub release_at : (n : ℕ) (s : State) (done : List Released) (r : Released) (left : List Released) → releases n s ≡ done ++ r ∷ left → released (state_after s done) ≡ Some r
+pub release_at : (n : ℕ) (s : State) (done : List Released) (r : Released) (left : List Released) → releases n s ≡ done ++ r ∷ left
+    → released (state_after s done) ≡ Some r
 release_at n s [] r left at = ap (λ x. released x) (after_none s) ∙ (first_of n s r left at).release
 release_at n s (d ∷ ds) r left at =
     let f = first_of n s d (ds ++ r ∷ left) at in
@@ -264,14 +285,18 @@ pub later_released : (s : State) (r : Released) → released s ≡ Some r → Is
 later_released s r is = record { number = release_number s r is; history = release_history s r is }
 
 -- each release leaves a sound state, which is a later one of the same site
-pub sound_along : (n : ℕ) (s : State) (done left : List Released) → IsSound s → releases n s ≡ done ++ left → IsSound (state_after s done) × IsLater s (state_after s done)
+pub sound_along : (n : ℕ) (s : State) (done left : List Released) → IsSound s → releases n s ≡ done ++ left
+    → IsSound (state_after s done) × IsLater s (state_after s done)
 sound_along n s [] left sound at = subst (λ t. IsSound t × IsLater s t) (sym (after_none s)) (sound, later_same s)
 sound_along n s (d ∷ ds) left sound at =
     let f = first_of n s d (ds ++ left) at in
     let rest = sound_along f.more d.after ds left (sound_released s d sound f.release) f.rest in
-    subst (λ t. IsSound t × IsLater s t) (sym (after_more s d ds)) (rest.0, later_on s d.after (state_after d.after ds) (later_released s d f.release) rest.1)
+    subst (λ t. IsSound t × IsLater s t) (sym (after_more s d ds))
+    (rest.0, later_on s d.after (state_after d.after ds) (later_released s d f.release) rest.1)
 
-never_by : (n : ℕ) → ((t : State) (q : Released) (k : Member) → IsSound t → Contains (releases n t) q → ¬ (q.verdict ≡ Waits k)) → (s : State) (r : Released) (m : Member) → IsSound s → (p : Option Released) → released s ≡ p → Contains (releases (suc n) s) r → ¬ (r.verdict ≡ Waits m)
+never_by : (n : ℕ) → ((t : State) (q : Released) (k : Member) → IsSound t → Contains (releases n t) q → ¬ (q.verdict ≡ Waits k))
+    → (s : State) (r : Released) (m : Member) → IsSound s → (p : Option Released) → released s ≡ p → Contains (releases (suc n) s) r
+    → ¬ (r.verdict ≡ Waits m)
 never_by n rest s r m sound None none there = absurd (contains_none r (subst (λ rs. Contains rs r) (releases_none (suc n) s none) there))
 never_by n rest s r m sound (Some p) some there =
     elim (contains_cases p (releases n p.after) r (subst (λ rs. Contains rs r) (releases_some n s p some) there)) [
@@ -297,7 +322,8 @@ pub record IsSettling (s now : State) (old new : List Release) : Type 0 where
 pub settling_first : (s : State) (old : List Release) → IsSound s → IsSettling s s old old
 settling_first s old sound = record { sound = sound; done = []; parts = refl; state = sym (after_none s); listed = sym (append-nil old) }
 
-pub settling_more : (s now next : State) (old new more : List Release) → IsSettling s now old new → IsReleasedInto now next new more true → IsSettling s next old more
+pub settling_more : (s now next : State) (old new more : List Release) → IsSettling s now old new → IsReleasedInto now next new more true
+    → IsSettling s next old more
 settling_more s now next old new more w (r, is, after, listed) =
     let sound : IsSound now = subst IsSound (sym w.state) (sound_along (length s.waiting) s w.done (all_releases now) w.sound w.parts).0 in
     record {
@@ -315,7 +341,8 @@ settling_more s now next old new more w (r, is, after, listed) =
           ∙ ap (λ rs. old ++ rs) (sym (map-append release_of w.done (r ∷ [])));
     }
 
-pub settling_fewer : (s now next : State) (old new more : List Release) → IsSettling s now old new → IsReleasedInto now next new more true → length next.waiting < length now.waiting
+pub settling_fewer : (s now next : State) (old new more : List Release) → IsSettling s now old new → IsReleasedInto now next new more true
+    → length next.waiting < length now.waiting
 settling_fewer s now next old new more w (r, is, after, listed) =
     let sound : IsSound now = subst IsSound (sym w.state) (sound_along (length s.waiting) s w.done (all_releases now) w.sound w.parts).0 in
     omega (arith, release_fewer now r sound is, ap (λ (t : State). length t.waiting) after)
@@ -324,7 +351,8 @@ settling_all : (s now : State) (old new : List Release) → (w : IsSettling s no
 settling_all s now old new w none = w.parts ∙ ap (λ rs. w.done ++ rs) (releases_none (length now.waiting) now none) ∙ append-nil w.done
 
 -- nothing more is released: the state is settled, and all releases are listed
-pub settling_last : (s now next : State) (old new more : List Release) → IsSettling s now old new → IsReleasedInto now next new more false → (next ≡ settled s) × (more ≡ old ++ map release_of (all_releases s))
+pub settling_last : (s now next : State) (old new more : List Release) → IsSettling s now old new → IsReleasedInto now next new more false
+    → (next ≡ settled s) × (more ≡ old ++ map release_of (all_releases s))
 settling_last s now next old new more w (none, same, kept) =
     let all = settling_all s now old new w none in (
       same ∙ w.state ∙ ap (λ rs. state_after s rs) (sym all),

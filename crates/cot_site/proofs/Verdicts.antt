@@ -29,16 +29,20 @@ pick a b l n r = if a then Repeat else if b then Forged n else waiting_verdict l
 pub repeat_is : (h w : List OpData) (o : OpData) → is_repeat h o ≡ true → verdict_of h w o ≡ Repeat
 repeat_is h w o e i = pick (e i) (is_forged h w o) (lacked h (context_of o)) (target_of (member_of o)) (ready_verdict h o)
 
-pub forged_is : (h w : List OpData) (o : OpData) → is_repeat h o ≡ false → is_forged h w o ≡ true → verdict_of h w o ≡ Forged (target_of (member_of o))
+pub forged_is : (h w : List OpData) (o : OpData) → is_repeat h o ≡ false → is_forged h w o ≡ true
+    → verdict_of h w o ≡ Forged (target_of (member_of o))
 forged_is h w o e f i = pick (e i) (f i) (lacked h (context_of o)) (target_of (member_of o)) (ready_verdict h o)
 
-pub waits_is : (h w : List OpData) (o : OpData) (m : Member) → is_repeat h o ≡ false → is_forged h w o ≡ false → lacked h (context_of o) ≡ Some m → verdict_of h w o ≡ Waits m
+pub waits_is : (h w : List OpData) (o : OpData) (m : Member) → is_repeat h o ≡ false → is_forged h w o ≡ false
+    → lacked h (context_of o) ≡ Some m → verdict_of h w o ≡ Waits m
 waits_is h w o m e f l i = pick (e i) (f i) (l i) (target_of (member_of o)) (ready_verdict h o)
 
-pub ready_is : (h w : List OpData) (o : OpData) → is_repeat h o ≡ false → is_forged h w o ≡ false → lacked h (context_of o) ≡ None → verdict_of h w o ≡ ready_verdict h o
+pub ready_is : (h w : List OpData) (o : OpData) → is_repeat h o ≡ false → is_forged h w o ≡ false → lacked h (context_of o) ≡ None
+    → verdict_of h w o ≡ ready_verdict h o
 ready_is h w o e f l i = pick (e i) (f i) (l i) (target_of (member_of o)) (ready_verdict h o)
 
-pub waiting_is : (h w : List OpData) (o : OpData) → is_repeat h o ≡ false → is_forged h w o ≡ false → verdict_of h w o ≡ waiting_verdict (lacked h (context_of o)) (ready_verdict h o)
+pub waiting_is : (h w : List OpData) (o : OpData) → is_repeat h o ≡ false → is_forged h w o ≡ false
+    → verdict_of h w o ≡ waiting_verdict (lacked h (context_of o)) (ready_verdict h o)
 waiting_is h w o e f i = pick (e i) (f i) (lacked h (context_of o)) (target_of (member_of o)) (ready_verdict h o)
 
 -- whether the place is among the cells of the context
@@ -64,12 +68,14 @@ ready_open h (undoing a t g c) s original e = absurd (false≢true original)
 some_same : (p q : ℕ) → Some p ≡ Some q → p ≡ q
 some_same p q e = cc
 
-pub ready_out : (h : List OpData) (o : OpData) (p : ℕ) → site_of h o ≡ None → fits h o ≡ false → place_in o ≡ Some p → ready_verdict h o ≡ PlaceOut p (inserts_in h (context_of o))
+pub ready_out : (h : List OpData) (o : OpData) (p : ℕ) → site_of h o ≡ None → fits h o ≡ false → place_in o ≡ Some p
+    → ready_verdict h o ≡ PlaceOut p (inserts_in h (context_of o))
 ready_out h (inserting n q ch c) p e f at = λ i. placed_verdict (e i) (f i) (some_same q p at i) (inserts_in h c)
 ready_out h (deleting n q c) p e f at = λ i. placed_verdict (e i) (f i) (some_same q p at i) (inserts_in h c)
 ready_out h (undoing a t g c) p e f at = absurd (true≢false f)
 
-pub ready_fine : (h : List OpData) (o : OpData) → (is_original o ≡ true → site_of h o ≡ None) → fits h o ≡ true → ready_verdict h o ≡ Integrated
+pub ready_fine : (h : List OpData) (o : OpData) → (is_original o ≡ true → site_of h o ≡ None) → fits h o ≡ true
+    → ready_verdict h o ≡ Integrated
 ready_fine h (inserting n p ch c) e f = λ i. placed_verdict (e refl i) (f i) p (inserts_in h c)
 ready_fine h (deleting n p c) e f = λ i. placed_verdict (e refl i) (f i) p (inserts_in h c)
 ready_fine h (undoing a t g c) e f = refl
@@ -82,11 +88,14 @@ formed_context (deleting n p c) f = f.in_range.2
 formed_context (undoing a t g c) f = f.in_range.4
 
 -- of a context that is there and closed nothing is lacked, and no site is open
-pub judged_covered : (h : List OpData) → IsValid h → (o : OpData) → IsWellFormed o → (n : ℕ) → IsJudged h (context_of o) n → first_uncovered h (context_of o) (context_of o).counts ≡ None
+pub judged_covered : (h : List OpData) → IsValid h → (o : OpData) → IsWellFormed o → (n : ℕ) → IsJudged h (context_of o) n
+    → first_uncovered h (context_of o) (context_of o).counts ≡ None
 judged_covered h valid o formed n known =
-    none_closed h (context_of o) (first_uncovered h (context_of o) (context_of o).counts) (uncovered h (complete h valid) (context_of o) known.ready (formed_context o formed).counts) known.closed
+    none_closed h (context_of o) (first_uncovered h (context_of o) (context_of o).counts)
+    (uncovered h (complete h valid) (context_of o) known.ready (formed_context o formed).counts) known.closed
 
-pub judged_ready : (h : List OpData) → IsValid h → (o : OpData) → IsWellFormed o → (n : ℕ) → IsJudged h (context_of o) n → lacked h (context_of o) ≡ None
+pub judged_ready : (h : List OpData) → IsValid h → (o : OpData) → IsWellFormed o → (n : ℕ) → IsJudged h (context_of o) n
+    → lacked h (context_of o) ≡ None
 judged_ready h valid o formed n known = lacked_none h (complete h valid) (context_of o) (formed_context o formed) known.ready
 
 place_of_original : (o : OpData) → is_original o ≡ true → (p : ℕ) × (place_in o ≡ Some p)
@@ -119,7 +128,8 @@ module _ (h w : List OpData) (valid : IsValid h) (o : OpData) (formed : IsWellFo
       elim (cases_Bool (is_original o)) [
         | inr undo ↦
             let fine = ready_fine h o (λ original. absurd (true≢false (sym original ∙ undo))) (undo_fits h o undo) in
-            subst (IsVerdict h w o) (sym fine) (new, ready, (λ original. absurd (true≢false (sym original ∙ undo))), (fits_decides h o).0 (undo_fits h o undo))
+            subst (IsVerdict h w o) (sym fine)
+            (new, ready, (λ original. absurd (true≢false (sym original ∙ undo))), (fits_decides h o).0 (undo_fits h o undo))
         | inl original ↦ elim (sites ready) [
           | inl (s, is, first) ↦ subst (IsVerdict h w o) (sym (ready_open h o s original is)) (new, ready, original, first)
           | inr (is, closed) ↦ elim (cases_Bool (fits h o)) [
@@ -132,10 +142,14 @@ module _ (h w : List OpData) (valid : IsValid h) (o : OpData) (formed : IsWellFo
         ]
       ]
 
-  lacked_holds : IsNew h w o → is_repeat h o ≡ false → is_forged h w o ≡ false → (r : Option Member) → lacked h (context_of o) ≡ r → IsVerdict h w o (verdict_of h w o)
-  lacked_holds new e f (Some m) l = subst (IsVerdict h w o) (sym (waits_is h w o m e f l)) (new, first_lacked_is h (complete h valid) (context_of o) m (formed_context o formed) l)
+  lacked_holds : IsNew h w o → is_repeat h o ≡ false → is_forged h w o ≡ false → (r : Option Member) → lacked h (context_of o) ≡ r
+      → IsVerdict h w o (verdict_of h w o)
+  lacked_holds new e f (Some m) l =
+      subst (IsVerdict h w o) (sym (waits_is h w o m e f l))
+      (new, first_lacked_is h (complete h valid) (context_of o) m (formed_context o formed) l)
   lacked_holds new e f None l =
-      subst (IsVerdict h w o) (sym (ready_is h w o e f l)) (ready_holds new (nothing_lacked h (complete h valid) (context_of o) (formed_context o formed) l))
+      subst (IsVerdict h w o) (sym (ready_is h w o e f l))
+      (ready_holds new (nothing_lacked h (complete h valid) (context_of o) (formed_context o formed) l))
 
   forged_holds : ¬ IsRepeat h o → is_repeat h o ≡ false → is_forged h w o ≡ true → IsVerdict h w o (verdict_of h w o)
   forged_holds isnt e f =
@@ -167,7 +181,9 @@ module _ (h w : List OpData) (valid : IsValid h) (o : OpData) (formed : IsWellFo
   -- ---- and no other verdict's words do
 
   all_there : IsNew h w o → LacksNothing h (context_of o) → verdict_of h w o ≡ ready_verdict h o
-  all_there new ready = ready_is h w o (not_repeat h o new.no_repeat) (not_forged h w o new.no_forgery) (lacked_none h (complete h valid) (context_of o) (formed_context o formed) ready)
+  all_there new ready =
+      ready_is h w o (not_repeat h o new.no_repeat) (not_forged h w o new.no_forgery)
+      (lacked_none h (complete h valid) (context_of o) (formed_context o formed) ready)
 
   pub verdict_only : (v : Verdict) → IsVerdict h w o v → v ≡ verdict_of h w o
   verdict_only Repeat is = sym (repeat_is h w o ((repeat_decides h o).1 is))
@@ -175,14 +191,17 @@ module _ (h w : List OpData) (valid : IsValid h) (o : OpData) (formed : IsWellFo
       let name : Forged (target_of (member_of o)) ≡ Forged n = ap (λ m. Forged (target_of m)) forgery.name in
       sym (forged_is h w o (not_repeat h o isnt) ((forged_decides h w o n forgery.name).1 forgery) ∙ name)
   verdict_only (Waits m) (new, first) =
-      sym (waits_is h w o m (not_repeat h o new.no_repeat) (not_forged h w o new.no_forgery) (lacked_some h (complete h valid) (context_of o) m (formed_context o formed) first))
+      sym (waits_is h w o m (not_repeat h o new.no_repeat) (not_forged h w o new.no_forgery)
+      (lacked_some h (complete h valid) (context_of o) m (formed_context o formed) first))
   verdict_only (NotClosed s) (new, ready, original, first) =
       sym (all_there new ready ∙ ready_open h o s original (some_open h (context_of o) (site_of h o) s (sites ready) first))
   verdict_only (PlaceOut p k) (new, ready, closed, out, at, count) =
       let isnt : fits h o ≡ false = false_from_ne_true (fits h o) (λ so. out ((fits_decides h o).0 so)) in
-      sym (all_there new ready ∙ (ready_out h o p (none_closed h (context_of o) (site_of h o) (sites ready) closed) isnt at ∙ ap (λ x. PlaceOut p x) (sym count)))
+      sym (all_there new ready ∙ (ready_out h o p (none_closed h (context_of o) (site_of h o) (sites ready) closed) isnt at
+      ∙ ap (λ x. PlaceOut p x) (sym count)))
   verdict_only Integrated (new, ready, closed, placed) =
-      sym (all_there new ready ∙ ready_fine h o (λ original. none_closed h (context_of o) (site_of h o) (sites ready) (closed original)) ((fits_decides h o).1 placed))
+      sym (all_there new ready ∙ ready_fine h o (λ original. none_closed h (context_of o) (site_of h o) (sites ready) (closed original))
+      ((fits_decides h o).1 placed))
 
 -- ---- members and repeats
 
@@ -199,7 +218,8 @@ reached_group h valid t g least reached =
     sym (w.holds (Group t g)) ∙ has_group (context_of_all h) t g least (omega (arith, reached, generation_is h valid t))
 
 -- an operation whose member is known is a repeat, or there is another of its name
-known_original : (h w : List OpData) (o : OpData) (n : NameData) → member_of o ≡ Original n → is_known h (member_of o) ≡ true → IsNew h w o → (Contains h o → IsRepeat h o) → ⊥
+known_original : (h w : List OpData) (o : OpData) (n : NameData) → member_of o ≡ Original n → is_known h (member_of o) ≡ true → IsNew h w o
+    → (Contains h o → IsRepeat h o) → ⊥
 known_original h w o n is known new same_is =
     let held = holder h (member_of o) known in
     elim (cases_Bool (op_eq held.op o)) [
@@ -228,8 +248,10 @@ unknown_no_repeat h valid (undoing a t g c) f new reached = true≢false (sym (r
 
 -- ---- laws
 
-pub verdicts_exact : (h w : List OpData) (o : OpData) (v : Verdict) → IsValid h → IsWellFormed o → IsVerdict h w o v ↔ (v ≡ verdict_of h w o)
-verdicts_exact h w o v valid formed = (verdict_only h w valid o formed v, λ e. subst (IsVerdict h w o) (sym e) (verdict_holds h w valid o formed))
+pub verdicts_exact : (h w : List OpData) (o : OpData) (v : Verdict) → IsValid h → IsWellFormed o
+    → IsVerdict h w o v ↔ (v ≡ verdict_of h w o)
+verdicts_exact h w o v valid formed =
+    (verdict_only h w valid o formed v, λ e. subst (IsVerdict h w o) (sym e) (verdict_holds h w valid o formed))
 
 pub integrated_next : (h w : List OpData) (o : OpData) → IsValid h → IsWellFormed o → verdict_of h w o ≡ Integrated → IsNext h o
 integrated_next h w o valid formed e =
@@ -242,12 +264,14 @@ integrated_next h w o valid formed e =
       placed = is.3;
     }
 
-pub integrated_alone : (h w : List OpData) (o : OpData) → IsValid h → IsWellFormed o → verdict_of h w o ≡ Integrated → (n : NameData) → member_of o ≡ Original n → ¬ HasOther w o n
+pub integrated_alone : (h w : List OpData) (o : OpData) → IsValid h → IsWellFormed o → verdict_of h w o ≡ Integrated → (n : NameData)
+    → member_of o ≡ Original n → ¬ HasOther w o n
 integrated_alone h w o valid formed e n name other =
     let is : IsVerdict h w o Integrated = subst (IsVerdict h w o) e (verdict_holds h w valid o formed) in
     is.0.no_forgery n (record { name = name; known = inr other })
 
-pub next_integrated : (h w : List OpData) (o : OpData) → IsValid h → IsWellFormed o → IsNext h o → ((n : NameData) → member_of o ≡ Original n → ¬ HasOther w o n) → verdict_of h w o ≡ Integrated
+pub next_integrated : (h w : List OpData) (o : OpData) → IsValid h → IsWellFormed o → IsNext h o
+    → ((n : NameData) → member_of o ≡ Original n → ¬ HasOther w o n) → verdict_of h w o ≡ Integrated
 next_integrated h w o valid formed next alone =
     let new : IsNew h w o = record {
       no_repeat = unknown_no_repeat h valid o formed next.new;
@@ -256,5 +280,6 @@ next_integrated h w o valid formed next alone =
     sym (verdict_only h w valid o formed Integrated (new, next.ready, next.closed, next.placed))
   where
     no_other : (n : NameData) → member_of o ≡ Original n → HasOther h o n ⊎ HasOther w o n → ⊥
-    no_other n name (inl other) = true≢false (sym (known_member h other.other other.there) ∙ (ap (is_known h) (other.same_name ∙ sym name) ∙ next.new))
+    no_other n name (inl other) =
+        true≢false (sym (known_member h other.other other.there) ∙ (ap (is_known h) (other.same_name ∙ sym name) ∙ next.new))
     no_other n name (inr other) = alone n name other

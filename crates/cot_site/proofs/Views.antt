@@ -18,7 +18,8 @@ pub shown_count : (h : List OpData) (cs : List CellData) → IsReplayed h cs →
 shown_count h cs is = sym (length-map (filter cell_shown cs) cell_key) ∙ ap length (replayed_shown h cs is)
 
 -- the places of what passes, cell by cell
-same_places : (p : Cell → Bool) (cs : List CellData) (n : ℕ) → ((d : CellData) → IsIn d cs → cell_shown d ≡ p (cell_key d)) → places_from cell_shown n cs ≡ places_from p n (map cell_key cs)
+same_places : (p : Cell → Bool) (cs : List CellData) (n : ℕ) → ((d : CellData) → IsIn d cs → cell_shown d ≡ p (cell_key d))
+    → places_from cell_shown n cs ≡ places_from p n (map cell_key cs)
 same_places p [] n same = refl
 same_places p (c ∷ cs) n same =
     let rest = same_places p cs (suc n) (λ d i. same d (inr i)) in
@@ -51,10 +52,12 @@ pub shown_name : (h : List OpData) (cs : List CellData) (v : ℕ) → IsReplayed
     → option_map (λ (c : CellData). c.name) (slice_get (shown_cells cs) v) ≡ option_map (λ (d : Cell). d.0) (slice_get (shown h) v)
 shown_name h cs v is =
     same_name (slice_get (shown_cells cs) v)
-    ∙ ap (λ (o : Option Cell). option_map (λ (d : Cell). d.0) o) (sym (slice_get-map cell_key (shown_cells cs) v) ∙ ap (λ (ds : List Cell). slice_get ds v) (replayed_shown h cs is))
+    ∙ ap (λ (o : Option Cell). option_map (λ (d : Cell). d.0) o)
+    (sym (slice_get-map cell_key (shown_cells cs) v) ∙ ap (λ (ds : List Cell). slice_get ds v) (replayed_shown h cs is))
 
 -- nothing stands at a place exactly from the end on
-pub none_past : {A B : Type 0} (f : A → B) (xs : List A) (v : ℕ) (o : Option B) → o ≡ option_map f (slice_get xs v) → IsNone o ↔ (length xs ≤ v)
+pub none_past : {A B : Type 0} (f : A → B) (xs : List A) (v : ℕ) (o : Option B) → o ≡ option_map f (slice_get xs v)
+    → IsNone o ↔ (length xs ≤ v)
 none_past {A} {B} f xs v o e = (
   λ none. elim (slice_get_cases xs v).1 [
     | inl there ↦ absurd (true≢false (sym (ap (λ (r : Option B). is_some r) (e ∙ ap (λ (r : Option A). option_map f r) there.2)) ∙ none))
@@ -63,7 +66,8 @@ none_past {A} {B} f xs v o e = (
   λ past. ap (λ (r : Option B). is_some r) (e ∙ ap (λ (r : Option A). option_map f r) (slice_get_past xs v past)),
 )
 
-pub no_name : (cs : List CellData) (v : ℕ) (o : Option ℕ) → IsSome o ↔ (v < length (shown_cells cs)) → o ≡ None → None ≡ option_map (λ (c : CellData). c.name) (slice_get (shown_cells cs) v)
+pub no_name : (cs : List CellData) (v : ℕ) (o : Option ℕ) → IsSome o ↔ (v < length (shown_cells cs)) → o ≡ None
+    → None ≡ option_map (λ (c : CellData). c.name) (slice_get (shown_cells cs) v)
 no_name cs v o found none = elim (slice_get_cases (shown_cells cs) v).1 [
   | inl there ↦ absurd (true≢false (sym (found.1 there.1) ∙ ap (λ (r : Option ℕ). is_some r) none))
   | inr past ↦ sym (ap (λ (r : Option CellData). option_map (λ (c : CellData). c.name) r) past.1)
@@ -72,7 +76,8 @@ no_name cs v o found none = elim (slice_get_cases (shown_cells cs) v).1 [
 -- there are no more places of cells that pass than cells
 pub places_few : (test : Cell → Bool) (n : ℕ) (cs : List Cell) → length (places_from test n cs) ≤ length cs
 places_few test n [] = omega arith
-places_few test n (c ∷ cs) = elim (test c) as (λ (b : Bool). length (if b then n ∷ places_from test (suc n) cs else places_from test (suc n) cs) ≤ suc (length cs)) [
-  | true ↦ omega (arith, places_few test (suc n) cs)
-  | false ↦ omega (arith, places_few test (suc n) cs)
-]
+places_few test n (c ∷ cs) =
+    elim (test c) as (λ (b : Bool). length (if b then n ∷ places_from test (suc n) cs else places_from test (suc n) cs) ≤ suc (length cs)) [
+      | true ↦ omega (arith, places_few test (suc n) cs)
+      | false ↦ omega (arith, places_few test (suc n) cs)
+    ]

@@ -30,7 +30,8 @@ use Rattle.cot_site.proofs.Covers.{none_true}
 
 -- ---- without one of them
 
-any_remove : {A : Type 0} (p : A → Bool) (xs : List A) (i : ℕ) (x : A) → slice_get xs i ≡ Some x → p x ≡ false → list_any p (remove xs i) ≡ list_any p xs
+any_remove : {A : Type 0} (p : A → Bool) (xs : List A) (i : ℕ) (x : A) → slice_get xs i ≡ Some x → p x ≡ false
+    → list_any p (remove xs i) ≡ list_any p xs
 any_remove p [] zero x at lacks = refl
 any_remove p [] (suc i) x at lacks = refl
 any_remove p (y ∷ ys) zero x at lacks =
@@ -43,7 +44,9 @@ not_other o = and_right (member_eq (member_of o) (member_of o)) (not (op_eq o o)
 
 -- the verdict, by whether another of the name waits
 abbrev verdict_by : List OpData → OpData → Bool → Verdict
-verdict_by h o b = pick (is_repeat h o) (is_original o && (list_any (is_other o) h || b)) (lacked h (context_of o)) (target_of (member_of o)) (ready_verdict h o)
+verdict_by h o b =
+    pick (is_repeat h o) (is_original o && (list_any (is_other o) h || b)) (lacked h (context_of o)) (target_of (member_of o))
+    (ready_verdict h o)
 
 -- the verdict on one that waits is the same whether it is among the others or not
 pub verdict_alone : (h w : List OpData) (i : ℕ) (o : OpData) → slice_get w i ≡ Some o → verdict_of h w o ≡ verdict_of h (remove w i) o
@@ -68,7 +71,8 @@ pub held_formed : (w : List OpData) (o : OpData) → AllFormed w → IsWellForme
 held_formed w o all formed x at =
     elim (Contains-push_cases w o x at) [ inl old ↦ all x old | inr same ↦ subst IsWellFormed same formed ]
 
-pub held_new : (w : List OpData) (o : OpData) (added : Bool) → (added ≡ false) ↔ Contains w o → (if added then w ++ o ∷ [] else w) ≡ held w o
+pub held_new : (w : List OpData) (o : OpData) (added : Bool) → (added ≡ false) ↔ Contains w o
+    → (if added then w ++ o ∷ [] else w) ≡ held w o
 held_new w o true new =
     let apart : list_any (op_eq o) w ≡ false = false_from_ne_true (list_any (op_eq o) w) (λ e. true≢false (new.1 ((same_any o w).0 e))) in
     ap (λ (b : Bool). if b then w else w ++ o ∷ []) (sym apart)
@@ -106,10 +110,12 @@ ready_decides h valid o formed =
     )
   where
     from : IsReady (context_of_all h) o → is_ready h o ≡ true
-    from (inl there) = or_left (is_known h (member_of o)) (is_none (lacked h (context_of o))) (sym ((complete h valid).holds (member_of o)) ∙ there)
+    from (inl there) =
+        or_left (is_known h (member_of o)) (is_none (lacked h (context_of o))) (sym ((complete h valid).holds (member_of o)) ∙ there)
     from (inr within) =
         or_right (is_known h (member_of o)) (is_none (lacked h (context_of o)))
-        (ap (λ r. is_none r) (lacked_none h (complete h valid) (context_of o) (formed_context o formed) (λ m at. sym ((complete h valid).holds m) ∙ within m at)))
+        (ap (λ r. is_none r) (lacked_none h (complete h valid) (context_of o) (formed_context o formed)
+        (λ m at. sym ((complete h valid).holds m) ∙ within m at)))
 
 pub got_there : (w : List OpData) (i : ℕ) (o : OpData) → slice_get w i ≡ Some o → Contains w o
 got_there [] i o at = absurd (none_got i o at)
@@ -135,15 +141,18 @@ module _ (h : List OpData) (valid : IsValid h) (w : List OpData) (all : AllForme
             ]
       ]
 
-  found_by : (r : Option ℕ) → (IsNone r ↔ NoneReady (context_of_all h) w) → IfSome r (IsFirstReady (context_of_all h) w) → (q : Option ℕ) → FirstAnswer h w q → r ≡ q
-  found_by None none first q (inl (i, is, found)) = absurd (none.0 refl found.op found.there ((ready_decides h valid found.op (all found.op found.there)).0 found.ready))
+  found_by : (r : Option ℕ) → (IsNone r ↔ NoneReady (context_of_all h) w) → IfSome r (IsFirstReady (context_of_all h) w) → (q : Option ℕ)
+      → FirstAnswer h w q → r ≡ q
+  found_by None none first q (inl (i, is, found)) =
+      absurd (none.0 refl found.op found.there ((ready_decides h valid found.op (all found.op found.there)).0 found.ready))
   found_by None none first q (inr (is, _)) = sym is
   found_by (Some j) none first q (inl (i, is, found)) = ap (λ k. Some k) (sym (same_first i j found first)) ∙ sym is
   found_by (Some j) none first q (inr (is, nothing)) =
       let there = got_there w j first.op first.there in
       absurd (true≢false (sym ((ready_decides h valid first.op (all first.op there)).1 first.ready) ∙ nothing first.op there))
 
-  pub ready_found : (r : Option ℕ) → (IsNone r ↔ NoneReady (context_of_all h) w) → IfSome r (IsFirstReady (context_of_all h) w) → r ≡ first_ready h w
+  pub ready_found : (r : Option ℕ) → (IsNone r ↔ NoneReady (context_of_all h) w) → IfSome r (IsFirstReady (context_of_all h) w)
+      → r ≡ first_ready h w
   ready_found r none first = found_by r none first (first_ready h w) (first_answer h w)
 
 -- one operation stands at a place
@@ -153,7 +162,8 @@ one_at w i o p at there =
     cc
 
 -- the verdict on the one at a place
-pub judged_at : (h w : List OpData) (i : ℕ) (o p : OpData) (v : Verdict) → slice_get w i ≡ Some p → v ≡ verdict_of h w p → slice_get w i ≡ Some o → v ≡ verdict_of h (remove w i) o
+pub judged_at : (h w : List OpData) (i : ℕ) (o p : OpData) (v : Verdict) → slice_get w i ≡ Some p → v ≡ verdict_of h w p
+    → slice_get w i ≡ Some o → v ≡ verdict_of h (remove w i) o
 judged_at h w i o p v at is there = is ∙ (ap (verdict_of h w) (one_at w i o p at there) ∙ verdict_alone h w i o there)
 
 pub formed_at : (w : List OpData) (i : ℕ) (o : OpData) → AllFormed w → slice_get w i ≡ Some o → IsWellFormed o
@@ -193,36 +203,48 @@ first_within h w i first = from (first_answer h w)
     from (inr (is, nothing)) = absurd (none-some i (sym is ∙ first))
 
 -- what a release is, where the place is the first ready one
-pub release_is : (s : State) (i : ℕ) (o : OpData) → first_ready s.history s.waiting ≡ Some i → slice_get s.waiting i ≡ Some o → released s ≡ Some (delivered_again (without_waiting s i) o)
+pub release_is : (s : State) (i : ℕ) (o : OpData) → first_ready s.history s.waiting ≡ Some i → slice_get s.waiting i ≡ Some o
+    → released s ≡ Some (delivered_again (without_waiting s i) o)
 release_is s i o first at = ap (released_at s) first ∙ ap (option_map (delivered_again (without_waiting s i))) at
 
 pub release_none : (s : State) → first_ready s.history s.waiting ≡ None → released s ≡ None
 release_none s first = ap (released_at s) first
 
 -- the state after the verdict on a ready one that isn't integrated
-pub ready_quiet : (h w : List OpData) (i : ℕ) (o p : OpData) (v : Verdict) (s : State) → IsValid h → AllFormed w → slice_get w i ≡ Some p → is_ready h p ≡ true → v ≡ verdict_of h (remove w i) p → ¬ (v ≡ Integrated) → after_verdict v o s ≡ s
+pub ready_quiet : (h w : List OpData) (i : ℕ) (o p : OpData) (v : Verdict) (s : State) → IsValid h → AllFormed w → slice_get w i ≡ Some p
+    → is_ready h p ≡ true → v ≡ verdict_of h (remove w i) p → ¬ (v ≡ Integrated) → after_verdict v o s ≡ s
 ready_quiet h w i o p v s valid all at ready is other =
     quiet v o s other (λ m e. ready_not_waits h (remove w i) p m valid (formed_at w i p all at) ready (sym is ∙ e))
 
 -- what a pool that held an operation has
-pub held_all : (w : List OpData) (o : OpData) (added : Bool) (v : List OpData) → AllFormed w → IsWellFormed o → v ≡ (if added then w ++ o ∷ [] else w) → AllFormed v
+pub held_all : (w : List OpData) (o : OpData) (added : Bool) (v : List OpData) → AllFormed w → IsWellFormed o
+    → v ≡ (if added then w ++ o ∷ [] else w) → AllFormed v
 held_all w o true v all formed is = subst AllFormed (sym is) (held_formed w o all formed)
 held_all w o false v all formed is = subst AllFormed (sym is) all
 
 -- what stands at a place, as a copy of it
-pub copied : (w : List OpData) (i : ℕ) (p : OpData) (r : Result Op Memory) → slice_get w i ≡ Some p → IfOk r (λ o. data_of o ≡ p) → IfOk r (λ o. slice_get w i ≡ Some (data_of o))
+pub copied : (w : List OpData) (i : ℕ) (p : OpData) (r : Result Op Memory) → slice_get w i ≡ Some p → IfOk r (λ o. data_of o ≡ p)
+    → IfOk r (λ o. slice_get w i ≡ Some (data_of o))
 copied w i p (Ok o) at same = at ∙ ap (λ x. Some x) (sym same)
 copied w i p (Err e) at same = tt
 
 -- one that waits and gets the verdict of an integrated one may come next
-pub ready_integrated : (h w : List OpData) (i : ℕ) (o : OpData) (v : Verdict) → IsValid h → AllFormed w → slice_get w i ≡ Some o → ((p : OpData) → slice_get w i ≡ Some p → v ≡ verdict_of h (remove w i) p) → v ≡ Integrated → IsNext h o
-ready_integrated h w i o v valid all at is integrated = integrated_next h (remove w i) o valid (formed_at w i o all at) (sym (is o at) ∙ integrated)
+pub ready_integrated : (h w : List OpData) (i : ℕ) (o : OpData) (v : Verdict) → IsValid h → AllFormed w → slice_get w i ≡ Some o
+    → ((p : OpData) → slice_get w i ≡ Some p → v ≡ verdict_of h (remove w i) p) → v ≡ Integrated → IsNext h o
+ready_integrated h w i o v valid all at is integrated =
+    integrated_next h (remove w i) o valid (formed_at w i o all at) (sym (is o at) ∙ integrated)
 
 -- ---- the first one that is ready, as a release finds it
 
-module _ (s : State) (valid : IsValid s.history) (all : AllFormed s.waiting) (have : ContextData) (w : List OpData) (is_have : have ≡ context_of_all s.history) (is_waiting : w ≡ s.waiting) (r : Option ℕ) (none : IsNone r ↔ NoneReady have w) (first : IfSome r (IsFirstReady have w)) where
+module _ (s : State) (valid : IsValid s.history) (all : AllFormed s.waiting) (have : ContextData) (w : List OpData)
+    (is_have : have ≡ context_of_all s.history) (is_waiting : w ≡ s.waiting) (r : Option ℕ) (none : IsNone r ↔ NoneReady have w)
+    (first : IfSome r (IsFirstReady have w)) where
   pub found_first : r ≡ first_ready s.history s.waiting
   found_first =
-      let whole : IsNone r ↔ NoneReady (context_of_all s.history) s.waiting = subst (λ (c : ContextData). IsNone r ↔ NoneReady c s.waiting) is_have (subst (λ (os : List OpData). IsNone r ↔ NoneReady have os) is_waiting none) in
-      let least : IfSome r (IsFirstReady (context_of_all s.history) s.waiting) = subst (λ (c : ContextData). IfSome r (IsFirstReady c s.waiting)) is_have (subst (λ (os : List OpData). IfSome r (IsFirstReady have os)) is_waiting first) in
+      let whole : IsNone r ↔ NoneReady (context_of_all s.history) s.waiting =
+      subst (λ (c : ContextData). IsNone r ↔ NoneReady c s.waiting) is_have
+      (subst (λ (os : List OpData). IsNone r ↔ NoneReady have os) is_waiting none) in
+      let least : IfSome r (IsFirstReady (context_of_all s.history) s.waiting) =
+      subst (λ (c : ContextData). IfSome r (IsFirstReady c s.waiting)) is_have
+      (subst (λ (os : List OpData). IfSome r (IsFirstReady have os)) is_waiting first) in
       ready_found s.history valid s.waiting all r whole least

@@ -23,7 +23,8 @@ two_writers = a ∷ inserting (name 1 1) 1 98 (after ((0, 1) ∷ [])) ∷ []
 pub first_insert_is_integrated : verdict_of [] [] a ≡ Integrated
 first_insert_is_integrated = refl
 
-pub early_insert_waits_for_the_first_that_is_missing : verdict_of [] [] (inserting (name 0 3) 2 99 (after ((0, 2) ∷ []))) ≡ Waits (Original (name 0 1))
+pub early_insert_waits_for_the_first_that_is_missing : verdict_of [] [] (inserting (name 0 3) 2 99 (after ((0, 2) ∷ [])))
+    ≡ Waits (Original (name 0 1))
 early_insert_waits_for_the_first_that_is_missing = refl
 
 pub known_insert_is_a_repeat : verdict_of (a ∷ []) [] a ≡ Repeat
@@ -47,10 +48,12 @@ delete_of_no_cell_is_out = refl
 pub early_undo_waits_for_its_target : verdict_of [] [] (undoing 0 (name 0 1) 1 (after ((0, 1) ∷ []))) ≡ Waits (Original (name 0 1))
 early_undo_waits_for_its_target = refl
 
-pub early_redo_waits_for_the_undo_before_it : verdict_of (a ∷ []) [] (undoing 0 (name 0 1) 2 (after_undos ((0, 1) ∷ []) ((name 0 1, 1) ∷ []))) ≡ Waits (Group (name 0 1) 1)
+pub early_redo_waits_for_the_undo_before_it : verdict_of (a ∷ []) []
+    (undoing 0 (name 0 1) 2 (after_undos ((0, 1) ∷ []) ((name 0 1, 1) ∷ []))) ≡ Waits (Group (name 0 1) 1)
 early_redo_waits_for_the_undo_before_it = refl
 
-pub second_undo_of_one_generation_is_a_repeat : verdict_of (a ∷ undoing 0 (name 0 1) 1 (after ((0, 1) ∷ [])) ∷ []) [] (undoing 1 (name 0 1) 1 (after ((0, 1) ∷ []))) ≡ Repeat
+pub second_undo_of_one_generation_is_a_repeat : verdict_of (a ∷ undoing 0 (name 0 1) 1 (after ((0, 1) ∷ [])) ∷ []) []
+    (undoing 1 (name 0 1) 1 (after ((0, 1) ∷ []))) ≡ Repeat
 second_undo_of_one_generation_is_a_repeat = refl
 
 -- the state of site 0 with one insert
@@ -63,5 +66,6 @@ redo_of_an_insert_in_force_is_refused = refl
 pub undo_of_an_unknown_name_is_refused : ◌≡◌ {A = Result OpData Local} (local_undo one_insert (name 0 9)) (Err (Unknown (name 0 9)))
 undo_of_an_unknown_name_is_refused = refl
 
-pub undo_of_an_insert_is_made : ◌≡◌ {A = Result OpData Local} (local_undo one_insert (name 0 1)) (Ok (undoing 0 (name 0 1) 1 (after ((0, 1) ∷ []))))
+pub undo_of_an_insert_is_made : ◌≡◌ {A = Result OpData Local} (local_undo one_insert (name 0 1))
+    (Ok (undoing 0 (name 0 1) 1 (after ((0, 1) ∷ []))))
 undo_of_an_insert_is_made = refl

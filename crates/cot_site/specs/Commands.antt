@@ -77,7 +77,8 @@ local_undo s t =
 abbrev pub local_redo : State → NameData → Result OpData Local
 local_redo s t =
     if is_known s.history (Original t)
-    then (if is_even (generation_in s.history t) then Err (InForce (generation_in s.history t)) else if generation_in s.history t == GENERATIONS then Err GenerationFull else turned s t)
+    then (if is_even (generation_in s.history t) then Err (InForce (generation_in s.history t))
+    else if generation_in s.history t == GENERATIONS then Err GenerationFull else turned s t)
     else Err (Unknown t)
 
 -- the answer is that of the definition, or out of memory where the definition has an operation

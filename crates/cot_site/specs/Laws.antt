@@ -44,7 +44,8 @@ NoReleaseWaits = (s : State) (r : Released) (m : Member) → IsSound s → Conta
 
 -- each release takes the first operation that is ready after the releases before it
 abbrev pub EachReleaseIsTheFirst : Type 0
-EachReleaseIsTheFirst = (s : State) (done left : List Released) (r : Released) → all_releases s ≡ done ++ r ∷ left → released (state_after s done) ≡ Some r
+EachReleaseIsTheFirst =
+    (s : State) (done left : List Released) (r : Released) → all_releases s ≡ done ++ r ∷ left → released (state_after s done) ≡ Some r
 
 -- there are at most as many releases as operations that wait
 abbrev pub ReleasesAreFew : Type 0
@@ -61,7 +62,8 @@ SettledStatesStay = (s : State) → IsSettled s → (all_releases s ≡ []) × (
 -- each release leaves a sound state of the same site, where what was integrated stays so
 abbrev pub ReleasesKeepHistories : Type 0
 ReleasesKeepHistories =
-    (s : State) (done left : List Released) → IsSound s → all_releases s ≡ done ++ left → IsSound (state_after s done) × IsLater s (state_after s done)
+    (s : State) (done left : List Released) → IsSound s → all_releases s ≡ done ++ left
+    → IsSound (state_after s done) × IsLater s (state_after s done)
 
 -- a sound state is settled exactly where no waiting operation is ready, in the words of readiness
 abbrev pub SettledStatesHaveNoneReady : Type 0
@@ -118,4 +120,5 @@ FormListsStay =
 
 -- through the list beside its state a site sees what its history shows
 abbrev pub FormListsShowTheHistories : Type 0
-FormListsShowTheHistories = (forms : State → List Form) (s : State) → AreFormLists forms → IsValid s.history → forms_view forms s ≡ history_view s
+FormListsShowTheHistories =
+    (forms : State → List Form) (s : State) → AreFormLists forms → IsValid s.history → forms_view forms s ≡ history_view s

@@ -116,5 +116,6 @@ IsVerdict h w o (Forged n) = (¬ IsRepeat h o) × IsForgery h w o n
 IsVerdict h w o (Waits m) = IsNew h w o × LacksFirst h (context_of o) m
 IsVerdict h w o (NotClosed s) = IsNew h w o × LacksNothing h (context_of o) × (is_original o ≡ true) × IsFirstOpenSite h (context_of o) s
 IsVerdict h w o (PlaceOut p k) =
-    IsNew h w o × LacksNothing h (context_of o) × IsClosed h (context_of o) × (¬ HasPlace h o) × (place_in o ≡ Some p) × (k ≡ inserts_in h (context_of o))
+    IsNew h w o × LacksNothing h (context_of o) × IsClosed h (context_of o) × (¬ HasPlace h o) × (place_in o ≡ Some p)
+    × (k ≡ inserts_in h (context_of o))
 IsVerdict h w o Integrated = IsNew h w o × LacksNothing h (context_of o) × (is_original o ≡ true → IsClosed h (context_of o)) × HasPlace h o

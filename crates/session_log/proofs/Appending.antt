@@ -7,7 +7,8 @@ use Rattle.wire_codec.specs.Spelling.{frame}
 use Rattle.session_log.specs.Logs.{frames}
 use Rattle.wire_codec.proofs.CallerLemmas.{pieces_more}
 
-pub appended_more : (old now new : List ℕ) (os : List OpData) (i : ℕ) (o : OpData) → now ≡ old ++ frames (take i os) → slice_get os i ≡ Some o → new ≡ now ++ frame o → new ≡ old ++ frames (take (i + 1) os)
+pub appended_more : (old now new : List ℕ) (os : List OpData) (i : ℕ) (o : OpData) → now ≡ old ++ frames (take i os)
+    → slice_get os i ≡ Some o → new ≡ now ++ frame o → new ≡ old ++ frames (take (i + 1) os)
 appended_more old now new os i o is at more =
     more
     ∙ ap (λ (t : List ℕ). t ++ frame o) is
@@ -18,7 +19,8 @@ pub appended_all : (old now : List ℕ) (os : List OpData) (i : ℕ) → now ≡
 appended_all old now os i is past = is ∙ ap (λ (xs : List OpData). old ++ frames xs) (take_all i os past)
 
 -- three pieces after what was there
-pub in_three : {A B : Type 0} (r : Result A B) (old a b c x y z : List ℕ) → OnOk r (z ≡ y ++ c) → y ≡ x ++ b → x ≡ old ++ a → OnOk r (z ≡ old ++ (a ++ (b ++ c)))
+pub in_three : {A B : Type 0} (r : Result A B) (old a b c x y z : List ℕ) → OnOk r (z ≡ y ++ c) → y ≡ x ++ b → x ≡ old ++ a
+    → OnOk r (z ≡ old ++ (a ++ (b ++ c)))
 in_three (Err e) old a b c x y z last middle first = tt
 in_three (Ok v) old a b c x y z last middle first =
     last

@@ -37,7 +37,8 @@ is_none_of None e = refl
 is_none_of (Some why) e = absurd (true≢false e)
 
 -- a fault that was met stays the fault
-pub still_fault : (n fed : ℕ) (left : List ℕ) (s : State) (refused f : Option LogBad) (spent : Bool) (old : ReaderData) (piece : List ℕ) → reader_of n fed left s refused f spent ≡ old → is_some f ≡ true
+pub still_fault : (n fed : ℕ) (left : List ℕ) (s : State) (refused f : Option LogBad) (spent : Bool) (old : ReaderData) (piece : List ℕ)
+    → reader_of n fed left s refused f spent ≡ old → is_some f ≡ true
     → (all : List ℕ) → Keeps old all → Keeps (reader_of n (fed + length piece) left s refused f spent) (all ++ piece)
 still_fault n fed left s refused f spent old piece view some all k =
     let r = reader_of n fed left s refused f spent in
@@ -51,14 +52,18 @@ still_fault n fed left s refused f spent old piece view some all k =
     }
 
 -- without one, what the piece leaves is kept
-pub fed_on : (n fed : ℕ) (left : List ℕ) (s : State) (refused f : Option LogBad) (spent : Bool) (old : ReaderData) (piece : List ℕ) → reader_of n fed left s refused f spent ≡ old → is_some f ≡ false → spent ≡ false
+pub fed_on : (n fed : ℕ) (left : List ℕ) (s : State) (refused f : Option LogBad) (spent : Bool) (old : ReaderData) (piece : List ℕ)
+    → reader_of n fed left s refused f spent ≡ old → is_some f ≡ false → spent ≡ false
     → (fed_then : ℕ) (left_then : List ℕ) (t : State) (now why : Option LogBad)
-    → ((all : List ℕ) → Keeps (reader_of n fed left s refused None false) all → Keeps (reader_of n fed_then left_then t now why false) (all ++ piece))
+    → ((all : List ℕ) → Keeps (reader_of n fed left s refused None false) all
+    → Keeps (reader_of n fed_then left_then t now why false) (all ++ piece))
     → (all : List ℕ) → Keeps old all → Keeps (reader_of n fed_then left_then t now why spent) (all ++ piece)
 fed_on n fed left s refused f spent old piece view none live fed_then left_then t now why goes all k =
     let same : old ≡ reader_of n fed left s refused None false =
-    sym view ∙ ap (λ (x : Option LogBad). reader_of n fed left s refused x spent) (is_none_of f none) ∙ ap (reader_of n fed left s refused None) live in
-    subst (λ (b : Bool). Keeps (reader_of n fed_then left_then t now why b) (all ++ piece)) (sym live) (goes all (subst (λ (x : ReaderData). Keeps x all) same k))
+    sym view ∙ ap (λ (x : Option LogBad). reader_of n fed left s refused x spent) (is_none_of f none)
+    ∙ ap (reader_of n fed left s refused None) live in
+    subst (λ (b : Bool). Keeps (reader_of n fed_then left_then t now why b) (all ++ piece)) (sym live)
+    (goes all (subst (λ (x : ReaderData). Keeps x all) same k))
 
 -- a fault of the bytes
 fault_of : (r : ReaderData) (all : List ℕ) (why : LogBad) → r.fault ≡ Some why → Keeps r all → IsFaultOf all why
@@ -84,7 +89,8 @@ has_read r all is enough k = elim (kept_at r all None is k) [
 ]
 
 -- the last frame is cut
-pub ends_cut : (r : ReaderData) (all : List ℕ) → r.fault ≡ None → length header ≤ r.fed → 0 < length r.left → Keeps r all → IsUnloaded r.site all (bad.Cut (r.fed - length r.left))
+pub ends_cut : (r : ReaderData) (all : List ℕ) → r.fault ≡ None → length header ≤ r.fed → 0 < length r.left → Keeps r all
+    → IsUnloaded r.site all (bad.Cut (r.fed - length r.left))
 ends_cut r all is enough some k =
     let h = has_read r all is enough k in
     let t = h.taken in
@@ -102,7 +108,8 @@ ends_cut r all is enough some k =
 ends_log : (r : ReaderData) (all : List ℕ) → r.left ≡ [] → (h : HasRead r all) → IsLogOf all h.taken.ops
 ends_log r all none h = subst (λ (t : List ℕ). BeginsWith all h.taken.ops t) none h.taken.begins
 
-pub ends_refused : (r : ReaderData) (all : List ℕ) (why : LogBad) → r.fault ≡ None → length header ≤ r.fed → r.left ≡ [] → r.refused ≡ Some why → Keeps r all → (why ≢ bad.Memory) × IsUnloaded r.site all why
+pub ends_refused : (r : ReaderData) (all : List ℕ) (why : LogBad) → r.fault ≡ None → length header ≤ r.fed → r.left ≡ []
+    → r.refused ≡ Some why → Keeps r all → (why ≢ bad.Memory) × IsUnloaded r.site all why
 ends_refused r all why is enough none refused k =
     let h = has_read r all is enough k in
     let t = h.taken in
@@ -110,7 +117,8 @@ ends_refused r all why is enough none refused k =
     let log = subst (λ (x : List ℕ). IsLogOf x t.ops) (sym (append-nil all)) (ends_log r all none h) in
     (f.0, subst (λ (x : List ℕ). IsUnloaded r.site x why) (append-nil all) (f.1 [] t.ops log))
 
-pub ends_loaded : (r : ReaderData) (all : List ℕ) → r.fault ≡ None → length header ≤ r.fed → r.left ≡ [] → r.refused ≡ None → Keeps r all → IsLoaded r.site all r.state
+pub ends_loaded : (r : ReaderData) (all : List ℕ) → r.fault ≡ None → length header ≤ r.fed → r.left ≡ [] → r.refused ≡ None → Keeps r all
+    → IsLoaded r.site all r.state
 ends_loaded r all is enough none accepted k =
     let h = has_read r all is enough k in
     let t = h.taken in
@@ -119,7 +127,8 @@ ends_loaded r all is enough none accepted k =
 
 -- ---- all of it together
 
-tests_some : (a b : Bool) (x y why : LogBad) → ◌≡◌ {A = Option LogBad} (cond a (Some x) (cond b (Some y) None)) (Some why) → ((a ≡ true) × (x ≡ why)) ⊎ ((a ≡ false) × (b ≡ true) × (y ≡ why))
+tests_some : (a b : Bool) (x y why : LogBad) → ◌≡◌ {A = Option LogBad} (cond a (Some x) (cond b (Some y) None)) (Some why)
+    → ((a ≡ true) × (x ≡ why)) ⊎ ((a ≡ false) × (b ≡ true) × (y ≡ why))
 tests_some true b x y why e = let same : x ≡ why = cc in inl (refl, same)
 tests_some false true x y why e = let same : y ≡ why = cc in inr (refl, refl, same)
 tests_some false false x y why e = absurd (let no = e in cc)
@@ -130,24 +139,31 @@ tests_none false true x y e = absurd (let no = e in cc)
 tests_none false false x y e = (refl, refl)
 
 -- the fault at the end is why nothing is loaded
-pub end_some : (r : ReaderData) (all : List ℕ) (why : LogBad) → Keeps r all → end_fault r.spent r.fault r.fed (length r.left) ≡ Some why → (why ≢ bad.Memory) × IsUnloaded r.site all why
+pub end_some : (r : ReaderData) (all : List ℕ) (why : LogBad) → Keeps r all → end_fault r.spent r.fault r.fed (length r.left) ≡ Some why
+    → (why ≢ bad.Memory) × IsUnloaded r.site all why
 end_some r all why k e = from r.fault refl (ap (λ (b : Bool). end_fault b r.fault r.fed (length r.left)) (sym k.live) ∙ e) where
   early : r.fed < length header → bad.Header ≡ why → (why ≢ bad.Memory) × IsUnloaded r.site all why
-  early few is = subst (λ (w : LogBad). (w ≢ bad.Memory) × IsUnloaded r.site all w) is ((λ no. let never : bad.Header ≡ bad.Memory = no in cc), ends_early r all few k)
+  early few is =
+      subst (λ (w : LogBad). (w ≢ bad.Memory) × IsUnloaded r.site all w) is
+      ((λ no. let never : bad.Header ≡ bad.Memory = no in cc), ends_early r all few k)
 
-  cut : r.fault ≡ None → length header ≤ r.fed → 0 < length r.left → bad.Cut (r.fed - length r.left) ≡ why → (why ≢ bad.Memory) × IsUnloaded r.site all why
+  cut : r.fault ≡ None → length header ≤ r.fed → 0 < length r.left → bad.Cut (r.fed - length r.left) ≡ why
+      → (why ≢ bad.Memory) × IsUnloaded r.site all why
   cut none enough some is =
-      subst (λ (w : LogBad). (w ≢ bad.Memory) × IsUnloaded r.site all w) is ((λ no. let never : bad.Cut (r.fed - length r.left) ≡ bad.Memory = no in cc), ends_cut r all none enough some k)
+      subst (λ (w : LogBad). (w ≢ bad.Memory) × IsUnloaded r.site all w) is
+      ((λ no. let never : bad.Cut (r.fed - length r.left) ≡ bad.Memory = no in cc), ends_cut r all none enough some k)
 
-  from : (f : Option LogBad) → r.fault ≡ f → end_fault false f r.fed (length r.left) ≡ Some why → (why ≢ bad.Memory) × IsUnloaded r.site all why
+  from : (f : Option LogBad) → r.fault ≡ f → end_fault false f r.fed (length r.left) ≡ Some why
+      → (why ≢ bad.Memory) × IsUnloaded r.site all why
   from (Some w) is e =
       let same : w ≡ why = cc in
       let faulty = is ∙ ap (λ (x : LogBad). Some x) same in
       (faulty_apart r all why faulty k, ends_faulty r all why faulty k)
-  from None is e = elim (tests_some (ltb r.fed (length header)) (ltb 0 (length r.left)) bad.Header (bad.Cut (r.fed - length r.left)) why e) [
-    | inl few ↦ early (ltb-true r.fed (length header) few.0) few.1
-    | inr some ↦ cut is (ltb-false r.fed (length header) some.0) (ltb-true 0 (length r.left) some.1) some.2
-  ]
+  from None is e =
+      elim (tests_some (ltb r.fed (length header)) (ltb 0 (length r.left)) bad.Header (bad.Cut (r.fed - length r.left)) why e) [
+        | inl few ↦ early (ltb-true r.fed (length header) few.0) few.1
+        | inr some ↦ cut is (ltb-false r.fed (length header) some.0) (ltb-true 0 (length r.left) some.1) some.2
+      ]
 
 -- without one, the bytes are a log
 pub record IsWhole (r : ReaderData) : Type 0 where
@@ -165,27 +181,36 @@ end_none r all k e = from r.fault refl (ap (λ (b : Bool). end_fault b r.fault r
       record { none = is; enough = ltb-false r.fed (length header) both.0; nothing = nil_from_length r.left (omega (arith, zero_long)) }
 
 -- the end, where there is no site
-pub ends_err : (r : ReaderData) (all : List ℕ) (f : Option LogBad) (why : LogBad) → f ≡ end_fault r.spent r.fault r.fed (length r.left) → (f ≡ Some why) ⊎ ((f ≡ None) × (r.refused ≡ Some why)) → Keeps r all → (why ≢ bad.Memory) × IsUnloaded r.site all why
+pub ends_err : (r : ReaderData) (all : List ℕ) (f : Option LogBad) (why : LogBad) → f ≡ end_fault r.spent r.fault r.fed (length r.left)
+    → (f ≡ Some why) ⊎ ((f ≡ None) × (r.refused ≡ Some why)) → Keeps r all → (why ≢ bad.Memory) × IsUnloaded r.site all why
 ends_err r all f why is (inl e) k = end_some r all why k (sym is ∙ e)
 ends_err r all f why is (inr (e, refused)) k =
     let w = end_none r all k (sym is ∙ e) in
     ends_refused r all why w.none w.enough w.nothing refused k
 
 -- and where there is one
-pub ends_ok : (r : ReaderData) (all : List ℕ) (f : Option LogBad) → f ≡ end_fault r.spent r.fault r.fed (length r.left) → f ≡ None → r.refused ≡ None → Keeps r all → IsLoaded r.site all r.state
+pub ends_ok : (r : ReaderData) (all : List ℕ) (f : Option LogBad) → f ≡ end_fault r.spent r.fault r.fed (length r.left) → f ≡ None
+    → r.refused ≡ None → Keeps r all → IsLoaded r.site all r.state
 ends_ok r all f is e accepted k =
     let w = end_none r all k (sym is ∙ e) in
     ends_loaded r all w.none w.enough w.nothing accepted k
 
 -- the same, of a reader of these parts
-pub finish_err : (n fed rest : ℕ) (left : List ℕ) (s : State) (refused f : Option LogBad) (spent : Bool) (old : ReaderData) (at : Option LogBad) (why : LogBad) → reader_of n fed left s refused f spent ≡ old
-    → at ≡ end_fault spent f fed rest → rest ≡ length left → (at ≡ Some why) ⊎ ((at ≡ None) × (refused ≡ Some why)) → (all : List ℕ) → Keeps old all → IsUnloaded old.site all why
+pub finish_err : (n fed rest : ℕ) (left : List ℕ) (s : State) (refused f : Option LogBad) (spent : Bool) (old : ReaderData)
+    (at : Option LogBad) (why : LogBad) → reader_of n fed left s refused f spent ≡ old
+    → at ≡ end_fault spent f fed rest → rest ≡ length left → (at ≡ Some why) ⊎ ((at ≡ None) × (refused ≡ Some why)) → (all : List ℕ)
+    → Keeps old all → IsUnloaded old.site all why
 finish_err n fed rest left s refused f spent old at why view is long e all k =
     let r = reader_of n fed left s refused f spent in
-    subst (λ (x : ReaderData). IsUnloaded x.site all why) view (ends_err r all at why (is ∙ ap (end_fault spent f fed) long) e (subst (λ (x : ReaderData). Keeps x all) (sym view) k)).1
+    subst (λ (x : ReaderData). IsUnloaded x.site all why) view
+    (ends_err r all at why (is ∙ ap (end_fault spent f fed) long) e (subst (λ (x : ReaderData). Keeps x all) (sym view) k)).1
 
-pub finish_ok : (n fed rest : ℕ) (left : List ℕ) (s t : State) (refused f : Option LogBad) (spent : Bool) (old : ReaderData) (at : Option LogBad) → reader_of n fed left s refused f spent ≡ old
-    → at ≡ end_fault spent f fed rest → rest ≡ length left → at ≡ None → refused ≡ None → t ≡ s → (all : List ℕ) → Keeps old all → IsLoaded old.site all t
+pub finish_ok : (n fed rest : ℕ) (left : List ℕ) (s t : State) (refused f : Option LogBad) (spent : Bool) (old : ReaderData)
+    (at : Option LogBad) → reader_of n fed left s refused f spent ≡ old
+    → at ≡ end_fault spent f fed rest → rest ≡ length left → at ≡ None → refused ≡ None → t ≡ s → (all : List ℕ) → Keeps old all
+    → IsLoaded old.site all t
 finish_ok n fed rest left s t refused f spent old at view is long e accepted same all k =
     let r = reader_of n fed left s refused f spent in
-    subst (IsLoaded old.site all) (sym same) (subst (λ (x : ReaderData). IsLoaded x.site all s) view (ends_ok r all at (is ∙ ap (end_fault spent f fed) long) e accepted (subst (λ (x : ReaderData). Keeps x all) (sym view) k)))
+    subst (IsLoaded old.site all) (sym same)
+    (subst (λ (x : ReaderData). IsLoaded x.site all s) view
+    (ends_ok r all at (is ∙ ap (end_fault spent f fed) long) e accepted (subst (λ (x : ReaderData). Keeps x all) (sym view) k)))

@@ -43,10 +43,13 @@ formed_append fs bs all some o there = elim (Contains-append_cases fs bs o there
   | inr there ↦ some o there
 ]
 
-pub begins_next : (all left next : List ℕ) (ops : List OpData) (o : OpData) → BeginsWith all ops left → left ≡ frame o ++ next → IsWellFormed o → BeginsWith all (ops ++ o ∷ []) next
+pub begins_next : (all left next : List ℕ) (ops : List OpData) (o : OpData) → BeginsWith all ops left → left ≡ frame o ++ next
+    → IsWellFormed o → BeginsWith all (ops ++ o ∷ []) next
 begins_next all left next ops o b is well = record {
   formed = held_formed ops o b.formed well;
-  parts = b.parts ∙ ap (λ (t : List ℕ). header ++ t) (ap (λ (t : List ℕ). frames ops ++ t) is ∙ sym (append_assoc (frames ops) (frame o) next) ∙ ap (λ (t : List ℕ). t ++ next) (sym (frames_push ops o)));
+  parts = b.parts ∙ ap (λ (t : List ℕ). header ++ t)
+      (ap (λ (t : List ℕ). frames ops ++ t) is ∙ sym (append_assoc (frames ops) (frame o) next)
+      ∙ ap (λ (t : List ℕ). t ++ next) (sym (frames_push ops o)));
 }
 
 -- these operations were passed over
@@ -60,11 +63,13 @@ passed_first bytes left parts place = record {
   place = place;
 }
 
-pub passed_more : (bytes : List ℕ) (os : List OpData) (o : OpData) (old new : LeftData) → IsPassed bytes os old → PassesOver old o new → IsPassed bytes (os ++ o ∷ []) new
+pub passed_more : (bytes : List ℕ) (os : List OpData) (o : OpData) (old new : LeftData) → IsPassed bytes os old → PassesOver old o new
+    → IsPassed bytes (os ++ o ∷ []) new
 passed_more bytes os o old new w step =
     let f = step.is_frame in
     record {
-      begins = subst (BeginsWith bytes (os ++ o ∷ [])) (sym step.bytes) (begins_next bytes old.bytes (drop step.used old.bytes) os o w.begins f.parts f.well);
+      begins = subst (BeginsWith bytes (os ++ o ∷ [])) (sym step.bytes)
+          (begins_next bytes old.bytes (drop step.used old.bytes) os o w.begins f.parts f.well);
       place = omega (arith, step.offset, w.place, f.size, offset_push os o);
     }
 
@@ -72,8 +77,10 @@ pub passed_end : (bytes : List ℕ) (os : List OpData) (left : LeftData) → IsP
 passed_end bytes os left w none = subst (BeginsWith bytes os) none w.begins
 
 -- the operation that was passed over last is there
-pub has_operation : (bytes : List ℕ) (os : List OpData) (o : OpData) (old new : LeftData) → IsPassed bytes os old → PassesOver old o new → HasOperation bytes
-has_operation bytes os o old new w step = record { before = os; op = o; rest = new.bytes; begins = (passed_more bytes os o old new w step).begins }
+pub has_operation : (bytes : List ℕ) (os : List OpData) (o : OpData) (old new : LeftData) → IsPassed bytes os old → PassesOver old o new
+    → HasOperation bytes
+has_operation bytes os o old new w step =
+    record { before = os; op = o; rest = new.bytes; begins = (passed_more bytes os o old new w step).begins }
 
 -- a step leaves fewer bytes
 pub fewer : (o : OpData) (old new : LeftData) → PassesOver old o new → length new.bytes < length old.bytes
@@ -82,11 +89,13 @@ fewer o old new step =
     omega (arith, ap length f.parts, ap length step.bytes, length-append (frame o) (drop step.used old.bytes))
 
 -- a step, as it is told without its operation
-pub passed_on : (bytes : List ℕ) (old new : LeftData) (r : Option OpData) → ((os : List OpData) × IsPassed bytes os old) → Steps old r new → is_some r ≡ true → (os : List OpData) × IsPassed bytes os new
+pub passed_on : (bytes : List ℕ) (old new : LeftData) (r : Option OpData) → ((os : List OpData) × IsPassed bytes os old) → Steps old r new
+    → is_some r ≡ true → (os : List OpData) × IsPassed bytes os new
 passed_on bytes old new None w step some = absurd (false≢true some)
 passed_on bytes old new (Some o) w step some = (w.0 ++ o ∷ [], passed_more bytes w.0 o old new w.1 step)
 
-pub passed_all : (bytes : List ℕ) (old new : LeftData) (r : Option OpData) → ((os : List OpData) × IsPassed bytes os old) → Steps old r new → is_some r ≡ false → (os : List OpData) × IsLogOf bytes os
+pub passed_all : (bytes : List ℕ) (old new : LeftData) (r : Option OpData) → ((os : List OpData) × IsPassed bytes os old) → Steps old r new
+    → is_some r ≡ false → (os : List OpData) × IsLogOf bytes os
 passed_all bytes old new None w step none = (w.0, passed_end bytes w.0 old w.1 step.0)
 passed_all bytes old new (Some o) w step none = absurd (true≢false none)
 
@@ -95,7 +104,8 @@ fewer_left old new None step some = absurd (false≢true some)
 fewer_left old new (Some o) step some = fewer o old new step
 
 -- why there is no step is why the bytes are not read
-pub unread : (bytes : List ℕ) (os : List OpData) (left : LeftData) (why : LogBad) → IsPassed bytes os left → HasNoStep left why → IsUnread bytes why
+pub unread : (bytes : List ℕ) (os : List OpData) (left : LeftData) (why : LogBad) → IsPassed bytes os left → HasNoStep left why
+    → IsUnread bytes why
 unread bytes os left bad.Header w no_step = absurd no_step
 unread bytes os left (bad.Cut offset) w (some, needed, place) = record {
   before = os;
@@ -134,18 +144,31 @@ pub record Continues (fs gs : List OpData) (q r : List ℕ) : Type 0 where
   pub parts : gs ≡ fs ++ others
   pub left_is : q ≡ frames others ++ r
 
-continues_by : (fs gs : List OpData) (q r : List ℕ) (e : Refused) → AllFormed fs → AllFormed gs → frames fs ++ q ≡ frames gs ++ r → judge r ≡ Err e → Continues fs gs q r
+continues_by : (fs gs : List OpData) (q r : List ℕ) (e : Refused) → AllFormed fs → AllFormed gs → frames fs ++ q ≡ frames gs ++ r
+    → judge r ≡ Err e → Continues fs gs q r
 continues_by [] gs q r e all some is at_r = record { others = gs; parts = refl; left_is = is }
-continues_by (f ∷ fs) [] q r e all some is at_r = absurd (good_not_err f (frames fs ++ q) e (all f (contains_here f fs)) (ap judge (sym (append_assoc (frame f) (frames fs) q) ∙ is) ∙ at_r))
+continues_by (f ∷ fs) [] q r e all some is at_r =
+    absurd (good_not_err f (frames fs ++ q) e (all f (contains_here f fs))
+    (ap judge (sym (append_assoc (frame f) (frames fs) q) ∙ is) ∙ at_r))
 continues_by (f ∷ fs) (g ∷ gs) q r e all some is at_r =
-    let whole : frame f ++ (frames fs ++ q) ≡ frame g ++ (frames gs ++ r) = sym (append_assoc (frame f) (frames fs) q) ∙ is ∙ append_assoc (frame g) (frames gs) r in
+    let whole : frame f ++ (frames fs ++ q) ≡ frame g ++ (frames gs ++ r) =
+    sym (append_assoc (frame f) (frames fs) q) ∙ is ∙ append_assoc (frame g) (frames gs) r in
     let same : f ≡ g = frame_once f g (frames fs ++ q) (frames gs ++ r) (all f (contains_here f fs)) (some g (contains_here g gs)) whole in
-    let later : frames fs ++ q ≡ frames gs ++ r = append_cancel_left (frame g) (frames fs ++ q) (frames gs ++ r) (ap (λ (x : OpData). frame x ++ (frames fs ++ q)) (sym same) ∙ whole) in
+    let later : frames fs ++ q ≡ frames gs ++ r =
+    append_cancel_left (frame g) (frames fs ++ q) (frames gs ++ r)
+    (ap (λ (x : OpData). frame x ++ (frames fs ++ q)) (sym same) ∙ whole) in
     let c = continues_by fs gs q r e (λ x c. all x (contains_later f fs x c)) (λ x c. some x (contains_later g gs x c)) later at_r in
-    record { others = c.others; parts = ap (λ (x : OpData). x ∷ gs) (sym same) ∙ ap (λ (xs : List OpData). f ∷ xs) c.parts; left_is = c.left_is }
+    record {
+      others = c.others;
+      parts = ap (λ (x : OpData). x ∷ gs) (sym same) ∙ ap (λ (xs : List OpData). f ∷ xs) c.parts;
+      left_is =
+          c.left_is;
+    }
 
-pub continues : (bytes : List ℕ) (fs gs : List OpData) (q r : List ℕ) (e : Refused) → BeginsWith bytes fs q → BeginsWith bytes gs r → judge r ≡ Err e → Continues fs gs q r
-continues bytes fs gs q r e u v at_r = continues_by fs gs q r e u.formed v.formed (append_cancel_left header (frames fs ++ q) (frames gs ++ r) (sym u.parts ∙ v.parts)) at_r
+pub continues : (bytes : List ℕ) (fs gs : List OpData) (q r : List ℕ) (e : Refused) → BeginsWith bytes fs q → BeginsWith bytes gs r
+    → judge r ≡ Err e → Continues fs gs q r
+continues bytes fs gs q r e u v at_r =
+    continues_by fs gs q r e u.formed v.formed (append_cancel_left header (frames fs ++ q) (frames gs ++ r) (sym u.parts ∙ v.parts)) at_r
 
 -- nothing is no whole frame
 pub nothing_needs : judge [] ≡ Err (More 4)
@@ -168,9 +191,11 @@ one_log bytes a b log_a log_b =
     none (o ∷ os) e = absurd (omega (arith, ap length e, length-append (frame o ++ frames os) [], length-append (frame o) (frames os)))
 
 -- what is left of a log, if there is something, begins with a frame
-left_good : (os : List OpData) (rest : List ℕ) (why : Refused) → AllFormed os → rest ≡ frames os ++ [] → rest ≢ [] → judge rest ≡ Err why → ⊥
+left_good : (os : List OpData) (rest : List ℕ) (why : Refused) → AllFormed os → rest ≡ frames os ++ [] → rest ≢ [] → judge rest ≡ Err why
+    → ⊥
 left_good [] rest why all is some e = some is
-left_good (o ∷ os) rest why all is some e = good_not_err o (frames os ++ []) why (all o (contains_here o os)) (ap judge (sym (append_assoc (frame o) (frames os) []) ∙ sym is) ∙ e)
+left_good (o ∷ os) rest why all is some e =
+    good_not_err o (frames os ++ []) why (all o (contains_here o os)) (ap judge (sym (append_assoc (frame o) (frames os) []) ∙ sym is) ∙ e)
 
 -- nothing is no fault
 nothing_bad : (f : Fault) → judge [] ≡ Err (Bad f) → ⊥

@@ -11,12 +11,15 @@ use Rattle.session_log.specs.Readings.{PlacedData, placed_data, placed_from, IsL
 use Rattle.session_log.specs.Code.Passing.{LeftData, PassesOver, Steps}
 use Rattle.session_log.proofs.Frames.{IsPassed, passed_first, passed_more, passed_end}
 
-placed_push : (at : ℕ) (os : List OpData) (o : OpData) → placed_from at (os ++ o ∷ []) ≡ placed_from at os ++ record { offset = at + length (frames os); op = o } ∷ []
+placed_push : (at : ℕ) (os : List OpData) (o : OpData)
+    → placed_from at (os ++ o ∷ []) ≡ placed_from at os ++ record { offset = at + length (frames os); op = o } ∷ []
 placed_push at [] o = ap (λ (n : ℕ). record { offset = n; op = o } ∷ []) (omega arith)
 placed_push at (p ∷ ps) o =
-    let sum : at + length (frame p) + length (frames ps) ≡ at + length (frames (p ∷ ps)) = omega (arith, length-append (frame p) (frames ps)) in
+    let sum : at + length (frame p) + length (frames ps) ≡ at + length (frames (p ∷ ps)) =
+    omega (arith, length-append (frame p) (frames ps)) in
     ap (λ (xs : List PlacedData). record { offset = at; op = p } ∷ xs)
-    (placed_push (at + length (frame p)) ps o ∙ ap (λ (n : ℕ). placed_from (at + length (frame p)) ps ++ record { offset = n; op = o } ∷ []) sum)
+    (placed_push (at + length (frame p)) ps o
+    ∙ ap (λ (n : ℕ). placed_from (at + length (frame p)) ps ++ record { offset = n; op = o } ∷ []) sum)
 
 -- the operations that were passed over stand at the end of the list
 pub record IsListing (bytes : List ℕ) (old now : List Placed) (left : LeftData) : Type 0 where
@@ -26,7 +29,8 @@ pub record IsListing (bytes : List ℕ) (old now : List Placed) (left : LeftData
   pub listed : now ≡ old ++ more
   pub placed : map placed_data more ≡ placed_from (length header) ops
 
-pub listing_first : (bytes : List ℕ) (old : List Placed) (left : LeftData) → bytes ≡ header ++ left.bytes → left.offset ≡ length header → IsListing bytes old old left
+pub listing_first : (bytes : List ℕ) (old : List Placed) (left : LeftData) → bytes ≡ header ++ left.bytes → left.offset ≡ length header
+    → IsListing bytes old old left
 listing_first bytes old left parts place = record {
   ops = [];
   passed = passed_first bytes left parts place;
@@ -35,7 +39,8 @@ listing_first bytes old left parts place = record {
   placed = refl;
 }
 
-pub listing_more : (bytes : List ℕ) (old now : List Placed) (left next : LeftData) (p : Placed) → IsListing bytes old now left → PassesOver left (data_of p.op) next → p.offset ≡ left.offset → IsListing bytes old (now ++ p ∷ []) next
+pub listing_more : (bytes : List ℕ) (old now : List Placed) (left next : LeftData) (p : Placed) → IsListing bytes old now left
+    → PassesOver left (data_of p.op) next → p.offset ≡ left.offset → IsListing bytes old (now ++ p ∷ []) next
 listing_more bytes old now left next p w step place =
     let at : p.offset ≡ length header + length (frames w.ops) = place ∙ w.passed.place in
     record {
@@ -50,7 +55,8 @@ listing_more bytes old now left next p w step place =
           ∙ sym (placed_push (length header) w.ops (data_of p.op));
     }
 
-pub listing_end : (bytes : List ℕ) (old now : List Placed) (left : LeftData) → IsListing bytes old now left → left.bytes ≡ [] → IsListed bytes old now
+pub listing_end : (bytes : List ℕ) (old now : List Placed) (left : LeftData) → IsListing bytes old now left → left.bytes ≡ []
+    → IsListed bytes old now
 listing_end bytes old now left w none = record {
   ops = w.ops;
   log = passed_end bytes w.ops left w.passed none;
@@ -60,8 +66,10 @@ listing_end bytes old now left w none = record {
 }
 
 -- the step over an operation that was answered
-pub passes_placed : (old new : LeftData) (r : Option Placed) (p : Placed) → r ≡ Some p → Steps old (option_map (λ (q : Placed). data_of q.op) r) new → PassesOver old (data_of p.op) new
+pub passes_placed : (old new : LeftData) (r : Option Placed) (p : Placed) → r ≡ Some p
+    → Steps old (option_map (λ (q : Placed). data_of q.op) r) new → PassesOver old (data_of p.op) new
 passes_placed old new r p is step = subst (λ (x : Option Placed). Steps old (option_map (λ (q : Placed). data_of q.op) x) new) is step
 
-pub at_placed : (old : LeftData) (r : Option Placed) (p : Placed) → r ≡ Some p → IfSome r (λ (q : Placed). q.offset ≡ old.offset) → p.offset ≡ old.offset
+pub at_placed : (old : LeftData) (r : Option Placed) (p : Placed) → r ≡ Some p → IfSome r (λ (q : Placed). q.offset ≡ old.offset)
+    → p.offset ≡ old.offset
 at_placed old r p is place = subst (λ (x : Option Placed). IfSome x (λ (q : Placed). q.offset ≡ old.offset)) is place

@@ -32,12 +32,14 @@ pub goes_through : (come before : ℕ) (piece rest : List ℕ)
 goes_through come before piece rest is goes = subst (λ (n : ℕ). GoesFrom n piece rest) is goes
 
 -- the bytes so far and the front of the header
-awaited_front : (site before : ℕ) (left : List ℕ) (s : State) (refused : Option LogBad) (all : List ℕ) → before ≡ length all → AwaitsHeader (reader_of site before left s refused None false) all → take (min before (length header)) header ≡ all
+awaited_front : (site before : ℕ) (left : List ℕ) (s : State) (refused : Option LogBad) (all : List ℕ) → before ≡ length all
+    → AwaitsHeader (reader_of site before left s refused None false) all → take (min before (length header)) header ≡ all
 awaited_front site before left s refused all count a =
     let fewer : min before (length header) ≡ length all = omega (arith, count, a.few) in
     ap (λ (n : ℕ). take n header) fewer ∙ sym a.front
 
-long_read : (site before : ℕ) (left : List ℕ) (s : State) (refused : Option LogBad) (all : List ℕ) → before ≡ length all → HasRead (reader_of site before left s refused None false) all → length header ≤ before
+long_read : (site before : ℕ) (left : List ℕ) (s : State) (refused : Option LogBad) (all : List ℕ) → before ≡ length all
+    → HasRead (reader_of site before left s refused None false) all → length header ≤ before
 long_read site before left s refused all count h =
     let b = h.taken.begins in
     omega (arith, count, ap length b.parts, length-append header (frames h.taken.ops ++ left))
@@ -54,8 +56,13 @@ keeps_fault site before left s refused all piece k none = record {
   live = refl;
   fed = ap (λ (n : ℕ). n + length piece) k.fed ∙ sym (length-append all piece);
   kept = elim k.kept [
-    | inl awaits ↦ (apart, λ more rest e. none more rest (ap (λ (t : List ℕ). (t ++ piece) ++ more) (awaited_front site before left s refused all k.fed awaits) ∙ e))
-    | inr has ↦ absurd (none [] piece (append-nil _ ∙ ap (λ (t : List ℕ). t ++ piece) (read_front before (long_read site before left s refused all k.fed has))))
+    | inl awaits ↦ (
+      apart,
+      λ more rest e.
+          none more rest (ap (λ (t : List ℕ). (t ++ piece) ++ more) (awaited_front site before left s refused all k.fed awaits) ∙ e),
+    )
+    | inr has ↦ absurd (none [] piece
+        (append-nil _ ∙ ap (λ (t : List ℕ). t ++ piece) (read_front before (long_read site before left s refused all k.fed has))))
   ];
 }
   where
@@ -81,7 +88,8 @@ reads_on site before left s refused all piece rest k goes enough = elim k.kept [
     past : take (min before (length header)) header ++ piece ≡ header ++ rest
     past = goes ∙ ap (λ (t : List ℕ). t ++ rest) (take_all (min before (length header) + length piece) header (omega (arith, enough)))
 
-    first : left ≡ [] → s ≡ new_state site → refused ≡ None → all ++ piece ≡ header ++ rest → HasTaken site (all ++ piece) (left ++ rest) s refused
+    first : left ≡ [] → s ≡ new_state site → refused ≡ None → all ++ piece ≡ header ++ rest
+        → HasTaken site (all ++ piece) (left ++ rest) s refused
     first none new accepted is = record {
       ops = [];
       begins = record { formed = none_formed; parts = is ∙ ap (λ (t : List ℕ). header ++ (t ++ rest)) (sym none) };
@@ -199,7 +207,8 @@ past_header before piece rest some goes =
 -- ---- after the frames
 
 -- the whole frames were taken
-ends_one : (site fed : ℕ) (left : List ℕ) (s : State) (refused : Option LogBad) (all : List ℕ) → fed ≡ length all → length header ≤ fed → (why : Option LogBad) → Ends site all left s refused why → Keeps (reader_of site fed left s refused why false) all
+ends_one : (site fed : ℕ) (left : List ℕ) (s : State) (refused : Option LogBad) (all : List ℕ) → fed ≡ length all → length header ≤ fed
+    → (why : Option LogBad) → Ends site all left s refused why → Keeps (reader_of site fed left s refused why false) all
 ends_one site fed left s refused all count enough None ends = record {
   live = refl;
   fed = count;
@@ -210,7 +219,8 @@ ends_one site fed left s refused all count enough None ends = record {
     read fed enough = le-leb (length header) fed enough
 ends_one site fed left s refused all count enough (Some why) ends = record { live = refl; fed = count; kept = ends }
 
-pub ends_keep : (site fed : ℕ) (left : List ℕ) (s : State) (refused : Option LogBad) (all : List ℕ) (r : Result (Option LogBad) Memory) → fed ≡ length all → length header ≤ fed
+pub ends_keep : (site fed : ℕ) (left : List ℕ) (s : State) (refused : Option LogBad) (all : List ℕ) (r : Result (Option LogBad) Memory)
+    → fed ≡ length all → length header ≤ fed
     → IfOk r (Ends site all left s refused) → IfOk r (λ why. Keeps (reader_of site fed left s refused why false) all)
 ends_keep site fed left s refused all (Ok why) count enough ends = ends_one site fed left s refused all count enough why ends
 ends_keep site fed left s refused all (Err e) count enough ends = tt
@@ -224,5 +234,14 @@ counted_on before old new piece rest counted fits feeds goes enough =
     let come = min before (length header) in
     let all_come : take (come + length piece) header ≡ header = take_all (come + length piece) header (omega (arith, enough)) in
     let long : come + length piece ≡ length header + length rest =
-    omega (arith, ap length goes, length-append (take come header) piece, length-take-le come header (omega arith), length-append (take (come + length piece) header) rest, ap length all_come) in
-    (omega (arith, counted.0, feeds.taken, ap length feeds.left, length-append old.left rest, long, enough), subst AreBytes (sym feeds.left) (bytes_append old.left rest counted.1 fits))
+    omega (
+      arith,
+      ap length goes,
+      length-append (take come header) piece,
+      length-take-le come header (omega arith),
+      length-append (take (come + length piece) header) rest,
+      ap length all_come,
+    ) in (
+      omega (arith, counted.0, feeds.taken, ap length feeds.left, length-append old.left rest, long, enough),
+      subst AreBytes (sym feeds.left) (bytes_append old.left rest counted.1 fits),
+    )

@@ -29,7 +29,8 @@ record IsSame (fs gs : List OpData) (r q : List ℕ) : Type 0 where
   pub ops : fs ≡ gs
   pub same_rest : r ≡ q
 
-stops : (bytes : List ℕ) (fs gs : List OpData) (r q : List ℕ) (a b : Refused) → BeginsWith bytes fs r → BeginsWith bytes gs q → judge r ≡ Err a → judge q ≡ Err b → IsSame fs gs r q
+stops : (bytes : List ℕ) (fs gs : List OpData) (r q : List ℕ) (a b : Refused) → BeginsWith bytes fs r → BeginsWith bytes gs q
+    → judge r ≡ Err a → judge q ≡ Err b → IsSame fs gs r q
 stops bytes fs gs r q a b u v at_r at_q =
     let c = continues bytes fs gs r q b u v at_q in
     from c.others c.parts c.left_is
@@ -38,7 +39,8 @@ stops bytes fs gs r q a b u v at_r at_q =
     from [] parts left = record { ops = sym (parts ∙ append-nil fs); same_rest = left }
     from (o ∷ os) parts left =
         let formed = formed_back fs (o ∷ os) (subst AllFormed parts v.formed) in
-        absurd (good_not_err o (frames os ++ q) a (formed o (contains_here o os)) (ap judge (sym (append_assoc (frame o) (frames os) q) ∙ sym left) ∙ at_r))
+        absurd (good_not_err o (frames os ++ q) a (formed o (contains_here o os))
+        (ap judge (sym (append_assoc (frame o) (frames os) q) ∙ sym left) ∙ at_r))
 
 -- of one rest one answer is given
 judged_same : (r q : List ℕ) (a b : Refused) → r ≡ q → judge r ≡ Err a → judge q ≡ Err b → a ≡ b
@@ -54,15 +56,20 @@ cut_once bytes x y u v =
 cut_not_faulty : (bytes : List ℕ) (x y : ℕ) (c : Cause) → IsCutAt bytes x → IsFaultyAt bytes y c → ⊥
 cut_not_faulty bytes x y c u v =
     let same = stops bytes u.before v.before u.rest v.rest (More u.needed) (Bad (fault c v.within)) u.begins v.begins u.judged v.judged in
-    let both : More u.needed ≡ Bad (fault c v.within) = judged_same u.rest v.rest (More u.needed) (Bad (fault c v.within)) same.same_rest u.judged v.judged in
+    let both : More u.needed ≡ Bad (fault c v.within) =
+    judged_same u.rest v.rest (More u.needed) (Bad (fault c v.within)) same.same_rest u.judged v.judged in
     cc
 
 faulty_once : (bytes : List ℕ) (x y : ℕ) (c d : Cause) → IsFaultyAt bytes x c → IsFaultyAt bytes y d → bad.Bad x c ≡ bad.Bad y d
 faulty_once bytes x y c d u v =
-    let same = stops bytes u.before v.before u.rest v.rest (Bad (fault c u.within)) (Bad (fault d v.within)) u.begins v.begins u.judged v.judged in
-    let both : Bad (fault c u.within) ≡ Bad (fault d v.within) = judged_same u.rest v.rest (Bad (fault c u.within)) (Bad (fault d v.within)) same.same_rest u.judged v.judged in
+    let same =
+    stops bytes u.before v.before u.rest v.rest (Bad (fault c u.within)) (Bad (fault d v.within)) u.begins v.begins u.judged v.judged in
+    let both : Bad (fault c u.within) ≡ Bad (fault d v.within) =
+    judged_same u.rest v.rest (Bad (fault c u.within)) (Bad (fault d v.within)) same.same_rest u.judged v.judged in
     let one : fault c u.within ≡ fault d v.within = cc in
-    let place : x ≡ y = u.place ∙ ap (λ (os : List OpData). offset_after os + u.within) same.ops ∙ ap (λ (f : Fault). offset_after v.before + f.offset) one ∙ sym v.place in
+    let place : x ≡ y =
+    u.place ∙ ap (λ (os : List OpData). offset_after os + u.within) same.ops ∙ ap (λ (f : Fault). offset_after v.before + f.offset) one
+    ∙ sym v.place in
     ap (λ (n : ℕ). bad.Bad n c) place ∙ ap (λ (f : Fault). bad.Bad y f.cause) one
 
 -- a header stands first where something was read
@@ -103,17 +110,27 @@ pub record ComesLater (fs before others : List OpData) (o : OpData) (after : Lis
   pub parts : before ≡ fs ++ between
   pub others_are : others ≡ between ++ o ∷ after
 
-pub comes_later : (s : State) (fs before others : List OpData) (o : OpData) (after : List OpData) (r : Release) → AreTakenIn s fs → fs ++ others ≡ before ++ o ∷ after → first_refusal (verdicts_after (after_all s before) o) ≡ Some r → ComesLater fs before others o after
+pub comes_later : (s : State) (fs before others : List OpData) (o : OpData) (after : List OpData) (r : Release) → AreTakenIn s fs
+    → fs ++ others ≡ before ++ o ∷ after → first_refusal (verdicts_after (after_all s before) o) ≡ Some r
+    → ComesLater fs before others o after
 comes_later s [] before others o after r all is first = record { between = before; parts = refl; others_are = is }
-comes_later s (f ∷ fs) [] others o after r all is first = let same : f ≡ o = cc in absurd (none-some r (sym all.0 ∙ (ap (λ (x : OpData). first_refusal (verdicts_after s x)) same ∙ first)))
+comes_later s (f ∷ fs) [] others o after r all is first =
+    let same : f ≡ o = cc in absurd (none-some r (sym all.0 ∙ (ap (λ (x : OpData). first_refusal (verdicts_after s x)) same ∙ first)))
 comes_later s (f ∷ fs) (b ∷ before) others o after r all is first =
     let same : f ≡ b = cc in
     let rest : fs ++ others ≡ before ++ o ∷ after = cc in
     let first_f = subst (λ (x : OpData). first_refusal (verdicts_after (after_all (after_one s x) before) o) ≡ Some r) (sym same) first in
     let l = comes_later (after_one s f) fs before others o after r all.1 rest first_f in
-    record { between = l.between; parts = ap (λ (x : OpData). x ∷ before) (sym same) ∙ ap (λ (xs : List OpData). f ∷ xs) l.parts; others_are = l.others_are }
+    record {
+      between = l.between;
+      parts =
+          ap (λ (x : OpData). x ∷ before) (sym same) ∙ ap (λ (xs : List OpData). f ∷ xs) l.parts;
+      others_are = l.others_are;
+    }
 
-refused_once : (s : State) (fs gs : List OpData) (f g : OpData) (xs ys : List OpData) (a b : Release) → fs ++ f ∷ xs ≡ gs ++ g ∷ ys → AreTakenIn s fs → refusal_at (after_all s fs) f ≡ Some a → AreTakenIn s gs → refusal_at (after_all s gs) g ≡ Some b → IsSameStop fs gs f g
+refused_once : (s : State) (fs gs : List OpData) (f g : OpData) (xs ys : List OpData) (a b : Release) → fs ++ f ∷ xs ≡ gs ++ g ∷ ys
+    → AreTakenIn s fs → refusal_at (after_all s fs) f ≡ Some a → AreTakenIn s gs → refusal_at (after_all s gs) g ≡ Some b
+    → IsSameStop fs gs f g
 refused_once s fs gs f g xs ys a b e tf rf tg rg =
     let l = comes_later s fs gs (f ∷ xs) g ys b tf e rg in
     from l.between l.parts l.others_are
@@ -122,28 +139,34 @@ refused_once s fs gs f g xs ys a b e tf rf tg rg =
     from [] parts are = let same : f ≡ g = cc in record { ops = sym (parts ∙ append-nil fs); op = same }
     from (h ∷ bs) parts are =
         let same : f ≡ h = cc in
-        absurd (none-some a (sym (taken_one s fs h bs (subst (AreTakenIn s) parts tg)) ∙ (ap (refusal_at (after_all s fs)) (sym same) ∙ rf)))
+        absurd (none-some a (sym (taken_one s fs h bs (subst (AreTakenIn s) parts tg))
+        ∙ (ap (refusal_at (after_all s fs)) (sym same) ∙ rf)))
 
 -- which operation was refused, by its offset and release
 abbrev RefusedAs : ℕ → List ℕ → LogBad → Type 0
 RefusedAs site bytes why = (offset : ℕ) × (r : Release) × (why ≡ bad.Refused offset r.member r.verdict) × IsRefusedAt site bytes offset r
 
-refused_same : (site : ℕ) (bytes : List ℕ) (x y : ℕ) (a b : Release) → IsRefusedAt site bytes x a → IsRefusedAt site bytes y b → (x ≡ y) × (a ≡ b)
+refused_same : (site : ℕ) (bytes : List ℕ) (x y : ℕ) (a b : Release) → IsRefusedAt site bytes x a → IsRefusedAt site bytes y b
+    → (x ≡ y) × (a ≡ b)
 refused_same site bytes x y a b u v =
     let whole = one_log bytes (u.before ++ u.op ∷ u.behind) (v.before ++ v.op ∷ v.behind) u.log v.log in
     let same = refused_once (new_state site) u.before v.before u.op v.op u.behind v.behind a b whole u.taken u.first v.taken v.first in
-    let both : Some a ≡ Some b = sym u.first ∙ ap (λ (os : List OpData). refusal_at (after_all (new_state site) os) u.op) same.ops ∙ ap (refusal_at (after_all (new_state site) v.before)) same.op ∙ v.first in
+    let both : Some a ≡ Some b =
+    sym u.first ∙ ap (λ (os : List OpData). refusal_at (after_all (new_state site) os) u.op) same.ops
+    ∙ ap (refusal_at (after_all (new_state site) v.before)) same.op ∙ v.first in
     let one : a ≡ b = cc in
     (u.place ∙ ap offset_after same.ops ∙ sym v.place, one)
 
-split : (site : ℕ) (bytes : List ℕ) (why : LogBad) → why ≢ bad.Memory → IsUnloaded site bytes why → IsUnread bytes why ⊎ RefusedAs site bytes why
+split : (site : ℕ) (bytes : List ℕ) (why : LogBad) → why ≢ bad.Memory → IsUnloaded site bytes why
+    → IsUnread bytes why ⊎ RefusedAs site bytes why
 split site bytes bad.Header p u = inl u
 split site bytes (bad.Cut x) p u = inl u
 split site bytes (bad.Bad x c) p u = inl u
 split site bytes (bad.Refused x m w) p u = inr (x, record { member = m; verdict = w }, refl, u)
 split site bytes bad.Memory p u = absurd (p refl)
 
-pub one_refusal : (site : ℕ) (bytes : List ℕ) (a b : LogBad) → a ≢ bad.Memory → b ≢ bad.Memory → IsUnloaded site bytes a → IsUnloaded site bytes b → a ≡ b
+pub one_refusal : (site : ℕ) (bytes : List ℕ) (a b : LogBad) → a ≢ bad.Memory → b ≢ bad.Memory → IsUnloaded site bytes a
+    → IsUnloaded site bytes b → a ≡ b
 one_refusal site bytes a b p q u v = from (split site bytes a p u) (split site bytes b q v)
   where
     from : IsUnread bytes a ⊎ RefusedAs site bytes a → IsUnread bytes b ⊎ RefusedAs site bytes b → a ≡ b

@@ -35,7 +35,8 @@ abbrev Leads : State → List OpData → State → Type 0
 Leads s os t = AreTakenIn s os × (after_all s os ≡ t)
 
 -- an operation whose verdict is no refusal and leads to a settled state
-leads_one : (s t : State) (o : OpData) (v : Verdict) → judged s o ≡ v → is_refusal v ≡ false → after_verdict v o s ≡ t → IsSettled t → Leads s (o ∷ []) t
+leads_one : (s t : State) (o : OpData) (v : Verdict) → judged s o ≡ v → is_refusal v ≡ false → after_verdict v o s ≡ t → IsSettled t
+    → Leads s (o ∷ []) t
 leads_one s t o v is no_refusal after settles =
     let fine : is_refusal (judged s o) ≡ false = ap is_refusal is ∙ no_refusal in
     let there : delivered s o ≡ t = ap (λ (w : Verdict). after_verdict w o s) is ∙ after in
@@ -60,13 +61,15 @@ alone k h = record { number = k; history = h; waiting = [] }
 
 next_led : (k : ℕ) (h : List OpData) (o : OpData) → IsValid h → IsNext h o → Leads (alone k h) (o ∷ []) (alone k (h ++ o ∷ []))
 next_led k h o valid next =
-    let is : verdict_of h [] o ≡ Integrated = next_integrated h [] o valid next.formed next (λ n name other. contains_none other.other other.there) in
+    let is : verdict_of h [] o ≡ Integrated =
+    next_integrated h [] o valid next.formed next (λ n name other. contains_none other.other other.there) in
     leads_one (alone k h) (alone k (h ++ o ∷ [])) o Integrated is refl refl refl
 
 history_led : (k : ℕ) (h : List OpData) → IsValid h → Leads (new_state k) h (alone k h)
 history_led k h valid = by_pushes (λ (g : List OpData). Leads (new_state k) g (alone k g)) (tt, refl) step h valid
   where
-    step : (g : List OpData) (o : OpData) → IsValid g → Leads (new_state k) g (alone k g) → IsNext g o → Leads (new_state k) (g ++ o ∷ []) (alone k (g ++ o ∷ []))
+    step : (g : List OpData) (o : OpData) → IsValid g → Leads (new_state k) g (alone k g) → IsNext g o
+        → Leads (new_state k) (g ++ o ∷ []) (alone k (g ++ o ∷ []))
     step g o v led next = leads_on (new_state k) (alone k g) (alone k (g ++ o ∷ [])) g (o ∷ []) led (next_led k g o v next)
 
 -- ---- what waits
@@ -105,13 +108,18 @@ some_lacked None e = absurd (true≢false e)
 some_lacked (Some m) e = (m, refl)
 
 not_known : (h : List OpData) (o : OpData) → is_ready h o ≡ false → is_known h (member_of o) ≡ false
-not_known h o e = false_from_ne_true (is_known h (member_of o)) (λ known. true≢false (sym (or_left (is_known h (member_of o)) (is_none (lacked h (context_of o))) known) ∙ e))
+not_known h o e =
+    false_from_ne_true (is_known h (member_of o))
+    (λ known. true≢false (sym (or_left (is_known h (member_of o)) (is_none (lacked h (context_of o))) known) ∙ e))
 
 not_none : (h : List OpData) (o : OpData) → is_ready h o ≡ false → is_none (lacked h (context_of o)) ≡ false
-not_none h o e = false_from_ne_true (is_none (lacked h (context_of o))) (λ none. true≢false (sym (or_right (is_known h (member_of o)) (is_none (lacked h (context_of o))) none) ∙ e))
+not_none h o e =
+    false_from_ne_true (is_none (lacked h (context_of o)))
+    (λ none. true≢false (sym (or_right (is_known h (member_of o)) (is_none (lacked h (context_of o))) none) ∙ e))
 
 -- the verdict on one of them, while those before it wait
-waits_next : (h fs : List OpData) (o : OpData) (bs : List OpData) → IsValid h → CanWait h (fs ++ o ∷ bs) → (m : Member) × (verdict_of h fs o ≡ Waits m)
+waits_next : (h fs : List OpData) (o : OpData) (bs : List OpData) → IsValid h → CanWait h (fs ++ o ∷ bs)
+    → (m : Member) × (verdict_of h fs o ≡ Waits m)
 waits_next h fs o bs valid w =
     let here = in_back fs o bs in
     let formed = w.formed o here in
@@ -126,8 +134,11 @@ waits_next h fs o bs valid w =
     (some.0, sym (verdict_only h fs valid o formed (Waits some.0) (new, first)))
   where
     no_other : is_known h (member_of o) ≡ false → (n : NameData) → member_of o ≡ Original n → HasOther h o n ⊎ HasOther fs o n → ⊥
-    no_other unknown n name (inl other) = true≢false (sym (known_member h other.other other.there) ∙ (ap (is_known h) (other.same_name ∙ sym name) ∙ unknown))
-    no_other unknown n name (inr other) = other.differs (named_once (fs ++ o ∷ bs) w.apart other.other o n (Contains-append_left fs (o ∷ bs) other.other other.there) (in_back fs o bs) other.same_name name)
+    no_other unknown n name (inl other) =
+        true≢false (sym (known_member h other.other other.there) ∙ (ap (is_known h) (other.same_name ∙ sym name) ∙ unknown))
+    no_other unknown n name (inr other) =
+        other.differs (named_once (fs ++ o ∷ bs) w.apart other.other o n (Contains-append_left fs (o ∷ bs) other.other other.there)
+        (in_back fs o bs) other.same_name name)
 
 abbrev with_waiting : ℕ → List OpData → List OpData → State
 with_waiting k h w = record { number = k; history = h; waiting = w }
@@ -135,18 +146,22 @@ with_waiting k h w = record { number = k; history = h; waiting = w }
 waiting_settles : (k : ℕ) (h w : List OpData) → NoneReady h w → IsSettled (with_waiting k h w)
 waiting_settles k h w none = (settled_none (with_waiting k h w)).1 none
 
-waiting_led : (k : ℕ) (h fs bs : List OpData) → IsValid h → CanWait h (fs ++ bs) → Leads (with_waiting k h fs) bs (with_waiting k h (fs ++ bs))
+waiting_led : (k : ℕ) (h fs bs : List OpData) → IsValid h → CanWait h (fs ++ bs)
+    → Leads (with_waiting k h fs) bs (with_waiting k h (fs ++ bs))
 waiting_led k h fs [] valid w = (tt, ap (with_waiting k h) (sym (append-nil fs)))
 waiting_led k h fs (o ∷ bs) valid w =
     let v = waits_next h fs o bs valid w in
-    let new : list_any (op_eq o) fs ≡ false = false_from_ne_true (list_any (op_eq o) fs) (λ e. apart_new fs o bs w.apart ((same_any o fs).0 e)) in
+    let new : list_any (op_eq o) fs ≡ false =
+    false_from_ne_true (list_any (op_eq o) fs) (λ e. apart_new fs o bs w.apart ((same_any o fs).0 e)) in
     let now : held fs o ≡ fs ++ o ∷ [] = cond-false _ _ _ new in
     let same = shifted fs o bs in
     let more : CanWait h ((fs ++ o ∷ []) ++ bs) = subst (CanWait h) (sym same) w in
     let settles = waiting_settles k h (fs ++ o ∷ []) (λ x c. more.unready x (Contains-append_left (fs ++ o ∷ []) bs x c)) in
-    let one = leads_one (with_waiting k h fs) (with_waiting k h (fs ++ o ∷ [])) o (Waits v.0) v.1 refl (ap (with_waiting k h) now) settles in
+    let one =
+    leads_one (with_waiting k h fs) (with_waiting k h (fs ++ o ∷ [])) o (Waits v.0) v.1 refl (ap (with_waiting k h) now) settles in
     let rest = waiting_led k h (fs ++ o ∷ []) bs valid more in
-    let all = leads_on (with_waiting k h fs) (with_waiting k h (fs ++ o ∷ [])) (with_waiting k h ((fs ++ o ∷ []) ++ bs)) (o ∷ []) bs one rest in
+    let all =
+    leads_on (with_waiting k h fs) (with_waiting k h (fs ++ o ∷ [])) (with_waiting k h ((fs ++ o ∷ []) ++ bs)) (o ∷ []) bs one rest in
     subst (λ (x : List OpData). Leads (with_waiting k h fs) (o ∷ bs) (with_waiting k h x)) same all
 
 -- ---- both
@@ -157,10 +172,13 @@ written_log h w fh fw = record {
   parts = ap (λ (t : List ℕ). header ++ t) (sym (append-nil (frames (h ++ w)) ∙ flat_map-append frame h w));
 }
 
-pub came_back : (s : State) (k : ℕ) → IsSound s → IsSettled s → AreApart s.waiting → IsLoaded k (log_of s.history s.waiting) (with_waiting k s.history s.waiting)
+pub came_back : (s : State) (k : ℕ) → IsSound s → IsSettled s → AreApart s.waiting
+    → IsLoaded k (log_of s.history s.waiting) (with_waiting k s.history s.waiting)
 came_back s k sound settles apart =
     let can : CanWait s.history s.waiting = record { unready = (settled_none s).0 settles; formed = sound.waiting; apart = apart } in
-    let led = leads_on (new_state k) (alone k s.history) (with_waiting k s.history s.waiting) s.history s.waiting (history_led k s.history sound.history) (waiting_led k s.history [] s.waiting sound.history can) in
+    let led =
+    leads_on (new_state k) (alone k s.history) (with_waiting k s.history s.waiting) s.history s.waiting
+    (history_led k s.history sound.history) (waiting_led k s.history [] s.waiting sound.history can) in
     record {
       ops = s.history ++ s.waiting;
       log = written_log s.history s.waiting (complete s.history sound.history).formed sound.waiting;

@@ -29,10 +29,12 @@ use Rattle.session_log.proofs.Fronts.{bytes_after}
 
 -- ---- more bytes
 
-pub begins_on : (all left : List ℕ) (ops : List OpData) (more : List ℕ) → BeginsWith all ops left → BeginsWith (all ++ more) ops (left ++ more)
+pub begins_on : (all left : List ℕ) (ops : List OpData) (more : List ℕ) → BeginsWith all ops left
+    → BeginsWith (all ++ more) ops (left ++ more)
 begins_on all left ops more b = record {
   formed = b.formed;
-  parts = ap (λ (t : List ℕ). t ++ more) b.parts ∙ append_assoc header (frames ops ++ left) more ∙ ap (λ (t : List ℕ). header ++ t) (append_assoc (frames ops) left more);
+  parts = ap (λ (t : List ℕ). t ++ more) b.parts ∙ append_assoc header (frames ops ++ left) more
+      ∙ ap (λ (t : List ℕ). header ++ t) (append_assoc (frames ops) left more);
 }
 
 pub fault_on : (all more : List ℕ) (why : LogBad) → IsFaultOf all why → IsFaultOf (all ++ more) why
@@ -46,11 +48,13 @@ refusal_on site all more why f = (
       subst (λ (t : List ℕ). IsUnloaded site t why) (sym same) (f.1 (more ++ after) ops (subst (λ (t : List ℕ). IsLogOf t ops) same log)),
 )
 
-taken_to_on : (site : ℕ) (all more : List ℕ) (ops : List OpData) (s : State) (refused : Option LogBad) → AreTakenTo site all ops s refused → AreTakenTo site (all ++ more) ops s refused
+taken_to_on : (site : ℕ) (all more : List ℕ) (ops : List OpData) (s : State) (refused : Option LogBad) → AreTakenTo site all ops s refused
+    → AreTakenTo site (all ++ more) ops s refused
 taken_to_on site all more ops s None t = t
 taken_to_on site all more ops s (Some why) t = refusal_on site all more why t
 
-pub has_taken_on : (site : ℕ) (all left : List ℕ) (s : State) (refused : Option LogBad) (more : List ℕ) → HasTaken site all left s refused → HasTaken site (all ++ more) (left ++ more) s refused
+pub has_taken_on : (site : ℕ) (all left : List ℕ) (s : State) (refused : Option LogBad) (more : List ℕ) → HasTaken site all left s refused
+    → HasTaken site (all ++ more) (left ++ more) s refused
 has_taken_on site all left s refused more h = record {
   ops = h.ops;
   begins = begins_on all left h.ops more h.begins;
@@ -61,7 +65,8 @@ has_taken_on site all left s refused more h = record {
 
 -- the first refusal is kept
 pub takes_next : {A : Type 0} (s t : State) (at : ℕ) (o : OpData) (taken : Result A LogBad) (now : Option LogBad)
-    → OnOk taken (first_refusal (verdicts_after s o) ≡ None) → OnOk taken (t ≡ after_one s o) → IfErr taken (IsRefusal at (verdicts_after s o))
+    → OnOk taken (first_refusal (verdicts_after s o) ≡ None) → OnOk taken (t ≡ after_one s o)
+    → IfErr taken (IsRefusal at (verdicts_after s o))
     → (now ≡ result_err taken) × (taken ≢ Err bad.Memory) → TakesIn s None at o t now
 takes_next s t at o (Ok x) now free state refusal kept = subst (TakesIn s None at o t) (sym kept.0) (free, state)
 takes_next s t at o (Err why) now free state refusal kept = subst (TakesIn s None at o t) (sym kept.0) (λ e. kept.1 (ap Err e), refusal)
@@ -74,7 +79,8 @@ at_left all left ops b = omega (arith, ap length b.parts, length-append header (
 
 -- the operation whose frame comes next is refused
 refused_next : (site : ℕ) (all left next : List ℕ) (ops : List OpData) (o : OpData) (s : State) (at : ℕ) (why : LogBad)
-    → BeginsWith all ops left → left ≡ frame o ++ next → IsWellFormed o → AreTakenTo site all ops s None → at ≡ offset_after ops → why ≢ bad.Memory → IsRefusal at (verdicts_after s o) why → IsRefusalOf site all why
+    → BeginsWith all ops left → left ≡ frame o ++ next → IsWellFormed o → AreTakenTo site all ops s None → at ≡ offset_after ops
+    → why ≢ bad.Memory → IsRefusal at (verdicts_after s o) why → IsRefusalOf site all why
 refused_next site all left next ops o s at bad.Header b is well taken place apart refusal = absurd refusal
 refused_next site all left next ops o s at (bad.Cut offset) b is well taken place apart refusal = absurd refusal
 refused_next site all left next ops o s at (bad.Bad offset cause) b is well taken place apart refusal = absurd refusal
@@ -88,14 +94,18 @@ refused_next site all left next ops o s at (bad.Refused offset member verdict) b
 refused_next site all left next ops o s at bad.Memory b is well taken place apart refusal = absurd (apart refl)
 
 taken_next : (site : ℕ) (all left next : List ℕ) (ops : List OpData) (o : OpData) (s t : State) (refused now : Option LogBad) (at : ℕ)
-    → BeginsWith all ops left → left ≡ frame o ++ next → IsWellFormed o → AreTakenTo site all ops s refused → at ≡ offset_after ops → TakesIn s refused at o t now → AreTakenTo site all (ops ++ o ∷ []) t now
-taken_next site all left next ops o s t (Some why) now at b is well taken place takes = subst (λ (n : Option LogBad). AreTakenTo site all (ops ++ o ∷ []) t n) (sym takes) taken
+    → BeginsWith all ops left → left ≡ frame o ++ next → IsWellFormed o → AreTakenTo site all ops s refused → at ≡ offset_after ops
+    → TakesIn s refused at o t now → AreTakenTo site all (ops ++ o ∷ []) t now
+taken_next site all left next ops o s t (Some why) now at b is well taken place takes =
+    subst (λ (n : Option LogBad). AreTakenTo site all (ops ++ o ∷ []) t n) (sym takes) taken
 taken_next site all left next ops o s t None None at b is well taken place takes = taken_more site ops o s t taken.0 taken.1 takes.0 takes.1
-taken_next site all left next ops o s t None (Some why) at b is well taken place takes = refused_next site all left next ops o s at why b is well taken place takes.0 takes.1
+taken_next site all left next ops o s t None (Some why) at b is well taken place takes =
+    refused_next site all left next ops o s at why b is well taken place takes.0 takes.1
 
 -- a frame was taken, and its operation taken in
 pub steps : (site : ℕ) (all : List ℕ) (fed : ℕ) (old new : StreamData) (p : Placed) (s t : State) (refused now : Option LogBad)
-    → fed ≡ length all → HasTaken site all old.left s refused → TakesFrame fed old (Some p) new → TakesIn s refused p.offset (data_of p.op) t now → HasTaken site all new.left t now
+    → fed ≡ length all → HasTaken site all old.left s refused → TakesFrame fed old (Some p) new
+    → TakesIn s refused p.offset (data_of p.op) t now → HasTaken site all new.left t now
 steps site all fed old new p s t refused now count h takes taken =
     let o = data_of p.op in
     let place : p.offset ≡ offset_after h.ops = omega (arith, count, takes.1, at_left all old.left h.ops h.begins) in
@@ -125,8 +135,12 @@ stops_for site all fed old s refused (bad.Refused offset member verdict) count h
 stops_for site all fed old s refused bad.Memory count h stops apart = absurd (apart refl)
 
 -- a fault is within what is left
-pub within_left : (left : List ℕ) (cause : Cause) (place : ℕ) → AreBytes left → judge left ≡ Err (Bad (fault cause place)) → place ≤ length left
+pub within_left : (left : List ℕ) (cause : Cause) (place : ℕ) → AreBytes left → judge left ≡ Err (Bad (fault cause place))
+    → place ≤ length left
 within_left left cause place fits e = judge_within left (fault cause place) fits e
 
 pub counted_next : (fed : ℕ) (old new : StreamData) (o : OpData) → IsCounted fed old → TakesOp old o new → IsCounted fed new
-counted_next fed old new o counted takes = (omega (arith, counted.0, takes.taken, ap length takes.left, length-append (frame o) new.left), bytes_after (frame o) new.left old.left takes.left counted.1)
+counted_next fed old new o counted takes = (
+  omega (arith, counted.0, takes.taken, ap length takes.left, length-append (frame o) new.left),
+  bytes_after (frame o) new.left old.left takes.left counted.1,
+)

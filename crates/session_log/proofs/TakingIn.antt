@@ -36,7 +36,8 @@ pub taken-append : (s : State) (fs bs : List OpData) → AreTakenIn s fs → Are
 taken-append s [] bs first rest = rest
 taken-append s (a ∷ fs) bs first rest = (first.0, taken-append (after_one s a) fs bs first.1 rest)
 
-pub taken_one : (s : State) (fs : List OpData) (o : OpData) (bs : List OpData) → AreTakenIn s (fs ++ o ∷ bs) → first_refusal (verdicts_after (after_all s fs) o) ≡ None
+pub taken_one : (s : State) (fs : List OpData) (o : OpData) (bs : List OpData) → AreTakenIn s (fs ++ o ∷ bs)
+    → first_refusal (verdicts_after (after_all s fs) o) ≡ None
 taken_one s [] o bs all = all.0
 taken_one s (a ∷ fs) o bs all = taken_one (after_one s a) fs o bs all.1
 
@@ -45,17 +46,21 @@ taken_back s [] bs all = all
 taken_back s (a ∷ fs) bs all = taken_back (after_one s a) fs bs all.1
 
 -- one more is taken in
-pub taken_more : (site : ℕ) (ops : List OpData) (o : OpData) (s t : State) → AreTakenIn (new_state site) ops → s ≡ after_all (new_state site) ops → first_refusal (verdicts_after s o) ≡ None → t ≡ after_one s o
+pub taken_more : (site : ℕ) (ops : List OpData) (o : OpData) (s t : State) → AreTakenIn (new_state site) ops
+    → s ≡ after_all (new_state site) ops → first_refusal (verdicts_after s o) ≡ None → t ≡ after_one s o
     → AreTakenIn (new_state site) (ops ++ o ∷ []) × (t ≡ after_all (new_state site) (ops ++ o ∷ []))
 taken_more site ops o s t taken state none is =
-    let none_at : first_refusal (verdicts_after (after_all (new_state site) ops) o) ≡ None = ap (λ (x : State). first_refusal (verdicts_after x o)) (sym state) ∙ none in (
+    let none_at : first_refusal (verdicts_after (after_all (new_state site) ops) o) ≡ None =
+    ap (λ (x : State). first_refusal (verdicts_after x o)) (sym state) ∙ none in (
       taken-append (new_state site) ops (o ∷ []) taken (none_at, tt),
       is ∙ ap (λ (x : State). after_one x o) state ∙ sym (after-append (new_state site) ops (o ∷ [])),
     )
 
 -- the operation after these is refused
-pub refused_at : (site : ℕ) (bytes next : List ℕ) (ops : List OpData) (o : OpData) (log : List OpData) (s : State) (offset : ℕ) (r : Release)
-    → BeginsWith bytes (ops ++ o ∷ []) next → IsLogOf bytes log → AreTakenIn (new_state site) ops → s ≡ after_all (new_state site) ops → offset ≡ offset_after ops → first_refusal (verdicts_after s o) ≡ Some r
+pub refused_at : (site : ℕ) (bytes next : List ℕ) (ops : List OpData) (o : OpData) (log : List OpData) (s : State) (offset : ℕ)
+    (r : Release)
+    → BeginsWith bytes (ops ++ o ∷ []) next → IsLogOf bytes log → AreTakenIn (new_state site) ops → s ≡ after_all (new_state site) ops
+    → offset ≡ offset_after ops → first_refusal (verdicts_after s o) ≡ Some r
     → IsRefusedAt site bytes offset r
 refused_at site bytes next ops o log s offset r begins is_log taken state place first =
     let f = log_continues bytes (ops ++ o ∷ []) log next begins is_log in
@@ -79,7 +84,8 @@ pub record IsLoading (site : ℕ) (bytes : List ℕ) (left : LeftData) (s : Stat
   pub taken : AreTakenIn (new_state site) ops
   pub state : s ≡ after_all (new_state site) ops
 
-pub loading_more : (site : ℕ) (bytes : List ℕ) (left next : LeftData) (s t : State) (o : OpData) → IsLoading site bytes left s → PassesOver left o next → first_refusal (verdicts_after s o) ≡ None → t ≡ after_one s o → IsLoading site bytes next t
+pub loading_more : (site : ℕ) (bytes : List ℕ) (left next : LeftData) (s t : State) (o : OpData) → IsLoading site bytes left s
+    → PassesOver left o next → first_refusal (verdicts_after s o) ≡ None → t ≡ after_one s o → IsLoading site bytes next t
 loading_more site bytes left next s t o w step none is =
     let more = taken_more site w.ops o s t w.taken w.state none is in
     record {
@@ -89,7 +95,8 @@ loading_more site bytes left next s t o w step none is =
       state = more.1;
     }
 
-pub loading_end : (site : ℕ) (bytes : List ℕ) (left : LeftData) (s : State) → IsLoading site bytes left s → left.bytes ≡ [] → IsLoaded site bytes s
+pub loading_end : (site : ℕ) (bytes : List ℕ) (left : LeftData) (s : State) → IsLoading site bytes left s → left.bytes ≡ []
+    → IsLoaded site bytes s
 loading_end site bytes left s w none = record {
   ops = w.ops;
   log = passed_end bytes w.ops left w.passed none;
@@ -98,7 +105,8 @@ loading_end site bytes left s w none = record {
 }
 
 -- a log has no fault, so what is left of it is passed over, unless memory is wanted
-pub loading_stopped : (site : ℕ) (bytes : List ℕ) (left : LeftData) (s : State) (why : LogBad) → ((os : List OpData) × IsLogOf bytes os) → IsLoading site bytes left s → HasNoStep left why → IsUnloaded site bytes why
+pub loading_stopped : (site : ℕ) (bytes : List ℕ) (left : LeftData) (s : State) (why : LogBad) → ((os : List OpData) × IsLogOf bytes os)
+    → IsLoading site bytes left s → HasNoStep left why → IsUnloaded site bytes why
 loading_stopped site bytes left s bad.Header log w no_step = absurd no_step
 loading_stopped site bytes left s (bad.Cut offset) log w no_step = unread bytes w.ops left (bad.Cut offset) w.passed no_step
 loading_stopped site bytes left s (bad.Bad offset cause) log w no_step = unread bytes w.ops left (bad.Bad offset cause) w.passed no_step
@@ -106,7 +114,9 @@ loading_stopped site bytes left s (bad.Refused offset member verdict) log w no_s
 loading_stopped site bytes left s bad.Memory log w no_step = log
 
 -- the first refusal
-pub loading_refused : (site : ℕ) (bytes : List ℕ) (left next : LeftData) (s : State) (o : OpData) (why : LogBad) → ((os : List OpData) × IsLogOf bytes os) → IsLoading site bytes left s → PassesOver left o next → IsRefusal left.offset (verdicts_after s o) why → IsUnloaded site bytes why
+pub loading_refused : (site : ℕ) (bytes : List ℕ) (left next : LeftData) (s : State) (o : OpData) (why : LogBad)
+    → ((os : List OpData) × IsLogOf bytes os) → IsLoading site bytes left s → PassesOver left o next
+    → IsRefusal left.offset (verdicts_after s o) why → IsUnloaded site bytes why
 loading_refused site bytes left next s o bad.Header log w step refusal = absurd refusal
 loading_refused site bytes left next s o (bad.Cut offset) log w step refusal = absurd refusal
 loading_refused site bytes left next s o (bad.Bad offset cause) log w step refusal = absurd refusal
@@ -118,9 +128,11 @@ loading_refused site bytes left next s o bad.Memory log w step refusal = log
 -- ---- one loading
 
 pub one_loaded : (site : ℕ) (bytes : List ℕ) (s t : State) → IsLoaded site bytes s → IsLoaded site bytes t → t ≡ s
-one_loaded site bytes s t a b = b.state ∙ ap (λ (os : List OpData). after_all (new_state site) os) (one_log bytes b.ops a.ops b.log a.log) ∙ sym a.state
+one_loaded site bytes s t a b =
+    b.state ∙ ap (λ (os : List OpData). after_all (new_state site) os) (one_log bytes b.ops a.ops b.log a.log) ∙ sym a.state
 
-pub loaded_not_refused : (site : ℕ) (bytes : List ℕ) (s : State) → IsLoaded site bytes s → (why : LogBad) → why ≢ bad.Memory → ¬ IsUnloaded site bytes why
+pub loaded_not_refused : (site : ℕ) (bytes : List ℕ) (s : State) → IsLoaded site bytes s → (why : LogBad) → why ≢ bad.Memory
+    → ¬ IsUnloaded site bytes why
 loaded_not_refused site bytes s w bad.Header apart u = log_no_fault bytes w.ops bad.Header w.log apart u
 loaded_not_refused site bytes s w (bad.Cut offset) apart u = log_no_fault bytes w.ops (bad.Cut offset) w.log apart u
 loaded_not_refused site bytes s w (bad.Bad offset cause) apart u = log_no_fault bytes w.ops (bad.Bad offset cause) w.log apart u

@@ -24,7 +24,8 @@ OneFault = (bytes : List ℕ) (a b : LogBad) → a ≢ bad.Memory → b ≢ bad.
 
 -- and one reason not to load them
 abbrev pub OneRefusal : Type 0
-OneRefusal = (site : ℕ) (bytes : List ℕ) (a b : LogBad) → a ≢ bad.Memory → b ≢ bad.Memory → IsUnloaded site bytes a → IsUnloaded site bytes b → a ≡ b
+OneRefusal =
+    (site : ℕ) (bytes : List ℕ) (a b : LogBad) → a ≢ bad.Memory → b ≢ bad.Memory → IsUnloaded site bytes a → IsUnloaded site bytes b → a ≡ b
 
 -- there is one loaded state at most, and where there is one, nothing is refused
 abbrev pub OneLoading : Type 0

@@ -34,7 +34,8 @@ abbrev pub IsRefusal : ℕ → List Release → LogBad → Type 0
 IsRefusal at rs bad.Header = ⊥
 IsRefusal at rs (bad.Cut offset) = ⊥
 IsRefusal at rs (bad.Bad offset cause) = ⊥
-IsRefusal at rs (bad.Refused offset member verdict) = (offset ≡ at) × (first_refusal rs ≡ Some (record { member = member; verdict = verdict }))
+IsRefusal at rs (bad.Refused offset member verdict) =
+    (offset ≡ at) × (first_refusal rs ≡ Some (record { member = member; verdict = verdict }))
 IsRefusal at rs bad.Memory = Unit {0}
 
 -- the state where memory ran out: the operation wasn't taken in, or not wholly

@@ -17,7 +17,8 @@ IsFaultOf all why = (why ≢ bad.Memory) × ((more : List ℕ) → IsUnread (all
 
 -- however the bytes go on, this is why they are not loaded, unless they are no log
 abbrev pub IsRefusalOf : ℕ → List ℕ → LogBad → Type 0
-IsRefusalOf site all why = (why ≢ bad.Memory) × ((more : List ℕ) (ops : List OpData) → IsLogOf (all ++ more) ops → IsUnloaded site (all ++ more) why)
+IsRefusalOf site all why =
+    (why ≢ bad.Memory) × ((more : List ℕ) (ops : List OpData) → IsLogOf (all ++ more) ops → IsUnloaded site (all ++ more) why)
 
 -- these operations were taken in, and gave this state, unless one of them was refused
 abbrev pub AreTakenTo : ℕ → List ℕ → List OpData → State → Option LogBad → Type 0
@@ -98,4 +99,5 @@ OneLoadOn =
     (r : ReaderData) (a b more : List ℕ)
     → Keeps r a
     → Keeps r b
-    → ((s : State) → IsLoaded r.site (a ++ more) s → IsLoaded r.site (b ++ more) s) × ((why : LogBad) → IsUnloaded r.site (a ++ more) why → IsUnloaded r.site (b ++ more) why)
+    → ((s : State) → IsLoaded r.site (a ++ more) s → IsLoaded r.site (b ++ more) s)
+    × ((why : LogBad) → IsUnloaded r.site (a ++ more) why → IsUnloaded r.site (b ++ more) why)

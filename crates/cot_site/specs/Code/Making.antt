@@ -20,7 +20,8 @@ IsNumber s (Err e) = (e ≡ NumberFull) × (NUMBERS ≤ count_made s)
 -- the context, unless it has more undo entries than an operation carries, or out of memory
 abbrev pub IsContextAnswer : ContextData → Result VectorData Local → Type 0
 IsContextAnswer c (Ok v) = (v.set ≡ c) × (length c.entries ≤ UNDO_ENTRIES)
-IsContextAnswer c (Err e) = ((e ≡ ContextFull (length c.entries)) × (UNDO_ENTRIES < length c.entries)) ⊎ ((e ≡ Memory) × (length c.entries ≤ UNDO_ENTRIES))
+IsContextAnswer c (Err e) =
+    ((e ≡ ContextFull (length c.entries)) × (UNDO_ENTRIES < length c.entries)) ⊎ ((e ≡ Memory) × (length c.entries ≤ UNDO_ENTRIES))
 
 -- the generation of an original, unless the history hasn't the original
 abbrev pub IsGeneration : State → NameData → Result ℕ Local → Type 0

@@ -20,7 +20,8 @@ use Rattle.session_log.specs.Readers.{IsFaultOf, HasTaken, NeedsMore}
 abbrev pub end_fault : Bool → Option LogBad → ℕ → ℕ → Option LogBad
 end_fault true why fed rest = Some bad.Memory
 end_fault false (Some why) fed rest = Some why
-end_fault false None fed rest = if nat_lt fed (length header) then Some bad.Header else if nat_lt 0 rest then Some (bad.Cut (fed - rest)) else None
+end_fault false None fed rest =
+    if nat_lt fed (length header) then Some bad.Header else if nat_lt 0 rest then Some (bad.Cut (fed - rest)) else None
 
 -- a frame was taken, which begins at the place of its operation; without one, more bytes are needed to tell
 abbrev pub TakesFrame : ℕ → StreamData → Option Placed → StreamData → Type 0
@@ -31,7 +32,8 @@ TakesFrame fed old (Some p) new = TakesOp old (data_of p.op) new × (p.offset + 
 abbrev pub Stops : ℕ → StreamData → LogBad → Type 0
 Stops fed s bad.Header = ⊥
 Stops fed s (bad.Cut offset) = ⊥
-Stops fed s (bad.Bad offset cause) = (within : ℕ) × (judge s.left ≡ Err (Bad (fault cause within))) × (offset + length s.left ≡ fed + within)
+Stops fed s (bad.Bad offset cause) =
+    (within : ℕ) × (judge s.left ≡ Err (Bad (fault cause within))) × (offset + length s.left ≡ fed + within)
 Stops fed s (bad.Refused offset member verdict) = ⊥
 Stops fed s bad.Memory = Unit {0}
 

@@ -10,4 +10,5 @@ pub returns-in-Undo : goal.returns-in-Undo
 returns-in-Undo c =
     let h = c.args.book.now.ops in
     let have = ap (λ (v : VectorData). v.set) c.have.ensures ∙ c.known.ensures.have in
-    ap (λ g. nat_le c.in-Undo.own g) (c.generation.ensures.history h c.known.ensures.valid have) ∙ ap (λ (o : Op). is_repeat h (data_of o)) (sym c.in-Undo.is)
+    ap (λ g. nat_le c.in-Undo.own g) (c.generation.ensures.history h c.known.ensures.valid have)
+    ∙ ap (λ (o : Op). is_repeat h (data_of o)) (sym c.in-Undo.is)

@@ -11,9 +11,11 @@ pub returns-in-Some-clause-verdict : goal.returns-in-Some-clause-verdict
 returns-in-Some-clause-verdict c =
     let h = c.args.book.now.ops in
     let o = data_of c.args.op.now in
-    let known : IsJudged h (context_of o) c.in-Some.cells = subst (λ (v : ContextData). IsJudged h v c.in-Some.cells) c.context.ensures c.in-Some.ensures in
+    let known : IsJudged h (context_of o) c.in-Some.cells =
+    subst (λ (v : ContextData). IsJudged h v c.in-Some.cells) c.context.ensures c.in-Some.ensures in
     c.ready_verdict.ensures h (sym (judged_covered h c.known.ensures.valid o c.requires c.in-Some.cells known)) known.cells
-    ∙ sym (ready_is h c.args.pool.now o (sym c.is_repeat.ensures ∙ c.if-is_repeat.false) (sym c.is_forged.ensures ∙ c.if-is_forged.false) (judged_ready h c.known.ensures.valid o c.requires c.in-Some.cells known))
+    ∙ sym (ready_is h c.args.pool.now o (sym c.is_repeat.ensures ∙ c.if-is_repeat.false) (sym c.is_forged.ensures ∙ c.if-is_forged.false)
+    (judged_ready h c.known.ensures.valid o c.requires c.in-Some.cells known))
 
 pub returns-in-Some-clause-cells : goal.returns-in-Some-clause-cells
 returns-in-Some-clause-cells c _ _ = c.in-Some.ensures.cells ∙ ap (inserts_in c.args.book.now.ops) c.context.ensures

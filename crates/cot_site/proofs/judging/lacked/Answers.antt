@@ -10,8 +10,12 @@ returns-clause-lacked c =
     let h = c.args.book.now.ops in
     let o = data_of c.args.op.now in
     let have = ap (λ (v : VectorData). v.set) c.have.ensures ∙ c.known.ensures.have in
-    let first = subst (λ (d : ContextData). IfSome c.first_missing.result (IsFirstMissing c.have.result.now.set d)) c.context.ensures c.first_missing.ensures.first in
-    let none = subst (λ (d : ContextData). IsNone c.first_missing.result ↔ Within d c.have.result.now.set) c.context.ensures c.first_missing.ensures.none in
+    let first =
+    subst (λ (d : ContextData). IfSome c.first_missing.result (IsFirstMissing c.have.result.now.set d)) c.context.ensures
+    c.first_missing.ensures.first in
+    let none =
+    subst (λ (d : ContextData). IsNone c.first_missing.result ↔ Within d c.have.result.now.set) c.context.ensures
+    c.first_missing.ensures.none in
     lacked_found h c.have.result.now.set o c.known.ensures.valid have c.requires c.first_missing.result first none
 
 pub returns-clause-nothing : goal.returns-clause-nothing
@@ -19,5 +23,7 @@ returns-clause-nothing c =
     let h = c.args.book.now.ops in
     let o = data_of c.args.op.now in
     let have = ap (λ (v : VectorData). v.set) c.have.ensures ∙ c.known.ensures.have in
-    let none = subst (λ (d : ContextData). IsNone c.first_missing.result ↔ Within d c.have.result.now.set) c.context.ensures c.first_missing.ensures.none in
+    let none =
+    subst (λ (d : ContextData). IsNone c.first_missing.result ↔ Within d c.have.result.now.set) c.context.ensures
+    c.first_missing.ensures.none in
     none_lacking h c.have.result.now.set o c.known.ensures.valid have c.first_missing.result none

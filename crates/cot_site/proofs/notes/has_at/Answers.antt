@@ -22,7 +22,8 @@ returns-then-place-own c =
     let j = c.in-With.own in
     let told = subst (λ (x : At). teller x < length h) c.in-With.is c.requires.told in
     subst (λ (x : At). (i == j) ≡ has (set_at h x) m) (sym c.in-With.is)
-    (by_first (i == j) (knew (slice_get h j) m) (eq-eqb i j c.if-place-own.true) ∙ sym (has_own h c.known.ensures.valid i j m c.requires.there told))
+    (by_first (i == j) (knew (slice_get h j) m) (eq-eqb i j c.if-place-own.true)
+    ∙ sym (has_own h c.known.ensures.valid i j m c.requires.there told))
 
 pub returns-else-place-own : goal.returns-else-place-own
 returns-else-place-own c =
@@ -32,4 +33,5 @@ returns-else-place-own c =
     let j = c.in-With.own in
     let told = subst (λ (x : At). teller x < length h) c.in-With.is c.requires.told in
     subst (λ (x : At). c.knew.result ≡ has (set_at h x) m) (sym c.in-With.is)
-    (c.knew.ensures ∙ by_second (i == j) (knew (slice_get h j) m) (ne_eqb i j c.if-place-own.false) ∙ sym (has_own h c.known.ensures.valid i j m c.requires.there told))
+    (c.knew.ensures ∙ by_second (i == j) (knew (slice_get h j) m) (ne_eqb i j c.if-place-own.false)
+    ∙ sym (has_own h c.known.ensures.valid i j m c.requires.there told))

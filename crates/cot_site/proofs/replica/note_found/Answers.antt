@@ -16,25 +16,33 @@ pub note_insert-requires-clause-first : goal.note_insert-requires-clause-first
 note_insert-requires-clause-first c =
     let h = c.args.book.now.ops in
     let is = c.in-Some-Ins.is ∙ ap Some c.in-Some-Ins.field-0-is in
-    subst (λ (a : Option Form). IfSome a (IsFormWith form_over insert_of (family_in h (base_form h)) (Original c.args.name.now))) is c.requires.first
+    subst (λ (a : Option Form). IfSome a (IsFormWith form_over insert_of (family_in h (base_form h)) (Original c.args.name.now))) is
+    c.requires.first
 
 pub note_insert-requires-clause-kept : goal.note_insert-requires-clause-kept
 note_insert-requires-clause-kept c =
     let h = c.args.book.now.ops in
     let last = c.last_place-last.result in
     let form = form_before_last h c.args.name.now last c.args.form c.last_place-last.ensures c.requires.form in
-    notes_with h (note_of c.args.name.now (Before last) c.args.form) c.args.notes.now c.keep.new.self 63 c.requires.kept form (omega (arith, c.last_place-last.ensures)) c.keep.ensures
+    notes_with h (note_of c.args.name.now (Before last) c.args.form) c.args.notes.now c.keep.new.self 63 c.requires.kept form
+    (omega (arith, c.last_place-last.ensures)) c.keep.ensures
 
 pub returns : goal.returns
 returns c =
     let h = c.args.book.now.ops in
     let last = c.last_place-last.result in
     let form = form_before_last h c.args.name.now last c.args.form c.last_place-last.ensures c.requires.form in
-    record { kept = notes_with h (note_of c.args.name.now (Before last) c.args.form) c.args.notes.now c.keep.new.self 63 c.requires.kept form (omega (arith, c.last_place-last.ensures)) c.keep.ensures }
+    record {
+      kept = notes_with h (note_of c.args.name.now (Before last) c.args.form) c.args.notes.now c.keep.new.self 63 c.requires.kept
+          form (omega (arith, c.last_place-last.ensures)) c.keep.ensures;
+    }
 
 pub returns-2 : goal.returns-2
 returns-2 c =
     let h = c.args.book.now.ops in
     let last = c.last_place-last.result in
     let form = form_before_last h c.args.name.now last c.args.form c.last_place-last.ensures c.requires.form in
-    record { kept = notes_with h (note_of c.args.name.now (Before last) c.args.form) c.args.notes.now c.keep.new.self 63 c.requires.kept form (omega (arith, c.last_place-last.ensures)) c.keep.ensures }
+    record {
+      kept = notes_with h (note_of c.args.name.now (Before last) c.args.form) c.args.notes.now c.keep.new.self 63 c.requires.kept
+          form (omega (arith, c.last_place-last.ensures)) c.keep.ensures;
+    }

@@ -10,5 +10,10 @@ returns-then-knew_base c =
     let h = c.args.book.now.ops in
     let x = c.args.ins.name in
     let f = Insert c.args.ins in
-    let form = form_with_last h c.known.ensures.valid c.args.name.now x c.args.last f c.requires.last c.requires.place refl c.requires.first (c.knew_base.ensures c.if-knew_base.true) in
-    record { kept = notes_with h (note_of x (With c.args.last) f) c.args.notes.now c.keep.new.self 63 c.requires.kept form (omega (arith, c.requires.place)) c.keep.ensures }
+    let form =
+    form_with_last h c.known.ensures.valid c.args.name.now x c.args.last f c.requires.last c.requires.place refl c.requires.first
+    (c.knew_base.ensures c.if-knew_base.true) in
+    record {
+      kept = notes_with h (note_of x (With c.args.last) f) c.args.notes.now c.keep.new.self 63 c.requires.kept form
+          (omega (arith, c.requires.place)) c.keep.ensures;
+    }

@@ -12,7 +12,8 @@ returns-then-starts_with-clause-some c =
     let front = c.split_at-2.result.0.now in
     let wanted = c.split_at.result.1.now in
     let begins = (starts_is Decides-eqb wanted front c.starts_with.result c.starts_with.ensures.value).0 c.if-starts_with.true in
-    goes_on c.args.come header c.args.piece.now front c.split_at-2.result.1.now (drop (length front) wanted) c.requires (parts_of c.min.result c.args.piece.now front c.split_at-2.result.1.now c.split_at-2.ensures.front c.split_at-2.ensures.back)
+    goes_on c.args.come header c.args.piece.now front c.split_at-2.result.1.now (drop (length front) wanted) c.requires
+    (parts_of c.min.result c.args.piece.now front c.split_at-2.result.1.now c.split_at-2.ensures.front c.split_at-2.ensures.back)
     (sym c.split_at.ensures.back ∙ begins)
     (omega (arith, c.split_at-2.ensures.front_len, c.min.ensures, c.split_at.ensures.back_len))
 
@@ -20,9 +21,14 @@ pub returns-else-starts_with-clause-none : goal.returns-else-starts_with-clause-
 returns-else-starts_with-clause-none c = λ _ more rest e.
     let front = c.split_at-2.result.0.now in
     let wanted = c.split_at.result.1.now in
-    let short : length front ≤ length (drop c.args.come header) = omega (arith, c.split_at-2.ensures.front_len, c.min.ensures, ap length c.split_at.ensures.back) in
-    let same = would_go_on c.args.come header c.args.piece.now front c.split_at-2.result.1.now (parts_of c.min.result c.args.piece.now front c.split_at-2.result.1.now c.split_at-2.ensures.front c.split_at-2.ensures.back) short more rest e in
+    let short : length front ≤ length (drop c.args.come header) =
+    omega (arith, c.split_at-2.ensures.front_len, c.min.ensures, ap length c.split_at.ensures.back) in
+    let same =
+    would_go_on c.args.come header c.args.piece.now front c.split_at-2.result.1.now
+    (parts_of c.min.result c.args.piece.now front c.split_at-2.result.1.now c.split_at-2.ensures.front c.split_at-2.ensures.back) short
+    more rest e in
     let begins : wanted ≡ front ++ drop (length front) wanted =
-    sym (take-append-drop (length front) wanted) ∙ ap (λ (t : List ℕ). t ++ drop (length front) wanted) (ap (take (length front)) c.split_at.ensures.back ∙ same) in
+    sym (take-append-drop (length front) wanted)
+    ∙ ap (λ (t : List ℕ). t ++ drop (length front) wanted) (ap (take (length front)) c.split_at.ensures.back ∙ same) in
     let yes = (starts_is Decides-eqb wanted front c.starts_with.result c.starts_with.ensures.value).1 (drop (length front) wanted) begins in
     absurd (true≢false (sym yes ∙ c.if-starts_with.false))

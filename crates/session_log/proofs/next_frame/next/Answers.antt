@@ -22,5 +22,7 @@ overflow_add-result c =
 
 pub returns-in-Ok-Some-clause-counted : goal.returns-in-Ok-Some-clause-counted
 returns-in-Ok-Some-clause-counted c =
-    let takes = subst (λ (r : Option Op). TakesAnswer c.args.frames.now (Ok r) c.take.new.self) c.in-Ok-Some.field-0-is c.in-Ok-Some.ensures.taken in
+    let takes =
+    subst (λ (r : Option Op). TakesAnswer c.args.frames.now (Ok r) c.take.new.self) c.in-Ok-Some.field-0-is
+    c.in-Ok-Some.ensures.taken in
     counted_next c.args.fed c.args.frames.now c.take.new.self (data_of c.in-Ok-Some.op) c.requires.counted takes

@@ -12,4 +12,5 @@ returns-clause-err c =
     let old = c.args.out.now.items in
     let history = frames c.book.result.now.ops in
     front_on c.put_waiting.result old c.put_history.new.out.items c.put_waiting.new.out.items (header ++ history)
-    (c.in_ok-put_history.ensures.ok ∙ ap (λ (t : List ℕ). t ++ history) c.in_ok-extend_from_slice.ensures.items ∙ append_assoc old header history) c.put_waiting.ensures.err
+    (c.in_ok-put_history.ensures.ok ∙ ap (λ (t : List ℕ). t ++ history) c.in_ok-extend_from_slice.ensures.items
+    ∙ append_assoc old header history) c.put_waiting.ensures.err

@@ -7,7 +7,8 @@ use Rattle.cot_site.proofs.Noted.{first_is, first_within, found_form, found_used
 use Rattle.cot_site.proofs.notes.Notes.get.Goals as goal
 
 pub returns-in_err-at-clause-form : goal.returns-in_err-at-clause-form
-returns-in_err-at-clause-form c = c.from_residual.ensures ∙ sym (missed_form c.args.book.now.ops c.args.key.now c.args.self.now (sym c.in_err-at.ensures))
+returns-in_err-at-clause-form c =
+    c.from_residual.ensures ∙ sym (missed_form c.args.book.now.ops c.args.key.now c.args.self.now (sym c.in_err-at.ensures))
 
 pub returns-in_err-at-clause-entries : goal.returns-in_err-at-clause-entries
 returns-in_err-at-clause-entries c = sym (missed_used c.args.book.now.ops c.args.key.now c.args.self.now (sym c.in_err-at.ensures))
@@ -22,7 +23,8 @@ returns-clause-form c =
     let h = c.args.book.now.ops in
     let note = c.in-Some.note in
     let first = first_is h c.args.key.now c.args.self.now c.in_ok-at.at note (sym c.in_ok-at.ensures) in
-    let read : note ≡ get_or c.args.self.now c.in_ok-at.at note = c.in-Some.ensures.value ∙ ap (λ (l : List Note). get_or l c.in_ok-at.at note) c.self.view_is in
+    let read : note ≡ get_or c.args.self.now c.in_ok-at.at note =
+    c.in-Some.ensures.value ∙ ap (λ (l : List Note). get_or l c.in_ok-at.at note) c.self.view_is in
     ap (λ (n : Note). Some n.form) read ∙ sym (found_form h c.args.key.now c.args.self.now c.in_ok-at.at note first)
 
 pub returns-clause-entries : goal.returns-clause-entries
@@ -33,7 +35,8 @@ returns-clause-entries c =
     let first = first_is h c.args.key.now c.args.self.now i note (sym c.in_ok-at.ensures) in
     let read : note ≡ get_or c.args.self.now i note = c.in-Some.ensures.value ∙ ap (λ (l : List Note). get_or l i note) c.self.view_is in
     let rest = c.in-Some.ensures.items ∙ ap (λ (l : List Note). remove l i) c.self.view_is in
-    ap (entries_of h) (c.push_front_reserved.ensures.items ∙ (λ j. read j ∷ rest j)) ∙ sym (found_used h c.args.key.now c.args.self.now i note first)
+    ap (entries_of h) (c.push_front_reserved.ensures.items ∙ (λ j. read j ∷ rest j))
+    ∙ sym (found_used h c.args.key.now c.args.self.now i note first)
 
 pub returns-clause-among : goal.returns-clause-among
 returns-clause-among c n there =
@@ -43,4 +46,5 @@ returns-clause-among c n there =
     let first = first_is h c.args.key.now c.args.self.now i note (sym c.in_ok-at.ensures) in
     let read : note ≡ get_or c.args.self.now i note = c.in-Some.ensures.value ∙ ap (λ (l : List Note). get_or l i note) c.self.view_is in
     let rest = c.in-Some.ensures.items ∙ ap (λ (l : List Note). remove l i) c.self.view_is in
-    moved_among c.args.self.now i note first.within n (subst (λ (l : List Note). Contains l n) (c.push_front_reserved.ensures.items ∙ (λ j. read j ∷ rest j)) there)
+    moved_among c.args.self.now i note first.within n
+    (subst (λ (l : List Note). Contains l n) (c.push_front_reserved.ensures.items ∙ (λ j. read j ∷ rest j)) there)

@@ -9,7 +9,8 @@ pub invariant_of-self : goal.invariant_of-self
 invariant_of-self c =
     let h = c.self.inside.book.ops in (
       c.self.invariant.0,
-      cached_used h (entries_of h c.self.inside.notes) (entries_of h c.get.new.self) c.args.key.now c.self.invariant.1 c.get.ensures.entries,
+      cached_used h (entries_of h c.self.inside.notes) (entries_of h c.get.new.self) c.args.key.now c.self.invariant.1
+          c.get.ensures.entries,
       λ n there. c.self.invariant.2 n (c.get.ensures.among n there),
       c.self.invariant.3,
       c.self.invariant.4,

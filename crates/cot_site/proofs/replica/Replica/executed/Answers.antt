@@ -10,4 +10,5 @@ returns-clause-none c =
     let h = c.self.inside.book.ops in
     let fs = c.self.inside.forms.items in
     let at = c.get.ensures.lookup.0 ∙ ap (λ (xs : List Form). nat_lt c.args.i (length xs)) c.deref.ensures.value in
-    subst (λ (r : ReplicaData). IsNone c.get.result ↔ (length r.history ≤ c.args.i)) c.self.view_is (executed_past h fs c.args.i _ c.self.invariant.0.forms at)
+    subst (λ (r : ReplicaData). IsNone c.get.result ↔ (length r.history ≤ c.args.i)) c.self.view_is
+    (executed_past h fs c.args.i _ c.self.invariant.0.forms at)

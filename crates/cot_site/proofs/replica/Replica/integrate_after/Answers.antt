@@ -40,16 +40,19 @@ execute-requires-clause-added c =
     let h = c.self.inside.book.ops in
     let o = data_of c.args.op in
     let next = subst (λ (r : ReplicaData). IsNext r.history o) (sym c.self.view_is) c.requires.next in
-    let grown : c.push_counted.new.self.ops ≡ h ++ o ∷ [] = c.push_counted.ensures ∙ ap (λ (l : List OpData). l ++ o ∷ []) c.reserve.ensures.ops in
+    let grown : c.push_counted.new.self.ops ≡ h ++ o ∷ [] =
+    c.push_counted.ensures ∙ ap (λ (l : List OpData). l ++ o ∷ []) c.reserve.ensures.ops in
     let before = before_last_is h o c.push_counted.new.self.ops c.known.ensures.valid next grown in
-    added_at h o c.push_counted.new.self.ops (before_last c.push_counted.new.self.ops) c.member-member.result c.known.ensures.valid next grown before c.member-member.ensures.member
+    added_at h o c.push_counted.new.self.ops (before_last c.push_counted.new.self.ops) c.member-member.result c.known.ensures.valid next
+    grown before c.member-member.ensures.member
 
 pub execute-requires-clause-next : goal.execute-requires-clause-next
 execute-requires-clause-next c =
     let h = c.self.inside.book.ops in
     let o = data_of c.args.op in
     let next = subst (λ (r : ReplicaData). IsNext r.history o) (sym c.self.view_is) c.requires.next in
-    let grown : c.push_counted.new.self.ops ≡ h ++ o ∷ [] = c.push_counted.ensures ∙ ap (λ (l : List OpData). l ++ o ∷ []) c.reserve.ensures.ops in
+    let grown : c.push_counted.new.self.ops ≡ h ++ o ∷ [] =
+    c.push_counted.ensures ∙ ap (λ (l : List OpData). l ++ o ∷ []) c.reserve.ensures.ops in
     let before = before_last_is h o c.push_counted.new.self.ops c.known.ensures.valid next grown in
     next_after_at h o c.push_counted.new.self.ops (before_last c.push_counted.new.self.ops) c.member-member.result c.self.inside.forms.items
     c.reserve_one.new.list.items c.self.inside.cells.cells c.self.inside.rows.kept.items c.known.ensures.valid next grown before
@@ -60,25 +63,30 @@ execute-requires-clause-knows c sure =
     let h = c.self.inside.book.ops in
     let o = data_of c.args.op in
     let next = subst (λ (r : ReplicaData). IsNext r.history o) (sym c.self.view_is) c.requires.next in
-    let grown : c.push_counted.new.self.ops ≡ h ++ o ∷ [] = c.push_counted.ensures ∙ ap (λ (l : List OpData). l ++ o ∷ []) c.reserve.ensures.ops in
+    let grown : c.push_counted.new.self.ops ≡ h ++ o ∷ [] =
+    c.push_counted.ensures ∙ ap (λ (l : List OpData). l ++ o ∷ []) c.reserve.ensures.ops in
     let knows = subst (λ (r : ReplicaData). KnowsAll (context_of_all r.history) o) (sym c.self.view_is) (c.requires.knows sure) in
-    knows_before h o c.push_counted.new.self.ops c.known.ensures.valid next grown (context_of_all h) c.member-member.result refl c.member-member.ensures.member knows
+    knows_before h o c.push_counted.new.self.ops c.known.ensures.valid next grown (context_of_all h) c.member-member.result refl
+    c.member-member.ensures.member knows
 
 pub execute-requires-clause-fits : goal.execute-requires-clause-fits
 execute-requires-clause-fits c =
     let h = c.self.inside.book.ops in
     let o = data_of c.args.op in
     let next = subst (λ (r : ReplicaData). IsNext r.history o) (sym c.self.view_is) c.requires.next in
-    let grown : c.push_counted.new.self.ops ≡ h ++ o ∷ [] = c.push_counted.ensures ∙ ap (λ (l : List OpData). l ++ o ∷ []) c.reserve.ensures.ops in
+    let grown : c.push_counted.new.self.ops ≡ h ++ o ∷ [] =
+    c.push_counted.ensures ∙ ap (λ (l : List OpData). l ++ o ∷ []) c.reserve.ensures.ops in
     let before = before_last_is h o c.push_counted.new.self.ops c.known.ensures.valid next grown in
-    fits_at h o c.push_counted.new.self.ops (before_last c.push_counted.new.self.ops) c.member-member.result c.self.inside.forms.items c.self.inside.cells.cells c.known.ensures.valid next grown before c.member-member.ensures.member c.self.invariant.0
+    fits_at h o c.push_counted.new.self.ops (before_last c.push_counted.new.self.ops) c.member-member.result c.self.inside.forms.items
+    c.self.inside.cells.cells c.known.ensures.valid next grown before c.member-member.ensures.member c.self.invariant.0
 
 pub execute-requires-clause-kept : goal.execute-requires-clause-kept
 execute-requires-clause-kept c =
     let h = c.self.inside.book.ops in
     let o = data_of c.args.op in
     let next = subst (λ (r : ReplicaData). IsNext r.history o) (sym c.self.view_is) c.requires.next in
-    let grown : c.push_counted.new.self.ops ≡ h ++ o ∷ [] = c.push_counted.ensures ∙ ap (λ (l : List OpData). l ++ o ∷ []) c.reserve.ensures.ops in
+    let grown : c.push_counted.new.self.ops ≡ h ++ o ∷ [] =
+    c.push_counted.ensures ∙ ap (λ (l : List OpData). l ++ o ∷ []) c.reserve.ensures.ops in
     notes_more h o c.push_counted.new.self.ops c.self.inside.notes c.known.ensures.valid next grown (c.self.invariant.1, c.self.invariant.2)
 
 pub invariant_of-self-in-Ok : goal.invariant_of-self-in-Ok
@@ -86,21 +94,28 @@ invariant_of-self-in-Ok c =
     let h = c.self.inside.book.ops in
     let o = data_of c.args.op in
     let next = subst (λ (r : ReplicaData). IsNext r.history o) (sym c.self.view_is) c.requires.next in
-    let grown : c.push_counted.new.self.ops ≡ h ++ o ∷ [] = c.push_counted.ensures ∙ ap (λ (l : List OpData). l ++ o ∷ []) c.reserve.ensures.ops in
+    let grown : c.push_counted.new.self.ops ≡ h ++ o ∷ [] =
+    c.push_counted.ensures ∙ ap (λ (l : List OpData). l ++ o ∷ []) c.reserve.ensures.ops in
     let before = before_last_is h o c.push_counted.new.self.ops c.known.ensures.valid next grown in
-    let made = step_at h o c.push_counted.new.self.ops (before_last c.push_counted.new.self.ops) c.member-member.result c.self.inside.forms.items
+    let made =
+    step_at h o c.push_counted.new.self.ops (before_last c.push_counted.new.self.ops) c.member-member.result c.self.inside.forms.items
     c.reserve_one.new.list.items c.execute.new.forms.items c.self.inside.cells.cells c.execute.new.cells.cells c.known.ensures.valid
     next grown before c.member-member.ensures.member c.self.invariant.0 c.reserve_one.ensures.items c.in-Ok.ensures.step in
-    subst (λ (k : List OpData). IsExecuted k c.execute.new.forms.items c.execute.new.cells.cells × AreCached k (entries_of k c.execute.new.notes) × AreTold k c.execute.new.notes × AreRowsOf k c.execute.new.rows.kept.items × AreNoted c.execute.new.passages c.execute.new.forms.items) (sym c.share.ensures.ops) (made, c.in-Ok.ensures.kept.0, c.in-Ok.ensures.kept.1, c.in-Ok.ensures.rows, c.in-Ok.ensures.noted)
+    subst (λ (k : List OpData). IsExecuted k c.execute.new.forms.items c.execute.new.cells.cells
+    × AreCached k (entries_of k c.execute.new.notes) × AreTold k c.execute.new.notes × AreRowsOf k c.execute.new.rows.kept.items
+    × AreNoted c.execute.new.passages c.execute.new.forms.items) (sym c.share.ensures.ops)
+    (made, c.in-Ok.ensures.kept.0, c.in-Ok.ensures.kept.1, c.in-Ok.ensures.rows, c.in-Ok.ensures.noted)
 
 pub invariant_of-self-in-Err : goal.invariant_of-self-in-Err
 invariant_of-self-in-Err c =
     let h = c.self.inside.book.ops in
     let o = data_of c.args.op in
-    let grown : c.push_counted.new.self.ops ≡ h ++ o ∷ [] = c.push_counted.ensures ∙ ap (λ (l : List OpData). l ++ o ∷ []) c.reserve.ensures.ops in
+    let grown : c.push_counted.new.self.ops ≡ h ++ o ∷ [] =
+    c.push_counted.ensures ∙ ap (λ (l : List OpData). l ++ o ∷ []) c.reserve.ensures.ops in
     let back = c.take_back.new.book.ops in
     let kept = notes_none back c.take_back.new.notes c.take_back.ensures.notes in (
-      executed_same h back c.self.inside.forms.items c.execute.new.forms.items c.self.inside.cells.cells c.execute.new.cells.cells c.self.invariant.0 (c.take_back.ensures.ops h o grown)
+      executed_same h back c.self.inside.forms.items c.execute.new.forms.items c.self.inside.cells.cells c.execute.new.cells.cells
+          c.self.invariant.0 (c.take_back.ensures.ops h o grown)
           (c.in-Err.ensures.forms ∙ c.reserve_one.ensures.items) c.in-Err.ensures.cells,
       kept.0,
       kept.1,

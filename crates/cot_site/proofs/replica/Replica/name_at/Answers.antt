@@ -12,13 +12,16 @@ returns-clause-name c =
     let cs = c.self.inside.cells.cells in
     let v = c.args.v in
     c.name_of_visible.ensures
-    ∙ (shown_name h cs v (cells_replayed h c.self.inside.forms.items cs c.known.ensures.valid c.self.invariant.0) ∙ ap (λ (r : ReplicaData). option_map (λ (d : Cell). d.0) (slice_get (shown r.history) v)) c.self.view_is)
+    ∙ (shown_name h cs v (cells_replayed h c.self.inside.forms.items cs c.known.ensures.valid c.self.invariant.0)
+    ∙ ap (λ (r : ReplicaData). option_map (λ (d : Cell). d.0) (slice_get (shown r.history) v)) c.self.view_is)
 
 pub returns-clause-none : goal.returns-clause-none
 returns-clause-none c =
     let h = c.self.inside.book.ops in
     let cs = c.self.inside.cells.cells in
     let v = c.args.v in
-    let named = c.name_of_visible.ensures ∙ shown_name h cs v (cells_replayed h c.self.inside.forms.items cs c.known.ensures.valid c.self.invariant.0) in
+    let named =
+    c.name_of_visible.ensures ∙ shown_name h cs v
+    (cells_replayed h c.self.inside.forms.items cs c.known.ensures.valid c.self.invariant.0) in
     subst (λ (r : ReplicaData). IsNone c.name_of_visible.result ↔ (length (shown r.history) ≤ v)) c.self.view_is
     (none_past (λ (d : Cell). d.0) (shown h) v c.name_of_visible.result named)

@@ -12,4 +12,6 @@ returns c =
     let cs = c.self.inside.cells.cells in
     let v = c.args.v in
     c.model_place.ensures.place
-    ∙ (ap (λ (ps : List ℕ). slice_get (0 ∷ map suc ps) v) (places_are h cs (cells_replayed h c.self.inside.forms.items cs c.known.ensures.valid c.self.invariant.0)) ∙ ap (λ (r : ReplicaData). place_behind r.history v) c.self.view_is)
+    ∙ (ap (λ (ps : List ℕ). slice_get (0 ∷ map suc ps) v)
+    (places_are h cs (cells_replayed h c.self.inside.forms.items cs c.known.ensures.valid c.self.invariant.0))
+    ∙ ap (λ (r : ReplicaData). place_behind r.history v) c.self.view_is)

@@ -10,4 +10,5 @@ returns c =
     let h = c.self.inside.book.ops in
     let cs = c.self.inside.cells.cells in
     c.visible_len.ensures
-    ∙ (shown_count h cs (cells_replayed h c.self.inside.forms.items cs c.known.ensures.valid c.self.invariant.0) ∙ ap (λ (r : ReplicaData). length (shown r.history)) c.self.view_is)
+    ∙ (shown_count h cs (cells_replayed h c.self.inside.forms.items cs c.known.ensures.valid c.self.invariant.0)
+    ∙ ap (λ (r : ReplicaData). length (shown r.history)) c.self.view_is)

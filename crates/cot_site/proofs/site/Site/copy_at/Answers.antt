@@ -11,12 +11,14 @@ pub unreachable-requires : goal.unreachable-requires
 unreachable-requires c =
     let w = c.args.self.now.waiting in
     let at : slice_get w c.args.place ≡ None =
-    ap (λ (l : List OpData). slice_get l c.args.place) (sym c.pool.ensures) ∙ (sym c.get.ensures ∙ ap (option_map (λ (o : Bor Op). data_of o.now)) c.in-None.is) in
+    ap (λ (l : List OpData). slice_get l c.args.place) (sym c.pool.ensures)
+    ∙ (sym c.get.ensures ∙ ap (option_map (λ (o : Bor Op). data_of o.now)) c.in-None.is) in
     not_past w c.args.place c.requires at
 
 pub returns : goal.returns
 returns c =
     let w = c.args.self.now.waiting in
     let at : slice_get w c.args.place ≡ Some (data_of c.in-Some.op.now) =
-    ap (λ (l : List OpData). slice_get l c.args.place) (sym c.pool.ensures) ∙ (sym c.get.ensures ∙ ap (option_map (λ (o : Bor Op). data_of o.now)) c.in-Some.is) in
+    ap (λ (l : List OpData). slice_get l c.args.place) (sym c.pool.ensures)
+    ∙ (sym c.get.ensures ∙ ap (option_map (λ (o : Bor Op). data_of o.now)) c.in-Some.is) in
     copied w c.args.place (data_of c.in-Some.op.now) c.try_clone.result at c.try_clone.ensures

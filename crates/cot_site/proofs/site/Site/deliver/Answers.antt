@@ -23,7 +23,8 @@ integrate-requires-clause-cells c =
 
 pub hold-requires-clause-names : goal.hold-requires-clause-names
 hold-requires-clause-names c =
-    waits_agree c.args.self.now.history c.args.self.now.waiting (data_of c.args.op.now) c.in-Waits.missing c.known.ensures.history c.requires
+    waits_agree c.args.self.now.history c.args.self.now.waiting (data_of c.args.op.now) c.in-Waits.missing c.known.ensures.history
+    c.requires
     (sym c.judge-verdict.ensures.verdict ∙ c.in-Waits.is)
 
 pub returns-in_err-copy-in-Integrated-clause-needed : goal.returns-in_err-copy-in-Integrated-clause-needed

@@ -15,8 +15,11 @@ pub invariant_of-self : goal.invariant_of-self
 invariant_of-self c = (c.self.invariant.0, subst AllFormed (sym c.in_err-hold.ensures.err) c.self.invariant.1)
 
 pub invariant_of-self-2 : goal.invariant_of-self-2
-invariant_of-self-2 c =
-    (c.self.invariant.0, held_all c.self.inside.pool (data_of c.args.op.now) c.in_ok-hold.field-0 c.hold.new.self c.self.invariant.1 c.requires.formed c.in_ok-hold.ensures.ops)
+invariant_of-self-2 c = (
+  c.self.invariant.0,
+  held_all c.self.inside.pool (data_of c.args.op.now) c.in_ok-hold.field-0 c.hold.new.self c.self.invariant.1
+      c.requires.formed c.in_ok-hold.ensures.ops,
+)
 
 pub returns-clause-state : goal.returns-clause-state
 returns-clause-state c =
@@ -29,4 +32,5 @@ pub returns-in_err-hold-clause-needed : goal.returns-in_err-hold-clause-needed
 returns-in_err-hold-clause-needed c =
     let o = data_of c.args.op.now in
     let s : State = record { number = c.self.inside.number; history = c.self.inside.replica.history; waiting = c.self.inside.pool } in
-    refused _ (subst (λ (t : SiteData). with_held (state_of t) o ≢ state_of t) c.self.view_is (held_longer s o c.in_err-hold.ensures.memory))
+    refused _ (subst (λ (t : SiteData). with_held (state_of t) o ≢ state_of t) c.self.view_is
+    (held_longer s o c.in_err-hold.ensures.memory))

@@ -13,8 +13,11 @@ returns-in_err-context-clause-answer c =
     let s = state_of c.args.self.now in
     let e = c.in_err-context.field-0.0 in
     let at = sym c.place_behind.ensures ∙ c.in-Some.is in
-    let refused = numbered_refused s (inserting (next_name s) c.in-Some.place c.args.ch (context_of_all s.history)) e c.in_ok-name.ensures.1 c.in_err-context.ensures in
-    handed_on _ c.from_residual-in_err-context.result e c.from_residual-in_err-context.ensures.1 (subst (λ (r : Result OpData Local). IsAnswer r (Err e)) (sym (insert_at s c.args.v c.args.ch c.in-Some.place at)) refused)
+    let refused =
+    numbered_refused s (inserting (next_name s) c.in-Some.place c.args.ch (context_of_all s.history)) e c.in_ok-name.ensures.1
+    c.in_err-context.ensures in
+    handed_on _ c.from_residual-in_err-context.result e c.from_residual-in_err-context.ensures.1
+    (subst (λ (r : Result OpData Local). IsAnswer r (Err e)) (sym (insert_at s c.args.v c.args.ch c.in-Some.place at)) refused)
 
 pub make-requires-clause-own : goal.make-requires-clause-own
 make-requires-clause-own c = c.in_ok-context.ensures.0
@@ -23,11 +26,15 @@ pub make-requires-clause-next : goal.make-requires-clause-next
 make-requires-clause-next c =
     let s = state_of c.args.self.now in
     let at = sym c.place_behind.ensures ∙ c.in-Some.is in
-    insert_ready s c.known.ensures.history c.known.ensures.number c.in_ok-name.name c.in-Some.place c.args.ch c.args.v c.in_ok-context.context.set c.ranges.ch.0 c.in_ok-name.ensures.0 c.in_ok-name.ensures.1 c.in_ok-context.ensures.0 c.in_ok-context.ensures.1 at
+    insert_ready s c.known.ensures.history c.known.ensures.number c.in_ok-name.name c.in-Some.place c.args.ch c.args.v
+    c.in_ok-context.context.set c.ranges.ch.0 c.in_ok-name.ensures.0 c.in_ok-name.ensures.1 c.in_ok-context.ensures.0
+    c.in_ok-context.ensures.1 at
 
 pub returns-clause-answer : goal.returns-clause-answer
 returns-clause-answer c =
     let s = state_of c.args.self.now in
     let at = sym c.place_behind.ensures ∙ c.in-Some.is in
-    let made = insert_made s c.args.v c.args.ch c.in-Some.place c.in_ok-name.name c.in_ok-context.context.set at c.in_ok-name.ensures.0 c.in_ok-name.ensures.1 c.in_ok-context.ensures.0 c.in_ok-context.ensures.1 in
+    let made =
+    insert_made s c.args.v c.args.ch c.in-Some.place c.in_ok-name.name c.in_ok-context.context.set at c.in_ok-name.ensures.0
+    c.in_ok-name.ensures.1 c.in_ok-context.ensures.0 c.in_ok-context.ensures.1 in
     make_answer _ _ c.make.result made c.make.ensures.op c.make.ensures.memory

@@ -12,11 +12,14 @@ use Rattle.cot_site.proofs.site.Site.release.Goals as goal
 
 pub integrate-requires-clause-cells : goal.integrate-requires-clause-cells
 integrate-requires-clause-cells c =
-    c.judgement_at-verdict.ensures.cells (data_of c.in_ok-copy.copy) c.in_ok-copy.ensures (c.is_integrated.ensures.0 c.if-is_integrated.true)
+    c.judgement_at-verdict.ensures.cells (data_of c.in_ok-copy.copy) c.in_ok-copy.ensures
+    (c.is_integrated.ensures.0 c.if-is_integrated.true)
 
 pub integrate-requires-clause-next : goal.integrate-requires-clause-next
 integrate-requires-clause-next c =
-    ready_integrated c.args.self.now.history c.args.self.now.waiting c.args.place (data_of c.in_ok-copy.copy) c.judgement_at-verdict.result.verdict c.known.ensures.history c.known.ensures.waiting c.in_ok-copy.ensures c.judgement_at-verdict.ensures.verdict (c.is_integrated.ensures.0 c.if-is_integrated.true)
+    ready_integrated c.args.self.now.history c.args.self.now.waiting c.args.place (data_of c.in_ok-copy.copy)
+    c.judgement_at-verdict.result.verdict c.known.ensures.history c.known.ensures.waiting c.in_ok-copy.ensures
+    c.judgement_at-verdict.ensures.verdict (c.is_integrated.ensures.0 c.if-is_integrated.true)
 
 pub returns-clause-effect : goal.returns-clause-effect
 returns-clause-effect c =
@@ -25,20 +28,27 @@ returns-clause-effect c =
     let o = data_of c.take-2.result in
     let at = c.take-2.ensures.op in
     c.take-2.ensures.state
-    ∙ sym (ready_quiet s.history s.waiting c.args.place o o v (without_waiting (state_of s) c.args.place) c.known.ensures.history c.known.ensures.waiting at (c.requires.ready o at) (c.judgement_at-verdict.ensures.verdict o at) (λ e. true≢false (sym (c.is_integrated.ensures.1 e) ∙ c.if-is_integrated.false)))
+    ∙ sym (ready_quiet s.history s.waiting c.args.place o o v (without_waiting (state_of s) c.args.place) c.known.ensures.history
+    c.known.ensures.waiting at (c.requires.ready o at) (c.judgement_at-verdict.ensures.verdict o at)
+    (λ e. true≢false (sym (c.is_integrated.ensures.1 e) ∙ c.if-is_integrated.false)))
 
 pub returns-in_err-copy-clause-needed : goal.returns-in_err-copy-clause-needed
 returns-in_err-copy-clause-needed c =
     let s = c.args.self.now in
-    let integrates : (o : OpData) → slice_get s.waiting c.args.place ≡ Some o → judged (without_waiting (state_of s) c.args.place) o ≡ Integrated = λ o at. sym (c.judgement_at-verdict.ensures.verdict o at) ∙ c.is_integrated.ensures.0 c.if-is_integrated.true in
+    let integrates : (o : OpData) → slice_get s.waiting c.args.place ≡ Some o
+    → judged (without_waiting (state_of s) c.args.place) o ≡ Integrated =
+    λ o at. sym (c.judgement_at-verdict.ensures.verdict o at) ∙ c.is_integrated.ensures.0 c.if-is_integrated.true in
     refused _ integrates
 
 pub returns-in_err-integrate-clause-needed : goal.returns-in_err-integrate-clause-needed
 returns-in_err-integrate-clause-needed c =
     let s = c.args.self.now in
-    let integrates : (o : OpData) → slice_get s.waiting c.args.place ≡ Some o → judged (without_waiting (state_of s) c.args.place) o ≡ Integrated = λ o at. sym (c.judgement_at-verdict.ensures.verdict o at) ∙ c.is_integrated.ensures.0 c.if-is_integrated.true in
+    let integrates : (o : OpData) → slice_get s.waiting c.args.place ≡ Some o
+    → judged (without_waiting (state_of s) c.args.place) o ≡ Integrated =
+    λ o at. sym (c.judgement_at-verdict.ensures.verdict o at) ∙ c.is_integrated.ensures.0 c.if-is_integrated.true in
     refused _ integrates
 
 pub returns-then-is_integrated-clause-entries : goal.returns-then-is_integrated-clause-entries
 returns-then-is_integrated-clause-entries c = λ same.
-    absurd (not_as_before (state_of c.args.self.now) (state_of c.integrate.new.self) (state_of c.take.new.self) (data_of c.in_ok-copy.copy) c.args.place c.in_ok-integrate.ensures.state c.take.ensures.state same)
+    absurd (not_as_before (state_of c.args.self.now) (state_of c.integrate.new.self) (state_of c.take.new.self) (data_of c.in_ok-copy.copy)
+    c.args.place c.in_ok-integrate.ensures.state c.take.ensures.state same)

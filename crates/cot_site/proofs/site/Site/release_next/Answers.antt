@@ -46,12 +46,16 @@ returns-clause-effect c =
     let p = c.in_ok-released.released in
     let is = release_is s c.in-Some.place (data_of p.0) (sym c.first_ready.ensures ∙ c.in-Some.is) c.in_ok-released.ensures.op in
     c.in_ok-released.ensures.effect
-    ∙ (ap (λ (v : Verdict). after_verdict v (data_of p.0) (without_waiting s c.in-Some.place)) c.in_ok-released.ensures.verdict ∙ ap (after_release s) (sym is))
+    ∙ (ap (λ (v : Verdict). after_verdict v (data_of p.0) (without_waiting s c.in-Some.place)) c.in_ok-released.ensures.verdict
+    ∙ ap (after_release s) (sym is))
 
 pub returns-clause-settled : goal.returns-clause-settled
-returns-clause-settled c =
-    (λ none. absurd (true≢false none), λ settled. absurd (none-some c.in-Some.place (sym settled ∙ (sym c.first_ready.ensures ∙ c.in-Some.is))))
+returns-clause-settled c = (
+  λ none. absurd (true≢false none),
+  λ settled. absurd (none-some c.in-Some.place (sym settled ∙ (sym c.first_ready.ensures ∙ c.in-Some.is))),
+)
 
 pub returns-in_err-released-clause-needed : goal.returns-in_err-released-clause-needed
 returns-in_err-released-clause-needed c =
-    refused _ (first_integrates (state_of c.args.self.now) c.in-Some.place (sym c.first_ready.ensures ∙ c.in-Some.is) c.in_err-released.ensures.needed)
+    refused _ (first_integrates (state_of c.args.self.now) c.in-Some.place (sym c.first_ready.ensures ∙ c.in-Some.is)
+    c.in_err-released.ensures.needed)

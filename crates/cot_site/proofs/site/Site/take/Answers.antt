@@ -7,4 +7,5 @@ pub take-requires : goal.take-requires
 take-requires c = subst (λ (s : SiteData). c.args.place < length s.waiting) (sym c.self.view_is) c.requires
 
 pub invariant_of-self : goal.invariant_of-self
-invariant_of-self c = (c.self.invariant.0, subst AllFormed (sym c.take.ensures.others) (removed_formed c.self.inside.pool c.args.place c.self.invariant.1))
+invariant_of-self c =
+    (c.self.invariant.0, subst AllFormed (sym c.take.ensures.others) (removed_formed c.self.inside.pool c.args.place c.self.invariant.1))

@@ -9,5 +9,6 @@ returns c =
     let s = state_of c.args.self.now.site in
     let t = state_of c.take_in-taken.new.site in
     on_ok_weaker c.keep.result
-    (λ kept. takes_next s t c.args.placed.offset (data_of c.args.placed.op) c.take_in-taken.result c.keep.new.refused c.take_in-taken.ensures.taken c.take_in-taken.ensures.state c.take_in-taken.ensures.refused kept)
+    (λ kept. takes_next s t c.args.placed.offset (data_of c.args.placed.op) c.take_in-taken.result c.keep.new.refused
+    c.take_in-taken.ensures.taken c.take_in-taken.ensures.state c.take_in-taken.ensures.refused kept)
     c.keep.ensures
