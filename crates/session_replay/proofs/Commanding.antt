@@ -1,27 +1,34 @@
 -- A local command in memory: what it made, or why it made nothing.
 use Rattle.std.proofs.Common.{◌≡◌, ◌≢◌, ℕ, ◌<◌, List, [], ◌∷◌, ◌++◌, refl, sym, ap, subst, ◌∙◌, length, map, set, append-nil, arith}
 use Rattle.std.specs.Prelude.{Result, Ok, Err, slice_index_or}
-use Rattle.std.proofs.lemmas.List.{length-map, map-set, get_or-set_same, set-get_or}
+use Rattle.std.proofs.lemmas.List.{length-map, map-set, set-get_or}
 use Rattle.context_diff.specs.Operations.{OpData}
+use Rattle.context_diff.specs.Histories.{IsNext}
 use Rattle.cot_site.specs.States.{State, with_last}
 use Rattle.cot_site.specs.Sites.{SiteData, state_of}
 use Rattle.cot_site.specs.Commands.{IsAnswer}
+use Rattle.cot_site.specs.Releases.{IsSound}
+use Rattle.cot_site.proofs.CallerLemmas.{local_insert_next, local_delete_next, local_undo_next, local_redo_next}
+use Rattle.participant.specs.declared.edits.Edit.{Edit}
+use Rattle.participant.specs.declared.edits.Edit.TheVariants.{Insert, Delete, Undo, Redo}
+use Rattle.participant.specs.Edits.{made_by}
 use Rattle.site_answers.specs.declared.local.Local.{Local}
 use Rattle.site_answers.specs.declared.local.Local.TheVariants as local
-use Rattle.script_text.specs.Report.{op_text}
 use Rattle.script_text.specs.Verdicts.{local_text}
-use Rattle.session_replay.specs.declared.sites.commands.Command.{Command}
 use Rattle.session_replay.specs.Steps.{last_of, written_by}
-use Rattle.session_replay.specs.Sessions.{SessionData, site_at, settling}
+use Rattle.session_replay.specs.Sessions.{SessionData, site_at, making}
 use Rattle.session_replay.specs.LineSteps.{commanded}
-use Rattle.session_replay.specs.Code.Doing.{AreDone, local_of}
+use Rattle.session_replay.specs.Code.Doing.{AreDone, HasCharacter}
 use Rattle.session_replay.specs.declared.message.Message.{Message}
 use Rattle.session_replay.specs.Code.Messages.{operations_of}
 use Rattle.session_replay.proofs.Lifting.{session_of, state_at, made_done}
 
--- what stands where it was written
-pub read_back : (sites : List SiteData) (i : ℕ) (x y : SiteData) → i < length sites → x ≡ slice_index_or (set sites i y) i x → x ≡ y
-read_back sites i x y within is = is ∙ get_or-set_same sites i y x within
+-- the operation of an edit comes next
+pub edit_next : (s : State) → IsSound s → (e : Edit) → HasCharacter e → (o : OpData) → made_by e s ≡ Ok o → IsNext s.history o
+edit_next s sound (Insert v ch) is_character o is = local_insert_next s sound.history sound.number o v ch is_character is
+edit_next s sound (Delete v) is_character o is = local_delete_next s sound.history sound.number o v is
+edit_next s sound (Undo t) is_character o is = local_undo_next s sound.history sound.number o t is
+edit_next s sound (Redo t) is_character o is = local_redo_next s sound.history sound.number o t is
 
 pub site_within : (sites : List SiteData) (ms : List OpData) (d : SessionData) (i : ℕ) → session_of sites ms ≡ d → i < length d.sites → i < length sites
 site_within sites ms d i seen within = omega (arith, ap (λ (e : SessionData). length e.sites) seen, length-map sites state_of)
@@ -30,14 +37,15 @@ pub site_is : (sites : List SiteData) (ms : List OpData) (d : SessionData) (i : 
 site_is sites ms d i x seen within is = state_at sites ms i x (site_within sites ms d i seen within) is ∙ ap (λ e. site_at e i) seen
 
 -- the operation is the next message
-pub command_made : {T E : Type 0} (result : Result T E) (d : SessionData) (sites : List SiteData) (ms : List OpData) (i : ℕ) (command : Command) (o : OpData) (x y z : SiteData) (n : ℕ) (old new : List ℕ)
+pub command_made : {T E : Type 0} (result : Result T E) (d : SessionData) (sites : List SiteData) (ms : List OpData) (i : ℕ) (edit : Edit)
+    (o : OpData) (x z : SiteData) (n : ℕ) (old new : List ℕ)
     → session_of sites ms ≡ d → i < length d.sites → x ≡ slice_index_or sites i x
-    → local_of command (state_of x) ≡ Ok o → state_of y ≡ with_last (state_of x) o → n ≡ length ms
-    → AreDone result (settling (op_text n o) (state_of y)) (state_of y) (state_of z) old new
-    → AreDone result (commanded i (local_of command (site_at d i)) d) d (session_of (set sites i z) (ms ++ o ∷ [])) old new
-command_made result d sites ms i command o x y z n old new seen within is answer last number h =
-    let up = made_done result d sites ms i o x y z n old new seen within is last number h in
-    let all : local_of command (site_at d i) ≡ Ok o = ap (local_of command) (sym (site_is sites ms d i x seen within is)) ∙ answer in
+    → made_by edit (state_of x) ≡ Ok o → n ≡ length ms
+    → AreDone result (making n o (state_of x)) (with_last (state_of x) o) (state_of z) old new
+    → AreDone result (commanded i (made_by edit (site_at d i)) d) d (session_of (set sites i z) (ms ++ o ∷ [])) old new
+command_made result d sites ms i edit o x z n old new seen within is answer number h =
+    let up = made_done result d sites ms i o x z n old new seen within is number h in
+    let all : made_by edit (site_at d i) ≡ Ok o = ap (made_by edit) (sym (site_is sites ms d i x seen within is)) ∙ answer in
     subst (λ r. AreDone result (commanded i r d) d (session_of (set sites i z) (ms ++ o ∷ [])) old new) (sym all) up
 
 -- the states of the sites, where that of one is as it was
@@ -64,11 +72,12 @@ refusal_is r local.NumberFull h other = h
 refusal_is r (local.ContextFull n) h other = h
 refusal_is r local.Memory h other = absurd (other refl)
 
-pub command_refused : (d : SessionData) (sites : List SiteData) (ms : List OpData) (i : ℕ) (command : Command) (why : Local) (x : SiteData)
-    → session_of sites ms ≡ d → i < length d.sites → x ≡ slice_index_or sites i x → IsAnswer (local_of command (state_of x)) (Err why) → why ≢ local.Memory
-    → local_of command (site_at d i) ≡ Err why
-command_refused d sites ms i command why x seen within is answer other =
-    ap (local_of command) (sym (site_is sites ms d i x seen within is)) ∙ refusal_is (local_of command (state_of x)) why answer other
+pub command_refused : (d : SessionData) (sites : List SiteData) (ms : List OpData) (i : ℕ) (edit : Edit) (why : Local) (x : SiteData)
+    → session_of sites ms ≡ d → i < length d.sites → x ≡ slice_index_or sites i x → IsAnswer (made_by edit (state_of x)) (Err why)
+    → why ≢ local.Memory
+    → made_by edit (site_at d i) ≡ Err why
+command_refused d sites ms i edit why x seen within is answer other =
+    ap (made_by edit) (sym (site_is sites ms d i x seen within is)) ∙ refusal_is (made_by edit (state_of x)) why answer other
 
 pub command_told : (d now : SessionData) (i : ℕ) (r : Result OpData Local) (why : Local) (old new : List ℕ) → r ≡ Err why → now ≡ d → new ≡ old ++ local_text why → (now ≡ last_of d (commanded i r d)) × (new ≡ old ++ written_by (commanded i r d))
 unfolding last_of written_by

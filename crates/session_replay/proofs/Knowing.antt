@@ -24,10 +24,11 @@ use Rattle.cot_site.specs.Verdicts.{is_repeat, is_forged, placed_verdict, ready_
 use Rattle.site_answers.specs.declared.verdict.Verdict.{Verdict}
 use Rattle.site_answers.specs.declared.verdict.Verdict.TheVariants.{Repeat, Forged, Waits, NotClosed, PlaceOut, Integrated}
 use Rattle.cot_site.proofs.CallerLemmas.{same_any, settled_has_none, settled_settles, sound_along, sound_delivered}
+use Rattle.participant.specs.Taking.{is_had}
 use Rattle.session_replay.specs.Steps.{Step, last_of, written_by}
 use Rattle.session_replay.specs.Sessions.{SessionData, site_at, new_site, new_sites, settling, taking_in, told_verdict, free_step, given, given_all}
 use Rattle.session_replay.specs.Code.Doing.{AreDone}
-use Rattle.session_replay.specs.Code.Knowing.{Has, HasAll, AreKnown, still_known, is_had}
+use Rattle.session_replay.specs.Code.Knowing.{Has, HasAll, AreKnown, still_known}
 use Rattle.session_replay.proofs.Releasing.{last_freed}
 use Rattle.session_replay.proofs.Steps.{IsAlong}
 

@@ -21,6 +21,7 @@ mod Making
 mod Tallies
 mod Rounds
 mod Needed
+mod Telling
 mod NextLine
 pub mod Messages
 pub mod Knowing

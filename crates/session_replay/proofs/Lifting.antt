@@ -3,15 +3,11 @@ use Rattle.std.proofs.Common.{◌≡◌, ℕ, zero, suc, ◌<◌, List, [], ◌�
 use Rattle.std.specs.Prelude.{Bool, Result, Ok, Err, slice_index_or}
 use Rattle.std.proofs.lemmas.List.{map-append, map-set, length-map, set-get_or}
 use Rattle.context_diff.specs.Operations.{OpData}
-use Rattle.context_diff.specs.Histories.{IsValid}
-use Rattle.context_diff.proofs.CallerLemmas.{valid_pop}
 use Rattle.cot_site.specs.States.{State, with_last}
-use Rattle.cot_site.specs.Sites.{SiteData, state_of, AllFormed}
-use Rattle.cot_site.proofs.CallerLemmas.{held_formed}
-use Rattle.script_text.specs.Report.{op_text}
+use Rattle.cot_site.specs.Sites.{SiteData, state_of}
 use Rattle.session_replay.specs.Steps.{Step, last_of, written_by, IsReached}
 use Rattle.session_replay.specs.Code.Doing.{AreDone}
-use Rattle.session_replay.specs.Sessions.{SessionData, site_at, new_site, at_site, taking_in, settling, given, made}
+use Rattle.session_replay.specs.Sessions.{SessionData, site_at, new_site, at_site, taking_in, making, given, made}
 use Rattle.session_replay.proofs.Steps.{reached_again}
 
 -- the session with this state of the site of number i
@@ -99,39 +95,30 @@ from_any (Ok t) d e first es now old new same h = h
 from_any (Err x) d e first es now old new same h = (reached_again e d now first es same h.0, h.1)
 
 made_here : {T E : Type 0} (result : Result T E) (d : SessionData) (i : ℕ) (o : OpData) (now : State) (old new : List ℕ)
-    → AreDone result (settling (op_text (length d.messages) o) (with_last (site_at d i) o)) (with_last (site_at d i) o) now old new
+    → AreDone result (making (length d.messages) o (site_at d i)) (with_last (site_at d i) o) now old new
     → AreDone result (made i o d) d (session_at d.sites (d.messages ++ o ∷ []) i now) old new
 made_here result d i o now old new h =
     let s = with_last (site_at d i) o in
     let ms = d.messages ++ o ∷ [] in
-    let up = lifted result d.sites ms i (settling (op_text (length d.messages) o) s) s now old new h in
+    let up = lifted result d.sites ms i (making (length d.messages) o (site_at d i)) s now old new h in
     from_any result d (session_at d.sites ms i s) _ _ (session_at d.sites ms i now) old new refl up
 
-pub set_twice : {X : Type 0} (xs : List X) (i : ℕ) (x y : X) → set (set xs i x) i y ≡ set xs i y
-set_twice [] zero x y = refl
-set_twice [] (suc i) x y = refl
-set_twice (z ∷ zs) zero x y = refl
-set_twice (z ∷ zs) (suc i) x y = ap (λ ys. z ∷ ys) (set_twice zs i x y)
-
 -- a site that made an operation, and then told it and released, in memory
-pub made_done : {T E : Type 0} (result : Result T E) (d : SessionData) (sites : List SiteData) (ms : List OpData) (i : ℕ) (o : OpData) (x y z : SiteData) (n : ℕ) (old new : List ℕ)
-    → session_of sites ms ≡ d → i < length d.sites → x ≡ slice_index_or sites i x → state_of y ≡ with_last (state_of x) o → n ≡ length ms
-    → AreDone result (settling (op_text n o) (state_of y)) (state_of y) (state_of z) old new
+pub made_done : {T E : Type 0} (result : Result T E) (d : SessionData) (sites : List SiteData) (ms : List OpData) (i : ℕ) (o : OpData)
+    (x z : SiteData) (n : ℕ) (old new : List ℕ)
+    → session_of sites ms ≡ d → i < length d.sites → x ≡ slice_index_or sites i x → n ≡ length ms
+    → AreDone result (making n o (state_of x)) (with_last (state_of x) o) (state_of z) old new
     → AreDone result (made i o d) d (session_of (set sites i z) (ms ++ o ∷ [])) old new
-made_done result d sites ms i o x y z n old new seen within is last number h =
+made_done result d sites ms i o x z n old new seen within is number h =
     let there : i < length sites = omega (arith, ap (λ (e : SessionData). length e.sites) seen, length-map sites state_of) in
     let at : state_of x ≡ site_at d i = state_at sites ms i x there is ∙ ap (λ e. site_at e i) seen in
-    let from : state_of y ≡ with_last (site_at d i) o = last ∙ ap (λ s. with_last s o) at in
     let count : n ≡ length d.messages = number ∙ ap (λ (e : SessionData). length e.messages) seen in
-    let here : AreDone result (settling (op_text (length d.messages) o) (with_last (site_at d i) o)) (with_last (site_at d i) o) (state_of z) old new = subst (λ s. AreDone result (settling (op_text (length d.messages) o) s) s (state_of z) old new) from (subst (λ k. AreDone result (settling (op_text k o) (state_of y)) (state_of y) (state_of z) old new) count h) in
+    let here : AreDone result (making (length d.messages) o (site_at d i)) (with_last (site_at d i) o) (state_of z) old new =
+    subst (λ s. AreDone result (making (length d.messages) o s) (with_last s o) (state_of z) old new) at
+    (subst (λ k. AreDone result (making k o (state_of x)) (with_last (state_of x) o) (state_of z) old new) count h)
+    in
     let up = made_here result d i o (state_of z) old new here in
     let whole : session_at d.sites (d.messages ++ o ∷ []) i (state_of z) ≡ session_of (set sites i z) (ms ++ o ∷ []) =
     ap (λ (e : SessionData). session_at e.sites (e.messages ++ o ∷ []) i (state_of z)) (sym seen) ∙ written_back sites (ms ++ o ∷ []) i z
     in
     subst (λ e. AreDone result (made i o d) d e old new) whole up
-
-pub made_formed : (ms : List OpData) (o : OpData) (x y : SiteData) → AllFormed ms → state_of y ≡ with_last (state_of x) o → IsValid y.history → AllFormed (ms ++ o ∷ [])
-made_formed ms o x y formed last valid =
-    let history : y.history ≡ x.history ++ o ∷ [] = ap (λ (s : State). s.history) last in
-    let next = valid_pop x.history o (subst IsValid history valid) in
-    held_formed ms o formed next.1.formed

@@ -31,13 +31,14 @@ use Rattle.session_replay.specs.LineSteps.{told, commanded, typed, typed_in, typ
 use Rattle.session_replay.specs.Events.{Opening}
 use Rattle.session_replay.specs.Soundness.{IsSound, AreSettled}
 use Rattle.session_replay.proofs.Every.{Every, every_map}
-use Rattle.session_replay.proofs.Sound.{Good, Kept, Eventful, eventless, one_event, good_none, good_told, good_made, good_given, good_then, good_last, site_sound}
+use Rattle.session_replay.proofs.Telling.{no_release}
+use Rattle.session_replay.proofs.Sound.{Good, Kept, Eventful, AreQuiet, quiet_none, quiet_told, eventless, one_event, good_none, good_told, good_made, good_given, good_then, good_last, site_sound}
 
 -- ---- local commands
 
 good_command : (i : ℕ) (r : Result OpData Local) (d : SessionData) → IsSound d → i < length d.sites → ((o : OpData) → r ≡ Ok o → IsNext (site_at d i).history o) → Good d (commanded i r d)
 good_command i (Ok o) d sound within next = good_made d i o sound within (next o refl)
-good_command i (Err why) d sound within next = good_told (local_text why) d sound refl
+good_command i (Err why) d sound within next = good_told (local_text why) d sound refl refl
 
 -- what follows is good from each sound session with so many sites
 abbrev GoodNext : ℕ → (SessionData → List (Step SessionData)) → Type 0
@@ -48,7 +49,7 @@ on_last d es next sound good rest = good_then d es (next (last_of d es)) sound g
 
 good_typed_on : (next : SessionData → List (Step SessionData)) (i : ℕ) (r : Result OpData Local) (d : SessionData) → IsSound d → i < length d.sites → ((o : OpData) → r ≡ Ok o → IsNext (site_at d i).history o) → GoodNext (length d.sites) next → Good d (typed_on next i r d)
 good_typed_on next i (Ok o) d sound within is rest = on_last d (made i o d) next sound (good_made d i o sound within (is o refl)) rest
-good_typed_on next i (Err why) d sound within is rest = good_told (local_text why) d sound refl
+good_typed_on next i (Err why) d sound within is rest = good_told (local_text why) d sound refl refl
 
 pub inserted_next : (d : SessionData) (i v ch : ℕ) → IsSound d → i < length d.sites → IsScalar ch → (o : OpData) → local_insert (site_at d i) v ch ≡ Ok o → IsNext (site_at d i).history o
 inserted_next d i v ch sound within scalar o is =
@@ -83,8 +84,9 @@ good_synced (suc m) n i within d kept =
 
 good_framed_on : (next : List ℕ → SessionData → List (Step SessionData)) (i : ℕ) (bytes : List ℕ) (r : Result (OpData × ℕ) Refused) (d : SessionData) → IsSound d → i < length d.sites → ((o : OpData) (used : ℕ) → r ≡ Ok (o, used) → IsWellFormed o) → ((k : ℕ) → GoodNext (length d.sites) (next (drop k bytes))) → Good d (framed_on next i bytes r d)
 good_framed_on next i bytes (Ok p) d sound within formed rest = on_last d (given false i p.0 d) (next (drop p.1 bytes)) sound (good_given false d i p.0 sound within (formed p.0 p.1 refl)) (rest p.1)
-good_framed_on next i bytes (Err (More least)) d sound within formed rest = good_told (raw_more_text i least) d sound refl
-good_framed_on next i bytes (Err (Bad f)) d sound within formed rest = good_told (raw_bad_text i (cause_word f.cause) f.offset) d sound refl
+good_framed_on next i bytes (Err (More least)) d sound within formed rest = good_told (raw_more_text i least) d sound refl refl
+good_framed_on next i bytes (Err (Bad f)) d sound within formed rest =
+    good_told (raw_bad_text i (cause_word f.cause) f.offset) d sound refl refl
 
 good_framed : (m : ℕ) (bytes : List ℕ) → IsBytes bytes → (n i : ℕ) → i < n → GoodNext n (framed m i bytes)
 unfolding framed
@@ -134,13 +136,21 @@ pub record Lasting (d : SessionData) (es : List (Step SessionData)) : Type 0 whe
   pub all : Every IsSound es
   pub settles : AreSettled d → AreSettled (last_of d es)
   pub events : Eventful d es
+  pub quiet : AreQuiet es
 
 from_good : (d : SessionData) (es : List (Step SessionData)) → Good d es → Lasting d es
-from_good d es good = record { all = every_map (Kept (length d.sites)) IsSound (λ s kept. kept.sound) es good.all; settles = good.settles; events = good.events }
+from_good d es good =
+    record {
+      all = every_map (Kept (length d.sites)) IsSound (λ s kept. kept.sound) es good.all;
+      settles = good.settles;
+      events =
+          good.events;
+      quiet = good.quiet;
+    }
 
 nothing_lasts : (d : SessionData) → Lasting d []
 unfolding last_of
-nothing_lasts d = record { all = tt; settles = λ s. s; events = eventless d }
+nothing_lasts d = record { all = tt; settles = λ s. s; events = eventless d; quiet = quiet_none }
 
 ok_steps : (es fs : List (Step SessionData)) → ◌≡◌ {A = Result (List (Step SessionData)) Refusal} (Ok es) (Ok fs) → es ≡ fs
 ok_steps es fs e = cc
@@ -177,6 +187,7 @@ opened_lasts n d few = record {
   all = (opened_sound n few, tt);
   settles = λ s. opened_settled n few;
   events = one_event d (Opening n) (opened_sound n few) tt (λ s. opened_settled n few);
+  quiet = quiet_told [] (opened n) (no_release [] refl);
 }
 
 opening_lasts : (n : ℕ) (d : SessionData) (es : List (Step SessionData)) → opening n d ≡ Ok es → Lasting d es
@@ -225,8 +236,10 @@ there_lasts line.Sync d es sound values within is =
     (good_synced (length d.sites) (length d.sites) 0 (omega arith) d (record { sound = sound; sites = refl }))
 there_lasts (line.Raw i bytes) d es sound values within is =
     good_lasts d (framed (length bytes) i bytes d) es is (good_framed (length bytes) bytes values (length d.sites) i within d (record { sound = sound; sites = refl }))
-there_lasts (line.Show i) d es sound values within is = good_lasts d (told (show_text i d) d) es is (good_told (show_text i d) d sound refl)
-there_lasts (line.State i) d es sound values within is = good_lasts d (told (have_text i d) d) es is (good_told (have_text i d) d sound refl)
+there_lasts (line.Show i) d es sound values within is =
+    good_lasts d (told (show_text i d) d) es is (good_told (show_text i d) d sound refl refl)
+there_lasts (line.State i) d es sound values within is =
+    good_lasts d (told (have_text i d) d) es is (good_told (have_text i d) d sound refl refl)
 
 pub line_lasts : (l : Line) (d : SessionData) (es : List (Step SessionData)) → IsSound d → AreValues l → line_steps l d ≡ Ok es → Lasting d es
 line_lasts l d es sound values is =

@@ -34,10 +34,10 @@ later_at (z ∷ zs) zero x y is later = (subst (λ (s : SiteData). IsLater (stat
 later_at (z ∷ zs) (suc i) x y is later = (later_same (state_of z), later_at zs i x y is later)
 
 -- a site that made an operation, and maybe more after it
-pub later_made : (s t u : State) (o : OpData) → t ≡ with_last s o → IsLater t u → IsLater s u
-later_made s t u o made later =
+pub later_made : (s u : State) (o : OpData) → IsLater (with_last s o) u → IsLater s u
+later_made s u o later =
     let first : IsLater s (with_last s o) = record { number = refl; history = take-append_seam s.history (o ∷ []) } in
-    later_on s t u (subst (IsLater s) (sym made) first) later
+    later_on s (with_last s o) u first later
 
 -- a history that begins with another has its operations, at their places
 begun_within : (h k : List OpData) (n : ℕ) → take (length h) k ≡ h → n < length h → n < length k
@@ -77,25 +77,23 @@ same_operations ss ts (m ∷ ms) later held =
 -- ---- a message more
 
 -- the message of an operation that a site made, and maybe more after it
-pub message_made : (sites : List SiteData) (i : ℕ) (x y z : SiteData) (o : OpData) (m : Message)
-    → i < length sites → x ≡ slice_index_or sites i x → state_of y ≡ with_last (state_of x) o → IsLater (state_of y) (state_of z)
+pub message_made : (sites : List SiteData) (i : ℕ) (x z : SiteData) (o : OpData) (m : Message)
+    → i < length sites → x ≡ slice_index_or sites i x → IsLater (with_last (state_of x) o) (state_of z)
     → m.site ≡ i → m.place ≡ length x.history
     → IsHeld (map state_of (set sites i z)) m × (operation_of (map state_of (set sites i z)) m ≡ o)
-message_made sites i x y z o m within is made later site place =
+message_made sites i x z o m within is later site place =
+    let h = x.history ++ o ∷ [] in
     let ts = map state_of (set sites i z) in
     let named : history_of ts m ≡ (slice_index_or ts i (new_site m.site)).history = ap (λ j. (slice_index_or ts j (new_site m.site)).history) site in
     let there : history_of ts m ≡ z.history = named ∙ written_there sites i z (new_site m.site) within in
-    let grown : y.history ≡ x.history ++ o ∷ [] = ap (λ (s : State). s.history) made in
-    let longer = ap (λ (os : List OpData). length os) grown in
-    let last : m.place < length y.history = omega (arith, place, longer, length-append x.history (o ∷ [])) in
-    let begins : take (length y.history) z.history ≡ y.history = later.history in
-    let later_last = begun_within y.history z.history m.place begins last in
+    let last : m.place < length h = omega (arith, place, length-append x.history (o ∷ [])) in
+    let begins : take (length h) z.history ≡ h = later.history in
+    let later_last = begun_within h z.history m.place begins last in
     let held : m.place < length (history_of ts m) = omega (arith, later_last, ap (λ (os : List OpData). length os) there) in (
       record { site = omega (arith, site, within, written_count sites i z); place = held },
       ap (λ (os : List OpData). slice_index_or os m.place no_operation) there
-          ∙ begun_at y.history z.history m.place no_operation begins last
-          ∙ ap (λ (os : List OpData). slice_index_or os m.place no_operation) grown
-          ∙ ap (λ n. slice_index_or (x.history ++ o ∷ []) n no_operation) place
+          ∙ begun_at h z.history m.place no_operation begins last
+          ∙ ap (λ n. slice_index_or h n no_operation) place
           ∙ last_one x.history,
     )
   where

@@ -1,5 +1,5 @@
 -- Readers of scripts in pieces: what they keep of the bytes fed, when a piece is fed, a line is taken, or the script ends.
-use Rattle.std.proofs.Common.{◌≡◌, ℕ, ◌+◌, ◌-◌, ◌≤◌, ◌<◌, Bool, true, false, inl, inr, ◌⊎◌, List, [], ◌∷◌, ◌++◌, refl, sym, ap, subst, ◌∙◌, arith, length, take, min, append-nil, append_assoc, length-append, None, Some, Ok, Err}
+use Rattle.std.proofs.Common.{◌≡◌, ℕ, zero, suc, ◌+◌, ◌-◌, ◌≤◌, ◌<◌, Bool, true, false, inl, inr, ◌⊎◌, List, [], ◌∷◌, ◌++◌, refl, sym, ap, subst, ◌∙◌, arith, length, take, min, append-nil, append_assoc, length-append, None, Some, Ok, Err}
 use Rattle.std.specs.Prelude.{◌==◌, Result, IfOk, OnOk}
 use Rattle.std.specs.List.{All}
 use Rattle.std.proofs.lemmas.List.{take-take, length-take, take-append-le}
@@ -22,9 +22,9 @@ use Rattle.session_replay.specs.Answers.{unread_by}
 use Rattle.session_replay.specs.Sessions.{SessionData, unstarted}
 use Rattle.session_replay.specs.Steps.{written_by, last_of}
 use Rattle.session_replay.specs.LineSteps.{line_steps}
-use Rattle.session_replay.specs.Scripts.{Piece, Whole, Past, prepended, line_read, report_on, report_from, report_from_in, script_report}
+use Rattle.session_replay.specs.Scripts.{Piece, Whole, Past, pieces_of, prepended, line_read, report_on, report_from, report_from_in, script_report}
 use Rattle.session_replay.specs.ReaderData.{ReaderData}
-use Rattle.session_replay.specs.Readers.{pieces_after, nothing_left, Keeps, Awaits, AwaitsSome}
+use Rattle.session_replay.specs.Readers.{pieces_after, nothing_left, Keeps, Awaits, AwaitsSome, IsNextLine, NextDoesSomething}
 use Rattle.session_replay.specs.Code.Reading.{Follows, TellsRefusal, is_refused}
 use Rattle.session_replay.proofs.PiecesLaws.{Front, front_line, all_looked, no_bytes, pieces_first, open_bytes, no_feed_in, pieces_line, pieces_end, pieces_past, line_found, line_refused, line_empty}
 
@@ -105,6 +105,45 @@ new_keeps r input number session =
           ap (λ ps. report_from 1 ps unstarted) (pieces_first more)
           ∙ (λ i. prepended [] (report_from (sym number i) (pieces_after 0 more) (sym session i)));
     }
+
+-- ---- no byte was fed
+
+take_none : (n : ℕ) → ◌≡◌ {A = List ℕ} (take n []) []
+take_none zero = refl
+take_none (suc n) = refl
+
+no_parts : (xs ys : List ℕ) → [] ≡ xs ++ ys → (xs ≡ []) × (ys ≡ [])
+no_parts [] ys none = (refl, sym none)
+no_parts (x ∷ xs) ys none = absurd cc
+
+no_lines : lines_in (looked_at 0 []) ≡ []
+unfolding all_but_last_ended
+no_lines = refl
+
+pub looked_none : (n : ℕ) → looked_at n [] ≡ []
+looked_none n = take_none (MAX_SCRIPT + 1 - n)
+
+-- then no line is next
+pub nothing_next : (r : ReaderData) (all written : List ℕ) (over : Bool) → Keeps r all written → all ≡ []
+    → NextDoesSomething (record r.input { over = over }) r.session → ⊥
+nothing_next r all written over k none does = by does.piece does.next
+  where
+    parts : (k.done ≡ []) × (k.left ≡ [])
+    parts = no_parts k.done k.left (sym none ∙ k.parts)
+
+    lines : r.input.lines ≡ []
+    lines = lines_left r all written k ∙ (λ i. lines_in (looked_at (length (parts.0 i)) (parts.1 i))) ∙ no_lines
+
+    by : (p : Piece) → IsNextLine (record r.input { over = over }) p → ⊥
+    by (Whole bytes) next = let some : [] ≡ next.0 ∷ next.1 = sym lines ∙ next.2.front in cc
+    by Past next = omega (arith, next.0, fed_left r all written k, ap length parts.0, ap length parts.1)
+
+pub no_report : script_report [] ≡ record { written = []; refused = false }
+unfolding report_from_in written_by last_of
+no_report = ap (λ ps. report_from 1 ps unstarted) none ∙ empty_left [] 1 unstarted
+  where
+    none : pieces_of [] ≡ Whole [] ∷ []
+    none = refl
 
 -- ---- a piece is fed
 

@@ -1,21 +1,26 @@
 -- The releases after an event, with their lines.
 use Rattle.std.proofs.Common.{◌≡◌, ℕ, zero, suc, ◌+◌, ◌<◌, ◌≤◌, List, [], ◌∷◌, ◌++◌, refl, sym, ap, subst, ◌∙◌, length, map, take, get_or, append-nil, append_assoc, arith}
 use Rattle.std.proofs.lemmas.List.{map-append}
-use Rattle.std.specs.Prelude.{Result, Ok, Err, Option, Some, None, OnOk, OnErr}
+use Rattle.std.specs.Prelude.{Bool, Result, Ok, Err, Option, Some, None, OnOk, OnErr}
 use Rattle.std.proofs.lemmas.List.{take_all}
 use Rattle.std.proofs.Math.Seq.{take-length}
-use Rattle.context_diff.specs.Operations.{member_of}
+use Rattle.context_diff.specs.Operations.{OpData, member_of}
 use Rattle.site_answers.specs.declared.release.Release.{Release}
-use Rattle.cot_site.specs.States.{State, Released, released, IsSettled}
+use Rattle.cot_site.specs.States.{State, Released, released, judged, delivered, IsSettled}
 use Rattle.cot_site.specs.Releases.{IsSound as IsSoundSite, IsLater, and_more, releases, all_releases, state_after, settled, release_of, IsPartlySettled}
 use Rattle.cot_site.proofs.CallerLemmas.{after_more, after_none, later_on, release_number, sound_along, sound_released, settled_settles}
+use Rattle.participant.specs.declared.taking.Taking.TheVariants.{All}
+use Rattle.participant.specs.declared.taking.Untaken.{Untaken}
+use Rattle.participant.specs.declared.taking.Untaken.TheVariants.{Memory, Unsettled}
+use Rattle.participant.specs.Reached.{Reached}
+use Rattle.participant.specs.Taking.{IsUntaken}
 use Rattle.script_text.specs.declared.report.event.Event.TheVariants.{Free}
 use Rattle.script_text.specs.Verdicts.{verdict_line_text}
 use Rattle.session_replay.specs.Steps.{last_of, written_by, IsReached}
 use Rattle.session_replay.specs.Code.Doing.{AreDone, IsFront, free_line, free_lines}
-use Rattle.session_replay.specs.Sessions.{free_step, settling}
+use Rattle.session_replay.specs.Sessions.{free_step, settling, taking_in, told_verdict}
 use Rattle.session_replay.proofs.Every.{Every, every_last, every_map, every_reached}
-use Rattle.session_replay.proofs.Steps.{done_first, reached_at, front_same}
+use Rattle.session_replay.proofs.Steps.{reached_at, front_same, done_nothing}
 
 -- ---- what releases leave and write
 
@@ -95,7 +100,7 @@ event_later (Ok t) written before s now old new done later sound =
 event_later (Err e) written before s now old new done later sound =
     every_reached (IsLater before) before now (settling written s) (later_same before) (later_settling written before s later sound) done.0
 
--- ---- what the calls of a site answer
+-- ---- what is told of an event
 
 -- the lines so far, and the next one
 pub free_lines_more : (n i : ℕ) (rs : List Release) (r : Release) → i < length rs → r ≡ get_or rs i r → free_lines n (take (i + 1) rs) ≡ free_lines n (take i rs) ++ free_line n r
@@ -113,30 +118,42 @@ free_lines_more n i rs r within is = ap (λ k. free_lines n (take k rs)) next �
 pub free_lines_all : (n i : ℕ) (rs : List Release) → length rs ≤ i → free_lines n (take i rs) ≡ free_lines n rs
 free_lines_all n i rs past = ap (free_lines n) (take_all i rs past)
 
--- all releases are done, and so many of them are told
-pub all_freed : {T E : Type 0} (result : Result T E) (s now : State) (number : ℕ) (first list told : List Release) (old new : List ℕ)
-    → now ≡ settled s → number ≡ s.number → first ≡ [] → list ≡ first ++ map release_of (all_releases s) → told ≡ list → OnOk result (new ≡ old ++ free_lines number told) → OnErr result (IsFront old new)
-    → AreDone result (map free_step (all_releases s)) s now old new
-all_freed (Ok t) s now number first list told old new at named none listed same ok err =
-    let all : told ≡ map release_of (all_releases s) = same ∙ listed ∙ ap (λ xs. xs ++ map release_of (all_releases s)) none in
-    let line : free_lines number told ≡ written_by (map free_step (all_releases s)) = ap (λ k. free_lines k told) named ∙ ap (free_lines s.number) all ∙ sym (freed_lines (length s.waiting) s) in
-    (at ∙ sym (last_freed s (all_releases s)), ok ∙ ap (λ w. old ++ w) line)
-all_freed (Err e) s now number first list told old new at named none listed same ok err = (reached_at s now (map free_step (all_releases s)) (at ∙ sym (last_freed s (all_releases s))), err)
+-- the event and all its releases are done, and told, or as far as memory went
+pub all_told : {T E : Type 0} (result : Result T E) (w : List ℕ) (s after now : State) (number : ℕ) (first list : List Release)
+    (old new : List ℕ)
+    → now ≡ settled after → number ≡ after.number → first ≡ [] → list ≡ first ++ map release_of (all_releases after)
+    → OnOk result (new ≡ old ++ (w ++ free_lines number list)) → OnErr result (IsFront old new)
+    → AreDone result (settling w after) s now old new
+unfolding last_of written_by
+all_told (Ok t) w s after now number first list old new at named none listed ok err =
+    let all : list ≡ map release_of (all_releases after) = listed ∙ ap (λ xs. xs ++ map release_of (all_releases after)) none in
+    let lines : free_lines number list ≡ written_by (map free_step (all_releases after)) =
+    ap (λ k. free_lines k list) named ∙ ap (free_lines after.number) all ∙ sym (freed_lines (length after.waiting) after)
+    in
+    (at ∙ sym (last_freed after (all_releases after)), ok ∙ ap (λ x. old ++ (w ++ x)) lines)
+all_told (Err e) w s after now number first list old new at named none listed ok err =
+    (reached_at s now (settling w after) (at ∙ sym (last_freed after (all_releases after))), err)
 
--- the first few releases are done, and none is told
-pub partly_freed : (s now : State) (old new : List Release) (out : List ℕ) → IsPartlySettled s now old new → IsReached s (map free_step (all_releases s)) now × IsFront out out
-partly_freed s now old new out partly = (
+-- the event and the first of its releases are done, and none is told
+pub half_untold : (w : List ℕ) (s after now : State) (before list : List Release) (old : List ℕ) → IsPartlySettled after now before list
+    → IsReached s (settling w after) now × IsFront old old
+unfolding last_of
+half_untold w s after now before list old partly = (
   record {
-    done = map free_step partly.done;
+    done = record { written = w; after = after } ∷ map free_step partly.done;
     left = map free_step partly.left;
-    parts = ap (map free_step) partly.parts ∙ map-append free_step partly.done partly.left;
-    state = partly.state ∙ sym (last_freed s partly.done);
+    parts = ap (λ rs. record { written = w; after = after } ∷ map free_step rs) partly.parts
+        ∙ ap (λ es. record { written = w; after = after } ∷ es) (map-append free_step partly.done partly.left);
+    state = partly.state ∙ sym (last_freed after partly.done);
   },
-  front_same out,
+  front_same old,
 )
 
--- the event is done and told, and then so many releases
-pub event_done : {T E : Type 0} (result : Result T E) (w : List ℕ) (s after mid last : State) (old half new : List ℕ)
-    → mid ≡ after → half ≡ old ++ w → AreDone result (map free_step (all_releases mid)) mid last half new → AreDone result (settling w after) s last old new
-event_done result w s after mid last old half new at written h =
-    done_first result (record { written = w; after = after }) (map free_step (all_releases after)) s last old half new written (subst (λ x. AreDone result (map free_step (all_releases x)) x last half new) at h)
+-- an operation that wasn't taken in, or not wholly
+pub untaken_reached : (many : Bool) (o : OpData) (s now : State) (before list : List Release) (old : List ℕ) (why : Untaken)
+    → IsUntaken All (record { state = s; released = before }) o why (record { state = now; released = list })
+    → IsReached s (taking_in many o s) now × IsFront old old
+untaken_reached many o s now before list old Memory untaken =
+    done_nothing (taking_in many o s) s now old old (ap (λ (r : Reached). r.state) untaken.2) refl
+untaken_reached many o s now before list old (Unsettled v) untaken =
+    half_untold (told_verdict many o (judged s o) s.number) s (delivered s o) now before list old untaken.2

@@ -2,7 +2,7 @@
 use Rattle.std.proofs.Common.{◌≡◌, ℕ, zero, suc, ◌<◌, Bool, ◌⊎◌, inl, inr, List, [], ◌∷◌, ◌++◌, length, map, refl, ap, sym, subst, ◌∙◌, append_assoc, append-nil}
 use Rattle.std.specs.Prelude.{Contains, set, false, nat_eq, slice_index_or}
 use Rattle.std.proofs.lemmas.Bool.{false≢true}
-use Rattle.std.proofs.lemmas.List.Elements.{Contains-get_or, Contains-push_cases}
+use Rattle.std.proofs.lemmas.List.Elements.{Contains-get_or, Contains-push_cases, Contains-append_cases}
 use Rattle.std.proofs.lemmas.List.{length-set}
 use Rattle.context_diff.specs.Operations.{OpData, IsWellFormed}
 use Rattle.context_diff.specs.Histories.{IsNext, IsValid}
@@ -10,6 +10,7 @@ use Rattle.context_diff.proofs.CallerLemmas.{contains_cases, contains_here, cont
 use Rattle.cot_site.specs.States.{State, IsSettled, with_last, delivered, judged}
 use Rattle.cot_site.specs.Sites.{AllFormed}
 use Rattle.cot_site.specs.Releases.{IsSound as IsSoundSite, all_releases}
+use Rattle.cot_site.specs.Laws.{NoReleaseWaits}
 use Rattle.cot_site.proofs.CallerLemmas.{sound_more, sound_delivered, verdicts_exact}
 use Rattle.site_answers.specs.declared.verdict.Verdict.{Verdict}
 use Rattle.site_answers.specs.declared.verdict.Verdict.TheVariants.{Waits}
@@ -19,10 +20,12 @@ use Rattle.session_replay.specs.Sessions.{SessionData, site_at, new_site, at_sit
 use Rattle.session_replay.specs.LineSteps.{told}
 use Rattle.session_replay.specs.Events.{Event, Making, Giving, Telling, steps_of, after_event, all_steps, Moment, moments, after_moment}
 use Rattle.session_replay.specs.Soundness.{IsSound, AreSettled}
+use Rattle.session_replay.specs.Laws.{IsNoWaitingRelease}
 use Rattle.session_replay.specs.Transcripts.{IsNoDelivery, WaitsByName}
 use Rattle.session_replay.proofs.Steps.{last_append}
 use Rattle.session_replay.proofs.Every.{Every, every_append, every_last}
 use Rattle.session_replay.proofs.Releasing.{sound_settling, settling_settles}
+use Rattle.session_replay.proofs.Telling.{no_release, no_release_given, releases_told}
 
 -- ---- one site of a session
 
@@ -145,24 +148,61 @@ eventful_then d es fs settles a b = record {
     at : last_of d es ≡ last_of d (all_steps a.events d)
     at = ap (last_of d) a.parts
 
+-- no step tells of a release that the operation waits
+abbrev pub AreQuiet : List (Step SessionData) → Type 0
+AreQuiet es = NoReleaseWaits → (e : Step SessionData) → Contains es e → IsNoWaitingRelease e.written
+
+pub quiet_none : AreQuiet []
+quiet_none never e at = absurd (contains_none e at)
+
+pub quiet_told : (w : List ℕ) (d : SessionData) → IsNoWaitingRelease w → AreQuiet (told w d)
+quiet_told w d quiet never e at = elim (contains_cases (record { written = w; after = d }) [] e at) [
+  | inl same ↦ subst (λ (x : Step SessionData). IsNoWaitingRelease x.written) same quiet
+  | inr none ↦ absurd (contains_none e none)
+]
+
+quiet_then : (es fs : List (Step SessionData)) → AreQuiet es → AreQuiet fs → AreQuiet (es ++ fs)
+quiet_then es fs first second never e at =
+    elim (Contains-append_cases es fs e at) [ inl here ↦ first never e here | inr there ↦ second never e there ]
+
+-- an event that tells nothing of that kind, with its releases
+quiet_event : (sites : List State) (ms : List OpData) (i : ℕ) (written : List ℕ) (s : State) → IsSoundSite s → IsNoWaitingRelease written
+    → AreQuiet (at_site sites ms i (settling written s))
+quiet_event sites ms i written s fine quiet never e at =
+    elim (contains_cases first (at_site sites ms i (map free_step (all_releases s))) e at) [
+      | inl same ↦ subst (λ (x : Step SessionData). IsNoWaitingRelease x.written) same quiet
+      | inr later ↦ releases_told sites ms i (all_releases s) (sound_settling written s fine).1
+          (λ r missing there. never s r missing fine there) e later
+    ]
+  where
+    first : Step SessionData
+    first = record { written = written; after = record { sites = set sites i s; messages = ms } }
+
 -- each step leaves a sound session with as many sites, and from a settled session on the last one is settled
 pub record Good (d : SessionData) (es : List (Step SessionData)) : Type 0 where
   pub all : Every (Kept (length d.sites)) es
   pub settles : AreSettled d → AreSettled (last_of d es)
   pub events : Eventful d es
+  pub quiet : AreQuiet es
 
 pub good_none : (d : SessionData) → Good d []
 unfolding last_of
-good_none d = record { all = tt; settles = λ s. s; events = eventless d }
+good_none d = record { all = tt; settles = λ s. s; events = eventless d; quiet = quiet_none }
 
 -- the line of a delivery begins with the letter g
 pub no_delivery : (w : List ℕ) → nat_eq (slice_index_or w 0 0) 103 ≡ false → IsNoDelivery w
 no_delivery w other site m v same = absurd (false≢true (sym other ∙ ap (λ x. nat_eq (slice_index_or x 0 0) 103) same))
 
--- a line that is told and begins with another letter
-pub good_told : (w : List ℕ) (d : SessionData) → IsSound d → nat_eq (slice_index_or w 0 0) 103 ≡ false → Good d (told w d)
+-- a line that is told, and begins otherwise than those of deliveries and releases
+pub good_told : (w : List ℕ) (d : SessionData) → IsSound d → nat_eq (slice_index_or w 0 0) 103 ≡ false
+    → nat_eq (slice_index_or w 0 0) 102 ≡ false → Good d (told w d)
 unfolding last_of
-good_told w d sound other = record { all = (record { sound = sound; sites = refl }, tt); settles = λ s. s; events = one_event d (Telling w) sound (no_delivery w other) (λ s. s) }
+good_told w d sound other also = record {
+  all = (record { sound = sound; sites = refl }, tt);
+  settles = λ s. s;
+  events = one_event d (Telling w) sound (no_delivery w other) (λ s. s);
+  quiet = quiet_told w d (no_release w also);
+}
 
 pub good_last : (d : SessionData) (es : List (Step SessionData)) → IsSound d → Good d es → Kept (length d.sites) (last_of d es)
 good_last d es sound good = every_last (Kept (length d.sites)) d es (record { sound = sound; sites = refl }) good.all
@@ -172,6 +212,7 @@ good_then d es fs sound good next = record {
   all = every_append (Kept (length d.sites)) es fs good.all (subst (λ n. Every (Kept n) fs) (good_last d es sound good).sites next.all);
   settles = λ settled. subst AreSettled (sym (last_append d es fs)) (next.settles (good.settles settled));
   events = eventful_then d es fs good.settles good.events next.events;
+  quiet = quiet_then es fs good.quiet next.quiet;
 }
 
 -- an event at a site, with its releases
@@ -181,11 +222,14 @@ event_settles d ms i written s fine settled =
     subst AreSettled (sym (last_at d.sites ms i s (map free_step (all_releases s)))) (with_settled d ms i (last_of s (map free_step (all_releases s))) settled (settling_settles written s s fine))
 
 -- the event v has these steps
-good_event : (v : Event) (d : SessionData) (ms : List OpData) (i : ℕ) (written : List ℕ) (s : State) → steps_of v d ≡ at_site d.sites ms i (settling written s) → WaitsByName v d → IsSound d → AllFormed ms → IsSoundSite s → Good d (at_site d.sites ms i (settling written s))
-good_event v d ms i written s are named sound formed fine = record {
+good_event : (v : Event) (d : SessionData) (ms : List OpData) (i : ℕ) (written : List ℕ) (s : State)
+    → steps_of v d ≡ at_site d.sites ms i (settling written s) → WaitsByName v d → IsNoWaitingRelease written
+    → IsSound d → AllFormed ms → IsSoundSite s → Good d (at_site d.sites ms i (settling written s))
+good_event v d ms i written s are named quiet sound formed fine = record {
   all = all;
   settles = event_settles d ms i written s fine;
   events = subst (Eventful d) are (one_event d v (subst (λ es. IsSound (last_of d es)) (sym are) last) named (λ settled. subst (λ es. AreSettled (last_of d es)) (sym are) (event_settles d ms i written s fine settled)));
+  quiet = quiet_event d.sites ms i written s fine quiet;
 }
   where
     all : Every (Kept (length d.sites)) (at_site d.sites ms i (settling written s))
@@ -196,11 +240,15 @@ good_event v d ms i written s are named sound formed fine = record {
 
 pub good_made : (d : SessionData) (i : ℕ) (o : OpData) → IsSound d → i < length d.sites → IsNext (site_at d i).history o → Good d (made i o d)
 good_made d i o sound within next =
-    good_event (Making i o) d (d.messages ++ o ∷ []) i (op_text (length d.messages) o) (with_last (site_at d i) o) refl tt sound all (sound_more (site_at d i) o (site_sound d i sound within) next)
+    good_event (Making i o) d (d.messages ++ o ∷ []) i (op_text (length d.messages) o) (with_last (site_at d i) o) refl tt
+    (no_release _ refl) sound all (sound_more (site_at d i) o (site_sound d i sound within) next)
   where
     all : AllFormed (d.messages ++ o ∷ [])
     all x at = elim (Contains-push_cases d.messages o x at) [ inl old ↦ sound.messages x old | inr same ↦ subst IsWellFormed same next.formed ]
 
 pub good_given : (many : Bool) (d : SessionData) (i : ℕ) (o : OpData) → IsSound d → i < length d.sites → IsWellFormed o → Good d (given many i o d)
 good_given many d i o sound within formed =
-    good_event (Giving many i o) d d.messages i (told_verdict many o (judged (site_at d i) o) (site_at d i).number) (delivered (site_at d i) o) refl (waits_by_name many i o d (site_sound d i sound within).history formed) sound sound.messages (sound_delivered (site_at d i) o (site_sound d i sound within) formed)
+    good_event (Giving many i o) d d.messages i (told_verdict many o (judged (site_at d i) o) (site_at d i).number)
+    (delivered (site_at d i) o) refl (waits_by_name many i o d (site_sound d i sound within).history formed)
+    (no_release_given many o (judged (site_at d i) o) (site_at d i).number) sound sound.messages
+    (sound_delivered (site_at d i) o (site_sound d i sound within) formed)

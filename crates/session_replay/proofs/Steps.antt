@@ -1,6 +1,7 @@
 -- Steps one after the other: the state after them, what they write, and how far an answer says that they came.
 use Rattle.std.proofs.Common.{◌≡◌, ℕ, List, [], ◌∷◌, ◌++◌, refl, sym, ap, subst, ◌∙◌, append_assoc, append-nil}
-use Rattle.std.specs.Prelude.{Result, Ok, Err}
+use Rattle.std.specs.Prelude.{Result, Ok, Err, OnOk, OnErr}
+use Rattle.std.proofs.lemmas.Result.{on_ok_weaker, on_err_weaker}
 use Rattle.session_replay.specs.Steps.{Step, last_of, written_by, IsReached}
 use Rattle.session_replay.specs.Code.Doing.{IsFront, AreDone}
 
@@ -63,6 +64,15 @@ front_on old mid new h k = record {
   parts = k.parts ∙ ap (λ xs. xs ++ k.more) h.parts ∙ append_assoc old h.more k.more;
 }
 
+-- bytes were written, and then more, as far as an answer says
+pub told_on : {T E : Type 0} (result : Result T E) (first more old mid new : List ℕ) → mid ≡ old ++ first → OnOk result (new ≡ mid ++ more)
+    → OnOk result (new ≡ old ++ (first ++ more))
+told_on result first more old mid new written = on_ok_weaker result (λ e. e ∙ ap (λ xs. xs ++ more) written ∙ append_assoc old first more)
+
+pub told_short : {T E : Type 0} (result : Result T E) (first old mid new : List ℕ) → mid ≡ old ++ first → OnErr result (IsFront mid new)
+    → OnErr result (IsFront old new)
+told_short result first old mid new written = on_err_weaker result (front_on old mid new (record { more = first; parts = written }))
+
 -- ---- how far an answer says that steps came
 
 -- no step was done, out of memory
@@ -71,18 +81,6 @@ unfolding last_of
 done_nothing es s now old new same kept = (
   record { done = []; left = es; parts = refl; state = same },
   record { more = []; parts = kept ∙ sym (append-nil old) },
-)
-
--- all of the first part was done, and then so much of the second
-pub done_then : {T E S : Type 0} (result : Result T E) (es fs : List (Step S)) (s mid now : S) (old half new : List ℕ)
-    → mid ≡ last_of s es → half ≡ old ++ written_by es → AreDone result fs mid now half new → AreDone result (es ++ fs) s now old new
-done_then (Ok t) es fs s mid now old half new at written h = (
-  h.0 ∙ ap (λ x. last_of x fs) at ∙ sym (last_append s es fs),
-  h.1 ∙ ap (λ xs. xs ++ written_by fs) written ∙ append_assoc old (written_by es) (written_by fs) ∙ ap (λ xs. old ++ xs) (sym (written_append es fs)),
-)
-done_then (Err e) es fs s mid now old half new at written h = (
-  reached_after s now es fs (reached_same mid (last_of s es) now fs at h.0),
-  front_on old half new (record { more = written_by es; parts = written }) h.1,
 )
 
 -- the first part wasn't done whole
@@ -143,20 +141,6 @@ reached_at s now es at = record { done = es; left = []; parts = sym (append-nil 
 
 pub front_at : (old new : List ℕ) → new ≡ old → IsFront old new
 front_at old new kept = record { more = []; parts = kept ∙ sym (append-nil old) }
-
--- ---- a step and what follows
-
--- the first step was done, but its line wasn't written
-pub first_done : {S : Type 0} (e : Step S) (es : List (Step S)) (s now : S) (old new : List ℕ) → now ≡ e.after → new ≡ old → IsReached s (e ∷ es) now × IsFront old new
-unfolding last_of
-first_done e es s now old new at kept = (record { done = e ∷ []; left = es; parts = refl; state = at }, front_at old new kept)
-
--- the first step was done, and then so much of the others
-pub done_first : {T E S : Type 0} (result : Result T E) (e : Step S) (es : List (Step S)) (s now : S) (old half new : List ℕ)
-    → half ≡ old ++ e.written → AreDone result es e.after now half new → AreDone result (e ∷ es) s now old new
-unfolding last_of written_by
-done_first result e es s now old half new written h =
-    done_then result (e ∷ []) es s e.after now old half new refl (written ∙ ap (λ w. old ++ w) (sym (append-nil e.written))) h
 
 -- ---- what a call hands on out of memory
 

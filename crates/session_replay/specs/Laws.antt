@@ -1,8 +1,13 @@
 -- The laws of sessions.
-use Rattle.std.specs.Prelude.{◌≡◌, ℕ, ◌<◌, Bool, List, Ok, length}
+use Rattle.std.specs.Prelude.{◌≡◌, ◌≢◌, ℕ, ◌<◌, Bool, List, Contains, Ok, length}
+use Rattle.op_name.specs.declared.name.TheConstants.{SITES}
+use Rattle.op_name.specs.declared.member.Member.{Member}
 use Rattle.context_diff.specs.Operations.{OpData, IsWellFormed}
 use Rattle.context_diff.specs.Histories.{IsNext}
+use Rattle.site_answers.specs.declared.verdict.Verdict.TheVariants.{Waits}
 use Rattle.script_text.specs.declared.reading.line.Line.{Line}
+use Rattle.script_text.specs.declared.report.event.Event.TheVariants.{Free}
+use Rattle.script_text.specs.Verdicts.{verdict_line_text}
 use Rattle.session_replay.specs.Steps.{Step, last_of, IsReached}
 use Rattle.session_replay.specs.Sessions.{SessionData, site_at, made, given}
 use Rattle.session_replay.specs.LineSteps.{line_steps, AreValues}
@@ -28,6 +33,16 @@ abbrev pub DeliveriesSettle : Type 0
 DeliveriesSettle =
     (d : SessionData) (many : Bool) (i : ℕ) (o : OpData)
     → IsSound d → AreSettled d → i < length d.sites → IsWellFormed o → AreSettled (last_of d (given many i o d))
+
+-- this isn't the line of a release that says `waits`
+abbrev pub IsNoWaitingRelease : List ℕ → Type 0
+IsNoWaitingRelease written = (site : ℕ) (m missing : Member) → site < SITES → written ≢ verdict_line_text Free site m (Waits missing)
+
+-- no step of a line writes one
+abbrev pub NoReleaseSaysWaits : Type 0
+NoReleaseSaysWaits =
+    (d : SessionData) (line : Line) (es : List (Step SessionData)) (e : Step SessionData)
+    → IsSound d → AreValues line → line_steps line d ≡ Ok es → Contains es e → IsNoWaitingRelease e.written
 
 -- the report of a script has a transcript
 abbrev pub TranscriptsAreThere : Type 0

@@ -1,8 +1,11 @@
 //! The laws of sessions: each says what its definitions give, and does nothing.
 
-ghost use Rattle.session_replay.specs.Laws.{SessionsStaySound, LocalOperationsSettle, DeliveriesSettle, TranscriptsAreThere, OneTranscript};
+ghost use Rattle.session_replay.specs.Laws.{SessionsStaySound, LocalOperationsSettle, DeliveriesSettle, NoReleaseSaysWaits};
+ghost use Rattle.session_replay.specs.Laws.{TranscriptsAreThere, OneTranscript};
 ghost use Rattle.session_replay.specs.Generating.{SitesStayAlone};
 ghost use Rattle.session_replay.specs.Derivation.{DerivedReportsAreThere, OneDerivedReport};
+
+use cot_site::no_release_waits;
 
 /// Each step of a line leaves a sound session: histories are valid, and what waits and all messages are well
 /// formed.
@@ -19,6 +22,13 @@ pub fn local_operations_settle()
 pub fn deliveries_settle()
     ensures { DeliveriesSettle }
 {}
+
+/// No line of a release says `waits`: from a sound session on, no step of a line of a script writes that.
+pub fn no_release_says_waits()
+    ensures { NoReleaseSaysWaits }
+{
+    no_release_waits();
+}
 
 /// The report of a script has a transcript: its lines, done one after the other, write it, and the refusal, if there is
 /// one. After each event with its releases the session is sound and no operation of any site is ready; whatever

@@ -20,8 +20,9 @@ pub use draws::{Draw, Draws};
 pub use generated::Generated;
 pub use generator::{MAX_EVENTS, MAX_WINDOW, generate};
 pub use laws::{
-    deliveries_settle, derived_reports_are_there, local_operations_settle, one_derived_report,
-    one_transcript, sessions_stay_sound, sites_stay_alone, transcripts_are_there,
+    deliveries_settle, derived_reports_are_there, local_operations_settle, no_release_says_waits,
+    one_derived_report, one_transcript, sessions_stay_sound, sites_stay_alone,
+    transcripts_are_there,
 };
 pub use script::{Next, ScriptReader, replay};
 pub use session::{Session, StepBad};

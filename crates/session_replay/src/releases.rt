@@ -1,86 +1,118 @@
-//! What a site does after each event: it releases until nothing is ready.
+//! What a site does at once, and what is told of it: an edit or a delivery, with the releases after it.
 
-ghost use Rattle.std.specs.Prelude.{◌≡◌, ◌++◌, IfOk, OnOk, OnErr, map};
+ghost use Rattle.std.specs.Prelude.{◌≡◌, ◌++◌, Err, IfOk, IfErr, OnOk, OnErr};
 ghost use Rattle.context_diff.specs.Ops.{data_of};
 ghost use Rattle.context_diff.specs.Operations.{IsWellFormed};
+ghost use Rattle.cot_site.specs.Commands.{IsAnswer};
+ghost use Rattle.cot_site.specs.Releases.{IsSound};
 ghost use Rattle.cot_site.specs.Sites.{state_of};
-ghost use Rattle.cot_site.specs.Releases.{all_releases};
 ghost use Rattle.cot_site.specs.States.{judged};
+ghost use Rattle.participant.specs.Edits.{made_by};
+ghost use Rattle.participant.specs.Taking.{is_had};
 ghost use Rattle.script_text.specs.Report.{op_text};
-ghost use Rattle.session_replay.specs.Code.Doing.{AreDone, IsFront, free_lines};
-ghost use Rattle.session_replay.specs.Code.Knowing.{is_had};
-ghost use Rattle.session_replay.specs.Sessions.{free_step, settling, taking_in, told_verdict};
+ghost use Rattle.session_replay.specs.Code.Doing.{AreDone, HasCharacter, IsFront, IsTold, free_lines};
+ghost use Rattle.session_replay.specs.Sessions.{taking_in, told_verdict};
 
+use crate::sites::is_character;
 use context_diff::Op;
-use cot_site::{Release, Site, Verdict};
+use cot_site::{Local, Release, Site, Verdict};
 use op_name::Memory;
+use participant::{Edit, Stopped, Taking, do_edit, is_had, take_in};
 use script_text::{Event, op_line, verdict_line};
-use std::alloc::Global;
 
-// Releases until nothing is ready, and appends the line of each release.
-fn release_all(alloc: Global, site: &mut Site, out: &mut Vec<u8>) -> Result<(), Memory>
-    ensures { AreDone result (map free_step (all_releases (state_of site.old))) (state_of site.old) (state_of site.new) out.old.items out.new.items }
+/// Does the edit at the site, and tells its operation, as the message of this number, with the releases after it, of which `released`
+/// is the list.
+///
+/// `Ok` where the operation was made, with whether all was told; `Err` says why there is none, and nothing was done then.
+pub(crate) fn edit_and_tell(
+    number: u32,
+    edit: &Edit,
+    site: &mut Site,
+    released: &mut Vec<Release>,
+    out: &mut Vec<u8>,
+) -> Result<Result<(), Memory>, Local>
+    ensures told { IfOk result (λ told. IsTold edit.now number told (state_of site.old) (state_of site.new) out.old.items out.new.items) }
+    ensures refused { IfErr result (λ why. IsAnswer (made_by edit.now (state_of site.old)) (Err why)) }
+    ensures state { OnErr result (state_of site.new ≡ state_of site.old) }
+    ensures err { OnErr result (out.new.items ≡ out.old.items) }
+    ensures sound { IsSound (state_of site.old) }
 {
-    let number = site.number();
-    let mut released = Vec::new(alloc);
-    site.settle(&mut released)?;
-    tell_releases(number, &released, out)
-}
-
-// Appends the line of each release at the site of this number. Out of memory, some lines may stand in `out`.
-fn tell_releases(number: u16, released: &[Release], out: &mut Vec<u8>) -> Result<(), Memory>
-    ensures ok { OnOk result (out.new.items ≡ out.old.items ++ free_lines number released.now) }
-    ensures err { OnErr result (IsFront out.old.items out.new.items) }
-{
-    for release in released {
-        verdict_line(Event::Free, number, release.member, release.verdict, out)?;
+    site.known();
+    check_character(edit);
+    released.clear();
+    match do_edit(site, edit, released) {
+        Ok(op) => Ok(tell_made(number, &op, site.number(), released, out)),
+        Err(Stopped::Unsettled) => Ok(Err(Memory)),
+        Err(Stopped::Refused { why }) => Err(why),
     }
-    Ok(())
 }
 
-/// Tells an operation of the site, which it just made and which is the message of this number, and releases.
-pub(crate) fn tell_made(
-    alloc: Global,
+// Nothing but what the type of an edit's character says.
+fn check_character(edit: &Edit)
+    ensures { HasCharacter edit.now }
+{
+    match edit {
+        Edit::Insert { ch, .. } => is_character(*ch),
+        Edit::Delete { .. } | Edit::Undo { .. } | Edit::Redo { .. } => {}
+    }
+}
+
+// Appends the lines of an operation that the site of this number made, and of the releases after it.
+fn tell_made(
     number: u32,
     op: &Op,
-    site: &mut Site,
+    site: u16,
+    released: &[Release],
     out: &mut Vec<u8>,
 ) -> Result<(), Memory>
-    ensures { AreDone result (settling (op_text number (data_of op.now)) (state_of site.old)) (state_of site.old) (state_of site.new) out.old.items out.new.items }
+    ensures ok { OnOk result (out.new.items ≡ out.old.items ++ (op_text number (data_of op.now) ++ free_lines site released.now)) }
+    ensures err { OnErr result (IsFront out.old.items out.new.items) }
 {
     op_line(number, op, out)?;
-    release_all(alloc, site, out)
+    tell_releases(site, released, out)
 }
 
-/// Delivers an operation, which is well formed, to the site, appends the line of its verdict, and releases. Where
-/// many messages are delivered at once, a repeat isn't told. Answers whether the verdict says that the history has
-/// the operation then.
-pub(crate) fn take_in(
-    alloc: Global,
+/// Delivers an operation, which is well formed, to the site, tells its verdict, and the releases after it, of which `released` is the
+/// list. Where many messages are delivered at once, a repeat isn't told. Answers whether the verdict says that the history has the
+/// operation then.
+pub(crate) fn take_in_and_tell(
     many: bool,
-    op: &Op,
+    op: &mut Op,
     site: &mut Site,
+    released: &mut Vec<Release>,
     out: &mut Vec<u8>,
 ) -> Result<bool, Memory>
-    requires { IsWellFormed (data_of op.now) }
-    ensures done { AreDone result (taking_in many (data_of op.now) (state_of site.old)) (state_of site.old) (state_of site.new) out.old.items out.new.items }
-    ensures had { IfOk result (λ had. had ≡ is_had (judged (state_of site.old) (data_of op.now))) }
+    requires { IsWellFormed (data_of op.old) }
+    ensures done { AreDone result (taking_in many (data_of op.old) (state_of site.old)) (state_of site.old) (state_of site.new)
+        out.old.items out.new.items }
+    ensures had { IfOk result (λ had. had ≡ is_had (judged (state_of site.old) (data_of op.old))) }
 {
-    match site.deliver(op) {
+    released.clear();
+    match take_in(site, op, Taking::All, released) {
         Ok(verdict) => {
-            tell_verdict(many, op, verdict, site.number(), out)?;
-            release_all(alloc, site, out)?;
+            tell_taken(many, op, verdict, site.number(), released, out)?;
             Ok(is_had(&verdict))
         }
-        Err(memory) => Err(memory),
+        Err(_) => Err(Memory),
     }
 }
 
-// Whether the history has an operation after this verdict on it.
-fn is_had(verdict: &Verdict) -> bool
-    ensures { result ≡ is_had verdict.now }
+// Appends the lines of a verdict at the site of this number, and of the releases after the delivery.
+fn tell_taken(
+    many: bool,
+    op: &Op,
+    verdict: Verdict,
+    site: u16,
+    released: &[Release],
+    out: &mut Vec<u8>,
+) -> Result<(), Memory>
+    requires { IsWellFormed (data_of op.now) }
+    ensures ok { OnOk result (out.new.items
+        ≡ out.old.items ++ (told_verdict many (data_of op.now) verdict site ++ free_lines site released.now)) }
+    ensures err { OnErr result (IsFront out.old.items out.new.items) }
 {
-    matches!(verdict, Verdict::Repeat | Verdict::Integrated)
+    tell_verdict(many, op, verdict, site, out)?;
+    tell_releases(site, released, out)
 }
 
 // Appends the line of a verdict, but that of a repeat among many deliveries.
@@ -99,4 +131,15 @@ fn tell_verdict(
         return Ok(());
     }
     verdict_line(Event::Give, site, op.member(), verdict, out)
+}
+
+// Appends the line of each release at the site of this number. Out of memory, some lines may stand in `out`.
+fn tell_releases(number: u16, released: &[Release], out: &mut Vec<u8>) -> Result<(), Memory>
+    ensures ok { OnOk result (out.new.items ≡ out.old.items ++ free_lines number released.now) }
+    ensures err { OnErr result (IsFront out.old.items out.new.items) }
+{
+    for release in released {
+        verdict_line(Event::Free, number, release.member, release.verdict, out)?;
+    }
+    Ok(())
 }

@@ -1,6 +1,7 @@
 //! Scripts: line after line is done, and the report is written.
 
-ghost use Rattle.std.specs.Prelude.{◌≡◌, ◌<◌, ◌+◌, ◌^◌, ◌++◌, [], ℕ, List, true, IfOk, OnOk, OnErr, length, Ok};
+ghost use Rattle.std.specs.Prelude.{◌≡◌, ◌≢◌, ◌<◌, ◌+◌, ◌^◌, ◌++◌, [], ℕ, List, true, IfOk, OnOk, OnErr, length, Ok};
+ghost use Rattle.script_text.specs.Streams.{looked_at};
 ghost use Rattle.session_replay.specs.LineSteps.{line_steps};
 ghost use Rattle.session_replay.specs.Scripts.{Piece, script_report, report_from, report_on, prepended};
 ghost use Rattle.session_replay.specs.Readers.{Keeps, KeepsSome, Awaits, AwaitsSome, DoesSomething, NextDoesSomething};
@@ -16,12 +17,13 @@ use std::marker::Model;
 /// Appends the whole report of a script. `Ok(true)` exactly where the script is refused; then the last line of the report
 /// says at which line, and why. A line that isn't within the first `script_text::MAX_SCRIPT` bytes is refused by Limit.
 ///
-/// Out of memory, `out` is as it was. The report is held apart until it is whole, so it takes memory twice for a while;
-/// `ScriptReader` writes straight into `out`.
+/// Out of memory, which comes only where the script has a byte, `out` is as it was. The report is held apart until it is whole, so it
+/// takes memory twice for a while; `ScriptReader` writes straight into `out`.
 pub fn replay(alloc: Global, bytes: &[u8], out: &mut Vec<u8>) -> Result<bool, Memory>
     ensures report { IfOk result (λ refused.
         prepended out.old.items (script_report bytes.now) ≡ record { written = out.new.items; refused = refused }) }
     ensures err { OnErr result (out.new.items ≡ out.old.items) }
+    ensures needed { OnErr result (bytes.now ≢ []) }
 {
     let mut report = Vec::new(alloc);
     let refused = do_whole(alloc, bytes, &mut report)?;
@@ -32,9 +34,10 @@ pub fn replay(alloc: Global, bytes: &[u8], out: &mut Vec<u8>) -> Result<bool, Me
 // The same where nothing was written before.
 fn do_whole(alloc: Global, bytes: &[u8], out: &mut Vec<u8>) -> Result<bool, Memory>
     requires { out.old.items ≡ [] }
-    ensures { IfOk result (λ refused. script_report bytes.now ≡ record { written = out.new.items; refused = refused }) }
+    ensures report { IfOk result (λ refused. script_report bytes.now ≡ record { written = out.new.items; refused = refused }) }
+    ensures needed { OnErr result (bytes.now ≢ []) }
 {
-    let mut reader = ScriptReader::new(alloc)?;
+    let mut reader = ScriptReader::new(alloc);
     reader.feed(bytes)?;
     loop {
         match reader.advance(out)? {
@@ -79,22 +82,23 @@ impl Model for ScriptReader {
 }
 
 impl ScriptReader {
-    /// A reader to which nothing was fed yet.
-    pub fn new(alloc: Global) -> Result<ScriptReader, Memory>
-        ensures { IfOk result (λ r. Keeps r [] []) }
+    /// A reader to which nothing was fed yet; takes no memory.
+    pub fn new(alloc: Global) -> ScriptReader
+        ensures { Keeps result [] [] }
     {
-        let lines = LineStream::new(alloc);
-        Ok(ScriptReader {
-            lines,
+        ScriptReader {
+            lines: LineStream::new(alloc),
             number: 1,
             running: Session::new(alloc),
-        })
+        }
     }
 
-    /// Appends a piece of the script; no line is done yet. Out of memory, nothing of the piece was taken.
+    /// Appends a piece of the script; no line is done yet. Out of memory, which comes only where a byte of the piece is looked at, nothing
+    /// of the piece was taken.
     pub fn feed(&mut self, piece: &[u8]) -> Result<(), Memory>
         ensures keeps { (all written : List ℕ) → Keeps self.old all written → OnOk result (Keeps self.new (all ++ piece.now) written) }
         ensures err { OnErr result (self.new ≡ self.old) }
+        ensures needed { OnErr result (looked_at self.old.input.fed piece.now ≢ []) }
     {
         lines_stay_the_same();
         self.lines.feed(piece)

@@ -4,10 +4,11 @@ ghost use Rattle.std.specs.Prelude.{◌≡◌, ◌≢◌, ◌++◌, ◌<◌, ◌
 ghost use Rattle.std.specs.Char.{IsScalar};
 ghost use Rattle.std.specs.Str.{all_scalars};
 ghost use Rattle.cot_site.specs.Sites.{state_of};
+ghost use Rattle.participant.specs.Edits.{made_by};
 ghost use Rattle.script_text.specs.Lines.{line_site};
 ghost use Rattle.session_replay.specs.Answers.{IsDone, HasStep};
 ghost use Rattle.session_replay.specs.LineSteps.{line_steps, commanded, at_site_of, steps_there, opening, AreValues};
-ghost use Rattle.session_replay.specs.Code.Doing.{IsPlace, IsLineDone, IsRefusedFor, as_step, local_of};
+ghost use Rattle.session_replay.specs.Code.Doing.{IsPlace, IsLineDone, IsRefusedFor, as_step};
 ghost use Rattle.session_replay.specs.Sessions.{unstarted, opened, new_sites, site_at};
 ghost use Rattle.session_replay.specs.Code.Knowing.{AreKnown};
 ghost use Rattle.session_replay.specs.Generating.{counts_of};
@@ -17,9 +18,9 @@ ghost use Rattle.script_text.specs.declared.reading.line.Line.TheVariants.{Sync}
 use crate::generated::Generated;
 use crate::message::Message;
 use crate::session::StepBad;
-use crate::sites::commands::Command;
-use cot_site::Site;
+use cot_site::{Release, Site};
 use op_name::{Memory, SITES};
+use participant::Edit;
 use script_text::Line;
 use std::alloc::Global;
 use std::marker::Model;
@@ -34,12 +35,14 @@ mod shows;
 /// operations became. An operation is held in the history of the site that made it, and a message says where.
 ///
 /// Beside each site stands how many of the first messages it is known to have while none of its operations is
-/// ready: among many deliveries, theirs would tell nothing and change nothing, so they are passed over.
+/// ready: among many deliveries, theirs would tell nothing and change nothing, so they are passed over. The list of the releases of
+/// an event is kept for the next one, so that not each takes memory.
 #[derive(Drop)]
 pub(crate) struct Sites {
     sites: Vec<Site>,
     known: Vec<usize>,
     messages: Vec<Message>,
+    released: Vec<Release>,
 }
 
 impl Model for Sites {
@@ -64,6 +67,7 @@ impl Sites {
             sites: Vec::new(alloc),
             known: Vec::new(alloc),
             messages: Vec::new(alloc),
+            released: Vec::new(alloc),
         }
     }
 
@@ -78,6 +82,7 @@ impl Sites {
                 sites,
                 known,
                 messages: Vec::new(alloc),
+                released: Vec::new(alloc),
             }),
             Err(memory) => Err(memory),
         }
@@ -135,20 +140,20 @@ impl Sites {
             }
             Line::Nl { site, place } => self.do_command(
                 *site as usize,
-                Command::Insert {
+                Edit::Insert {
                     place: *place,
                     ch: '\n',
                 },
                 out,
             ),
             Line::Del { site, place } => {
-                self.do_command(*site as usize, Command::Delete { place: *place }, out)
+                self.do_command(*site as usize, Edit::Delete { place: *place }, out)
             }
             Line::Undo { site, name } => {
-                self.do_command(*site as usize, Command::Undo { name: *name }, out)
+                self.do_command(*site as usize, Edit::Undo { name: *name }, out)
             }
             Line::Redo { site, name } => {
-                self.do_command(*site as usize, Command::Redo { name: *name }, out)
+                self.do_command(*site as usize, Edit::Redo { name: *name }, out)
             }
             Line::Give { site, message } => self.give(*site as usize, *message, out),
             Line::All { site } => done(self.give_all(*site as usize, out)),
@@ -170,12 +175,13 @@ impl Sites {
         done(self.sync(out))
     }
 
-    // A command at the site.
-    fn do_command(&mut self, at: usize, command: Command, out: &mut Vec<u8>) -> Result<(), StepBad>
+    // An edit of the site's user.
+    fn do_command(&mut self, at: usize, edit: Edit, out: &mut Vec<u8>) -> Result<(), StepBad>
         requires { at < length self.old.sites }
-        ensures { IsLineDone (Ok (commanded at (local_of command (site_at self.old at)) self.old)) result self.old self.new out.old.items out.new.items }
+        ensures { IsLineDone (Ok (commanded at (made_by edit (site_at self.old at)) self.old)) result self.old self.new
+            out.old.items out.new.items }
     {
-        match self.command(at, command, out) {
+        match self.command(at, &edit, out) {
             Ok(_) => Ok(()),
             Err(_) => Err(StepBad::Memory),
         }
@@ -291,7 +297,8 @@ fn are_characters(text: &[char])
     }
 }
 
-fn is_character(ch: char)
+/// Nothing but what the type of a character says.
+pub(crate) fn is_character(ch: char)
     ensures { IsScalar ch }
 {}
 

@@ -14,8 +14,8 @@ use fixed_replay::{
 };
 use script_text::{each_line_has_a_spelling, lines_stay_the_same};
 use session_replay::{
-    deliveries_settle, derived_reports_are_there, local_operations_settle, one_derived_report,
-    one_transcript, sessions_stay_sound, transcripts_are_there,
+    deliveries_settle, derived_reports_are_there, local_operations_settle, no_release_says_waits,
+    one_derived_report, one_transcript, sessions_stay_sound, transcripts_are_there,
 };
 use transform_rec::{
     derivations_name_members, next_operation_keeps_forms, no_entries_are_forms,
@@ -73,6 +73,7 @@ fn laws_of_scripts() {
     sessions_stay_sound();
     local_operations_settle();
     deliveries_settle();
+    no_release_says_waits();
     transcripts_are_there();
     one_transcript();
     derived_reports_are_there();

@@ -1,21 +1,22 @@
 -- What the parts of a session's calls do and answer.
 use Rattle.std.specs.Prelude.{◌≡◌, ℕ, Bool, true, List, [], ◌∷◌, ◌++◌, Option, Some, None, Result, Ok, Err, length, ◌<◌, ◌≤◌}
+use Rattle.std.specs.Char.{IsScalar}
 use Rattle.context_diff.specs.Operations.{OpData}
-use Rattle.cot_site.specs.States.{State}
-use Rattle.cot_site.specs.Commands.{local_insert, local_delete, local_undo, local_redo}
-use Rattle.site_answers.specs.declared.local.Local.{Local}
+use Rattle.context_diff.specs.Histories.{IsNext}
+use Rattle.cot_site.specs.States.{State, with_last}
 use Rattle.site_answers.specs.declared.release.Release.{Release}
+use Rattle.participant.specs.declared.edits.Edit.{Edit}
+use Rattle.participant.specs.declared.edits.Edit.TheVariants.{Insert, Delete, Undo, Redo}
+use Rattle.participant.specs.Edits.{made_by}
 use Rattle.script_text.specs.declared.report.event.Event.TheVariants.{Free}
 use Rattle.script_text.specs.Verdicts.{verdict_line_text}
 use Rattle.script_text.specs.declared.report.refusal.Refusal.{Refusal}
 use Rattle.wire_codec.specs.declared.fault.Refused.{Refused}
 use Rattle.session_replay.specs.declared.session.StepBad.{StepBad}
 use Rattle.session_replay.specs.declared.session.StepBad.TheVariants.{NoSites, Twice, NoSite, NoMessage, Memory}
-use Rattle.session_replay.specs.declared.sites.commands.Command.{Command}
-use Rattle.session_replay.specs.declared.sites.commands.Command.TheVariants.{Insert, Delete, Undo, Redo}
 use Rattle.session_replay.specs.Steps.{Step, last_of, written_by, IsReached}
 use Rattle.session_replay.specs.Answers.{refusal_by}
-use Rattle.session_replay.specs.Sessions.{SessionData}
+use Rattle.session_replay.specs.Sessions.{SessionData, making}
 
 -- bytes after those that were there
 pub record IsFront (old new : List ℕ) : Type 0 where
@@ -28,12 +29,20 @@ abbrev pub AreDone : {T E S : Type 0} → Result T E → List (Step S) → S →
 AreDone (Ok t) es s now old new = (now ≡ last_of s es) × (new ≡ old ++ written_by es)
 AreDone (Err e) es s now old new = IsReached s es now × IsFront old new
 
--- which operation a command makes at a site, or why it makes none
-abbrev pub local_of : Command → State → Result OpData Local
-local_of (Insert v ch) s = local_insert s v ch
-local_of (Delete v) s = local_delete s v
-local_of (Undo t) s = local_undo s t
-local_of (Redo t) s = local_redo s t
+-- what the type of an edit says: what it inserts, if it is an insert, is a character
+abbrev pub HasCharacter : Edit → Type 0
+HasCharacter (Insert v ch) = IsScalar ch
+HasCharacter (Delete v) = Unit {0}
+HasCharacter (Undo t) = Unit {0}
+HasCharacter (Redo t) = Unit {0}
+
+-- the edit made its operation, which comes next in the history; it is the message of this number, and that is told, and the releases
+-- after it are done and told, as far as the answer says
+pub record IsTold {T E : Type 0} (edit : Edit) (number : ℕ) (told : Result T E) (s now : State) (old new : List ℕ) : Type 0 where
+  pub op : OpData
+  pub is : made_by edit s ≡ Ok op
+  pub next : IsNext s.history op
+  pub done : AreDone told (making number op s) (with_last s op) now old new
 
 -- the answer of a line with these steps, or with this refusal: all steps are done and written; or, out of memory, the first
 -- few are done; or the line is refused, and nothing changed; what was written before is there

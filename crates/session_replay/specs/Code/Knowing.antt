@@ -3,8 +3,6 @@ use Rattle.std.specs.Prelude.{◌≡◌, ℕ, ◌≤◌, Bool, true, false, List
 use Rattle.context_diff.specs.Operations.{OpData}
 use Rattle.cot_site.specs.States.{State, IsSettled}
 use Rattle.cot_site.specs.Verdicts.{is_repeat}
-use Rattle.site_answers.specs.declared.verdict.Verdict.{Verdict}
-use Rattle.site_answers.specs.declared.verdict.Verdict.TheVariants.{Repeat, Forged, Waits, NotClosed, PlaceOut, Integrated}
 
 -- the site has the operation, and none of those that wait is ready there
 abbrev pub Has : State → OpData → Type 0
@@ -24,12 +22,3 @@ AreKnown (s ∷ ss) (n ∷ ns) ms = (n ≤ length ms) × HasAll s (take n ms) ×
 -- of so many first messages, how many a site is known to have after an event that was done, or not: none of them, out of memory
 abbrev pub still_known : Bool → ℕ → ℕ
 still_known done known = if done then known else 0
-
--- whether the history has an operation after this verdict on it
-abbrev pub is_had : Verdict → Bool
-is_had Repeat = true
-is_had (Forged n) = false
-is_had (Waits m) = false
-is_had (NotClosed s) = false
-is_had (PlaceOut p k) = false
-is_had Integrated = true

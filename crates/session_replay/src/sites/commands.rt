@@ -2,36 +2,20 @@
 
 ghost use Rattle.std.specs.Prelude.{◌≡◌, ◌≢◌, ◌++◌, ◌<◌, IfOk, OnOk, OnErr, length, vec_len, vec_capacity};
 ghost use Rattle.std.specs.Result.{is_ok};
-ghost use Rattle.context_diff.specs.Ops.{data_of};
-ghost use Rattle.cot_site.specs.Commands.{IsAnswer};
-ghost use Rattle.cot_site.specs.Sites.{state_of};
-ghost use Rattle.cot_site.specs.States.{with_last};
+ghost use Rattle.participant.specs.Edits.{made_by};
 ghost use Rattle.script_text.specs.Verdicts.{local_text};
 ghost use Rattle.session_replay.specs.Sessions.{site_at};
 ghost use Rattle.session_replay.specs.LineSteps.{commanded, typed};
-ghost use Rattle.session_replay.specs.Code.Doing.{AreDone, local_of};
+ghost use Rattle.session_replay.specs.Code.Doing.{AreDone};
 
 use crate::message::Message;
-use crate::releases::tell_made;
+use crate::releases::edit_and_tell;
 use crate::sites::Sites;
 use crate::sites::deliveries::still_known;
-use context_diff::Op;
-use cot_site::{Local, Site};
-use op_name::{Memory, Name};
+use cot_site::Local;
+use op_name::Memory;
+use participant::Edit;
 use script_text::local_line;
-
-/// What the user of a site does. Places count shown characters.
-#[derive(Clone, Copy)]
-pub(super) enum Command {
-    /// Inserts a character after so many shown ones.
-    Insert { place: u32, ch: char },
-    /// Deletes the shown character at this place, from 0.
-    Delete { place: u32 },
-    /// Undoes an insert or delete.
-    Undo { name: Name },
-    /// Redoes an insert or delete.
-    Redo { name: Name },
-}
 
 impl Sites {
     // Inserts each character of a text at the site, at shown places `from`, `from + 1` and so on, until one is
@@ -50,7 +34,7 @@ impl Sites {
         let mut place = from;
         for ch in text {
             self.sites[at].known();
-            if !self.command(at, Command::Insert { place, ch: *ch }, out)? {
+            if !self.command(at, &Edit::Insert { place, ch: *ch }, out)? {
                 return Ok(());
             }
             place += 1;
@@ -58,28 +42,24 @@ impl Sites {
         Ok(())
     }
 
-    // Does a command at the site. Answers whether it made an operation.
+    // Does the edit of the site's user. Answers whether it made an operation.
     pub(super) fn command(
         &mut self,
         at: usize,
-        command: Command,
+        edit: &Edit,
         out: &mut Vec<u8>,
     ) -> Result<bool, Memory>
         requires { at < length self.old.sites }
-        ensures done { AreDone result (commanded at (local_of command (site_at self.old at)) self.old) self.old self.new out.old.items out.new.items }
-        ensures made { IfOk result (λ more. more ≡ is_ok (local_of command (site_at self.old at))) }
+        ensures done { AreDone result (commanded at (made_by edit.now (site_at self.old at)) self.old) self.old self.new
+            out.old.items out.new.items }
+        ensures made { IfOk result (λ more. more ≡ is_ok (made_by edit.now (site_at self.old at))) }
         ensures sites { length self.new.sites ≡ length self.old.sites }
     {
-        let alloc = *self.messages.allocator();
         make_room(&mut self.messages)?;
+        let number = self.messages.len() as u32;
         let place = self.sites[at].book().len();
-        match make(&mut self.sites[at], command) {
-            Ok(op) => {
-                self.sites[at].known();
-                let number = self.messages.len() as u32;
-                let told = tell_made(alloc, number, &op, &mut self.sites[at], out);
-                // The history has it.
-                drop(op);
+        match edit_and_tell(number, edit, &mut self.sites[at], &mut self.released, out) {
+            Ok(told) => {
                 self.messages.push_reserved(Message {
                     site: at as u16,
                     place,
@@ -95,20 +75,6 @@ impl Sites {
                 Err(memory) => Err(memory),
             },
         }
-    }
-}
-
-// Makes the operation of the command.
-fn make(site: &mut Site, command: Command) -> Result<Op, Local>
-    ensures answer { IsAnswer (local_of command (state_of site.old)) result }
-    ensures made { IfOk result (λ o. state_of site.new ≡ with_last (state_of site.old) (data_of o)) }
-    ensures err { OnErr result (state_of site.new ≡ state_of site.old) }
-{
-    match command {
-        Command::Insert { place, ch } => site.insert(place, ch),
-        Command::Delete { place } => site.delete(place),
-        Command::Undo { name } => site.undo(name),
-        Command::Redo { name } => site.redo(name),
     }
 }
 

@@ -8,7 +8,7 @@ ghost use Rattle.session_replay.specs.LineSteps.{given_message};
 ghost use Rattle.session_replay.specs.Code.Doing.{AreDone, IsLineDone};
 ghost use Rattle.session_replay.specs.Code.Knowing.{Has, still_known};
 
-use crate::releases::take_in;
+use crate::releases::take_in_and_tell;
 use crate::session::StepBad;
 use crate::sites::Sites;
 use context_diff::Op;
@@ -72,7 +72,10 @@ impl Sites {
     {
         // A copy, since the site that takes the operation in stands in one list with the one that holds it. It shares the context.
         match self.messages[message].op(&self.sites).try_clone() {
-            Ok(copy) => self.deliver_copy(at, many, message, &copy, out),
+            Ok(copy) => {
+                let mut copy = copy;
+                self.deliver_copy(at, many, message, &mut copy, out)
+            }
             Err(memory) => Err(memory),
         }
     }
@@ -83,13 +86,13 @@ impl Sites {
         at: usize,
         many: bool,
         message: usize,
-        op: &Op,
+        op: &mut Op,
         out: &mut Vec<u8>,
     ) -> Result<(), Memory>
         requires site { at < length self.old.sites }
-        requires message { slice_get self.old.messages message ≡ Some (data_of op.now) }
-        requires formed { IsWellFormed (data_of op.now) }
-        ensures done { AreDone result (given many at (data_of op.now) self.old) self.old self.new out.old.items out.new.items }
+        requires message { slice_get self.old.messages message ≡ Some (data_of op.old) }
+        requires formed { IsWellFormed (data_of op.old) }
+        ensures done { AreDone result (given many at (data_of op.old) self.old) self.old self.new out.old.items out.new.items }
         ensures sites { length self.new.sites ≡ length self.old.sites }
         ensures messages { self.new.messages ≡ self.old.messages }
     {
@@ -120,19 +123,18 @@ impl Sites {
         &mut self,
         at: usize,
         many: bool,
-        op: &Op,
+        op: &mut Op,
         out: &mut Vec<u8>,
     ) -> Result<bool, Memory>
         requires site { at < length self.old.sites }
-        requires formed { IsWellFormed (data_of op.now) }
-        ensures done { AreDone result (given many at (data_of op.now) self.old) self.old self.new out.old.items out.new.items }
-        ensures has { IfOk result (λ has. has ≡ true → Has (site_at self.new at) (data_of op.now)) }
+        requires formed { IsWellFormed (data_of op.old) }
+        ensures done { AreDone result (given many at (data_of op.old) self.old) self.old self.new out.old.items out.new.items }
+        ensures has { IfOk result (λ has. has ≡ true → Has (site_at self.new at) (data_of op.old)) }
         ensures sites { length self.new.sites ≡ length self.old.sites }
         ensures messages { self.new.messages ≡ self.old.messages }
     {
-        let alloc = *self.messages.allocator();
         self.sites[at].known();
-        let taken = take_in(alloc, many, op, &mut self.sites[at], out);
+        let taken = take_in_and_tell(many, op, &mut self.sites[at], &mut self.released, out);
         self.known[at] = still_known(taken.is_ok(), self.known[at]);
         taken
     }

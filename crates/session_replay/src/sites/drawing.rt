@@ -3,18 +3,19 @@
 ghost use Rattle.std.specs.Prelude.{◌≡◌, ◌<◌, ◌+◌, ◌%◌, length, slice_get};
 ghost use Rattle.context_vector.specs.Contexts.{AreCounts};
 ghost use Rattle.cot_site.specs.Sites.{state_of};
+ghost use Rattle.participant.specs.Edits.{made_by};
+ghost use Rattle.participant.specs.declared.edits.Edit.TheVariants.{Insert};
 ghost use Rattle.session_replay.specs.Generating.{drawn_operation, drawn_target, drawn_turn, names_in};
 ghost use Rattle.session_replay.specs.Sessions.{site_at};
 ghost use Rattle.session_replay.specs.LineSteps.{commanded};
-ghost use Rattle.session_replay.specs.Code.Doing.{AreDone, local_of};
-ghost use Rattle.session_replay.specs.declared.sites.commands.Command.TheVariants.{Insert};
+ghost use Rattle.session_replay.specs.Code.Doing.{AreDone};
 
 use crate::draws::Draw;
 use crate::sites::Sites;
-use crate::sites::commands::Command;
 use context_vector::SiteCounts;
 use cot_site::Site;
 use op_name::{Memory, Name};
+use participant::Edit;
 use undo_group::in_force;
 
 impl Sites {
@@ -24,20 +25,20 @@ impl Sites {
         ensures done { AreDone result (commanded at (drawn_operation (site_at self.old at) draw) self.old) self.old self.new out.old.items out.new.items }
         ensures sites { length self.new.sites ≡ length self.old.sites }
     {
-        let command = drawn_command(&self.sites[at], draw);
-        self.command(at, command, out)?;
+        let edit = drawn_edit(&self.sites[at], draw);
+        self.command(at, &edit, out)?;
         Ok(())
     }
 }
 
 // What is drawn for the site.
-fn drawn_command(site: &Site, draw: Draw) -> Command
-    ensures { local_of result (state_of site.now) ≡ drawn_operation (state_of site.now) draw }
+fn drawn_edit(site: &Site, draw: Draw) -> Edit
+    ensures { made_by result (state_of site.now) ≡ drawn_operation (state_of site.now) draw }
 {
     site.known();
     let visible = site.visible_len();
     match draw.kind % 16 {
-        10..=12 if visible > 0 => Command::Delete {
+        10..=12 if visible > 0 => Edit::Delete {
             place: draw.place % visible,
         },
         13..=15 => match drawn_target(site, draw.place) {
@@ -49,25 +50,25 @@ fn drawn_command(site: &Site, draw: Draw) -> Command
 }
 
 // The insert of the drawn letter after some of the shown characters.
-fn drawn_insert(visible: u32, draw: Draw) -> Command
+fn drawn_insert(visible: u32, draw: Draw) -> Edit
     requires { visible < 4294967295 }
     ensures { result ≡ Insert (draw.place % (visible + 1)) (97 + draw.letter % 26) }
 {
-    Command::Insert {
+    Edit::Insert {
         place: draw.place % (visible + 1),
         ch: (b'a' + (draw.letter % 26) as u8) as char,
     }
 }
 
 // The undo of an original in force, the redo of any other.
-fn turned(site: &Site, name: Name) -> Command
-    ensures { local_of result (state_of site.now) ≡ drawn_turn (state_of site.now) name }
+fn turned(site: &Site, name: Name) -> Edit
+    ensures { made_by result (state_of site.now) ≡ drawn_turn (state_of site.now) name }
 {
     site.known();
     if in_force(site.vector(), &name) {
-        Command::Undo { name }
+        Edit::Undo { name }
     } else {
-        Command::Redo { name }
+        Edit::Redo { name }
     }
 }
 

@@ -55,7 +55,8 @@ impl Sites {
         let alloc = *self.messages.allocator();
         match decode(alloc, bytes) {
             Ok(Decoded::Got { op, used }) => {
-                self.deliver(site as usize, false, &op, out)?;
+                let mut op = op;
+                self.deliver(site as usize, false, &mut op, out)?;
                 Ok(Some(used))
             }
             Ok(Decoded::More { at_least }) => {

@@ -4,4 +4,4 @@ use Rattle.session_replay.proofs.Reading.{new_keeps}
 use Rattle.session_replay.proofs.script.ScriptReader.new.Goals as goal
 
 pub returns : goal.returns
-returns c = new_keeps _ c.new-lines.ensures refl (ap (λ (x : Running). x.session) c.new.ensures)
+returns c = new_keeps _ c.new.ensures refl (ap (λ (x : Running). x.session) c.new-2.ensures)

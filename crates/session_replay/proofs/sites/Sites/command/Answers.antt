@@ -1,17 +1,15 @@
-use Rattle.std.proofs.Common.{◌≡◌, ◌∙◌, List, [], ◌∷◌, ◌++◌, ap, sym, subst, refl, map, set, length, arith}
+use Rattle.std.proofs.Common.{◌≡◌, ◌∙◌, ℕ, List, [], ◌∷◌, ◌++◌, ap, sym, subst, refl, set, length, arith}
 use Rattle.std.specs.Prelude.{vec_len}
 use Rattle.std.proofs.lemmas.Result.{err_from_is_err_and}
-use Rattle.context_diff.specs.Ops.{data_of}
 use Rattle.cot_site.specs.States.{State}
-use Rattle.cot_site.specs.Sites.{state_of}
-use Rattle.cot_site.specs.Releases.{IsSound}
+use Rattle.script_text.specs.Verdicts.{local_text}
 use Rattle.session_replay.specs.declared.message.Message.{Message}
 use Rattle.session_replay.specs.Code.Knowing.{still_known}
 use Rattle.session_replay.specs.Code.Messages.{IsKept}
 use Rattle.session_replay.proofs.Steps.{stopped, done_nothing, ended_well, ended_short, all_done}
 use Rattle.session_replay.proofs.Lifting.{session_of}
 use Rattle.session_replay.proofs.Keeping.{Keeps, said, known_within}
-use Rattle.session_replay.proofs.Noting.{IsMaking, made_place, told_again, sound_again, making_kept, making_done}
+use Rattle.session_replay.proofs.Noting.{IsMaking, made_place, making_kept, making_done}
 use Rattle.session_replay.proofs.Commanding.{site_within, same_states, refused_same, command_refused, command_told}
 use Rattle.session_replay.proofs.sites.Sites.command.Goals.{in-Ok-told, in-Err-told, in-Ok-refuse, in-Err-refuse}
 use Rattle.session_replay.proofs.sites.Sites.command.Goals as goal
@@ -31,8 +29,8 @@ returns-in_err-make_room-clause-done c =
 pub invariant_of-self-in-Err : goal.invariant_of-self-in-Err
 invariant_of-self-in-Err c =
     let sites = c.self.inside.sites.items in
-    let y = c.make.new.site in
-    let same = same_states sites c.args.at c.index_mut.result.now y c.index_mut.ensures.value c.in-Err.ensures.err in
+    let y = c.edit_and_tell.new.site in
+    let same = same_states sites c.args.at c.index_mut.result.now y c.index_mut.ensures.value c.in-Err.ensures.state in
     subst (λ (ms : List Message). Keeps (set sites c.args.at y) c.self.inside.known.items ms) (sym c.make_room.ensures.same)
     (subst (λ (ss : List State). IsKept ss c.self.inside.known.items c.self.inside.messages.items) (sym same) c.self.invariant)
 
@@ -43,43 +41,35 @@ invariant_of-self-in-Ok c =
     let within = site_within sites _ c.args.self.now c.args.at c.self.view_is c.requires in
     let x = c.index_mut.result.now in
     let is = c.index_mut.ensures.value in
-    let y = c.make.new.site in
-    let z = c.tell_made-told.new.site in
-    let w = c.index-in-Ok.result.now in
-    let v = c.index_mut-in-Ok.result.now in
-    let known = c.known.ensures in
-    let sound : IsSound (state_of w) = record { number = known.number; history = known.history; waiting = known.waiting } in
     let d = c.args.self.now in
     let i = c.args.at in
     let messages = c.self.inside.messages.items in
-    let old = c.args.out.now.items in
-    let new = c.tell_made-told.new.out.items in
-    let e : IsMaking c.tell_made-told.result _ d sites messages i x y z (data_of c.in-Ok.op) m old new = record {
+    let e : IsMaking c.in-Ok.told c.args.edit.now c.len-number.result d sites messages i x c.edit_and_tell.new.site m c.args.out.now.items
+    c.edit_and_tell.new.out.items = record {
       seen = c.self.view_is;
       within = c.requires;
       is = is;
-      last = c.in-Ok.ensures.made;
-      sound = sound_again sites i y w within c.index-in-Ok.ensures sound;
-      done = told_again c.tell_made-told.result _ sites i y v z old new within c.index_mut-in-Ok.ensures.value c.tell_made-told.ensures;
+      sound = c.edit_and_tell.ensures.sound;
+      told = c.in-Ok.ensures.told;
       site = refl;
       place = made_place sites i c.index.result.now x m.place within c.index.ensures is (c.len-place.ensures ∙ ap length c.book.ensures);
     }
     in
     let pushed = c.push_reserved.ensures.items ∙ ap (λ (ms : List Message). ms ++ m ∷ []) c.make_room.ensures.same in
-    let next = c.still_known.ensures ∙ ap (λ done. still_known done c.index-in-Ok-2.result.now) c.is_ok.ensures.value in
-    let n = c.index-in-Ok-2.result.now in
-    making_kept e c.self.inside.known.items _ n c.still_known.result c.self.invariant pushed c.index-in-Ok-2.ensures next
+    let n = c.index-in-Ok.result.now in
+    let next = c.still_known.ensures ∙ ap (λ done. still_known done n) c.is_ok.ensures.value in
+    making_kept e c.self.inside.known.items _ n c.still_known.result c.self.invariant pushed c.index-in-Ok.ensures next
 
-pub index-requires-in-Ok-2 : goal.index-requires-in-Ok-2
-index-requires-in-Ok-2 c =
+pub index-requires-in-Ok : goal.index-requires-in-Ok
+index-requires-in-Ok c =
     let counted : vec_len c.self.inside.known ≡ length c.self.inside.known.items = omega (arith, c.self.inside.known.ok.0) in
     let sites = c.self.inside.sites.items in
     let messages = c.self.inside.messages.items in
     let d = c.args.self.now in
     known_within sites c.self.inside.known.items messages d c.args.at _ counted c.self.invariant c.self.view_is c.requires
 
-pub index_mut-requires-in-Ok-2 : goal.index_mut-requires-in-Ok-2
-index_mut-requires-in-Ok-2 c =
+pub index_mut-requires-in-Ok : goal.index_mut-requires-in-Ok
+index_mut-requires-in-Ok c =
     let counted : vec_len c.self.inside.known ≡ length c.self.inside.known.items = omega (arith, c.self.inside.known.ok.0) in
     let sites = c.self.inside.sites.items in
     let messages = c.self.inside.messages.items in
@@ -93,24 +83,16 @@ returns-after-told-clause-done c =
     let within = site_within sites _ c.args.self.now c.args.at c.self.view_is c.requires in
     let x = c.index_mut.result.now in
     let is = c.index_mut.ensures.value in
-    let y = c.make.new.site in
-    let z = c.tell_made-told.new.site in
-    let w = c.index-in-Ok.result.now in
-    let v = c.index_mut-in-Ok.result.now in
-    let known = c.known.ensures in
-    let sound : IsSound (state_of w) = record { number = known.number; history = known.history; waiting = known.waiting } in
     let d = c.args.self.now in
     let i = c.args.at in
     let messages = c.self.inside.messages.items in
-    let old = c.args.out.now.items in
-    let new = c.tell_made-told.new.out.items in
-    let e : IsMaking c.tell_made-told.result _ d sites messages i x y z (data_of c.in-Ok.op) m old new = record {
+    let e : IsMaking c.in-Ok.told c.args.edit.now c.len-number.result d sites messages i x c.edit_and_tell.new.site m c.args.out.now.items
+    c.edit_and_tell.new.out.items = record {
       seen = c.self.view_is;
       within = c.requires;
       is = is;
-      last = c.in-Ok.ensures.made;
-      sound = sound_again sites i y w within c.index-in-Ok.ensures sound;
-      done = told_again c.tell_made-told.result _ sites i y v z old new within c.index_mut-in-Ok.ensures.value c.tell_made-told.ensures;
+      sound = c.edit_and_tell.ensures.sound;
+      told = c.in-Ok.ensures.told;
       site = refl;
       place = made_place sites i c.index.result.now x m.place within c.index.ensures is (c.len-place.ensures ∙ ap length c.book.ensures);
     }
@@ -118,12 +100,10 @@ returns-after-told-clause-done c =
     let pushed = c.push_reserved.ensures.items ∙ ap (λ (ms : List Message). ms ++ m ∷ []) c.make_room.ensures.same in
     let room = c.make_room.new.messages.ok.0 in
     let number : c.len-number.result ≡ length messages = omega (arith, c.len-number.ensures, room, ap length c.make_room.ensures.same) in
-    let now = c.push_reserved.new.self.items in
-    let answer = c.in-Ok.ensures.answer in
-    let h = making_done e c.self.inside.known.items now c.args.command c.len-number.result c.self.invariant pushed answer number refl in
+    let h = making_done e c.self.inside.known.items c.push_reserved.new.self.items c.self.invariant pushed number in
     elim c.match-told.branch [
-      | in-Ok-told w ↦ ended_well c.tell_made-told.result c.match-told.result _ _ _ _ _ _ _ w.in-Ok-told.is w.result-is h
-      | in-Err-told w ↦ ended_short c.tell_made-told.result c.match-told.result _ _ _ _ _ _ _ w.in-Err-told.is w.result-is h
+      | in-Ok-told w ↦ ended_well c.in-Ok.told c.match-told.result _ _ _ _ _ _ _ w.in-Ok-told.is w.result-is h
+      | in-Err-told w ↦ ended_short c.in-Ok.told c.match-told.result _ _ _ _ _ _ _ w.in-Err-told.is w.result-is h
     ]
 
 pub returns-after-refuse-clause-done : goal.returns-after-refuse-clause-done
@@ -135,13 +115,16 @@ returns-after-refuse-clause-done c =
     let sites = c.self.inside.sites.items in
     let now = c.make_room.new.messages.items in
     let why = c.in-Err.why in
-    let refused_so = refused_same sites c.self.inside.messages.items now d i x c.make.new.site c.self.view_is is in
-    let same = refused_so c.in-Err.ensures.err c.make_room.ensures.same in
+    let refused_so = refused_same sites c.self.inside.messages.items now d i x c.edit_and_tell.new.site c.self.view_is is in
+    let same = refused_so c.in-Err.ensures.state c.make_room.ensures.same in
     elim c.match-refuse.branch [
       | in-Ok-refuse w ↦
           let told = w.in-Ok-refuse.ensures.told in
-          let refused = command_refused d sites _ i c.args.command why x c.self.view_is c.requires is c.in-Err.ensures.answer told in
-          let all = command_told d _ i _ why _ _ refused same w.in-Ok-refuse.ensures.ok in
+          let refused = command_refused d sites _ i c.args.edit.now why x c.self.view_is c.requires is c.in-Err.ensures.refused told in
+          let all =
+          command_told d _ i _ why _ _ refused same
+          (w.in-Ok-refuse.ensures.ok ∙ ap (λ (xs : List ℕ). xs ++ local_text why) c.in-Err.ensures.err) in
           all_done c.match-refuse.result _ _ _ _ _ _ w.result-is all
-      | in-Err-refuse w ↦ stopped c.match-refuse.result _ w.result-is _ _ _ _ _ (done_nothing _ _ _ _ _ same w.in-Err-refuse.ensures.err)
+      | in-Err-refuse w ↦ stopped c.match-refuse.result _ w.result-is _ _ _ _ _
+          (done_nothing _ _ _ _ _ same (w.in-Err-refuse.ensures.err ∙ c.in-Err.ensures.err))
     ]

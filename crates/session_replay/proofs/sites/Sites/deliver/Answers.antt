@@ -27,7 +27,7 @@ index_mut-requires-2 c =
 pub invariant_of-self : goal.invariant_of-self
 invariant_of-self c =
     let x = c.index_mut.result.now in
-    let y = c.take_in-taken.new.site in
+    let y = c.take_in_and_tell-taken.new.site in
     let first = c.index.result.now in
     let known = c.known.ensures in
     let sound : IsSound (state_of first) = record { number = known.number; history = known.history; waiting = known.waiting } in
@@ -37,14 +37,14 @@ invariant_of-self c =
     let sites = c.self.inside.sites.items in
     let messages = c.self.inside.messages.items in
     let old = c.args.out.now.items in
-    let new = c.take_in-taken.new.out.items in
-    let e : IsDelivery c.take_in-taken.result c.args.many d sites messages i x y (data_of c.args.op.now) old new = record {
+    let new = c.take_in_and_tell-taken.new.out.items in
+    let e : IsDelivery c.take_in_and_tell-taken.result c.args.many d sites messages i x y (data_of c.args.op.now) old new = record {
       seen = c.self.view_is;
       within = c.requires.site;
       is = is;
       sound = site_sound sites messages d i first x c.self.view_is c.requires.site c.index.ensures is sound;
       formed = c.requires.formed;
-      done = c.take_in-taken.ensures.done;
+      done = c.take_in_and_tell-taken.ensures.done;
     }
     in
     let next = c.still_known.ensures ∙ ap (λ done. still_known done c.index-2.result.now) c.is_ok.ensures.value in
@@ -53,7 +53,7 @@ invariant_of-self c =
 pub returns-clause-done : goal.returns-clause-done
 returns-clause-done c =
     let x = c.index_mut.result.now in
-    let y = c.take_in-taken.new.site in
+    let y = c.take_in_and_tell-taken.new.site in
     let first = c.index.result.now in
     let known = c.known.ensures in
     let sound : IsSound (state_of first) = record { number = known.number; history = known.history; waiting = known.waiting } in
@@ -63,14 +63,14 @@ returns-clause-done c =
     let sites = c.self.inside.sites.items in
     let messages = c.self.inside.messages.items in
     let old = c.args.out.now.items in
-    let new = c.take_in-taken.new.out.items in
-    let e : IsDelivery c.take_in-taken.result c.args.many d sites messages i x y (data_of c.args.op.now) old new = record {
+    let new = c.take_in_and_tell-taken.new.out.items in
+    let e : IsDelivery c.take_in_and_tell-taken.result c.args.many d sites messages i x y (data_of c.args.op.now) old new = record {
       seen = c.self.view_is;
       within = c.requires.site;
       is = is;
       sound = site_sound sites messages d i first x c.self.view_is c.requires.site c.index.ensures is sound;
       formed = c.requires.formed;
-      done = c.take_in-taken.ensures.done;
+      done = c.take_in_and_tell-taken.ensures.done;
     }
     in
     delivery_done e c.self.inside.known.items c.self.invariant
@@ -78,7 +78,7 @@ returns-clause-done c =
 pub returns-clause-messages : goal.returns-clause-messages
 returns-clause-messages c =
     let x = c.index_mut.result.now in
-    let y = c.take_in-taken.new.site in
+    let y = c.take_in_and_tell-taken.new.site in
     let first = c.index.result.now in
     let known = c.known.ensures in
     let sound : IsSound (state_of first) = record { number = known.number; history = known.history; waiting = known.waiting } in
@@ -88,14 +88,14 @@ returns-clause-messages c =
     let sites = c.self.inside.sites.items in
     let messages = c.self.inside.messages.items in
     let old = c.args.out.now.items in
-    let new = c.take_in-taken.new.out.items in
-    let e : IsDelivery c.take_in-taken.result c.args.many d sites messages i x y (data_of c.args.op.now) old new = record {
+    let new = c.take_in_and_tell-taken.new.out.items in
+    let e : IsDelivery c.take_in_and_tell-taken.result c.args.many d sites messages i x y (data_of c.args.op.now) old new = record {
       seen = c.self.view_is;
       within = c.requires.site;
       is = is;
       sound = site_sound sites messages d i first x c.self.view_is c.requires.site c.index.ensures is sound;
       formed = c.requires.formed;
-      done = c.take_in-taken.ensures.done;
+      done = c.take_in_and_tell-taken.ensures.done;
     }
     in
     delivery_messages e c.self.inside.known.items c.self.invariant
@@ -103,7 +103,7 @@ returns-clause-messages c =
 pub returns-clause-has : goal.returns-clause-has
 returns-clause-has c =
     let x = c.index_mut.result.now in
-    let y = c.take_in-taken.new.site in
+    let y = c.take_in_and_tell-taken.new.site in
     let first = c.index.result.now in
     let known = c.known.ensures in
     let sound : IsSound (state_of first) = record { number = known.number; history = known.history; waiting = known.waiting } in
@@ -113,15 +113,15 @@ returns-clause-has c =
     let sites = c.self.inside.sites.items in
     let messages = c.self.inside.messages.items in
     let old = c.args.out.now.items in
-    let new = c.take_in-taken.new.out.items in
-    let e : IsDelivery c.take_in-taken.result c.args.many d sites messages i x y (data_of c.args.op.now) old new = record {
+    let new = c.take_in_and_tell-taken.new.out.items in
+    let e : IsDelivery c.take_in_and_tell-taken.result c.args.many d sites messages i x y (data_of c.args.op.now) old new = record {
       seen = c.self.view_is;
       within = c.requires.site;
       is = is;
       sound = site_sound sites messages d i first x c.self.view_is c.requires.site c.index.ensures is sound;
       formed = c.requires.formed;
-      done = c.take_in-taken.ensures.done;
+      done = c.take_in_and_tell-taken.ensures.done;
     }
     in
     let ms = said (set sites i y) messages in
-    delivery_known _ _ _ _ _ ms _ _ _ _ _ _ e c.take_in-taken.ensures.had
+    delivery_known _ _ _ _ _ ms _ _ _ _ _ _ e c.take_in_and_tell-taken.ensures.had
