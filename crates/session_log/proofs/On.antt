@@ -70,7 +70,8 @@ goes_on_by one old new piece same keeps (a, k) = record {
           all = a;
           keeps = k;
           unloaded =
-              cut_later Says new.site old.site a piece more same ((one new on.all (a ++ piece) more on.keeps (keeps a k)).1 why on.unloaded);
+              cut_later Says new.site old.site a piece more same
+              ((one new on.all (a ++ piece) more on.keeps (keeps a k)).1 why on.unloaded);
         }),
         (λ on. record {
           all = on.all ++ piece;

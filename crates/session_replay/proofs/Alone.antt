@@ -23,7 +23,8 @@ abbrev AreOwn : ℕ → List OpData → Type 0
 AreOwn i h = (o : OpData) → Contains h o → (target_of (member_of o)).site ≡ i
 
 -- an operation that comes next, and whose name is the site's own if it has one, is of an original of the site
-own_next : (i : ℕ) (h : List OpData) (o : OpData) → AreOwn i h → IsNext h o → ((n : NameData) → member_of o ≡ Original n → n.site ≡ i) → (target_of (member_of o)).site ≡ i
+own_next : (i : ℕ) (h : List OpData) (o : OpData) → AreOwn i h → IsNext h o → ((n : NameData) → member_of o ≡ Original n → n.site ≡ i)
+    → (target_of (member_of o)).site ≡ i
 own_next i h (inserting n p ch c) own next named = named n refl
 own_next i h (deleting n p c) own next named = named n refl
 own_next i h (undoing a t g c) own next named =
@@ -57,7 +58,8 @@ never_due : (p : Plan) (k : ℕ) → p.syncs ≡ false → is_due p k ≡ false
 never_due p k none = rw none refl
 
 -- an event at one site
-module _ (p : Plan) (k : ℕ) (d : SessionData) (steady : Steady p.sites d) (within : turn_of p k < p.sites) (few : length d.messages ≤ MAX_EVENTS) (x : ℕ)
+module _ (p : Plan) (k : ℕ) (d : SessionData) (steady : Steady p.sites d) (within : turn_of p k < p.sites)
+    (few : length d.messages ≤ MAX_EVENTS) (x : ℕ)
     (alone : (i : ℕ) → i < p.sites → Alone p k i (site_at d i)) where
   abbrev at : ℕ
   at = turn_of p k
@@ -69,7 +71,13 @@ module _ (p : Plan) (k : ℕ) (d : SessionData) (steady : Steady p.sites d) (wit
   keeps = steady.sites at within
 
   m : Makes s (drawn_operation s (draws_from x))
-  m = drawn_makes s (draws_from x) (record { valid = keeps.sound.history; site = keeps.sound.number; few = omega (arith, few, no_longer s.history keeps.sound.history d.messages keeps.part) })
+  m = drawn_makes s (draws_from x)
+      (record {
+        valid = keeps.sound.history;
+        site = keeps.sound.number;
+        few =
+            omega (arith, few, no_longer s.history keeps.sound.history d.messages keeps.part);
+      })
 
   abbrev after : SessionData
   after = record { sites = set d.sites at (with_last s m.op); messages = d.messages ++ m.op ∷ [] }
@@ -77,12 +85,15 @@ module _ (p : Plan) (k : ℕ) (d : SessionData) (steady : Steady p.sites d) (wit
   here : Alone p (suc k) at (with_last s m.op)
   here = record {
     made = omega (arith, length-append s.history (m.op ∷ []), (alone at within).made, turn_here p k at refl);
-    own = own_more at s.history m.op (alone at within).own (own_next at s.history m.op (alone at within).own m.next (λ n is. m.own n is ∙ keeps.number));
+    own = own_more at s.history m.op (alone at within).own
+        (own_next at s.history m.op (alone at within).own m.next (λ n is. m.own n is ∙ keeps.number));
   }
 
   alone_after : (i : ℕ) → i < p.sites → Alone p (suc k) i (site_at after i)
   alone_after i less = elim (cases_eq i at) [
-    | inl same ↦ subst (λ j. Alone p (suc k) j (site_at after j)) (sym same) (subst (Alone p (suc k) at) (sym (site_here d (d.messages ++ m.op ∷ []) at (with_last s m.op) (omega (arith, within, steady.count)))) here)
+    | inl same ↦ subst (λ j. Alone p (suc k) j (site_at after j)) (sym same)
+        (subst (Alone p (suc k) at) (sym
+        (site_here d (d.messages ++ m.op ∷ []) at (with_last s m.op) (omega (arith, within, steady.count)))) here)
     | inr apart ↦
         let old = alone i less in
         subst (Alone p (suc k) i) (sym (site_other d (d.messages ++ m.op ∷ []) at i (with_last s m.op) apart))
@@ -90,9 +101,11 @@ module _ (p : Plan) (k : ℕ) (d : SessionData) (steady : Steady p.sites d) (wit
   ]
 
   pub alone_acted : (i : ℕ) → i < p.sites → Alone p (suc k) i (site_at (acted at (draws_from x) d) i)
-  alone_acted i less = subst (λ e. Alone p (suc k) i (site_at e i)) (sym (acted_leaves at (draws_from x) d m keeps.quiet)) (alone_after i less)
+  alone_acted i less =
+      subst (λ e. Alone p (suc k) i (site_at e i)) (sym (acted_leaves at (draws_from x) d m keeps.quiet)) (alone_after i less)
 
-alone_through : (p : Plan) → IsPlan p → p.syncs ≡ false → (k : ℕ) → k ≤ p.events → (i : ℕ) → i < p.sites → Alone p k i (site_at (generating p k).session i)
+alone_through : (p : Plan) → IsPlan p → p.syncs ≡ false → (k : ℕ) → k ≤ p.events → (i : ℕ) → i < p.sites
+    → Alone p k i (site_at (generating p k).session i)
 unfolding generating
 alone_through p is none zero within i less =
     let most = is.most_sites in
@@ -104,9 +117,11 @@ alone_through p is none (suc k) within i less =
     let before = progress p is k (omega (arith, within)) in
     let g = generating p k in
     let events = is.events in
-    let acted_on = alone_acted p k g.session before.steady (mod-lt k {m = p.sites} is.sites) (omega (arith, before.count, within, events)) g.number
+    let acted_on =
+    alone_acted p k g.session before.steady (mod-lt k {m = p.sites} is.sites) (omega (arith, before.count, within, events)) g.number
     (λ j smaller. alone_through p is none k (omega (arith, within)) j smaller) i less in
-    subst (λ b. Alone p (suc k) i (site_at (synced_if b (acted (turn_of p k) (draws_from g.number) g.session)) i)) (sym (never_due p (suc k) none)) acted_on
+    subst (λ b. Alone p (suc k) i (site_at (synced_if b (acted (turn_of p k) (draws_from g.number) g.session)) i))
+    (sym (never_due p (suc k) none)) acted_on
 
 pub sites_stay_alone : SitesStayAlone
 sites_stay_alone p events some most none i less =

@@ -9,7 +9,8 @@ use Rattle.std.proofs.lemmas.List.{take_all}
 scalar_first : (x : ℕ) (xs : List ℕ) → IsScalar x → all_scalars xs ≡ true → all_scalars (x ∷ xs) ≡ true
 scalar_first x xs first rest = ap (λ b. b && all_scalars xs) first ∙ rest
 
-scalars_next : (i : ℕ) (xs : List ℕ) (x : ℕ) → all_scalars (take i xs) ≡ true → i < length xs → x ≡ get_or xs i x → IsScalar x → all_scalars (take (suc i) xs) ≡ true
+scalars_next : (i : ℕ) (xs : List ℕ) (x : ℕ) → all_scalars (take i xs) ≡ true → i < length xs → x ≡ get_or xs i x → IsScalar x
+    → all_scalars (take (suc i) xs) ≡ true
 scalars_next i [] x before within is scalar = absurd (omega (arith, within))
 scalars_next zero (y ∷ ys) x before within is scalar = scalar_first y (take zero ys) (subst IsScalar is scalar) before
 scalars_next (suc i) (y ∷ ys) x before within is scalar =
@@ -17,7 +18,8 @@ scalars_next (suc i) (y ∷ ys) x before within is scalar =
     scalar_first y (take (suc i) ys) parts.0 (scalars_next i ys x parts.1 (omega (arith, within)) is scalar)
 
 -- one more of the first characters
-pub scalars_more : (i : ℕ) (xs : List ℕ) (x : ℕ) → all_scalars (take i xs) ≡ true → i < length xs → x ≡ get_or xs i x → IsScalar x → all_scalars (take (i + 1) xs) ≡ true
+pub scalars_more : (i : ℕ) (xs : List ℕ) (x : ℕ) → all_scalars (take i xs) ≡ true → i < length xs → x ≡ get_or xs i x → IsScalar x
+    → all_scalars (take (i + 1) xs) ≡ true
 scalars_more i xs x before within is scalar = ap (λ k. all_scalars (take k xs)) next ∙ scalars_next i xs x before within is scalar
   where
     next : i + 1 ≡ suc i

@@ -30,10 +30,12 @@ edit_next s sound (Delete v) is_character o is = local_delete_next s sound.histo
 edit_next s sound (Undo t) is_character o is = local_undo_next s sound.history sound.number o t is
 edit_next s sound (Redo t) is_character o is = local_redo_next s sound.history sound.number o t is
 
-pub site_within : (sites : List SiteData) (ms : List OpData) (d : SessionData) (i : ℕ) → session_of sites ms ≡ d → i < length d.sites → i < length sites
+pub site_within : (sites : List SiteData) (ms : List OpData) (d : SessionData) (i : ℕ) → session_of sites ms ≡ d → i < length d.sites
+    → i < length sites
 site_within sites ms d i seen within = omega (arith, ap (λ (e : SessionData). length e.sites) seen, length-map sites state_of)
 
-pub site_is : (sites : List SiteData) (ms : List OpData) (d : SessionData) (i : ℕ) (x : SiteData) → session_of sites ms ≡ d → i < length d.sites → x ≡ slice_index_or sites i x → state_of x ≡ site_at d i
+pub site_is : (sites : List SiteData) (ms : List OpData) (d : SessionData) (i : ℕ) (x : SiteData) → session_of sites ms ≡ d
+    → i < length d.sites → x ≡ slice_index_or sites i x → state_of x ≡ site_at d i
 site_is sites ms d i x seen within is = state_at sites ms i x (site_within sites ms d i seen within) is ∙ ap (λ e. site_at e i) seen
 
 -- the operation is the next message
@@ -49,13 +51,16 @@ command_made result d sites ms i edit o x z n old new seen within is answer numb
     subst (λ r. AreDone result (commanded i r d) d (session_of (set sites i z) (ms ++ o ∷ [])) old new) (sym all) up
 
 -- the states of the sites, where that of one is as it was
-pub same_states : (sites : List SiteData) (i : ℕ) (x y : SiteData) → x ≡ slice_index_or sites i x → state_of y ≡ state_of x → map state_of (set sites i y) ≡ map state_of sites
+pub same_states : (sites : List SiteData) (i : ℕ) (x y : SiteData) → x ≡ slice_index_or sites i x → state_of y ≡ state_of x
+    → map state_of (set sites i y) ≡ map state_of sites
 same_states sites i x y is same =
-    map-set state_of sites i y ∙ ap (λ s. set (map state_of sites) i s) same ∙ sym (map-set state_of sites i x) ∙ ap (λ s. map state_of (set sites i s)) is ∙ ap (map state_of) (set-get_or sites i x)
+    map-set state_of sites i y ∙ ap (λ s. set (map state_of sites) i s) same ∙ sym (map-set state_of sites i x)
+    ∙ ap (λ s. map state_of (set sites i s)) is ∙ ap (map state_of) (set-get_or sites i x)
 
 -- a refused command left the session as it was
 pub refused_same : (sites : List SiteData) (messages now : List Message) (d : SessionData) (i : ℕ) (x y : SiteData)
-    → session_of sites (operations_of (map state_of sites) messages) ≡ d → x ≡ slice_index_or sites i x → state_of y ≡ state_of x → now ≡ messages
+    → session_of sites (operations_of (map state_of sites) messages) ≡ d → x ≡ slice_index_or sites i x → state_of y ≡ state_of x
+    → now ≡ messages
     → session_of (set sites i y) (operations_of (map state_of (set sites i y)) now) ≡ d
 refused_same sites messages now d i x y seen is same kept =
     ap (λ (ss : List State). record { sites = ss; messages = operations_of ss now }) (same_states sites i x y is same)
@@ -79,7 +84,8 @@ pub command_refused : (d : SessionData) (sites : List SiteData) (ms : List OpDat
 command_refused d sites ms i edit why x seen within is answer other =
     ap (made_by edit) (sym (site_is sites ms d i x seen within is)) ∙ refusal_is (made_by edit (state_of x)) why answer other
 
-pub command_told : (d now : SessionData) (i : ℕ) (r : Result OpData Local) (why : Local) (old new : List ℕ) → r ≡ Err why → now ≡ d → new ≡ old ++ local_text why → (now ≡ last_of d (commanded i r d)) × (new ≡ old ++ written_by (commanded i r d))
+pub command_told : (d now : SessionData) (i : ℕ) (r : Result OpData Local) (why : Local) (old new : List ℕ) → r ≡ Err why → now ≡ d
+    → new ≡ old ++ local_text why → (now ≡ last_of d (commanded i r d)) × (new ≡ old ++ written_by (commanded i r d))
 unfolding last_of written_by
 command_told d now i r why old new is same written = (
   same ∙ sym (ap (λ q. last_of d (commanded i q d)) is),

@@ -35,12 +35,16 @@ module _ (view : State → View) (agrees : (s : State) → IsValid s.history →
   -- ---- a text
 
   -- what follows an insert is the same where the insert leaves a sound session
-  typed_on_same : (next other : SessionData → List (Step SessionData)) (i : ℕ) (r : Result OpData Local) (d : SessionData) → IsSound d → i < length d.sites → ((o : OpData) → r ≡ Ok o → IsNext (site_at d i).history o) → ((e : SessionData) → Kept (length d.sites) e → next e ≡ other e) → typed_on next i r d ≡ typed_on other i r d
+  typed_on_same : (next other : SessionData → List (Step SessionData)) (i : ℕ) (r : Result OpData Local) (d : SessionData) → IsSound d
+      → i < length d.sites → ((o : OpData) → r ≡ Ok o → IsNext (site_at d i).history o)
+      → ((e : SessionData) → Kept (length d.sites) e → next e ≡ other e) → typed_on next i r d ≡ typed_on other i r d
   typed_on_same next other i (Ok o) d sound within is same =
-      ap (λ es. made i o d ++ es) (same (last_of d (made i o d)) (good_last d (made i o d) sound (good_made d i o sound within (is o refl))))
+      ap (λ es. made i o d ++ es) (same (last_of d (made i o d))
+      (good_last d (made i o d) sound (good_made d i o sound within (is o refl))))
   typed_on_same next other i (Err why) d sound within is same = refl
 
-  typed_same : (chs : List ℕ) → all_scalars chs ≡ true → (n i v : ℕ) → i < n → (d : SessionData) → Kept n d → typed_in view i v chs d ≡ typed i v chs d
+  typed_same : (chs : List ℕ) → all_scalars chs ≡ true → (n i v : ℕ) → i < n → (d : SessionData) → Kept n d
+      → typed_in view i v chs d ≡ typed i v chs d
   unfolding typed_in
   typed_same [] scalars n i v within d kept = refl
   typed_same (ch ∷ chs) scalars n i v within d kept =
@@ -49,24 +53,32 @@ module _ (view : State → View) (agrees : (s : State) → IsValid s.history →
       let rest = typed_same chs parts.1 n i (v + 1) within in
       ap (λ (x : View). typed_on (typed_in view i (v + 1) chs) i (insert_in x (site_at d i) v ch) d) (seen_at d i kept.sound here)
       ∙ typed_on_same (typed_in view i (v + 1) chs) (typed i (v + 1) chs) i (local_insert (site_at d i) v ch) d kept.sound here
-      (inserted_next d i v ch kept.sound here parts.0) (λ e after. rest e (record { sound = after.sound; sites = after.sites ∙ kept.sites }))
+      (inserted_next d i v ch kept.sound here parts.0)
+      (λ e after. rest e (record { sound = after.sound; sites = after.sites ∙ kept.sites }))
 
   -- ---- lines
 
-  guarded_same : (o : Option ℕ) (d : SessionData) (r q : Result (List (Step SessionData)) Refusal) → (IfSome o (λ i. i < length d.sites) → r ≡ q) → at_site_of o d r ≡ at_site_of o d q
+  guarded_same : (o : Option ℕ) (d : SessionData) (r q : Result (List (Step SessionData)) Refusal)
+      → (IfSome o (λ i. i < length d.sites) → r ≡ q) → at_site_of o d r ≡ at_site_of o d q
   guarded_same None d r q same = same tt
   guarded_same (Some i) d r q same =
       elim (cases_Bool (nat_lt i (length d.sites))) [
-        | inl less ↦ ap (λ (x : Result (List (Step SessionData)) Refusal). at_site_of (Some i) d x) (same (ltb-true i (length d.sites) less))
-        | inr not ↦ ap (λ (b : Bool). once_started d (if b then r else Err NoSite)) not ∙ sym (ap (λ (b : Bool). once_started d (if b then q else Err NoSite)) not)
+        | inl less ↦ ap (λ (x : Result (List (Step SessionData)) Refusal). at_site_of (Some i) d x)
+            (same (ltb-true i (length d.sites) less))
+        | inr not ↦ ap (λ (b : Bool). once_started d (if b then r else Err NoSite)) not
+            ∙ sym (ap (λ (b : Bool). once_started d (if b then q else Err NoSite)) not)
       ]
 
-  there_same : (l : Line) (d : SessionData) → IsSound d → AreValues l → IfSome (line_site l) (λ i. i < length d.sites) → steps_there_in view l d ≡ steps_there l d
+  there_same : (l : Line) (d : SessionData) → IsSound d → AreValues l → IfSome (line_site l) (λ i. i < length d.sites)
+      → steps_there_in view l d ≡ steps_there l d
   there_same line.Blank d sound values within = refl
   there_same (line.Sites n) d sound values within = refl
-  there_same (line.Ins i v text) d sound values within = ap (λ es. Ok es) (typed_same text values (length d.sites) i v within d (record { sound = sound; sites = refl }))
-  there_same (line.Nl i v) d sound values within = ap (λ (x : View). Ok (commanded i (insert_in x (site_at d i) v 10) d)) (seen_at d i sound within)
-  there_same (line.Del i v) d sound values within = ap (λ (x : View). Ok (commanded i (delete_in x (site_at d i) v) d)) (seen_at d i sound within)
+  there_same (line.Ins i v text) d sound values within =
+      ap (λ es. Ok es) (typed_same text values (length d.sites) i v within d (record { sound = sound; sites = refl }))
+  there_same (line.Nl i v) d sound values within =
+      ap (λ (x : View). Ok (commanded i (insert_in x (site_at d i) v 10) d)) (seen_at d i sound within)
+  there_same (line.Del i v) d sound values within =
+      ap (λ (x : View). Ok (commanded i (delete_in x (site_at d i) v) d)) (seen_at d i sound within)
   there_same (line.Undo i t) d sound values within = refl
   there_same (line.Redo i t) d sound values within = refl
   there_same (line.Give i m) d sound values within = refl
@@ -88,15 +100,19 @@ module _ (view : State → View) (agrees : (s : State) → IsValid s.history →
 
   -- ---- reports
 
-  report_on_same : (next other : SessionData → Report) (number : ℕ) (r : Result (List (Step SessionData)) Refusal) (d : SessionData) → ((es : List (Step SessionData)) → r ≡ Ok es → next (last_of d es) ≡ other (last_of d es)) → report_on next number r d ≡ report_on other number r d
+  report_on_same : (next other : SessionData → Report) (number : ℕ) (r : Result (List (Step SessionData)) Refusal) (d : SessionData)
+      → ((es : List (Step SessionData)) → r ≡ Ok es → next (last_of d es) ≡ other (last_of d es))
+      → report_on next number r d ≡ report_on other number r d
   report_on_same next other number (Err why) d same = refl
   report_on_same next other number (Ok es) d same = ap (λ (rest : Report). prepended (written_by es) rest) (same es refl)
 
-  report_same : (pieces : List Piece) (number : ℕ) (d : SessionData) → Rests d → report_from_in view number pieces d ≡ report_from number pieces d
+  report_same : (pieces : List Piece) (number : ℕ) (d : SessionData) → Rests d
+      → report_from_in view number pieces d ≡ report_from number pieces d
   unfolding report_from_in
   report_same [] number d rests = refl
   report_same (p ∷ pieces) number d rests =
-      ap (λ (r : Result (List (Step SessionData)) Refusal). report_on (report_from_in view (number + 1) pieces) number r d) (piece_same p d rests.0)
+      ap (λ (r : Result (List (Step SessionData)) Refusal). report_on (report_from_in view (number + 1) pieces) number r d)
+      (piece_same p d rests.0)
       ∙ report_on_same (report_from_in view (number + 1) pieces) (report_from (number + 1) pieces) number (piece_steps p d) d
       (λ es is. report_same pieces (number + 1) (last_of d es) (piece_rests p d es rests is))
 

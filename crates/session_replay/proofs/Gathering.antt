@@ -50,7 +50,8 @@ AreMade before (o ∷ os) = Origin before o × AreMade (before ++ o ∷ []) os
 
 made_more : (before os : List OpData) (o : OpData) → AreMade before os → Origin (before ++ os) o → AreMade before (os ++ o ∷ [])
 made_more before [] o made origin = (subst (λ xs. Origin xs o) (append-nil before) origin, tt)
-made_more before (x ∷ xs) o made origin = (made.0, made_more (before ++ x ∷ []) xs o made.1 (subst (λ ys. Origin ys o) (sym (shifted before x xs)) origin))
+made_more before (x ∷ xs) o made origin =
+    (made.0, made_more (before ++ x ∷ []) xs o made.1 (subst (λ ys. Origin ys o) (sym (shifted before x xs)) origin))
 
 -- the history has the members of all of these
 abbrev Knows : List OpData → List OpData → Type 0
@@ -75,7 +76,8 @@ record Took (ms : List OpData) (i : ℕ) (s : State) (o : OpData) (t : State) : 
   has : is_known t.history (member_of o) ≡ true
   stays : (m : Member) → is_known s.history m ≡ true → is_known t.history m ≡ true
 
-repeat_known : (h ms : List OpData) (o : OpData) → IsValid h → ((x : OpData) → Contains h x → Contains ms x) → Agree ms ms → Contains ms o → is_known h (member_of o) ≡ true → IsRepeat h o
+repeat_known : (h ms : List OpData) (o : OpData) → IsValid h → ((x : OpData) → Contains h x → Contains ms x) → Agree ms ms → Contains ms o
+    → is_known h (member_of o) ≡ true → IsRepeat h o
 repeat_known h ms (inserting n p ch c) valid part one at known =
     let held = holder h (Original n) known in
     subst (λ x. Contains h x) (one held.op (inserting n p ch c) n (part held.op held.there) at held.is refl) held.there
@@ -84,24 +86,31 @@ repeat_known h ms (deleting n p c) valid part one at known =
     subst (λ x. Contains h x) (one held.op (deleting n p c) n (part held.op held.there) at held.is refl) held.there
 repeat_known h ms (undoing a t g c) valid part one at known = group_reached h valid t g known
 
-keeps_last : (ms : List OpData) (i : ℕ) (s : State) (o : OpData) → Keeps ms i s → Contains ms o → IsNext s.history o → Keeps ms i (with_last s o)
+keeps_last : (ms : List OpData) (i : ℕ) (s : State) (o : OpData) → Keeps ms i s → Contains ms o → IsNext s.history o
+    → Keeps ms i (with_last s o)
 keeps_last ms i s o keeps at next = record {
   number = keeps.number;
   sound = sound_more s o keeps.sound next;
   quiet = keeps.quiet;
-  part = λ x there. elim (Contains-push_cases s.history o x there) [ inl old ↦ keeps.part x old | inr same ↦ subst (λ y. Contains ms y) same at ];
+  part = λ x there. elim (Contains-push_cases s.history o x there)
+      [ inl old ↦ keeps.part x old | inr same ↦ subst (λ y. Contains ms y) same at ];
   own = λ x n there is site. Contains-append_left s.history (o ∷ []) x (keeps.own x n there is site);
 }
 
-took : (ms before : List OpData) (i : ℕ) (s : State) (o : OpData) → Keeps ms i s → Agree ms ms → Contains ms o → ((x : OpData) → Contains before x → Contains ms x) → Knows s.history before → Origin before o → Took ms i s o (delivered s o)
+took : (ms before : List OpData) (i : ℕ) (s : State) (o : OpData) → Keeps ms i s → Agree ms ms → Contains ms o
+    → ((x : OpData) → Contains before x → Contains ms x) → Knows s.history before → Origin before o → Took ms i s o (delivered s o)
 took ms before i s o keeps one at earlier knows origin =
     elim (cases_Bool (is_known s.history (member_of o))) [
       | inl known ↦
-          let is : judged s o ≡ Repeat = sym ((verdicts_exact s.history s.waiting o Repeat keeps.sound.history origin.next.formed).0 (repeat_known s.history ms o keeps.sound.history keeps.part one at known)) in
+          let is : judged s o ≡ Repeat =
+          sym ((verdicts_exact s.history s.waiting o Repeat keeps.sound.history origin.next.formed).0
+          (repeat_known s.history ms o keeps.sound.history keeps.part one at known)) in
           subst (λ (v : Verdict). Took ms i s o (after_verdict v o s)) (sym is) (record { keeps = keeps; has = known; stays = λ m e. e })
       | inr new ↦
           let next = next_here new in
-          let is : judged s o ≡ Integrated = next_integrated s.history s.waiting o keeps.sound.history next.formed next (λ n e other. contains_none other.other (subst (λ w. Contains w other.other) keeps.quiet other.there)) in
+          let is : judged s o ≡ Integrated =
+          next_integrated s.history s.waiting o keeps.sound.history next.formed next
+          (λ n e other. contains_none other.other (subst (λ w. Contains w other.other) keeps.quiet other.there)) in
           subst (λ (v : Verdict). Took ms i s o (after_verdict v o s)) (sym is) (record {
             keeps = keeps_last ms i s o keeps at next;
             has = known_end s.history o;
@@ -127,10 +136,12 @@ quiet_settled s none = ap (λ (w : List OpData). state_after s (releases (length
 
 -- ---- one event of a session
 
-event_leaves : (d : SessionData) (ms : List OpData) (i : ℕ) (w : List ℕ) (s : State) → s.waiting ≡ [] → last_of d (at_site d.sites ms i (settling w s)) ≡ record { sites = set d.sites i s; messages = ms }
+event_leaves : (d : SessionData) (ms : List OpData) (i : ℕ) (w : List ℕ) (s : State) → s.waiting ≡ []
+    → last_of d (at_site d.sites ms i (settling w s)) ≡ record { sites = set d.sites i s; messages = ms }
 unfolding last_of
 event_leaves d ms i w s none =
-    last_at d.sites ms i s (map free_step (all_releases s)) ∙ ap (λ (x : State). record { sites = set d.sites i x; messages = ms }) (last_freed s (all_releases s) ∙ quiet_settled s none)
+    last_at d.sites ms i s (map free_step (all_releases s))
+    ∙ ap (λ (x : State). record { sites = set d.sites i x; messages = ms }) (last_freed s (all_releases s) ∙ quiet_settled s none)
 
 -- so many sites; no two messages have one name; each was made after those before it
 pub record Steady (n : ℕ) (d : SessionData) : Type 0 where
@@ -139,18 +150,23 @@ pub record Steady (n : ℕ) (d : SessionData) : Type 0 where
   pub one : Agree d.messages d.messages
   pub made : AreMade [] d.messages
 
-pub site_here : (d : SessionData) (ms : List OpData) (i : ℕ) (s : State) → i < length d.sites → site_at (record { sites = set d.sites i s; messages = ms }) i ≡ s
+pub site_here : (d : SessionData) (ms : List OpData) (i : ℕ) (s : State) → i < length d.sites
+    → site_at (record { sites = set d.sites i s; messages = ms }) i ≡ s
 site_here d ms i s within = get_or-set_same d.sites i s (new_site i) within
 
-pub site_other : (d : SessionData) (ms : List OpData) (i j : ℕ) (s : State) → j ≢ i → site_at (record { sites = set d.sites i s; messages = ms }) j ≡ site_at d j
+pub site_other : (d : SessionData) (ms : List OpData) (i j : ℕ) (s : State) → j ≢ i
+    → site_at (record { sites = set d.sites i s; messages = ms }) j ≡ site_at d j
 site_other d ms i j s apart = get_or-set_other d.sites i j s (new_site j) apart
 
 -- one site is in another state, and there are other messages
-open_with : (n : ℕ) (d : SessionData) (ms : List OpData) (i : ℕ) (s : State) → Steady n d → i < n → Keeps ms i s → ((j : ℕ) → j < n → j ≢ i → Keeps ms j (site_at d j)) → Agree ms ms → AreMade [] ms → Steady n (record { sites = set d.sites i s; messages = ms })
+open_with : (n : ℕ) (d : SessionData) (ms : List OpData) (i : ℕ) (s : State) → Steady n d → i < n → Keeps ms i s
+    → ((j : ℕ) → j < n → j ≢ i → Keeps ms j (site_at d j)) → Agree ms ms → AreMade [] ms
+    → Steady n (record { sites = set d.sites i s; messages = ms })
 open_with n d ms i s steady within keeps others one made = record {
   count = length-set d.sites i s ∙ steady.count;
   sites = λ j less. elim (cases_eq j i) [
-    | inl same ↦ subst (λ k. Keeps ms k (site_at (record { sites = set d.sites i s; messages = ms }) k)) (sym same) (subst (Keeps ms i) (sym (site_here d ms i s (omega (arith, within, steady.count)))) keeps)
+    | inl same ↦ subst (λ k. Keeps ms k (site_at (record { sites = set d.sites i s; messages = ms }) k)) (sym same)
+        (subst (Keeps ms i) (sym (site_here d ms i s (omega (arith, within, steady.count)))) keeps)
     | inr apart ↦ subst (Keeps ms j) (sym (site_other d ms i j s apart)) (others j less apart)
   ];
   one = one;
@@ -166,7 +182,8 @@ record Gathered (n i : ℕ) (ms : List OpData) (d e : SessionData) : Type 0 wher
   has : Knows (site_at e i).history ms
   stays : (j : ℕ) (m : Member) → is_known (site_at d j).history m ≡ true → is_known (site_at e j).history m ≡ true
 
-one_given : (n i : ℕ) (before os : List OpData) (o : OpData) (d : SessionData) → i < n → Steady n d → d.messages ≡ before ++ o ∷ os → Origin before o → Knows (site_at d i).history before → Gathered n i (before ++ o ∷ []) d (last_of d (given true i o d))
+one_given : (n i : ℕ) (before os : List OpData) (o : OpData) (d : SessionData) → i < n → Steady n d → d.messages ≡ before ++ o ∷ os
+    → Origin before o → Knows (site_at d i).history before → Gathered n i (before ++ o ∷ []) d (last_of d (given true i o d))
 one_given n i before os o d within steady are origin knows = subst (Gathered n i (before ++ o ∷ []) d) (sym leaves) (record {
   steady = open_with n d d.messages i t steady within it.keeps (λ j less apart. steady.sites j less) steady.one steady.made;
   messages = refl;
@@ -175,7 +192,8 @@ one_given n i before os o d within steady are origin knows = subst (Gathered n i
     | inr same ↦ subst (λ y. is_known t.history (member_of y) ≡ true) same it.has
   ];
   stays = λ j m e. elim (cases_eq j i) [
-    | inl same ↦ ap (λ (k : ℕ). is_known (site_at after k).history m) same ∙ (ap (λ (y : State). is_known y.history m) here ∙ it.stays m (ap (λ (k : ℕ). is_known (site_at d k).history m) (sym same) ∙ e))
+    | inl same ↦ ap (λ (k : ℕ). is_known (site_at after k).history m) same
+        ∙ (ap (λ (y : State). is_known y.history m) here ∙ it.stays m (ap (λ (k : ℕ). is_known (site_at d k).history m) (sym same) ∙ e))
     | inr apart ↦ ap (λ (y : State). is_known y.history m) (site_other d d.messages i j t apart) ∙ e
   ];
 })
@@ -212,7 +230,8 @@ gathered_on n i xs ys d e f first second = record {
   stays = λ j m known. second.stays j m (first.stays j m known);
 }
 
-gathered : (n i : ℕ) (before os : List OpData) (d : SessionData) → i < n → Steady n d → d.messages ≡ before ++ os → AreMade before os → Knows (site_at d i).history before → Gathered n i (before ++ os) d (last_of d (given_all i os d))
+gathered : (n i : ℕ) (before os : List OpData) (d : SessionData) → i < n → Steady n d → d.messages ≡ before ++ os → AreMade before os
+    → Knows (site_at d i).history before → Gathered n i (before ++ os) d (last_of d (given_all i os d))
 unfolding given_all last_of
 gathered n i before [] d within steady are made knows = record {
   steady = steady;
@@ -236,7 +255,8 @@ record Together (n : ℕ) (d e : SessionData) : Type 0 where
   messages : e.messages ≡ d.messages
   has : (i : ℕ) → i < n → Knows (site_at e i).history e.messages
 
-knows_more : (n i : ℕ) (d e : SessionData) → Gathered n i d.messages d e → ((j : ℕ) → j < i → Knows (site_at d j).history d.messages) → (j : ℕ) → j < suc i → Knows (site_at e j).history e.messages
+knows_more : (n i : ℕ) (d e : SessionData) → Gathered n i d.messages d e → ((j : ℕ) → j < i → Knows (site_at d j).history d.messages)
+    → (j : ℕ) → j < suc i → Knows (site_at e j).history e.messages
 knows_more n i d e it done j less x there =
     let was : Contains d.messages x = subst (λ xs. Contains xs x) it.messages there in
     elim (cases_eq j i) [
@@ -244,7 +264,8 @@ knows_more n i d e it done j less x there =
       | inr apart ↦ it.stays j (member_of x) (done j (omega (arith, less, apart)) x was)
     ]
 
-together_from : (n k i : ℕ) (d : SessionData) → k + i ≡ n → Steady n d → ((j : ℕ) → j < i → Knows (site_at d j).history d.messages) → Together n d (last_of d (synced i k d))
+together_from : (n k i : ℕ) (d : SessionData) → k + i ≡ n → Steady n d → ((j : ℕ) → j < i → Knows (site_at d j).history d.messages)
+    → Together n d (last_of d (synced i k d))
 unfolding synced last_of
 together_from n zero i d all steady done = record { steady = steady; messages = refl; has = λ j less. done j (omega (arith, less, all)) }
 together_from n (suc k) i d all steady done =
@@ -264,13 +285,16 @@ record Grown (n : ℕ) (d e : SessionData) : Type 0 where
   steady : Steady n e
   more : length e.messages ≡ length d.messages + 1
 
-pub acted_leaves : (i : ℕ) (r : Draw) (d : SessionData) (m : Makes (site_at d i) (drawn_operation (site_at d i) r)) → (site_at d i).waiting ≡ [] → acted i r d ≡ record { sites = set d.sites i (with_last (site_at d i) m.op); messages = d.messages ++ m.op ∷ [] }
+pub acted_leaves : (i : ℕ) (r : Draw) (d : SessionData) (m : Makes (site_at d i) (drawn_operation (site_at d i) r))
+    → (site_at d i).waiting ≡ [] → acted i r d
+    ≡ record { sites = set d.sites i (with_last (site_at d i) m.op); messages = d.messages ++ m.op ∷ [] }
 acted_leaves i r d m none =
     ap (λ (q : Result OpData Local). last_of d (commanded i q d)) m.is
     ∙ event_leaves d (d.messages ++ m.op ∷ []) i (op_text (length d.messages) m.op) (with_last (site_at d i) m.op) none
 
 -- the operation has a name that no message has
-one_more_message : (n : ℕ) (d : SessionData) (i : ℕ) (o : OpData) → i < n → Steady n d → IsNext (site_at d i).history o → ((m : NameData) → member_of o ≡ Original m → m.site ≡ i) → Agree (d.messages ++ o ∷ []) (d.messages ++ o ∷ [])
+one_more_message : (n : ℕ) (d : SessionData) (i : ℕ) (o : OpData) → i < n → Steady n d → IsNext (site_at d i).history o
+    → ((m : NameData) → member_of o ≡ Original m → m.site ≡ i) → Agree (d.messages ++ o ∷ []) (d.messages ++ o ∷ [])
 one_more_message n d i o within steady next own x y m there here xs ys =
     elim (Contains-push_cases d.messages o x there) [
       | inl old ↦ elim (Contains-push_cases d.messages o y here) [
@@ -288,7 +312,8 @@ one_more_message n d i o within steady next own x y m there here xs ys =
         let held = (steady.sites i within).own z m old zs (own m is) in
         false≢true (sym next.new ∙ (ap (is_known (site_at d i).history) (is ∙ sym zs) ∙ known_member (site_at d i).history z held))
 
-keeps_more : (ms : List OpData) (o : OpData) (i j : ℕ) (s : State) → j ≢ i → ((m : NameData) → member_of o ≡ Original m → m.site ≡ i) → Keeps ms j s → Keeps (ms ++ o ∷ []) j s
+keeps_more : (ms : List OpData) (o : OpData) (i j : ℕ) (s : State) → j ≢ i → ((m : NameData) → member_of o ≡ Original m → m.site ≡ i)
+    → Keeps ms j s → Keeps (ms ++ o ∷ []) j s
 keeps_more ms o i j s apart own keeps = record {
   number = keeps.number;
   sound = keeps.sound;
@@ -321,7 +346,8 @@ grown n i r d within steady few = subst (Grown n d) (sym (acted_leaves i r d m k
       (keeps_own d.messages m.op i s keeps m.next)
       (λ j less apart. keeps_more d.messages m.op i j (site_at d j) apart own (steady.sites j less))
       (one_more_message n d i m.op within steady m.next own)
-      (made_more [] d.messages m.op steady.made (record { history = s.history; valid = keeps.sound.history; part = keeps.part; next = m.next }));
+      (made_more [] d.messages m.op steady.made
+      (record { history = s.history; valid = keeps.sound.history; part = keeps.part; next = m.next }));
   more = length-append d.messages (m.op ∷ []);
 })
   where
@@ -332,7 +358,12 @@ grown n i r d within steady few = subst (Grown n d) (sym (acted_leaves i r d m k
     keeps = steady.sites i within
 
     m : Makes s (drawn_operation s r)
-    m = drawn_makes s r (record { valid = keeps.sound.history; site = keeps.sound.number; few = omega (arith, few, no_longer s.history keeps.sound.history d.messages keeps.part) })
+    m = drawn_makes s r (record {
+      valid = keeps.sound.history;
+      site = keeps.sound.number;
+      few =
+          omega (arith, few, no_longer s.history keeps.sound.history d.messages keeps.part);
+    })
 
     own : (q : NameData) → member_of m.op ≡ Original q → q.site ≡ i
     own q is = m.own q is ∙ keeps.number
@@ -343,7 +374,8 @@ pub new_at : (b n i : ℕ) (x : State) → i < n → get_or (new_sites b n) i x 
 unfolding new_sites
 new_at b zero i x less = absurd (omega (arith, less))
 new_at b (suc n) zero x less = let same : b ≡ b + 0 = omega arith in ap new_site same
-new_at b (suc n) (suc i) x less = let same : suc b + i ≡ b + suc i = omega arith in new_at (suc b) n i x (omega (arith, less)) ∙ ap new_site same
+new_at b (suc n) (suc i) x less =
+    let same : suc b + i ≡ b + suc i = omega arith in new_at (suc b) n i x (omega (arith, less)) ∙ ap new_site same
 
 pub new_count : (b n : ℕ) → length (new_sites b n) ≡ n
 unfolding new_sites
@@ -362,7 +394,8 @@ keeps_new i less = record {
 open_new : (n : ℕ) → n ≤ SITES → Steady n (opened n)
 open_new n few = record {
   count = new_count 0 n;
-  sites = λ i less. subst (Keeps [] i) (sym (new_at 0 n i (new_site i) less ∙ ap new_site (nothing i))) (keeps_new i (omega (arith, less, few)));
+  sites = λ i less. subst (Keeps [] i) (sym (new_at 0 n i (new_site i) less ∙ ap new_site (nothing i)))
+      (keeps_new i (omega (arith, less, few)));
   one = λ x y m at. absurd (contains_none x at);
   made = tt;
 }
@@ -386,7 +419,8 @@ pub record Progress (p : Plan) (k : ℕ) (d : SessionData) : Type 0 where
   pub count : length d.messages ≡ k
   pub known : is_due p k ≡ true → AllKnow p.sites d
 
-synced_progress : (p : Plan) (k : ℕ) (d : SessionData) → Steady p.sites d → length d.messages ≡ k → (due : Bool) → is_due p k ≡ due → Progress p k (synced_if due d)
+synced_progress : (p : Plan) (k : ℕ) (d : SessionData) → Steady p.sites d → length d.messages ≡ k → (due : Bool) → is_due p k ≡ due
+    → Progress p k (synced_if due d)
 synced_progress p k d steady count true due =
     let it = together p.sites d steady in
     record { steady = it.steady; count = ap length it.messages ∙ count; known = λ e. it.has }
@@ -404,7 +438,9 @@ progress p is (suc k) within =
     let g = generating p k in
     let events = is.events in
     let i = turn_of p k in
-    let next = grown p.sites i (draws_from g.number) g.session (mod-lt k {m = p.sites} is.sites) before.steady (omega (arith, before.count, within, events)) in
+    let next =
+    grown p.sites i (draws_from g.number) g.session (mod-lt k {m = p.sites} is.sites) before.steady
+    (omega (arith, before.count, within, events)) in
     let counted : length (acted i (draws_from g.number) g.session).messages ≡ suc k = omega (arith, next.more, before.count) in
     synced_progress p (suc k) (acted i (draws_from g.number) g.session) next.steady counted (is_due p (suc k)) refl
 
@@ -463,7 +499,9 @@ all_same p is syncs s t at bt =
     let it = progress p is p.events (omega arith) in
     let a = place_of d.sites s at in
     let b = place_of d.sites t bt in
-    let same = same_at p.sites d a.place b.place (omega (arith, a.within, it.steady.count)) (omega (arith, b.within, it.steady.count)) it.steady (it.known (due_last p syncs)) in
+    let same =
+    same_at p.sites d a.place b.place (omega (arith, a.within, it.steady.count)) (omega (arith, b.within, it.steady.count)) it.steady
+    (it.known (due_last p syncs)) in
     subst (λ (x : State). Same x.history t.history) (a.is (new_site a.place))
     (subst (λ (y : State). Same (site_at d a.place).history y.history) (b.is (new_site b.place)) same)
 
@@ -476,4 +514,6 @@ valid_at p is s at =
     subst (λ (x : State). IsValid x.history) (found.is (new_site found.place)) keeps.sound.history
 
 pub all_show : (p : Plan) → IsPlan p → p.syncs ≡ true → ShowTheSame (generated p).sites
-all_show p is syncs s t at bt = same_text s.history t.history (told_apart s.history (valid_at p is s at)) (told_apart t.history (valid_at p is t bt)) (all_same p is syncs s t at bt)
+all_show p is syncs s t at bt =
+    same_text s.history t.history (told_apart s.history (valid_at p is s at)) (told_apart t.history (valid_at p is t bt))
+    (all_same p is syncs s t at bt)

@@ -48,7 +48,8 @@ repeat_more h more (deleting n p c) is = any_more (op_eq (deleting n p c)) h mor
 repeat_more h more (undoing a t g c) is =
     le-leb g (generation_in (h ++ more) t) (omega (arith, leb-true g (generation_in h t) is, generation_more h more t))
 
-pub repeat_after : (v : Verdict) (o p : OpData) (s : State) → is_repeat s.history p ≡ true → is_repeat (after_verdict v o s).history p ≡ true
+pub repeat_after : (v : Verdict) (o p : OpData) (s : State) → is_repeat s.history p ≡ true
+    → is_repeat (after_verdict v o s).history p ≡ true
 repeat_after Repeat o p s is = is
 repeat_after (Forged n) o p s is = is
 repeat_after (Waits m) o p s is = is
@@ -58,9 +59,11 @@ repeat_after Integrated o p s is = repeat_more s.history (o ∷ []) p is
 
 repeat_settled : (s : State) (o : OpData) → IsSound s → is_repeat s.history o ≡ true → is_repeat (settled s).history o ≡ true
 repeat_settled s o sound is =
-    let later : IsLater s (settled s) = (sound_along (length s.waiting) s (all_releases s) [] sound (sym (append-nil (all_releases s)))).1 in
+    let later : IsLater s (settled s) =
+    (sound_along (length s.waiting) s (all_releases s) [] sound (sym (append-nil (all_releases s)))).1 in
     let now = (settled s).history in
-    let parts : s.history ++ drop (length s.history) now ≡ now = ap (λ xs. xs ++ drop (length s.history) now) (sym later.history) ∙ take-append-drop (length s.history) now in
+    let parts : s.history ++ drop (length s.history) now ≡ now =
+    ap (λ xs. xs ++ drop (length s.history) now) (sym later.history) ∙ take-append-drop (length s.history) now in
     subst (λ (h : List OpData). is_repeat h o ≡ true) parts (repeat_more s.history (drop (length s.history) now) o is)
 
 placed_other : (site : Option ℕ) (fits : Bool) (place cells : ℕ) → placed_verdict site fits place cells ≡ Repeat → ⊥
@@ -77,7 +80,9 @@ ready_other h (undoing a t g c) e = cc
 repeat_is : (s : State) (o : OpData) → judged s o ≡ Repeat → is_repeat s.history o ≡ true
 repeat_is s o e = from (is_repeat s.history o) (is_forged s.history s.waiting o) (lacked s.history (context_of o)) e
   where
-    from : (a b : Bool) (m : Option Member) → (if a then Repeat else if b then Forged (target_of (member_of o)) else waiting_verdict m (ready_verdict s.history o)) ≡ Repeat → a ≡ true
+    from : (a b : Bool) (m : Option Member)
+        → (if a then Repeat else if b then Forged (target_of (member_of o)) else waiting_verdict m (ready_verdict s.history o)) ≡ Repeat
+        → a ≡ true
     from true b m e = refl
     from false true m e = absurd cc
     from false false (Some m) e = absurd cc
@@ -90,7 +95,8 @@ reached_held : (h : List OpData) (a : ℕ) (t : NameData) (g : ℕ) (c : Context
 reached_held [] a t g c at = absurd (contains_none (undoing a t g c) at)
 reached_held (o ∷ os) a t g c at = elim (contains_cases o os (undoing a t g c) at) [
   | inl same ↦
-      let own : generation_in (o ∷ os) t ≡ max (if name_eq t t then g else 0) (generation_in os t) = ap (λ p. generation_in (p ∷ os) t) same in
+      let own : generation_in (o ∷ os) t ≡ max (if name_eq t t then g else 0) (generation_in os t) =
+      ap (λ p. generation_in (p ∷ os) t) same in
       omega (arith, own, cond-true (name_eq t t) g 0 (name_itself t))
   | inr later ↦ omega (arith, reached_held os a t g c later)
 ]
@@ -112,7 +118,8 @@ repeat_had Integrated s o is had = repeat_held (s.history ++ o ∷ []) o (Contai
 -- ---- an event at a site
 
 -- an event of a sound site leaves what is a repeat then
-settling_has : (written : List ℕ) (s before : State) (o : OpData) → IsSound s → is_repeat s.history o ≡ true → Has (last_of before (settling written s)) o
+settling_has : (written : List ℕ) (s before : State) (o : OpData) → IsSound s → is_repeat s.history o ≡ true
+    → Has (last_of before (settling written s)) o
 unfolding last_of
 settling_has written s before o sound is =
     subst (λ t. Has t o) (sym (last_freed s (all_releases s))) (repeat_settled s o sound is, settled_settles s sound)
@@ -128,8 +135,10 @@ event_has (Ok t) written before s now old new n ms done sound repeats =
     λ o at. subst (λ x. Has x o) (sym done.0) (settling_has written s before o sound (repeats o at))
 event_has (Err e) written before s now old new n ms done sound repeats = has_none now ms
 
-pub event_known : {T E : Type 0} (result : Result T E) (written : List ℕ) (before s now : State) (old new : List ℕ) (n : ℕ) (ms : List OpData)
-    → AreDone result (settling written s) before now old new → IsSound s → ((o : OpData) → is_repeat before.history o ≡ true → is_repeat s.history o ≡ true)
+pub event_known : {T E : Type 0} (result : Result T E) (written : List ℕ) (before s now : State) (old new : List ℕ) (n : ℕ)
+    (ms : List OpData)
+    → AreDone result (settling written s) before now old new → IsSound s
+    → ((o : OpData) → is_repeat before.history o ≡ true → is_repeat s.history o ≡ true)
     → HasAll before (take n ms) → HasAll now (take (still_known (is_ok result) n) ms)
 event_known result written before s now old new n ms done sound kept has =
     event_has result written before s now old new n ms done sound (λ o at. kept o (has o at).0)
@@ -157,7 +166,8 @@ take_next k ms o at =
     let here : get_or ms k o ≡ o = cc in
     (take_at_read ms k o within).1 ∙ ap (λ x. take k ms ++ x ∷ []) here
 
-pub has_next : (k : ℕ) (ms : List OpData) (s : State) (o : OpData) → slice_get ms k ≡ Some o → HasAll s (take k ms) → Has s o → HasAll s (take (k + 1) ms)
+pub has_next : (k : ℕ) (ms : List OpData) (s : State) (o : OpData) → slice_get ms k ≡ Some o → HasAll s (take k ms) → Has s o
+    → HasAll s (take (k + 1) ms)
 has_next k ms s o at has next p there =
     elim (Contains-push_cases (take k ms) o p (subst (λ (xs : List OpData). Contains xs p) (take_next k ms o at) there)) [
       | inl before ↦ has p before
@@ -179,7 +189,8 @@ known_there (s ∷ ss) [] ms i x d known within = absurd known
 known_there (s ∷ ss) (n ∷ ns) ms zero x d known within = (known.0, known.1)
 known_there (s ∷ ss) (n ∷ ns) ms (suc i) x d known within = known_there ss ns ms i x d known.2 (omega arith)
 
-pub known_set : (ss : List State) (ns : List ℕ) (ms : List OpData) (i : ℕ) (s : State) (n : ℕ) → AreKnown ss ns ms → n ≤ length ms → HasAll s (take n ms) → AreKnown (set ss i s) (set ns i n) ms
+pub known_set : (ss : List State) (ns : List ℕ) (ms : List OpData) (i : ℕ) (s : State) (n : ℕ) → AreKnown ss ns ms → n ≤ length ms
+    → HasAll s (take n ms) → AreKnown (set ss i s) (set ns i n) ms
 known_set [] [] ms i s n known few has = tt
 known_set [] (m ∷ ns) ms i s n known few has = absurd known
 known_set (t ∷ ss) [] ms i s n known few has = absurd known
@@ -210,9 +221,12 @@ passed_over d i o has =
     let s = site_at d i in
     let event : taking_in true o s ≡ record { written = []; after = s } ∷ map free_step (all_releases s) =
     ap (λ v. settling (told_verdict true o v s.number) (after_verdict v o s)) (repeat_judged s o has.0) in
-    let alone : taking_in true o s ≡ record { written = []; after = s } ∷ [] = event ∙ ap (λ rs. record { written = []; after = s } ∷ map free_step rs) (settled_has_none s has.1) in
-    ap (λ es. map (λ (e : Step State). record { written = e.written; after = record { sites = set d.sites i e.after; messages = d.messages } }) es) alone
-    ∙ ap (λ (xs : List State). record { written = []; after = record { sites = xs; messages = d.messages } } ∷ []) (set-get_or d.sites i (new_site i))
+    let alone : taking_in true o s ≡ record { written = []; after = s } ∷ [] =
+    event ∙ ap (λ rs. record { written = []; after = s } ∷ map free_step rs) (settled_has_none s has.1) in
+    ap (λ es. map (λ (e : Step State).
+    record { written = e.written; after = record { sites = set d.sites i e.after; messages = d.messages } }) es) alone
+    ∙ ap (λ (xs : List State). record { written = []; after = record { sites = xs; messages = d.messages } } ∷ [])
+    (set-get_or d.sites i (new_site i))
 
 -- the deliveries of the first messages, which the site has, as steps that tell nothing and change nothing
 record PassedOver (n i : ℕ) (os : List OpData) (d : SessionData) : Type 0 where
@@ -237,7 +251,8 @@ all_passed (suc n) i (o ∷ os) d has =
     }
 
 -- so they are done before any is made
-pub known_passed : (n i : ℕ) (os : List OpData) (d : SessionData) (out : List ℕ) → HasAll (site_at d i) (take n os) → IsAlong (given_all i os d) d out (given_all i (drop n os) d) d out
+pub known_passed : (n i : ℕ) (os : List OpData) (d : SessionData) (out : List ℕ) → HasAll (site_at d i) (take n os)
+    → IsAlong (given_all i os d) d out (given_all i (drop n os) d) d out
 known_passed n i os d out has =
     let p = all_passed n i os d has in
     record { done = p.steps; parts = p.parts; state = sym p.state; written = sym (append-nil out) ∙ ap (λ w. out ++ w) (sym p.written) }

@@ -36,7 +36,8 @@ use Rattle.session_replay.proofs.Sound.{Good, Kept, Eventful, AreQuiet, quiet_no
 
 -- ---- local commands
 
-good_command : (i : ℕ) (r : Result OpData Local) (d : SessionData) → IsSound d → i < length d.sites → ((o : OpData) → r ≡ Ok o → IsNext (site_at d i).history o) → Good d (commanded i r d)
+good_command : (i : ℕ) (r : Result OpData Local) (d : SessionData) → IsSound d → i < length d.sites
+    → ((o : OpData) → r ≡ Ok o → IsNext (site_at d i).history o) → Good d (commanded i r d)
 good_command i (Ok o) d sound within next = good_made d i o sound within (next o refl)
 good_command i (Err why) d sound within next = good_told (local_text why) d sound refl refl
 
@@ -44,14 +45,18 @@ good_command i (Err why) d sound within next = good_told (local_text why) d soun
 abbrev GoodNext : ℕ → (SessionData → List (Step SessionData)) → Type 0
 GoodNext n next = (d : SessionData) → Kept n d → Good d (next d)
 
-on_last : (d : SessionData) (es : List (Step SessionData)) (next : SessionData → List (Step SessionData)) → IsSound d → Good d es → GoodNext (length d.sites) next → Good d (es ++ next (last_of d es))
+on_last : (d : SessionData) (es : List (Step SessionData)) (next : SessionData → List (Step SessionData)) → IsSound d → Good d es
+    → GoodNext (length d.sites) next → Good d (es ++ next (last_of d es))
 on_last d es next sound good rest = good_then d es (next (last_of d es)) sound good (rest (last_of d es) (good_last d es sound good))
 
-good_typed_on : (next : SessionData → List (Step SessionData)) (i : ℕ) (r : Result OpData Local) (d : SessionData) → IsSound d → i < length d.sites → ((o : OpData) → r ≡ Ok o → IsNext (site_at d i).history o) → GoodNext (length d.sites) next → Good d (typed_on next i r d)
+good_typed_on : (next : SessionData → List (Step SessionData)) (i : ℕ) (r : Result OpData Local) (d : SessionData) → IsSound d
+    → i < length d.sites → ((o : OpData) → r ≡ Ok o → IsNext (site_at d i).history o) → GoodNext (length d.sites) next
+    → Good d (typed_on next i r d)
 good_typed_on next i (Ok o) d sound within is rest = on_last d (made i o d) next sound (good_made d i o sound within (is o refl)) rest
 good_typed_on next i (Err why) d sound within is rest = good_told (local_text why) d sound refl refl
 
-pub inserted_next : (d : SessionData) (i v ch : ℕ) → IsSound d → i < length d.sites → IsScalar ch → (o : OpData) → local_insert (site_at d i) v ch ≡ Ok o → IsNext (site_at d i).history o
+pub inserted_next : (d : SessionData) (i v ch : ℕ) → IsSound d → i < length d.sites → IsScalar ch → (o : OpData)
+    → local_insert (site_at d i) v ch ≡ Ok o → IsNext (site_at d i).history o
 inserted_next d i v ch sound within scalar o is =
     let fine = site_sound d i sound within in
     local_insert_next (site_at d i) fine.history fine.number o v ch scalar is
@@ -62,7 +67,8 @@ good_typed [] scalars n i v within d kept = good_none d
 good_typed (ch ∷ chs) scalars n i v within d kept =
     let here : i < length d.sites = subst (λ k. i < k) (sym kept.sites) within in
     let parts = and_parts _ _ scalars in
-    good_typed_on (typed i (v + 1) chs) i (local_insert (site_at d i) v ch) d kept.sound here (inserted_next d i v ch kept.sound here parts.0)
+    good_typed_on (typed i (v + 1) chs) i (local_insert (site_at d i) v ch) d kept.sound here
+    (inserted_next d i v ch kept.sound here parts.0)
     (subst (λ k. GoodNext k (typed i (v + 1) chs)) (sym kept.sites) (good_typed chs parts.1 n i (v + 1) within))
 
 -- ---- deliveries
@@ -79,11 +85,15 @@ good_synced : (m n i : ℕ) → i + m ≤ n → GoodNext n (synced i m)
 unfolding synced
 good_synced zero n i within d kept = good_none d
 good_synced (suc m) n i within d kept =
-    on_last d (given_all i d.messages d) (synced (suc i) m) kept.sound (good_all d.messages kept.sound.messages n i (omega (arith, within)) d kept)
+    on_last d (given_all i d.messages d) (synced (suc i) m) kept.sound
+    (good_all d.messages kept.sound.messages n i (omega (arith, within)) d kept)
     (subst (λ k. GoodNext k (synced (suc i) m)) (sym kept.sites) (good_synced m n (suc i) (omega (arith, within))))
 
-good_framed_on : (next : List ℕ → SessionData → List (Step SessionData)) (i : ℕ) (bytes : List ℕ) (r : Result (OpData × ℕ) Refused) (d : SessionData) → IsSound d → i < length d.sites → ((o : OpData) (used : ℕ) → r ≡ Ok (o, used) → IsWellFormed o) → ((k : ℕ) → GoodNext (length d.sites) (next (drop k bytes))) → Good d (framed_on next i bytes r d)
-good_framed_on next i bytes (Ok p) d sound within formed rest = on_last d (given false i p.0 d) (next (drop p.1 bytes)) sound (good_given false d i p.0 sound within (formed p.0 p.1 refl)) (rest p.1)
+good_framed_on : (next : List ℕ → SessionData → List (Step SessionData)) (i : ℕ) (bytes : List ℕ) (r : Result (OpData × ℕ) Refused)
+    (d : SessionData) → IsSound d → i < length d.sites → ((o : OpData) (used : ℕ) → r ≡ Ok (o, used) → IsWellFormed o)
+    → ((k : ℕ) → GoodNext (length d.sites) (next (drop k bytes))) → Good d (framed_on next i bytes r d)
+good_framed_on next i bytes (Ok p) d sound within formed rest =
+    on_last d (given false i p.0 d) (next (drop p.1 bytes)) sound (good_given false d i p.0 sound within (formed p.0 p.1 refl)) (rest p.1)
 good_framed_on next i bytes (Err (More least)) d sound within formed rest = good_told (raw_more_text i least) d sound refl refl
 good_framed_on next i bytes (Err (Bad f)) d sound within formed rest =
     good_told (raw_bad_text i (cause_word f.cause) f.offset) d sound refl refl
@@ -94,8 +104,10 @@ good_framed m [] are n i within d kept = good_none d
 good_framed zero (b ∷ bytes) are n i within d kept = good_none d
 good_framed (suc m) (b ∷ bytes) are n i within d kept =
     let here : i < length d.sites = subst (λ k. i < k) (sym kept.sites) within in
-    good_framed_on (framed m i) i (b ∷ bytes) (judge (b ∷ bytes)) d kept.sound here (λ o used is. (judge_takes (b ∷ bytes) o used are is).well)
-    (λ k. subst (λ l. GoodNext l (framed m i (drop k (b ∷ bytes)))) (sym kept.sites) (good_framed m (drop k (b ∷ bytes)) (IsBytes-drop k (b ∷ bytes) are) n i within))
+    good_framed_on (framed m i) i (b ∷ bytes) (judge (b ∷ bytes)) d kept.sound here
+    (λ o used is. (judge_takes (b ∷ bytes) o used are is).well)
+    (λ k. subst (λ l. GoodNext l (framed m i (drop k (b ∷ bytes)))) (sym kept.sites)
+    (good_framed m (drop k (b ∷ bytes)) (IsBytes-drop k (b ∷ bytes) are) n i within))
 
 -- ---- the first sites
 
@@ -127,7 +139,9 @@ opened_sound n few = record {
 }
 
 opened_settled : (n : ℕ) → n ≤ SITES → AreSettled (opened n)
-opened_settled n few s at = (settled_none s).1 (λ o there. absurd (contains_none o (subst (λ w. Contains w o) (fresh_sites n 0 SITES (omega (arith, few)) s at).waiting there)))
+opened_settled n few s at =
+    (settled_none s).1 (λ o there. absurd
+    (contains_none o (subst (λ w. Contains w o) (fresh_sites n 0 SITES (omega (arith, few)) s at).waiting there)))
 
 -- ---- lines
 
@@ -159,11 +173,13 @@ err_steps : (why : Refusal) (fs : List (Step SessionData)) → ◌≡◌ {A = Re
 err_steps why fs e = cc
 
 -- these steps are good
-good_lasts : (d : SessionData) (fs es : List (Step SessionData)) → ◌≡◌ {A = Result (List (Step SessionData)) Refusal} (Ok fs) (Ok es) → Good d fs → Lasting d es
+good_lasts : (d : SessionData) (fs es : List (Step SessionData)) → ◌≡◌ {A = Result (List (Step SessionData)) Refusal} (Ok fs) (Ok es)
+    → Good d fs → Lasting d es
 good_lasts d fs es is good = subst (Lasting d) (ok_steps fs es is) (from_good d fs good)
 
 -- steps of a started session
-started_ok : (d : SessionData) (r : Result (List (Step SessionData)) Refusal) (es : List (Step SessionData)) → once_started d r ≡ Ok es → r ≡ Ok es
+started_ok : (d : SessionData) (r : Result (List (Step SessionData)) Refusal) (es : List (Step SessionData)) → once_started d r ≡ Ok es
+    → r ≡ Ok es
 started_ok d r es is =
     elim (cases_Bool (nat_lt 0 (length d.sites))) [
       | inl some ↦ sym (ap (λ (b : Bool). if b then r else Err NoSites) some) ∙ is
@@ -171,7 +187,8 @@ started_ok d r es is =
     ]
 
 -- steps at a site that is there, if they speak of one
-pub site_there : (o : Option ℕ) (d : SessionData) (r : Result (List (Step SessionData)) Refusal) (es : List (Step SessionData)) → at_site_of o d r ≡ Ok es → IfSome o (λ i. i < length d.sites) × (r ≡ Ok es)
+pub site_there : (o : Option ℕ) (d : SessionData) (r : Result (List (Step SessionData)) Refusal) (es : List (Step SessionData))
+    → at_site_of o d r ≡ Ok es → IfSome o (λ i. i < length d.sites) × (r ≡ Ok es)
 site_there None d r es is = (tt, is)
 site_there (Some i) d r es is =
     let inner = started_ok d (if nat_lt i (length d.sites) then r else Err NoSite) es is in
@@ -193,55 +210,70 @@ opened_lasts n d few = record {
 opening_lasts : (n : ℕ) (d : SessionData) (es : List (Step SessionData)) → opening n d ≡ Ok es → Lasting d es
 opening_lasts n d es is =
     elim (cases_Bool (nat_lt 0 (length d.sites))) [
-      | inl some ↦ absurd (err_steps Twice es (sym (ap (λ (b : Bool). if b then Err Twice else if nat_le n SITES then Ok (told [] (opened n)) else Err NoSite) some) ∙ is))
-      | inr none ↦ first (sym (ap (λ (b : Bool). if b then Err Twice else if nat_le n SITES then Ok (told [] (opened n)) else Err NoSite) none) ∙ is)
+      | inl some ↦ absurd (err_steps Twice es
+          (sym (ap (λ (b : Bool). if b then Err Twice else if nat_le n SITES then Ok (told [] (opened n)) else Err NoSite) some) ∙ is))
+      | inr none ↦ first (sym (ap (λ (b : Bool). if b then Err Twice else if nat_le n SITES then Ok (told [] (opened n)) else Err NoSite)
+          none) ∙ is)
     ]
   where
     first : (if nat_le n SITES then Ok (told [] (opened n)) else Err NoSite) ≡ Ok es → Lasting d es
     first same =
         elim (cases_Bool (nat_le n SITES)) [
           | inl few ↦
-              subst (Lasting d) (ok_steps (told [] (opened n)) es (sym (ap (λ (b : Bool). if b then Ok (told [] (opened n)) else Err NoSite) few) ∙ same)) (opened_lasts n d (leb-true n SITES few))
+              subst (Lasting d) (ok_steps (told [] (opened n)) es
+              (sym (ap (λ (b : Bool). if b then Ok (told [] (opened n)) else Err NoSite) few) ∙ same))
+              (opened_lasts n d (leb-true n SITES few))
           | inr many ↦ absurd (err_steps NoSite es (sym (ap (λ (b : Bool). if b then Ok (told [] (opened n)) else Err NoSite) many) ∙ same))
         ]
 
-good_message : (i m : ℕ) (d : SessionData) (es : List (Step SessionData)) → IsSound d → i < length d.sites → given_message i (slice_get d.messages m) d ≡ Ok es → Lasting d es
+good_message : (i m : ℕ) (d : SessionData) (es : List (Step SessionData)) → IsSound d → i < length d.sites
+    → given_message i (slice_get d.messages m) d ≡ Ok es → Lasting d es
 good_message i m d es sound within is = from (slice_get d.messages m) refl is
   where
     from : (r : Option OpData) → slice_get d.messages m ≡ r → given_message i r d ≡ Ok es → Lasting d es
     from None none e = absurd (err_steps NoMessage es e)
-    from (Some o) some e = good_lasts d (given false i o d) es e (good_given false d i o sound within (formed_at d.messages m o sound.messages some))
+    from (Some o) some e =
+        good_lasts d (given false i o d) es e (good_given false d i o sound within (formed_at d.messages m o sound.messages some))
 
-there_lasts : (l : Line) (d : SessionData) (es : List (Step SessionData)) → IsSound d → AreValues l → IfSome (line_site l) (λ i. i < length d.sites) → steps_there l d ≡ Ok es → Lasting d es
+there_lasts : (l : Line) (d : SessionData) (es : List (Step SessionData)) → IsSound d → AreValues l
+    → IfSome (line_site l) (λ i. i < length d.sites) → steps_there l d ≡ Ok es → Lasting d es
 there_lasts line.Blank d es sound values within is = subst (Lasting d) (ok_steps [] es is) (nothing_lasts d)
 there_lasts (line.Sites n) d es sound values within is = opening_lasts n d es is
 there_lasts (line.Ins i v text) d es sound values within is =
     good_lasts d (typed i v text d) es is (good_typed text values (length d.sites) i v within d (record { sound = sound; sites = refl }))
 there_lasts (line.Nl i v) d es sound values within is =
-    good_lasts d (commanded i (local_insert (site_at d i) v 10) d) es is (good_command i (local_insert (site_at d i) v 10) d sound within (inserted_next d i v 10 sound within refl))
+    good_lasts d (commanded i (local_insert (site_at d i) v 10) d) es is
+    (good_command i (local_insert (site_at d i) v 10) d sound within (inserted_next d i v 10 sound within refl))
 there_lasts (line.Del i v) d es sound values within is =
     let fine = site_sound d i sound within in
-    good_lasts d (commanded i (local_delete (site_at d i) v) d) es is (good_command i (local_delete (site_at d i) v) d sound within (λ o e. local_delete_next (site_at d i) fine.history fine.number o v e))
+    good_lasts d (commanded i (local_delete (site_at d i) v) d) es is
+    (good_command i (local_delete (site_at d i) v) d sound within
+    (λ o e. local_delete_next (site_at d i) fine.history fine.number o v e))
 there_lasts (line.Undo i t) d es sound values within is =
     let fine = site_sound d i sound within in
-    good_lasts d (commanded i (local_undo (site_at d i) t) d) es is (good_command i (local_undo (site_at d i) t) d sound within (λ o e. local_undo_next (site_at d i) fine.history fine.number o t e))
+    good_lasts d (commanded i (local_undo (site_at d i) t) d) es is
+    (good_command i (local_undo (site_at d i) t) d sound within (λ o e. local_undo_next (site_at d i) fine.history fine.number o t e))
 there_lasts (line.Redo i t) d es sound values within is =
     let fine = site_sound d i sound within in
-    good_lasts d (commanded i (local_redo (site_at d i) t) d) es is (good_command i (local_redo (site_at d i) t) d sound within (λ o e. local_redo_next (site_at d i) fine.history fine.number o t e))
+    good_lasts d (commanded i (local_redo (site_at d i) t) d) es is
+    (good_command i (local_redo (site_at d i) t) d sound within (λ o e. local_redo_next (site_at d i) fine.history fine.number o t e))
 there_lasts (line.Give i m) d es sound values within is = good_message i m d es sound within is
 there_lasts (line.All i) d es sound values within is =
-    good_lasts d (given_all i d.messages d) es is (good_all d.messages sound.messages (length d.sites) i within d (record { sound = sound; sites = refl }))
+    good_lasts d (given_all i d.messages d) es is
+    (good_all d.messages sound.messages (length d.sites) i within d (record { sound = sound; sites = refl }))
 there_lasts line.Sync d es sound values within is =
     good_lasts d (synced 0 (length d.sites) d) es (started_ok d (Ok (synced 0 (length d.sites) d)) es is)
     (good_synced (length d.sites) (length d.sites) 0 (omega arith) d (record { sound = sound; sites = refl }))
 there_lasts (line.Raw i bytes) d es sound values within is =
-    good_lasts d (framed (length bytes) i bytes d) es is (good_framed (length bytes) bytes values (length d.sites) i within d (record { sound = sound; sites = refl }))
+    good_lasts d (framed (length bytes) i bytes d) es is
+    (good_framed (length bytes) bytes values (length d.sites) i within d (record { sound = sound; sites = refl }))
 there_lasts (line.Show i) d es sound values within is =
     good_lasts d (told (show_text i d) d) es is (good_told (show_text i d) d sound refl refl)
 there_lasts (line.State i) d es sound values within is =
     good_lasts d (told (have_text i d) d) es is (good_told (have_text i d) d sound refl refl)
 
-pub line_lasts : (l : Line) (d : SessionData) (es : List (Step SessionData)) → IsSound d → AreValues l → line_steps l d ≡ Ok es → Lasting d es
+pub line_lasts : (l : Line) (d : SessionData) (es : List (Step SessionData)) → IsSound d → AreValues l → line_steps l d ≡ Ok es
+    → Lasting d es
 line_lasts l d es sound values is =
     let there = site_there (line_site l) d (steps_there l d) es is in
     there_lasts l d es sound values there.0 there.1

@@ -33,34 +33,41 @@ refused_frame i (Bad f) = raw_bad_text i (cause_word f.cause) f.offset
 
 -- ---- a text
 
-typed_any : (i v : ℕ) (chs : List ℕ) (d : SessionData) (r : Result OpData Local) → (left : List (Step SessionData)) × (typed_on (typed i (v + 1) chs) i r d ≡ commanded i r d ++ left)
+typed_any : (i v : ℕ) (chs : List ℕ) (d : SessionData) (r : Result OpData Local)
+    → (left : List (Step SessionData)) × (typed_on (typed i (v + 1) chs) i r d ≡ commanded i r d ++ left)
 typed_any i v chs d (Ok o) = (typed i (v + 1) chs (last_of d (commanded i (Ok o) d)), refl)
 typed_any i v chs d (Err why) = ([], sym (append-nil (commanded i (Err why) d)))
 
-typed_next : (i v : ℕ) (chs : List ℕ) (d now : SessionData) (r : Result OpData Local) → is_ok r ≡ true → now ≡ last_of d (commanded i r d) → typed_on (typed i (v + 1) chs) i r d ≡ commanded i r d ++ typed i (v + 1) chs now
+typed_next : (i v : ℕ) (chs : List ℕ) (d now : SessionData) (r : Result OpData Local) → is_ok r ≡ true → now ≡ last_of d (commanded i r d)
+    → typed_on (typed i (v + 1) chs) i r d ≡ commanded i r d ++ typed i (v + 1) chs now
 typed_next i v chs d now (Ok o) ok at = ap (λ x. commanded i (Ok o) d ++ typed i (v + 1) chs x) (sym at)
 typed_next i v chs d now (Err why) ok at = absurd (false≢true ok)
 
-typed_end : (i v : ℕ) (chs : List ℕ) (d : SessionData) (r : Result OpData Local) → is_ok r ≡ false → typed_on (typed i (v + 1) chs) i r d ≡ commanded i r d ++ []
+typed_end : (i v : ℕ) (chs : List ℕ) (d : SessionData) (r : Result OpData Local) → is_ok r ≡ false
+    → typed_on (typed i (v + 1) chs) i r d ≡ commanded i r d ++ []
 typed_end i v chs d (Ok o) not_ok = absurd (true≢false not_ok)
 typed_end i v chs d (Err why) not_ok = sym (append-nil (commanded i (Err why) d))
 
-typed_at : (i v k : ℕ) (text : List ℕ) (d : SessionData) (ch : ℕ) → k < length text → ch ≡ get_or text k ch → typed i v (drop k text) d ≡ typed_on (typed i (v + 1) (drop (k + 1) text)) i (local_insert (site_at d i) v ch) d
+typed_at : (i v k : ℕ) (text : List ℕ) (d : SessionData) (ch : ℕ) → k < length text → ch ≡ get_or text k ch
+    → typed i v (drop k text) d ≡ typed_on (typed i (v + 1) (drop (k + 1) text)) i (local_insert (site_at d i) v ch) d
 unfolding typed_in
 typed_at i v k text d ch within is =
-    let cut : drop k text ≡ ch ∷ drop (k + 1) text = drop-cons text k ch within ∙ ap (λ c. c ∷ drop (suc k) text) (sym is) ∙ ap (λ n. ch ∷ drop n text) (next_is k) in
+    let cut : drop k text ≡ ch ∷ drop (k + 1) text =
+    drop-cons text k ch within ∙ ap (λ c. c ∷ drop (suc k) text) (sym is) ∙ ap (λ n. ch ∷ drop n text) (next_is k) in
     ap (λ cs. typed i v cs d) cut
   where
     next_is : (n : ℕ) → suc n ≡ n + 1
     next_is n = omega arith
 
 -- the first character of the rest and, if it was inserted, what is left then
-pub typed_more : (i v k : ℕ) (text : List ℕ) (d now : SessionData) (ch : ℕ) → k < length text → ch ≡ get_or text k ch → true ≡ is_ok (local_insert (site_at d i) v ch) → now ≡ last_of d (commanded i (local_insert (site_at d i) v ch) d)
+pub typed_more : (i v k : ℕ) (text : List ℕ) (d now : SessionData) (ch : ℕ) → k < length text → ch ≡ get_or text k ch
+    → true ≡ is_ok (local_insert (site_at d i) v ch) → now ≡ last_of d (commanded i (local_insert (site_at d i) v ch) d)
     → typed i v (drop k text) d ≡ commanded i (local_insert (site_at d i) v ch) d ++ typed i (v + 1) (drop (k + 1) text) now
 typed_more i v k text d now ch within is ok at =
     typed_at i v k text d ch within is ∙ typed_next i v (drop (k + 1) text) d now (local_insert (site_at d i) v ch) (sym ok) at
 
-pub typed_last : (i v k : ℕ) (text : List ℕ) (d : SessionData) (ch : ℕ) → k < length text → ch ≡ get_or text k ch → false ≡ is_ok (local_insert (site_at d i) v ch)
+pub typed_last : (i v k : ℕ) (text : List ℕ) (d : SessionData) (ch : ℕ) → k < length text → ch ≡ get_or text k ch
+    → false ≡ is_ok (local_insert (site_at d i) v ch)
     → typed i v (drop k text) d ≡ commanded i (local_insert (site_at d i) v ch) d ++ []
 typed_last i v k text d ch within is not_ok =
     typed_at i v k text d ch within is ∙ typed_end i v (drop (k + 1) text) d (local_insert (site_at d i) v ch) (sym not_ok)
@@ -75,21 +82,28 @@ typed_part i v k text d ch within is =
 pub place_small : (s : State) (v ch : ℕ) → IsValid s.history → true ≡ is_ok (local_insert s v ch) → v ≤ PLACES
 place_small s v ch valid ok = from (place_behind s.history v) refl ok
   where
-    from : (r : Option ℕ) → place_behind s.history v ≡ r → true ≡ is_ok (elim r as (λ _. Result OpData Local) [ None ↦ Err (PlaceOut v (length (characters_of s.history))) | Some p ↦ numbered s (inserting (next_name s) p ch (context_of_all s.history)) ]) → v ≤ PLACES
+    from : (r : Option ℕ) → place_behind s.history v ≡ r
+        → true ≡ is_ok (elim r as (λ _. Result OpData Local) [
+          | None ↦ Err (PlaceOut v (length (characters_of s.history)))
+          | Some p ↦
+              numbered s (inserting (next_name s) p ch (context_of_all s.history))
+        ]) → v ≤ PLACES
     from None at ok = absurd (true≢false ok)
     from (Some p) at ok = behind_few s.history valid v p at
 
 -- ---- messages
 
 -- the message of a number and those after it
-pub given_more : (i k : ℕ) (os : List OpData) (d : SessionData) (o : OpData) → slice_get os k ≡ Some o → given_all i (drop k os) d ≡ given true i o d ++ given_all i (drop (k + 1) os) (last_of d (given true i o d))
+pub given_more : (i k : ℕ) (os : List OpData) (d : SessionData) (o : OpData) → slice_get os k ≡ Some o
+    → given_all i (drop k os) d ≡ given true i o d ++ given_all i (drop (k + 1) os) (last_of d (given true i o d))
 unfolding given_all
 given_more i k os d o at =
     let within : k < length os = slice_get_within os k o at in
     let both : Some (get_or os k o) ≡ Some o = sym (slice_get-get_or os k o within) ∙ at in
     let here : get_or os k o ≡ o = cc in
     let next : suc k ≡ k + 1 = omega arith in
-    let cut : drop k os ≡ o ∷ drop (k + 1) os = drop-cons os k o within ∙ ap (λ p. p ∷ drop (suc k) os) here ∙ ap (λ n. o ∷ drop n os) next in
+    let cut : drop k os ≡ o ∷ drop (k + 1) os =
+    drop-cons os k o within ∙ ap (λ p. p ∷ drop (suc k) os) here ∙ ap (λ n. o ∷ drop n os) next in
     ap (λ ps. given_all i ps d) cut
 
 pub typed_none : (i v : ℕ) (text : List ℕ) (d : SessionData) (k : ℕ) → length text ≤ k → typed i v (drop k text) d ≡ []
@@ -109,7 +123,8 @@ message_there (p ∷ ps) (suc k) within = message_there ps k (omega (arith, with
 -- ---- sites
 
 -- the site of a number and those after it
-pub synced_more : (i n : ℕ) (d : SessionData) → i < n → synced i (n - i) d ≡ given_all i d.messages d ++ synced (i + 1) (n - (i + 1)) (last_of d (given_all i d.messages d))
+pub synced_more : (i n : ℕ) (d : SessionData) → i < n
+    → synced i (n - i) d ≡ given_all i d.messages d ++ synced (i + 1) (n - (i + 1)) (last_of d (given_all i d.messages d))
 unfolding synced
 synced_more i n d within =
     let count : n - i ≡ suc (n - (i + 1)) = omega (arith, within) in
@@ -125,7 +140,9 @@ synced_none i n d past =
 sites_push : (i n : ℕ) → new_sites i (suc n) ≡ new_sites i n ++ new_site (i + n) ∷ []
 unfolding new_sites
 sites_push i zero = let same : i ≡ i + 0 = omega arith in ap (λ k. new_site k ∷ []) same
-sites_push i (suc n) = let same : suc i + n ≡ i + suc n = omega arith in ap (λ xs. new_site i ∷ xs) (sites_push (suc i) n ∙ ap (λ k. new_sites (suc i) n ++ new_site k ∷ []) same)
+sites_push i (suc n) =
+    let same : suc i + n ≡ i + suc n = omega arith in
+    ap (λ xs. new_site i ∷ xs) (sites_push (suc i) n ∙ ap (λ k. new_sites (suc i) n ++ new_site k ∷ []) same)
 
 -- one more site
 pub sites_more : (n : ℕ) → new_sites 0 (n + 1) ≡ new_sites 0 n ++ new_site n ∷ []
@@ -145,7 +162,8 @@ judged_used used (Ok o) p e = let same : (o, used) ≡ p = cc in ap (λ (q : OpD
 judged_used used (Err f) p e = absurd cc
 
 used_of : (a b c : Bool) (x y z : Refused) (used : ℕ) (r : Result OpData Fault) (p : OpData × ℕ)
-    → ◌≡◌ {A = Result (OpData × ℕ) Refused} (if a then Err x else if b then Err y else if c then Err z else judged (4 + used) r) (Ok p) → 0 < p.1
+    → ◌≡◌ {A = Result (OpData × ℕ) Refused} (if a then Err x else if b then Err y else if c then Err z else judged (4 + used) r) (Ok p)
+    → 0 < p.1
 used_of true b c x y z used r p e = absurd cc
 used_of false true c x y z used r p e = absurd cc
 used_of false false true x y z used r p e = absurd cc
@@ -154,10 +172,13 @@ used_of false false false x y z used r p e = omega (arith, judged_used (4 + used
 -- what is judged to be a frame has bytes
 used_some : (bytes : List ℕ) (p : OpData × ℕ) → judge bytes ≡ Ok p → 0 < p.1
 unfolding judge
-used_some bytes p e = used_of (nat_lt (length bytes) 4) (nat_lt longest (length_of bytes)) (nat_lt (length bytes) (4 + length_of bytes)) _ _ _ (length_of bytes) _ p e
+used_some bytes p e =
+    used_of (nat_lt (length bytes) 4) (nat_lt longest (length_of bytes)) (nat_lt (length bytes) (4 + length_of bytes)) _ _ _
+    (length_of bytes) _ p e
 
 -- as many frames as bytes are enough
-framed_enough : (n m i : ℕ) (bytes : List ℕ) (d : SessionData) → length bytes ≤ n → length bytes ≤ m → framed n i bytes d ≡ framed m i bytes d
+framed_enough : (n m i : ℕ) (bytes : List ℕ) (d : SessionData) → length bytes ≤ n → length bytes ≤ m
+    → framed n i bytes d ≡ framed m i bytes d
 unfolding framed
 framed_enough n m i [] d few less = both n m
   where
@@ -172,15 +193,18 @@ framed_enough (suc n) zero i (b ∷ bs) d few less = absurd (omega (arith, less)
 framed_enough (suc n) (suc m) i (b ∷ bs) d few less = from (λ xs e k l. framed_enough n m i xs e k l) (judge (b ∷ bs)) refl
   where
     from : ((xs : List ℕ) (e : SessionData) → length xs ≤ n → length xs ≤ m → framed n i xs e ≡ framed m i xs e)
-        → (r : Result (OpData × ℕ) Refused) → judge (b ∷ bs) ≡ r → framed_on (framed n i) i (b ∷ bs) r d ≡ framed_on (framed m i) i (b ∷ bs) r d
+        → (r : Result (OpData × ℕ) Refused) → judge (b ∷ bs) ≡ r
+        → framed_on (framed n i) i (b ∷ bs) r d ≡ framed_on (framed m i) i (b ∷ bs) r d
     from again (Err (More least)) is = refl
     from again (Err (Bad f)) is = refl
     from again (Ok p) is =
         let some = used_some (b ∷ bs) p is in
         let left : length (drop p.1 (b ∷ bs)) ≤ length bs = omega (arith, some, length-drop p.1 (b ∷ bs)) in
-        ap (λ es. given false i p.0 d ++ es) (again (drop p.1 (b ∷ bs)) (last_of d (given false i p.0 d)) (omega (arith, left, few)) (omega (arith, left, less)))
+        ap (λ es. given false i p.0 d ++ es)
+        (again (drop p.1 (b ∷ bs)) (last_of d (given false i p.0 d)) (omega (arith, left, few)) (omega (arith, left, less)))
 
-framed_is : (i : ℕ) (bytes : List ℕ) (d : SessionData) → 0 < length bytes → (n : ℕ) × (length bytes ≡ suc n) × (framed (length bytes) i bytes d ≡ framed_on (framed n i) i bytes (judge bytes) d)
+framed_is : (i : ℕ) (bytes : List ℕ) (d : SessionData) → 0 < length bytes
+    → (n : ℕ) × (length bytes ≡ suc n) × (framed (length bytes) i bytes d ≡ framed_on (framed n i) i bytes (judge bytes) d)
 unfolding framed
 framed_is i [] d some = absurd (omega (arith, some))
 framed_is i (b ∷ bs) d some = (length bs, refl, refl)
@@ -196,7 +220,8 @@ one_is i [] d some = absurd (omega (arith, some))
 one_is i (b ∷ bs) d some = refl
 
 -- the first frame
-pub one_frame : (i : ℕ) (bytes : List ℕ) (d : SessionData) (o : OpData) (used : ℕ) → 0 < length bytes → Ok (o, used) ≡ judge bytes → framed 1 i bytes d ≡ given false i o d
+pub one_frame : (i : ℕ) (bytes : List ℕ) (d : SessionData) (o : OpData) (used : ℕ) → 0 < length bytes → Ok (o, used) ≡ judge bytes
+    → framed 1 i bytes d ≡ given false i o d
 one_frame i bytes d o used some is =
     one_is i bytes d some
     ∙ ap (λ r. framed_on (framed 0 i) i bytes r d) (sym is)
@@ -204,16 +229,19 @@ one_frame i bytes d o used some is =
     ∙ append-nil (given false i o d)
 
 -- no frame
-pub one_refused : (i : ℕ) (bytes : List ℕ) (d : SessionData) (r : Refused) → 0 < length bytes → Err r ≡ judge bytes → framed 1 i bytes d ≡ told (refused_frame i r) d
+pub one_refused : (i : ℕ) (bytes : List ℕ) (d : SessionData) (r : Refused) → 0 < length bytes → Err r ≡ judge bytes
+    → framed 1 i bytes d ≡ told (refused_frame i r) d
 one_refused i bytes d (More least) some is = one_is i bytes d some ∙ ap (λ r. framed_on (framed 0 i) i bytes r d) (sym is)
 one_refused i bytes d (Bad f) some is = one_is i bytes d some ∙ ap (λ r. framed_on (framed 0 i) i bytes r d) (sym is)
 
 -- the first frame, and those after it
-pub frames_on : (i : ℕ) (bytes : List ℕ) (d now : SessionData) (used : ℕ) → 0 < length bytes → Some used ≡ frame_bytes (judge bytes) → now ≡ last_of d (framed 1 i bytes d)
+pub frames_on : (i : ℕ) (bytes : List ℕ) (d now : SessionData) (used : ℕ) → 0 < length bytes → Some used ≡ frame_bytes (judge bytes)
+    → now ≡ last_of d (framed 1 i bytes d)
     → framed (length bytes) i bytes d ≡ framed 1 i bytes d ++ framed (length (drop used bytes)) i (drop used bytes) now
 frames_on i bytes d now used some is at = from (judge bytes) refl
   where
-    from : (r : Result (OpData × ℕ) Refused) → judge bytes ≡ r → framed (length bytes) i bytes d ≡ framed 1 i bytes d ++ framed (length (drop used bytes)) i (drop used bytes) now
+    from : (r : Result (OpData × ℕ) Refused) → judge bytes ≡ r
+        → framed (length bytes) i bytes d ≡ framed 1 i bytes d ++ framed (length (drop used bytes)) i (drop used bytes) now
     from (Err r) e = absurd (none-some used (sym (is ∙ ap frame_bytes e)))
     from (Ok p) e =
         let both : Some used ≡ Some p.1 = is ∙ ap frame_bytes e in
@@ -227,28 +255,33 @@ frames_on i bytes d now used some is at = from (judge bytes) refl
         let later : last_of d (given false i p.0 d) ≡ now = ap (last_of d) (sym one) ∙ sym at in
         first.2
         ∙ ap (λ r. framed_on (framed n i) i bytes r d) (sym pair)
-        ∙ ap (λ es. given false i p.0 d ++ es) (framed_enough n (length (drop used bytes)) i (drop used bytes) (last_of d (given false i p.0 d)) left (omega arith))
+        ∙ ap (λ es. given false i p.0 d ++ es)
+        (framed_enough n (length (drop used bytes)) i (drop used bytes) (last_of d (given false i p.0 d)) left (omega arith))
         ∙ ap (λ x. given false i p.0 d ++ framed (length (drop used bytes)) i (drop used bytes) x) later
         ∙ ap (λ es. es ++ framed (length (drop used bytes)) i (drop used bytes) now) (sym one)
 
 -- nothing follows bytes that begin with no frame
-pub frames_end : (i : ℕ) (bytes : List ℕ) (d : SessionData) → 0 < length bytes → None ≡ frame_bytes (judge bytes) → framed (length bytes) i bytes d ≡ framed 1 i bytes d ++ []
+pub frames_end : (i : ℕ) (bytes : List ℕ) (d : SessionData) → 0 < length bytes → None ≡ frame_bytes (judge bytes)
+    → framed (length bytes) i bytes d ≡ framed 1 i bytes d ++ []
 frames_end i bytes d some is = from (judge bytes) refl
   where
     from : (r : Result (OpData × ℕ) Refused) → judge bytes ≡ r → framed (length bytes) i bytes d ≡ framed 1 i bytes d ++ []
     from (Ok p) e = absurd (none-some p.1 (is ∙ ap frame_bytes e))
     from (Err (More least)) e =
         let first = framed_is i bytes d some in
-        first.2 ∙ ap (λ r. framed_on (framed first.0 i) i bytes r d) e ∙ sym (append-nil _ ∙ one_refused i bytes d (More least) some (sym e))
+        first.2 ∙ ap (λ r. framed_on (framed first.0 i) i bytes r d) e
+        ∙ sym (append-nil _ ∙ one_refused i bytes d (More least) some (sym e))
     from (Err (Bad f)) e =
         let first = framed_is i bytes d some in
         first.2 ∙ ap (λ r. framed_on (framed first.0 i) i bytes r d) e ∙ sym (append-nil _ ∙ one_refused i bytes d (Bad f) some (sym e))
 
 -- the first frame is the first part
-pub frames_part : (i : ℕ) (bytes : List ℕ) (d : SessionData) → 0 < length bytes → (left : List (Step SessionData)) × (framed (length bytes) i bytes d ≡ framed 1 i bytes d ++ left)
+pub frames_part : (i : ℕ) (bytes : List ℕ) (d : SessionData) → 0 < length bytes
+    → (left : List (Step SessionData)) × (framed (length bytes) i bytes d ≡ framed 1 i bytes d ++ left)
 frames_part i bytes d some = from (frame_bytes (judge bytes)) refl
   where
-    from : (r : Option ℕ) → frame_bytes (judge bytes) ≡ r → (left : List (Step SessionData)) × (framed (length bytes) i bytes d ≡ framed 1 i bytes d ++ left)
+    from : (r : Option ℕ) → frame_bytes (judge bytes) ≡ r
+        → (left : List (Step SessionData)) × (framed (length bytes) i bytes d ≡ framed 1 i bytes d ++ left)
     from None e = ([], frames_end i bytes d some (sym e))
     from (Some used) e = (
       framed (length (drop used bytes)) i (drop used bytes) (last_of d (framed 1 i bytes d)),

@@ -66,7 +66,8 @@ characters_few h valid = omega (arith, shown_number h, shown_few h valid)
 
 numbered_made : (s : State) (o : OpData) → HasRoom s → numbered s o ≡ Ok o
 numbered_made s o room =
-    ap (λ (b : Bool). if b then in_context (context_of_all s.history) o else Err NumberFull) (lt-ltb (count_made s) NUMBERS (omega (arith, few_numbers s.history room.valid s.number, room.few)))
+    ap (λ (b : Bool). if b then in_context (context_of_all s.history) o else Err NumberFull)
+    (lt-ltb (count_made s) NUMBERS (omega (arith, few_numbers s.history room.valid s.number, room.few)))
     ∙ in_context_made (context_of_all s.history) o (omega (arith, named_few s.history, room.few))
 
 own_name : (s : State) (n : NameData) → Original (next_name s) ≡ Original n → n.site ≡ s.number
@@ -94,7 +95,11 @@ insert_makes s room v ch within scalar = record {
 
     is : local_insert s v ch ≡ Ok o
     is =
-        ap (λ (q : Option ℕ). elim q as (λ _. Result OpData Local) [ None ↦ Err (PlaceOut v (length (characters_of s.history))) | Some p ↦ numbered s (inserting (next_name s) p ch (context_of_all s.history)) ]) at
+        ap (λ (q : Option ℕ). elim q as (λ _. Result OpData Local) [
+          | None ↦ Err (PlaceOut v (length (characters_of s.history)))
+          | Some p ↦
+              numbered s (inserting (next_name s) p ch (context_of_all s.history))
+        ]) at
         ∙ numbered_made s o room
 
 pub delete_makes : (s : State) → HasRoom s → (v : ℕ) → v < length (shown s.history) → Makes s (local_delete s v)
@@ -116,7 +121,11 @@ delete_makes s room v within = record {
 
     is : local_delete s v ≡ Ok o
     is =
-        ap (λ (q : Option ℕ). elim q as (λ _. Result OpData Local) [ None ↦ Err (PlaceOut v (length (characters_of s.history))) | Some p ↦ numbered s (deleting (next_name s) p (context_of_all s.history)) ]) at
+        ap (λ (q : Option ℕ). elim q as (λ _. Result OpData Local) [
+          | None ↦ Err (PlaceOut v (length (characters_of s.history)))
+          | Some p ↦
+              numbered s (deleting (next_name s) p (context_of_all s.history))
+        ]) at
         ∙ numbered_made s o room
 
 -- ---- undos and redos
@@ -170,7 +179,8 @@ module _ (s : State) (room : HasRoom s) (t : NameData) (known : is_known s.histo
 
 -- ---- what is drawn
 
-target_known : (s : State) → IsValid s.history → (place : ℕ) (t : NameData) → drawn_target s place ≡ Some t → is_known s.history (Original t) ≡ true
+target_known : (s : State) → IsValid s.history → (place : ℕ) (t : NameData) → drawn_target s place ≡ Some t
+    → is_known s.history (Original t) ≡ true
 target_known s valid place t at =
     let c = context_of_all s.history in
     let counted = name_counted 0 c.counts (all_is_context s.history valid).counts (place % length (names_of s.history)) t at in
@@ -191,7 +201,8 @@ drawn_makes s r room =
       | inl inserts ↦ rw inserts (drawn_insert_makes s r room)
       | inr others ↦ elim (cases_Bool (nat_lt (r.kind % 16) 13)) [
         | inl deletes ↦ elim (cases_lt 0 visible) [
-          | inl some ↦ rw (others, deletes, lt-ltb 0 visible some) (delete_makes s room (r.place % visible) (mod-lt r.place {m = visible} some))
+          | inl some ↦ rw (others, deletes, lt-ltb 0 visible some)
+              (delete_makes s room (r.place % visible) (mod-lt r.place {m = visible} some))
           | inr none ↦ rw (others, deletes, le-ltb 0 visible none) (drawn_insert_makes s r room)
         ]
         | inr turns ↦ rw (others, turns) (from (drawn_target s r.place) refl)
@@ -201,6 +212,7 @@ drawn_makes s r room =
     visible : ℕ
     visible = length (shown s.history)
 
-    from : (q : Option NameData) → drawn_target s r.place ≡ q → Makes s (elim q as (λ _. Result OpData Local) [ None ↦ drawn_insert s r | Some t ↦ drawn_turn s t ])
+    from : (q : Option NameData) → drawn_target s r.place ≡ q
+        → Makes s (elim q as (λ _. Result OpData Local) [ None ↦ drawn_insert s r | Some t ↦ drawn_turn s t ])
     from None at = drawn_insert_makes s r room
     from (Some t) at = turn_makes s room t (target_known s room.valid r.place t at)

@@ -84,7 +84,8 @@ pub message_made : (sites : List SiteData) (i : ℕ) (x z : SiteData) (o : OpDat
 message_made sites i x z o m within is later site place =
     let h = x.history ++ o ∷ [] in
     let ts = map state_of (set sites i z) in
-    let named : history_of ts m ≡ (slice_index_or ts i (new_site m.site)).history = ap (λ j. (slice_index_or ts j (new_site m.site)).history) site in
+    let named : history_of ts m ≡ (slice_index_or ts i (new_site m.site)).history =
+    ap (λ j. (slice_index_or ts j (new_site m.site)).history) site in
     let there : history_of ts m ≡ z.history = named ∙ written_there sites i z (new_site m.site) within in
     let last : m.place < length h = omega (arith, place, length-append x.history (o ∷ [])) in
     let begins : take (length h) z.history ≡ h = later.history in

@@ -29,7 +29,8 @@ first_at s n i within =
     numbers = omega arith
 
     number : slice_get (range_with_len 1 n) i ≡ Some (i + 1)
-    number = slice_get-get_or (range_with_len 1 n) i 0 (omega (arith, within, length-range_with_len 1 n)) ∙ ap Some (get_or-range_with_len 1 n i 0 within ∙ numbers)
+    number = slice_get-get_or (range_with_len 1 n) i 0 (omega (arith, within, length-range_with_len 1 n))
+        ∙ ap Some (get_or-range_with_len 1 n i 0 within ∙ numbers)
 
 -- ---- the names of all sites
 
@@ -46,13 +47,16 @@ get_right (x ∷ xs) ys (suc i) past =
     get_right xs ys i (omega (arith, past)) ∙ ap (slice_get ys) same
 
 -- the first originals of the first site come first
-pub name_here : (p : ℕ × ℕ) (ps : List (ℕ × ℕ)) (i : ℕ) → i < p.1 → slice_get (names_in (p ∷ ps)) i ≡ Some (record { site = p.0; number = i + 1 })
-name_here p ps i within = get_left (first_names p.0 p.1) (names_in ps) i (omega (arith, within, first_length p.0 p.1)) ∙ first_at p.0 p.1 i within
+pub name_here : (p : ℕ × ℕ) (ps : List (ℕ × ℕ)) (i : ℕ) → i < p.1
+    → slice_get (names_in (p ∷ ps)) i ≡ Some (record { site = p.0; number = i + 1 })
+name_here p ps i within =
+    get_left (first_names p.0 p.1) (names_in ps) i (omega (arith, within, first_length p.0 p.1)) ∙ first_at p.0 p.1 i within
 
 -- then come those of the others
 pub name_later : (p : ℕ × ℕ) (ps : List (ℕ × ℕ)) (i : ℕ) → p.1 ≤ i → slice_get (names_in (p ∷ ps)) i ≡ slice_get (names_in ps) (i - p.1)
 name_later p ps i past =
-    get_right (first_names p.0 p.1) (names_in ps) i (omega (arith, past, first_length p.0 p.1)) ∙ ap (λ n. slice_get (names_in ps) (i - n)) (first_length p.0 p.1)
+    get_right (first_names p.0 p.1) (names_in ps) i (omega (arith, past, first_length p.0 p.1))
+    ∙ ap (λ n. slice_get (names_in ps) (i - n)) (first_length p.0 p.1)
 
 pub names_number : (ps : List (ℕ × ℕ)) → length (names_in ps) ≡ sum_of_counts ps
 names_number [] = refl
@@ -66,7 +70,8 @@ pub record IsCounted (low : ℕ) (ps : List (ℕ × ℕ)) (t : NameData) : Type 
   pub least : 1 ≤ t.number
   pub most : t.number ≤ count_in ps t.site
 
-pub name_counted : (low : ℕ) (ps : List (ℕ × ℕ)) → AreCounts low ps → (i : ℕ) (t : NameData) → slice_get (names_in ps) i ≡ Some t → IsCounted low ps t
+pub name_counted : (low : ℕ) (ps : List (ℕ × ℕ)) → AreCounts low ps → (i : ℕ) (t : NameData) → slice_get (names_in ps) i ≡ Some t
+    → IsCounted low ps t
 name_counted low [] are i t at = let none : None ≡ Some t = sym (slice_get_past [] i (omega arith)) ∙ at in cc
 name_counted low (p ∷ ps) are i t at =
     elim (cases_lt i p.1) [

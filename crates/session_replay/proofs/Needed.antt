@@ -46,7 +46,9 @@ given_all_some i (o ∷ os) d some = tt
 pub synced_some : (i n : ℕ) (d : SessionData) → 0 < n → 0 < length d.messages → HasStep (Ok (synced i n d))
 unfolding synced
 synced_some i zero d some messages = absurd (omega (arith, some))
-synced_some i (suc n) d some messages = append_some (given_all i d.messages d) (synced (suc i) n (last_of d (given_all i d.messages d))) (given_all_some i d.messages d messages)
+synced_some i (suc n) d some messages =
+    append_some (given_all i d.messages d) (synced (suc i) n (last_of d (given_all i d.messages d)))
+    (given_all_some i d.messages d messages)
 
 pub framed_some : (i : ℕ) (bytes : List ℕ) (d : SessionData) → 0 < length bytes → HasStep (Ok (framed (length bytes) i bytes d))
 unfolding framed
@@ -64,12 +66,15 @@ pub on_err : {T E : Type 0} {X : Type 0} (r : Result T E) → X → OnErr r X
 on_err (Ok t) x = tt
 on_err (Err e) x = x
 
-pub sync_some : (d : SessionData) → nat_lt 0 (length d.sites) ≡ true → 0 < length d.messages → HasStep (once_started d (Ok (synced 0 (length d.sites) d)))
+pub sync_some : (d : SessionData) → nat_lt 0 (length d.sites) ≡ true → 0 < length d.messages
+    → HasStep (once_started d (Ok (synced 0 (length d.sites) d)))
 sync_some d started messages = from (length d.sites) started
   where
     from : (n : ℕ) → nat_lt 0 n ≡ true → HasStep (if nat_lt 0 n then Ok (synced 0 n d) else Err NoSites)
     from zero is = absurd cc
-    from (suc n) is = subst (λ (b : Bool). HasStep (if b then Ok (synced 0 (suc n) d) else Err NoSites)) (sym is) (synced_some 0 (suc n) d (omega arith) messages)
+    from (suc n) is =
+        subst (λ (b : Bool). HasStep (if b then Ok (synced 0 (suc n) d) else Err NoSites)) (sym is)
+        (synced_some 0 (suc n) d (omega arith) messages)
 
 pub needed_by : (line this : Line) (d : SessionData) → line ≡ this → HasStep (steps_there this d) → HasStep (steps_there line d)
 needed_by line this d is some = subst (λ l. HasStep (steps_there l d)) (sym is) some
@@ -78,15 +83,19 @@ pub as_needed : {T E : Type 0} {X : Type 0} (r : Result T E) (q : Result T StepB
 as_needed (Ok t) q is err memory = let both = sym is ∙ memory in absurd cc
 as_needed (Err e) q is err memory = err
 
-pub opening_needed : (n : ℕ) (d now : SessionData) (q : Result (Unit {0}) StepBad) → IsDone (opening n d) q d now → q ≡ Err Memory → HasStep (opening n d)
-opening_needed n d now q done memory = from (nat_lt 0 (length d.sites)) (nat_le n SITES) (subst (λ x. IsDone (opening n d) x d now) memory done)
+pub opening_needed : (n : ℕ) (d now : SessionData) (q : Result (Unit {0}) StepBad) → IsDone (opening n d) q d now → q ≡ Err Memory
+    → HasStep (opening n d)
+opening_needed n d now q done memory =
+    from (nat_lt 0 (length d.sites)) (nat_le n SITES) (subst (λ x. IsDone (opening n d) x d now) memory done)
   where
-    from : (a b : Bool) → IsDone {T = Unit {0}} (if a then Err Twice else if b then Ok (told [] (opened n)) else Err NoSite) (Err Memory) d now → HasStep (if a then Err Twice else if b then Ok (told [] (opened n)) else Err NoSite)
+    from : (a b : Bool) → IsDone {T = Unit {0}} (if a then Err Twice else if b then Ok (told [] (opened n)) else Err NoSite) (Err Memory) d
+        now → HasStep (if a then Err Twice else if b then Ok (told [] (opened n)) else Err NoSite)
     from true b h = let same : ◌≡◌ {A = Option Refusal} None (Some Twice) = h.0 in absurd cc
     from false true h = tt
     from false false h = let same : ◌≡◌ {A = Option Refusal} None (Some NoSite) = h.0 in absurd cc
 
-pub given_needed : (i : ℕ) (o : Option OpData) (d now : SessionData) (old new : List ℕ) (q : Result (Unit {0}) StepBad) → IsLineDone (given_message i o d) q d now old new → q ≡ Err Memory → HasStep (given_message i o d)
+pub given_needed : (i : ℕ) (o : Option OpData) (d now : SessionData) (old new : List ℕ) (q : Result (Unit {0}) StepBad)
+    → IsLineDone (given_message i o d) q d now old new → q ≡ Err Memory → HasStep (given_message i o d)
 given_needed i None d now old new q done memory =
     let h = subst (λ x. IsLineDone (given_message i None d) x d now old new) memory done in
     let same : ◌≡◌ {A = Option Refusal} None (Some NoMessage) = h.0 in

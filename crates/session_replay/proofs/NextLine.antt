@@ -42,7 +42,8 @@ undone_does {T} (Err cause) q why d now is done needed = tt
 
 -- ---- lines with a text or bytes
 
-at_site_does : (i : ℕ) (d : SessionData) (r : Result (List (Step SessionData)) Refusal) → DoesSomething r → DoesSomething (at_site_of (Some i) d r)
+at_site_does : (i : ℕ) (d : SessionData) (r : Result (List (Step SessionData)) Refusal) → DoesSomething r
+    → DoesSomething (at_site_of (Some i) d r)
 at_site_does i d r some = of (nat_lt 0 (length d.sites)) (nat_lt i (length d.sites))
   where
     of : (a b : Bool) → DoesSomething (if a then if b then r else Err refusal.NoSite else Err refusal.NoSites)
@@ -51,24 +52,32 @@ at_site_does i d r some = of (nat_lt 0 (length d.sites)) (nat_lt i (length d.sit
     of false b = tt
 
 content_does : (line : Line) (d : SessionData) → HasContent line → IsInRange line → DoesSomething (line_steps line d)
-content_does (Ins i v text) d content range = at_site_does i d (Ok (typed i v text d)) (step_does (Ok (typed i v text d)) (typed_some i v text d range.2))
-content_does (Raw i bytes) d content range = at_site_does i d (Ok (framed (length bytes) i bytes d)) (step_does (Ok (framed (length bytes) i bytes d)) (framed_some i bytes d range.1))
+content_does (Ins i v text) d content range =
+    at_site_does i d (Ok (typed i v text d)) (step_does (Ok (typed i v text d)) (typed_some i v text d range.2))
+content_does (Raw i bytes) d content range =
+    at_site_does i d (Ok (framed (length bytes) i bytes d))
+    (step_does (Ok (framed (length bytes) i bytes d)) (framed_some i bytes d range.1))
 content_does line d content range = absurd content
 
 -- ---- the next line
 
-next_whole : (i : InputData) (l : LeftLine) (rest : List LeftLine) (d : SessionData) → IsNext i l rest → DoesSomething (piece_steps (Whole l.bytes) d) → NextDoesSomething i d
+next_whole : (i : InputData) (l : LeftLine) (rest : List LeftLine) (d : SessionData) → IsNext i l rest
+    → DoesSomething (piece_steps (Whole l.bytes) d) → NextDoesSomething i d
 next_whole i l rest d next some = record { piece = Whole l.bytes; next = (l, rest, next, refl); something = some }
 
 -- it was read
-pub read_does : (i : InputData) (line : Line) (d : SessionData) → Reads i (Ok line) → DoesSomething (line_steps line d) → NextDoesSomething i d
+pub read_does : (i : InputData) (line : Line) (d : SessionData) → Reads i (Ok line) → DoesSomething (line_steps line d)
+    → NextDoesSomething i d
 read_does i line d r some =
-    next_whole i r.line r.rest d r.next (subst (λ (x : Result Line Refusal). DoesSomething (steps_of_read x d)) (sym (line_is r.line.bytes line r.read)) some)
+    next_whole i r.line r.rest d r.next
+    (subst (λ (x : Result Line Refusal). DoesSomething (steps_of_read x d)) (sym (line_is r.line.bytes line r.read)) some)
 
 -- it can't be read
-refused_does : (i : InputData) (why : LineBad) (cause : Refusal) (d : SessionData) → unread_by why ≡ Some cause → Reads i (Err why) → NextDoesSomething i d
+refused_does : (i : InputData) (why : LineBad) (cause : Refusal) (d : SessionData) → unread_by why ≡ Some cause → Reads i (Err why)
+    → NextDoesSomething i d
 refused_does i why cause d is r =
-    next_whole i r.line r.rest d r.next (subst (λ (x : Result Line Refusal). DoesSomething (steps_of_read x d)) (sym (line_unread r.line.bytes why cause is r.read)) tt)
+    next_whole i r.line r.rest d r.next
+    (subst (λ (x : Result Line Refusal). DoesSomething (steps_of_read x d)) (sym (line_unread r.line.bytes why cause is r.read)) tt)
 
 -- there was no memory for what it has
 kept_does : (i : InputData) (d : SessionData) → Reads i (Err reading.Memory) → NextDoesSomething i d

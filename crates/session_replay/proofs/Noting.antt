@@ -65,7 +65,8 @@ module _ {T E : Type 0} {result : Result T E} {many : Bool} {d : SessionData} {s
       let here = known_here sites known messages i n x keeps within e.is count in
       let after = sound_delivered s o e.sound e.formed in
       let written = told_verdict many o (judged s o) s.number in
-      let stays : (p : OpData) → is_repeat s.history p ≡ true → is_repeat (delivered s o).history p ≡ true = λ p is. repeat_after (judged s o) o p s is in
+      let stays : (p : OpData) → is_repeat s.history p ≡ true → is_repeat (delivered s o).history p ≡ true =
+      λ p is. repeat_after (judged s o) o p s is in
       let has = event_known result written s (delivered s o) (state_of y) old new n ms e.done after stays here.1 in
       let still = still_known (is_ok result) n in
       let kept = kept_at sites known messages i x y still keeps e.is delivery_later (still_few result n (length ms) here.0) has in
@@ -87,7 +88,8 @@ module _ {T E : Type 0} {result : Result T E} {many : Bool} {d : SessionData} {s
       (sym (delivery_same known keeps)) done
 
 -- the site has the operation then, where its verdict says so
-pub delivery_known : {E : Type 0} (result : Result Bool E) (many : Bool) (d : SessionData) (sites : List SiteData) (messages : List Message) (ms : List OpData)
+pub delivery_known : {E : Type 0} (result : Result Bool E) (many : Bool) (d : SessionData) (sites : List SiteData) (messages : List Message)
+    (ms : List OpData)
     (i : ℕ) (x y : SiteData) (o : OpData) (old new : List ℕ)
     → IsDelivery result many d sites messages i x y o old new → IfOk result (λ had. had ≡ is_had (judged (state_of x) o))
     → IfOk result (λ has. has ≡ true → Has (site_at (session_of (set sites i y) ms) i) o)

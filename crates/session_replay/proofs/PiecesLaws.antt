@@ -39,9 +39,17 @@ first_line [] = inl (All-nil (λ (b : ℕ). (b == 10) ≡ false))
 first_line (b ∷ bs) = of (cases_Bool (b == 10)) (first_line bs)
   where
     of : ((b == 10) ≡ true) ⊎ ((b == 10) ≡ false) → HasNoFeed bs ⊎ FirstLine bs → HasNoFeed (b ∷ bs) ⊎ FirstLine (b ∷ bs)
-    of (inl e) r = inr (record { line = []; rest = bs; parts = ap (λ x. x ∷ bs) (eqb-true b 10 e); no_feed = All-nil (λ (b : ℕ). (b == 10) ≡ false) })
+    of (inl e) r =
+        inr (record { line = []; rest = bs; parts = ap (λ x. x ∷ bs) (eqb-true b 10 e); no_feed = All-nil (λ (b : ℕ). (b == 10) ≡ false) })
     of (inr e) (inl none) = inl (All-cons (λ (b : ℕ). (b == 10) ≡ false) b bs e none)
-    of (inr e) (inr f) = inr (record { line = b ∷ f.line; rest = f.rest; parts = ap (λ xs. b ∷ xs) f.parts; no_feed = All-cons (λ (b : ℕ). (b == 10) ≡ false) b f.line e f.no_feed })
+    of (inr e) (inr f) =
+        inr (record {
+          line = b ∷ f.line;
+          rest = f.rest;
+          parts = ap (λ xs. b ∷ xs) f.parts;
+          no_feed =
+              All-cons (λ (b : ℕ). (b == 10) ≡ false) b f.line e f.no_feed;
+        })
 
 -- no line feed, in both spellings
 pub open_bytes : (bytes : List ℕ) → HasNoFeed bytes → All (λ b. b ≢ 10) bytes
@@ -62,7 +70,8 @@ pub record Front (n : ℕ) (bytes : List ℕ) : Type 0 where
   pub lines : lines_in (looked_at n bytes) ≡ line_of line true ∷ lines_in (looked_at (n + length line + 1) after)
 
 -- a line and its line feed, and as much of what follows as fits
-take_line : (m n : ℕ) (line after : List ℕ) → n + length line + 1 ≤ m → take (m - n) (line ++ 10 ∷ after) ≡ line ++ 10 ∷ take (m - (n + length line + 1)) after
+take_line : (m n : ℕ) (line after : List ℕ) → n + length line + 1 ≤ m
+    → take (m - n) (line ++ 10 ∷ after) ≡ line ++ 10 ∷ take (m - (n + length line + 1)) after
 take_line m n line after h =
     let one : m - n - length line ≡ suc (m - (n + length line + 1)) = omega (arith, h) in
     take_past (m - n) line (10 ∷ after) (omega (arith, h)) ∙ ap (λ k. line ++ take k (10 ∷ after)) one
@@ -73,10 +82,14 @@ none_taken k line rest none h = subst HasNoFeed (sym (take-append-le k line rest
 pub front_line : (n : ℕ) (bytes : List ℕ) → HasNoFeed (looked_at n bytes) ⊎ Front n bytes
 front_line n bytes = of (first_line bytes)
   where
-    within : (f : FirstLine bytes) → (MAX_SCRIPT < n + length f.line) ⊎ (n + length f.line ≤ MAX_SCRIPT) → HasNoFeed (looked_at n bytes) ⊎ Front n bytes
-    within f (inl past) = inl (subst (λ bs. HasNoFeed (looked_at n bs)) (sym f.parts) (none_taken (MAX_SCRIPT + 1 - n) f.line (10 ∷ f.rest) f.no_feed (omega (arith, past))))
+    within : (f : FirstLine bytes) → (MAX_SCRIPT < n + length f.line) ⊎ (n + length f.line ≤ MAX_SCRIPT)
+        → HasNoFeed (looked_at n bytes) ⊎ Front n bytes
+    within f (inl past) =
+        inl (subst (λ bs. HasNoFeed (looked_at n bs)) (sym f.parts)
+        (none_taken (MAX_SCRIPT + 1 - n) f.line (10 ∷ f.rest) f.no_feed (omega (arith, past))))
     within f (inr room) =
-        let taken : looked_at n bytes ≡ f.line ++ 10 ∷ looked_at (n + length f.line + 1) f.rest = ap (looked_at n) f.parts ∙ take_line (MAX_SCRIPT + 1) n f.line f.rest (omega (arith, room)) in
+        let taken : looked_at n bytes ≡ f.line ++ 10 ∷ looked_at (n + length f.line + 1) f.rest =
+        ap (looked_at n) f.parts ∙ take_line (MAX_SCRIPT + 1) n f.line f.rest (omega (arith, room)) in
         inr (record {
           line = f.line;
           after = f.rest;
@@ -123,7 +136,8 @@ pieces_within m n bytes = if nat_le (n + length bytes) m then map Whole (lines_o
 lines_feed : (line rest : List ℕ) → HasNoFeed line → lines_of (line ++ 10 ∷ rest) ≡ line ∷ lines_of rest
 lines_feed line rest none = slice_split_at (λ b. b == 10) line 10 rest none refl
 
-within_line : (m n : ℕ) (line more : List ℕ) → HasNoFeed line → n + length line + 1 ≤ m → pieces_within m n (line ++ 10 ∷ more) ≡ Whole line ∷ pieces_within m (n + length line + 1) more
+within_line : (m n : ℕ) (line more : List ℕ) → HasNoFeed line → n + length line + 1 ≤ m
+    → pieces_within m n (line ++ 10 ∷ more) ≡ Whole line ∷ pieces_within m (n + length line + 1) more
 unfolding pieces_within
 within_line m n line more none h = elim (cases_Bool (nat_le (n + length (line ++ 10 ∷ more)) m)) [
   | inl e ↦
@@ -132,7 +146,8 @@ within_line m n line more none h = elim (cases_Bool (nat_le (n + length (line ++
   | inr e ↦
       let also : nat_le (n + length line + 1 + length more) m ≡ false = ap (λ k. nat_le k m) same ∙ e in
       let rest = take (m - (n + length line + 1)) more in
-      rw (e, also) (ap (λ bs. cut_off (lines_of bs)) (take_line m n line more h) ∙ (ap cut_off (lines_feed line rest none) ∙ cut_more line (lines_of rest) (lines_are_some rest)))
+      rw (e, also) (ap (λ bs. cut_off (lines_of bs)) (take_line m n line more h)
+      ∙ (ap cut_off (lines_feed line rest none) ∙ cut_more line (lines_of rest) (lines_are_some rest)))
 ]
   where
     same : n + length line + 1 + length more ≡ n + length (line ++ 10 ∷ more)
@@ -142,15 +157,18 @@ within_end : (m n : ℕ) (bytes : List ℕ) → HasNoFeed bytes → n + length b
 unfolding pieces_within
 within_end m n bytes none h = rw (le-leb (n + length bytes) m h) (ap (map Whole) (slice_split_none (λ b. b == 10) bytes none))
 
-within_past : (m n : ℕ) (bytes more : List ℕ) → HasNoFeed (take (m - n) bytes) → m < n + length bytes → pieces_within m n (bytes ++ more) ≡ Past ∷ []
+within_past : (m n : ℕ) (bytes more : List ℕ) → HasNoFeed (take (m - n) bytes) → m < n + length bytes
+    → pieces_within m n (bytes ++ more) ≡ Past ∷ []
 unfolding pieces_within
 within_past m n bytes more none h =
     let all = length-append bytes more in
     let past : nat_le (n + length (bytes ++ more)) m ≡ false = grind (arith, nat_tests, all, h) in
     let front = take-append-le (m - n) bytes more (omega (arith, h)) in
-    rw past (ap (λ bs. cut_off (lines_of bs)) front ∙ (ap cut_off (slice_split_none (λ b. b == 10) (take (m - n) bytes) none) ∙ cut_one (take (m - n) bytes)))
+    rw past (ap (λ bs. cut_off (lines_of bs)) front
+    ∙ (ap cut_off (slice_split_none (λ b. b == 10) (take (m - n) bytes) none) ∙ cut_one (take (m - n) bytes)))
 
-within_first : (m : ℕ) (bytes : List ℕ) → (if nat_le (length bytes) m then map Whole (lines_of bytes) else cut_off (lines_of (take m bytes))) ≡ pieces_within m 0 bytes
+within_first : (m : ℕ) (bytes : List ℕ)
+    → (if nat_le (length bytes) m then map Whole (lines_of bytes) else cut_off (lines_of (take m bytes))) ≡ pieces_within m 0 bytes
 unfolding pieces_within
 within_first m bytes =
     let all : length bytes ≡ 0 + length bytes = omega arith in
@@ -164,7 +182,8 @@ unfolding pieces_within
 pieces_first bytes = within_first MAX_SCRIPT bytes
 
 -- a line before others
-pub pieces_line : (n : ℕ) (line more : List ℕ) → HasNoFeed line → n + length line + 1 ≤ MAX_SCRIPT → pieces_after n (line ++ 10 ∷ more) ≡ Whole line ∷ pieces_after (n + length line + 1) more
+pub pieces_line : (n : ℕ) (line more : List ℕ) → HasNoFeed line → n + length line + 1 ≤ MAX_SCRIPT
+    → pieces_after n (line ++ 10 ∷ more) ≡ Whole line ∷ pieces_after (n + length line + 1) more
 unfolding pieces_within
 pieces_line n line more none h = within_line MAX_SCRIPT n line more none h
 
@@ -174,7 +193,8 @@ unfolding pieces_within
 pieces_end n bytes none h = within_end MAX_SCRIPT n bytes none h
 
 -- a line past the limit
-pub pieces_past : (n : ℕ) (bytes more : List ℕ) → HasNoFeed (take (MAX_SCRIPT - n) bytes) → MAX_SCRIPT < n + length bytes → pieces_after n (bytes ++ more) ≡ Past ∷ []
+pub pieces_past : (n : ℕ) (bytes more : List ℕ) → HasNoFeed (take (MAX_SCRIPT - n) bytes) → MAX_SCRIPT < n + length bytes
+    → pieces_after n (bytes ++ more) ≡ Past ∷ []
 unfolding pieces_within
 pieces_past n bytes more none h = within_past MAX_SCRIPT n bytes more none h
 
@@ -215,7 +235,8 @@ pub line_found : (bytes kept : List ℕ) (line : Line) → kept ≡ seen bytes �
 line_found bytes kept line is a = line_is bytes line (answers_seen bytes (Ok line) (subst (λ bs. Answers bs (Ok line)) is a))
 
 -- a line that can't be read
-pub line_unread : (bytes : List ℕ) (why : LineBad) (cause : Refusal) → unread_by why ≡ Some cause → Answers bytes (Err why) → line_read (Whole bytes) ≡ Err cause
+pub line_unread : (bytes : List ℕ) (why : LineBad) (cause : Refusal) → unread_by why ≡ Some cause → Answers bytes (Err why)
+    → line_read (Whole bytes) ≡ Err cause
 line_unread bytes reading.Limit cause e a = absurd a
 line_unread bytes reading.Long cause e a = line_long bytes a ∙ ap (λ (r : Refusal). Err r) (some_same refusal.Long cause e)
 line_unread bytes reading.Utf8 cause e a = line_no_text bytes a ∙ ap (λ (r : Refusal). Err r) (some_same refusal.Utf8 cause e)
@@ -223,8 +244,10 @@ line_unread bytes reading.Form cause e a = line_no_row bytes a ∙ ap (λ (r : R
 line_unread bytes reading.Memory cause e a = absurd (let none : None ≡ Some cause = e in cc)
 
 -- the same, by what is seen of the line
-pub line_refused : (bytes kept : List ℕ) (why : LineBad) (cause : Refusal) → kept ≡ seen bytes → Answers kept (Err why) → unread_by why ≡ Some cause → line_read (Whole bytes) ≡ Err cause
-line_refused bytes kept why cause is a e = line_unread bytes why cause e (answers_seen bytes (Err why) (subst (λ bs. Answers bs (Err why)) is a))
+pub line_refused : (bytes kept : List ℕ) (why : LineBad) (cause : Refusal) → kept ≡ seen bytes → Answers kept (Err why)
+    → unread_by why ≡ Some cause → line_read (Whole bytes) ≡ Err cause
+line_refused bytes kept why cause is a e =
+    line_unread bytes why cause e (answers_seen bytes (Err why) (subst (λ bs. Answers bs (Err why)) is a))
 
 -- the empty line does nothing
 pub line_empty : line_read (Whole []) ≡ Ok Blank

@@ -30,7 +30,8 @@ last_freed s [] = refl
 last_freed s (r ∷ rs) = last_freed r.after rs
 
 -- a release at a time
-freed_by : (n : ℕ) → ((t : State) → written_by (map free_step (releases n t)) ≡ free_lines t.number (map release_of (releases n t))) → (s : State) (r : Option Released) → released s ≡ r
+freed_by : (n : ℕ) → ((t : State) → written_by (map free_step (releases n t)) ≡ free_lines t.number (map release_of (releases n t)))
+    → (s : State) (r : Option Released) → released s ≡ r
     → written_by (map free_step (and_more (releases n) r)) ≡ free_lines s.number (map release_of (and_more (releases n) r))
 unfolding written_by
 freed_by n rest s None none = refl
@@ -46,7 +47,8 @@ freed_lines (suc n) s = freed_by n (freed_lines n) s (released s) refl
 
 -- ---- states along releases
 
-sound_by : (n : ℕ) → ((t : State) → IsSoundSite t → Every IsSoundSite (map free_step (releases n t))) → (s : State) → IsSoundSite s → (r : Option Released) → released s ≡ r → Every IsSoundSite (map free_step (and_more (releases n) r))
+sound_by : (n : ℕ) → ((t : State) → IsSoundSite t → Every IsSoundSite (map free_step (releases n t))) → (s : State) → IsSoundSite s
+    → (r : Option Released) → released s ≡ r → Every IsSoundSite (map free_step (and_more (releases n) r))
 sound_by n rest s sound None none = tt
 sound_by n rest s sound (Some r) some = let after = sound_released s r sound some in (after, rest r.after after)
 
@@ -96,24 +98,28 @@ later_settling written before s later sound =
 pub event_later : {T E : Type 0} (result : Result T E) (written : List ℕ) (before s now : State) (old new : List ℕ)
     → AreDone result (settling written s) before now old new → IsLater before s → IsSoundSite s → IsLater before now
 event_later (Ok t) written before s now old new done later sound =
-    subst (IsLater before) (sym done.0) (every_last (IsLater before) before (settling written s) (later_same before) (later_settling written before s later sound))
+    subst (IsLater before) (sym done.0)
+    (every_last (IsLater before) before (settling written s) (later_same before) (later_settling written before s later sound))
 event_later (Err e) written before s now old new done later sound =
     every_reached (IsLater before) before now (settling written s) (later_same before) (later_settling written before s later sound) done.0
 
 -- ---- what is told of an event
 
 -- the lines so far, and the next one
-pub free_lines_more : (n i : ℕ) (rs : List Release) (r : Release) → i < length rs → r ≡ get_or rs i r → free_lines n (take (i + 1) rs) ≡ free_lines n (take i rs) ++ free_line n r
+pub free_lines_more : (n i : ℕ) (rs : List Release) (r : Release) → i < length rs → r ≡ get_or rs i r
+    → free_lines n (take (i + 1) rs) ≡ free_lines n (take i rs) ++ free_line n r
 free_lines_more n i rs r within is = ap (λ k. free_lines n (take k rs)) next ∙ more i rs within is
   where
     next : i + 1 ≡ suc i
     next = omega arith
 
-    more : (i : ℕ) (rs : List Release) → i < length rs → r ≡ get_or rs i r → free_lines n (take (suc i) rs) ≡ free_lines n (take i rs) ++ free_line n r
+    more : (i : ℕ) (rs : List Release) → i < length rs → r ≡ get_or rs i r
+        → free_lines n (take (suc i) rs) ≡ free_lines n (take i rs) ++ free_line n r
     more i [] within is = absurd (omega (arith, within))
     more zero (x ∷ xs) within is = append-nil (free_line n x) ∙ ap (free_line n) (sym is)
     more (suc i) (x ∷ xs) within is =
-        ap (λ w. free_line n x ++ w) (more i xs (omega arith) is) ∙ sym (append_assoc (free_line n x) (free_lines n (take i xs)) (free_line n r))
+        ap (λ w. free_line n x ++ w) (more i xs (omega arith) is)
+        ∙ sym (append_assoc (free_line n x) (free_lines n (take i xs)) (free_line n r))
 
 pub free_lines_all : (n i : ℕ) (rs : List Release) → length rs ≤ i → free_lines n (take i rs) ≡ free_lines n rs
 free_lines_all n i rs past = ap (free_lines n) (take_all i rs past)

@@ -25,7 +25,8 @@ split_at [] o at = absurd (contains_none o at)
 split_at (y ∷ ys) o at =
     elim (contains_cases y ys o at) [
       | inl same ↦ record { before = []; after = ys; parts = ap (λ x. x ∷ ys) same }
-      | inr later ↦ let rest = split_at ys o later in record { before = y ∷ rest.before; after = rest.after; parts = ap (λ xs. y ∷ xs) rest.parts }
+      | inr later ↦ let rest =
+          split_at ys o later in record { before = y ∷ rest.before; after = rest.after; parts = ap (λ xs. y ∷ xs) rest.parts }
     ]
 
 others : (a b : List OpData) (o x : OpData) → (o ≡ x → ⊥) → Contains (a ++ o ∷ b) x → Contains (a ++ b) x
@@ -46,40 +47,58 @@ no_longer h v =
     (λ k o valid was next ys within.
     let last : Contains (k ++ o ∷ []) o = Contains-append_right k (o ∷ []) o (contains_here o []) in
     let cut = split_at ys o (within o last) in
-    let apart : (x : OpData) → Contains k x → o ≡ x → ⊥ = λ x at same. false≢true (sym next.new ∙ (ap (λ y. is_known k (member_of y)) same ∙ known_member k x at)) in
-    let fewer = was (cut.before ++ cut.after) (λ x at. others cut.before cut.after o x (apart x at) (subst (λ zs. Contains zs x) cut.parts (within x (Contains-append_left k (o ∷ []) x at)))) in
-    omega (arith, fewer, length-append k (o ∷ []), length-append cut.before (o ∷ cut.after), length-append cut.before cut.after, ap length cut.parts)) h v
+    let apart : (x : OpData) → Contains k x → o ≡ x → ⊥ =
+    λ x at same. false≢true (sym next.new ∙ (ap (λ y. is_known k (member_of y)) same ∙ known_member k x at)) in
+    let fewer =
+    was (cut.before ++ cut.after) (λ x at.
+    others cut.before cut.after o x (apart x at)
+    (subst (λ zs. Contains zs x) cut.parts (within x (Contains-append_left k (o ∷ []) x at)))) in
+    omega (
+      arith,
+      fewer,
+      length-append k (o ∷ []),
+      length-append cut.before (o ∷ cut.after),
+      length-append cut.before cut.after,
+      ap length cut.parts,
+    )) h v
 
 -- ---- entries
 
 -- ---- numbers and generations
 
-count_raised : (c : ContextData) (m : Member) (k : ℕ) → IsNextMember c m → ((s : ℕ) → count_of c s ≤ k) → (s : ℕ) → count_of (raised c m) s ≤ k + 1
+count_raised : (c : ContextData) (m : Member) (k : ℕ) → IsNextMember c m → ((s : ℕ) → count_of c s ≤ k) → (s : ℕ)
+    → count_of (raised c m) s ≤ k + 1
 count_raised c (Original n) k next most s =
     elim (cases_Bool (n.site == s)) [
       | inl here ↦
-          let is : count_in (put_count n.site n.number c.counts) s ≡ n.number = count_put n.site n.number c.counts s ∙ ap (λ (b : Bool). if b then n.number else count_in c.counts s) here in
+          let is : count_in (put_count n.site n.number c.counts) s ≡ n.number =
+          count_put n.site n.number c.counts s ∙ ap (λ (b : Bool). if b then n.number else count_in c.counts s) here in
           omega (arith, is, next, most n.site)
       | inr other ↦
-          let is : count_in (put_count n.site n.number c.counts) s ≡ count_in c.counts s = count_put n.site n.number c.counts s ∙ ap (λ (b : Bool). if b then n.number else count_in c.counts s) other in
+          let is : count_in (put_count n.site n.number c.counts) s ≡ count_in c.counts s =
+          count_put n.site n.number c.counts s ∙ ap (λ (b : Bool). if b then n.number else count_in c.counts s) other in
           omega (arith, is, most s)
     ]
 count_raised c (Group n g) k next most s = omega (arith, most s)
 
-entry_raised : (c : ContextData) (m : Member) (k : ℕ) → IsNextMember c m → ((t : NameData) → entry_of c t ≤ k) → (t : NameData) → entry_of (raised c m) t ≤ k + 1
+entry_raised : (c : ContextData) (m : Member) (k : ℕ) → IsNextMember c m → ((t : NameData) → entry_of c t ≤ k) → (t : NameData)
+    → entry_of (raised c m) t ≤ k + 1
 entry_raised c (Original n) k next most t = omega (arith, most t)
 entry_raised c (Group n g) k next most t =
     elim (cases_Bool (name_eq n t)) [
       | inl here ↦
-          let is : entry_in (put_entry n g c.entries) t ≡ g = entry_put n g c.entries t ∙ ap (λ (b : Bool). if b then g else entry_in c.entries t) here in
+          let is : entry_in (put_entry n g c.entries) t ≡ g =
+          entry_put n g c.entries t ∙ ap (λ (b : Bool). if b then g else entry_in c.entries t) here in
           omega (arith, is, next, most n)
       | inr other ↦
-          let is : entry_in (put_entry n g c.entries) t ≡ entry_in c.entries t = entry_put n g c.entries t ∙ ap (λ (b : Bool). if b then g else entry_in c.entries t) other in
+          let is : entry_in (put_entry n g c.entries) t ≡ entry_in c.entries t =
+          entry_put n g c.entries t ∙ ap (λ (b : Bool). if b then g else entry_in c.entries t) other in
           omega (arith, is, most t)
     ]
 
 -- what rises by one at the most where a member is added is at most as many as the operations
-few_by : (Few : ContextData → ℕ → Type 0) → Few empty 0 → ((c : ContextData) (m : Member) (k : ℕ) → IsNextMember c m → Few c k → Few (raised c m) (k + 1))
+few_by : (Few : ContextData → ℕ → Type 0) → Few empty 0
+    → ((c : ContextData) (m : Member) (k : ℕ) → IsNextMember c m → Few c k → Few (raised c m) (k + 1))
     → (h : List OpData) → IsValid h → Few (context_of_all h) (length h)
 few_by Few none more h v =
     by_pushes (λ k. Few (context_of_all k) (length k)) none

@@ -9,7 +9,9 @@ next_is : (k : ℕ) → suc k ≡ k + 1
 next_is k = omega arith
 
 -- the event of number k, and the deliveries after it if they are due
-pub session_next : (p : Plan) (k : ℕ) (d after : SessionData) (n : ℕ) (r : Draw) → d ≡ (generating p k).session → n ≡ (generating p k).number → r ≡ draws_from n → after ≡ acted (turn_of p k) r d → synced_if (is_due p (k + 1)) after ≡ (generating p (k + 1)).session
+pub session_next : (p : Plan) (k : ℕ) (d after : SessionData) (n : ℕ) (r : Draw) → d ≡ (generating p k).session
+    → n ≡ (generating p k).number → r ≡ draws_from n → after ≡ acted (turn_of p k) r d
+    → synced_if (is_due p (k + 1)) after ≡ (generating p (k + 1)).session
 unfolding generating
 session_next p k d after n r session number draws does =
     let drawn : r ≡ draws_from (generating p k).number = draws ∙ ap draws_from number in

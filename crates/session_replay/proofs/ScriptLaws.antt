@@ -43,19 +43,26 @@ read_range Past l is = absurd (none l is)
     none l e = cc
 read_range (Whole bytes) l is =
     elim (cases_Bool (nat_le (length bytes) LONGEST)) [
-      | inr long ↦ absurd (no_line refusal.Long (sym (ap (λ (b : Bool). if b then (if is_utf8 bytes then read_form (line_in bytes) else Err refusal.Utf8) else Err refusal.Long) long) ∙ is))
+      | inr long ↦ absurd (no_line refusal.Long
+          (sym (ap (λ (b : Bool). if b then (if is_utf8 bytes then read_form (line_in bytes) else Err refusal.Utf8) else Err refusal.Long)
+          long) ∙ is))
       | inl short ↦
           elim (cases_Bool (is_utf8 bytes)) [
-            | inr bad ↦ absurd (no_line refusal.Utf8 (sym (ap (λ (b : Bool). if b then read_form (line_in bytes) else Err refusal.Utf8) bad) ∙ inner short))
-            | inl good ↦ formed (line_in bytes) refl (sym (ap (λ (b : Bool). if b then read_form (line_in bytes) else Err refusal.Utf8) good) ∙ inner short)
+            | inr bad ↦ absurd (no_line refusal.Utf8
+                (sym (ap (λ (b : Bool). if b then read_form (line_in bytes) else Err refusal.Utf8) bad) ∙ inner short))
+            | inl good ↦ formed (line_in bytes) refl
+                (sym (ap (λ (b : Bool). if b then read_form (line_in bytes) else Err refusal.Utf8) good) ∙ inner short)
           ]
     ]
   where
     no_line : (why : Refusal) → ◌≡◌ {A = Result Line Refusal} (Err why) (Ok l) → ⊥
     no_line why e = cc
 
-    inner : nat_le (length bytes) LONGEST ≡ true → ◌≡◌ {A = Result Line Refusal} (if is_utf8 bytes then read_form (line_in bytes) else Err refusal.Utf8) (Ok l)
-    inner short = sym (ap (λ (b : Bool). if b then (if is_utf8 bytes then read_form (line_in bytes) else Err refusal.Utf8) else Err refusal.Long) short) ∙ is
+    inner : nat_le (length bytes) LONGEST ≡ true
+        → ◌≡◌ {A = Result Line Refusal} (if is_utf8 bytes then read_form (line_in bytes) else Err refusal.Utf8) (Ok l)
+    inner short =
+        sym (ap (λ (b : Bool). if b then (if is_utf8 bytes then read_form (line_in bytes) else Err refusal.Utf8) else Err refusal.Long)
+        short) ∙ is
 
     formed : (o : Option Line) → line_in bytes ≡ o → read_form o ≡ Ok l → IsInRange l
     formed None at e = absurd (no_line refusal.Form e)
@@ -120,13 +127,17 @@ pub waits_for : (h : List OpData) (o : OpData) → IsValid h → IsWellFormed o 
 waits_for h o valid formed not = from (lacked h (context_of o)) refl
   where
     new : is_known h (member_of o) ≡ false
-    new = false_from_ne_true (is_known h (member_of o)) (λ e. true≢false (sym (or_left (is_known h (member_of o)) (is_none (lacked h (context_of o))) e) ∙ not))
+    new = false_from_ne_true (is_known h (member_of o))
+        (λ e. true≢false (sym (or_left (is_known h (member_of o)) (is_none (lacked h (context_of o))) e) ∙ not))
 
     from : (r : Option Member) → lacked h (context_of o) ≡ r → WaitsFor h o
-    from None none = absurd (true≢false (sym (or_right (is_known h (member_of o)) (is_none (lacked h (context_of o))) (ap (λ x. is_none x) none)) ∙ not))
-    from (Some m) some = record { missing = m; first = first_lacked_is h (complete h valid) (context_of o) m (formed_context o formed) some; new = new }
+    from None none =
+        absurd (true≢false (sym (or_right (is_known h (member_of o)) (is_none (lacked h (context_of o))) (ap (λ x. is_none x) none)) ∙ not))
+    from (Some m) some =
+        record { missing = m; first = first_lacked_is h (complete h valid) (context_of o) m (formed_context o formed) some; new = new }
 
 -- so does whatever waits in a sound session where no operation is ready
-pub waiting_named : (d : SessionData) → IsSound d → AreSettled d → (s : State) (o : OpData) → Contains d.sites s → Contains s.waiting o → WaitsFor s.history o
+pub waiting_named : (d : SessionData) → IsSound d → AreSettled d → (s : State) (o : OpData) → Contains d.sites s → Contains s.waiting o
+    → WaitsFor s.history o
 waiting_named d sound settled s o site there =
     waits_for s.history o (sound.sites s site).history ((sound.sites s site).waiting o there) ((settled_none s).0 (settled s site) o there)

@@ -50,7 +50,8 @@ pub record Kept (n : ℕ) (d : SessionData) : Type 0 where
   pub sound : IsSound d
   pub sites : length d.sites ≡ n
 
-with_sound : (d : SessionData) (ms : List OpData) (i : ℕ) (s : State) → IsSound d → AllFormed ms → IsSoundSite s → Kept (length d.sites) (record { sites = set d.sites i s; messages = ms })
+with_sound : (d : SessionData) (ms : List OpData) (i : ℕ) (s : State) → IsSound d → AllFormed ms → IsSoundSite s
+    → Kept (length d.sites) (record { sites = set d.sites i s; messages = ms })
 with_sound d ms i s sound formed fine = record {
   sound = record {
     sites = λ t at. elim (set_cases d.sites i s t at) [ inl same ↦ subst IsSoundSite same fine | inr old ↦ sound.sites t old ];
@@ -59,27 +60,34 @@ with_sound d ms i s sound formed fine = record {
   sites = length-set d.sites i s;
 }
 
-every_site : (d : SessionData) (ms : List OpData) (i : ℕ) (es : List (Step State)) → IsSound d → AllFormed ms → Every IsSoundSite es → Every (Kept (length d.sites)) (at_site d.sites ms i es)
+every_site : (d : SessionData) (ms : List OpData) (i : ℕ) (es : List (Step State)) → IsSound d → AllFormed ms → Every IsSoundSite es
+    → Every (Kept (length d.sites)) (at_site d.sites ms i es)
 every_site d ms i [] sound formed all = tt
 every_site d ms i (e ∷ es) sound formed all = (with_sound d ms i e.after sound formed all.0, every_site d ms i es sound formed all.1)
 
 -- the session after steps of a site
-pub last_at : (sites : List State) (ms : List OpData) (i : ℕ) (s : State) (es : List (Step State)) → last_of (record { sites = set sites i s; messages = ms }) (at_site sites ms i es) ≡ record { sites = set sites i (last_of s es); messages = ms }
+pub last_at : (sites : List State) (ms : List OpData) (i : ℕ) (s : State) (es : List (Step State))
+    → last_of (record { sites = set sites i s; messages = ms }) (at_site sites ms i es)
+    ≡ record { sites = set sites i (last_of s es); messages = ms }
 unfolding last_of
 last_at sites ms i s [] = refl
 last_at sites ms i s (e ∷ es) = last_at sites ms i e.after es
 
-with_settled : (d : SessionData) (ms : List OpData) (i : ℕ) (s : State) → AreSettled d → IsSettled s → AreSettled (record { sites = set d.sites i s; messages = ms })
+with_settled : (d : SessionData) (ms : List OpData) (i : ℕ) (s : State) → AreSettled d → IsSettled s
+    → AreSettled (record { sites = set d.sites i s; messages = ms })
 with_settled d ms i s settled is t at = elim (set_cases d.sites i s t at) [ inl same ↦ subst IsSettled same is | inr old ↦ settled t old ]
 
 -- ---- deliveries that wait
 
-waits_by_name : (many : Bool) (i : ℕ) (o : OpData) (d : SessionData) → IsValid (site_at d i).history → IsWellFormed o → WaitsByName (Giving many i o) d
+waits_by_name : (many : Bool) (i : ℕ) (o : OpData) (d : SessionData) → IsValid (site_at d i).history → IsWellFormed o
+    → WaitsByName (Giving many i o) d
 unfolding written_by
 waits_by_name many i o d valid formed missing is = record {
   first = ((verdicts_exact s.history s.waiting o (Waits missing) valid formed).1 (sym is)).1;
   more = written_by (at_site d.sites d.messages i (map free_step (all_releases (delivered s o))));
-  written = ap (λ (v : Verdict). told_verdict many o v s.number ++ written_by (at_site d.sites d.messages i (map free_step (all_releases (delivered s o))))) is;
+  written =
+      ap (λ (v : Verdict). told_verdict many o v s.number
+      ++ written_by (at_site d.sites d.messages i (map free_step (all_releases (delivered s o))))) is;
 }
   where
     s : State
@@ -96,10 +104,12 @@ pub record Eventful (d : SessionData) (es : List (Step SessionData)) : Type 0 wh
 
 pub eventless : (d : SessionData) → Eventful d []
 unfolding all_steps moments
-eventless d = record { events = []; parts = refl; sound = λ m at. absurd (contains_none m at); settled = λ s m at. absurd (contains_none m at) }
+eventless d =
+    record { events = []; parts = refl; sound = λ m at. absurd (contains_none m at); settled = λ s m at. absurd (contains_none m at) }
 
 -- one event
-pub one_event : (d : SessionData) (v : Event) → IsSound (after_event v d) → WaitsByName v d → (AreSettled d → AreSettled (after_event v d)) → Eventful d (steps_of v d)
+pub one_event : (d : SessionData) (v : Event) → IsSound (after_event v d) → WaitsByName v d → (AreSettled d → AreSettled (after_event v d))
+    → Eventful d (steps_of v d)
 unfolding all_steps moments
 one_event d v sound named settles = record {
   events = v ∷ [];
@@ -119,10 +129,13 @@ unfolding all_steps last_of
 all_append [] ws d = refl
 all_append (v ∷ vs) ws d =
     ap (λ xs. steps_of v d ++ xs) (all_append vs ws (last_of d (steps_of v d)))
-    ∙ (sym (append_assoc (steps_of v d) (all_steps vs (last_of d (steps_of v d))) (all_steps ws (last_of (last_of d (steps_of v d)) (all_steps vs (last_of d (steps_of v d))))))
-    ∙ ap (λ x. (steps_of v d ++ all_steps vs (last_of d (steps_of v d))) ++ all_steps ws x) (sym (last_append d (steps_of v d) (all_steps vs (last_of d (steps_of v d))))))
+    ∙ (sym (append_assoc (steps_of v d) (all_steps vs (last_of d (steps_of v d)))
+    (all_steps ws (last_of (last_of d (steps_of v d)) (all_steps vs (last_of d (steps_of v d))))))
+    ∙ ap (λ x. (steps_of v d ++ all_steps vs (last_of d (steps_of v d))) ++ all_steps ws x)
+    (sym (last_append d (steps_of v d) (all_steps vs (last_of d (steps_of v d))))))
 
-moments_cases : (vs ws : List Event) (d : SessionData) (m : Moment) → Contains (moments (vs ++ ws) d) m → Contains (moments vs d) m ⊎ Contains (moments ws (last_of d (all_steps vs d))) m
+moments_cases : (vs ws : List Event) (d : SessionData) (m : Moment) → Contains (moments (vs ++ ws) d) m
+    → Contains (moments vs d) m ⊎ Contains (moments ws (last_of d (all_steps vs d))) m
 unfolding all_steps moments last_of
 moments_cases [] ws d m at = inr at
 moments_cases (v ∷ vs) ws d m at =
@@ -137,12 +150,17 @@ moments_cases (v ∷ vs) ws d m at =
           ]
     ]
 
-eventful_then : (d : SessionData) (es fs : List (Step SessionData)) → (AreSettled d → AreSettled (last_of d es)) → Eventful d es → Eventful (last_of d es) fs → Eventful d (es ++ fs)
+eventful_then : (d : SessionData) (es fs : List (Step SessionData)) → (AreSettled d → AreSettled (last_of d es)) → Eventful d es
+    → Eventful (last_of d es) fs → Eventful d (es ++ fs)
 eventful_then d es fs settles a b = record {
   events = a.events ++ b.events;
-  parts = ap (λ xs. xs ++ fs) a.parts ∙ (ap (λ xs. all_steps a.events d ++ xs) (b.parts ∙ ap (all_steps b.events) at) ∙ sym (all_append a.events b.events d));
-  sound = λ m there. elim (moments_cases a.events b.events d m there) [ inl old ↦ a.sound m old | inr new ↦ b.sound m (subst (λ x. Contains (moments b.events x) m) (sym at) new) ];
-  settled = λ s m there. elim (moments_cases a.events b.events d m there) [ inl old ↦ a.settled s m old | inr new ↦ b.settled (settles s) m (subst (λ x. Contains (moments b.events x) m) (sym at) new) ];
+  parts = ap (λ xs. xs ++ fs) a.parts
+      ∙ (ap (λ xs. all_steps a.events d ++ xs) (b.parts ∙ ap (all_steps b.events) at) ∙ sym (all_append a.events b.events d));
+  sound = λ m there. elim (moments_cases a.events b.events d m there)
+      [ inl old ↦ a.sound m old | inr new ↦ b.sound m (subst (λ x. Contains (moments b.events x) m) (sym at) new) ];
+  settled =
+      λ s m there. elim (moments_cases a.events b.events d m there)
+      [ inl old ↦ a.settled s m old | inr new ↦ b.settled (settles s) m (subst (λ x. Contains (moments b.events x) m) (sym at) new) ];
 }
   where
     at : last_of d es ≡ last_of d (all_steps a.events d)
@@ -216,10 +234,12 @@ good_then d es fs sound good next = record {
 }
 
 -- an event at a site, with its releases
-event_settles : (d : SessionData) (ms : List OpData) (i : ℕ) (written : List ℕ) (s : State) → IsSoundSite s → AreSettled d → AreSettled (last_of d (at_site d.sites ms i (settling written s)))
+event_settles : (d : SessionData) (ms : List OpData) (i : ℕ) (written : List ℕ) (s : State) → IsSoundSite s → AreSettled d
+    → AreSettled (last_of d (at_site d.sites ms i (settling written s)))
 unfolding last_of
 event_settles d ms i written s fine settled =
-    subst AreSettled (sym (last_at d.sites ms i s (map free_step (all_releases s)))) (with_settled d ms i (last_of s (map free_step (all_releases s))) settled (settling_settles written s s fine))
+    subst AreSettled (sym (last_at d.sites ms i s (map free_step (all_releases s))))
+    (with_settled d ms i (last_of s (map free_step (all_releases s))) settled (settling_settles written s s fine))
 
 -- the event v has these steps
 good_event : (v : Event) (d : SessionData) (ms : List OpData) (i : ℕ) (written : List ℕ) (s : State)
@@ -228,7 +248,9 @@ good_event : (v : Event) (d : SessionData) (ms : List OpData) (i : ℕ) (written
 good_event v d ms i written s are named quiet sound formed fine = record {
   all = all;
   settles = event_settles d ms i written s fine;
-  events = subst (Eventful d) are (one_event d v (subst (λ es. IsSound (last_of d es)) (sym are) last) named (λ settled. subst (λ es. AreSettled (last_of d es)) (sym are) (event_settles d ms i written s fine settled)));
+  events = subst (Eventful d) are
+      (one_event d v (subst (λ es. IsSound (last_of d es)) (sym are) last) named
+      (λ settled. subst (λ es. AreSettled (last_of d es)) (sym are) (event_settles d ms i written s fine settled)));
   quiet = quiet_event d.sites ms i written s fine quiet;
 }
   where
@@ -236,17 +258,21 @@ good_event v d ms i written s are named quiet sound formed fine = record {
     all = every_site d ms i (settling written s) sound formed (sound_settling written s fine)
 
     last : IsSound (last_of d (at_site d.sites ms i (settling written s)))
-    last = (every_last (Kept (length d.sites)) d (at_site d.sites ms i (settling written s)) (record { sound = sound; sites = refl }) all).sound
+    last = (every_last (Kept (length d.sites)) d (at_site d.sites ms i (settling written s)) (record { sound = sound; sites = refl })
+        all).sound
 
-pub good_made : (d : SessionData) (i : ℕ) (o : OpData) → IsSound d → i < length d.sites → IsNext (site_at d i).history o → Good d (made i o d)
+pub good_made : (d : SessionData) (i : ℕ) (o : OpData) → IsSound d → i < length d.sites → IsNext (site_at d i).history o
+    → Good d (made i o d)
 good_made d i o sound within next =
     good_event (Making i o) d (d.messages ++ o ∷ []) i (op_text (length d.messages) o) (with_last (site_at d i) o) refl tt
     (no_release _ refl) sound all (sound_more (site_at d i) o (site_sound d i sound within) next)
   where
     all : AllFormed (d.messages ++ o ∷ [])
-    all x at = elim (Contains-push_cases d.messages o x at) [ inl old ↦ sound.messages x old | inr same ↦ subst IsWellFormed same next.formed ]
+    all x at =
+        elim (Contains-push_cases d.messages o x at) [ inl old ↦ sound.messages x old | inr same ↦ subst IsWellFormed same next.formed ]
 
-pub good_given : (many : Bool) (d : SessionData) (i : ℕ) (o : OpData) → IsSound d → i < length d.sites → IsWellFormed o → Good d (given many i o d)
+pub good_given : (many : Bool) (d : SessionData) (i : ℕ) (o : OpData) → IsSound d → i < length d.sites → IsWellFormed o
+    → Good d (given many i o d)
 good_given many d i o sound within formed =
     good_event (Giving many i o) d d.messages i (told_verdict many o (judged (site_at d i) o) (site_at d i).number)
     (delivered (site_at d i) o) refl (waits_by_name many i o d (site_sound d i sound within).history formed)

@@ -41,13 +41,15 @@ reached_after s r es fs h = record {
   state = h.state ∙ sym (last_append s es h.done);
 }
 
-again_of : {S : Type 0} (s t r : S) (e : Step S) (es done left : List (Step S)) → e.after ≡ s → e ∷ es ≡ done ++ left → r ≡ last_of s done → IsReached t (e ∷ es) r
+again_of : {S : Type 0} (s t r : S) (e : Step S) (es done left : List (Step S)) → e.after ≡ s → e ∷ es ≡ done ++ left → r ≡ last_of s done
+    → IsReached t (e ∷ es) r
 unfolding last_of
 again_of s t r e es [] left same parts state = record { done = e ∷ []; left = es; parts = refl; state = state ∙ sym same }
 again_of s t r e es (d ∷ ds) left same parts state = record { done = d ∷ ds; left = left; parts = parts; state = state }
 
 -- steps whose first leaves the state as it was may start from any state
-pub reached_again : {S : Type 0} (s t r : S) (e : Step S) (es : List (Step S)) → e.after ≡ s → IsReached s (e ∷ es) r → IsReached t (e ∷ es) r
+pub reached_again : {S : Type 0} (s t r : S) (e : Step S) (es : List (Step S)) → e.after ≡ s → IsReached s (e ∷ es) r
+    → IsReached t (e ∷ es) r
 reached_again s t r e es same h = again_of s t r e es h.done h.left same h.parts h.state
 
 reached_same : {S : Type 0} (s t r : S) (es : List (Step S)) → s ≡ t → IsReached s es r → IsReached t es r
@@ -76,7 +78,8 @@ told_short result first old mid new written = on_err_weaker result (front_on old
 -- ---- how far an answer says that steps came
 
 -- no step was done, out of memory
-pub done_nothing : {S : Type 0} (es : List (Step S)) (s now : S) (old new : List ℕ) → now ≡ s → new ≡ old → IsReached s es now × IsFront old new
+pub done_nothing : {S : Type 0} (es : List (Step S)) (s now : S) (old new : List ℕ) → now ≡ s → new ≡ old
+    → IsReached s es now × IsFront old new
 unfolding last_of
 done_nothing es s now old new same kept = (
   record { done = []; left = es; parts = refl; state = same },
@@ -84,40 +87,48 @@ done_nothing es s now old new same kept = (
 )
 
 -- the first part wasn't done whole
-pub done_short : {S : Type 0} (es fs : List (Step S)) (s now : S) (old new : List ℕ) → IsReached s es now × IsFront old new → IsReached s (es ++ fs) now × IsFront old new
+pub done_short : {S : Type 0} (es fs : List (Step S)) (s now : S) (old new : List ℕ) → IsReached s es now × IsFront old new
+    → IsReached s (es ++ fs) now × IsFront old new
 done_short es fs s now old new h = (reached_before s now es fs h.0, h.1)
 
 -- the same steps in another form
-pub reached_in : {S : Type 0} (es fs : List (Step S)) (s now : S) (old new : List ℕ) → es ≡ fs → IsReached s fs now × IsFront old new → IsReached s es now × IsFront old new
+pub reached_in : {S : Type 0} (es fs : List (Step S)) (s now : S) (old new : List ℕ) → es ≡ fs → IsReached s fs now × IsFront old new
+    → IsReached s es now × IsFront old new
 reached_in es fs s now old new same h = (subst (λ xs. IsReached s xs now) (sym same) h.0, h.1)
 
 -- ---- on the way through steps
 
 -- these bytes and this state were reached on the way through steps, of which these are left
-pub record IsAlong {S : Type 0} (whole : List (Step S)) (first : S) (old : List ℕ) (left : List (Step S)) (now : S) (new : List ℕ) : Type 0 where
-  pub done : List (Step S)
-  pub parts : whole ≡ done ++ left
-  pub state : now ≡ last_of first done
-  pub written : new ≡ old ++ written_by done
+pub record IsAlong {S : Type 0} (whole : List (Step S)) (first : S) (old : List ℕ) (left : List (Step S)) (now : S) (new : List ℕ) : Type 0
+  where
+    pub done : List (Step S)
+    pub parts : whole ≡ done ++ left
+    pub state : now ≡ last_of first done
+    pub written : new ≡ old ++ written_by done
 
 pub along_first : {S : Type 0} (whole : List (Step S)) (first : S) (old : List ℕ) → IsAlong whole first old whole first old
 unfolding last_of written_by
 along_first whole first old = record { done = []; parts = refl; state = refl; written = sym (append-nil old) }
 
 -- the first part of what was left was done
-pub along_part : {S : Type 0} (whole : List (Step S)) (first : S) (old : List ℕ) (left es fs : List (Step S)) (now next : S) (new more : List ℕ)
-    → IsAlong whole first old left now new → left ≡ es ++ fs → next ≡ last_of now es → more ≡ new ++ written_by es → IsAlong whole first old fs next more
+pub along_part : {S : Type 0} (whole : List (Step S)) (first : S) (old : List ℕ) (left es fs : List (Step S)) (now next : S)
+    (new more : List ℕ)
+    → IsAlong whole first old left now new → left ≡ es ++ fs → next ≡ last_of now es → more ≡ new ++ written_by es
+    → IsAlong whole first old fs next more
 along_part whole first old left es fs now next new more a split state written = record {
   done = a.done ++ es;
   parts = a.parts ∙ ap (λ xs. a.done ++ xs) split ∙ sym (append_assoc a.done es fs);
   state = state ∙ ap (λ x. last_of x es) a.state ∙ sym (last_append first a.done es);
   written =
-      written ∙ ap (λ xs. xs ++ written_by es) a.written ∙ append_assoc old (written_by a.done) (written_by es) ∙ ap (λ xs. old ++ xs) (sym (written_append a.done es));
+      written ∙ ap (λ xs. xs ++ written_by es) a.written ∙ append_assoc old (written_by a.done) (written_by es)
+      ∙ ap (λ xs. old ++ xs) (sym (written_append a.done es));
 }
 
 -- the same, where what is left is given by the state
-pub along_next : {S : Type 0} (whole : List (Step S)) (first : S) (old : List ℕ) (left es : List (Step S)) (rest : S → List (Step S)) (now next : S) (new more : List ℕ)
-    → IsAlong whole first old left now new → left ≡ es ++ rest (last_of now es) → next ≡ last_of now es → more ≡ new ++ written_by es → IsAlong whole first old (rest next) next more
+pub along_next : {S : Type 0} (whole : List (Step S)) (first : S) (old : List ℕ) (left es : List (Step S)) (rest : S → List (Step S))
+    (now next : S) (new more : List ℕ)
+    → IsAlong whole first old left now new → left ≡ es ++ rest (last_of now es) → next ≡ last_of now es → more ≡ new ++ written_by es
+    → IsAlong whole first old (rest next) next more
 along_next whole first old left es rest now next new more a split state written =
     along_part whole first old left es (rest next) now next new more a (split ∙ ap (λ x. es ++ rest x) (sym state)) state written
 
@@ -132,7 +143,8 @@ along_end whole first old left now new a none =
 pub along_short : {S : Type 0} (whole : List (Step S)) (first : S) (old : List ℕ) (left : List (Step S)) (now last : S) (new final : List ℕ)
     → IsAlong whole first old left now new → IsReached now left last × IsFront new final → IsReached first whole last × IsFront old final
 along_short whole first old left now last new final a h = (
-  subst (λ xs. IsReached first xs last) (sym a.parts) (reached_after first last a.done left (reached_same now (last_of first a.done) last left a.state h.0)),
+  subst (λ xs. IsReached first xs last) (sym a.parts)
+      (reached_after first last a.done left (reached_same now (last_of first a.done) last left a.state h.0)),
   front_on old new final (record { more = written_by a.done; parts = a.written }) h.1,
 )
 
@@ -144,7 +156,8 @@ front_at old new kept = record { more = []; parts = kept ∙ sym (append-nil old
 
 -- ---- what a call hands on out of memory
 
-pub stopped : {T E S : Type 0} (result : Result T E) (e : E) → result ≡ Err e → (es : List (Step S)) (s now : S) (old new : List ℕ) → IsReached s es now × IsFront old new → AreDone result es s now old new
+pub stopped : {T E S : Type 0} (result : Result T E) (e : E) → result ≡ Err e → (es : List (Step S)) (s now : S) (old new : List ℕ)
+    → IsReached s es now × IsFront old new → AreDone result es s now old new
 stopped (Ok t) e is es s now old new h = absurd (ok-err is)
   where
     ok-err : Ok t ≡ Err e → ⊥
@@ -153,22 +166,27 @@ stopped (Err d) e is es s now old new h = h
 
 -- ---- the same ending in another answer
 
-pub ended_well : {T E U F S : Type 0} (r : Result T E) (q : Result U F) (t : T) (u : U) (es : List (Step S)) (s now : S) (old new : List ℕ) → r ≡ Ok t → q ≡ Ok u → AreDone r es s now old new → AreDone q es s now old new
+pub ended_well : {T E U F S : Type 0} (r : Result T E) (q : Result U F) (t : T) (u : U) (es : List (Step S)) (s now : S) (old new : List ℕ)
+    → r ≡ Ok t → q ≡ Ok u → AreDone r es s now old new → AreDone q es s now old new
 ended_well r q t u es s now old new is also h =
     subst (λ x. AreDone x es s now old new) (sym also) (subst (λ x. AreDone x es s now old new) is h)
 
-pub ended_short : {T E U F S : Type 0} (r : Result T E) (q : Result U F) (e : E) (f : F) (es : List (Step S)) (s now : S) (old new : List ℕ) → r ≡ Err e → q ≡ Err f → AreDone r es s now old new → AreDone q es s now old new
+pub ended_short : {T E U F S : Type 0} (r : Result T E) (q : Result U F) (e : E) (f : F) (es : List (Step S)) (s now : S) (old new : List ℕ)
+    → r ≡ Err e → q ≡ Err f → AreDone r es s now old new → AreDone q es s now old new
 ended_short r q e f es s now old new is also h =
     subst (λ x. AreDone x es s now old new) (sym also) (subst (λ x. AreDone x es s now old new) is h)
 
-pub all_done : {T E S : Type 0} (q : Result T E) (u : T) (es : List (Step S)) (s now : S) (old new : List ℕ) → q ≡ Ok u → (now ≡ last_of s es) × (new ≡ old ++ written_by es) → AreDone q es s now old new
+pub all_done : {T E S : Type 0} (q : Result T E) (u : T) (es : List (Step S)) (s now : S) (old new : List ℕ) → q ≡ Ok u
+    → (now ≡ last_of s es) × (new ≡ old ++ written_by es) → AreDone q es s now old new
 all_done q u es s now old new is h = subst (λ x. AreDone x es s now old new) (sym is) h
 
 -- ---- one line that is told, and the same steps in another form
 
-pub told_done : {S : Type 0} (s now : S) (w old new : List ℕ) → now ≡ s → new ≡ old ++ w → (now ≡ last_of s (record { written = w; after = s } ∷ [])) × (new ≡ old ++ written_by (record { written = w; after = s } ∷ []))
+pub told_done : {S : Type 0} (s now : S) (w old new : List ℕ) → now ≡ s → new ≡ old ++ w
+    → (now ≡ last_of s (record { written = w; after = s } ∷ [])) × (new ≡ old ++ written_by (record { written = w; after = s } ∷ []))
 unfolding last_of written_by
 told_done s now w old new same written = (same, written ∙ ap (λ xs. old ++ xs) (sym (append-nil w)))
 
-pub well_in : {S : Type 0} (es fs : List (Step S)) (s now : S) (old new : List ℕ) → es ≡ fs → (now ≡ last_of s fs) × (new ≡ old ++ written_by fs) → (now ≡ last_of s es) × (new ≡ old ++ written_by es)
+pub well_in : {S : Type 0} (es fs : List (Step S)) (s now : S) (old new : List ℕ) → es ≡ fs
+    → (now ≡ last_of s fs) × (new ≡ old ++ written_by fs) → (now ≡ last_of s es) × (new ≡ old ++ written_by es)
 well_in es fs s now old new same h = (h.0 ∙ ap (last_of s) (sym same), h.1 ∙ ap (λ xs. old ++ written_by xs) (sym same))

@@ -11,7 +11,8 @@ use Rattle.session_replay.specs.Code.Messages.{operation_of, operations_of}
 use Rattle.session_replay.specs.Generating.{Counts, one_more, counts_of, all_counted}
 
 abbrev pub added : Counts → Counts → Counts
-added a b = record { inserts = a.inserts + b.inserts; deletes = a.deletes + b.deletes; undos = a.undos + b.undos; redos = a.redos + b.redos }
+added a b =
+    record { inserts = a.inserts + b.inserts; deletes = a.deletes + b.deletes; undos = a.undos + b.undos; redos = a.redos + b.redos }
 
 -- ---- sums
 
@@ -20,7 +21,8 @@ counted_more (inserting n p ch c) k = omega arith
 counted_more (deleting n p c) k = omega arith
 counted_more (undoing a t g c) k = by_force (is_even g)
   where
-    by_force : (b : Bool) → all_counted (if b then record k { redos = k.redos + 1 } else record k { undos = k.undos + 1 }) ≡ suc (all_counted k)
+    by_force : (b : Bool) → all_counted (if b then record k { redos = k.redos + 1 } else record k { undos = k.undos + 1 })
+        ≡ suc (all_counted k)
     by_force true = omega arith
     by_force false = omega arith
 
@@ -33,15 +35,43 @@ shift : (a b : ℕ) → a + (b + 1) ≡ (a + 1) + b
 shift a b = omega arith
 
 added_more : (o : OpData) (a b : Counts) → added a (one_more o b) ≡ added (one_more o a) b
-added_more (inserting n p ch c) a b = λ i. record { inserts = shift a.inserts b.inserts i; deletes = a.deletes + b.deletes; undos = a.undos + b.undos; redos = a.redos + b.redos }
-added_more (deleting n p c) a b = λ i. record { inserts = a.inserts + b.inserts; deletes = shift a.deletes b.deletes i; undos = a.undos + b.undos; redos = a.redos + b.redos }
+added_more (inserting n p ch c) a b =
+    λ i. record {
+      inserts = shift a.inserts b.inserts i;
+      deletes = a.deletes + b.deletes;
+      undos = a.undos + b.undos;
+      redos =
+          a.redos + b.redos;
+    }
+added_more (deleting n p c) a b =
+    λ i. record {
+      inserts = a.inserts + b.inserts;
+      deletes = shift a.deletes b.deletes i;
+      undos = a.undos + b.undos;
+      redos =
+          a.redos + b.redos;
+    }
 added_more (undoing x t g c) a b = by_force (is_even g)
   where
     by_force : (e : Bool)
         → added a (if e then record b { redos = b.redos + 1 } else record b { undos = b.undos + 1 })
         ≡ added (if e then record a { redos = a.redos + 1 } else record a { undos = a.undos + 1 }) b
-    by_force true = λ i. record { inserts = a.inserts + b.inserts; deletes = a.deletes + b.deletes; undos = a.undos + b.undos; redos = shift a.redos b.redos i }
-    by_force false = λ i. record { inserts = a.inserts + b.inserts; deletes = a.deletes + b.deletes; undos = shift a.undos b.undos i; redos = a.redos + b.redos }
+    by_force true =
+        λ i. record {
+          inserts = a.inserts + b.inserts;
+          deletes = a.deletes + b.deletes;
+          undos = a.undos + b.undos;
+          redos =
+              shift a.redos b.redos i;
+        }
+    by_force false =
+        λ i. record {
+          inserts = a.inserts + b.inserts;
+          deletes = a.deletes + b.deletes;
+          undos = shift a.undos b.undos i;
+          redos =
+              a.redos + b.redos;
+        }
 
 -- ---- a walk over messages
 
@@ -58,7 +88,13 @@ nothing_more n = omega arith
 pub tally_first : (os : List OpData) → IsTally os 0 no_counts
 tally_first os =
     let k = counts_of os in
-    λ i. record { inserts = nothing_more k.inserts i; deletes = nothing_more k.deletes i; undos = nothing_more k.undos i; redos = nothing_more k.redos i }
+    λ i. record {
+      inserts = nothing_more k.inserts i;
+      deletes = nothing_more k.deletes i;
+      undos = nothing_more k.undos i;
+      redos =
+          nothing_more k.redos i;
+    }
 
 pub tally_next : (ss : List State) (ms : List Message) (i : ℕ) (d : Message) (o : OpData) (a : Counts)
     → i < length ms → o ≡ operation_of ss (get_or ms i d) → IsTally (operations_of ss ms) i a

@@ -21,7 +21,8 @@ use Rattle.session_replay.proofs.Derivation.{line_same}
 
 -- ---- one line
 
-shows_text : (l : Line) (i : ℕ) (d : SessionData) (es : List (Step SessionData)) → line_steps l d ≡ Ok es → l ≡ Show i → IsShown d i (written_by es)
+shows_text : (l : Line) (i : ℕ) (d : SessionData) (es : List (Step SessionData)) → line_steps l d ≡ Ok es → l ≡ Show i
+    → IsShown d i (written_by es)
 unfolding written_by
 shows_text l i d es is show =
     let steps : line_steps (Show i) d ≡ Ok es = ap (λ k. line_steps k d) (sym show) ∙ is in
@@ -38,7 +39,8 @@ shows_text l i d es is show =
 abbrev entry_of : (p : Piece) (d : SessionData) (es : List (Step SessionData)) → Reads p d es → Lasting d es → Entry
 entry_of p d es reads lasts = record { piece = p; line = reads.line; before = d; events = lasts.events.events }
 
-is_entry : (p : Piece) (d : SessionData) (es : List (Step SessionData)) (reads : Reads p d es) (lasts : Lasting d es) → Rests d → IsEntry (entry_of p d es reads lasts)
+is_entry : (p : Piece) (d : SessionData) (es : List (Step SessionData)) (reads : Reads p d es) (lasts : Lasting d es) → Rests d
+    → IsEntry (entry_of p d es reads lasts)
 is_entry p d es reads lasts rests = record {
   read = reads.read;
   steps = steps;
@@ -69,7 +71,8 @@ record Follows (n : ℕ) (ps : List Piece) (d : SessionData) (r : Report) : Type
   end : IsEnd (n + length entries) (after_entries d entries) left ending r.refused
   written : r.written ≡ concat (map written_in entries) ++ ending
 
-refused_follows : (n : ℕ) (p : Piece) (ps : List Piece) (d : SessionData) (why : Refusal) → piece_steps p d ≡ Err why → Follows n (p ∷ ps) d (record { written = refused_text n why; refused = true })
+refused_follows : (n : ℕ) (p : Piece) (ps : List Piece) (d : SessionData) (why : Refusal) → piece_steps p d ≡ Err why
+    → Follows n (p ∷ ps) d (record { written = refused_text n why; refused = true })
 refused_follows n p ps d why is = record {
   entries = [];
   left = p ∷ ps;
@@ -84,7 +87,8 @@ refused_follows n p ps d why is = record {
     here : n ≡ n + 0
     here = omega arith
 
-line_follows : (n : ℕ) (e : Entry) (ps : List Piece) (r : Report) → IsEntry e → Follows (n + 1) ps (after_entry e) r → Follows n (e.piece ∷ ps) e.before (prepended (written_in e) r)
+line_follows : (n : ℕ) (e : Entry) (ps : List Piece) (r : Report) → IsEntry e → Follows (n + 1) ps (after_entry e) r
+    → Follows n (e.piece ∷ ps) e.before (prepended (written_in e) r)
 line_follows n e ps r is rest = record {
   entries = e ∷ rest.entries;
   left = rest.left;
@@ -116,7 +120,8 @@ lines_follow (p ∷ ps) n d rests = from (λ e after. lines_follow ps (n + 1) e 
     next : SessionData → Report
     next = report_from (n + 1) ps
 
-    from : ((e : SessionData) → Rests e → Follows (n + 1) ps e (next e)) → (r : Result (List (Step SessionData)) Refusal) → piece_steps p d ≡ r → Follows n (p ∷ ps) d (report_on next n (piece_steps p d) d)
+    from : ((e : SessionData) → Rests e → Follows (n + 1) ps e (next e)) → (r : Result (List (Step SessionData)) Refusal)
+        → piece_steps p d ≡ r → Follows n (p ∷ ps) d (report_on next n (piece_steps p d) d)
     from later (Err why) is = subst (λ r. Follows n (p ∷ ps) d (report_on next n r d)) (sym is) (refused_follows n p ps d why is)
     from later (Ok es) is =
         let reads = piece_reads p d es is in
@@ -129,7 +134,17 @@ lines_follow (p ∷ ps) n d rests = from (λ e after. lines_follow ps (n + 1) e 
 pub report_transcript : (bytes : List ℕ) → IsTranscript bytes (script_report bytes)
 report_transcript bytes =
     let f = lines_follow (pieces_of bytes) 1 unstarted unstarted_rests in
-    record { entries = f.entries; left = f.left; ending = f.ending; lines = f.lines; consecutive = f.consecutive; done = f.done; end = f.end; written = f.written }
+    record {
+      entries = f.entries;
+      left = f.left;
+      ending = f.ending;
+      lines = f.lines;
+      consecutive = f.consecutive;
+      done = f.done;
+      end =
+          f.end;
+      written = f.written;
+    }
 
 -- ---- no other report
 
@@ -143,19 +158,24 @@ end_once n d (p ∷ left) r end =
     (λ i. record { written = end.2 i; refused = end.3 i }) ∙ ap (λ x. report_on (report_from (n + 1) left) n x d) (sym end.1)
 
 entries_once : (es : List Entry) (n : ℕ) (d : SessionData) (left : List Piece) (ending : List ℕ) (r : Report)
-    → AreConsecutive d es → ((e : Entry) → Contains es e → IsEntry e) → IsEnd (n + length es) (after_entries d es) left ending r.refused → r.written ≡ concat (map written_in es) ++ ending
+    → AreConsecutive d es → ((e : Entry) → Contains es e → IsEntry e) → IsEnd (n + length es) (after_entries d es) left ending r.refused
+    → r.written ≡ concat (map written_in es) ++ ending
     → r ≡ report_from n (map (λ e. e.piece) es ++ left) d
 unfolding report_from_in
 entries_once [] n d left ending r follow are end written =
-    end_once n d left r (subst (λ k. IsEnd k d left r.written r.refused) here (subst (λ w. IsEnd (n + 0) d left w r.refused) (sym written) end))
+    end_once n d left r (subst (λ k. IsEnd k d left r.written r.refused) here
+    (subst (λ w. IsEnd (n + 0) d left w r.refused) (sym written) end))
   where
     here : n + 0 ≡ n
     here = omega arith
 entries_once (e ∷ es) n d left ending r follow are end written =
     let rest : Report = record { written = concat (map written_in es) ++ ending; refused = r.refused } in
     let after = after_entry e in
-    let later = entries_once es (n + 1) after left ending rest follow.1 (λ x at. are x (contains_later e es x at)) (subst (λ k. IsEnd k (after_entries after es) left ending r.refused) next end) refl in
-    let steps : piece_steps e.piece d ≡ Ok (steps_in e) = ap (piece_steps e.piece) (sym follow.0) ∙ entry_steps e (are e (contains_here e es)) in
+    let later =
+    entries_once es (n + 1) after left ending rest follow.1 (λ x at. are x (contains_later e es x at))
+    (subst (λ k. IsEnd k (after_entries after es) left ending r.refused) next end) refl in
+    let steps : piece_steps e.piece d ≡ Ok (steps_in e) =
+    ap (piece_steps e.piece) (sym follow.0) ∙ entry_steps e (are e (contains_here e es)) in
     let last : last_of d (steps_in e) ≡ after = ap (λ x. last_of x (steps_in e)) (sym follow.0) in
     let more = report_from (n + 1) (map (λ x. x.piece) es ++ left) in
     (λ i. record { written = (written ∙ append_assoc (written_in e) (concat (map written_in es)) ending) i; refused = r.refused })
@@ -167,4 +187,5 @@ entries_once (e ∷ es) n d left ending r follow are end written =
 
 pub transcript_once : (bytes : List ℕ) (r : Report) → IsTranscript bytes r → r ≡ script_report bytes
 transcript_once bytes r is =
-    entries_once is.entries 1 unstarted is.left is.ending r is.consecutive is.done is.end is.written ∙ ap (λ ps. report_from 1 ps unstarted) (sym is.lines)
+    entries_once is.entries 1 unstarted is.left is.ending r is.consecutive is.done is.end is.written
+    ∙ ap (λ ps. report_from 1 ps unstarted) (sym is.lines)

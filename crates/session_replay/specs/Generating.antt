@@ -179,7 +179,8 @@ pub record IsAlone (p : Plan) (i : ℕ) (s : State) : Type 0 where
   pub quiet : s.waiting ≡ []
   pub made : length s.history ≡ turns p i p.events
   pub own : (o : OpData) → Contains s.history o → (target_of (member_of o)).site ≡ i
-  pub one : (o q : OpData) (n : NameData) → Contains s.history o → Contains s.history q → member_of o ≡ Original n → member_of q ≡ Original n → o ≡ q
+  pub one : (o q : OpData) (n : NameData) → Contains s.history o → Contains s.history q → member_of o ≡ Original n
+      → member_of q ≡ Original n → o ≡ q
 
 -- where no message is delivered, each site has its own operations alone
 abbrev pub SitesStayAlone : Type 0

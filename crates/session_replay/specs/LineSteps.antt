@@ -47,7 +47,8 @@ abbrev pub typed : ℕ → ℕ → List ℕ → SessionData → List (Step Sessi
 typed i v chs d = typed_in history_view i v chs d
 
 -- what bytes of `raw` begin with: a frame is delivered, and what follows it goes on; bytes that begin with none are reported
-abbrev pub framed_on : (List ℕ → SessionData → List (Step SessionData)) → ℕ → List ℕ → Result (OpData × ℕ) Refused → SessionData → List (Step SessionData)
+abbrev pub framed_on : (List ℕ → SessionData → List (Step SessionData)) → ℕ → List ℕ → Result (OpData × ℕ) Refused → SessionData
+    → List (Step SessionData)
 framed_on next i bytes (Ok p) d = and_then d (given false i p.0 d) (next (drop p.1 bytes))
 framed_on next i bytes (Err (More least)) d = told (raw_more_text i least) d
 framed_on next i bytes (Err (Bad f)) d = told (raw_bad_text i (cause_word f.cause) f.offset) d

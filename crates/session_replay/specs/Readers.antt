@@ -12,7 +12,8 @@ use Rattle.session_replay.specs.ReaderData.{ReaderData}
 
 -- the lines of these bytes, where so many others stand before them in the script
 abbrev pub pieces_after : ℕ → List ℕ → List Piece
-pieces_after n bytes = if nat_le (n + length bytes) MAX_SCRIPT then map Whole (lines_of bytes) else cut_off (lines_of (take (MAX_SCRIPT - n) bytes))
+pieces_after n bytes =
+    if nat_le (n + length bytes) MAX_SCRIPT then map Whole (lines_of bytes) else cut_off (lines_of (take (MAX_SCRIPT - n) bytes))
 
 -- an input of which nothing is left, and so many bytes were fed
 abbrev pub nothing_left : ℕ → InputData
@@ -28,7 +29,8 @@ pub record Keeps (r : ReaderData) (all written : List ℕ) : Type 0 where
   pub within : length done ≤ MAX_SCRIPT
   pub input : r.input ≡ fed_with (nothing_left (length done)) left
   pub few : r.number ≤ 1 + length done
-  pub goes_on : (more : List ℕ) → script_report (done ++ more) ≡ prepended written (report_from r.number (pieces_after (length done) more) r.session)
+  pub goes_on : (more : List ℕ) → script_report (done ++ more)
+      ≡ prepended written (report_from r.number (pieces_after (length done) more) r.session)
 
 -- a reader that keeps what was done of some bytes
 pub record KeepsSome (r : ReaderData) : Type 0 where

@@ -98,7 +98,8 @@ after_entries d (e ∷ es) = after_entries (after_entry e) es
 -- how a script ends in this session, with these of its lines left: none; or the first of them, of this number, is refused
 abbrev pub IsEnd : ℕ → SessionData → List Piece → List ℕ → Bool → Type 0
 IsEnd number d [] written refused = (written ≡ []) × (refused ≡ false)
-IsEnd number d (p ∷ left) written refused = (why : Refusal) × (piece_steps p d ≡ Err why) × (written ≡ refused_text number why) × (refused ≡ true)
+IsEnd number d (p ∷ left) written refused =
+    (why : Refusal) × (piece_steps p d ≡ Err why) × (written ≡ refused_text number why) × (refused ≡ true)
 
 -- what was written for a script, and whether it was refused: its lines were done one after the other, from a session with no site
 -- on; what is written is what is written for each, and then the refusal, if there is one

@@ -46,7 +46,8 @@ pub record IsTold {T E : Type 0} (edit : Edit) (number : ℕ) (told : Result T E
 
 -- the answer of a line with these steps, or with this refusal: all steps are done and written; or, out of memory, the first
 -- few are done; or the line is refused, and nothing changed; what was written before is there
-abbrev pub IsLineDone : {T : Type 0} → Result (List (Step SessionData)) Refusal → Result T StepBad → SessionData → SessionData → List ℕ → List ℕ → Type 0
+abbrev pub IsLineDone : {T : Type 0} → Result (List (Step SessionData)) Refusal → Result T StepBad → SessionData → SessionData → List ℕ
+    → List ℕ → Type 0
 IsLineDone (Ok es) (Ok t) d now old new = (now ≡ last_of d es) × (new ≡ old ++ written_by es)
 IsLineDone (Ok es) (Err why) d now old new = (why ≡ Memory) × IsReached d es now × IsFront old new
 IsLineDone (Err why) (Ok t) d now old new = ⊥

@@ -23,15 +23,19 @@ loop-event-preserved c =
     let p = plan_of c.args.start c.args.order in
     let k = c.loop-event.event in
     let was = c.loop-event.invariant in
-    let next = session_next p k c.loop-event.session _ c.loop-event.draws.number c.event.result was.session was.number c.event.ensures.draws c.in_ok-act.ensures.done.0 in
+    let next =
+    session_next p k c.loop-event.session _ c.loop-event.draws.number c.event.result was.session was.number c.event.ensures.draws
+    c.in_ok-act.ensures.done.0 in
     record {
       session = elim c.if-is_due.branch [
-        | then-is_due+in_ok-sync w ↦ w.session-is ∙ (synced_due (is_due p (k + 1)) _ _ (sym c.is_due.ensures ∙ w.if-is_due.true) w.in_ok-sync.ensures.done.0 ∙ next)
+        | then-is_due+in_ok-sync w ↦ w.session-is
+            ∙ (synced_due (is_due p (k + 1)) _ _ (sym c.is_due.ensures ∙ w.if-is_due.true) w.in_ok-sync.ensures.done.0 ∙ next)
         | else-is_due w ↦ w.session-is ∙ (not_due (is_due p (k + 1)) _ (sym c.is_due.ensures ∙ w.if-is_due.false) ∙ next)
       ];
       number = number_next p k c.loop-event.draws.number _ was.number c.event.ensures.number;
       sites = elim c.if-is_due.branch [
-        | then-is_due+in_ok-sync w ↦ ap (λ (d : SessionData). length d.sites) w.session-is ∙ (w.in_ok-sync.ensures.sites ∙ (c.in_ok-act.ensures.sites ∙ was.sites))
+        | then-is_due+in_ok-sync w ↦ ap (λ (d : SessionData). length d.sites) w.session-is
+            ∙ (w.in_ok-sync.ensures.sites ∙ (c.in_ok-act.ensures.sites ∙ was.sites))
         | else-is_due w ↦ ap (λ (d : SessionData). length d.sites) w.session-is ∙ (c.in_ok-act.ensures.sites ∙ was.sites)
       ];
       end = refl;

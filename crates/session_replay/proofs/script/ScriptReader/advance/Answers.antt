@@ -22,8 +22,10 @@ returns-in-Ok-Some-clause-done c = λ e all before k.
     let r = c.self.inside in
     let old : ReaderData = record { input = r.lines; number = r.number; session = r.running.session } in
     let new : ReaderData = record { input = c.take.new.self; number = c.do_line.new.number; session = c.do_line.new.running.session } in
-    let takes : TakesLine r.lines (Ok (Some c.in-Ok-Some.line)) c.take.new.self = rw c.in-Ok-Some.field-0-is at c.in-Ok-Some.ensures.taken in
-    line_goes c.do_line.result Done old new c.in-Ok-Some.line c.args.out.now.items c.do_line.new.out.items takes c.do_line.ensures.report c.do_line.ensures.number e all before
+    let takes : TakesLine r.lines (Ok (Some c.in-Ok-Some.line)) c.take.new.self =
+    rw c.in-Ok-Some.field-0-is at c.in-Ok-Some.ensures.taken in
+    line_goes c.do_line.result Done old new c.in-Ok-Some.line c.args.out.now.items c.do_line.new.out.items takes c.do_line.ensures.report
+    c.do_line.ensures.number e all before
     (subst (λ (x : ReaderData). Keeps x all (before ++ c.args.out.now.items)) (sym c.self.view_is) k)
 
 pub returns-in-Ok-Some-clause-awaited : goal.returns-in-Ok-Some-clause-awaited
@@ -34,15 +36,19 @@ returns-in-Ok-Some-clause-refused c = λ e all before k.
     let r = c.self.inside in
     let old : ReaderData = record { input = r.lines; number = r.number; session = r.running.session } in
     let new : ReaderData = record { input = c.take.new.self; number = c.do_line.new.number; session = c.do_line.new.running.session } in
-    let takes : TakesLine r.lines (Ok (Some c.in-Ok-Some.line)) c.take.new.self = rw c.in-Ok-Some.field-0-is at c.in-Ok-Some.ensures.taken in
-    line_goes c.do_line.result Refused old new c.in-Ok-Some.line c.args.out.now.items c.do_line.new.out.items takes c.do_line.ensures.report c.do_line.ensures.number e all before
+    let takes : TakesLine r.lines (Ok (Some c.in-Ok-Some.line)) c.take.new.self =
+    rw c.in-Ok-Some.field-0-is at c.in-Ok-Some.ensures.taken in
+    line_goes c.do_line.result Refused old new c.in-Ok-Some.line c.args.out.now.items c.do_line.new.out.items takes c.do_line.ensures.report
+    c.do_line.ensures.number e all before
     (subst (λ (x : ReaderData). Keeps x all (before ++ c.args.out.now.items)) (sym c.self.view_is) k)
 
 pub returns-in-Err-clause-refused : goal.returns-in-Err-clause-refused
 returns-in-Err-clause-refused c = λ e all before k.
     let r = c.self.inside in
     let old : ReaderData = record { input = r.lines; number = r.number; session = r.running.session } in
-    unread_goes old c.take.new.self c.in-Err.why c.args.out.now.items c.refuse.new.out.items c.in-Err.ensures.taken (told_by c.refuse.result Refused c.in-Err.why r.number c.args.out.now.items c.refuse.new.out.items e c.refuse.ensures.told) all before
+    unread_goes old c.take.new.self c.in-Err.why c.args.out.now.items c.refuse.new.out.items c.in-Err.ensures.taken
+    (told_by c.refuse.result Refused c.in-Err.why r.number c.args.out.now.items c.refuse.new.out.items e c.refuse.ensures.told) all
+    before
     (subst (λ (x : ReaderData). Keeps x all (before ++ c.args.out.now.items)) (sym c.self.view_is) k)
 
 pub returns-in-Ok-Some-clause-needed : goal.returns-in-Ok-Some-clause-needed
@@ -51,10 +57,12 @@ returns-in-Ok-Some-clause-needed c =
     let line = c.in-Ok-Some.line in
     let takes : TakesLine r.lines (Ok (Some line)) c.take.new.self = rw c.in-Ok-Some.field-0-is at c.in-Ok-Some.ensures.taken in
     err_from c.do_line.result
-    (λ some. subst (λ (x : ReaderData). NextDoesSomething x.input x.session) c.self.view_is (read_does r.lines line r.running.session takes.1.0 some)) c.do_line.ensures.needed
+    (λ some. subst (λ (x : ReaderData). NextDoesSomething x.input x.session) c.self.view_is
+    (read_does r.lines line r.running.session takes.1.0 some)) c.do_line.ensures.needed
 
 pub returns-in-Err-clause-needed : goal.returns-in-Err-clause-needed
 returns-in-Err-clause-needed c =
     let r = c.self.inside in
     on_err c.refuse.result
-    (subst (λ (x : ReaderData). NextDoesSomething x.input x.session) c.self.view_is (unread_does r.lines c.take.new.self c.in-Err.why r.running.session c.in-Err.ensures.taken))
+    (subst (λ (x : ReaderData). NextDoesSomething x.input x.session) c.self.view_is
+    (unread_does r.lines c.take.new.self c.in-Err.why r.running.session c.in-Err.ensures.taken))

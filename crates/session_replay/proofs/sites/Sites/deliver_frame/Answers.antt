@@ -43,7 +43,8 @@ returns-in_ok-raw_more_line-in-Ok-More-clause-done c =
 pub returns-in_ok-raw_bad_line-in-Ok-Bad-clause-done : goal.returns-in_ok-raw_bad_line-in-Ok-Bad-clause-done
 returns-in_ok-raw_bad_line-in-Ok-Bad-clause-done c =
     let is = sym (ap judgement_of c.in-Ok-Bad.field-0-is) ∙ c.in-Ok-Bad.ensures.exact in
-    let one = one_refused c.args.site c.args.bytes.now c.args.self.now (Bad (fault c.in-Ok-Bad.cause c.in-Ok-Bad.offset)) c.requires.some is in
+    let one =
+    one_refused c.args.site c.args.bytes.now c.args.self.now (Bad (fault c.in-Ok-Bad.cause c.in-Ok-Bad.offset)) c.requires.some is in
     let line = ap (λ w. c.args.out.now.items ++ raw_bad_text c.args.site w c.in-Ok-Bad.offset) c.word.ensures in
     well_in _ _ _ _ _ _ one (told_done _ _ _ _ _ refl (c.in_ok-raw_bad_line-in-Ok-Bad.ensures.ok ∙ line))
 

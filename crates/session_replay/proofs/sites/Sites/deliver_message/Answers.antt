@@ -34,7 +34,8 @@ returns-in-Ok-clause-done c = λ o at.
     let now = c.deliver_copy.new.self in
     let old = c.args.out.now.items in
     let new = c.deliver_copy.new.out.items in
-    subst (λ (p : OpData). AreDone c.deliver_copy.result (given c.args.many c.args.at p d) d now old new) (one_message d.messages n copy o here at)
+    subst (λ (p : OpData). AreDone c.deliver_copy.result (given c.args.many c.args.at p d) d now old new)
+    (one_message d.messages n copy o here at)
     c.deliver_copy.ensures.done
 
 pub returns-in-Err-clause-done : goal.returns-in-Err-clause-done

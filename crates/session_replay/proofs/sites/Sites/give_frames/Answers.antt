@@ -20,12 +20,22 @@ loop-rest-preserved c =
     let now = c.deliver_frame.new.self in
     let done = c.in-Ok-Some.ensures.done in
     let some : 0 < length rest = search rules in
-    let split = frames_on c.args.site rest c.loop-rest.self now c.in-Ok-Some.used some (sym c.in-Ok-Some.field-0-is ∙ c.in-Ok-Some.ensures.used) done.0 in
-    let split_after = split ∙ ap (λ (xs : List ℕ). framed 1 c.args.site rest c.loop-rest.self ++ framed (length xs) c.args.site xs now) (sym c.split_at-parts.ensures.back) in
+    let split =
+    frames_on c.args.site rest c.loop-rest.self now c.in-Ok-Some.used some (sym c.in-Ok-Some.field-0-is ∙ c.in-Ok-Some.ensures.used)
+    done.0 in
+    let split_after =
+    split ∙ ap (λ (xs : List ℕ). framed 1 c.args.site rest c.loop-rest.self ++ framed (length xs) c.args.site xs now)
+    (sym c.split_at-parts.ensures.back) in
     record {
       along = along_part _ _ _ _ _ _ _ _ _ _ c.loop-rest.invariant.along split_after done.0 done.1;
       sites = c.in-Ok-Some.ensures.sites ∙ c.loop-rest.invariant.sites;
-      shorter = omega (arith, c.loop-rest.invariant.shorter, ap (λ (xs : List ℕ). length xs) c.split_at-parts.ensures.back, length-drop c.in-Ok-Some.used rest);
+      shorter =
+          omega (
+            arith,
+            c.loop-rest.invariant.shorter,
+            ap (λ (xs : List ℕ). length xs) c.split_at-parts.ensures.back,
+            length-drop c.in-Ok-Some.used rest,
+          );
     }
 
 pub returns-in-Ok-None-clause-done : goal.returns-in-Ok-None-clause-done
@@ -41,7 +51,8 @@ returns-in-Err-clause-done c =
     let rest = c.loop-rest.rest.now in
     let some : 0 < length rest = search rules in
     let part = frames_part c.args.site rest c.loop-rest.self some in
-    along_short _ _ _ _ c.loop-rest.self _ _ _ c.loop-rest.invariant.along (reached_in _ _ _ _ _ _ part.1 (done_short _ part.0 _ _ _ _ c.in-Err.ensures.done))
+    along_short _ _ _ _ c.loop-rest.self _ _ _ c.loop-rest.invariant.along
+    (reached_in _ _ _ _ _ _ part.1 (done_short _ part.0 _ _ _ _ c.in-Err.ensures.done))
 
 pub returns-clause-done : goal.returns-clause-done
 returns-clause-done c =

@@ -6,7 +6,8 @@ use Rattle.session_replay.proofs.sites.Sites.give_frames.Given as goal
 -- the frames of the rest are left
 abbrev pub invariant-loop-rest : goal.invariant-loop-rest
 invariant-loop-rest l = record {
-  along : IsAlong (framed (length l.bytes) l.site l.bytes l.fn.self) l.fn.self l.fn.out.items (framed (length l.rest) l.site l.rest l.self) l.self l.out.items;
+  along : IsAlong (framed (length l.bytes) l.site l.bytes l.fn.self) l.fn.self l.fn.out.items (framed (length l.rest) l.site l.rest l.self)
+      l.self l.out.items;
   sites : length l.self.sites ≡ length l.fn.self.sites;
   shorter : length l.rest ≤ length l.bytes;
 }

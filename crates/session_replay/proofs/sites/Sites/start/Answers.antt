@@ -6,10 +6,14 @@ use Rattle.session_replay.proofs.sites.Sites.start.Goals as goal
 
 pub returns-in-Ok : goal.returns-in-Ok
 returns-in-Ok c =
-    let steps = opening_steps c.args.count c.args.self.now (sym c.is_started.ensures ∙ c.if-is_started.false) (le-leb c.args.count SITES c.if-count-gt-SITES.false) in
+    let steps =
+    opening_steps c.args.count c.args.self.now (sym c.is_started.ensures ∙ c.if-is_started.false)
+    (le-leb c.args.count SITES c.if-count-gt-SITES.false) in
     sites_made _ c.args.count c.args.self.now _ steps (c.drop.view_is ∙ c.in-Ok.ensures)
 
 pub returns-in-Err : goal.returns-in-Err
 returns-in-Err c =
-    let steps = opening_steps c.args.count c.args.self.now (sym c.is_started.ensures ∙ c.if-is_started.false) (le-leb c.args.count SITES c.if-count-gt-SITES.false) in
+    let steps =
+    opening_steps c.args.count c.args.self.now (sym c.is_started.ensures ∙ c.if-is_started.false)
+    (le-leb c.args.count SITES c.if-count-gt-SITES.false) in
     sites_short _ _ c.args.self.now steps

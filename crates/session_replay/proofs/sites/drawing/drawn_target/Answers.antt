@@ -11,7 +11,8 @@ pub returns-then-originals-eq0 : goal.returns-then-originals-eq0
 returns-then-originals-eq0 c =
     let h = c.args.site.now.history in
     let rank : c.rank-originals.result ≡ rank_of (context_of_all h) = c.rank-originals.ensures.rank ∙ ap rank_of c.vector-have.ensures in
-    sym (slice_get_past (names_of h) (c.args.place % length (names_of h)) (omega (arith, rank, names_number (context_of_all h).counts, c.if-originals-eq0.true)))
+    sym (slice_get_past (names_of h) (c.args.place % length (names_of h))
+    (omega (arith, rank, names_number (context_of_all h).counts, c.if-originals-eq0.true)))
 
 pub named_at-requires : goal.named_at-requires
 named_at-requires c =
@@ -23,5 +24,6 @@ pub returns : goal.returns
 returns c =
     let h = c.args.site.now.history in
     let counts = c.sites_read.ensures ∙ ap (λ (v : ContextData). v.counts) c.vector-have.ensures in
-    let number : c.rank-originals.result ≡ length (names_of h) = c.rank-originals.ensures.rank ∙ (ap rank_of c.vector-have.ensures ∙ sym (names_number (context_of_all h).counts)) in
+    let number : c.rank-originals.result ≡ length (names_of h) =
+    c.rank-originals.ensures.rank ∙ (ap rank_of c.vector-have.ensures ∙ sym (names_number (context_of_all h).counts)) in
     c.named_at.ensures ∙ (λ i. slice_get (names_in (counts i)) (c.args.place % number i))
