@@ -1,103 +1,107 @@
 -- An edit as it is done makes what is defined.
-use Rattle.std.proofs.Common.{◌≡◌, ℕ, suc, ◌+◌, ◌<◌, ◌≤◌, true, List, ◌∷◌, ◌++◌, refl, sym, ap, subst, ◌∙◌, arith, length, drop, get_or}
-use Rattle.std.specs.Prelude.{⊤, Bool, OnOk, OnErr, IfOk, Option, Some, None, Result, Ok, Err}
-use Rattle.std.proofs.Math.Seq.{drop-cons}
-use Rattle.std.proofs.lemmas.List.{drop_all}
-use Rattle.context_diff.specs.Operations.{OpData, inserting}
-use Rattle.context_diff.specs.declared.op.TheConstants.{PLACES}
-use Rattle.context_diff.specs.Histories.{IsValid, context_of_all}
-use Rattle.context_diff.specs.Replays.{characters_of}
-use Rattle.cot_site.specs.States.{State, with_last}
-use Rattle.cot_site.specs.Releases.{settled}
-use Rattle.cot_site.specs.Commands.{local_insert, place_behind, numbered, next_name, IsAnswer}
+use Rattle.std.proofs.Common.{◌≡◌, ℕ, ◌+◌, true, inl, inr, List, [], ◌∷◌, ◌++◌, refl, sym, ap, subst, ◌∙◌}
+use Rattle.std.specs.Prelude.{⊤, Bool, IfOk, Some, Result, Ok, Err}
+use Rattle.context_diff.specs.Operations.{OpData}
+use Rattle.context_diff.specs.declared.op.Op.{Op}
+use Rattle.context_diff.specs.Ops.{data_of}
+use Rattle.cot_site.specs.States.{State}
+use Rattle.cot_site.specs.Commands.{IsAnswer}
 use Rattle.site_answers.specs.declared.local.Local.{Local}
 use Rattle.site_answers.specs.declared.local.Local.TheVariants as local
-use Rattle.cot_site.proofs.CallerLemmas.{behind_few}
+use Rattle.participant.specs.declared.edits.Edit.{Edit}
+use Rattle.participant.specs.declared.edits.Edit.TheVariants.{Insert}
+use Rattle.participant.specs.declared.edits.Stopped.{Stopped}
+use Rattle.participant.specs.declared.edits.Stopped.TheVariants as stopped
+use Rattle.participant.specs.Reached.{Reached, from, with_one, all_settled}
+use Rattle.participant.specs.Edits as participant
+use Rattle.participant.specs.Edits.{made_by}
+use Rattle.participant.specs.Runs.{inserts, Progress, after_answer, StopsAt, Runs}
 use Rattle.log_replies.specs.Answers.{IsAppended}
-use Rattle.log_replies.specs.Editing.{EditData, edited, made, then_next, typed}
-use Rattle.log_replies.specs.Code.Editing.{IsDone, IsEditReply}
+use Rattle.log_replies.specs.Editing.{EditData, edited, made, then_next, all_made}
+use Rattle.log_replies.specs.Code.Editing.{IsDone, IsEditReply, reason_of}
 use Rattle.log_replies.specs.Replies.{edit_reply, refused_edit_text}
 use Rattle.log_replies.proofs.Answering.{once_replied}
 
--- an operation was made, and all was released
-pub made_is : (s : State) (r : Result OpData Local) (o : OpData) (after end : State) → r ≡ Ok o → after ≡ with_last s o
-    → end ≡ settled after → made s r ≡ Ok end
-made_is s r o after end is last all = ap (made s) is ∙ ap Ok (ap settled (sym last) ∙ sym all)
+-- an edit that stopped is done as is defined, where that is a refusal for the same reason; out of memory says nothing
+stops_for : (defined : Result State Local) (r : Result OpData Local) (why : Local) (t : State) → ((w : Local) → r ≡ Err w → defined ≡ Err w)
+    → IsAnswer r (Err why) → IsDone defined (Err why) t
+stops_for defined r (local.PlaceOut place visible) t refuses is = refuses (local.PlaceOut place visible) is
+stops_for defined r (local.Unknown name) t refuses is = refuses (local.Unknown name) is
+stops_for defined r (local.NotInForce g) t refuses is = refuses (local.NotInForce g) is
+stops_for defined r (local.InForce g) t refuses is = refuses (local.InForce g) is
+stops_for defined r local.GenerationFull t refuses is = refuses local.GenerationFull is
+stops_for defined r local.NumberFull t refuses is = refuses local.NumberFull is
+stops_for defined r (local.ContextFull entries) t refuses is = refuses (local.ContextFull entries) is
+stops_for defined r local.Memory t refuses is = tt
 
--- none was made
-pub made_none : (s t : State) (r : Result OpData Local) (why : Local) → IsAnswer r (Err why) → IsDone (made s r) (Err why) t
-made_none s t r (local.PlaceOut place visible) is = ap (made s) is
-made_none s t r (local.Unknown name) is = ap (made s) is
-made_none s t r (local.NotInForce g) is = ap (made s) is
-made_none s t r (local.InForce g) is = ap (made s) is
-made_none s t r local.GenerationFull is = ap (made s) is
-made_none s t r local.NumberFull is = ap (made s) is
-made_none s t r (local.ContextFull entries) is = ap (made s) is
-made_none s t r local.Memory is = tt
+-- where the first edit has no operation, none of them is made
+none_made : (e : Edit) (es : List Edit) (s : State) (why : Local) → made_by e s ≡ Err why → all_made (e ∷ es) s ≡ Err why
+unfolding all_made
+none_made e es s why is = ap (λ (r : Result OpData Local). then_next (all_made es) (made s r)) is
 
--- out of memory in the releases
-pub done_short : (edited : Result State Local) (r : Result ⊤ Local) (t : State) → r ≡ Err local.Memory → IsDone edited r t
-done_short edited r t is = subst (λ x. IsDone edited x t) (sym is) tt
+-- where it has one, the others come after it
+first_made : (e : Edit) (es : List Edit) (s : State) (o : OpData) → made_by e s ≡ Ok o
+    → all_made (e ∷ es) s ≡ all_made es ((all_settled (with_one (from s) o)).state)
+unfolding all_made
+first_made e es s o is = ap (λ (r : Result OpData Local). then_next (all_made es) (made s r)) is
 
--- an operation was made, and then all was released, or memory ran out
-pub made_done : (s : State) (made_op : Result OpData Local) (o : OpData) (after end : State) (r : Result ⊤ Local)
-    → made_op ≡ Ok o → after ≡ with_last s o → OnOk r (end ≡ settled after) → OnErr r (r ≡ Err local.Memory)
-    → IsDone (made s made_op) r end
-made_done s made_op o after end (Ok u) is last all short = made_is s made_op o after end is last all
-made_done s made_op o after end (Err why) is last all short = done_short (made s made_op) (Err why) end short
+nothing_made : (s : State) → all_made [] s ≡ Ok s
+unfolding all_made
+nothing_made s = refl
 
--- the rest of a text, whose next character is this one
-typed_at : (v k : ℕ) (text : List ℕ) (s : State) (ch : ℕ) → k < length text → ch ≡ get_or text k ch
-    → typed v (drop k text) s ≡ then_next (typed (v + 1) (drop (k + 1) text)) (made s (local_insert s v ch))
-unfolding typed
-typed_at v k text s ch within is =
-    let cut : drop k text ≡ ch ∷ drop (k + 1) text =
-    drop-cons text k ch within ∙ ap (λ c. c ∷ drop (suc k) text) (sym is) ∙ ap (λ n. ch ∷ drop n text) (next_is k) in
-    ap (λ cs. typed v cs s) cut
-  where
-    next_is : (n : ℕ) → suc n ≡ n + 1
-    next_is n = omega arith
+-- ---- one edit
 
-pub typed_more : (v k : ℕ) (text : List ℕ) (s t : State) (ch : ℕ) → k < length text → ch ≡ get_or text k ch
-    → made s (local_insert s v ch) ≡ Ok t
-    → typed v (drop k text) s ≡ typed (v + 1) (drop (k + 1) text) t
-typed_more v k text s t ch within is ok = typed_at v k text s ch within is ∙ ap (then_next (typed (v + 1) (drop (k + 1) text))) ok
+pub one_made : (e : Edit) (a b : Reached) (o : Op) → participant.IsDone (made_by e a.state) a (Ok o) b
+    → IsDone (all_made (e ∷ []) a.state) (Ok tt) b.state
+one_made e a b o done =
+    first_made e [] a.state (data_of o) done.0
+    ∙ nothing_made ((all_settled (with_one (from a.state) (data_of o))).state)
+    ∙ ap (λ (x : Reached). Ok x.state) (sym done.1)
 
--- a refused character refuses the text
-pub typed_refused : (v k : ℕ) (text : List ℕ) (s t : State) (ch : ℕ) (why : Local) → k < length text → ch ≡ get_or text k ch
-    → IsDone (made s (local_insert s v ch)) (Err why) t → IsDone (typed v (drop k text) s) (Err why) t
-typed_refused v k text s t ch (local.PlaceOut place visible) within is never =
-    typed_at v k text s ch within is ∙ ap (then_next (typed (v + 1) (drop (k + 1) text))) never
-typed_refused v k text s t ch (local.Unknown name) within is never =
-    typed_at v k text s ch within is ∙ ap (then_next (typed (v + 1) (drop (k + 1) text))) never
-typed_refused v k text s t ch (local.NotInForce g) within is never =
-    typed_at v k text s ch within is ∙ ap (then_next (typed (v + 1) (drop (k + 1) text))) never
-typed_refused v k text s t ch (local.InForce g) within is never =
-    typed_at v k text s ch within is ∙ ap (then_next (typed (v + 1) (drop (k + 1) text))) never
-typed_refused v k text s t ch local.GenerationFull within is never =
-    typed_at v k text s ch within is ∙ ap (then_next (typed (v + 1) (drop (k + 1) text))) never
-typed_refused v k text s t ch local.NumberFull within is never =
-    typed_at v k text s ch within is ∙ ap (then_next (typed (v + 1) (drop (k + 1) text))) never
-typed_refused v k text s t ch (local.ContextFull entries) within is never =
-    typed_at v k text s ch within is ∙ ap (then_next (typed (v + 1) (drop (k + 1) text))) never
-typed_refused v k text s t ch local.Memory within is never = tt
+pub one_stopped : (e : Edit) (a b : Reached) (why : Stopped) → participant.IsDone (made_by e a.state) a (Err why) b
+    → IsDone (all_made (e ∷ []) a.state) (Err (reason_of why)) b.state
+one_stopped e a b (stopped.Refused why) done =
+    stops_for (all_made (e ∷ []) a.state) (made_by e a.state) why b.state (λ w. none_made e [] a.state w) done.0
+one_stopped e a b stopped.Unsettled done = tt
 
-pub typed_none : (v k : ℕ) (text : List ℕ) (s : State) → length text ≤ k → typed v (drop k text) s ≡ Ok s
-unfolding typed
-typed_none v k text s past = ap (λ cs. typed v cs s) (drop_all k text past)
+-- ---- a text
 
--- a character was inserted after at most PLACES others
-pub place_small : (s t : State) (v ch : ℕ) → IsValid s.history → made s (local_insert s v ch) ≡ Ok t → v ≤ PLACES
-place_small s t v ch valid ok = from (place_behind s.history v) refl ok
-  where
-    from : (r : Option ℕ) → place_behind s.history v ≡ r
-        → made s (elim r as (λ _. Result OpData Local) [
-          | None ↦ Err (local.PlaceOut v (length (characters_of s.history)))
-          | Some p ↦
-              numbered s (inserting (next_name s) p ch (context_of_all s.history))
-        ]) ≡ Ok t → v ≤ PLACES
-    from None at ok = cc
-    from (Some p) at ok = behind_few s.history valid v p at
+-- how a run ended, as it is answered
+abbrev pub IsEnded : Result State Local → Result ⊤ Stopped → State → Type 0
+IsEnded defined (Ok u) t = IsDone defined (Ok tt) t
+IsEnded defined (Err why) t = IsDone defined (Err (reason_of why)) t
+
+-- after an insert that was made
+after_insert : (v ch : ℕ) (es : List Edit) (r : Result OpData Local) (p next : Progress) → made_by (Insert v ch) p.reached.state ≡ r
+    → after_answer (Insert v ch) r p ≡ Some next
+    → all_made (Insert v ch ∷ es) p.reached.state ≡ all_made es next.reached.state
+after_insert v ch es (Ok o) p next is step =
+    let there : Progress = record { reached = all_settled (with_one p.reached o); made = p.made + 1 } in
+    let same : there ≡ next = cc in
+    first_made (Insert v ch) es p.reached.state o is ∙ ap (λ (x : Progress). all_made es x.reached.state) same
+after_insert v ch es (Err why) p next is step = absurd (let never = step in cc)
+
+text_stopped : (v ch : ℕ) (es : List Edit) (p q : Progress) (end : Result ⊤ Stopped) → StopsAt (Insert v ch) p end q
+    → IsEnded (all_made (Insert v ch ∷ es) p.reached.state) end q.reached.state
+text_stopped v ch es p q (Ok u) stop = absurd stop
+text_stopped v ch es p q (Err (stopped.Refused why)) stop =
+    stops_for (all_made (Insert v ch ∷ es) p.reached.state) (made_by (Insert v ch) p.reached.state) why q.reached.state
+    (λ w. none_made (Insert v ch) es p.reached.state w) stop.0
+text_stopped v ch es p q (Err stopped.Unsettled) stop = tt
+
+pub text_ended : (v : ℕ) (text : List ℕ) (p q : Progress) (end : Result ⊤ Stopped) → Runs (inserts v text) p end q
+    → IsEnded (all_made (inserts v text) p.reached.state) end q.reached.state
+unfolding Runs inserts
+text_ended v [] p q end (ends, at) =
+    subst (λ (x : Result ⊤ Stopped). IsEnded (all_made [] p.reached.state) x q.reached.state) (sym ends)
+    (nothing_made p.reached.state ∙ ap (λ (x : Progress). Ok x.reached.state) (sym at))
+text_ended v (ch ∷ text) p q end (inl (next, step, run)) =
+    subst (λ (x : Result State Local). IsEnded x end q.reached.state)
+    (sym (after_insert v ch (inserts (v + 1) text) (made_by (Insert v ch) p.reached.state) p next refl step))
+    (text_ended (v + 1) text next q end run)
+text_ended v (ch ∷ text) p q end (inr stop) = text_stopped v ch (inserts (v + 1) text) p q end stop
+
+-- ---- the reply
 
 -- a refused edit is replied by its reason
 pub refused_reply : (edit : Result State Local) (why : Local) (t : State) (old new : List ℕ) → IsDone edit (Err why) t

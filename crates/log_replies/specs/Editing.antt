@@ -1,11 +1,14 @@
 -- Edits, and what an edit makes of a site: its operations, each with the releases after it.
-use Rattle.std.specs.Prelude.{ℕ, ◌+◌, List, [], ◌∷◌, Result, Ok, Err, chars}
+use Rattle.std.specs.Prelude.{ℕ, List, [], ◌∷◌, Result, Ok, Err, chars}
 use Rattle.op_name.specs.NameData.{NameData}
 use Rattle.context_diff.specs.Operations.{OpData}
-use Rattle.cot_site.specs.States.{State, with_last}
-use Rattle.cot_site.specs.Releases.{settled}
-use Rattle.cot_site.specs.Commands.{local_insert, local_delete, local_undo, local_redo}
+use Rattle.cot_site.specs.States.{State}
 use Rattle.site_answers.specs.declared.local.Local.{Local}
+use Rattle.participant.specs.declared.edits.Edit.{Edit}
+use Rattle.participant.specs.declared.edits.Edit.TheVariants as one
+use Rattle.participant.specs.Reached.{from, with_one, all_settled}
+use Rattle.participant.specs.Edits.{made_by}
+use Rattle.participant.specs.Runs.{inserts}
 use Rattle.log_replies.specs.declared.edit.Edit as declared
 use Rattle.log_replies.specs.declared.edit.Edit.TheVariants as edit
 
@@ -26,10 +29,19 @@ edit_data (edit.Del place) = Del place
 edit_data (edit.Undo name) = Undo name
 edit_data (edit.Redo name) = Redo name
 
+-- what it consists of: edits of one operation each, one after the other. The characters of a text are inserted after v shown
+-- ones, v + 1 and so on
+abbrev pub edits_of : EditData → List Edit
+edits_of (Ins v text) = inserts v (chars text)
+edits_of (Nl v) = one.Insert v 10 ∷ []
+edits_of (Del v) = one.Delete v ∷ []
+edits_of (Undo t) = one.Undo t ∷ []
+edits_of (Redo t) = one.Redo t ∷ []
+
 -- the state after an operation of the site's own and all releases that follow, or why there is no such operation. A release that
 -- refuses its operation refuses no edit
 abbrev pub made : State → Result OpData Local → Result State Local
-made s (Ok o) = Ok (settled (with_last s o))
+made s (Ok o) = Ok ((all_settled (with_one (from s) o)).state)
 made s (Err why) = Err why
 
 -- what comes next, unless there was a refusal
@@ -37,15 +49,11 @@ abbrev pub then_next : (State → Result State Local) → Result State Local →
 then_next next (Ok s) = next s
 then_next next (Err why) = Err why
 
--- characters inserted after v shown ones, v + 1 and so on
-unfoldable pub typed : ℕ → List ℕ → State → Result State Local
-typed v [] s = Ok s
-typed v (ch ∷ chs) s = then_next (typed (v + 1) chs) (made s (local_insert s v ch))
+-- the state after these edits, one after the other; where one is refused, all of them are, for that reason
+unfoldable pub all_made : List Edit → State → Result State Local
+all_made [] s = Ok s
+all_made (e ∷ es) s = then_next (all_made es) (made s (made_by e s))
 
 -- the state after an edit; where an operation is refused, the whole edit is, for that reason
 abbrev pub edited : State → EditData → Result State Local
-edited s (Ins v text) = typed v (chars text) s
-edited s (Nl v) = made s (local_insert s v 10)
-edited s (Del v) = made s (local_delete s v)
-edited s (Undo t) = made s (local_undo s t)
-edited s (Redo t) = made s (local_redo s t)
+edited s e = all_made (edits_of e) s

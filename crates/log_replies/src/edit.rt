@@ -1,17 +1,17 @@
 //! The command `edit`.
 
-ghost use Rattle.std.specs.Prelude.{◌≡◌, ◌≢◌, ◌++◌, ◌<◌, chars, Err, IfOk, OnOk, OnErr};
+ghost use Rattle.std.specs.Prelude.{◌≡◌, ◌≢◌, ◌++◌, ◌∷◌, ◌<◌, [], chars, IfOk, OnOk, OnErr};
 ghost use Rattle.op_name.specs.declared.name.TheConstants.{SITES};
 ghost use Rattle.cot_site.specs.Sites.{state_of};
-ghost use Rattle.cot_site.specs.Releases.{settled};
-ghost use Rattle.cot_site.specs.Commands.{local_insert, local_delete, local_undo, local_redo};
-ghost use Rattle.log_replies.specs.Editing.{edit_data, edited, typed, made};
+ghost use Rattle.participant.specs.Runs.{inserts};
+ghost use Rattle.log_replies.specs.Editing.{edit_data, edited, all_made};
 ghost use Rattle.log_replies.specs.Replies.{IsEdited, edit_reply, refused_edit_text};
-ghost use Rattle.log_replies.specs.Code.Editing.{IsDone, IsEditReply};
+ghost use Rattle.log_replies.specs.Code.Editing.{IsDone, IsEditReply, reason_of};
 
 use crate::replying::Replies;
-use cot_site::{Local, Site};
+use cot_site::{Local, Release, Site};
 use op_name::{Memory, Name};
+use participant::{Edit as One, Stopped};
 use script_text::local_line;
 use session_log::write_log;
 use std::alloc::Global;
@@ -95,74 +95,55 @@ fn refuse_edit(why: Local, out: &mut Vec<u8>) -> Result<(), Memory>
 fn do_edit(alloc: Global, site: &mut Site, edit: &Edit<'_>) -> Result<(), Local>
     ensures { IsDone (edited (state_of site.old) (edit_data edit.now)) result (state_of site.new) }
 {
-    match edit {
-        Edit::Ins { place, text } => type_text(alloc, site, *place, text),
-        Edit::Nl { place } => insert(alloc, site, *place, '\n'),
-        Edit::Del { place } => delete(alloc, site, *place),
-        Edit::Undo { name } => undo(alloc, site, *name),
-        Edit::Redo { name } => redo(alloc, site, *name),
-    }
-}
-
-// Inserts each character of the text, after so many shown ones and on, until one is refused.
-fn type_text(alloc: Global, site: &mut Site, from: u32, text: &str) -> Result<(), Local>
-    ensures { IsDone (typed from (chars text.now) (state_of site.old)) result (state_of site.new) }
-{
-    let mut place = from;
-    for ch in text.chars() {
-        site.known();
-        match insert(alloc, site, place, ch) {
-            Ok(()) => place += 1,
-            Err(why) => return Err(why),
-        }
-    }
-    Ok(())
-}
-
-// Inserts a character after so many shown ones, and releases.
-#[tactic(auto, using(crate::proofs::Edits::made_done, crate::proofs::Edits::made_none))]
-fn insert(alloc: Global, site: &mut Site, place: u32, ch: char) -> Result<(), Local>
-    ensures { IsDone (made (state_of site.old) (local_insert (state_of site.old) place ch)) result (state_of site.new) }
-{
-    site.insert(place, ch)?;
-    release_all(alloc, site)
-}
-
-// Deletes the shown character at this place, and releases.
-#[tactic(auto, using(crate::proofs::Edits::made_done, crate::proofs::Edits::made_none))]
-fn delete(alloc: Global, site: &mut Site, place: u32) -> Result<(), Local>
-    ensures { IsDone (made (state_of site.old) (local_delete (state_of site.old) place)) result (state_of site.new) }
-{
-    site.delete(place)?;
-    release_all(alloc, site)
-}
-
-// Undoes the original of this name, and releases.
-#[tactic(auto, using(crate::proofs::Edits::made_done, crate::proofs::Edits::made_none))]
-fn undo(alloc: Global, site: &mut Site, name: Name) -> Result<(), Local>
-    ensures { IsDone (made (state_of site.old) (local_undo (state_of site.old) name)) result (state_of site.new) }
-{
-    site.undo(name)?;
-    release_all(alloc, site)
-}
-
-// Redoes the original of this name, and releases.
-#[tactic(auto, using(crate::proofs::Edits::made_done, crate::proofs::Edits::made_none))]
-fn redo(alloc: Global, site: &mut Site, name: Name) -> Result<(), Local>
-    ensures { IsDone (made (state_of site.old) (local_redo (state_of site.old) name)) result (state_of site.new) }
-{
-    site.redo(name)?;
-    release_all(alloc, site)
-}
-
-// Releases until nothing is ready.
-fn release_all(alloc: Global, site: &mut Site) -> Result<(), Local>
-    ensures ok { OnOk result (state_of site.new ≡ settled (state_of site.old)) }
-    ensures err { OnErr result (result ≡ Err Local.Memory) }
-{
     let mut released = Vec::new(alloc);
-    match site.settle(&mut released) {
+    match edit {
+        Edit::Ins { place, text } => type_text(site, *place, text, &mut released),
+        Edit::Nl { place } => make(
+            site,
+            &One::Insert {
+                place: *place,
+                ch: '\n',
+            },
+            &mut released,
+        ),
+        Edit::Del { place } => make(site, &One::Delete { place: *place }, &mut released),
+        Edit::Undo { name } => make(site, &One::Undo { name: *name }, &mut released),
+        Edit::Redo { name } => make(site, &One::Redo { name: *name }, &mut released),
+    }
+}
+
+// Inserts each character of the text, after so many shown ones and on, until one is refused. Each release is appended.
+fn type_text(
+    site: &mut Site,
+    place: u32,
+    text: &str,
+    released: &mut Vec<Release>,
+) -> Result<(), Local>
+    ensures { IsDone (all_made (inserts place (chars text.now)) (state_of site.old)) result (state_of site.new) }
+{
+    let end = participant::insert_text(site, place, text, released).end;
+    match end {
         Ok(()) => Ok(()),
-        Err(Memory) => Err(Local::Memory),
+        Err(why) => Err(reason_of(why)),
+    }
+}
+
+// Makes an edit of one operation. Each release is appended.
+fn make(site: &mut Site, edit: &One, released: &mut Vec<Release>) -> Result<(), Local>
+    ensures { IsDone (all_made (edit.now ∷ []) (state_of site.old)) result (state_of site.new) }
+{
+    match participant::do_edit(site, edit, released) {
+        Ok(_made) => Ok(()),
+        Err(why) => Err(reason_of(why)),
+    }
+}
+
+// Why an edit isn't done, by how it stopped: memory may run out among the releases too.
+fn reason_of(why: Stopped) -> Local
+    ensures { result ≡ reason_of why }
+{
+    match why {
+        Stopped::Refused { why } => why,
+        Stopped::Unsettled => Local::Memory,
     }
 }
