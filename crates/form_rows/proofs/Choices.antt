@@ -14,7 +14,8 @@ use Rattle.transform_rec.specs.Derived.{Deriving}
 use Rattle.transform_rec.specs.Executing.{IsCausalFrom}
 use Rattle.transform_rec.proofs.CallerLemmas.{all_cases, all_in, base_sound, book_run, causal_closed, causal_parts, closed_plus, in_cases, in_left, in_right, none_closed, plus_cases}
 use Rattle.form_rows.specs.RowSets.{Inertness, RowData, IsSource}
-use Rattle.form_rows.specs.Kept.{IsAuthorRow, IsLast, HasFirst, IsFirstRow, IsBeginning, CoversAreInert}
+use Rattle.form_rows.specs.Firsts.{HasFirst}
+use Rattle.form_rows.specs.Kept.{IsAuthorRow, IsLast, IsFirstRow, IsBeginning, CoversAreInert}
 use Rattle.form_rows.specs.declared.rows.AuthorRow.{AuthorRow}
 use Rattle.form_rows.proofs.Followers.{forms_length}
 use Rattle.form_rows.proofs.Looks.{first_row}
@@ -27,7 +28,7 @@ in_take_more x (y ∷ ys) (suc i) zero le n = absurd (omega arith)
 in_take_more x (y ∷ ys) (suc i) (suc j) le (inl e) = inl e
 in_take_more x (y ∷ ys) (suc i) (suc j) le (inr n) = inr (in_take_more x ys i j (omega arith) n)
 
-in_take : {A : Type 0} (x : A) (xs : List A) (i : ℕ) → IsIn x (take i xs) → IsIn x xs
+pub in_take : {A : Type 0} (x : A) (xs : List A) (i : ℕ) → IsIn x (take i xs) → IsIn x xs
 in_take x xs zero i = absurd i
 in_take x [] (suc i) n = absurd n
 in_take x (y ∷ ys) (suc i) (inl e) = inl e
@@ -41,21 +42,11 @@ first_op z (o ∷ os) (suc k) (inl e) = (o, inl refl, sym e)
 first_op z (o ∷ os) (suc k) (inr i) = let r = first_op z os k i in (r.0, inr r.1, r.2)
 
 -- the row of at most so many first members whose inserts a context has
-pub first_members_row : {F : Type 0} (h : List OpData) (c : ContextData) (most k first : ℕ) (r : RowData F) → r ≡ record { forms = []; upto = k } → k ≤ first → k ≤ most → HasFirst h c first → IsFirstRow h c most r
-first_members_row {F} h c most k first r e low bound inserts =
-    let upto : r.upto ≡ k = ap (λ (q : RowData F). q.upto) e in (
-      ap (λ (q : RowData F). q.forms) e,
-      omega (arith, upto, bound),
-      λ o there insert. inserts o (in_take_more o h r.upto first (omega (arith, upto, low)) there) insert,
-    )
+pub first_members_row : {F : Type 0} (h : List OpData) (c : ContextData) (most first : ℕ) (r : RowData F) → r.forms ≡ [] → r.upto ≤ first → r.upto ≤ most → HasFirst h c first → IsFirstRow h c most r
+first_members_row h c most first r none low bound inserts = (none, bound, λ o there insert. inserts o (in_take_more o h r.upto first low there) insert)
 
-pub no_members_row : {F : Type 0} (h : List OpData) (c : ContextData) (most : ℕ) (r : RowData F) → r ≡ record { forms = []; upto = 0 } → IsFirstRow h c most r
-no_members_row {F} h c most r e =
-    let upto : r.upto ≡ 0 = ap (λ (q : RowData F). q.upto) e in (
-      ap (λ (q : RowData F). q.forms) e,
-      omega (arith, upto),
-      λ o there insert. absurd (subst (λ (n : ℕ). IsIn o (take n h)) upto there),
-    )
+pub no_members_row : {F : Type 0} (h : List OpData) (c : ContextData) (most : ℕ) (r : RowData F) → r.forms ≡ [] → r.upto ≤ 0 → r.upto ≤ most → IsFirstRow h c most r
+no_members_row h c most r none low bound = first_members_row h c most zero r none low bound (λ o there insert. absurd there)
 
 module _ {F : Type 0} (d : Deriving F) (IsInert : F → Type 0) (n : Inertness d.inclusion.over IsInert) (m : Member) (before : List Member) (executed : List F) (rows : List (AuthorRow F)) (w : IsLast d.inclusion.over IsInert d.family m before executed rows) where
   parted : IsCausalFrom d.family none before × IsCausalFrom d.family (plus_all none before) (m ∷ [])

@@ -1,8 +1,11 @@
 -- Rows of a family are rows of a family that holds it, and over a list with one member more.
-use Rattle.std.proofs.Common.{◌≡◌, suc, ◌+◌, Bool, ◌⊎◌, inl, inr, List, [], ◌∷◌, ◌++◌, Contains, length, take, refl, sym, ap, subst, arith, length-append}
+use Rattle.std.proofs.Common.{◌≡◌, ℕ, zero, suc, ◌+◌, Bool, ◌⊎◌, inl, inr, List, [], ◌∷◌, ◌++◌, Contains, length, take, refl, sym, ap, subst, arith, length-append}
+use Rattle.std.specs.Prelude.{Option, Some, None, IfSome, slice_get}
 use Rattle.std.proofs.lemmas.List.{take-append-le}
+use Rattle.std.proofs.lemmas.Option.{none-some}
 use Rattle.op_name.specs.declared.member.Member.{Member}
 use Rattle.op_name.specs.declared.member.Member.TheVariants.{Original}
+use Rattle.context_diff.specs.Operations.{OpData}
 use Rattle.ttf_form.specs.Families.{IsIn}
 use Rattle.transform_rec.specs.Sets.{none, IsSubset, plus, plus_all}
 use Rattle.transform_rec.specs.Family.{Family}
@@ -10,9 +13,16 @@ use Rattle.transform_rec.specs.Derived.{Derived, Holds}
 use Rattle.transform_rec.specs.Derived.Derived.{at_base, by_step}
 use Rattle.transform_rec.proofs.CallerLemmas.{in_left, in_right, same_set, plus_same, derived_moves}
 use Rattle.transform_rec.specs.Executing.{AreFormsFrom}
+use Rattle.form_rows.specs.Firsts.{AreFirstMembers}
 use Rattle.form_rows.specs.RowSets.{IsRow, RowData, IsRowAt}
 use Rattle.form_rows.specs.Kept.{IsAuthorRow, AreRows}
+use Rattle.form_rows.specs.declared.first_members.FirstMembers.{FirstMembers}
 use Rattle.form_rows.specs.declared.rows.AuthorRow.{AuthorRow}
+
+stays_at : {A : Type 0} (xs ys : List A) (i : ℕ) (x : A) → slice_get xs i ≡ Some x → slice_get (xs ++ ys) i ≡ Some x
+stays_at [] ys i x at = absurd (none-some x at)
+stays_at (z ∷ zs) ys zero x at = at
+stays_at (z ∷ zs) ys (suc i) x at = stays_at zs ys i x at
 
 module _ {F : Type 0} (over : F → F → F) (IsInert : F → Type 0) (b c : Family F) (h : Holds b c) where
   derived_member : (m : Member) (C : Member → Bool) (f : F) → Derived over b m C f → IsIn m b.members
@@ -76,6 +86,20 @@ module _ {F : Type 0} (over : F → F → F) (IsInert : F → Type 0) (b : Famil
           row = subst (λ (y : Member). IsRowAt over IsInert b (plus (b.context y) y) (xs ++ m ∷ []) own.row) is at;
         })
       ]
+
+-- first members that were found are so in a longer history
+pub firsts_grow : (h : List OpData) (o : OpData) (f : Option FirstMembers) → IfSome f (AreFirstMembers h) → IfSome f (AreFirstMembers (h ++ o ∷ []))
+firsts_grow h o None are = are
+firsts_grow h o (Some f) are =
+    let within = are.within in
+    let same : take f.upto (h ++ o ∷ []) ≡ take f.upto h = take-append-le f.upto h (o ∷ []) within in
+    let size : length (h ++ o ∷ []) ≡ length h + 1 = length-append h (o ∷ []) in
+    record {
+      op = are.op;
+      at = stays_at h (o ∷ []) f.place are.op are.at;
+      inserts = λ p there insert. are.inserts p (subst (λ (l : List OpData). IsIn p l) same there) insert;
+      within = omega (arith, within, size);
+    }
 
 -- there are as many executed forms as members
 pub forms_count : {F : Type 0} (over : F → F → F) (b : Family F) (xs : List Member) (C : Member → Bool) (fs : List F) → AreFormsFrom over b C xs fs → length fs ≡ length xs

@@ -1,15 +1,17 @@
 -- Inserts of a history that a context lacks.
-use Rattle.std.proofs.Common.{◌≡◌, ℕ, zero, suc, ◌+◌, ◌-◌, ◌≤◌, Bool, true, false, not, ◌&&◌, List, [], ◌∷◌, ◌++◌, inl, inr, if◌then◌else◌, take, length, refl, sym, ap, ◌∙◌, subst, arith}
-use Rattle.std.specs.Prelude.{Some, slice_get}
-use Rattle.std.proofs.lemmas.Bool.{both_ways}
+use Rattle.std.proofs.Common.{◌≡◌, ℕ, zero, suc, ◌+◌, ◌-◌, ◌<◌, ◌≤◌, Bool, true, false, not, ◌&&◌, List, [], ◌∷◌, ◌++◌, inl, inr, if◌then◌else◌, take, length, refl, sym, ap, ◌∙◌, subst, arith}
+use Rattle.std.specs.Prelude.{Some, Contains, slice_get}
+use Rattle.std.proofs.lemmas.Bool.{cases_Bool, both_ways}
 use Rattle.std.proofs.lemmas.List.{take_all}
+use Rattle.std.proofs.lemmas.Option.{same_Some, slice_get_within, get_or_from_slice_get}
 use Rattle.context_vector.specs.Contexts.{ContextData, has}
-use Rattle.context_diff.specs.Operations.{OpData, member_of, is_insert}
-use Rattle.context_diff.specs.Histories.{context_of_all, inserts_in, IsValid}
+use Rattle.context_diff.specs.Operations.{OpData, member_of, context_of, is_insert}
+use Rattle.context_diff.specs.Histories.{context_of_all, inserts_in, is_known, IsValid}
 use Rattle.context_diff.proofs.CallerLemmas.{complete}
 use Rattle.ttf_form.specs.Families.{IsIn}
-use Rattle.undo_group.specs.Laws.Members.{known_as}
-use Rattle.form_rows.specs.Lacking.{lacking}
+use Rattle.undo_group.specs.Laws.Members.{contains_in, known_as, placed_in}
+use Rattle.form_rows.specs.Firsts.{IsLastContext}
+use Rattle.form_rows.specs.Lacking.{all_but_last, lacking}
 
 one_or_other : (i c a : Bool) → a ≡ true → (if i && a then 1 else 0) ≡ (if i && c then 1 else 0) + (if i && not c then 1 else 0)
 one_or_other true true a h = ap (λ (b : Bool). if b then 1 else 0) h
@@ -37,6 +39,10 @@ lacking_none [] c e o i h = absurd i
 lacking_none (p ∷ ps) c e o (inl same) h =
     subst (λ (q : OpData). has c (member_of q) ≡ true) (sym same) (missing (is_insert p) (has c (member_of p)) (lacking ps c) e (ap is_insert (sym same) ∙ h))
 lacking_none (p ∷ ps) c e o (inr i) h = lacking_none ps c (omega arith) o i h
+
+and_true : (b : Bool) → (b && true) ≡ b
+and_true true = refl
+and_true false = refl
 
 abbrev pub one_if : Bool → ℕ
 one_if b = if b then 1 else 0
@@ -72,7 +78,27 @@ lacking_whole h v a c is x y s ex ey es =
     let rest = lacking_rest h a c all in
     omega (arith, rest)
 
-pub lacking_start : (h : List OpData) (c : ContextData) (n s : ℕ) → n ≡ length h → s ≡ lacking h c → s ≡ lacking (take n h) c
-lacking_start h c n s en es =
-    let whole : take n h ≡ h = take_all n h (omega arith) in
-    es ∙ ap (λ (l : List OpData). lacking l c) (sym whole)
+-- an operation of a valid history isn't in its own context
+last_lacks : (h : List OpData) → IsValid h → (o : OpData) → IsIn o h → has (context_of o) (member_of o) ≡ false
+last_lacks h v o i =
+    let p = placed_in h v o i in
+    elim (cases_Bool (has (context_of o) (member_of o))) [
+      | inl there ↦ absurd (both_ways (is_known p.before (member_of o)) p.next.new (p.next.ready (member_of o) there))
+      | inr out ↦ out
+    ]
+
+pub contains_at : {A : Type 0} (xs : List A) (i : ℕ) (x : A) → slice_get xs i ≡ Some x → Contains xs x
+contains_at xs i x at = (i, slice_get_within xs i x at, get_or_from_slice_get xs i x x at)
+
+-- what the context of the last operation lacks before it, where s is what it lacks of the whole history
+pub lacking_before : (h : List OpData) → IsValid h → (c : ContextData) → IsLastContext h c → (t : Bool) → ((o : OpData) → slice_get h (length h - 1) ≡ Some o → t ≡ is_insert o)
+    → (s r : ℕ) → s ≡ lacking h c → r ≡ s - one_if t → r ≡ lacking (all_but_last h) c
+lacking_before h v c last t told s r es er =
+    let within : length h - 1 < length h = slice_get_within h (length h - 1) last.op last.at in
+    let lacks : has c (member_of last.op) ≡ false = ap (λ (k : ContextData). has k (member_of last.op)) (sym last.context) ∙ last_lacks h v last.op (contains_in last.op h (contains_at h (length h - 1) last.op last.at)) in
+    let whole : take (length h) h ≡ h = take_all (length h) h (omega arith) in
+    let step = lacking_step h c (length h) (length h - 1) (omega arith) (omega arith) t (λ o at.
+    let same : last.op ≡ o = same_Some last.op o (sym last.at ∙ at) in
+    told o at ∙ (sym (and_true (is_insert o)) ∙ ap (λ (b : Bool). is_insert o && not b) (sym (ap (λ (p : OpData). has c (member_of p)) (sym same) ∙ lacks)))) in
+    let all : lacking (take (length h) h) c ≡ lacking h c = ap (λ (k : List OpData). lacking k c) whole in
+    omega (arith, step, all, es, er)

@@ -20,7 +20,7 @@ use Rattle.form_rows.proofs.Passing.{Row}
 use Rattle.form_rows.proofs.Looks.{executed_fits, executed_form, executed_row}
 use Rattle.form_rows.proofs.Moves.{IsNaming, IsTaken, taken, taken_row}
 
-forms_run : {F : Type 0} (d : Deriving F) (xs : List Member) (C : Member → Bool) (fs : List F) → AreFormsFrom d.inclusion.over d.family C xs fs → IsCausalFrom d.family C xs
+pub forms_run : {F : Type 0} (d : Deriving F) (xs : List Member) (C : Member → Bool) (fs : List F) → AreFormsFrom d.inclusion.over d.family C xs fs → IsCausalFrom d.family C xs
 forms_run d [] C [] r = tt
 forms_run d [] C (f ∷ fs) r = absurd r
 forms_run d (x ∷ xs) C [] r = absurd r

@@ -1,5 +1,5 @@
 -- The base forms of a valid history, as rows ask for them.
-use Rattle.std.proofs.Common.{◌≡◌, ℕ, true, List, refl, sym, ap, subst, ◌∙◌}
+use Rattle.std.proofs.Common.{◌≡◌, ℕ, true, false, List, refl, sym, ap, subst, ◌∙◌}
 use Rattle.std.specs.Prelude.{Some, Contains}
 use Rattle.std.proofs.lemmas.Bool.{both_ways}
 use Rattle.op_name.specs.NameData.{NameData}
@@ -19,7 +19,7 @@ use Rattle.undo_group.specs.BaseForms.{original_form, group_form, base_form}
 use Rattle.undo_group.specs.Laws.Forms.{base_forms_hold}
 use Rattle.undo_group.specs.Laws.Members.{listed_member}
 use Rattle.form_rows.specs.Names.{insert_of, IsNamed, AreNamed}
-use Rattle.form_rows.specs.Kept.{CoversAreInert}
+use Rattle.form_rows.specs.Kept.{CoversAreInert, InsertsAreKept}
 
 group_inert : (f : Form) (t : NameData) (g : ℕ) → IsInertForm (group_form f t g)
 group_inert (Insert a) t g = tt
@@ -43,6 +43,11 @@ pub text_covers : (h : List OpData) → IsValid h → CoversAreInert IsInertForm
 text_covers h v (inserting n p ch c) i e = absurd (both_ways true e refl)
 text_covers h v (deleting n p c) i e = let f = (base_forms_hold h v).deletes n p c i in subst IsInertForm (sym f.is) tt
 text_covers h v (undoing a t g c) i e = group_inert (original_form h t) t g
+
+pub text_inserts : (h : List OpData) → IsValid h → InsertsAreKept IsInertForm (base_form h) h
+text_inserts h v (inserting n p ch c) i e inert = let f = (base_forms_hold h v).inserts n p ch c i in subst IsInertForm f.is inert
+text_inserts h v (deleting n p c) i e inert = both_ways false refl e
+text_inserts h v (undoing a t g c) i e inert = both_ways false refl e
 
 -- the context of an original is its base context
 pub original_base : (h : List OpData) → IsValid h → (o : OpData) (n : NameData) → Contains h o → member_of o ≡ Original n → (y : Member) → has (context_of o) y ≡ base_has h (Original n) y

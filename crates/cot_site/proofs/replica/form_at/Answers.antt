@@ -17,7 +17,7 @@ pub original_form-requires-clause-known : goal.original_form-requires-clause-kno
 original_form-requires-clause-known c = subst (λ (x : Member). is_known c.args.book.now.ops x ≡ true) c.in-Original.is c.requires.added.known
 
 pub original_form-requires-clause-next : goal.original_form-requires-clause-next
-original_form-requires-clause-next c = subst (λ (x : Member). IsNextAfter c.args.book.now.ops x (has (before_last c.args.book.now.ops)) c.args.forms.now c.args.rows.now.kept.items) c.in-Original.is c.requires.next
+original_form-requires-clause-next c = subst (λ (x : Member). IsNextAfter c.args.book.now.ops x (has (before_last c.args.book.now.ops)) c.args.forms.now c.args.rows.now) c.in-Original.is c.requires.next
 
 pub original_form-requires-clause-knows : goal.original_form-requires-clause-knows
 original_form-requires-clause-knows c sure = subst (λ (x : Member). KnowsBefore c.args.book.now.ops x) c.in-Original.is (c.requires.knows sure)
@@ -41,4 +41,4 @@ returns-in-Group-clause-form c =
     (subst (λ (x : Member). Derived form_over (family_in h (base_form h)) x (plus_all none n.before) c.executed_group.result) (sym c.in-Group.is) made)
 
 pub returns-in-Group-clause-rows : goal.returns-in-Group-clause-rows
-returns-in-Group-clause-rows c = rows_after c.args.book.now.ops c.args.member.now (has (before_last c.args.book.now.ops)) c.args.forms.now c.args.rows.now.kept.items c.requires.next
+returns-in-Group-clause-rows c = rows_after c.args.book.now.ops c.args.member.now (has (before_last c.args.book.now.ops)) c.args.forms.now c.args.rows.now c.requires.next

@@ -1,4 +1,5 @@
-use Rattle.std.proofs.Common.{◌≡◌, ◌∙◌, ◌+◌, List, [], sym, subst, ap, arith}
+use Rattle.std.proofs.Common.{◌≡◌, ◌∙◌, ◌+◌, List, [], length, sym, subst, ap, arith}
+use Rattle.ttf_form.specs.Families.{IsIn}
 use Rattle.transform_rec.specs.Sets.{none, plus_all}
 use Rattle.transform_rec.specs.Derived.{Derived, Deriving}
 use Rattle.transform_rec.specs.Laws.{inclusion_of, family_of}
@@ -7,7 +8,7 @@ use Rattle.form_rows.specs.RowSets.{form_after, row_after, taken_out, PassFits, 
 use Rattle.form_rows.proofs.Followers.{forms_length}
 use Rattle.form_rows.proofs.Looks.{caught_up}
 use Rattle.form_rows.proofs.Sources.{taking_fits, passing_fits, source_form, source_row}
-use Rattle.form_rows.proofs.row.Row.execute.Goals as goal
+use Rattle.form_rows.proofs.row.Row.execute_apart.Goals as goal
 
 pub catch_up-requires : goal.catch_up-requires
 catch_up-requires g c =
@@ -19,6 +20,12 @@ catch_up-requires g c =
     let size = forms_length d xs none c.args.executed.now w.executed in
     let within = w.row.within in
     omega arith
+
+pub brought_over-requires-clause-apart : goal.brought_over-requires-clause-apart
+brought_over-requires-clause-apart g c few f there =
+    let e : c.catch_up.new.self.forms ≡ c.self.inside.forms = ap (λ (r : RowData g.row.F.Denot). r.forms) (sym c.self.view_is) in
+    let size = ap length e in
+    c.requires.apart c.catch_up.new.self.forms c.in_ok-catch_up.ensures.forms (let le = c.is_at_most-apart.ensures few in omega (arith, le, c.len.ensures, size)) f (subst (λ (l : List g.row.F.Denot). IsIn f l) (sym e) there)
 
 pub brought_over-requires-clause-taking : goal.brought_over-requires-clause-taking
 brought_over-requires-clause-taking g c =
