@@ -27,8 +27,8 @@ use Rattle.undo_group.specs.BaseForms.{base_form}
 use Rattle.undo_group.specs.Laws.Forms.{base_forms_hold}
 use Rattle.fixed_replay.specs.Replayed.{IsReplayed}
 use Rattle.fixed_replay.proofs.CallerLemmas.{setting_of, executed_replayed, known_set, forms_on, forms_grow, holds_more, base_form_on, valid_family, valid_own_names}
-use Rattle.form_rows.specs.declared.rows.AuthorRow.{AuthorRow}
-use Rattle.form_rows.proofs.CallerLemmas.{rows_grow}
+use Rattle.form_rows.specs.Kept.{RowsData}
+use Rattle.form_rows.proofs.CallerLemmas.{firsts_grow, rows_grow}
 use Rattle.cot_site.specs.Sites.{AreExecuted}
 use Rattle.cot_site.specs.Code.Replicas.{AreRowsOf, IsExecuted, IsStep, IsNextAfter}
 use Rattle.cot_site.proofs.LocalOps.{all_ready, all_closed, all_stray}
@@ -148,7 +148,7 @@ derived_at h o k to m f grown is member d =
     (subst (λ (x : Member). Derived form_over (family_in k (base_form k)) x (has to) f) member d))
 
 -- the next operation comes after those that were executed
-next_after : (h : List OpData) (o : OpData) (fs : List Form) (cs : List CellData) (kept : List (AuthorRow Form)) → IsValid h → IsNext h o
+next_after : (h : List OpData) (o : OpData) (fs : List Form) (cs : List CellData) (kept : RowsData Form) → IsValid h → IsNext h o
     → IsExecuted h fs cs → AreRowsOf h kept → IsNextAfter (h ++ o ∷ []) (member_of o) (has (context_of_all h)) fs kept
 next_after h o fs cs kept valid next ex rows =
     let k = h ++ o ∷ [] in
@@ -160,14 +160,15 @@ next_after h o fs cs kept valid next ex rows =
       executed = record {
         whole = map-append member_of h (o ∷ []);
         forms = forms_on form_over (family_in h (base_form h)) (family_in k (base_form k)) more (members_in h) none fs ex.forms;
-        rows = rows_grow form_over IsInertForm (family_in h (base_form h)) (family_in k (base_form k)) more (members_in h) kept (λ z i. i)
-            rows;
+        rows = rows_grow form_over IsInertForm (family_in h (base_form h)) (family_in k (base_form k)) more (members_in h) kept.rows
+            (λ z i. i) rows.0;
+        firsts = firsts_grow h o kept.firsts rows.1;
       };
       set = λ z. known_set h z ∙ sym (w.holds z);
     }
 
 pub next_after_at : (h : List OpData) (o : OpData) (k : List OpData) (to : ContextData) (m : Member) (fs gs : List Form)
-    (cs : List CellData) (kept : List (AuthorRow Form)) → IsValid h → IsNext h o → k ≡ h ++ o ∷ [] → to ≡ context_of_all h → m ≡ member_of o
+    (cs : List CellData) (kept : RowsData Form) → IsValid h → IsNext h o → k ≡ h ++ o ∷ [] → to ≡ context_of_all h → m ≡ member_of o
     → IsExecuted h fs cs → gs ≡ fs → AreRowsOf h kept
     → IsNextAfter k m (has to) gs kept
 next_after_at h o k to m fs gs cs kept valid next grown is member ex same rows =

@@ -22,26 +22,27 @@ use Rattle.transform_rec.specs.Histories.{family_in}
 use Rattle.transform_rec.proofs.CallerLemmas.{in_right, plus_same, same_set}
 use Rattle.undo_group.specs.BaseForms.{base_form}
 use Rattle.form_rows.specs.Names.{insert_of}
-use Rattle.form_rows.specs.Kept.{AreRows, IsFormWith}
-use Rattle.form_rows.specs.declared.rows.AuthorRow.{AuthorRow}
+use Rattle.form_rows.specs.Kept.{RowsData, AreRows, IsFormWith, empty_rows}
 use Rattle.form_rows.proofs.CallerLemmas.{original_base, rows_stay}
 use Rattle.cot_site.specs.Code.Replicas.{AreRowsOf, IsLastMember, IsNextAfter, KnowsAll, KnowsBefore, before_last}
 
-pub no_rows : (h : List OpData) (kept : List (AuthorRow Form)) → kept ≡ [] → AreRowsOf h kept
-no_rows h kept e k i = absurd (contains_none k (subst (λ (l : List (AuthorRow Form)). Contains l k) e i))
+pub no_rows : (h : List OpData) (kept : RowsData Form) → kept ≡ empty_rows → AreRowsOf h kept
+no_rows h kept e = subst (λ (r : RowsData Form). AreRowsOf h r) (sym e) ((λ k i. absurd (contains_none k i)), tt)
 
-pub rows_same : (h k : List OpData) (kept : List (AuthorRow Form)) → AreRowsOf h kept → k ≡ h → AreRowsOf k kept
+pub rows_same : (h k : List OpData) (kept : RowsData Form) → AreRowsOf h kept → k ≡ h → AreRowsOf k kept
 rows_same h k kept rows e = subst (λ (l : List OpData). AreRowsOf l kept) (sym e) rows
 
 -- the rows of the members before the last one are rows of all
-pub rows_after : (h : List OpData) (m : Member) (to : Member → Bool) (fs : List Form) (kept : List (AuthorRow Form))
-    → IsNextAfter h m to fs kept → AreRowsOf h kept
-rows_after h m to fs kept n =
-    subst (λ (l : List Member). AreRows form_over IsInertForm (family_in h (base_form h)) l kept) (sym n.executed.whole)
-    (rows_stay form_over IsInertForm (family_in h (base_form h)) n.before m kept n.executed.rows)
+pub rows_after : (h : List OpData) (m : Member) (to : Member → Bool) (fs : List Form) (kept : RowsData Form) → IsNextAfter h m to fs kept
+    → AreRowsOf h kept
+rows_after h m to fs kept n = (
+  subst (λ (l : List Member). AreRows form_over IsInertForm (family_in h (base_form h)) l kept.rows) (sym n.executed.whole)
+      (rows_stay form_over IsInertForm (family_in h (base_form h)) n.before m kept.rows n.executed.rows),
+  n.executed.firsts,
+)
 
 -- the base form of an original is its form at the members before it, where these are its base context
-pub base_after : (h : List OpData) (n : NameData) (to : ContextData) (fs : List Form) (kept : List (AuthorRow Form)) (f : Form)
+pub base_after : (h : List OpData) (n : NameData) (to : ContextData) (fs : List Form) (kept : RowsData Form) (f : Form)
     → IsNextAfter h (Original n) (has to) fs kept → ((y : Member) → has to y ≡ base_has h (Original n) y) → f ≡ base_form h (Original n)
     → Derived form_over (family_in h (base_form h)) (Original n) (has to) f
 base_after h n to fs kept f next same e =
@@ -66,7 +67,7 @@ module _ (h : List OpData) (o : OpData) (k : List OpData) (valid : IsValid h) (n
       ∙ ap (λ (x : Member). base_has k x y) (sym original)
 
 -- a form at the members before the last one
-pub form_after_at : (h : List OpData) (m : Member) (to : Member → Bool) (fs : List Form) (kept : List (AuthorRow Form)) (f : Form)
+pub form_after_at : (h : List OpData) (m : Member) (to : Member → Bool) (fs : List Form) (kept : RowsData Form) (f : Form)
     (n : IsNextAfter h m to fs kept)
     → IsOnlyFormAt form_over (family_in h (base_form h)) m (plus_all none n.before) f
     → IsOnlyFormAt form_over (family_in h (base_form h)) m to f
@@ -75,8 +76,8 @@ form_after_at h m to fs kept f n only =
     only
 
 -- the last member of a history
-pub last_after : (h : List OpData) (m : Member) (to : Member → Bool) (fs : List Form) (kept : List (AuthorRow Form))
-    → IsNextAfter h m to fs kept → IsLastMember h m
+pub last_after : (h : List OpData) (m : Member) (to : Member → Bool) (fs : List Form) (kept : RowsData Form) → IsNextAfter h m to fs kept
+    → IsLastMember h m
 last_after h m to fs kept n =
     let counted : length h ≡ length n.before + 1 =
     sym (length-map h member_of) ∙ ap length n.executed.whole ∙ length-append n.before (m ∷ []) in

@@ -20,7 +20,7 @@ ghost use Rattle.transform_rec.specs.Derived.{Derived, IsOnlyFormAt};
 ghost use Rattle.transform_rec.specs.Histories.{family_in, MayBeAddedTo};
 ghost use Rattle.undo_group.specs.BaseForms.{base_form};
 ghost use Rattle.form_rows.specs.Names.{insert_of};
-ghost use Rattle.form_rows.specs.Kept.{IsFormWith};
+ghost use Rattle.form_rows.specs.Kept.{IsFormWith, empty_rows};
 ghost use Rattle.form_rows.specs.Stretches.{AreNoted};
 ghost use Rattle.cot_site.specs.Commands.{place_of_shown, place_behind};
 ghost use Rattle.cot_site.specs.Sites.{AreExecuted, AreCached, IsFormOf, KeepsForms};
@@ -66,7 +66,7 @@ impl Model for Replica {
 
     ghost view = { λ r. record { history = r.book.ops; forms = r.forms.items; entries = entries_of r.book.ops r.notes } };
 
-    ghost invariant = { λ r. IsExecuted r.book.ops r.forms.items r.cells.cells × AreCached r.book.ops (entries_of r.book.ops r.notes) × AreTold r.book.ops r.notes × AreRowsOf r.book.ops r.rows.kept.items × AreNoted r.passages r.forms.items };
+    ghost invariant = { λ r. IsExecuted r.book.ops r.forms.items r.cells.cells × AreCached r.book.ops (entries_of r.book.ops r.notes) × AreTold r.book.ops r.notes × AreRowsOf r.book.ops r.rows × AreNoted r.passages r.forms.items };
 }
 
 impl Replica {
@@ -288,7 +288,7 @@ fn is_undo(op: &Op) -> bool
 fn take_back(book: &mut Book, notes: &mut Notes, rows: &mut Rows<Form>)
     ensures ops { (h : List OpData) (o : OpData) → book.old.ops ≡ h ++ o ∷ [] → book.new.ops ≡ h }
     ensures notes { notes.new ≡ [] }
-    ensures rows { rows.new.kept.items ≡ [] }
+    ensures rows { rows.new ≡ empty_rows }
 {
     rows.clear();
     notes.clear();
@@ -309,13 +309,13 @@ fn execute(
 ) -> Result<(), Memory>
     requires room { vec_len forms.old < vec_capacity forms.old }
     requires added { MayBeAddedTo book.now.ops (before_last book.now.ops) member.now }
-    requires next { IsNextAfter book.now.ops member.now (has (before_last book.now.ops)) forms.old.items rows.old.kept.items }
+    requires next { IsNextAfter book.now.ops member.now (has (before_last book.now.ops)) forms.old.items rows.old }
     requires knows { IsTrue knows_all → KnowsBefore book.now.ops member.now }
     requires noted { AreNoted passages.old forms.old.items }
     requires kept { AreFormsNoted book.now.ops notes.old }
     requires fits { (f : Form) → Derived form_over (family_in book.now.ops (base_form book.now.ops)) member.now (has (before_last book.now.ops)) f → FitsCells cells.old.cells f }
     ensures step { OnOk result (IsStep book.now.ops member.now (has (before_last book.now.ops)) forms.old.items forms.new.items cells.old.cells cells.new.cells) }
-    ensures rows { OnOk result (AreRowsOf book.now.ops rows.new.kept.items) }
+    ensures rows { OnOk result (AreRowsOf book.now.ops rows.new) }
     ensures forms { OnErr result (forms.new.items ≡ forms.old.items) }
     ensures cells { OnErr result (cells.new.cells ≡ cells.old.cells) }
     ensures noted { AreNoted passages.new forms.new.items }
@@ -367,11 +367,11 @@ fn form_with_room(
 ) -> Result<Form, Memory>
     requires noted { AreNoted passages.old forms.now }
     requires added { MayBeAddedTo book.now.ops (before_last book.now.ops) member.now }
-    requires next { IsNextAfter book.now.ops member.now (has (before_last book.now.ops)) forms.now rows.old.kept.items }
+    requires next { IsNextAfter book.now.ops member.now (has (before_last book.now.ops)) forms.now rows.old }
     requires knows { IsTrue knows_all → KnowsBefore book.now.ops member.now }
     requires kept { AreFormsNoted book.now.ops notes.old }
     ensures form { IfOk result (Derived form_over (family_in book.now.ops (base_form book.now.ops)) member.now (has (before_last book.now.ops))) }
-    ensures rows { OnOk result (AreRowsOf book.now.ops rows.new.kept.items) }
+    ensures rows { OnOk result (AreRowsOf book.now.ops rows.new) }
     ensures room { IfOk result (HasRoomFor cells.new) }
     ensures cells { cells.new.cells ≡ cells.old.cells }
     ensures noted { AreNoted passages.new forms.now }
@@ -395,11 +395,11 @@ fn form_at(
 ) -> Result<Form, Memory>
     requires noted { AreNoted passages.old forms.now }
     requires added { MayBeAddedTo book.now.ops (before_last book.now.ops) member.now }
-    requires next { IsNextAfter book.now.ops member.now (has (before_last book.now.ops)) forms.now rows.old.kept.items }
+    requires next { IsNextAfter book.now.ops member.now (has (before_last book.now.ops)) forms.now rows.old }
     requires knows { IsTrue knows_all → KnowsBefore book.now.ops member.now }
     requires kept { AreFormsNoted book.now.ops notes.old }
     ensures form { IfOk result (Derived form_over (family_in book.now.ops (base_form book.now.ops)) member.now (has (before_last book.now.ops))) }
-    ensures rows { OnOk result (AreRowsOf book.now.ops rows.new.kept.items) }
+    ensures rows { OnOk result (AreRowsOf book.now.ops rows.new) }
     ensures noted { AreNoted passages.new forms.now }
     ensures kept { AreFormsNoted book.now.ops notes.new }
 {
@@ -426,11 +426,11 @@ fn original_form(
     knows_all: bool,
 ) -> Result<Form, Memory>
     requires known { is_known book.now.ops (Original name.now) ≡ true }
-    requires next { IsNextAfter book.now.ops (Original name.now) (has (before_last book.now.ops)) forms.now rows.old.kept.items }
+    requires next { IsNextAfter book.now.ops (Original name.now) (has (before_last book.now.ops)) forms.now rows.old }
     requires knows { IsTrue knows_all → KnowsBefore book.now.ops (Original name.now) }
     requires kept { AreFormsNoted book.now.ops notes.old }
     ensures form { IfOk result (Derived form_over (family_in book.now.ops (base_form book.now.ops)) (Original name.now) (has (before_last book.now.ops))) }
-    ensures rows { OnOk result (AreRowsOf book.now.ops rows.new.kept.items) }
+    ensures rows { OnOk result (AreRowsOf book.now.ops rows.new) }
     ensures kept { AreFormsNoted book.now.ops notes.new }
 {
     if knows_all {

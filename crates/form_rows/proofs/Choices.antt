@@ -14,7 +14,8 @@ use Rattle.transform_rec.specs.Derived.{Deriving}
 use Rattle.transform_rec.specs.Executing.{IsCausalFrom}
 use Rattle.transform_rec.proofs.CallerLemmas.{all_cases, all_in, base_sound, book_run, causal_closed, causal_parts, closed_plus, in_cases, in_left, in_right, none_closed, plus_cases}
 use Rattle.form_rows.specs.RowSets.{Inertness, RowData, IsSource}
-use Rattle.form_rows.specs.Kept.{IsAuthorRow, IsLast, HasFirst, IsFirstRow, IsBeginning, CoversAreInert}
+use Rattle.form_rows.specs.Firsts.{HasFirst}
+use Rattle.form_rows.specs.Kept.{IsAuthorRow, IsLast, IsFirstRow, IsBeginning, CoversAreInert}
 use Rattle.form_rows.specs.declared.rows.AuthorRow.{AuthorRow}
 use Rattle.form_rows.proofs.Followers.{forms_length}
 use Rattle.form_rows.proofs.Looks.{first_row}
@@ -27,7 +28,7 @@ in_take_more x (y ∷ ys) (suc i) zero le n = absurd (omega arith)
 in_take_more x (y ∷ ys) (suc i) (suc j) le (inl e) = inl e
 in_take_more x (y ∷ ys) (suc i) (suc j) le (inr n) = inr (in_take_more x ys i j (omega arith) n)
 
-in_take : {A : Type 0} (x : A) (xs : List A) (i : ℕ) → IsIn x (take i xs) → IsIn x xs
+pub in_take : {A : Type 0} (x : A) (xs : List A) (i : ℕ) → IsIn x (take i xs) → IsIn x xs
 in_take x xs zero i = absurd i
 in_take x [] (suc i) n = absurd n
 in_take x (y ∷ ys) (suc i) (inl e) = inl e
@@ -41,25 +42,20 @@ first_op z (o ∷ os) (suc k) (inl e) = (o, inl refl, sym e)
 first_op z (o ∷ os) (suc k) (inr i) = let r = first_op z os k i in (r.0, inr r.1, r.2)
 
 -- the row of at most so many first members whose inserts a context has
-pub first_members_row : {F : Type 0} (h : List OpData) (c : ContextData) (most k first : ℕ) (r : RowData F) → r ≡ record { forms = []; upto = k } → k ≤ first → k ≤ most → HasFirst h c first → IsFirstRow h c most r
-first_members_row {F} h c most k first r e low bound inserts =
-    let upto : r.upto ≡ k = ap (λ (q : RowData F). q.upto) e in (
-      ap (λ (q : RowData F). q.forms) e,
-      omega (arith, upto, bound),
-      λ o there insert. inserts o (in_take_more o h r.upto first (omega (arith, upto, low)) there) insert,
-    )
+pub first_members_row : {F : Type 0} (h : List OpData) (c : ContextData) (most first : ℕ) (r : RowData F) → r.forms ≡ [] → r.upto ≤ first
+    → r.upto ≤ most → HasFirst h c first → IsFirstRow h c most r
+first_members_row h c most first r none low bound inserts =
+    (none, bound, λ o there insert. inserts o (in_take_more o h r.upto first low there) insert)
 
-pub no_members_row : {F : Type 0} (h : List OpData) (c : ContextData) (most : ℕ) (r : RowData F) → r ≡ record { forms = []; upto = 0 } → IsFirstRow h c most r
-no_members_row {F} h c most r e =
-    let upto : r.upto ≡ 0 = ap (λ (q : RowData F). q.upto) e in (
-      ap (λ (q : RowData F). q.forms) e,
-      omega (arith, upto),
-      λ o there insert. absurd (subst (λ (n : ℕ). IsIn o (take n h)) upto there),
-    )
+pub no_members_row : {F : Type 0} (h : List OpData) (c : ContextData) (most : ℕ) (r : RowData F) → r.forms ≡ [] → r.upto ≤ 0 → r.upto ≤ most
+    → IsFirstRow h c most r
+no_members_row h c most r none low bound = first_members_row h c most zero r none low bound (λ o there insert. absurd there)
 
-module _ {F : Type 0} (d : Deriving F) (IsInert : F → Type 0) (n : Inertness d.inclusion.over IsInert) (m : Member) (before : List Member) (executed : List F) (rows : List (AuthorRow F)) (w : IsLast d.inclusion.over IsInert d.family m before executed rows) where
+module _ {F : Type 0} (d : Deriving F) (IsInert : F → Type 0) (n : Inertness d.inclusion.over IsInert) (m : Member) (before : List Member)
+    (executed : List F) (rows : List (AuthorRow F)) (w : IsLast d.inclusion.over IsInert d.family m before executed rows) where
   parted : IsCausalFrom d.family none before × IsCausalFrom d.family (plus_all none before) (m ∷ [])
-  parted = causal_parts d.family before (m ∷ []) none (subst (λ (l : List Member). IsCausalFrom d.family none l) w.whole (book_run d.family d.known.causal))
+  parted = causal_parts d.family before (m ∷ []) none
+      (subst (λ (l : List Member). IsCausalFrom d.family none l) w.whole (book_run d.family d.known.causal))
 
   pub last_listed : IsIn m d.family.members
   last_listed = subst (λ (l : List Member). IsIn m l) (sym w.whole) (in_right m before (m ∷ []) (inl refl))
@@ -68,7 +64,9 @@ module _ {F : Type 0} (d : Deriving F) (IsInert : F → Type 0) (n : Inertness d
   before_listed z i = subst (λ (l : List Member). IsIn z l) (sym w.whole) (in_left z before (m ∷ []) i)
 
   pub last_other : (z : Member) → IsIn z before → m ≢ z
-  last_other z i e = both_ways (plus_all none before m) parted.1.0.lacks (subst (λ (y : Member). plus_all none before y ≡ true) (sym e) (all_in before none z i))
+  last_other z i e =
+      both_ways (plus_all none before m) parted.1.0.lacks
+      (subst (λ (y : Member). plus_all none before y ≡ true) (sym e) (all_in before none z i))
 
   within : (z : Member) → d.family.context m z ≡ true → plus_all none before z ≡ true
   within z h =
@@ -80,10 +78,13 @@ module _ {F : Type 0} (d : Deriving F) (IsInert : F → Type 0) (n : Inertness d
       ]
 
   -- the row of the first members, of which m's base context has all but inert ones
-  pub first_source : (k : ℕ) → k ≤ length before → ((z : Member) → IsIn z (take k before) → d.family.context m z ≡ false → IsInert (d.family.form z))
+  pub first_source : (k : ℕ) → k ≤ length before
+      → ((z : Member) → IsIn z (take k before) → d.family.context m z ≡ false → IsInert (d.family.form z))
       → IsSource d.inclusion.over IsInert d.family m (plus_all none (take k before)) before executed (record { forms = []; upto = k })
   first_source k le near =
-      let run = (causal_parts d.family (take k before) (drop k before) none (subst (λ (l : List Member). IsCausalFrom d.family none l) (sym (take-append-drop k before)) parted.0)).0 in
+      let run =
+      (causal_parts d.family (take k before) (drop k before) none
+      (subst (λ (l : List Member). IsCausalFrom d.family none l) (sym (take-append-drop k before)) parted.0)).0 in
       record {
         first = (m ∷ [], w.whole);
         executed = w.forms;
@@ -115,27 +116,37 @@ module _ {F : Type 0} (d : Deriving F) (IsInert : F → Type 0) (n : Inertness d
       }
 
   -- the first members, of whose inserts the context lacks none
-  common_near : (h : List OpData) (c : ContextData) (k : ℕ) → d.family.members ≡ members_in h → CoversAreInert IsInert d.family.form h → ((y : Member) → has c y ≡ d.family.context m y) → k ≤ length before
+  common_near : (h : List OpData) (c : ContextData) (k : ℕ) → d.family.members ≡ members_in h → CoversAreInert IsInert d.family.form h
+      → ((y : Member) → has c y ≡ d.family.context m y) → k ≤ length before
       → HasFirst h c k → (z : Member) → IsIn z (take k before) → d.family.context m z ≡ false → IsInert (d.family.form z)
   common_near h c k all covers context le inserts z i out =
-      let same : take k (members_in h) ≡ take k before = ap (λ (l : List Member). take k l) (sym all ∙ w.whole) ∙ take-append-le k before (m ∷ []) le in
+      let same : take k (members_in h) ≡ take k before =
+      ap (λ (l : List Member). take k l) (sym all ∙ w.whole) ∙ take-append-le k before (m ∷ []) le in
       let r = first_op z h k (subst (λ (l : List Member). IsIn z l) (sym same) i) in
       elim (cases_Bool (is_insert r.0)) [
-        | inl insert ↦ absurd (both_ways (d.family.context m z) out (subst (λ (y : Member). d.family.context m y ≡ true) r.2 (sym (context (member_of r.0)) ∙ inserts r.0 r.1 insert)))
+        | inl insert ↦ absurd (both_ways (d.family.context m z) out
+            (subst (λ (y : Member). d.family.context m y ≡ true) r.2 (sym (context (member_of r.0)) ∙ inserts r.0 r.1 insert)))
         | inr cover ↦ subst (λ (y : Member). IsInert (d.family.form y)) r.2 (covers r.0 (in_take r.0 h k r.1) cover)
       ]
 
   -- the row to begin with is one out of which m may be executed
-  pub beginning_source : (h : List OpData) (c : ContextData) (r : RowData F) → d.family.members ≡ members_in h → CoversAreInert IsInert d.family.form h → ((y : Member) → has c y ≡ d.family.context m y)
+  pub beginning_source : (h : List OpData) (c : ContextData) (r : RowData F) → d.family.members ≡ members_in h
+      → CoversAreInert IsInert d.family.form h → ((y : Member) → has c y ≡ d.family.context m y)
       → IsBeginning rows h c (length executed) r → (C : Member → Bool) × IsSource d.inclusion.over IsInert d.family m C before executed r
   beginning_source h c r all covers context (inl (k, there, e)) =
       let x : Member = Original k.last in
-      let S = plus (d.family.context x) x in
-      (S, subst (λ (q : RowData F). IsSource d.inclusion.over IsInert d.family m S before executed q) (sym e) (own_source k (w.known k there.0) (sym (context x) ∙ there.1)))
+      let S = plus (d.family.context x) x in (
+        S,
+        subst (λ (q : RowData F). IsSource d.inclusion.over IsInert d.family m S before executed q) (sym e)
+            (own_source k (w.known k there.0) (sym (context x) ∙ there.1)),
+      )
   beginning_source h c r all covers context (inr f) =
       let size : length executed ≡ length before = forms_length d before none executed w.forms in
       let low = f.1 in
       let within : r.upto ≤ length before = omega (arith, low, size) in
       let S = plus_all none (take r.upto before) in
-      let made = first_source r.upto within (common_near h c r.upto all covers context within f.2) in
-      (S, subst (λ (l : List F). IsSource d.inclusion.over IsInert d.family m S before executed (record { forms = l; upto = r.upto })) (sym f.0) made)
+      let made = first_source r.upto within (common_near h c r.upto all covers context within f.2) in (
+        S,
+        subst (λ (l : List F). IsSource d.inclusion.over IsInert d.family m S before executed (record { forms = l; upto = r.upto }))
+            (sym f.0) made,
+      )

@@ -25,20 +25,23 @@ module _ {F : Type 0} (d : Deriving F) (IsInert : F → Type 0) (n : Inertness d
     pub kept : IsInert (d.family.form it) → ⊥
     pub back : Row d IsInert n (plus (plus_all C before) it) rest hs
 
-  cut_known : (x : Member) (C : Member → Bool) (xs : List Member) (gs : List F) (f : F) (hs : List F) → C x ≡ true → IsCut C xs gs f hs → IsCut C (x ∷ xs) gs f hs
+  cut_known : (x : Member) (C : Member → Bool) (xs : List Member) (gs : List F) (f : F) (hs : List F) → C x ≡ true → IsCut C xs gs f hs
+      → IsCut C (x ∷ xs) gs f hs
   cut_known x C xs gs f hs h c = record {
     before = x ∷ c.before;
     it = c.it;
     rest = c.rest;
     whole = ap (λ (l : List Member). x ∷ l) c.whole;
     front = row_known d IsInert n x C c.before gs h c.front;
-    form = form_moves d c.it (plus_all C c.before) (plus_all (plus C x) c.before) f (all_same c.before C (plus C x) (same_known C x h)) c.form;
+    form = form_moves d c.it (plus_all C c.before) (plus_all (plus C x) c.before) f (all_same c.before C (plus C x) (same_known C x h))
+        c.form;
     kept = c.kept;
     back = row_moves d IsInert n (plus (plus_all C c.before) c.it) (plus (plus_all (plus C x) c.before) c.it) c.rest hs
         (plus_same (plus_all C c.before) (plus_all (plus C x) c.before) c.it (all_same c.before C (plus C x) (same_known C x h))) c.back;
   }
 
-  cut_inert : (x : Member) (C : Member → Bool) (xs : List Member) (gs : List F) (f : F) (hs : List F) (k : F) → IsInert (d.family.form x) → IsForm d x C k → IsCut (plus C x) xs gs f hs → IsCut C (x ∷ xs) gs f hs
+  cut_inert : (x : Member) (C : Member → Bool) (xs : List Member) (gs : List F) (f : F) (hs : List F) (k : F) → IsInert (d.family.form x)
+      → IsForm d x C k → IsCut (plus C x) xs gs f hs → IsCut C (x ∷ xs) gs f hs
   cut_inert x C xs gs f hs k i dk c = record {
     before = x ∷ c.before;
     it = c.it;
@@ -50,17 +53,29 @@ module _ {F : Type 0} (d : Deriving F) (IsInert : F → Type 0) (n : Inertness d
     back = c.back;
   }
 
-  pub cut : (xs : List Member) (C : Member → Bool) (gs : List F) (f : F) (hs : List F) → Row d IsInert n C xs (gs ++ (f ∷ hs)) → IsCut C xs gs f hs
+  pub cut : (xs : List Member) (C : Member → Bool) (gs : List F) (f : F) (hs : List F) → Row d IsInert n C xs (gs ++ (f ∷ hs))
+      → IsCut C xs gs f hs
   cut [] C [] f hs r = absurd r
   cut [] C (g ∷ gs) f hs r = absurd r
   cut (x ∷ xs) C [] f hs (inl a) = cut_known x C xs [] f hs a.0 (cut xs C [] f hs a.1)
   cut (x ∷ xs) C [] f hs (inr (inl q)) = cut_inert x C xs [] f hs q.0.1.0 q.0.0 q.0.1.1 (cut xs (plus C x) [] f hs q.1)
-  cut (x ∷ xs) C [] f hs (inr (inr r)) = record { before = []; it = x; rest = xs; whole = refl; front = tt; form = r.0.1; kept = r.0.0; back = r.1 }
+  cut (x ∷ xs) C [] f hs (inr (inr r)) =
+      record { before = []; it = x; rest = xs; whole = refl; front = tt; form = r.0.1; kept = r.0.0; back = r.1 }
   cut (x ∷ xs) C (g ∷ gs) f hs (inl a) = cut_known x C xs (g ∷ gs) f hs a.0 (cut xs C (g ∷ gs) f hs a.1)
   cut (x ∷ xs) C (g ∷ gs) f hs (inr (inl q)) = cut_inert x C xs (g ∷ gs) f hs q.0.1.0 q.0.0 q.0.1.1 (cut xs (plus C x) (g ∷ gs) f hs q.1)
   cut (x ∷ xs) C (g ∷ gs) f hs (inr (inr r)) =
       let c = cut xs (plus C x) gs f hs r.1 in
-      record { before = x ∷ c.before; it = c.it; rest = c.rest; whole = ap (λ (l : List Member). x ∷ l) c.whole; front = inr (inr (r.0, c.front)); form = c.form; kept = c.kept; back = c.back }
+      record {
+        before = x ∷ c.before;
+        it = c.it;
+        rest = c.rest;
+        whole = ap (λ (l : List Member). x ∷ l) c.whole;
+        front =
+            inr (inr (r.0, c.front));
+        form = c.form;
+        kept = c.kept;
+        back = c.back;
+      }
 
   module _ (named : F → Option NameData) (named_over : (a b : F) → named (d.inclusion.over a b) ≡ named a) where
     pub named_form : (x : Member) (C : Member → Bool) (f : F) → IsForm d x C f → named f ≡ named (d.family.form x)
@@ -74,7 +89,8 @@ module _ {F : Type 0} (d : Deriving F) (IsInert : F → Type 0) (n : Inertness d
       pub name : named it ≡ named (d.family.form z)
       pub kept : IsInert (d.family.form z) → ⊥
 
-    here_or_later : (x : Member) (xs : List Member) (C : Member → Bool) (z : Member) → IsIn z (x ∷ xs) → C z ≡ false → (z ≡ x) ⊎ (IsIn z xs × (plus C x z ≡ false))
+    here_or_later : (x : Member) (xs : List Member) (C : Member → Bool) (z : Member) → IsIn z (x ∷ xs) → C z ≡ false
+        → (z ≡ x) ⊎ (IsIn z xs × (plus C x z ≡ false))
     here_or_later x xs C z (inl e) out = inl e
     here_or_later x xs C z (inr j) out =
         elim (cases_Bool (plus C x z)) [
@@ -83,12 +99,21 @@ module _ {F : Type 0} (d : Deriving F) (IsInert : F → Type 0) (n : Inertness d
         ]
 
     -- a member of the list that the set lacks is inert, or has its form in the row
-    pub lacked : (xs : List Member) (C : Member → Bool) (fs : List F) (z : Member) → Row d IsInert n C xs fs → IsIn z xs → C z ≡ false → IsInert (d.family.form z) ⊎ IsThere z fs
+    pub lacked : (xs : List Member) (C : Member → Bool) (fs : List F) (z : Member) → Row d IsInert n C xs fs → IsIn z xs → C z ≡ false
+        → IsInert (d.family.form z) ⊎ IsThere z fs
     lacked [] C fs z r i out = absurd i
     lacked (x ∷ xs) C fs z r i out =
         elim (row_cases d IsInert n x C xs fs r) [
-          | inl a ↦ elim i [ inl e ↦ absurd (both_ways (C z) out (subst (λ (y : Member). C y ≡ true) (sym e) a.0)) | inr j ↦ lacked xs C fs z a.1 j out ]
-          | inr (inl q) ↦ elim (here_or_later x xs C z i out) [ inl e ↦ inl (subst (λ (y : Member). IsInert (d.family.form y)) (sym e) q.0.0) | inr j ↦ lacked xs (plus C x) fs z q.1 j.0 j.1 ]
+          | inl a ↦ elim i [
+            | inl e ↦ absurd (both_ways (C z) out (subst (λ (y : Member). C y ≡ true) (sym e) a.0))
+            | inr j ↦
+                lacked xs C fs z a.1 j out
+          ]
+          | inr (inl q) ↦ elim (here_or_later x xs C z i out) [
+            | inl e ↦ inl (subst (λ (y : Member). IsInert (d.family.form y)) (sym e) q.0.0)
+            | inr j ↦
+                lacked xs (plus C x) fs z q.1 j.0 j.1
+          ]
           | inr (inr k) ↦ elim (here_or_later x xs C z i out) [
             | inl e ↦ inr (record {
               it = k.first;
@@ -98,7 +123,13 @@ module _ {F : Type 0} (d : Deriving F) (IsInert : F → Type 0) (n : Inertness d
             })
             | inr j ↦ elim (lacked xs (plus C x) k.rest z k.row j.0 j.1) [
               | inl h ↦ inl h
-              | inr t ↦ inr (record { it = t.it; there = subst (λ (l : List F). IsIn t.it l) (sym k.is) (inr t.there); name = t.name; kept = t.kept })
+              | inr t ↦ inr (record {
+                it = t.it;
+                there = subst (λ (l : List F). IsIn t.it l) (sym k.is) (inr t.there);
+                name = t.name;
+                kept =
+                    t.kept;
+              })
             ]
           ]
         ]

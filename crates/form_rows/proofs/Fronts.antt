@@ -28,18 +28,21 @@ module _ {F : Type 0} (d : Deriving F) (IsInert : F → Type 0) (n : Inertness d
   pub closed_join : (C D : Member → Bool) → IsClosed d.family C → IsClosed d.family D → IsClosed d.family (join C D)
   closed_join C D c e = record {
     listed = λ x h. elim (or_cases (C x) (D x) h) [ inl a ↦ c.listed x a | inr a ↦ e.listed x a ];
-    closed = λ x h z k. elim (or_cases (C x) (D x) h) [ inl a ↦ or_left (C z) (D z) (c.closed x a z k) | inr a ↦ or_right (C z) (D z) (e.closed x a z k) ];
+    closed = λ x h z k. elim (or_cases (C x) (D x) h)
+        [ inl a ↦ or_left (C z) (D z) (c.closed x a z k) | inr a ↦ or_right (C z) (D z) (e.closed x a z k) ];
   }
 
   -- C with what B has of the members before y
   abbrev pub front_set : (Member → Bool) → (Member → Bool) → List Member → Member → Bool
   front_set C B before = join C (meet B (plus_all none before))
 
-  pub front_ready : (B C : Member → Bool) (before behind : List Member) (y : Member) → d.family.members ≡ before ++ (y ∷ behind) → IsClosed d.family B → IsClosed d.family C → B y ≡ true → C y ≡ false
+  pub front_ready : (B C : Member → Bool) (before behind : List Member) (y : Member) → d.family.members ≡ before ++ (y ∷ behind)
+      → IsClosed d.family B → IsClosed d.family C → B y ≡ true → C y ≡ false
       → ((z : Member) → IsIn z before → B z ≡ true → C z ≡ false → IsInert (d.family.form z))
       → AreAlike d IsInert n C (front_set C B before) × IsSound d.family y (front_set C B before)
   front_ready B C before behind y whole b c there out inert =
-      let run : IsCausalFrom d.family none (before ++ (y ∷ behind)) = subst (λ (l : List Member). IsCausalFrom d.family none l) whole (book_run d.family d.known.causal) in
+      let run : IsCausalFrom d.family none (before ++ (y ∷ behind)) =
+      subst (λ (l : List Member). IsCausalFrom d.family none l) whole (book_run d.family d.known.causal) in
       let s = (causal_parts d.family before (y ∷ behind) none run).1.0 in
       let P = plus_all none before in
       let set = closed_join C (meet B P) c (closed_meet d.family B P b s.set.closed) in

@@ -13,7 +13,9 @@ pub mod Prefixes
 pub mod Choices
 pub mod Growing
 pub mod Takes
-pub mod Firsts
+pub mod RowFirsts
+pub mod Entries
+pub mod Counts
 pub mod TextForms
 pub mod BlockPasses
 pub mod Thresholds

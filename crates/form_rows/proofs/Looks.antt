@@ -32,14 +32,17 @@ module _ {F : Type 0} (IsInert : F → Type 0) (forms : List F) (from : ℕ) (ol
   next_in : (f : F) (i : ℕ) → i < length forms → f ≡ get_or forms i f → drop i forms ≡ f ∷ drop (i + 1) forms
   next_in f i less is = drop_more forms i f less ∙ ap (λ (y : F). y ∷ drop (i + 1) forms) (sym is)
 
-  pub adding_skip : (f : F) (i : ℕ) (now : List F) → i < length forms → f ≡ get_or forms i f → IsInert f → IsAdding IsInert forms from old i now → IsAdding IsInert forms from old (i + 1) now
+  pub adding_skip : (f : F) (i : ℕ) (now : List F) → i < length forms → f ≡ get_or forms i f → IsInert f
+      → IsAdding IsInert forms from old i now → IsAdding IsInert forms from old (i + 1) now
   adding_skip f i now less is inert a = record {
     more = a.more;
     whole = a.whole;
-    on = λ ys k. a.on ys (subst (λ (l : List F). IsKept IsInert l ys) (sym (next_in f i less is)) (skipped f (drop (i + 1) forms) ys inert k));
+    on = λ ys k. a.on ys (subst (λ (l : List F). IsKept IsInert l ys) (sym (next_in f i less is))
+        (skipped f (drop (i + 1) forms) ys inert k));
   }
 
-  pub adding_push : (f : F) (i : ℕ) (now new : List F) → i < length forms → f ≡ get_or forms i f → (IsInert f → ⊥) → new ≡ now ++ f ∷ [] → IsAdding IsInert forms from old i now → IsAdding IsInert forms from old (i + 1) new
+  pub adding_push : (f : F) (i : ℕ) (now new : List F) → i < length forms → f ≡ get_or forms i f → (IsInert f → ⊥) → new ≡ now ++ f ∷ []
+      → IsAdding IsInert forms from old i now → IsAdding IsInert forms from old (i + 1) new
   adding_push f i now new less is other e a = record {
     more = a.more ++ f ∷ [];
     whole = e ∙ (ap (λ (l : List F). l ++ f ∷ []) a.whole ∙ append_assoc old a.more (f ∷ []));
@@ -47,10 +50,12 @@ module _ {F : Type 0} (IsInert : F → Type 0) (forms : List F) (from : ℕ) (ol
         (a.on (f ∷ ys) (subst (λ (l : List F). IsKept IsInert l (f ∷ ys)) (sym (next_in f i less is)) (inr (other, (refl, k)))));
   }
 
-  pub adding_end : (i : ℕ) (now : List F) → length forms ≤ i → IsAdding IsInert forms from old i now → IsAdded IsInert (drop from forms) old now
+  pub adding_end : (i : ℕ) (now : List F) → length forms ≤ i → IsAdding IsInert forms from old i now
+      → IsAdded IsInert (drop from forms) old now
   adding_end i now past a = record {
     more = a.more;
-    kept = subst (λ (l : List F). IsKept IsInert (drop from forms) l) (append-nil a.more) (a.on [] (subst (λ (l : List F). IsKept IsInert l []) (sym (drop_all i forms past)) tt));
+    kept = subst (λ (l : List F). IsKept IsInert (drop from forms) l) (append-nil a.more)
+        (a.on [] (subst (λ (l : List F). IsKept IsInert l []) (sym (drop_all i forms past)) tt));
     whole = a.whole;
   }
 
@@ -82,29 +87,45 @@ same_all ys C h =
     (λ z e. elim (all_cases ys none z e) [ inl c ↦ absurd (both_ways false refl c) | inr i ↦ all_in ys C z i ])
 
 module _ {F : Type 0} (d : Deriving F) (IsInert : F → Type 0) (n : Inertness d.inclusion.over IsInert) where
-  pub kept_row : (xs : List Member) (C : Member → Bool) (fs gs : List F) → AreFormsFrom d.inclusion.over d.family C xs fs → IsKept IsInert fs gs → Row d IsInert n C xs gs
+  pub kept_row : (xs : List Member) (C : Member → Bool) (fs gs : List F) → AreFormsFrom d.inclusion.over d.family C xs fs
+      → IsKept IsInert fs gs → Row d IsInert n C xs gs
   kept_row [] C [] [] r k = tt
   kept_row [] C [] (g ∷ gs) r k = absurd k
   kept_row [] C (f ∷ fs) gs r k = absurd r
   kept_row (x ∷ xs) C [] gs r k = absurd r
   kept_row (x ∷ xs) C (f ∷ fs) [] r k = inr ((inert_derived d IsInert n x C f k.0 r.0, (f, r.0)), kept_row xs (plus C x) fs [] r.1 k.1)
-  kept_row (x ∷ xs) C (f ∷ fs) (g ∷ gs) r (inl k) = inr (inl ((inert_derived d IsInert n x C f k.0 r.0, (f, r.0)), kept_row xs (plus C x) fs (g ∷ gs) r.1 k.1))
+  kept_row (x ∷ xs) C (f ∷ fs) (g ∷ gs) r (inl k) =
+      inr (inl ((inert_derived d IsInert n x C f k.0 r.0, (f, r.0)), kept_row xs (plus C x) fs (g ∷ gs) r.1 k.1))
   kept_row (x ∷ xs) C (f ∷ fs) (g ∷ gs) r (inr k) =
-      inr (inr (((λ i. k.0 (derived_inert d IsInert n x C f i r.0)), subst (λ (h : F). IsForm d x C h) (sym k.1.0) r.0), kept_row xs (plus C x) fs gs r.1 k.1.1))
+      inr (inr (
+        ((λ i. k.0 (derived_inert d IsInert n x C f i r.0)), subst (λ (h : F). IsForm d x C h) (sym k.1.0) r.0),
+        kept_row xs (plus C x) fs gs r.1 k.1.1,
+      ))
 
   -- a row that has looked at all that was executed
-  pub caught_up : (C : Member → Bool) (xs : List Member) (forms : List F) (old new : RowData F) → AreFormsFrom d.inclusion.over d.family none xs forms → IsRowAt d.inclusion.over IsInert d.family C xs old
-      → IsAdded IsInert (drop old.upto forms) old.forms new.forms → new.upto ≡ length forms → IsRowAt d.inclusion.over IsInert d.family C xs new
+  pub caught_up : (C : Member → Bool) (xs : List Member) (forms : List F) (old new : RowData F)
+      → AreFormsFrom d.inclusion.over d.family none xs forms → IsRowAt d.inclusion.over IsInert d.family C xs old
+      → IsAdded IsInert (drop old.upto forms) old.forms new.forms → new.upto ≡ length forms
+      → IsRowAt d.inclusion.over IsInert d.family C xs new
   caught_up C xs forms old new ex at added all =
       let e : new.upto ≡ length xs = all ∙ forms_length d xs none forms ex in
       let whole : take new.upto xs ≡ xs = take_all new.upto xs (omega arith) in
       let split : take old.upto xs ++ drop old.upto xs ≡ xs = take-append-drop old.upto xs in
-      let late : Row d IsInert n (plus_all none (take old.upto xs)) (drop old.upto xs) added.more = kept_row (drop old.upto xs) (plus_all none (take old.upto xs)) (drop old.upto forms) added.more (forms_drop d old.upto xs none forms ex) added.kept in
-      let tail = row_moves d IsInert n (plus_all none (take old.upto xs)) (plus_all C (take old.upto xs)) (drop old.upto xs) added.more (λ z. sym (same_all (take old.upto xs) C at.part z)) late in
-      let row : Row d IsInert n C (take old.upto xs ++ drop old.upto xs) (old.forms ++ added.more) = row_join d IsInert n (take old.upto xs) (drop old.upto xs) C old.forms added.more at.row tail in
-      let here : Row d IsInert n C xs new.forms = subst (λ (l : List F). Row d IsInert n C xs l) (sym added.whole) (subst (λ (l : List Member). Row d IsInert n C l (old.forms ++ added.more)) split row) in
+      let late : Row d IsInert n (plus_all none (take old.upto xs)) (drop old.upto xs) added.more =
+      kept_row (drop old.upto xs) (plus_all none (take old.upto xs)) (drop old.upto forms) added.more
+      (forms_drop d old.upto xs none forms ex) added.kept in
+      let tail =
+      row_moves d IsInert n (plus_all none (take old.upto xs)) (plus_all C (take old.upto xs)) (drop old.upto xs) added.more
+      (λ z. sym (same_all (take old.upto xs) C at.part z)) late in
+      let row : Row d IsInert n C (take old.upto xs ++ drop old.upto xs) (old.forms ++ added.more) =
+      row_join d IsInert n (take old.upto xs) (drop old.upto xs) C old.forms added.more at.row tail in
+      let here : Row d IsInert n C xs new.forms =
+      subst (λ (l : List F). Row d IsInert n C xs l) (sym added.whole)
+      (subst (λ (l : List Member). Row d IsInert n C l (old.forms ++ added.more)) split row) in
       let part : IsSubset C (plus_all none xs) = λ z h.
-      subst (λ (l : List Member). plus_all none l z ≡ true) split (ap (λ (S : Member → Bool). S z) (all-append none (take old.upto xs) (drop old.upto xs)) ∙ all_keeps (drop old.upto xs) (plus_all none (take old.upto xs)) z (at.part z h)) in
+      subst (λ (l : List Member). plus_all none l z ≡ true) split
+      (ap (λ (S : Member → Bool). S z) (all-append none (take old.upto xs) (drop old.upto xs))
+      ∙ all_keeps (drop old.upto xs) (plus_all none (take old.upto xs)) z (at.part z h)) in
       record {
         within = omega arith;
         part = subst (λ (l : List Member). IsSubset C (plus_all none l)) (sym whole) part;
@@ -112,32 +133,42 @@ module _ {F : Type 0} (d : Deriving F) (IsInert : F → Type 0) (n : Inertness d
       }
 
   -- the base form of m is a form at the row's set
-  pub ready_form : (m : Member) (C : Member → Bool) (xs : List Member) (forms : List F) (r : RowData F) (f : F) → IsReady d.inclusion.over IsInert d.family m C xs forms r → f ≡ d.family.form m → IsForm d m C f
+  pub ready_form : (m : Member) (C : Member → Bool) (xs : List Member) (forms : List F) (r : RowData F) (f : F)
+      → IsReady d.inclusion.over IsInert d.family m C xs forms r → f ≡ d.family.form m → IsForm d m C f
   ready_form m C xs forms r f w e = at_base w.listed w.base e
 
   -- the row of a member that is to be executed, once it has looked at all that was
-  pub ready_at : (m : Member) (C : Member → Bool) (xs : List Member) (forms : List F) (old new : RowData F) → IsReady d.inclusion.over IsInert d.family m C xs forms old
-      → IsAdded IsInert (drop old.upto forms) old.forms new.forms → new.upto ≡ length forms → IsRowAt d.inclusion.over IsInert d.family C xs new × (new.upto ≡ length xs)
-  ready_at m C xs forms old new w added all = (caught_up C xs forms old new w.executed w.row added all, all ∙ forms_length d xs none forms w.executed)
+  pub ready_at : (m : Member) (C : Member → Bool) (xs : List Member) (forms : List F) (old new : RowData F)
+      → IsReady d.inclusion.over IsInert d.family m C xs forms old
+      → IsAdded IsInert (drop old.upto forms) old.forms new.forms → new.upto ≡ length forms
+      → IsRowAt d.inclusion.over IsInert d.family C xs new × (new.upto ≡ length xs)
+  ready_at m C xs forms old new w added all =
+      (caught_up C xs forms old new w.executed w.row added all, all ∙ forms_length d xs none forms w.executed)
 
-  pub executed_fits : (m : Member) (C : Member → Bool) (xs : List Member) (r : RowData F) (f : F) → total_by (λ y. d.inclusion.extent (d.family.form y)) d.family.members ≤ 4294967295 → IsRowAt d.inclusion.over IsInert d.family C xs r → r.upto ≡ length xs
+  pub executed_fits : (m : Member) (C : Member → Bool) (xs : List Member) (r : RowData F) (f : F)
+      → total_by (λ y. d.inclusion.extent (d.family.form y)) d.family.members ≤ 4294967295
+      → IsRowAt d.inclusion.over IsInert d.family C xs r → r.upto ≡ length xs
       → ((z : Member) → IsIn z xs → m ≢ z) → IsForm d m C f → PassFits d.inclusion.over d.inclusion.place d.inclusion.extent f r.forms
   executed_fits m C xs r f le at all ne df =
       let whole : take r.upto xs ≡ xs = take_all r.upto xs (omega arith) in
       pass_fits d IsInert n m xs C f r.forms le ne df (subst (λ (l : List Member). Row d IsInert n C l r.forms) whole at.row)
 
   -- its form behind the row is one at all executed members
-  pub executed_form : (m : Member) (C : Member → Bool) (xs : List Member) (r : RowData F) (f : F) → IsRowAt d.inclusion.over IsInert d.family C xs r → r.upto ≡ length xs → ((z : Member) → IsIn z xs → m ≢ z) → IsForm d m C f
+  pub executed_form : (m : Member) (C : Member → Bool) (xs : List Member) (r : RowData F) (f : F)
+      → IsRowAt d.inclusion.over IsInert d.family C xs r → r.upto ≡ length xs → ((z : Member) → IsIn z xs → m ≢ z) → IsForm d m C f
       → IsForm d m (plus_all none xs) (form_after d.inclusion.over f r.forms)
   executed_form m C xs r f at all ne df =
       let whole : take r.upto xs ≡ xs = take_all r.upto xs (omega arith) in
       let row : Row d IsInert n C xs r.forms = subst (λ (l : List Member). Row d IsInert n C l r.forms) whole at.row in
       let part : IsSubset C (plus_all none xs) = subst (λ (l : List Member). IsSubset C (plus_all none l)) whole at.part in
-      form_moves d m (plus_all C xs) (plus_all none xs) (form_after d.inclusion.over f r.forms) (same_all xs C part) (pass_row d IsInert n m xs C f r.forms ne df row).form
+      form_moves d m (plus_all C xs) (plus_all none xs) (form_after d.inclusion.over f r.forms) (same_all xs C part)
+      (pass_row d IsInert n m xs C f r.forms ne df row).form
 
   -- and the row is that of the set with m, over the list with m
-  pub executed_row : (m : Member) (C : Member → Bool) (xs : List Member) (r s : RowData F) (f : F) → IsRowAt d.inclusion.over IsInert d.family C xs r → r.upto ≡ length xs → ((z : Member) → IsIn z xs → m ≢ z) → IsForm d m C f
-      → s.forms ≡ row_after d.inclusion.over f r.forms → s.upto ≡ r.upto + 1 → IsRowAt d.inclusion.over IsInert d.family (plus C m) (xs ++ m ∷ []) s
+  pub executed_row : (m : Member) (C : Member → Bool) (xs : List Member) (r s : RowData F) (f : F)
+      → IsRowAt d.inclusion.over IsInert d.family C xs r → r.upto ≡ length xs → ((z : Member) → IsIn z xs → m ≢ z) → IsForm d m C f
+      → s.forms ≡ row_after d.inclusion.over f r.forms → s.upto ≡ r.upto + 1
+      → IsRowAt d.inclusion.over IsInert d.family (plus C m) (xs ++ m ∷ []) s
   executed_row m C xs r s f at all ne df is more =
       let whole : take r.upto xs ≡ xs = take_all r.upto xs (omega arith) in
       let row : Row d IsInert n C xs r.forms = subst (λ (l : List Member). Row d IsInert n C l r.forms) whole at.row in
@@ -145,9 +176,12 @@ module _ {F : Type 0} (d : Deriving F) (IsInert : F → Type 0) (n : Inertness d
       let size : length (xs ++ m ∷ []) ≡ length xs + 1 = length-append xs (m ∷ []) in
       let long : take s.upto (xs ++ m ∷ []) ≡ xs ++ m ∷ [] = take_all s.upto (xs ++ m ∷ []) (omega arith) in
       let passed = (pass_row d IsInert n m xs C f r.forms ne df row).row in
-      let tail : Row d IsInert n (plus_all (plus C m) xs) (m ∷ []) [] = row_known d IsInert n m (plus_all (plus C m) xs) [] [] (all_keeps xs (plus C m) m (plus_here C m)) tt in
+      let tail : Row d IsInert n (plus_all (plus C m) xs) (m ∷ []) [] =
+      row_known d IsInert n m (plus_all (plus C m) xs) [] [] (all_keeps xs (plus C m) m (plus_here C m)) tt in
       let joined = row_join d IsInert n xs (m ∷ []) (plus C m) (row_after d.inclusion.over f r.forms) [] passed tail in
-      let here : Row d IsInert n (plus C m) (xs ++ m ∷ []) s.forms = subst (λ (l : List F). Row d IsInert n (plus C m) (xs ++ m ∷ []) l) (append-nil (row_after d.inclusion.over f r.forms) ∙ sym is) joined in
+      let here : Row d IsInert n (plus C m) (xs ++ m ∷ []) s.forms =
+      subst (λ (l : List F). Row d IsInert n (plus C m) (xs ++ m ∷ []) l) (append-nil (row_after d.inclusion.over f r.forms) ∙ sym is)
+      joined in
       let subset : IsSubset (plus C m) (plus_all none (xs ++ m ∷ [])) = λ z h. elim (plus_cases C m z h) [
         | inl c ↦ ap (λ (S : Member → Bool). S z) (all-append none xs (m ∷ [])) ∙ plus_keeps (plus_all none xs) m z (part z c)
         | inr e ↦ all_in (xs ++ m ∷ []) none z (in_right z xs (m ∷ []) (inl (sym e)))
@@ -164,7 +198,8 @@ module _ {F : Type 0} (d : Deriving F) (IsInert : F → Type 0) (n : Inertness d
   row_all [] C h = tt
   row_all (y ∷ ys) C h = row_known d IsInert n y C ys [] (h y (inl refl)) (row_all ys C (λ z i. h z (inr i)))
 
-  pub first_row : (k : ℕ) (xs : List Member) → k ≤ length xs → IsRowAt d.inclusion.over IsInert d.family (plus_all none (take k xs)) xs (record { forms = []; upto = k })
+  pub first_row : (k : ℕ) (xs : List Member) → k ≤ length xs
+      → IsRowAt d.inclusion.over IsInert d.family (plus_all none (take k xs)) xs (record { forms = []; upto = k })
   first_row k xs within = record {
     within = within;
     part = λ z h. h;

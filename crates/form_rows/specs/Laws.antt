@@ -29,35 +29,43 @@ pub record IsFollower {F : Type 0} (b : Family F) (follow : F → F) (m x : Memb
 -- the form of a member that follows another one, where the other was executed before some members
 abbrev pub FollowersFollow : {F : Type 0} → Inclusion F → Family F → Type 0
 FollowersFollow {F} i b =
-    (follow : F → F) (m x : Member) (before after : List Member) (C : Member → Bool) (f : F) (gs : List F) → IsFollowing i follow → IsFollower b follow m x
+    (follow : F → F) (m x : Member) (before after : List Member) (C : Member → Bool) (f : F) (gs : List F) → IsFollowing i follow
+    → IsFollower b follow m x
     → plus_all C before x ≡ false → ((z : Member) → IsIn z after → x ≢ z) → AreFormsFrom i.over b (plus_all C before) (m ∷ after) (f ∷ gs)
     → Derived i.over b x (plus_all C (before ++ (m ∷ after))) (form_after i.over (follow f) gs)
 
 -- a member after a list may be moved in front of it, if its base context is in the set
 abbrev pub MembersMoveToTheFront : {F : Type 0} → Inclusion F → (F → Type 0) → (F → F → F) → Family F → Type 0
 MembersMoveToTheFront {F} i IsInert back b =
-    (y : Member) (xs ys : List Member) (C : Member → Bool) (f : F) (fs gs : List F) → ((z : Member) → IsIn z xs → y ≢ z) → IsSound b y C → Derived i.over b y (plus_all C xs) f
+    (y : Member) (xs ys : List Member) (C : Member → Bool) (f : F) (fs gs : List F) → ((z : Member) → IsIn z xs → y ≢ z) → IsSound b y C
+    → Derived i.over b y (plus_all C xs) f
     → IsRow i.over IsInert b C xs fs → IsRow i.over IsInert b (plus (plus_all C xs) y) ys gs
-    → Derived i.over b y C (front_of back f fs) × IsRow i.over IsInert b (plus C y) (xs ++ (y ∷ ys)) (row_after i.over (front_of back f fs) fs ++ gs)
+    → Derived i.over b y C (front_of back f fs)
+    × IsRow i.over IsInert b (plus C y) (xs ++ (y ∷ ys)) (row_after i.over (front_of back f fs) fs ++ gs)
 
 -- closed sets that differ by inert members alone have one row over the family's members
 abbrev pub AlikeSetsHaveOneRow : {F : Type 0} → Inclusion F → (F → Type 0) → Family F → Type 0
 AlikeSetsHaveOneRow {F} i IsInert b =
-    (C E : Member → Bool) (fs : List F) → IsClosed b C → IsClosed b E → ((z : Member) → C z ≡ true → E z ≡ false → IsInert (b.form z)) → ((z : Member) → E z ≡ true → C z ≡ false → IsInert (b.form z))
+    (C E : Member → Bool) (fs : List F) → IsClosed b C → IsClosed b E → ((z : Member) → C z ≡ true → E z ≡ false → IsInert (b.form z))
+    → ((z : Member) → E z ≡ true → C z ≡ false → IsInert (b.form z))
     → IsRow i.over IsInert b C b.members fs → IsRow i.over IsInert b E b.members fs
 
 -- a first group of a history follows its original, and each further one the group before it
 abbrev pub GroupsFollow : Type 0
 GroupsFollow =
-    ((h : List OpData) (t : NameData) → is_known h (Original t) ≡ true → is_known h (Group t 1) ≡ true → IsFollower (family_in h (base_form h)) (following (mark_of (original_form h t) t 1)) (Original t) (Group t 1))
-    × ((h : List OpData) (t : NameData) (g : ℕ) → 1 ≤ g → is_known h (Group t g) ≡ true → is_known h (Group t (g + 1)) ≡ true → IsFollower (family_in h (base_form h)) (following (mark_of (original_form h t) t (g + 1))) (Group t g) (Group t (g + 1)))
+    ((h : List OpData) (t : NameData) → is_known h (Original t) ≡ true → is_known h (Group t 1) ≡ true
+    → IsFollower (family_in h (base_form h)) (following (mark_of (original_form h t) t 1)) (Original t) (Group t 1))
+    × ((h : List OpData) (t : NameData) (g : ℕ) → 1 ≤ g → is_known h (Group t g) ≡ true → is_known h (Group t (g + 1)) ≡ true
+    → IsFollower (family_in h (base_form h)) (following (mark_of (original_form h t) t (g + 1))) (Group t g) (Group t (g + 1)))
 
 -- a form that is brought over a row becomes its member's form after the row, and the row becomes that of the set with the member
 abbrev pub PassesKeepRows : {F : Type 0} → Inclusion F → (F → Type 0) → Family F → Type 0
 PassesKeepRows {F} i IsInert b =
-    (m : Member) (xs : List Member) (C : Member → Bool) (f : F) (fs : List F) → ((z : Member) → IsIn z xs → m ≢ z) → Derived i.over b m C f → IsRow i.over IsInert b C xs fs
+    (m : Member) (xs : List Member) (C : Member → Bool) (f : F) (fs : List F) → ((z : Member) → IsIn z xs → m ≢ z) → Derived i.over b m C f
+    → IsRow i.over IsInert b C xs fs
     → Derived i.over b m (plus_all C xs) (form_after i.over f fs) × IsRow i.over IsInert b (plus C m) xs (row_after i.over f fs)
 
 -- a row without forms that has looked at the first members of a list is the row of these
 abbrev pub FirstMembersHaveRows : {F : Type 0} → Inclusion F → (F → Type 0) → Family F → Type 0
-FirstMembersHaveRows {F} i IsInert b = (k : ℕ) (xs : List Member) → k ≤ length xs → IsRowAt i.over IsInert b (plus_all none (take k xs)) xs (record { forms = []; upto = k })
+FirstMembersHaveRows {F} i IsInert b =
+    (k : ℕ) (xs : List Member) → k ≤ length xs → IsRowAt i.over IsInert b (plus_all none (take k xs)) xs (record { forms = []; upto = k })

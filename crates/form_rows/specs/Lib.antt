@@ -1,3 +1,4 @@
+pub mod Firsts
 pub mod Kept
 pub mod Lacking
 pub mod Names

@@ -46,14 +46,17 @@ shifted_twice (Covered c) m n = ap (λ (k : ℕ). Covered (record c { place = k 
 
 -- a form in front of another one stays
 pub stays_before : (a b : Form) → place_of a < place_of b → form_over a b ≡ a
-stays_before (Insert a) (Insert b) h = ap (λ (k : ℕ). Insert (record a { place = k })) (over_less a.place a.site b.place b.site (ins_extent b) h)
+stays_before (Insert a) (Insert b) h =
+    ap (λ (k : ℕ). Insert (record a { place = k })) (over_less a.place a.site b.place b.site (ins_extent b) h)
 stays_before (Insert a) (Covered d) h = refl
 stays_before (Covered c) (Insert b) h = ap (λ (k : ℕ). Covered (record c { place = k })) (cover_less c.place b.place (ins_extent b) h)
 stays_before (Covered c) (Covered d) h = refl
 
 -- a form after another one moves by the cells that this adds
 pub moves_after : (a b : Form) → place_of b < place_of a → form_over a b ≡ form_shifted a (extent_of b)
-moves_after (Insert a) (Insert b) h = ap (λ (k : ℕ). Insert (record a { place = k })) (over_more a.place a.site b.place b.site (ins_extent b) h)
+moves_after (Insert a) (Insert b) h =
+    ap (λ (k : ℕ). Insert (record a { place = k })) (over_more a.place a.site b.place b.site (ins_extent b) h)
 moves_after (Insert a) (Covered d) h = sym (shifted_none (Insert a))
-moves_after (Covered c) (Insert b) h = ap (λ (k : ℕ). Covered (record c { place = k })) (cover_more c.place b.place (ins_extent b) (omega arith))
+moves_after (Covered c) (Insert b) h =
+    ap (λ (k : ℕ). Covered (record c { place = k })) (cover_more c.place b.place (ins_extent b) (omega arith))
 moves_after (Covered c) (Covered d) h = sym (shifted_none (Covered c))

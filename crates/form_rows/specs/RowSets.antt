@@ -32,7 +32,8 @@ without test (f ∷ fs) = if test f then without test fs else f ∷ without test
 -- each inclusion of a pass stays within the numbers of 32 bits
 abbrev pub PassFits : {F : Type 0} → (F → F → F) → (F → ℕ) → (F → ℕ) → F → List F → Type 0
 PassFits over place extent f [] = Unit {0}
-PassFits over place extent f (k ∷ ks) = (place f + extent k ≤ 4294967295) × ((place k + extent f ≤ 4294967295) × PassFits over place extent (over f k) ks)
+PassFits over place extent f (k ∷ ks) =
+    (place f + extent k ≤ 4294967295) × ((place k + extent f ≤ 4294967295) × PassFits over place extent (over f k) ks)
 
 abbrev pub AfterFits : {F : Type 0} → (F → F → F) → (F → ℕ) → (F → ℕ) → F → List F → Type 0
 AfterFits over place extent f [] = Unit {0}
@@ -51,7 +52,10 @@ module _ {F : Type 0} (over : F → F → F) (IsInert : F → Type 0) (b : Famil
   IsRow C [] [] = Unit {0}
   IsRow C [] (f ∷ fs) = ⊥
   IsRow C (x ∷ xs) [] = ((C x ≡ true) × IsRow C xs []) ⊎ ((IsInert (b.form x) × ((k : F) × Derived over b x C k)) × IsRow (plus C x) xs [])
-  IsRow C (x ∷ xs) (f ∷ fs) = ((C x ≡ true) × IsRow C xs (f ∷ fs)) ⊎ (((IsInert (b.form x) × ((k : F) × Derived over b x C k)) × IsRow (plus C x) xs (f ∷ fs)) ⊎ (((IsInert (b.form x) → ⊥) × Derived over b x C f) × IsRow (plus C x) xs fs))
+  IsRow C (x ∷ xs) (f ∷ fs) =
+      ((C x ≡ true) × IsRow C xs (f ∷ fs))
+      ⊎ (((IsInert (b.form x) × ((k : F) × Derived over b x C k)) × IsRow (plus C x) xs (f ∷ fs))
+      ⊎ (((IsInert (b.form x) → ⊥) × Derived over b x C f) × IsRow (plus C x) xs fs))
 
 -- the second list is the first without its inert forms
 abbrev pub IsKept : {F : Type 0} → (F → Type 0) → List F → List F → Type 0
@@ -94,13 +98,15 @@ leader_of t g = if nat_le g 1 then Original t else Group t (g - 1)
 -- first list was looked at
 abbrev pub taken_out : {F : Type 0} → (F → F → F) → (F → F → F) → (F → Bool) → List F → List F → List F
 taken_out over back test gs [] = gs
-taken_out over back test gs (f ∷ fs) = if test f then taken_out over back test (row_after over (front_of back f gs) gs) fs else taken_out over back test (gs ++ f ∷ []) fs
+taken_out over back test gs (f ∷ fs) =
+    if test f then taken_out over back test (row_after over (front_of back f gs) gs) fs else taken_out over back test (gs ++ f ∷ []) fs
 
 -- each inclusion on the way stays within the numbers of 32 bits
 abbrev pub TakingFits : {F : Type 0} → (F → F → F) → (F → F → F) → (F → ℕ) → (F → ℕ) → (F → Bool) → List F → List F → Type 0
 TakingFits over back place extent test gs [] = Unit {0}
 TakingFits over back place extent test gs (f ∷ fs) =
-    (test f ≡ true → PassFits over place extent (front_of back f gs) gs × TakingFits over back place extent test (row_after over (front_of back f gs) gs) fs)
+    (test f ≡ true → PassFits over place extent (front_of back f gs) gs
+    × TakingFits over back place extent test (row_after over (front_of back f gs) gs) fs)
     × (test f ≡ false → TakingFits over back place extent test (gs ++ f ∷ []) fs)
 
 module _ {F : Type 0} (over : F → F → F) (IsInert : F → Type 0) (b : Family F) where

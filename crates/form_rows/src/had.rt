@@ -1,13 +1,14 @@
 //! Whether a context has members of a row.
 
 ghost use Rattle.std.specs.Prelude.{◌≡◌, false, IsTrue};
-ghost use Rattle.context_vector.specs.Contexts.{count_of};
+ghost use Rattle.op_name.specs.declared.member.Member.TheVariants.{Original};
+ghost use Rattle.context_vector.specs.Contexts.{count_of, has};
 ghost use Rattle.ttf_form.specs.Families.{IsIn};
 ghost use Rattle.form_rows.specs.Names.{had_by};
 
 use crate::named::Named;
 use context_vector::Vector;
-use op_name::Member;
+use op_name::{Member, Name};
 
 // Whether the context has no member of the row.
 pub(crate) fn has_none<F: Named>(context: &Vector, row: &[F]) -> bool
@@ -30,16 +31,23 @@ fn is_counted<F: Named>(form: &F, context: &Vector, site: &mut u16, count: &mut 
     ensures count { count.new ≡ count_of context.now.set site.new }
 {
     match form.name() {
-        Some(name) => {
-            name.known();
-            if name.site != *site {
-                *site = name.site;
-                *count = context.count(name.site);
-            }
-            name.number <= *count
-        }
+        Some(name) => has_original(context, &name, site, count),
         None => false,
     }
+}
+
+// Whether the context, of which the count of one site is at hand, has the original of this name.
+pub(crate) fn has_original(context: &Vector, name: &Name, site: &mut u16, count: &mut u32) -> bool
+    requires { count.old ≡ count_of context.now.set site.old }
+    ensures has { result ≡ has context.now.set (Original name.now) }
+    ensures count { count.new ≡ count_of context.now.set site.new }
+{
+    name.known();
+    if name.site != *site {
+        *site = name.site;
+        *count = context.count(name.site);
+    }
+    name.number <= *count
 }
 
 // Whether the form is one of a member of the context.

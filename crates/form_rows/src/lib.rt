@@ -13,6 +13,7 @@
 
 mod block;
 mod blocks;
+mod first_members;
 mod groups;
 mod had;
 mod laws;

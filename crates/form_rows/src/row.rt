@@ -1,6 +1,6 @@
 //! The row of one set of members.
 
-ghost use Rattle.std.specs.Prelude.{◌≡◌, ◌≢◌, ◌<◌, ◌≤◌, ◌++◌, ◌∷◌, ◌⊎◌, [], Bool, false, List, IsTrue, OnOk, OnErr, IfOk, length, drop, slice_get};
+ghost use Rattle.std.specs.Prelude.{◌≡◌, ◌≢◌, ◌+◌, ◌<◌, ◌≤◌, ◌++◌, ◌∷◌, ◌⊎◌, [], Bool, false, List, IsTrue, OnOk, OnErr, IfOk, length, drop, slice_get};
 ghost use Rattle.op_name.specs.declared.member.Member.{Member};
 ghost use Rattle.context_vector.specs.Contexts.{has, count_of};
 ghost use Rattle.ttf_form.specs.Families.{IsIn};
@@ -21,6 +21,9 @@ use op_name::{Member, Memory};
 use std::alloc::Global;
 use std::marker::Model;
 use ttf_form::{Bases, Include};
+
+// How many inert forms are looked at, in order to count those that aren't.
+const LOOKS: usize = 256;
 
 /// Forms of the inserts that a set of members lacks, among those that were executed up to a place: each after the set
 /// and the members before it.
@@ -75,6 +78,14 @@ impl<F: Named + Copy> Row<F> {
         kept_number(executed, self.upto)
     }
 
+    /// Whether it has no more than `most` forms once it looks at the forms in which the members since were executed. False
+    /// also where too many of these are inert.
+    pub(crate) fn has_at_most(&self, executed: &[F], most: usize) -> bool
+        ensures { IsTrue result → (ks : List F) → IsKept F.IsInert (drop self.now.upto executed.now) ks → length self.now.forms + length ks ≤ most }
+    {
+        self.len() <= most && are_at_most(executed, self.upto, most - self.len())
+    }
+
     /// The first of its forms.
     pub fn first(&self) -> Option<F>
         ensures { result ≡ slice_get self.now.forms 0 }
@@ -101,29 +112,62 @@ impl<F: Named + Copy> Row<F> {
         ensures row { OnOk result ((C : Member → Bool) (xs : List Member) → IsSource F.over F.IsInert (family_of ⟦<B as Bases<F>>⟧ bases.now) m.now C xs executed.now self.old → IsRowAt F.over F.IsInert (family_of ⟦<B as Bases<F>>⟧ bases.now) (plus (B.base_context bases.now m.now) m.now) (xs ++ m.now ∷ []) self.new) }
         ensures err { OnErr result ((self.new ≡ self.old) ⊎ (IsAdded F.IsInert (drop self.old.upto executed.now) self.old.forms self.new.forms × (self.new.upto ≡ length executed.now))) }
     {
+        self.execute_apart(bases, m, context, executed, 0)
+    }
+
+    /// The same, where it is known that the context has none of its members if it has no more than `apart` forms, once it has
+    /// looked at those in which the members since were executed: nothing is looked for then.
+    pub(crate) fn execute_apart<B: Bases<F>>(
+        &mut self,
+        bases: &B,
+        m: &Member,
+        context: &Vector,
+        executed: &[F],
+        apart: usize,
+    ) -> Result<F, Memory>
+        requires causal { IsCausalFamily (family_of ⟦<B as Bases<F>>⟧ bases.now) }
+        requires names { AreNamed F.named F.IsInert (family_of ⟦<B as Bases<F>>⟧ bases.now) }
+        requires context { (y : Member) → has context.now.set y ≡ B.base_context bases.now m.now y }
+        requires apart { (fs : List F) → IsAdded F.IsInert (drop self.old.upto executed.now) self.old.forms fs → length fs ≤ apart → (f : F) → IsIn f fs → had_by F.named context.now.set f ≡ false }
+        requires short { length executed.now < 4294967296 }
+        requires ready { (C : Member → Bool) × ((xs : List Member) × IsSource F.over F.IsInert (family_of ⟦<B as Bases<F>>⟧ bases.now) m.now C xs executed.now self.old) }
+        ensures form { IfOk result (λ f. (C : Member → Bool) (xs : List Member) → IsSource F.over F.IsInert (family_of ⟦<B as Bases<F>>⟧ bases.now) m.now C xs executed.now self.old → Derived F.over (family_of ⟦<B as Bases<F>>⟧ bases.now) m.now (plus_all none xs) f) }
+        ensures row { OnOk result ((C : Member → Bool) (xs : List Member) → IsSource F.over F.IsInert (family_of ⟦<B as Bases<F>>⟧ bases.now) m.now C xs executed.now self.old → IsRowAt F.over F.IsInert (family_of ⟦<B as Bases<F>>⟧ bases.now) (plus (B.base_context bases.now m.now) m.now) (xs ++ m.now ∷ []) self.new) }
+        ensures err { OnErr result ((self.new ≡ self.old) ⊎ (IsAdded F.IsInert (drop self.old.upto executed.now) self.old.forms self.new.forms × (self.new.upto ≡ length executed.now))) }
+    {
         bases.known();
         derives::<F, B>(bases);
         self.catch_up(executed)?;
-        let form = brought_over(bases.base(m), &mut self.forms, context)?;
+        let apart = is_at_most(self.forms.len(), apart);
+        let form = brought_over(bases.base(m), &mut self.forms, context, apart)?;
         self.upto += 1;
         Ok(form)
     }
 }
 
+// Whether the number is at most the other one.
+fn is_at_most(number: usize, most: usize) -> bool
+    ensures { IsTrue result → number ≤ most }
+{
+    number <= most
+}
+
 // Takes the forms of members that the context has out of the row, and brings the form over the others, and these over it.
-// After out of memory the row is as it was.
+// After out of memory the row is as it was. If `apart` there is none of these members.
 fn brought_over<F: Named + Copy>(
     form: F,
     row: &mut Blocks<F>,
     context: &Vector,
+    apart: bool,
 ) -> Result<F, Memory>
+    requires apart { IsTrue apart → (f : F) → IsIn f row.old → had_by F.named context.now.set f ≡ false }
     requires taking { TakingFits F.over F.back F.place F.extent (had_by F.named context.now.set) [] row.old }
     requires passing { PassFits F.over F.place F.extent form (taken_out F.over F.back (had_by F.named context.now.set) [] row.old) }
     ensures form { IfOk result (λ f. f ≡ form_after F.over form (taken_out F.over F.back (had_by F.named context.now.set) [] row.old)) }
     ensures row { OnOk result (row.new ≡ row_after F.over form (taken_out F.over F.back (had_by F.named context.now.set) [] row.old)) }
     ensures err { OnErr result (row.new ≡ row.old) }
 {
-    take_out(row, context)?;
+    take_out(row, context, apart)?;
     Ok(row.pass(form))
 }
 
@@ -168,20 +212,56 @@ fn kept_number<F: Include + Copy>(forms: &[F], from: usize) -> usize
     number
 }
 
+// Whether no more than `most` forms from a place on aren't inert. False also where more than `LOOKS` are inert.
+pub(crate) fn are_at_most<F: Include + Copy>(forms: &[F], from: usize, most: usize) -> bool
+    ensures { IsTrue result → (ks : List F) → IsKept F.IsInert (drop from forms.now) ks → length ks ≤ most }
+{
+    let mut left = most;
+    let mut looks = LOOKS;
+    for i in from..forms.len() {
+        let one = forms[i];
+        if one.inert() {
+            if looks == 0 {
+                return false;
+            }
+            looks -= 1;
+        } else {
+            if left == 0 {
+                return false;
+            }
+            left -= 1;
+        }
+    }
+    true
+}
+
 // Moves the forms of members that the context has to the front of the row, one after the other, and takes them out. After
-// out of memory the row is as it was.
-fn take_out<F: Named + Copy>(row: &mut Blocks<F>, context: &Vector) -> Result<(), Memory>
-    requires { TakingFits F.over F.back F.place F.extent (had_by F.named context.now.set) [] row.old }
+// out of memory the row is as it was. If `apart` there is none of these members.
+fn take_out<F: Named + Copy>(
+    row: &mut Blocks<F>,
+    context: &Vector,
+    apart: bool,
+) -> Result<(), Memory>
+    requires apart { IsTrue apart → (f : F) → IsIn f row.old → had_by F.named context.now.set f ≡ false }
+    requires fits { TakingFits F.over F.back F.place F.extent (had_by F.named context.now.set) [] row.old }
     ensures ok { OnOk result (row.new ≡ taken_out F.over F.back (had_by F.named context.now.set) [] row.old) }
     ensures err { OnErr result (row.new ≡ row.old) }
 {
-    if row.has_none(context) {
+    if has_none(row, context, apart) {
         return Ok(());
     }
     let all = row.flat()?;
     let left = left_of(*all.allocator(), all.as_slice(), context)?;
     *row = Blocks::of(left);
     Ok(())
+}
+
+// Whether the context has no member of the row, which is known if `apart`.
+fn has_none<F: Named + Copy>(row: &Blocks<F>, context: &Vector, apart: bool) -> bool
+    requires { IsTrue apart → (f : F) → IsIn f row.now → had_by F.named context.now.set f ≡ false }
+    ensures { IsTrue result → (f : F) → IsIn f row.now → had_by F.named context.now.set f ≡ false }
+{
+    if apart { true } else { row.has_none(context) }
 }
 
 // What is left of a row without the forms of members that the context has.

@@ -1,29 +1,33 @@
 //! The rows that a site keeps.
 
-ghost use Rattle.std.specs.Prelude.{◌≡◌, ◌≤◌, ◌<◌, ◌++◌, ◌∷◌, ◌⊎◌, ◌&&◌, [], Bool, true, not, List, Some, Contains, IfOk, OnOk, OnErr, IfSome, IsTrue, ◌↔◌, length, slice_get, take};
+ghost use Rattle.std.specs.Prelude.{◌≡◌, ◌+◌, ◌≤◌, ◌<◌, ◌++◌, ◌∷◌, ◌⊎◌, [], Bool, List, None, Contains, IfOk, OnOk, OnErr, IfSome, IsNone, IsTrue, length, drop};
+ghost use Rattle.indexmap.specs.IndexMap.{values};
 ghost use Rattle.op_name.specs.declared.member.Member.{Member};
 ghost use Rattle.op_name.specs.declared.member.Member.TheVariants.{Original};
 ghost use Rattle.context_vector.specs.Contexts.{has, Within};
-ghost use Rattle.context_diff.specs.Operations.{OpData, member_of, is_insert};
 ghost use Rattle.context_diff.specs.Histories.{members_in};
-ghost use Rattle.ttf_form.specs.Families.{IsIn};
 ghost use Rattle.transform_rec.specs.Sets.{none, plus_all};
 ghost use Rattle.transform_rec.specs.Family.{IsCausalFamily};
 ghost use Rattle.transform_rec.specs.Derived.{IsOnlyFormAt};
 ghost use Rattle.transform_rec.specs.Laws.{family_of};
 ghost use Rattle.form_rows.specs.Names.{AreNamed};
-ghost use Rattle.form_rows.specs.Lacking.{lacking};
-ghost use Rattle.form_rows.specs.Kept.{AreRows, IsLast, IsFormWith, HasFirst, IsFirstRow, IsBeginning, forms_in, CoversAreInert};
+ghost use Rattle.form_rows.specs.Lacking.{all_but_last, lacking};
+ghost use Rattle.form_rows.specs.Firsts.{AreFirstMembers, IsLastContext};
+ghost use Rattle.form_rows.specs.RowSets.{IsKept};
+ghost use Rattle.form_rows.specs.Kept.{AreRows, IsLast, IsFormWith, IsFirstRow, IsOwnRow, IsBeginning, empty_rows, forms_in, CoversAreInert, InsertsAreKept};
 ghost use Rattle.form_rows.specs.declared.rows.TheConstants.{ENTRIES};
 
+use crate::first_members::{FirstMembers, lacked_inserts};
 use crate::laws::derives;
 use crate::named::Named;
-use crate::row::Row;
+use crate::row::{Row, are_at_most};
 use context_diff::Book;
 use context_vector::Vector;
+use indexmap::IndexMap;
 use op_name::{Member, Memory, Name};
 use std::alloc::Global;
-use ttf_form::Bases;
+use std::marker::Model;
+use ttf_form::{Bases, Include};
 
 /// The greatest number of forms in all rows that are kept.
 pub const ENTRIES: usize = 1_048_576;
@@ -35,120 +39,265 @@ pub struct AuthorRow<F: Named> {
     row: Row<F>,
 }
 
-/// Rows, at most one for each author.
+/// Rows, at most one for each author, which have at most `ENTRIES` forms together, and the first members that were found last.
 #[derive(Drop)]
 pub struct Rows<F: Named> {
-    kept: Vec<AuthorRow<F>>,
+    kept: IndexMap<u16, AuthorRow<F>>,
+    forms: usize,
+    firsts: Option<FirstMembers>,
+}
+
+impl<F: Named> Model for Rows<F> {
+    ghost use Rattle.std.specs.Prelude.{◌≡◌, ◌≤◌};
+    ghost use Rattle.indexmap.specs.IndexMap.{values};
+    ghost use Rattle.form_rows.specs.Kept.{RowsData, forms_in};
+
+    ghost Value = { RowsData F };
+
+    ghost view = { λ r. record { rows = values r.kept; firsts = r.firsts } };
+
+    ghost use Rattle.form_rows.specs.declared.rows.TheConstants.{ENTRIES};
+
+    ghost invariant = { λ r. (r.forms ≡ forms_in (values r.kept)) × (r.forms ≤ ENTRIES) };
 }
 
 impl<F: Named + Copy> Rows<F> {
     /// No rows. It takes no memory.
     pub fn new(alloc: Global) -> Rows<F>
-        ensures { result.kept.items ≡ [] }
+        ensures { result ≡ empty_rows }
     {
         Rows {
-            kept: Vec::new(alloc),
+            kept: IndexMap::new(alloc),
+            forms: 0,
+            firsts: None,
         }
     }
 
-    /// Drops all rows.
+    /// Drops all rows, and forgets the first members.
     pub fn clear(&mut self)
-        ensures { self.new.kept.items ≡ [] }
+        ensures { self.new ≡ empty_rows }
     {
         self.kept.clear();
+        self.forms = 0;
+        self.firsts = None;
+    }
+
+    // Takes the row of an author out.
+    fn take(&mut self, site: u16) -> Option<AuthorRow<F>>
+        ensures found { IfSome result (Contains self.old.rows) }
+        ensures left { (k : AuthorRow F) → Contains self.new.rows k → Contains self.old.rows k }
+        ensures firsts { self.new.firsts ≡ self.old.firsts }
+    {
+        match taken(&mut self.kept, site) {
+            Some(own) => {
+                self.forms -= own.row.len();
+                Some(own)
+            }
+            None => None,
+        }
+    }
+
+    // Keeps a row, if memory suffices. Where the rows have too many forms then, all are dropped.
+    fn put(&mut self, row: AuthorRow<F>)
+        ensures rows { (k : AuthorRow F) → Contains self.new.rows k → Contains self.old.rows k ⊎ (row ≡ k) }
+        ensures bound { forms_in self.new.rows ≤ ENTRIES }
+        ensures firsts { self.new.firsts ≡ self.old.firsts }
+    {
+        if row.row.len() > ENTRIES - self.forms {
+            self.kept.clear();
+            self.forms = 0;
+        } else {
+            self.forms = forms_with(&mut self.kept, row, self.forms);
+        }
+    }
+
+    // The row to begin with: the author's own, where no form would have to be moved out of it; else that of the first members
+    // that were found last, where that is so of it; else the one of these two kinds that has fewer such forms.
+    fn source(
+        &mut self,
+        book: &Book,
+        name: &Name,
+        context: &Vector,
+        executed: &[F],
+        lacked: u32,
+    ) -> Row<F>
+        requires lacked { lacked ≡ lacking (all_but_last book.now.ops) context.now.set }
+        requires last { IsLastContext book.now.ops context.now.set }
+        requires firsts { IfSome self.old.firsts (AreFirstMembers book.now.ops) }
+        ensures row { IsBeginning self.old.rows book.now.ops context.now.set (length executed.now) result }
+        ensures left { (k : AuthorRow F) → Contains self.new.rows k → Contains self.old.rows k }
+        ensures firsts { IfSome self.new.firsts (AreFirstMembers book.now.ops) }
+    {
+        match fitting(self.take(name.site), context) {
+            Some(own) => self.nearer_row(own, book, context, executed, lacked),
+            None => self.other_row(book, context, executed, lacked),
+        }
+    }
+
+    // The author's row, or that of first members where that has fewer forms to be moved.
+    fn nearer_row(
+        &mut self,
+        own: Row<F>,
+        book: &Book,
+        context: &Vector,
+        executed: &[F],
+        lacked: u32,
+    ) -> Row<F>
+        requires lacked { lacked ≡ lacking (all_but_last book.now.ops) context.now.set }
+        requires last { IsLastContext book.now.ops context.now.set }
+        requires firsts { IfSome self.old.firsts (AreFirstMembers book.now.ops) }
+        ensures row { (result ≡ own) ⊎ IsFirstRow book.now.ops context.now.set (length executed.now) result }
+        ensures rows { self.new.rows ≡ self.old.rows }
+        ensures firsts { IfSome self.new.firsts (AreFirstMembers book.now.ops) }
+    {
+        if own.has_at_most(executed, lacked as usize) {
+            return own;
+        }
+        match self.known_row(book, context, executed, lacked) {
+            Some(row) => row,
+            None => {
+                let moves = own
+                    .len()
+                    .saturating_add(own.coming(executed))
+                    .saturating_sub(lacked as usize);
+                match self.first_row(book, context, lacked, moves, executed.len()) {
+                    Some(row) => row,
+                    None => own,
+                }
+            }
+        }
+    }
+
+    // The row of the first members that were found last, where no form would have to be moved out of it, or of those whose
+    // inserts the context has.
+    fn other_row(&mut self, book: &Book, context: &Vector, executed: &[F], lacked: u32) -> Row<F>
+        requires lacked { lacked ≡ lacking (all_but_last book.now.ops) context.now.set }
+        requires last { IsLastContext book.now.ops context.now.set }
+        requires firsts { IfSome self.old.firsts (AreFirstMembers book.now.ops) }
+        ensures row { IsFirstRow book.now.ops context.now.set (length executed.now) result }
+        ensures rows { self.new.rows ≡ self.old.rows }
+        ensures firsts { IfSome self.new.firsts (AreFirstMembers book.now.ops) }
+    {
+        match self.known_row(book, context, executed, lacked) {
+            Some(row) => row,
+            None => match self.first_row(book, context, lacked, usize::MAX, executed.len()) {
+                Some(row) => row,
+                None => self.row_of_first(0, executed.len()),
+            },
+        }
+    }
+
+    // The row of the first members that were found last, if the context has their inserts, and no form since is of an insert
+    // that it has: there are no more than the `lacked` ones of those that it lacks.
+    fn known_row(
+        &self,
+        book: &Book,
+        context: &Vector,
+        executed: &[F],
+        lacked: u32,
+    ) -> Option<Row<F>>
+        requires { IfSome self.now.firsts (AreFirstMembers book.now.ops) }
+        ensures { IfSome result (IsFirstRow book.now.ops context.now.set (length executed.now)) }
+    {
+        let firsts = self.firsts?;
+        let upto = firsts.upto();
+        if are_at_most(executed, upto, lacked as usize) && firsts.has_inserts(book, context) {
+            Some(self.row_of_first(upto, executed.len()))
+        } else {
+            None
+        }
+    }
+
+    // The row of the first members whose inserts the context has, if no more than `most` members come after these which
+    // aren't inserts that it lacks. The first members are remembered.
+    fn first_row(
+        &mut self,
+        book: &Book,
+        context: &Vector,
+        lacked: u32,
+        most: usize,
+        executed: usize,
+    ) -> Option<Row<F>>
+        requires lacked { lacked ≡ lacking (all_but_last book.now.ops) context.now.set }
+        requires last { IsLastContext book.now.ops context.now.set }
+        requires firsts { IfSome self.old.firsts (AreFirstMembers book.now.ops) }
+        ensures row { IfSome result (IsFirstRow book.now.ops context.now.set executed) }
+        ensures rows { self.new.rows ≡ self.old.rows }
+        ensures firsts { IfSome self.new.firsts (AreFirstMembers book.now.ops) }
+    {
+        let firsts = FirstMembers::of_last(book, context, lacked, most)?;
+        self.firsts = Some(firsts);
+        Some(self.row_of_first(firsts.upto(), executed))
+    }
+
+    // The row of so many first members, or of all that were executed.
+    fn row_of_first(&self, upto: usize, executed: usize) -> Row<F>
+        ensures forms { result.forms ≡ [] }
+        ensures low { result.upto ≤ upto }
+        ensures bound { result.upto ≤ executed }
+    {
+        Row::of_first(*self.kept.allocator(), at_most(upto, executed))
     }
 }
 
 // Takes the row of an author out.
-fn take_row<F: Named + Copy>(kept: &mut Vec<AuthorRow<F>>, site: u16) -> Option<AuthorRow<F>>
-    ensures found { IfSome result (Contains kept.old.items) }
-    ensures left { (k : AuthorRow F) → Contains kept.new.items k → Contains kept.old.items k }
+fn taken<F: Named + Copy>(kept: &mut IndexMap<u16, AuthorRow<F>>, site: u16) -> Option<AuthorRow<F>>
+    ensures found { IfSome result (Contains (values kept.old)) }
+    ensures left { (k : AuthorRow F) → Contains (values kept.new) k → Contains (values kept.old) k }
+    ensures forms { IfSome result (λ k. forms_in (values kept.new) + length k.row.forms ≡ forms_in (values kept.old)) }
+    ensures none { IsNone result → kept.new.entries ≡ kept.old.entries }
 {
-    match place_of(kept.as_slice(), site) {
-        Some(i) => Some(kept.swap_remove(i)),
+    match kept.get_index_of(&site) {
+        Some(i) => match kept.swap_remove_index(i) {
+            Some((_, own)) => Some(own),
+            None => None,
+        },
         None => None,
     }
 }
 
-// The place of the row of an author.
-fn place_of<F: Named + Copy>(kept: &[AuthorRow<F>], site: u16) -> Option<usize>
-    ensures { IfSome result (λ i. i < length kept.now) }
+// Keeps a row as that of its author, if memory suffices. Answers the number of forms in all rows then.
+fn forms_with<F: Named + Copy>(
+    kept: &mut IndexMap<u16, AuthorRow<F>>,
+    row: AuthorRow<F>,
+    forms: usize,
+) -> usize
+    requires forms { forms ≡ forms_in (values kept.old) }
+    requires few { forms + length row.row.forms ≤ ENTRIES }
+    ensures rows { (k : AuthorRow F) → Contains (values kept.new) k → Contains (values kept.old) k ⊎ (row ≡ k) }
+    ensures forms { result ≡ forms_in (values kept.new) }
+    ensures bound { result ≤ ENTRIES }
 {
-    for i in 0..kept.len() {
-        let row = &kept[i];
-        if row.last.site == site {
-            return Some(i);
+    let with = forms + row.row.len();
+    match kept.insert(row.last.site, row) {
+        Ok(Some(old)) => with - old.row.len(),
+        Ok(None) => with,
+        Err(_) => forms,
+    }
+}
+
+// The author's row, if the context has its last operation.
+fn fitting<F: Named + Copy>(own: Option<AuthorRow<F>>, context: &Vector) -> Option<Row<F>>
+    ensures { IfSome result (IsOwnRow context.now.set own) }
+{
+    match own {
+        Some(own) => {
+            if context.contains(&Member::Original(own.last)) {
+                Some(own.row)
+            } else {
+                None
+            }
         }
-    }
-    None
-}
-
-// Keeps a row, if memory suffices. Where the rows have too many forms then, all are dropped.
-fn put_row<F: Named + Copy>(kept: &mut Vec<AuthorRow<F>>, row: AuthorRow<F>)
-    ensures rows { (k : AuthorRow F) → Contains kept.new.items k → Contains kept.old.items k ⊎ (row ≡ k) }
-    ensures bound { forms_in kept.new.items ≤ ENTRIES }
-{
-    let _ = kept.push(row);
-    if !are_few(kept.as_slice()) {
-        kept.clear();
+        None => None,
     }
 }
 
-// Whether the rows have no more forms than may be kept.
-fn are_few<F: Named + Copy>(kept: &[AuthorRow<F>]) -> bool
-    ensures { IsTrue result ↔ (forms_in kept.now ≤ ENTRIES) }
+// The lesser of two numbers.
+fn at_most(number: usize, most: usize) -> usize
+    ensures low { result ≤ number }
+    ensures bound { result ≤ most }
 {
-    let mut left = ENTRIES;
-    for i in 0..kept.len() {
-        let row = &kept[i];
-        let forms = row.row.len();
-        if forms > left {
-            return false;
-        }
-        left -= forms;
-    }
-    true
-}
-
-// How many inserts of the book the context lacks.
-fn lacked_inserts(book: &Book, context: &Vector) -> u32
-    requires { Within context.now.set book.now.have.set }
-    ensures { result ≡ lacking book.now.ops context.now.set }
-{
-    book.known();
-    book.inserts().saturating_sub(book.inserts_in(context))
-}
-
-// How many of the first operations of the book have all their inserts in the context, if no more than `most` come after
-// these which aren't inserts that the context lacks.
-fn common(book: &Book, context: &Vector, lacked: u32, most: usize) -> Option<usize>
-    requires { lacked ≡ lacking book.now.ops context.now.set }
-    ensures { IfSome result (HasFirst book.now.ops context.now.set) }
-{
-    let mut lacked = lacked;
-    let mut left = most;
-    let mut i = book.len();
-    while lacked > 0 && i > 0 {
-        i -= 1;
-        if lacks_insert(book, i, context) {
-            lacked -= 1;
-        } else if left > 0 {
-            left -= 1;
-        } else {
-            return None;
-        }
-    }
-    Some(i as usize)
-}
-
-// Whether the i-th operation is an insert that the context lacks.
-fn lacks_insert(book: &Book, i: u32, context: &Vector) -> bool
-    ensures { (o : OpData) → slice_get book.now.ops i ≡ Some o → result ≡ (is_insert o && not (has context.now.set (member_of o))) }
-{
-    match book.op(i) {
-        Some(op) => op.is_insert() && !context.contains(&op.member()),
-        None => false,
-    }
+    if number < most { number } else { most }
 }
 
 /// The form of the book's last member, the insert or delete of this name, at the members before it, which were executed
@@ -167,115 +316,27 @@ pub fn executed_form<F: Named + Copy, B: Bases<F>>(
     requires names { AreNamed F.named F.IsInert (family_of ⟦<B as Bases<F>>⟧ bases.now) }
     requires members { B.members bases.now ≡ members_in book.now.ops }
     requires covers { CoversAreInert F.IsInert (B.base_form bases.now) book.now.ops }
+    requires inserts { InsertsAreKept F.IsInert (B.base_form bases.now) book.now.ops }
     requires within { Within context.now.set book.now.have.set }
     requires context { (y : Member) → has context.now.set y ≡ B.base_context bases.now (Original name.now) y }
+    requires last { IsLastContext book.now.ops context.now.set }
+    requires firsts { IfSome rows.old.firsts (AreFirstMembers book.now.ops) }
     requires short { length executed.now < 4294967296 }
-    requires ready { (before : List Member) × IsLast F.over F.IsInert (family_of ⟦<B as Bases<F>>⟧ bases.now) (Original name.now) before executed.now rows.old.kept.items }
-    ensures form { IfOk result (λ made. (before : List Member) → IsLast F.over F.IsInert (family_of ⟦<B as Bases<F>>⟧ bases.now) (Original name.now) before executed.now rows.old.kept.items → IsOnlyFormAt F.over (family_of ⟦<B as Bases<F>>⟧ bases.now) (Original name.now) (plus_all none before) made.0) }
-    ensures first { IfOk result (λ made. (before : List Member) → IsLast F.over F.IsInert (family_of ⟦<B as Bases<F>>⟧ bases.now) (Original name.now) before executed.now rows.old.kept.items → IfSome made.1 (IsFormWith F.over F.named (family_of ⟦<B as Bases<F>>⟧ bases.now) (Original name.now))) }
-    ensures rows { OnOk result ((before : List Member) → IsLast F.over F.IsInert (family_of ⟦<B as Bases<F>>⟧ bases.now) (Original name.now) before executed.now rows.old.kept.items → AreRows F.over F.IsInert (family_of ⟦<B as Bases<F>>⟧ bases.now) (before ++ Original name.now ∷ []) rows.new.kept.items) }
-    ensures bound { OnOk result (forms_in rows.new.kept.items ≤ ENTRIES) }
-    ensures lost { OnErr result ((k : AuthorRow F) → Contains rows.new.kept.items k → Contains rows.old.kept.items k) }
+    requires ready { (before : List Member) × IsLast F.over F.IsInert (family_of ⟦<B as Bases<F>>⟧ bases.now) (Original name.now) before executed.now rows.old.rows }
+    ensures form { IfOk result (λ made. (before : List Member) → IsLast F.over F.IsInert (family_of ⟦<B as Bases<F>>⟧ bases.now) (Original name.now) before executed.now rows.old.rows → IsOnlyFormAt F.over (family_of ⟦<B as Bases<F>>⟧ bases.now) (Original name.now) (plus_all none before) made.0) }
+    ensures first { IfOk result (λ made. (before : List Member) → IsLast F.over F.IsInert (family_of ⟦<B as Bases<F>>⟧ bases.now) (Original name.now) before executed.now rows.old.rows → IfSome made.1 (IsFormWith F.over F.named (family_of ⟦<B as Bases<F>>⟧ bases.now) (Original name.now))) }
+    ensures rows { OnOk result ((before : List Member) → IsLast F.over F.IsInert (family_of ⟦<B as Bases<F>>⟧ bases.now) (Original name.now) before executed.now rows.old.rows → AreRows F.over F.IsInert (family_of ⟦<B as Bases<F>>⟧ bases.now) (before ++ Original name.now ∷ []) rows.new.rows) }
+    ensures bound { OnOk result (forms_in rows.new.rows ≤ ENTRIES) }
+    ensures firsts { IfSome rows.new.firsts (AreFirstMembers book.now.ops) }
+    ensures lost { OnErr result ((k : AuthorRow F) → Contains rows.new.rows k → Contains rows.old.rows k) }
 {
     book.known();
     derives::<F, B>(bases);
-    let mut row = source(&mut rows.kept, book, name, context, executed);
-    let form = row.execute(bases, &Member::Original(*name), context, executed)?;
-    let first = row.first();
-    put_row(&mut rows.kept, AuthorRow { last: *name, row });
-    Ok((form, first))
-}
-
-// The lesser of two numbers.
-fn at_most(number: usize, most: usize) -> usize
-    ensures low { result ≤ number }
-    ensures bound { result ≤ most }
-{
-    if number < most { number } else { most }
-}
-
-// The row to begin with: the author's own, or that of the first members where that has fewer forms to be moved.
-fn source<F: Named + Copy>(
-    kept: &mut Vec<AuthorRow<F>>,
-    book: &Book,
-    name: &Name,
-    context: &Vector,
-    executed: &[F],
-) -> Row<F>
-    requires { Within context.now.set book.now.have.set }
-    ensures row { IsBeginning kept.old.items book.now.ops context.now.set (length executed.now) result }
-    ensures left { (k : AuthorRow F) → Contains kept.new.items k → Contains kept.old.items k }
-{
-    let alloc = *kept.allocator();
     let lacked = lacked_inserts(book, context);
-    match own_row(kept, name.site, context) {
-        Some(own) => nearer_row(alloc, own.row, book, context, executed, lacked),
-        None => match first_row(alloc, book, context, lacked, usize::MAX, executed.len()) {
-            Some(row) => row,
-            None => Row::of_first(alloc, 0),
-        },
-    }
-}
-
-// The row of the first members whose inserts the context has, if no more than `most` members come after these which
-// aren't inserts that it lacks.
-fn first_row<F: Named + Copy>(
-    alloc: Global,
-    book: &Book,
-    context: &Vector,
-    lacked: u32,
-    most: usize,
-    executed: usize,
-) -> Option<Row<F>>
-    requires { lacked ≡ lacking book.now.ops context.now.set }
-    ensures { IfSome result (IsFirstRow book.now.ops context.now.set executed) }
-{
-    let first = common(book, context, lacked, most)?;
-    Some(Row::of_first(alloc, at_most(first, executed)))
-}
-
-// The author's row, or that of the first members where that has fewer forms to be moved.
-fn nearer_row<F: Named + Copy>(
-    alloc: Global,
-    own: Row<F>,
-    book: &Book,
-    context: &Vector,
-    executed: &[F],
-    lacked: u32,
-) -> Row<F>
-    requires { lacked ≡ lacking book.now.ops context.now.set }
-    ensures { (result ≡ own) ⊎ IsFirstRow book.now.ops context.now.set (length executed.now) result }
-{
-    let moves = own
-        .len()
-        .saturating_add(own.coming(executed))
-        .saturating_sub(lacked as usize);
-    if moves == 0 {
-        return own;
-    }
-    match first_row(alloc, book, context, lacked, moves, executed.len()) {
-        Some(row) => row,
-        None => own,
-    }
-}
-
-// Takes the row of an author out; it is answered if the context has its last operation.
-fn own_row<F: Named + Copy>(
-    kept: &mut Vec<AuthorRow<F>>,
-    site: u16,
-    context: &Vector,
-) -> Option<AuthorRow<F>>
-    ensures there { IfSome result (λ k. Contains kept.old.items k × (has context.now.set (Original k.last) ≡ true)) }
-    ensures left { (k : AuthorRow F) → Contains kept.new.items k → Contains kept.old.items k }
-{
-    match take_row(kept, site) {
-        Some(own) => {
-            if context.contains(&Member::Original(own.last)) {
-                Some(own)
-            } else {
-                None
-            }
-        }
-        None => None,
-    }
+    let mut row = rows.source(book, name, context, executed, lacked);
+    let apart = lacked as usize;
+    let form = row.execute_apart(bases, &Member::Original(*name), context, executed, apart)?;
+    let first = row.first();
+    rows.put(AuthorRow { last: *name, row });
+    Ok((form, first))
 }

@@ -1,5 +1,5 @@
 -- An executed history: its forms, the cells that they give, and the entries of the cache.
-use Rattle.std.specs.Prelude.{◌≡◌, ◌-◌, Bool, true, List, [], ◌∷◌, ◌++◌, ◌≤◌, Some, length, slice_get, take}
+use Rattle.std.specs.Prelude.{◌≡◌, ◌-◌, Bool, true, List, [], ◌∷◌, ◌++◌, ◌≤◌, Some, IfSome, length, slice_get, take}
 use Rattle.op_name.specs.declared.member.Member.{Member}
 use Rattle.op_name.specs.declared.member.Member.TheVariants.{Original}
 use Rattle.op_name.specs.NameData.{NameData}
@@ -16,8 +16,8 @@ use Rattle.transform_rec.specs.Derived.{Derived}
 use Rattle.transform_rec.specs.Executing.{executed}
 use Rattle.transform_rec.specs.Histories.{family_in}
 use Rattle.undo_group.specs.BaseForms.{base_form}
-use Rattle.form_rows.specs.Kept.{AreRows, IsExecutedBefore}
-use Rattle.form_rows.specs.declared.rows.AuthorRow.{AuthorRow}
+use Rattle.form_rows.specs.Firsts.{AreFirstMembers}
+use Rattle.form_rows.specs.Kept.{RowsData, AreRows, IsExecutedBefore}
 use Rattle.cot_site.specs.Sites.{AreExecuted, AreKeptOrGone}
 
 -- the forms of a history, and the cells that they give one after the other
@@ -32,12 +32,13 @@ pub record IsStep (h : List OpData) (m : Member) (to : Member → Bool) (old new
   pub appended : new ≡ old ++ form ∷ []
   pub cells : after ≡ applied before form
 
--- the rows are those of what authors of the history knew, over its members
-abbrev pub AreRowsOf : List OpData → List (AuthorRow Form) → Type 0
-AreRowsOf h kept = AreRows form_over IsInertForm (family_in h (base_form h)) (members_in h) kept
+-- the rows are those of what authors of the history knew, over its members, and the first members are found in it
+abbrev pub AreRowsOf : List OpData → RowsData Form → Type 0
+AreRowsOf h kept =
+    AreRows form_over IsInertForm (family_in h (base_form h)) (members_in h) kept.rows × IfSome kept.firsts (AreFirstMembers h)
 
 -- m is the last member of the history; those before it, which are the set, were executed in these forms, and the rows are theirs
-pub record IsNextAfter (h : List OpData) (m : Member) (to : Member → Bool) (fs : List Form) (kept : List (AuthorRow Form)) : Type 0 where
+pub record IsNextAfter (h : List OpData) (m : Member) (to : Member → Bool) (fs : List Form) (kept : RowsData Form) : Type 0 where
   pub before : List Member
   pub executed : IsExecutedBefore h m before fs kept
   pub set : SameSet (plus_all none before) to

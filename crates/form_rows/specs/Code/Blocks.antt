@@ -26,8 +26,9 @@ abbrev pub AreFrom : {F : Type 0} → (F → Option NameData) → ℕ → ℕ �
 AreFrom {F} named site least ks = (k : F) (n : NameData) → IsIn k ks → named k ≡ Some n → 0 < least → (n.site ≡ site) × (least ≤ n.number)
 
 -- what is known of the forms of a block, of which there is one at least
-pub record IsBlock {F : Type 0} (place extent : F → ℕ) (named : F → Option NameData) (low high cells site least : ℕ) (ks : List F) : Type 0 where
-  pub some : 0 < length ks
-  pub within : AreWithin place low high ks
-  pub counted : AreCounted extent cells ks
-  pub from : AreFrom named site least ks
+pub record IsBlock {F : Type 0} (place extent : F → ℕ) (named : F → Option NameData) (low high cells site least : ℕ) (ks : List F) : Type 0
+  where
+    pub some : 0 < length ks
+    pub within : AreWithin place low high ks
+    pub counted : AreCounted extent cells ks
+    pub from : AreFrom named site least ks

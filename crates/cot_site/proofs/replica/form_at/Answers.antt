@@ -19,8 +19,8 @@ original_form-requires-clause-known c =
 
 pub original_form-requires-clause-next : goal.original_form-requires-clause-next
 original_form-requires-clause-next c =
-    subst (λ (x : Member). IsNextAfter c.args.book.now.ops x (has (before_last c.args.book.now.ops)) c.args.forms.now
-    c.args.rows.now.kept.items) c.in-Original.is c.requires.next
+    subst (λ (x : Member). IsNextAfter c.args.book.now.ops x (has (before_last c.args.book.now.ops)) c.args.forms.now c.args.rows.now)
+    c.in-Original.is c.requires.next
 
 pub original_form-requires-clause-knows : goal.original_form-requires-clause-knows
 original_form-requires-clause-knows c sure =
@@ -50,5 +50,5 @@ returns-in-Group-clause-form c =
 
 pub returns-in-Group-clause-rows : goal.returns-in-Group-clause-rows
 returns-in-Group-clause-rows c =
-    rows_after c.args.book.now.ops c.args.member.now (has (before_last c.args.book.now.ops)) c.args.forms.now c.args.rows.now.kept.items
+    rows_after c.args.book.now.ops c.args.member.now (has (before_last c.args.book.now.ops)) c.args.forms.now c.args.rows.now
     c.requires.next

@@ -12,29 +12,29 @@ pub returns-then-knows_all-clause-form : goal.returns-then-knows_all-clause-form
 returns-then-knows_all-clause-form c =
     let h = c.args.book.now.ops in
     let n = c.args.name.now in
-    base_after h n (before_last h) c.args.forms.now c.args.rows.now.kept.items c.base_of.result c.requires.next
+    base_after h n (before_last h) c.args.forms.now c.args.rows.now c.base_of.result c.requires.next
     (λ y. c.requires.knows c.if-knows_all.true n y refl) c.base_of.ensures
 
 pub returns-then-knows_all-clause-rows : goal.returns-then-knows_all-clause-rows
 returns-then-knows_all-clause-rows c =
     let h = c.args.book.now.ops in
-    rows_after h (Original c.args.name.now) (has (before_last h)) c.args.forms.now c.args.rows.now.kept.items c.requires.next
+    rows_after h (Original c.args.name.now) (has (before_last h)) c.args.forms.now c.args.rows.now c.requires.next
 
 pub note_found-requires-clause-last : goal.note_found-requires-clause-last
 note_found-requires-clause-last c =
     let h = c.args.book.now.ops in
-    last_after h (Original c.args.name.now) (has (before_last h)) c.args.forms.now c.args.rows.now.kept.items c.requires.next
+    last_after h (Original c.args.name.now) (has (before_last h)) c.args.forms.now c.args.rows.now c.requires.next
 
 pub note_found-requires-clause-form : goal.note_found-requires-clause-form
 note_found-requires-clause-form c =
     let h = c.args.book.now.ops in
     let n = c.requires.next in
-    form_after_at h (Original c.args.name.now) (has (before_last h)) c.args.forms.now c.args.rows.now.kept.items c.in-Ok.made.0 n
+    form_after_at h (Original c.args.name.now) (has (before_last h)) c.args.forms.now c.args.rows.now c.in-Ok.made.0 n
     (c.in-Ok.ensures.form n.before n.executed)
 
 pub returns-in-Ok-clause-form : goal.returns-in-Ok-clause-form
 returns-in-Ok-clause-form c =
     let h = c.args.book.now.ops in
     let n = c.requires.next in
-    (form_after_at h (Original c.args.name.now) (has (before_last h)) c.args.forms.now c.args.rows.now.kept.items c.in-Ok.made.0 n
+    (form_after_at h (Original c.args.name.now) (has (before_last h)) c.args.forms.now c.args.rows.now c.in-Ok.made.0 n
     (c.in-Ok.ensures.form n.before n.executed)).0

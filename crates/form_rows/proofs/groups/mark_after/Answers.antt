@@ -11,14 +11,18 @@ pub after-requires-clause-fits : goal.after-requires-clause-fits
 after-requires-clause-fits c =
     let read = c.index-executed-place.result in
     let is = c.followed-form.ensures.form ∙ ap (following c.args.mark) c.index-executed-place.is in
-    subst (λ (f : Form). AfterFits form_over place_of extent_of f (drop (c.args.place + 1) c.args.executed.now)) (sym is) (c.requires.fits read)
+    subst (λ (f : Form). AfterFits form_over place_of extent_of f (drop (c.args.place + 1) c.args.executed.now)) (sym is)
+    (c.requires.fits read)
 
 pub after-requires-clause-mark : goal.after-requires-clause-mark
-after-requires-clause-mark c = subst (λ (f : Form). IsInertForm f) (sym c.followed-form.ensures.form) (follower_inert c.args.mark c.index-executed-place.result)
+after-requires-clause-mark c =
+    subst (λ (f : Form). IsInertForm f) (sym c.followed-form.ensures.form) (follower_inert c.args.mark c.index-executed-place.result)
 
 pub returns : goal.returns
 returns c f =
     let read = c.index-executed-place.result in
-    let there = slice_get_read c.args.executed.now (length c.args.executed.now) c.args.place read refl c.requires.place c.index-executed-place.is in
-    let is = c.followed-form.ensures.form ∙ ap (following c.args.mark) (sym (get_or_from_slice_get c.args.executed.now c.args.place read f there)) in
+    let there =
+    slice_get_read c.args.executed.now (length c.args.executed.now) c.args.place read refl c.requires.place c.index-executed-place.is in
+    let is = c.followed-form.ensures.form
+    ∙ ap (following c.args.mark) (sym (get_or_from_slice_get c.args.executed.now c.args.place read f there)) in
     c.after.ensures ∙ ap (λ (g : Form). form_after form_over g (drop (c.args.place + 1) c.args.executed.now)) is

@@ -6,6 +6,14 @@ use Rattle.form_rows.proofs.laws.first_members_have_rows.Goals as goal
 
 pub returns : goal.returns
 returns g c =
-    let d : Deriving g.row.F.Denot = record { inclusion = inclusion_of g.F.Include; laws = c.derives.ensures.inclusion; family = family_of g.B.Bases c.args.bases.now; known = c.derives.ensures.family } in
-    let n : Inertness g.F.Include.over g.F.Include.IsInert = record { law = g.met.F.Include.inert_law; kept = g.met.F.Include.inert_over; back = g.met.F.Exclude.inert_back } in
+    let d : Deriving g.row.F.Denot =
+    record {
+      inclusion = inclusion_of g.F.Include;
+      laws = c.derives.ensures.inclusion;
+      family =
+          family_of g.B.Bases c.args.bases.now;
+      known = c.derives.ensures.family;
+    } in
+    let n : Inertness g.F.Include.over g.F.Include.IsInert =
+    record { law = g.met.F.Include.inert_law; kept = g.met.F.Include.inert_over; back = g.met.F.Exclude.inert_back } in
     λ k xs within. first_row d g.F.Include.IsInert n k xs within

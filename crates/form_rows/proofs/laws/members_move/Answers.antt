@@ -6,8 +6,16 @@ use Rattle.form_rows.proofs.laws.members_move.Goals as goal
 
 pub returns : goal.returns
 returns g c =
-    let d : Deriving g.row.F.Denot = record { inclusion = inclusion_of g.F.Include; laws = c.derives.ensures.inclusion; family = family_of g.B.Bases c.args.bases.now; known = c.derives.ensures.family } in
-    let n : Inertness g.F.Include.over g.F.Include.IsInert = record { law = g.met.F.Include.inert_law; kept = g.met.F.Include.inert_over; back = g.met.F.Exclude.inert_back } in
+    let d : Deriving g.row.F.Denot =
+    record {
+      inclusion = inclusion_of g.F.Include;
+      laws = c.derives.ensures.inclusion;
+      family =
+          family_of g.B.Bases c.args.bases.now;
+      known = c.derives.ensures.family;
+    } in
+    let n : Inertness g.F.Include.over g.F.Include.IsInert =
+    record { law = g.met.F.Include.inert_law; kept = g.met.F.Include.inert_over; back = g.met.F.Exclude.inert_back } in
     λ y xs ys C f fs gs ne s df r q. (
       front_form d g.F.Include.IsInert n g.F.Exclude.back g.met.F.Exclude.back_over y xs C f fs ne s df r,
       row_moved d g.F.Include.IsInert n g.F.Exclude.back g.met.F.Exclude.back_over y xs ys C f fs gs ne s df r q,

@@ -16,7 +16,9 @@ loop-i-preserved g c =
         few = omega (arith, w.number-is, c.loop-i.invariant.few);
         added = (
           was.0 ++ c.index-forms-i.result ∷ [],
-          adding_push g.F.Include.IsInert c.args.forms.now c.args.from [] c.index-forms-i.result c.loop-i.i was.0 (was.0 ++ c.index-forms-i.result ∷ []) less c.index-forms-i.is (λ i. both_ways c.inert.result w.if-not-inert.true (c.inert.ensures.1 i)) refl was.1,
+          adding_push g.F.Include.IsInert c.args.forms.now c.args.from [] c.index-forms-i.result c.loop-i.i was.0
+              (was.0 ++ c.index-forms-i.result ∷ []) less c.index-forms-i.is
+              (λ i. both_ways c.inert.result w.if-not-inert.true (c.inert.ensures.1 i)) refl was.1,
           simp length-append (omega (arith, w.number-is, was.2)),
         );
       }
@@ -24,7 +26,8 @@ loop-i-preserved g c =
         few = omega (arith, w.number-is, c.loop-i.invariant.few);
         added = (
           was.0,
-          adding_skip g.F.Include.IsInert c.args.forms.now c.args.from [] c.index-forms-i.result c.loop-i.i was.0 less c.index-forms-i.is (c.inert.ensures.0 w.if-not-inert.false) was.1,
+          adding_skip g.F.Include.IsInert c.args.forms.now c.args.from [] c.index-forms-i.result c.loop-i.i was.0 less c.index-forms-i.is
+              (c.inert.ensures.0 w.if-not-inert.false) was.1,
           w.number-is ∙ was.2,
         );
       }

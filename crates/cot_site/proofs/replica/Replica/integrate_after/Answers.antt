@@ -22,7 +22,7 @@ invariant_of-self-in_err-reserve c =
           c.self.invariant.0 c.reserve.ensures.ops c.reserve_one.ensures.items (λ i. cs),
       kept.0,
       kept.1,
-      rows_same c.self.inside.book.ops c.reserve.new.self.ops c.self.inside.rows.kept.items c.self.invariant.3 c.reserve.ensures.ops,
+      rows_same c.self.inside.book.ops c.reserve.new.self.ops c.self.inside.rows c.self.invariant.3 c.reserve.ensures.ops,
       subst (λ (fs : List Form). AreNoted c.self.inside.passages fs) (sym c.reserve_one.ensures.items) c.self.invariant.4,
     )
 
@@ -55,7 +55,7 @@ execute-requires-clause-next c =
     c.push_counted.ensures ∙ ap (λ (l : List OpData). l ++ o ∷ []) c.reserve.ensures.ops in
     let before = before_last_is h o c.push_counted.new.self.ops c.known.ensures.valid next grown in
     next_after_at h o c.push_counted.new.self.ops (before_last c.push_counted.new.self.ops) c.member-member.result c.self.inside.forms.items
-    c.reserve_one.new.list.items c.self.inside.cells.cells c.self.inside.rows.kept.items c.known.ensures.valid next grown before
+    c.reserve_one.new.list.items c.self.inside.cells.cells c.self.inside.rows c.known.ensures.valid next grown before
     c.member-member.ensures.member c.self.invariant.0 c.reserve_one.ensures.items c.self.invariant.3
 
 pub execute-requires-clause-knows : goal.execute-requires-clause-knows
@@ -102,7 +102,7 @@ invariant_of-self-in-Ok c =
     c.reserve_one.new.list.items c.execute.new.forms.items c.self.inside.cells.cells c.execute.new.cells.cells c.known.ensures.valid
     next grown before c.member-member.ensures.member c.self.invariant.0 c.reserve_one.ensures.items c.in-Ok.ensures.step in
     subst (λ (k : List OpData). IsExecuted k c.execute.new.forms.items c.execute.new.cells.cells
-    × AreCached k (entries_of k c.execute.new.notes) × AreTold k c.execute.new.notes × AreRowsOf k c.execute.new.rows.kept.items
+    × AreCached k (entries_of k c.execute.new.notes) × AreTold k c.execute.new.notes × AreRowsOf k c.execute.new.rows
     × AreNoted c.execute.new.passages c.execute.new.forms.items) (sym c.share.ensures.ops)
     (made, c.in-Ok.ensures.kept.0, c.in-Ok.ensures.kept.1, c.in-Ok.ensures.rows, c.in-Ok.ensures.noted)
 
@@ -119,6 +119,6 @@ invariant_of-self-in-Err c =
           (c.in-Err.ensures.forms ∙ c.reserve_one.ensures.items) c.in-Err.ensures.cells,
       kept.0,
       kept.1,
-      no_rows back c.take_back.new.rows.kept.items c.take_back.ensures.rows,
+      no_rows back c.take_back.new.rows c.take_back.ensures.rows,
       c.in-Err.ensures.noted,
     )

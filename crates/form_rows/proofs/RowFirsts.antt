@@ -52,18 +52,24 @@ module _ {F : Type 0} (d : Deriving F) (IsInert : F → Type 0) (n : Inertness d
           | inr h ↦ p.inert z i h
         ];
       }
-  first_form (x ∷ xs) C f fs (inr (inr r)) = record { member = x; set = C; other = r.0.0; form = r.0.1; holds = λ z i. i; inert = λ z i o. absurd (both_ways (C z) o i) }
+  first_form (x ∷ xs) C f fs (inr (inr r)) =
+      record { member = x; set = C; other = r.0.0; form = r.0.1; holds = λ z i. i; inert = λ z i o. absurd (both_ways (C z) o i) }
 
-  at_set : (C : Member → Bool) (f : F) (p : IsFirstForm C f) → IsClosed d.family C → IsSubset (d.family.context p.member) C → IsForm d p.member C f
+  at_set : (C : Member → Bool) (f : F) (p : IsFirstForm C f) → IsClosed d.family C → IsSubset (d.family.context p.member) C
+      → IsForm d p.member C f
   at_set C f p closed within =
       let there = derived_sound d p.member p.set f p.form in
-      let out : C p.member ≡ false = elim (cases_Bool (C p.member)) [ inl h ↦ absurd (both_ways (p.set p.member) there.lacks (p.holds p.member h)) | inr o ↦ o ] in
+      let out : C p.member ≡ false =
+      elim (cases_Bool (C p.member)) [ inl h ↦ absurd (both_ways (p.set p.member) there.lacks (p.holds p.member h)) | inr o ↦ o ] in
       let here : IsSound d.family p.member C = record { listed = there.listed; covers = within; set = closed; lacks = out } in
-      form_alike d IsInert n p.member p.set C f (record { left = p.inert; right = λ z i o. absurd (both_ways (p.set z) o (p.holds z i)) }) there here p.form
+      form_alike d IsInert n p.member p.set C f (record { left = p.inert; right = λ z i o. absurd (both_ways (p.set z) o (p.holds z i)) })
+      there here p.form
 
   -- the first form of the row of m's base context with m, where the context of its insert lies in that
-  pub first_with : (named : F → Option NameData) → ((a b : F) → named (d.inclusion.over a b) ≡ named a) → AreNamed named IsInert d.family → (m : Member) (xs : List Member) (r : RowData F) (f : F) → IsIn m d.family.members
-      → IsRowAt d.inclusion.over IsInert d.family (plus (d.family.context m) m) xs r → slice_get r.forms 0 ≡ Some f → IsFormWith d.inclusion.over named d.family m f
+  pub first_with : (named : F → Option NameData) → ((a b : F) → named (d.inclusion.over a b) ≡ named a) → AreNamed named IsInert d.family
+      → (m : Member) (xs : List Member) (r : RowData F) (f : F) → IsIn m d.family.members
+      → IsRowAt d.inclusion.over IsInert d.family (plus (d.family.context m) m) xs r → slice_get r.forms 0 ≡ Some f
+      → IsFormWith d.inclusion.over named d.family m f
   first_with named named_over names m xs r f listed at e x is within =
       let C = plus (d.family.context m) m in
       let g = first_of r.forms f e in
@@ -77,7 +83,9 @@ module _ {F : Type 0} (d : Deriving F) (IsInert : F → Type 0) (n : Inertness d
       let it : IsForm d (Original x) C f = subst (λ (y : Member). IsForm d y C f) same made in
       (it, λ h dh. derived_once d (Original x) C h f dh it)
 
-  pub first_if : (named : F → Option NameData) → ((a b : F) → named (d.inclusion.over a b) ≡ named a) → AreNamed named IsInert d.family → (m : Member) (xs : List Member) (r : RowData F) (a : Option F) → IsIn m d.family.members
-      → IsRowAt d.inclusion.over IsInert d.family (plus (d.family.context m) m) xs r → a ≡ slice_get r.forms 0 → IfSome a (IsFormWith d.inclusion.over named d.family m)
+  pub first_if : (named : F → Option NameData) → ((a b : F) → named (d.inclusion.over a b) ≡ named a) → AreNamed named IsInert d.family
+      → (m : Member) (xs : List Member) (r : RowData F) (a : Option F) → IsIn m d.family.members
+      → IsRowAt d.inclusion.over IsInert d.family (plus (d.family.context m) m) xs r → a ≡ slice_get r.forms 0
+      → IfSome a (IsFormWith d.inclusion.over named d.family m)
   first_if named named_over names m xs r None listed at e = tt
   first_if named named_over names m xs r (Some f) listed at e = first_with named named_over names m xs r f listed at (sym e)

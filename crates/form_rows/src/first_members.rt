@@ -1,0 +1,146 @@
+//! First members of a book whose inserts a context has, and how many inserts it lacks.
+
+ghost use Rattle.std.specs.Prelude.{◌≡◌, ◌-◌, ◌≤◌, ◌&&◌, not, Some, IfSome, IsTrue, if◌then◌else◌, length, slice_get};
+ghost use Rattle.op_name.specs.declared.member.Member.TheVariants.{Original};
+ghost use Rattle.context_vector.specs.Contexts.{count_of, has, Within};
+ghost use Rattle.context_diff.specs.Operations.{OpData, member_of, is_insert};
+ghost use Rattle.context_diff.specs.Histories.{inserts_in};
+ghost use Rattle.form_rows.specs.Lacking.{all_but_last, lacking};
+ghost use Rattle.form_rows.specs.Firsts.{AreFirstMembers, HasFirst, IsLastContext};
+
+use crate::had::has_original;
+use context_diff::{Book, Op};
+use context_vector::Vector;
+
+/// How many of the first members of a book have all their inserts in the context of one of its operations, and the place of that
+/// operation. A context that has the members of that one has these inserts too, however far the book has grown since.
+#[derive(Clone, Copy, Drop)]
+pub struct FirstMembers {
+    place: u32,
+    upto: u32,
+}
+
+impl FirstMembers {
+    /// Those of the last operation, which has this context and lacks so many of the inserts before it, if no more than `most`
+    /// others come after them.
+    pub(crate) fn of_last(
+        book: &Book,
+        context: &Vector,
+        lacked: u32,
+        most: usize,
+    ) -> Option<FirstMembers>
+        requires lacked { lacked ≡ lacking (all_but_last book.now.ops) context.now.set }
+        requires last { IsLastContext book.now.ops context.now.set }
+        ensures are { IfSome result (AreFirstMembers book.now.ops) }
+        ensures has { IfSome result (λ f. HasFirst book.now.ops context.now.set f.upto) }
+    {
+        match common(book, context, lacked, most) {
+            Some(upto) => Some(FirstMembers {
+                place: last_place(book),
+                upto,
+            }),
+            None => None,
+        }
+    }
+
+    /// How many they are.
+    pub(crate) fn upto(&self) -> usize
+        ensures { result ≡ self.now.upto }
+    {
+        self.upto as usize
+    }
+
+    /// Whether the context has the members of that by which they were found, and so all inserts among them.
+    pub(crate) fn has_inserts(&self, book: &Book, context: &Vector) -> bool
+        requires { AreFirstMembers book.now.ops self.now }
+        ensures { IsTrue result → HasFirst book.now.ops context.now.set self.now.upto }
+    {
+        match book.op(self.place) {
+            Some(op) => context.covers(op.context()),
+            None => false,
+        }
+    }
+}
+
+// The place of the last operation of a book that has one.
+fn last_place(book: &Book) -> u32
+    ensures { result ≡ length book.now.ops - 1 }
+{
+    book.len().saturating_sub(1)
+}
+
+/// How many of the inserts before it the last operation of the book, which has this context, lacks.
+pub(crate) fn lacked_inserts(book: &Book, context: &Vector) -> u32
+    requires within { Within context.now.set book.now.have.set }
+    requires last { IsLastContext book.now.ops context.now.set }
+    ensures { result ≡ lacking (all_but_last book.now.ops) context.now.set }
+{
+    book.known();
+    let had = inserts_of_last(book, context);
+    let last = is_insert_at(book, last_place(book));
+    without_one(book.inserts().saturating_sub(had), last)
+}
+
+// The number, or one less if there is one more to be left out.
+fn without_one(number: u32, one: bool) -> u32
+    ensures { result ≡ number - (if one then 1 else 0) }
+{
+    number.saturating_sub(u32::from(one))
+}
+
+// How many inserts the context of the book's last operation has.
+fn inserts_of_last(book: &Book, context: &Vector) -> u32
+    requires within { Within context.now.set book.now.have.set }
+    requires last { IsLastContext book.now.ops context.now.set }
+    ensures { result ≡ inserts_in book.now.ops context.now.set }
+{
+    book.inserts_in(context)
+}
+
+// Whether the i-th operation is an insert.
+fn is_insert_at(book: &Book, i: u32) -> bool
+    ensures { (o : OpData) → slice_get book.now.ops i ≡ Some o → result ≡ is_insert o }
+{
+    match book.op(i) {
+        Some(op) => op.is_insert(),
+        None => false,
+    }
+}
+
+// How many of the first operations of the book have all their inserts in the context, if no more than `most` come between them
+// and the last one which aren't inserts that the context lacks.
+fn common(book: &Book, context: &Vector, lacked: u32, most: usize) -> Option<u32>
+    requires { lacked ≡ lacking (all_but_last book.now.ops) context.now.set }
+    ensures has { IfSome result (HasFirst book.now.ops context.now.set) }
+    ensures within { IfSome result (λ k. k ≤ length book.now.ops) }
+{
+    let mut lacked = lacked;
+    let mut left = most;
+    let mut i = last_place(book);
+    let mut site = 0;
+    let mut count = context.count(site);
+    while lacked > 0 && i > 0 {
+        i -= 1;
+        if lacks_insert(book, i, context, &mut site, &mut count) {
+            lacked -= 1;
+        } else if left > 0 {
+            left -= 1;
+        } else {
+            return None;
+        }
+    }
+    Some(i)
+}
+
+// Whether the i-th operation is an insert that the context lacks, of which the count of one site is at hand.
+fn lacks_insert(book: &Book, i: u32, context: &Vector, site: &mut u16, count: &mut u32) -> bool
+    requires { count.old ≡ count_of context.now.set site.old }
+    ensures lacks { (o : OpData) → slice_get book.now.ops i ≡ Some o → result ≡ (is_insert o && not (has context.now.set (member_of o))) }
+    ensures count { count.new ≡ count_of context.now.set site.new }
+{
+    match book.op(i) {
+        Some(Op::Insert { name, .. }) => !has_original(context, name, site, count),
+        Some(_) => false,
+        None => false,
+    }
+}
