@@ -1,9 +1,9 @@
 -- A row that has no more forms than there are inserts that a context lacks has none of those that it has.
-use Rattle.std.proofs.Common.{◌≡◌, ℕ, ◌+◌, ◌-◌, ◌≤◌, Bool, true, false, not, ◌&&◌, inl, inr, List, [], ◌∷◌, ◌++◌, length, take, drop, refl, sym, ap, subst, ◌∙◌, arith, length-append}
+use Rattle.std.proofs.Common.{◌≡◌, ℕ, zero, suc, ◌+◌, ◌-◌, ◌≤◌, Bool, true, false, not, ◌&&◌, inl, inr, List, [], ◌∷◌, ◌++◌, length, take, drop, refl, sym, ap, subst, ◌∙◌, arith, length-append}
 use Rattle.std.specs.Prelude.{Option, Some, None, option_map, slice_get}
 use Rattle.std.proofs.lemmas.Bool.{cases_Bool, both_ways}
 use Rattle.std.proofs.lemmas.List.{length-map, take-append-le, take-map, take_all}
-use Rattle.std.proofs.lemmas.Option.{none-some, same_Some, slice_get-map}
+use Rattle.std.proofs.lemmas.Option.{none-some, same_Some, slice_get-map, slice_get_within}
 use Rattle.op_name.specs.NameData.{NameData}
 use Rattle.op_name.specs.declared.member.Member.{Member}
 use Rattle.context_vector.specs.Contexts.{ContextData, has}
@@ -68,6 +68,18 @@ last_found h before m whole =
 pub last_member : (h : List OpData) (before : List Member) (m : Member) (o : OpData) → members_in h ≡ before ++ m ∷ []
     → slice_get h (length h - 1) ≡ Some o → member_of o ≡ m
 last_member h before m o whole at = same_Some (member_of o) m (ap (option_map member_of) (sym at) ∙ last_found h before m whole)
+
+end_of : (h : List OpData) (k : ℕ) (o : OpData) → k + 1 ≡ length h → slice_get h k ≡ Some o
+    → members_in h ≡ members_in (take k h) ++ member_of o ∷ []
+end_of [] k o size at = absurd (omega (arith, size))
+end_of (x ∷ []) zero o size at = ap (λ (p : OpData). member_of p ∷ []) (same_Some x o at)
+end_of (x ∷ (y ∷ ys)) zero o size at = absurd (omega (arith, size))
+end_of (x ∷ xs) (suc k) o size at = ap (λ (l : List Member). member_of x ∷ l) (end_of xs k o (omega (arith, size)) at)
+
+-- the members of a history are those of all operations but the last one, and that one's
+pub members_end : (h : List OpData) (o : OpData) → slice_get h (length h - 1) ≡ Some o
+    → members_in h ≡ members_in (all_but_last h) ++ member_of o ∷ []
+members_end h o at = end_of h (length h - 1) o (omega (arith, slice_get_within h (length h - 1) o at)) at
 
 pub last_there : (h : List OpData) (before : List Member) (m : Member) → members_in h ≡ before ++ m ∷ [] → slice_get h (length h - 1) ≡ None
     → ⊥

@@ -94,7 +94,10 @@ fn inserts_of_last(book: &Book, context: &Vector) -> u32
     requires last { IsLastContext book.now.ops context.now.set }
     ensures { result ≡ inserts_in book.now.ops context.now.set }
 {
-    book.inserts_in(context)
+    match book.last_cells() {
+        Some(cells) => cells,
+        None => book.inserts_in(context),
+    }
 }
 
 // Whether the i-th operation is an insert.
