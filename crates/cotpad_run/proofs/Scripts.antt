@@ -1,7 +1,9 @@
 -- What `replay` has read and written so far tells each of its answers.
-use Rattle.std.proofs.Common.{◌≡◌, ℕ, ◌+◌, ◌≤◌, Bool, true, false, Option, None, Some, List, [], ◌++◌, refl, ap, sym, subst, ◌∙◌, arith, length, length-append, append_assoc, append-nil}
+use Rattle.std.proofs.Common.{◌≡◌, ◌≢◌, ℕ, ◌+◌, ◌≤◌, Bool, true, false, Option, None, Some, List, [], ◌∷◌, ◌++◌, refl, ap, sym, subst, ◌∙◌, arith, length, length-append, append_assoc, append-nil}
 use Rattle.std.specs.Prelude.{Result, Ok, Err, IfSome, IfErr, OnOk, OnErr}
 use Rattle.std.specs.Result.{IsErrAnd}
+use Rattle.std.specs.List.{All}
+use Rattle.std.proofs.lemmas.List.Elements.{All-nil}
 use Rattle.std.specs.Io.KnownBytes.{Appends, Consumes, IsAtEnd, Keeps as Stays}
 use Rattle.std.proofs.KnownBytes.{Appends-nil, Appends-trans, Consumes-nil, Consumes-trans, Consumes-kept, Consumes-whole}
 use Rattle.outside_io.specs.Faults.{Rose, HasCause}
@@ -12,11 +14,12 @@ use Rattle.session_replay.specs.Scripts.{script_report}
 use Rattle.session_replay.specs.ReaderData.{ReaderData}
 use Rattle.session_replay.specs.Readers.{Keeps, KeepsSome, Awaits, AwaitsSome}
 use Rattle.session_replay.proofs.CallerLemmas.{kept_is_front, done_is_reported}
+use Rattle.log_replies.specs.declared.loaded.TheConstants.{PIECE}
 use Rattle.log_replies.specs.declared.status.Status.{Status}
 use Rattle.log_replies.specs.declared.status.Status.TheVariants.{WriteFault}
 use Rattle.log_replies.specs.Outside.{Outside, told}
 use Rattle.log_replies.specs.Answers.{IsReplied, IsPartlyReplied}
-use Rattle.cotpad_run.specs.Replaying.{IsScriptReport, IsReport, IsFrontOfReport, IsUnreadReport, IsUnwrittenReport, IsReportOutOfMemory, IsReplayed}
+use Rattle.cotpad_run.specs.Replaying.{IsScriptReport, IsReport, IsFrontOfReport, IsReportSoFar, IsReportedTillRead, IsUnreadReport, IsUnwrittenReport, IsReportOutOfMemory, IsReplayed}
 use Rattle.cotpad_run.specs.Code.Replaying.{IsPassed, KeepsAfter, IsReading, IsWaiting}
 
 -- each script has its report
@@ -85,6 +88,44 @@ kept_front r all before k more = kept_is_front r all before more k
 without_rest : (bytes before rest : List ℕ) → BeginsWith bytes (before ++ rest) → BeginsWith bytes before
 without_rest bytes before rest front = (rest ++ front.0, front.1 ∙ append_assoc before rest front.0)
 
+-- ---- what was reported before the last read
+
+so_far_there : (old now : Outside) (r : ReaderData) (all written : List ℕ) → ReportsAreThere → (k : Keeps r all written)
+    → All (λ b. b ≢ 10) k.left
+    → Consumes old.left now.left all → Appends old.held now.held written → IsReportSoFar old now
+so_far_there old now r all written reports k no_feed taken sent = record {
+  whole = k.done;
+  tail = k.left;
+  taken = subst (Consumes old.left now.left) k.parts taken;
+  lines = k.whole;
+  no_line = no_feed;
+  reply = replied old.held now.held k.done written false reports (done_is_reported r all written k) sent;
+}
+
+-- more was written since
+till_written : (old mid now : Outside) (more : List ℕ) → IsReportedTillRead old mid → now.left ≡ mid.left → Appends mid.held now.held more
+    → IsReportedTillRead old now
+till_written old mid now more t same sent = record {
+  till = t.till;
+  so_far = t.so_far;
+  piece = t.piece;
+  short = t.short;
+  read = subst (λ left. Consumes t.till.left left t.piece) (sym same) t.read;
+  kept = (t.kept.0 ++ more, Appends-trans t.till.held mid.held now.held t.kept.0 more t.kept.1 sent);
+}
+
+-- all whole lines were done and reported, and then a piece was read, and more was written
+reported_till : (old mid now : Outside) (r : ReaderData) (fed : ℕ) (piece more : List ℕ) → ReportsAreThere → IsWaiting old mid r fed
+    → length piece ≤ PIECE → Consumes mid.left now.left piece → Appends mid.held now.held more → IsReportedTillRead old now
+reported_till old mid now r fed piece more reports i short read sent = record {
+  till = mid;
+  so_far = so_far_there old mid r i.all i.written reports i.awaits.keeps i.awaits.no_feed i.taken i.sent;
+  piece = piece;
+  short = short;
+  read = read;
+  kept = (more, sent);
+}
+
 -- ---- the lines that are there whole
 
 -- a reader that keeps anything keeps it behind nothing
@@ -120,6 +161,7 @@ reading_on old left reads held now writes later r s fed out mid new i on p same 
   few = i.few;
   taken = i.taken;
   sent = Appends-trans old.held held now i.written p.front i.sent p.sent;
+  till_read = till_written old (told left reads held writes) (told left reads now later) p.front i.till_read refl p.sent;
   read_faults = i.read_faults;
   write_faults = same ∙ i.write_faults;
 }
@@ -177,6 +219,7 @@ unwritten_there old left reads held now writes later r fed out mid reports i fro
       front = front_of_report old (told left reads now later) i.all (i.written ++ w.front) reports
           (λ more. (behind old.held held now (i.all ++ more) i.written mid i.sent w (begins more)).0)
           (behind old.held held now (i.all ++ []) i.written mid i.sent w (begins [])).1 i.taken (few_taken i.all fed i.count i.few);
+      till_read = till_written old (told left reads held writes) (told left reads now later) w.front i.till_read refl w.written;
       read_faults = i.read_faults;
     }
 
@@ -244,47 +287,55 @@ memory_there old left reads held writes r fed out reports i = record {
   front = front_of_report old (told left reads held writes) i.all i.written reports
       (λ more. without_rest (i.all ++ more) i.written out (kept_front r i.all (i.written ++ out) i.keeps more)) i.sent i.taken
       (few_taken i.all fed i.count i.few);
+  till_read = i.till_read;
   read_faults = i.read_faults;
   write_faults = i.write_faults;
 }
 
 -- ---- the start
 
+none_behind : (xs ys : List ℕ) → [] ≡ xs ++ ys → ys ≡ []
+none_behind [] ys none = sym none
+none_behind (x ∷ xs) ys none = absurd cc
+
 -- nothing was read yet
 pub reading_first : (left : Option (List ℕ)) (reads : ℕ) (held : Option (List ℕ)) (writes : ℕ) (r : ReaderData) (out : List ℕ)
-    → Keeps r [] [] → out ≡ []
+    → ReportsAreThere → Keeps r [] [] → out ≡ []
     → IsReading (told left reads held writes) (told left reads held writes) r 0 out
-reading_first left reads held writes r out k none = record {
-  all = [];
-  written = [];
-  keeps = subst (Keeps r []) (sym none) k;
-  count = refl;
-  few = omega arith;
-  taken = Consumes-nil left;
-  sent = Appends-nil held;
-  read_faults = refl;
-  write_faults = refl;
-}
-
--- out of memory for the reader
-pub memory_first : (left : Option (List ℕ)) (reads : ℕ) (held : Option (List ℕ)) (writes : ℕ) → ReportsAreThere
-    → IsReportOutOfMemory (told left reads held writes) (told left reads held writes)
-memory_first left reads held writes reports = record {
-  front = front_of_report (told left reads held writes) (told left reads held writes) [] [] reports
-      (λ more. ((script_report more).written, refl)) (Appends-nil held) (Consumes-nil left) (omega arith);
-  read_faults = refl;
-  write_faults = refl;
-}
+reading_first left reads held writes r out reports k none =
+    let now = told left reads held writes in
+    let no_feed : All (λ (b : ℕ). b ≢ 10) k.left =
+    subst (All (λ (b : ℕ). b ≢ 10)) (sym (none_behind k.done k.left k.parts)) (All-nil (λ (b : ℕ). b ≢ 10)) in
+    record {
+      all = [];
+      written = [];
+      keeps = subst (Keeps r []) (sym none) k;
+      count = refl;
+      few = omega arith;
+      taken = Consumes-nil left;
+      sent = Appends-nil held;
+      till_read = record {
+        till = now;
+        so_far = so_far_there now now r [] [] reports k no_feed (Consumes-nil left) (Appends-nil held);
+        piece = [];
+        short = omega arith;
+        read = Consumes-nil left;
+        kept = ([], Appends-nil held);
+      };
+      read_faults = refl;
+      write_faults = refl;
+    }
 
 -- ---- the next read
 
 -- these bytes were read and fed
 pub fed_on : (old : Outside) (left now : Option (List ℕ)) (reads later : ℕ) (held : Option (List ℕ)) (writes : ℕ) (r s : ReaderData)
-    (fed most n : ℕ) (bytes : List ℕ)
-    → IsWaiting old (told left reads held writes) r fed → fed + most ≤ MAX_INPUT + 1 → n ≤ most → length bytes ≡ n → Consumes left now bytes
+    (fed most n : ℕ) (bytes : List ℕ) → ReportsAreThere
+    → IsWaiting old (told left reads held writes) r fed → fed + most ≤ MAX_INPUT + 1 → n ≤ most → n ≤ PIECE → length bytes ≡ n
+    → Consumes left now bytes
     → ((all written : List ℕ) → Keeps r all written → Keeps s (all ++ bytes) written) → later ≡ reads
     → IsReading old (told now later held writes) s (fed + n) []
-fed_on old left now reads later held writes r s fed most n bytes i room few size taken on same = record {
+fed_on old left now reads later held writes r s fed most n bytes reports i room few short size taken on same = record {
   all = i.all ++ bytes;
   written = i.written;
   keeps = subst (Keeps s (i.all ++ bytes)) (sym (append-nil i.written)) (on i.all i.written i.awaits.keeps);
@@ -292,6 +343,9 @@ fed_on old left now reads later held writes r s fed most n bytes i room few size
   few = omega (arith, room, few);
   taken = Consumes-trans old.left left now i.all bytes i.taken taken;
   sent = i.sent;
+  till_read =
+      reported_till old (told left reads held writes) (told now later held writes) r fed bytes [] reports i (omega (arith, short, size))
+      taken (Appends-nil held);
   read_faults = same ∙ i.read_faults;
   write_faults = i.write_faults;
 }
@@ -319,14 +373,7 @@ unread_there old left now reads later held writes r fed reports i stays rose =
     let taken : Consumes old.left now i.all = Consumes-kept old.left left now i.all i.taken stays in
     record {
       fault = subst (λ n. Rose n later) i.read_faults rose;
-      so_far = record {
-        whole = k.done;
-        tail = k.left;
-        taken = subst (Consumes old.left now) k.parts taken;
-        lines = k.whole;
-        no_line = i.awaits.no_feed;
-        reply = replied old.held held k.done i.written false reports (done_is_reported r i.all i.written k) i.sent;
-      };
+      so_far = so_far_there old (told now later held writes) r i.all i.written reports k i.awaits.no_feed taken i.sent;
       front = front_of_report old (told now later held writes) i.all i.written reports (kept_front r i.all i.written k) i.sent taken
           (few_waiting i.all fed i.count i.few);
       write_faults = i.write_faults;
@@ -335,16 +382,19 @@ unread_there old left now reads later held writes r fed reports i stays rose =
 -- out of memory for what was read
 pub memory_read : (old : Outside) (left now : Option (List ℕ)) (reads later : ℕ) (held : Option (List ℕ)) (writes : ℕ) (r : ReaderData)
     (fed most : ℕ) (bytes : List ℕ) → ReportsAreThere
-    → IsWaiting old (told left reads held writes) r fed → fed + most ≤ MAX_INPUT + 1 → length bytes ≤ most → Consumes left now bytes
-    → later ≡ reads
+    → IsWaiting old (told left reads held writes) r fed → fed + most ≤ MAX_INPUT + 1 → length bytes ≤ most → length bytes ≤ PIECE
+    → Consumes left now bytes → later ≡ reads
     → IsReportOutOfMemory old (told now later held writes)
-memory_read old left now reads later held writes r fed most bytes reports i room few taken same =
+memory_read old left now reads later held writes r fed most bytes reports i room few short taken same =
     let both : Consumes old.left now (i.all ++ bytes) = Consumes-trans old.left left now i.all bytes i.taken taken in
     record {
       front = front_of_report old (told now later held writes) (i.all ++ bytes) i.written reports
           (λ more. subst (λ xs. BeginsWith xs i.written) (sym (append_assoc i.all bytes more))
           (kept_front r i.all i.written i.awaits.keeps (bytes ++ more))) i.sent both
           (omega (arith, length-append i.all bytes, i.count, room, few));
+      till_read =
+          reported_till old (told left reads held writes) (told now later held writes) r fed bytes [] reports i short taken
+          (Appends-nil held);
       read_faults = same ∙ i.read_faults;
       write_faults = i.write_faults;
     }
@@ -399,6 +449,9 @@ unwritten_at_end old left reads held now writes later r fed out new refused repo
         kept = (i.written ++ w.front, b.1);
         lost = record { front = i.all; few = few_waiting i.all fed i.count i.few; lost = i.taken };
       };
+      till_read =
+          reported_till old (told left reads held writes) (told left reads now later) r fed [] w.front reports i (omega arith)
+          (Consumes-nil left) w.written;
       read_faults = i.read_faults;
     }
 
@@ -409,6 +462,9 @@ pub memory_at_end : (old : Outside) (left : Option (List ℕ)) (reads : ℕ) (he
 memory_at_end old left reads held writes r fed reports i = record {
   front = front_of_report old (told left reads held writes) i.all i.written reports (kept_front r i.all i.written i.awaits.keeps) i.sent
       i.taken (few_waiting i.all fed i.count i.few);
+  till_read =
+      reported_till old (told left reads held writes) (told left reads held writes) r fed [] [] reports i (omega arith) (Consumes-nil left)
+      (Appends-nil held);
   read_faults = i.read_faults;
   write_faults = i.write_faults;
 }

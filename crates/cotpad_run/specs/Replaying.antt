@@ -1,5 +1,5 @@
 -- What `replay` answers, and what it leaves in the source and in the sink: a script is reported while it is read.
-use Rattle.std.specs.Prelude.{◌≡◌, ◌≢◌, ◌+◌, Bool, true, false, List, ℕ, ◌++◌, IfSome}
+use Rattle.std.specs.Prelude.{◌≡◌, ◌≢◌, ◌+◌, ◌≤◌, Bool, true, false, List, ℕ, ◌++◌, IfSome, length}
 use Rattle.std.specs.List.{All}
 use Rattle.std.specs.Io.KnownBytes.{Consumes, IsAtEnd}
 use Rattle.outside_io.specs.Faults.{Rose}
@@ -9,6 +9,7 @@ use Rattle.script_text.specs.Report.{Report}
 use Rattle.session_replay.specs.Scripts.{AreWholeLines, script_report}
 use Rattle.session_replay.specs.Transcripts.{IsTranscript}
 use Rattle.session_replay.specs.Derivation.{IsDerivedReport}
+use Rattle.log_replies.specs.declared.loaded.TheConstants.{PIECE}
 use Rattle.log_replies.specs.declared.status.Status.{Status}
 use Rattle.log_replies.specs.declared.status.Status.TheVariants.{Done, Refused, Words, ReadFault, WriteFault, Memory, LinkFault, PeerRefused}
 use Rattle.log_replies.specs.Outside.{Outside, Grows}
@@ -16,11 +17,12 @@ use Rattle.log_replies.specs.Answers.{IsReplied, IsPartlyReplied}
 
 -- the report of a script. Its transcript says what it is: the lines done one after the other, from no site on; `show` writes the
 -- text of the definition for the history that the site has there; after each event with its releases no operation is ready, and
--- whatever waits, waits for a named member. It is also the report, and the only one, of the session that is read with derived
--- forms in the place of replays
+-- whatever waits, waits for a named member. No other report has a transcript. It is also the report, and the only one, of the session
+-- that is read with derived forms in the place of replays
 pub record IsScriptReport (bytes : List ℕ) (reply : Report) : Type 0 where
   pub report : reply ≡ script_report bytes
   pub transcript : IsTranscript bytes (script_report bytes)
+  pub transcript_once : (r : Report) → IsTranscript bytes r → r ≡ script_report bytes
   pub derived : IsDerivedReport bytes (script_report bytes)
   pub derived_once : (r : Report) → IsDerivedReport bytes r → r ≡ script_report bytes
 
@@ -52,6 +54,16 @@ pub record IsReportSoFar (old new : Outside) : Type 0 where
   pub no_line : All (λ b. b ≢ 10) tail
   pub reply : IsReplied IsScriptReport false old.held new.held whole
 
+-- before the last read, what was taken till then was reported so far; that read took one piece at most, and nothing is taken back of
+-- what was written
+pub record IsReportedTillRead (old new : Outside) : Type 0 where
+  pub till : Outside
+  pub so_far : IsReportSoFar old till
+  pub piece : List ℕ
+  pub short : length piece ≤ PIECE
+  pub read : Consumes till.left new.left piece
+  pub kept : Grows till.held new.held
+
 -- a read failed: the lines that ended before it are reported, whether before or after the failed read
 pub record IsUnreadReport (old new : Outside) : Type 0 where
   pub fault : Rose old.read_faults new.read_faults
@@ -59,15 +71,17 @@ pub record IsUnreadReport (old new : Outside) : Type 0 where
   pub front : IsFrontOfReport old new
   pub write_faults : new.write_faults ≡ old.write_faults
 
--- a write failed: a front of the report was written
+-- a write failed: a front of the report was written, with all that was to be written before the last read
 pub record IsUnwrittenReport (old new : Outside) : Type 0 where
   pub fault : Rose old.write_faults new.write_faults
   pub front : IsFrontOfReport old new
+  pub till_read : IsReportedTillRead old new
   pub read_faults : new.read_faults ≡ old.read_faults
 
--- out of memory: a front of the report was written, and no call failed
+-- out of memory: a front of the report was written, with all that was to be written before the last read, and no call failed
 pub record IsReportOutOfMemory (old new : Outside) : Type 0 where
   pub front : IsFrontOfReport old new
+  pub till_read : IsReportedTillRead old new
   pub read_faults : new.read_faults ≡ old.read_faults
   pub write_faults : new.write_faults ≡ old.write_faults
 

@@ -7,6 +7,7 @@ ghost use Rattle.outside_io.specs.Writing.{WritesFront};
 ghost use Rattle.session_replay.specs.Scripts.{script_report};
 ghost use Rattle.session_replay.specs.Readers.{KeepsSome, AwaitsSome};
 ghost use Rattle.log_replies.specs.Outside.{Outside, told};
+ghost use Rattle.log_replies.specs.declared.loaded.TheConstants.{PIECE};
 ghost use Rattle.cotpad_run.specs.Replaying.{IsScriptReport, IsReplayed};
 ghost use Rattle.cotpad_run.specs.Code.Replaying.{IsPassed, IsReading, IsWaiting};
 
@@ -14,7 +15,8 @@ use log_replies::{Status, empty_piece};
 use op_name::Memory;
 use outside_io::{Failed, MAX_INPUT, Sink, Source, write_whole};
 use session_replay::{
-    Next, ScriptReader, derived_reports_are_there, one_derived_report, transcripts_are_there,
+    Next, ScriptReader, derived_reports_are_there, one_derived_report, one_transcript,
+    transcripts_are_there,
 };
 use std::alloc::Global;
 
@@ -39,10 +41,7 @@ pub(crate) fn answer_replay<S: Source, K: Sink>(
         result }
 {
     reports_are_there();
-    let mut reader = match ScriptReader::new(alloc) {
-        Ok(reader) => reader,
-        Err(Memory) => return Status::Memory,
-    };
+    let mut reader = ScriptReader::new(alloc);
     let mut out = Vec::new(alloc);
     let mut piece = empty_piece();
     let mut fed = 0;
@@ -64,6 +63,7 @@ fn reports_are_there()
     ensures { (bytes : List ℕ) → IsScriptReport bytes (script_report bytes) }
 {
     transcripts_are_there();
+    one_transcript();
     derived_reports_are_there();
     one_derived_report();
 }
@@ -107,6 +107,7 @@ fn read_on<S: Source>(
     most: usize,
 ) -> Result<usize, Status>
     requires room { 0 < length piece.old }
+    requires short { length piece.old ≤ PIECE }
     requires some { 0 < most }
     ensures room { length piece.new ≡ length piece.old }
     ensures amount { IfOk result (λ n. n ≤ most) }

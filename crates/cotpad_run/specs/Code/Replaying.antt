@@ -5,6 +5,7 @@ use Rattle.outside_io.specs.declared.reading.TheConstants.{MAX_INPUT}
 use Rattle.session_replay.specs.ReaderData.{ReaderData}
 use Rattle.session_replay.specs.Readers.{Keeps, Awaits}
 use Rattle.log_replies.specs.Outside.{Outside}
+use Rattle.cotpad_run.specs.Replaying.{IsReportedTillRead}
 
 -- a front of `piece`, all but `rest`, was written
 pub record IsPassed (held now : Option (List ℕ)) (piece rest : List ℕ) : Type 0 where
@@ -19,7 +20,7 @@ pub record KeepsAfter (r : ReaderData) (out : List ℕ) : Type 0 where
   pub keeps : Keeps r all (before ++ out)
 
 -- no call failed. So many bytes were taken of the source and fed to the reader; of what the lines done report all was written
--- but `out`
+-- but `out`, and before the last read all of what was to be written then
 pub record IsReading (old now : Outside) (r : ReaderData) (fed : ℕ) (out : List ℕ) : Type 0 where
   pub all : List ℕ
   pub written : List ℕ
@@ -28,6 +29,7 @@ pub record IsReading (old now : Outside) (r : ReaderData) (fed : ℕ) (out : Lis
   pub few : fed ≤ MAX_INPUT + 1
   pub taken : Consumes old.left now.left all
   pub sent : Appends old.held now.held written
+  pub till_read : IsReportedTillRead old now
   pub read_faults : now.read_faults ≡ old.read_faults
   pub write_faults : now.write_faults ≡ old.write_faults
 

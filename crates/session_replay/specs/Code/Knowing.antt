@@ -1,5 +1,5 @@
 -- Which of the first messages each site is known to have: to deliver them again, among many, would do nothing.
-use Rattle.std.specs.Prelude.{◌≡◌, ℕ, ◌≤◌, Bool, true, false, List, [], ◌∷◌, Contains, length, take, if◌then◌else◌}
+use Rattle.std.specs.Prelude.{◌≡◌, ℕ, ◌≤◌, Bool, true, List, [], ◌∷◌, Contains, length, take, if◌then◌else◌}
 use Rattle.context_diff.specs.Operations.{OpData}
 use Rattle.cot_site.specs.States.{State, IsSettled}
 use Rattle.cot_site.specs.Verdicts.{is_repeat}

@@ -6,6 +6,7 @@ pub returns : goal.returns
 returns c = λ bytes. record {
   report = refl {a = script_report bytes};
   transcript = c.transcripts_are_there.ensures bytes;
+  transcript_once = c.one_transcript.ensures bytes;
   derived = c.derived_reports_are_there.ensures bytes;
   derived_once = c.one_derived_report.ensures bytes;
 }

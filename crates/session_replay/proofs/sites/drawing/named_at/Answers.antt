@@ -1,5 +1,4 @@
 use Rattle.std.proofs.Common.{ℕ, ◌+◌, ◌∙◌, sym, arith}
-use Rattle.context_vector.proofs.CallerLemmas.{read_falls}
 use Rattle.session_replay.proofs.Names.{found_here, found_later, found_none, found_range}
 use Rattle.session_replay.proofs.sites.drawing.named_at.Goals as goal
 
