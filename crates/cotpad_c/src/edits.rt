@@ -17,7 +17,8 @@ use participant::Edit;
 
 /// Inserts a character after so many shown ones.
 pub(crate) fn insert(hosted: &mut Hosted, place: u32, scalar: u32) -> u32
-    ensures done { IsScalar scalar → Did result (local_insert (state_of hosted.old.site) place scalar) (from (state_of hosted.old.site)) (reached hosted.new) }
+    ensures done { IsScalar scalar → Did result (local_insert (state_of hosted.old.site) place scalar) (from (state_of hosted.old.site))
+        (reached hosted.new) }
     ensures no_character { (IsScalar scalar → ⊥) → (result ≡ NO_CHARACTER) × (hosted.new ≡ hosting hosted.old.site) }
 {
     hosted.forget();
@@ -37,7 +38,9 @@ pub(crate) fn delete(hosted: &mut Hosted, place: u32) -> u32
 
 /// Undoes an insert or delete.
 pub(crate) fn undo(hosted: &mut Hosted, author: u16, number: u32) -> u32
-    ensures done { IsName author number → Did result (local_undo (state_of hosted.old.site) (record { site = author; number = number })) (from (state_of hosted.old.site)) (reached hosted.new) }
+    ensures done { IsName author number
+        → Did result (local_undo (state_of hosted.old.site) (record { site = author; number = number })) (from (state_of hosted.old.site))
+        (reached hosted.new) }
     ensures no_name { (IsName author number → ⊥) → (result ≡ NO_NAME) × (hosted.new ≡ hosting hosted.old.site) }
 {
     hosted.forget();
@@ -49,7 +52,9 @@ pub(crate) fn undo(hosted: &mut Hosted, author: u16, number: u32) -> u32
 
 /// Redoes an insert or delete.
 pub(crate) fn redo(hosted: &mut Hosted, author: u16, number: u32) -> u32
-    ensures done { IsName author number → Did result (local_redo (state_of hosted.old.site) (record { site = author; number = number })) (from (state_of hosted.old.site)) (reached hosted.new) }
+    ensures done { IsName author number
+        → Did result (local_redo (state_of hosted.old.site) (record { site = author; number = number })) (from (state_of hosted.old.site))
+        (reached hosted.new) }
     ensures no_name { (IsName author number → ⊥) → (result ≡ NO_NAME) × (hosted.new ≡ hosting hosted.old.site) }
 {
     hosted.forget();

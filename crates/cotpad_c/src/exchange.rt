@@ -66,8 +66,10 @@ pub(crate) fn close(
     why: &mut CotpadVerdict,
 ) -> u32
     ensures limit { MAX_MESSAGE < length second.now → (result ≡ TOO_LONG) × (why.new ≡ why.old) × (hosted.new ≡ hosting hosted.old.site) }
-    ensures made { IsMade result → Closes (state_of hosted.old.site) second.now (state_of hosted.new.site) result out.old out.new needed.new × (why.new ≡ why.old) }
-    ensures refused { length second.now ≤ MAX_MESSAGE → ¬ IsMade result → IsRefused (IsUnclosed (state_of hosted.old.site) second.now (state_of hosted.new.site)) result why.old why.new }
+    ensures made { IsMade result → Closes (state_of hosted.old.site) second.now (state_of hosted.new.site) result out.old out.new needed.new
+        × (why.new ≡ why.old) }
+    ensures refused { length second.now ≤ MAX_MESSAGE → ¬ IsMade result
+        → IsRefused (IsUnclosed (state_of hosted.old.site) second.now (state_of hosted.new.site)) result why.old why.new }
     ensures later { IsLater (state_of hosted.old.site) (state_of hosted.new.site) }
     ensures quiet { hosted.new.released ≡ [] }
     ensures err { ¬ IsMade result → (out.new ≡ out.old) × (needed.new ≡ needed.old) }
@@ -89,7 +91,8 @@ fn close_at(
     why: &mut CotpadVerdict,
 ) -> u32
     requires { length second.now ≤ MAX_MESSAGE }
-    ensures made { IsMade result → Closes (state_of site.old) second.now (state_of site.new) result out.old out.new needed.new × (why.new ≡ why.old) }
+    ensures made { IsMade result → Closes (state_of site.old) second.now (state_of site.new) result out.old out.new needed.new
+        × (why.new ≡ why.old) }
     ensures refused { ¬ IsMade result → IsRefused (IsUnclosed (state_of site.old) second.now (state_of site.new)) result why.old why.new }
     ensures later { IsLater (state_of site.old) (state_of site.new) }
     ensures err { ¬ IsMade result → (out.new ≡ out.old) × (needed.new ≡ needed.old) }
@@ -109,8 +112,10 @@ pub(crate) fn finish(
     why: &mut CotpadVerdict,
 ) -> u32
     ensures limit { MAX_MESSAGE < length third.now → (result ≡ TOO_LONG) × (why.new ≡ why.old) × (hosted.new ≡ hosting hosted.old.site) }
-    ensures finished { result ≡ OK → ((count : ℕ) × IsFinished (state_of hosted.old.site) third.now (state_of hosted.new.site) count) × (why.new ≡ why.old) }
-    ensures refused { length third.now ≤ MAX_MESSAGE → result ≢ OK → IsRefused (IsUnfinished (state_of hosted.old.site) third.now (state_of hosted.new.site)) result why.old why.new }
+    ensures finished { result ≡ OK → ((count : ℕ) × IsFinished (state_of hosted.old.site) third.now (state_of hosted.new.site) count)
+        × (why.new ≡ why.old) }
+    ensures refused { length third.now ≤ MAX_MESSAGE → result ≢ OK
+        → IsRefused (IsUnfinished (state_of hosted.old.site) third.now (state_of hosted.new.site)) result why.old why.new }
     ensures later { IsLater (state_of hosted.old.site) (state_of hosted.new.site) }
     ensures quiet { hosted.new.released ≡ [] }
 {
@@ -124,7 +129,8 @@ pub(crate) fn finish(
 // The same, at the site itself, of a message that isn't too long.
 fn finish_at(alloc: Global, site: &mut Site, third: &[u8], why: &mut CotpadVerdict) -> u32
     requires { length third.now ≤ MAX_MESSAGE }
-    ensures finished { result ≡ OK → ((count : ℕ) × IsFinished (state_of site.old) third.now (state_of site.new) count) × (why.new ≡ why.old) }
+    ensures finished { result ≡ OK → ((count : ℕ) × IsFinished (state_of site.old) third.now (state_of site.new) count)
+        × (why.new ≡ why.old) }
     ensures refused { result ≢ OK → IsRefused (IsUnfinished (state_of site.old) third.now (state_of site.new)) result why.old why.new }
     ensures later { IsLater (state_of site.old) (state_of site.new) }
 {

@@ -130,7 +130,8 @@ pub extern "C" fn cotpad_load(
 pub extern "C" fn cotpad_insert(site: &mut CotpadSite, place: u32, scalar: u32) -> u32
     requires { IsSome site.old.site }
     ensures live { IsSome site.new.site }
-    ensures done { IsScalar scalar → Did result (local_insert (held_state site.old.site) place scalar) (from (held_state site.old.site)) (held_reached site.new.site) }
+    ensures done { IsScalar scalar → Did result (local_insert (held_state site.old.site) place scalar) (from (held_state site.old.site))
+        (held_reached site.new.site) }
     ensures no_character { (IsScalar scalar → ⊥) → (result ≡ NO_CHARACTER) × (held site.new.site ≡ hosting (held_site site.old.site)) }
 {
     edits::insert(site.inner(), place, scalar)
@@ -157,9 +158,12 @@ pub extern "C" fn cotpad_insert_text(
 ) -> u32
     requires { IsSome site.old.site }
     ensures live { IsSome site.new.site }
-    ensures no_text { ¬ IsUtf8 text.now → (result ≡ NO_CHARACTER) × (made.new ≡ 0) × (held site.new.site ≡ hosting (held_site site.old.site)) }
-    ensures past { IsUtf8 text.now → length (shown (held_site site.old.site).history) < place → (result ≡ PLACE_OUT) × (made.new ≡ 0) × (held site.new.site ≡ hosting (held_site site.old.site)) }
-    ensures typed { IsUtf8 text.now → place ≤ length (shown (held_site site.old.site).history) → IsTyped result (from (held_state site.old.site)) place (chars text.now) (held_reached site.new.site) made.new }
+    ensures no_text { ¬ IsUtf8 text.now
+        → (result ≡ NO_CHARACTER) × (made.new ≡ 0) × (held site.new.site ≡ hosting (held_site site.old.site)) }
+    ensures past { IsUtf8 text.now → length (shown (held_site site.old.site).history) < place
+        → (result ≡ PLACE_OUT) × (made.new ≡ 0) × (held site.new.site ≡ hosting (held_site site.old.site)) }
+    ensures typed { IsUtf8 text.now → place ≤ length (shown (held_site site.old.site).history)
+        → IsTyped result (from (held_state site.old.site)) place (chars text.now) (held_reached site.new.site) made.new }
     ensures nothing { IsUtf8 text.now → place ≤ length (shown (held_site site.old.site).history) → chars text.now ≡ [] → result ≡ OK }
 {
     runs::insert_text(site.inner(), place, text, made)
@@ -176,8 +180,10 @@ pub extern "C" fn cotpad_delete_range(
 ) -> u32
     requires { IsSome site.old.site }
     ensures live { IsSome site.new.site }
-    ensures past { length (shown (held_site site.old.site).history) < place + count → (result ≡ PLACE_OUT) × (made.new ≡ 0) × (held site.new.site ≡ hosting (held_site site.old.site)) }
-    ensures cut { place + count ≤ length (shown (held_site site.old.site).history) → IsCut result (from (held_state site.old.site)) place count (held_reached site.new.site) made.new }
+    ensures past { length (shown (held_site site.old.site).history) < place + count
+        → (result ≡ PLACE_OUT) × (made.new ≡ 0) × (held site.new.site ≡ hosting (held_site site.old.site)) }
+    ensures cut { place + count ≤ length (shown (held_site site.old.site).history)
+        → IsCut result (from (held_state site.old.site)) place count (held_reached site.new.site) made.new }
     ensures nothing { place + count ≤ length (shown (held_site site.old.site).history) → count ≡ 0 → result ≡ OK }
 {
     runs::delete_range(site.inner(), place, count, made)
@@ -188,7 +194,9 @@ pub extern "C" fn cotpad_delete_range(
 pub extern "C" fn cotpad_undo(site: &mut CotpadSite, author: u16, number: u32) -> u32
     requires { IsSome site.old.site }
     ensures live { IsSome site.new.site }
-    ensures done { IsName author number → Did result (local_undo (held_state site.old.site) (record { site = author; number = number })) (from (held_state site.old.site)) (held_reached site.new.site) }
+    ensures done { IsName author number
+        → Did result (local_undo (held_state site.old.site) (record { site = author; number = number })) (from (held_state site.old.site))
+        (held_reached site.new.site) }
     ensures no_name { (IsName author number → ⊥) → (result ≡ NO_NAME) × (held site.new.site ≡ hosting (held_site site.old.site)) }
 {
     edits::undo(site.inner(), author, number)
@@ -199,7 +207,9 @@ pub extern "C" fn cotpad_undo(site: &mut CotpadSite, author: u16, number: u32) -
 pub extern "C" fn cotpad_redo(site: &mut CotpadSite, author: u16, number: u32) -> u32
     requires { IsSome site.old.site }
     ensures live { IsSome site.new.site }
-    ensures done { IsName author number → Did result (local_redo (held_state site.old.site) (record { site = author; number = number })) (from (held_state site.old.site)) (held_reached site.new.site) }
+    ensures done { IsName author number
+        → Did result (local_redo (held_state site.old.site) (record { site = author; number = number })) (from (held_state site.old.site))
+        (held_reached site.new.site) }
     ensures no_name { (IsName author number → ⊥) → (result ≡ NO_NAME) × (held site.new.site ≡ hosting (held_site site.old.site)) }
 {
     edits::redo(site.inner(), author, number)
@@ -239,7 +249,8 @@ pub extern "C" fn cotpad_characters(site: &mut CotpadSite) -> u32
 #[unsafe(no_mangle)]
 pub extern "C" fn cotpad_name_at(site: &mut CotpadSite, place: u32, name: &mut CotpadMember) -> u32
     requires { IsSome site.old.site }
-    ensures found { (c : Cell) → slice_get (shown (held_site site.old.site).history) place ≡ Some c → (result ≡ OK) × (name.new ≡ member_told (Original c.0)) }
+    ensures found { (c : Cell) → slice_get (shown (held_site site.old.site).history) place ≡ Some c
+        → (result ≡ OK) × (name.new ≡ member_told (Original c.0)) }
     ensures none { slice_get (shown (held_site site.old.site).history) place ≡ None → (result ≡ NONE) × (name.new ≡ name.old) }
     ensures same { site.new.site ≡ site.old.site }
 {
@@ -272,8 +283,10 @@ pub extern "C" fn cotpad_frame(
     needed: &mut usize,
 ) -> u32
     requires { IsSome site.old.site }
-    ensures wrote { (o : OpData) → slice_get (held_site site.old.site).history index ≡ Some o → (result ≡ NO_MEMORY) ⊎ Wrote result (frame o) out.old out.new needed.new }
-    ensures none { slice_get (held_site site.old.site).history index ≡ None → (result ≡ NONE) × (out.new ≡ out.old) × (needed.new ≡ needed.old) }
+    ensures wrote { (o : OpData) → slice_get (held_site site.old.site).history index ≡ Some o
+        → (result ≡ NO_MEMORY) ⊎ Wrote result (frame o) out.old out.new needed.new }
+    ensures none { slice_get (held_site site.old.site).history index ≡ None
+        → (result ≡ NONE) × (out.new ≡ out.old) × (needed.new ≡ needed.old) }
     ensures err { result ≡ NO_MEMORY → (out.new ≡ out.old) × (needed.new ≡ needed.old) }
     ensures same { site.new.site ≡ site.old.site }
 {
@@ -318,7 +331,8 @@ pub extern "C" fn cotpad_released_at(
     verdict: &mut CotpadVerdict,
 ) -> u32
     requires { IsSome site.old.site }
-    ensures found { (r : Release) → slice_get (held_releases site.old.site) index ≡ Some r → (result ≡ OK) × (verdict.new ≡ of_member r.member r.verdict) }
+    ensures found { (r : Release) → slice_get (held_releases site.old.site) index ≡ Some r
+        → (result ≡ OK) × (verdict.new ≡ of_member r.member r.verdict) }
     ensures none { slice_get (held_releases site.old.site) index ≡ None → (result ≡ NONE) × (verdict.new ≡ verdict.old) }
     ensures same { site.new.site ≡ site.old.site }
 {
@@ -345,7 +359,8 @@ pub extern "C" fn cotpad_release(site: &mut CotpadSite, verdict: &mut CotpadVerd
     ensures live { IsSome site.new.site }
     ensures status { (result ≡ OK) ⊎ (result ≡ NO_MEMORY) ⊎ (result ≡ NONE) }
     ensures answer { result ≢ NO_MEMORY → IsReleased result (released (held_state site.old.site)) verdict.old verdict.new }
-    ensures state { result ≢ NO_MEMORY → held_state site.new.site ≡ after_release (held_state site.old.site) (released (held_state site.old.site)) }
+    ensures state { result ≢ NO_MEMORY
+        → held_state site.new.site ≡ after_release (held_state site.old.site) (released (held_state site.old.site)) }
     ensures quiet { held_releases site.new.site ≡ [] }
     ensures needed { result ≡ NO_MEMORY → IsSomeAnd (released (held_state site.old.site)) (λ r. r.verdict ≡ Integrated) }
     ensures err { result ≡ NO_MEMORY → (held_state site.new.site ≡ held_state site.old.site) × (verdict.new ≡ verdict.old) }
@@ -379,8 +394,13 @@ pub extern "C" fn cotpad_save(
 ) -> u32
     requires { IsSome site.old.site }
     ensures unsettled { (result ≡ UNSETTLED) ↔ (¬ IsSettled (held_state site.old.site)) }
-    ensures long { IsSettled (held_state site.old.site) → MAX_LOG < length (log_of (held_site site.old.site).history (held_site site.old.site).waiting) → (result ≡ NO_MEMORY) ⊎ (result ≡ TOO_LONG) }
-    ensures wrote { IsSettled (held_state site.old.site) → length (log_of (held_site site.old.site).history (held_site site.old.site).waiting) ≤ MAX_LOG → (result ≡ NO_MEMORY) ⊎ Wrote result (log_of (held_site site.old.site).history (held_site site.old.site).waiting) out.old out.new needed.new }
+    ensures long { IsSettled (held_state site.old.site)
+        → MAX_LOG < length (log_of (held_site site.old.site).history (held_site site.old.site).waiting)
+        → (result ≡ NO_MEMORY) ⊎ (result ≡ TOO_LONG) }
+    ensures wrote { IsSettled (held_state site.old.site)
+        → length (log_of (held_site site.old.site).history (held_site site.old.site).waiting) ≤ MAX_LOG
+        → (result ≡ NO_MEMORY) ⊎ Wrote result (log_of (held_site site.old.site).history (held_site site.old.site).waiting) out.old out.new
+        needed.new }
     ensures loads { result ≡ OK → Loads (take needed.new out.new) (held_state site.old.site) }
     ensures err { result ≢ OK → result ≢ TOO_SHORT → (out.new ≡ out.old) × (needed.new ≡ needed.old) }
     ensures same { site.new.site ≡ site.old.site }
@@ -416,7 +436,8 @@ pub extern "C" fn cotpad_exchange_answer(
 ) -> u32
     requires { IsSome site.old.site }
     ensures limit { MAX_MESSAGE < length first.now → (result ≡ TOO_LONG) × (why.new ≡ why.old) }
-    ensures made { IsMade result → Answers (held_site site.old.site).history first.now result out.old out.new needed.new × (why.new ≡ why.old) }
+    ensures made { IsMade result → Answers (held_site site.old.site).history first.now result out.old out.new needed.new
+        × (why.new ≡ why.old) }
     ensures refused { length first.now ≤ MAX_MESSAGE → ¬ IsMade result → IsRefused (IsUnread First first.now) result why.old why.new }
     ensures err { ¬ IsMade result → (out.new ≡ out.old) × (needed.new ≡ needed.old) }
     ensures same { site.new.site ≡ site.old.site }
@@ -439,9 +460,12 @@ pub extern "C" fn cotpad_exchange_close(
 ) -> u32
     requires { IsSome site.old.site }
     ensures live { IsSome site.new.site }
-    ensures limit { MAX_MESSAGE < length second.now → (result ≡ TOO_LONG) × (why.new ≡ why.old) × (held site.new.site ≡ hosting (held_site site.old.site)) }
-    ensures made { IsMade result → Closes (held_state site.old.site) second.now (held_state site.new.site) result out.old out.new needed.new × (why.new ≡ why.old) }
-    ensures refused { length second.now ≤ MAX_MESSAGE → ¬ IsMade result → IsRefused (IsUnclosed (held_state site.old.site) second.now (held_state site.new.site)) result why.old why.new }
+    ensures limit { MAX_MESSAGE < length second.now
+        → (result ≡ TOO_LONG) × (why.new ≡ why.old) × (held site.new.site ≡ hosting (held_site site.old.site)) }
+    ensures made { IsMade result → Closes (held_state site.old.site) second.now (held_state site.new.site) result out.old out.new needed.new
+        × (why.new ≡ why.old) }
+    ensures refused { length second.now ≤ MAX_MESSAGE → ¬ IsMade result
+        → IsRefused (IsUnclosed (held_state site.old.site) second.now (held_state site.new.site)) result why.old why.new }
     ensures later { IsLater (held_state site.old.site) (held_state site.new.site) }
     ensures quiet { held_releases site.new.site ≡ [] }
     ensures err { ¬ IsMade result → (out.new ≡ out.old) × (needed.new ≡ needed.old) }
@@ -459,9 +483,12 @@ pub extern "C" fn cotpad_exchange_finish(
 ) -> u32
     requires { IsSome site.old.site }
     ensures live { IsSome site.new.site }
-    ensures limit { MAX_MESSAGE < length third.now → (result ≡ TOO_LONG) × (why.new ≡ why.old) × (held site.new.site ≡ hosting (held_site site.old.site)) }
-    ensures finished { result ≡ OK → ((count : ℕ) × IsFinished (held_state site.old.site) third.now (held_state site.new.site) count) × (why.new ≡ why.old) }
-    ensures refused { length third.now ≤ MAX_MESSAGE → result ≢ OK → IsRefused (IsUnfinished (held_state site.old.site) third.now (held_state site.new.site)) result why.old why.new }
+    ensures limit { MAX_MESSAGE < length third.now
+        → (result ≡ TOO_LONG) × (why.new ≡ why.old) × (held site.new.site ≡ hosting (held_site site.old.site)) }
+    ensures finished { result ≡ OK → ((count : ℕ) × IsFinished (held_state site.old.site) third.now (held_state site.new.site) count)
+        × (why.new ≡ why.old) }
+    ensures refused { length third.now ≤ MAX_MESSAGE → result ≢ OK
+        → IsRefused (IsUnfinished (held_state site.old.site) third.now (held_state site.new.site)) result why.old why.new }
     ensures later { IsLater (held_state site.old.site) (held_state site.new.site) }
     ensures quiet { held_releases site.new.site ≡ [] }
 {

@@ -121,8 +121,10 @@ impl Hosted {
 
     /// Deletes so many shown characters from a place on, and releases after each; tells how many it deleted.
     pub(crate) fn delete_range(&mut self, place: u32, count: u32, made: &mut u32) -> u32
-        ensures past { length (shown self.old.site.history) < place + count → (result ≡ PLACE_OUT) × (made.new ≡ 0) × (self.new ≡ self.old) }
-        ensures cut { place + count ≤ length (shown self.old.site.history) → IsCut result (reached self.old) place count (reached self.new) made.new }
+        ensures past { length (shown self.old.site.history) < place + count
+            → (result ≡ PLACE_OUT) × (made.new ≡ 0) × (self.new ≡ self.old) }
+        ensures cut { place + count ≤ length (shown self.old.site.history)
+            → IsCut result (reached self.old) place count (reached self.new) made.new }
         ensures nothing { place + count ≤ length (shown self.old.site.history) → count ≡ 0 → result ≡ OK }
     {
         let run = delete_range(&mut self.site, place, count, &mut self.released);

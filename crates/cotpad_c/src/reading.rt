@@ -51,8 +51,10 @@ pub(crate) fn text(alloc: Global, site: &Site, out: &mut [u8], needed: &mut usiz
 /// The log of the site, where it is loaded again.
 pub(crate) fn log(alloc: Global, site: &Site, out: &mut [u8], needed: &mut usize) -> u32
     ensures unsettled { (result ≡ UNSETTLED) ↔ (¬ IsSettled (state_of site.now)) }
-    ensures long { IsSettled (state_of site.now) → MAX_LOG < length (log_of site.now.history site.now.waiting) → (result ≡ NO_MEMORY) ⊎ (result ≡ TOO_LONG) }
-    ensures wrote { IsSettled (state_of site.now) → length (log_of site.now.history site.now.waiting) ≤ MAX_LOG → (result ≡ NO_MEMORY) ⊎ Wrote result (log_of site.now.history site.now.waiting) out.old out.new needed.new }
+    ensures long { IsSettled (state_of site.now) → MAX_LOG < length (log_of site.now.history site.now.waiting)
+        → (result ≡ NO_MEMORY) ⊎ (result ≡ TOO_LONG) }
+    ensures wrote { IsSettled (state_of site.now) → length (log_of site.now.history site.now.waiting) ≤ MAX_LOG
+        → (result ≡ NO_MEMORY) ⊎ Wrote result (log_of site.now.history site.now.waiting) out.old out.new needed.new }
     ensures loads { result ≡ OK → Loads (take needed.new out.new) (state_of site.now) }
     ensures err { result ≢ OK → result ≢ TOO_SHORT → (out.new ≡ out.old) × (needed.new ≡ needed.old) }
 {
@@ -67,7 +69,8 @@ fn settled_log(alloc: Global, site: &Site, out: &mut [u8], needed: &mut usize) -
     requires { IsSettled (state_of site.now) }
     ensures settled { result ≢ UNSETTLED }
     ensures long { MAX_LOG < length (log_of site.now.history site.now.waiting) → (result ≡ NO_MEMORY) ⊎ (result ≡ TOO_LONG) }
-    ensures wrote { length (log_of site.now.history site.now.waiting) ≤ MAX_LOG → (result ≡ NO_MEMORY) ⊎ Wrote result (log_of site.now.history site.now.waiting) out.old out.new needed.new }
+    ensures wrote { length (log_of site.now.history site.now.waiting) ≤ MAX_LOG
+        → (result ≡ NO_MEMORY) ⊎ Wrote result (log_of site.now.history site.now.waiting) out.old out.new needed.new }
     ensures loads { result ≡ OK → Loads (take needed.new out.new) (state_of site.now) }
     ensures err { result ≢ OK → result ≢ TOO_SHORT → (out.new ≡ out.old) × (needed.new ≡ needed.old) }
 {
@@ -109,7 +112,8 @@ pub(crate) fn frame_at(
     out: &mut [u8],
     needed: &mut usize,
 ) -> u32
-    ensures wrote { (o : OpData) → slice_get site.now.history index ≡ Some o → (result ≡ NO_MEMORY) ⊎ Wrote result (frame o) out.old out.new needed.new }
+    ensures wrote { (o : OpData) → slice_get site.now.history index ≡ Some o
+        → (result ≡ NO_MEMORY) ⊎ Wrote result (frame o) out.old out.new needed.new }
     ensures none { slice_get site.now.history index ≡ None → (result ≡ NONE) × (out.new ≡ out.old) × (needed.new ≡ needed.old) }
     ensures err { result ≡ NO_MEMORY → (out.new ≡ out.old) × (needed.new ≡ needed.old) }
 {
@@ -139,7 +143,8 @@ pub(crate) fn operation_at(site: &Site, index: u32, operation: &mut CotpadOperat
 
 /// The insert by which the character at this place stands there, from 0.
 pub(crate) fn name_at(site: &Site, place: u32, name: &mut CotpadMember) -> u32
-    ensures found { (c : Cell) → slice_get (shown site.now.history) place ≡ Some c → (result ≡ OK) × (name.new ≡ member_told (Original c.0)) }
+    ensures found { (c : Cell) → slice_get (shown site.now.history) place ≡ Some c
+        → (result ≡ OK) × (name.new ≡ member_told (Original c.0)) }
     ensures none { slice_get (shown site.now.history) place ≡ None → (result ≡ NONE) × (name.new ≡ name.old) }
 {
     match site.name_at(place) {

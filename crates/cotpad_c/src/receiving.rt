@@ -62,7 +62,8 @@ pub(crate) fn receive(
 fn deliver(hosted: &mut Hosted, op: &mut Op, used: u32, verdict: &mut CotpadVerdict) -> u32
     requires { IsWellFormed (data_of op.old) }
     ensures status { (result ≡ OK) ⊎ (result ≡ UNSETTLED) ⊎ (result ≡ NO_MEMORY) }
-    ensures verdict { result ≢ NO_MEMORY → verdict.new ≡ told (operation_told (data_of op.old)) used (judged (state_of hosted.old.site) (data_of op.old)) }
+    ensures verdict { result ≢ NO_MEMORY
+        → verdict.new ≡ told (operation_told (data_of op.old)) used (judged (state_of hosted.old.site) (data_of op.old)) }
     ensures done { result ≡ OK → reached hosted.new ≡ taken_in All (reached hosted.old) (data_of op.old) }
     ensures unsettled { result ≡ UNSETTLED → IsHalfSettled (with_delivered (reached hosted.old) (data_of op.old)) (reached hosted.new) }
     ensures err { result ≡ NO_MEMORY → (reached hosted.new ≡ reached hosted.old) × (verdict.new ≡ verdict.old) }
@@ -96,7 +97,8 @@ pub(crate) fn settle(hosted: &mut Hosted) -> u32
 pub(crate) fn release(hosted: &mut Hosted, verdict: &mut CotpadVerdict) -> u32
     ensures status { (result ≡ OK) ⊎ (result ≡ NO_MEMORY) ⊎ (result ≡ NONE) }
     ensures answer { result ≢ NO_MEMORY → IsReleased result (released (state_of hosted.old.site)) verdict.old verdict.new }
-    ensures state { result ≢ NO_MEMORY → state_of hosted.new.site ≡ after_release (state_of hosted.old.site) (released (state_of hosted.old.site)) }
+    ensures state { result ≢ NO_MEMORY
+        → state_of hosted.new.site ≡ after_release (state_of hosted.old.site) (released (state_of hosted.old.site)) }
     ensures quiet { hosted.new.released ≡ [] }
     ensures needed { result ≡ NO_MEMORY → IsSomeAnd (released (state_of hosted.old.site)) (λ r. r.verdict ≡ Integrated) }
     ensures err { result ≡ NO_MEMORY → (state_of hosted.new.site ≡ state_of hosted.old.site) × (verdict.new ≡ verdict.old) }
@@ -121,7 +123,8 @@ pub(crate) fn released(hosted: &Hosted) -> u32
 
 /// Tells the release at this index.
 pub(crate) fn released_at(hosted: &Hosted, index: u32, verdict: &mut CotpadVerdict) -> u32
-    ensures found { (r : Release) → slice_get hosted.now.released index ≡ Some r → (result ≡ OK) × (verdict.new ≡ of_member r.member r.verdict) }
+    ensures found { (r : Release) → slice_get hosted.now.released index ≡ Some r
+        → (result ≡ OK) × (verdict.new ≡ of_member r.member r.verdict) }
     ensures none { slice_get hosted.now.released index ≡ None → (result ≡ NONE) × (verdict.new ≡ verdict.old) }
 {
     match hosted.released().get(index as usize) {

@@ -15,8 +15,10 @@ use crate::status;
 /// Inserts the characters of a text after so many shown ones, and answers how many it inserted.
 pub(crate) fn insert_text(hosted: &mut Hosted, place: u32, bytes: &[u8], made: &mut u32) -> u32
     ensures no_text { ¬ IsUtf8 bytes.now → (result ≡ NO_CHARACTER) × (made.new ≡ 0) × (hosted.new ≡ hosting hosted.old.site) }
-    ensures past { IsUtf8 bytes.now → length (shown hosted.old.site.history) < place → (result ≡ PLACE_OUT) × (made.new ≡ 0) × (hosted.new ≡ hosting hosted.old.site) }
-    ensures typed { IsUtf8 bytes.now → place ≤ length (shown hosted.old.site.history) → IsTyped result (from (state_of hosted.old.site)) place (chars bytes.now) (reached hosted.new) made.new }
+    ensures past { IsUtf8 bytes.now → length (shown hosted.old.site.history) < place
+        → (result ≡ PLACE_OUT) × (made.new ≡ 0) × (hosted.new ≡ hosting hosted.old.site) }
+    ensures typed { IsUtf8 bytes.now → place ≤ length (shown hosted.old.site.history)
+        → IsTyped result (from (state_of hosted.old.site)) place (chars bytes.now) (reached hosted.new) made.new }
     ensures nothing { IsUtf8 bytes.now → place ≤ length (shown hosted.old.site.history) → chars bytes.now ≡ [] → result ≡ OK }
 {
     *made = 0;
@@ -33,8 +35,10 @@ pub(crate) fn insert_text(hosted: &mut Hosted, place: u32, bytes: &[u8], made: &
 
 /// Deletes so many shown characters from a place on, and answers how many it deleted.
 pub(crate) fn delete_range(hosted: &mut Hosted, place: u32, count: u32, made: &mut u32) -> u32
-    ensures past { length (shown hosted.old.site.history) < place + count → (result ≡ PLACE_OUT) × (made.new ≡ 0) × (hosted.new ≡ hosting hosted.old.site) }
-    ensures cut { place + count ≤ length (shown hosted.old.site.history) → IsCut result (from (state_of hosted.old.site)) place count (reached hosted.new) made.new }
+    ensures past { length (shown hosted.old.site.history) < place + count
+        → (result ≡ PLACE_OUT) × (made.new ≡ 0) × (hosted.new ≡ hosting hosted.old.site) }
+    ensures cut { place + count ≤ length (shown hosted.old.site.history)
+        → IsCut result (from (state_of hosted.old.site)) place count (reached hosted.new) made.new }
     ensures nothing { place + count ≤ length (shown hosted.old.site.history) → count ≡ 0 → result ≡ OK }
 {
     hosted.forget();

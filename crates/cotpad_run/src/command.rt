@@ -270,7 +270,8 @@ fn dashed_help_of(parts: &[String]) -> Option<Command<'_>>
 
 // The first word and the others, if there is one.
 fn first(words: &[String]) -> Option<(&str, &[String])>
-    ensures { MatchOption result (first_in (map string_bytes words.now) ≡ None) (λ p. first_in (map string_bytes words.now) ≡ Some (p.0.now, map string_bytes p.1.now)) }
+    ensures { MatchOption result (first_in (map string_bytes words.now) ≡ None)
+        (λ p. first_in (map string_bytes words.now) ≡ Some (p.0.now, map string_bytes p.1.now)) }
 {
     let (word, others) = words.split_first()?;
     Some((word.as_str(), others))

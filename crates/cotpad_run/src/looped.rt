@@ -80,9 +80,11 @@ fn exchange_twice<W: Wire>(
     wire: &mut W,
 ) -> Result<((u32, u32), (u32, u32)), Node>
     requires { IsUnlinked (W.ends wire.old) }
-    ensures looped { IfOk result (λ counts. AreBothLooped (state_of server.old) (state_of server.new) (state_of joiner.old) (state_of joiner.new)
+    ensures looped { IfOk result (λ counts.
+        AreBothLooped (state_of server.old) (state_of server.new) (state_of joiner.old) (state_of joiner.new)
         counts.0 counts.1 (W.ends wire.old) (W.ends wire.new)) }
-    ensures stopped { IfErr result (λ why. IsLeftAfter (state_of server.old) (state_of server.new) (state_of joiner.old) (state_of joiner.new)
+    ensures stopped { IfErr result (λ why.
+        IsLeftAfter (state_of server.old) (state_of server.new) (state_of joiner.old) (state_of joiner.new)
         why (W.ends wire.old) (W.ends wire.new)) }
     ensures cause { OnlyLinkFails (W.faults wire.old) (W.faults wire.new) result }
 
@@ -139,7 +141,8 @@ fn put_summary(
     joiner: &Site,
     out: &mut Vec<u8>,
 ) -> Result<(), Memory>
-    ensures { OnOk result (out.new.items ≡ out.old.items ++ loop_text once twice (alike (state_of server.now) (state_of server.now ∷ state_of joiner.now ∷ []))) }
+    ensures { OnOk result (out.new.items ≡ out.old.items
+        ++ loop_text once twice (alike (state_of server.now) (state_of server.now ∷ state_of joiner.now ∷ []))) }
 {
     put_joined(once, out)?;
     put_joined(twice, out)?;

@@ -32,7 +32,8 @@ pub fn load_input<S: Source>(
     requires { site < SITES }
     ensures loaded { IfOk result (λ r. IfSome r (λ s. IfSome (S.left source.old) (λ bytes. IsLoadedAs site bytes (state_of s)))) }
     ensures same { IfOk result (λ r. IfSome r (λ s. out.new.items ≡ out.old.items)) }
-    ensures refused { IfOk result (λ r. IfNone r (IfSome (S.left source.old) (λ bytes. IsRefusedInto site bytes out.old.items out.new.items))) }
+    ensures refused { IfOk result (λ r.
+        IfNone r (IfSome (S.left source.old) (λ bytes. IsRefusedInto site bytes out.old.items out.new.items))) }
     ensures ended { IfOk result (λ r. IfSome r (λ s. IsAtEnd (S.left source.new))) }
     // Read to the end, or to one byte past the limit.
     ensures rest { OnOk result (IfSome (S.left source.old) (λ bytes. S.left source.new ≡ Some (drop (MAX_INPUT + 1) bytes))) }

@@ -77,8 +77,10 @@ fn first(alloc: Global, bytes: &[u8]) -> Result<Option<(Op, u32)>, Memory>
 pub(crate) fn take_frames(alloc: Global, site: &mut Site, bytes: &[u8]) -> Result<u32, Peer>
     requires frames { (os : List OpData) × IsThird bytes.now os }
     requires short { length bytes.now ≤ MAX_MESSAGE }
-    ensures taken { IfOk result (λ n. (os : List OpData) × IsThird bytes.now os × (n ≡ length os) × (taken_in (state_of site.old) os ≡ Ok (state_of site.new))) }
-    ensures untaken { IfErr result (λ why. (os : List OpData) × IsThird bytes.now os × AreUntaken (state_of site.old) os (state_of site.new) why) }
+    ensures taken { IfOk result (λ n. (os : List OpData) × IsThird bytes.now os × (n ≡ length os)
+        × (taken_in (state_of site.old) os ≡ Ok (state_of site.new))) }
+    ensures untaken { IfErr result (λ why. (os : List OpData) × IsThird bytes.now os
+        × AreUntaken (state_of site.old) os (state_of site.new) why) }
     ensures needed { OnErr result (HasFrame bytes.now) }
 {
     let mut room = Vec::new(alloc);

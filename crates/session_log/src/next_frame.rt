@@ -25,7 +25,8 @@ pub(crate) fn take_frames(
     requires counted { IsCounted fed frames.old }
     requires header { length header ≤ fed }
     requires limit { fed ≤ MAX_LOG }
-    ensures ends { (site : ℕ) (all : List ℕ) → fed ≡ length all → HasTaken site all frames.old.left (state_of taking.old.site) taking.old.refused
+    ensures ends { (site : ℕ) (all : List ℕ) → fed ≡ length all
+        → HasTaken site all frames.old.left (state_of taking.old.site) taking.old.refused
         → IfOk result (Ends site all frames.new.left (state_of taking.new.site) taking.new.refused) }
     ensures counted { IsCounted fed frames.new }
 {

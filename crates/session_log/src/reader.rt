@@ -175,7 +175,8 @@ fn read_piece(
 ) -> Result<Option<LogBad>, Memory>
     requires limit { before + length piece.now ≤ MAX_LOG }
     requires counted { IsCounted before frames.old }
-    ensures keeps { (site : ℕ) (all : List ℕ) → Keeps (reader_of site before frames.old.left (state_of taking.old.site) taking.old.refused None false) all
+    ensures keeps { (site : ℕ) (all : List ℕ)
+        → Keeps (reader_of site before frames.old.left (state_of taking.old.site) taking.old.refused None false) all
         → IfOk result (λ why. Keeps (reader_of site (before + length piece.now) frames.new.left (state_of taking.new.site) taking.new.refused why false) (all ++ piece.now)) }
     ensures counted { IfOk result (λ why. why ≡ None → IsCounted (before + length piece.now) frames.new) }
     ensures needed { OnErr result (GoesPastHeader before piece.now) }

@@ -41,7 +41,8 @@ impl Taking {
     /// Takes in the operation, unless one was refused before, which takes no memory; the first refusal is kept.
     pub(crate) fn take(&mut self, placed: Placed) -> Result<(), Memory>
         requires { IsWellFormed (data_of placed.op) }
-        ensures takes { OnOk result (TakesIn (state_of self.old.site) self.old.refused placed.offset (data_of placed.op) (state_of self.new.site) self.new.refused) }
+        ensures takes { OnOk result (TakesIn (state_of self.old.site) self.old.refused placed.offset (data_of placed.op)
+            (state_of self.new.site) self.new.refused) }
         ensures needed { OnErr result (self.old.refused ≡ None) }
     {
         if self.refused.is_some() {
@@ -55,7 +56,8 @@ impl Taking {
     fn take_next(&mut self, placed: Placed) -> Result<(), Memory>
         requires formed { IsWellFormed (data_of placed.op) }
         requires first { self.old.refused ≡ None }
-        ensures { OnOk result (TakesIn (state_of self.old.site) None placed.offset (data_of placed.op) (state_of self.new.site) self.new.refused) }
+        ensures { OnOk result (TakesIn (state_of self.old.site) None placed.offset (data_of placed.op) (state_of self.new.site)
+            self.new.refused) }
     {
         let Placed { offset, op } = placed;
         let taken = take_in(&mut self.site, offset, op, &mut self.released);

@@ -42,8 +42,10 @@ pub fn generate(
     requires events { events ≤ MAX_EVENTS }
     requires window { (1 ≤ window) × (window ≤ MAX_WINDOW) }
     requires sites { (1 ≤ sites) × (sites ≤ MAX_SITES) }
-    ensures sites { IfOk result (λ g. g.sites ≡ (generated (record { start = start; events = events; window = window; sites = sites; syncs = syncs })).sites) }
-    ensures counts { IfOk result (λ g. g.counts ≡ counts_of (generated (record { start = start; events = events; window = window; sites = sites; syncs = syncs })).messages) }
+    ensures sites { IfOk result (λ g. g.sites
+        ≡ (generated (record { start = start; events = events; window = window; sites = sites; syncs = syncs })).sites) }
+    ensures counts { IfOk result (λ g. g.counts
+        ≡ counts_of (generated (record { start = start; events = events; window = window; sites = sites; syncs = syncs })).messages) }
     ensures number { IfOk result (λ g. length g.sites ≡ sites) }
     ensures counted { IfOk result (λ g. all_counted g.counts ≡ events) }
     ensures quiet { IfOk result (λ g. NothingWaits g.sites) }

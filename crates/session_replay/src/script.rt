@@ -111,9 +111,11 @@ impl ScriptReader {
     /// has a step or is refused, `out` is as it was. After either nothing is said of the reader.
     pub fn advance(&mut self, out: &mut Vec<u8>) -> Result<Next, Memory>
         requires { KeepsSome self.old }
-        ensures done { result ≡ Ok Next.Done → (all before : List ℕ) → Keeps self.old all (before ++ out.old.items) → Keeps self.new all (before ++ out.new.items) }
+        ensures done { result ≡ Ok Next.Done → (all before : List ℕ) → Keeps self.old all (before ++ out.old.items)
+            → Keeps self.new all (before ++ out.new.items) }
         ensures fewer { result ≡ Ok Next.Done → length self.new.input.lines < length self.old.input.lines }
-        ensures awaited { result ≡ Ok Next.Awaited → (all before : List ℕ) → Keeps self.old all (before ++ out.old.items) → Awaits self.new all (before ++ out.new.items) }
+        ensures awaited { result ≡ Ok Next.Awaited → (all before : List ℕ) → Keeps self.old all (before ++ out.old.items)
+            → Awaits self.new all (before ++ out.new.items) }
         ensures refused { result ≡ Ok Next.Refused → (all before : List ℕ) → Keeps self.old all (before ++ out.old.items)
             → (more : List ℕ) → script_report (all ++ more) ≡ record { written = before ++ out.new.items; refused = true } }
         ensures err { OnErr result (out.new.items ≡ out.old.items) }

@@ -37,7 +37,8 @@ fn send_on<W: Wire>(
     requires within { at ≤ length bytes.now }
     requires under_way { at ≤ read + UNDER_WAY }
 
-    ensures sends { IfOk result (SendsOn (W.ends wire.old from) (W.ends wire.new from) (W.ends wire.old (1 - from)) (W.ends wire.new (1 - from)) bytes.now at) }
+    ensures sends { IfOk result (SendsOn (W.ends wire.old from) (W.ends wire.new from) (W.ends wire.old (1 - from))
+        (W.ends wire.new (1 - from)) bytes.now at) }
     ensures some { IfOk result (λ next. (next ≤ length bytes.now) × (at ≤ next) × (read ≡ at → next ≡ at → at ≡ length bytes.now)) }
     ensures under_way { IfOk result (λ next. next ≤ read + UNDER_WAY) }
     ensures front { OnErr result (WritesFront (W.ends wire.old from).sent (W.ends wire.new from).sent (drop at bytes.now)) }
@@ -81,7 +82,9 @@ pub(crate) fn carry<W: Wire>(
     ensures carried { IfOk result (λ m. IsCarried (W.ends wire.old (1 - from)) (W.ends wire.new (1 - from)) which bytes.now m.items) }
     ensures wanted { IfOk result (λ m. AreAskedFor which m.items) }
     ensures sent { OnOk result (Appends (W.ends wire.old from).sent (W.ends wire.new from).sent bytes.now) }
-    ensures uncarried { IfErr result (IsUncarried (W.ends wire.old from) (W.ends wire.new from) (W.ends wire.old (1 - from)) (W.ends wire.new (1 - from)) which bytes.now) }
+    ensures uncarried { IfErr result
+        (IsUncarried (W.ends wire.old from) (W.ends wire.new from) (W.ends wire.old (1 - from)) (W.ends wire.new (1 - from)) which
+        bytes.now) }
 
     ensures received { (W.ends wire.new from).received ≡ (W.ends wire.old from).received }
     ensures to_come { (W.ends wire.new from).to_come ≡ (W.ends wire.old from).to_come }
@@ -114,10 +117,12 @@ fn carry_on<W: Wire>(
 
     ensures whole { OnOk result (measure_of reader.old.which reader.new.bytes ≡ Measure.Whole (length reader.new.bytes)) }
     ensures short { OnOk result (length reader.new.bytes ≤ MAX_MESSAGE) }
-    ensures carried { OnOk result (IsCarried (W.ends wire.old (1 - from)) (W.ends wire.new (1 - from)) reader.old.which bytes.now reader.new.bytes) }
+    ensures carried { OnOk result (IsCarried (W.ends wire.old (1 - from)) (W.ends wire.new (1 - from)) reader.old.which bytes.now
+        reader.new.bytes) }
     ensures wanted { OnOk result (AreAskedFor reader.old.which reader.new.bytes) }
     ensures sent { OnOk result (Appends (W.ends wire.old from).sent (W.ends wire.new from).sent bytes.now) }
-    ensures uncarried { IfErr result (IsUncarried (W.ends wire.old from) (W.ends wire.new from) (W.ends wire.old (1 - from)) (W.ends wire.new (1 - from))
+    ensures uncarried { IfErr result
+        (IsUncarried (W.ends wire.old from) (W.ends wire.new from) (W.ends wire.old (1 - from)) (W.ends wire.new (1 - from))
         reader.old.which bytes.now) }
 
     ensures received { (W.ends wire.new from).received ≡ (W.ends wire.old from).received }

@@ -30,9 +30,11 @@ pub fn loop_run<W: Wire>(
 ) -> Result<(u32, u32), Node>
     requires { IsUnlinked (W.ends wire.old) }
 
-    ensures exchanged { IfOk result (λ counts. IsLooped (state_of server.old) (state_of server.new) (state_of joiner.old) (state_of joiner.new) counts
+    ensures exchanged { IfOk result
+        (λ counts. IsLooped (state_of server.old) (state_of server.new) (state_of joiner.old) (state_of joiner.new) counts
         (W.ends wire.old) (W.ends wire.new)) }
-    ensures stopped { IfErr result (λ why. IsUnlooped (state_of server.old) (state_of server.new) (state_of joiner.old) (state_of joiner.new) why
+    ensures stopped { IfErr result (λ why.
+        IsUnlooped (state_of server.old) (state_of server.new) (state_of joiner.old) (state_of joiner.new) why
         (W.ends wire.old) (W.ends wire.new)) }
     ensures server_later { IsLater (state_of server.old) (state_of server.new) }
     ensures joiner_later { IsLater (state_of joiner.old) (state_of joiner.new) }
@@ -67,9 +69,11 @@ fn exchange<W: Wire>(
     requires nothing { ((W.ends wire.old 0).to_come ≡ nothing_of (W.ends wire.old 0).to_come)
         × ((W.ends wire.old 1).to_come ≡ nothing_of (W.ends wire.old 1).to_come) }
 
-    ensures exchanged { IfOk result (λ counts. IsLooped (state_of server.old) (state_of server.new) (state_of joiner.old) (state_of joiner.new) counts
+    ensures exchanged { IfOk result
+        (λ counts. IsLooped (state_of server.old) (state_of server.new) (state_of joiner.old) (state_of joiner.new) counts
         (W.ends wire.old) (W.ends wire.new)) }
-    ensures stopped { IfErr result (λ why. IsUnlooped (state_of server.old) (state_of server.new) (state_of joiner.old) (state_of joiner.new) why
+    ensures stopped { IfErr result (λ why.
+        IsUnlooped (state_of server.old) (state_of server.new) (state_of joiner.old) (state_of joiner.new) why
         (W.ends wire.old) (W.ends wire.new)) }
     ensures server_later { IsLater (state_of server.old) (state_of server.new) }
     ensures joiner_later { IsLater (state_of joiner.old) (state_of joiner.new) }

@@ -18,7 +18,8 @@ impl Sites {
     // Delivers the message of this number to the site.
     pub(super) fn give(&mut self, at: usize, message: u32, out: &mut Vec<u8>) -> Result<(), StepBad>
         requires { at < length self.old.sites }
-        ensures { IsLineDone (given_message at (slice_get self.old.messages message) self.old) result self.old self.new out.old.items out.new.items }
+        ensures { IsLineDone (given_message at (slice_get self.old.messages message) self.old) result self.old self.new out.old.items
+            out.new.items }
     {
         if (message as usize) < self.messages.len() {
             match self.deliver_message(at, false, message as usize, out) {
@@ -66,7 +67,8 @@ impl Sites {
     ) -> Result<(), Memory>
         requires site { at < length self.old.sites }
         requires message { message < length self.old.messages }
-        ensures done { (o : OpData) → slice_get self.old.messages message ≡ Some o → AreDone result (given many at o self.old) self.old self.new out.old.items out.new.items }
+        ensures done { (o : OpData) → slice_get self.old.messages message ≡ Some o
+            → AreDone result (given many at o self.old) self.old self.new out.old.items out.new.items }
         ensures sites { length self.new.sites ≡ length self.old.sites }
         ensures messages { self.new.messages ≡ self.old.messages }
     {

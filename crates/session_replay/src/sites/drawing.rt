@@ -22,7 +22,8 @@ impl Sites {
     // Does at the site what was drawn for it.
     pub(crate) fn act(&mut self, at: usize, draw: Draw, out: &mut Vec<u8>) -> Result<(), Memory>
         requires { at < length self.old.sites }
-        ensures done { AreDone result (commanded at (drawn_operation (site_at self.old at) draw) self.old) self.old self.new out.old.items out.new.items }
+        ensures done { AreDone result (commanded at (drawn_operation (site_at self.old at) draw) self.old) self.old self.new out.old.items
+            out.new.items }
         ensures sites { length self.new.sites ≡ length self.old.sites }
     {
         let edit = drawn_edit(&self.sites[at], draw);
