@@ -20,6 +20,7 @@ pub mod OneThing
 pub mod Exchanging
 pub mod Again
 pub mod GoingOn
+pub mod ClosingAgain
 pub mod Faults
 pub mod Stable
 pub mod Sent

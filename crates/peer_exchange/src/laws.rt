@@ -3,6 +3,7 @@
 ghost use Rattle.peer_exchange.specs.Joins.{JoinsAreValid, LackedOperationsAreNext, EqualMembersAreAlike, BothSidesAreJoined, JoinsCommute, JoinsAssociate, JoinsAreIdempotent, AnyExchangesMeet};
 ghost use Rattle.peer_exchange.specs.Taking.{NextOperationsAreTaken, BothSidesTakeAll, NewOperationsAreAppended, UnrefusedExchangesJoin, TakingInKeepsHistories, LackedOperationsAreTaken};
 ghost use Rattle.peer_exchange.specs.GoingOn.{GoingOnAfterMemory};
+ghost use Rattle.peer_exchange.specs.Again.{ClosingAgainChangesNothing, ClosingLaterChangesNothing};
 ghost use Rattle.peer_exchange.specs.Exchanges.{MessagesAreWhole, MessagesTellOneThing, UnrefusedCallsJoin, AgreeingSitesMeet, AgreeingSitesAreNotRefused, SecondExchangesAreEmpty};
 ghost use Rattle.peer_exchange.specs.Lengths.{ShortHistoriesHaveShortMessages};
 
@@ -119,4 +120,15 @@ pub fn short_histories_have_short_messages()
 /// writes what it would have at first.
 pub fn going_on_after_memory()
     ensures { GoingOnAfterMemory }
+{}
+
+/// After a `close` or a `finish` that answered, the same call with the same message leaves the site as it is. It is refused only
+/// out of memory, and else answers and writes the same.
+pub fn closing_again_changes_nothing()
+    ensures { ClosingAgainChangesNothing }
+{}
+
+/// Nor does it change any later state of the site at which nothing is ready.
+pub fn closing_later_changes_nothing()
+    ensures { ClosingLaterChangesNothing }
 {}
