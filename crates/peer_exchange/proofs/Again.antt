@@ -119,7 +119,8 @@ repeat_first t o os is =
     let same : delivered t o ≡ t = ap (λ (x : Verdict). after_verdict x o t) is in
     taken_first t o os (ap is_had is) ∙ ap (λ (y : State). taken_in (settled y) os) same
 
-pub repeats_pass : (u : State) (xs os : List OpData) → IsSound u → IsSettled u → AllFormed xs → ((o : OpData) → Contains xs o → Has u.history o)
+pub repeats_pass : (u : State) (xs os : List OpData) → IsSound u → IsSettled u → AllFormed xs
+    → ((o : OpData) → Contains xs o → Has u.history o)
     → taken_in u (xs ++ os) ≡ taken_in u os
 repeats_pass u [] os sound settles formed has = refl
 repeats_pass u (o ∷ xs) os sound settles formed has =

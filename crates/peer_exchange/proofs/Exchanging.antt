@@ -41,7 +41,7 @@ use Rattle.peer_exchange.proofs.OneThing.{history_is_state, first_of, messages_t
 
 -- ---- what the messages have
 
-formed_unseen : (k : Member → Bool) (h : List OpData) → IsValid h → AllFormed (unseen k h)
+pub formed_unseen : (k : Member → Bool) (h : List OpData) → IsValid h → AllFormed (unseen k h)
 formed_unseen k h v o at = (complete h v).formed o (unseen_contains k h o at)
 
 -- the server's answer tells its own state, and has what the joiner lacks

@@ -4,6 +4,7 @@ ghost use Rattle.peer_exchange.specs.Joins.{JoinsAreValid, LackedOperationsAreNe
 ghost use Rattle.peer_exchange.specs.Taking.{NextOperationsAreTaken, BothSidesTakeAll, NewOperationsAreAppended, UnrefusedExchangesJoin, TakingInKeepsHistories, LackedOperationsAreTaken};
 ghost use Rattle.peer_exchange.specs.GoingOn.{GoingOnAfterMemory};
 ghost use Rattle.peer_exchange.specs.Again.{ClosingAgainChangesNothing, ClosingLaterChangesNothing};
+ghost use Rattle.peer_exchange.specs.Gaining.{TakingInGains, EditingMeanwhileLosesNothing};
 ghost use Rattle.peer_exchange.specs.Exchanges.{MessagesAreWhole, MessagesTellOneThing, UnrefusedCallsJoin, AgreeingSitesMeet, AgreeingSitesAreNotRefused, SecondExchangesAreEmpty};
 ghost use Rattle.peer_exchange.specs.Lengths.{ShortHistoriesHaveShortMessages};
 
@@ -131,4 +132,16 @@ pub fn closing_again_changes_nothing()
 /// Nor does it change any later state of the site at which nothing is ready.
 pub fn closing_later_changes_nothing()
     ensures { ClosingLaterChangesNothing }
+{}
+
+/// Also where operations wait, a site that took in a message keeps its history, and has each operation of the message; whatever else
+/// is new there waited before.
+pub fn taking_in_gains()
+    ensures { TakingInGains }
+{}
+
+/// Where both sides go on editing during an exchange, the joiner gets what the server had when it answered, the server all that the
+/// joiner has after it closed, and each keeps what it did meanwhile.
+pub fn editing_meanwhile_loses_nothing()
+    ensures { EditingMeanwhileLosesNothing }
 {}
