@@ -33,7 +33,7 @@ pub record Side : Type 0 where
   pub took : State
   pub after : State
 
--- it went on meanwhile
+-- it is sound, and went on between the two
 pub record IsSide (x : Side) : Type 0 where
   pub told : IsSound x.told
   pub took : IsSound x.took
@@ -59,5 +59,6 @@ pub record HaveGained (server joiner : Side) (x : Talk) : Type 0 where
   pub at_joiner : x.joiner_took ≡ x.server_sent
   pub at_server : x.server_took ≡ x.joiner_sent
 
+-- so it is after any exchange, whether operations wait or not, and whether the two agree or not
 abbrev pub EditingMeanwhileLosesNothing : Type 0
 EditingMeanwhileLosesNothing = (server joiner : Side) (x : Talk) → IsExchangeMeanwhile server joiner x → HaveGained server joiner x

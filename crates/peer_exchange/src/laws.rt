@@ -129,7 +129,7 @@ pub fn closing_again_changes_nothing()
     ensures { ClosingAgainChangesNothing }
 {}
 
-/// Nor does it change any later state of the site at which nothing is ready.
+/// Nor does the same message change any later state of the site at which nothing is ready.
 pub fn closing_later_changes_nothing()
     ensures { ClosingLaterChangesNothing }
 {}
