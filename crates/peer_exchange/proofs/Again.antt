@@ -28,9 +28,9 @@ use Rattle.peer_exchange.proofs.Receivings.{taken_append}
 -- ---- what a site has is a repeat
 
 -- the operation's member is known, and an original is known with this content
-record Has (h : List OpData) (o : OpData) : Type 0 where
-  known : is_known h (member_of o) ≡ true
-  same : (n : NameData) → member_of o ≡ Original n → Contains h o
+pub record Has (h : List OpData) (o : OpData) : Type 0 where
+  pub known : is_known h (member_of o) ≡ true
+  pub same : (n : NameData) → member_of o ≡ Original n → Contains h o
 
 repeat_of : (h : List OpData) (o : OpData) → IsValid h → Has h o → IsRepeat h o
 repeat_of h (inserting n p ch c) valid has = has.same n refl
@@ -51,13 +51,13 @@ has_of h o valid formed is = record {
   same = λ n named. same_of h o n is named;
 }
 
-has_on : (s t : State) (o : OpData) → IsLater s t → Has s.history o → Has t.history o
+pub has_on : (s t : State) (o : OpData) → IsLater s t → Has s.history o → Has t.history o
 has_on s t o later has = record {
   known = known_later s t later (member_of o) has.known;
   same = λ n named. has_later s t later o (has.same n named);
 }
 
-judged_repeat : (t : State) (o : OpData) → IsSound t → IsWellFormed o → Has t.history o → judged t o ≡ Repeat
+pub judged_repeat : (t : State) (o : OpData) → IsSound t → IsWellFormed o → Has t.history o → judged t o ≡ Repeat
 judged_repeat t o sound formed has =
     sym ((verdicts_exact t.history t.waiting o Repeat sound.history formed).0 (repeat_of t.history o sound.history has))
 
@@ -80,7 +80,7 @@ had_has s o sound formed had = elim (had_cases (judged s o) had) [
 all_behind : (o : OpData) (os : List OpData) → AllFormed (o ∷ os) → AllFormed os
 all_behind o os formed p at = formed p (contains_later o os p at)
 
-taken_has : (s t : State) (os : List OpData) → IsSound s → AllFormed os → taken_in s os ≡ Ok t → (o : OpData) → Contains os o
+pub taken_has : (s t : State) (os : List OpData) → IsSound s → AllFormed os → taken_in s os ≡ Ok t → (o : OpData) → Contains os o
     → Has t.history o
 taken_has s t [] sound formed e o at = absurd (contains_none o at)
 taken_has s t (p ∷ os) sound formed e o at =
@@ -105,6 +105,13 @@ taken_settled s t (o ∷ os) sound formed settles e =
     taken_settled (settled (delivered s o)) t os (later_settled s o sound fine).0 (all_behind o os formed)
     (settled_settles (delivered s o) (sound_delivered s o sound fine)) first.1
 
+-- whatever was ready before
+pub some_settle : (s t : State) (o : OpData) (os : List OpData) → IsSound s → AllFormed (o ∷ os) → taken_in s (o ∷ os) ≡ Ok t → IsSettled t
+some_settle s t o os sound formed e =
+    let fine = formed o (contains_here o os) in
+    taken_settled (settled (delivered s o)) t os (later_settled s o sound fine).0 (all_behind o os formed)
+    (settled_settles (delivered s o) (sound_delivered s o sound fine)) (first_taken s t o os e).1
+
 -- ---- repeats once more
 
 repeat_first : (t : State) (o : OpData) (os : List OpData) → judged t o ≡ Repeat → taken_in t (o ∷ os) ≡ taken_in (settled t) os
@@ -112,7 +119,8 @@ repeat_first t o os is =
     let same : delivered t o ≡ t = ap (λ (x : Verdict). after_verdict x o t) is in
     taken_first t o os (ap is_had is) ∙ ap (λ (y : State). taken_in (settled y) os) same
 
-repeats_pass : (u : State) (xs os : List OpData) → IsSound u → IsSettled u → AllFormed xs → ((o : OpData) → Contains xs o → Has u.history o)
+pub repeats_pass : (u : State) (xs os : List OpData) → IsSound u → IsSettled u → AllFormed xs
+    → ((o : OpData) → Contains xs o → Has u.history o)
     → taken_in u (xs ++ os) ≡ taken_in u os
 repeats_pass u [] os sound settles formed has = refl
 repeats_pass u (o ∷ xs) os sound settles formed has =
@@ -187,16 +195,13 @@ left_settles d done left sound parts =
 -- ---- on the way
 
 -- some operations were taken in, and no more
-taken_again : (s at : State) (before behind : List OpData) → IsSound s → AllFormed before → taken_in s before ≡ Ok at
+pub taken_again : (s at : State) (before behind : List OpData) → IsSound s → AllFormed before → taken_in s before ≡ Ok at
     → taken_in at (before ++ behind) ≡ taken_in at behind
 taken_again s at [] behind sound formed e = refl
 taken_again s at (o ∷ before) behind sound formed e =
-    let fine = formed o (contains_here o before) in
     let later = taking_in_keeps_histories s at (o ∷ before) sound formed e in
-    let first = first_taken s at o before e in
-    let settles = taken_settled (settled (delivered s o)) at before (later_settled s o sound fine).0 (all_behind o before formed)
-    (settled_settles (delivered s o) (sound_delivered s o sound fine)) first.1 in
-    repeats_pass at (o ∷ before) behind later.0 settles formed (taken_has s at (o ∷ before) sound formed e)
+    repeats_pass at (o ∷ before) behind later.0 (some_settle s at o before sound formed e) formed
+    (taken_has s at (o ∷ before) sound formed e)
 
 -- all operations of the front that are there again are repeats, the first of which lets go what is ready
 front_again : (t : State) (before : List OpData) (o : OpData) (os : List OpData) → IsSound t → AllFormed (before ++ o ∷ [])

@@ -41,7 +41,7 @@ use Rattle.peer_exchange.proofs.OneThing.{history_is_state, first_of, messages_t
 
 -- ---- what the messages have
 
-formed_unseen : (k : Member → Bool) (h : List OpData) → IsValid h → AllFormed (unseen k h)
+pub formed_unseen : (k : Member → Bool) (h : List OpData) → IsValid h → AllFormed (unseen k h)
 formed_unseen k h v o at = (complete h v).formed o (unseen_contains k h o at)
 
 -- the server's answer tells its own state, and has what the joiner lacks
@@ -160,7 +160,7 @@ unread_first bytes (peer.Bytes offset cause) whole is = absurd (not_spoiled (len
 unread_first bytes (peer.Op member verdict) whole is = absurd is
 unread_first bytes peer.Memory whole is = refl
 
-unclosed_why : (t t' u : State) (second : List ℕ) (c : ContextData) (os : List OpData) (why : Peer) → IsSecond second c os
+pub unclosed_why : (t t' u : State) (second : List ℕ) (c : ContextData) (os : List OpData) (why : Peer) → IsSecond second c os
     → taken_in t os ≡ Ok u → IsUnclosed t second t' why → why ≡ peer.Memory
 unclosed_why t t' u second c os (peer.Bytes offset cause) is takes why =
     absurd (not_spoiled (length second) (measure_of Second second) offset cause (messages_are_whole.second second c os is) why.1)
@@ -169,7 +169,7 @@ unclosed_why t t' u second c os (peer.Op member verdict) is takes why =
     (messages_tell_one_thing.second second why.0 c why.1 os why.2 is) why.3)
 unclosed_why t t' u second c os peer.Memory is takes why = refl
 
-unfinished_why : (s s' u : State) (third : List ℕ) (os : List OpData) (why : Peer) → IsThird third os → taken_in s os ≡ Ok u
+pub unfinished_why : (s s' u : State) (third : List ℕ) (os : List OpData) (why : Peer) → IsThird third os → taken_in s os ≡ Ok u
     → IsUnfinished s third s' why → why ≡ peer.Memory
 unfinished_why s s' u third os (peer.Bytes offset cause) is takes why =
     absurd (not_spoiled (length third) (measure_of Third third) offset cause (messages_are_whole.third third os is) why.1)

@@ -43,7 +43,7 @@ has_later s t later x at =
     ∙ take-append-drop (length s.history) t.history in
     subst (λ (h : List OpData). Contains h x) parts (Contains-append_left s.history (drop (length s.history) t.history) x at)
 
-is_unseen : (k : Member → Bool) (os : List OpData) (o : OpData) → Contains os o → k (member_of o) ≡ false → Contains (unseen k os) o
+pub is_unseen : (k : Member → Bool) (os : List OpData) (o : OpData) → Contains os o → k (member_of o) ≡ false → Contains (unseen k os) o
 is_unseen k [] o at new = absurd (contains_none o at)
 is_unseen k (p ∷ ps) o at new =
     elim (contains_cases p ps o at) [

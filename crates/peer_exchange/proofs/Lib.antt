@@ -20,6 +20,8 @@ pub mod OneThing
 pub mod Exchanging
 pub mod Again
 pub mod GoingOn
+pub mod ClosingAgain
+pub mod Gaining
 pub mod Faults
 pub mod Stable
 pub mod Sent

@@ -3,6 +3,8 @@
 ghost use Rattle.peer_exchange.specs.Joins.{JoinsAreValid, LackedOperationsAreNext, EqualMembersAreAlike, BothSidesAreJoined, JoinsCommute, JoinsAssociate, JoinsAreIdempotent, AnyExchangesMeet};
 ghost use Rattle.peer_exchange.specs.Taking.{NextOperationsAreTaken, BothSidesTakeAll, NewOperationsAreAppended, UnrefusedExchangesJoin, TakingInKeepsHistories, LackedOperationsAreTaken};
 ghost use Rattle.peer_exchange.specs.GoingOn.{GoingOnAfterMemory};
+ghost use Rattle.peer_exchange.specs.Again.{ClosingAgainChangesNothing, ClosingLaterChangesNothing};
+ghost use Rattle.peer_exchange.specs.Gaining.{TakingInGains, EditingMeanwhileLosesNothing};
 ghost use Rattle.peer_exchange.specs.Exchanges.{MessagesAreWhole, MessagesTellOneThing, UnrefusedCallsJoin, AgreeingSitesMeet, AgreeingSitesAreNotRefused, SecondExchangesAreEmpty};
 ghost use Rattle.peer_exchange.specs.Lengths.{ShortHistoriesHaveShortMessages};
 
@@ -119,4 +121,27 @@ pub fn short_histories_have_short_messages()
 /// writes what it would have at first.
 pub fn going_on_after_memory()
     ensures { GoingOnAfterMemory }
+{}
+
+/// After a `close` or a `finish` that answered, the same call with the same message leaves the site as it is. It is refused only
+/// out of memory, and else answers and writes the same.
+pub fn closing_again_changes_nothing()
+    ensures { ClosingAgainChangesNothing }
+{}
+
+/// Nor does the same message change any later state of the site at which nothing is ready.
+pub fn closing_later_changes_nothing()
+    ensures { ClosingLaterChangesNothing }
+{}
+
+/// Also where operations wait, a site that took in a message keeps its history, and has each operation of the message; whatever else
+/// is new there waited before.
+pub fn taking_in_gains()
+    ensures { TakingInGains }
+{}
+
+/// Where both sides go on editing during an exchange, the joiner gets what the server had when it answered, the server all that the
+/// joiner has after it closed, and each keeps what it did meanwhile.
+pub fn editing_meanwhile_loses_nothing()
+    ensures { EditingMeanwhileLosesNothing }
 {}

@@ -1,0 +1,5 @@
+use Rattle.peer_exchange.proofs.ClosingAgain.{closing_again_changes_nothing}
+use Rattle.peer_exchange.proofs.laws.closing_again_changes_nothing.Goals as goal
+
+pub returns : goal.returns
+returns c = closing_again_changes_nothing

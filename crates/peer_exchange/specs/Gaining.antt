@@ -1,0 +1,64 @@
+-- What each side of an exchange gains, also where operations wait, and where both sides go on editing meanwhile.
+use Rattle.std.specs.Prelude.{◌≡◌, ◌⊎◌, ℕ, true, List, [], Contains}
+use Rattle.op_name.specs.declared.member.Member.{Member}
+use Rattle.context_vector.specs.Contexts.{ContextData}
+use Rattle.context_diff.specs.Operations.{OpData, member_of, is_original}
+use Rattle.context_diff.specs.Histories.{is_known}
+use Rattle.cot_site.specs.States.{State}
+use Rattle.cot_site.specs.Releases.{IsSound, IsLater}
+use Rattle.peer_exchange.specs.Messages.{first_message, IsSecond, IsThird, IsAnswered}
+use Rattle.peer_exchange.specs.Closing.{IsClosed, IsFinished}
+use Rattle.peer_exchange.specs.Exchanges.{Talk}
+
+-- Gained: the old history is the first part of the new one, which has the member of each of these operations, and each original among
+-- them with its content; whatever is there or waits was there, waited, or is one of these
+pub record HasGained (s t : State) (os : List OpData) : Type 0 where
+  pub later : IsLater s t
+  pub members : (o : OpData) → Contains os o → is_known t.history (member_of o) ≡ true
+  pub originals : (o : OpData) → Contains os o → is_original o ≡ true → Contains t.history o
+  pub history : (o : OpData) → Contains t.history o → Contains s.history o ⊎ (Contains s.waiting o ⊎ Contains os o)
+  pub waiting : (o : OpData) → Contains t.waiting o → Contains s.waiting o ⊎ Contains os o
+
+-- a site gains the operations of the message that it takes in, also where operations wait
+pub record TakingInGains : Type 0 where
+  pub closed : (s t : State) (second before now : List ℕ) (counts : ℕ × ℕ) (state : ContextData) (os : List OpData) → IsSound s
+      → IsSecond second state os → IsClosed s second t before now counts → HasGained s t os
+  pub finished : (s t : State) (third : List ℕ) (count : ℕ) (os : List OpData) → IsSound s → IsThird third os
+      → IsFinished s third t count → HasGained s t os
+
+-- one side of an exchange: its state when it told what it has, a later one at which it took in the other's operations, and the one
+-- after that
+pub record Side : Type 0 where
+  pub told : State
+  pub took : State
+  pub after : State
+
+-- it is sound, and went on between the two
+pub record IsSide (x : Side) : Type 0 where
+  pub told : IsSound x.told
+  pub took : IsSound x.took
+  pub on : IsLater x.told x.took
+
+-- the four calls, none of them refused, while both sides go on: the server tells what it has by `answer` and takes in by `finish`, the
+-- joiner tells by `offer` and takes in by `close`
+pub record IsExchangeMeanwhile (server joiner : Side) (x : Talk) : Type 0 where
+  pub server_side : IsSide server
+  pub joiner_side : IsSide joiner
+  pub offered : x.first ≡ first_message joiner.told.history
+  pub answered : IsAnswered server.told.history x.first [] x.second x.server_sent
+  pub closed : IsClosed joiner.took x.second joiner.after [] x.third (x.joiner_took, x.joiner_sent)
+  pub finished : IsFinished server.took x.third server.after x.server_took
+
+-- the joiner then has what the server had when it answered, and the server all that the joiner has after it closed; each keeps what
+-- it did meanwhile, and took in all frames that the other sent
+pub record HaveGained (server joiner : Side) (x : Talk) : Type 0 where
+  pub joiner_keeps : IsLater joiner.took joiner.after
+  pub joiner_gains : (m : Member) → is_known server.told.history m ≡ true → is_known joiner.after.history m ≡ true
+  pub server_keeps : IsLater server.took server.after
+  pub server_gains : (m : Member) → is_known joiner.after.history m ≡ true → is_known server.after.history m ≡ true
+  pub at_joiner : x.joiner_took ≡ x.server_sent
+  pub at_server : x.server_took ≡ x.joiner_sent
+
+-- so it is after any exchange, whether operations wait or not, and whether the two agree or not
+abbrev pub EditingMeanwhileLosesNothing : Type 0
+EditingMeanwhileLosesNothing = (server joiner : Side) (x : Talk) → IsExchangeMeanwhile server joiner x → HaveGained server joiner x
