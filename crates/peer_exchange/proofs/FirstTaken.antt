@@ -92,7 +92,8 @@ one_refused a b o v m is named not_had e =
     λ i. record { member = sym named i; verdict = sym is i } in
     (ap (λ (x : Reached). x.state) (e ∙ reached_not_had a o fits), refused_first a.state o [] fits ∙ ap (λ (x : Refusal). Err x) why)
 
-pub one_cut : (a b : Reached) (o : OpData) (why : Untaken) → a.released ≡ [] → one.IsUntaken Had a o why b → IsBefore a.state (o ∷ []) b.state
+pub one_cut : (a b : Reached) (o : OpData) (why : Untaken) → a.released ≡ [] → one.IsUntaken Had a o why b
+    → IsBefore a.state (o ∷ []) b.state
 one_cut a b o untaken.Memory none u = inl (ap (λ (x : Reached). x.state) u.2)
 one_cut a b o (untaken.Unsettled v) none u = inr (record {
   verdict = v;

@@ -13,7 +13,8 @@ returns-then-is_had-clause-taken c =
 pub returns-else-is_had-clause-untaken : goal.returns-else-is_had-clause-untaken
 returns-else-is_had-clause-untaken c =
     one_refused (at c.args.site.now c.clear.new.self.items) (at c.take_in.new.site c.take_in.new.released.items) (data_of c.args.op.now)
-    c.in-Ok.verdict c.member.result c.in-Ok.ensures.verdict (c.member.ensures.member ∙ ap (λ (o : OpData). member_of o) c.take_in.ensures.op)
+    c.in-Ok.verdict c.member.result c.in-Ok.ensures.verdict
+    (c.member.ensures.member ∙ ap (λ (o : OpData). member_of o) c.take_in.ensures.op)
     (sym c.is_had.ensures ∙ c.if-is_had.false) c.in-Ok.ensures.taken
 
 pub returns-in-Err-clause-untaken : goal.returns-in-Err-clause-untaken
