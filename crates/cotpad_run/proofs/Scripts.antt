@@ -194,17 +194,20 @@ pub refused_there : (old : Outside) (left : Option (List ℕ)) (reads : ℕ) (he
     → IsReading old (told left reads held writes) r fed out
     → ((all before : List ℕ) → Keeps r all (before ++ out) → (more : List ℕ)
     → script_report (all ++ more) ≡ record { written = before ++ mid; refused = true })
-    → Appends held now mid → later ≡ writes → IsReport true old (told left reads now later)
+    → Appends held now mid → later ≡ writes
+    → IsReport true old (told left reads now later) × IsReportedTillRead old (told left reads now later)
 refused_there old left reads held now writes later r fed out mid reports i is sent same =
-    let both : Appends old.held now (i.written ++ mid) = Appends-trans old.held held now i.written mid i.sent sent in
-    record {
-      reply = of_all old.left left i.all (IsReplied IsScriptReport true old.held now) i.taken
-          (λ more. replied old.held now (i.all ++ more) (i.written ++ mid) true reports (is i.all i.written i.keeps more) both);
-      kept = (i.written ++ mid, both);
-      lost = record { front = i.all; few = few_taken i.all fed i.count i.few; lost = i.taken };
-      read_faults = i.read_faults;
-      write_faults = same ∙ i.write_faults;
-    }
+    let both : Appends old.held now (i.written ++ mid) = Appends-trans old.held held now i.written mid i.sent sent in (
+      record {
+        reply = of_all old.left left i.all (IsReplied IsScriptReport true old.held now) i.taken
+            (λ more. replied old.held now (i.all ++ more) (i.written ++ mid) true reports (is i.all i.written i.keeps more) both);
+        kept = (i.written ++ mid, both);
+        lost = record { front = i.all; few = few_taken i.all fed i.count i.few; lost = i.taken };
+        read_faults = i.read_faults;
+        write_faults = same ∙ i.write_faults;
+      },
+      till_written old (told left reads held writes) (told left reads now later) mid i.till_read refl sent,
+    )
 
 -- a write failed
 unwritten_there : (old : Outside) (left : Option (List ℕ)) (reads : ℕ) (held now : Option (List ℕ)) (writes later : ℕ) (r : ReaderData)
@@ -430,6 +433,18 @@ ended_there old left reads held now writes later r fed out new answer refused re
       read_faults = i.read_faults;
       write_faults = same ∙ i.write_faults;
     }
+
+-- the last line, which no line feed ends, is refused
+pub refused_at_end : (old : Outside) (left : Option (List ℕ)) (reads : ℕ) (held now : Option (List ℕ)) (writes later : ℕ) (r : ReaderData)
+    (fed : ℕ) (out new : List ℕ) (answer : Bool) → ReportsAreThere
+    → IsWaiting old (told left reads held writes) r fed → IsAtEnd left → out ≡ [] → answer ≡ true
+    → ((all before : List ℕ) → Keeps r all (before ++ out) → script_report all ≡ record { written = before ++ new; refused = answer })
+    → Appends held now new → later ≡ writes
+    → IsReport true old (told left reads now later) × IsReportedTillRead old (told left reads now later)
+refused_at_end old left reads held now writes later r fed out new answer reports i end none said is sent same = (
+  ended_there old left reads held now writes later r fed out new answer true reports i end none said is sent same,
+  reported_till old (told left reads held writes) (told left reads now later) r fed [] new reports i (omega arith) (Consumes-nil left) sent,
+)
 
 -- the write failed
 pub unwritten_at_end : (old : Outside) (left : Option (List ℕ)) (reads : ℕ) (held now : Option (List ℕ)) (writes later : ℕ) (r : ReaderData)

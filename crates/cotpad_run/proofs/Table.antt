@@ -95,7 +95,7 @@ replying_done replies old new r a wire =
 
 replay_taken : (old new : Outside) (r : Status) → IsReplayed old new r → LosesFront (MAX_INPUT + 1) old.left new.left
 replay_taken old new Done a = a.0.lost
-replay_taken old new Refused a = a.lost
+replay_taken old new Refused a = a.0.lost
 replay_taken old new Words a = absurd a
 replay_taken old new ReadFault a = a.front.lost
 replay_taken old new WriteFault a = a.front.lost
@@ -105,7 +105,7 @@ replay_taken old new PeerRefused a = absurd a
 
 replay_held : (old new : Outside) (r : Status) → IsReplayed old new r → Grows old.held new.held
 replay_held old new Done a = a.0.kept
-replay_held old new Refused a = a.kept
+replay_held old new Refused a = a.0.kept
 replay_held old new Words a = absurd a
 replay_held old new ReadFault a = a.front.kept
 replay_held old new WriteFault a = a.front.kept

@@ -5,10 +5,9 @@ use Rattle.log_replies.specs.Editing.{EditData, edit_data}
 use Rattle.cotpad_run.specs.declared.command.Command.{Command}
 use Rattle.cotpad_run.specs.declared.command.Command.TheVariants as command
 
--- a script is replayed; the text of a log is shown; a log is loaded as a site and edited there; a session is generated; the form of an
--- operation of a log is derived step by step; a site that a log gives exchanges with a peer that comes to a port, or that waits at one;
--- the two
--- sites of a generated session exchange with each other; the commands are listed, for one of two words
+-- a script is replayed; the text of a log is shown; a log is loaded as a site and edited there; a session is generated; the form of
+-- an operation of a log is derived step by step; a site that a log gives exchanges with a peer that comes to a port, or that waits at
+-- one; the two sites of a generated session exchange with each other; the commands are listed, for one of two words
 pub data CommandData : Type 0 where
   Replay : CommandData
   Show : CommandData

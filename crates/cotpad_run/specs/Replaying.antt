@@ -54,8 +54,8 @@ pub record IsReportSoFar (old new : Outside) : Type 0 where
   pub no_line : All (λ b. b ≢ 10) tail
   pub reply : IsReplied IsScriptReport false old.held new.held whole
 
--- before the last read, what was taken till then was reported so far; that read took one piece at most, and nothing is taken back of
--- what was written
+-- what the lines report that end before the last PIECE bytes taken, or fewer, was written before these bytes were taken; and nothing is
+-- taken back of what was written
 pub record IsReportedTillRead (old new : Outside) : Type 0 where
   pub till : Outside
   pub so_far : IsReportSoFar old till
@@ -71,24 +71,25 @@ pub record IsUnreadReport (old new : Outside) : Type 0 where
   pub front : IsFrontOfReport old new
   pub write_faults : new.write_faults ≡ old.write_faults
 
--- a write failed: a front of the report was written, with all that was to be written before the last read
+-- a write failed: a front of the report was written, with that of all lines that end before the last piece
 pub record IsUnwrittenReport (old new : Outside) : Type 0 where
   pub fault : Rose old.write_faults new.write_faults
   pub front : IsFrontOfReport old new
   pub till_read : IsReportedTillRead old new
   pub read_faults : new.read_faults ≡ old.read_faults
 
--- out of memory: a front of the report was written, with all that was to be written before the last read, and no call failed
+-- out of memory: a front of the report was written, with that of all lines that end before the last piece, and no call failed
 pub record IsReportOutOfMemory (old new : Outside) : Type 0 where
   pub front : IsFrontOfReport old new
   pub till_read : IsReportedTillRead old new
   pub read_faults : new.read_faults ≡ old.read_faults
   pub write_faults : new.write_faults ≡ old.write_faults
 
--- each answer of `replay`, with its cause and what it leaves
+-- each answer of `replay`, with its cause and what it leaves. A refused line ends in the last PIECE bytes taken: what was taken before has
+-- none
 abbrev pub IsReplayed : Outside → Outside → Status → Type 0
 IsReplayed old new Done = IsReport false old new × IsAtEnd new.left
-IsReplayed old new Refused = IsReport true old new
+IsReplayed old new Refused = IsReport true old new × IsReportedTillRead old new
 IsReplayed old new Words = ⊥
 IsReplayed old new ReadFault = IsUnreadReport old new
 IsReplayed old new WriteFault = IsUnwrittenReport old new

@@ -50,8 +50,7 @@ replying replies =
       reads = true;
       streams = false;
       link = None;
-      matched =
-          λ _. Unit {0};
+      matched = λ _. Unit {0};
     }
 
 -- a command that loads a log, and exchanges with a peer at a port: it needs one that agrees, and whose messages come whole
@@ -72,8 +71,7 @@ saying text =
       reads = false;
       streams = false;
       link = None;
-      matched =
-          λ _. Unit {0};
+      matched = λ _. Unit {0};
     }
 
 -- the row of each command
@@ -132,10 +130,9 @@ EndsWell row status = (IsReported status ⊎ (status ≡ Memory)) ⊎ (IsSome ro
 abbrev pub IsComplete : Row → Status → Type 0
 IsComplete row status = ((status ≡ Done) ⊎ (status ≡ Memory)) ⊎ ((¬ IsSome row.link) × IsReported status)
 
--- a command of this row was done, and ended with this status: it answers as the row says; it takes no more of the source than an input
--- may have, and one byte; what the sink held stays in front; it asks for no link but the row's; where no call failed, it ends with a
--- reply or
--- out of memory; and then, with whom it needs, it is complete
+-- a command of this row was done, and ended with this status: it answers as the row says; it takes no more of the source than an
+-- input may have, and one byte; what the sink held stays in front; it asks for no link but the row's; where no call failed, it ends
+-- with a reply or out of memory; and then, with whom it needs, it is complete
 pub record IsDone (row : Row) (old new : World) (status : Status) : Type 0 where
   pub answer : row.answers old new status
   pub taken : LosesFront (MAX_INPUT + 1) old.outside.left new.outside.left

@@ -162,6 +162,7 @@ fn flush<K: Sink>(sink: &mut K, out: &mut Vec<u8>, least: usize) -> Result<(), S
     ensures passed { OnOk result (IsPassed (K.held sink.old) (K.held sink.new) out.old.items out.new.items) }
     ensures written { least ≤ 1 → OnOk result (Appends (K.held sink.old) (K.held sink.new) out.old.items) }
     ensures empty { least ≤ 1 → OnOk result (out.new.items ≡ []) }
+    ensures few { 1 ≤ least → OnOk result (length out.new.items < least) }
     ensures front { OnErr result (WritesFront (K.held sink.old) (K.held sink.new) out.old.items) }
     ensures cause { HasCause (K.faults sink.old) (K.faults sink.new) result }
     ensures status { IfErr result (λ status. status ≡ Status.WriteFault) }

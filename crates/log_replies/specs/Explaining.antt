@@ -30,9 +30,8 @@ lines_text number (l ∷ ls) = line_text number l ++ lines_text (suc number) ls
 abbrev pub unknown_text : Member → List ℕ
 unknown_text m = codes "refused unknown " ++ (member_text m ++ codes "\n")
 
--- the lines are those that the listing rule gives for m; each is a base form or an inclusion of earlier lines; and the last one has the
--- form
--- in which m was executed, when the history was executed operation by operation in derived forms
+-- the lines are those that the listing rule gives for m; each is a base form or an inclusion of earlier lines; and the last one has
+-- the form in which m was executed, when the history was executed operation by operation in derived forms
 pub record IsExplanation (h : List OpData) (m : Member) (lines : List TraceLine) : Type 0 where
   pub listed : IsTraceOf h m lines
   pub right : IsTrace h m lines

@@ -17,7 +17,7 @@ use Rattle.peer_exchange.specs.Messages.{end_mark, IsSecond, IsThird, IsAnswered
 use Rattle.peer_exchange.specs.Taking.{taken_in}
 use Rattle.peer_exchange.specs.Closing.{IsClosed, IsFinished}
 use Rattle.peer_exchange.specs.Exchanges.{Talk}
-use Rattle.peer_exchange.specs.Gaining.{HasGained, TakingInGains, Side, IsExchangeMeanwhile, HaveGained, EditingMeanwhileLosesNothing}
+use Rattle.peer_exchange.specs.Gaining.{HasGained, TakingInGains, Meanwhile, IsExchangeMeanwhile, HaveGained, EditingMeanwhileLosesNothing}
 use Rattle.peer_exchange.proofs.BothSides.{unseen_by_state}
 use Rattle.peer_exchange.proofs.Later.{taking_in_keeps_histories}
 use Rattle.peer_exchange.proofs.OneThing.{messages_tell_one_thing}
@@ -68,7 +68,7 @@ all_gained told took after h on gains m known =
           ap (is_known after.history) (sym held.is) ∙ gains.members held.op sent
     ]
 
-module _ (server joiner : Side) (x : Talk) (e : IsExchangeMeanwhile server joiner x) where
+module _ (server joiner : Meanwhile) (x : Talk) (e : IsExchangeMeanwhile server joiner x) where
   -- what the server had when it answered
   abbrev had : List OpData
   had = server.told.history

@@ -25,8 +25,8 @@ pub record ClosingAgainChangesNothing : Type 0 where
   pub unfinished : (s t u : State) (third : List ℕ) (count : ℕ) (why : Peer) → IsSound s → IsFinished s third t count
       → IsUnfinished t third u why → (u ≡ t) × (why ≡ peer.Memory)
 
--- nor does the message change a later state of the site, at which nothing is ready: what is written then is what the server lacks of
--- the later history
+-- nor does the message change a later state of the site, at which nothing is ready; what is written then is what the state that the
+-- message tells lacks of the later history
 pub record ClosingLaterChangesNothing : Type 0 where
   pub closed : (s t l u : State) (second before now again after : List ℕ) (counts others : ℕ × ℕ) → IsSound s
       → IsClosed s second t before now counts → IsSound l → IsSettled l → IsLater t l → IsClosed l second u again after others → u ≡ l

@@ -28,30 +28,30 @@ pub record TakingInGains : Type 0 where
 
 -- one side of an exchange: its state when it told what it has, a later one at which it took in the other's operations, and the one
 -- after that
-pub record Side : Type 0 where
+pub record Meanwhile : Type 0 where
   pub told : State
   pub took : State
   pub after : State
 
 -- it is sound, and went on between the two
-pub record IsSide (x : Side) : Type 0 where
+pub record IsMeanwhile (x : Meanwhile) : Type 0 where
   pub told : IsSound x.told
   pub took : IsSound x.took
   pub on : IsLater x.told x.took
 
 -- the four calls, none of them refused, while both sides go on: the server tells what it has by `answer` and takes in by `finish`, the
 -- joiner tells by `offer` and takes in by `close`
-pub record IsExchangeMeanwhile (server joiner : Side) (x : Talk) : Type 0 where
-  pub server_side : IsSide server
-  pub joiner_side : IsSide joiner
+pub record IsExchangeMeanwhile (server joiner : Meanwhile) (x : Talk) : Type 0 where
+  pub server_side : IsMeanwhile server
+  pub joiner_side : IsMeanwhile joiner
   pub offered : x.first ≡ first_message joiner.told.history
   pub answered : IsAnswered server.told.history x.first [] x.second x.server_sent
   pub closed : IsClosed joiner.took x.second joiner.after [] x.third (x.joiner_took, x.joiner_sent)
   pub finished : IsFinished server.took x.third server.after x.server_took
 
--- the joiner then has what the server had when it answered, and the server all that the joiner has after it closed; each keeps what
--- it did meanwhile, and took in all frames that the other sent
-pub record HaveGained (server joiner : Side) (x : Talk) : Type 0 where
+-- whether the two agree or not, the joiner then has the members that the server had when it answered, and the server all that the joiner
+-- has after it closed; each keeps what it did meanwhile, and took in all frames that the other sent
+pub record HaveGained (server joiner : Meanwhile) (x : Talk) : Type 0 where
   pub joiner_keeps : IsLater joiner.took joiner.after
   pub joiner_gains : (m : Member) → is_known server.told.history m ≡ true → is_known joiner.after.history m ≡ true
   pub server_keeps : IsLater server.took server.after
@@ -61,4 +61,4 @@ pub record HaveGained (server joiner : Side) (x : Talk) : Type 0 where
 
 -- so it is after any exchange, whether operations wait or not, and whether the two agree or not
 abbrev pub EditingMeanwhileLosesNothing : Type 0
-EditingMeanwhileLosesNothing = (server joiner : Side) (x : Talk) → IsExchangeMeanwhile server joiner x → HaveGained server joiner x
+EditingMeanwhileLosesNothing = (server joiner : Meanwhile) (x : Talk) → IsExchangeMeanwhile server joiner x → HaveGained server joiner x

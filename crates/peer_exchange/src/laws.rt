@@ -134,14 +134,14 @@ pub fn closing_later_changes_nothing()
     ensures { ClosingLaterChangesNothing }
 {}
 
-/// Also where operations wait, a site that took in a message keeps its history, and has each operation of the message; whatever else
-/// is new there waited before.
+/// Also where operations wait, a site that took in a message keeps its history, and has the member of each operation of the message, and
+/// each insert and delete itself; whatever else is new there waited before.
 pub fn taking_in_gains()
     ensures { TakingInGains }
 {}
 
-/// Where both sides go on editing during an exchange, the joiner gets what the server had when it answered, the server all that the
-/// joiner has after it closed, and each keeps what it did meanwhile.
+/// Where both sides go on editing during an exchange, the joiner gets the members that the server had when it answered, the server all that
+/// the joiner has after it closed, and each keeps what it did meanwhile.
 pub fn editing_meanwhile_loses_nothing()
     ensures { EditingMeanwhileLosesNothing }
 {}

@@ -28,7 +28,7 @@ fn take_next(site: &mut Site, op: Op, room: &mut Vec<Release>) -> Result<(), Pee
     take_lent(site, &mut op, room)
 }
 
-// The same of an operation that the caller gives up: a loop with many exits over an owned one makes its proof long.
+// The same of an operation that the caller gives up: a match with many exits over an owned one makes its proof long.
 fn take_lent(site: &mut Site, op: &mut Op, room: &mut Vec<Release>) -> Result<(), Peer>
     requires { IsWellFormed (data_of op.old) }
     ensures taken { OnOk result (taken_in (state_of site.old) (data_of op.old ∷ []) ≡ Ok (state_of site.new)) }

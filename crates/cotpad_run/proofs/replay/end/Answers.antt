@@ -1,10 +1,10 @@
-use Rattle.std.proofs.Common.{true, false, refl, arith}
-use Rattle.cotpad_run.proofs.Scripts.{ended_there, unwritten_at_end, memory_at_end, faulted}
+use Rattle.std.proofs.Common.{false, true, refl, arith}
+use Rattle.cotpad_run.proofs.Scripts.{ended_there, refused_at_end, unwritten_at_end, memory_at_end, faulted}
 use Rattle.cotpad_run.proofs.replay.end.Goals as goal
 
 pub returns-in-Ok-flush : goal.returns-in-Ok-flush
 returns-in-Ok-flush g c = λ old left reads fed i end.
-    ended_there old left reads _ _ _ _ c.args.reader fed c.args.out.now.items c.finish.new.out.items c.in-Ok.refused true
+    refused_at_end old left reads _ _ _ _ c.args.reader fed c.args.out.now.items c.finish.new.out.items c.in-Ok.refused
     c.reports_are_there.ensures i end c.requires.empty c.if-refused.true c.in-Ok.ensures.report
     (c.in-Ok-flush.ensures.written (omega arith)) (c.in-Ok-flush.ensures.cause.well (refl {a = true}))
 
