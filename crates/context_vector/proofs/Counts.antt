@@ -40,13 +40,16 @@ pub counts_from : (low from : ℕ) (ps : List (ℕ × ℕ)) → low ≤ from →
 counts_from low from [] le are = tt
 counts_from low from (p ∷ ps) le are = (omega arith, are.1, are.2, are.3, are.4)
 
-pub counts_put : (low s k : ℕ) (ps : List (ℕ × ℕ)) → low ≤ s → s < SITES → 1 ≤ k → k ≤ NUMBERS → AreCounts low ps → AreCounts low (put_count s k ps)
+pub counts_put : (low s k : ℕ) (ps : List (ℕ × ℕ)) → low ≤ s → s < SITES → 1 ≤ k → k ≤ NUMBERS → AreCounts low ps
+    → AreCounts low (put_count s k ps)
 counts_put low s k [] from site least most are = (from, site, least, most, tt)
 counts_put low s k (p ∷ ps) from site least most are =
     elim (cases_order p.0 s) [
       | inl one ↦ rw (eq-eqb p.0 s one) (from, site, least, most, subst (λ x. AreCounts (x + 1) ps) one are.4)
-      | inr (inl less) ↦ rw (ne_eqb p.0 s (omega arith), le_is_false s p.0 less) (are.0, are.1, are.2, are.3, counts_put (p.0 + 1) s k ps (omega arith) site least most are.4)
-      | inr (inr more) ↦ rw (ne_eqb p.0 s (omega arith), le_is_true s p.0 (omega arith)) (from, site, least, most, (omega arith, are.1, are.2, are.3, are.4))
+      | inr (inl less) ↦ rw (ne_eqb p.0 s (omega arith), le_is_false s p.0 less)
+          (are.0, are.1, are.2, are.3, counts_put (p.0 + 1) s k ps (omega arith) site least most are.4)
+      | inr (inr more) ↦ rw (ne_eqb p.0 s (omega arith), le_is_true s p.0 (omega arith))
+          (from, site, least, most, (omega arith, are.1, are.2, are.3, are.4))
     ]
   where
     le_is_false : (a b : ℕ) → b < a → nat_le a b ≡ false
@@ -72,7 +75,8 @@ counts_lower s k ps site least most are =
     ]
 
 -- a pair after the last may be appended
-pub counts_push : (low s k : ℕ) (ps : List (ℕ × ℕ)) → low ≤ s → s < SITES → 1 ≤ k → k ≤ NUMBERS → SitesBelow ps s → AreCounts low ps → AreCounts low (ps ++ (s, k) ∷ [])
+pub counts_push : (low s k : ℕ) (ps : List (ℕ × ℕ)) → low ≤ s → s < SITES → 1 ≤ k → k ≤ NUMBERS → SitesBelow ps s → AreCounts low ps
+    → AreCounts low (ps ++ (s, k) ∷ [])
 counts_push low s k [] from site least most below are = (from, site, least, most, tt)
 counts_push low s k (p ∷ ps) from site least most below are =
     (are.0, are.1, are.2, are.3, counts_push (p.0 + 1) s k ps (omega (arith, below.0)) site least most below.1 are.4)

@@ -19,7 +19,8 @@ entry_is (e ∷ es) n = ap (λ v. if name_eq e.0 n then e.1 else v) (entry_is es
 
 pub put_entry_is : (n : NameData) (g : ℕ) (es : List (NameData × ℕ)) → put_entry n g es ≡ put_at name_eq name_lt n g es
 put_entry_is n g [] = refl
-put_entry_is n g (e ∷ es) = ap (λ v. if name_eq e.0 n then (n, g) ∷ es else if name_lt n e.0 then (n, g) ∷ (e ∷ es) else e ∷ v) (put_entry_is n g es)
+put_entry_is n g (e ∷ es) =
+    ap (λ v. if name_eq e.0 n then (n, g) ∷ es else if name_lt n e.0 then (n, g) ∷ (e ∷ es) else e ∷ v) (put_entry_is n g es)
 
 pub without_name_is : (n : NameData) (es : List (NameData × ℕ)) → without_name n es ≡ take_out name_eq name_lt n es
 without_name_is n [] = refl
@@ -40,10 +41,12 @@ before_put m n g [] before less = less
 before_put m n g (e ∷ es) before less =
     elim (name_eq e.0 n) as (λ t. IsBefore m (if t then (n, g) ∷ es else if name_lt n e.0 then (n, g) ∷ (e ∷ es) else e ∷ put_entry n g es)) [
       | true ↦ less
-      | false ↦ elim (name_lt n e.0) as (λ t. IsBefore m (if t then (n, g) ∷ (e ∷ es) else e ∷ put_entry n g es)) [ true ↦ less | false ↦ before ]
+      | false ↦ elim (name_lt n e.0) as (λ t. IsBefore m (if t then (n, g) ∷ (e ∷ es) else e ∷ put_entry n g es))
+          [ true ↦ less | false ↦ before ]
     ]
 
-pub entries_put : (n : NameData) (g : ℕ) (es : List (NameData × ℕ)) → IsName n.site n.number → 1 ≤ g → g ≤ GENERATIONS → AreEntries es → AreEntries (put_entry n g es)
+pub entries_put : (n : NameData) (g : ℕ) (es : List (NameData × ℕ)) → IsName n.site n.number → 1 ≤ g → g ≤ GENERATIONS → AreEntries es
+    → AreEntries (put_entry n g es)
 entries_put n g [] name least most are = (name, least, most, tt, tt)
 entries_put n g (e ∷ es) name least most are =
     cases_by_order name_eq name_lt name_order e.0 n _
@@ -58,7 +61,8 @@ before_later n m (e ∷ es) less before = name_transitive n m e.0 less before
 before_without : (m n : NameData) (es : List (NameData × ℕ)) → AreEntries es → IsBefore m es → IsBefore m (without_name n es)
 before_without m n [] are before = tt
 before_without m n (e ∷ es) are before =
-    elim (name_eq e.0 n) as (λ t. IsBefore m (if t then es else e ∷ without_name n es)) [ true ↦ before_later m e.0 es before are.3 | false ↦ before ]
+    elim (name_eq e.0 n) as (λ t. IsBefore m (if t then es else e ∷ without_name n es))
+    [ true ↦ before_later m e.0 es before are.3 | false ↦ before ]
 
 pub entries_without : (n : NameData) (es : List (NameData × ℕ)) → AreEntries es → AreEntries (without_name n es)
 entries_without n [] are = tt
@@ -68,7 +72,8 @@ entries_without n (e ∷ es) are =
       | false ↦ (are.0, are.1, are.2, before_without e.0 n es are.4 are.3, entries_without n es are.4)
     ]
 
-pub entries_lower : (n : NameData) (g : ℕ) (es : List (NameData × ℕ)) → IsName n.site n.number → 1 ≤ g → g ≤ GENERATIONS → AreEntries es → AreEntries (lower_entry n g es)
+pub entries_lower : (n : NameData) (g : ℕ) (es : List (NameData × ℕ)) → IsName n.site n.number → 1 ≤ g → g ≤ GENERATIONS → AreEntries es
+    → AreEntries (lower_entry n g es)
 entries_lower n g es name least most are =
     elim (cases_order g 1) [
       | inl one ↦ rw (eq-eqb g 1 one) (entries_without n es are)
@@ -81,7 +86,8 @@ before_push m n g [] less before = less
 before_push m n g (e ∷ es) less before = before
 
 -- an entry after the last may be appended
-pub entries_push : (n : NameData) (g : ℕ) (es : List (NameData × ℕ)) → IsName n.site n.number → 1 ≤ g → g ≤ GENERATIONS → NamesBelow es n → AreEntries es → AreEntries (es ++ (n, g) ∷ [])
+pub entries_push : (n : NameData) (g : ℕ) (es : List (NameData × ℕ)) → IsName n.site n.number → 1 ≤ g → g ≤ GENERATIONS → NamesBelow es n
+    → AreEntries es → AreEntries (es ++ (n, g) ∷ [])
 entries_push n g [] name least most below are = (name, least, most, tt, tt)
 entries_push n g (e ∷ es) name least most below are =
     (are.0, are.1, are.2, before_push e.0 n g es below.0 are.3, entries_push n g es name least most below.1 are.4)
@@ -93,11 +99,13 @@ entry_at_most (e ∷ es) n are =
     elim (name_eq e.0 n) as (λ t. (if t then e.1 else entry_in es n) ≤ GENERATIONS) [ true ↦ are.2 | false ↦ entry_at_most es n are.4 ]
 
 -- names in range rise with the number that their site and number make
-places_rise : (n m : NameData) → IsName n.site n.number → IsName m.site m.number → name_lt n m ≡ true → n.site * NUMBERS + n.number < m.site * NUMBERS + m.number
+places_rise : (n m : NameData) → IsName n.site n.number → IsName m.site m.number → name_lt n m ≡ true
+    → n.site * NUMBERS + n.number < m.site * NUMBERS + m.number
 places_rise n m is_name is_name' less = grind (arith, nat_tests)
 
 -- names rise, so there are at most as many entries as names
-pub entries_at_most : (e : NameData × ℕ) (es : List (NameData × ℕ)) → AreEntries (e ∷ es) → length (e ∷ es) + (e.0.site * NUMBERS + e.0.number) ≤ SITES * NUMBERS + 1
+pub entries_at_most : (e : NameData × ℕ) (es : List (NameData × ℕ)) → AreEntries (e ∷ es)
+    → length (e ∷ es) + (e.0.site * NUMBERS + e.0.number) ≤ SITES * NUMBERS + 1
 entries_at_most e [] are = omega (arith, are.0.0, are.0.1, are.0.2)
 entries_at_most e (f ∷ es) are = omega (arith, entries_at_most f es are.4, places_rise e.0 f.0 are.0 are.4.0 are.3)
 
@@ -115,9 +123,11 @@ put_in_gap es n g i gap = sym (put_entry_is n g es ∙ gap_put name_eq name_lt n
 pub put_at_place : (es : List (NameData × ℕ)) (n : NameData) (g i : ℕ) → AreEntries es → IsPlace es n i → set es i (n, g) ≡ put_entry n g es
 put_at_place es n g i are place = sym (put_entry_is n g es ∙ put_is_set name_eq name_lt name_order es (entries_rise es are) n g i place)
 
-pub lower_at_place : (es : List (NameData × ℕ)) (n : NameData) (g i : ℕ) → AreEntries es → IsPlace es n i → g ≢ 1 → set es i (n, g - 1) ≡ lower_entry n g es
+pub lower_at_place : (es : List (NameData × ℕ)) (n : NameData) (g i : ℕ) → AreEntries es → IsPlace es n i → g ≢ 1
+    → set es i (n, g - 1) ≡ lower_entry n g es
 lower_at_place es n g i are place more = put_at_place es n (g - 1) i are place ∙ rw (ne_eqb g 1 more) refl
 
-pub remove_at_place : (es : List (NameData × ℕ)) (n : NameData) (g i : ℕ) → AreEntries es → IsPlace es n i → g ≡ 1 → remove es i ≡ lower_entry n g es
+pub remove_at_place : (es : List (NameData × ℕ)) (n : NameData) (g i : ℕ) → AreEntries es → IsPlace es n i → g ≡ 1
+    → remove es i ≡ lower_entry n g es
 remove_at_place es n g i are place one =
     sym (rw (eq-eqb g 1 one) (without_name_is n es ∙ take_out_is_remove name_eq name_lt name_order es (entries_rise es are) n i place))

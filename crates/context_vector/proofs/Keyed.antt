@@ -58,7 +58,8 @@ module _ {K : Type 0} (eq lt : K → K → Bool) where
     value_put k v [] j = refl
     value_put k v (p ∷ ps) j =
         cases_by_order eq lt order p.0 k _
-        (λ is e e' l l'. rw e (subst (λ x. value_at ((k, v) ∷ ps) j ≡ (if eq k j then v else if eq x j then p.1 else value_at ps j)) (sym is) (same_key k v p.1 (value_at ps j) j)))
+        (λ is e e' l l'. rw e (subst (λ x. value_at ((k, v) ∷ ps) j ≡ (if eq k j then v else if eq x j then p.1 else value_at ps j))
+        (sym is) (same_key k v p.1 (value_at ps j) j)))
         (λ e e' l l'. rw (e, l') (cases_by_order eq lt order p.0 j _
         (λ is f f' m m'. rw (f, subst (λ x. eq k x ≡ false) is e') refl)
         (λ f f' m m'. rw f (value_put k v ps j))
@@ -66,16 +67,19 @@ module _ {K : Type 0} (eq lt : K → K → Bool) where
         (λ e e' l l'. rw (e, l') refl)
       where
         same_key : (k : K) (v a b : ℕ) (j : K) → (if eq k j then v else b) ≡ (if eq k j then v else if eq k j then a else b)
-        same_key k v a b j = elim (eq k j) as (λ t. (if t then v else b) ≡ (if t then v else if t then a else b)) [ true ↦ refl | false ↦ refl ]
+        same_key k v a b j =
+            elim (eq k j) as (λ t. (if t then v else b) ≡ (if t then v else if t then a else b)) [ true ↦ refl | false ↦ refl ]
 
     -- a first pair with another key stays
-    kept_first : (k : K) (p : K × ℕ) (ps qs : List (K × ℕ)) → eq k p.0 ≡ false → (j : K) → value_at qs j ≡ (if eq k j then 0 else value_at ps j) → value_at (p ∷ qs) j ≡ (if eq k j then 0 else value_at (p ∷ ps) j)
+    kept_first : (k : K) (p : K × ℕ) (ps qs : List (K × ℕ)) → eq k p.0 ≡ false → (j : K)
+        → value_at qs j ≡ (if eq k j then 0 else value_at ps j) → value_at (p ∷ qs) j ≡ (if eq k j then 0 else value_at (p ∷ ps) j)
     kept_first k p ps qs e' j rest = cases_by_order eq lt order p.0 j _
         (λ is f f' m m'. rw (f, subst (λ x. eq k x ≡ false) is e') refl)
         (λ f f' m m'. rw f rest)
         (λ f f' m m'. rw f rest)
 
-    pub value_take_out : (k : K) (ps : List (K × ℕ)) → IsRising ps → (j : K) → value_at (take_out k ps) j ≡ (if eq k j then 0 else value_at ps j)
+    pub value_take_out : (k : K) (ps : List (K × ℕ)) → IsRising ps → (j : K)
+        → value_at (take_out k ps) j ≡ (if eq k j then 0 else value_at ps j)
     value_take_out k [] rising j = one_either (eq k j) 0
     value_take_out k (p ∷ ps) rising j =
         cases_by_order eq lt order p.0 k _
@@ -104,9 +108,11 @@ module _ {K : Type 0} (eq lt : K → K → Bool) where
     tail_place p ps k i place = record { within = omega (arith, place.within); key = λ d. place.key d }
 
     first_less : (p : K × ℕ) (ps : List (K × ℕ)) → IsRising (p ∷ ps) → (k : K) (i : ℕ) → IsPlace (p ∷ ps) k (suc i) → lt p.0 k ≡ true
-    first_less p ps rising k i place = subst (λ x. lt p.0 x ≡ true) (place.key p) (later_key p.0 ps rising.1 i p (omega (arith, place.within)))
+    first_less p ps rising k i place =
+        subst (λ x. lt p.0 x ≡ true) (place.key p) (later_key p.0 ps rising.1 i p (omega (arith, place.within)))
 
-    first_differs : (p : K × ℕ) (ps : List (K × ℕ)) → IsRising (p ∷ ps) → (k : K) (i : ℕ) → IsPlace (p ∷ ps) k (suc i) → (eq p.0 k ≡ false) × (lt k p.0 ≡ false)
+    first_differs : (p : K × ℕ) (ps : List (K × ℕ)) → IsRising (p ∷ ps) → (k : K) (i : ℕ) → IsPlace (p ∷ ps) k (suc i)
+        → (eq p.0 k ≡ false) × (lt k p.0 ≡ false)
     first_differs p ps rising k i place =
         cases_by_order eq lt order p.0 k _
         (λ is e e' l l'. absurd (false≢true (sym l ∙ first_less p ps rising k i place)))
@@ -163,7 +169,12 @@ module _ {K : Type 0} (eq lt : K → K → Bool) where
     gap_value [] k i gap = refl
     gap_value (p ∷ ps) k zero gap =
         rw (first_past_gap p ps k (gap.after 0 p (omega arith) (omega arith)))
-        (gap_value ps k 0 (record { within = omega arith; before = λ j d less. absurd (omega arith); after = λ j d from within. gap.after (suc j) d (omega arith) (omega arith) }))
+        (gap_value ps k 0 (record {
+          within = omega arith;
+          before = λ j d less. absurd (omega arith);
+          after =
+              λ j d from within. gap.after (suc j) d (omega arith) (omega arith);
+        }))
     gap_value (p ∷ ps) k (suc i) gap =
         rw (first_in_gap p ps k (gap.before 0 p (omega arith))).0 (gap_value ps k i (tail_gap p ps k i gap))
 
@@ -184,13 +195,15 @@ module _ {K : Type 0} (eq lt : K → K → Bool) where
         sym left ∙ (same p.0 ∙ right)
 
     -- a list that starts with a lesser key has a value where the other has none
-    missing : (p q : K × ℕ) (ps qs : List (K × ℕ)) → IsRising (p ∷ ps) → IsRising (q ∷ qs) → lt p.0 q.0 ≡ true → ((k : K) → value_at (p ∷ ps) k ≡ value_at (q ∷ qs) k) → ⊥
+    missing : (p q : K × ℕ) (ps qs : List (K × ℕ)) → IsRising (p ∷ ps) → IsRising (q ∷ qs) → lt p.0 q.0 ≡ true
+        → ((k : K) → value_at (p ∷ ps) k ≡ value_at (q ∷ qs) k) → ⊥
     missing p q ps qs rising rising' less same =
         let left : value_at (p ∷ ps) p.0 ≡ p.1 = rw (order.itself p.0) refl in
         let right : value_at (q ∷ qs) p.0 ≡ 0 = value_after p.0 (q ∷ qs) (less, after_trans p.0 q.0 qs less rising'.1) in
         omega (arith, rising.0, sym left ∙ (same p.0 ∙ right))
 
-    tail_values : (p q : K × ℕ) (ps qs : List (K × ℕ)) → p ≡ q → IsRising (p ∷ ps) → IsRising (q ∷ qs) → ((k : K) → value_at (p ∷ ps) k ≡ value_at (q ∷ qs) k) → (k : K) → value_at ps k ≡ value_at qs k
+    tail_values : (p q : K × ℕ) (ps qs : List (K × ℕ)) → p ≡ q → IsRising (p ∷ ps) → IsRising (q ∷ qs)
+        → ((k : K) → value_at (p ∷ ps) k ≡ value_at (q ∷ qs) k) → (k : K) → value_at ps k ≡ value_at qs k
     tail_values p q ps qs heads rising rising' same k =
         cases_by_order eq lt order p.0 k _
         (λ is e e' l l'.
@@ -243,7 +256,8 @@ module _ {K : Type 0} (eq lt : K → K → Bool) where
       pub short : had q.0 < value_at ps q.0
       pub first : (k : K) → lt k q.0 ≡ true → value_at ps k ≤ had k
 
-    here : (had : K → ℕ) (p : K × ℕ) (ps : List (K × ℕ)) → IsRising (p ∷ ps) → (q : K × ℕ) → had p.0 < p.1 → Some (p.0, had p.0 + 1) ≡ Some q → IsFirstShort had (p ∷ ps) q
+    here : (had : K → ℕ) (p : K × ℕ) (ps : List (K × ℕ)) → IsRising (p ∷ ps) → (q : K × ℕ) → had p.0 < p.1
+        → Some (p.0, had p.0 + 1) ≡ Some q → IsFirstShort had (p ∷ ps) q
     here had p ps rising q short is =
         let at : q ≡ (p.0, had p.0 + 1) = cc in
         let goal : IsFirstShort had (p ∷ ps) (p.0, had p.0 + 1) = record {
@@ -253,7 +267,8 @@ module _ {K : Type 0} (eq lt : K → K → Bool) where
         } in
         subst (λ x. IsFirstShort had (p ∷ ps) x) (sym at) goal
 
-    further : (had : K → ℕ) (p : K × ℕ) (ps : List (K × ℕ)) → IsRising (p ∷ ps) → (q : K × ℕ) → p.1 ≤ had p.0 → IsFirstShort had ps q → IsFirstShort had (p ∷ ps) q
+    further : (had : K → ℕ) (p : K × ℕ) (ps : List (K × ℕ)) → IsRising (p ∷ ps) → (q : K × ℕ) → p.1 ≤ had p.0 → IsFirstShort had ps q
+        → IsFirstShort had (p ∷ ps) q
     further had p ps rising q enough rest = record {
       least = rest.least;
       short =

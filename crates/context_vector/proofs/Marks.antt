@@ -16,19 +16,23 @@ pub weight_none : (n : NameData) → weight n 0 ≡ 0
 unfolding weight
 weight_none n = refl
 
-pub weight_some : (n : NameData) (g : ℕ) → g ≢ 0 → weight n g ≡ spread (folded (spread (n.site * 68719476736 + n.number * 65536 + g))) / 2 ^ 31
+pub weight_some : (n : NameData) (g : ℕ) → g ≢ 0
+    → weight n g ≡ spread (folded (spread (n.site * 68719476736 + n.number * 65536 + g))) / 2 ^ 31
 unfolding weight
 weight_some n g some = rw (ne_eqb g 0 some) refl
 
 -- a name before the first of a list isn't in it
-pub absent_before : (n : NameData) (e : NameData × ℕ) (es : List (NameData × ℕ)) → AreEntries (e ∷ es) → name_lt n e.0 ≡ true → entry_in es n ≡ 0
+pub absent_before : (n : NameData) (e : NameData × ℕ) (es : List (NameData × ℕ)) → AreEntries (e ∷ es) → name_lt n e.0 ≡ true
+    → entry_in es n ≡ 0
 absent_before n e es are less = entry_is es n ∙ value_after name_eq name_lt name_order n es (entries_after n (e ∷ es) less are).1
 
-pub mark_put : (n : NameData) (g : ℕ) (es : List (NameData × ℕ)) → AreEntries es → mark_of (put_entry n g es) + weight n (entry_in es n) ≡ mark_of es + weight n g
+pub mark_put : (n : NameData) (g : ℕ) (es : List (NameData × ℕ)) → AreEntries es
+    → mark_of (put_entry n g es) + weight n (entry_in es n) ≡ mark_of es + weight n g
 mark_put n g [] are = omega (arith, weight_none n)
 mark_put n g (e ∷ es) are =
     cases_by_order name_eq name_lt name_order e.0 n _
-    (λ is q q' l l'. rw q (subst (λ x. weight n g + mark_of es + weight n e.1 ≡ weight x e.1 + mark_of es + weight n g) (sym is) (omega arith)))
+    (λ is q q' l l'. rw q (subst (λ x. weight n g + mark_of es + weight n e.1 ≡ weight x e.1 + mark_of es + weight n g) (sym is)
+    (omega arith)))
     (λ q q' l l'. rw (q, l') (omega (arith, mark_put n g es are.4)))
     (λ q q' l l'. rw (q, l', absent_before n e es are l') (omega (arith, weight_none n)))
 
@@ -58,7 +62,8 @@ unfolding weight
 weight_below n g =
     elim (cases_order g 0) [
       | inl none ↦ rw (eq-eqb g 0 none) (omega arith)
-      | inr other ↦ rw (ne_eqb g 0 (omega arith)) (shr_below (spread (folded (spread (n.site * 68719476736 + n.number * 65536 + g)))) 33 31 (spread_below _))
+      | inr other ↦ rw (ne_eqb g 0 (omega arith))
+          (shr_below (spread (folded (spread (n.site * 68719476736 + n.number * 65536 + g)))) 33 31 (spread_below _))
     ]
 
 mark_by_length : (es : List (NameData × ℕ)) → mark_of es ≤ 8589934592 * length es

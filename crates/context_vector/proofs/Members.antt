@@ -24,38 +24,45 @@ count_put s k ps t =
     ∙ value_put same_site nat_lt number_order s k ps t
     ∙ ap (λ v. if s == t then k else v) (sym (count_is ps t))
 
-pub entry_put : (n : NameData) (g : ℕ) (es : List (NameData × ℕ)) (m : NameData) → entry_in (put_entry n g es) m ≡ (if name_eq n m then g else entry_in es m)
+pub entry_put : (n : NameData) (g : ℕ) (es : List (NameData × ℕ)) (m : NameData)
+    → entry_in (put_entry n g es) m ≡ (if name_eq n m then g else entry_in es m)
 entry_put n g es m =
     entry_is (put_entry n g es) m
     ∙ ap (λ qs. value_at name_eq name_lt qs m) (put_entry_is n g es)
     ∙ value_put name_eq name_lt name_order n g es m
     ∙ ap (λ v. if name_eq n m then g else v) (sym (entry_is es m))
 
-pub count_without : (s : ℕ) (ps : List (ℕ × ℕ)) → AreCounts 0 ps → (t : ℕ) → count_in (without_site s ps) t ≡ (if s == t then 0 else count_in ps t)
+pub count_without : (s : ℕ) (ps : List (ℕ × ℕ)) → AreCounts 0 ps → (t : ℕ)
+    → count_in (without_site s ps) t ≡ (if s == t then 0 else count_in ps t)
 count_without s ps are t =
     count_is (without_site s ps) t
     ∙ ap (λ qs. value_at same_site nat_lt qs t) (without_site_is s ps)
     ∙ value_take_out same_site nat_lt number_order s ps (counts_rise 0 ps are) t
     ∙ ap (λ v. if s == t then 0 else v) (sym (count_is ps t))
 
-pub entry_without : (n : NameData) (es : List (NameData × ℕ)) → AreEntries es → (m : NameData) → entry_in (without_name n es) m ≡ (if name_eq n m then 0 else entry_in es m)
+pub entry_without : (n : NameData) (es : List (NameData × ℕ)) → AreEntries es → (m : NameData)
+    → entry_in (without_name n es) m ≡ (if name_eq n m then 0 else entry_in es m)
 entry_without n es are m =
     entry_is (without_name n es) m
     ∙ ap (λ qs. value_at name_eq name_lt qs m) (without_name_is n es)
     ∙ value_take_out name_eq name_lt name_order n es (entries_rise es are) m
     ∙ ap (λ v. if name_eq n m then 0 else v) (sym (entry_is es m))
 
-pub count_lower : (s k : ℕ) (ps : List (ℕ × ℕ)) → AreCounts 0 ps → 1 ≤ k → (t : ℕ) → count_in (lower_count s k ps) t ≡ (if s == t then k - 1 else count_in ps t)
+pub count_lower : (s k : ℕ) (ps : List (ℕ × ℕ)) → AreCounts 0 ps → 1 ≤ k → (t : ℕ)
+    → count_in (lower_count s k ps) t ≡ (if s == t then k - 1 else count_in ps t)
 count_lower s k ps are least t =
     elim (cases_order k 1) [
-      | inl one ↦ rw (eq-eqb k 1 one) (count_without s ps are t ∙ ap (λ v. if s == t then v else count_in ps t) (let none : 0 ≡ k - 1 = omega arith in none))
+      | inl one ↦ rw (eq-eqb k 1 one)
+          (count_without s ps are t ∙ ap (λ v. if s == t then v else count_in ps t) (let none : 0 ≡ k - 1 = omega arith in none))
       | inr other ↦ rw (ne_eqb k 1 (omega arith)) (count_put s (k - 1) ps t)
     ]
 
-pub entry_lower : (n : NameData) (g : ℕ) (es : List (NameData × ℕ)) → AreEntries es → 1 ≤ g → (m : NameData) → entry_in (lower_entry n g es) m ≡ (if name_eq n m then g - 1 else entry_in es m)
+pub entry_lower : (n : NameData) (g : ℕ) (es : List (NameData × ℕ)) → AreEntries es → 1 ≤ g → (m : NameData)
+    → entry_in (lower_entry n g es) m ≡ (if name_eq n m then g - 1 else entry_in es m)
 entry_lower n g es are least m =
     elim (cases_order g 1) [
-      | inl one ↦ rw (eq-eqb g 1 one) (entry_without n es are m ∙ ap (λ v. if name_eq n m then v else entry_in es m) (let none : 0 ≡ g - 1 = omega arith in none))
+      | inl one ↦ rw (eq-eqb g 1 one)
+          (entry_without n es are m ∙ ap (λ v. if name_eq n m then v else entry_in es m) (let none : 0 ≡ g - 1 = omega arith in none))
       | inr other ↦ rw (ne_eqb g 1 (omega arith)) (entry_put n (g - 1) es m)
     ]
 
@@ -107,8 +114,10 @@ same_names a b = grind (arith, nat_tests)
 pub has_raised : (c : ContextData) (m : Member) → IsNextMember c m → (y : Member) → has (raised c m) y ≡ (has c y || member_eq m y)
 has_raised c (Original n) next (Original y) =
     rw (count_put n.site n.number c.counts y.site)
-    (chosen (n.site == y.site) (count_of c y.site) n.number (λ t k. among k y.number ≡ (among (count_of c y.site) y.number || (t && (n.number == y.number))))
-    (λ one. among_next y.number (count_of c y.site) n.number (subst (λ s. n.number ≡ count_of c s + 1) (number_order.same n.site y.site one) next))
+    (chosen (n.site == y.site) (count_of c y.site) n.number
+    (λ t k. among k y.number ≡ (among (count_of c y.site) y.number || (t && (n.number == y.number))))
+    (λ one. among_next y.number (count_of c y.site) n.number
+    (subst (λ s. n.number ≡ count_of c s + 1) (number_order.same n.site y.site one) next))
     (λ other. or_false _))
 has_raised c (Original n) next (Group y h) = or_false _
 has_raised c (Group n g) next (Original y) = or_false _
@@ -119,11 +128,14 @@ has_raised c (Group n g) next (Group y h) =
     (λ other. or_false _))
 
 -- a member that is not in the context, and all below it, were added
-pub has_raised_up_to : (c : ContextData) (m : Member) → has c m ≡ false → 1 ≤ size_of m → (y : Member) → has (raised c m) y ≡ (has c y || up_to y m)
+pub has_raised_up_to : (c : ContextData) (m : Member) → has c m ≡ false → 1 ≤ size_of m → (y : Member)
+    → has (raised c m) y ≡ (has c y || up_to y m)
 has_raised_up_to c (Original n) lacks least (Original y) =
     rw (count_put n.site n.number c.counts y.site, same_tests y.site n.site)
-    (chosen (n.site == y.site) (count_of c y.site) n.number (λ t k. among k y.number ≡ (among (count_of c y.site) y.number || (t && among n.number y.number)))
-    (λ one. among_less y.number (count_of c y.site) n.number (subst (λ s. count_of c s ≤ n.number) (number_order.same n.site y.site one) (lacks_above n.number (count_of c n.site) least lacks)))
+    (chosen (n.site == y.site) (count_of c y.site) n.number
+    (λ t k. among k y.number ≡ (among (count_of c y.site) y.number || (t && among n.number y.number)))
+    (λ one. among_less y.number (count_of c y.site) n.number
+    (subst (λ s. count_of c s ≤ n.number) (number_order.same n.site y.site one) (lacks_above n.number (count_of c n.site) least lacks)))
     (λ other. or_false _))
 has_raised_up_to c (Original n) lacks least (Group y h) = or_false _
 has_raised_up_to c (Group n g) lacks least (Original y) = or_false _
@@ -134,11 +146,14 @@ has_raised_up_to c (Group n g) lacks least (Group y h) =
     (λ other. or_false _))
 
 -- the last member of a site or a name was taken out: that one alone
-pub has_lowered : (c : ContextData) (m : Member) → IsContext c → IsLastMember c m → 1 ≤ size_of m → (y : Member) → has (lowered c m) y ≡ (has c y && not (member_eq m y))
+pub has_lowered : (c : ContextData) (m : Member) → IsContext c → IsLastMember c m → 1 ≤ size_of m → (y : Member)
+    → has (lowered c m) y ≡ (has c y && not (member_eq m y))
 has_lowered c (Original n) is last least (Original y) =
     rw (count_lower n.site n.number c.counts is.counts least y.site)
-    (chosen (n.site == y.site) (count_of c y.site) (n.number - 1) (λ t k. among k y.number ≡ (among (count_of c y.site) y.number && not (t && (n.number == y.number))))
-    (λ one. among_last y.number (count_of c y.site) n.number (subst (λ s. n.number ≡ count_of c s) (number_order.same n.site y.site one) last))
+    (chosen (n.site == y.site) (count_of c y.site) (n.number - 1)
+    (λ t k. among k y.number ≡ (among (count_of c y.site) y.number && not (t && (n.number == y.number))))
+    (λ one. among_last y.number (count_of c y.site) n.number
+    (subst (λ s. n.number ≡ count_of c s) (number_order.same n.site y.site one) last))
     (λ other. and_true _))
 has_lowered c (Original n) is last least (Group y h) = and_true _
 has_lowered c (Group n g) is last least (Original y) = and_true _
@@ -149,13 +164,19 @@ has_lowered c (Group n g) is last least (Group y h) =
     (λ other. and_true _))
 
 -- the form and the ranges of a context stay
-pub raised_is_context : (c : ContextData) (m : Member) → IsContext c → IsName (target_of m).site (target_of m).number → IsMember m → size_of m ≤ greatest_of m → IsContext (raised c m)
-raised_is_context c (Original n) is name member most = record { counts = counts_put 0 n.site n.number c.counts (omega arith) name.0 name.1 name.2 is.counts; entries = is.entries }
-raised_is_context c (Group n g) is name member most = record { counts = is.counts; entries = entries_put n g c.entries name member most is.entries }
+pub raised_is_context : (c : ContextData) (m : Member) → IsContext c → IsName (target_of m).site (target_of m).number → IsMember m
+    → size_of m ≤ greatest_of m → IsContext (raised c m)
+raised_is_context c (Original n) is name member most =
+    record { counts = counts_put 0 n.site n.number c.counts (omega arith) name.0 name.1 name.2 is.counts; entries = is.entries }
+raised_is_context c (Group n g) is name member most =
+    record { counts = is.counts; entries = entries_put n g c.entries name member most is.entries }
 
-pub lowered_is_context : (c : ContextData) (m : Member) → IsContext c → IsName (target_of m).site (target_of m).number → IsMember m → size_of m ≤ greatest_of m → IsContext (lowered c m)
-lowered_is_context c (Original n) is name member most = record { counts = counts_lower n.site n.number c.counts name.0 name.1 name.2 is.counts; entries = is.entries }
-lowered_is_context c (Group n g) is name member most = record { counts = is.counts; entries = entries_lower n g c.entries name member most is.entries }
+pub lowered_is_context : (c : ContextData) (m : Member) → IsContext c → IsName (target_of m).site (target_of m).number → IsMember m
+    → size_of m ≤ greatest_of m → IsContext (lowered c m)
+lowered_is_context c (Original n) is name member most =
+    record { counts = counts_lower n.site n.number c.counts name.0 name.1 name.2 is.counts; entries = is.entries }
+lowered_is_context c (Group n g) is name member most =
+    record { counts = is.counts; entries = entries_lower n g c.entries name member most is.entries }
 
 -- numbers and generations start at 1
 pub size_least : (m : Member) → IsName (target_of m).site (target_of m).number → IsMember m → 1 ≤ size_of m

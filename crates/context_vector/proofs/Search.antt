@@ -16,7 +16,8 @@ use Rattle.context_vector.proofs.Keyed.{IsRising, later_key}
 abbrev pub answer_of : Bool → Bool → Ordering
 answer_of less equal = if less then Less else if equal then Equal else Greater
 
-module _ {K : Type 0} (eq lt : K → K → Bool) (order : IsOrder eq lt) (cmp : K → K → Ordering) (cmp_is : (a b : K) → cmp a b ≡ answer_of (lt a b) (eq a b)) where
+module _ {K : Type 0} (eq lt : K → K → Bool) (order : IsOrder eq lt) (cmp : K → K → Ordering)
+    (cmp_is : (a b : K) → cmp a b ≡ answer_of (lt a b) (eq a b)) where
   less_answer : (a b : K) → lt a b ≡ true → cmp a b ≡ Less
   less_answer a b less = cmp_is a b ∙ rw less refl
 
@@ -55,7 +56,8 @@ module _ {K : Type 0} (eq lt : K → K → Bool) (order : IsOrder eq lt) (cmp : 
       (λ e e' l l'. rw (less_answer a k l) (omega arith))
       (λ e e' l l'. rw (greater_answer a k l', greater_answer b k (order.transitive k a b l' less)) (omega arith))
 
-  keys_rise : (ps : List (K × ℕ)) → IsRising eq lt ps → (i j : ℕ) (d : K × ℕ) → i < j → j < length ps → lt (get_or ps i d).0 (get_or ps j d).0 ≡ true
+  keys_rise : (ps : List (K × ℕ)) → IsRising eq lt ps → (i j : ℕ) (d : K × ℕ) → i < j → j < length ps
+      → lt (get_or ps i d).0 (get_or ps j d).0 ≡ true
   keys_rise [] rising i j d less within = absurd (omega arith)
   keys_rise (p ∷ ps) rising i zero d less within = absurd (omega arith)
   keys_rise (p ∷ ps) rising zero (suc j) d less within = later_key eq lt order p.0 ps rising.1 j d (omega arith)
@@ -65,11 +67,14 @@ module _ {K : Type 0} (eq lt : K → K → Bool) (order : IsOrder eq lt) (cmp : 
   all_rise ps rising k i j d le within =
       elim (cases_lt i j) [
         | inl less ↦ answers_rise (get_or ps i d).0 (get_or ps j d).0 k (keys_rise ps rising i j d less within)
-        | inr more ↦ let same : i ≡ j = omega arith in subst (λ x. ordering_index (cmp (get_or ps i d).0 k) ≤ ordering_index (cmp (get_or ps x d).0 k)) same (omega arith)
+        | inr more ↦ let same : i ≡ j =
+            omega arith in subst (λ x. ordering_index (cmp (get_or ps i d).0 k) ≤ ordering_index (cmp (get_or ps x d).0 k)) same
+            (omega arith)
       ]
 
   -- a binary search ends at the key, or at the gap for it
-  pub searched : (ps : List (K × ℕ)) → IsRising eq lt ps → (k : K) (r : Result ℕ ℕ) → IsSearchInRange r (length ps) → IsBinarySearchResult (λ (p : K × ℕ). cmp p.0 k) ps r → IfOk r (IsPlace ps k) × IfErr r (IsGap lt ps k)
+  pub searched : (ps : List (K × ℕ)) → IsRising eq lt ps → (k : K) (r : Result ℕ ℕ) → IsSearchInRange r (length ps)
+      → IsBinarySearchResult (λ (p : K × ℕ). cmp p.0 k) ps r → IfOk r (IsPlace ps k) × IfErr r (IsGap lt ps k)
   searched ps rising k (Ok at) within equal = (record { within = within; key = λ d. is_equal _ k (equal d) }, tt)
   searched ps rising k (Err at) within parted =
       let parts = parted (all_rise ps rising k) in (

@@ -50,20 +50,26 @@ group_entered c n g there = among_to g (entry_of c n) there
 pub within_counts : (c d : ContextData) → Within c d → (s : ℕ) → count_of c s ≤ count_of d s
 within_counts c d within s =
     elim (cases_lt 0 (count_of c s)) [
-      | inl some ↦ let there = among_to (count_of c s) (count_of d s) (within (original s (count_of c s)) (among_from (count_of c s) (count_of c s) some (omega arith))) in there.1
+      | inl some ↦ let there =
+          among_to (count_of c s) (count_of d s)
+          (within (original s (count_of c s)) (among_from (count_of c s) (count_of c s) some (omega arith))) in there.1
       | inr none ↦ omega arith
     ]
 
 pub within_entries : (c d : ContextData) → Within c d → (n : NameData) → entry_of c n ≤ entry_of d n
 within_entries c d within n =
     elim (cases_lt 0 (entry_of c n)) [
-      | inl some ↦ let there = among_to (entry_of c n) (entry_of d n) (within (Group n (entry_of c n)) (among_from (entry_of c n) (entry_of c n) some (omega arith))) in there.1
+      | inl some ↦ let there =
+          among_to (entry_of c n) (entry_of d n)
+          (within (Group n (entry_of c n)) (among_from (entry_of c n) (entry_of c n) some (omega arith))) in there.1
       | inr none ↦ omega arith
     ]
 
-pub within_from : (c d : ContextData) → ((s : ℕ) → count_of c s ≤ count_of d s) → ((n : NameData) → entry_of c n ≤ entry_of d n) → Within c d
+pub within_from : (c d : ContextData) → ((s : ℕ) → count_of c s ≤ count_of d s) → ((n : NameData) → entry_of c n ≤ entry_of d n)
+    → Within c d
 within_from c d counts entries (Original n) there =
-    let at = among_to n.number (count_of c n.site) there in among_from n.number (count_of d n.site) at.0 (omega (arith, at.1, counts n.site))
+    let at = among_to n.number (count_of c n.site) there in
+    among_from n.number (count_of d n.site) at.0 (omega (arith, at.1, counts n.site))
 within_from c d counts entries (Group n g) there =
     let at = among_to g (entry_of c n) there in among_from g (entry_of d n) at.0 (omega (arith, at.1, entries n))
 
@@ -75,10 +81,14 @@ pub same_context : (c d : ContextData) → IsContext c → IsContext d → ((m :
 same_context c d is is' same =
     let there = within_from_same c d same in
     let back = within_from_same d c (λ m. sym (same m)) in
-    let counts : c.counts ≡ d.counts = same_values same_site nat_lt number_order c.counts d.counts (counts_rise 0 c.counts is.counts) (counts_rise 0 d.counts is'.counts)
-    (λ s. sym (count_is c.counts s) ∙ (both (count_of c s) (count_of d s) (within_counts c d there s) (within_counts d c back s) ∙ count_is d.counts s)) in
-    let entries : c.entries ≡ d.entries = same_values name_eq name_lt name_order c.entries d.entries (entries_rise c.entries is.entries) (entries_rise d.entries is'.entries)
-    (λ n. sym (entry_is c.entries n) ∙ (both (entry_of c n) (entry_of d n) (within_entries c d there n) (within_entries d c back n) ∙ entry_is d.entries n)) in
+    let counts : c.counts ≡ d.counts =
+    same_values same_site nat_lt number_order c.counts d.counts (counts_rise 0 c.counts is.counts) (counts_rise 0 d.counts is'.counts)
+    (λ s. sym (count_is c.counts s)
+    ∙ (both (count_of c s) (count_of d s) (within_counts c d there s) (within_counts d c back s) ∙ count_is d.counts s)) in
+    let entries : c.entries ≡ d.entries =
+    same_values name_eq name_lt name_order c.entries d.entries (entries_rise c.entries is.entries) (entries_rise d.entries is'.entries)
+    (λ n. sym (entry_is c.entries n)
+    ∙ (both (entry_of c n) (entry_of d n) (within_entries c d there n) (within_entries d c back n) ∙ entry_is d.entries n)) in
     λ i. record { counts = counts i; entries = entries i }
   where
     both : (a b : ℕ) → a ≤ b → b ≤ a → a ≡ b
@@ -116,14 +126,22 @@ rest_below low q ps qs are less below s =
     ]
 
 -- the first site of the one list is not below that of the other
-not_first : (p q : ℕ × ℕ) (ps qs : List (ℕ × ℕ)) (low low' : ℕ) → AreCounts low (p ∷ ps) → AreCounts low' (q ∷ qs) → NoneAbove (p ∷ ps) (q ∷ qs) → q.0 ≤ p.0
+not_first : (p q : ℕ × ℕ) (ps qs : List (ℕ × ℕ)) (low low' : ℕ) → AreCounts low (p ∷ ps) → AreCounts low' (q ∷ qs)
+    → NoneAbove (p ∷ ps) (q ∷ qs) → q.0 ≤ p.0
 not_first p q ps qs low low' are are' below =
     elim (cases_lt p.0 q.0) [
-      | inl less ↦ absurd (omega (arith, are.2, below p.0, first_counted p ps, none_counted q.0 p.0 (q ∷ qs) less (omega arith, are'.1, are'.2, are'.3, are'.4)))
+      | inl less ↦ absurd (omega (
+        arith,
+        are.2,
+        below p.0,
+        first_counted p ps,
+        none_counted q.0 p.0 (q ∷ qs) less (omega arith, are'.1, are'.2, are'.3, are'.4),
+      ))
       | inr le ↦ le
     ]
 
-pub sums_below : (qs ps : List (ℕ × ℕ)) (low low' : ℕ) → AreCounts low ps → AreCounts low' qs → NoneAbove ps qs → sum_of_counts ps ≤ sum_of_counts qs
+pub sums_below : (qs ps : List (ℕ × ℕ)) (low low' : ℕ) → AreCounts low ps → AreCounts low' qs → NoneAbove ps qs
+    → sum_of_counts ps ≤ sum_of_counts qs
 sums_below qs [] low low' are are' below = omega arith
 sums_below [] (p ∷ ps) low low' are are' below = absurd (omega (arith, are.2, below p.0, first_counted p ps))
 sums_below (q ∷ qs) (p ∷ ps) low low' are are' below =
@@ -134,10 +152,17 @@ sums_below (q ∷ qs) (p ∷ ps) low low' are are' below =
           omega (arith, sums_below qs (p ∷ ps) p.0 (q.0 + 1) from are'.4 (rest_below p.0 q (p ∷ ps) qs from less below))
       | inr le ↦
           let one : p.0 ≡ q.0 = omega (arith, order) in
-          omega (arith, sums_below qs ps (p.0 + 1) (q.0 + 1) are.4 are'.4 (tails_below p q ps qs are.4 one below), first_counted p ps, subst (λ s. count_in (q ∷ qs) s ≡ q.1) (sym one) (first_counted q qs), below p.0)
+          omega (
+            arith,
+            sums_below qs ps (p.0 + 1) (q.0 + 1) are.4 are'.4 (tails_below p q ps qs are.4 one below),
+            first_counted p ps,
+            subst (λ s. count_in (q ∷ qs) s ≡ q.1) (sym one) (first_counted q qs),
+            below p.0,
+          )
     ]
 
-pub sums_less : (qs ps : List (ℕ × ℕ)) (low low' : ℕ) → AreCounts low ps → AreCounts low' qs → NoneAbove ps qs → (r : ℕ) → count_in ps r < count_in qs r → sum_of_counts ps < sum_of_counts qs
+pub sums_less : (qs ps : List (ℕ × ℕ)) (low low' : ℕ) → AreCounts low ps → AreCounts low' qs → NoneAbove ps qs → (r : ℕ)
+    → count_in ps r < count_in qs r → sum_of_counts ps < sum_of_counts qs
 sums_less [] [] low low' are are' below r less = absurd (omega arith)
 sums_less (q ∷ qs) [] low low' are are' below r less = omega (arith, are'.2)
 sums_less [] (p ∷ ps) low low' are are' below r less = absurd (omega (arith, are.2, below p.0, first_counted p ps))
@@ -153,26 +178,31 @@ sums_less (q ∷ qs) (p ∷ ps) low low' are are' below r less =
           let first : count_in (q ∷ qs) p.0 ≡ q.1 = subst (λ s. count_in (q ∷ qs) s ≡ q.1) (sym one) (first_counted q qs) in
           elim (cases_order p.0 r) [
             | inl here ↦
-                let greater : p.1 < q.1 = omega (arith, first, first_counted p ps, subst (λ s. count_in (p ∷ ps) s < count_in (q ∷ qs) s) (sym here) less) in
+                let greater : p.1 < q.1 =
+                omega (arith, first, first_counted p ps, subst (λ s. count_in (p ∷ ps) s < count_in (q ∷ qs) s) (sym here) less) in
                 omega (arith, greater, sums_below qs ps (p.0 + 1) (q.0 + 1) are.4 are'.4 tails)
             | inr other ↦
-                let later : count_in ps r < count_in qs r = omega (arith, less, past_first p ps r (omega arith), past_first q qs r (omega arith)) in
+                let later : count_in ps r < count_in qs r =
+                omega (arith, less, past_first p ps r (omega arith), past_first q qs r (omega arith)) in
                 omega (arith, first, first_counted p ps, below p.0, sums_less qs ps (p.0 + 1) (q.0 + 1) are.4 are'.4 tails r later)
           ]
     ]
 
 -- a context within another that lacks one of its originals has fewer
-pub rank_less : (c d : ContextData) → IsContext c → IsContext d → Within c d → (n : NameData) → has d (Original n) ≡ true → has c (Original n) ≡ false → rank_of c < rank_of d
+pub rank_less : (c d : ContextData) → IsContext c → IsContext d → Within c d → (n : NameData) → has d (Original n) ≡ true
+    → has c (Original n) ≡ false → rank_of c < rank_of d
 rank_less c d is is' within n there lacks =
     let at = original_counted d n there in
-    sums_less d.counts c.counts 0 0 is.counts is'.counts (within_counts c d within) n.site (omega (arith, at.1, not_among_to n.number (count_of c n.site) lacks at.0))
+    sums_less d.counts c.counts 0 0 is.counts is'.counts (within_counts c d within) n.site
+    (omega (arith, at.1, not_among_to n.number (count_of c n.site) lacks at.0))
 
 and_false : (x : Bool) → (x && false) ≡ false
 and_false true = refl
 and_false false = refl
 
 -- the walks over counts and entries find the first member that is missing
-pub short_original : (c d : ContextData) → IsContext d → (q : ℕ × ℕ) → first_short (count_in c.counts) d.counts ≡ Some q → (IsFirstMissing c d (original q.0 q.1)) × IsName q.0 q.1
+pub short_original : (c d : ContextData) → IsContext d → (q : ℕ × ℕ) → first_short (count_in c.counts) d.counts ≡ Some q
+    → (IsFirstMissing c d (original q.0 q.1)) × IsName q.0 q.1
 short_original c d is q found =
     let short = some_short same_site nat_lt number_order (count_in c.counts) d.counts (counts_rise 0 d.counts is.counts) q found in
     let count : value_at same_site nat_lt d.counts q.0 ≡ count_of d q.0 = sym (count_is d.counts q.0) in
@@ -182,10 +212,15 @@ short_original c d is q found =
         lacking = not_among q.1 (count_of c q.0) (omega (arith, short.least));
         first = first_original c d q short;
       },
-      (counted_below 0 d.counts q.0 is.counts (omega (arith, le, short.least)), omega (arith, short.least), omega (arith, le, count_at_most 0 d.counts q.0 is.counts)),
+      (
+        counted_below 0 d.counts q.0 is.counts (omega (arith, le, short.least)),
+        omega (arith, short.least),
+        omega (arith, le, count_at_most 0 d.counts q.0 is.counts),
+      ),
     )
   where
-    first_original : (c d : ContextData) (q : ℕ × ℕ) → IsFirstShort same_site nat_lt number_order (count_in c.counts) d.counts q → (y : Member) → has d y ≡ true → has c y ≡ false → member_lt y (original q.0 q.1) ≡ false
+    first_original : (c d : ContextData) (q : ℕ × ℕ) → IsFirstShort same_site nat_lt number_order (count_in c.counts) d.counts q
+        → (y : Member) → has d y ≡ true → has c y ≡ false → member_lt y (original q.0 q.1) ≡ false
     first_original c d q short (Group n g) there lacks = refl
     first_original c d q short (Original n) there lacks =
         let at = among_to n.number (count_of d n.site) there in
@@ -201,7 +236,8 @@ short_original c d is q found =
           | inr other ↦ rw (le-ltb n.site q.0 not_before, ne_eqb n.site q.0 (omega arith)) refl
         ]
 
-pub short_group : (c d : ContextData) → IsContext d → first_short (count_in c.counts) d.counts ≡ None → (q : NameData × ℕ) → first_short (entry_in c.entries) d.entries ≡ Some q → (IsFirstMissing c d (Group q.0 q.1)) × (1 ≤ q.1)
+pub short_group : (c d : ContextData) → IsContext d → first_short (count_in c.counts) d.counts ≡ None → (q : NameData × ℕ)
+    → first_short (entry_in c.entries) d.entries ≡ Some q → (IsFirstMissing c d (Group q.0 q.1)) × (1 ≤ q.1)
 short_group c d is none q found =
     let short = some_short name_eq name_lt name_order (entry_in c.entries) d.entries (entries_rise d.entries is.entries) q found in
     let entry : value_at name_eq name_lt d.entries q.0 ≡ entry_of d q.0 = sym (entry_is d.entries q.0) in
@@ -214,10 +250,18 @@ short_group c d is none q found =
       omega (arith, short.least),
     )
   where
-    first_group : (c d : ContextData) (q : NameData × ℕ) → first_short (count_in c.counts) d.counts ≡ None → IsFirstShort name_eq name_lt name_order (entry_in c.entries) d.entries q → (y : Member) → has d y ≡ true → has c y ≡ false → member_lt y (Group q.0 q.1) ≡ false
+    first_group : (c d : ContextData) (q : NameData × ℕ) → first_short (count_in c.counts) d.counts ≡ None
+        → IsFirstShort name_eq name_lt name_order (entry_in c.entries) d.entries q → (y : Member) → has d y ≡ true → has c y ≡ false
+        → member_lt y (Group q.0 q.1) ≡ false
     first_group c d q none short (Original n) there lacks =
         let at = among_to n.number (count_of d n.site) there in
-        absurd (omega (arith, at.1, not_among_to n.number (count_of c n.site) lacks at.0, count_is d.counts n.site, none_short same_site nat_lt number_order (count_in c.counts) d.counts none n.site))
+        absurd (omega (
+          arith,
+          at.1,
+          not_among_to n.number (count_of c n.site) lacks at.0,
+          count_is d.counts n.site,
+          none_short same_site nat_lt number_order (count_in c.counts) d.counts none n.site,
+        ))
     first_group c d q none short (Group n g) there lacks =
         let at = among_to g (entry_of d n) there in
         let above : entry_of c n < g = not_among_to g (entry_of c n) lacks at.0 in
@@ -229,7 +273,8 @@ short_group c d is none q found =
         (λ e e' l l'. absurd (not_before l))
         (λ e e' l l'. rw (l, e) refl)
 
-pub none_missing : (c d : ContextData) → first_short (count_in c.counts) d.counts ≡ None → first_short (entry_in c.entries) d.entries ≡ None → Within d c
+pub none_missing : (c d : ContextData) → first_short (count_in c.counts) d.counts ≡ None → first_short (entry_in c.entries) d.entries ≡ None
+    → Within d c
 none_missing c d counts entries =
     within_from d c
     (λ s. omega (arith, count_is d.counts s, none_short same_site nat_lt number_order (count_in c.counts) d.counts counts s))
@@ -269,5 +314,6 @@ sum_put low s k (p ∷ ps) are =
     is_le : (a b : ℕ) → a < b → nat_le a b ≡ true
     is_le a b less = grind (arith, nat_tests)
 
-pub rank_raised : (c : ContextData) (n : NameData) → IsContext c → n.number ≡ count_of c n.site + 1 → rank_of (raised c (Original n)) ≡ rank_of c + 1
+pub rank_raised : (c : ContextData) (n : NameData) → IsContext c → n.number ≡ count_of c n.site + 1
+    → rank_of (raised c (Original n)) ≡ rank_of c + 1
 rank_raised c n is next = omega (arith, next, sum_put 0 n.site n.number c.counts is.counts)

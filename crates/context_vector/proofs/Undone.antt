@@ -131,18 +131,6 @@ entry_within (e ∷ es) fs n after = ap (λ v. if name_eq e.0 n then e.1 else v)
 last_place : (es : List (NameData × ℕ)) (e : NameData × ℕ) → slice_get es (length es - 1) ≡ Some e → length es ≡ suc (length es - 1)
 last_place es e is = omega (arith, slice_get_within es (length es - 1) e is)
 
-pub part_passed : (part rest : List (NameData × ℕ)) (last : NameData × ℕ) (n : NameData) → AreEntries (part ++ rest)
-    → slice_get part (length part - 1) ≡ Some last → name_lt last.0 n ≡ true
-    → entry_in (drop (length part) (part ++ rest)) n ≡ entry_in (part ++ rest) n
-part_passed part rest last n are is less =
-    let below = last_below part (length part - 1) last n (entries_left part rest are) (last_place part last is) is less in
-    ap (λ es. entry_in es n) (drop-append_seam part rest) ∙ sym (entry_behind part rest n below)
-
-pub part_reaches : (part rest : List (NameData × ℕ)) (last : NameData × ℕ) (n : NameData) → AreEntries (part ++ rest)
-    → slice_get part (length part - 1) ≡ Some last → name_lt last.0 n ≡ false → entry_in (part ++ rest) n ≡ entry_in part n
-part_reaches part rest last n are is not_less =
-    entry_within part rest n (last_reaches part (length part - 1) last n rest are (last_place part last is) is not_less)
-
 -- two lists of entries, read side by side
 short_is : (es fs : List (NameData × ℕ)) → first_short (entry_in es) fs ≡ first_short (value_at name_eq name_lt es) fs
 short_is es fs = ap (λ (had : NameData → ℕ). first_short had fs) (λ j n. entry_is es n j)

@@ -10,7 +10,8 @@ spread x = (x * 11400714819323198485) % 2 ^ 64
 unfoldable pub folded : ℕ → ℕ
 folded x = bit_xor x (x / 2 ^ 32)
 
--- what a name adds to a mark at a generation, from site, number and generation side by side: nothing at 0, and always less than 2 ^ 33, so that the
+-- what a name adds to a mark at a generation, from site, number and generation side by side: nothing at 0, and always less than 2 ^ 33,
+-- so that the
 -- sum of 2 ^ 30 names is below 2 ^ 64
 unfoldable pub weight : NameData → ℕ → ℕ
 weight n g = if g == 0 then 0 else spread (folded (spread (n.site * 68719476736 + n.number * 65536 + g))) / 2 ^ 31

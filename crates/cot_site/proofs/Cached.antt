@@ -14,13 +14,6 @@ use Rattle.undo_group.specs.BaseForms.{base_form}
 use Rattle.fixed_replay.proofs.CallerLemmas.{base_form_on}
 use Rattle.cot_site.specs.Sites.{AreCached, IsFormOf}
 
-pub cached_none : (h : List OpData) (es : Entries Form) → es ≡ [] → AreCached h es
-cached_none h es e = subst (λ (l : Entries Form). AreCached h l) (sym e) (no_entries form_over (family_in h (base_form h)))
-
-pub cached_same : (h k : List OpData) (es new : Entries Form) → AreCached h es → k ≡ h → new ≡ es → AreCached k new
-cached_same h k es new are a b =
-    subst (λ (l : List OpData). AreCached l new) (sym a) (subst (λ (l : Entries Form). AreCached h l) (sym b) are)
-
 pub cached_more : (h : List OpData) (o : OpData) (k : List OpData) (es : Entries Form) → IsValid h → IsNext h o → k ≡ h ++ o ∷ []
     → AreCached h es → AreCached k es
 cached_more h o k es valid next grown are =

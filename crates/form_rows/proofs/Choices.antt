@@ -47,10 +47,6 @@ pub first_members_row : {F : Type 0} (h : List OpData) (c : ContextData) (most f
 first_members_row h c most first r none low bound inserts =
     (none, bound, λ o there insert. inserts o (in_take_more o h r.upto first low there) insert)
 
-pub no_members_row : {F : Type 0} (h : List OpData) (c : ContextData) (most : ℕ) (r : RowData F) → r.forms ≡ [] → r.upto ≤ 0 → r.upto ≤ most
-    → IsFirstRow h c most r
-no_members_row h c most r none low bound = first_members_row h c most zero r none low bound (λ o there insert. absurd there)
-
 module _ {F : Type 0} (d : Deriving F) (IsInert : F → Type 0) (n : Inertness d.inclusion.over IsInert) (m : Member) (before : List Member)
     (executed : List F) (rows : List (AuthorRow F)) (w : IsLast d.inclusion.over IsInert d.family m before executed rows) where
   parted : IsCausalFrom d.family none before × IsCausalFrom d.family (plus_all none before) (m ∷ [])

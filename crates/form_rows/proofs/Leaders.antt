@@ -93,10 +93,6 @@ pub group_mark : (f : Form) (t : NameData) (g : ℕ) (c : Cover) → group_form 
 group_mark (Insert a) t g c e = let m : Own g ≡ c.mark = cc in sym m
 group_mark (Covered d) t g c e = let m : By t g ≡ c.mark = cc in sym m
 
-pub group_covers : (f : Form) (t : NameData) (g : ℕ) (a : Ins) → group_form f t g ≡ Insert a → ⊥
-group_covers (Insert b) t g a e = cc
-group_covers (Covered d) t g a e = cc
-
 -- what a history's forms rest on
 abbrev pub text_deriving : (h : List OpData) → IsShortHistory h → Deriving Form
 text_deriving h s = record {

@@ -180,8 +180,8 @@ fn bounds<F: Placed>(forms: &[F]) -> (u32, u32)
     let mut high = 0;
     for i in 0..forms.len() {
         let place = forms[i].at();
-        low = lesser(low, place);
-        high = greater(high, place);
+        low = low.min(place);
+        high = high.max(place);
     }
     (low, high)
 }
@@ -229,29 +229,13 @@ fn least_with<F: Named>(form: &F, site: u16, least: u32) -> u32
     match form.name() {
         Some(name) => {
             if name.site == site {
-                lesser(least, name.number)
+                least.min(name.number)
             } else {
                 0
             }
         }
         None => least,
     }
-}
-
-// The lesser of two numbers.
-fn lesser(one: u32, other: u32) -> u32
-    ensures one { result ≤ one }
-    ensures other { result ≤ other }
-{
-    if one < other { one } else { other }
-}
-
-// The greater of two numbers.
-fn greater(one: u32, other: u32) -> u32
-    ensures one { one ≤ result }
-    ensures other { other ≤ result }
-{
-    if one < other { other } else { one }
 }
 
 // A copy of the forms.

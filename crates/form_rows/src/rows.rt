@@ -103,11 +103,11 @@ impl<F: Named + Copy> Rows<F> {
         ensures bound { forms_in self.new.rows ≤ ENTRIES }
         ensures firsts { self.new.firsts ≡ self.old.firsts }
     {
-        if row.row.len() > ENTRIES - self.forms {
+        if may_come(row.row.len(), self.forms) {
+            self.forms = forms_with(&mut self.kept, row, self.forms);
+        } else {
             self.kept.clear();
             self.forms = 0;
-        } else {
-            self.forms = forms_with(&mut self.kept, row, self.forms);
         }
     }
 
@@ -236,7 +236,7 @@ impl<F: Named + Copy> Rows<F> {
         ensures low { result.upto ≤ upto }
         ensures bound { result.upto ≤ executed }
     {
-        Row::of_first(*self.kept.allocator(), at_most(upto, executed))
+        Row::of_first(*self.kept.allocator(), upto.min(executed))
     }
 }
 
@@ -254,6 +254,14 @@ fn taken<F: Named + Copy>(kept: &mut IndexMap<u16, AuthorRow<F>>, site: u16) -> 
         },
         None => None,
     }
+}
+
+// Whether so many forms more may come to those of all rows.
+fn may_come(more: usize, forms: usize) -> bool
+    requires { forms ≤ ENTRIES }
+    ensures { IsTrue result → forms + more ≤ ENTRIES }
+{
+    more <= ENTRIES - forms
 }
 
 // Keeps a row as that of its author, if memory suffices. Answers the number of forms in all rows then.
@@ -290,14 +298,6 @@ fn fitting<F: Named + Copy>(own: Option<AuthorRow<F>>, context: &Vector) -> Opti
         }
         None => None,
     }
-}
-
-// The lesser of two numbers.
-fn at_most(number: usize, most: usize) -> usize
-    ensures low { result ≤ number }
-    ensures bound { result ≤ most }
-{
-    if number < most { number } else { most }
 }
 
 /// The form of the book's last member, the insert or delete of this name, at the members before it, which were executed

@@ -30,10 +30,6 @@ name_same a b e = same_parts a b (grind (arith, nat_tests)) (grind (arith, nat_t
 pub name_itself : (a : NameData) → name_eq a a ≡ true
 name_itself a = grind (arith, nat_tests)
 
--- the test of names decides equality
-pub names_decide : (a b : NameData) → Decides (name_eq a b) (a ≡ b)
-names_decide a b = (name_same a b, λ e. subst (λ x. name_eq a x ≡ true) e (name_itself a))
-
 pub name_irreflexive : (a : NameData) → name_lt a a ≡ false
 name_irreflexive a = grind (arith, nat_tests)
 
@@ -47,7 +43,8 @@ pub name_less_other : (a b : NameData) → name_lt a b ≡ true → name_eq a b 
 name_less_other a b less = grind (arith, nat_tests)
 
 pub name_order : IsOrder name_eq name_lt
-name_order = record { same = name_same; itself = name_itself; irreflexive = name_irreflexive; transitive = name_transitive; total = name_total }
+name_order =
+    record { same = name_same; itself = name_itself; irreflexive = name_irreflexive; transitive = name_transitive; total = name_total }
 
 and_left : (x y : Bool) → (x && y) ≡ true → x ≡ true
 and_left true y e = refl
@@ -91,7 +88,8 @@ or_cases : (x y : Bool) → (x || y) ≡ true → (x ≡ true) ⊎ (x ≡ false)
 or_cases true y e = inl refl
 or_cases false y e = inr (refl, e)
 
-group_transitive : (a b c : NameData) (g h k : ℕ) → member_lt (Group a g) (Group b h) ≡ true → member_lt (Group b h) (Group c k) ≡ true → member_lt (Group a g) (Group c k) ≡ true
+group_transitive : (a b c : NameData) (g h k : ℕ) → member_lt (Group a g) (Group b h) ≡ true → member_lt (Group b h) (Group c k) ≡ true
+    → member_lt (Group a g) (Group c k) ≡ true
 group_transitive a b c g h k e f =
     let less : name_lt a c ≡ true → member_lt (Group a g) (Group c k) ≡ true = λ l. rw l refl in
     elim (or_cases (name_lt a b) _ e) [
@@ -127,15 +125,27 @@ member_total (Group a g) (Original b) e f = refl
 member_total (Group a g) (Group b h) e f = grind (arith, nat_tests)
 
 pub member_order : IsOrder member_eq member_lt
-member_order = record { same = member_same; itself = member_itself; irreflexive = member_irreflexive; transitive = member_transitive; total = member_total }
+member_order =
+    record {
+      same = member_same;
+      itself = member_itself;
+      irreflexive = member_irreflexive;
+      transitive = member_transitive;
+      total =
+          member_total;
+    }
 
 -- one of two values comes first, or they are one
-pub cases_by_order : {K : Type 0} (eq lt : K → K → Bool) → IsOrder eq lt → (a b : K) (P : Type 0) → (a ≡ b → eq a b ≡ true → eq b a ≡ true → lt a b ≡ false → lt b a ≡ false → P) → (eq a b ≡ false → eq b a ≡ false → lt a b ≡ true → lt b a ≡ false → P) → (eq a b ≡ false → eq b a ≡ false → lt a b ≡ false → lt b a ≡ true → P) → P
+pub cases_by_order : {K : Type 0} (eq lt : K → K → Bool) → IsOrder eq lt → (a b : K) (P : Type 0)
+    → (a ≡ b → eq a b ≡ true → eq b a ≡ true → lt a b ≡ false → lt b a ≡ false → P)
+    → (eq a b ≡ false → eq b a ≡ false → lt a b ≡ true → lt b a ≡ false → P)
+    → (eq a b ≡ false → eq b a ≡ false → lt a b ≡ false → lt b a ≡ true → P) → P
 cases_by_order {K} eq lt order a b P one before after =
     elim (eq a b) as (λ v. eq a b ≡ v → P) [
       | true ↦ λ e.
           let is : a ≡ b = order.same a b e in
-          one is e (subst (λ x. eq x a ≡ true) is (order.itself a)) (subst (λ x. lt a x ≡ false) is (order.irreflexive a)) (subst (λ x. lt x a ≡ false) is (order.irreflexive a))
+          one is e (subst (λ x. eq x a ≡ true) is (order.itself a)) (subst (λ x. lt a x ≡ false) is (order.irreflexive a))
+          (subst (λ x. lt x a ≡ false) is (order.irreflexive a))
       | false ↦ λ e. apart e
     ] refl
   where
@@ -150,6 +160,7 @@ cases_by_order {K} eq lt order a b P one before after =
 
     apart : eq a b ≡ false → P
     apart e = elim (lt a b) as (λ v. lt a b ≡ v → P) [
-      | true ↦ λ f. before e (other e) f (elim (lt b a) as (λ v. lt b a ≡ v → v ≡ false) [ true ↦ λ g. absurd (not_both f g) | false ↦ λ g. refl ] refl)
+      | true ↦ λ f. before e (other e) f
+          (elim (lt b a) as (λ v. lt b a ≡ v → v ≡ false) [ true ↦ λ g. absurd (not_both f g) | false ↦ λ g. refl ] refl)
       | false ↦ λ f. after e (other e) f (order.total a b e f)
     ] refl

@@ -28,7 +28,11 @@ one_code (Group n g) (Group m h) e =
     λ i. (generations i * 2 ^ 16 + sites i) * 2 ^ 32 + numbers i
 
 -- a test that says of members what `member_eq` says finds only members of one code
-pub member_alike : (eq : Member → Member → Bool) → ((n m : NameData) → eq (Original n) (Original m) ≡ true → name_eq n m ≡ true) → ((n m : NameData) (h : ℕ) → eq (Original n) (Group m h) ≡ true → false ≡ true) → ((n m : NameData) (g : ℕ) → eq (Group n g) (Original m) ≡ true → false ≡ true) → ((n m : NameData) (g h : ℕ) → eq (Group n g) (Group m h) ≡ true → (name_eq n m && (g == h)) ≡ true) → (m n : Member) → eq m n ≡ true → member_input m ≡ member_input n
+pub member_alike : (eq : Member → Member → Bool) → ((n m : NameData) → eq (Original n) (Original m) ≡ true → name_eq n m ≡ true)
+    → ((n m : NameData) (h : ℕ) → eq (Original n) (Group m h) ≡ true → false ≡ true)
+    → ((n m : NameData) (g : ℕ) → eq (Group n g) (Original m) ≡ true → false ≡ true)
+    → ((n m : NameData) (g h : ℕ) → eq (Group n g) (Group m h) ≡ true → (name_eq n m && (g == h)) ≡ true) → (m n : Member) → eq m n ≡ true
+    → member_input m ≡ member_input n
 member_alike eq originals mixed others groups m n e = ap fed.u64 (one_code m n (found m n e))
   where
     found : (m n : Member) → eq m n ≡ true → member_eq m n ≡ true

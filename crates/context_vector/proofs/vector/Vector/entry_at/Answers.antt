@@ -5,7 +5,8 @@ use Rattle.context_vector.proofs.vector.Vector.entry_at.Goals as goal
 
 pub loop-passed-preserved : goal.loop-passed-preserved
 loop-passed-preserved c = (
-  read_more c.args.self.now.set.entries c.loop-passed.left c.next.new.self c.loop-passed.passed c.loop-passed.invariant.0 c.next.ensures.rest,
+  read_more c.args.self.now.set.entries c.loop-passed.left c.next.new.self c.loop-passed.passed c.loop-passed.invariant.0
+      c.next.ensures.rest,
   omega (arith, c.loop-passed-test.true),
 )
 

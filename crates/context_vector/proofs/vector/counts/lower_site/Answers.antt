@@ -13,9 +13,11 @@ unreachable-requires c =
 pub returns-in-Ok : goal.returns-in-Ok
 returns-in-Ok c =
     let place = subst (λ ps. IsPlace ps c.args.site c.in-Ok.at) c.as_slice.ensures.value c.in-Ok.ensures.found in
-    c.remove.ensures.items ∙ remove_at_place c.args.counts.now.items c.args.site c.args.number c.in-Ok.at c.requires.rising place c.if-number-eq1.true
+    c.remove.ensures.items ∙ remove_at_place c.args.counts.now.items c.args.site c.args.number c.in-Ok.at c.requires.rising place
+    c.if-number-eq1.true
 
 pub returns-in-Ok-2 : goal.returns-in-Ok-2
 returns-in-Ok-2 c =
     let place = subst (λ ps. IsPlace ps c.args.site c.in-Ok.at) c.as_slice.ensures.value c.in-Ok.ensures.found in
-    ap (λ p. set c.args.counts.now.items c.in-Ok.at p) c.new.ensures ∙ lower_at_place c.args.counts.now.items c.args.site c.args.number c.in-Ok.at c.requires.rising place c.if-number-eq1.false
+    ap (λ p. set c.args.counts.now.items c.in-Ok.at p) c.new.ensures
+    ∙ lower_at_place c.args.counts.now.items c.args.site c.args.number c.in-Ok.at c.requires.rising place c.if-number-eq1.false

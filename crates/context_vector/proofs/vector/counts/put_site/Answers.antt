@@ -15,9 +15,11 @@ unreachable-requires c =
 pub returns-in-Ok : goal.returns-in-Ok
 returns-in-Ok c =
     let place = subst (λ ps. IsPlace ps c.args.site c.in-Ok.at) c.as_slice.ensures.value c.in-Ok.ensures.found in
-    ap (λ p. set c.args.counts.now.items c.in-Ok.at p) c.new-count.ensures ∙ put_at_place c.args.counts.now.items c.args.site c.args.number c.in-Ok.at c.requires.rising place
+    ap (λ p. set c.args.counts.now.items c.in-Ok.at p) c.new-count.ensures
+    ∙ put_at_place c.args.counts.now.items c.args.site c.args.number c.in-Ok.at c.requires.rising place
 
 pub returns-in-Ok-insert : goal.returns-in-Ok-insert
 returns-in-Ok-insert c =
     let gap = subst (λ ps. IsGap nat_lt ps c.args.site c.in-Err.at) c.as_slice.ensures.value c.in-Err.ensures.absent in
-    c.in-Ok-insert.ensures.items ∙ (ap (λ p. insert c.args.counts.now.items c.in-Err.at p) c.new-count.ensures ∙ put_in_gap c.args.counts.now.items c.args.site c.args.number c.in-Err.at gap)
+    c.in-Ok-insert.ensures.items ∙ (ap (λ p. insert c.args.counts.now.items c.in-Err.at p) c.new-count.ensures
+    ∙ put_in_gap c.args.counts.now.items c.args.site c.args.number c.in-Err.at gap)
