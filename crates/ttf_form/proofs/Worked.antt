@@ -1,8 +1,8 @@
 -- Worked cases of applying and of what is shown, by computation.
-use Rattle.std.proofs.Common.{◌≡◌, ℕ, true, false, [], ◌∷◌, refl}
+use Rattle.std.proofs.Common.{◌≡◌, ℕ, true, false, [], ◌∷◌, map, refl}
 use Rattle.op_name.specs.NameData.{NameData}
 use Rattle.ttf_form.specs.declared.cover.Mark.TheVariants.{Own, By}
-use Rattle.ttf_form.specs.Cells.{CellData, raise_in, marked, put_in, cell_shown}
+use Rattle.ttf_form.specs.Cells.{CellData, raise_in, marked, marked_in, put_in, cell_shown}
 
 abbrev first_delete : NameData
 first_delete = record { site = 0; number = 3 }
@@ -11,7 +11,7 @@ abbrev other_delete : NameData
 other_delete = record { site = 1; number = 1 }
 
 abbrev letter : CellData
-letter = record { name = record { site = 0; number = 1 }; ch = 97; generation = 0; deleters = [] }
+letter = record { name = record { site = 0; number = 1 }; offset = 0; of = 1; ch = 97; generation = 0; deleters = [] }
 
 a_bare_cell_is_shown : cell_shown letter ≡ true
 a_bare_cell_is_shown = refl
@@ -48,6 +48,20 @@ deleters_are_sorted : (marked (By first_delete 0) (marked (By other_delete 0) le
     ≡ (first_delete, 0) ∷ ((other_delete, 0) ∷ [])
 unfolding raise_in
 deleters_are_sorted = refl
+
+-- an insert of two cells between which another one stands
+abbrev pair_of : ℕ → ℕ → CellData
+pair_of offset generation =
+    record { name = record { site = 0; number = 2 }; offset = offset; of = 2; ch = 98; generation = generation; deleters = [] }
+
+an_undo_is_on_all_cells_of_its_insert : marked_in 0 (Own 1) (pair_of 0 0 ∷ (letter ∷ (pair_of 1 0 ∷ [])))
+    ≡ pair_of 0 1 ∷ (letter ∷ (pair_of 1 1 ∷ []))
+an_undo_is_on_all_cells_of_its_insert = refl
+
+a_delete_is_on_its_cell_alone : map cell_shown (marked_in 2 (By first_delete 0) (pair_of 0 0 ∷ (letter ∷ (pair_of 1 0 ∷ []))))
+    ≡ true ∷ (true ∷ (false ∷ []))
+unfolding raise_in
+a_delete_is_on_its_cell_alone = refl
 
 -- in front of the cell at the place, and after the last
 a_put_in_front : put_in {A = ℕ} 1 (7 ∷ []) (5 ∷ (6 ∷ [])) ≡ 5 ∷ (7 ∷ (6 ∷ []))

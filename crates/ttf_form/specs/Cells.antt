@@ -1,6 +1,7 @@
 -- The cells of a document, the rule of applying a form to them, and which of them are shown.
-use Rattle.std.specs.Prelude.{◌≡◌, ℕ, zero, suc, Bool, not, ◌&&◌, ◌==◌, max, List, [], ◌∷◌, ◌++◌, map, take, drop, length, if◌then◌else◌}
+use Rattle.std.specs.Prelude.{ℕ, zero, suc, Bool, not, ◌&&◌, max, List, [], ◌∷◌, ◌++◌, map, take, drop, length, slice_get, if◌then◌else◌}
 use Rattle.std.specs.List.{list_any}
+use Rattle.std.specs.Option.{option_map_or}
 use Rattle.op_name.specs.NameData.{NameData, name_eq, name_lt, IsBefore}
 use Rattle.op_name.specs.Members.{is_even}
 use Rattle.ttf_form.specs.declared.ins.Ins.{Ins}
@@ -11,10 +12,12 @@ use Rattle.ttf_form.specs.declared.form.Form.TheVariants.{Ins as Insert, Cover a
 use Rattle.ttf_form.specs.Forms.{IsBoundedForm, added_by}
 use Rattle.ttf_form.specs.Names.{NewNames}
 
--- a character by the name of its insert, with the generation of that insert and the deletes that hit it, each with
--- its generation, sorted by name
+-- a character by the name of its insert and its offset among so many cells of that insert, with the generation of the
+-- insert and the deletes that hit the cell, each with its generation, sorted by name
 pub record CellData : Type 0 where
   pub name : NameData
+  pub offset : ℕ
+  pub of : ℕ
   pub ch : ℕ
   pub generation : ℕ
   pub deleters : List (NameData × ℕ)
@@ -30,14 +33,14 @@ abbrev pub IsRising : List (NameData × ℕ) → Type 0
 IsRising [] = Unit {0}
 IsRising (e ∷ es) = IsBefore e.0 es × IsRising es
 
--- a cell under a mark
+-- a cell under a mark that it bears
 abbrev pub marked : Mark → CellData → CellData
 marked (Own g) c = record c { generation = max c.generation g }
 marked (By d g) c = record c { deleters = raise_in d g c.deleters }
 
 -- the cells of an insert before any mark
 abbrev pub bare_cells : Ins → List CellData
-bare_cells a = record { name = a.name; ch = a.ch; generation = 0; deleters = [] } ∷ []
+bare_cells a = record { name = a.name; offset = 0; of = 1; ch = a.ch; generation = 0; deleters = [] } ∷ []
 
 -- the list with these new elements at a place
 abbrev pub put_in : {A : Type 0} → ℕ → List A → List A → List A
@@ -49,14 +52,29 @@ change_at k f [] = []
 change_at zero f (x ∷ xs) = f x ∷ xs
 change_at (suc k) f (x ∷ xs) = x ∷ change_at k f xs
 
--- the rule of applying: an insert puts its new cells at its place, a cover marks the cell at its place
+-- the cell under a mark where it bears that mark
+abbrev pub marked_if : Bool → Mark → CellData → CellData
+marked_if b m c = if b then marked m c else c
+
+-- the cell under the mark of generation g on the insert n
+abbrev pub raised : ℕ → NameData → CellData → CellData
+raised g n c = marked_if (name_eq c.name n) (Own g) c
+
+-- the cells under a mark at a place: a mark of the insert itself is on all its cells, wherever they stand; one of a delete is on the
+-- cell at the place alone
+abbrev pub marked_in : ℕ → Mark → List CellData → List CellData
+marked_in p (Own g) cs = option_map_or (λ c. map (raised g c.name) cs) (slice_get cs p) cs
+marked_in p (By d g) cs = change_at p (marked (By d g)) cs
+
+-- the rule of applying: an insert puts its new cells at its place, a cover marks the cell at its place, with all cells of its insert
+-- or alone
 abbrev pub applied : List CellData → Form → List CellData
 applied cs (Insert a) = put_in a.place (bare_cells a) cs
-applied cs (Covered c) = change_at c.place (marked c.mark) cs
+applied cs (Covered c) = marked_in c.place c.mark cs
 
 -- the cells by name and offset
 abbrev pub cell_key : CellData → NameData × ℕ
-cell_key c = (c.name, 0)
+cell_key c = (c.name, c.offset)
 
 abbrev pub cells_of : List CellData → List (NameData × ℕ)
 cells_of cs = map cell_key cs

@@ -1,5 +1,5 @@
 -- Places: where a form goes once another form has added cells.
-use Rattle.std.specs.Prelude.{◌≡◌, ℕ, ◌+◌, ◌-◌, ◌<◌, Bool, ◌&&◌, ◌||◌, ◌==◌, nat_le, nat_lt, if◌then◌else◌}
+use Rattle.std.specs.Prelude.{ℕ, ◌+◌, ◌-◌, Bool, ◌&&◌, ◌||◌, ◌==◌, nat_le, nat_lt, if◌then◌else◌}
 
 -- an insert at p of the site s stands in front of one at q of the site r
 abbrev pub goes_before : ℕ → ℕ → ℕ → ℕ → Bool

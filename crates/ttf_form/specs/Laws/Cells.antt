@@ -1,46 +1,27 @@
 -- The laws of applying, of all forms and all lists of cells.
-use Rattle.std.proofs.Common.{◌≡◌, ◌≢◌, ◌↔◌, ℕ, zero, suc, ◌+◌, ◌<◌, ◌≤◌, Bool, true, false, nat_lt, List, [], ◌∷◌, ◌++◌, length, refl, sym, ap, ◌∙◌, subst, arith}
-use Rattle.std.proofs.lemmas.Bool.Decides.{nat_tests}
+use Rattle.std.proofs.Common.{◌≡◌, ◌≢◌, ◌↔◌, ℕ, zero, suc, ◌+◌, ◌<◌, ◌≤◌, Bool, true, false, List, [], ◌∷◌, ◌++◌, length, refl, sym, ap, ◌∙◌, subst, arith}
 use Rattle.op_name.specs.NameData.{NameData}
 use Rattle.ttf_form.specs.declared.ins.Ins.{Ins}
 use Rattle.ttf_form.specs.declared.cover.Cover.{Cover}
-use Rattle.ttf_form.specs.declared.cover.Mark.{Mark}
-use Rattle.ttf_form.specs.declared.cover.Mark.TheVariants.{Own, By}
 use Rattle.ttf_form.specs.declared.form.Form.{Form}
 use Rattle.ttf_form.specs.declared.form.Form.TheVariants.{Ins as Insert, Cover as Covered}
 use Rattle.ttf_form.specs.Names.{LacksName, NewNames, IsPutAmong}
-use Rattle.ttf_form.specs.Places.{goes_before, over_place, cover_place}
+use Rattle.ttf_form.specs.Places.{goes_before, over_place}
 use Rattle.ttf_form.specs.Forms.{ins_extent, place_of, extent_of, IsBoundedForm, ApartForms, form_over, added_by}
-use Rattle.ttf_form.specs.Cells.{CellData, marked, bare_cells, put_in, change_at, applied, cell_key, cells_of, FitsCells}
-use Rattle.ttf_form.specs.Laws.Lists.{put_put, change_front_put, change_behind_put, change_change, map-change, map-put, length-put, put_none}
-use Rattle.ttf_form.specs.Laws.Places.{over_stays, over_rises, before_within, before_other, before_asym, cover_stays, cover_rises}
-use Rattle.ttf_form.specs.Laws.Deleters.{max_right_comm, raise_two}
+use Rattle.ttf_form.specs.Cells.{CellData, bare_cells, put_in, applied, cell_key, cells_of, FitsCells}
+use Rattle.ttf_form.specs.Laws.Lists.{put_put, map-put, length-put, put_none}
+use Rattle.ttf_form.specs.Laws.Places.{over_stays, over_rises, before_within, before_other, before_asym}
+use Rattle.ttf_form.specs.Laws.Marks.{marked_cells, marks_both, mark_put, lacks_got}
 use Rattle.ttf_form.specs.Laws.Forms.{form_added_over, form_added_length, form_bound_over, form_bound_place}
 
 pub length-cells : (s : List CellData) → length (cells_of s) ≡ length s
 length-cells [] = refl
 length-cells (c ∷ cs) = ap suc (length-cells cs)
 
--- two marks on one cell, in either order
-pub marks_two : (m n : Mark) (c : CellData) → marked m (marked n c) ≡ marked n (marked m c)
-marks_two (Own g) (Own h) c = ap (λ k. record c { generation = k }) (max_right_comm c.generation h g)
-marks_two (Own g) (By d h) c = refl
-marks_two (By d g) (Own h) c = refl
-marks_two (By d g) (By e h) c = ap (λ ds. record c { deleters = ds }) (raise_two d e g h c.deleters)
-
--- a mark changes neither name nor character
-pub marked_key : (m : Mark) (c : CellData) → cell_key (marked m c) ≡ cell_key c
-marked_key (Own g) c = refl
-marked_key (By d g) c = refl
-
-pub marked_char : (m : Mark) (c : CellData) → (marked m c).ch ≡ c.ch
-marked_char (Own g) c = refl
-marked_char (By d g) c = refl
-
 -- what a form adds stands at its place, side by side, among the cells that were there
 pub kept_at : (s : List CellData) (a : Form) → cells_of (applied s a) ≡ put_in (place_of a) (added_by a) (cells_of s)
 kept_at s (Insert a) = map-put cell_key a.place (bare_cells a) s
-kept_at s (Covered c) = map-change cell_key (marked c.mark) (marked_key c.mark) c.place s ∙ sym (put_none c.place (cells_of s))
+kept_at s (Covered c) = marked_cells c.mark c.place s ∙ sym (put_none c.place (cells_of s))
 
 pub form_kept : (a : Form) → (length (added_by a) ≡ extent_of a)
     × ((s : List CellData) → FitsCells s a → IsPutAmong (cells_of s) (added_by a) (cells_of (applied s a)))
@@ -98,20 +79,11 @@ ins_front s a b h k =
     ∙ sym (ap (λ p. put_in p (bare_cells a) (put_in b.place (bare_cells b) s)) (over_stays a.place a.site b.place b.site (ins_extent b) h))
 
 -- an insert and a cover
-ins_cover : (s : List CellData) (a : Ins) (c : Cover) → c.place < length s
+ins_cover : (s : List CellData) (a : Ins) (c : Cover) → c.place < length s → LacksName (cells_of s) a.name
     → applied (applied s (Insert a)) (form_over (Covered c) (Insert a)) ≡ applied (applied s (Covered c)) (Insert a)
-ins_cover s a c k = by (nat_lt c.place a.place) refl
-  where
-    by : (t : Bool) → nat_lt c.place a.place ≡ t
-        → applied (applied s (Insert a)) (form_over (Covered c) (Insert a)) ≡ applied (applied s (Covered c)) (Insert a)
-    by true e =
-        let l : c.place < a.place = grind (arith, nat_tests) in
-        ap (λ p. change_at p (marked c.mark) (put_in a.place (bare_cells a) s)) (cover_stays c.place a.place (ins_extent a) e)
-        ∙ change_front_put (marked c.mark) c.place a.place (bare_cells a) s l k
-    by false e =
-        let l : a.place ≤ c.place = grind (arith, nat_tests) in
-        change_behind_put (marked c.mark) c.place a.place (cover_place c.place a.place (ins_extent a)) (bare_cells a) s l k
-        (cover_rises c.place a.place (ins_extent a) e)
+ins_cover s a c k new =
+    mark_put c.mark c.place a.place (bare_cells a) s k
+    (λ d at. (λ e. lacks_got s a.name c.place d new at (sym e), tt))
 
 within : (s : List CellData) (n : ℕ) → n ≤ length (cells_of s) → n ≤ length s
 within s n h = let e = length-cells s in omega arith
@@ -125,6 +97,6 @@ form_tp1 s (Insert a) (Insert b) h f g = by (goes_before a.place a.site b.place 
         ≡ applied (applied s (Insert b)) (form_over (Insert a) (Insert b))
     by true e = ins_front s a b e (within s b.place g.0)
     by false e = sym (ins_front s b a (before_other a.place a.site b.place b.site h e) (within s a.place f.0))
-form_tp1 s (Insert a) (Covered c) h f g = ins_cover s a c (within s (suc c.place) g.0)
-form_tp1 s (Covered c) (Insert b) h f g = sym (ins_cover s b c (within s (suc c.place) f.0))
-form_tp1 s (Covered c) (Covered d) h f g = change_change (marked d.mark) (marked c.mark) (marks_two d.mark c.mark) d.place c.place s
+form_tp1 s (Insert a) (Covered c) h f g = ins_cover s a c (within s (suc c.place) g.0) f.1.0
+form_tp1 s (Covered c) (Insert b) h f g = sym (ins_cover s b c (within s (suc c.place) f.0) g.1.0)
+form_tp1 s (Covered c) (Covered d) h f g = marks_both d.mark c.mark d.place c.place s

@@ -1,7 +1,11 @@
 -- New elements at a place, and a change at a place, of any list.
-use Rattle.std.proofs.Common.{◌≡◌, ℕ, zero, suc, ◌+◌, ◌<◌, ◌≤◌, List, [], ◌∷◌, ◌++◌, map, length, refl, ap, arith, length-append, take-append-drop}
+use Rattle.std.proofs.Common.{◌≡◌, ℕ, zero, suc, ◌+◌, ◌<◌, ◌≤◌, Bool, true, false, nat_lt, List, [], ◌∷◌, ◌++◌, map, length, refl, ap, ◌∙◌, arith, length-append, take-append-drop}
+use Rattle.std.specs.Prelude.{slice_get}
 use Rattle.std.proofs.lemmas.List.{map-append}
+use Rattle.std.proofs.lemmas.Bool.Decides.{nat_tests}
+use Rattle.ttf_form.specs.Places.{cover_place}
 use Rattle.ttf_form.specs.Cells.{put_in, change_at}
+use Rattle.ttf_form.specs.Laws.Places.{cover_less, cover_more}
 
 -- at or after the end of what stands in front
 pub put_behind : {A : Type 0} (q n : ℕ) (xs new ys : List A) → n ≡ q + length xs → put_in n new (xs ++ ys) ≡ xs ++ put_in q new ys
@@ -90,6 +94,51 @@ length-put (suc k) new (z ∷ s) h =
     let g : k ≤ length s = omega arith in
     let e = length-put k new s g in
     omega arith
+
+-- a change of all elements that a view doesn't show
+pub map-map : {A B : Type 0} (view : A → B) (f : A → A) → ((x : A) → view (f x) ≡ view x) → (s : List A) → map view (map f s) ≡ map view s
+map-map view f e [] = refl
+map-map view f e (z ∷ s) = ap (λ y. y ∷ map view (map f s)) (e z) ∙ ap (λ ys. view z ∷ ys) (map-map view f e s)
+
+-- a change at a place and one of all elements, where each element may be changed in either order
+pub change_map : {A : Type 0} (f g : A → A) → ((x : A) → f (g x) ≡ g (f x)) → (p : ℕ) (s : List A)
+    → change_at p f (map g s) ≡ map g (change_at p f s)
+change_map f g e p [] = refl
+change_map f g e zero (z ∷ s) = ap (λ y. y ∷ map g s) (e z)
+change_map f g e (suc p) (z ∷ s) = ap (λ ys. g z ∷ ys) (change_map f g e p s)
+
+get_behind : {A : Type 0} (k n : ℕ) (new xs : List A) → n ≡ k + length new → slice_get (new ++ xs) n ≡ slice_get xs k
+get_behind k n [] xs e = let f : n ≡ k = omega (arith, e) in ap (slice_get xs) f
+get_behind k zero (x ∷ new) xs e = absurd (omega (arith, e))
+get_behind k (suc n) (x ∷ new) xs e = get_behind k n new xs (omega (arith, e))
+
+get_front_put : {A : Type 0} (k q : ℕ) (new xs : List A) → k < q → k < length xs → slice_get (put_in q new xs) k ≡ slice_get xs k
+get_front_put k q new [] low some = absurd (omega (arith, some))
+get_front_put k zero new (x ∷ xs) low some = absurd (omega (arith, low))
+get_front_put zero (suc q) new (x ∷ xs) low some = refl
+get_front_put (suc k) (suc q) new (x ∷ xs) low some = get_front_put k q new xs (omega (arith, low)) (omega (arith, some))
+
+get_behind_put : {A : Type 0} (k q n : ℕ) (new xs : List A) → q ≤ k → k < length xs → n ≡ k + length new
+    → slice_get (put_in q new xs) n ≡ slice_get xs k
+get_behind_put k zero n new xs from some e = get_behind k n new xs e
+get_behind_put zero (suc q) n new xs from some e = absurd (omega (arith, from))
+get_behind_put (suc k) (suc q) n new [] from some e = absurd (omega (arith, some))
+get_behind_put (suc k) (suc q) zero new (x ∷ xs) from some e = absurd (omega (arith, e))
+get_behind_put (suc k) (suc q) (suc n) new (x ∷ xs) from some e =
+    get_behind_put k q n new xs (omega (arith, from)) (omega (arith, some)) (omega (arith, e))
+
+-- an element stands where a cover of it goes, once new ones came in
+pub get_moved : {A : Type 0} (k q : ℕ) (new xs : List A) → k < length xs
+    → slice_get (put_in q new xs) (cover_place k q (length new)) ≡ slice_get xs k
+get_moved {A} k q new xs some = by (nat_lt k q) refl
+  where
+    by : (t : Bool) → nat_lt k q ≡ t → slice_get (put_in q new xs) (cover_place k q (length new)) ≡ slice_get xs k
+    by true e =
+        let l : k < q = grind (arith, nat_tests) in
+        ap (slice_get (put_in q new xs)) (cover_less k q (length new) l) ∙ get_front_put k q new xs l some
+    by false e =
+        let l : q ≤ k = grind (arith, nat_tests) in
+        get_behind_put k q (cover_place k q (length new)) new xs l some (cover_more k q (length new) l)
 
 -- no new elements
 pub put_none : {A : Type 0} (k : ℕ) (s : List A) → put_in k [] s ≡ s
