@@ -26,10 +26,11 @@ use Rattle.transform_rec.specs.Derived.{IsFamily, weight}
 use Rattle.transform_rec.specs.Derived.Derived.{at_base}
 use Rattle.transform_rec.specs.Executing.{Setting, deriving_of, HasOwnNames, keep}
 use Rattle.fixed_replay.proofs.Elements.{not_both, map_same}
+use Rattle.fixed_replay.proofs.Counts.{count_none, count_zero, count-put, count_kept}
 use Rattle.fixed_replay.proofs.Splits.{IsSplit, Split, split}
 use Rattle.fixed_replay.proofs.Editor.{form_inclusion, form_table, form_at_place, setting_of, derived_insert}
 use Rattle.fixed_replay.proofs.CoverStays.{cover_stays}
-use Rattle.fixed_replay.proofs.Marks.{same_cell, same_cell_tells, same_cell_self, count_zero, zero_count, count-put, count_kept, added_once, bare_at, bare_added, reaches, on_behind, form_on, form_on_name, mark_by, bears, marks_of, marks_plus, marks_none, marks_key}
+use Rattle.fixed_replay.proofs.Marks.{same_cell, same_cell_tells, same_cell_self, added_once, bare_at, bare_added, reaches, on_behind, form_on, form_on_name, mark_by, bears, marks_of, marks_plus, marks_none, marks_key}
 
 -- a change at the one element where the functions differ
 change_one : {A B : Type 0} (f g : A → B) (h : B → B) (xs : List A) (x : A) (ys : List A) (n : ℕ) → length xs ≡ n
@@ -47,10 +48,10 @@ map_after f g h e [] = refl
 map_after {A} {B} {C} f g h e (x ∷ xs) = ap₂ (λ (y : C) (ys : List C). y ∷ ys) (e x) (map_after f g h e xs)
 
 -- a mark of an insert is on all cells of the name of the cell at its place
-own_step : (f h : Cell → CellData) → ((e : Cell) → cell_key (f e) ≡ e) → (g n : ℕ) (xs : List Cell) (c : Cell) (ys : List Cell)
+own_reaches : (f h : Cell → CellData) → ((e : Cell) → cell_key (f e) ≡ e) → (g n : ℕ) (xs : List Cell) (c : Cell) (ys : List Cell)
     → length xs ≡ n → ((e : Cell) → h e ≡ marked_if (reaches (Own g) c e) (Own g) (f e))
     → marked_in n (Own g) (map f (xs ++ (c ∷ ys))) ≡ map h (xs ++ (c ∷ ys))
-own_step f h keys g n xs c ys at same =
+own_reaches f h keys g n xs c ys at same =
     let cs = map f (xs ++ (c ∷ ys)) in
     let there : slice_get cs n ≡ Some (f c) =
     slice_get-map f (xs ++ (c ∷ ys)) n ∙ ap (option_map f) (get_behind 0 n xs (c ∷ ys) (omega (arith, at))) in
@@ -61,11 +62,11 @@ own_step f h keys g n xs c ys at same =
     ∙ map_after f (raised g (f c).name) h one (xs ++ (c ∷ ys))
 
 -- the cells under a mark at the place of the cell c, if no other cell is c
-mark_step : (f h : Cell → CellData) → ((e : Cell) → cell_key (f e) ≡ e) → (m : Mark) (n : ℕ) (xs : List Cell) (c : Cell) (ys : List Cell)
+mark_reaches : (f h : Cell → CellData) → ((e : Cell) → cell_key (f e) ≡ e) → (m : Mark) (n : ℕ) (xs : List Cell) (c : Cell) (ys : List Cell)
     → length xs ≡ n → ((e : Cell) → IsIn e xs ⊎ IsIn e ys → same_cell c e ≡ false)
     → ((e : Cell) → h e ≡ marked_if (reaches m c e) m (f e)) → marked_in n m (map f (xs ++ (c ∷ ys))) ≡ map h (xs ++ (c ∷ ys))
-mark_step f h keys (Own g) n xs c ys at others same = own_step f h keys g n xs c ys at same
-mark_step f h keys (By d g) n xs c ys at others same =
+mark_reaches f h keys (Own g) n xs c ys at others same = own_reaches f h keys g n xs c ys at same
+mark_reaches f h keys (By d g) n xs c ys at others same =
     let here : h c ≡ marked (By d g) (f c) = same c ∙ ap (λ (t : Bool). marked_if t (By d g) (f c)) (same_cell_self c) in
     let other : (e : Cell) → IsIn e xs ⊎ IsIn e ys → h e ≡ f e =
     λ e i. same e ∙ ap (λ (t : Bool). marked_if t (By d g) (f e)) (others e i) in
@@ -113,7 +114,7 @@ module _ (b : Family Form) (known : IsFamily form_inclusion b) (own_names : HasO
         count_kept (same_cell c) (keep (plus needs y))
         (λ e s. subst (λ (d : Cell). keep (plus needs y) d ≡ true) (same_cell_tells c e s) (plus_here needs y)) S in
         let none_seen : count (same_cell c) P ≡ 0 =
-        zero_count (same_cell c) P
+        count_none (same_cell c) P
         (λ e j. false_from_ne_true (same_cell c e)
         (λ s. both_ways (needs y) lacks
         (subst (λ (d : Cell). keep needs d ≡ true) (sym (same_cell_tells c e s)) (filter_in (keep needs) e S j).1))) in
@@ -231,7 +232,7 @@ module _ (b : Family Form) (known : IsFamily form_inclusion b) (own_names : HasO
         let keys : (e : Cell) → cell_key (full C e) ≡ e = λ e. marks_key b S C e b.members in
         ap (applied u) stays.1.is
         ∙ (ap₂ (λ (m : Mark) (us : List CellData). marked_in k.place m us) stays.1.mark_is (marks ∙ ap (map (full C)) parts)
-        ∙ (mark_step (full C) (full (plus C x)) keys d.mark k.place A c B place others same
+        ∙ (mark_reaches (full C) (full (plus C x)) keys d.mark k.place A c B place others same
         ∙ ap (map (full (plus C x))) (sym (more ∙ parts))))
 
     -- executing the form of one member more leaves its mark

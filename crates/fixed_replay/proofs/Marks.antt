@@ -1,8 +1,8 @@
 -- Marks: which cells bear the mark of a cover, and a cell under all the marks of a set that it bears.
-use Rattle.std.proofs.Common.{◌≡◌, ℕ, zero, suc, ◌+◌, ◌<◌, ◌≤◌, Bool, true, false, ◌&&◌, ◌==◌, if◌then◌else◌, List, [], ◌∷◌, ◌++◌, map, length, take, drop, filter, Option, inl, inr, refl, ap, ap₂, sym, ◌∙◌, subst, arith, take-append-drop}
+use Rattle.std.proofs.Common.{◌≡◌, ℕ, zero, suc, ◌+◌, ◌<◌, ◌≤◌, Bool, true, false, ◌&&◌, ◌==◌, if◌then◌else◌, List, [], ◌∷◌, ◌++◌, map, length, filter, Option, inl, inr, refl, ap, ap₂, sym, ◌∙◌, subst, arith}
 use Rattle.std.specs.Prelude.{slice_get}
 use Rattle.std.specs.Option.{option_map_or}
-use Rattle.std.proofs.lemmas.Bool.{and_parts, and_from, both_ways, cases_Bool, false_from_ne_true}
+use Rattle.std.proofs.lemmas.Bool.{and_parts, and_from, cases_Bool, false_from_ne_true}
 use Rattle.std.proofs.lemmas.Bool.Decides.{nat_tests}
 use Rattle.op_name.specs.NameData.{NameData, name_eq}
 use Rattle.op_name.specs.declared.member.Member.{Member}
@@ -15,12 +15,12 @@ use Rattle.ttf_form.specs.declared.form.Form.{Form}
 use Rattle.ttf_form.specs.declared.form.Form.TheVariants.{Ins as Insert, Cover as Covered}
 use Rattle.ttf_form.specs.Names.{block}
 use Rattle.ttf_form.specs.Forms.{ins_extent, added_by}
-use Rattle.ttf_form.specs.Cells.{CellData, marked_if, bare_cells, put_in, cell_key}
+use Rattle.ttf_form.specs.Cells.{CellData, marked_if, bare_cells, cell_key}
 use Rattle.ttf_form.specs.Laws.Lists.{get_behind}
 use Rattle.ttf_form.specs.Laws.Marks.{marks_if_two, marked_if_key}
 use Rattle.transform_rec.specs.Sets.{plus}
 use Rattle.transform_rec.specs.Lists.{IsIn, AreApart}
-use Rattle.transform_rec.proofs.CallerLemmas.{count, count-append, plus_here, plus_other}
+use Rattle.transform_rec.proofs.CallerLemmas.{count, plus_here, plus_other}
 use Rattle.transform_rec.specs.Family.{Family}
 use Rattle.transform_rec.specs.Executing.{keep}
 use Rattle.op_name.proofs.CallerLemmas.{name_itself, name_same}
@@ -46,41 +46,6 @@ same_cell_tells d c h =
 
 pub same_cell_self : (c : Cell) → same_cell c c ≡ true
 same_cell_self c = and_from (name_eq c.0 c.0) (c.1 == c.1) (name_itself c.0) (equal_self c.1)
-
--- ---- counts
-
-pub count_zero : {K : Type 0} (p : K → Bool) (xs : List K) (x : K) → count p xs ≡ 0 → IsIn x xs → p x ≡ false
-count_zero p [] x h i = absurd i
-count_zero p (y ∷ ys) x h (inl e) =
-    elim (cases_Bool (p y)) [ inl k ↦ let u : 1 + count p ys ≡ 0 = rw k at h in absurd (omega arith) | inr k ↦ ap p e ∙ k ]
-count_zero p (y ∷ ys) x h (inr i) =
-    elim (cases_Bool (p y)) [
-      | inl k ↦ let u : 1 + count p ys ≡ 0 = rw k at h in absurd (omega arith)
-      | inr k ↦ let u : 0 + count p ys ≡ 0 =
-          rw k at h in count_zero p ys x (omega arith) i
-    ]
-
-pub zero_count : {K : Type 0} (p : K → Bool) (xs : List K) → ((x : K) → IsIn x xs → p x ≡ false) → count p xs ≡ 0
-zero_count p [] h = refl
-zero_count p (x ∷ xs) h = let ih = zero_count p xs (λ y i. h y (inr i)) in rw (h x (inl refl), ih) refl
-
-pub count-put : {K : Type 0} (p : K → Bool) (k : ℕ) (new xs : List K) → count p (put_in k new xs) ≡ count p new + count p xs
-count-put p k new xs =
-    let whole = count-append p (take k xs) (new ++ drop k xs) in
-    let behind = count-append p new (drop k xs) in
-    let parts = count-append p (take k xs) (drop k xs) in
-    let old = ap (count p) (take-append-drop k xs) in
-    omega (arith, whole, behind, parts, old)
-
--- what passes p stays where all that passes p passes q
-pub count_kept : {K : Type 0} (p q : K → Bool) → ((x : K) → p x ≡ true → q x ≡ true) → (xs : List K) → count p (filter q xs) ≡ count p xs
-count_kept p q h [] = refl
-count_kept p q h (x ∷ xs) =
-    let ih = count_kept p q h xs in
-    elim (cases_Bool (q x)) [
-      | inl k ↦ rw (k, ih) refl
-      | inr k ↦ let none : p x ≡ false = false_from_ne_true (p x) (λ e. both_ways (q x) k (h x e)) in rw (k, none, ih) (omega arith)
-    ]
 
 -- ---- the cells of one insert
 
