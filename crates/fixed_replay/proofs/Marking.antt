@@ -81,7 +81,7 @@ module _ (b : Family Form) (known : IsFamily form_inclusion b) (own_names : HasO
     abbrev pub S : List Cell
     S = cells_of (run w [] fs)
 
-    -- the cell with all marks of the covers of C that hit it
+    -- the cell under all marks of C that it bears
     abbrev pub full : (Member → Bool) → Cell → CellData
     full C c = marks_of b S C c b.members
 
@@ -184,7 +184,7 @@ module _ (b : Family Form) (known : IsFamily form_inclusion b) (own_names : HasO
         ap (filter p) whole ∙ (filter-append p before (c ∷ behind)
         ∙ ap (λ (cs : List Cell). filter p before ++ cs) (filter_keeps p c behind passes))
 
-    -- the cells that bear a cover's mark are those that it reaches from the cell that is split off
+    -- the cells that bear the mark of a cover are those that it reaches from the cell that is split off
     bears_split : (x : Member) (d : Cover) (before : List Cell) (c : Cell) (behind : List Cell) → b.form x ≡ Covered d
         → IsSplit (keep (b.context x)) d.place S before c behind → (e : Cell) → bears b S x e ≡ reaches d.mark c e
     bears_split x d before c behind base at e =

@@ -86,6 +86,7 @@ bare_key : (c : Cell) (f : Form) → cell_key (bare_at c f) ≡ c
 bare_key c (Insert a) = refl
 bare_key c (Covered d) = refl
 
+-- the cells that an insert adds, before any mark, are its own
 pub bare_added : (a : Ins) → map (λ (c : Cell). bare_at c (Insert a)) (added_by (Insert a)) ≡ bare_cells a
 bare_added a = refl
 
@@ -105,12 +106,12 @@ pub on_behind : (m : Mark) (xs : List Cell) (d : Cell) (ys : List Cell) (n : ℕ
 on_behind m xs d ys n c e =
     ap (λ (o : Option Cell). option_map_or (λ (x : Cell). reaches m x c) o false) (get_behind 0 n xs (d ∷ ys) (omega (arith, e)))
 
--- .. where the first cell of an insert stands
+-- a mark at the place where the first cell of an insert stands
 pub on_first : (m : Mark) (xs : List Cell) (a : Ins) (ys : List Cell) (n : ℕ) (c : Cell) → length xs ≡ n
     → is_on m n (xs ++ (added_by (Insert a) ++ ys)) c ≡ reaches m (a.name, 0) c
 on_first m xs a ys n c e = on_behind m xs (a.name, 0) ys n c e
 
--- that of a delete is on the cell that stands there
+-- a mark of a delete is on the cell that stands at its place
 pub on_stands : (d : NameData) (g n : ℕ) (cs : List Cell) (c : Cell) → is_on (By d g) n cs c ≡ stands_at n cs c
 unfolding stands_at
 on_stands d g n [] c = refl

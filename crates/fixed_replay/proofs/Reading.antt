@@ -68,7 +68,7 @@ mark_rising (Covered k) false d r = r
 same_names : (n m : NameData) → name_eq n m ≡ name_eq m n
 same_names n m = grind (arith, nat_tests)
 
--- the cells that bear the mark of a cover form
+-- whether the mark of a cover is on a cell goes by its mark and place alone
 cover_on : (p : ℕ) (m : Mark) (f : Form) (cs ds : List Cell) (c : Cell) → IsCoverForm p m f → cs ≡ ds → form_on f cs c ≡ is_on m p ds c
 cover_on p m f cs ds c k e = ap (λ (x : Form). form_on x cs c) k.is ∙ (λ j. is_on (k.mark j) (k.place j) (e j) c)
 
