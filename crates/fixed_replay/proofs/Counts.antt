@@ -1,9 +1,10 @@
 -- Counts: how many elements of a list pass a test, and how many of them stand before each element that passes another.
-use Rattle.std.proofs.Common.{◌≡◌, ℕ, ◌+◌, ◌<◌, ◌≤◌, ◌≢◌, Bool, true, false, List, [], ◌∷◌, ◌++◌, length, if◌then◌else◌, inl, inr, refl, subst, arith, zero-add}
-use Rattle.std.proofs.lemmas.Bool.{cases_Bool}
+use Rattle.std.proofs.Common.{◌≡◌, ℕ, ◌+◌, ◌<◌, ◌≤◌, ◌≢◌, Bool, true, false, List, [], ◌∷◌, ◌++◌, length, take, drop, filter, if◌then◌else◌, inl, inr, refl, ap, ◌∙◌, subst, arith, zero-add, take-append-drop}
+use Rattle.std.proofs.lemmas.Bool.{both_ways, cases_Bool, false_from_ne_true}
 use Rattle.std.specs.List.{list_any}
+use Rattle.ttf_form.specs.Cells.{put_in}
 use Rattle.transform_rec.specs.Lists.{IsIn}
-use Rattle.transform_rec.proofs.CallerLemmas.{count, either, EachAt}
+use Rattle.transform_rec.proofs.CallerLemmas.{count, count-append, either, EachAt}
 use Rattle.fixed_replay.proofs.Elements.{not_both}
 
 -- no element passes both tests
@@ -119,3 +120,34 @@ count_any p (x ∷ xs) h =
 pub count_none : {K : Type 0} (p : K → Bool) (xs : List K) → ((c : K) → IsIn c xs → p c ≡ false) → count p xs ≡ 0
 count_none p [] a = refl
 count_none p (x ∷ xs) a = rw (a x (inl refl), count_none p xs (λ c i. a c (inr i))) refl
+
+-- and where the count is 0, no element passes
+pub count_zero : {K : Type 0} (p : K → Bool) (xs : List K) (x : K) → count p xs ≡ 0 → IsIn x xs → p x ≡ false
+count_zero p [] x h i = absurd i
+count_zero p (y ∷ ys) x h (inl e) =
+    elim (cases_Bool (p y)) [ inl k ↦ let u : 1 + count p ys ≡ 0 = rw k at h in absurd (omega arith) | inr k ↦ ap p e ∙ k ]
+count_zero p (y ∷ ys) x h (inr i) =
+    elim (cases_Bool (p y)) [
+      | inl k ↦ let u : 1 + count p ys ≡ 0 = rw k at h in absurd (omega arith)
+      | inr k ↦ let u : 0 + count p ys ≡ 0 =
+          rw k at h in count_zero p ys x (omega arith) i
+    ]
+
+-- new elements at a place count as well
+pub count-put : {K : Type 0} (p : K → Bool) (k : ℕ) (new xs : List K) → count p (put_in k new xs) ≡ count p new + count p xs
+count-put p k new xs =
+    let whole = count-append p (take k xs) (new ++ drop k xs) in
+    let behind = count-append p new (drop k xs) in
+    let parts = count-append p (take k xs) (drop k xs) in
+    let old = ap (count p) (take-append-drop k xs) in
+    omega (arith, whole, behind, parts, old)
+
+-- what passes p stays where all that passes p passes q
+pub count_kept : {K : Type 0} (p q : K → Bool) → ((x : K) → p x ≡ true → q x ≡ true) → (xs : List K) → count p (filter q xs) ≡ count p xs
+count_kept p q h [] = refl
+count_kept p q h (x ∷ xs) =
+    let ih = count_kept p q h xs in
+    elim (cases_Bool (q x)) [
+      | inl k ↦ rw (k, ih) refl
+      | inr k ↦ let none : p x ≡ false = false_from_ne_true (p x) (λ e. both_ways (q x) k (h x e)) in rw (k, none, ih) (omega arith)
+    ]

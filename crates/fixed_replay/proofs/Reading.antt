@@ -1,5 +1,6 @@
 -- Reading the marks: a cell's generation is that of its insert in the history, and it is shown as the history says.
-use Rattle.std.proofs.Common.{◌≡◌, ◌↔◌, ℕ, suc, ◌≤◌, max, Bool, true, false, not, ◌&&◌, ◌==◌, if◌then◌else◌, List, [], ◌∷◌, ◌++◌, length, filter, map, take, drop, ◌⊎◌, inl, inr, refl, ap, ap₂, sym, ◌∙◌, subst, arith, length-take-le}
+use Rattle.std.proofs.Common.{◌≡◌, ◌↔◌, ℕ, suc, ◌≤◌, max, Bool, true, false, not, ◌&&◌, if◌then◌else◌, List, [], ◌∷◌, length, filter, map, take, drop, ◌⊎◌, inl, inr, refl, ap, ap₂, sym, ◌∙◌, subst, arith, length-take-le}
+use Rattle.std.proofs.lemmas.Bool.Decides.{nat_tests}
 use Rattle.std.proofs.lemmas.Bool.{and_parts, and_from, false_from_ne_true, cases_Bool, both_ways}
 use Rattle.std.specs.List.{list_any}
 use Rattle.op_name.specs.NameData.{NameData, name_eq}
@@ -8,17 +9,16 @@ use Rattle.op_name.specs.declared.member.Member.TheVariants.{Original, Group}
 use Rattle.context_vector.specs.Contexts.{ContextData, has}
 use Rattle.context_diff.specs.Operations.{OpData, inserting, deleting, undoing, member_of}
 use Rattle.context_diff.specs.Histories.{members_in, generation_at, generation_in, in_force}
-use Rattle.context_diff.specs.Replays.{Cell, stands_at, replay_of, hits, covers, is_shown, character_in}
-use Rattle.ttf_form.specs.declared.cover.Cover.{Cover}
+use Rattle.context_diff.specs.Replays.{Cell, replay_of, hits, covers, is_shown, character_in}
 use Rattle.ttf_form.specs.declared.cover.Mark.{Mark}
 use Rattle.ttf_form.specs.declared.cover.Mark.TheVariants.{Own, By}
 use Rattle.ttf_form.specs.declared.form.Form.{Form}
 use Rattle.ttf_form.specs.declared.form.Form.TheVariants.{Ins as Insert, Cover as Covered}
-use Rattle.ttf_form.specs.Forms.{place_of, IsBoundedForm}
-use Rattle.ttf_form.specs.Cells.{CellData, marked, raise_in, IsRising, cell_key, cells_of, cell_shown}
+use Rattle.ttf_form.specs.Forms.{IsBoundedForm, added_by}
+use Rattle.ttf_form.specs.Cells.{CellData, marked, raise_in, IsRising, put_in, cell_key, cells_of, cell_shown}
 use Rattle.op_name.specs.Members.{is_even}
 use Rattle.ttf_form.specs.Laws.Deleters.{best, best_raise, best_raise_other, raise_rising}
-use Rattle.ttf_form.specs.Laws.Cells.{marked_key, marked_char}
+use Rattle.ttf_form.specs.Laws.Marks.{marked_char}
 use Rattle.transform_rec.specs.Sets.{none, plus, plus_all}
 use Rattle.transform_rec.specs.Lists.{IsIn, AreApart}
 use Rattle.transform_rec.specs.Family.{Family}
@@ -36,34 +36,20 @@ use Rattle.fixed_replay.proofs.Elements.{not_both, map_same, any_in, in_any}
 use Rattle.fixed_replay.proofs.Operations.{member_listed, listed_member, one_operation}
 use Rattle.fixed_replay.proofs.SameText.{IsPut, in-replay_of, character_at}
 use Rattle.fixed_replay.proofs.Editor.{form_inclusion, form_table, form_at_place, setting_of}
-use Rattle.fixed_replay.proofs.Marks.{stands_behind, mark_by, bare_at, hits_in, marks_of, marks_same}
+use Rattle.fixed_replay.proofs.Marks.{mark_by, bare_at, is_on, on_first, on_stands, form_on, bears, marks_of, marks_same, marks_key}
 use Rattle.fixed_replay.proofs.Marking.{state_marks}
 use Rattle.fixed_replay.proofs.DeleterLists.{Entry, in-raise, entry_best, best_entry, best_more}
 use Rattle.std.specs.Cmp.{both_ways as same_bool}
-
-offset_zero : (s : List CellData) (c : Cell) → IsIn c (cells_of s) → c.1 ≡ 0
-offset_zero [] c i = absurd i
-offset_zero (d ∷ ds) c (inl e) = ap (λ (x : Cell). x.1) e
-offset_zero (d ∷ ds) c (inr i) = offset_zero ds c i
 
 in-map : {A B : Type 0} (f : A → B) (y : B) (xs : List A) → IsIn y (map f xs) → (x : A) × IsIn x xs × (y ≡ f x)
 in-map f y [] i = absurd i
 in-map f y (x ∷ xs) (inl e) = (x, inl refl, e)
 in-map f y (x ∷ xs) (inr i) = let r = in-map f y xs i in (r.0, inr r.1, r.2)
 
-and_true : (x : Bool) → (x && true) ≡ x
-and_true true = refl
-and_true false = refl
-
 abbrev pub everyone : Member → Bool
 everyone m = true
 
 -- ---- what a mark changes
-
-mark_key : (f : Form) (h : Bool) (d : CellData) → cell_key (mark_by f h d) ≡ cell_key d
-mark_key (Insert a) h d = refl
-mark_key (Covered k) true d = marked_key k.mark d
-mark_key (Covered k) false d = refl
 
 mark_char : (f : Form) (h : Bool) (d : CellData) → (mark_by f h d).ch ≡ d.ch
 mark_char (Insert a) h d = refl
@@ -78,6 +64,13 @@ mark_rising : (f : Form) (h : Bool) (d : CellData) → IsRising d.deleters → I
 mark_rising (Insert a) h d r = r
 mark_rising (Covered k) true d r = rising_under k.mark d r
 mark_rising (Covered k) false d r = r
+
+same_names : (n m : NameData) → name_eq n m ≡ name_eq m n
+same_names n m = grind (arith, nat_tests)
+
+-- whether the mark of a cover is on a cell goes by its mark and place alone
+cover_on : (p : ℕ) (m : Mark) (f : Form) (cs ds : List Cell) (c : Cell) → IsCoverForm p m f → cs ≡ ds → form_on f cs c ≡ is_on m p ds c
+cover_on p m f cs ds c k e = ap (λ (x : Form). form_on x cs c) k.is ∙ (λ j. is_on (k.mark j) (k.place j) (e j) c)
 
 -- a mark of a delete leaves the generation, an own mark the deleters
 by_generation : (p : ℕ) (n : NameData) (g : ℕ) (f : Form) (h : Bool) (d : CellData) → IsCoverForm p (By n g) f
@@ -150,31 +143,31 @@ module _ (b : Family Form) (known : IsFamily form_inclusion b) (own_names : HasO
     put_by : (c : Cell) → IsIn c S → IsPut h c
     put_by c i = in-replay_of h c (subst (λ (cs : List Cell). IsIn c cs) is_replay i)
 
-    -- ---- which cells are hit
+    -- ---- which cells bear a mark
 
     delete_hits : (n : NameData) (p : ℕ) (k : ContextData) (c : Cell) → IsIn (deleting n p k) h
-        → hits_in b S (Original n) c ≡ hits h (deleting n p k) c
+        → bears b S (Original n) c ≡ hits h (deleting n p k) c
     delete_hits n p k c i =
-        let d = family.forms.deletes n p k i in
-        let place : place_of (b.form (Original n)) ≡ p = ap place_of d.is ∙ d.place in
-        let part : filter (keep (b.context (Original n))) S ≡ filter (λ (e : Cell). has k (Original e.0)) (replay_of h) =
+        let seen = filter (λ (e : Cell). has k (Original e.0)) (replay_of h) in
+        let part : filter (keep (b.context (Original n))) S ≡ seen =
         filter_same (keep (b.context (Original n))) (λ (e : Cell). has k (Original e.0)) S
         (λ e j. family.contexts (deleting n p k) n i refl (Original e.0))
         ∙ ap (filter (λ (e : Cell). has k (Original e.0))) is_replay in
-        ap₂ (λ (q : ℕ) (cs : List Cell). stands_at q cs c) place part
+        cover_on p (By n 0) (b.form (Original n)) (filter (keep (b.context (Original n))) S) seen c (family.forms.deletes n p k i) part
+        ∙ on_stands n 0 p seen c
 
     -- a group's base context holds its original's
     group_within : (t : NameData) (g : ℕ) → IsIn (Group t g) b.members → (z : Member) → b.context (Original t) z ≡ true
         → b.context (Group t g) z ≡ true
     group_within t g i z e = known.causal.closed (Group t g) (Original t) i (groups.target t g i) z e
 
-    -- a group of a delete hits what the delete hits
-    delete_group_hits : (n t : NameData) (p g q : ℕ) (k : ContextData) (d : Cover) (c : Cell) → IsIn (deleting t q k) h
-        → b.form (Original t) ≡ Covered d → IsIn (Group t g) b.members → hits_in b S (Group t g) c ≡ hits_in b S (Original t) c
-    delete_group_hits n t p g q k d c j base i =
-        let f = family.forms.delete_groups t g d (group_listed t g i) base in
-        let place : place_of (b.form (Group t g)) ≡ place_of (b.form (Original t)) =
-        ap place_of f.is ∙ (f.place ∙ ap place_of (sym base)) in
+    -- the mark of a group of a delete is on what the delete hits
+    delete_group_hits : (t : NameData) (g q : ℕ) (k : ContextData) (c : Cell) → IsIn (deleting t q k) h → IsIn (Group t g) b.members
+        → bears b S (Group t g) c ≡ bears b S (Original t) c
+    delete_group_hits t g q k c j i =
+        let o = family.forms.deletes t q k j in
+        let f = family.forms.delete_groups t g o.cover (group_listed t g i) o.is in
+        let mine = filter (keep (b.context (Original t))) S in
         let same : (e : Cell) → IsIn e S → keep (b.context (Group t g)) e ≡ keep (b.context (Original t)) e = λ e l.
         same_bool (keep (b.context (Group t g)) e) (keep (b.context (Original t)) e)
         (λ m. elim (groups.before t g (Original e.0) i m) [
@@ -187,13 +180,14 @@ module _ (b : Family Form) (known : IsFamily form_inclusion b) (own_names : HasO
           ]
         ])
         (λ m. group_within t g i (Original e.0) m) in
-        ap₂ (λ (v : ℕ) (cs : List Cell). stands_at v cs c) place
+        cover_on o.cover.place (By t g) (b.form (Group t g)) (filter (keep (b.context (Group t g))) S) mine c f
         (filter_same (keep (b.context (Group t g))) (keep (b.context (Original t))) S same)
+        ∙ (ap (λ (v : ℕ). is_on (By t 0) v mine c) o.place ∙ sym (cover_on q (By t 0) (b.form (Original t)) mine mine c o refl))
 
-    -- a group of an insert hits the cell of the insert
+    -- the mark of a group of an insert is on the cells of the insert
     insert_group_hits : (t : NameData) (g p ch : ℕ) (k : ContextData) (c : Cell) → IsIn (inserting t p ch k) h → IsIn (Group t g) b.members
-        → IsIn c S → hits_in b S (Group t g) c ≡ name_eq t c.0
-    insert_group_hits t g p ch k c j i l =
+        → bears b S (Group t g) c ≡ name_eq t c.0
+    insert_group_hits t g p ch k c j i =
         let y : Member = Original t in
         let f = family.forms.inserts t p ch k j in
         let a = f.ins in
@@ -223,18 +217,17 @@ module _ (b : Family Form) (known : IsFamily form_inclusion b) (own_names : HasO
           | inl u ↦ group_within t g i (Original e.0) u
           | inr u ↦ subst (λ (z : Member). b.context (Group t g) z ≡ true) u (groups.target t g i)
         ]) in
-        let place : place_of (b.form (Group t g)) ≡ a.place = ap place_of cover.is ∙ cover.place in
-        let cells : filter (keep (b.context (Group t g))) S ≡ take a.place P ++ ((a.name, 0) ∷ drop a.place P) =
+        let cells : filter (keep (b.context (Group t g))) S ≡ put_in a.place (added_by (Insert a)) P =
         filter_same (keep (b.context (Group t g))) (keep (plus needs y)) S same ∙ more in
-        ap₂ (λ (n : ℕ) (cs : List Cell). stands_at n cs c) place cells
-        ∙ (stands_behind (take a.place P) (a.name, 0) (drop a.place P) a.place c (length-take-le a.place P (omega arith))
-        ∙ (ap₂ (λ (n : NameData) (o : ℕ). name_eq n c.0 && (0 == o)) f.name (offset_zero (run w [] fs) c l)
-        ∙ and_true (name_eq t c.0)))
+        cover_on a.place (Own g) (b.form (Group t g)) (filter (keep (b.context (Group t g))) S) (put_in a.place (added_by (Insert a)) P) c
+        cover cells
+        ∙ (on_first (Own g) (take a.place P) a (drop a.place P) a.place c (length-take-le a.place P (omega arith))
+        ∙ (ap (λ (n : NameData). name_eq c.0 n) f.name ∙ same_names c.0 t))
 
     -- ---- what an operation's mark does to a cell
 
     abbrev mark_of : OpData → Cell → CellData → CellData
-    mark_of o c d = mark_by (b.form (member_of o)) (hits_in b S (member_of o) c) d
+    mark_of o c d = mark_by (b.form (member_of o)) (bears b S (member_of o) c) d
 
     -- the original that a group is of is an insert or a delete
     target_is : (t : NameData) (g : ℕ) → IsIn (Group t g) b.members
@@ -257,22 +250,22 @@ module _ (b : Family Form) (known : IsFamily form_inclusion b) (own_names : HasO
         → (mark_of o c d).generation ≡ max (generation_at o c.0) d.generation
     mark_generation (inserting n p ch k) i c l d =
         let f = family.forms.inserts n p ch k i in
-        ap (λ (x : Form). (mark_by x (hits_in b S (Original n) c) d).generation) f.is ∙ omega arith
+        ap (λ (x : Form). (mark_by x (bears b S (Original n) c) d).generation) f.is ∙ omega arith
     mark_generation (deleting n p k) i c l d =
-        by_generation p n 0 (b.form (Original n)) (hits_in b S (Original n) c) d (family.forms.deletes n p k i) ∙ omega arith
+        by_generation p n 0 (b.form (Original n)) (bears b S (Original n) c) d (family.forms.deletes n p k i) ∙ omega arith
     mark_generation (undoing a t g k) i c l d = elim (target_is t g (listed_of (undoing a t g k) i)) [
       | inl r ↦
           let f = family.forms.inserts t r.0 r.1 r.2 r.3 in
           let listed = listed_of (undoing a t g k) i in
-          own_generation f.ins.place g (b.form (Group t g)) (hits_in b S (Group t g) c) d
+          own_generation f.ins.place g (b.form (Group t g)) (bears b S (Group t g) c) d
           (family.forms.insert_groups t g f.ins (group_listed t g listed) f.is)
-          ∙ ap (λ (x : Bool). max (if x then g else 0) d.generation) (insert_group_hits t g r.0 r.1 r.2 c r.3 listed l)
+          ∙ ap (λ (x : Bool). max (if x then g else 0) d.generation) (insert_group_hits t g r.0 r.1 r.2 c r.3 listed)
       | inr r ↦
           let f = family.forms.deletes t r.0 r.1 r.2 in
           let listed = listed_of (undoing a t g k) i in
           let put = put_by c l in
           let other : name_eq t c.0 ≡ false = not_delete c.0 t put.place put.character r.0 put.context r.1 put.there r.2 in
-          by_generation f.cover.place t g (b.form (Group t g)) (hits_in b S (Group t g) c) d
+          by_generation f.cover.place t g (b.form (Group t g)) (bears b S (Group t g) c) d
           (family.forms.delete_groups t g f.cover (group_listed t g listed) f.is)
           ∙ (rw other (omega arith))
     ]
@@ -319,7 +312,7 @@ module _ (b : Family Form) (known : IsFamily form_inclusion b) (own_names : HasO
       place : ℕ
       context : ContextData
       there : IsIn (deleting d place context) h
-      hit : hits_in b S (Original d) c ≡ true
+      hit : bears b S (Original d) c ≡ true
 
     zero_either : (y : Bool) → let z : ℕ = if y then 0 else 0 in z ≡ 0
     zero_either true = refl
@@ -333,14 +326,14 @@ module _ (b : Family Form) (known : IsFamily form_inclusion b) (own_names : HasO
         → max 1 (best d (mark_of o c e).deleters) ≡ max (suc (generation_at o d)) (max 1 (best d e.deleters))
     mark_best (inserting n p ch k) i c d del e =
         let f = family.forms.inserts n p ch k i in
-        ap (λ (x : Form). max 1 (best d (mark_by x (hits_in b S (Original n) c) e).deleters)) f.is ∙ omega arith
+        ap (λ (x : Form). max 1 (best d (mark_by x (bears b S (Original n) c) e).deleters)) f.is ∙ omega arith
     mark_best (deleting n p k) i c d del e =
         let f = family.forms.deletes n p k i in
-        let hit : name_eq n d ≡ true → hits_in b S (Original n) c ≡ true =
-        λ q. subst (λ (m : NameData). hits_in b S (Original m) c ≡ true) (sym (name_same n d q)) del.hit in
+        let hit : name_eq n d ≡ true → bears b S (Original n) c ≡ true =
+        λ q. subst (λ (m : NameData). bears b S (Original m) c ≡ true) (sym (name_same n d q)) del.hit in
         let r : best d (mark_of (deleting n p k) c e).deleters ≡ max (if name_eq n d then suc 0 else 0) (best d e.deleters) =
-        ap (best d) (by_deleters p n 0 (b.form (Original n)) (hits_in b S (Original n) c) e f)
-        ∙ raise_best d n 0 (hits_in b S (Original n) c) e.deleters hit in
+        ap (best d) (by_deleters p n 0 (b.form (Original n)) (bears b S (Original n) c) e f)
+        ∙ raise_best d n 0 (bears b S (Original n) c) e.deleters hit in
         max_one (best d (mark_of (deleting n p k) c e).deleters) 0 (best d e.deleters) (name_eq n d) r
         ∙ ap (λ (x : ℕ). max (suc x) (max 1 (best d e.deleters))) (zero_either (name_eq n d))
     mark_best (undoing a t g k) i c d del e = elim (target_is t g (listed_of (undoing a t g k) i)) [
@@ -352,18 +345,18 @@ module _ (b : Family Form) (known : IsFamily form_inclusion b) (own_names : HasO
           (λ q. both_ways (name_eq d t) (not_delete t d r.0 r.1 del.place r.2 del.context r.3 del.there)
           (subst (λ (m : NameData). name_eq d m ≡ true) (sym (name_same t d q)) (name_itself d))) in
           ap (λ (es : List Entry). max 1 (best d es))
-          (own_deleters f.ins.place g (b.form (Group t g)) (hits_in b S (Group t g) c) e
+          (own_deleters f.ins.place g (b.form (Group t g)) (bears b S (Group t g) c) e
           (family.forms.insert_groups t g f.ins (group_listed t g listed) f.is)) ∙ (rw other (omega arith))
       | inr r ↦
           let f = family.forms.deletes t r.0 r.1 r.2 in
           let listed = listed_of (undoing a t g k) i in
-          let same = delete_group_hits d t r.0 g r.0 r.1 f.cover c r.2 f.is listed in
-          let hit : name_eq t d ≡ true → hits_in b S (Group t g) c ≡ true =
-          λ q. same ∙ subst (λ (m : NameData). hits_in b S (Original m) c ≡ true) (sym (name_same t d q)) del.hit in
+          let same = delete_group_hits t g r.0 r.1 c r.2 listed in
+          let hit : name_eq t d ≡ true → bears b S (Group t g) c ≡ true =
+          λ q. same ∙ subst (λ (m : NameData). bears b S (Original m) c ≡ true) (sym (name_same t d q)) del.hit in
           let raised : best d (mark_of (undoing a t g k) c e).deleters ≡ max (if name_eq t d then suc g else 0) (best d e.deleters) =
-          ap (best d) (by_deleters f.cover.place t g (b.form (Group t g)) (hits_in b S (Group t g) c) e
+          ap (best d) (by_deleters f.cover.place t g (b.form (Group t g)) (bears b S (Group t g) c) e
           (family.forms.delete_groups t g f.cover (group_listed t g listed) f.is))
-          ∙ raise_best d t g (hits_in b S (Group t g) c) e.deleters hit in
+          ∙ raise_best d t g (bears b S (Group t g) c) e.deleters hit in
           max_one (best d (mark_of (undoing a t g k) c e).deleters) g (best d e.deleters) (name_eq t d) raised
     ]
 
@@ -395,7 +388,7 @@ module _ (b : Family Form) (known : IsFamily form_inclusion b) (own_names : HasO
     best_some (o ∷ os) all c d del (inl q) =
         let f = family.forms.deletes d del.place del.context del.there in
         let first : (mark_of (deleting d del.place del.context) c (marks c os)).deleters ≡ raise_in d 0 (marks c os).deleters =
-        by_deleters del.place d 0 (b.form (Original d)) (hits_in b S (Original d) c) (marks c os) f
+        by_deleters del.place d 0 (b.form (Original d)) (bears b S (Original d) c) (marks c os) f
         ∙ ap (λ (x : Bool). if x then raise_in d 0 (marks c os).deleters else (marks c os).deleters) del.hit in
         let r : best d (mark_of (deleting d del.place del.context) c (marks c os)).deleters ≡ max 1 (best d (marks c os).deleters) =
         ap (best d) first ∙ best_raise d 0 (marks c os).deleters in
@@ -403,7 +396,7 @@ module _ (b : Family Form) (known : IsFamily form_inclusion b) (own_names : HasO
         subst (λ (p : OpData). 1 ≤ best d (mark_of p c (marks c os)).deleters) q some
     best_some (o ∷ os) all c d del (inr i) =
         let ih = best_some os (λ p j. all p (inr j)) c d del i in
-        let more = best_kept (b.form (member_of o)) (hits_in b S (member_of o) c) (marks c os) d in
+        let more = best_kept (b.form (member_of o)) (bears b S (member_of o) c) (marks c os) d in
         omega arith
 
     raised_entries : (n : NameData) (g : ℕ) (c : Cell) (e : CellData) → ((x : Entry) → IsIn x e.deleters → Deletes x.0 c)
@@ -420,26 +413,26 @@ module _ (b : Family Form) (known : IsFamily form_inclusion b) (own_names : HasO
         → IsIn x (mark_of o c e).deleters → Deletes x.0 c
     mark_entries (inserting n p ch k) i c e old x j =
         let f = family.forms.inserts n p ch k i in
-        old x (subst (λ (g : Form). IsIn x (mark_by g (hits_in b S (Original n) c) e).deleters) f.is j)
+        old x (subst (λ (g : Form). IsIn x (mark_by g (bears b S (Original n) c) e).deleters) f.is j)
     mark_entries (deleting n p k) i c e old x j =
-        raised_entries n 0 c e old (hits_in b S (Original n) c) x (λ q. record { place = p; context = k; there = i; hit = q })
+        raised_entries n 0 c e old (bears b S (Original n) c) x (λ q. record { place = p; context = k; there = i; hit = q })
         (subst (λ (es : List Entry). IsIn x es)
-        (by_deleters p n 0 (b.form (Original n)) (hits_in b S (Original n) c) e (family.forms.deletes n p k i)) j)
+        (by_deleters p n 0 (b.form (Original n)) (bears b S (Original n) c) e (family.forms.deletes n p k i)) j)
     mark_entries (undoing a t g k) i c e old x j = elim (target_is t g (listed_of (undoing a t g k) i)) [
       | inl r ↦
           let f = family.forms.inserts t r.0 r.1 r.2 r.3 in
           let listed = listed_of (undoing a t g k) i in
           old x (subst (λ (es : List Entry). IsIn x es)
-          (own_deleters f.ins.place g (b.form (Group t g)) (hits_in b S (Group t g) c) e
+          (own_deleters f.ins.place g (b.form (Group t g)) (bears b S (Group t g) c) e
           (family.forms.insert_groups t g f.ins (group_listed t g listed) f.is)) j)
       | inr r ↦
           let f = family.forms.deletes t r.0 r.1 r.2 in
           let listed = listed_of (undoing a t g k) i in
-          let same = delete_group_hits t t r.0 g r.0 r.1 f.cover c r.2 f.is listed in
-          raised_entries t g c e old (hits_in b S (Group t g) c) x
+          let same = delete_group_hits t g r.0 r.1 c r.2 listed in
+          raised_entries t g c e old (bears b S (Group t g) c) x
           (λ q. record { place = r.0; context = r.1; there = r.2; hit = sym same ∙ q })
           (subst (λ (es : List Entry). IsIn x es)
-          (by_deleters f.cover.place t g (b.form (Group t g)) (hits_in b S (Group t g) c) e
+          (by_deleters f.cover.place t g (b.form (Group t g)) (bears b S (Group t g) c) e
           (family.forms.delete_groups t g f.cover (group_listed t g listed) f.is)) j)
     ]
 
@@ -450,7 +443,7 @@ module _ (b : Family Form) (known : IsFamily form_inclusion b) (own_names : HasO
 
     marks_rising : (ms : List Member) (c : Cell) → IsRising (marks_of b S everyone c ms).deleters
     marks_rising [] c = rw (bare_deleters c (b.form (Original c.0))) tt
-    marks_rising (m ∷ ms) c = mark_rising (b.form m) (hits_in b S m c) (marks_of b S everyone c ms) (marks_rising ms c)
+    marks_rising (m ∷ ms) c = mark_rising (b.form m) (bears b S m c) (marks_of b S everyone c ms) (marks_rising ms c)
 
     all_h : (o : OpData) → IsIn o h → IsIn o h
     all_h o i = i
@@ -511,22 +504,14 @@ module _ (b : Family Form) (known : IsFamily form_inclusion b) (own_names : HasO
     shown_is : (c : Cell) → IsIn c S → cell_shown (marks c h) ≡ is_shown h c
     shown_is c i = ap₂ (λ (g : ℕ) (q : Bool). is_even g && not q) (generation_is h all_h c i) (covered_is c)
 
-    -- ---- names and characters
-
-    marks_key : (ms : List Member) (c : Cell) → cell_key (marks_of b S everyone c ms) ≡ cell_key (bare_at c (b.form (Original c.0)))
-    marks_key [] c = refl
-    marks_key (m ∷ ms) c = mark_key (b.form m) (hits_in b S m c) (marks_of b S everyone c ms) ∙ marks_key ms c
+    -- ---- characters
 
     marks_char : (ms : List Member) (c : Cell) → (marks_of b S everyone c ms).ch ≡ (bare_at c (b.form (Original c.0))).ch
     marks_char [] c = refl
-    marks_char (m ∷ ms) c = mark_char (b.form m) (hits_in b S m c) (marks_of b S everyone c ms) ∙ marks_char ms c
+    marks_char (m ∷ ms) c = mark_char (b.form m) (bears b S m c) (marks_of b S everyone c ms) ∙ marks_char ms c
 
-    key_is : (c : Cell) → IsIn c S → cell_key (marks c h) ≡ c
-    key_is c i =
-        let put = put_by c i in
-        let f = family.forms.inserts c.0 put.place put.character put.context put.there in
-        let zero_is = offset_zero (run w [] fs) c i in
-        marks_key (members_in h) c ∙ (ap (λ (x : Form). cell_key (bare_at c x)) f.is ∙ (λ j. (f.name j, sym zero_is j)))
+    key_is : (c : Cell) → cell_key (marks c h) ≡ c
+    key_is c = marks_key b S everyone c (members_in h)
 
     char_is : AreToldApart h → (c : Cell) → IsIn c S → (marks c h).ch ≡ character_in h c
     char_is told c i =
@@ -554,17 +539,17 @@ module _ (b : Family Form) (known : IsFamily form_inclusion b) (own_names : HasO
       cells = is_replay;
       characters =
           λ d i. let r = in_state d i in ap (λ (x : CellData). x.ch) r.2
-          ∙ (char_is told r.0 r.1 ∙ ap (character_in h) (sym (key_of d r.0 r.1 r.2)));
+          ∙ (char_is told r.0 r.1 ∙ ap (character_in h) (sym (key_of d r.0 r.2)));
       generations =
           λ d i. let r = in_state d i in ap (λ (x : CellData). x.generation) r.2
-          ∙ (generation_is h all_h r.0 r.1 ∙ ap (λ (c : Cell). generation_in h c.0) (sym (key_of d r.0 r.1 r.2)));
-      deleters = λ d i n g. let r = in_state d i in deleters_by d r.0 r.2 (key_of d r.0 r.1 r.2) n g;
+          ∙ (generation_is h all_h r.0 r.1 ∙ ap (λ (c : Cell). generation_in h c.0) (sym (key_of d r.0 r.2)));
+      deleters = λ d i n g. let r = in_state d i in deleters_by d r.0 r.2 (key_of d r.0 r.2) n g;
       once = λ d i. let r = in_state d i in subst (λ (x : CellData). IsRising x.deleters) (sym r.2) (marks_rising (members_in h) r.0);
-      shown = λ d i. let r = in_state d i in ap cell_shown r.2 ∙ (shown_is r.0 r.1 ∙ ap (is_shown h) (sym (key_of d r.0 r.1 r.2)));
+      shown = λ d i. let r = in_state d i in ap cell_shown r.2 ∙ (shown_is r.0 r.1 ∙ ap (is_shown h) (sym (key_of d r.0 r.2)));
     }
       where
-        key_of : (d : CellData) (c : Cell) → IsIn c S → d ≡ marks c h → cell_key d ≡ c
-        key_of d c i e = ap cell_key e ∙ key_is c i
+        key_of : (d : CellData) (c : Cell) → d ≡ marks c h → cell_key d ≡ c
+        key_of d c e = ap cell_key e ∙ key_is c
 
         deleters_by : (d : CellData) (c : Cell) → d ≡ marks c h → cell_key d ≡ c → (n : NameData) (g : ℕ)
             → IsIn (n, g) d.deleters ↔ (IsDeleter h (cell_key d) n × (g ≡ generation_in h n))

@@ -107,7 +107,7 @@ change_map f g e p [] = refl
 change_map f g e zero (z ∷ s) = ap (λ y. y ∷ map g s) (e z)
 change_map f g e (suc p) (z ∷ s) = ap (λ ys. g z ∷ ys) (change_map f g e p s)
 
-get_behind : {A : Type 0} (k n : ℕ) (new xs : List A) → n ≡ k + length new → slice_get (new ++ xs) n ≡ slice_get xs k
+pub get_behind : {A : Type 0} (k n : ℕ) (new xs : List A) → n ≡ k + length new → slice_get (new ++ xs) n ≡ slice_get xs k
 get_behind k n [] xs e = let f : n ≡ k = omega (arith, e) in ap (slice_get xs) f
 get_behind k zero (x ∷ new) xs e = absurd (omega (arith, e))
 get_behind k (suc n) (x ∷ new) xs e = get_behind k n new xs (omega (arith, e))
