@@ -255,7 +255,7 @@ fn name_of(cells: &Cells, place: u32) -> Option<Name>
     ensures { result ≡ option_map (λ c. c.name) (slice_get cells.now.cells place) }
 {
     match cells.cell(place) {
-        Some(cell) => Some(cell.name()),
+        Some(cell) => Some(cell.id().name),
         None => None,
     }
 }

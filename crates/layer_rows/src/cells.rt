@@ -8,7 +8,7 @@ use crate::long::{
 use crate::words::Words;
 use op_name::Memory;
 use std::alloc::Global;
-use tombstone_text::{Cell, Cells};
+use tombstone_text::{Cell, CellId, Cells};
 use ttf_form::Form;
 use visible_view::{cell_of_visible, model_place, visible_len, write_text};
 
@@ -145,7 +145,7 @@ fn cell_at(words: &mut Words<'_>, cells: &Cells, out: &mut String) -> Result<boo
 fn put_cell(out: &mut String, cell: &Cell) -> Result<(), Memory> {
     out.push(cell.ch())?;
     out.push(' ')?;
-    put_name(out, &cell.name())?;
+    put_name(out, &cell.id().name)?;
     put_further(out, u64::from(cell.generation()))?;
     for pair in cell.deleters() {
         out.push(' ')?;
@@ -154,12 +154,12 @@ fn put_cell(out: &mut String, cell: &Cell) -> Result<(), Memory> {
     Ok(())
 }
 
-// `placeof NAME`
+// `placeof NAME`: the place of the first cell of the insert.
 fn place_of(words: &mut Words<'_>, cells: &Cells, out: &mut String) -> Result<bool, Memory> {
     let Some(name) = words.name() else {
         return Ok(false);
     };
-    put_found(out, cells.place_of(&name))?;
+    put_found(out, cells.place_of(&CellId { name, offset: 0 }))?;
     Ok(true)
 }
 

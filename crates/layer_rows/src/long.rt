@@ -29,7 +29,7 @@ const HIDING: Name = Name { site: 1, number: 9 };
 /// Applies a form where it fits; answers whether it does. Out of memory no cell changes.
 pub(crate) fn execute(cells: &mut Cells, form: &Form) -> Result<bool, Memory> {
     let fits = match form {
-        Form::Ins(ins) => ins.place <= cells.len() && cells.place_of(&ins.name).is_none(),
+        Form::Ins(ins) => ins.place <= cells.len() && cells.lacks(&ins.name),
         Form::Cover(cover) => cover.place < cells.len(),
     };
     if !fits {

@@ -1,7 +1,9 @@
 pub mod Shown
 pub mod Entries
 pub mod Positions
-pub mod Named
+pub mod Searches
+pub mod Inserts
+pub mod Raising
 pub mod Flags
 pub mod Bodies
 pub mod Ways

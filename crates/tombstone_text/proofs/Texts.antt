@@ -13,7 +13,7 @@ use Rattle.tombstone_text.specs.Code.Cells.{cut, IsText}
 use Rattle.tombstone_text.specs.Code.Chunks.{ChunkData}
 use Rattle.tombstone_text.proofs.Flags.{map-insert}
 use Rattle.tombstone_text.proofs.Shown.{length-filter-insert, length-filter-le}
-use Rattle.tombstone_text.proofs.Chunked.{IsSpot, spot, text-len, text-shown, filled_set, filled_cut, cut_is, length-change, flag-le, shown-change}
+use Rattle.tombstone_text.proofs.Chunked.{IsSpot, spot, text-len, text-shown, filled_at, filled_set, filled_cut, cut_is, length-change, flag-le, shown-change}
 
 pub len_at : (cs : List (List CellData)) (ls ss : List ℕ) (f : Option ChunkData) (i : ℕ) → IsText cs ls ss f → i < length cs
     → get_or ls i 0 ≡ length (get_or cs i [])
@@ -62,22 +62,30 @@ text_put cs ls ss f i o x d a b t lt within new shows la sb =
       fresh_is = t.fresh_is;
     }
 
--- a cell changed in a chunk
-pub text_change : (g : CellData → CellData) (cs : List (List CellData)) (ls ss : List ℕ) (f : Option ChunkData) (i o : ℕ)
-    (d : List CellData) (b : ℕ)
-    → IsText cs ls ss f → i < length cs → o < length (get_or cs i []) → d ≡ change_at o g (get_or cs i []) → b ≡ shown_in d
-    → IsText (set cs i d) ls (set ss i b) f
-text_change g cs ls ss f i o d b t lt within new sb =
-    let long : length d ≡ length (get_or cs i []) = ap (λ (c : List CellData). length c) new ∙ length-change g (get_or cs i []) o in
+-- what stays true when the cells of a chunk are changed, and the chunk is d then, of which n cells are shown
+pub record IsChunkChanged (cs : List (List CellData)) (ls ss : List ℕ) (f : Option ChunkData) (i n : ℕ) (d : List CellData) : Type 0 where
+  pub all : sum (set ss i n) ≤ length (flat cs)
+  pub text : IsText (set cs i d) ls (set ss i n) f
+
+pub chunk_changed : (cs : List (List CellData)) (ls ss : List ℕ) (f : Option ChunkData) (i n : ℕ) (d : List CellData)
+    → IsText cs ls ss f → i < length cs → length d ≡ length (get_or cs i []) → n ≡ shown_in d → IsChunkChanged cs ls ss f i n d
+chunk_changed cs ls ss f i n d t lt long is =
+    let one = filled_at cs i t.filled lt in
     let kept : set (map (λ (c : List CellData). length c) cs) i (length d) ≡ map (λ (c : List CellData). length c) cs =
-    ap (λ n. set (map (λ (c : List CellData). length c) cs) i n) (long ∙ sym (get_or-map (λ (c : List CellData). length c) cs i [] 0 lt))
+    ap (λ k. set (map (λ (c : List CellData). length c) cs) i k) (long ∙ sym (get_or-map (λ (c : List CellData). length c) cs i [] 0 lt))
     ∙ set-get_or (map (λ (c : List CellData). length c) cs) i 0 in
+    let text : IsText (set cs i d) ls (set ss i n) f =
     record {
       lens_are = t.lens_are ∙ sym kept ∙ sym (map-set (λ (c : List CellData). length c) cs i d);
-      shown_are = set_both ss (map shown_in cs) i b (shown_in d) t.shown_are sb ∙ sym (map-set shown_in cs i d);
-      filled = filled_set cs i d t.filled (omega arith);
+      shown_are = set_both ss (map shown_in cs) i n (shown_in d) t.shown_are is ∙ sym (map-set shown_in cs i d);
+      filled = filled_set cs i d t.filled (omega (arith, one, long));
       fresh_is = t.fresh_is;
-    }
+    } in
+    let was_all = text-len cs ls ss f t in
+    let now_all = text-len (set cs i d) ls (set ss i n) f text in
+    let seen = text-shown (set cs i d) ls (set ss i n) f text in
+    let most = length-filter-le cell_shown (flat (set cs i d)) in
+    record { all = omega (arith, was_all, now_all, seen, most); text = text }
 
 insert_both : (xs ys : List ℕ) (k a b : ℕ) → xs ≡ ys → a ≡ b → insert xs k a ≡ insert ys k b
 insert_both xs ys k a b e f = ap (λ l. insert l k a) e ∙ ap (λ n. insert ys k n) f
@@ -193,15 +201,13 @@ changed_text g cs ls ss f i o n before after was d x t lt within read change is_
     let b = is_before ∙ ap (λ (s : List CellData). flag_of (get_or s o x)) same in
     let a = is_after ∙ ap (λ (s : List CellData). flag_of (get_or s o x)) new in
     let again = counted_again g (get_or cs i []) o n before after x within (is_n ∙ shown_at cs ls ss f i t lt) b a in
-    let text : IsText (set cs i d) ls (set ss i (n - before + after)) f =
-    text_change g cs ls ss f i o d (n - before + after) t lt within new (again.1 ∙ ap (λ (s : List CellData). shown_in s) (sym new)) in
-    let one = length-filter-le cell_shown (change_at o g (get_or cs i [])) in
     let long = length-change g (get_or cs i []) o in
+    let now =
+    chunk_changed cs ls ss f i (n - before + after) d t lt (ap (λ (s : List CellData). length s) new ∙ long)
+    (again.1 ∙ ap (λ (s : List CellData). shown_in s) (sym new)) in
+    let one = length-filter-le cell_shown (change_at o g (get_or cs i [])) in
     let lens = lens_long cs ls ss f t in
     let part = part-le ls i (omega (arith, lens.0)) in
     let len = len_at cs ls ss f i t lt in
     let was_all = text-len cs ls ss f t in
-    let now_all = text-len (set cs i d) ls (set ss i (n - before + after)) f text in
-    let seen = text-shown (set cs i d) ls (set ss i (n - before + after)) f text in
-    let most = length-filter-le cell_shown (flat (set cs i d)) in
-    record { chunk = new; low = again.0; shown = omega (arith, again.1); all = omega arith; text = text }
+    record { chunk = new; low = again.0; shown = omega (arith, again.1); all = now.all; text = now.text }

@@ -1,11 +1,13 @@
 -- A text as contracts see it: its cells, the chunks that they are kept in, and the room that its lists have to spare.
-use Rattle.std.specs.Prelude.{◌≡◌, ℕ, ◌<◌, Option, Some, List, length, slice_get, IfSome}
+use Rattle.std.specs.Prelude.{◌≡◌, ℕ, ◌<◌, ◌==◌, ◌&&◌, Bool, Option, Some, List, length, slice_get, IfSome}
+use Rattle.op_name.specs.NameData.{name_eq}
 use Rattle.ttf_form.specs.declared.include.TheConstants.{CELLS}
 use Rattle.ttf_form.specs.Cells.{CellData}
 use Rattle.ttf_form.specs.declared.cover.Mark.{Mark}
 use Rattle.ttf_form.specs.declared.cover.Mark.TheVariants.{Own, By}
 use Rattle.ttf_form.specs.declared.form.Form.{Form}
 use Rattle.ttf_form.specs.declared.form.Form.TheVariants.{Ins as Insert, Cover as Covered}
+use Rattle.tombstone_text.specs.declared.cell.CellId.{CellId}
 
 -- the place at which a cell may come in without memory, and places for the deleters of one cell
 pub record Room : Type 0 where
@@ -28,3 +30,7 @@ HasRoomOn (By d g) c places = length c.deleters < places
 abbrev pub HasRoomFor : CellsData → Form → Type 0
 HasRoomFor t (Insert a) = (t.room.ready ≡ Some a.place) × (length t.cells < CELLS)
 HasRoomFor t (Covered c) = IfSome (slice_get t.cells c.place) (λ d. HasRoomOn c.mark d t.room.deleters)
+
+-- the cell is that with the name and the offset
+abbrev pub is_cell : CellId → CellData → Bool
+is_cell id c = name_eq c.name id.name && (c.offset == id.offset)

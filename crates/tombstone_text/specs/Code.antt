@@ -2,3 +2,4 @@ pub mod Sums
 pub mod Chunks
 pub mod Cells
 pub mod Deleters
+pub mod Inserts

@@ -1,18 +1,18 @@
 //! The list of all cells of a text, kept in chunks.
 
-ghost use Rattle.std.specs.Prelude.{◌≡◌, ◌≢◌, ◌<◌, ◌≤◌, ◌^◌, ◌↔◌, [], length, filter, map, take, position, slice_get, slice_index_or, Some, IfSome, IfNone, IsTrue, OnOk, OnErr, option_map};
-ghost use Rattle.op_name.specs.NameData.{name_eq};
+ghost use Rattle.std.specs.Prelude.{◌≡◌, ◌≢◌, ◌<◌, ◌≤◌, ◌^◌, ◌↔◌, [], length, filter, map, take, position, slice_get, slice_index_or, Contains, Some, IfSome, IfNone, IsTrue, OnOk, OnErr, option_map};
 ghost use Rattle.ttf_form.specs.Names.{LacksName};
-ghost use Rattle.ttf_form.specs.Cells.{cell_shown, cells_of, put_in, bare_cells, change_at, marked, applied, FitsCells};
+ghost use Rattle.ttf_form.specs.Cells.{cell_shown, cells_of, put_in, bare_cells, change_at, marked, marked_in, raised, applied, FitsCells};
 ghost use Rattle.ttf_form.specs.declared.include.TheConstants.{CELLS};
 ghost use Rattle.ttf_form.specs.declared.form.Form.TheVariants.{Cover as Covered};
-ghost use Rattle.tombstone_text.specs.Cells.{CellsData, HasRoomFor};
+ghost use Rattle.tombstone_text.specs.Cells.{CellsData, HasRoomFor, is_cell};
 ghost use Rattle.tombstone_text.specs.Chunks.{flat, flag_of, shown_in};
 ghost use Rattle.tombstone_text.specs.Sums.{IsPart};
 ghost use Rattle.tombstone_text.specs.Code.Cells.{IsReady};
+ghost use Rattle.tombstone_text.specs.Code.Inserts.{AreInserts};
 
-use crate::cell::Cell;
-use crate::chunks::{Chunks, Ready};
+use crate::cell::{Cell, CellId};
+use crate::chunks::{Chunks, Ready, Sought};
 use crate::deleters::Spare;
 use op_name::{Memory, Name};
 use std::alloc::Global;
@@ -37,7 +37,7 @@ impl Model for Cells {
 
     ghost view = { λ c. record { chunks = c.chunks.chunks; cells = c.chunks.cells; room = record { ready = option_map (λ r. r.place) c.ready; deleters = c.spare } } };
 
-    ghost invariant = { λ c. IfSome c.ready (λ r. IsReady c.chunks r) };
+    ghost invariant = { λ c. IfSome c.ready (λ r. IsReady c.chunks r) × AreInserts c.chunks.cells };
 }
 
 impl Cells {
@@ -133,15 +133,26 @@ impl Cells {
         self.chunks.shown_chunk(v)
     }
 
-    /// The place of the cell of the insert `name`; None exactly where no cell has that name. It looks at the
-    /// cells one after the other.
-    pub fn place_of(&self, name: &Name) -> Option<u32>
-        ensures place { result ≡ position (λ c. name_eq c.name name.now) self.now.cells }
-        ensures none { IfNone result (LacksName (cells_of self.now.cells) name.now) }
+    /// The place of the cell with that name and offset; None exactly where there is none. It looks at the cells one
+    /// after the other.
+    pub fn place_of(&self, id: &CellId) -> Option<u32>
+        ensures place { result ≡ position (is_cell id.now) self.now.cells }
+        ensures none { IfNone result (¬ Contains (cells_of self.now.cells) (id.now.name, id.now.offset)) }
     {
-        match self.chunks.first_place(name) {
+        match self.chunks.first_place(&Sought::One(*id)) {
             Some(place) => Some(place),
             None => None,
+        }
+    }
+
+    /// Whether there is no cell of the insert `name`, so that its cells may come in. It looks at the cells one after
+    /// the other.
+    pub fn lacks(&self, name: &Name) -> bool
+        ensures { IsTrue result ↔ LacksName (cells_of self.now.cells) name.now }
+    {
+        match self.chunks.first_place(&Sought::Any(*name)) {
+            Some(_) => false,
+            None => true,
         }
     }
 
@@ -208,7 +219,8 @@ impl Cells {
     }
 
     /// Applies a form for which `reserve` made room: an insert puts its new cell at its place, a cover marks
-    /// the cell at its place. All other cells stay as they are, in their order.
+    /// the cell at its place, together with all other cells of the same insert where it is an undo or a redo of that.
+    /// All other cells stay as they are, in their order.
     pub fn apply(&mut self, form: &Form)
         requires room { HasRoomFor self.old form.now }
         requires fits { FitsCells self.old.cells form.now }
@@ -225,6 +237,7 @@ impl Cells {
         requires room { self.old.room.ready ≡ Some ins.now.place }
         requires bound { length self.old.cells < CELLS }
         requires place { ins.now.place ≤ length self.old.cells }
+        requires new { LacksName (cells_of self.old.cells) ins.now.name }
         ensures { self.new.cells ≡ put_in ins.now.place (bare_cells ins.now) self.old.cells }
     {
         match self.ready.take() {
@@ -233,13 +246,55 @@ impl Cells {
         }
     }
 
-    /// Marks the cell at the place of a cover.
+    /// Marks the cell at the place of a cover, or all cells of its insert. An insert of one cell is marked at the place
+    /// alone; where there are more, all chunks are gone over.
     fn mark(&mut self, cover: &Cover)
+        requires room { HasRoomFor self.old (Covered cover.now) }
+        requires place { cover.now.place < length self.old.cells }
+        ensures { self.new.cells ≡ marked_in cover.now.place cover.now.mark self.old.cells }
+    {
+        match self.several(cover) {
+            Some((name, generation)) => self.raise(&name, generation),
+            None => self.mark_one(cover),
+        }
+    }
+
+    /// The insert of several cells that a cover marks, and the generation; None where it marks the cell at its place
+    /// alone.
+    fn several(&self, cover: &Cover) -> Option<(Name, u16)>
+        ensures several { let c = cover.now in let cs = self.now.cells in IfSome result (λ r. marked_in c.place c.mark cs ≡ map (raised r.1 r.0) cs) }
+        ensures alone { let c = cover.now in let cs = self.now.cells in IfNone result (marked_in c.place c.mark cs ≡ change_at c.place (marked c.mark) cs) }
+    {
+        let Mark::Own { generation } = cover.mark else {
+            return None;
+        };
+        match self.chunks.cell(cover.place) {
+            Some(cell) => {
+                if cell.is_alone() {
+                    None
+                } else {
+                    Some((cell.id().name, generation))
+                }
+            }
+            None => None,
+        }
+    }
+
+    /// Marks the cell at the place of a cover.
+    fn mark_one(&mut self, cover: &Cover)
         requires room { HasRoomFor self.old (Covered cover.now) }
         requires place { cover.now.place < length self.old.cells }
         ensures { self.new.cells ≡ change_at cover.now.place (marked cover.now.mark) self.old.cells }
     {
         self.ready = None;
         self.chunks.mark(cover, &mut self.spare);
+    }
+
+    /// Raises all cells of an insert.
+    fn raise(&mut self, name: &Name, generation: u16)
+        ensures { self.new.cells ≡ map (raised generation name.now) self.old.cells }
+    {
+        self.ready = None;
+        self.chunks.raise(name, generation, &mut self.spare);
     }
 }

@@ -1,7 +1,7 @@
 //! A chunk: some of the cells of a text that stand side by side.
 
 ghost use Rattle.std.specs.Prelude.{◌≡◌, ℕ, ◌+◌, ◌<◌, ◌≤◌, List, [], length, map, take, drop, insert, sum, min, vec_len, vec_capacity, slice_index_or, slice_get, slice_set, option_map, IfOk, OnOk, if◌then◌else◌};
-ghost use Rattle.ttf_form.specs.Cells.{CellData, cell_shown, change_at, marked};
+ghost use Rattle.ttf_form.specs.Cells.{CellData, cell_shown, change_at, marked, raised};
 ghost use Rattle.tombstone_text.specs.Cells.{HasRoomOn};
 ghost use Rattle.tombstone_text.specs.Chunks.{flag_of, shown_in};
 ghost use Rattle.tombstone_text.specs.Code.Chunks.{ChunkData, IsChunk, blank};
@@ -10,7 +10,7 @@ ghost use Rattle.tombstone_text.specs.declared.chunk.TheConstants.{FULL};
 use crate::cell::Cell;
 use crate::deleters::Spare;
 use lane_rank::ones;
-use op_name::Memory;
+use op_name::{Memory, Name};
 use std::alloc::Global;
 use std::marker::Model;
 use ttf_form::Mark;
@@ -160,6 +160,25 @@ impl Chunk {
         let cell = &mut self.cells[at];
         cell.cover(mark, spare);
         self.flags[at] = flag(cell);
+    }
+
+    /// Raises all cells of an insert in the chunk, which takes nothing of `spare`.
+    pub(crate) fn raise(&mut self, name: &Name, generation: u16, spare: &mut Spare)
+        ensures { self.new.cells ≡ map (raised generation name.now) self.old.cells }
+    {
+        for at in 0..self.len() {
+            self.raise_at(at, name, generation, spare);
+        }
+    }
+
+    /// Raises the cell at a place of the chunk, if it is of the insert.
+    fn raise_at(&mut self, at: usize, name: &Name, generation: u16, spare: &mut Spare)
+        requires within { at < length self.old.cells }
+        ensures { self.new.cells ≡ change_at at (raised generation name.now) self.old.cells }
+    {
+        if self.cells[at].id().name == *name {
+            self.cover(at, Mark::Own { generation }, spare);
+        }
     }
 
     /// Keeps the first `keep` cells and moves the others to another chunk, which was empty. Of the room that the

@@ -1,16 +1,15 @@
 //! The chunks of a text, beside the columns of their lengths and of their numbers of shown cells.
 
 ghost use Rattle.std.specs.Prelude.{◌≡◌, ℕ, ◌+◌, ◌-◌, ◌<◌, ◌≤◌, ◌∷◌, ◌^◌, [], length, filter, map, take, insert, min, position, slice_get, slice_index_or, vec_len, vec_capacity, IfSome, IfOk, OnOk, IsTrue, IsFalse, true, option_map, if◌then◌else◌};
-ghost use Rattle.op_name.specs.NameData.{name_eq};
-ghost use Rattle.ttf_form.specs.Cells.{cell_shown, change_at, marked};
+ghost use Rattle.ttf_form.specs.Cells.{cell_shown, change_at, marked, raised};
 ghost use Rattle.ttf_form.specs.declared.include.TheConstants.{CELLS};
 ghost use Rattle.tombstone_text.specs.Cells.{HasRoomOn};
 ghost use Rattle.tombstone_text.specs.Chunks.{flat, flag_of, shown_in};
 ghost use Rattle.tombstone_text.specs.Sums.{IsPart};
-ghost use Rattle.tombstone_text.specs.Code.Cells.{ChunksData, cut, fresh_room, HasPlace, IsReady, IsSeat, IsText};
+ghost use Rattle.tombstone_text.specs.Code.Cells.{ChunksData, cut, fresh_room, HasPlace, IsReady, IsSeat, IsText, is_sought};
 ghost use Rattle.tombstone_text.specs.Code.Chunks.{blank, bodies, rooms_of};
 
-use crate::cell::Cell;
+use crate::cell::{Cell, CellId};
 use crate::chunk::{Chunk, FULL, room_for};
 use crate::deleters::Spare;
 use crate::sums::Sums;
@@ -53,11 +52,31 @@ impl Ready {
     }
 }
 
-/// The first place at which a cell has the name.
-fn position_of(list: &[Cell], name: &Name) -> Option<usize>
-    ensures { result ≡ position (λ c. name_eq c.name name.now) list.now }
+/// What is looked for: any cell of an insert, or a certain one.
+#[derive(Clone, Copy, Drop)]
+pub(crate) enum Sought {
+    Any(Name),
+    One(CellId),
+}
+
+impl Sought {
+    /// Whether the cell is one that is looked for.
+    fn is(&self, cell: &Cell) -> bool
+        ensures { result ≡ is_sought self.now cell.now }
+    {
+        let id = cell.id();
+        match self {
+            Sought::Any(name) => id.name == *name,
+            Sought::One(one) => id.name == one.name && id.offset == one.offset,
+        }
+    }
+}
+
+/// The first place at which a cell is one that is looked for.
+fn position_of(list: &[Cell], sought: &Sought) -> Option<usize>
+    ensures { result ≡ position (is_sought sought.now) list.now }
 {
-    list.iter().position(|cell| cell.name() == *name)
+    list.iter().position(|cell| sought.is(cell))
 }
 
 /// The cells of a text in chunks of 1 to 512 cells. The lengths of the chunks and their numbers of shown cells are two
@@ -192,16 +211,16 @@ impl Chunks {
         (i as u32, before)
     }
 
-    /// The first place at which a cell has the name.
-    pub(crate) fn first_place(&self, name: &Name) -> Option<u32>
-        ensures { result ≡ position (λ c. name_eq c.name name.now) self.now.cells }
+    /// The first place at which a cell is one that is looked for.
+    pub(crate) fn first_place(&self, sought: &Sought) -> Option<u32>
+        ensures { result ≡ position (is_sought sought.now) self.now.cells }
     {
         let _ = self.lens.total();
         let mut start = 0;
         let mut i = 0;
         while i < self.list.len() {
             let cells = self.list[i].cells();
-            match position_of(cells, name) {
+            match position_of(cells, sought) {
                 Some(at) => return Some((start + at) as u32),
                 None => {}
             }
@@ -405,6 +424,29 @@ impl Chunks {
         chunk.cover(at as usize, cover.mark, spare);
         let after = flag_at(chunk, at as usize);
         self.shown.set(i, shown - before + after);
+    }
+
+    /// Raises all cells of an insert, wherever they stand, which takes nothing of `spare`.
+    pub(crate) fn raise(&mut self, name: &Name, generation: u16, spare: &mut Spare)
+        ensures { self.new.cells ≡ map (raised generation name.now) self.old.cells }
+    {
+        self.known();
+        for i in 0..self.chunk_count() {
+            self.raise_chunk(i, name, generation, spare);
+        }
+        self.known();
+    }
+
+    /// Raises the cells of an insert in chunk `i`, and counts its shown cells anew.
+    fn raise_chunk(&mut self, i: u32, name: &Name, generation: u16, spare: &mut Spare)
+        requires { i < length self.old.chunks }
+        ensures { self.new.chunks ≡ change_at i (map (raised generation name.now)) self.old.chunks }
+    {
+        let _ = self.lens.total();
+        let chunk = &mut self.list[i as usize];
+        chunk.raise(name, generation, spare);
+        let shown = chunk.shown();
+        self.shown.set(i as usize, shown);
     }
 }
 

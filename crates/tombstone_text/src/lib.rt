@@ -1,8 +1,9 @@
 //! The cells of a text: the characters that inserts put, in the order in which they stand, shown or hidden.
 //!
-//! A `Cells` is a list of cells. Each has the name of its insert, its character, and the marks that covers
-//! left on it. Forms are applied to it: an insert adds a cell, a cover marks one, and no cell ever goes, so
-//! that places keep their meaning. A hidden cell is a tombstone.
+//! A `Cells` is a list of cells. Each has the name of its insert, its offset among the cells of that insert, its
+//! character, and the marks that covers left on it. Forms are applied to it: an insert adds its cells, a cover marks
+//! one, or all that one insert added, and no cell ever goes, so that places keep their meaning. A hidden cell is a
+//! tombstone.
 //!
 //! The cells are kept in chunks, each with a column of flags that tell which of its cells are shown; the calls
 //! on chunks lend them to those that look for shown cells.
@@ -15,5 +16,5 @@ mod chunks;
 mod deleters;
 mod sums;
 
-pub use cell::Cell;
+pub use cell::{Cell, CellId};
 pub use cells::Cells;

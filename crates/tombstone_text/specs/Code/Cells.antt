@@ -1,5 +1,5 @@
 -- How the cells of a text are kept: chunks, a column of their lengths, and one of their numbers of shown cells.
-use Rattle.std.specs.Prelude.{◌≡◌, ℕ, zero, suc, ◌+◌, ◌<◌, ◌≤◌, min, Option, Some, None, IfSome, List, [], ◌∷◌, length, map, take, drop, slice_index_or}
+use Rattle.std.specs.Prelude.{◌≡◌, Bool, ℕ, zero, suc, ◌+◌, ◌<◌, ◌≤◌, min, Option, Some, None, IfSome, List, [], ◌∷◌, length, map, take, drop, slice_index_or}
 use Rattle.ttf_form.specs.Cells.{CellData}
 use Rattle.tombstone_text.specs.Chunks.{flat, shown_in}
 use Rattle.tombstone_text.specs.Code.Chunks.{ChunkData}
@@ -7,6 +7,10 @@ use Rattle.tombstone_text.specs.declared.chunk.TheConstants.{FULL}
 use Rattle.tombstone_text.specs.declared.chunks.Way.{Way}
 use Rattle.tombstone_text.specs.declared.chunks.Way.TheVariants.{First, Into, Cut}
 use Rattle.tombstone_text.specs.declared.chunks.Ready.{Ready}
+use Rattle.tombstone_text.specs.declared.chunks.Sought.{Sought}
+use Rattle.tombstone_text.specs.declared.chunks.Sought.TheVariants.{Any, One}
+use Rattle.op_name.specs.NameData.{name_eq}
+use Rattle.tombstone_text.specs.Cells.{is_cell}
 
 -- each chunk has a cell
 abbrev pub AreFilled : List (List CellData) → Type 0
@@ -66,3 +70,8 @@ IsWay t (Cut i o k) place = IsSeat t.chunks i o place × MayBeCut t i k
 -- a new cell may come in without memory at the place for which this was made ready, one past the end counting as the end
 abbrev pub IsReady : ChunksData → Ready → Type 0
 IsReady t r = IsWay t r.way (min r.place (length t.cells))
+
+-- the cell is one that is looked for
+abbrev pub is_sought : Sought → CellData → Bool
+is_sought (Any n) c = name_eq c.name n
+is_sought (One id) c = is_cell id c

@@ -6,7 +6,7 @@ use Rattle.tombstone_text.specs.declared.chunk.TheConstants.{FULL}
 
 -- any cell, where a list is known to have one
 pub blank : CellData
-blank = record { name = record { site = 0; number = 0 }; ch = 0; generation = 0; deleters = [] }
+blank = record { name = record { site = 0; number = 0 }; offset = 0; of = 1; ch = 0; generation = 0; deleters = [] }
 
 -- the cells of a chunk, and how many it has room for, these among them
 pub record ChunkData : Type 0 where

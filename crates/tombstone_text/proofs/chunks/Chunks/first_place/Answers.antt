@@ -1,11 +1,11 @@
 use Rattle.std.proofs.Common.{◌≡◌, ◌+◌, ◌<◌, ◌≤◌, List, [], length, get_or, position, None, sym, ap, ◌∙◌, subst, arith}
 use Rattle.std.proofs.lemmas.List.{take_all}
-use Rattle.op_name.specs.NameData.{name_eq}
 use Rattle.ttf_form.specs.Cells.{CellData}
 use Rattle.tombstone_text.specs.Chunks.{flat}
+use Rattle.tombstone_text.specs.Code.Cells.{is_sought}
 use Rattle.tombstone_text.specs.Code.Chunks.{bodies}
 use Rattle.tombstone_text.proofs.Bodies as body
-use Rattle.tombstone_text.proofs.Named as named
+use Rattle.tombstone_text.proofs.Searches as sought
 use Rattle.tombstone_text.proofs.chunks.Chunks.first_place.Goals as goal
 
 pub overflow_add-result : goal.overflow_add-result
@@ -13,10 +13,10 @@ overflow_add-result c =
     let lt : c.loop-i.i < length (bodies c.self.inside.list.items) =
     let t = c.loop-i-test.true in let l = c.len.ensures in omega (arith, body.bodies_long c.self.inside.list.items) in
     let chunk =
-    named.searched _ _ _ _ _ _ _ _ c.self.invariant c.total.ensures.low lt c.loop-i.invariant.1
+    sought.searched _ _ _ _ _ _ _ _ c.self.invariant c.total.ensures.low lt c.loop-i.invariant.1
     (body.body_there _ _ _ lt c.index.ensures) c.cells-cells.ensures in
     let found =
-    named.found_in c.args.name.now (bodies c.self.inside.list.items) c.loop-i.i _ _ chunk.chunk_is
+    sought.found_in (is_sought c.args.sought.now) (bodies c.self.inside.list.items) c.loop-i.i _ _ chunk.chunk_is
     (sym c.position_of.ensures ∙ c.in-Some.is) in
     record { fits = omega (arith, chunk.low, found.1) }
 
@@ -25,10 +25,10 @@ overflow_cast-result c =
     let lt : c.loop-i.i < length (bodies c.self.inside.list.items) =
     let t = c.loop-i-test.true in let l = c.len.ensures in omega (arith, body.bodies_long c.self.inside.list.items) in
     let chunk =
-    named.searched _ _ _ _ _ _ _ _ c.self.invariant c.total.ensures.low lt c.loop-i.invariant.1
+    sought.searched _ _ _ _ _ _ _ _ c.self.invariant c.total.ensures.low lt c.loop-i.invariant.1
     (body.body_there _ _ _ lt c.index.ensures) c.cells-cells.ensures in
     let found =
-    named.found_in c.args.name.now (bodies c.self.inside.list.items) c.loop-i.i _ _ chunk.chunk_is
+    sought.found_in (is_sought c.args.sought.now) (bodies c.self.inside.list.items) c.loop-i.i _ _ chunk.chunk_is
     (sym c.position_of.ensures ∙ c.in-Some.is) in
     record { fits = omega (arith, chunk.low, found.1) }
 
@@ -37,22 +37,23 @@ returns-in-Some c =
     let lt : c.loop-i.i < length (bodies c.self.inside.list.items) =
     let t = c.loop-i-test.true in let l = c.len.ensures in omega (arith, body.bodies_long c.self.inside.list.items) in
     let chunk =
-    named.searched _ _ _ _ _ _ _ _ c.self.invariant c.total.ensures.low lt c.loop-i.invariant.1
+    sought.searched _ _ _ _ _ _ _ _ c.self.invariant c.total.ensures.low lt c.loop-i.invariant.1
     (body.body_there _ _ _ lt c.index.ensures) c.cells-cells.ensures in
     let found =
-    named.found_in c.args.name.now (bodies c.self.inside.list.items) c.loop-i.i _ _ chunk.chunk_is
+    sought.found_in (is_sought c.args.sought.now) (bodies c.self.inside.list.items) c.loop-i.i _ _ chunk.chunk_is
     (sym c.position_of.ensures ∙ c.in-Some.is) in
     let within = ap (λ (s : List CellData). length s) chunk.chunk_is in
-    sym (named.placed_in c.args.name.now (bodies c.self.inside.list.items) c.loop-i.i c.loop-i.start c.in-Some.at lt c.loop-i.invariant.1
+    sym (sought.placed_in (is_sought c.args.sought.now) (bodies c.self.inside.list.items) c.loop-i.i c.loop-i.start c.in-Some.at lt
+    c.loop-i.invariant.1
     c.loop-i.invariant.2 found.0 (omega (arith, found.1)) (omega (arith, chunk.all, found.1)))
-    ∙ ap (λ v. position (λ (x : CellData). name_eq x.name c.args.name.now) v.cells) c.self.view_is
+    ∙ ap (λ v. position (is_sought c.args.sought.now) v.cells) c.self.view_is
 
 pub overflow_add-start : goal.overflow_add-start
 overflow_add-start c =
     let lt : c.loop-i.i < length (bodies c.self.inside.list.items) =
     let t = c.loop-i-test.true in let l = c.len.ensures in omega (arith, body.bodies_long c.self.inside.list.items) in
     let chunk =
-    named.searched _ _ _ _ _ _ _ _ c.self.invariant c.total.ensures.low lt c.loop-i.invariant.1
+    sought.searched _ _ _ _ _ _ _ _ c.self.invariant c.total.ensures.low lt c.loop-i.invariant.1
     (body.body_there _ _ _ lt c.index.ensures) c.cells-cells.ensures in
     record { fits = omega (arith, chunk.low) }
 
@@ -61,18 +62,19 @@ loop-i-preserved c =
     let lt : c.loop-i.i < length (bodies c.self.inside.list.items) =
     let t = c.loop-i-test.true in let l = c.len.ensures in omega (arith, body.bodies_long c.self.inside.list.items) in
     let chunk =
-    named.searched _ _ _ _ _ _ _ _ c.self.invariant c.total.ensures.low lt c.loop-i.invariant.1
+    sought.searched _ _ _ _ _ _ _ _ c.self.invariant c.total.ensures.low lt c.loop-i.invariant.1
     (body.body_there _ _ _ lt c.index.ensures) c.cells-cells.ensures in
-    let none : position (λ (x : CellData). name_eq x.name c.args.name.now) (get_or (bodies c.self.inside.list.items) c.loop-i.i []) ≡ None =
-    ap (λ (s : List CellData). position (λ (x : CellData). name_eq x.name c.args.name.now) s) (sym chunk.chunk_is)
+    let none : position (is_sought c.args.sought.now) (get_or (bodies c.self.inside.list.items) c.loop-i.i []) ≡ None =
+    ap (λ (s : List CellData). position (is_sought c.args.sought.now) s) (sym chunk.chunk_is)
     ∙ sym c.position_of.ensures ∙ c.in-None.is in
     let behind =
-    named.none_more c.args.name.now (bodies c.self.inside.list.items) c.loop-i.i c.loop-i.start lt c.loop-i.invariant.1
+    sought.none_more (is_sought c.args.sought.now) (bodies c.self.inside.list.items) c.loop-i.i c.loop-i.start lt c.loop-i.invariant.1
     c.loop-i.invariant.2 none in
     let long = ap (λ (s : List CellData). length s) chunk.chunk_is in (
       omega arith,
       omega (arith, chunk.behind),
-      subst (λ k. named.NoneBefore c.args.name.now (flat (bodies c.self.inside.list.items)) (c.loop-i.start + k)) (sym long) behind,
+      subst (λ k. sought.NoneBefore (is_sought c.args.sought.now) (flat (bodies c.self.inside.list.items)) (c.loop-i.start + k)) (sym long)
+          behind,
     )
 
 pub returns : goal.returns
@@ -83,5 +85,5 @@ returns c =
     let done : length cs ≤ c.loop-i.i =
     let t = c.loop-i-test.false in let l = c.len.ensures in omega (arith, body.bodies_long c.self.inside.list.items) in
     let all = ap (λ (ds : List (List CellData)). length (flat ds)) (take_all c.loop-i.i cs done) in
-    sym (named.none_at_all c.args.name.now (flat cs) c.loop-i.start (start ∙ all) inv.2)
-    ∙ ap (λ v. position (λ (x : CellData). name_eq x.name c.args.name.now) v.cells) c.self.view_is
+    sym (sought.none_at_all (is_sought c.args.sought.now) (flat cs) c.loop-i.start (start ∙ all) inv.2)
+    ∙ ap (λ v. position (is_sought c.args.sought.now) v.cells) c.self.view_is

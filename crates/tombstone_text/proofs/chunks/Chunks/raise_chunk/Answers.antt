@@ -1,0 +1,46 @@
+use Rattle.std.proofs.Common.{◌<◌, List, length, map, set, ap, ◌∙◌, arith}
+use Rattle.std.proofs.lemmas.List.{length-map}
+use Rattle.ttf_form.specs.Cells.{CellData, change_at, raised}
+use Rattle.tombstone_text.specs.Code.Chunks.{bodies}
+use Rattle.tombstone_text.proofs.Bodies as body
+use Rattle.tombstone_text.proofs.Chunked as chunked
+use Rattle.tombstone_text.proofs.Shown.{set_change}
+use Rattle.tombstone_text.proofs.Texts as texts
+use Rattle.tombstone_text.proofs.chunks.Chunks.raise_chunk.Goals as goal
+
+pub set-requires-clause-low : goal.set-requires-clause-low
+set-requires-clause-low c =
+    let lt : c.args.i < length (bodies c.self.inside.list.items) = let n = ap (λ v. length v.chunks) c.self.view_is in omega arith in
+    let f = raised c.args.generation c.args.name.now in
+    let read =
+    body.body_read c.self.inside.list.items c.args.i c.index_mut-chunk.result.now lt c.index_mut-chunk.ensures.value in
+    let long =
+    ap (λ (s : List CellData). length s) c.raise.ensures ∙ length-map c.index_mut-chunk.result.now.cells f
+    ∙ ap (λ (s : List CellData). length s) read in
+    let now = texts.chunk_changed _ _ _ _ _ _ _ c.self.invariant lt long c.shown-shown.ensures in
+    let all = chunked.text-len _ _ _ _ c.self.invariant in
+    let low = c.total.ensures.low in
+    omega (arith, now.all)
+
+pub invariant_of-self : goal.invariant_of-self
+invariant_of-self c =
+    let lt : c.args.i < length (bodies c.self.inside.list.items) = let n = ap (λ v. length v.chunks) c.self.view_is in omega arith in
+    let f = raised c.args.generation c.args.name.now in
+    let read =
+    body.body_read c.self.inside.list.items c.args.i c.index_mut-chunk.result.now lt c.index_mut-chunk.ensures.value in
+    let long =
+    ap (λ (s : List CellData). length s) c.raise.ensures ∙ length-map c.index_mut-chunk.result.now.cells f
+    ∙ ap (λ (s : List CellData). length s) read in
+    let now = texts.chunk_changed _ _ _ _ _ _ _ c.self.invariant lt long c.shown-shown.ensures in
+    rw (c.set.ensures.parts, body.bodies_set c.self.inside.list.items c.args.i c.raise.new.self) now.text
+
+pub returns : goal.returns
+returns c =
+    let lt : c.args.i < length (bodies c.self.inside.list.items) = let n = ap (λ v. length v.chunks) c.self.view_is in omega arith in
+    let f = raised c.args.generation c.args.name.now in
+    let there =
+    body.body_there c.self.inside.list.items c.args.i c.index_mut-chunk.result.now lt c.index_mut-chunk.ensures.value in
+    body.bodies_set c.self.inside.list.items c.args.i c.raise.new.self
+    ∙ ap (λ d. set (bodies c.self.inside.list.items) c.args.i d) c.raise.ensures
+    ∙ set_change (map f) (bodies c.self.inside.list.items) c.args.i c.index_mut-chunk.result.now.cells lt there
+    ∙ ap (λ v. change_at c.args.i (map f) v.chunks) c.self.view_is
