@@ -4,12 +4,10 @@ use Rattle.std.proofs.lemmas.Bool.{cases_Bool}
 use Rattle.op_name.specs.NameData.{NameData}
 use Rattle.op_name.specs.declared.member.Member.{Member}
 use Rattle.op_name.specs.declared.member.Member.TheVariants.{Original}
-use Rattle.op_name.specs.Members.{target_of}
 use Rattle.context_diff.specs.Operations.{OpData, inserting, member_of}
 use Rattle.context_diff.specs.Histories.{members_in, IsValid}
 use Rattle.context_diff.specs.Replays.{Insertion, insertions_in, fixed_order, is_earlier, replay, replay_of}
 use Rattle.context_diff.proofs.CallerLemmas.{IsClosedSet}
-use Rattle.ttf_form.specs.declared.ins.Ins.{Ins}
 use Rattle.ttf_form.specs.declared.form.Form.{Form}
 use Rattle.ttf_form.specs.Cells.{CellData, cells_of}
 use Rattle.ttf_form.specs.Families.{IsIn}
@@ -29,8 +27,8 @@ use Rattle.fixed_replay.proofs.Editor.{form_inclusion, form_table, setting_of, i
 use Rattle.fixed_replay.proofs.Elements.{not_both}
 use Rattle.fixed_replay.proofs.ExecutedForms.{any_order_replayed, any_list_replayed}
 use Rattle.fixed_replay.proofs.Families.{HasRanks, HasGroups}
-use Rattle.fixed_replay.proofs.FixedList.{fixed_list, fixed_rising, fixed_same, fixed_run, in-insertions_of, insertions_of-in, rising_inserts}
-use Rattle.fixed_replay.proofs.SameText.{in-insertions, insertions-in, insertion, earlier_asym, earlier_trans, insertions_comparable}
+use Rattle.fixed_replay.proofs.FixedList.{fixed_list, fixed_rising, fixed_same, fixed_run, IsInserted, in-insertions_of, insertions_of-in, rising_inserts}
+use Rattle.fixed_replay.proofs.SameText.{IsRead, in-insertions, insertions-in, insertion, earlier_asym, earlier_trans, insertions_comparable}
 use Rattle.fixed_replay.proofs.Sorting.{in-sort_by, sort_by-in, sort_by-sorted, sorted_once}
 use Rattle.fixed_replay.proofs.ValidFamilies.{valid_family, valid_own_names, valid_ranks, valid_groups, same_inserts}
 use Rattle.fixed_replay.proofs.ValidOriginals.{rank_in, told_apart}
@@ -129,42 +127,54 @@ module _ (h : List OpData) (v : IsValid h) (D : Member → Bool) (closed : IsClo
   whole_inserts : SameElements (fixed_order h) (insertions_of b rank (members_in h))
   whole_inserts = same_inserts h v (base_form h) forms
 
-  -- the insertion of a member with this form
-  abbrev put_of : Member → Ins → Insertion
-  put_of m a = record { name = a.name; place = a.place; rank = rank (target_of m); sees = λ n. b.context m (Original n) }
+  -- an insert of the part is one of the whole, and its name is in the set
+  in_whole : (z : Insertion) → IsRead (part D h) z → IsIn z (fixed_order h) × (D (Original z.name) ≡ true)
+  in_whole z r =
+      let passed = filter_in (λ p. D (member_of p)) (inserting r.name r.place r.character r.context) h r.there in (
+        subst (λ (x : Insertion). IsIn x (fixed_order h)) (sym r.is)
+            (sort_by-in is_earlier (insertion r.name r.place r.context) (insertions_in h)
+            (insertions-in r.name r.place r.character r.context h passed.0)),
+        subst (λ (x : Insertion). D (Original x.name) ≡ true) (sym r.is) passed.1,
+      )
 
-  to_part : (z : Insertion) → IsIn z (fixed_order (part D h)) → IsIn z (insertions_of b rank there)
-  to_part z i =
-      let r = in-insertions z (part D h) (in-sort_by is_earlier z (insertions_in (part D h)) i) in
-      let o = inserting r.name r.place r.character r.context in
-      let passed = filter_in (λ p. D (member_of p)) o h r.there in
-      let read : IsIn z (fixed_order h) =
-      subst (λ (x : Insertion). IsIn x (fixed_order h)) (sym r.is)
-      (sort_by-in is_earlier (insertion r.name r.place r.context) (insertions_in h)
-      (insertions-in r.name r.place r.character r.context h passed.0)) in
-      let q = in-insertions_of b rank (members_in h) z (whole_inserts.forth z read) in
-      let owner : q.member ≡ Original q.ins.name = insert_owner b own_names q.member q.ins q.there q.form in
-      let name : q.ins.name ≡ r.name = sym (ap (λ (x : Insertion). x.name) q.is) ∙ ap (λ (x : Insertion). x.name) r.is in
-      let within : D q.member ≡ true = ap D (owner ∙ ap Original name) ∙ passed.1 in
-      subst (λ (x : Insertion). IsIn x (insertions_of b rank there)) (sym q.is)
-      (insertions_of-in b rank there q.member q.ins (in_filter D q.member list (same_members.back q.member q.there) within) q.form)
-
-  of_part : (z : Insertion) → IsIn z (insertions_of b rank there) → IsIn z (fixed_order (part D h))
-  of_part z i =
-      let q = in-insertions_of b rank there z i in
-      let passed = filter_in D q.member list q.there in
-      let listed = same_members.forth q.member passed.0 in
-      let read : IsIn z (fixed_order h) =
-      whole_inserts.back z (subst (λ (x : Insertion). IsIn x (insertions_of b rank (members_in h))) (sym q.is)
-      (insertions_of-in b rank (members_in h) q.member q.ins listed q.form)) in
-      let r = in-insertions z h (in-sort_by is_earlier z (insertions_in h) read) in
-      let o = inserting r.name r.place r.character r.context in
-      let owner : q.member ≡ Original q.ins.name = insert_owner b own_names q.member q.ins listed q.form in
-      let name : q.ins.name ≡ r.name = sym (ap (λ (x : Insertion). x.name) q.is) ∙ ap (λ (x : Insertion). x.name) r.is in
-      let within : D (member_of o) ≡ true = ap D (sym (owner ∙ ap Original name)) ∙ passed.1 in
+  -- an insert of the whole whose name is in the set is one of the part
+  in_part : (z : Insertion) → IsRead h z → D (Original z.name) ≡ true → IsIn z (fixed_order (part D h))
+  in_part z r within =
+      let named : D (Original r.name) ≡ true = subst (λ (x : Insertion). D (Original x.name) ≡ true) r.is within in
       subst (λ (x : Insertion). IsIn x (fixed_order (part D h))) (sym r.is)
       (sort_by-in is_earlier (insertion r.name r.place r.context) (insertions_in (part D h))
-      (insertions-in r.name r.place r.character r.context (part D h) (in_filter (λ p. D (member_of p)) o h r.there within)))
+      (insertions-in r.name r.place r.character r.context (part D h)
+      (in_filter (λ p. D (member_of p)) (inserting r.name r.place r.character r.context) h r.there named)))
+
+  -- the same of the inserts of members
+  member_in_part : (z : Insertion) → IsInserted b rank (members_in h) z → D (Original z.name) ≡ true → IsIn z (insertions_of b rank there)
+  member_in_part z q within =
+      let owner : q.member ≡ Original q.ins.name = insert_owner b own_names q.member q.ins q.there q.form in
+      let named : D q.member ≡ true =
+      ap D owner ∙ subst (λ (x : Insertion). D (Original x.name) ≡ true) q.is within in
+      subst (λ (x : Insertion). IsIn x (insertions_of b rank there)) (sym q.is)
+      (insertions_of-in b rank there q.member q.ins (in_filter D q.member list (same_members.back q.member q.there) named) q.form)
+
+  member_in_whole : (z : Insertion) → IsInserted b rank there z
+      → IsIn z (insertions_of b rank (members_in h)) × (D (Original z.name) ≡ true)
+  member_in_whole z q =
+      let passed = filter_in D q.member list q.there in
+      let listed = same_members.forth q.member passed.0 in
+      let owner : q.member ≡ Original q.ins.name = insert_owner b own_names q.member q.ins listed q.form in (
+        subst (λ (x : Insertion). IsIn x (insertions_of b rank (members_in h))) (sym q.is)
+            (insertions_of-in b rank (members_in h) q.member q.ins listed q.form),
+        subst (λ (x : Insertion). D (Original x.name) ≡ true) (sym q.is) (ap D (sym owner) ∙ passed.1),
+      )
+
+  same_part : SameElements (fixed_order (part D h)) (insertions_of b rank there)
+  same_part = record {
+    forth = λ z i.
+        let r = in_whole z (in-insertions z (part D h) (in-sort_by is_earlier z (insertions_in (part D h)) i)) in
+        member_in_part z (in-insertions_of b rank (members_in h) z (whole_inserts.forth z r.0)) r.1;
+    back = λ z i.
+        let r = member_in_whole z (in-insertions_of b rank there z i) in
+        in_part z (in-insertions z h (in-sort_by is_earlier z (insertions_in h) (whole_inserts.back z r.0))) r.1;
+  }
 
   part_order : fixed_order (part D h) ≡ insertions_of b rank there
   part_order =
@@ -173,7 +183,7 @@ module _ (h : List OpData) (v : IsValid h) (D : Member → Bool) (closed : IsClo
       (insertions_comparable (part D h) (told_in_part D h (told_apart h v))))
       (rising_inserts b known own_names rank ranks groups there part_listed
       (rising_part _ D list (fixed_rising b known.causal rank ranks groups)))
-      (record { forth = to_part; back = of_part })
+      same_part
 
   pub part_replay : replay_of (part D h) ≡ filter (keep D) (replay_of h)
   part_replay = ap (replay [] []) part_order ∙ (along_part ∙ (sym part_cells ∙ ap (filter (keep D)) whole_cells))
