@@ -9,7 +9,7 @@ use Rattle.ttf_form.specs.Forms.{form_over}
 use Rattle.form_cache.specs.Keys.{KeyData}
 use Rattle.form_cache.specs.Entries.{Entries, form_at, used}
 use Rattle.transform_rec.specs.Histories.{family_in}
-use Rattle.transform_rec.proofs.CallerLemmas.{next_keeps, no_entries, found_form, forms_used}
+use Rattle.transform_rec.proofs.CallerLemmas.{next_keeps, found_form, forms_used}
 use Rattle.undo_group.specs.BaseForms.{base_form}
 use Rattle.fixed_replay.proofs.CallerLemmas.{base_form_on}
 use Rattle.cot_site.specs.Sites.{AreCached, IsFormOf}

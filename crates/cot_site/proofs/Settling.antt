@@ -18,7 +18,7 @@ use Rattle.site_answers.specs.declared.verdict.Verdict.{Verdict}
 use Rattle.site_answers.specs.declared.verdict.Verdict.TheVariants.{Repeat, Forged, Waits, NotClosed, PlaceOut, Integrated}
 use Rattle.cot_site.specs.States.{State, Released, held, with_last, with_held, first_ready, released, released_at, after_verdict, without_waiting, delivered_again, delivered, judged, IsSettled}
 use Rattle.cot_site.specs.Sites.{AllFormed, KeepsForms}
-use Rattle.cot_site.specs.Releases.{IsSound, and_more, releases, all_releases, state_after, settled, release_of, IsLater, IsPartlySettled}
+use Rattle.cot_site.specs.Releases.{IsSound, and_more, releases, all_releases, state_after, settled, release_of, IsLater}
 use Rattle.cot_site.specs.Code.Releasing.{IsReleasedInto}
 use Rattle.cot_site.proofs.Verdicts.{integrated_next}
 use Rattle.cot_site.proofs.Releases.{FirstAnswer, first_answer, release_not_waits}

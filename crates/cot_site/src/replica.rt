@@ -13,15 +13,17 @@ ghost use Rattle.ttf_form.specs.Forms.{form_over};
 ghost use Rattle.tombstone_text.specs.Cells.{HasRoomFor};
 ghost use Rattle.visible_view.specs.View.{shown_cells};
 ghost use Rattle.form_cache.specs.Entries.{form_at, used};
-ghost use Rattle.ttf_form.specs.Cells.{FitsCells};
+ghost use Rattle.ttf_form.specs.Cells.{FitsCells, applied};
 ghost use Rattle.ttf_form.specs.declared.form.Form.{Form};
 ghost use Rattle.ttf_form.specs.declared.form.Form.TheVariants.{Ins as Insert};
 ghost use Rattle.transform_rec.specs.Derived.{Derived, IsOnlyFormAt};
+ghost use Rattle.transform_rec.specs.Executing.{executed};
 ghost use Rattle.transform_rec.specs.Histories.{family_in, MayBeAddedTo};
 ghost use Rattle.undo_group.specs.BaseForms.{base_form};
 ghost use Rattle.form_rows.specs.Names.{insert_of};
 ghost use Rattle.form_rows.specs.Kept.{IsFormWith, empty_rows};
 ghost use Rattle.form_rows.specs.Stretches.{AreNoted};
+ghost use Rattle.fixed_replay.specs.Replayed.{IsReplayed};
 ghost use Rattle.cot_site.specs.Commands.{place_of_shown, place_behind};
 ghost use Rattle.cot_site.specs.Sites.{AreExecuted, AreCached, IsFormOf, KeepsForms};
 ghost use Rattle.cot_site.specs.Code.Judging.{HasCells};
@@ -129,6 +131,15 @@ impl Replica {
         ensures executed { self.new.forms ≡ self.old.forms }
     {
         self.notes.get(&self.book, key)
+    }
+
+    /// The cells that the executed forms gave, shown or hidden.
+    pub fn cells(&self) -> &Cells
+        ensures forms { result.now.cells ≡ executed applied [] self.now.forms }
+        ensures replayed { IsReplayed self.now.history result.now.cells }
+    {
+        self.book.known();
+        &self.cells
     }
 
     /// The number of shown characters.
@@ -382,8 +393,8 @@ fn form_with_room(
     Ok(form)
 }
 
-// The form of the last member of the book at the members before it: that of an undo group follows the form in which the group before it, or its
-// original, was executed.
+// The form of the last member of the book at the members before it: that of an undo group follows the form in which the group before
+// it, or its original, was executed.
 fn form_at(
     book: &Book,
     notes: &mut Notes,

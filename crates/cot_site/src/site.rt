@@ -7,7 +7,10 @@ ghost use Rattle.context_diff.specs.Replays.{shown, text_of};
 ghost use Rattle.context_diff.specs.Ops.{data_of};
 ghost use Rattle.site_answers.specs.declared.verdict.Verdict.TheVariants.{Integrated};
 ghost use Rattle.cot_site.specs.Verdicts.{verdict_of};
+ghost use Rattle.ttf_form.specs.Cells.{applied};
 ghost use Rattle.form_cache.specs.Entries.{form_at, used};
+ghost use Rattle.transform_rec.specs.Executing.{executed};
+ghost use Rattle.fixed_replay.specs.Replayed.{IsReplayed};
 ghost use Rattle.cot_site.specs.Sites.{AreExecuted, AreCached, AllFormed, IsFormOf, state_of};
 ghost use Rattle.cot_site.specs.Code.Judging.{HasCells};
 
@@ -22,6 +25,7 @@ use op_name::{Memory, Name, SITES};
 use site_answers::Verdict;
 use std::alloc::Global;
 use std::marker::Model;
+use tombstone_text::Cells;
 use ttf_form::Form;
 
 mod deliveries;
@@ -138,6 +142,16 @@ impl Site {
         ensures forms { self.new.forms ≡ self.old.forms }
     {
         self.replica.cached(key)
+    }
+
+    /// The cells of the text, shown or hidden, which the executed forms gave: those of the fixed replay of the history, each with
+    /// its character, the generation of its insert, and the deletes that hit it with theirs. Lending them takes no memory and no
+    /// time; places in them count all cells, from 0.
+    pub fn cells(&self) -> &Cells
+        ensures forms { result.now.cells ≡ executed applied [] self.now.forms }
+        ensures replayed { IsReplayed self.now.history result.now.cells }
+    {
+        self.replica.cells()
     }
 
     /// The number of shown characters.

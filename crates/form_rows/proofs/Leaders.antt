@@ -11,7 +11,6 @@ use Rattle.op_name.specs.declared.member.Member.TheVariants.{Original, Group}
 use Rattle.context_diff.specs.Operations.{OpData}
 use Rattle.context_diff.specs.Histories.{is_known, members_in}
 use Rattle.context_diff.proofs.CallerLemmas.{IsComplete, complete, group_facts, known_in, in_known}
-use Rattle.ttf_form.specs.declared.ins.Ins.{Ins}
 use Rattle.ttf_form.specs.declared.cover.Cover.{Cover}
 use Rattle.ttf_form.specs.declared.cover.Mark.{Mark}
 use Rattle.ttf_form.specs.declared.cover.Mark.TheVariants.{Own, By}

@@ -1,8 +1,7 @@
 //! Blocks: short runs of the forms of a row, which other forms pass in one step where they can.
 
-ghost use Rattle.std.specs.Prelude.{◌≡◌, ◌+◌, ◌<◌, ◌≤◌, ◌++◌, Bool, false, List, Some, IfOk, IsTrue, OnOk, length, map, slice_get};
+ghost use Rattle.std.specs.Prelude.{◌≡◌, ◌+◌, ◌<◌, ◌≤◌, ◌++◌, false, List, Some, IfOk, IsTrue, OnOk, length, map, slice_get};
 ghost use Rattle.op_name.specs.NameData.{NameData};
-ghost use Rattle.context_vector.specs.Contexts.{count_of};
 ghost use Rattle.ttf_form.specs.declared.include.TheConstants.{CELLS};
 ghost use Rattle.ttf_form.specs.Families.{IsIn};
 ghost use Rattle.form_rows.specs.Names.{had_by};
@@ -177,7 +176,7 @@ fn bounds<F: Placed>(forms: &[F]) -> (u32, u32)
     ensures { AreWithin F.place result.0 result.1 forms.now }
 {
     let mut low = CELLS;
-    let mut high = 0;
+    let mut high: u32 = 0;
     for i in 0..forms.len() {
         let place = forms[i].at();
         low = low.min(place);

@@ -1,7 +1,6 @@
 //! First members of a book whose inserts a context has, and how many inserts it lacks.
 
 ghost use Rattle.std.specs.Prelude.{◌≡◌, ◌-◌, ◌≤◌, ◌&&◌, not, Some, IfSome, IsTrue, if◌then◌else◌, length, slice_get};
-ghost use Rattle.op_name.specs.declared.member.Member.TheVariants.{Original};
 ghost use Rattle.context_vector.specs.Contexts.{count_of, has, Within};
 ghost use Rattle.context_diff.specs.Operations.{OpData, member_of, is_insert};
 ghost use Rattle.context_diff.specs.Histories.{inserts_in};

@@ -1,14 +1,13 @@
 //! The forms of inserts and deletes after the members that were executed before them.
 
-ghost use Rattle.std.specs.Prelude.{◌≡◌, ◌-◌, ◌≤◌, ◌++◌, ◌∷◌, [], Bool, List, Contains, IfOk, IfSome, OnOk, OnErr, length, option_map, slice_get};
+ghost use Rattle.std.specs.Prelude.{◌≡◌, ◌-◌, ◌≤◌, List, Contains, IfOk, IfSome, OnOk, OnErr, length, option_map, slice_get};
 ghost use Rattle.op_name.specs.declared.member.Member.{Member};
 ghost use Rattle.op_name.specs.declared.member.Member.TheVariants.{Original};
-ghost use Rattle.context_diff.specs.Histories.{is_known, members_in};
+ghost use Rattle.context_diff.specs.Histories.{members_in};
 ghost use Rattle.context_diff.specs.Ops.{data_of};
 ghost use Rattle.ttf_form.specs.Forms.{form_over, IsInertForm};
 ghost use Rattle.transform_rec.specs.Sets.{none, plus_all};
 ghost use Rattle.transform_rec.specs.Derived.{IsOnlyFormAt};
-ghost use Rattle.transform_rec.specs.Executing.{AreFormsFrom};
 ghost use Rattle.transform_rec.specs.Histories.{family_in};
 ghost use Rattle.undo_group.specs.BaseForms.{base_form};
 ghost use Rattle.form_rows.specs.Names.{insert_of};

@@ -1,6 +1,6 @@
 //! Bringing a form over a row, and back.
 
-ghost use Rattle.std.specs.Prelude.{◌≡◌, ◌≤◌, List, drop};
+ghost use Rattle.std.specs.Prelude.{◌≡◌, drop};
 ghost use Rattle.form_rows.specs.RowSets.{form_after, row_after, front_of, PassFits, AfterFits};
 
 use crate::named::Named;

@@ -1,8 +1,8 @@
 //! The row of one set of members.
 
-ghost use Rattle.std.specs.Prelude.{◌≡◌, ◌≢◌, ◌+◌, ◌<◌, ◌≤◌, ◌++◌, ◌∷◌, ◌⊎◌, [], Bool, false, List, IsTrue, OnOk, OnErr, IfOk, length, drop, slice_get};
+ghost use Rattle.std.specs.Prelude.{◌≡◌, ◌+◌, ◌<◌, ◌≤◌, ◌++◌, ◌∷◌, ◌⊎◌, [], Bool, false, List, IsTrue, OnOk, OnErr, IfOk, length, drop, slice_get};
 ghost use Rattle.op_name.specs.declared.member.Member.{Member};
-ghost use Rattle.context_vector.specs.Contexts.{has, count_of};
+ghost use Rattle.context_vector.specs.Contexts.{has};
 ghost use Rattle.ttf_form.specs.Families.{IsIn};
 ghost use Rattle.transform_rec.specs.Sets.{none, plus, plus_all};
 ghost use Rattle.transform_rec.specs.Family.{IsCausalFamily};

@@ -1,6 +1,6 @@
 //! The rows that a site keeps.
 
-ghost use Rattle.std.specs.Prelude.{◌≡◌, ◌+◌, ◌≤◌, ◌<◌, ◌++◌, ◌∷◌, ◌⊎◌, [], Bool, List, None, Contains, IfOk, OnOk, OnErr, IfSome, IsNone, IsTrue, length, drop};
+ghost use Rattle.std.specs.Prelude.{◌≡◌, ◌+◌, ◌≤◌, ◌<◌, ◌++◌, ◌∷◌, ◌⊎◌, [], List, None, Contains, IfOk, OnOk, OnErr, IfSome, IsNone, IsTrue, length};
 ghost use Rattle.indexmap.specs.IndexMap.{values};
 ghost use Rattle.op_name.specs.declared.member.Member.{Member};
 ghost use Rattle.op_name.specs.declared.member.Member.TheVariants.{Original};
@@ -13,7 +13,6 @@ ghost use Rattle.transform_rec.specs.Laws.{family_of};
 ghost use Rattle.form_rows.specs.Names.{AreNamed};
 ghost use Rattle.form_rows.specs.Lacking.{all_but_last, lacking};
 ghost use Rattle.form_rows.specs.Firsts.{AreFirstMembers, IsLastContext};
-ghost use Rattle.form_rows.specs.RowSets.{IsKept};
 ghost use Rattle.form_rows.specs.Kept.{AreRows, IsLast, IsFormWith, IsFirstRow, IsOwnRow, IsBeginning, empty_rows, forms_in, CoversAreInert, InsertsAreKept};
 ghost use Rattle.form_rows.specs.declared.rows.TheConstants.{ENTRIES};
 
@@ -27,7 +26,7 @@ use indexmap::IndexMap;
 use op_name::{Member, Memory, Name};
 use std::alloc::Global;
 use std::marker::Model;
-use ttf_form::{Bases, Include};
+use ttf_form::Bases;
 
 /// The greatest number of forms in all rows that are kept.
 pub const ENTRIES: usize = 1_048_576;
