@@ -219,7 +219,7 @@ module _ (b : Family Form) (known : IsFamily form_inclusion b) (own_names : HasO
   )
   rising_first x xs (Covered c) e l r ih = ih
 
-  rising_inserts : (xs : List Member) → ((z : Member) → IsIn z xs → IsIn z b.members) → IsRising (is_sooner rank) xs
+  pub rising_inserts : (xs : List Member) → ((z : Member) → IsIn z xs → IsIn z b.members) → IsRising (is_sooner rank) xs
       → IsRising is_earlier (insertions_of b rank xs)
   rising_inserts [] l r = tt
   rising_inserts (x ∷ xs) l r = rising_first x xs (b.form x) refl l r (rising_inserts xs (λ z i. l z (inr i)) r.1)

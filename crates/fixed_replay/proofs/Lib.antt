@@ -20,6 +20,7 @@ pub mod Reading
 pub mod ValidFamilies
 pub mod TextFamilies
 pub mod ExecutedForms
+pub mod ClosedParts
 pub mod Growth
 pub mod Searches
 pub mod Stepwise

@@ -1,0 +1,4 @@
+pub mod Parts
+pub mod PartText
+pub mod PastText
+pub mod Refusals
