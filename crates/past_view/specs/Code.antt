@@ -1,0 +1,2 @@
+-- Words of the code: what private functions promise.
+pub mod Counted
