@@ -2,3 +2,8 @@ pub mod Parts
 pub mod PartText
 pub mod PastText
 pub mod Refusals
+pub mod Addresses
+pub mod Answered
+pub mod Counts
+pub mod Cuts
+pub mod Utf8

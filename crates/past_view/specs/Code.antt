@@ -1,2 +1,3 @@
--- Words that only the contracts of private functions use: which cells of a site are of a past text.
+-- Words that only the contracts of private functions use: what passes over a text count, and which cells of a site are of a past text.
+pub mod Counted
 pub mod PastCells

@@ -1,2 +1,4 @@
 pub mod Pasts
+pub mod Lines
+pub mod Laws
 pub mod Code
