@@ -162,7 +162,7 @@ fn push_char(ch: char, out: &mut Vec<u8>) -> Result<(), Memory>
 fn is_past(cell: &Cell, at: &Vector) -> bool
     ensures { result ≡ is_past at.now.set cell.now }
 {
-    is_in_force_at(at, &cell.name()) && !any_in_force_at(at, cell.deleters())
+    is_in_force_at(at, &cell.id().name) && !any_in_force_at(at, cell.deleters())
 }
 
 // Whether one of the deletes is in force at the set.
