@@ -129,6 +129,8 @@ check-hosts:
 	bin/no_memory
 	$(CC) $(HOST_FLAGS) -o bin/settles tools/hosts/settles.c $(LIB)/libcotpad.a
 	bin/settles
+	$(CC) $(HOST_FLAGS) -o bin/numbers tools/hosts/numbers.c $(LIB)/libcotpad.a
+	bin/numbers
 	@if command -v valgrind > /dev/null; then \
 		valgrind -q --leak-check=full --error-exitcode=1 bin/notes > /dev/null && echo "valgrind finds nothing in bin/notes"; \
 	else \

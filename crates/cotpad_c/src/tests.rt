@@ -28,6 +28,10 @@ fn a_handle_is_opened_and_closed(rt: HostRuntime) {
         exports::cotpad_open(alloc, &mut site, 64),
         status::SITE_OUT
     );
+    assert_eq!(rt;
+        exports::cotpad_open(alloc, &mut site, 65_536),
+        status::SITE_OUT
+    );
     assert_eq!(rt; exports::cotpad_open(alloc, &mut site, 3), status::OK);
     assert_eq!(rt; exports::cotpad_insert(&mut site, 0, 104), status::OK);
     assert_eq!(rt; exports::cotpad_delete(&mut site, 7), status::PLACE_OUT);
@@ -58,6 +62,7 @@ fn an_insert_is_undone_and_redone(rt: HostRuntime) -> Result<(), Fail> {
     assert_eq!(rt; exports::cotpad_undo(&mut site, 5, 1), status::NOT_IN_FORCE);
     assert_eq!(rt; exports::cotpad_redo(&mut site, 5, 1), status::OK);
     assert_eq!(rt; exports::cotpad_redo(&mut site, 5, 0), status::NO_NAME);
+    assert_eq!(rt; exports::cotpad_redo(&mut site, 65_541, 1), status::NO_NAME);
     assert_eq!(rt; exports::cotpad_operations(&mut site), 3);
     assert_eq!(rt;
         exports::cotpad_operation_at(&mut site, 1, &mut told),
