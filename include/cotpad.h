@@ -134,6 +134,34 @@ typedef struct {
 } cotpad_site;
 #define COTPAD_SITE_EMPTY {0}
 
+/* The library lays these structs out as follows, in bytes; a compiler of C11 or C++11 sees that the host's are the same. */
+#if defined(__cplusplus) && __cplusplus >= 201103L
+#define COTPAD_LAYOUT(fact) static_assert(fact, #fact)
+#elif !defined(__cplusplus) && defined(__STDC_VERSION__) && __STDC_VERSION__ >= 201112L
+#define COTPAD_LAYOUT(fact) _Static_assert(fact, #fact)
+#endif
+#ifdef COTPAD_LAYOUT
+COTPAD_LAYOUT(sizeof(cotpad_member) == 12);
+COTPAD_LAYOUT(offsetof(cotpad_member, number) == 4);
+COTPAD_LAYOUT(offsetof(cotpad_member, generation) == 8);
+COTPAD_LAYOUT(sizeof(cotpad_operation) == 24);
+COTPAD_LAYOUT(offsetof(cotpad_operation, author) == 4);
+COTPAD_LAYOUT(offsetof(cotpad_operation, scalar) == 8);
+COTPAD_LAYOUT(offsetof(cotpad_operation, member) == 12);
+COTPAD_LAYOUT(sizeof(cotpad_verdict) == 64);
+COTPAD_LAYOUT(offsetof(cotpad_verdict, cause) == 4);
+COTPAD_LAYOUT(offsetof(cotpad_verdict, offset) == 8);
+COTPAD_LAYOUT(offsetof(cotpad_verdict, used) == 12);
+COTPAD_LAYOUT(offsetof(cotpad_verdict, operation) == 16);
+COTPAD_LAYOUT(offsetof(cotpad_verdict, missing) == 40);
+COTPAD_LAYOUT(offsetof(cotpad_verdict, site) == 52);
+COTPAD_LAYOUT(offsetof(cotpad_verdict, place) == 56);
+COTPAD_LAYOUT(offsetof(cotpad_verdict, cells) == 60);
+COTPAD_LAYOUT(sizeof(cotpad_site) == 8);
+COTPAD_LAYOUT(sizeof(size_t) == 8);
+#undef COTPAD_LAYOUT
+#endif
+
 uint32_t cotpad_version(void);
 
 /* Makes a site of this number, 0 to 63, that has done nothing, in an empty handle; no two sites of a session have one

@@ -3,10 +3,11 @@
 ghost use Rattle.std.specs.Prelude.{IfOk, IsSome};
 
 use crate::handle::CotpadSite;
-use crate::operation::{no_member, no_operation};
-use crate::verdict::incomplete;
+use crate::operation::{CotpadMember, CotpadOperation, no_member, no_operation};
+use crate::verdict::{CotpadVerdict, incomplete};
 use crate::{exports, kinds, status};
 use std::alloc::Global;
+use std::mem::size_of;
 use std::test::Fail;
 
 /// Insert 0.1 at place 0 of `a`, with an empty context.
@@ -18,6 +19,14 @@ const FIRST: &[u8] = &[
 const SECOND: &[u8] = &[
     0, 0, 0, 22, 1, 0, 0, 0, 0, 2, 0, 0, 0, 1, 0, 0, 0, 98, 1, 0, 0, 0, 0, 1, 0, 0,
 ];
+
+#[test]
+fn structs_are_as_long_as_the_header_says(rt: HostRuntime) {
+    assert_eq!(rt; size_of::<CotpadMember>(), 12);
+    assert_eq!(rt; size_of::<CotpadOperation>(), 24);
+    assert_eq!(rt; size_of::<CotpadVerdict>(), 64);
+    assert_eq!(rt; size_of::<CotpadSite>(), 8);
+}
 
 #[test]
 fn a_handle_is_opened_and_closed(rt: HostRuntime) {
