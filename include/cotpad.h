@@ -275,9 +275,10 @@ cotpad_status cotpad_text(cotpad_site *site, uint8_t *out, size_t room, size_t *
  * Those that write a message answer COTPAD_OK, or COTPAD_TOO_SHORT, which writes *needed alone, or COTPAD_NO_MEMORY. Those
  * that read one answer COTPAD_TOO_LONG or, with *why written, COTPAD_NO_HEAD (not of the third message), COTPAD_CUT,
  * COTPAD_MALFORMED or COTPAD_EXTRA, and the site is as it was; or, of close and finish, with *why written, COTPAD_REFUSED, or
- * COTPAD_NO_MEMORY: then the operations of the message before that place are taken in, and the call may be made again after
- * COTPAD_NO_MEMORY. What is in the message already is a repeat, so cotpad_exchange_close may be made again after
- * COTPAD_TOO_SHORT too, when the operations are in and only the third message lacked room. */
+ * COTPAD_NO_MEMORY (of finish only where the message has a frame): then the operations of the message before that place are
+ * taken in, and the call may be made again after COTPAD_NO_MEMORY. What is in the message already is a repeat, so
+ * cotpad_exchange_close may be made again after COTPAD_TOO_SHORT too, when the operations are in and only the third message
+ * lacked room. */
 cotpad_status cotpad_exchange_offer(cotpad_site *site, uint8_t *out, size_t room, size_t *needed);
 cotpad_status cotpad_exchange_answer(cotpad_site *site, const uint8_t *first, size_t length, uint8_t *out, size_t room,
     size_t *needed, cotpad_verdict *why);

@@ -489,6 +489,7 @@ pub extern "C" fn cotpad_exchange_finish(
         × (why.new ≡ why.old) }
     ensures refused { length third.now ≤ MAX_MESSAGE → result ≢ OK
         → IsRefused (IsUnfinished (held_state site.old.site) third.now (held_state site.new.site)) result why.old why.new }
+    ensures needed { result ≡ NO_MEMORY → HasFrame third.now }
     ensures later { IsLater (held_state site.old.site) (held_state site.new.site) }
     ensures quiet { held_releases site.new.site ≡ [] }
 {

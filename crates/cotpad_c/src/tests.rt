@@ -334,6 +334,10 @@ fn an_exchange_sends_what_is_lacked(rt: HostRuntime) {
         status::OK
     );
     assert_eq!(rt; exports::cotpad_characters(&mut server), 1);
+    assert_eq!(rt;
+        exports::cotpad_exchange_finish(alloc, &mut server, &[0, 0, 0, 0], &mut why),
+        status::OK
+    );
     exports::cotpad_close(alloc, &mut server);
     exports::cotpad_close(alloc, &mut joiner);
     server.let_go();
