@@ -129,6 +129,11 @@ check-hosts:
 	bin/no_memory
 	$(CC) $(HOST_FLAGS) -o bin/settles tools/hosts/settles.c $(LIB)/libcotpad.a
 	bin/settles
+# In C99, which sees no layout, and in C11 and C++11, which do.
+	@set -e; for language in 'c -std=c99' 'c -std=c11' 'c++ -std=c++11'; do \
+		$(CC) -x $$language -Wall -Wextra -Wpedantic -Werror -O2 -Iinclude -o bin/numbers tools/hosts/numbers.c -x none $(LIB)/libcotpad.a; \
+		printf '%s: ' "$$language"; bin/numbers; \
+	done
 	@if command -v valgrind > /dev/null; then \
 		valgrind -q --leak-check=full --error-exitcode=1 bin/notes > /dev/null && echo "valgrind finds nothing in bin/notes"; \
 	else \

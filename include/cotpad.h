@@ -134,19 +134,47 @@ typedef struct {
 } cotpad_site;
 #define COTPAD_SITE_EMPTY {0}
 
+/* The library lays these structs out as follows, in bytes; a compiler of C11 or C++11 sees that the host's are the same. */
+#if defined(__cplusplus) && __cplusplus >= 201103L
+#define COTPAD_LAYOUT(fact) static_assert(fact, #fact)
+#elif !defined(__cplusplus) && defined(__STDC_VERSION__) && __STDC_VERSION__ >= 201112L
+#define COTPAD_LAYOUT(fact) _Static_assert(fact, #fact)
+#endif
+#ifdef COTPAD_LAYOUT
+COTPAD_LAYOUT(sizeof(cotpad_member) == 12);
+COTPAD_LAYOUT(offsetof(cotpad_member, number) == 4);
+COTPAD_LAYOUT(offsetof(cotpad_member, generation) == 8);
+COTPAD_LAYOUT(sizeof(cotpad_operation) == 24);
+COTPAD_LAYOUT(offsetof(cotpad_operation, author) == 4);
+COTPAD_LAYOUT(offsetof(cotpad_operation, scalar) == 8);
+COTPAD_LAYOUT(offsetof(cotpad_operation, member) == 12);
+COTPAD_LAYOUT(sizeof(cotpad_verdict) == 64);
+COTPAD_LAYOUT(offsetof(cotpad_verdict, cause) == 4);
+COTPAD_LAYOUT(offsetof(cotpad_verdict, offset) == 8);
+COTPAD_LAYOUT(offsetof(cotpad_verdict, used) == 12);
+COTPAD_LAYOUT(offsetof(cotpad_verdict, operation) == 16);
+COTPAD_LAYOUT(offsetof(cotpad_verdict, missing) == 40);
+COTPAD_LAYOUT(offsetof(cotpad_verdict, site) == 52);
+COTPAD_LAYOUT(offsetof(cotpad_verdict, place) == 56);
+COTPAD_LAYOUT(offsetof(cotpad_verdict, cells) == 60);
+COTPAD_LAYOUT(sizeof(cotpad_site) == 8);
+COTPAD_LAYOUT(sizeof(size_t) == 8);
+#undef COTPAD_LAYOUT
+#endif
+
 uint32_t cotpad_version(void);
 
 /* Makes a site of this number, 0 to 63, that has done nothing, in an empty handle; no two sites of a session have one
  * number: what two such sites make under one name is forged where it is delivered, and an exchange doesn't notice it. Else
  * COTPAD_SITE_OUT or COTPAD_NO_MEMORY, and the handle stays empty. */
-cotpad_status cotpad_open(cotpad_site *site, uint16_t number);
+cotpad_status cotpad_open(cotpad_site *site, uint32_t number);
 
 /* Makes a site of this number from the bytes of a log, as cotpad_save writes them, in an empty handle: its operations are
  * delivered in their order, each with the releases after it, and none of them is refused. Else COTPAD_SITE_OUT,
  * COTPAD_TOO_LONG, COTPAD_NO_MEMORY, or of the first fault COTPAD_NO_HEAD, COTPAD_CUT, COTPAD_MALFORMED or, where all bytes
  * are a log, COTPAD_REFUSED; the handle stays empty, and *why is written by these last four. The log doesn't tell the number:
  * keep it beside the log. Load the newest log: a site that goes on from an older one gives names that others know already. */
-cotpad_status cotpad_load(cotpad_site *site, uint16_t number, const uint8_t *bytes, size_t length, cotpad_verdict *why);
+cotpad_status cotpad_load(cotpad_site *site, uint32_t number, const uint8_t *bytes, size_t length, cotpad_verdict *why);
 
 /* The log of a site: its history, and what waits. *needed is the number of its bytes. What is handed out is loaded again, under
  * any number, with the same history, and the same waits. Else COTPAD_TOO_SHORT, which writes *needed alone; or, with nothing
@@ -161,34 +189,33 @@ void cotpad_close(cotpad_site *site);
 
 /* What the user of the site does. A place counts shown characters, each a Unicode scalar value: an insert goes after so many
  * of them, a delete takes the one at the place, from 0. An undo or a redo names an insert or a delete, whoever made it, by the
- * two numbers of its cotpad_member (a site is at most 63, so the cast loses nothing): name_site is not the author of an undo.
- * On COTPAD_OK and COTPAD_UNSETTLED the operation is made, at the index that cotpad_operations told before the call, and what
- * was released after it stands behind it: fetch its frame by cotpad_frame(site, index, ..) and send it to all other sites;
- * what was released came from others, who sent it. An edit that frees something is rare, and a host must not pass it over: the
- * one that waited for an undo, say, is released by the user's own undo, and may be refused then. Else, of insert and delete:
- * COTPAD_PLACE_OUT, COTPAD_NUMBER_FULL; of insert COTPAD_NO_CHARACTER; of undo and redo: COTPAD_NO_NAME, COTPAD_UNKNOWN; of
- * undo COTPAD_NOT_IN_FORCE; of redo COTPAD_IN_FORCE, COTPAD_GENERATION_FULL; of all COTPAD_CONTEXT_FULL, COTPAD_NO_MEMORY. */
+ * two numbers of its cotpad_member: name_site is not the author of an undo. On COTPAD_OK and COTPAD_UNSETTLED the operation is
+ * made, at the index that cotpad_operations told before the call, and what was released after it stands behind it: fetch its
+ * frame by cotpad_frame(site, index, ..) and send it to all other sites; what was released came from others, who sent it. An
+ * edit that frees something is rare, and a host must not pass it over: the one that waited for an undo, say, is released by the
+ * user's own undo, and may be refused then. Else, of insert and delete: COTPAD_PLACE_OUT, COTPAD_NUMBER_FULL; of insert
+ * COTPAD_NO_CHARACTER; of undo and redo: COTPAD_NO_NAME, COTPAD_UNKNOWN; of undo COTPAD_NOT_IN_FORCE; of redo COTPAD_IN_FORCE,
+ * COTPAD_GENERATION_FULL; of all COTPAD_CONTEXT_FULL, COTPAD_NO_MEMORY. */
 cotpad_status cotpad_insert(cotpad_site *site, uint32_t place, uint32_t scalar);
 cotpad_status cotpad_delete(cotpad_site *site, uint32_t place);
-cotpad_status cotpad_undo(cotpad_site *site, uint16_t name_site, uint32_t number);
-cotpad_status cotpad_redo(cotpad_site *site, uint16_t name_site, uint32_t number);
+cotpad_status cotpad_undo(cotpad_site *site, uint32_t name_site, uint32_t number);
+cotpad_status cotpad_redo(cotpad_site *site, uint32_t name_site, uint32_t number);
 
 /* Inserts the characters of a text in UTF-8, the first after `place` shown ones, each next one after it, and releases after each.
  * *made is how many were inserted, each by an operation of the site's own: they stand in the history from the index on that
  * cotpad_operations told before the call, with what was released between them (cotpad_operation_at tells the author).
  * A place counts what is shown at that moment: where the release after one of them shows or hides characters before it, the next
  * one stands among others. COTPAD_OK: all of them, and nothing can go wrong with no character. Else COTPAD_NO_CHARACTER (no UTF-8)
- * or COTPAD_PLACE_OUT, and *made is 0 (unless such a release hid the place of the next one); or COTPAD_NUMBER_FULL, COTPAD_CONTEXT_FULL or COTPAD_NO_MEMORY, where the first *made characters are inserted,
- * and no more: go on with the rest, or undo these; or COTPAD_UNSETTLED: the same, and what the last of these freed is released in
- * part: settle, and go on. */
+ * or COTPAD_PLACE_OUT, and *made is 0 (unless such a release hid the place of the next one); or COTPAD_NUMBER_FULL,
+ * COTPAD_CONTEXT_FULL or COTPAD_NO_MEMORY, where the first *made characters are inserted, and no more: go on with the rest, or undo
+ * these; or COTPAD_UNSETTLED: the same, and what the last of these freed is released in part: settle, and go on. */
 cotpad_status cotpad_insert_text(cotpad_site *site, uint32_t place, const uint8_t *text, size_t length, uint32_t *made);
 
 /* Deletes `count` shown characters, from the one at `place` on, and releases after each. *made is how many were deleted, as
  * above, and a place counts as there. COTPAD_OK: all of them. Else COTPAD_PLACE_OUT, where they aren't all there, and *made is 0
- * (unless a release hid what was left of them); or COTPAD_NUMBER_FULL,
- * COTPAD_CONTEXT_FULL, COTPAD_NO_MEMORY or COTPAD_UNSETTLED, where the first *made characters are deleted, and no more. To take a
- * text or a range back, read the names of these operations by cotpad_operation_at, right after the call, and give each to
- * cotpad_undo. */
+ * (unless a release hid what was left of them); or COTPAD_NUMBER_FULL, COTPAD_CONTEXT_FULL, COTPAD_NO_MEMORY or COTPAD_UNSETTLED,
+ * where the first *made characters are deleted, and no more. To take a text or a range back, read the names of these operations by
+ * cotpad_operation_at, right after the call, and give each to cotpad_undo. */
 cotpad_status cotpad_delete_range(cotpad_site *site, uint32_t place, uint32_t count, uint32_t *made);
 
 /* How many operations are integrated, how many wait, and how many characters are shown. */
@@ -248,9 +275,10 @@ cotpad_status cotpad_text(cotpad_site *site, uint8_t *out, size_t room, size_t *
  * Those that write a message answer COTPAD_OK, or COTPAD_TOO_SHORT, which writes *needed alone, or COTPAD_NO_MEMORY. Those
  * that read one answer COTPAD_TOO_LONG or, with *why written, COTPAD_NO_HEAD (not of the third message), COTPAD_CUT,
  * COTPAD_MALFORMED or COTPAD_EXTRA, and the site is as it was; or, of close and finish, with *why written, COTPAD_REFUSED, or
- * COTPAD_NO_MEMORY: then the operations of the message before that place are taken in, and the call may be made again after
- * COTPAD_NO_MEMORY. What is in the message already is a repeat, so cotpad_exchange_close may be made again after
- * COTPAD_TOO_SHORT too, when the operations are in and only the third message lacked room. */
+ * COTPAD_NO_MEMORY (of finish only where the message has a frame): then the operations of the message before that place are
+ * taken in, and the call may be made again after COTPAD_NO_MEMORY. What is in the message already is a repeat, so
+ * cotpad_exchange_close may be made again after COTPAD_TOO_SHORT too, when the operations are in and only the third message
+ * lacked room. */
 cotpad_status cotpad_exchange_offer(cotpad_site *site, uint8_t *out, size_t room, size_t *needed);
 cotpad_status cotpad_exchange_answer(cotpad_site *site, const uint8_t *first, size_t length, uint8_t *out, size_t room,
     size_t *needed, cotpad_verdict *why);

@@ -124,7 +124,7 @@ static void undo(uint32_t back) {
     uint32_t index = cotpad_operations(&bob);
     cotpad_operation last = {0};
     must(cotpad_operation_at(&bob, index - 1 - back, &last));
-    must(cotpad_undo(&bob, (uint16_t)last.member.site, last.member.number));
+    must(cotpad_undo(&bob, last.member.site, last.member.number));
     send_from(&bob, index, &ann);
 }
 

@@ -157,7 +157,7 @@ static cotpad_operation original_from_end(cotpad_site *site, uint32_t back) {
 static void undo(person *people, int who, cotpad_member of) {
     cotpad_site *site = &people[who].site;
     uint32_t start = cotpad_operations(site);
-    must_edit(site, who, cotpad_undo(site, (uint16_t)of.site, of.number), "undo");
+    must_edit(site, who, cotpad_undo(site, of.site, of.number), "undo");
     send_from(people, who, start);
 }
 
@@ -173,7 +173,7 @@ static void exchange(cotpad_site *joiner, cotpad_site *server) {
 }
 
 /* Ends a site, and goes on from its log. */
-static void leave_and_come_back(cotpad_site *site, uint16_t number) {
+static void leave_and_come_back(cotpad_site *site, uint32_t number) {
     size_t count = 0;
     uint8_t *log = bytes_of(site, cotpad_save, &count);
     cotpad_verdict why = {0};
@@ -248,7 +248,7 @@ static void refusals(person *people) {
 int main(void) {
     if (cotpad_version() != COTPAD_VERSION) return 2;
     person people[PEOPLE] = {{COTPAD_SITE_EMPTY, NULL, 0, 0}, {COTPAD_SITE_EMPTY, NULL, 0, 0}, {COTPAD_SITE_EMPTY, NULL, 0, 0}};
-    for (int who = 0; who < PEOPLE; who++) must(cotpad_open(&people[who].site, (uint16_t)who), "open");
+    for (int who = 0; who < PEOPLE; who++) must(cotpad_open(&people[who].site, (uint32_t)who), "open");
     type(people, 0, 0, "tea");
     sync_and_show(people);
     printf("-- at once: 0 deletes t, 1 deletes e and types o, 2 types !\n");

@@ -116,12 +116,14 @@ def test_refusals(sites):
     refused(Status.UNKNOWN, site.undo, (9, 9))
     refused(Status.NO_NAME, site.undo, (64, 1))
     refused(Status.NO_NAME, site.redo, (0, 0))
+    refused(Status.NO_NAME, site.undo, (1 << 16, 1))
     refused(Status.NO_NAME, site.redo, (1 << 16, 1))
+    refused(Status.NO_NAME, site.undo, (1 << 32, 1))
     refused(Status.NO_NAME, site.redo, (0, 1 << 32))
     refused(Status.IN_FORCE, site.redo, (0, 1))
     site.undo((0, 1))
     refused(Status.NOT_IN_FORCE, site.undo, (0, 1))
-    for number in (64, 1 << 16, -1):
+    for number in (64, 1 << 16, 1 << 32, -1):
         refused(Status.SITE_OUT, Site, number)
         refused(Status.SITE_OUT, Site.load, number, b"COTLOG1\n")
     for index in (4, -1, 1 << 32):

@@ -16,7 +16,7 @@ void must(cotpad_status status) {
 
 class Site {
   public:
-    explicit Site(uint16_t number) { must(cotpad_open(&site_, number)); }
+    explicit Site(uint32_t number) { must(cotpad_open(&site_, number)); }
     ~Site() { cotpad_close(&site_); }
     Site(const Site &) = delete;
     Site &operator=(const Site &) = delete;
@@ -28,7 +28,7 @@ class Site {
 
     void remove(uint32_t place) { must(cotpad_delete(&site_, place)); }
 
-    void undo(uint16_t author, uint32_t number) { must(cotpad_undo(&site_, author, number)); }
+    void undo(uint32_t author, uint32_t number) { must(cotpad_undo(&site_, author, number)); }
 
     void receive(const std::vector<uint8_t> &frame) {
         cotpad_verdict verdict = {};

@@ -204,6 +204,10 @@ static void exchange(cotpad_site *joiner, cotpad_site *server) {
     DO_AT(server, cotpad_exchange_answer(server, first, one, second, sizeof second, &two, &why));
     DO(cotpad_exchange_close(joiner, second, two, third, sizeof third, &three, &why));
     DO(cotpad_exchange_finish(server, third, three, &why));
+    static const uint8_t no_frames[4];
+    long before = allocations;
+    if (cotpad_exchange_finish(server, no_frames, sizeof no_frames, &why) != COTPAD_OK) stop("a message without frames isn't taken");
+    if (allocations != before) stop("a message without frames takes memory");
 }
 
 static void load(cotpad_site *from, cotpad_site *site) {

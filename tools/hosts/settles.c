@@ -83,7 +83,7 @@ static void shows(cotpad_site *site, const char *text) {
 }
 
 /* Ends the site, and goes on from its log. */
-static void come_back(cotpad_site *site, uint16_t number) {
+static void come_back(cotpad_site *site, uint32_t number) {
     static uint8_t log[4096];
     size_t count = 0;
     cotpad_verdict why = {0};

@@ -24,7 +24,7 @@ typedef struct {
 } queue;
 
 typedef struct {
-    uint16_t number;
+    uint32_t number;
     queue *in, *out;
     uint64_t drawn;
     uint8_t *frame; /* room for the longest one */
@@ -93,8 +93,8 @@ static uint32_t draw(person *p, uint32_t below) {
 static void turn(person *p, cotpad_site *site) {
     cotpad_operation o = {0};
     must(cotpad_operation_at(site, draw(p, cotpad_operations(site)), &o), "operation_at");
-    cotpad_status status = cotpad_undo(site, (uint16_t)o.member.site, o.member.number);
-    if (status == COTPAD_NOT_IN_FORCE) status = cotpad_redo(site, (uint16_t)o.member.site, o.member.number);
+    cotpad_status status = cotpad_undo(site, o.member.site, o.member.number);
+    if (status == COTPAD_NOT_IN_FORCE) status = cotpad_redo(site, o.member.site, o.member.number);
     must(status, "undo or redo");
 }
 
@@ -136,7 +136,7 @@ int main(void) {
         pthread_mutex_init(&queues[i].lock, NULL);
         pthread_cond_init(&queues[i].came, NULL);
         queues[i].last = &queues[i].first;
-        people[i].number = (uint16_t)i;
+        people[i].number = (uint32_t)i;
         people[i].in = &queues[i];
         people[i].out = &queues[1 - i];
         people[i].drawn = (uint64_t)i + 1;

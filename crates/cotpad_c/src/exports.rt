@@ -64,17 +64,17 @@ pub extern "C" fn cotpad_version() -> u32
 
 /// Makes a site that has done nothing in an empty handle.
 #[unsafe(no_mangle)]
-pub extern "C" fn cotpad_open(alloc: Global, site: &mut CotpadSite, number: u16) -> u32
+pub extern "C" fn cotpad_open(alloc: Global, site: &mut CotpadSite, number: u32) -> u32
     requires { site.old.site ≡ None }
     ensures range { SITES ≤ number → result ≡ SITE_OUT }
     ensures status { number < SITES → (result ≡ OK) ⊎ (result ≡ NO_MEMORY) }
     ensures ok { result ≡ OK → site.new.site ≡ Some (hosting (fresh number)) }
     ensures empty { result ≢ OK → site.new.site ≡ None }
 {
-    if number >= SITES {
+    if number >= u32::from(SITES) {
         return SITE_OUT;
     }
-    match making::make(alloc, number) {
+    match making::make(alloc, number as u16) {
         Ok(parts) => {
             replace(site, CotpadSite::filled(parts)).let_go();
             OK
@@ -97,7 +97,7 @@ pub extern "C" fn cotpad_close(alloc: Global, site: &mut CotpadSite)
 pub extern "C" fn cotpad_load(
     alloc: Global,
     site: &mut CotpadSite,
-    number: u16,
+    number: u32,
     bytes: &[u8],
     why: &mut CotpadVerdict,
 ) -> u32
@@ -110,13 +110,13 @@ pub extern "C" fn cotpad_load(
     ensures refused { number < SITES → length bytes.now ≤ MAX_LOG → result ≢ OK → IsLogRefused number bytes.now result why.old why.new }
     ensures empty { result ≢ OK → site.new.site ≡ None }
 {
-    if number >= SITES {
+    if number >= u32::from(SITES) {
         return SITE_OUT;
     }
     if bytes.len() > MAX_LOG {
         return TOO_LONG;
     }
-    match making::load(alloc, number, bytes) {
+    match making::load(alloc, number as u16, bytes) {
         Ok(parts) => {
             replace(site, CotpadSite::filled(parts)).let_go();
             OK
@@ -191,7 +191,7 @@ pub extern "C" fn cotpad_delete_range(
 
 /// Undoes the insert or delete of this name, whoever made it, and releases.
 #[unsafe(no_mangle)]
-pub extern "C" fn cotpad_undo(site: &mut CotpadSite, author: u16, number: u32) -> u32
+pub extern "C" fn cotpad_undo(site: &mut CotpadSite, author: u32, number: u32) -> u32
     requires { IsSome site.old.site }
     ensures live { IsSome site.new.site }
     ensures done { IsName author number
@@ -204,7 +204,7 @@ pub extern "C" fn cotpad_undo(site: &mut CotpadSite, author: u16, number: u32) -
 
 /// Redoes the insert or delete of this name, whoever undid it, and releases.
 #[unsafe(no_mangle)]
-pub extern "C" fn cotpad_redo(site: &mut CotpadSite, author: u16, number: u32) -> u32
+pub extern "C" fn cotpad_redo(site: &mut CotpadSite, author: u32, number: u32) -> u32
     requires { IsSome site.old.site }
     ensures live { IsSome site.new.site }
     ensures done { IsName author number
@@ -489,6 +489,7 @@ pub extern "C" fn cotpad_exchange_finish(
         × (why.new ≡ why.old) }
     ensures refused { length third.now ≤ MAX_MESSAGE → result ≢ OK
         → IsRefused (IsUnfinished (held_state site.old.site) third.now (held_state site.new.site)) result why.old why.new }
+    ensures needed { result ≡ NO_MEMORY → HasFrame third.now }
     ensures later { IsLater (held_state site.old.site) (held_state site.new.site) }
     ensures quiet { held_releases site.new.site ≡ [] }
 {

@@ -1,7 +1,8 @@
 //! Why an edit isn't made, and why a log or a message isn't taken, as a host is told.
 
 ghost use Rattle.std.specs.Prelude.{◌≡◌, ◌≢◌};
-ghost use Rattle.cotpad_c.specs.declared.status.TheConstants.{OK, TOO_SHORT};
+ghost use Rattle.peer_exchange.specs.declared.peer.Peer.TheVariants.{Memory};
+ghost use Rattle.cotpad_c.specs.declared.status.TheConstants.{OK, NO_MEMORY, TOO_SHORT};
 ghost use Rattle.cotpad_c.specs.Refusals.{log_status, log_told, bytes_status, bytes_told, peer_status, peer_told};
 ghost use Rattle.cotpad_c.specs.Statuses.{refusal, stop_number, number_of};
 
@@ -94,6 +95,7 @@ pub(crate) fn log_refused(bad: LogBad, why: &mut CotpadVerdict) -> u32
 pub(crate) fn peer_refused(refusal: Peer, why: &mut CotpadVerdict) -> u32
     ensures status { result ≡ peer_status refusal }
     ensures told { why.new ≡ peer_told why.old refusal }
+    ensures memory { result ≡ NO_MEMORY → refusal ≡ Memory }
     ensures not_done { result ≢ OK }
     ensures not_short { result ≢ TOO_SHORT }
 {
@@ -112,6 +114,7 @@ pub(crate) fn peer_refused(refusal: Peer, why: &mut CotpadVerdict) -> u32
 
 fn bytes_status(cause: PeerCause) -> u32
     ensures status { result ≡ bytes_status cause }
+    ensures not_memory { result ≢ NO_MEMORY }
     ensures not_done { result ≢ OK }
     ensures not_short { result ≢ TOO_SHORT }
 {

@@ -3,10 +3,11 @@
 ghost use Rattle.std.specs.Prelude.{IfOk, IsSome};
 
 use crate::handle::CotpadSite;
-use crate::operation::{no_member, no_operation};
-use crate::verdict::incomplete;
+use crate::operation::{CotpadMember, CotpadOperation, no_member, no_operation};
+use crate::verdict::{CotpadVerdict, incomplete};
 use crate::{exports, kinds, status};
 use std::alloc::Global;
+use std::mem::size_of;
 use std::test::Fail;
 
 /// Insert 0.1 at place 0 of `a`, with an empty context.
@@ -20,12 +21,24 @@ const SECOND: &[u8] = &[
 ];
 
 #[test]
+fn structs_are_as_long_as_the_header_says(rt: HostRuntime) {
+    assert_eq!(rt; size_of::<CotpadMember>(), 12);
+    assert_eq!(rt; size_of::<CotpadOperation>(), 24);
+    assert_eq!(rt; size_of::<CotpadVerdict>(), 64);
+    assert_eq!(rt; size_of::<CotpadSite>(), 8);
+}
+
+#[test]
 fn a_handle_is_opened_and_closed(rt: HostRuntime) {
     let alloc = rt.alloc();
     let mut site = CotpadSite::empty(alloc);
     assert_eq!(rt; exports::cotpad_version(), 1);
     assert_eq!(rt;
         exports::cotpad_open(alloc, &mut site, 64),
+        status::SITE_OUT
+    );
+    assert_eq!(rt;
+        exports::cotpad_open(alloc, &mut site, 65_536),
         status::SITE_OUT
     );
     assert_eq!(rt; exports::cotpad_open(alloc, &mut site, 3), status::OK);
@@ -58,6 +71,7 @@ fn an_insert_is_undone_and_redone(rt: HostRuntime) -> Result<(), Fail> {
     assert_eq!(rt; exports::cotpad_undo(&mut site, 5, 1), status::NOT_IN_FORCE);
     assert_eq!(rt; exports::cotpad_redo(&mut site, 5, 1), status::OK);
     assert_eq!(rt; exports::cotpad_redo(&mut site, 5, 0), status::NO_NAME);
+    assert_eq!(rt; exports::cotpad_redo(&mut site, 65_541, 1), status::NO_NAME);
     assert_eq!(rt; exports::cotpad_operations(&mut site), 3);
     assert_eq!(rt;
         exports::cotpad_operation_at(&mut site, 1, &mut told),
@@ -320,6 +334,10 @@ fn an_exchange_sends_what_is_lacked(rt: HostRuntime) {
         status::OK
     );
     assert_eq!(rt; exports::cotpad_characters(&mut server), 1);
+    assert_eq!(rt;
+        exports::cotpad_exchange_finish(alloc, &mut server, &[0, 0, 0, 0], &mut why),
+        status::OK
+    );
     exports::cotpad_close(alloc, &mut server);
     exports::cotpad_close(alloc, &mut joiner);
     server.let_go();

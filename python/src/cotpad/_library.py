@@ -10,7 +10,7 @@ from typing import Any
 VERSION = 1
 FILE = "libcotpad.so.1"
 
-u16, u32, size = ctypes.c_uint16, ctypes.c_uint32, ctypes.c_size_t
+u32, size = ctypes.c_uint32, ctypes.c_size_t
 byte = ctypes.c_uint8
 
 
@@ -73,14 +73,14 @@ version = _call("version", u32)
 if version() != VERSION:
     raise ImportError(f"the shared library {_path()} has version {version()} of the interface, and this package is for {VERSION}")
 
-open_site = _call("open", u32, _site, u16)
+open_site = _call("open", u32, _site, u32)
 close_site = _call("close", None, _site)
-load = _call("load", u32, _site, u16, _read, size, _verdict)
+load = _call("load", u32, _site, u32, _read, size, _verdict)
 save = _call("save", u32, _site, _out, size, _needed)
 insert_text = _call("insert_text", u32, _site, u32, _read, size, _count)
 delete_range = _call("delete_range", u32, _site, u32, u32, _count)
-undo = _call("undo", u32, _site, u16, u32)
-redo = _call("redo", u32, _site, u16, u32)
+undo = _call("undo", u32, _site, u32, u32)
+redo = _call("redo", u32, _site, u32, u32)
 operations = _call("operations", u32, _site)
 waiting = _call("waiting", u32, _site)
 characters = _call("characters", u32, _site)

@@ -467,7 +467,7 @@ def _each(turn: Callable[[tuple[int, int]], Edit], names: Iterable[tuple[int, in
 
 
 def _number(number: int) -> int:
-    if not 0 <= number < 1 << 16:
+    if not 0 <= number < 1 << 32:
         raise Refused(Status.SITE_OUT)
     return number
 
@@ -486,7 +486,7 @@ def _index(index: int) -> int:
 
 def _name(name: tuple[int, int]) -> tuple[int, int]:
     site, number = name
-    if not (0 <= site < 1 << 16 and 0 <= number < 1 << 32):
+    if not (0 <= site < 1 << 32 and 0 <= number < 1 << 32):
         raise Refused(Status.NO_NAME)
     return site, number
 
