@@ -1,6 +1,6 @@
 //! The sites of a session and their messages.
 
-ghost use Rattle.std.specs.Prelude.{◌≡◌, ◌≢◌, ◌++◌, ◌<◌, ◌≤◌, ℕ, [], IsTrue, OnOk, IfErr, IfOk, IfSome, length, map, nat_lt, slice_index};
+ghost use Rattle.std.specs.Prelude.{◌≡◌, ◌≢◌, ◌++◌, ◌<◌, ◌≤◌, ◌↔◌, ℕ, [], IsNone, IsTrue, OnOk, IfErr, IfOk, IfSome, length, map, nat_lt, option_map, slice_get, slice_index};
 ghost use Rattle.std.specs.Char.{IsScalar};
 ghost use Rattle.std.specs.Str.{all_scalars};
 ghost use Rattle.cot_site.specs.Sites.{state_of};
@@ -86,6 +86,14 @@ impl Sites {
             }),
             Err(memory) => Err(memory),
         }
+    }
+
+    /// The site of this number; None exactly where it isn't below the number of sites.
+    pub(crate) fn site(&self, site: u16) -> Option<&Site>
+        ensures site { option_map (λ s. state_of s.now) result ≡ slice_get self.now.sites site }
+        ensures none { IsNone result ↔ (length self.now.sites ≤ site) }
+    {
+        self.sites.get(site as usize)
     }
 
     /// The sites, with how many of the messages are of each kind.
