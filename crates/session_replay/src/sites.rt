@@ -183,7 +183,7 @@ impl Sites {
         done(self.sync(out))
     }
 
-    // An edit of the site's user.
+    // A local command at the site.
     fn do_command(&mut self, at: usize, edit: Edit, out: &mut Vec<u8>) -> Result<(), StepBad>
         requires { at < length self.old.sites }
         ensures { IsLineDone (Ok (commanded at (made_by edit (site_at self.old at)) self.old)) result self.old self.new
