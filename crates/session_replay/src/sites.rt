@@ -53,7 +53,10 @@ impl Model for Sites {
 
     ghost Value = { SessionData };
 
-    ghost view = { λ s. record { sites = map state_of s.sites.items; messages = operations_of (map state_of s.sites.items) s.messages.items } };
+    ghost view = { λ s. record {
+      sites = map state_of s.sites.items;
+      messages = operations_of (map state_of s.sites.items) s.messages.items;
+    } };
 
     ghost invariant = { λ s. IsKept (map state_of s.sites.items) s.known.items s.messages.items };
 }
@@ -121,8 +124,10 @@ impl Sites {
     // Whether the site that the line speaks of is there, if it speaks of one.
     fn check_site(&self, line: &Line) -> Result<(), StepBad>
         ensures there { OnOk result (IfSome (line_site line.now) (λ i. i < length self.now.sites)) }
-        ensures ok { OnOk result (at_site_of (line_site line.now) self.now (steps_there line.now self.now) ≡ steps_there line.now self.now) }
-        ensures refused { IfErr result (λ why. IsRefusedFor (at_site_of (line_site line.now) self.now (steps_there line.now self.now)) why) }
+        ensures ok { OnOk result (at_site_of (line_site line.now) self.now (steps_there line.now self.now)
+            ≡ steps_there line.now self.now) }
+        ensures refused { IfErr result (λ why. IsRefusedFor (at_site_of (line_site line.now) self.now
+            (steps_there line.now self.now)) why) }
         ensures known { IfErr result (λ why. why ≢ StepBad.Memory) }
     {
         match line.site() {
