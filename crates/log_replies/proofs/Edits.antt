@@ -1,6 +1,6 @@
 -- An edit as it is done makes what is defined.
-use Rattle.std.proofs.Common.{◌≡◌, ℕ, ◌+◌, true, inl, inr, List, [], ◌∷◌, ◌++◌, refl, sym, ap, subst, ◌∙◌}
-use Rattle.std.specs.Prelude.{⊤, Bool, IfOk, Some, Result, Ok, Err}
+use Rattle.std.proofs.Common.{◌≡◌, ℕ, true, List, [], ◌∷◌, ◌++◌, refl, sym, ap, subst, ◌∙◌}
+use Rattle.std.specs.Prelude.{⊤, Bool, IfOk, Result, Ok, Err}
 use Rattle.context_diff.specs.Operations.{OpData}
 use Rattle.context_diff.specs.declared.op.Op.{Op}
 use Rattle.context_diff.specs.Ops.{data_of}
@@ -15,7 +15,8 @@ use Rattle.participant.specs.declared.edits.Stopped.TheVariants as stopped
 use Rattle.participant.specs.Reached.{Reached, from, with_one, all_settled}
 use Rattle.participant.specs.Edits as participant
 use Rattle.participant.specs.Edits.{made_by}
-use Rattle.participant.specs.Runs.{inserts, Progress, after_answer, StopsAt, Runs}
+use Rattle.participant.specs.Runs.{inserts, Progress, StopsAt, Runs}
+use Rattle.participant.proofs.CallerLemmas.{by_characters}
 use Rattle.log_replies.specs.Answers.{IsAppended}
 use Rattle.log_replies.specs.Editing.{EditData, edited, made, then_next, all_made}
 use Rattle.log_replies.specs.Code.Editing.{IsDone, IsEditReply, reason_of}
@@ -71,35 +72,28 @@ abbrev pub IsEnded : Result State Local → Result ⊤ Stopped → State → Typ
 IsEnded defined (Ok u) t = IsDone defined (Ok tt) t
 IsEnded defined (Err why) t = IsDone defined (Err (reason_of why)) t
 
--- after an insert that was made
-after_insert : (v ch : ℕ) (es : List Edit) (r : Result OpData Local) (p next : Progress) → made_by (Insert v ch) p.reached.state ≡ r
-    → after_answer (Insert v ch) r p ≡ Some next
-    → all_made (Insert v ch ∷ es) p.reached.state ≡ all_made es next.reached.state
-after_insert v ch es (Ok o) p next is step =
-    let there : Progress = record { reached = all_settled (with_one p.reached o); made = p.made + 1 } in
-    let same : there ≡ next = cc in
-    first_made (Insert v ch) es p.reached.state o is ∙ ap (λ (x : Progress). all_made es x.reached.state) same
-after_insert v ch es (Err why) p next is step = absurd (let never = step in cc)
-
-text_stopped : (v ch : ℕ) (es : List Edit) (p q : Progress) (end : Result ⊤ Stopped) → StopsAt (Insert v ch) p end q
-    → IsEnded (all_made (Insert v ch ∷ es) p.reached.state) end q.reached.state
-text_stopped v ch es p q (Ok u) stop = absurd stop
-text_stopped v ch es p q (Err (stopped.Refused why)) stop =
-    stops_for (all_made (Insert v ch ∷ es) p.reached.state) (made_by (Insert v ch) p.reached.state) why q.reached.state
-    (λ w. none_made (Insert v ch) es p.reached.state w) stop.0
-text_stopped v ch es p q (Err stopped.Unsettled) stop = tt
-
-pub text_ended : (v : ℕ) (text : List ℕ) (p q : Progress) (end : Result ⊤ Stopped) → Runs (inserts v text) p end q
+pub text_ended : (v : ℕ) (text : List ℕ) (p : Progress) (end : Result ⊤ Stopped) (q : Progress) → Runs (inserts v text) p end q
     → IsEnded (all_made (inserts v text) p.reached.state) end q.reached.state
-unfolding Runs inserts
-text_ended v [] p q end (ends, at) =
-    subst (λ (x : Result ⊤ Stopped). IsEnded (all_made [] p.reached.state) x q.reached.state) (sym ends)
-    (nothing_made p.reached.state ∙ ap (λ (x : Progress). Ok x.reached.state) (sym at))
-text_ended v (ch ∷ text) p q end (inl (next, step, run)) =
-    subst (λ (x : Result State Local). IsEnded x end q.reached.state)
-    (sym (after_insert v ch (inserts (v + 1) text) (made_by (Insert v ch) p.reached.state) p next refl step))
-    (text_ended (v + 1) text next q end run)
-text_ended v (ch ∷ text) p q end (inr stop) = text_stopped v ch (inserts (v + 1) text) p q end stop
+text_ended =
+    by_characters (λ es p end q. IsEnded (all_made es p.reached.state) end q.reached.state)
+    (λ p. nothing_made p.reached.state) inserted stopped_at
+  where
+    -- after an insert that was made
+    inserted : (v ch : ℕ) (es : List Edit) (p : Progress) (o : OpData) (end : Result ⊤ Stopped) (q : Progress)
+        → made_by (Insert v ch) p.reached.state ≡ Ok o
+        → IsEnded (all_made es ((all_settled (with_one p.reached o)).state)) end q.reached.state
+        → IsEnded (all_made (Insert v ch ∷ es) p.reached.state) end q.reached.state
+    inserted v ch es p o end q is rest =
+        subst (λ (x : Result State Local). IsEnded x end q.reached.state) (sym (first_made (Insert v ch) es p.reached.state o is)) rest
+
+    -- where it stops at one
+    stopped_at : (v ch : ℕ) (es : List Edit) (p : Progress) (end : Result ⊤ Stopped) (q : Progress) → StopsAt (Insert v ch) p end q
+        → IsEnded (all_made (Insert v ch ∷ es) p.reached.state) end q.reached.state
+    stopped_at v ch es p (Ok u) q stop = absurd stop
+    stopped_at v ch es p (Err (stopped.Refused why)) q stop =
+        stops_for (all_made (Insert v ch ∷ es) p.reached.state) (made_by (Insert v ch) p.reached.state) why q.reached.state
+        (λ w. none_made (Insert v ch) es p.reached.state w) stop.0
+    stopped_at v ch es p (Err stopped.Unsettled) q stop = tt
 
 -- ---- the reply
 

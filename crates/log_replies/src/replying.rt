@@ -43,7 +43,8 @@ pub trait Replies {
         ensures { IfOk result (λ refused. IsAppended (replies_to self.now) refused (state_of site.old) out.old.items out.new.items) };
 
     /// Bytes that are refused as a log are replied by their line, and others by a reply to the site that they give.
-    ghost by_log: { (c : Self) (bytes : List ℕ) (reply : Report) → RepliesToLogBy (number c) (replies_to c) bytes reply → replies c bytes reply };
+    ghost by_log: { (c : Self) (bytes : List ℕ) (reply : Report) → RepliesToLogBy (number c) (replies_to c) bytes reply
+        → replies c bytes reply };
 }
 
 /// Reads the input to its end, at most `MAX_INPUT` bytes, and writes the reply of the command.

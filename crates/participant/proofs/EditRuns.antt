@@ -102,31 +102,35 @@ turns_next f names left n e some within is of =
 record IsMade (r : Result OpData Local) (p q : Progress) : Type 0 where
   op : OpData
   is : r ≡ Ok op
-  count : q.made ≡ p.made + 1
+  after : q ≡ record { reached = all_settled (with_one p.reached op); made = p.made + 1 }
 
 made_once : (e : Edit) (r : Result OpData Local) (p q : Progress)
     → ((why : Local) → is_passed e why ≡ false) → after_answer e r p ≡ Some q → IsMade r p q
 made_once e (Ok o) p q never is =
     let made : Progress = record { reached = all_settled (with_one p.reached o); made = p.made + 1 } in
-    record { op = o; is = refl; count = counted made is }
+    record { op = o; is = refl; after = inside made is }
   where
-    counted : (x : Progress) → Some x ≡ Some q → q.made ≡ x.made
-    counted x same = cc
+    inside : (x : Progress) → Some x ≡ Some q → q ≡ x
+    inside x same = cc
 made_once e (Err why) p q never is = absurd (none (subst (λ (b : Bool). (if b then Some p else None) ≡ Some q) (never why) is))
   where
     none : None ≡ Some q → ⊥
     none same = cc
 
+insert_made : (v ch : ℕ) (p q : Progress) → after_edit (Insert v ch) p ≡ Some q → IsMade (made_by (Insert v ch) p.reached.state) p q
+insert_made v ch p q is = made_once (Insert v ch) (made_by (Insert v ch) p.reached.state) p q (λ why. refl) is
+
 pub insert_counts : (v ch : ℕ) (p q : Progress) → after_edit (Insert v ch) p ≡ Some q → q.made ≡ p.made + 1
-insert_counts v ch p q is = (made_once (Insert v ch) (made_by (Insert v ch) p.reached.state) p q (λ why. refl) is).count
+insert_counts v ch p q is = ap (λ (x : Progress). x.made) (insert_made v ch p q is).after
 
 pub delete_counts : (v : ℕ) (p q : Progress) → after_edit (Delete v) p ≡ Some q → q.made ≡ p.made + 1
-delete_counts v p q is = (made_once (Delete v) (made_by (Delete v) p.reached.state) p q (λ why. refl) is).count
+delete_counts v p q is =
+    ap (λ (x : Progress). x.made) (made_once (Delete v) (made_by (Delete v) p.reached.state) p q (λ why. refl) is).after
 
 -- a character was inserted after at most PLACES others
 pub insert_within : (v ch : ℕ) (p q : Progress) → IsValid p.reached.state.history → after_edit (Insert v ch) p ≡ Some q → v ≤ PLACES
 insert_within v ch p q valid is =
-    let made = made_once (Insert v ch) (made_by (Insert v ch) p.reached.state) p q (λ why. refl) is in
+    let made = insert_made v ch p q is in
     from (place_behind p.reached.state.history v) refl made.op made.is
   where
     from : (r : Option ℕ) → place_behind p.reached.state.history v ≡ r → (o : OpData)
@@ -142,6 +146,27 @@ pub stop_counts : (e : Edit) (p q : Progress) (end : Result ⊤ Stopped) → Sto
 stop_counts e p q (Ok u) stop = absurd stop
 stop_counts e p q (Err (stopped.Refused why)) stop = omega (arith, ap (λ (x : Progress). x.made) stop.2)
 stop_counts e p q (Err stopped.Unsettled) stop = omega (arith, stop.1)
+
+-- what holds of how each run of a text ends: of that of no characters; of one whose first character was inserted, if it holds of the
+-- run of the others; and of one that stops at its first character
+pub by_characters : (P : List Edit → Progress → Result ⊤ Stopped → Progress → Type 0)
+    → ((p : Progress) → P [] p (Ok tt) p)
+    → ((v ch : ℕ) (es : List Edit) (p : Progress) (o : OpData) (end : Result ⊤ Stopped) (q : Progress)
+    → made_by (Insert v ch) p.reached.state ≡ Ok o
+    → P es (record { reached = all_settled (with_one p.reached o); made = p.made + 1 }) end q → P (Insert v ch ∷ es) p end q)
+    → ((v ch : ℕ) (es : List Edit) (p : Progress) (end : Result ⊤ Stopped) (q : Progress)
+    → StopsAt (Insert v ch) p end q → P (Insert v ch ∷ es) p end q)
+    → (v : ℕ) (text : List ℕ) (p : Progress) (end : Result ⊤ Stopped) (q : Progress)
+    → Runs (inserts v text) p end q → P (inserts v text) p end q
+unfolding Runs inserts
+by_characters P none more stop v [] p end q (ends, at) =
+    subst (λ (x : Result ⊤ Stopped). P [] p x q) (sym ends) (subst (λ (x : Progress). P [] p (Ok tt) x) (sym at) (none p))
+by_characters P none more stop v (ch ∷ text) p end q (inl (next, step, run)) =
+    let made = insert_made v ch p next step in
+    let rest : P (inserts (v + 1) text) next end q = by_characters P none more stop (v + 1) text next end q run in
+    more v ch (inserts (v + 1) text) p made.op end q made.is
+    (subst (λ (x : Progress). P (inserts (v + 1) text) x end q) made.after rest)
+by_characters P none more stop v (ch ∷ text) p end q (inr stops) = stop v ch (inserts (v + 1) text) p end q stops
 
 -- ---- runs of nothing
 

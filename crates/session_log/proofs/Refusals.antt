@@ -18,7 +18,7 @@ use Rattle.session_log.specs.declared.log_bad.LogBad.{LogBad}
 use Rattle.session_log.specs.declared.log_bad.LogBad.TheVariants as bad
 use Rattle.session_log.specs.Logs.{header, frames, BeginsWith, offset_after}
 use Rattle.session_log.specs.Readings.{IsCutAt, IsFaultyAt, IsUnread}
-use Rattle.session_log.specs.Loadings.{first_refusal, verdicts_after, after_one, after_all, AreTakenIn, new_state, IsRefusedAt, IsUnloaded}
+use Rattle.session_log.specs.Loadings.{first_refusal, verdicts_after, after_one, after_all, AreTakenIn, new_state, IsFirstRefusal, IsUnloaded}
 use Rattle.session_log.proofs.Frames.{formed_back, good_not_err, continues, log_no_fault, one_log}
 use Rattle.session_log.proofs.TakingIn.{taken_one}
 
@@ -144,9 +144,9 @@ refused_once s fs gs f g xs ys a b e tf rf tg rg =
 
 -- which operation was refused, by its offset and release
 abbrev RefusedAs : ℕ → List ℕ → LogBad → Type 0
-RefusedAs site bytes why = (offset : ℕ) × (r : Release) × (why ≡ bad.Refused offset r.member r.verdict) × IsRefusedAt site bytes offset r
+RefusedAs site bytes why = (offset : ℕ) × (r : Release) × (why ≡ bad.Refused offset r.member r.verdict) × IsFirstRefusal site bytes offset r
 
-refused_same : (site : ℕ) (bytes : List ℕ) (x y : ℕ) (a b : Release) → IsRefusedAt site bytes x a → IsRefusedAt site bytes y b
+refused_same : (site : ℕ) (bytes : List ℕ) (x y : ℕ) (a b : Release) → IsFirstRefusal site bytes x a → IsFirstRefusal site bytes y b
     → (x ≡ y) × (a ≡ b)
 refused_same site bytes x y a b u v =
     let whole = one_log bytes (u.before ++ u.op ∷ u.behind) (v.before ++ v.op ∷ v.behind) u.log v.log in

@@ -11,7 +11,7 @@ use Rattle.site_answers.specs.declared.release.Release.{Release}
 use Rattle.session_log.specs.declared.log_bad.LogBad.{LogBad}
 use Rattle.session_log.specs.declared.log_bad.LogBad.TheVariants as bad
 use Rattle.session_log.specs.Logs.{BeginsWith, offset_after, IsLogOf}
-use Rattle.session_log.specs.Loadings.{led_to, first_refusal, verdicts_after, after_one, IsRefusal, after_all, AreTakenIn, new_state, IsLoaded, IsRefusedAt, IsUnloaded}
+use Rattle.session_log.specs.Loadings.{led_to, first_refusal, verdicts_after, after_one, IsRefusal, after_all, AreTakenIn, new_state, IsLoaded, IsFirstRefusal, IsUnloaded}
 use Rattle.session_log.specs.Code.Passing.{LeftData, PassesOver, HasNoStep}
 use Rattle.session_log.proofs.Frames.{IsPassed, passed_more, passed_end, unread, log_continues, one_log, log_no_fault}
 
@@ -61,7 +61,7 @@ pub refused_at : (site : ℕ) (bytes next : List ℕ) (ops : List OpData) (o : O
     (r : Release)
     → BeginsWith bytes (ops ++ o ∷ []) next → IsLogOf bytes log → AreTakenIn (new_state site) ops → s ≡ after_all (new_state site) ops
     → offset ≡ offset_after ops → first_refusal (verdicts_after s o) ≡ Some r
-    → IsRefusedAt site bytes offset r
+    → IsFirstRefusal site bytes offset r
 refused_at site bytes next ops o log s offset r begins is_log taken state place first =
     let f = log_continues bytes (ops ++ o ∷ []) log next begins is_log in
     let parts : log ≡ ops ++ o ∷ f.others = f.parts ∙ append_assoc ops (o ∷ []) f.others in

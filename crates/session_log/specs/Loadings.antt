@@ -65,7 +65,7 @@ pub record IsLoaded (site : ℕ) (bytes : List ℕ) (s : State) : Type 0 where
 
 -- Loaded, the first refusal: the bytes are a log, and the delivery of the operation whose frame begins at this offset, or a
 -- release after it, brings the first one
-pub record IsRefusedAt (site : ℕ) (bytes : List ℕ) (offset : ℕ) (r : Release) : Type 0 where
+pub record IsFirstRefusal (site : ℕ) (bytes : List ℕ) (offset : ℕ) (r : Release) : Type 0 where
   pub before : List OpData
   pub op : OpData
   pub behind : List OpData
@@ -79,5 +79,5 @@ abbrev pub IsUnloaded : ℕ → List ℕ → LogBad → Type 0
 IsUnloaded site bytes bad.Header = IsUnread bytes bad.Header
 IsUnloaded site bytes (bad.Cut offset) = IsUnread bytes (bad.Cut offset)
 IsUnloaded site bytes (bad.Bad offset cause) = IsUnread bytes (bad.Bad offset cause)
-IsUnloaded site bytes (bad.Refused offset member verdict) = IsRefusedAt site bytes offset (record { member = member; verdict = verdict })
+IsUnloaded site bytes (bad.Refused offset member verdict) = IsFirstRefusal site bytes offset (record { member = member; verdict = verdict })
 IsUnloaded site bytes bad.Memory = (ops : List OpData) × IsLogOf bytes ops

@@ -9,6 +9,7 @@
 #![tactic(auto)]
 
 mod front;
+mod intake;
 mod laws;
 mod left;
 mod loading;
@@ -17,7 +18,6 @@ mod next_frame;
 mod placed;
 mod reader;
 mod reading;
-mod taking;
 mod words;
 mod writing;
 

@@ -7,11 +7,11 @@ ghost use Rattle.session_log.specs.Readers.{HasTaken};
 ghost use Rattle.session_log.specs.ReaderData.{IsCounted};
 ghost use Rattle.session_log.specs.Code.Steps.{TakesFrame, Stops, Ends};
 
+use crate::intake::Intake;
 use crate::left::HEADER;
 use crate::log_bad::LogBad;
 use crate::placed::Placed;
 use crate::reading::MAX_LOG;
-use crate::taking::Taking;
 use op_name::Memory;
 use wire_codec::{FrameStream, StreamBad};
 
@@ -20,19 +20,19 @@ use wire_codec::{FrameStream, StreamBad};
 pub(crate) fn take_frames(
     frames: &mut FrameStream,
     fed: u32,
-    taking: &mut Taking,
+    intake: &mut Intake,
 ) -> Result<Option<LogBad>, Memory>
     requires counted { IsCounted fed frames.old }
     requires header { length header ≤ fed }
     requires limit { fed ≤ MAX_LOG }
     ensures ends { (site : ℕ) (all : List ℕ) → fed ≡ length all
-        → HasTaken site all frames.old.left (state_of taking.old.site) taking.old.refused
-        → IfOk result (Ends site all frames.new.left (state_of taking.new.site) taking.new.refused) }
+        → HasTaken site all frames.old.left (state_of intake.old.site) intake.old.refused
+        → IfOk result (Ends site all frames.new.left (state_of intake.new.site) intake.new.refused) }
     ensures counted { IsCounted fed frames.new }
 {
     loop {
         match next(frames, fed) {
-            Ok(Some(placed)) => taking.take(placed)?,
+            Ok(Some(placed)) => intake.take(placed)?,
             Ok(None) => return Ok(None),
             Err(LogBad::Bad { offset, cause }) => return Ok(Some(LogBad::Bad { offset, cause })),
             Err(_) => return Err(Memory),

@@ -8,12 +8,12 @@ ghost use Rattle.session_log.specs.ReaderData.{IsCounted, reader_of};
 ghost use Rattle.session_log.specs.Code.Steps.{end_fault};
 
 use crate::front::after_header;
+use crate::intake::Intake;
 use crate::laws::what_is_kept_decides;
 use crate::left::HEADER;
 use crate::log_bad::LogBad;
 use crate::next_frame::take_frames;
 use crate::reading::MAX_LOG;
-use crate::taking::Taking;
 use cot_site::Site;
 use op_name::{Memory, SITES};
 use std::alloc::Global;
@@ -30,7 +30,7 @@ pub struct LogReader {
     fed: u32,
     // what comes after the header
     frames: FrameStream,
-    taking: Taking,
+    intake: Intake,
     fault: Option<LogBad>,
     spent: bool,
 }
@@ -42,7 +42,7 @@ impl Model for LogReader {
 
     ghost Value = { ReaderData };
 
-    ghost view = { λ r. reader_of r.number r.fed r.frames.left (state_of r.taking.site) r.taking.refused r.fault r.spent };
+    ghost view = { λ r. reader_of r.number r.fed r.frames.left (state_of r.intake.site) r.intake.refused r.fault r.spent };
 
     ghost invariant = { λ r. r.spent ≡ false → r.fault ≡ None → IsCounted r.fed r.frames };
 }
@@ -54,7 +54,7 @@ impl Drop for LogReader {
             number: _number,
             fed: _fed,
             frames: _frames,
-            taking: _taking,
+            intake: _intake,
             fault: _fault,
             spent: _spent,
         } = self;
@@ -74,7 +74,7 @@ impl LogReader {
             number: site,
             fed: 0,
             frames,
-            taking: Taking::new(alloc, site)?,
+            intake: Intake::new(alloc, site)?,
             fault: None,
             spent: false,
         })
@@ -104,7 +104,7 @@ impl LogReader {
         if self.fault.is_some() {
             return Ok(());
         }
-        match read_piece(before, piece, &mut self.frames, &mut self.taking) {
+        match read_piece(before, piece, &mut self.frames, &mut self.intake) {
             Ok(fault) => {
                 self.fault = fault;
                 Ok(())
@@ -137,11 +137,11 @@ impl LogReader {
             number: _,
             fed,
             frames,
-            taking,
+            intake,
             fault,
             spent,
         } = self;
-        taking.finish(fault_at_end(spent, fault, fed, frames.rest()))
+        intake.finish(fault_at_end(spent, fault, fed, frames.rest()))
     }
 }
 
@@ -171,13 +171,14 @@ fn read_piece(
     before: u32,
     piece: &[u8],
     frames: &mut FrameStream,
-    taking: &mut Taking,
+    intake: &mut Intake,
 ) -> Result<Option<LogBad>, Memory>
     requires limit { before + length piece.now ≤ MAX_LOG }
     requires counted { IsCounted before frames.old }
     ensures keeps { (site : ℕ) (all : List ℕ)
-        → Keeps (reader_of site before frames.old.left (state_of taking.old.site) taking.old.refused None false) all
-        → IfOk result (λ why. Keeps (reader_of site (before + length piece.now) frames.new.left (state_of taking.new.site) taking.new.refused why false) (all ++ piece.now)) }
+        → Keeps (reader_of site before frames.old.left (state_of intake.old.site) intake.old.refused None false) all
+        → IfOk result (λ why. Keeps (reader_of site (before + length piece.now) frames.new.left (state_of intake.new.site)
+        intake.new.refused why false) (all ++ piece.now)) }
     ensures counted { IfOk result (λ why. why ≡ None → IsCounted (before + length piece.now) frames.new) }
     ensures needed { OnErr result (GoesPastHeader before piece.now) }
 {
@@ -187,7 +188,7 @@ fn read_piece(
         Some(rest) if rest.is_empty() => Ok(None),
         Some(rest) => {
             frames.feed(rest)?;
-            take_frames(frames, fed, taking)
+            take_frames(frames, fed, intake)
         }
     }
 }

@@ -23,7 +23,7 @@ use Rattle.session_replay.specs.declared.message.Message.{Message}
 use Rattle.session_replay.specs.Code.Messages.{operations_of}
 use Rattle.session_replay.proofs.Lifting.{session_of, state_at, made_done}
 
--- the operation of an edit comes next
+-- the operation of a local command comes next
 pub edit_next : (s : State) → IsSound s → (e : Edit) → HasCharacter e → (o : OpData) → made_by e s ≡ Ok o → IsNext s.history o
 edit_next s sound (Insert v ch) is_character o is = local_insert_next s sound.history sound.number o v ch is_character is
 edit_next s sound (Delete v) is_character o is = local_delete_next s sound.history sound.number o v is
@@ -57,7 +57,7 @@ same_states sites i x y is same =
     map-set state_of sites i y ∙ ap (λ s. set (map state_of sites) i s) same ∙ sym (map-set state_of sites i x)
     ∙ ap (λ s. map state_of (set sites i s)) is ∙ ap (map state_of) (set-get_or sites i x)
 
--- a refused command left the session as it was
+-- a refused local command left the session as it was
 pub refused_same : (sites : List SiteData) (messages now : List Message) (d : SessionData) (i : ℕ) (x y : SiteData)
     → session_of sites (operations_of (map state_of sites) messages) ≡ d → x ≡ slice_index_or sites i x → state_of y ≡ state_of x
     → now ≡ messages

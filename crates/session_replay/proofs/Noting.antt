@@ -102,7 +102,7 @@ delivery_known (Ok b) many d sites messages ms i x y o old new e had = λ is.
 
 -- ---- a local operation
 
--- an edit of the user of the site at place i: its operation was made, and told as the message of this number, and the releases after
+-- a local command at the site of place i: its operation was made, and told as the message of this number, and the releases after
 -- it, as far as they came; the site was x, and is z then
 pub record IsMaking {T E : Type 0} (result : Result T E) (edit : Edit) (count : ℕ) (d : SessionData) (sites : List SiteData)
     (messages : List Message)

@@ -1,4 +1,4 @@
-//! What a site does at once, and what is told of it: an edit or a delivery, with the releases after it.
+//! What a site does at once, and what is told of it: a local operation or a delivery, with the releases after it.
 
 ghost use Rattle.std.specs.Prelude.{◌≡◌, ◌++◌, Err, IfOk, IfErr, OnOk, OnErr};
 ghost use Rattle.context_diff.specs.Ops.{data_of};
@@ -20,8 +20,8 @@ use op_name::Memory;
 use participant::{Edit, Stopped, Taking, do_edit, is_had, take_in};
 use script_text::{Event, op_line, verdict_line};
 
-/// Does the edit at the site, and tells its operation, as the message of this number, with the releases after it, of which `released`
-/// is the list.
+/// Does a local command at the site, and tells its operation, as the message of this number, with the releases after it, of which
+/// `released` is the list.
 ///
 /// `Ok` where the operation was made, with whether all was told; `Err` says why there is none, and nothing was done then.
 pub(crate) fn edit_and_tell(
@@ -47,7 +47,7 @@ pub(crate) fn edit_and_tell(
     }
 }
 
-// Nothing but what the type of an edit's character says.
+// Nothing but what the type of a local command's character says.
 fn check_character(edit: &Edit)
     ensures { HasCharacter edit.now }
 {

@@ -161,7 +161,8 @@ fn do_line(
 ) -> Result<Next, Memory>
     requires { number.old + 1 < 2 ^ 32 }
     ensures report { IfOk result (λ next. (pieces : List Piece) → Follows next
-        (prepended out.old.items (report_on (report_from (number.old + 1) pieces) number.old (line_steps line running.old.session) running.old.session))
+        (prepended out.old.items (report_on (report_from (number.old + 1) pieces) number.old
+        (line_steps line running.old.session) running.old.session))
         out.new.items (report_from number.new pieces running.new.session)) }
     ensures number { result ≡ Ok Next.Done → number.new ≡ number.old + 1 }
     ensures err { OnErr result (out.new.items ≡ out.old.items) }

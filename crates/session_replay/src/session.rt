@@ -1,6 +1,7 @@
 //! Sessions: what a script did so far, changed line by line.
 
-ghost use Rattle.std.specs.Prelude.{◌≡◌, ◌++◌, true, false, OnOk, OnErr};
+ghost use Rattle.std.specs.Prelude.{◌≡◌, ◌≤◌, ◌↔◌, ◌++◌, true, false, IsNone, OnOk, OnErr, length, option_map, slice_get};
+ghost use Rattle.cot_site.specs.Sites.{state_of};
 ghost use Rattle.session_replay.specs.Answers.{IsDone, HasStep, lines_of_steps};
 ghost use Rattle.session_replay.specs.Code.Doing.{cut_after};
 ghost use Rattle.session_replay.specs.LineSteps.{line_steps};
@@ -8,6 +9,7 @@ ghost use Rattle.session_replay.specs.Sessions.{unstarted};
 ghost use Rattle.session_replay.specs.Soundness.{IsSound, AreSettled};
 
 use crate::sites::Sites;
+use cot_site::Site;
 use op_name::Memory;
 use script_text::Line;
 use std::alloc::Global;
@@ -79,6 +81,15 @@ impl Session {
         ensures settled { self.now.cut ≡ false → AreSettled self.now.session }
     {
         let _ = &self.sites;
+    }
+
+    /// The site of this number, from 0; None exactly where it isn't below the number of sites, of which there are none before a line
+    /// makes them.
+    pub fn site(&self, site: u16) -> Option<&Site>
+        ensures site { option_map (λ s. state_of s.now) result ≡ slice_get self.now.session.sites site }
+        ensures none { IsNone result ↔ (length self.now.session.sites ≤ site) }
+    {
+        self.sites.site(site)
     }
 
     /// Does one line of a script, and appends its report lines. Sites are numbered from 0, messages too; places

@@ -1,6 +1,6 @@
 //! The sites of a session and their messages.
 
-ghost use Rattle.std.specs.Prelude.{◌≡◌, ◌≢◌, ◌++◌, ◌<◌, ◌≤◌, ℕ, [], IsTrue, OnOk, IfErr, IfOk, IfSome, length, map, nat_lt, slice_index};
+ghost use Rattle.std.specs.Prelude.{◌≡◌, ◌≢◌, ◌++◌, ◌<◌, ◌≤◌, ◌↔◌, ℕ, [], IsNone, IsTrue, OnOk, IfErr, IfOk, IfSome, length, map, nat_lt, option_map, slice_get, slice_index};
 ghost use Rattle.std.specs.Char.{IsScalar};
 ghost use Rattle.std.specs.Str.{all_scalars};
 ghost use Rattle.cot_site.specs.Sites.{state_of};
@@ -53,7 +53,10 @@ impl Model for Sites {
 
     ghost Value = { SessionData };
 
-    ghost view = { λ s. record { sites = map state_of s.sites.items; messages = operations_of (map state_of s.sites.items) s.messages.items } };
+    ghost view = { λ s. record {
+      sites = map state_of s.sites.items;
+      messages = operations_of (map state_of s.sites.items) s.messages.items;
+    } };
 
     ghost invariant = { λ s. IsKept (map state_of s.sites.items) s.known.items s.messages.items };
 }
@@ -88,6 +91,14 @@ impl Sites {
         }
     }
 
+    /// The site of this number; None exactly where it isn't below the number of sites.
+    pub(crate) fn site(&self, site: u16) -> Option<&Site>
+        ensures site { option_map (λ s. state_of s.now) result ≡ slice_get self.now.sites site }
+        ensures none { IsNone result ↔ (length self.now.sites ≤ site) }
+    {
+        self.sites.get(site as usize)
+    }
+
     /// The sites, with how many of the messages are of each kind.
     pub(crate) fn into_generated(self) -> Generated
         requires { length self.messages ≤ MAX_EVENTS }
@@ -113,8 +124,10 @@ impl Sites {
     // Whether the site that the line speaks of is there, if it speaks of one.
     fn check_site(&self, line: &Line) -> Result<(), StepBad>
         ensures there { OnOk result (IfSome (line_site line.now) (λ i. i < length self.now.sites)) }
-        ensures ok { OnOk result (at_site_of (line_site line.now) self.now (steps_there line.now self.now) ≡ steps_there line.now self.now) }
-        ensures refused { IfErr result (λ why. IsRefusedFor (at_site_of (line_site line.now) self.now (steps_there line.now self.now)) why) }
+        ensures ok { OnOk result (at_site_of (line_site line.now) self.now (steps_there line.now self.now)
+            ≡ steps_there line.now self.now) }
+        ensures refused { IfErr result (λ why. IsRefusedFor (at_site_of (line_site line.now) self.now
+            (steps_there line.now self.now)) why) }
         ensures known { IfErr result (λ why. why ≢ StepBad.Memory) }
     {
         match line.site() {
@@ -175,7 +188,7 @@ impl Sites {
         done(self.sync(out))
     }
 
-    // An edit of the site's user.
+    // A local command at the site.
     fn do_command(&mut self, at: usize, edit: Edit, out: &mut Vec<u8>) -> Result<(), StepBad>
         requires { at < length self.old.sites }
         ensures { IsLineDone (Ok (commanded at (made_by edit (site_at self.old at)) self.old)) result self.old self.new

@@ -60,3 +60,25 @@ fn a_session_goes_on_after_a_refused_line(rt: HostRuntime) -> Result<(), LineBad
     assert!(rt; right && out.as_slice() == b"op 0 insert 0.1\ntext 1 1\na\n".as_slice());
     Ok(())
 }
+
+/// Whether the session has a site of this number, and it shows this text.
+fn is_shown(alloc: Global, session: &Session, number: u16, text: &str) -> bool {
+    let mut out = Vec::new(alloc);
+    match session.site(number) {
+        Some(site) => site.text(&mut out).is_ok() && out.as_slice() == text.as_bytes(),
+        None => false,
+    }
+}
+
+#[test]
+fn each_site_of_a_session_is_lent(rt: HostRuntime) -> Result<(), LineBad> {
+    let alloc = rt.alloc();
+    let mut out = Vec::new(alloc);
+    let mut session = Session::new(alloc);
+    assert!(rt; session.site(0).is_none());
+    assert!(rt; answers(alloc, &mut session, "sites 2", &Ok(()), &mut out)?);
+    assert!(rt; answers(alloc, &mut session, "ins 1 0 b", &Ok(()), &mut out)?);
+    assert!(rt; is_shown(alloc, &session, 0, "") && is_shown(alloc, &session, 1, "b"));
+    assert!(rt; session.site(2).is_none());
+    Ok(())
+}

@@ -29,15 +29,15 @@ abbrev pub AreDone : {T E S : Type 0} → Result T E → List (Step S) → S →
 AreDone (Ok t) es s now old new = (now ≡ last_of s es) × (new ≡ old ++ written_by es)
 AreDone (Err e) es s now old new = IsReached s es now × IsFront old new
 
--- what the type of an edit says: what it inserts, if it is an insert, is a character
+-- what the type of a local command's character says: what is inserted, if it is an insert, is a character
 abbrev pub HasCharacter : Edit → Type 0
 HasCharacter (Insert v ch) = IsScalar ch
 HasCharacter (Delete v) = Unit {0}
 HasCharacter (Undo t) = Unit {0}
 HasCharacter (Redo t) = Unit {0}
 
--- the edit made its operation, which comes next in the history; it is the message of this number, and that is told, and the releases
--- after it are done and told, as far as the answer says
+-- the local command made its operation, which comes next in the history; it is the message of this number, and that is told, and the
+-- releases after it are done and told, as far as the answer says
 pub record IsTold {T E : Type 0} (edit : Edit) (number : ℕ) (told : Result T E) (s now : State) (old new : List ℕ) : Type 0 where
   pub op : OpData
   pub is : made_by edit s ≡ Ok op

@@ -42,7 +42,7 @@ impl Sites {
         Ok(())
     }
 
-    // Does the edit of the site's user. Answers whether it made an operation.
+    // Does a local command at the site. Answers whether it made an operation.
     pub(super) fn command(
         &mut self,
         at: usize,

@@ -18,7 +18,7 @@ returns-in-Ok c =
     let last = progress c.insert_text-end.new.site c.insert_text-end.new.released.items run.made in
     subst (λ (end : Result ⊤ Stopped).
     IsEnded (all_made (inserts c.args.place text) (state_of c.args.site.now)) end (state_of c.insert_text-end.new.site))
-    c.in-Ok.is (text_ended c.args.place text first last run.end c.insert_text-end.ensures.run)
+    c.in-Ok.is (text_ended c.args.place text first run.end last c.insert_text-end.ensures.run)
 
 pub returns-in-Err : goal.returns-in-Err
 returns-in-Err c =
@@ -30,4 +30,4 @@ returns-in-Err c =
     let after = state_of c.insert_text-end.new.site in
     subst (λ (why : Local). IsDone defined (Err why) after) (sym c.reason_of.ensures)
     (subst (λ (end : Result ⊤ Stopped). IsEnded defined end after) c.in-Err.is
-    (text_ended c.args.place text first last run.end c.insert_text-end.ensures.run))
+    (text_ended c.args.place text first run.end last c.insert_text-end.ensures.run))

@@ -13,19 +13,19 @@ loop-placed-preserved c =
     let new = c.next.new.frames in
     let takes = subst (λ (p : Option Placed). TakesFrame c.args.fed old p new) c.in-Ok-Some.field-0-is c.in-Ok-Some.ensures.takes in (
       c.in-Ok-Some.ensures.counted,
-      λ site all count h. steps site all c.args.fed old new c.in-Ok-Some.placed (state_of c.loop-placed.taking.site)
-          (state_of c.take.new.self.site) c.loop-placed.taking.refused c.take.new.self.refused
+      λ site all count h. steps site all c.args.fed old new c.in-Ok-Some.placed (state_of c.loop-placed.intake.site)
+          (state_of c.take.new.self.site) c.loop-placed.intake.refused c.take.new.self.refused
           count (c.loop-placed.invariant.1 site all count h) takes c.in_ok-take-in-Ok-Some.ensures.takes,
     )
 
 pub returns-in-Err-Bad : goal.returns-in-Err-Bad
 returns-in-Err-Bad c =
     let why = bad.Bad c.in-Err-Bad.offset c.in-Err-Bad.cause in
-    let s = state_of c.loop-placed.taking.site in
+    let s = state_of c.loop-placed.intake.site in
     let stops = subst (Stops c.args.fed c.loop-placed.frames) c.in-Err-Bad.field-0-is c.in-Err-Bad.ensures.stops in
     record {
       ends = λ site all count h.
-          stops_for site all c.args.fed c.loop-placed.frames s c.loop-placed.taking.refused why count
+          stops_for site all c.args.fed c.loop-placed.frames s c.loop-placed.intake.refused why count
           (c.loop-placed.invariant.1 site all count h) stops (λ e. let no : why ≡ bad.Memory = e in cc);
       counted = c.in-Err-Bad.ensures.counted;
     }

@@ -8,8 +8,8 @@ use Rattle.session_log.proofs.next_frame.take_frames.Given as goal
 abbrev pub invariant-loop-placed : goal.invariant-loop-placed
 invariant-loop-placed l =
     IsCounted l.fed l.frames
-    × ((site : ℕ) (all : List ℕ) → l.fed ≡ length all → HasTaken site all l.fn.frames.left (state_of l.fn.taking.site) l.fn.taking.refused
-    → HasTaken site all l.frames.left (state_of l.taking.site) l.taking.refused)
+    × ((site : ℕ) (all : List ℕ) → l.fed ≡ length all → HasTaken site all l.fn.frames.left (state_of l.fn.intake.site) l.fn.intake.refused
+    → HasTaken site all l.frames.left (state_of l.intake.site) l.intake.refused)
 
 abbrev pub decreases-loop-placed : goal.decreases-loop-placed
 decreases-loop-placed l = length l.frames.left

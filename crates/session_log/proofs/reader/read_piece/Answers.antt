@@ -10,7 +10,7 @@ use Rattle.session_log.proofs.reader.read_piece.Goals as goal
 pub returns-in-None-clause-keeps : goal.returns-in-None-clause-keeps
 returns-in-None-clause-keeps c = λ site all k.
     let piece = c.args.piece.now in
-    keeps_fault site c.args.before c.args.frames.now.left (state_of c.args.taking.now.site) c.args.taking.now.refused all piece k
+    keeps_fault site c.args.before c.args.frames.now.left (state_of c.args.intake.now.site) c.args.intake.now.refused all piece k
     (subst (λ (n : ℕ). (more rest : List ℕ) → (take n header ++ piece) ++ more ≢ header ++ rest) c.min.ensures
     (c.in-None.ensures.none refl))
 
@@ -21,7 +21,7 @@ returns-in-Some-clause-keeps c = λ site all k.
     let piece = c.args.piece.now in
     let rest = c.in-Some.rest.now in
     let goes = goes_through c.min.result c.args.before piece rest c.min.ensures c.in-Some.ensures.some in
-    keeps_header site c.args.before c.args.frames.now.left (state_of c.args.taking.now.site) c.args.taking.now.refused all piece rest k goes
+    keeps_header site c.args.before c.args.frames.now.left (state_of c.args.intake.now.site) c.args.intake.now.refused all piece rest k goes
     (none_left rest (sym c.is_empty.ensures ∙ c.if-is_empty.true))
 
 pub returns-in-Some-clause-counted : goal.returns-in-Some-clause-counted
@@ -68,15 +68,15 @@ pub returns-in_ok-feed-in-Some-2-clause-keeps : goal.returns-in_ok-feed-in-Some-
 returns-in_ok-feed-in-Some-2-clause-keeps c = λ site all k.
     let piece = c.args.piece.now in
     let rest = c.in-Some.rest.now in
-    let taking = c.args.taking.now in
+    let intake = c.args.intake.now in
     let goes = goes_through c.min.result c.args.before piece rest c.min.ensures c.in-Some.ensures.some in
     let enough = whole_header c.args.before piece rest (some_left rest (sym c.is_empty.ensures ∙ c.if-is_empty.false)) goes in
     let count : c.args.before + length piece ≡ length (all ++ piece) =
     ap (λ (n : ℕ). n + length piece) k.fed ∙ sym (length-append all piece) in
-    let has : HasTaken site (all ++ piece) c.feed.new.self.left (state_of taking.site) taking.refused =
-    subst (λ (t : List ℕ). HasTaken site (all ++ piece) t (state_of taking.site) taking.refused)
+    let has : HasTaken site (all ++ piece) c.feed.new.self.left (state_of intake.site) intake.refused =
+    subst (λ (t : List ℕ). HasTaken site (all ++ piece) t (state_of intake.site) intake.refused)
     (sym c.in_ok-feed-in-Some-2.ensures.ok.left)
-    (reads_on site c.args.before c.args.frames.now.left (state_of taking.site) taking.refused all piece rest k goes enough) in
-    ends_keep site (c.args.before + length piece) c.take_frames.new.frames.left (state_of c.take_frames.new.taking.site)
-    c.take_frames.new.taking.refused (all ++ piece) c.take_frames.result count enough
+    (reads_on site c.args.before c.args.frames.now.left (state_of intake.site) intake.refused all piece rest k goes enough) in
+    ends_keep site (c.args.before + length piece) c.take_frames.new.frames.left (state_of c.take_frames.new.intake.site)
+    c.take_frames.new.intake.refused (all ++ piece) c.take_frames.result count enough
     (c.take_frames.ensures.ends site (all ++ piece) count has)

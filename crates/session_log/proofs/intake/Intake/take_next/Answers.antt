@@ -2,7 +2,7 @@ use Rattle.std.proofs.lemmas.Result.{on_ok_weaker}
 use Rattle.context_diff.specs.Ops.{data_of}
 use Rattle.cot_site.specs.Sites.{state_of}
 use Rattle.session_log.proofs.Steps.{takes_next}
-use Rattle.session_log.proofs.taking.Taking.take_next.Goals as goal
+use Rattle.session_log.proofs.intake.Intake.take_next.Goals as goal
 
 pub returns : goal.returns
 returns c =

@@ -1,4 +1,4 @@
-//! A site that takes in the operations of a log as they come.
+//! The intake of a log: a site that takes in its operations as they come.
 
 ghost use Rattle.std.specs.Prelude.{◌≡◌, ◌≢◌, ◌⊎◌, ◌<◌, Some, None, Err, OnOk, OnErr, IfOk, IfErr};
 ghost use Rattle.std.specs.Result.{result_err};
@@ -16,22 +16,22 @@ use cot_site::{Release, Site};
 use op_name::{Memory, SITES};
 use std::alloc::Global;
 
-/// The site so far, and the first refusal. The list is only room for releases.
+/// The site so far, and the first refusal among the operations that it was given. The list is only room for releases.
 #[derive(Drop)]
-pub(crate) struct Taking {
+pub(crate) struct Intake {
     pub(crate) site: Site,
     pub(crate) refused: Option<LogBad>,
     released: Vec<Release>,
 }
 
-impl Taking {
+impl Intake {
     /// A site that has done nothing.
-    pub(crate) fn new(alloc: Global, site: u16) -> Result<Taking, Memory>
+    pub(crate) fn new(alloc: Global, site: u16) -> Result<Intake, Memory>
         requires { site < SITES }
         ensures state { IfOk result (λ t. state_of t.site ≡ new_state site) }
         ensures refused { IfOk result (λ t. t.refused ≡ None) }
     {
-        Ok(Taking {
+        Ok(Intake {
             site: Site::new(alloc, site)?,
             refused: None,
             released: Vec::new(alloc),
@@ -69,7 +69,7 @@ impl Taking {
         ensures refused { IfErr result (λ why. (fault ≡ Some why) ⊎ ((fault ≡ None) × (self.refused ≡ Some why))) }
         ensures accepted { IfOk result (λ s. (fault ≡ None) × (self.refused ≡ None) × (s ≡ self.site)) }
     {
-        let Taking { site, refused, .. } = self;
+        let Intake { site, refused, .. } = self;
         match fault.or(refused) {
             Some(why) => Err(why),
             None => Ok(site),
