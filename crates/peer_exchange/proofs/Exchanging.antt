@@ -25,7 +25,7 @@ use Rattle.peer_exchange.specs.Joins.{unseen, joined, AreAlike, IsJoined}
 use Rattle.peer_exchange.specs.Measuring.{measure_of}
 use Rattle.peer_exchange.specs.Messages.{end_mark, telling, first_message, IsSecond, IsThird, IsAnswered}
 use Rattle.peer_exchange.specs.Refusals.{IsWhole, IsUnread, Spoils}
-use Rattle.peer_exchange.specs.Taking.{Refusal, taken_in, with_history, IsRefusedAt}
+use Rattle.peer_exchange.specs.Taking.{Refusal, all_taken_in, with_history, IsRefusedAt}
 use Rattle.peer_exchange.specs.Closing.{IsClosed, IsUnclosed, IsUnfinished}
 use Rattle.peer_exchange.specs.Exchanges.{Talk, IsExchange, IsQuiet, AgreeInAll, UnrefusedCallsJoin, AgreeingSitesMeet}
 use Rattle.peer_exchange.specs.Exchanges.{AgreeingSitesAreNotRefused, SecondExchangesAreEmpty}
@@ -62,7 +62,7 @@ answered_is h p second n v w a =
 
 -- what the joiner takes in and sends
 pub record IsReplied (s t t' : State) (third : List ℕ) (took sent : ℕ) : Type 0 where
-  pub takes : taken_in t (unseen (is_known t.history) s.history) ≡ Ok t'
+  pub takes : all_taken_in t (unseen (is_known t.history) s.history) ≡ Ok t'
   pub valid : IsValid t'.history
   pub sends : IsThird third (unseen (is_known s.history) t'.history)
   pub received : took ≡ length (unseen (is_known t.history) s.history)
@@ -77,7 +77,7 @@ closed_is s t t' second third took sent ss st is c =
     let os = unseen (is_known t.history) h in
     let state : c.state ≡ context_of_all h = messages_tell_one_thing.state second c.state (context_of_all h) c.ops os c.read is in
     let ops : c.ops ≡ os = messages_tell_one_thing.second second c.state (context_of_all h) c.ops os c.read is in
-    let takes : taken_in t os ≡ Ok t' = ap (taken_in t) (sym ops) ∙ c.taken in
+    let takes : all_taken_in t os ≡ Ok t' = ap (all_taken_in t) (sym ops) ∙ c.taken in
     let valid : IsValid t'.history = (taking_in_keeps_histories t t' os st (formed_unseen (is_known t.history) h v) takes).0.history in
     let lacked : unseen (has c.state) t'.history ≡ unseen (is_known h) t'.history =
     ap (λ (x : ContextData). unseen (has x) t'.history) state ∙ unseen_by_state h t'.history v in
@@ -98,7 +98,7 @@ closed_is s t t' second third took sent ss st is c =
 record IsTalk (s t s' t' : State) (x : Talk) : Type 0 where
   reply : IsReplied s t t' x.third x.joiner_took x.joiner_sent
   server_sent : x.server_sent ≡ length (unseen (is_known t.history) s.history)
-  takes : taken_in s (unseen (is_known s.history) t'.history) ≡ Ok s'
+  takes : all_taken_in s (unseen (is_known s.history) t'.history) ≡ Ok s'
   server_took : x.server_took ≡ length (unseen (is_known s.history) t'.history)
 
 talk_is : (s t s' t' : State) (x : Talk) → IsQuiet s → IsQuiet t → IsExchange s t s' t' x → IsTalk s t s' t' x
@@ -112,7 +112,7 @@ talk_is s t s' t' x qs qt e =
     record {
       reply = reply;
       server_sent = answered.1;
-      takes = ap (taken_in s) (sym ops) ∙ f.taken;
+      takes = ap (all_taken_in s) (sym ops) ∙ f.taken;
       server_took = f.received ∙ ap length ops;
     }
 
@@ -151,9 +151,9 @@ agreeing_sites_meet s t s' t' x qs qt agree e =
 not_spoiled : (len : ℕ) (m : Measure) (offset : ℕ) (cause : PeerCause) → m ≡ message.Whole len → Spoils len m offset cause → ⊥
 not_spoiled len m offset cause is spoils = let of_whole = subst (λ (x : Measure). Spoils len x offset cause) is spoils in of_whole.0 refl
 
-not_refused : (s t' u : State) (os ps : List OpData) (why : Refusal) → taken_in s os ≡ Ok u → ps ≡ os → IsRefusedAt s ps t' why → ⊥
+not_refused : (s t' u : State) (os ps : List OpData) (why : Refusal) → all_taken_in s os ≡ Ok u → ps ≡ os → IsRefusedAt s ps t' why → ⊥
 not_refused s t' u os ps why takes same r =
-    let never : Err why ≡ Ok u = sym (refused_is s ps t' why r) ∙ (ap (taken_in s) same ∙ takes) in cc
+    let never : Err why ≡ Ok u = sym (refused_is s ps t' why r) ∙ (ap (all_taken_in s) same ∙ takes) in cc
 
 unread_first : (bytes : List ℕ) (why : Peer) → IsWhole First bytes → IsUnread First bytes why → why ≡ peer.Memory
 unread_first bytes (peer.Bytes offset cause) whole is = absurd (not_spoiled (length bytes) (measure_of First bytes) offset cause whole is)
@@ -161,7 +161,7 @@ unread_first bytes (peer.Op member verdict) whole is = absurd is
 unread_first bytes peer.Memory whole is = refl
 
 pub unclosed_why : (t t' u : State) (second : List ℕ) (c : ContextData) (os : List OpData) (why : Peer) → IsSecond second c os
-    → taken_in t os ≡ Ok u → IsUnclosed t second t' why → why ≡ peer.Memory
+    → all_taken_in t os ≡ Ok u → IsUnclosed t second t' why → why ≡ peer.Memory
 unclosed_why t t' u second c os (peer.Bytes offset cause) is takes why =
     absurd (not_spoiled (length second) (measure_of Second second) offset cause (messages_are_whole.second second c os is) why.1)
 unclosed_why t t' u second c os (peer.Op member verdict) is takes why =
@@ -169,7 +169,7 @@ unclosed_why t t' u second c os (peer.Op member verdict) is takes why =
     (messages_tell_one_thing.second second why.0 c why.1 os why.2 is) why.3)
 unclosed_why t t' u second c os peer.Memory is takes why = refl
 
-pub unfinished_why : (s s' u : State) (third : List ℕ) (os : List OpData) (why : Peer) → IsThird third os → taken_in s os ≡ Ok u
+pub unfinished_why : (s s' u : State) (third : List ℕ) (os : List OpData) (why : Peer) → IsThird third os → all_taken_in s os ≡ Ok u
     → IsUnfinished s third s' why → why ≡ peer.Memory
 unfinished_why s s' u third os (peer.Bytes offset cause) is takes why =
     absurd (not_spoiled (length third) (measure_of Third third) offset cause (messages_are_whole.third third os is) why.1)
@@ -202,13 +202,13 @@ module _ (s t : State) (ss : IsSound s) (st : IsSound t) (agree : AgreeInAll s t
       either u z (inl old) = Contains-append_left u.history u.waiting z old
       either u z (inr held) = Contains-append_right u.history u.waiting z held
 
-  joiner_takes : (t' : State) × (taken_in t (unseen (is_known t.history) s.history) ≡ Ok t')
+  joiner_takes : (t' : State) × (all_taken_in t (unseen (is_known t.history) s.history) ≡ Ok t')
   joiner_takes =
       lacked_operations_are_taken t s.history st ss.history
       (λ y x n bt at js is. sym (one_content x y n (inl at) (inl bt) is js))
       (λ y x n bt at js is. sym (one_content x y n (inl (unseen_contains (is_known t.history) s.history x at)) (inr bt) is js))
 
-  module _ (t' : State) (takes : taken_in t (unseen (is_known t.history) s.history) ≡ Ok t') (valid : IsValid t'.history) where
+  module _ (t' : State) (takes : all_taken_in t (unseen (is_known t.history) s.history) ≡ Ok t') (valid : IsValid t'.history) where
     -- what the joiner then has was there, or is the server's
     origin : (y : OpData) → Contains t'.history y → (Contains t.history y ⊎ Contains t.waiting y) ⊎ Contains s.history y
     origin y bt =
@@ -218,7 +218,7 @@ module _ (s t : State) (ss : IsSound s) (st : IsSound t) (agree : AgreeInAll s t
           | inr (inr came) ↦ inr (unseen_contains (is_known t.history) s.history y came)
         ]
 
-    server_takes : (s' : State) × (taken_in s (unseen (is_known s.history) t'.history) ≡ Ok s')
+    server_takes : (s' : State) × (all_taken_in s (unseen (is_known s.history) t'.history) ≡ Ok s')
     server_takes =
         lacked_operations_are_taken s t'.history ss valid
         (λ x y n at bt is js. elim (origin y bt) [

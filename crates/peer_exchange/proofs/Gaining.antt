@@ -14,7 +14,7 @@ use Rattle.cot_site.specs.Sites.{AllFormed}
 use Rattle.peer_exchange.specs.Joins.{unseen}
 use Rattle.wire_codec.specs.Spelling.{frame}
 use Rattle.peer_exchange.specs.Messages.{end_mark, IsSecond, IsThird, IsAnswered}
-use Rattle.peer_exchange.specs.Taking.{taken_in}
+use Rattle.peer_exchange.specs.Taking.{all_taken_in}
 use Rattle.peer_exchange.specs.Closing.{IsClosed, IsFinished}
 use Rattle.peer_exchange.specs.Exchanges.{Talk}
 use Rattle.peer_exchange.specs.Gaining.{HasGained, TakingInGains, Meanwhile, IsExchangeMeanwhile, HaveGained, EditingMeanwhileLosesNothing}
@@ -31,7 +31,7 @@ original_there h (inserting n p ch c) original there = there.same n refl
 original_there h (deleting n p c) original there = there.same n refl
 original_there h (undoing a t g c) original there = absurd (let never = original in cc)
 
-gained : (s t : State) (os : List OpData) → IsSound s → AllFormed os → taken_in s os ≡ Ok t → HasGained s t os
+gained : (s t : State) (os : List OpData) → IsSound s → AllFormed os → all_taken_in s os ≡ Ok t → HasGained s t os
 gained s t os sound formed e =
     let come = comes_taken s t os e in
     record {
@@ -46,12 +46,12 @@ closed_gains : (s t : State) (second before now : List ℕ) (counts : ℕ × ℕ
     → IsSecond second state os → IsClosed s second t before now counts → HasGained s t os
 closed_gains s t second before now counts state os sound read c =
     gained s t os sound read.formed
-    (ap (taken_in s) (messages_tell_one_thing.second second state c.state os c.ops read c.read) ∙ c.taken)
+    (ap (all_taken_in s) (messages_tell_one_thing.second second state c.state os c.ops read c.read) ∙ c.taken)
 
 finished_gains : (s t : State) (third : List ℕ) (count : ℕ) (os : List OpData) → IsSound s → IsThird third os
     → IsFinished s third t count → HasGained s t os
 finished_gains s t third count os sound read f =
-    gained s t os sound read.formed (ap (taken_in s) (messages_tell_one_thing.third third os f.ops read f.read) ∙ f.taken)
+    gained s t os sound read.formed (ap (all_taken_in s) (messages_tell_one_thing.third third os f.ops read f.read) ∙ f.taken)
 
 pub taking_in_gains : TakingInGains
 taking_in_gains = record { closed = closed_gains; finished = finished_gains }

@@ -21,7 +21,7 @@ use Rattle.cot_site.specs.Releases.{IsSound, IsLater, settled}
 use Rattle.cot_site.proofs.CallerLemmas.{group_reached, next_integrated, verdicts_exact}
 use Rattle.participant.specs.Taking.{is_had}
 use Rattle.peer_exchange.specs.Joins.{unseen}
-use Rattle.peer_exchange.specs.Taking.{taken_in, LackedOperationsAreTaken}
+use Rattle.peer_exchange.specs.Taking.{all_taken_in, LackedOperationsAreTaken}
 use Rattle.peer_exchange.proofs.Unseen.{unseen_contains, unseen_old, unseen_new}
 use Rattle.peer_exchange.proofs.FirstTaken.{taken_none, taken_first}
 use Rattle.peer_exchange.proofs.Receivings.{taken_append}
@@ -72,7 +72,7 @@ module _ (s : State) (p : List OpData) (sound : IsSound s) (w : IsValid p) (agre
   -- what the site lacks of the first operations is taken in, and then it has all of these
   record Took (q : List OpData) : Type 0 where
     t : State
-    taken : taken_in s (unseen (is_known s.history) q) ≡ Ok t
+    taken : all_taken_in s (unseen (is_known s.history) q) ≡ Ok t
     knows : (m : Member) → is_known q m ≡ true → is_known t.history m ≡ true
 
   module _ (q : List OpData) (v : IsValid q) (within : (x : OpData) → Contains q x → Contains p x) (took : Took q) where
@@ -153,7 +153,7 @@ module _ (s : State) (p : List OpData) (sound : IsSound s) (w : IsValid p) (agre
       took_new : Took (q ++ o ∷ [])
       took_new = record {
         t = settled (delivered took.t o);
-        taken = ap (taken_in s) (unseen_new (is_known s.history) q o new)
+        taken = ap (all_taken_in s) (unseen_new (is_known s.history) q o new)
             ∙ (taken_append s took.t (unseen (is_known s.history) q) (o ∷ []) took.taken
             ∙ (taken_first took.t o [] had ∙ taken_none (settled (delivered took.t o))));
         knows = λ m e. elim (or_cases (is_known q m) (member_eq (member_of o) m) (sym (known_push q o m) ∙ e)) [
@@ -170,7 +170,7 @@ module _ (s : State) (p : List OpData) (sound : IsSound s) (w : IsValid p) (agre
     took_old : (o : OpData) → is_known s.history (member_of o) ≡ true → Took (q ++ o ∷ [])
     took_old o known = record {
       t = took.t;
-      taken = ap (taken_in s) (unseen_old (is_known s.history) q o known ∙ append-nil (unseen (is_known s.history) q)) ∙ took.taken;
+      taken = ap (all_taken_in s) (unseen_old (is_known s.history) q o known ∙ append-nil (unseen (is_known s.history) q)) ∙ took.taken;
       knows = λ m e. elim (or_cases (is_known q m) (member_eq (member_of o) m) (sym (known_push q o m) ∙ e)) [
         | inl old ↦ took.knows m old
         | inr same ↦ ap (is_known took.t.history) (sym (member_same (member_of o) m same))

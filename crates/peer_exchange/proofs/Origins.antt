@@ -13,7 +13,7 @@ use Rattle.cot_site.specs.States.{State, Released, held, judged, delivered, afte
 use Rattle.cot_site.specs.States.{without_waiting, delivered_again}
 use Rattle.cot_site.specs.Releases.{and_more, releases, state_after, settled}
 use Rattle.cot_site.proofs.CallerLemmas.{got_there}
-use Rattle.peer_exchange.specs.Taking.{taken_in}
+use Rattle.peer_exchange.specs.Taking.{all_taken_in}
 use Rattle.peer_exchange.proofs.FirstTaken.{same_after_none, first_taken}
 
 pub record ComesFrom (s t : State) (os : List OpData) : Type 0 where
@@ -145,7 +145,7 @@ comes_by_one s o =
     comes_on s d (settled d) (o ∷ []) [] (o ∷ []) (λ x at. at) (λ x at. absurd (contains_none x at)) (comes_delivered s o)
     (comes_settled (length d.waiting) d)
 
-pub comes_taken : (s t : State) (os : List OpData) → taken_in s os ≡ Ok t → ComesFrom s t os
+pub comes_taken : (s t : State) (os : List OpData) → all_taken_in s os ≡ Ok t → ComesFrom s t os
 comes_taken s t [] e = subst (λ (x : State). ComesFrom s x []) (same_after_none s t e) (comes_same s [])
 comes_taken s t (o ∷ os) e =
     comes_on s (settled (delivered s o)) t (o ∷ []) os (o ∷ os) here (λ x at. contains_later o os x at) (comes_by_one s o)

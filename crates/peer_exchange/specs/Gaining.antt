@@ -12,19 +12,20 @@ use Rattle.peer_exchange.specs.Exchanges.{Talk}
 
 -- Gained: the old history is the first part of the new one, which has the member of each of these operations, and each original among
 -- them with its content; whatever is there or waits was there, waited, or is one of these
-pub record HasGained (s t : State) (os : List OpData) : Type 0 where
-  pub later : IsLater s t
-  pub members : (o : OpData) → Contains os o → is_known t.history (member_of o) ≡ true
-  pub originals : (o : OpData) → Contains os o → is_original o ≡ true → Contains t.history o
-  pub history : (o : OpData) → Contains t.history o → Contains s.history o ⊎ (Contains s.waiting o ⊎ Contains os o)
-  pub waiting : (o : OpData) → Contains t.waiting o → Contains s.waiting o ⊎ Contains os o
+pub record HasGained (site site_after : State) (os : List OpData) : Type 0 where
+  pub later : IsLater site site_after
+  pub members : (o : OpData) → Contains os o → is_known site_after.history (member_of o) ≡ true
+  pub originals : (o : OpData) → Contains os o → is_original o ≡ true → Contains site_after.history o
+  pub history : (o : OpData) → Contains site_after.history o → Contains site.history o ⊎ (Contains site.waiting o ⊎ Contains os o)
+  pub waiting : (o : OpData) → Contains site_after.waiting o → Contains site.waiting o ⊎ Contains os o
 
 -- a site gains the operations of the message that it takes in, also where operations wait
 pub record TakingInGains : Type 0 where
-  pub closed : (s t : State) (second before now : List ℕ) (counts : ℕ × ℕ) (state : ContextData) (os : List OpData) → IsSound s
-      → IsSecond second state os → IsClosed s second t before now counts → HasGained s t os
-  pub finished : (s t : State) (third : List ℕ) (count : ℕ) (os : List OpData) → IsSound s → IsThird third os
-      → IsFinished s third t count → HasGained s t os
+  pub closed : (joiner joiner_after : State) (second before now : List ℕ) (counts : ℕ × ℕ) (state : ContextData) (os : List OpData)
+      → IsSound joiner → IsSecond second state os → IsClosed joiner second joiner_after before now counts
+      → HasGained joiner joiner_after os
+  pub finished : (server server_after : State) (third : List ℕ) (count : ℕ) (os : List OpData)
+      → IsSound server → IsThird third os → IsFinished server third server_after count → HasGained server server_after os
 
 -- one side of an exchange: its state when it told what it has, a later one at which it took in the other's operations, and the one
 -- after that

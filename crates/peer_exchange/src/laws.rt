@@ -1,11 +1,14 @@
 //! Laws of joins, of taking in, and of whole exchanges: each says what its definitions give, and does nothing.
 
-ghost use Rattle.peer_exchange.specs.Joins.{JoinsAreValid, LackedOperationsAreNext, EqualMembersAreAlike, BothSidesAreJoined, JoinsCommute, JoinsAssociate, JoinsAreIdempotent, AnyExchangesMeet};
-ghost use Rattle.peer_exchange.specs.Taking.{NextOperationsAreTaken, BothSidesTakeAll, NewOperationsAreAppended, UnrefusedExchangesJoin, TakingInKeepsHistories, LackedOperationsAreTaken};
+ghost use Rattle.peer_exchange.specs.Joins.{JoinsAreValid, LackedOperationsAreNext, EqualMembersAreAlike, BothSidesAreJoined};
+ghost use Rattle.peer_exchange.specs.Joins.{JoinsCommute, JoinsAssociate, JoinsAreIdempotent, AnyExchangesMeet};
+ghost use Rattle.peer_exchange.specs.Taking.{NextOperationsAreTaken, BothSidesTakeAll, NewOperationsAreAppended, UnrefusedExchangesJoin};
+ghost use Rattle.peer_exchange.specs.Taking.{TakingInKeepsHistories, LackedOperationsAreTaken};
 ghost use Rattle.peer_exchange.specs.GoingOn.{GoingOnAfterMemory};
 ghost use Rattle.peer_exchange.specs.Again.{ClosingAgainChangesNothing, ClosingLaterChangesNothing};
 ghost use Rattle.peer_exchange.specs.Gaining.{TakingInGains, EditingMeanwhileLosesNothing};
-ghost use Rattle.peer_exchange.specs.Exchanges.{MessagesAreWhole, MessagesTellOneThing, UnrefusedCallsJoin, AgreeingSitesMeet, AgreeingSitesAreNotRefused, SecondExchangesAreEmpty};
+ghost use Rattle.peer_exchange.specs.Exchanges.{MessagesAreWhole, MessagesTellOneThing, UnrefusedCallsJoin, AgreeingSitesMeet};
+ghost use Rattle.peer_exchange.specs.Exchanges.{AgreeingSitesAreNotRefused, SecondExchangesAreEmpty};
 ghost use Rattle.peer_exchange.specs.Lengths.{ShortHistoriesHaveShortMessages};
 
 /// The join of valid histories that agree is valid.
