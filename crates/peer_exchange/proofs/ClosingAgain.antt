@@ -22,7 +22,7 @@ use Rattle.peer_exchange.proofs.FirstTaken.{same_after_none, taken_none}
 use Rattle.peer_exchange.proofs.Later.{taking_in_keeps_histories}
 use Rattle.peer_exchange.proofs.OneThing.{messages_tell_one_thing}
 use Rattle.peer_exchange.proofs.Again.{Has, has_on, judged_repeat, repeats_pass, taken_again, taken_has, some_settle}
-use Rattle.peer_exchange.proofs.Exchanging.{unclosed_why, unfinished_why}
+use Rattle.peer_exchange.proofs.NotRefused.{unclosed_why, unfinished_why}
 
 one_end : (s t u : State) (os : List OpData) → all_taken_in s os ≡ Ok t → all_taken_in s os ≡ Ok u → u ≡ t
 one_end s t u os e f = let same : ◌≡◌ {A = Result State Refusal} (Ok u) (Ok t) = sym f ∙ e in cc

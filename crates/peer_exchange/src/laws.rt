@@ -6,7 +6,7 @@ ghost use Rattle.peer_exchange.specs.Taking.{NextOperationsAreTaken, BothSidesTa
 ghost use Rattle.peer_exchange.specs.Taking.{TakingInKeepsHistories, LackedOperationsAreTaken};
 ghost use Rattle.peer_exchange.specs.GoingOn.{GoingOnAfterMemory};
 ghost use Rattle.peer_exchange.specs.Again.{ClosingAgainChangesNothing, ClosingLaterChangesNothing};
-ghost use Rattle.peer_exchange.specs.Gaining.{TakingInGains, EditingMeanwhileLosesNothing};
+ghost use Rattle.peer_exchange.specs.Gaining.{TakingInGains, EditingMeanwhileLosesNothing, EditingMeanwhileIsNotRefused};
 ghost use Rattle.peer_exchange.specs.Exchanges.{MessagesAreWhole, MessagesTellOneThing, UnrefusedCallsJoin, AgreeingSitesMeet};
 ghost use Rattle.peer_exchange.specs.Exchanges.{AgreeingSitesAreNotRefused, SecondExchangesAreEmpty};
 ghost use Rattle.peer_exchange.specs.Lengths.{ShortHistoriesHaveShortMessages};
@@ -147,4 +147,10 @@ pub fn taking_in_gains()
 /// the joiner has after it closed, and each keeps what it did meanwhile.
 pub fn editing_meanwhile_loses_nothing()
     ensures { EditingMeanwhileLosesNothing }
+{}
+
+/// Where besides no name has one content at the one side and other content at the other when they take in, each of these calls
+/// refuses only when it is out of memory.
+pub fn editing_meanwhile_is_not_refused()
+    ensures { EditingMeanwhileIsNotRefused }
 {}
