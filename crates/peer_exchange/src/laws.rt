@@ -138,7 +138,7 @@ pub fn closing_later_changes_nothing()
 {}
 
 /// Also where operations wait, a site that took in a message keeps its history, and has the member of each operation of the message, and
-/// each insert and delete itself; whatever else is new there waited before.
+/// each insert and delete itself; whatever else is new there waited before, and so did whatever waits then.
 pub fn taking_in_gains()
     ensures { TakingInGains }
 {}
