@@ -19,7 +19,7 @@ use Rattle.cot_site.specs.Sites.{AllFormed}
 use Rattle.cot_site.proofs.CallerLemmas.{group_reached, settled_settles, settled_stays, sound_along, sound_delivered, unknown_no_repeat}
 use Rattle.cot_site.proofs.CallerLemmas.{verdicts_exact, after_append, after_more, after_none, later_on}
 use Rattle.participant.specs.Taking.{is_had}
-use Rattle.peer_exchange.specs.Taking.{taken_in, IsPartlyTaken, IsBefore, IsOnTheWay}
+use Rattle.peer_exchange.specs.Taking.{all_taken_in, IsPartlyTaken, IsBefore, IsOnTheWay}
 use Rattle.peer_exchange.proofs.FirstTaken.{had_cases, same_after_none, taken_first, first_taken}
 use Rattle.peer_exchange.proofs.LackedTaken.{known_later, has_later}
 use Rattle.peer_exchange.proofs.Later.{later_delivered, later_settled, settled_later, taking_in_keeps_histories}
@@ -80,7 +80,7 @@ had_has s o sound formed had = elim (had_cases (judged s o) had) [
 all_behind : (o : OpData) (os : List OpData) → AllFormed (o ∷ os) → AllFormed os
 all_behind o os formed p at = formed p (contains_later o os p at)
 
-pub taken_has : (s t : State) (os : List OpData) → IsSound s → AllFormed os → taken_in s os ≡ Ok t → (o : OpData) → Contains os o
+pub taken_has : (s t : State) (os : List OpData) → IsSound s → AllFormed os → all_taken_in s os ≡ Ok t → (o : OpData) → Contains os o
     → Has t.history o
 taken_has s t [] sound formed e o at = absurd (contains_none o at)
 taken_has s t (p ∷ os) sound formed e o at =
@@ -97,7 +97,7 @@ taken_has s t (p ∷ os) sound formed e o at =
     ]
 
 -- and nothing is ready then
-taken_settled : (s t : State) (os : List OpData) → IsSound s → AllFormed os → IsSettled s → taken_in s os ≡ Ok t → IsSettled t
+taken_settled : (s t : State) (os : List OpData) → IsSound s → AllFormed os → IsSettled s → all_taken_in s os ≡ Ok t → IsSettled t
 taken_settled s t [] sound formed settles e = subst IsSettled (same_after_none s t e) settles
 taken_settled s t (o ∷ os) sound formed settles e =
     let fine = formed o (contains_here o os) in
@@ -106,7 +106,8 @@ taken_settled s t (o ∷ os) sound formed settles e =
     (settled_settles (delivered s o) (sound_delivered s o sound fine)) first.1
 
 -- whatever was ready before
-pub some_settle : (s t : State) (o : OpData) (os : List OpData) → IsSound s → AllFormed (o ∷ os) → taken_in s (o ∷ os) ≡ Ok t → IsSettled t
+pub some_settle : (s t : State) (o : OpData) (os : List OpData) → IsSound s → AllFormed (o ∷ os) → all_taken_in s (o ∷ os) ≡ Ok t
+    → IsSettled t
 some_settle s t o os sound formed e =
     let fine = formed o (contains_here o os) in
     taken_settled (settled (delivered s o)) t os (later_settled s o sound fine).0 (all_behind o os formed)
@@ -114,18 +115,18 @@ some_settle s t o os sound formed e =
 
 -- ---- repeats once more
 
-repeat_first : (t : State) (o : OpData) (os : List OpData) → judged t o ≡ Repeat → taken_in t (o ∷ os) ≡ taken_in (settled t) os
+repeat_first : (t : State) (o : OpData) (os : List OpData) → judged t o ≡ Repeat → all_taken_in t (o ∷ os) ≡ all_taken_in (settled t) os
 repeat_first t o os is =
     let same : delivered t o ≡ t = ap (λ (x : Verdict). after_verdict x o t) is in
-    taken_first t o os (ap is_had is) ∙ ap (λ (y : State). taken_in (settled y) os) same
+    taken_first t o os (ap is_had is) ∙ ap (λ (y : State). all_taken_in (settled y) os) same
 
 pub repeats_pass : (u : State) (xs os : List OpData) → IsSound u → IsSettled u → AllFormed xs
     → ((o : OpData) → Contains xs o → Has u.history o)
-    → taken_in u (xs ++ os) ≡ taken_in u os
+    → all_taken_in u (xs ++ os) ≡ all_taken_in u os
 repeats_pass u [] os sound settles formed has = refl
 repeats_pass u (o ∷ xs) os sound settles formed has =
     repeat_first u o (xs ++ os) (judged_repeat u o sound (formed o (contains_here o xs)) (has o (contains_here o xs)))
-    ∙ (ap (λ (t : State). taken_in t (xs ++ os)) (settled_stays u settles)
+    ∙ (ap (λ (t : State). all_taken_in t (xs ++ os)) (settled_stays u settles)
     ∙ repeats_pass u xs os sound settles (all_behind o xs formed) (λ p at. has p (contains_later o xs p at)))
 
 -- all releases of a sound state leave a later one
@@ -135,7 +136,7 @@ settled_is t sound = sound_along (length t.waiting) t (all_releases t) [] sound 
 -- the first repeat lets go what is ready, and the others change nothing
 repeats_settle : (t : State) (o : OpData) (xs os : List OpData) → IsSound t → AllFormed (o ∷ xs)
     → ((p : OpData) → Contains (o ∷ xs) p → Has t.history p)
-    → taken_in t ((o ∷ xs) ++ os) ≡ taken_in (settled t) os
+    → all_taken_in t ((o ∷ xs) ++ os) ≡ all_taken_in (settled t) os
 repeats_settle t o xs os sound formed has =
     let u = settled_is t sound in
     repeat_first t o (xs ++ os) (judged_repeat t o sound (formed o (contains_here o xs)) (has o (contains_here o xs)))
@@ -195,8 +196,8 @@ left_settles d done left sound parts =
 -- ---- on the way
 
 -- some operations were taken in, and no more
-pub taken_again : (s at : State) (before behind : List OpData) → IsSound s → AllFormed before → taken_in s before ≡ Ok at
-    → taken_in at (before ++ behind) ≡ taken_in at behind
+pub taken_again : (s at : State) (before behind : List OpData) → IsSound s → AllFormed before → all_taken_in s before ≡ Ok at
+    → all_taken_in at (before ++ behind) ≡ all_taken_in at behind
 taken_again s at [] behind sound formed e = refl
 taken_again s at (o ∷ before) behind sound formed e =
     let later = taking_in_keeps_histories s at (o ∷ before) sound formed e in
@@ -206,15 +207,15 @@ taken_again s at (o ∷ before) behind sound formed e =
 -- all operations of the front that are there again are repeats, the first of which lets go what is ready
 front_again : (t : State) (before : List OpData) (o : OpData) (os : List OpData) → IsSound t → AllFormed (before ++ o ∷ [])
     → ((p : OpData) → Contains (before ++ o ∷ []) p → Has t.history p)
-    → taken_in t (before ++ o ∷ os) ≡ taken_in (settled t) os
+    → all_taken_in t (before ++ o ∷ os) ≡ all_taken_in (settled t) os
 front_again t [] o os sound formed has = repeats_settle t o [] os sound formed has
 front_again t (p ∷ before) o os sound formed has =
-    ap (taken_in t) (sym (append_assoc (p ∷ before) (o ∷ []) os)) ∙ repeats_settle t p (before ++ o ∷ []) os sound formed has
+    ap (all_taken_in t) (sym (append_assoc (p ∷ before) (o ∷ []) os)) ∙ repeats_settle t p (before ++ o ∷ []) os sound formed has
 
 -- the first of those after it was taken in in part
 partly_again : (s at t : State) (before : List OpData) (o : OpData) (os : List OpData) → IsSound s → AllFormed (before ++ o ∷ os)
-    → taken_in s before ≡ Ok at
-    → IsPartlyTaken at o t → taken_in t (before ++ o ∷ os) ≡ taken_in at (o ∷ os)
+    → all_taken_in s before ≡ Ok at
+    → IsPartlyTaken at o t → all_taken_in t (before ++ o ∷ os) ≡ all_taken_in at (o ∷ os)
 partly_again s at t before o os sound formed e p =
     let front : AllFormed before = λ q there. formed q (Contains-append_left before (o ∷ os) q there) in
     let fine : IsWellFormed o = formed o (Contains-append_right before (o ∷ os) o (contains_here o os)) in
@@ -244,24 +245,24 @@ partly_again s at t before o os sound formed e p =
       ]
     ] in
     front_again t before o os sound_t all has
-    ∙ (ap (λ (x : State). taken_in x os) (ap settled half.state ∙ left_settles d half.done half.left sound_d half.parts)
+    ∙ (ap (λ (x : State). all_taken_in x os) (ap settled half.state ∙ left_settles d half.done half.left sound_d half.parts)
     ∙ sym (taken_first at o os had))
 
 reached_again : (s at t : State) (before behind : List OpData) → IsSound s → AllFormed (before ++ behind)
-    → taken_in s before ≡ Ok at → IsBefore at behind t
-    → taken_in t (before ++ behind) ≡ taken_in at behind
+    → all_taken_in s before ≡ Ok at → IsBefore at behind t
+    → all_taken_in t (before ++ behind) ≡ all_taken_in at behind
 reached_again s at t before [] sound formed e is =
-    ap (λ (x : State). taken_in x (before ++ [])) is
+    ap (λ (x : State). all_taken_in x (before ++ [])) is
     ∙ taken_again s at before [] sound (λ o there. formed o (Contains-append_left before [] o there)) e
 reached_again s at t before (o ∷ os) sound formed e (inl is) =
-    ap (λ (x : State). taken_in x (before ++ o ∷ os)) is
+    ap (λ (x : State). all_taken_in x (before ++ o ∷ os)) is
     ∙ taken_again s at before (o ∷ os) sound (λ q there. formed q (Contains-append_left before (o ∷ os) q there)) e
 reached_again s at t before (o ∷ os) sound formed e (inr p) = partly_again s at t before o os sound formed e p
 
 -- at a state on the way through these operations they are taken in as at the state before
-pub way_again : (s t : State) (os : List OpData) → IsSound s → AllFormed os → IsOnTheWay s os t → taken_in t os ≡ taken_in s os
+pub way_again : (s t : State) (os : List OpData) → IsSound s → AllFormed os → IsOnTheWay s os t → all_taken_in t os ≡ all_taken_in s os
 way_again s t os sound formed w =
     let all : AllFormed (w.before ++ w.behind) = subst AllFormed w.parts formed in
-    ap (taken_in t) w.parts
+    ap (all_taken_in t) w.parts
     ∙ (reached_again s w.at t w.before w.behind sound all w.taken w.reached
-    ∙ (sym (taken_append s w.at w.before w.behind w.taken) ∙ ap (taken_in s) (sym w.parts)))
+    ∙ (sym (taken_append s w.at w.before w.behind w.taken) ∙ ap (all_taken_in s) (sym w.parts)))

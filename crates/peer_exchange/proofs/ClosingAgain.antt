@@ -15,16 +15,16 @@ use Rattle.peer_exchange.specs.declared.peer.Peer.{Peer}
 use Rattle.peer_exchange.specs.declared.peer.Peer.TheVariants as peer
 use Rattle.peer_exchange.specs.Joins.{unseen}
 use Rattle.peer_exchange.specs.Messages.{third_message, IsSecond, IsThird}
-use Rattle.peer_exchange.specs.Taking.{Refusal, taken_in, IsPartlyTaken, IsBefore, IsOnTheWay}
+use Rattle.peer_exchange.specs.Taking.{Refusal, all_taken_in, IsPartlyTaken, IsBefore, IsOnTheWay}
 use Rattle.peer_exchange.specs.Closing.{IsClosed, IsFinished, IsUnclosed, IsUnfinished}
 use Rattle.peer_exchange.specs.Again.{IsClosedAgain, ClosingAgainChangesNothing, ClosingLaterChangesNothing}
 use Rattle.peer_exchange.proofs.FirstTaken.{same_after_none, taken_none}
 use Rattle.peer_exchange.proofs.Later.{taking_in_keeps_histories}
 use Rattle.peer_exchange.proofs.OneThing.{messages_tell_one_thing}
 use Rattle.peer_exchange.proofs.Again.{Has, has_on, judged_repeat, repeats_pass, taken_again, taken_has, some_settle}
-use Rattle.peer_exchange.proofs.Exchanging.{unclosed_why, unfinished_why}
+use Rattle.peer_exchange.proofs.NotRefused.{unclosed_why, unfinished_why}
 
-one_end : (s t u : State) (os : List OpData) → taken_in s os ≡ Ok t → taken_in s os ≡ Ok u → u ≡ t
+one_end : (s t u : State) (os : List OpData) → all_taken_in s os ≡ Ok t → all_taken_in s os ≡ Ok u → u ≡ t
 one_end s t u os e f = let same : ◌≡◌ {A = Result State Refusal} (Ok u) (Ok t) = sym f ∙ e in cc
 
 front_none : {X : Type 0} (xs ys : List X) → xs ++ ys ≡ [] → xs ≡ []
@@ -37,9 +37,9 @@ module _ (t : State) (sound : IsSound t) (settles : IsSettled t) where
   abbrev HasAll : List OpData → Type 0
   HasAll os = (o : OpData) → Contains os o → Has t.history o
 
-  had_stay : (os : List OpData) → AllFormed os → HasAll os → taken_in t os ≡ Ok t
+  had_stay : (os : List OpData) → AllFormed os → HasAll os → all_taken_in t os ≡ Ok t
   had_stay os formed are =
-      ap (taken_in t) (sym (append-nil os)) ∙ (repeats_pass t os [] sound settles formed are ∙ taken_none t)
+      ap (all_taken_in t) (sym (append-nil os)) ∙ (repeats_pass t os [] sound settles formed are ∙ taken_none t)
 
   -- nothing is released, so that memory doesn't run out among the releases
   never_in_part : (o : OpData) (u : State) → IsWellFormed o → Has t.history o → IsPartlyTaken t o u → ⊥
@@ -71,19 +71,19 @@ module _ (t : State) (sound : IsSound t) (settles : IsSettled t) where
 none_stays : (t u : State) → IsOnTheWay t [] u → u ≡ t
 none_stays t u w = go w.before w.behind w.parts w.taken w.reached
   where
-    go : (before behind : List OpData) → [] ≡ before ++ behind → taken_in t before ≡ Ok w.at → IsBefore w.at behind u → u ≡ t
+    go : (before behind : List OpData) → [] ≡ before ++ behind → all_taken_in t before ≡ Ok w.at → IsBefore w.at behind u → u ≡ t
     go [] [] e taken is = is ∙ sym (same_after_none t w.at taken)
     go [] (o ∷ behind) e taken is = absurd (let never = e in cc)
     go (o ∷ before) behind e taken is = absurd (let never = e in cc)
 
-module _ (s t : State) (os : List OpData) (sound : IsSound s) (formed : AllFormed os) (taken : taken_in s os ≡ Ok t) where
-  pub taken_stays : taken_in t os ≡ Ok t
-  taken_stays = ap (taken_in t) (sym (append-nil os)) ∙ (taken_again s t os [] sound formed taken ∙ taken_none t)
+module _ (s t : State) (os : List OpData) (sound : IsSound s) (formed : AllFormed os) (taken : all_taken_in s os ≡ Ok t) where
+  pub taken_stays : all_taken_in t os ≡ Ok t
+  taken_stays = ap (all_taken_in t) (sym (append-nil os)) ∙ (taken_again s t os [] sound formed taken ∙ taken_none t)
 
   taken_way_stays : (u : State) → IsOnTheWay t os u → u ≡ t
   taken_way_stays = go os formed taken
     where
-      go : (ps : List OpData) → AllFormed ps → taken_in s ps ≡ Ok t → (u : State) → IsOnTheWay t ps u → u ≡ t
+      go : (ps : List OpData) → AllFormed ps → all_taken_in s ps ≡ Ok t → (u : State) → IsOnTheWay t ps u → u ≡ t
       go [] fine e u w = none_stays t u w
       go (p ∷ ps) fine e u w =
           way_stays t (taking_in_keeps_histories s t (p ∷ ps) sound fine e).0 (some_settle s t p ps sound fine e) (p ∷ ps) u fine
@@ -93,7 +93,7 @@ module _ (s t : State) (os : List OpData) (sound : IsSound s) (formed : AllForme
     has_then : (o : OpData) → Contains os o → Has l.history o
     has_then o at = has_on t l o later (taken_has s t os sound formed taken o at)
 
-    later_stays : taken_in l os ≡ Ok l
+    later_stays : all_taken_in l os ≡ Ok l
     later_stays = had_stay l fine settles os formed has_then
 
     later_way_stays : (u : State) → IsOnTheWay l os u → u ≡ l
@@ -103,14 +103,14 @@ module _ (s t : State) (os : List OpData) (sound : IsSound s) (formed : AllForme
 
 -- a state at which taking them in changes nothing
 record Stays (t : State) (os : List OpData) : Type 0 where
-  taken : taken_in t os ≡ Ok t
+  taken : all_taken_in t os ≡ Ok t
   way : (u : State) → IsOnTheWay t os u → u ≡ t
 
 still_closed : (t u : State) (second again after : List ℕ) (state : ContextData) (os : List OpData) (others : ℕ × ℕ)
     → IsSecond second state os → Stays t os → IsClosed t second u again after others → u ≡ t
 still_closed t u second again after state os others read stays c =
     one_end t t u os stays.taken
-    (ap (taken_in t) (messages_tell_one_thing.second second state c.state os c.ops read c.read) ∙ c.taken)
+    (ap (all_taken_in t) (messages_tell_one_thing.second second state c.state os c.ops read c.read) ∙ c.taken)
 
 still_unclosed : (t u : State) (second : List ℕ) (state : ContextData) (os : List OpData) (why : Peer)
     → IsSecond second state os → Stays t os → IsUnclosed t second u why → (u ≡ t) × (why ≡ peer.Memory)
@@ -123,7 +123,7 @@ still_unclosed t u second state os why read stays is =
 still_finished : (t u : State) (third : List ℕ) (os : List OpData) (other : ℕ) → IsThird third os → Stays t os
     → IsFinished t third u other → u ≡ t
 still_finished t u third os other read stays f =
-    one_end t t u os stays.taken (ap (taken_in t) (messages_tell_one_thing.third third os f.ops read f.read) ∙ f.taken)
+    one_end t t u os stays.taken (ap (all_taken_in t) (messages_tell_one_thing.third third os f.ops read f.read) ∙ f.taken)
 
 still_unfinished : (t u : State) (third : List ℕ) (os : List OpData) (why : Peer) → IsThird third os → Stays t os
     → IsUnfinished t third u why → (u ≡ t) × (why ≡ peer.Memory)

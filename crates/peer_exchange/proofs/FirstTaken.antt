@@ -14,7 +14,7 @@ use Rattle.participant.specs.declared.taking.Untaken.{Untaken}
 use Rattle.participant.specs.declared.taking.Untaken.TheVariants as untaken
 use Rattle.participant.specs.Reached.{Reached, with_delivered, all_settled}
 use Rattle.participant.specs.Taking as one
-use Rattle.peer_exchange.specs.Taking.{Refusal, refused, with_taken, taken_in, IsBefore}
+use Rattle.peer_exchange.specs.Taking.{Refusal, refused, with_taken, all_taken_in, IsBefore}
 
 -- only of an integrated operation and of a repeat has the history the member
 pub had_cases : (v : Verdict) → one.is_had v ≡ true → (v ≡ Integrated) ⊎ (v ≡ Repeat)
@@ -32,31 +32,31 @@ reached_had a o had = ap (λ (b : Bool). cond b (all_settled (with_delivered a o
 reached_not_had : (a : Reached) (o : OpData) → one.is_had (judged a.state o) ≡ false → one.taken_in Had a o ≡ a
 reached_not_had a o not_had = ap (λ (b : Bool). cond b (all_settled (with_delivered a o)) a) not_had
 
-pub taken_none : (s : State) → taken_in s [] ≡ Ok s
-unfolding taken_in
+pub taken_none : (s : State) → all_taken_in s [] ≡ Ok s
+unfolding all_taken_in
 taken_none s = refl
 
-pub same_after_none : (s t : State) → taken_in s [] ≡ Ok t → s ≡ t
-unfolding taken_in
+pub same_after_none : (s t : State) → all_taken_in s [] ≡ Ok t → s ≡ t
+unfolding all_taken_in
 same_after_none s t e = cc
 
 -- where it is taken in, those after it are taken in at the state after it
 pub taken_first : (s : State) (o : OpData) (os : List OpData) → one.is_had (judged s o) ≡ true
-    → taken_in s (o ∷ os) ≡ taken_in (settled (delivered s o)) os
-unfolding taken_in
+    → all_taken_in s (o ∷ os) ≡ all_taken_in (settled (delivered s o)) os
+unfolding all_taken_in
 taken_first s o os had =
-    ap (λ (b : Bool). cond b (taken_in (with_taken s o) os) (Err (refused o (judged s o)))) had
-    ∙ ap (λ (a : Reached). taken_in a.state os) (reached_had (record { state = s; released = [] }) o had)
+    ap (λ (b : Bool). cond b (all_taken_in (with_taken s o) os) (Err (refused o (judged s o)))) had
+    ∙ ap (λ (a : Reached). all_taken_in a.state os) (reached_had (record { state = s; released = [] }) o had)
 
 -- and else it is refused by its verdict
 pub refused_first : (s : State) (o : OpData) (os : List OpData) → one.is_had (judged s o) ≡ false
-    → taken_in s (o ∷ os) ≡ Err (refused o (judged s o))
-unfolding taken_in
-refused_first s o os not_had = ap (λ (b : Bool). cond b (taken_in (with_taken s o) os) (Err (refused o (judged s o)))) not_had
+    → all_taken_in s (o ∷ os) ≡ Err (refused o (judged s o))
+unfolding all_taken_in
+refused_first s o os not_had = ap (λ (b : Bool). cond b (all_taken_in (with_taken s o) os) (Err (refused o (judged s o)))) not_had
 
 -- the same from what came of it
-pub first_taken : (s t : State) (o : OpData) (os : List OpData) → taken_in s (o ∷ os) ≡ Ok t
-    → (one.is_had (judged s o) ≡ true) × (taken_in (settled (delivered s o)) os ≡ Ok t)
+pub first_taken : (s t : State) (o : OpData) (os : List OpData) → all_taken_in s (o ∷ os) ≡ Ok t
+    → (one.is_had (judged s o) ≡ true) × (all_taken_in (settled (delivered s o)) os ≡ Ok t)
 first_taken s t o os e = elim (cases_Bool (one.is_had (judged s o))) [
   | inl had ↦ (had, sym (taken_first s o os had) ∙ e)
   | inr not_had ↦ absurd (let never : ◌≡◌ {A = Result State Refusal} (Err (refused o (judged s o)))
@@ -64,8 +64,8 @@ first_taken s t o os e = elim (cases_Bool (one.is_had (judged s o))) [
 ]
 
 -- a refusal is one whatever follows it
-pub still_refused : (s : State) (o : OpData) (os : List OpData) (why : Refusal) → taken_in s (o ∷ []) ≡ Err why
-    → taken_in s (o ∷ os) ≡ Err why
+pub still_refused : (s : State) (o : OpData) (os : List OpData) (why : Refusal) → all_taken_in s (o ∷ []) ≡ Err why
+    → all_taken_in s (o ∷ os) ≡ Err why
 still_refused s o os why e = elim (cases_Bool (one.is_had (judged s o))) [
   | inl had ↦
       let t = settled (delivered s o) in
@@ -76,7 +76,7 @@ still_refused s o os why e = elim (cases_Bool (one.is_had (judged s o))) [
 -- ---- what a participant says of it
 
 pub one_taken : (a b : Reached) (o : OpData) (v : Verdict) → v ≡ judged a.state o → one.is_had v ≡ true → b ≡ one.taken_in Had a o
-    → taken_in a.state (o ∷ []) ≡ Ok b.state
+    → all_taken_in a.state (o ∷ []) ≡ Ok b.state
 one_taken a b o v is had e =
     let t = settled (delivered a.state o) in
     let fits : one.is_had (judged a.state o) ≡ true = ap one.is_had (sym is) ∙ had in
@@ -85,7 +85,7 @@ one_taken a b o v is had e =
 
 pub one_refused : (a b : Reached) (o : OpData) (v : Verdict) (m : Member) → v ≡ judged a.state o → m ≡ member_of o
     → one.is_had v ≡ false → b ≡ one.taken_in Had a o
-    → (b.state ≡ a.state) × (taken_in a.state (o ∷ []) ≡ Err (record { member = m; verdict = v }))
+    → (b.state ≡ a.state) × (all_taken_in a.state (o ∷ []) ≡ Err (record { member = m; verdict = v }))
 one_refused a b o v m is named not_had e =
     let fits : one.is_had (judged a.state o) ≡ false = ap one.is_had (sym is) ∙ not_had in
     let why : ◌≡◌ {A = Refusal} (refused o (judged a.state o)) (record { member = m; verdict = v }) =

@@ -7,7 +7,7 @@ use Rattle.cot_site.specs.Releases.{IsSound}
 use Rattle.cot_site.specs.Sites.{AllFormed}
 use Rattle.peer_exchange.specs.declared.peer.Peer.TheVariants as peer
 use Rattle.peer_exchange.specs.Messages.{IsSecond, IsThird}
-use Rattle.peer_exchange.specs.Taking.{taken_in, IsOnTheWay}
+use Rattle.peer_exchange.specs.Taking.{all_taken_in, IsOnTheWay}
 use Rattle.peer_exchange.specs.Closing.{IsUnclosed, IsUnfinished}
 use Rattle.peer_exchange.specs.GoingOn.{AreLeft, last_left, AreUnclosed, AreUnfinished, GoingOnAfterMemory}
 use Rattle.peer_exchange.proofs.Later.{way_sound}
@@ -16,14 +16,14 @@ use Rattle.peer_exchange.proofs.Again.{way_again}
 
 -- each time the call stopped on the way through these operations
 all_again : (left : State → State → Type 0) (os : List OpData) → AllFormed os → ((s t : State) → left s t → IsOnTheWay s os t)
-    → (s : State) (ts : List State) → IsSound s → AreLeft left s ts → taken_in (last_left s ts) os ≡ taken_in s os
+    → (s : State) (ts : List State) → IsSound s → AreLeft left s ts → all_taken_in (last_left s ts) os ≡ all_taken_in s os
 all_again left os formed on s [] sound are = refl
 all_again left os formed on s (t ∷ ts) sound are =
     let way = on s t are.0 in
     all_again left os formed on t ts (way_sound s t os sound formed way) are.1 ∙ way_again s t os sound formed way
 
 close_again : (s : State) (ts : List State) (second : List ℕ) (state : ContextData) (os : List OpData) → IsSound s
-    → AreUnclosed second s ts → IsSecond second state os → taken_in (last_left s ts) os ≡ taken_in s os
+    → AreUnclosed second s ts → IsSecond second state os → all_taken_in (last_left s ts) os ≡ all_taken_in s os
 close_again s ts second state os sound are is = all_again (λ s t. IsUnclosed s second t peer.Memory) os is.formed on s ts sound are
   where
     on : (s t : State) → IsUnclosed s second t peer.Memory → IsOnTheWay s os t
@@ -31,7 +31,7 @@ close_again s ts second state os sound are is = all_again (λ s t. IsUnclosed s 
         subst (λ (qs : List OpData). IsOnTheWay s qs t) (messages_tell_one_thing.second second told state ps os read is) way
 
 finish_again : (s : State) (ts : List State) (third : List ℕ) (os : List OpData) → IsSound s
-    → AreUnfinished third s ts → IsThird third os → taken_in (last_left s ts) os ≡ taken_in s os
+    → AreUnfinished third s ts → IsThird third os → all_taken_in (last_left s ts) os ≡ all_taken_in s os
 finish_again s ts third os sound are is = all_again (λ s t. IsUnfinished s third t peer.Memory) os is.formed on s ts sound are
   where
     on : (s t : State) → IsUnfinished s third t peer.Memory → IsOnTheWay s os t

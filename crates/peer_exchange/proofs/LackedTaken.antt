@@ -21,12 +21,12 @@ use Rattle.cot_site.specs.Releases.{IsSound, IsLater, settled}
 use Rattle.cot_site.proofs.CallerLemmas.{group_reached, next_integrated, verdicts_exact}
 use Rattle.participant.specs.Taking.{is_had}
 use Rattle.peer_exchange.specs.Joins.{unseen}
-use Rattle.peer_exchange.specs.Taking.{taken_in, LackedOperationsAreTaken}
+use Rattle.peer_exchange.specs.Taking.{all_taken_in, LackedOperationsAreTaken}
 use Rattle.peer_exchange.proofs.Unseen.{unseen_contains, unseen_old, unseen_new}
 use Rattle.peer_exchange.proofs.FirstTaken.{taken_none, taken_first}
 use Rattle.peer_exchange.proofs.Receivings.{taken_append}
 use Rattle.peer_exchange.proofs.Later.{later_settled, settled_later, taking_in_keeps_histories}
-use Rattle.peer_exchange.proofs.Origins.{comes_taken}
+use Rattle.peer_exchange.proofs.Origins.{comes_taken, waited_before}
 
 -- a later site has what the site had
 pub known_later : (s t : State) → IsLater s t → (m : Member) → is_known s.history m ≡ true → is_known t.history m ≡ true
@@ -67,29 +67,30 @@ repeats h (deleting n p c) v known same =
     subst (λ (x : OpData). Contains h x) (same held.op n held.there held.is refl) held.there
 repeats h (undoing a t g c) v known same = group_reached h v t g known
 
-module _ (s : State) (p : List OpData) (sound : IsSound s) (w : IsValid p) (agree : Agree s.history p)
-    (held : Agree s.waiting (unseen (is_known s.history) p)) where
-  -- what the site lacks of the first operations is taken in, and then it has all of these
+-- the operations of the history but those of some members that the site has
+module _ (s : State) (p : List OpData) (k : Member → Bool) (sound : IsSound s) (w : IsValid p)
+    (less : (m : Member) → k m ≡ true → is_known s.history m ≡ true) (agree : Agree s.history p) (held : Agree s.waiting (unseen k p)) where
+  -- those among the first operations are taken in, and then the site has all of these
   record Took (q : List OpData) : Type 0 where
     t : State
-    taken : taken_in s (unseen (is_known s.history) q) ≡ Ok t
+    taken : all_taken_in s (unseen k q) ≡ Ok t
     knows : (m : Member) → is_known q m ≡ true → is_known t.history m ≡ true
 
   module _ (q : List OpData) (v : IsValid q) (within : (x : OpData) → Contains q x → Contains p x) (took : Took q) where
     later : IsSound took.t × IsLater s took.t
     later =
-        taking_in_keeps_histories s took.t (unseen (is_known s.history) q) sound
-        (λ o at. (complete q v).formed o (unseen_contains (is_known s.history) q o at)) took.taken
+        taking_in_keeps_histories s took.t (unseen k q) sound
+        (λ o at. (complete q v).formed o (unseen_contains k q o at)) took.taken
 
     -- an operation of this name in the history that is lacking at the site is the one of the other history
     one_new : (x y : OpData) (n : NameData) → Contains took.t.history x → Contains p y → member_of x ≡ Original n
-        → member_of y ≡ Original n → is_known s.history (member_of y) ≡ false
+        → member_of y ≡ Original n → k (member_of y) ≡ false
         → (Contains q x → x ≡ y) → x ≡ y
     one_new x y n at bt is js new in_q =
-        elim ((comes_taken s took.t (unseen (is_known s.history) q) took.taken).history x at) [
+        elim ((comes_taken s took.t (unseen k q) took.taken).history x at) [
           | inl old ↦ agree x y n old bt is js
-          | inr (inl waited) ↦ held x y n waited (is_unseen (is_known s.history) p y bt new) is js
-          | inr (inr came) ↦ in_q (unseen_contains (is_known s.history) q x came)
+          | inr (inl waited) ↦ held x y n waited (is_unseen k p y bt new) is js
+          | inr (inr came) ↦ in_q (unseen_contains k q x came)
         ]
 
     agrees_known : (x y : OpData) (n : NameData) → Contains took.t.history x → Contains p y → member_of x ≡ Original n
@@ -102,12 +103,12 @@ module _ (s : State) (p : List OpData) (sound : IsSound s) (w : IsValid p) (agre
 
     agrees : Agree took.t.history q
     agrees x y n at bt is js =
-        elim (cases_Bool (is_known s.history (member_of y))) [
-          | inl known ↦ agrees_known x y n at (within y bt) is js known
+        elim (cases_Bool (k (member_of y))) [
+          | inl known ↦ agrees_known x y n at (within y bt) is js (less (member_of y) known)
           | inr new ↦ one_new x y n at (within y bt) is js new (λ ct. (complete q v).one x y ct bt (is ∙ sym js))
         ]
 
-    module _ (o : OpData) (next : IsNext q o) (is_in : Contains p o) (new : is_known s.history (member_of o) ≡ false) where
+    module _ (o : OpData) (next : IsNext q o) (is_in : Contains p o) (new : k (member_of o) ≡ false) where
       -- none of these operations has the member
       none_in : (x : OpData) (n : NameData) → Contains q x → member_of x ≡ Original n → member_of o ≡ Original n → ⊥
       none_in x n at is js = false≢true (sym next.new ∙ (ap (is_known q) (js ∙ sym is) ∙ known_member q x at))
@@ -120,10 +121,8 @@ module _ (s : State) (p : List OpData) (sound : IsSound s) (w : IsValid p) (agre
 
       alone : (n : NameData) → member_of o ≡ Original n → HasOther took.t.waiting o n → ⊥
       alone n js other =
-          elim ((comes_taken s took.t (unseen (is_known s.history) q) took.taken).waiting other.other other.there) [
-            | inl waited ↦ other.differs (held other.other o n waited (is_unseen (is_known s.history) p o is_in new) other.same_name js)
-            | inr came ↦ none_in other.other n (unseen_contains (is_known s.history) q other.other came) other.same_name js
-          ]
+          let waited = waited_before s took.t (unseen k q) took.taken other.other other.there in
+          other.differs (held other.other o n waited (is_unseen k p o is_in new) other.same_name js)
 
       integrated : is_known took.t.history (member_of o) ≡ false → judged took.t o ≡ Integrated
       integrated fresh =
@@ -153,8 +152,8 @@ module _ (s : State) (p : List OpData) (sound : IsSound s) (w : IsValid p) (agre
       took_new : Took (q ++ o ∷ [])
       took_new = record {
         t = settled (delivered took.t o);
-        taken = ap (taken_in s) (unseen_new (is_known s.history) q o new)
-            ∙ (taken_append s took.t (unseen (is_known s.history) q) (o ∷ []) took.taken
+        taken = ap (all_taken_in s) (unseen_new k q o new)
+            ∙ (taken_append s took.t (unseen k q) (o ∷ []) took.taken
             ∙ (taken_first took.t o [] had ∙ taken_none (settled (delivered took.t o))));
         knows = λ m e. elim (or_cases (is_known q m) (member_eq (member_of o) m) (sym (known_push q o m) ∙ e)) [
           | inl old ↦ known_later took.t (settled (delivered took.t o)) (later_settled took.t o later.0 next.formed).1 m (took.knows m old)
@@ -167,14 +166,14 @@ module _ (s : State) (p : List OpData) (sound : IsSound s) (w : IsValid p) (agre
               known_later (delivered took.t o) (settled (delivered took.t o)) (settled_later took.t o later.0 next.formed) (member_of o)
               known_then
 
-    took_old : (o : OpData) → is_known s.history (member_of o) ≡ true → Took (q ++ o ∷ [])
+    took_old : (o : OpData) → k (member_of o) ≡ true → Took (q ++ o ∷ [])
     took_old o known = record {
       t = took.t;
-      taken = ap (taken_in s) (unseen_old (is_known s.history) q o known ∙ append-nil (unseen (is_known s.history) q)) ∙ took.taken;
+      taken = ap (all_taken_in s) (unseen_old k q o known ∙ append-nil (unseen k q)) ∙ took.taken;
       knows = λ m e. elim (or_cases (is_known q m) (member_eq (member_of o) m) (sym (known_push q o m) ∙ e)) [
         | inl old ↦ took.knows m old
         | inr same ↦ ap (is_known took.t.history) (sym (member_same (member_of o) m same))
-            ∙ known_later s took.t later.1 (member_of o) known
+            ∙ known_later s took.t later.1 (member_of o) (less (member_of o) known)
       ];
     }
 
@@ -185,12 +184,17 @@ module _ (s : State) (p : List OpData) (sound : IsSound s) (w : IsValid p) (agre
       (λ q o v was next within.
       let front : (x : OpData) → Contains q x → Contains p x = λ x at. within x (Contains-append_left q (o ∷ []) x at) in
       let took = was front in
-      elim (cases_Bool (is_known s.history (member_of o))) [
+      elim (cases_Bool (k (member_of o))) [
         | inl known ↦ took_old q v front took o known
         | inr new ↦ took_new q v front took o next (within o (Contains-append_right q (o ∷ []) o (contains_here o []))) new
       ]) p w (λ x at. at)
 
-pub lacked_operations_are_taken : LackedOperationsAreTaken
-lacked_operations_are_taken s p sound w agree held =
-    let took = took_all s p sound w agree held in
+pub taken_but_known : (s : State) (p : List OpData) (k : Member → Bool) → IsSound s → IsValid p
+    → ((m : Member) → k m ≡ true → is_known s.history m ≡ true) → Agree s.history p → Agree s.waiting (unseen k p)
+    → (t : State) × (all_taken_in s (unseen k p) ≡ Ok t)
+taken_but_known s p k sound w less agree held =
+    let took = took_all s p k sound w less agree held in
     (took.t, took.taken)
+
+pub lacked_operations_are_taken : LackedOperationsAreTaken
+lacked_operations_are_taken s p sound w agree held = taken_but_known s p (is_known s.history) sound w (λ m known. known) agree held

@@ -58,7 +58,7 @@ second_short h c v = omega (arith, first_short h v, third_short h c v, length-ap
 -- ---- an exchange
 
 -- what the joiner has after it took in what it lacked
-after_few : (s t t' : State) → IsQuiet s → IsQuiet t → (third : List ℕ) (took sent : ℕ) → IsReplied s t t' third took sent
+after_few : (s t t' : State) → IsQuiet s → IsQuiet t → (third : List ℕ) (took sent : ℕ) → IsReplied s.history t.history t t' third took sent
     → length t'.history ≤ length s.history + length t.history
 after_few s t t' qs qt third took sent reply =
     let os = unseen (is_known t.history) s.history in
@@ -73,7 +73,8 @@ no_long_second s t qs few l =
 no_long_third : (s t : State) → IsQuiet s → IsQuiet t → length s.history + length t.history ≤ few_operations → HasLongThird s t → ⊥
 no_long_third s t qs qt few l =
     let answered = answered_is s.history t.history l.second l.count qs.sound.history qt.sound.history l.answered in
-    let reply = closed_is s t l.after l.second l.third l.counts.0 l.counts.1 qs.sound qt.sound answered.0 l.closed in
+    let reply =
+    closed_is s.history t.history t l.after l.second l.third l.counts.0 l.counts.1 qs.sound.history qt.sound answered.0 l.closed in
     let all = after_few s t l.after qs qt l.third l.counts.0 l.counts.1 reply in
     absurd (omega (arith, l.long, ap length l.closed.appended, third_short l.after.history l.closed.state reply.valid, all, few))
 

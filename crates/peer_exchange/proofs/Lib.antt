@@ -18,6 +18,7 @@ pub mod LackedTaken
 pub mod Wholes
 pub mod OneThing
 pub mod Exchanging
+pub mod NotRefused
 pub mod Again
 pub mod GoingOn
 pub mod ClosingAgain

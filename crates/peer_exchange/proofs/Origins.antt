@@ -1,5 +1,5 @@
 -- Where the operations of a site come from after it took some in: it had them, they waited there, or they were taken in.
-use Rattle.std.proofs.Common.{◌≡◌, ℕ, zero, suc, inl, inr, List, [], ◌∷◌, Ok, refl, subst, length}
+use Rattle.std.proofs.Common.{◌≡◌, ℕ, zero, suc, true, inl, inr, List, [], ◌∷◌, Ok, refl, ap, sym, subst, length}
 use Rattle.std.specs.Prelude.{Contains, ◌⊎◌, Option, Some, None, option_map, slice_get, remove}
 use Rattle.std.specs.List.{list_any}
 use Rattle.std.proofs.lemmas.Bool.{cases_Bool, cond-true, cond-false}
@@ -13,8 +13,9 @@ use Rattle.cot_site.specs.States.{State, Released, held, judged, delivered, afte
 use Rattle.cot_site.specs.States.{without_waiting, delivered_again}
 use Rattle.cot_site.specs.Releases.{and_more, releases, state_after, settled}
 use Rattle.cot_site.proofs.CallerLemmas.{got_there}
-use Rattle.peer_exchange.specs.Taking.{taken_in}
-use Rattle.peer_exchange.proofs.FirstTaken.{same_after_none, first_taken}
+use Rattle.participant.specs.Taking.{is_had}
+use Rattle.peer_exchange.specs.Taking.{all_taken_in}
+use Rattle.peer_exchange.proofs.FirstTaken.{had_cases, same_after_none, first_taken}
 
 pub record ComesFrom (s t : State) (os : List OpData) : Type 0 where
   pub history : (x : OpData) → Contains t.history x → Contains s.history x ⊎ (Contains s.waiting x ⊎ Contains os x)
@@ -145,7 +146,7 @@ comes_by_one s o =
     comes_on s d (settled d) (o ∷ []) [] (o ∷ []) (λ x at. at) (λ x at. absurd (contains_none x at)) (comes_delivered s o)
     (comes_settled (length d.waiting) d)
 
-pub comes_taken : (s t : State) (os : List OpData) → taken_in s os ≡ Ok t → ComesFrom s t os
+pub comes_taken : (s t : State) (os : List OpData) → all_taken_in s os ≡ Ok t → ComesFrom s t os
 comes_taken s t [] e = subst (λ (x : State). ComesFrom s x []) (same_after_none s t e) (comes_same s [])
 comes_taken s t (o ∷ os) e =
     comes_on s (settled (delivered s o)) t (o ∷ []) os (o ∷ os) here (λ x at. contains_later o os x at) (comes_by_one s o)
@@ -154,5 +155,23 @@ comes_taken s t (o ∷ os) e =
     here : (x : OpData) → Contains (o ∷ []) x → Contains (o ∷ os) x
     here x at = elim (contains_cases o [] x at) [
       | inl same ↦ subst (λ (z : OpData). Contains (o ∷ os) z) same (contains_here o os)
+      | inr none ↦ absurd (contains_none x none)
+    ]
+
+-- what is taken in doesn't wait: whatever waits then waited before
+taken_waits : (v : Verdict) (o : OpData) (s : State) → is_had v ≡ true → (after_verdict v o s).waiting ≡ s.waiting
+taken_waits v o s had =
+    elim (had_cases v had) [
+      | inl is ↦ ap (λ (x : Verdict). (after_verdict x o s).waiting) is
+      | inr is ↦ ap (λ (x : Verdict). (after_verdict x o s).waiting) is
+    ]
+
+pub waited_before : (s t : State) (os : List OpData) → all_taken_in s os ≡ Ok t → (x : OpData) → Contains t.waiting x → Contains s.waiting x
+waited_before s t [] e x at = subst (λ (u : State). Contains u.waiting x) (sym (same_after_none s t e)) at
+waited_before s t (o ∷ os) e x at =
+    let first = first_taken s t o os e in
+    let d = delivered s o in
+    elim ((comes_settled (length d.waiting) d).waiting x (waited_before (settled d) t os first.1 x at)) [
+      | inl held ↦ subst (λ (w : List OpData). Contains w x) (taken_waits (judged s o) o s first.0) held
       | inr none ↦ absurd (contains_none x none)
     ]

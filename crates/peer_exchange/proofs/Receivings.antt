@@ -21,20 +21,21 @@ use Rattle.wire_codec.proofs.CallerLemmas.{body_short, body_long}
 use Rattle.peer_exchange.specs.declared.peer.Peer.{Peer}
 use Rattle.peer_exchange.specs.declared.peer.Peer.TheVariants as peer
 use Rattle.peer_exchange.specs.Messages.{end_mark, IsThird}
-use Rattle.peer_exchange.specs.Taking.{Refusal, taken_in, IsBefore, IsOnTheWay, IsRefusedAt}
+use Rattle.peer_exchange.specs.Taking.{Refusal, all_taken_in, IsBefore, IsOnTheWay, IsRefusedAt}
 use Rattle.peer_exchange.specs.Code.Receiving.{no_frame, IsUntaken, AreUntaken, IsFirstOf}
 use Rattle.peer_exchange.proofs.FirstTaken.{taken_none, same_after_none, taken_first, first_taken, still_refused}
 
 -- what follows is taken in at the state that those before left
-pub taken_append : (s at : State) (before os : List OpData) → taken_in s before ≡ Ok at → taken_in s (before ++ os) ≡ taken_in at os
-taken_append s at [] os e = ap (λ (t : State). taken_in t os) (same_after_none s at e)
+pub taken_append : (s at : State) (before os : List OpData) → all_taken_in s before ≡ Ok at
+    → all_taken_in s (before ++ os) ≡ all_taken_in at os
+taken_append s at [] os e = ap (λ (t : State). all_taken_in t os) (same_after_none s at e)
 taken_append s at (o ∷ before) os e =
     let first = first_taken s at o before e in
     taken_first s o (before ++ os) first.0 ∙ taken_append (settled (delivered s o)) at before os first.1
 
-pub refused_is : (s : State) (os : List OpData) (t : State) (why : Refusal) → IsRefusedAt s os t why → taken_in s os ≡ Err why
+pub refused_is : (s : State) (os : List OpData) (t : State) (why : Refusal) → IsRefusedAt s os t why → all_taken_in s os ≡ Err why
 refused_is s os t why r =
-    ap (taken_in s) r.parts ∙ (taken_append s t r.before (r.op ∷ r.behind) r.taken ∙ still_refused t r.op r.behind why r.refused)
+    ap (all_taken_in s) r.parts ∙ (taken_append s t r.before (r.op ∷ r.behind) r.taken ∙ still_refused t r.op r.behind why r.refused)
 
 -- so many operations were taken in, and the frames of the others are left
 pub record IsTaking (s : State) (bytes left : List ℕ) (now : State) (count : ℕ) : Type 0 where
@@ -42,7 +43,7 @@ pub record IsTaking (s : State) (bytes left : List ℕ) (now : State) (count : �
   pub others : List OpData
   pub all : IsThird bytes (done ++ others)
   pub behind : IsThird left others
-  pub taken : taken_in s done ≡ Ok now
+  pub taken : all_taken_in s done ≡ Ok now
   pub counted : count ≡ length done
   pub few : count + length left ≤ length bytes
 
@@ -78,7 +79,7 @@ module _ (s : State) (bytes left : List ℕ) (now : State) (count : ℕ) (p : Op
       next_of in w.behind.formed (data_of p.0) (subst (λ (os : List OpData). Contains os (data_of p.0)) (sym n.split)
       (contains_here (data_of p.0) n.later))
 
-  pub taking_more : (t : State) → taken_in now (data_of p.0 ∷ []) ≡ Ok t → IsTaking s bytes (drop p.1 left) t (count + 1)
+  pub taking_more : (t : State) → all_taken_in now (data_of p.0 ∷ []) ≡ Ok t → IsTaking s bytes (drop p.1 left) t (count + 1)
   taking_more t e =
       let n = next_of in
       let o = data_of p.0 in
@@ -122,7 +123,7 @@ module _ (s : State) (bytes left : List ℕ) (now : State) (count : ℕ) (p : Op
             behind = n.later;
             parts = ap (λ (os : List OpData). w.done ++ os) n.split;
             taken = w.taken ∙ ap (λ (x : State). Ok x) (sym is.0);
-            refused = ap (λ (x : State). taken_in x (data_of p.0 ∷ [])) is.0 ∙ is.1;
+            refused = ap (λ (x : State). all_taken_in x (data_of p.0 ∷ [])) is.0 ∙ is.1;
           }
       stopped peer.Memory is =
           let n = next_of in

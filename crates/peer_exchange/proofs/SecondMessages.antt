@@ -19,7 +19,7 @@ use Rattle.peer_exchange.specs.declared.stages.Stage.TheVariants as stage
 use Rattle.peer_exchange.specs.Measuring.{head, head_piece, stated, after_piece, pieces}
 use Rattle.peer_exchange.specs.Messages.{telling, IsSecond, IsThird}
 use Rattle.peer_exchange.specs.Refusals.{IsWhole, IsUnread}
-use Rattle.peer_exchange.specs.Taking.{taken_in}
+use Rattle.peer_exchange.specs.Taking.{all_taken_in}
 use Rattle.peer_exchange.specs.Closing.{IsUnclosed, IsUnfinished}
 use Rattle.peer_exchange.specs.Code.Receiving.{AreUntaken, IsToldUpTo}
 use Rattle.peer_exchange.proofs.FirstMessages.{head_only}
@@ -142,7 +142,7 @@ unread_unclosed s bytes (peer.Op member verdict) fits never = absurd never
 unread_unclosed s bytes peer.Memory fits whole = memory_unclosed s bytes fits whole
 
 -- where all is taken in, and there is no memory for the answer
-pub all_unclosed : (s t : State) (bytes : List ℕ) (c : ContextData) (os : List OpData) → IsSecond bytes c os → taken_in s os ≡ Ok t
+pub all_unclosed : (s t : State) (bytes : List ℕ) (c : ContextData) (os : List OpData) → IsSecond bytes c os → all_taken_in s os ≡ Ok t
     → IsUnclosed s bytes t peer.Memory
 all_unclosed s t bytes c os read taken =
     (c, os, read, record { before = os; behind = []; parts = sym (append-nil os); at = t; taken = taken; reached = refl })

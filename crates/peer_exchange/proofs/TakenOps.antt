@@ -13,7 +13,7 @@ use Rattle.peer_exchange.specs.Joins.{unseen}
 use Rattle.peer_exchange.proofs.ValidJoins.{lacked_operations_are_next}
 use Rattle.peer_exchange.proofs.BothSides.{third_is}
 use Rattle.participant.specs.Taking.{is_had}
-use Rattle.peer_exchange.specs.Taking.{taken_in, NextOperationsAreTaken, BothSidesTakeAll, AreNew, NewOperationsAreAppended}
+use Rattle.peer_exchange.specs.Taking.{all_taken_in, NextOperationsAreTaken, BothSidesTakeAll, AreNew, NewOperationsAreAppended}
 use Rattle.peer_exchange.proofs.FirstTaken.{had_cases, taken_none, same_after_none, taken_first, first_taken}
 
 abbrev state : ℕ → List OpData → State
@@ -30,12 +30,12 @@ integrated_is : (n : ℕ) (h : List OpData) (o : OpData) → verdict_of h [] o �
     → settled (delivered (state n h) o) ≡ state n (h ++ o ∷ [])
 integrated_is n h o is = ap (λ (x : Verdict). settled (after_verdict x o (state n h))) is ∙ settles n (h ++ o ∷ [])
 
-taken : (n : ℕ) (h os : List OpData) → IsValid h → IsValidAfter h os → taken_in (state n h) os ≡ Ok (state n (h ++ os))
+taken : (n : ℕ) (h os : List OpData) → IsValid h → IsValidAfter h os → all_taken_in (state n h) os ≡ Ok (state n (h ++ os))
 taken n h [] v after = taken_none (state n h) ∙ ap (λ (k : List OpData). Ok (state n k)) (sym (append-nil h))
 taken n h (o ∷ os) v after =
     let verdict = next_is_integrated h o v after.0 in
     taken_first (state n h) o os (ap is_had verdict)
-    ∙ (ap (λ (t : State). taken_in t os) (integrated_is n h o verdict)
+    ∙ (ap (λ (t : State). all_taken_in t os) (integrated_is n h o verdict)
     ∙ (taken n (h ++ o ∷ []) os (valid_push h o v after.0) after.1
     ∙ ap (λ (k : List OpData). Ok (state n k)) (shifted h o os)))
 
@@ -44,7 +44,7 @@ without_waiting s none = λ i. record { number = s.number; history = s.history; 
 
 pub next_operations_are_taken : NextOperationsAreTaken
 next_operations_are_taken s os v none after =
-    ap (λ (t : State). taken_in t os) (without_waiting s none)
+    ap (λ (t : State). all_taken_in t os) (without_waiting s none)
     ∙ (taken s.number s.history os v after
     ∙ ap (λ (w : List OpData). Ok (record { number = s.number; history = s.history ++ os; waiting = w })) (sym none))
 
@@ -52,7 +52,7 @@ pub both_sides_take_all : BothSidesTakeAll
 both_sides_take_all s t v w none_s none_t agree = (
   next_operations_are_taken t (unseen (is_known t.history) s.history) w none_t
       (lacked_operations_are_next t.history s.history w v (agree_back s.history t.history agree)),
-  ap (taken_in s) (third_is s.history t.history)
+  ap (all_taken_in s) (third_is s.history t.history)
       ∙ next_operations_are_taken s (unseen (is_known s.history) t.history) v none_s
       (lacked_operations_are_next s.history t.history v w agree),
 )
@@ -65,16 +65,16 @@ new_is_integrated h o v formed new had = elim (had_cases (verdict_of h [] o) had
   | inr is ↦ absurd (unknown_no_repeat h v o formed new ((verdicts_exact h [] o Repeat v formed).1 (sym is)))
 ]
 
-appended : (n : ℕ) (h os : List OpData) (t : State) → IsValid h → AreNew h os → taken_in (state n h) os ≡ Ok t → t ≡ state n (h ++ os)
+appended : (n : ℕ) (h os : List OpData) (t : State) → IsValid h → AreNew h os → all_taken_in (state n h) os ≡ Ok t → t ≡ state n (h ++ os)
 appended n h [] t v new e = sym (same_after_none (state n h) t e) ∙ ap (state n) (sym (append-nil h))
 appended n h (o ∷ os) t v new e =
     let first = first_taken (state n h) t o os e in
     let is = new_is_integrated h o v new.0 new.1 first.0 in
     appended n (h ++ o ∷ []) os t (valid_push h o v (integrated_next h [] o v new.0 is)) new.2
-    (ap (λ (x : State). taken_in x os) (sym (integrated_is n h o is)) ∙ first.1)
+    (ap (λ (x : State). all_taken_in x os) (sym (integrated_is n h o is)) ∙ first.1)
     ∙ ap (state n) (shifted h o os)
 
 pub new_operations_are_appended : NewOperationsAreAppended
 new_operations_are_appended s t os v none new e =
-    appended s.number s.history os t v new (ap (λ (x : State). taken_in x os) (sym (without_waiting s none)) ∙ e)
+    appended s.number s.history os t v new (ap (λ (x : State). all_taken_in x os) (sym (without_waiting s none)) ∙ e)
     ∙ (λ i. record { number = s.number; history = s.history ++ os; waiting = sym none i })

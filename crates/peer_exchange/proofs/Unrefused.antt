@@ -8,7 +8,7 @@ use Rattle.cot_site.specs.States.{State}
 use Rattle.peer_exchange.specs.Joins.{unseen}
 use Rattle.peer_exchange.proofs.Unseen.{unseen_old, unseen_new, known_joined}
 use Rattle.peer_exchange.proofs.BothSides.{third_is}
-use Rattle.peer_exchange.specs.Taking.{taken_in, AreNew, UnrefusedExchangesJoin}
+use Rattle.peer_exchange.specs.Taking.{all_taken_in, AreNew, UnrefusedExchangesJoin}
 use Rattle.peer_exchange.proofs.TakenOps.{new_operations_are_appended}
 
 new_push : (h os : List OpData) (o : OpData) → AreNew h os → IsWellFormed o → is_known (h ++ os) (member_of o) ≡ false
@@ -41,5 +41,5 @@ unrefused_exchanges_join s t s' t' v w none_s none_t first second =
     ap (λ (x : State). unseen (is_known s.history) x.history) one ∙ third_is s.history t.history in
     let two =
     new_operations_are_appended s s' (unseen (is_known s.history) t.history) v none_s (lacked_are_new s.history t.history w)
-    (ap (taken_in s) (sym sent) ∙ second) in
+    (ap (all_taken_in s) (sym sent) ∙ second) in
     (one, two)

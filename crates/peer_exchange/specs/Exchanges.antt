@@ -37,13 +37,13 @@ pub record Talk : Type 0 where
   pub joiner_sent : ℕ
   pub server_took : ℕ
 
--- the four calls, none of them refused: `offer` at the joiner t, `answer` at the server s, `close` at the joiner, `finish` at the
--- server, and the states afterwards
-pub record IsExchange (s t s' t' : State) (x : Talk) : Type 0 where
-  pub offered : x.first ≡ first_message t.history
-  pub answered : IsAnswered s.history x.first [] x.second x.server_sent
-  pub closed : IsClosed t x.second t' [] x.third (x.joiner_took, x.joiner_sent)
-  pub finished : IsFinished s x.third s' x.server_took
+-- the four calls, none of them refused: `offer` at the joiner, `answer` at the server, `close` at the joiner, `finish` at the server,
+-- and the states afterwards
+pub record IsExchange (server joiner server_after joiner_after : State) (x : Talk) : Type 0 where
+  pub offered : x.first ≡ first_message joiner.history
+  pub answered : IsAnswered server.history x.first [] x.second x.server_sent
+  pub closed : IsClosed joiner x.second joiner_after [] x.third (x.joiner_took, x.joiner_sent)
+  pub finished : IsFinished server x.third server_after x.server_took
 
 -- a site at which nothing waits
 pub record IsQuiet (s : State) : Type 0 where
@@ -52,51 +52,56 @@ pub record IsQuiet (s : State) : Type 0 where
 
 -- Joined: each site has its old history and, after it, what it lacked of the other, so the join of both; and each took in the frames
 -- that the other sent
-pub record HaveJoined (s t s' t' : State) (x : Talk) : Type 0 where
-  pub server : s' ≡ with_history s (joined s.history t.history)
-  pub joiner : t' ≡ with_history t (joined t.history s.history)
-  pub server_joined : IsJoined s.history t.history s'.history
-  pub joiner_joined : IsJoined s.history t.history t'.history
-  pub to_joiner : x.server_sent ≡ length (unseen (is_known t.history) s.history)
+pub record HaveJoined (server_before joiner_before server_after joiner_after : State) (x : Talk) : Type 0 where
+  pub server : server_after ≡ with_history server_before (joined server_before.history joiner_before.history)
+  pub joiner : joiner_after ≡ with_history joiner_before (joined joiner_before.history server_before.history)
+  pub server_joined : IsJoined server_before.history joiner_before.history server_after.history
+  pub joiner_joined : IsJoined server_before.history joiner_before.history joiner_after.history
+  pub to_joiner : x.server_sent ≡ length (unseen (is_known joiner_before.history) server_before.history)
   pub at_joiner : x.joiner_took ≡ x.server_sent
-  pub to_server : x.joiner_sent ≡ length (unseen (is_known s.history) t.history)
+  pub to_server : x.joiner_sent ≡ length (unseen (is_known server_before.history) joiner_before.history)
   pub at_server : x.server_took ≡ x.joiner_sent
 
 -- where nothing waits at either site, and no call refuses, both have the join
 abbrev pub UnrefusedCallsJoin : Type 0
-UnrefusedCallsJoin = (s t s' t' : State) (x : Talk) → IsQuiet s → IsQuiet t → IsExchange s t s' t' x → HaveJoined s t s' t' x
+UnrefusedCallsJoin =
+    (server joiner server_after joiner_after : State) (x : Talk) → IsQuiet server → IsQuiet joiner
+    → IsExchange server joiner server_after joiner_after x → HaveJoined server joiner server_after joiner_after x
 
 -- and where they agree, both then have the same operations and show the same text
 abbrev pub AgreeingSitesMeet : Type 0
 AgreeingSitesMeet =
-    (s t s' t' : State) (x : Talk) → IsQuiet s → IsQuiet t → Agree s.history t.history → IsExchange s t s' t' x
-    → AreAlike s'.history t'.history
+    (server joiner server_after joiner_after : State) (x : Talk) → IsQuiet server → IsQuiet joiner → Agree server.history joiner.history
+    → IsExchange server joiner server_after joiner_after x → AreAlike server_after.history joiner_after.history
 
 -- no name has one content at the one site and other content at the other, among what they integrated and what waits there
 abbrev pub AgreeInAll : State → State → Type 0
-AgreeInAll s t = Agree (s.history ++ s.waiting) (t.history ++ t.waiting)
+AgreeInAll server joiner = Agree (server.history ++ server.waiting) (joiner.history ++ joiner.waiting)
 
--- each of the calls between a server s and a joiner t refuses only when it is out of memory
-pub record OnlyMemoryRefuses (s t : State) : Type 0 where
-  pub answering : (why : Peer) → IsUnread First (first_message t.history) why → why ≡ peer.Memory
-  pub closing : (second : List ℕ) (n : ℕ) (t' : State) (why : Peer) → IsAnswered s.history (first_message t.history) [] second n
-      → IsUnclosed t second t' why → why ≡ peer.Memory
-  pub finishing : (second third : List ℕ) (n m k : ℕ) (t' s' : State) (why : Peer)
-      → IsAnswered s.history (first_message t.history) [] second n
-      → IsClosed t second t' [] third (m, k) → IsUnfinished s third s' why → why ≡ peer.Memory
+-- each of the calls between a server and a joiner refuses only when it is out of memory
+pub record OnlyMemoryRefuses (server joiner : State) : Type 0 where
+  pub answering : (why : Peer) → IsUnread First (first_message joiner.history) why → why ≡ peer.Memory
+  pub closing : (second : List ℕ) (n : ℕ) (joiner_after : State) (why : Peer)
+      → IsAnswered server.history (first_message joiner.history) [] second n
+      → IsUnclosed joiner second joiner_after why → why ≡ peer.Memory
+  pub finishing : (second third : List ℕ) (n m k : ℕ) (joiner_after server_after : State) (why : Peer)
+      → IsAnswered server.history (first_message joiner.history) [] second n
+      → IsClosed joiner second joiner_after [] third (m, k) → IsUnfinished server third server_after why → why ≡ peer.Memory
 
 -- so it is where the two agree, also where operations wait
 abbrev pub AgreeingSitesAreNotRefused : Type 0
-AgreeingSitesAreNotRefused = (s t : State) → IsSound s → IsSound t → AgreeInAll s t → OnlyMemoryRefuses s t
+AgreeingSitesAreNotRefused =
+    (server joiner : State) → IsSound server → IsSound joiner → AgreeInAll server joiner → OnlyMemoryRefuses server joiner
 
 -- a second exchange at once sends no frame, and changes neither site
-pub record IsEmptyExchange (s t s' t' : State) (x : Talk) : Type 0 where
-  pub server : s' ≡ s
-  pub joiner : t' ≡ t
+pub record IsEmptyExchange (server_before joiner_before server_after joiner_after : State) (x : Talk) : Type 0 where
+  pub server : server_after ≡ server_before
+  pub joiner : joiner_after ≡ joiner_before
   pub server_sent : x.server_sent ≡ 0
   pub joiner_sent : x.joiner_sent ≡ 0
 
 abbrev pub SecondExchangesAreEmpty : Type 0
 SecondExchangesAreEmpty =
-    (s t s' t' s'' t'' : State) (x y : Talk) → IsQuiet s → IsQuiet t → IsExchange s t s' t' x → IsExchange s' t' s'' t'' y
-    → IsEmptyExchange s' t' s'' t'' y
+    (server joiner server_after joiner_after server_last joiner_last : State) (x y : Talk) → IsQuiet server → IsQuiet joiner
+    → IsExchange server joiner server_after joiner_after x → IsExchange server_after joiner_after server_last joiner_last y
+    → IsEmptyExchange server_after joiner_after server_last joiner_last y

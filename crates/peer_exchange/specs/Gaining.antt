@@ -6,28 +6,33 @@ use Rattle.context_diff.specs.Operations.{OpData, member_of, is_original}
 use Rattle.context_diff.specs.Histories.{is_known}
 use Rattle.cot_site.specs.States.{State}
 use Rattle.cot_site.specs.Releases.{IsSound, IsLater}
+use Rattle.peer_exchange.specs.declared.messages.Which.TheVariants.{First}
+use Rattle.peer_exchange.specs.declared.peer.Peer.{Peer}
+use Rattle.peer_exchange.specs.declared.peer.Peer.TheVariants as peer
 use Rattle.peer_exchange.specs.Messages.{first_message, IsSecond, IsThird, IsAnswered}
-use Rattle.peer_exchange.specs.Closing.{IsClosed, IsFinished}
-use Rattle.peer_exchange.specs.Exchanges.{Talk}
+use Rattle.peer_exchange.specs.Refusals.{IsUnread}
+use Rattle.peer_exchange.specs.Closing.{IsClosed, IsFinished, IsUnclosed, IsUnfinished}
+use Rattle.peer_exchange.specs.Exchanges.{Talk, AgreeInAll}
 
 -- Gained: the old history is the first part of the new one, which has the member of each of these operations, and each original among
--- them with its content; whatever is there or waits was there, waited, or is one of these
-pub record HasGained (s t : State) (os : List OpData) : Type 0 where
-  pub later : IsLater s t
-  pub members : (o : OpData) → Contains os o → is_known t.history (member_of o) ≡ true
-  pub originals : (o : OpData) → Contains os o → is_original o ≡ true → Contains t.history o
-  pub history : (o : OpData) → Contains t.history o → Contains s.history o ⊎ (Contains s.waiting o ⊎ Contains os o)
-  pub waiting : (o : OpData) → Contains t.waiting o → Contains s.waiting o ⊎ Contains os o
+-- them with its content; whatever is there was there, waited, or is one of these, and whatever waits waited before
+pub record HasGained (site site_after : State) (os : List OpData) : Type 0 where
+  pub later : IsLater site site_after
+  pub members : (o : OpData) → Contains os o → is_known site_after.history (member_of o) ≡ true
+  pub originals : (o : OpData) → Contains os o → is_original o ≡ true → Contains site_after.history o
+  pub history : (o : OpData) → Contains site_after.history o → Contains site.history o ⊎ (Contains site.waiting o ⊎ Contains os o)
+  pub waiting : (o : OpData) → Contains site_after.waiting o → Contains site.waiting o
 
 -- a site gains the operations of the message that it takes in, also where operations wait
 pub record TakingInGains : Type 0 where
-  pub closed : (s t : State) (second before now : List ℕ) (counts : ℕ × ℕ) (state : ContextData) (os : List OpData) → IsSound s
-      → IsSecond second state os → IsClosed s second t before now counts → HasGained s t os
-  pub finished : (s t : State) (third : List ℕ) (count : ℕ) (os : List OpData) → IsSound s → IsThird third os
-      → IsFinished s third t count → HasGained s t os
+  pub closed : (joiner joiner_after : State) (second before now : List ℕ) (counts : ℕ × ℕ) (state : ContextData) (os : List OpData)
+      → IsSound joiner → IsSecond second state os → IsClosed joiner second joiner_after before now counts
+      → HasGained joiner joiner_after os
+  pub finished : (server server_after : State) (third : List ℕ) (count : ℕ) (os : List OpData)
+      → IsSound server → IsThird third os → IsFinished server third server_after count → HasGained server server_after os
 
--- one side of an exchange: its state when it told what it has, a later one at which it took in the other's operations, and the one
--- after that
+-- one side of an exchange: its state when it told what it has, a later one at which it was to take in the other's operations, and the
+-- one after that
 pub record Meanwhile : Type 0 where
   pub told : State
   pub took : State
@@ -62,3 +67,18 @@ pub record HaveGained (server joiner : Meanwhile) (x : Talk) : Type 0 where
 -- so it is after any exchange, whether operations wait or not, and whether the two agree or not
 abbrev pub EditingMeanwhileLosesNothing : Type 0
 EditingMeanwhileLosesNothing = (server joiner : Meanwhile) (x : Talk) → IsExchangeMeanwhile server joiner x → HaveGained server joiner x
+
+-- each call of such an exchange, whatever the calls before it left, refuses only when it is out of memory
+pub record OnlyMemoryRefusesMeanwhile (server joiner : Meanwhile) : Type 0 where
+  pub answering : (why : Peer) → IsUnread First (first_message joiner.told.history) why → why ≡ peer.Memory
+  pub closing : (second : List ℕ) (n : ℕ) (why : Peer) → IsAnswered server.told.history (first_message joiner.told.history) [] second n
+      → IsUnclosed joiner.took second joiner.after why → why ≡ peer.Memory
+  pub finishing : (second third : List ℕ) (n m k : ℕ) (why : Peer)
+      → IsAnswered server.told.history (first_message joiner.told.history) [] second n
+      → IsClosed joiner.took second joiner.after [] third (m, k) → IsUnfinished server.took third server.after why → why ≡ peer.Memory
+
+-- so it is where the two agree when they take in
+abbrev pub EditingMeanwhileIsNotRefused : Type 0
+EditingMeanwhileIsNotRefused =
+    (server joiner : Meanwhile) → IsMeanwhile server → IsMeanwhile joiner → AgreeInAll server.took joiner.took
+    → OnlyMemoryRefusesMeanwhile server joiner

@@ -6,7 +6,7 @@ use Rattle.cot_site.specs.States.{State}
 use Rattle.cot_site.specs.Releases.{IsSound}
 use Rattle.peer_exchange.specs.declared.peer.Peer.TheVariants as peer
 use Rattle.peer_exchange.specs.Messages.{IsSecond, IsThird}
-use Rattle.peer_exchange.specs.Taking.{taken_in}
+use Rattle.peer_exchange.specs.Taking.{all_taken_in}
 use Rattle.peer_exchange.specs.Closing.{IsClosed, IsFinished, IsUnclosed, IsUnfinished}
 
 -- the call was made once for each of these states, each time out of memory, and left them, one after the other
@@ -30,11 +30,13 @@ AreUnfinished third = AreLeft (λ s t. IsUnfinished s third t peer.Memory)
 -- however often the call was out of memory: the operations of the message are then taken in as they would have been at first, or
 -- refused at the same one; and where the call is done at last, it leaves, answers and writes what it would have at first
 pub record GoingOnAfterMemory : Type 0 where
-  pub taken_by_close : (s : State) (ts : List State) (second : List ℕ) (state : ContextData) (os : List OpData) → IsSound s
-      → AreUnclosed second s ts → IsSecond second state os → taken_in (last_left s ts) os ≡ taken_in s os
-  pub closed : (s t : State) (ts : List State) (second before now : List ℕ) (counts : ℕ × ℕ) → IsSound s
-      → AreUnclosed second s ts → IsClosed (last_left s ts) second t before now counts → IsClosed s second t before now counts
-  pub taken_by_finish : (s : State) (ts : List State) (third : List ℕ) (os : List OpData) → IsSound s
-      → AreUnfinished third s ts → IsThird third os → taken_in (last_left s ts) os ≡ taken_in s os
-  pub finished : (s t : State) (ts : List State) (third : List ℕ) (count : ℕ) → IsSound s
-      → AreUnfinished third s ts → IsFinished (last_left s ts) third t count → IsFinished s third t count
+  pub taken_by_close : (joiner : State) (states : List State) (second : List ℕ) (state : ContextData) (os : List OpData) → IsSound joiner
+      → AreUnclosed second joiner states → IsSecond second state os → all_taken_in (last_left joiner states) os ≡ all_taken_in joiner os
+  pub closed : (joiner joiner_after : State) (states : List State) (second before now : List ℕ) (counts : ℕ × ℕ) → IsSound joiner
+      → AreUnclosed second joiner states → IsClosed (last_left joiner states) second joiner_after before now counts
+      → IsClosed joiner second joiner_after before now counts
+  pub taken_by_finish : (server : State) (states : List State) (third : List ℕ) (os : List OpData) → IsSound server
+      → AreUnfinished third server states → IsThird third os → all_taken_in (last_left server states) os ≡ all_taken_in server os
+  pub finished : (server server_after : State) (states : List State) (third : List ℕ) (count : ℕ) → IsSound server
+      → AreUnfinished third server states → IsFinished (last_left server states) third server_after count
+      → IsFinished server third server_after count

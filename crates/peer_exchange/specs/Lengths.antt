@@ -10,27 +10,28 @@ use Rattle.peer_exchange.specs.Exchanges.{IsQuiet}
 abbrev pub IsTooLong : List ℕ → Type 0
 IsTooLong bytes = MAX_MESSAGE < length bytes
 
--- the server s answers the first message of the joiner t with one that is too long
-pub record HasLongSecond (s t : State) : Type 0 where
+-- the server answers the first message of the joiner with one that is too long
+pub record HasLongSecond (server joiner : State) : Type 0 where
   pub second : List ℕ
   pub count : ℕ
-  pub answered : IsAnswered s.history (first_message t.history) [] second count
+  pub answered : IsAnswered server.history (first_message joiner.history) [] second count
   pub long : IsTooLong second
 
 -- the joiner takes in the second message of the server, and answers with one that is too long
-pub record HasLongThird (s t : State) : Type 0 where
+pub record HasLongThird (server joiner : State) : Type 0 where
   pub second : List ℕ
   pub count : ℕ
-  pub answered : IsAnswered s.history (first_message t.history) [] second count
+  pub answered : IsAnswered server.history (first_message joiner.history) [] second count
   pub after : State
   pub third : List ℕ
   pub counts : ℕ × ℕ
-  pub closed : IsClosed t second after [] third counts
+  pub closed : IsClosed joiner second after [] third counts
   pub long : IsTooLong third
 
--- some message of an exchange of the server s and the joiner t is too long
+-- some message of an exchange of the server and the joiner is too long
 abbrev pub HasLongMessage : State → State → Type 0
-HasLongMessage s t = IsTooLong (first_message t.history) ⊎ (HasLongSecond s t ⊎ HasLongThird s t)
+HasLongMessage server joiner =
+    IsTooLong (first_message joiner.history) ⊎ (HasLongSecond server joiner ⊎ HasLongThird server joiner)
 
 -- so many operations, together at both sites, have no message that is too long
 abbrev pub few_operations : ℕ
@@ -39,4 +40,5 @@ few_operations = 256
 -- where nothing waits at either site, and both have few operations, no message is too long
 abbrev pub ShortHistoriesHaveShortMessages : Type 0
 ShortHistoriesHaveShortMessages =
-    (s t : State) → IsQuiet s → IsQuiet t → length s.history + length t.history ≤ few_operations → HasLongMessage s t → ⊥
+    (server joiner : State) → IsQuiet server → IsQuiet joiner → length server.history + length joiner.history ≤ few_operations
+    → HasLongMessage server joiner → ⊥

@@ -27,10 +27,10 @@ refused o v = record { member = member_of o; verdict = v }
 abbrev pub with_taken : State → OpData → State
 with_taken s o = (one.taken_in Had (from s) o).state
 
--- TakenIn: the state after these operations were taken in, one after the other, or the first refusal
-unfoldable pub taken_in : State → List OpData → Result State Refusal
-taken_in s [] = Ok s
-taken_in s (o ∷ os) = if one.takes Had (judged s o) then taken_in (with_taken s o) os else Err (refused o (judged s o))
+-- AllTakenIn: the state after these operations were taken in, one after the other, or the first refusal
+unfoldable pub all_taken_in : State → List OpData → Result State Refusal
+all_taken_in s [] = Ok s
+all_taken_in s (o ∷ os) = if one.takes Had (judged s o) then all_taken_in (with_taken s o) os else Err (refused o (judged s o))
 
 -- the first refusal: the operations before it were taken in, and it changed nothing
 pub record IsRefusedAt (s : State) (os : List OpData) (t : State) (why : Refusal) : Type 0 where
@@ -38,8 +38,8 @@ pub record IsRefusedAt (s : State) (os : List OpData) (t : State) (why : Refusal
   pub op : OpData
   pub behind : List OpData
   pub parts : os ≡ before ++ op ∷ behind
-  pub taken : taken_in s before ≡ Ok t
-  pub refused : taken_in t (op ∷ []) ≡ Err why
+  pub taken : all_taken_in s before ≡ Ok t
+  pub refused : all_taken_in t (op ∷ []) ≡ Err why
 
 -- the operation was delivered, as one that is taken in, and memory ran out among the releases after it
 pub record IsPartlyTaken (s : State) (o : OpData) (t : State) : Type 0 where
@@ -58,7 +58,7 @@ pub record IsOnTheWay (s : State) (os : List OpData) (t : State) : Type 0 where
   pub behind : List OpData
   pub parts : os ≡ before ++ behind
   pub at : State
-  pub taken : taken_in s before ≡ Ok at
+  pub taken : all_taken_in s before ≡ Ok at
   pub reached : IsBefore at behind t
 
 -- the site with this history, at which nothing waits
@@ -69,14 +69,17 @@ with_history s h = record s { history = h }
 abbrev pub NextOperationsAreTaken : Type 0
 NextOperationsAreTaken =
     (s : State) (os : List OpData) → IsValid s.history → s.waiting ≡ [] → IsValidAfter s.history os
-    → taken_in s os ≡ Ok (with_history s (s.history ++ os))
+    → all_taken_in s os ≡ Ok (with_history s (s.history ++ os))
 
 -- two sites at which nothing waits and which agree: what each lacks is taken in without refusal, and each then has the join
 abbrev pub BothSidesTakeAll : Type 0
 BothSidesTakeAll =
-    (s t : State) → IsValid s.history → IsValid t.history → s.waiting ≡ [] → t.waiting ≡ [] → Agree s.history t.history
-    → (taken_in t (unseen (is_known t.history) s.history) ≡ Ok (with_history t (joined t.history s.history)))
-    × (taken_in s (unseen (is_known s.history) (joined t.history s.history)) ≡ Ok (with_history s (joined s.history t.history)))
+    (server joiner : State) → IsValid server.history → IsValid joiner.history → server.waiting ≡ [] → joiner.waiting ≡ []
+    → Agree server.history joiner.history
+    → (all_taken_in joiner (unseen (is_known joiner.history) server.history)
+    ≡ Ok (with_history joiner (joined joiner.history server.history)))
+    × (all_taken_in server (unseen (is_known server.history) (joined joiner.history server.history))
+    ≡ Ok (with_history server (joined server.history joiner.history)))
 
 -- each operation is well formed and no member of the history or of one before it
 abbrev pub AreNew : List OpData → List OpData → Type 0
@@ -86,24 +89,26 @@ AreNew h (o ∷ os) = IsWellFormed o × (is_known h (member_of o) ≡ false) × 
 -- frames of new members that were taken in without refusal, at a site at which nothing waits, were all integrated
 abbrev pub NewOperationsAreAppended : Type 0
 NewOperationsAreAppended =
-    (s t : State) (os : List OpData) → IsValid s.history → s.waiting ≡ [] → AreNew s.history os → taken_in s os ≡ Ok t
+    (s t : State) (os : List OpData) → IsValid s.history → s.waiting ≡ [] → AreNew s.history os → all_taken_in s os ≡ Ok t
     → t ≡ with_history s (s.history ++ os)
 
 -- the four calls between two sites at which nothing waits: where none refuses, each side has the join
 abbrev pub UnrefusedExchangesJoin : Type 0
 UnrefusedExchangesJoin =
-    (s t s' t' : State) → IsValid s.history → IsValid t.history → s.waiting ≡ [] → t.waiting ≡ []
-    → taken_in t (unseen (is_known t.history) s.history) ≡ Ok t'
-    → taken_in s (unseen (is_known s.history) t'.history) ≡ Ok s'
-    → (t' ≡ with_history t (joined t.history s.history)) × (s' ≡ with_history s (joined s.history t.history))
+    (server joiner server_after joiner_after : State) → IsValid server.history → IsValid joiner.history
+    → server.waiting ≡ [] → joiner.waiting ≡ []
+    → all_taken_in joiner (unseen (is_known joiner.history) server.history) ≡ Ok joiner_after
+    → all_taken_in server (unseen (is_known server.history) joiner_after.history) ≡ Ok server_after
+    → (joiner_after ≡ with_history joiner (joined joiner.history server.history))
+    × (server_after ≡ with_history server (joined server.history joiner.history))
 
 -- taking in leaves a sound state of the same site, where what was integrated stays so
 abbrev pub TakingInKeepsHistories : Type 0
-TakingInKeepsHistories = (s t : State) (os : List OpData) → IsSound s → AllFormed os → taken_in s os ≡ Ok t → IsSound t × IsLater s t
+TakingInKeepsHistories = (s t : State) (os : List OpData) → IsSound s → AllFormed os → all_taken_in s os ≡ Ok t → IsSound t × IsLater s t
 
 -- a site takes in without refusal what it lacks of a valid history that agrees with it, and in which no operation that it lacks has
 -- other content than one of the same name that waits there
 abbrev pub LackedOperationsAreTaken : Type 0
 LackedOperationsAreTaken =
     (s : State) (p : List OpData) → IsSound s → IsValid p → Agree s.history p → Agree s.waiting (unseen (is_known s.history) p)
-    → (t : State) × (taken_in s (unseen (is_known s.history) p) ≡ Ok t)
+    → (t : State) × (all_taken_in s (unseen (is_known s.history) p) ≡ Ok t)

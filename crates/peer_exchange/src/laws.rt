@@ -1,11 +1,14 @@
 //! Laws of joins, of taking in, and of whole exchanges: each says what its definitions give, and does nothing.
 
-ghost use Rattle.peer_exchange.specs.Joins.{JoinsAreValid, LackedOperationsAreNext, EqualMembersAreAlike, BothSidesAreJoined, JoinsCommute, JoinsAssociate, JoinsAreIdempotent, AnyExchangesMeet};
-ghost use Rattle.peer_exchange.specs.Taking.{NextOperationsAreTaken, BothSidesTakeAll, NewOperationsAreAppended, UnrefusedExchangesJoin, TakingInKeepsHistories, LackedOperationsAreTaken};
+ghost use Rattle.peer_exchange.specs.Joins.{JoinsAreValid, LackedOperationsAreNext, EqualMembersAreAlike, BothSidesAreJoined};
+ghost use Rattle.peer_exchange.specs.Joins.{JoinsCommute, JoinsAssociate, JoinsAreIdempotent, AnyExchangesMeet};
+ghost use Rattle.peer_exchange.specs.Taking.{NextOperationsAreTaken, BothSidesTakeAll, NewOperationsAreAppended, UnrefusedExchangesJoin};
+ghost use Rattle.peer_exchange.specs.Taking.{TakingInKeepsHistories, LackedOperationsAreTaken};
 ghost use Rattle.peer_exchange.specs.GoingOn.{GoingOnAfterMemory};
 ghost use Rattle.peer_exchange.specs.Again.{ClosingAgainChangesNothing, ClosingLaterChangesNothing};
-ghost use Rattle.peer_exchange.specs.Gaining.{TakingInGains, EditingMeanwhileLosesNothing};
-ghost use Rattle.peer_exchange.specs.Exchanges.{MessagesAreWhole, MessagesTellOneThing, UnrefusedCallsJoin, AgreeingSitesMeet, AgreeingSitesAreNotRefused, SecondExchangesAreEmpty};
+ghost use Rattle.peer_exchange.specs.Gaining.{TakingInGains, EditingMeanwhileLosesNothing, EditingMeanwhileIsNotRefused};
+ghost use Rattle.peer_exchange.specs.Exchanges.{MessagesAreWhole, MessagesTellOneThing, UnrefusedCallsJoin, AgreeingSitesMeet};
+ghost use Rattle.peer_exchange.specs.Exchanges.{AgreeingSitesAreNotRefused, SecondExchangesAreEmpty};
 ghost use Rattle.peer_exchange.specs.Lengths.{ShortHistoriesHaveShortMessages};
 
 /// The join of valid histories that agree is valid.
@@ -135,7 +138,7 @@ pub fn closing_later_changes_nothing()
 {}
 
 /// Also where operations wait, a site that took in a message keeps its history, and has the member of each operation of the message, and
-/// each insert and delete itself; whatever else is new there waited before.
+/// each insert and delete itself; whatever else is new there waited before, and so did whatever waits then.
 pub fn taking_in_gains()
     ensures { TakingInGains }
 {}
@@ -144,4 +147,10 @@ pub fn taking_in_gains()
 /// the joiner has after it closed, and each keeps what it did meanwhile.
 pub fn editing_meanwhile_loses_nothing()
     ensures { EditingMeanwhileLosesNothing }
+{}
+
+/// Where besides no name has one content at the one side and other content at the other when they take in, each of these calls
+/// refuses only when it is out of memory.
+pub fn editing_meanwhile_is_not_refused()
+    ensures { EditingMeanwhileIsNotRefused }
 {}

@@ -23,8 +23,8 @@ pub use closing::{close, finish};
 pub use laws::{
     agreeing_sites_are_not_refused, agreeing_sites_meet, any_exchanges_meet, both_sides_are_joined,
     both_sides_take_all, closing_again_changes_nothing, closing_later_changes_nothing,
-    editing_meanwhile_loses_nothing, equal_members_are_alike, going_on_after_memory,
-    joins_are_idempotent, joins_are_valid, joins_associate, joins_commute,
+    editing_meanwhile_is_not_refused, editing_meanwhile_loses_nothing, equal_members_are_alike,
+    going_on_after_memory, joins_are_idempotent, joins_are_valid, joins_associate, joins_commute,
     lacked_operations_are_next, lacked_operations_are_taken, messages_are_whole,
     messages_tell_one_thing, new_operations_are_appended, next_operations_are_taken,
     second_exchanges_are_empty, short_histories_have_short_messages, taking_in_gains,

@@ -7,7 +7,7 @@ ghost use Rattle.cot_site.specs.Sites.{state_of};
 ghost use Rattle.wire_codec.specs.Answers.{HasFrame};
 ghost use Rattle.peer_exchange.specs.declared.messages.TheConstants.{MAX_MESSAGE};
 ghost use Rattle.peer_exchange.specs.Messages.{IsThird};
-ghost use Rattle.peer_exchange.specs.Taking.{taken_in};
+ghost use Rattle.peer_exchange.specs.Taking.{all_taken_in};
 ghost use Rattle.peer_exchange.specs.Code.Receiving.{IsUntaken, AreUntaken, IsFirstOf, no_frame};
 
 use crate::peer::Peer;
@@ -21,7 +21,7 @@ use wire_codec::{Decoded, decode};
 // Takes in an operation that a peer sent, unless its verdict refuses it. The list is only room.
 fn take_next(site: &mut Site, op: Op, room: &mut Vec<Release>) -> Result<(), Peer>
     requires { IsWellFormed (data_of op) }
-    ensures taken { OnOk result (taken_in (state_of site.old) (data_of op ∷ []) ≡ Ok (state_of site.new)) }
+    ensures taken { OnOk result (all_taken_in (state_of site.old) (data_of op ∷ []) ≡ Ok (state_of site.new)) }
     ensures untaken { IfErr result (IsUntaken (state_of site.old) (data_of op) (state_of site.new)) }
 {
     let mut op = op;
@@ -31,7 +31,7 @@ fn take_next(site: &mut Site, op: Op, room: &mut Vec<Release>) -> Result<(), Pee
 // The same of an operation that the caller gives up: a match with many exits over an owned one makes its proof long.
 fn take_lent(site: &mut Site, op: &mut Op, room: &mut Vec<Release>) -> Result<(), Peer>
     requires { IsWellFormed (data_of op.old) }
-    ensures taken { OnOk result (taken_in (state_of site.old) (data_of op.old ∷ []) ≡ Ok (state_of site.new)) }
+    ensures taken { OnOk result (all_taken_in (state_of site.old) (data_of op.old ∷ []) ≡ Ok (state_of site.new)) }
     ensures untaken { IfErr result (IsUntaken (state_of site.old) (data_of op.old) (state_of site.new)) }
 {
     room.clear();
@@ -78,7 +78,7 @@ pub(crate) fn take_frames(alloc: Global, site: &mut Site, bytes: &[u8]) -> Resul
     requires frames { (os : List OpData) × IsThird bytes.now os }
     requires short { length bytes.now ≤ MAX_MESSAGE }
     ensures taken { IfOk result (λ n. (os : List OpData) × IsThird bytes.now os × (n ≡ length os)
-        × (taken_in (state_of site.old) os ≡ Ok (state_of site.new))) }
+        × (all_taken_in (state_of site.old) os ≡ Ok (state_of site.new))) }
     ensures untaken { IfErr result (λ why. (os : List OpData) × IsThird bytes.now os
         × AreUntaken (state_of site.old) os (state_of site.new) why) }
     ensures needed { OnErr result (HasFrame bytes.now) }

@@ -1,6 +1,6 @@
 -- A message on its way from one end of a pair to the other.
 use Rattle.std.proofs.Common.{◌≡◌, ℕ, zero, suc, ◌+◌, ◌-◌, ◌<◌, ◌≤◌, true, List, [], ◌∷◌, ◌++◌, length, take, drop, refl, sym, ap}
-use Rattle.std.proofs.Common.{subst, ◌∙◌, append-nil, append_assoc, arith, take-append-drop, inl, inr, ◌⊎◌, Bool}
+use Rattle.std.proofs.Common.{subst, ◌∙◌, append-nil, append_assoc, arith, take-append-drop, Bool}
 use Rattle.std.specs.Prelude.{Option, Some, None}
 use Rattle.std.proofs.Math.Seq.{take-add}
 use Rattle.std.proofs.lemmas.List.{length-append, length-drop, length-take-le, nil_from_length, take_at}
@@ -12,11 +12,10 @@ use Rattle.outside_io.specs.declared.link.Asked.{Asked}
 use Rattle.outside_io.specs.declared.link.Asked.TheVariants.{Pair}
 use Rattle.wire_codec.proofs.CallerLemmas.{IsBytes, IsBytes-take}
 use Rattle.peer_exchange.specs.declared.messages.Which.{Which}
-use Rattle.peer_exchange.specs.declared.messages.TheConstants.{MAX_MESSAGE}
 use Rattle.peer_exchange.specs.declared.messages.Measure.{Measure}
 use Rattle.peer_exchange.specs.declared.messages.Measure.TheVariants as message
 use Rattle.peer_exchange.specs.declared.messages.PeerCause.{PeerCause}
-use Rattle.peer_exchange.specs.declared.messages.PeerCause.TheVariants.{Cut, Limit}
+use Rattle.peer_exchange.specs.declared.messages.PeerCause.TheVariants.{Head, Frame, Cut, Extra, Limit}
 use Rattle.peer_exchange.specs.declared.peer.Peer.TheVariants as refused
 use Rattle.peer_exchange.specs.Lengths.{IsTooLong}
 use Rattle.peer_exchange.specs.Measuring.{measure_of}
@@ -28,9 +27,8 @@ use Rattle.site_node.specs.Exchanges.{IsFrontOf}
 use Rattle.site_node.specs.Moves.{Receives, Gains}
 use Rattle.site_node.specs.Pairs.{IsUnspoilt}
 use Rattle.site_node.specs.Stops.{AreAskedFor, Explains, IsSpoilt}
+use Rattle.site_node.specs.Code.Reading.{StopsAfter}
 use Rattle.site_node.specs.Code.Carrying.{SendsOn, IsCarried, IsUncarried}
-use Rattle.site_node.proofs.Explaining.{bad_spoils}
-use Rattle.site_node.proofs.Moving.{received_none, midway}
 
 -- ---- a piece of the bytes
 
@@ -160,7 +158,7 @@ carrying_none a o bytes came none = record {
   way = way_none o.to_come came none;
 }
 
-pub carrying_sent : (a b c o p q : End) (bytes : List ℕ) (at next : ℕ) (came : List ℕ) → Carrying a b o p bytes at came
+carrying_sent : (a b c o p q : End) (bytes : List ℕ) (at next : ℕ) (came : List ℕ) → Carrying a b o p bytes at came
     → SendsOn b c p q bytes at next → q.received ≡ p.received → Carrying a c o q bytes next came
 carrying_sent a b c o p q bytes at next came r s same = record {
   sent = subst (Appends a.sent c.sent) (sym s.parts) (Appends-trans a.sent b.sent c.sent (take at bytes) s.piece r.sent s.sent);
@@ -168,7 +166,7 @@ carrying_sent a b c o p q bytes at next came r s same = record {
   way = way_sent o.to_come p.to_come q.to_come (take at bytes) s.piece (take next bytes) came r.way s.brought s.parts;
 }
 
-pub carrying_read : (a b c o p q : End) (bytes : List ℕ) (at : ℕ) (came piece : List ℕ) → Carrying a b o p bytes at came → c ≡ b
+carrying_read : (a b c o p q : End) (bytes : List ℕ) (at : ℕ) (came piece : List ℕ) → Carrying a b o p bytes at came → c ≡ b
     → Receives p q piece → Carrying a c o q bytes at (came ++ piece)
 carrying_read a b c o p q bytes at came piece r same moved = record {
   sent = subst (λ (x : End). Appends a.sent x.sent (take at bytes)) (sym same) r.sent;
@@ -176,12 +174,12 @@ carrying_read a b c o p q bytes at came piece r same moved = record {
   way = way_read o.to_come p.to_come q.to_come (take at bytes) came piece r.way moved.consumed;
 }
 
--- where one more piece came
-pub carrying_gain : (a b c o p q : End) (bytes : List ℕ) (at : ℕ) (came now after : List ℕ) → Carrying a b o p bytes at came → c ≡ b
-    → now ≡ came → Gains p q now after → Carrying a c o q bytes at after
-carrying_gain a b c o p q bytes at came now after r same is gains =
-    subst (Carrying a c o q bytes at) (sym (gains.grown ∙ ap (λ (t : List ℕ). t ++ gains.piece) is))
-    (carrying_read a b c o p q bytes at came gains.piece r same gains.moved)
+-- where the next piece went, and one more came
+pub carrying_on : (a b c d o p q x : End) (bytes : List ℕ) (at next : ℕ) (came after : List ℕ) → Carrying a b o p bytes at came
+    → SendsOn b c p q bytes at next → q.received ≡ p.received → d ≡ c → Gains q x came after → Carrying a d o x bytes next after
+carrying_on a b c d o p q x bytes at next came after r s same other gains =
+    subst (Carrying a d o x bytes next) (sym gains.grown)
+    (carrying_read a c d o q x bytes next came gains.piece (carrying_sent a b c o p q bytes at next came r s same) other gains.moved)
 
 -- where nothing was to come at first, what came is a front of what went, and this is left of that
 told : (a b o p : End) (bytes : List ℕ) (at : ℕ) (came : List ℕ) → Carrying a b o p bytes at came → o.to_come ≡ Some []
@@ -268,69 +266,58 @@ stopped which a b o p bytes came at why r explains unspoilt = record {
   unspoilt = unspoilt;
 }
 
--- the bytes that came have a fault
-pub bad_came : (which : Which) (a b o p : End) (bytes came : List ℕ) (at offset : ℕ) (cause : PeerCause) (why : Node) → IsBytes bytes
-    → why ≡ node.Peer (refused.Bytes offset cause)
-    → Carrying a b o p bytes at came → AreAskedFor which came → measure_of which came ≡ message.Bad offset cause
-    → IsUncarried a b o p which bytes why
-bad_came which a b o p bytes came at offset cause why fits is r asked bad = stopped which a b o p bytes came at why r
-    (subst (Explains which came) (sym is) (asked, bad_spoils which came offset cause bad))
-    (λ whole none.
-    let t = told a b o p bytes at came r none in
-    absurd (bad_front which bytes came offset cause fits whole (front_of_all bytes at came t.0 t.2) bad))
+-- the ends and the bytes of a read that wasn't made, after the next piece went; it says that the bytes end too early only where no more
+-- are to come, and none came
+module _ (which : Which) (a b c d o p q x : End) (bytes came : List ℕ) (at next : ℕ) (why : Node) (fits : IsBytes bytes)
+    (r : Carrying a b o p bytes at came) (s : SendsOn b c p q bytes at next) (same : q.received ≡ p.received) (other : d ≡ c)
+    (within : (next ≤ length bytes) × (at ≤ next) × (length came ≡ at → next ≡ at → at ≡ length bytes))
+    (stops : StopsAfter which q x came why)
+    (cut : (offset : ℕ) → why ≡ node.Peer (refused.Bytes offset Cut) → IsAtEnd x.to_come × (offset ≡ length came)) where
+  abbrev all_came : List ℕ
+  all_came = came ++ stops.piece
 
--- they are as many as a message may have
-pub limit_reached : (which : Which) (a b o p : End) (bytes came : List ℕ) (at k offset : ℕ) (why : Node)
-    → why ≡ node.Peer (refused.Bytes offset Limit) → Carrying a b o p bytes at came → AreAskedFor which came
-    → measure_of which came ≡ message.More k → length came ≡ MAX_MESSAGE → offset ≡ MAX_MESSAGE → IsUncarried a b o p which bytes why
-limit_reached which a b o p bytes came at k offset why is r asked more size here = stopped which a b o p bytes came at why r
-    (subst (Explains which came) (sym is) (asked, ((k, more), size, here)))
-    (λ whole none. subst IsUnspoilt (sym is) tt)
+  read : Carrying a d o x bytes next all_came
+  read = carrying_read a c d o q x bytes next came stops.piece (carrying_sent a b c o p q bytes at next came r s same) other stops.receives
 
--- they end too early, which the fronts of a whole message don't
-pub cut_short : (which : Which) (a b c d o p q x : End) (bytes came now after : List ℕ) (at next k offset : ℕ) (why : Node)
-    → why ≡ node.Peer (refused.Bytes offset Cut)
-    → Carrying a b o p bytes at came → SendsOn b c p q bytes at next → q.received ≡ p.received → at ≤ next → next ≤ length bytes
-    → (length came ≡ at → next ≡ at → at ≡ length bytes)
-    → Gains q x now after → length after ≡ length now → d ≡ c → IsAtEnd x.to_come → measure_of which came ≡ message.More k
-    → length came < MAX_MESSAGE → offset ≡ length came
-    → AreAskedFor which came → IsUncarried a d o x which bytes why
-cut_short which a b c d o p q x bytes came now after at next k offset why is r s same up within some gains none other ended more few here
-    asked =
-    let sent = carrying_sent a b c o p q bytes at next came r s same in
-    let read =
-    subst (Carrying a d o x bytes next) (append-nil came) (carrying_read a c d o q x bytes next came [] sent other
-    (received_none q x now after gains none)) in
-    stopped which a d o x bytes came next why read
-    (subst (Explains which came) (sym is) (asked, ((k, more), few, here)))
-    (λ whole quiet.
-    let before = told a b o p bytes at came r quiet in
-    let t = told a d o x bytes next came read quiet in
-    let none_left : t.0 ≡ [] = subst IsAtEnd t.1 ended in
-    let size : length (take next bytes) ≡ next = length-take-le next bytes within in
-    let total : length (take next bytes) ≡ length came + length t.0 = ap length t.2 ∙ length-append came t.0 in
-    let size_before : length (take at bytes) ≡ at = length-take-le at bytes (omega (arith, up, within)) in
-    let total_before : length (take at bytes) ≡ length came + length before.0 = ap length before.2 ∙ length-append came before.0 in
-    let zero_left : length t.0 ≡ 0 = ap length none_left in
-    let all_read : length came ≡ at = omega (arith, size, total, size_before, total_before, zero_left, up) in
-    let unmoved : next ≡ at = omega (arith, size, total, all_read, zero_left) in
-    let all : at ≡ length bytes = some all_read unmoved in
-    let fewer = more_front which bytes came k whole (front_of_all bytes next came t.0 t.2) more in
-    absurd (omega (arith, fewer, all_read, all)))
+  module _ (whole : IsWhole which bytes) (quiet : o.to_come ≡ Some []) where
+    left : (ys : List ℕ) × (x.to_come ≡ Some ys) × (take next bytes ≡ all_came ++ ys)
+    left = told a d o x bytes next all_came read quiet
 
--- the wire failed to read, or there was no memory
-pub read_failed : (which : Which) (a b c d o p q x : End) (bytes came piece : List ℕ) (at next : ℕ) (why : Node)
-    → Carrying a b o p bytes at came → SendsOn b c p q bytes at next → q.received ≡ p.received
-    → Receives q x piece → AreAskedFor which (came ++ piece) → d ≡ c → (why ≡ node.Link) ⊎ (why ≡ node.Memory)
-    → IsUncarried a d o x which bytes why
-read_failed which a b c d o p q x bytes came piece at next why r s same lost asked other cause =
-    let sent = carrying_sent a b c o p q bytes at next came r s same in
-    let read = carrying_read a c d o q x bytes next came piece sent other lost in
-    stopped which a d o x bytes (came ++ piece) next why read (midway which (came ++ piece) why asked cause) (λ whole none. unspoilt cause)
-  where
-    unspoilt : (why ≡ node.Link) ⊎ (why ≡ node.Memory) → IsUnspoilt why
-    unspoilt (inl link) = subst IsUnspoilt (sym link) tt
-    unspoilt (inr memory) = subst IsUnspoilt (sym memory) tt
+    front : IsFrontOf all_came bytes
+    front = front_of_all bytes next all_came left.0 left.2
+
+    -- a front of a whole message doesn't end too early
+    not_cut : (offset : ℕ) → IsSpoilt which all_came offset Cut → IsAtEnd x.to_come → offset ≡ length came → ⊥
+    not_cut offset spoilt ended none =
+        let before = told a b o p bytes at came r quiet in
+        let nothing : left.0 ≡ [] = subst IsAtEnd left.1 ended in
+        let size : length (take next bytes) ≡ next = length-take-le next bytes within.0 in
+        let total : length (take next bytes) ≡ length all_came + length left.0 = ap length left.2 ∙ length-append all_came left.0 in
+        let size_before : length (take at bytes) ≡ at = length-take-le at bytes (omega (arith, within.1, within.0)) in
+        let total_before : length (take at bytes) ≡ length came + length before.0 = ap length before.2 ∙ length-append came before.0 in
+        let no_piece : length all_came ≡ length came = omega (arith, spoilt.2, none) in
+        let zero_left : length left.0 ≡ 0 = ap length nothing in
+        let all_read : length came ≡ at = omega (arith, size, total, size_before, total_before, zero_left, no_piece, within.1) in
+        let unmoved : next ≡ at = omega (arith, size, total, all_read, zero_left, no_piece) in
+        let all : at ≡ length bytes = within.2 all_read unmoved in
+        let fewer = more_front which bytes all_came spoilt.0.0 whole front spoilt.0.1 in
+        omega (arith, fewer, all_read, all, no_piece)
+
+    unspoilt_by : (y : Node) → why ≡ y → Explains which all_came y → IsUnspoilt y
+    unspoilt_by node.Link is e = tt
+    unspoilt_by (node.Peer (refused.Bytes offset Head)) is e = bad_front which bytes all_came offset Head fits whole front e.1
+    unspoilt_by (node.Peer (refused.Bytes offset (Frame cause))) is e =
+        bad_front which bytes all_came offset (Frame cause) fits whole front e.1
+    unspoilt_by (node.Peer (refused.Bytes offset Cut)) is e = not_cut offset e.1 (cut offset is).0 (cut offset is).1
+    unspoilt_by (node.Peer (refused.Bytes offset Extra)) is e = e.1
+    unspoilt_by (node.Peer (refused.Bytes offset Limit)) is e = tt
+    unspoilt_by (node.Peer (refused.Op member verdict)) is e = tt
+    unspoilt_by (node.Peer refused.Memory) is e = e
+    unspoilt_by node.Memory is e = tt
+
+  pub read_stopped : IsUncarried a d o x which bytes why
+  read_stopped =
+      stopped which a d o x bytes all_came next why read stops.explains (λ whole quiet. unspoilt_by whole quiet why refl stops.explains)
 
 -- ---- the most bytes of a message
 

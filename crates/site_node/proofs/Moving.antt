@@ -10,10 +10,12 @@ use Rattle.peer_exchange.specs.declared.messages.PeerCause.{PeerCause}
 use Rattle.peer_exchange.specs.declared.messages.PeerCause.TheVariants.{Cut}
 use Rattle.peer_exchange.specs.declared.peer.Peer.TheVariants.{Bytes}
 use Rattle.peer_exchange.specs.Measuring.{measure_of}
+use Rattle.peer_exchange.proofs.CallerLemmas.{nothing_past}
 use Rattle.site_node.specs.declared.node.Node.{Node}
 use Rattle.site_node.specs.declared.node.Node.TheVariants.{Link, Peer, Memory}
 use Rattle.site_node.specs.Moves.{Receives, Gains, IsStopped}
 use Rattle.site_node.specs.Stops.{AreAskedFor, Explains, IsSpoilt}
+use Rattle.site_node.specs.Code.Reading.{IsPart, StopsAfter}
 
 pub receives_none : (a : End) (bytes : List ℕ) → bytes ≡ [] → Receives a a bytes
 receives_none a bytes none =
@@ -60,42 +62,56 @@ pub midway : (which : Which) (bytes : List ℕ) (why : Node) → AreAskedFor whi
 midway which bytes why asked (inl link) = subst (Explains which bytes) (sym link) asked
 midway which bytes why asked (inr memory) = subst (Explains which bytes) (sym memory) asked
 
--- the wire failed, or there was no memory for the last piece
-pub stopped_midway : (which : Which) (a b c : End) (came piece : List ℕ) (why : Node)
-    → Receives a b came → Receives b c piece → AreAskedFor which (came ++ piece) → (why ≡ Link) ⊎ (why ≡ Memory) → IsStopped which a c why
-stopped_midway which a b c came piece why first lost asked cause = record {
-  came = came ++ piece;
-  receives = receives_on a b c came piece first lost;
-  explains = midway which (came ++ piece) why asked cause;
+-- ---- what comes of a message
+
+-- nothing yet
+pub no_part : (which : Which) (bytes : List ℕ) → bytes ≡ [] → IsPart which bytes
+no_part which bytes none =
+    subst (IsPart which) (sym none) (record { short = omega arith; past = nothing_past which; asked = inl refl })
+
+-- nothing more
+pub gains_none : (a : End) (before after : List ℕ) → after ≡ before → Gains a a before after
+gains_none a before after same = record {
+  piece = [];
+  grown = same ∙ sym (append-nil before);
+  moved = receives_none a [] refl;
 }
 
--- the bytes that came have a fault
-pub stopped_by : (which : Which) (a b : End) (came : List ℕ) (offset : ℕ) (cause : PeerCause) (why : Node) → why ≡ Peer (Bytes offset cause)
-    → Receives a b came → AreAskedFor which came → IsSpoilt which came offset cause → IsStopped which a b why
-stopped_by which a b came offset cause why is receives asked spoilt =
-    record { came = came; receives = receives; explains = subst (Explains which came) (sym is) (asked, spoilt) }
-
 -- no byte was received
-pub received_none : (b c : End) (now after : List ℕ) → Gains b c now after → length after ≡ length now → Receives b c []
+received_none : (b c : End) (now after : List ℕ) → Gains b c now after → length after ≡ length now → Receives b c []
 received_none b c now after gains none =
     let size : length gains.piece ≡ 0 = omega (arith, none, ap length gains.grown, length-append now gains.piece) in
     subst (Receives b c) (nil_from_length gains.piece size) gains.moved
 
--- nothing came where something was asked for
-pub nothing_gained : (b c : End) (now after : List ℕ) → Gains b c now after → length after ≡ length now → after ≡ now
-nothing_gained b c now after gains none =
-    let size : length gains.piece ≡ 0 = omega (arith, none, ap length gains.grown, length-append now gains.piece) in
-    let nothing : gains.piece ≡ [] = nil_from_length gains.piece size in
-    gains.grown ∙ (ap (λ (t : List ℕ). now ++ t) nothing ∙ append-nil now)
+-- ---- no message comes
+
+nothing_said : (which : Which) (bytes : List ℕ) (why : Node) → Explains which bytes why → Explains which (bytes ++ []) why
+nothing_said which bytes why said = subst (λ (t : List ℕ). Explains which t why) (sym (append-nil bytes)) said
+
+-- the bytes that came have a fault
+pub stops_by : (which : Which) (a : End) (bytes : List ℕ) (offset : ℕ) (cause : PeerCause) (why : Node) → why ≡ Peer (Bytes offset cause)
+    → AreAskedFor which bytes → IsSpoilt which bytes offset cause → StopsAfter which a a bytes why
+stops_by which a bytes offset cause why is asked spoilt = record {
+  piece = [];
+  receives = receives_none a [] refl;
+  explains = nothing_said which bytes why (subst (Explains which bytes) (sym is) (asked, spoilt));
+}
 
 -- nothing more is to come, where the message asks for more
-pub stopped_short : (which told : Which) (a b c : End) (before now after : List ℕ) (k offset : ℕ) (why : Node) → told ≡ which
-    → now ≡ before → Receives a b before → Gains b c now after
-    → length after ≡ length now → measure_of told before ≡ message.More k → length before < MAX_MESSAGE → offset ≡ length before
-    → why ≡ Peer (Bytes offset Cut)
-    → AreAskedFor which before → IsStopped which a c why
-stopped_short which told a b c before now after k offset why kind same first gains none asks few at is asked =
-    let unchanged : after ≡ before = nothing_gained b c now after gains none ∙ same in
-    let receives = subst (Receives a c) unchanged (receives_gain a b c before now after same first gains) in
-    let more : measure_of which before ≡ message.More k = ap (λ (w : Which). measure_of w before) (sym kind) ∙ asks in
-    stopped_by which a c before offset Cut why is receives asked ((k, more), few, at)
+pub stops_short : (which : Which) (b c : End) (before now after : List ℕ) (k offset : ℕ) (why : Node)
+    → Gains b c now after → length after ≡ length now → measure_of which before ≡ message.More k → length before < MAX_MESSAGE
+    → offset ≡ length before → why ≡ Peer (Bytes offset Cut) → AreAskedFor which before → StopsAfter which b c before why
+stops_short which b c before now after k offset why gains none more few at is asked = record {
+  piece = [];
+  receives = received_none b c now after gains none;
+  explains = nothing_said which before why (subst (Explains which before) (sym is) (asked, ((k, more), few, at)));
+}
+
+-- the same after the bytes that came before
+pub stopped_after : (which told : Which) (a b c : End) (before : List ℕ) (why : Node) → told ≡ which → Receives a b before
+    → StopsAfter told b c before why → IsStopped which a c why
+stopped_after which told a b c before why same first stops = record {
+  came = before ++ stops.piece;
+  receives = receives_on a b c before stops.piece first stops.receives;
+  explains = subst (λ (w : Which). Explains w (before ++ stops.piece) why) same stops.explains;
+}

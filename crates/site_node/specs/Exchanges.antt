@@ -11,7 +11,7 @@ use Rattle.peer_exchange.specs.Closing.{IsUnclosed, IsUnfinished}
 use Rattle.peer_exchange.specs.Joins.{unseen}
 use Rattle.peer_exchange.specs.Messages.{first_message, second_message, third_message, IsFirst, IsSecond, IsThird}
 use Rattle.peer_exchange.specs.Refusals.{IsWhole}
-use Rattle.peer_exchange.specs.Taking.{taken_in}
+use Rattle.peer_exchange.specs.Taking.{all_taken_in}
 use Rattle.site_node.specs.declared.node.Node.{Node}
 use Rattle.site_node.specs.declared.node.Node.TheVariants as node
 use Rattle.site_node.specs.Stops.{node_of, Explains}
@@ -36,11 +36,11 @@ pub record Exchanges (old new : End) (peer : Option (List ℕ)) (says : List ℕ
 abbrev pub IsFrontOf : List ℕ → List ℕ → Type 0
 IsFrontOf front bytes = (rest : List ℕ) × (bytes ≡ front ++ rest)
 
--- ---- a server, whose state is `s` before and `t` after
+-- ---- a server, before and after
 
 -- a whole first message came, which tells a state; the second message for it went; a whole third message came, and the operations
 -- that it has were taken in
-pub record IsServed (s t : State) (counts : ℕ × ℕ) (came gone : List ℕ) : Type 0 where
+pub record IsServed (server server_after : State) (counts : ℕ × ℕ) (came gone : List ℕ) : Type 0 where
   pub first : List ℕ
   pub third : List ℕ
   pub theirs : ContextData
@@ -48,107 +48,111 @@ pub record IsServed (s t : State) (counts : ℕ × ℕ) (came gone : List ℕ) :
   pub parts : came ≡ first ++ third
   pub first_whole : IsWhole First first
   pub told : IsFirst first theirs
-  pub answered : gone ≡ second_message s.history theirs
+  pub answered : gone ≡ second_message server.history theirs
   pub third_whole : IsWhole Third third
   pub read : IsThird third ops
-  pub taken : taken_in s ops ≡ Ok t
-  pub frames_sent : counts.0 ≡ length (unseen (has theirs) s.history)
+  pub taken : all_taken_in server ops ≡ Ok server_after
+  pub frames_sent : counts.0 ≡ length (unseen (has theirs) server.history)
   pub frames_taken : counts.1 ≡ length ops
 
 -- it stopped at the first message: no byte went, and the site is as it was
-pub record StopsAtFirst (s t : State) (why : Node) (came gone : List ℕ) : Type 0 where
-  pub same : t ≡ s
+pub record StopsAtFirst (server server_after : State) (why : Node) (came gone : List ℕ) : Type 0 where
+  pub same : server_after ≡ server
   pub silent : gone ≡ []
   pub explained : Explains First came why
 
 -- the wire failed while the second message went: nothing came after the first one, and the site is as it was
-pub record StopsAnswering (s t : State) (why : Node) (came gone : List ℕ) : Type 0 where
+pub record StopsAnswering (server server_after : State) (why : Node) (came gone : List ℕ) : Type 0 where
   pub theirs : ContextData
   pub first_whole : IsWhole First came
   pub told : IsFirst came theirs
-  pub answered : IsFrontOf gone (second_message s.history theirs)
-  pub same : t ≡ s
+  pub answered : IsFrontOf gone (second_message server.history theirs)
+  pub same : server_after ≡ server
   pub cause : why ≡ node.Link
 
 -- it stopped after the second message went, and before a whole third one came: the site is as it was
-pub record StopsAtThird (s t : State) (why : Node) (came gone : List ℕ) : Type 0 where
+pub record StopsAtThird (server server_after : State) (why : Node) (came gone : List ℕ) : Type 0 where
   pub first : List ℕ
   pub rest : List ℕ
   pub theirs : ContextData
   pub parts : came ≡ first ++ rest
   pub first_whole : IsWhole First first
   pub told : IsFirst first theirs
-  pub answered : gone ≡ second_message s.history theirs
-  pub same : t ≡ s
+  pub answered : gone ≡ second_message server.history theirs
+  pub same : server_after ≡ server
   pub explained : Explains Third rest why
 
 -- it stopped while the operations of a whole third message were taken in
-pub record StopsServing (s t : State) (why : Node) (came gone : List ℕ) : Type 0 where
+pub record StopsServing (server server_after : State) (why : Node) (came gone : List ℕ) : Type 0 where
   pub first : List ℕ
   pub third : List ℕ
   pub theirs : ContextData
   pub parts : came ≡ first ++ third
   pub first_whole : IsWhole First first
   pub told : IsFirst first theirs
-  pub answered : gone ≡ second_message s.history theirs
+  pub answered : gone ≡ second_message server.history theirs
   pub third_whole : IsWhole Third third
   pub refusal : Peer
-  pub refused : IsUnfinished s third t refusal
+  pub refused : IsUnfinished server third server_after refusal
   pub cause : why ≡ node_of refusal
 
 -- a server's exchange that stopped
 abbrev pub IsUnserved : State → State → Node → List ℕ → List ℕ → Type 0
-IsUnserved s t why came gone =
-    StopsAtFirst s t why came gone ⊎ (StopsAnswering s t why came gone ⊎ (StopsAtThird s t why came gone ⊎ StopsServing s t why came gone))
+IsUnserved server server_after why came gone =
+    StopsAtFirst server server_after why came gone
+    ⊎ (StopsAnswering server server_after why came gone
+    ⊎ (StopsAtThird server server_after why came gone ⊎ StopsServing server server_after why came gone))
 
--- ---- a joiner, whose state is `s` before and `t` after
+-- ---- a joiner, before and after
 
 -- the first message went; a whole second message came, which tells a state, and the operations that it has were taken in; the third
 -- message for that state went
-pub record IsBrought (s t : State) (counts : ℕ × ℕ) (came gone : List ℕ) : Type 0 where
+pub record IsBrought (joiner joiner_after : State) (counts : ℕ × ℕ) (came gone : List ℕ) : Type 0 where
   pub theirs : ContextData
   pub ops : List OpData
   pub whole : IsWhole Second came
   pub read : IsSecond came theirs ops
-  pub taken : taken_in s ops ≡ Ok t
-  pub sent : gone ≡ first_message s.history ++ third_message t.history theirs
-  pub frames_sent : counts.0 ≡ length (unseen (has theirs) t.history)
+  pub taken : all_taken_in joiner ops ≡ Ok joiner_after
+  pub sent : gone ≡ first_message joiner.history ++ third_message joiner_after.history theirs
+  pub frames_sent : counts.0 ≡ length (unseen (has theirs) joiner_after.history)
   pub frames_taken : counts.1 ≡ length ops
 
 -- the wire failed while the first message went, or there was no memory for it, and none of it went: no byte came, and the site is as it was
-pub record StopsOffering (s t : State) (why : Node) (came gone : List ℕ) : Type 0 where
-  pub same : t ≡ s
+pub record StopsOffering (joiner joiner_after : State) (why : Node) (came gone : List ℕ) : Type 0 where
+  pub same : joiner_after ≡ joiner
   pub unheard : came ≡ []
-  pub offered : IsFrontOf gone (first_message s.history)
+  pub offered : IsFrontOf gone (first_message joiner.history)
   pub cause : (why ≡ node.Link) ⊎ ((why ≡ node.Memory) × (gone ≡ []))
 
 -- it stopped after the first message went, and before a whole second one came: the site is as it was
-pub record StopsAtSecond (s t : State) (why : Node) (came gone : List ℕ) : Type 0 where
-  pub same : t ≡ s
-  pub offered : gone ≡ first_message s.history
+pub record StopsAtSecond (joiner joiner_after : State) (why : Node) (came gone : List ℕ) : Type 0 where
+  pub same : joiner_after ≡ joiner
+  pub offered : gone ≡ first_message joiner.history
   pub explained : Explains Second came why
 
 -- it stopped while the operations of a whole second message were taken in, or before the third one was made
-pub record StopsClosing (s t : State) (why : Node) (came gone : List ℕ) : Type 0 where
+pub record StopsClosing (joiner joiner_after : State) (why : Node) (came gone : List ℕ) : Type 0 where
   pub whole : IsWhole Second came
-  pub offered : gone ≡ first_message s.history
+  pub offered : gone ≡ first_message joiner.history
   pub refusal : Peer
-  pub refused : IsUnclosed s came t refusal
+  pub refused : IsUnclosed joiner came joiner_after refusal
   pub cause : why ≡ node_of refusal
 
 -- the wire failed while the third message went
-pub record StopsSending (s t : State) (why : Node) (came gone : List ℕ) : Type 0 where
+pub record StopsSending (joiner joiner_after : State) (why : Node) (came gone : List ℕ) : Type 0 where
   pub theirs : ContextData
   pub ops : List OpData
   pub whole : IsWhole Second came
   pub read : IsSecond came theirs ops
-  pub taken : taken_in s ops ≡ Ok t
+  pub taken : all_taken_in joiner ops ≡ Ok joiner_after
   pub third : List ℕ
-  pub sent : gone ≡ first_message s.history ++ third
-  pub front : IsFrontOf third (third_message t.history theirs)
+  pub sent : gone ≡ first_message joiner.history ++ third
+  pub front : IsFrontOf third (third_message joiner_after.history theirs)
   pub cause : why ≡ node.Link
 
 -- a joiner's exchange that stopped
 abbrev pub IsUnjoined : State → State → Node → List ℕ → List ℕ → Type 0
-IsUnjoined s t why came gone =
-    StopsOffering s t why came gone ⊎ (StopsAtSecond s t why came gone ⊎ (StopsClosing s t why came gone ⊎ StopsSending s t why came gone))
+IsUnjoined joiner joiner_after why came gone =
+    StopsOffering joiner joiner_after why came gone
+    ⊎ (StopsAtSecond joiner joiner_after why came gone
+    ⊎ (StopsClosing joiner joiner_after why came gone ⊎ StopsSending joiner joiner_after why came gone))

@@ -1,6 +1,6 @@
 //! Carrying a message from one end of a pair to the other.
 
-ghost use Rattle.std.specs.Prelude.{◌≡◌, ◌<◌, ◌≤◌, ◌+◌, ◌-◌, [], true, length, drop, IfOk, IfErr, OnOk, OnErr};
+ghost use Rattle.std.specs.Prelude.{◌≡◌, ◌<◌, ◌≤◌, ◌+◌, ◌-◌, true, length, drop, IfOk, IfErr, OnOk, OnErr};
 ghost use Rattle.std.specs.Io.KnownBytes.{Appends};
 ghost use Rattle.outside_io.specs.Ends.{KeepLinked};
 ghost use Rattle.outside_io.specs.Faults.{HasCause};
@@ -12,10 +12,10 @@ ghost use Rattle.site_node.specs.Stops.{AreAskedFor, OnlyLinkFails};
 ghost use Rattle.site_node.specs.Code.Carrying.{SendsOn, IsCarried, IsUncarried};
 
 use crate::node::Node;
-use crate::receiving::{ROOM, read_on, spoilt, wanted};
+use crate::receiving::read_on;
 use crate::sending::send;
 use outside_io::{Failed, Wire};
-use peer_exchange::{MAX_MESSAGE, Measure, MessageReader, PeerCause, Which};
+use peer_exchange::{MAX_MESSAGE, Measure, MessageReader, Which};
 use std::alloc::Global;
 
 // How many bytes are written at one end, at most, before the other end reads them.
@@ -96,72 +96,22 @@ pub(crate) fn carry<W: Wire>(
     ensures cause { OnlyLinkFails (W.faults wire.old) (W.faults wire.new) result }
 {
     let mut reader = MessageReader::new(alloc, which);
-    match carry_on(wire, from, bytes, &mut reader) {
-        Ok(()) => Ok(reader.into_bytes()),
-        Err(why) => Err(why),
-    }
-}
-
-// The same by a reader that the caller gives up: a loop with many exits over an owned one makes its proof long.
-fn carry_on<W: Wire>(
-    wire: &mut W,
-    from: u8,
-    bytes: &[u8],
-    reader: &mut MessageReader,
-) -> Result<(), Node>
-    requires linked { (W.ends wire.old from).linked ≡ true }
-    requires other { (W.ends wire.old (1 - from)).linked ≡ true }
-    requires pair { W.asked wire.old ≡ asked.Pair }
-    requires side { from < 2 }
-    requires nothing { reader.old.bytes ≡ [] }
-
-    ensures whole { OnOk result (measure_of reader.old.which reader.new.bytes ≡ Measure.Whole (length reader.new.bytes)) }
-    ensures short { OnOk result (length reader.new.bytes ≤ MAX_MESSAGE) }
-    ensures carried { OnOk result (IsCarried (W.ends wire.old (1 - from)) (W.ends wire.new (1 - from)) reader.old.which bytes.now
-        reader.new.bytes) }
-    ensures wanted { OnOk result (AreAskedFor reader.old.which reader.new.bytes) }
-    ensures sent { OnOk result (Appends (W.ends wire.old from).sent (W.ends wire.new from).sent bytes.now) }
-    ensures uncarried { IfErr result
-        (IsUncarried (W.ends wire.old from) (W.ends wire.new from) (W.ends wire.old (1 - from)) (W.ends wire.new (1 - from))
-        reader.old.which bytes.now) }
-
-    ensures received { (W.ends wire.new from).received ≡ (W.ends wire.old from).received }
-    ensures to_come { (W.ends wire.new from).to_come ≡ (W.ends wire.old from).to_come }
-    ensures other_sent { (W.ends wire.new (1 - from)).sent ≡ (W.ends wire.old (1 - from)).sent }
-    ensures kept { KeepLinked (W.ends wire.old) (W.ends wire.new) }
-    ensures asked { W.asked wire.new ≡ W.asked wire.old }
-    ensures asks { W.asks wire.new ≡ W.asks wire.old }
-    ensures peer { W.peer wire.new ≡ W.peer wire.old }
-    ensures cause { OnlyLinkFails (W.faults wire.old) (W.faults wire.new) result }
-{
-    let mut room = [0u8; ROOM];
     let mut at = 0;
     loop {
-        let len = reader.len();
-        match reader.measure() {
-            Measure::Whole { .. } => {
+        match send_on(wire, from, bytes, at, reader.len()) {
+            Ok(next) => at = next,
+            Err(Failed) => return Err(Node::Link),
+        }
+        match read_on(wire, 1 - from, &mut reader) {
+            Ok(0) => {
                 let (_, rest) = bytes.split_at(at);
                 match send(wire, from, rest) {
-                    Ok(()) => return Ok(()),
+                    Ok(()) => return Ok(reader.into_bytes()),
                     Err(Failed) => return Err(Node::Link),
                 }
             }
-            Measure::Bad { offset, cause } => return Err(spoilt(offset, cause)),
-            Measure::More { at_least } => {
-                if len == MAX_MESSAGE {
-                    return Err(spoilt(len as u32, PeerCause::Limit));
-                }
-                match send_on(wire, from, bytes, at, len) {
-                    Ok(next) => at = next,
-                    Err(Failed) => return Err(Node::Link),
-                }
-                let wanted = wanted(len, at_least);
-                match read_on(wire, 1 - from, reader, &mut room[..wanted]) {
-                    Ok(0) => return Err(spoilt(len as u32, PeerCause::Cut)),
-                    Ok(_) => {}
-                    Err(why) => return Err(why),
-                }
-            }
+            Ok(_) => {}
+            Err(why) => return Err(why),
         }
     }
 }

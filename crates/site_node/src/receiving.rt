@@ -1,11 +1,13 @@
 //! Receiving a message.
 
-ghost use Rattle.std.specs.Prelude.{◌≡◌, ◌⊎◌, ℕ, ◌<◌, ◌≤◌, ◌+◌, ◌-◌, List, [], true, length, IfOk, IfErr, OnOk, OnErr, Ok, Err};
+ghost use Rattle.std.specs.Prelude.{◌≡◌, ◌⊎◌, ℕ, ◌<◌, ◌≤◌, ◌+◌, ◌-◌, List, true, length, IfOk, IfErr, OnOk, OnErr, Ok, Err};
 ghost use Rattle.std.specs.Io.KnownBytes.{IsAtEnd};
 ghost use Rattle.outside_io.specs.Ends.{KeepLinked};
 ghost use Rattle.peer_exchange.specs.Measuring.{measure_of, NotPast};
+ghost use Rattle.peer_exchange.specs.Refusals.{IsWhole};
 ghost use Rattle.site_node.specs.Moves.{Receives, Gains, Loses, IsStopped};
 ghost use Rattle.site_node.specs.Stops.{AreAskedFor, OnlyLinkFails};
+ghost use Rattle.site_node.specs.Code.Reading.{IsPart, StopsAfter};
 
 use crate::node::Node;
 use op_name::Memory;
@@ -14,10 +16,10 @@ use peer_exchange::{MAX_MESSAGE, Measure, MessageReader, Peer, PeerCause, Which}
 use std::alloc::Global;
 
 // How many bytes are read at once, at most.
-pub(crate) const ROOM: usize = 1024;
+const ROOM: usize = 1024;
 
 // Reads once, and appends what came.
-pub(crate) fn read_on<W: Wire>(
+fn read_once<W: Wire>(
     wire: &mut W,
     end: u8,
     reader: &mut MessageReader,
@@ -54,7 +56,7 @@ pub(crate) fn read_on<W: Wire>(
 }
 
 // How many bytes to read at once: some, no more than are asked for, and no more than a message may have.
-pub(crate) fn wanted(len: usize, at_least: u64) -> usize
+fn wanted(len: usize, at_least: u64) -> usize
     requires few { len < MAX_MESSAGE }
     requires asked { len < at_least }
     ensures some { 0 < result }
@@ -65,6 +67,52 @@ pub(crate) fn wanted(len: usize, at_least: u64) -> usize
     let asked = at_least - len as u64;
     let left = (MAX_MESSAGE - len) as u64;
     asked.min(left).min(ROOM as u64) as usize
+}
+
+/// Reads the next piece of a message, as far as it isn't whole. Answers how many bytes came: none where it is whole.
+pub(crate) fn read_on<W: Wire>(
+    wire: &mut W,
+    end: u8,
+    reader: &mut MessageReader,
+) -> Result<usize, Node>
+    requires linked { (W.ends wire.old end).linked ≡ true }
+    requires side { end < 2 }
+    requires part { IsPart reader.old.which reader.old.bytes }
+
+    ensures whole { result ≡ Ok 0 → IsWhole reader.new.which reader.new.bytes }
+    ensures part { OnOk result (IsPart reader.new.which reader.new.bytes) }
+    ensures which { reader.new.which ≡ reader.old.which }
+    ensures size { IfOk result (λ n. length reader.new.bytes ≡ length reader.old.bytes + n) }
+    ensures gains { OnOk result (Gains (W.ends wire.old end) (W.ends wire.new end) reader.old.bytes reader.new.bytes) }
+    ensures stopped { IfErr result (StopsAfter reader.old.which (W.ends wire.old end) (W.ends wire.new end) reader.old.bytes) }
+    // They end too early only where no more are to come, and none came.
+    ensures cut { (offset : ℕ) → result ≡ Err (Node.Peer (Peer.Bytes offset PeerCause.Cut))
+        → IsAtEnd (W.ends wire.new end).to_come × (offset ≡ length reader.old.bytes) }
+
+    ensures other_end { W.ends wire.new (1 - end) ≡ W.ends wire.old (1 - end) }
+    ensures kept { KeepLinked (W.ends wire.old) (W.ends wire.new) }
+    ensures asked { W.asked wire.new ≡ W.asked wire.old }
+    ensures asks { W.asks wire.new ≡ W.asks wire.old }
+    ensures peer { W.peer wire.new ≡ W.peer wire.old }
+    ensures cause { OnlyLinkFails (W.faults wire.old) (W.faults wire.new) result }
+{
+    let len = reader.len();
+    match reader.measure() {
+        Measure::Whole { .. } => Ok(0),
+        Measure::Bad { offset, cause } => Err(spoilt(offset, cause)),
+        Measure::More { at_least } => {
+            if len == MAX_MESSAGE {
+                return Err(spoilt(len as u32, PeerCause::Limit));
+            }
+            let mut room = [0u8; ROOM];
+            let wanted = wanted(len, at_least);
+            match read_once(wire, end, reader, &mut room[..wanted]) {
+                Ok(0) => Err(spoilt(len as u32, PeerCause::Cut)),
+                Ok(given) => Ok(given),
+                Err(why) => Err(why),
+            }
+        }
+    }
 }
 
 /// Receives one message, and no byte after it.
@@ -93,55 +141,17 @@ pub(crate) fn receive<W: Wire>(
     ensures cause { OnlyLinkFails (W.faults wire.old) (W.faults wire.new) result }
 {
     let mut reader = MessageReader::new(alloc, which);
-    match fill(wire, end, &mut reader) {
-        Ok(()) => Ok(reader.into_bytes()),
-        Err(why) => Err(why),
-    }
-}
-
-// The same by a reader that the caller gives up: a loop with many exits over an owned one makes its proof long.
-fn fill<W: Wire>(wire: &mut W, end: u8, reader: &mut MessageReader) -> Result<(), Node>
-    requires linked { (W.ends wire.old end).linked ≡ true }
-    requires side { end < 2 }
-    requires nothing { reader.old.bytes ≡ [] }
-
-    ensures whole { OnOk result (measure_of reader.old.which reader.new.bytes ≡ Measure.Whole (length reader.new.bytes)) }
-    ensures short { OnOk result (length reader.new.bytes ≤ MAX_MESSAGE) }
-    ensures received { OnOk result (Receives (W.ends wire.old end) (W.ends wire.new end) reader.new.bytes) }
-    ensures wanted { OnOk result (AreAskedFor reader.old.which reader.new.bytes) }
-    ensures stopped { IfErr result (IsStopped reader.old.which (W.ends wire.old end) (W.ends wire.new end)) }
-    ensures cut { (offset : ℕ) → result ≡ Err (Node.Peer (Peer.Bytes offset PeerCause.Cut)) → IsAtEnd (W.ends wire.new end).to_come }
-
-    ensures other_end { W.ends wire.new (1 - end) ≡ W.ends wire.old (1 - end) }
-    ensures kept { KeepLinked (W.ends wire.old) (W.ends wire.new) }
-    ensures asked { W.asked wire.new ≡ W.asked wire.old }
-    ensures asks { W.asks wire.new ≡ W.asks wire.old }
-    ensures peer { W.peer wire.new ≡ W.peer wire.old }
-    ensures cause { OnlyLinkFails (W.faults wire.old) (W.faults wire.new) result }
-{
-    let mut room = [0u8; ROOM];
     loop {
-        let len = reader.len();
-        match reader.measure() {
-            Measure::Whole { .. } => return Ok(()),
-            Measure::Bad { offset, cause } => return Err(spoilt(offset, cause)),
-            Measure::More { at_least } => {
-                if len == MAX_MESSAGE {
-                    return Err(spoilt(len as u32, PeerCause::Limit));
-                }
-                let wanted = wanted(len, at_least);
-                match read_on(wire, end, reader, &mut room[..wanted]) {
-                    Ok(0) => return Err(spoilt(len as u32, PeerCause::Cut)),
-                    Ok(_) => {}
-                    Err(why) => return Err(why),
-                }
-            }
+        match read_on(wire, end, &mut reader) {
+            Ok(0) => return Ok(reader.into_bytes()),
+            Ok(_) => {}
+            Err(why) => return Err(why),
         }
     }
 }
 
 // The bytes have a fault.
-pub(crate) fn spoilt(offset: u32, cause: PeerCause) -> Node
+fn spoilt(offset: u32, cause: PeerCause) -> Node
     ensures { result ≡ Node.Peer (Peer.Bytes offset cause) }
 {
     Node::Peer(Peer::Bytes { offset, cause })

@@ -11,7 +11,7 @@ use Rattle.wire_codec.specs.States.{IsState}
 use Rattle.peer_exchange.specs.declared.peer.Peer.{Peer}
 use Rattle.peer_exchange.specs.declared.peer.Peer.TheVariants as peer
 use Rattle.peer_exchange.specs.Messages.{telling, IsThird}
-use Rattle.peer_exchange.specs.Taking.{taken_in, IsRefusedAt, IsBefore, IsOnTheWay}
+use Rattle.peer_exchange.specs.Taking.{all_taken_in, IsRefusedAt, IsBefore, IsOnTheWay}
 
 -- the bytes begin with no frame, but with the length 0 of an end mark
 abbrev pub no_frame : List ℕ → Bool
@@ -20,7 +20,7 @@ no_frame bytes = nat_lt (length bytes) 4 || (length_of bytes == 0)
 -- why one operation wasn't taken in, and what that leaves: a refusal leaves nothing of it, running out of memory perhaps some of it
 abbrev pub IsUntaken : State → OpData → State → Peer → Type 0
 IsUntaken s o t (peer.Bytes offset cause) = ⊥
-IsUntaken s o t (peer.Op member verdict) = (t ≡ s) × (taken_in s (o ∷ []) ≡ Err (record { member = member; verdict = verdict }))
+IsUntaken s o t (peer.Op member verdict) = (t ≡ s) × (all_taken_in s (o ∷ []) ≡ Err (record { member = member; verdict = verdict }))
 IsUntaken s o t peer.Memory = IsBefore s (o ∷ []) t
 
 -- why these operations weren't all taken in

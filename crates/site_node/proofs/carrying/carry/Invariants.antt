@@ -2,22 +2,19 @@
 use Rattle.std.proofs.Common.{◌≡◌, length, ◌+◌, ◌-◌, ◌≤◌}
 use Rattle.outside_io.specs.Ends.{KeepLinked}
 use Rattle.peer_exchange.specs.declared.messages.TheConstants.{MAX_MESSAGE}
-use Rattle.peer_exchange.specs.Measuring.{NotPast}
 use Rattle.site_node.specs.declared.carrying.TheConstants.{UNDER_WAY}
-use Rattle.site_node.specs.Stops.{AreAskedFor}
+use Rattle.site_node.specs.Code.Reading.{IsPart}
 use Rattle.site_node.proofs.Carriages.{Carrying}
-use Rattle.site_node.proofs.carrying.carry_on.Given as goal
+use Rattle.site_node.proofs.carrying.carry.Given as goal
 
-abbrev pub invariant-loop-rest : goal.invariant-loop-rest
-invariant-loop-rest g l = record {
-  short : length l.reader.bytes ≤ MAX_MESSAGE;
+abbrev pub invariant-loop-next : goal.invariant-loop-next
+invariant-loop-next g l = record {
+  part : IsPart l.reader.which l.reader.bytes;
   within : l.at ≤ length l.bytes;
   under_way : l.at ≤ length l.reader.bytes + UNDER_WAY;
-  which : l.reader.which ≡ l.fn.reader.which;
+  which : l.reader.which ≡ l.fn.which;
   carrying : Carrying (g.W.Wire.ends l.fn.wire l.fn.from) (g.W.Wire.ends l.wire l.fn.from) (g.W.Wire.ends l.fn.wire (1 - l.fn.from))
       (g.W.Wire.ends l.wire (1 - l.fn.from)) l.bytes l.at l.reader.bytes;
-  past : NotPast l.reader.which l.reader.bytes;
-  wanted : AreAskedFor l.fn.reader.which l.reader.bytes;
   kept : KeepLinked (g.W.Wire.ends l.fn.wire) (g.W.Wire.ends l.wire);
   received : (g.W.Wire.ends l.wire l.fn.from).received ≡ (g.W.Wire.ends l.fn.wire l.fn.from).received;
   to_come : (g.W.Wire.ends l.wire l.fn.from).to_come ≡ (g.W.Wire.ends l.fn.wire l.fn.from).to_come;
@@ -28,5 +25,5 @@ invariant-loop-rest g l = record {
   faultless : g.W.Wire.faults l.wire ≡ g.W.Wire.faults l.fn.wire;
 }
 
-abbrev pub decreases-loop-rest : goal.decreases-loop-rest
-decreases-loop-rest g l = MAX_MESSAGE - length l.reader.bytes
+abbrev pub decreases-loop-next : goal.decreases-loop-next
+decreases-loop-next g l = MAX_MESSAGE - length l.reader.bytes
