@@ -19,8 +19,7 @@ use Rattle.transform_rec.specs.Family.{Family}
 use Rattle.transform_rec.specs.Derived.{IsFamily}
 use Rattle.transform_rec.specs.Executing.{Setting, HasOwnNames, keep}
 use Rattle.transform_rec.specs.Histories.{family_in}
-use Rattle.transform_rec.proofs.CallerLemmas.{IsRising, At, Forms, Run, run, run_forms, empty_state, part_run, filter_in, in_filter}
-use Rattle.transform_rec.proofs.Parts.{restricted}
+use Rattle.transform_rec.proofs.CallerLemmas.{IsRising, At, Forms, Run, run, run_forms, empty_state, part_run, filter_in, in_filter, restricted}
 use Rattle.fixed_replay.specs.Originals.{AreToldFrom, AreToldApart}
 use Rattle.fixed_replay.specs.Insertions.{insertions_of}
 use Rattle.fixed_replay.proofs.Editor.{form_inclusion, form_table, setting_of, insert_owner}

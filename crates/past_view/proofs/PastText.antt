@@ -12,7 +12,7 @@ use Rattle.context_vector.specs.Contexts.{ContextData, HasNoStray, has, entry_in
 use Rattle.context_diff.proofs.CallerLemmas.{has_generation}
 use Rattle.ttf_form.specs.Cells.{CellData}
 use Rattle.tombstone_text.specs.Chunks.{flat}
-use Rattle.visible_view.proofs.ShownText.{flat_more}
+use Rattle.visible_view.proofs.CallerLemmas.{flat_more}
 use Rattle.past_view.specs.Pasts.{first_stray}
 use Rattle.past_view.specs.Code.PastCells.{is_past, past_text}
 

@@ -10,7 +10,7 @@ pub use Rattle.transform_rec.proofs.Histories.{added_next, history_causal, known
 pub use Rattle.transform_rec.proofs.Keeping.{forms_used, found_form, next_keeps, no_entries}
 pub use Rattle.transform_rec.proofs.Lists.{count-append, filter-append, filter_all, filter_in, filter_keeps, filter_same, in_cases, in_filter, in_left, in_right, length-count}
 pub use Rattle.transform_rec.proofs.Order.{any_order}
-pub use Rattle.transform_rec.proofs.Parts.{before_cell, one_more, part_run, part_state, rest_run}
+pub use Rattle.transform_rec.proofs.Parts.{before_cell, one_more, part_run, part_state, rest_run, restricted}
 pub use Rattle.transform_rec.proofs.Sets.{all-append, all_cases, all_in, all_keeps, all_same, lacks_from, plus_both, plus_cases, plus_here, plus_keeps, plus_other, plus_parts, plus_same, plus_swap, plus_within, same_from, same_set}
 pub use Rattle.transform_rec.proofs.Turns.{difference_in, difference_run, difference_whole}
 pub use Rattle.transform_rec.proofs.Uniqueness.{derived_once}

@@ -1,7 +1,7 @@
 use Rattle.std.proofs.Common.{◌≡◌, ◌++◌, ◌<◌, ℕ, List, [], take, length, get_or, vec_len, ap, ◌∙◌, sym, append_assoc, arith}
 use Rattle.ttf_form.specs.Cells.{CellData}
 use Rattle.tombstone_text.specs.Chunks.{flat}
-use Rattle.visible_view.proofs.ShownText.{front_stays, on_err}
+use Rattle.visible_view.proofs.CallerLemmas.{front_stays, on_err}
 use Rattle.past_view.specs.Code.PastCells.{past_text}
 use Rattle.past_view.proofs.PastText.{past_chunk_more}
 use Rattle.past_view.proofs.past.push_past.Goals as goal
