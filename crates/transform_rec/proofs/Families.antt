@@ -109,7 +109,8 @@ module _ {F : Type 0} (b : Family F) where
             and_from (C y) (not (b.context m y)) p.0 (not_from_false (b.context m y) unseen) in
             elim (in_cases y l.before (x ∷ l.after) (subst (λ (ys : List Member). IsIn y ys) l.whole i)) [
               | inl j ↦ both_ways (b.context y x)
-                  (causal_before b.context l.before x l.after y (subst (λ (ys : List Member). IsCausal b.context ys) l.whole c.causal) j) back
+                  (causal_before b.context l.before x l.after y (subst (λ (ys : List Member). IsCausal b.context ys) l.whole c.causal) j)
+                  back
               | inr (inl e2) ↦ p.1 (sym e2)
               | inr (inr j) ↦ both_ways (C y && not (b.context m y)) (l.rest y j) passes
             ] in

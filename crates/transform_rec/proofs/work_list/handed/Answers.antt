@@ -19,7 +19,8 @@ take_in-requires-clause-waits g c =
     let same : c.in_ok-key.key.member ≡ c.args.at.member = ap (λ (k : KeyData). k.member) c.in_ok-key.ensures ∙ c.member_in-x.ensures in (
       c.requires.waits.0,
       subst (λ (y : Member).
-          IsWaiting g.F.Include.over (family_in c.args.book.now.ops (g.B.Bases.base_form c.args.bases.now)) c.requires.waits.0 y c.args.outer)
+          IsWaiting g.F.Include.over (family_in c.args.book.now.ops (g.B.Bases.base_form c.args.bases.now)) c.requires.waits.0 y
+          c.args.outer)
           (sym same) c.requires.waits.1,
     )
 
