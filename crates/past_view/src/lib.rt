@@ -1,4 +1,4 @@
-//! What a text was and where its places are: a place of a text is seen as a line and a column, and these as the place.
+//! Where the places of a text are: a place, after so many characters, is seen as a line and a column, and these as the place.
 #![tactic(auto)]
 
 mod counted;
