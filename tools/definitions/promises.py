@@ -84,6 +84,15 @@ PROMISES = (
         (Start("log_replies/specs/Explaining.antt", "IsExplained"), Start(RUN, "run", "one_explanation")),
     ),
     Promise(
+        "`where`, `find`",
+        "They write the line and the column of a place of the shown text, and the place that has these; no two places have the same.",
+        (
+            Start("log_replies/specs/Addressing.antt", "IsLocated"),
+            Start("log_replies/specs/Addressing.antt", "IsFound"),
+            Start("past_view/specs/Laws.antt", "OnePlace"),
+        ),
+    ),
+    Promise(
         "`replay`",
         "It writes the report of a script, in which each `show` has the text of the history that its site has there.",
         (Start("cotpad_run/specs/Replaying.antt", "IsReplayed"),),

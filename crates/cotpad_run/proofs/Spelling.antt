@@ -10,9 +10,9 @@ use Rattle.session_replay.specs.declared.generator.TheConstants.{MAX_EVENTS, MAX
 use Rattle.log_replies.specs.Editing.{EditData, Ins, Nl, Del, Undo, Redo}
 use Rattle.cotpad_run.specs.declared.command.Command.{Command}
 use Rattle.cotpad_run.specs.declared.command.TheConstants.{MAX_PORT}
-use Rattle.cotpad_run.specs.Commands.{CommandData, Replay, Show, Edit, Gen, Explain, Serve, Join, Loop, Help, DashedHelp, command_data}
+use Rattle.cotpad_run.specs.Commands.{CommandData, Replay, Show, Edit, Gen, Explain, Where, Find, Serve, Join, Loop, Help, DashedHelp, command_data}
 use Rattle.cotpad_run.specs.Words.{edit_words, command_words, IsEditInRange, IsPort, IsInRange, Spells}
-use Rattle.cotpad_run.specs.Code.Reading.{first_in, one_in, alone_in, text_in, ins_in, nl_in, del_in, undo_in, redo_in, edit_row, edit_in, gen_in, gen_of, explain_in, port_of, port_in, loop_in, command_row, command_in}
+use Rattle.cotpad_run.specs.Code.Reading.{first_in, one_in, alone_in, text_in, ins_in, nl_in, del_in, undo_in, redo_in, edit_row, edit_in, gen_in, gen_of, explain_in, where_in, find_in, port_of, port_in, loop_in, command_row, command_in}
 
 first_some : (ws : List (List ℕ)) (p : List ℕ × List (List ℕ)) → first_in ws ≡ Some p → ws ≡ p.0 ∷ p.1
 first_some [] p e = cc
@@ -176,6 +176,31 @@ explain_from parts c h =
     subst (λ x. (codes "explain" ∷ parts ≡ command_words x) × IsInRange x) (some_is (Explain m.0) c m.2)
     (ap (λ xs. codes "explain" ∷ xs) spelled, member.1)
 
+where_from : (parts : List (List ℕ)) (c : CommandData) → where_in parts ≡ Some c → IsCommand (codes "where" ∷ parts) c
+unfolding where_in IsCommand
+where_from parts c h =
+    let w = and_then_some (one_in parts) _ c h in
+    let v = and_then_some (number_of w.0) _ c w.2 in
+    let place = number_reads.from w.0 v.0 v.1 in
+    let spelled : parts ≡ decimal v.0 ∷ [] = one_some parts w.0 w.1 ∙ ap (λ x. x ∷ []) place.0 in
+    subst (λ x. (codes "where" ∷ parts ≡ command_words x) × IsInRange x) (some_is (Where v.0) c v.2)
+    (ap (λ xs. codes "where" ∷ xs) spelled, place.1)
+
+find_from : (parts : List (List ℕ)) (c : CommandData) → find_in parts ≡ Some c → IsCommand (codes "find" ∷ parts) c
+unfolding find_in IsCommand
+find_from parts c h =
+    let p = and_then_some (first_in parts) _ c h in
+    let l = and_then_some (number_of p.0.0) _ c p.2 in
+    let w = and_then_some (one_in p.0.1) _ c l.2 in
+    let v = and_then_some (number_of w.0) _ c w.2 in
+    let line = number_reads.from p.0.0 l.0 l.1 in
+    let column = number_reads.from w.0 v.0 v.1 in
+    let spelled : parts ≡ decimal l.0 ∷ decimal v.0 ∷ [] =
+    first_some parts p.0 p.1 ∙ ap (λ x. x ∷ p.0.1) line.0
+    ∙ ap (λ xs. decimal l.0 ∷ xs) (one_some p.0.1 w.0 w.1 ∙ ap (λ x. x ∷ []) column.0) in
+    subst (λ x. (codes "find" ∷ parts ≡ command_words x) × IsInRange x) (some_is (Find l.0 v.0) c v.2)
+    (ap (λ xs. codes "find" ∷ xs) spelled, (line.1, column.1))
+
 port_of_some : (n p : ℕ) → port_of n ≡ Some p → IsPort p × (n ≡ p)
 port_of_some n p h =
     cond_both (nat_le 1 n && nat_le n MAX_PORT) (Some n) None (λ o. o ≡ Some p → IsPort p × (n ≡ p))
@@ -270,15 +295,17 @@ command_from ws c h =
     (row_or IsCommand p.0.0 (codes "edit") parts c (edit_in parts) _ (editing_from parts c)
     (row_or IsCommand p.0.0 (codes "gen") parts c (gen_in parts) _ (gen_from parts c)
     (row_or IsCommand p.0.0 (codes "explain") parts c (explain_in parts) _ (explain_from parts c)
+    (row_or IsCommand p.0.0 (codes "where") parts c (where_in parts) _ (where_from parts c)
+    (row_or IsCommand p.0.0 (codes "find") parts c (find_in parts) _ (find_from parts c)
     (row_or IsCommand p.0.0 (codes "serve") parts c (option_map Serve (port_in parts)) _ (serve_from parts c)
     (row_or IsCommand p.0.0 (codes "join") parts c (option_map Join (port_in parts)) _ (join_from parts c)
     (row_or IsCommand p.0.0 (codes "loop") parts c (loop_in parts) _ (loop_from parts c)
     (row_or IsCommand p.0.0 (codes "help") parts c (alone_in Help parts) _ (help_from parts c)
-    (row_or IsCommand p.0.0 (codes "--help") parts c (alone_in DashedHelp parts) None (dashed_help_from parts c) (λ never. cc))))))))))
+    (row_or IsCommand p.0.0 (codes "--help") parts c (alone_in DashedHelp parts) None (dashed_help_from parts c) (λ never. cc))))))))))))
     p.2)
 
 command_to : (c : CommandData) → IsInRange c → command_in (command_words c) ≡ Some c
-unfolding command_in command_row edit_in edit_row ins_in nl_in del_in undo_in redo_in gen_in explain_in loop_in
+unfolding command_in command_row edit_in edit_row ins_in nl_in del_in undo_in redo_in gen_in explain_in where_in find_in loop_in
 command_to Replay r = refl
 command_to Show r = refl
 command_to Help r = refl
@@ -290,6 +317,9 @@ command_to (Gen start events window) r =
       number_reads.to (decimal window) window (refl, omega (arith, r.3)),
     ) (gen_of_to start events window r.1 r.2 r.3)
 command_to (Explain m) r = rw (member_reads.to (member_text m) m (refl, r)) refl
+command_to (Where place) r = rw (number_reads.to (decimal place) place (refl, r)) refl
+command_to (Find line column) r =
+    rw (number_reads.to (decimal line) line (refl, r.0), number_reads.to (decimal column) column (refl, r.1)) refl
 command_to (Serve port) r = rw (port_to port r) refl
 command_to (Join port) r = rw (port_to port r) refl
 command_to (Loop start) r = rw (long_reads.to (decimal start) start (refl, r)) refl

@@ -6,14 +6,17 @@ use Rattle.cotpad_run.specs.declared.command.Command.{Command}
 use Rattle.cotpad_run.specs.declared.command.Command.TheVariants as command
 
 -- a script is replayed; the text of a log is shown; a log is loaded as a site and edited there; a session is generated; the form of
--- an operation of a log is derived step by step; a site that a log gives exchanges with a peer that comes to a port, or that waits at
--- one; the two sites of a generated session exchange with each other; the commands are listed, for one of two words
+-- an operation of a log is derived step by step; a place of the text of a log is told as a line and a column, or these as the place;
+-- a site that a log gives exchanges with a peer that comes to a port, or that waits at one; the two sites of a generated session
+-- exchange with each other; the commands are listed, for one of two words
 pub data CommandData : Type 0 where
   Replay : CommandData
   Show : CommandData
   Edit : ℕ → EditData → CommandData
   Gen : ℕ → ℕ → ℕ → CommandData
   Explain : Member → CommandData
+  Where : ℕ → CommandData
+  Find : ℕ → ℕ → CommandData
   Serve : ℕ → CommandData
   Join : ℕ → CommandData
   Loop : ℕ → CommandData
@@ -27,6 +30,8 @@ command_data command.Show = Show
 command_data (command.Edit site e) = Edit site (edit_data e)
 command_data (command.Gen start events window) = Gen start events window
 command_data (command.Explain m) = Explain m
+command_data (command.Where place) = Where place
+command_data (command.Find line column) = Find line column
 command_data (command.Serve port) = Serve port
 command_data (command.Join port) = Join port
 command_data (command.Loop start) = Loop start

@@ -8,12 +8,13 @@ use Rattle.outside_io.specs.declared.reading.TheConstants.{MAX_INPUT}
 use Rattle.site_node.specs.Pairs.{IsTelling}
 use Rattle.log_replies.specs.declared.status.Status.{Status}
 use Rattle.log_replies.specs.declared.status.Status.TheVariants.{Done, Memory, PeerRefused}
+use Rattle.log_replies.specs.Addressing.{IsLocated, IsFound}
 use Rattle.log_replies.specs.Answers.{Replies, IsAnswered}
 use Rattle.log_replies.specs.Explaining.{IsExplained}
 use Rattle.log_replies.specs.Outside.{Outside, Grows}
 use Rattle.log_replies.specs.Replies.{IsShown, IsEdited}
 use Rattle.log_replies.specs.Statuses.{IsReported}
-use Rattle.cotpad_run.specs.Commands.{CommandData, Replay, Show, Edit, Gen, Explain, Serve, Join, Loop, Help, DashedHelp}
+use Rattle.cotpad_run.specs.Commands.{CommandData, Replay, Show, Edit, Gen, Explain, Where, Find, Serve, Join, Loop, Help, DashedHelp}
 use Rattle.cotpad_run.specs.Generating.{IsGenerated}
 use Rattle.cotpad_run.specs.Help.{help_text}
 use Rattle.cotpad_run.specs.Looping.{IsLoopAnswered}
@@ -81,6 +82,8 @@ row_of Replay =
 row_of Show = replying IsShown
 row_of (Edit site edit) = replying (IsEdited site edit)
 row_of (Explain m) = replying (IsExplained m)
+row_of (Where place) = replying (IsLocated place)
+row_of (Find line column) = replying (IsFound line column)
 row_of (Gen start events window) = record {
   answers = λ old new. IsGenerated start events window old.outside new.outside;
   reads = false;

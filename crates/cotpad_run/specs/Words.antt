@@ -10,7 +10,7 @@ use Rattle.log_replies.specs.Outside.{Outside, IsWritten, IsCutOff}
 use Rattle.log_replies.specs.declared.status.Status.{Status}
 use Rattle.log_replies.specs.declared.status.Status.TheVariants.{Done, Refused, Words, ReadFault, WriteFault, Memory, LinkFault, PeerRefused}
 use Rattle.cotpad_run.specs.declared.command.TheConstants.{MAX_PORT}
-use Rattle.cotpad_run.specs.Commands.{CommandData, Replay, Show, Edit, Gen, Explain, Serve, Join, Loop, Help, DashedHelp}
+use Rattle.cotpad_run.specs.Commands.{CommandData, Replay, Show, Edit, Gen, Explain, Where, Find, Serve, Join, Loop, Help, DashedHelp}
 
 -- the words of an edit, after its site: a row for each. A text is one word
 abbrev pub edit_words : EditData → List (List ℕ)
@@ -27,6 +27,8 @@ command_words Show = codes "show" ∷ []
 command_words (Edit site edit) = codes "edit" ∷ decimal site ∷ edit_words edit
 command_words (Gen start events window) = codes "gen" ∷ decimal start ∷ decimal events ∷ decimal window ∷ []
 command_words (Explain m) = codes "explain" ∷ member_text m ∷ []
+command_words (Where place) = codes "where" ∷ decimal place ∷ []
+command_words (Find line column) = codes "find" ∷ decimal line ∷ decimal column ∷ []
 command_words (Serve port) = codes "serve" ∷ decimal port ∷ []
 command_words (Join port) = codes "join" ∷ decimal port ∷ []
 command_words (Loop start) = codes "loop" ∷ decimal start ∷ []
@@ -52,6 +54,8 @@ IsInRange Show = Unit {0}
 IsInRange (Edit site edit) = (site < SITES) × IsEditInRange edit
 IsInRange (Gen start events window) = (start < 2 ^ 64) × (events ≤ MAX_EVENTS) × (1 ≤ window) × (window ≤ MAX_WINDOW)
 IsInRange (Explain m) = IsMemberInRange m
+IsInRange (Where place) = place < 2 ^ 32
+IsInRange (Find line column) = (line < 2 ^ 32) × (column < 2 ^ 32)
 IsInRange (Serve port) = IsPort port
 IsInRange (Join port) = IsPort port
 IsInRange (Loop start) = start < 2 ^ 64

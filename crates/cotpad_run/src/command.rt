@@ -5,7 +5,7 @@ ghost use Rattle.log_replies.specs.Editing.{edit_data};
 ghost use Rattle.cotpad_run.specs.Commands.{CommandData, command_data};
 ghost use Rattle.cotpad_run.specs.Commands as asked;
 ghost use Rattle.cotpad_run.specs.Words.{Spells};
-ghost use Rattle.cotpad_run.specs.Code.Reading.{command_in, command_row, edit_in, edit_row, explain_in, gen_in, loop_in, port_in, ins_in, nl_in, del_in, undo_in, redo_in, first_in, one_in, alone_in};
+ghost use Rattle.cotpad_run.specs.Code.Reading.{command_in, command_row, edit_in, edit_row, explain_in, where_in, find_in, gen_in, loop_in, port_in, ins_in, nl_in, del_in, undo_in, redo_in, first_in, one_in, alone_in};
 
 use log_replies::Edit;
 use op_name::Member;
@@ -36,6 +36,15 @@ pub enum Command<'a> {
     /// `explain MEMBER`: reads a log, and writes the steps that derive the form in which the operation was executed.
     Explain {
         member: Member,
+    },
+    /// `where V`: reads a log, and writes the line and the column of the place after so many shown characters.
+    Where {
+        place: u32,
+    },
+    /// `find L C`: reads a log, and writes the place of its text that has this line and column.
+    Find {
+        line: u32,
+        column: u32,
     },
     /// `serve PORT`: reads a log, waits for a peer at the port, exchanges with it, and writes the log of the result.
     Serve {
@@ -79,6 +88,8 @@ fn command_row<'a>(word: &str, parts: &'a [String]) -> Option<Command<'a>>
         "edit" => edit_of(parts),
         "gen" => gen_of(parts),
         "explain" => explain_of(parts),
+        "where" => where_of(parts),
+        "find" => find_of(parts),
         "serve" => serve_of(parts),
         "join" => join_of(parts),
         "loop" => loop_of(parts),
@@ -211,6 +222,25 @@ fn explain_of(parts: &[String]) -> Option<Command<'_>>
 {
     let member = parse_member(one(parts)?)?;
     Some(Command::Explain { member })
+}
+
+#[tactic(auto, unfolding(crate::specs::Code::Reading::where_in))]
+fn where_of(parts: &[String]) -> Option<Command<'_>>
+    ensures { option_map command_data result ≡ where_in (map string_bytes parts.now) }
+{
+    let place = parse_number(one(parts)?)?;
+    Some(Command::Where { place })
+}
+
+// `L C`
+#[tactic(auto, unfolding(crate::specs::Code::Reading::find_in))]
+fn find_of(parts: &[String]) -> Option<Command<'_>>
+    ensures { option_map command_data result ≡ find_in (map string_bytes parts.now) }
+{
+    let (line, rest) = first(parts)?;
+    let line = parse_number(line)?;
+    let column = parse_number(one(rest)?)?;
+    Some(Command::Find { line, column })
 }
 
 fn serve_of(parts: &[String]) -> Option<Command<'_>>

@@ -19,7 +19,9 @@ use crate::laws::{limits_have_numbers, same_operations};
 use crate::looped::answer_looped;
 use crate::meeting::{Joining, Serving, answer_met};
 use crate::replay::answer_replay;
-use log_replies::{Editing, Explaining, Show, Status, answer, one_explanation, one_reply};
+use log_replies::{
+    Editing, Explaining, Finding, Locating, Show, Status, answer, one_explanation, one_reply,
+};
 use outside_io::{Failed, Sink, Source, Wire, write_whole};
 use std::alloc::Global;
 
@@ -28,6 +30,8 @@ use std::alloc::Global;
 /// `edit SITE undo NAME` and `edit SITE redo NAME` read a log, edit it as this site, and write the log of the result.
 /// `gen START EVENTS WINDOW` reads nothing, generates a session of four sites, and writes what it did and what site 0 shows.
 /// `explain MEMBER` reads a log, and writes the steps that derive the form in which the operation of this member was executed.
+/// `where V` reads a log, and writes the line and the column of the place after so many shown characters; `find L C` reads one,
+/// and writes the place that has this line and column.
 /// `serve PORT` and `join PORT` read a log, exchange with a peer that comes to this port, or that waits there, and write the
 /// log with what the peer had. `loop START` reads nothing, generates a session of two sites, which exchange twice over the
 /// pair of the wire, and writes what went. `help` and `--help` read nothing, and list the commands.
@@ -54,7 +58,7 @@ pub fn run<S: Source, K: Sink, W: Wire>(
 
     // Histories of the same operations, in whatever order they came, show the same text.
     ensures same { (h k : List OpData) → IsValid h → IsValid k → Same h k → text_of h ≡ text_of k }
-    // The bytes of a log decide what `show`, `edit` and `explain` reply.
+    // The bytes of a log decide what `show`, `edit`, `where` and `find` reply, and what `explain` does.
     ensures one_reply { OneReply }
     ensures one_explanation { OneExplanation }
     // Each limit, of which definitions and clauses cite the name, is its number.
@@ -76,6 +80,13 @@ pub fn run<S: Source, K: Sink, W: Wire>(
         Some(Command::Show) => answer(alloc, &Show, source, sink),
         Some(Command::Edit { site, edit }) => answer(alloc, &Editing { site, edit }, source, sink),
         Some(Command::Explain { member }) => answer(alloc, &Explaining { member }, source, sink),
+        Some(Command::Where { place }) => answer(alloc, &Locating { place }, source, sink),
+        Some(Command::Find { line, column }) => answer(
+            alloc,
+            &Finding { line, column },
+            source,
+            sink,
+        ),
         Some(
             Command::Gen {
                 start,

@@ -2,5 +2,6 @@ pub mod Answering
 pub mod Edits
 pub mod Logs
 pub mod OneReply
+pub mod Texts
 pub mod Traces
 pub mod CallerLemmas

@@ -1,4 +1,5 @@
 -- The words of the crate's contracts.
+pub mod Addressing
 pub mod Statuses
 pub mod Outside
 pub mod Editing

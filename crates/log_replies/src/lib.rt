@@ -1,9 +1,10 @@
-//! The commands `show`, `edit` and `explain`: each reads the log of a site, and writes one reply to it.
+//! The commands `show`, `edit`, `explain`, `where` and `find`: each reads the log of a site, and writes one reply to it.
 //!
 //! A command says which site it loads and what it replies to the state (the trait `Replies`); `answer` reads, replies and
 //! writes, and its table says which answer comes when, and what it leaves. The bytes of the log decide the reply.
 #![tactic(auto)]
 
+mod addressing;
 mod edit;
 mod explain;
 mod laws;
@@ -12,6 +13,7 @@ mod replying;
 mod show;
 mod status;
 
+pub use addressing::{Finding, Locating};
 pub use edit::{Edit, Editing};
 pub use explain::Explaining;
 pub use laws::{one_explanation, one_reply};

@@ -4,7 +4,7 @@ use Rattle.session_replay.specs.declared.generator.TheConstants.{MAX_EVENTS, MAX
 use Rattle.script_text.specs.Fields.{number_of, long_of, site_of, name_of, member_of, ◌>>=◌}
 use Rattle.log_replies.specs.Editing.{EditData, Ins, Nl, Del, Undo, Redo}
 use Rattle.cotpad_run.specs.declared.command.TheConstants.{MAX_PORT}
-use Rattle.cotpad_run.specs.Commands.{CommandData, Replay, Show, Edit, Gen, Explain, Serve, Join, Loop, Help, DashedHelp}
+use Rattle.cotpad_run.specs.Commands.{CommandData, Replay, Show, Edit, Gen, Explain, Where, Find, Serve, Join, Loop, Help, DashedHelp}
 
 -- the first word and the others, if there is one
 abbrev pub first_in : List (List ℕ) → Option (List ℕ × List (List ℕ))
@@ -97,6 +97,20 @@ explain_in ws = do
   m ← member_of word
   Some (Explain m)
 
+unfoldable pub where_in : List (List ℕ) → Option CommandData
+where_in ws = do
+  word ← one_in ws
+  place ← number_of word
+  Some (Where place)
+
+unfoldable pub find_in : List (List ℕ) → Option CommandData
+find_in ws = do
+  p ← first_in ws
+  line ← number_of p.0
+  word ← one_in p.1
+  column ← number_of word
+  Some (Find line column)
+
 -- a number that is a port
 abbrev pub port_of : ℕ → Option ℕ
 port_of n = if nat_le 1 n && nat_le n MAX_PORT then Some n else None
@@ -121,12 +135,14 @@ command_row word parts =
     else (if bytes_eq word (codes "edit") then edit_in parts
     else (if bytes_eq word (codes "gen") then gen_in parts
     else (if bytes_eq word (codes "explain") then explain_in parts
+    else (if bytes_eq word (codes "where") then where_in parts
+    else (if bytes_eq word (codes "find") then find_in parts
     else (if bytes_eq word (codes "serve") then option_map Serve (port_in parts)
     else (if bytes_eq word (codes "join") then option_map Join (port_in parts)
     else (if bytes_eq word (codes "loop") then loop_in parts
     else (if bytes_eq word (codes "help") then alone_in Help parts
     else (if bytes_eq word (codes "--help") then alone_in DashedHelp parts
-    else None)))))))))
+    else None)))))))))))
 
 -- the command that these words spell, if they spell one
 unfoldable pub command_in : List (List ℕ) → Option CommandData

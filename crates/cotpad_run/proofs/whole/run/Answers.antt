@@ -86,6 +86,42 @@ returns-in-Some-Explain-clause-unread g c = λ none.
     let is : k.field-0 ≡ command.Explain k.member = cc in
     absurd (not_of Reads k.field-0 (command.Explain k.member) is (none (command_data k.field-0) k.ensures.found) refl)
 
+pub returns-in-Some-Where-clause-run : goal.returns-in-Some-Where-clause-run
+returns-in-Some-Where-clause-run g c =
+    let k = c.in-Some-Where in
+    let f = k.field-0-is in
+    let is : k.field-0 ≡ command.Where k.place = cc in
+    record {
+      done = λ asked spelled. same_row k.field-0 (command.Where k.place) asked _ _ _ is (k.ensures.only asked spelled)
+          (replying_done _ _ _ _ c.answer-in-Some-Where.ensures.answer refl);
+      wrong = λ none. absurd (none (command_data k.field-0) k.ensures.found);
+    }
+
+pub returns-in-Some-Where-clause-unread : goal.returns-in-Some-Where-clause-unread
+returns-in-Some-Where-clause-unread g c = λ none.
+    let k = c.in-Some-Where in
+    let f = k.field-0-is in
+    let is : k.field-0 ≡ command.Where k.place = cc in
+    absurd (not_of Reads k.field-0 (command.Where k.place) is (none (command_data k.field-0) k.ensures.found) refl)
+
+pub returns-in-Some-Find-clause-run : goal.returns-in-Some-Find-clause-run
+returns-in-Some-Find-clause-run g c =
+    let k = c.in-Some-Find in
+    let f = k.field-0-is in
+    let is : k.field-0 ≡ command.Find k.line k.column = cc in
+    record {
+      done = λ asked spelled. same_row k.field-0 (command.Find k.line k.column) asked _ _ _ is (k.ensures.only asked spelled)
+          (replying_done _ _ _ _ c.answer-in-Some-Find.ensures.answer refl);
+      wrong = λ none. absurd (none (command_data k.field-0) k.ensures.found);
+    }
+
+pub returns-in-Some-Find-clause-unread : goal.returns-in-Some-Find-clause-unread
+returns-in-Some-Find-clause-unread g c = λ none.
+    let k = c.in-Some-Find in
+    let f = k.field-0-is in
+    let is : k.field-0 ≡ command.Find k.line k.column = cc in
+    absurd (not_of Reads k.field-0 (command.Find k.line k.column) is (none (command_data k.field-0) k.ensures.found) refl)
+
 pub returns-in-Some-Gen-clause-run : goal.returns-in-Some-Gen-clause-run
 returns-in-Some-Gen-clause-run g c =
     let k = c.in-Some-Gen in
