@@ -2,7 +2,7 @@
 use Rattle.std.specs.Prelude.{ℕ, List, ◌++◌, codes, decimal, length, Option, None, Some}
 use Rattle.context_diff.specs.Replays.{characters_of}
 use Rattle.cot_site.specs.States.{State}
-use Rattle.past_view.specs.Lines.{address_of, place_of}
+use Rattle.past_view.specs.Lines.{address_of, place_at}
 use Rattle.script_text.specs.Report.{Report}
 use Rattle.log_replies.specs.Replies.{RepliesToLog, accepting, refusing}
 
@@ -41,7 +41,7 @@ IsLocated v = RepliesToLog 0 (located_reply v)
 
 -- `find`: the place of the shown text that has the line and the column
 abbrev pub found_reply : ℕ → ℕ → State → Report
-found_reply line column s = place_reply line column (place_of (characters_of s.history) line column)
+found_reply line column s = place_reply line column (place_at (characters_of s.history) line column)
 
 abbrev pub IsFound : ℕ → ℕ → List ℕ → Report → Type 0
 IsFound line column = RepliesToLog 0 (found_reply line column)

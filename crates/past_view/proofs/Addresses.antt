@@ -6,7 +6,7 @@ use Rattle.std.proofs.lemmas.Bool.{cases_lt, cases_Bool, le-leb, lt-leb, leb-tru
 use Rattle.std.proofs.lemmas.List.Sums.{suffix_len-take_yes, suffix_len-take_no, position_or_len_is, passes_at_first}
 use Rattle.std.proofs.lemmas.List.FromFn.{length-range_with_len, get_or-range_with_len}
 use Rattle.lane_rank.specs.Texts.{is_newline}
-use Rattle.past_view.specs.Lines.{line_of, column_of, address_of, place_of}
+use Rattle.past_view.specs.Lines.{line_of, column_of, address_of, place_at}
 use Rattle.past_view.proofs.Counts.{count_up, count_past}
 use Rattle.std.proofs.lemmas.Option.{same_Some, none-some}
 use mathlib.Core.Logic.{◌⊎◌, inl, inr, ⊎_elim}
@@ -129,14 +129,14 @@ module _ (cs : List ℕ) (line column : ℕ) where
   at_place k lt = omega (arith, get_or-range_with_len 0 (length cs + 1) k 0 lt)
 
   place_first : (v : ℕ) → v ≤ length cs + 1 → ((k : ℕ) → k < v → has_it k ≡ false) → (v < length cs + 1 → has_it v ≡ true)
-      → place_of cs line column ≡ found_or_not v
+      → place_at cs line column ≡ found_or_not v
   place_first v le none has =
       let long : length places ≡ length cs + 1 = length-range_with_len 0 (length cs + 1) in
       ap found_or_not (position_or_len_is has_it places v 0 (omega (arith, long))
       (λ k lt. ap has_it (at_place k (omega arith)) ∙ none k lt)
       (λ lt. let short : v < length cs + 1 = omega (arith, long) in ap has_it (at_place v short) ∙ has short))
 
-  pub place_found : (v : ℕ) → IsAddress cs line column v → place_of cs line column ≡ Some v
+  pub place_found : (v : ℕ) → IsAddress cs line column v → place_at cs line column ≡ Some v
   place_found v a =
       let le = a.within in
       place_first v (omega arith)
@@ -144,14 +144,14 @@ module _ (cs : List ℕ) (line column : ℕ) where
       (λ _. has_from v a)
       ∙ cond-true (nat_le v (length cs)) (Some v) None (le-leb v (length cs) le)
 
-  pub place_missing : ((v : ℕ) → IsAddress cs line column v → ⊥) → place_of cs line column ≡ None
+  pub place_missing : ((v : ℕ) → IsAddress cs line column v → ⊥) → place_at cs line column ≡ None
   place_missing none =
       place_first (length cs + 1) (omega arith)
       (λ k lt. false_from_ne_true _ (λ has. none k (has_back k (omega arith) has)))
       (λ lt. absurd (omega arith))
       ∙ cond-false (nat_le (length cs + 1) (length cs)) (Some (length cs + 1)) None (lt-leb (length cs + 1) (length cs) (omega arith))
 
-  pub place_back : (v : ℕ) → place_of cs line column ≡ Some v → IsAddress cs line column v
+  pub place_back : (v : ℕ) → place_at cs line column ≡ Some v → IsAddress cs line column v
   place_back v e = by (cases_Bool (nat_le at (length cs)))
     where
       at : ℕ

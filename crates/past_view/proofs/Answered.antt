@@ -8,7 +8,7 @@ use Rattle.std.proofs.lemmas.List.{take_all, get_or-drop}
 use Rattle.std.proofs.lemmas.List.Sums.{sum_by-append}
 use Rattle.std.proofs.Common.{cond}
 use Rattle.lane_rank.specs.Texts.{is_newline, newlines_of, starts_of}
-use Rattle.past_view.specs.Lines.{line_of, column_of, address_of, place_of}
+use Rattle.past_view.specs.Lines.{line_of, column_of, address_of, place_at}
 use Rattle.past_view.specs.Code.Counted.{IsPlaceEnd, IsLineStart, IsLineEnd}
 use Rattle.past_view.proofs.Counts.{count_up}
 use Rattle.past_view.proofs.Utf8.{starts_all, newlines_all}
@@ -59,7 +59,7 @@ line_answer cs bs v end start line column text place lines from columns =
     (λ i. Some (lines i, columns i)) ∙ sym (address_from at)
 
 -- `place_of_line`: no place on a line after more line feeds than there are
-pub no_line : (cs bs : List ℕ) (line column : ℕ) → encode_utf8_all cs ≡ bs → newlines_of bs < line → None ≡ place_of cs line column
+pub no_line : (cs bs : List ℕ) (line column : ℕ) → encode_utf8_all cs ≡ bs → newlines_of bs < line → None ≡ place_at cs line column
 no_line cs bs line column text few =
     sym (place_missing cs line column (λ v a.
     let whole = ap newlines_of (take_all (length cs) cs (omega arith)) in
@@ -96,13 +96,13 @@ module _ (cs : List ℕ) (line start end : ℕ) (from : IsLineStart (encode_utf8
 
   found_at : (column before : ℕ) → column ≤ starts_of (take end (drop start (encode_utf8_all cs)))
       → before ≡ starts_of (take start (encode_utf8_all cs))
-      → Some (before + column) ≡ place_of cs line column
+      → Some (before + column) ≡ place_at cs line column
   found_at column before le counted =
       let short : column ≤ m = omega (arith, size) in
       let at = from_front column front.2 (omega (arith, fits)) (along column short) in
       ap (λ n. Some (n + column)) (counted ∙ cut_starts front.1) ∙ sym (place_found cs line column (w + column) at)
 
-  none_at : (column : ℕ) → starts_of (take end (drop start (encode_utf8_all cs))) < column → None ≡ place_of cs line column
+  none_at : (column : ℕ) → starts_of (take end (drop start (encode_utf8_all cs))) < column → None ≡ place_at cs line column
   none_at column lt =
       sym (place_missing cs line column (λ v a.
       let on = on_line m v front.2 next a.within a.on_line in
@@ -110,19 +110,19 @@ module _ (cs : List ℕ) (line start end : ℕ) (from : IsLineStart (encode_utf8
 
 pub place_answer : (cs bs : List ℕ) (line column start end before : ℕ) → encode_utf8_all cs ≡ bs → IsLineStart bs line start
     → IsLineEnd (drop start bs) end
-    → column ≤ starts_of (take end (drop start bs)) → before ≡ starts_of (take start bs) → Some (before + column) ≡ place_of cs line column
+    → column ≤ starts_of (take end (drop start bs)) → before ≡ starts_of (take start bs) → Some (before + column) ≡ place_at cs line column
 place_answer cs bs line column start end before text =
     subst
     (λ xs. IsLineStart xs line start → IsLineEnd (drop start xs) end → column ≤ starts_of (take end (drop start xs))
     → before ≡ starts_of (take start xs)
-    → Some (before + column) ≡ place_of cs line column)
+    → Some (before + column) ≡ place_at cs line column)
     text (λ from to. found_at cs line start end from to column before)
 
 pub no_column : (cs bs : List ℕ) (line column start end : ℕ) → encode_utf8_all cs ≡ bs → IsLineStart bs line start
     → IsLineEnd (drop start bs) end
-    → starts_of (take end (drop start bs)) < column → None ≡ place_of cs line column
+    → starts_of (take end (drop start bs)) < column → None ≡ place_at cs line column
 no_column cs bs line column start end text =
     subst
     (λ xs. IsLineStart xs line start → IsLineEnd (drop start xs) end → starts_of (take end (drop start xs)) < column
-    → None ≡ place_of cs line column)
+    → None ≡ place_at cs line column)
     text (λ from to. none_at cs line start end from to column)

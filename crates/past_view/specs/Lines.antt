@@ -15,8 +15,8 @@ column_of cs v = suffix_len (λ c. not (is_newline c)) (take v cs)
 abbrev pub address_of : List ℕ → ℕ → Option (ℕ × ℕ)
 address_of cs v = if nat_le v (length cs) then Some (line_of cs v, column_of cs v) else None
 
--- the first place of these that has the line and the column, where one has
-abbrev pub place_of : List ℕ → ℕ → ℕ → Option ℕ
-place_of cs line column =
+-- the first place of the text that has the line and the column, where one has
+abbrev pub place_at : List ℕ → ℕ → ℕ → Option ℕ
+place_at cs line column =
     let v = position_or_len (λ v. line_of cs v == line && column_of cs v == column) (range_with_len 0 (length cs + 1)) in
     if nat_le v (length cs) then Some v else None

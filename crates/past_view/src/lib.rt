@@ -1,8 +1,8 @@
 //! What a text was, and where its places are.
 //!
-//! The text at each closed set of members of a site's history: the cells that a site has are those of each of its texts, and one of
-//! the past leaves out the cells whose insert was made later, and hides others by the undos and deletes that were there. And a place
-//! of a text is seen as a line and a column, and these as the place. The crate has no value of its own.
+//! The text at each closed set of members of a site's history is read from the cells that the site has: it leaves out those whose
+//! insert isn't in the set, and those that the undos and deletes in the set hide. And a place of a text is seen as a line and a column,
+//! and these as the place. The crate has no value of its own.
 #![tactic(auto)]
 
 mod counted;

@@ -2,7 +2,7 @@
 
 ghost use Rattle.std.specs.Prelude.{◌≡◌, ◌<◌, ◌^◌, ℕ, List, length, encode_utf8_all, MatchOption};
 ghost use Rattle.lane_rank.specs.Texts.{newlines_of, starts_of};
-ghost use Rattle.past_view.specs.Lines.{address_of, place_of};
+ghost use Rattle.past_view.specs.Lines.{address_of, place_at};
 ghost use Rattle.past_view.specs.Code.Counted.{IsPlaceEnd, IsLineStart, IsLineEnd};
 
 use crate::counted::{Counted, nth};
@@ -24,7 +24,7 @@ pub fn line_of_place(text: &[u8], v: u32) -> Option<(u32, u32)>
 /// The place that has this line and column in a text in UTF-8: after so many of its characters. None exactly where no place has them.
 pub fn place_of_line(text: &[u8], line: u32, column: u32) -> Option<u32>
     requires { length text.now < 2 ^ 32 }
-    ensures { (cs : List ℕ) → encode_utf8_all cs ≡ text.now → result ≡ place_of cs line column }
+    ensures { (cs : List ℕ) → encode_utf8_all cs ≡ text.now → result ≡ place_at cs line column }
 {
     let start = line_start(text, line)?;
     let rest = &text[start..];

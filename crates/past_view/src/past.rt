@@ -13,6 +13,7 @@ use context_vector::Vector;
 use cot_site::Site;
 use op_name::{Member, Memory, Name};
 use tombstone_text::{Cell, Cells};
+use undo_group::in_force;
 
 /// Why a set of members has no text at a site: the first case that holds.
 #[derive(Clone, Copy, Debug, PartialEq, Eq, Drop)]
@@ -176,5 +177,5 @@ fn any_in_force_at(at: &Vector, deleters: &[(Name, u16)]) -> bool
 fn is_in_force_at(at: &Vector, name: &Name) -> bool
     ensures { result ≡ is_in_force_at at.now.set name.now }
 {
-    at.contains(&Member::Original(*name)) && at.entry(name) % 2 == 0
+    at.contains(&Member::Original(*name)) && in_force(at, name)
 }
