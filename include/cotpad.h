@@ -134,7 +134,8 @@ typedef struct {
 } cotpad_site;
 #define COTPAD_SITE_EMPTY {0}
 
-/* The library lays these structs out as follows, in bytes; a compiler of C11 or C++11 sees that the host's are the same. */
+/* The library lays these structs out as follows, in bytes, and a size_t has eight; a compiler sees from C11 and C++11 on that the
+ * host's are the same. */
 #if defined(__cplusplus) && __cplusplus >= 201103L
 #define COTPAD_LAYOUT(fact) static_assert(fact, #fact)
 #elif !defined(__cplusplus) && defined(__STDC_VERSION__) && __STDC_VERSION__ >= 201112L

@@ -1,5 +1,5 @@
 /* Numbers of sites above 63, up to the greatest of the type: each is refused, and none is cut to a smaller one. It is C99, C11 and
- * C++11, so that the header is compiled in each; from C11 and C++11 on that one sees how its structs are laid out. */
+ * C++11, so that the header is compiled in each; from C11 and C++11 on the header asserts how its structs are laid out. */
 #include "cotpad.h"
 #include <stdio.h>
 #include <string.h>

@@ -44,7 +44,7 @@ pub(crate) fn undo(hosted: &mut Hosted, author: u32, number: u32) -> u32
     ensures no_name { (IsName author number → ⊥) → (result ≡ NO_NAME) × (hosted.new ≡ hosting hosted.old.site) }
 {
     hosted.forget();
-    match named(author, number) {
+    match name_of(author, number) {
         Ok(name) => hosted.edit(&Edit::Undo { name }),
         Err(_) => status::NO_NAME,
     }
@@ -58,14 +58,14 @@ pub(crate) fn redo(hosted: &mut Hosted, author: u32, number: u32) -> u32
     ensures no_name { (IsName author number → ⊥) → (result ≡ NO_NAME) × (hosted.new ≡ hosting hosted.old.site) }
 {
     hosted.forget();
-    match named(author, number) {
+    match name_of(author, number) {
         Ok(name) => hosted.edit(&Edit::Redo { name }),
         Err(_) => status::NO_NAME,
     }
 }
 
 // The name, refused exactly where a part is out of range.
-fn named(author: u32, number: u32) -> Result<Name, NameBad>
+fn name_of(author: u32, number: u32) -> Result<Name, NameBad>
     ensures accepted { IsOk result ↔ IsName author number }
     ensures site { IfOk result (λ n. n.site ≡ author) }
     ensures number { IfOk result (λ n. n.number ≡ number) }

@@ -22,7 +22,7 @@ use Rattle.peer_exchange.specs.declared.peer.Peer.{Peer}
 use Rattle.peer_exchange.specs.declared.peer.Peer.TheVariants as peer
 use Rattle.peer_exchange.specs.Messages.{end_mark, IsThird}
 use Rattle.peer_exchange.specs.Taking.{Refusal, all_taken_in, IsBefore, IsOnTheWay, IsRefusedAt}
-use Rattle.peer_exchange.specs.Code.Receiving.{no_frame, IsUntaken, AreUntaken, IsFirstOf}
+use Rattle.peer_exchange.specs.Code.Receiving.{no_frame, IsOneUntaken, AreUntaken, IsFirstOf}
 use Rattle.peer_exchange.proofs.FirstTaken.{taken_none, same_after_none, taken_first, first_taken, still_refused}
 
 -- what follows is taken in at the state that those before left
@@ -109,11 +109,11 @@ module _ (s : State) (bytes left : List ℕ) (now : State) (count : ℕ) (p : Op
             );
       }
 
-  pub taking_stops : (t : State) (why : Peer) → IsUntaken now (data_of p.0) t why
+  pub taking_stops : (t : State) (why : Peer) → IsOneUntaken now (data_of p.0) t why
       → (os : List OpData) × IsThird bytes os × AreUntaken s os t why
   taking_stops t why u = (w.done ++ w.others, w.all, stopped why u)
     where
-      stopped : (y : Peer) → IsUntaken now (data_of p.0) t y → AreUntaken s (w.done ++ w.others) t y
+      stopped : (y : Peer) → IsOneUntaken now (data_of p.0) t y → AreUntaken s (w.done ++ w.others) t y
       stopped (peer.Bytes offset cause) never = absurd never
       stopped (peer.Op member verdict) is =
           let n = next_of in

@@ -68,7 +68,7 @@ pub record HaveGained (server joiner : Meanwhile) (x : Talk) : Type 0 where
 abbrev pub EditingMeanwhileLosesNothing : Type 0
 EditingMeanwhileLosesNothing = (server joiner : Meanwhile) (x : Talk) → IsExchangeMeanwhile server joiner x → HaveGained server joiner x
 
--- each call of such an exchange, whatever the calls before it left, refuses only when it is out of memory
+-- each call between the two, where those before it answered, refuses only when it is out of memory
 pub record OnlyMemoryRefusesMeanwhile (server joiner : Meanwhile) : Type 0 where
   pub answering : (why : Peer) → IsUnread First (first_message joiner.told.history) why → why ≡ peer.Memory
   pub closing : (second : List ℕ) (n : ℕ) (why : Peer) → IsAnswered server.told.history (first_message joiner.told.history) [] second n
@@ -77,7 +77,7 @@ pub record OnlyMemoryRefusesMeanwhile (server joiner : Meanwhile) : Type 0 where
       → IsAnswered server.told.history (first_message joiner.told.history) [] second n
       → IsClosed joiner.took second joiner.after [] third (m, k) → IsUnfinished server.took third server.after why → why ≡ peer.Memory
 
--- so it is where the two agree when they take in
+-- so it is where the two agree, each as it is when it takes in
 abbrev pub EditingMeanwhileIsNotRefused : Type 0
 EditingMeanwhileIsNotRefused =
     (server joiner : Meanwhile) → IsMeanwhile server → IsMeanwhile joiner → AgreeInAll server.took joiner.took

@@ -32,7 +32,7 @@ unfoldable pub all_taken_in : State → List OpData → Result State Refusal
 all_taken_in s [] = Ok s
 all_taken_in s (o ∷ os) = if one.takes Had (judged s o) then all_taken_in (with_taken s o) os else Err (refused o (judged s o))
 
--- the first refusal: the operations before it were taken in, and it changed nothing
+-- an operation is refused: those before it were taken in, and it changed nothing
 pub record IsRefusedAt (s : State) (os : List OpData) (t : State) (why : Refusal) : Type 0 where
   pub before : List OpData
   pub op : OpData

@@ -149,8 +149,9 @@ pub fn editing_meanwhile_loses_nothing()
     ensures { EditingMeanwhileLosesNothing }
 {}
 
-/// Where besides no name has one content at the one side and other content at the other when they take in, each of these calls
-/// refuses only when it is out of memory.
+/// Also where both sides go on editing during an exchange, each of its four calls refuses only when it is out of memory, if no name
+/// has one content at the joiner when it closes and other content at the server when it finishes, among what is integrated and what
+/// waits.
 pub fn editing_meanwhile_is_not_refused()
     ensures { EditingMeanwhileIsNotRefused }
 {}

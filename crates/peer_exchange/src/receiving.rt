@@ -8,7 +8,7 @@ ghost use Rattle.wire_codec.specs.Answers.{HasFrame};
 ghost use Rattle.peer_exchange.specs.declared.messages.TheConstants.{MAX_MESSAGE};
 ghost use Rattle.peer_exchange.specs.Messages.{IsThird};
 ghost use Rattle.peer_exchange.specs.Taking.{all_taken_in};
-ghost use Rattle.peer_exchange.specs.Code.Receiving.{IsUntaken, AreUntaken, IsFirstOf, no_frame};
+ghost use Rattle.peer_exchange.specs.Code.Receiving.{IsOneUntaken, AreUntaken, IsFirstOf, no_frame};
 
 use crate::peer::Peer;
 use context_diff::Op;
@@ -22,7 +22,7 @@ use wire_codec::{Decoded, decode};
 fn take_next(site: &mut Site, op: Op, room: &mut Vec<Release>) -> Result<(), Peer>
     requires { IsWellFormed (data_of op) }
     ensures taken { OnOk result (all_taken_in (state_of site.old) (data_of op ∷ []) ≡ Ok (state_of site.new)) }
-    ensures untaken { IfErr result (IsUntaken (state_of site.old) (data_of op) (state_of site.new)) }
+    ensures untaken { IfErr result (IsOneUntaken (state_of site.old) (data_of op) (state_of site.new)) }
 {
     let mut op = op;
     take_lent(site, &mut op, room)
@@ -32,7 +32,7 @@ fn take_next(site: &mut Site, op: Op, room: &mut Vec<Release>) -> Result<(), Pee
 fn take_lent(site: &mut Site, op: &mut Op, room: &mut Vec<Release>) -> Result<(), Peer>
     requires { IsWellFormed (data_of op.old) }
     ensures taken { OnOk result (all_taken_in (state_of site.old) (data_of op.old ∷ []) ≡ Ok (state_of site.new)) }
-    ensures untaken { IfErr result (IsUntaken (state_of site.old) (data_of op.old) (state_of site.new)) }
+    ensures untaken { IfErr result (IsOneUntaken (state_of site.old) (data_of op.old) (state_of site.new)) }
 {
     room.clear();
     match take_in(site, op, Taking::Had, room) {

@@ -69,7 +69,7 @@ fn wanted(len: usize, at_least: u64) -> usize
     asked.min(left).min(ROOM as u64) as usize
 }
 
-/// Reads the next piece of a message, as far as it isn't whole. Answers how many bytes came: none where it is whole.
+/// Reads the next piece of a message, where it isn't whole. Answers how many bytes came: none where it is whole.
 pub(crate) fn read_on<W: Wire>(
     wire: &mut W,
     end: u8,

@@ -18,10 +18,10 @@ abbrev pub no_frame : List ℕ → Bool
 no_frame bytes = nat_lt (length bytes) 4 || (length_of bytes == 0)
 
 -- why one operation wasn't taken in, and what that leaves: a refusal leaves nothing of it, running out of memory perhaps some of it
-abbrev pub IsUntaken : State → OpData → State → Peer → Type 0
-IsUntaken s o t (peer.Bytes offset cause) = ⊥
-IsUntaken s o t (peer.Op member verdict) = (t ≡ s) × (all_taken_in s (o ∷ []) ≡ Err (record { member = member; verdict = verdict }))
-IsUntaken s o t peer.Memory = IsBefore s (o ∷ []) t
+abbrev pub IsOneUntaken : State → OpData → State → Peer → Type 0
+IsOneUntaken s o t (peer.Bytes offset cause) = ⊥
+IsOneUntaken s o t (peer.Op member verdict) = (t ≡ s) × (all_taken_in s (o ∷ []) ≡ Err (record { member = member; verdict = verdict }))
+IsOneUntaken s o t peer.Memory = IsBefore s (o ∷ []) t
 
 -- why these operations weren't all taken in
 abbrev pub AreUntaken : State → List OpData → State → Peer → Type 0

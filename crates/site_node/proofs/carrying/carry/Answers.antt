@@ -117,4 +117,5 @@ returns-in-Err-read_on-clause-uncarried g c =
     (c.in-Ok.ensures.some.0, c.in-Ok.ensures.some.1, λ all. c.in-Ok.ensures.some.2 (c.len.ensures ∙ all))
     (subst (λ (w : Which).
     StopsAfter w (g.W.Wire.ends c.send_on.new.wire (1 - c.args.from)) (g.W.Wire.ends c.read_on.new.wire (1 - c.args.from))
-    c.loop-next.reader.bytes c.in-Err-read_on.why) inv.which c.in-Err-read_on.ensures.stopped) (λ offset is. c.in-Err-read_on.ensures.cut offset (let e = is in cc))
+    c.loop-next.reader.bytes c.in-Err-read_on.why) inv.which c.in-Err-read_on.ensures.stopped)
+    (λ offset is. c.in-Err-read_on.ensures.cut offset (let e = is in cc))

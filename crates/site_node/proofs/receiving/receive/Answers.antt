@@ -26,7 +26,8 @@ returns-in-Ok-eq0-clause-received g c =
 
 pub returns-in-Err-clause-stopped : goal.returns-in-Err-clause-stopped
 returns-in-Err-clause-stopped g c =
-    stopped_after c.args.which c.loop-reader.reader.which _ _ _ c.loop-reader.reader.bytes _ c.loop-reader.invariant.which c.loop-reader.invariant.came
+    stopped_after c.args.which c.loop-reader.reader.which _ _ _ c.loop-reader.reader.bytes _ c.loop-reader.invariant.which
+    c.loop-reader.invariant.came
     c.in-Err.ensures.stopped
 
 pub loop-reader-preserved : goal.loop-reader-preserved
