@@ -1,14 +1,14 @@
 -- Words are read as a command exactly where they spell it.
-use Rattle.std.proofs.Common.{◌≡◌, ℕ, true, false, List, [], ◌∷◌, length, codes, bytes_eq, decimal, map, string_bytes, String, Option, Some, None, refl, sym, ap, ◌∙◌, subst, option_map, ◌==◌, ◌≤◌, ◌&&◌, nat_le, leb-true, le-leb, eq-eqb, ne_eqb, arith}
-use Rattle.std.specs.Prelude.{IfSome, if◌then◌else◌}
+use Rattle.std.proofs.Common.{◌≡◌, ℕ, Bool, true, false, List, [], ◌∷◌, length, codes, bytes_eq, decimal, map, string_bytes, String, Option, Some, None, refl, sym, ap, ◌∙◌, subst, option_map, ◌==◌, ◌≤◌, ◌&&◌, nat_le, leb-true, le-leb, eq-eqb, ne_eqb, arith}
+use Rattle.std.specs.Prelude.{IfSome, is_some, if◌then◌else◌}
 use Rattle.std.proofs.lemmas.Bool.{cond_both, and_parts, true≢false}
 use Rattle.std.proofs.lemmas.Slice.Eq.{bytes_eq-Decides}
 use Rattle.context_vector.specs.Contexts.{ContextData}
 use Rattle.site_answers.specs.Names.{name_text, member_text, group_text}
 use Rattle.script_text.specs.Fields.{number_of, long_of, site_of, name_of, member_of}
 use Rattle.script_text.specs.Report.{listed, count_text}
-use Rattle.script_text.specs.Sets.{set_of}
-use Rattle.script_text.proofs.CallerLemmas.{set_from, set_to, long_reads, number_reads, site_reads, name_reads, member_reads, and_then_some, some_is}
+use Rattle.script_text.specs.Sets.{set_of, set_or_empty}
+use Rattle.script_text.proofs.CallerLemmas.{set_from, set_some, set_to, long_reads, number_reads, site_reads, name_reads, member_reads, and_then_some, some_is}
 use Rattle.session_replay.specs.declared.generator.TheConstants.{MAX_EVENTS, MAX_WINDOW}
 use Rattle.log_replies.specs.Editing.{EditData, Ins, Nl, Del, Undo, Redo}
 use Rattle.cotpad_run.specs.declared.command.Command.{Command}
@@ -203,6 +203,18 @@ find_from parts c h =
     ∙ ap (λ xs. decimal l.0 ∷ xs) (one_some p.0.1 w.0 w.1 ∙ ap (λ x. x ∷ []) column.0) in
     subst (λ x. (codes "find" ∷ parts ≡ command_words x) × IsInRange x) (some_is (Find l.0 v.0) c v.2)
     (ap (λ xs. codes "find" ∷ xs) spelled, (line.1, column.1))
+
+-- two lists that spell a set are read as it, and others aren't read
+pub set_read : (counts groups : List ℕ) (r : Bool) → r ≡ is_some (set_of counts groups) → r ≡ true
+    → set_of counts groups ≡ Some (set_or_empty counts groups)
+set_read counts groups r told t = set_some counts groups (sym t ∙ told)
+
+pub set_unread : (counts groups : List ℕ) (r : Bool) → r ≡ is_some (set_of counts groups) → r ≡ false → set_of counts groups ≡ None
+set_unread counts groups r told f = by (set_of counts groups) (sym f ∙ told)
+  where
+    by : (o : Option ContextData) → false ≡ is_some o → o ≡ None
+    by None e = refl
+    by (Some c) e = cc
 
 at_from : (parts : List (List ℕ)) (c : CommandData) → at_in parts ≡ Some c → IsCommand (codes "at" ∷ parts) c
 unfolding at_in IsCommand

@@ -250,7 +250,7 @@ fn find_of(parts: &[String]) -> Option<Command<'_>>
 }
 
 // `COUNTS GROUPS`
-#[tactic(auto, unfolding(crate::specs::Code::Reading::at_in))]
+#[tactic(auto, using(crate::proofs::Spelling::set_read, crate::proofs::Spelling::set_unread), unfolding(crate::specs::Code::Reading::at_in))]
 fn at_of(parts: &[String]) -> Option<Command<'_>>
     ensures { option_map command_data result ≡ at_in (map string_bytes parts.now) }
 {

@@ -20,8 +20,8 @@ use crate::looped::answer_looped;
 use crate::meeting::{Joining, Serving, answer_met};
 use crate::replay::answer_replay;
 use log_replies::{
-    Editing, Explaining, Finding, Locating, Show, ShowingPast, Status, answer, one_explanation, one_past,
-    one_reply,
+    Editing, Explaining, Finding, Locating, Show, ShowingPast, Status, answer, one_explanation,
+    one_past, one_reply,
 };
 use outside_io::{Failed, Sink, Source, Wire, write_whole};
 use std::alloc::Global;
@@ -91,7 +91,12 @@ pub fn run<S: Source, K: Sink, W: Wire>(
             source,
             sink,
         ),
-        Some(Command::At { counts, groups }) => answer(alloc, &ShowingPast { counts, groups }, source, sink),
+        Some(Command::At { counts, groups }) => answer(
+            alloc,
+            &ShowingPast { counts, groups },
+            source,
+            sink,
+        ),
         Some(
             Command::Gen {
                 start,

@@ -60,12 +60,7 @@ fn show_spelled(
 }
 
 // The same of a set.
-fn show_past(
-    alloc: Global,
-    site: &Site,
-    at: &Vector,
-    out: &mut Vec<u8>,
-) -> Result<bool, Memory>
+fn show_past(alloc: Global, site: &Site, at: &Vector, out: &mut Vec<u8>) -> Result<bool, Memory>
     ensures { IfOk result (λ refused. IsAppended (IsShownAtIn at.now.set) refused (state_of site.now) out.old.items out.new.items) }
 {
     site.known();

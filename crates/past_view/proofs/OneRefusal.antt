@@ -80,7 +80,8 @@ module _ (h : List OpData) (c : ContextData) (is : IsContext c) where
   one_refusal (Unknown m) (NotClosed s) k l r q = absurd (lacks_nothing h c m q.0 r)
   one_refusal (Unknown m) Memory k l r q = absurd (l refl)
   one_refusal (Stray n) (Unknown m) k l r q = absurd (lacks_nothing h c m r.0 q)
-  one_refusal (Stray n) (Stray m) k l r q = let same : Some n ≡ Some m = sym r.1 ∙ q.1 in let is : n ≡ m = cc in ap (λ (x : NameData). Stray x) is
+  one_refusal (Stray n) (Stray m) k l r q =
+      let same : Some n ≡ Some m = sym r.1 ∙ q.1 in let is : n ≡ m = cc in ap (λ (x : NameData). Stray x) is
   one_refusal (Stray n) (NotClosed s) k l r q = absurd (no_stray_found c n is q.1 r.1)
   one_refusal (Stray n) Memory k l r q = absurd (l refl)
   one_refusal (NotClosed s) (Unknown m) k l r q = absurd (lacks_nothing h c m r.0 q)
