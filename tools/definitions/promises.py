@@ -93,6 +93,11 @@ PROMISES = (
         ),
     ),
     Promise(
+        "`at`",
+        "It writes the text that the operations of a set of members show, where the set is closed.",
+        (Start("log_replies/specs/PastTexts.antt", "IsShownAt"),),
+    ),
+    Promise(
         "`replay`",
         "It writes the report of a script, in which each `show` has the text of the history that its site has there.",
         (Start("cotpad_run/specs/Replaying.antt", "IsReplayed"),),

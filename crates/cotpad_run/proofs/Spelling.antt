@@ -1,18 +1,21 @@
 -- Words are read as a command exactly where they spell it.
-use Rattle.std.proofs.Common.{◌≡◌, ℕ, true, false, List, [], ◌∷◌, length, codes, bytes_eq, decimal, map, string_bytes, String, Option, Some, None, refl, sym, ap, ◌∙◌, subst, option_map, ◌==◌, ◌≤◌, ◌&&◌, nat_le, leb-true, le-leb, eq-eqb, ne_eqb, arith}
-use Rattle.std.specs.Prelude.{IfSome, if◌then◌else◌}
+use Rattle.std.proofs.Common.{◌≡◌, ℕ, Bool, true, false, List, [], ◌∷◌, length, codes, bytes_eq, decimal, map, string_bytes, String, Option, Some, None, refl, sym, ap, ◌∙◌, subst, option_map, ◌==◌, ◌≤◌, ◌&&◌, nat_le, leb-true, le-leb, eq-eqb, ne_eqb, arith}
+use Rattle.std.specs.Prelude.{IfSome, is_some, if◌then◌else◌}
 use Rattle.std.proofs.lemmas.Bool.{cond_both, and_parts, true≢false}
 use Rattle.std.proofs.lemmas.Slice.Eq.{bytes_eq-Decides}
-use Rattle.site_answers.specs.Names.{name_text, member_text}
+use Rattle.context_vector.specs.Contexts.{ContextData}
+use Rattle.site_answers.specs.Names.{name_text, member_text, group_text}
 use Rattle.script_text.specs.Fields.{number_of, long_of, site_of, name_of, member_of}
-use Rattle.script_text.proofs.CallerLemmas.{long_reads, number_reads, site_reads, name_reads, member_reads, and_then_some, some_is}
+use Rattle.script_text.specs.Report.{listed, count_text}
+use Rattle.script_text.specs.Sets.{set_of, set_or_empty}
+use Rattle.script_text.proofs.CallerLemmas.{set_from, set_some, set_to, long_reads, number_reads, site_reads, name_reads, member_reads, and_then_some, some_is}
 use Rattle.session_replay.specs.declared.generator.TheConstants.{MAX_EVENTS, MAX_WINDOW}
 use Rattle.log_replies.specs.Editing.{EditData, Ins, Nl, Del, Undo, Redo}
 use Rattle.cotpad_run.specs.declared.command.Command.{Command}
 use Rattle.cotpad_run.specs.declared.command.TheConstants.{MAX_PORT}
-use Rattle.cotpad_run.specs.Commands.{CommandData, Replay, Show, Edit, Gen, Explain, Where, Find, Serve, Join, Loop, Help, DashedHelp, command_data}
+use Rattle.cotpad_run.specs.Commands.{CommandData, Replay, Show, Edit, Gen, Explain, Where, Find, At, Serve, Join, Loop, Help, DashedHelp, command_data}
 use Rattle.cotpad_run.specs.Words.{edit_words, command_words, IsEditInRange, IsPort, IsInRange, Spells}
-use Rattle.cotpad_run.specs.Code.Reading.{first_in, one_in, alone_in, text_in, ins_in, nl_in, del_in, undo_in, redo_in, edit_row, edit_in, gen_in, gen_of, explain_in, where_in, find_in, port_of, port_in, loop_in, command_row, command_in}
+use Rattle.cotpad_run.specs.Code.Reading.{first_in, one_in, alone_in, text_in, ins_in, nl_in, del_in, undo_in, redo_in, edit_row, edit_in, gen_in, gen_of, explain_in, where_in, find_in, at_in, port_of, port_in, loop_in, command_row, command_in}
 
 first_some : (ws : List (List ℕ)) (p : List ℕ × List (List ℕ)) → first_in ws ≡ Some p → ws ≡ p.0 ∷ p.1
 first_some [] p e = cc
@@ -201,6 +204,31 @@ find_from parts c h =
     subst (λ x. (codes "find" ∷ parts ≡ command_words x) × IsInRange x) (some_is (Find l.0 v.0) c v.2)
     (ap (λ xs. codes "find" ∷ xs) spelled, (line.1, column.1))
 
+-- two lists that spell a set are read as it, and others aren't read
+pub set_read : (counts groups : List ℕ) (r : Bool) → r ≡ is_some (set_of counts groups) → r ≡ true
+    → set_of counts groups ≡ Some (set_or_empty counts groups)
+set_read counts groups r told t = set_some counts groups (sym t ∙ told)
+
+pub set_unread : (counts groups : List ℕ) (r : Bool) → r ≡ is_some (set_of counts groups) → r ≡ false → set_of counts groups ≡ None
+set_unread counts groups r told f = by (set_of counts groups) (sym f ∙ told)
+  where
+    by : (o : Option ContextData) → false ≡ is_some o → o ≡ None
+    by None e = refl
+    by (Some c) e = cc
+
+at_from : (parts : List (List ℕ)) (c : CommandData) → at_in parts ≡ Some c → IsCommand (codes "at" ∷ parts) c
+unfolding at_in IsCommand
+at_from parts c h =
+    let p = and_then_some (first_in parts) _ c h in
+    let w = and_then_some (one_in p.0.1) _ c p.2 in
+    let s = and_then_some (set_of p.0.0 w.0) _ c w.2 in
+    let is = set_from p.0.0 w.0 s.0 s.1 in
+    let spelled : parts ≡ listed (map count_text s.0.counts) ∷ listed (map (λ e. group_text e.0 e.1) s.0.entries) ∷ [] =
+    first_some parts p.0 p.1 ∙ ap (λ x. x ∷ p.0.1) is.counts
+    ∙ ap (λ xs. listed (map count_text s.0.counts) ∷ xs) (one_some p.0.1 w.0 w.1 ∙ ap (λ x. x ∷ []) is.groups) in
+    subst (λ x. (codes "at" ∷ parts ≡ command_words x) × IsInRange x) (some_is (At s.0) c s.2)
+    (ap (λ xs. codes "at" ∷ xs) spelled, is.in_range)
+
 port_of_some : (n p : ℕ) → port_of n ≡ Some p → IsPort p × (n ≡ p)
 port_of_some n p h =
     cond_both (nat_le 1 n && nat_le n MAX_PORT) (Some n) None (λ o. o ≡ Some p → IsPort p × (n ≡ p))
@@ -297,15 +325,16 @@ command_from ws c h =
     (row_or IsCommand p.0.0 (codes "explain") parts c (explain_in parts) _ (explain_from parts c)
     (row_or IsCommand p.0.0 (codes "where") parts c (where_in parts) _ (where_from parts c)
     (row_or IsCommand p.0.0 (codes "find") parts c (find_in parts) _ (find_from parts c)
+    (row_or IsCommand p.0.0 (codes "at") parts c (at_in parts) _ (at_from parts c)
     (row_or IsCommand p.0.0 (codes "serve") parts c (option_map Serve (port_in parts)) _ (serve_from parts c)
     (row_or IsCommand p.0.0 (codes "join") parts c (option_map Join (port_in parts)) _ (join_from parts c)
     (row_or IsCommand p.0.0 (codes "loop") parts c (loop_in parts) _ (loop_from parts c)
     (row_or IsCommand p.0.0 (codes "help") parts c (alone_in Help parts) _ (help_from parts c)
-    (row_or IsCommand p.0.0 (codes "--help") parts c (alone_in DashedHelp parts) None (dashed_help_from parts c) (λ never. cc))))))))))))
+    (row_or IsCommand p.0.0 (codes "--help") parts c (alone_in DashedHelp parts) None (dashed_help_from parts c) (λ never. cc)))))))))))))
     p.2)
 
 command_to : (c : CommandData) → IsInRange c → command_in (command_words c) ≡ Some c
-unfolding command_in command_row edit_in edit_row ins_in nl_in del_in undo_in redo_in gen_in explain_in where_in find_in loop_in
+unfolding command_in command_row edit_in edit_row ins_in nl_in del_in undo_in redo_in gen_in explain_in where_in find_in at_in loop_in
 command_to Replay r = refl
 command_to Show r = refl
 command_to Help r = refl
@@ -320,6 +349,9 @@ command_to (Explain m) r = rw (member_reads.to (member_text m) m (refl, r)) refl
 command_to (Where place) r = rw (number_reads.to (decimal place) place (refl, r)) refl
 command_to (Find line column) r =
     rw (number_reads.to (decimal line) line (refl, r.0), number_reads.to (decimal column) column (refl, r.1)) refl
+command_to (At c) r =
+    rw (set_to (listed (map count_text c.counts)) (listed (map (λ e. group_text e.0 e.1) c.entries)) c
+    (record { counts = refl; groups = refl; in_range = r })) refl
 command_to (Serve port) r = rw (port_to port r) refl
 command_to (Join port) r = rw (port_to port r) refl
 command_to (Loop start) r = rw (long_reads.to (decimal start) start (refl, r)) refl

@@ -12,9 +12,10 @@ use Rattle.log_replies.specs.Addressing.{IsLocated, IsFound}
 use Rattle.log_replies.specs.Answers.{Replies, IsAnswered}
 use Rattle.log_replies.specs.Explaining.{IsExplained}
 use Rattle.log_replies.specs.Outside.{Outside, Grows}
+use Rattle.log_replies.specs.PastTexts.{IsShownAt}
 use Rattle.log_replies.specs.Replies.{IsShown, IsEdited}
 use Rattle.log_replies.specs.Statuses.{IsReported}
-use Rattle.cotpad_run.specs.Commands.{CommandData, Replay, Show, Edit, Gen, Explain, Where, Find, Serve, Join, Loop, Help, DashedHelp}
+use Rattle.cotpad_run.specs.Commands.{CommandData, Replay, Show, Edit, Gen, Explain, Where, Find, At, Serve, Join, Loop, Help, DashedHelp}
 use Rattle.cotpad_run.specs.Generating.{IsGenerated}
 use Rattle.cotpad_run.specs.Help.{help_text}
 use Rattle.cotpad_run.specs.Looping.{IsLoopAnswered}
@@ -84,6 +85,7 @@ row_of (Edit site edit) = replying (IsEdited site edit)
 row_of (Explain m) = replying (IsExplained m)
 row_of (Where place) = replying (IsLocated place)
 row_of (Find line column) = replying (IsFound line column)
+row_of (At c) = replying (IsShownAt c)
 row_of (Gen start events window) = record {
   answers = λ old new. IsGenerated start events window old.outside new.outside;
   reads = false;

@@ -5,11 +5,11 @@ ghost use Rattle.log_replies.specs.Editing.{edit_data};
 ghost use Rattle.cotpad_run.specs.Commands.{CommandData, command_data};
 ghost use Rattle.cotpad_run.specs.Commands as asked;
 ghost use Rattle.cotpad_run.specs.Words.{Spells};
-ghost use Rattle.cotpad_run.specs.Code.Reading.{command_in, command_row, edit_in, edit_row, explain_in, where_in, find_in, gen_in, loop_in, port_in, ins_in, nl_in, del_in, undo_in, redo_in, first_in, one_in, alone_in};
+ghost use Rattle.cotpad_run.specs.Code.Reading.{command_in, command_row, edit_in, edit_row, explain_in, where_in, find_in, at_in, gen_in, loop_in, port_in, ins_in, nl_in, del_in, undo_in, redo_in, first_in, one_in, alone_in};
 
 use log_replies::Edit;
 use op_name::Member;
-use script_text::{parse_long, parse_member, parse_name, parse_number, parse_site};
+use script_text::{parse_long, parse_member, parse_name, parse_number, parse_site, spells_set};
 use session_replay::{MAX_EVENTS, MAX_WINDOW};
 
 /// The greatest port.
@@ -45,6 +45,11 @@ pub enum Command<'a> {
     Find {
         line: u32,
         column: u32,
+    },
+    /// `at COUNTS GROUPS`: reads a log, and writes its text at the set of members that the two lists spell.
+    At {
+        counts: &'a str,
+        groups: &'a str,
     },
     /// `serve PORT`: reads a log, waits for a peer at the port, exchanges with it, and writes the log of the result.
     Serve {
@@ -90,6 +95,7 @@ fn command_row<'a>(word: &str, parts: &'a [String]) -> Option<Command<'a>>
         "explain" => explain_of(parts),
         "where" => where_of(parts),
         "find" => find_of(parts),
+        "at" => at_of(parts),
         "serve" => serve_of(parts),
         "join" => join_of(parts),
         "loop" => loop_of(parts),
@@ -241,6 +247,20 @@ fn find_of(parts: &[String]) -> Option<Command<'_>>
     let line = parse_number(line)?;
     let column = parse_number(one(rest)?)?;
     Some(Command::Find { line, column })
+}
+
+// `COUNTS GROUPS`
+#[tactic(auto, using(crate::proofs::Spelling::set_read, crate::proofs::Spelling::set_unread), unfolding(crate::specs::Code::Reading::at_in))]
+fn at_of(parts: &[String]) -> Option<Command<'_>>
+    ensures { option_map command_data result ≡ at_in (map string_bytes parts.now) }
+{
+    let (counts, rest) = first(parts)?;
+    let groups = one(rest)?;
+    if spells_set(counts, groups) {
+        Some(Command::At { counts, groups })
+    } else {
+        None
+    }
 }
 
 fn serve_of(parts: &[String]) -> Option<Command<'_>>

@@ -6,7 +6,7 @@ ghost use Rattle.context_diff.specs.Operations.{OpData};
 ghost use Rattle.context_diff.specs.Histories.{IsValid, Same};
 ghost use Rattle.context_diff.specs.Replays.{text_of};
 ghost use Rattle.log_replies.specs.Outside.{told};
-ghost use Rattle.log_replies.specs.Laws.{OneReply, OneExplanation};
+ghost use Rattle.log_replies.specs.Laws.{OneReply, OneExplanation, OnePast};
 ghost use Rattle.cotpad_run.specs.Limits.{AreTheLimits};
 ghost use Rattle.cotpad_run.specs.Words.{SpellNone, AreWrongWords};
 ghost use Rattle.cotpad_run.specs.Table.{world, Reads, Streams, Links, IsRun};
@@ -20,7 +20,8 @@ use crate::looped::answer_looped;
 use crate::meeting::{Joining, Serving, answer_met};
 use crate::replay::answer_replay;
 use log_replies::{
-    Editing, Explaining, Finding, Locating, Show, Status, answer, one_explanation, one_reply,
+    Editing, Explaining, Finding, Locating, Show, ShowingPast, Status, answer, one_explanation,
+    one_past, one_reply,
 };
 use outside_io::{Failed, Sink, Source, Wire, write_whole};
 use std::alloc::Global;
@@ -32,6 +33,7 @@ use std::alloc::Global;
 /// `explain MEMBER` reads a log, and writes the steps that derive the form in which the operation of this member was executed.
 /// `where V` reads a log, and writes the line and the column of the place after so many shown characters; `find L C` reads one,
 /// and writes the place that has this line and column.
+/// `at COUNTS GROUPS` reads a log, and writes its text at the set of members that the two lists spell.
 /// `serve PORT` and `join PORT` read a log, exchange with a peer that comes to this port, or that waits there, and write the
 /// log with what the peer had. `loop START` reads nothing, generates a session of two sites, which exchange twice over the
 /// pair of the wire, and writes what went. `help` and `--help` read nothing, and list the commands.
@@ -58,9 +60,10 @@ pub fn run<S: Source, K: Sink, W: Wire>(
 
     // Histories of the same operations, in whatever order they came, show the same text.
     ensures same { (h k : List OpData) → IsValid h → IsValid k → Same h k → text_of h ≡ text_of k }
-    // The bytes of a log decide what `show`, `edit`, `where` and `find` reply, and what `explain` does.
+    // The bytes of a log decide what `show`, `edit`, `where` and `find` reply, and what `explain` and `at` do.
     ensures one_reply { OneReply }
     ensures one_explanation { OneExplanation }
+    ensures one_past { OnePast }
     // Each limit, of which definitions and clauses cite the name, is its number.
     ensures limits { AreTheLimits }
 
@@ -75,6 +78,7 @@ pub fn run<S: Source, K: Sink, W: Wire>(
     same_operations();
     one_reply();
     one_explanation();
+    one_past();
     match command_of(words) {
         Some(Command::Replay) => answer_replay(alloc, source, sink),
         Some(Command::Show) => answer(alloc, &Show, source, sink),
@@ -84,6 +88,12 @@ pub fn run<S: Source, K: Sink, W: Wire>(
         Some(Command::Find { line, column }) => answer(
             alloc,
             &Finding { line, column },
+            source,
+            sink,
+        ),
+        Some(Command::At { counts, groups }) => answer(
+            alloc,
+            &ShowingPast { counts, groups },
             source,
             sink,
         ),

@@ -2,6 +2,7 @@ pub mod Answering
 pub mod Edits
 pub mod Logs
 pub mod OneReply
+pub mod PastReplies
 pub mod Texts
 pub mod Traces
 pub mod CallerLemmas

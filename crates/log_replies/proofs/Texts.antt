@@ -9,7 +9,7 @@ use Rattle.context_diff.specs.Histories.{IsValid}
 use Rattle.context_diff.specs.Replays.{replay_of, is_shown, shown, character_in, characters_of, text_of}
 use Rattle.cot_site.proofs.CallerLemmas.{few_cells}
 
-four_each : (cs : List ℕ) → length (encode_utf8_all cs) ≤ 4 * length cs
+pub four_each : (cs : List ℕ) → length (encode_utf8_all cs) ≤ 4 * length cs
 four_each [] = omega arith
 four_each (c ∷ cs) =
     omega (arith, four_each cs, length-append (encode_utf8 c) (encode_utf8_all cs), length-encode c, (len_utf8_bounds c).1)

@@ -5,6 +5,7 @@ pub mod Outside
 pub mod Editing
 pub mod Replies
 pub mod Explaining
+pub mod PastTexts
 pub mod Answers
 pub mod Laws
 pub mod Code

@@ -1,6 +1,6 @@
 //! The laws that stand beside replies: the bytes of a log decide them.
 
-ghost use Rattle.log_replies.specs.Laws.{OneReply, OneExplanation};
+ghost use Rattle.log_replies.specs.Laws.{OneReply, OneExplanation, OnePast};
 
 use session_log::{one_loading, one_refusal};
 use trace_explain::one_trace;
@@ -20,4 +20,12 @@ pub fn one_explanation()
     one_refusal();
     one_loading();
     one_trace();
+}
+
+/// The bytes that are read as a log decide the reply of `at`. It does nothing.
+pub fn one_past()
+    ensures { OnePast }
+{
+    one_refusal();
+    one_loading();
 }

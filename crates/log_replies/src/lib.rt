@@ -1,4 +1,4 @@
-//! The commands `show`, `edit`, `explain`, `where` and `find`: each reads the log of a site, and writes one reply to it.
+//! The commands `show`, `edit`, `explain`, `where`, `find` and `at`: each reads the log of a site, and writes one reply to it.
 //!
 //! A command says which site it loads and what it replies to the state (the trait `Replies`); `answer` reads, replies and
 //! writes, and its table says which answer comes when, and what it leaves. The bytes of the log decide the reply.
@@ -9,6 +9,7 @@ mod edit;
 mod explain;
 mod laws;
 mod loaded;
+mod past;
 mod replying;
 mod show;
 mod status;
@@ -16,8 +17,9 @@ mod status;
 pub use addressing::{Finding, Locating};
 pub use edit::{Edit, Editing};
 pub use explain::Explaining;
-pub use laws::{one_explanation, one_reply};
+pub use laws::{one_explanation, one_past, one_reply};
 pub use loaded::{PIECE, empty_piece, load_input};
+pub use past::ShowingPast;
 pub use replying::{Replies, answer};
 pub use show::{Show, show_text};
 pub use status::{Status, code_of};

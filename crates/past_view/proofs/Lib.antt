@@ -4,6 +4,12 @@ pub mod PastText
 pub mod Refusals
 pub mod Addresses
 pub mod Answered
+pub mod CallerLemmas
 pub mod Counts
 pub mod Cuts
 pub mod Utf8
+pub mod OneRefusal
+pub mod Parts
+pub mod PartText
+pub mod PastText
+pub mod Refusals

@@ -7,6 +7,7 @@ pub mod WordLaws
 pub mod Joins
 pub mod KeptLines
 pub mod InputLaws
+pub mod SetLaws
 pub mod Takings
 pub mod MemberLaws
 pub mod HexDigits

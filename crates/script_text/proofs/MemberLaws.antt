@@ -14,32 +14,32 @@ use Rattle.script_text.proofs.WordLaws.{found, only}
 slash_no_digit : ¬ (IsInRange 48 57 47)
 slash_no_digit h = omega (arith, h)
 
-lacks_first : (c x : ℕ) (bs : List ℕ) → x ≢ c → Lacks c bs → Lacks c (x ∷ bs)
+pub lacks_first : (c x : ℕ) (bs : List ℕ) → x ≢ c → Lacks c bs → Lacks c (x ∷ bs)
 lacks_first c x bs other lacks = λ i h. by i h
   where
     by : (i : ℕ) → i < length (x ∷ bs) → get_or (x ∷ bs) i 0 ≢ c
     by zero h = other
     by (suc i) h = lacks i (omega (arith, h))
 
-lacks_both : (c : ℕ) (a bs : List ℕ) → Lacks c a → Lacks c bs → Lacks c (a ++ bs)
+pub lacks_both : (c : ℕ) (a bs : List ℕ) → Lacks c a → Lacks c bs → Lacks c (a ++ bs)
 lacks_both c [] bs first second = second
 lacks_both c (x ∷ a) bs first second =
     lacks_first c x (a ++ bs) (first 0 (omega arith)) (lacks_both c a bs (λ i h. first (suc i) (omega (arith, h))) second)
 
 -- a name has no slash
-name_lacks : (n : NameData) → IsNameText (name_text n) n → Lacks 47 (name_text n)
+pub name_lacks : (n : NameData) → IsNameText (name_text n) n → Lacks 47 (name_text n)
 name_lacks n is =
     lacks_both 47 (decimal n.site) (46 ∷ decimal n.number)
     (number_lacks 47 slash_no_digit (decimal n.site) n.site (refl, omega (arith, is.1.0)))
     (lacks_first 47 46 (decimal n.number) (λ e. cc)
     (number_lacks 47 slash_no_digit (decimal n.number) n.number (refl, omega (arith, is.1.2))))
 
-generation_reads : Reads generation_of IsGeneration
+pub generation_reads : Reads generation_of IsGeneration
 unfolding generation_of
 generation_reads = let r = from_one_reads GENERATIONS (omega arith) in record { from = λ bs g e. r.from bs g e; to = λ bs g h. r.to bs g h }
 
 -- the name, the slash and the generation
-spelled : (n : NameData) (g : ℕ) → name_text n ++ 47 ∷ decimal g ≡ group_text n g
+pub spelled : (n : NameData) (g : ℕ) → name_text n ++ 47 ∷ decimal g ≡ group_text n g
 spelled n g = append_assoc (decimal n.site) (46 ∷ decimal n.number) (47 ∷ decimal g)
 
 member_from : (bs : List ℕ) (o : Option (List ℕ × List ℕ)) → ((p : List ℕ × List ℕ) → o ≡ Some p → bs ≡ p.0 ++ 47 ∷ p.1) → (m : Member)

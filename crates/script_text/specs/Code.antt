@@ -1,2 +1,3 @@
 -- Words of the contracts of private functions.
+pub mod Items
 pub mod Keeping

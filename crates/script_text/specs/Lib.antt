@@ -1,6 +1,7 @@
 pub mod Fields
 pub mod Lines
 pub mod Rows
+pub mod Sets
 pub mod Answers
 pub mod Report
 pub mod Verdicts

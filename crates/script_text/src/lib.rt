@@ -10,7 +10,7 @@ mod report;
 pub use reading::{
     Chars, LONGEST, Line, LineBad, LineStream, MAX_SCRIPT, Octets, each_line_has_a_spelling,
     lines_stay_the_same, parse_line, parse_long, parse_member, parse_name, parse_number,
-    parse_site,
+    parse_site, read_set, spells_set,
 };
 pub use report::{
     Event, Refusal, base_line, local_line, op_line, put_form, put_made, raw_bad_line,

@@ -2,9 +2,10 @@
 use Rattle.std.specs.Prelude.{ℕ, ◌==◌, ◌&&◌, nat_le, List, [], ◌∷◌, codes, bytes_eq, length, Option, Some, None, option_map, if◌then◌else◌}
 use Rattle.session_replay.specs.declared.generator.TheConstants.{MAX_EVENTS, MAX_WINDOW}
 use Rattle.script_text.specs.Fields.{number_of, long_of, site_of, name_of, member_of, ◌>>=◌}
+use Rattle.script_text.specs.Sets.{set_of}
 use Rattle.log_replies.specs.Editing.{EditData, Ins, Nl, Del, Undo, Redo}
 use Rattle.cotpad_run.specs.declared.command.TheConstants.{MAX_PORT}
-use Rattle.cotpad_run.specs.Commands.{CommandData, Replay, Show, Edit, Gen, Explain, Where, Find, Serve, Join, Loop, Help, DashedHelp}
+use Rattle.cotpad_run.specs.Commands.{CommandData, Replay, Show, Edit, Gen, Explain, Where, Find, At, Serve, Join, Loop, Help, DashedHelp}
 
 -- the first word and the others, if there is one
 abbrev pub first_in : List (List ℕ) → Option (List ℕ × List (List ℕ))
@@ -111,6 +112,13 @@ find_in ws = do
   column ← number_of word
   Some (Find line column)
 
+unfoldable pub at_in : List (List ℕ) → Option CommandData
+at_in ws = do
+  p ← first_in ws
+  groups ← one_in p.1
+  c ← set_of p.0 groups
+  Some (At c)
+
 -- a number that is a port
 abbrev pub port_of : ℕ → Option ℕ
 port_of n = if nat_le 1 n && nat_le n MAX_PORT then Some n else None
@@ -137,12 +145,13 @@ command_row word parts =
     else (if bytes_eq word (codes "explain") then explain_in parts
     else (if bytes_eq word (codes "where") then where_in parts
     else (if bytes_eq word (codes "find") then find_in parts
+    else (if bytes_eq word (codes "at") then at_in parts
     else (if bytes_eq word (codes "serve") then option_map Serve (port_in parts)
     else (if bytes_eq word (codes "join") then option_map Join (port_in parts)
     else (if bytes_eq word (codes "loop") then loop_in parts
     else (if bytes_eq word (codes "help") then alone_in Help parts
     else (if bytes_eq word (codes "--help") then alone_in DashedHelp parts
-    else None)))))))))))
+    else None))))))))))))
 
 -- the command that these words spell, if they spell one
 unfoldable pub command_in : List (List ℕ) → Option CommandData

@@ -1,6 +1,6 @@
 //! Fields: what stands between the blanks of a line.
 
-ghost use Rattle.std.specs.Prelude.{◌≡◌, Some, None, MatchOption, IfSome, chars, ◌<◌};
+ghost use Rattle.std.specs.Prelude.{◌≡◌, Some, None, MatchOption, IfSome, chars, ◌<◌, ◌≤◌};
 ghost use Rattle.script_text.specs.Fields.{cut, number_of, long_of, site_of, count_of, name_of, generation_of, member_of, text_of, starts_numeral};
 
 use op_name::{GENERATIONS, Member, Name, SITES};
@@ -89,8 +89,9 @@ fn cut_at_point(text: &str) -> Option<(&str, &str)>
 
 /// The generation that the field spells: 1 to `GENERATIONS`.
 #[tactic(auto, unfolding(crate::specs::Fields::generation_of))]
-fn generation(field: &str) -> Option<u16>
-    ensures { result ≡ generation_of field.now }
+pub(crate) fn generation(field: &str) -> Option<u16>
+    ensures read { result ≡ generation_of field.now }
+    ensures least { IfSome result (λ g. 1 ≤ g) }
 {
     let generation = number(field)?;
     if 1 <= generation && generation <= u32::from(GENERATIONS) {
@@ -116,7 +117,7 @@ pub(crate) fn member(field: &str) -> Option<Member>
 }
 
 /// What stands before the first slash and after it.
-fn cut_at_slash(text: &str) -> Option<(&str, &str)>
+pub(crate) fn cut_at_slash(text: &str) -> Option<(&str, &str)>
     ensures { MatchOption result (cut 47 text.now ≡ None) (λ p. cut 47 text.now ≡ Some (p.0.now, p.1.now)) }
 {
     text.split_once('/')

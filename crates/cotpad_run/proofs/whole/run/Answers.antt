@@ -122,6 +122,24 @@ returns-in-Some-Find-clause-unread g c = λ none.
     let is : k.field-0 ≡ command.Find k.line k.column = cc in
     absurd (not_of Reads k.field-0 (command.Find k.line k.column) is (none (command_data k.field-0) k.ensures.found) refl)
 
+pub returns-in-Some-At-clause-run : goal.returns-in-Some-At-clause-run
+returns-in-Some-At-clause-run g c =
+    let k = c.in-Some-At in
+    let f = k.field-0-is in
+    let is : k.field-0 ≡ command.At k.counts k.groups = cc in
+    record {
+      done = λ asked spelled. same_row k.field-0 (command.At k.counts k.groups) asked _ _ _ is (k.ensures.only asked spelled)
+          (replying_done _ _ _ _ c.answer-in-Some-At.ensures.answer refl);
+      wrong = λ none. absurd (none (command_data k.field-0) k.ensures.found);
+    }
+
+pub returns-in-Some-At-clause-unread : goal.returns-in-Some-At-clause-unread
+returns-in-Some-At-clause-unread g c = λ none.
+    let k = c.in-Some-At in
+    let f = k.field-0-is in
+    let is : k.field-0 ≡ command.At k.counts k.groups = cc in
+    absurd (not_of Reads k.field-0 (command.At k.counts k.groups) is (none (command_data k.field-0) k.ensures.found) refl)
+
 pub returns-in-Some-Gen-clause-run : goal.returns-in-Some-Gen-clause-run
 returns-in-Some-Gen-clause-run g c =
     let k = c.in-Some-Gen in

@@ -1,0 +1,6 @@
+use Rattle.script_text.proofs.FieldLaws.{cut_by_parts}
+use Rattle.std.proofs.Common.{arith}
+use Rattle.script_text.proofs.reading.sets.cut_at_colon.Goals as goal
+
+pub returns : goal.returns
+returns c = cut_by_parts 58 _ _ c.split_once.ensures.cases (omega arith)
