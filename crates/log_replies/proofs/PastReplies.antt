@@ -54,7 +54,7 @@ pub past_refused : (c : ContextData) (s : State) (why : AtBad) (old new : List �
     → new ≡ old ++ refused_at_text why → IsAppended (IsShownAtIn c) true s old new
 past_refused c s why old new is known written = record {
   reply = refusing (refused_at_text why);
-  right = inr (why, (known, is, refl));
+  right = inr (why, known, is, refl);
   told = refl;
   appended = written;
 }
@@ -62,9 +62,9 @@ past_refused c s why old new is known written = record {
 -- the state has one reply
 one_shown : (c : ContextData) → IsContext c → (s : State) (a b : Report) → IsShownAtIn c s a → IsShownAtIn c s b → a ≡ b
 one_shown c is s a b (inl x) (inl y) = x.1 ∙ sym y.1
-one_shown c is s a b (inl x) (inr (why, (known, refused, told))) = absurd (closed_accepted s.history c is why known x.0 refused)
-one_shown c is s a b (inr (why, (known, refused, told))) (inl y) = absurd (closed_accepted s.history c is why known y.0 refused)
-one_shown c is s a b (inr (why, (known, refused, told))) (inr (other, (also, unshown, said))) =
+one_shown c is s a b (inl x) (inr (why, known, refused, told)) = absurd (closed_accepted s.history c is why known x.0 refused)
+one_shown c is s a b (inr (why, known, refused, told)) (inl y) = absurd (closed_accepted s.history c is why known y.0 refused)
+one_shown c is s a b (inr (why, known, refused, told)) (inr (other, also, unshown, said)) =
     told ∙ ap (λ (w : AtBad). refusing (refused_at_text w)) (one_refusal s.history c is why other known also refused unshown) ∙ sym said
 
 pub one_past : OneRefusal → OneLoading → OnePast
