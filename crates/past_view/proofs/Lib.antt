@@ -9,7 +9,3 @@ pub mod Counts
 pub mod Cuts
 pub mod Utf8
 pub mod OneRefusal
-pub mod Parts
-pub mod PartText
-pub mod PastText
-pub mod Refusals
