@@ -3,7 +3,7 @@
 # and lets two copies exchange; `make check-hosts` runs hosts in C and in Python over the library. `make wheel` makes a package for
 # Python of it, and `make install` installs it.
 .PHONY: all lib quick quick-lib demo wheel install
-.PHONY: check-examples check-bytes check-sessions check-memory check-hosts check-python check-wheel check-install check-sanitizers check-relay check-relay-wrong check-pad check-pad-wrong check-edits
+.PHONY: check-examples check-bytes check-sessions check-past check-memory check-hosts check-python check-wheel check-install check-sanitizers check-relay check-relay-wrong check-pad check-pad-wrong check-edits
 .PHONY: check-documents
 .PHONY: compare doors trust clean
 
@@ -265,6 +265,13 @@ check-sessions:
 	@tools/program > /dev/null
 	@tools/check-sessions --rows
 	@tools/check-sessions SEED=$(SEED) SECONDS=$(SECONDS) COUNT=$(COUNT)
+
+# Texts of the past, as `at` shows them, beside those of sites that have these operations alone, over the library in the folder that LIB
+# names. SEED= and COUNT= say which sessions.
+check-past:
+	$(needs-library)
+	@tools/program > /dev/null
+	@$(PACKAGE) tools/check-past SEED=$(SEED) COUNT=$(COUNT)
 
 # Sessions in which each allocation is refused in turn: each run is out of memory and wrote a front of its answer, or goes well.
 check-memory:
