@@ -11,7 +11,7 @@ abbrev other_delete : NameData
 other_delete = record { site = 1; number = 1 }
 
 abbrev letter : CellData
-letter = record { name = record { site = 0; number = 1 }; offset = 0; of = 1; ch = 97; generation = 0; deleters = [] }
+letter = record { name = record { site = 0; number = 1 }; offset = 0; of = 1; generation = 0; deleters = [] }
 
 a_bare_cell_is_shown : cell_shown letter ≡ true
 a_bare_cell_is_shown = refl
@@ -52,7 +52,7 @@ deleters_are_sorted = refl
 -- an insert of two cells between which another one stands
 abbrev pair_of : ℕ → ℕ → CellData
 pair_of offset generation =
-    record { name = record { site = 0; number = 2 }; offset = offset; of = 2; ch = 98; generation = generation; deleters = [] }
+    record { name = record { site = 0; number = 2 }; offset = offset; of = 2; generation = generation; deleters = [] }
 
 an_undo_is_on_all_cells_of_its_insert : marked_in 0 (Own 1) (pair_of 0 0 ∷ (letter ∷ (pair_of 1 0 ∷ [])))
     ≡ pair_of 0 1 ∷ (letter ∷ (pair_of 1 1 ∷ []))

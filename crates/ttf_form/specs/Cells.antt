@@ -12,13 +12,13 @@ use Rattle.ttf_form.specs.declared.form.Form.TheVariants.{Ins as Insert, Cover a
 use Rattle.ttf_form.specs.Forms.{IsBoundedForm, added_by}
 use Rattle.ttf_form.specs.Names.{NewNames}
 
--- a character by the name of its insert and its offset among so many cells of that insert, with the generation of the
--- insert and the deletes that hit the cell, each with its generation, sorted by name
+-- a cell by the name of its insert and its offset among so many cells of that insert, with the generation of the insert and
+-- the deletes that hit the cell, each with its generation, sorted by name. The characters stand beside the cells, as a text of as
+-- many: forms and marks speak of none
 pub record CellData : Type 0 where
   pub name : NameData
   pub offset : ℕ
   pub of : ℕ
-  pub ch : ℕ
   pub generation : ℕ
   pub deleters : List (NameData × ℕ)
 
@@ -40,7 +40,7 @@ marked (By d g) c = record c { deleters = raise_in d g c.deleters }
 
 -- the cells of an insert before any mark
 abbrev pub bare_cells : Ins → List CellData
-bare_cells a = record { name = a.name; offset = 0; of = 1; ch = a.ch; generation = 0; deleters = [] } ∷ []
+bare_cells a = record { name = a.name; offset = 0; of = 1; generation = 0; deleters = [] } ∷ []
 
 -- the list with these new elements at a place
 abbrev pub put_in : {A : Type 0} → ℕ → List A → List A → List A
@@ -86,3 +86,14 @@ FitsCells cs a = IsBoundedForm a (length (cells_of cs)) × NewNames (cells_of cs
 -- shown: its insert is in force, and none of its deleters is
 abbrev pub cell_shown : CellData → Bool
 cell_shown c = is_even c.generation && not (list_any (λ e. is_even e.1) c.deleters)
+
+-- the text beside the cells once a form is applied: the characters of an insert stand at its place
+abbrev pub text_put : Form → List ℕ → List ℕ → List ℕ
+text_put (Insert a) new ts = put_in a.place new ts
+text_put (Covered c) new ts = ts
+
+-- the characters of the cells that pass, of a text beside the cells
+abbrev pub chars_where : (CellData → Bool) → List CellData → List ℕ → List ℕ
+chars_where p [] ts = []
+chars_where p (c ∷ cs) [] = []
+chars_where p (c ∷ cs) (t ∷ ts) = if p c then t ∷ chars_where p cs ts else chars_where p cs ts

@@ -4,3 +4,4 @@ pub mod Deleters
 pub mod Forms
 pub mod Marks
 pub mod Cells
+pub mod Texts

@@ -12,7 +12,6 @@ use op_name::Name;
 pub struct Ins {
     pub place: u32,
     pub site: u16,
-    pub ch: char,
     pub name: Name,
     ghost own: { site ≡ name.site },
 }

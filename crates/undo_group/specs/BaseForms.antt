@@ -15,13 +15,12 @@ use Rattle.ttf_form.specs.declared.form.Form.{Form}
 use Rattle.ttf_form.specs.declared.form.Form.TheVariants.{Ins as Insert, Cover as Covered}
 use Rattle.ttf_form.specs.Families.{IsIn}
 
--- an insert of this name, at this place, of this character
-pub record IsInsertForm (n : NameData) (p ch : ℕ) (f : Form) : Type 0 where
+-- an insert of this name, at this place
+pub record IsInsertForm (n : NameData) (p : ℕ) (f : Form) : Type 0 where
   pub ins : Ins
   pub is : f ≡ Insert ins
   pub name : ins.name ≡ n
   pub place : ins.place ≡ p
-  pub char : ins.ch ≡ ch
 
 -- a cover at this place that leaves this mark
 pub record IsCoverForm (p : ℕ) (m : Mark) (f : Form) : Type 0 where
@@ -33,7 +32,7 @@ pub record IsCoverForm (p : ℕ) (m : Mark) (f : Form) : Type 0 where
 -- the base form of an insert or a delete is what the operation says, that of a group is a cover at its original's place,
 -- which raises the generation of an insert, or of a delete among the deleters
 pub record AreBaseForms (h : List OpData) (form : Member → Form) : Type 0 where
-  pub inserts : (n : NameData) (p ch : ℕ) (c : ContextData) → IsIn (inserting n p ch c) h → IsInsertForm n p ch (form (Original n))
+  pub inserts : (n : NameData) (p ch : ℕ) (c : ContextData) → IsIn (inserting n p ch c) h → IsInsertForm n p (form (Original n))
   pub deletes : (n : NameData) (p : ℕ) (c : ContextData) → IsIn (deleting n p c) h → IsCoverForm p (By n 0) (form (Original n))
   pub insert_groups : (t : NameData) (g : ℕ) (a : Ins) → IsIn (Group t g) (members_in h) → form (Original t) ≡ Insert a
       → IsCoverForm a.place (Own g) (form (Group t g))
@@ -42,7 +41,7 @@ pub record AreBaseForms (h : List OpData) (form : Member → Form) : Type 0 wher
 
 -- the form of an original, as its operation says
 abbrev pub form_of : OpData → Form
-form_of (inserting n p ch c) = Insert (record { place = p; site = n.site; ch = ch; name = n; own = refl })
+form_of (inserting n p ch c) = Insert (record { place = p; site = n.site; name = n; own = refl })
 form_of (deleting n p c) = Covered (record { place = p; mark = By n 0 })
 form_of (undoing a t g c) = Covered (record { place = 0; mark = By t g })
 

@@ -98,15 +98,9 @@ fn form_of(op: &Op, name: &Name) -> Form
     ensures { result ≡ form_of (data_of op.now) }
 {
     match op {
-        Op::Insert {
-            name,
-            place,
-            ch,
-            ..
-        } => Form::Ins(Ins {
+        Op::Insert { name, place, .. } => Form::Ins(Ins {
             place: *place,
             site: name.site,
-            ch: *ch,
             name: *name,
         }),
         Op::Delete { name, place, .. } => Form::Cover(Cover {

@@ -26,14 +26,10 @@ marks_if_two true true m n c = marks_two m n c
 marks_if_two true false m n c = refl
 marks_if_two false b m n c = refl
 
--- a mark changes neither name nor offset nor character
+-- a mark changes neither name nor offset
 pub marked_key : (m : Mark) (c : CellData) → cell_key (marked m c) ≡ cell_key c
 marked_key (Own g) c = refl
 marked_key (By d g) c = refl
-
-pub marked_char : (m : Mark) (c : CellData) → (marked m c).ch ≡ c.ch
-marked_char (Own g) c = refl
-marked_char (By d g) c = refl
 
 pub marked_if_key : (b : Bool) (m : Mark) (c : CellData) → cell_key (marked_if b m c) ≡ cell_key c
 marked_if_key true m c = marked_key m c

@@ -1,4 +1,4 @@
-use Rattle.std.proofs.Common.{◌≡◌, sym, ap, ◌∙◌}
+use Rattle.std.proofs.Common.{sym, ap, ◌∙◌}
 use Rattle.context_vector.specs.Contexts.{entry_of}
 use Rattle.context_diff.proofs.CallerLemmas.{generation_is}
 use Rattle.undo_group.proofs.generations.generation.Goals as goal
