@@ -236,6 +236,7 @@ demo:
 		echo "== $$log, shown"; $$program show < $$log; \
 	done; \
 	echo "== examples/explain.log, 1.1/2 explained"; $$program explain 1.1/2 < examples/explain.log; \
+	echo "== examples/hello.log, played back"; $$program playback < examples/hello.log; \
 	echo "== examples/exchange.sh"; examples/exchange.sh $(FREE_PORT)
 
 # Compares what the program writes of each example with its report, what a program that drives it through a pipe reads, and its
@@ -249,6 +250,7 @@ check-examples:
 		$$program show < $$log | cmp - $${log%.log}.report; \
 	done; \
 	$$program explain 1.1/2 < examples/explain.log | cmp - examples/explain.steps; \
+	$$program playback < examples/hello.log | cmp - examples/hello.played; \
 	examples/exchange.sh $(FREE_PORT) | cmp - examples/exchange.report; \
 	examples/said.sh $(FREE_PORT) | cmp - examples/said.report; \
 	timeout 60 examples/drive.py $$program | cmp - examples/drive.out; \

@@ -98,6 +98,11 @@ PROMISES = (
         (Start("log_replies/specs/PastTexts.antt", "IsShownAt"),),
     ),
     Promise(
+        "`playback`",
+        "It writes the text after each operation of the history that a log gives.",
+        (Start("log_replies/specs/PlayedTexts.antt", "IsPlayedBack"), Start("log_replies/specs/Answers.antt", "IsStreamed")),
+    ),
+    Promise(
         "`replay`",
         "It writes the report of a script, in which each `show` has the text of the history that its site has there.",
         (Start("cotpad_run/specs/Replaying.antt", "IsReplayed"),),

@@ -8,6 +8,7 @@ whenever it is looked at, and a few hundred operations take minutes.
 
   python3 tools/reference/cotpad_reference.py replay < SCRIPT
   python3 tools/reference/cotpad_reference.py show < LOG
+  python3 tools/reference/cotpad_reference.py playback < LOG
   python3 tools/reference/cotpad_reference.py edit SITE ins V TEXT < LOG     and so for nl, del, undo, redo
 
 write what the program writes, and end with its status. `tools/check-sessions` compares the two on drawn sessions.
@@ -913,6 +914,16 @@ def show_reply(data):
     return "".join(session.report).encode()
 
 
+def played_reply(data):
+    """log_replies/PlayedTexts.antt, `played_reply`: past_view/Playing.antt, `played`: after each operation of the history its member, and
+    the lines of the text that the operations up to and with it show"""
+    state, session = load(0, data), Session()
+    for count, op in enumerate(state.history, 1):
+        session.write("after", member_of(op))
+        session.show(State(0, state.history[:count]))
+    return "".join(session.report).encode()
+
+
 def edit_reply(words, data):
     """log_replies/Replies.antt, `edit_reply`: the log of the edited site; nothing of it where an operation is refused, but why.
     None where the words are no edit."""
@@ -938,6 +949,8 @@ def run(words, data):
             return report, int(refused)
         if words == ["show"]:
             return show_reply(data), 0
+        if words == ["playback"]:
+            return played_reply(data), 0
         if len(words) > 2 and words[0] == "edit":
             reply = edit_reply(words[1:], data)
             return (b"cotpad: words\n", 2) if reply is None else (reply, 0)

@@ -316,7 +316,7 @@ class Drawing:
                 frames.insert(draw.randint(0, len(frames)), data if is_large(other) else other)
         pieces = [self.spoiled(ref.HEADER) if way == "header" else ref.HEADER] + frames
         if self.chance(0.4):
-            return ["show"], pieces
+            return [draw.choice(("show", "playback"))], pieces
         most = len(ref.shown_places_of(state.history))
         edits = (
             ["ins", self.place(most), "".join(draw.choice(LETTERS + "é😀 ") for _ in range(draw.choice((1, 1, 3))))],

@@ -87,7 +87,7 @@ def try_rows():
     tried, skipped, calls, wrong = 0, [], 0, []
     for name, lines, known in rows_of((TOP / "crates" / "worked_rows" / "stdin").read_text(encoding="utf-8")):
         words = words_of(lines)
-        if words[:1] not in (["replay"], ["show"], ["edit"]) or any(word in FAULTS for word, _ in lines):
+        if words[:1] not in (["replay"], ["show"], ["playback"], ["edit"]) or any(word in FAULTS for word, _ in lines):
             continue
         if name in TOO_LONG:
             skipped.append(name)

@@ -87,6 +87,10 @@ WRONG = (
         'self.write("text", len(text), len(text.encode()))',
         'self.write("text", len(text.encode()), len(text.encode()))',
     ),
+    # texts that are played
+    ("what waits is played", "enumerate(state.history, 1)", "enumerate(state.history + state.waiting, 1)"),
+    ("the text before an operation is played", "state.history[:count]", "state.history[: count - 1]"),
+    ("the last text is played after each operation", "state.history[:count]", "state.history"),
     # frames
     ("a context's zero is out of range", 'raise Bad("zero", start)', 'raise Bad("range", start)'),
     ("sites needn't rise", "if site < low:", "if False:"),

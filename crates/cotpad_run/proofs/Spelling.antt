@@ -13,7 +13,7 @@ use Rattle.session_replay.specs.declared.generator.TheConstants.{MAX_EVENTS, MAX
 use Rattle.log_replies.specs.Editing.{EditData, Ins, Nl, Del, Undo, Redo}
 use Rattle.cotpad_run.specs.declared.command.Command.{Command}
 use Rattle.cotpad_run.specs.declared.command.TheConstants.{MAX_PORT}
-use Rattle.cotpad_run.specs.Commands.{CommandData, Replay, Show, Edit, Gen, Explain, Where, Find, At, Serve, Join, Loop, Help, DashedHelp, command_data}
+use Rattle.cotpad_run.specs.Commands.{CommandData, Replay, Show, Edit, Gen, Explain, Where, Find, At, Playback, Serve, Join, Loop, Help, DashedHelp, command_data}
 use Rattle.cotpad_run.specs.Words.{edit_words, command_words, IsEditInRange, IsPort, IsInRange, Spells}
 use Rattle.cotpad_run.specs.Code.Reading.{first_in, one_in, alone_in, text_in, ins_in, nl_in, del_in, undo_in, redo_in, edit_row, edit_in, gen_in, gen_of, explain_in, where_in, find_in, at_in, port_of, port_in, loop_in, command_row, command_in}
 
@@ -300,6 +300,12 @@ show_from parts c h =
     let a = alone_some Show c parts h in
     subst (λ x. (codes "show" ∷ parts ≡ command_words x) × IsInRange x) a.1 (ap (λ xs. codes "show" ∷ xs) a.0, tt)
 
+playback_from : (parts : List (List ℕ)) (c : CommandData) → alone_in Playback parts ≡ Some c → IsCommand (codes "playback" ∷ parts) c
+unfolding IsCommand
+playback_from parts c h =
+    let a = alone_some Playback c parts h in
+    subst (λ x. (codes "playback" ∷ parts ≡ command_words x) × IsInRange x) a.1 (ap (λ xs. codes "playback" ∷ xs) a.0, tt)
+
 help_from : (parts : List (List ℕ)) (c : CommandData) → alone_in Help parts ≡ Some c → IsCommand (codes "help" ∷ parts) c
 unfolding IsCommand
 help_from parts c h =
@@ -326,11 +332,12 @@ command_from ws c h =
     (row_or IsCommand p.0.0 (codes "where") parts c (where_in parts) _ (where_from parts c)
     (row_or IsCommand p.0.0 (codes "find") parts c (find_in parts) _ (find_from parts c)
     (row_or IsCommand p.0.0 (codes "at") parts c (at_in parts) _ (at_from parts c)
+    (row_or IsCommand p.0.0 (codes "playback") parts c (alone_in Playback parts) _ (playback_from parts c)
     (row_or IsCommand p.0.0 (codes "serve") parts c (option_map Serve (port_in parts)) _ (serve_from parts c)
     (row_or IsCommand p.0.0 (codes "join") parts c (option_map Join (port_in parts)) _ (join_from parts c)
     (row_or IsCommand p.0.0 (codes "loop") parts c (loop_in parts) _ (loop_from parts c)
     (row_or IsCommand p.0.0 (codes "help") parts c (alone_in Help parts) _ (help_from parts c)
-    (row_or IsCommand p.0.0 (codes "--help") parts c (alone_in DashedHelp parts) None (dashed_help_from parts c) (λ never. cc)))))))))))))
+    (row_or IsCommand p.0.0 (codes "--help") parts c (alone_in DashedHelp parts) None (dashed_help_from parts c) (λ never. cc))))))))))))))
     p.2)
 
 command_to : (c : CommandData) → IsInRange c → command_in (command_words c) ≡ Some c
@@ -352,6 +359,7 @@ command_to (Find line column) r =
 command_to (At c) r =
     rw (set_to (listed (map count_text c.counts)) (listed (map (λ e. group_text e.0 e.1) c.entries)) c
     (record { counts = refl; groups = refl; in_range = r })) refl
+command_to Playback r = refl
 command_to (Serve port) r = rw (port_to port r) refl
 command_to (Join port) r = rw (port_to port r) refl
 command_to (Loop start) r = rw (long_reads.to (decimal start) start (refl, r)) refl

@@ -9,7 +9,7 @@ use Rattle.outside_io.specs.declared.link.Asked.TheVariants as link
 use Rattle.outside_io.specs.declared.reading.TheConstants.{MAX_INPUT}
 use Rattle.log_replies.specs.declared.status.Status.{Status}
 use Rattle.log_replies.specs.declared.status.Status.TheVariants.{Done, Refused, Words, ReadFault, WriteFault, Memory, LinkFault, PeerRefused}
-use Rattle.log_replies.specs.Answers.{Replies, IsAnswered}
+use Rattle.log_replies.specs.Answers.{Replies, IsAnswered, IsStreamed}
 use Rattle.log_replies.specs.Outside.{Outside, Grows, IsWritten, IsCutOff}
 use Rattle.log_replies.specs.Statuses.{IsReported}
 use Rattle.log_replies.proofs.CallerLemmas.{loses_input}
@@ -20,7 +20,7 @@ use Rattle.cotpad_run.specs.Replaying.{IsReplayed}
 use Rattle.cotpad_run.specs.Generating.{gen_text, IsCounted}
 use Rattle.cotpad_run.specs.Meeting.{Side, IsLinkedOnce, IsMeeting, AgreesWithPeer, AreFaultless}
 use Rattle.cotpad_run.specs.Looping.{AreLinked, IsLooping, IsLoopTold}
-use Rattle.cotpad_run.specs.Table.{World, Row, row_of, replying, meeting, saying, WentWell, EndsWell, IsComplete, IsDone}
+use Rattle.cotpad_run.specs.Table.{World, Row, row_of, replying, streaming, meeting, saying, WentWell, EndsWell, IsComplete, IsDone}
 use Rattle.cotpad_run.specs.Wired.{Wired, IsAskedFor}
 
 -- ---- what the sink holds, and what the source lost
@@ -89,6 +89,55 @@ replying_done replies old new r a wire =
       link = wire;
       ends = λ well. inl (reported well);
       complete = λ well _. offline_complete (replying replies) r false≢true (reported well);
+    }
+
+-- ---- a command that writes its reply piece by piece
+
+streamed_taken : (replies : Replies) (old new : Outside) (r : Status) → IsStreamed replies old new r
+    → LosesFront (MAX_INPUT + 1) old.left new.left
+streamed_taken replies old new Done a = loses_input (MAX_INPUT + 1) old.left new.left a.0.input.read
+streamed_taken replies old new Refused a = loses_input (MAX_INPUT + 1) old.left new.left a.input.read
+streamed_taken replies old new Words a = absurd a
+streamed_taken replies old new ReadFault a = a.lost
+streamed_taken replies old new WriteFault a = loses_input (MAX_INPUT + 1) old.left new.left a.input.read
+streamed_taken replies old new Memory a = a.lost
+streamed_taken replies old new LinkFault a = absurd a
+streamed_taken replies old new PeerRefused a = absurd a
+
+streamed_held : (replies : Replies) (old new : Outside) (r : Status) → IsStreamed replies old new r → Grows old.held new.held
+streamed_held replies old new Done a = a.0.kept
+streamed_held replies old new Refused a = a.kept
+streamed_held replies old new Words a = absurd a
+streamed_held replies old new ReadFault a = held_grows old.held new.held a.held
+streamed_held replies old new WriteFault a = a.kept
+streamed_held replies old new Memory a = a.kept
+streamed_held replies old new LinkFault a = absurd a
+streamed_held replies old new PeerRefused a = absurd a
+
+streamed_reported : (replies : Replies) (old new : Outside) (r : Status)
+    → IsStreamed replies old new r → ¬ Rose old.read_faults new.read_faults → ¬ Rose old.write_faults new.write_faults
+    → IsReported r ⊎ (r ≡ Memory)
+streamed_reported replies old new Done a source sink = inl (inl refl)
+streamed_reported replies old new Refused a source sink = inl (inr refl)
+streamed_reported replies old new Words a source sink = absurd a
+streamed_reported replies old new ReadFault a source sink = absurd (source a.fault)
+streamed_reported replies old new WriteFault a source sink = absurd (sink a.fault)
+streamed_reported replies old new Memory a source sink = inr refl
+streamed_reported replies old new LinkFault a source sink = absurd a
+streamed_reported replies old new PeerRefused a source sink = absurd a
+
+pub streaming_done : (replies : Replies) (old new : World) (r : Status)
+    → IsStreamed replies old.outside new.outside r → new.wire ≡ old.wire → IsDone (streaming replies) old new r
+streaming_done replies old new r a wire =
+    let reported : WentWell (streaming replies) old new → IsReported r ⊎ (r ≡ Memory) =
+    λ well. streamed_reported replies old.outside new.outside r a (well.source refl) well.sink in
+    record {
+      answer = a;
+      taken = streamed_taken replies old.outside new.outside r a;
+      held = streamed_held replies old.outside new.outside r a;
+      link = wire;
+      ends = λ well. inl (reported well);
+      complete = λ well _. offline_complete (streaming replies) r false≢true (reported well);
     }
 
 -- ---- `replay`

@@ -9,7 +9,7 @@ use Rattle.cotpad_run.specs.declared.command.Command.TheVariants as command
 
 -- a script is replayed; the text of a log is shown; a log is loaded as a site and edited there; a session is generated; the form of
 -- an operation of a log is derived step by step; a place of the text of a log is told as a line and a column, or these as the place;
--- the text of a log at a set of members is shown;
+-- the text of a log at a set of members is shown, or its text after each operation;
 -- a site that a log gives exchanges with a peer that comes to a port, or that waits at one; the two sites of a generated session
 -- exchange with each other; the commands are listed, for one of two words
 pub data CommandData : Type 0 where
@@ -21,6 +21,7 @@ pub data CommandData : Type 0 where
   Where : ℕ → CommandData
   Find : ℕ → ℕ → CommandData
   At : ContextData → CommandData
+  Playback : CommandData
   Serve : ℕ → CommandData
   Join : ℕ → CommandData
   Loop : ℕ → CommandData
@@ -37,6 +38,7 @@ command_data (command.Explain m) = Explain m
 command_data (command.Where place) = Where place
 command_data (command.Find line column) = Find line column
 command_data (command.At counts groups) = At (set_or_empty counts.now groups.now)
+command_data command.Playback = Playback
 command_data (command.Serve port) = Serve port
 command_data (command.Join port) = Join port
 command_data (command.Loop start) = Loop start

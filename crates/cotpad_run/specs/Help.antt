@@ -15,8 +15,9 @@ help_text =
     ++ (codes "cotpad where V                     reads a log, and writes the line and column after V shown characters\n"
     ++ (codes "cotpad find L C                    reads a log, and writes after how many shown characters line L column C is\n"
     ++ (codes "cotpad at COUNTS GROUPS            reads a log, and writes its text at a set of operations\n"
+    ++ (codes "cotpad playback                    reads a log, and writes its text after each operation\n"
     ++ (codes "cotpad serve PORT                  reads a log, exchanges with who comes to the port, and writes the new log\n"
     ++ (codes "cotpad join PORT                   reads a log, exchanges with who waits at the port, and writes the new log\n"
     ++ (codes "cotpad loop START                  lets two sites exchange over a connection, and writes what went\n"
     ++ (codes "cotpad gen START EVENTS WINDOW     generates a session of four sites, and writes what it did\n"
-    ++ (codes "cotpad help                        writes these lines\n")))))))))))))))
+    ++ (codes "cotpad help                        writes these lines\n"))))))))))))))))

@@ -9,13 +9,14 @@ use Rattle.site_node.specs.Pairs.{IsTelling}
 use Rattle.log_replies.specs.declared.status.Status.{Status}
 use Rattle.log_replies.specs.declared.status.Status.TheVariants.{Done, Memory, PeerRefused}
 use Rattle.log_replies.specs.Addressing.{IsLocated, IsFound}
-use Rattle.log_replies.specs.Answers.{Replies, IsAnswered}
+use Rattle.log_replies.specs.Answers.{Replies, IsAnswered, IsStreamed}
 use Rattle.log_replies.specs.Explaining.{IsExplained}
 use Rattle.log_replies.specs.Outside.{Outside, Grows}
 use Rattle.log_replies.specs.PastTexts.{IsShownAt}
+use Rattle.log_replies.specs.PlayedTexts.{IsPlayedBack}
 use Rattle.log_replies.specs.Replies.{IsShown, IsEdited}
 use Rattle.log_replies.specs.Statuses.{IsReported}
-use Rattle.cotpad_run.specs.Commands.{CommandData, Replay, Show, Edit, Gen, Explain, Where, Find, At, Serve, Join, Loop, Help, DashedHelp}
+use Rattle.cotpad_run.specs.Commands.{CommandData, Replay, Show, Edit, Gen, Explain, Where, Find, At, Playback, Serve, Join, Loop, Help, DashedHelp}
 use Rattle.cotpad_run.specs.Generating.{IsGenerated}
 use Rattle.cotpad_run.specs.Help.{help_text}
 use Rattle.cotpad_run.specs.Looping.{IsLoopAnswered}
@@ -35,8 +36,8 @@ world outside wire = record { outside = outside; wire = wire }
 
 -- ---- the table
 
--- a row: when each status comes, and what it leaves; whether the source is read, and whether something is written before all is read;
--- the link that the wire is asked for, and how often at most; and whom the command needs beside calls that don't fail
+-- a row: when each status comes, and what it leaves; whether the source is read, and whether something may be written before a read
+-- fails or memory runs out; the link that the wire is asked for, and how often at most; and whom the command needs beside calls that don't fail
 pub record Row : Type 1 where
   pub answers : World → World → Status → Type 0
   pub reads : Bool
@@ -51,6 +52,17 @@ replying replies =
       answers = λ old new. IsAnswered replies old.outside new.outside;
       reads = true;
       streams = false;
+      link = None;
+      matched = λ _. Unit {0};
+    }
+
+-- a command that reads its input whole, and then writes one reply to it, piece by piece
+abbrev pub streaming : Replies → Row
+streaming replies =
+    record {
+      answers = λ old new. IsStreamed replies old.outside new.outside;
+      reads = true;
+      streams = true;
       link = None;
       matched = λ _. Unit {0};
     }
@@ -86,6 +98,7 @@ row_of (Explain m) = replying (IsExplained m)
 row_of (Where place) = replying (IsLocated place)
 row_of (Find line column) = replying (IsFound line column)
 row_of (At c) = replying (IsShownAt c)
+row_of Playback = streaming IsPlayedBack
 row_of (Gen start events window) = record {
   answers = λ old new. IsGenerated start events window old.outside new.outside;
   reads = false;

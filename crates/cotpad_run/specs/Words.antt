@@ -12,7 +12,7 @@ use Rattle.log_replies.specs.Outside.{Outside, IsWritten, IsCutOff}
 use Rattle.log_replies.specs.declared.status.Status.{Status}
 use Rattle.log_replies.specs.declared.status.Status.TheVariants.{Done, Refused, Words, ReadFault, WriteFault, Memory, LinkFault, PeerRefused}
 use Rattle.cotpad_run.specs.declared.command.TheConstants.{MAX_PORT}
-use Rattle.cotpad_run.specs.Commands.{CommandData, Replay, Show, Edit, Gen, Explain, Where, Find, At, Serve, Join, Loop, Help, DashedHelp}
+use Rattle.cotpad_run.specs.Commands.{CommandData, Replay, Show, Edit, Gen, Explain, Where, Find, At, Playback, Serve, Join, Loop, Help, DashedHelp}
 
 -- the words of an edit, after its site: a row for each. A text is one word
 abbrev pub edit_words : EditData → List (List ℕ)
@@ -32,6 +32,7 @@ command_words (Explain m) = codes "explain" ∷ member_text m ∷ []
 command_words (Where place) = codes "where" ∷ decimal place ∷ []
 command_words (Find line column) = codes "find" ∷ decimal line ∷ decimal column ∷ []
 command_words (At c) = codes "at" ∷ listed (map count_text c.counts) ∷ listed (map (λ e. group_text e.0 e.1) c.entries) ∷ []
+command_words Playback = codes "playback" ∷ []
 command_words (Serve port) = codes "serve" ∷ decimal port ∷ []
 command_words (Join port) = codes "join" ∷ decimal port ∷ []
 command_words (Loop start) = codes "loop" ∷ decimal start ∷ []
@@ -60,6 +61,7 @@ IsInRange (Explain m) = IsMemberInRange m
 IsInRange (Where place) = place < 2 ^ 32
 IsInRange (Find line column) = (line < 2 ^ 32) × (column < 2 ^ 32)
 IsInRange (At c) = IsContext c
+IsInRange Playback = Unit {0}
 IsInRange (Serve port) = IsPort port
 IsInRange (Join port) = IsPort port
 IsInRange (Loop start) = start < 2 ^ 64

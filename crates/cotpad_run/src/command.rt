@@ -51,6 +51,8 @@ pub enum Command<'a> {
         counts: &'a str,
         groups: &'a str,
     },
+    /// `playback`: reads a log, and writes its text after each operation.
+    Playback,
     /// `serve PORT`: reads a log, waits for a peer at the port, exchanges with it, and writes the log of the result.
     Serve {
         port: u16,
@@ -96,6 +98,7 @@ fn command_row<'a>(word: &str, parts: &'a [String]) -> Option<Command<'a>>
         "where" => where_of(parts),
         "find" => find_of(parts),
         "at" => at_of(parts),
+        "playback" => playback_of(parts),
         "serve" => serve_of(parts),
         "join" => join_of(parts),
         "loop" => loop_of(parts),
@@ -258,6 +261,16 @@ fn at_of(parts: &[String]) -> Option<Command<'_>>
     let groups = one(rest)?;
     if spells_set(counts, groups) {
         Some(Command::At { counts, groups })
+    } else {
+        None
+    }
+}
+
+fn playback_of(parts: &[String]) -> Option<Command<'_>>
+    ensures { option_map command_data result ≡ alone_in asked.Playback (map string_bytes parts.now) }
+{
+    if parts.is_empty() {
+        Some(Command::Playback)
     } else {
         None
     }

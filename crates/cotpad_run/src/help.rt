@@ -20,6 +20,7 @@ cotpad explain MEMBER              reads a log, and writes how the form of an op
 cotpad where V                     reads a log, and writes the line and column after V shown characters\n\
 cotpad find L C                    reads a log, and writes after how many shown characters line L column C is\n\
 cotpad at COUNTS GROUPS            reads a log, and writes its text at a set of operations\n\
+cotpad playback                    reads a log, and writes its text after each operation\n\
 cotpad serve PORT                  reads a log, exchanges with who comes to the port, and writes the new log\n\
 cotpad join PORT                   reads a log, exchanges with who waits at the port, and writes the new log\n\
 cotpad loop START                  lets two sites exchange over a connection, and writes what went\n\

@@ -20,8 +20,8 @@ use crate::looped::answer_looped;
 use crate::meeting::{Joining, Serving, answer_met};
 use crate::replay::answer_replay;
 use log_replies::{
-    Editing, Explaining, Finding, Locating, Show, ShowingPast, Status, answer, one_explanation,
-    one_past, one_reply,
+    Editing, Explaining, Finding, Locating, Show, ShowingPast, Status, answer, answer_played,
+    one_explanation, one_past, one_reply,
 };
 use outside_io::{Failed, Sink, Source, Wire, write_whole};
 use std::alloc::Global;
@@ -34,6 +34,7 @@ use std::alloc::Global;
 /// `where V` reads a log, and writes the line and the column of the place after so many shown characters; `find L C` reads one,
 /// and writes the place that has this line and column.
 /// `at COUNTS GROUPS` reads a log, and writes its text at the set of members that the two lists spell.
+/// `playback` reads a log, and writes its text after each operation, one after the other.
 /// `serve PORT` and `join PORT` read a log, exchange with a peer that comes to this port, or that waits there, and write the
 /// log with what the peer had. `loop START` reads nothing, generates a session of two sites, which exchange twice over the
 /// pair of the wire, and writes what went. `help` and `--help` read nothing, and list the commands.
@@ -60,7 +61,7 @@ pub fn run<S: Source, K: Sink, W: Wire>(
 
     // Histories of the same operations, in whatever order they came, show the same text.
     ensures same { (h k : List OpData) → IsValid h → IsValid k → Same h k → text_of h ≡ text_of k }
-    // The bytes of a log decide what `show`, `edit`, `where` and `find` reply, and what `explain` and `at` do.
+    // The bytes of a log decide what `show`, `edit`, `where`, `find` and `playback` reply, and what `explain` and `at` do.
     ensures one_reply { OneReply }
     ensures one_explanation { OneExplanation }
     ensures one_past { OnePast }
@@ -70,7 +71,7 @@ pub fn run<S: Source, K: Sink, W: Wire>(
     // Where the words spell no command that reads the source, or that calls the wire, these are as they were, in all.
     ensures unread { SpellNone Reads words.now → source.new ≡ source.old }
     ensures unasked { SpellNone Links words.now → wire.new ≡ wire.old }
-    // After a fault of reading or of the wire, or out of memory, no write was tried, but by a command that writes while it reads.
+    // After a fault of reading or of the wire, or out of memory, no write was tried, but by a command that may write before these come.
     ensures untouched { SpellNone Streams words.now → (result ≡ Status.ReadFault) ⊎ ((result ≡ Status.Memory) ⊎ (result ≡ Status.LinkFault))
         → sink.new ≡ sink.old }
 {
@@ -97,6 +98,7 @@ pub fn run<S: Source, K: Sink, W: Wire>(
             source,
             sink,
         ),
+        Some(Command::Playback) => answer_played(alloc, source, sink),
         Some(
             Command::Gen {
                 start,

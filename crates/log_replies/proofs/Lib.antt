@@ -3,6 +3,7 @@ pub mod Edits
 pub mod Logs
 pub mod OneReply
 pub mod PastReplies
+pub mod Playing
 pub mod Texts
 pub mod Traces
 pub mod CallerLemmas

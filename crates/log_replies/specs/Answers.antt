@@ -1,5 +1,6 @@
--- What a command that reads a log and replies to it answers, and what it leaves in the source and in the sink: one table for all of them.
-use Rattle.std.specs.Prelude.{◌≡◌, ◌+◌, ◌++◌, Bool, true, false, List, ℕ, Option, Some, IfSome, drop}
+-- What a command that reads a log and replies to it answers, and what it leaves in the source and in the sink: one table for those that
+-- write their reply whole, and one for those that write it piece by piece.
+use Rattle.std.specs.Prelude.{◌≡◌, ◌⊎◌, ◌+◌, ◌++◌, Bool, true, false, List, ℕ, Option, Some, IfSome, drop}
 use Rattle.std.specs.Io.KnownBytes.{Appends, IsAtEnd}
 use Rattle.outside_io.specs.Faults.{Rose}
 use Rattle.outside_io.specs.Reading.{LosesFront}
@@ -70,6 +71,37 @@ IsAnswered replies old new WriteFault = IsUnwritten replies old new
 IsAnswered replies old new Memory = IsOutOfMemory old new
 IsAnswered replies old new LinkFault = ⊥
 IsAnswered replies old new PeerRefused = ⊥
+
+-- ---- replies that are written piece by piece
+
+-- those replies that refuse nothing
+abbrev pub accepted : Replies → Replies
+accepted replies bytes reply = replies bytes reply × (reply.refused ≡ false)
+
+-- the input was read to its end, and a front of a reply that refuses nothing was written
+pub record IsBrokenOff (replies : Replies) (old new : Outside) : Type 0 where
+  pub front : IfSome old.left (IsPartlyReplied (accepted replies) old.held new.held)
+  pub input : IsInput old new
+  pub ended : IsAtEnd new.left
+
+-- out of memory: nothing was written, or the reply was broken off; no call failed
+pub record IsOutMidway (replies : Replies) (old new : Outside) : Type 0 where
+  pub front : (new.held ≡ old.held) ⊎ IsBrokenOff replies old new
+  pub lost : LosesFront (MAX_INPUT + 1) old.left new.left
+  pub kept : Grows old.held new.held
+  pub read_faults : new.read_faults ≡ old.read_faults
+  pub write_faults : new.write_faults ≡ old.write_faults
+
+-- each answer of a command that reads its input, and then writes its reply piece by piece: it may run out of memory midway
+abbrev pub IsStreamed : Replies → Outside → Outside → Status → Type 0
+IsStreamed replies old new Done = IsAnswer replies false old new × IsAtEnd new.left
+IsStreamed replies old new Refused = IsAnswer replies true old new
+IsStreamed replies old new Words = ⊥
+IsStreamed replies old new ReadFault = IsUnread old new
+IsStreamed replies old new WriteFault = IsUnwritten replies old new
+IsStreamed replies old new Memory = IsOutMidway replies old new
+IsStreamed replies old new LinkFault = ⊥
+IsStreamed replies old new PeerRefused = ⊥
 
 -- ---- what commands append
 

@@ -6,6 +6,7 @@ pub mod Editing
 pub mod Replies
 pub mod Explaining
 pub mod PastTexts
+pub mod PlayedTexts
 pub mod Answers
 pub mod Laws
 pub mod Code

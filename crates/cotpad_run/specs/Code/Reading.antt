@@ -5,7 +5,7 @@ use Rattle.script_text.specs.Fields.{number_of, long_of, site_of, name_of, membe
 use Rattle.script_text.specs.Sets.{set_of}
 use Rattle.log_replies.specs.Editing.{EditData, Ins, Nl, Del, Undo, Redo}
 use Rattle.cotpad_run.specs.declared.command.TheConstants.{MAX_PORT}
-use Rattle.cotpad_run.specs.Commands.{CommandData, Replay, Show, Edit, Gen, Explain, Where, Find, At, Serve, Join, Loop, Help, DashedHelp}
+use Rattle.cotpad_run.specs.Commands.{CommandData, Replay, Show, Edit, Gen, Explain, Where, Find, At, Playback, Serve, Join, Loop, Help, DashedHelp}
 
 -- the first word and the others, if there is one
 abbrev pub first_in : List (List ℕ) → Option (List ℕ × List (List ℕ))
@@ -146,12 +146,13 @@ command_row word parts =
     else (if bytes_eq word (codes "where") then where_in parts
     else (if bytes_eq word (codes "find") then find_in parts
     else (if bytes_eq word (codes "at") then at_in parts
+    else (if bytes_eq word (codes "playback") then alone_in Playback parts
     else (if bytes_eq word (codes "serve") then option_map Serve (port_in parts)
     else (if bytes_eq word (codes "join") then option_map Join (port_in parts)
     else (if bytes_eq word (codes "loop") then loop_in parts
     else (if bytes_eq word (codes "help") then alone_in Help parts
     else (if bytes_eq word (codes "--help") then alone_in DashedHelp parts
-    else None))))))))))))
+    else None)))))))))))))
 
 -- the command that these words spell, if they spell one
 unfoldable pub command_in : List (List ℕ) → Option CommandData

@@ -4,7 +4,7 @@ use Rattle.cotpad_run.specs.Help.{help_text}
 use Rattle.cotpad_run.specs.Meeting.{serving, joining}
 use Rattle.cotpad_run.specs.Table.{Reads, Links, Streams}
 use Rattle.cotpad_run.specs.declared.command.Command.TheVariants as command
-use Rattle.cotpad_run.proofs.Table.{same_row, not_of, replying_done, replay_done, gen_done, meeting_done, loop_done, saying_done}
+use Rattle.cotpad_run.proofs.Table.{same_row, not_of, replying_done, streaming_done, replay_done, gen_done, meeting_done, loop_done, saying_done}
 use Rattle.cotpad_run.proofs.whole.run.Goals as goal
 
 pub returns-in-Some-Replay-clause-run : goal.returns-in-Some-Replay-clause-run
@@ -139,6 +139,31 @@ returns-in-Some-At-clause-unread g c = λ none.
     let f = k.field-0-is in
     let is : k.field-0 ≡ command.At k.counts k.groups = cc in
     absurd (not_of Reads k.field-0 (command.At k.counts k.groups) is (none (command_data k.field-0) k.ensures.found) refl)
+
+pub returns-in-Some-Playback-clause-run : goal.returns-in-Some-Playback-clause-run
+returns-in-Some-Playback-clause-run g c =
+    let k = c.in-Some-Playback in
+    let f = k.field-0-is in
+    let is : k.field-0 ≡ command.Playback = cc in
+    record {
+      done = λ asked spelled. same_row k.field-0 (command.Playback) asked _ _ _ is (k.ensures.only asked spelled)
+          (streaming_done _ _ _ _ c.answer_played.ensures.answer refl);
+      wrong = λ none. absurd (none (command_data k.field-0) k.ensures.found);
+    }
+
+pub returns-in-Some-Playback-clause-unread : goal.returns-in-Some-Playback-clause-unread
+returns-in-Some-Playback-clause-unread g c = λ none.
+    let k = c.in-Some-Playback in
+    let f = k.field-0-is in
+    let is : k.field-0 ≡ command.Playback = cc in
+    absurd (not_of Reads k.field-0 (command.Playback) is (none (command_data k.field-0) k.ensures.found) refl)
+
+pub returns-in-Some-Playback-clause-untouched : goal.returns-in-Some-Playback-clause-untouched
+returns-in-Some-Playback-clause-untouched g c = λ none stopped.
+    let k = c.in-Some-Playback in
+    let f = k.field-0-is in
+    let is : k.field-0 ≡ command.Playback = cc in
+    absurd (not_of Streams k.field-0 (command.Playback) is (none (command_data k.field-0) k.ensures.found) refl)
 
 pub returns-in-Some-Gen-clause-run : goal.returns-in-Some-Gen-clause-run
 returns-in-Some-Gen-clause-run g c =
