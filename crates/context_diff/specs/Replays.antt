@@ -1,6 +1,6 @@
 -- The fixed replay of the inserts of a history, and the text that is shown.
 use Rattle.std.specs.Prelude.{ℕ, zero, suc, Bool, false, List, [], ◌∷◌, ◌++◌, ◌&&◌, ◌||◌, ◌==◌, not, nat_lt, filter, map, encode_utf8_all, if◌then◌else◌}
-use Rattle.std.specs.List.{list_any}
+use Rattle.std.specs.List.{list_any, range_with_len}
 use Rattle.op_name.specs.declared.member.Member.TheVariants.{Original}
 use Rattle.op_name.specs.NameData.{NameData, name_eq}
 use Rattle.context_vector.specs.Contexts.{has, rank_of}
@@ -8,23 +8,24 @@ use Rattle.context_diff.specs.Operations.{OpData, inserting, deleting, undoing}
 use Rattle.context_diff.specs.Histories.{in_force}
 use Rattle.context_diff.specs.Gaps.{Gap, gap, narrow}
 
--- what the replay reads of an insert: its name, its place, its rank (the number of originals in its context) and which
--- originals its context holds
+-- what the replay reads of an insert: its name, its place, how many cells it puts, its rank (the number of originals in its
+-- context) and which originals its context holds
 pub record Insertion : Type 0 where
   pub name : NameData
   pub place : ℕ
+  pub len : ℕ
   pub rank : ℕ
   pub sees : NameData → Bool
 
--- a cell is named by its insert and by its offset in that insert, which is 0 for an insert of one character
+-- a cell is named by its insert and by its offset among the cells of that insert, from 0
 abbrev pub Cell : Type 0
 Cell = NameData × ℕ
 
--- the inserts of a history, in its order
+-- the inserts of a history, in its order; each puts one cell, since an insert has one character
 abbrev pub insertions_in : List OpData → List Insertion
 insertions_in [] = []
 insertions_in (inserting n p ch c ∷ os) =
-    record { name = n; place = p; rank = rank_of c; sees = λ m. has c (Original m) } ∷ insertions_in os
+    record { name = n; place = p; len = 1; rank = rank_of c; sees = λ m. has c (Original m) } ∷ insertions_in os
 insertions_in (deleting n p c ∷ os) = insertions_in os
 insertions_in (undoing a t g c ∷ os) = insertions_in os
 
@@ -50,9 +51,9 @@ fixed_order h = sort_by is_earlier (insertions_in h)
 abbrev pub of_name : NameData → Cell → Bool
 of_name n c = name_eq n c.0
 
--- the cells that an insert puts
+-- the cells that an insert puts, in the order of their offsets
 abbrev pub cells_from : Insertion → List Cell
-cells_from o = (o.name, 0) ∷ []
+cells_from o = map (λ i. (o.name, i)) (range_with_len 0 o.len)
 
 -- an earlier insert that o doesn't see, if it lies in the gap, becomes its left neighbour where its site is smaller than
 -- o's, and its right neighbour otherwise
