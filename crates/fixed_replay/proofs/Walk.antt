@@ -20,7 +20,7 @@ use Rattle.ttf_form.specs.Laws.Forms.{form_over_cover, ins_moved}
 use Rattle.ttf_form.specs.Laws.Cells.{kept_at}
 use Rattle.transform_rec.specs.Sets.{none, IsSubset, SameSet, plus, plus_all}
 use Rattle.transform_rec.specs.Lists.{IsIn}
-use Rattle.transform_rec.proofs.CallerLemmas.{count, in_filter, filter_in, length-count, count-append, same_set, same_from, plus_cases, all_in, all_cases, all_keeps, all-append, base_sound, derived_sound, forms_apart, form_step, exists, derived_once, IsForm, Run, Forms, run, At, state_after, forms_run, run_listed, run_append, forms-append, rest_run, part_state, before_cell, one_more, in_left, in_right}
+use Rattle.transform_rec.proofs.CallerLemmas.{count, in_filter, filter_in, length-count, count-append, same_set, same_from, plus_cases, all_in, all_cases, all_keeps, all-append, base_sound, derived_sound, forms_apart, form_step, exists, derived_once, IsForm, Run, Forms, run, At, state_after, forms_run, run_listed, run_append, forms-append, rest_run, part_state, before_cell, one_more, in_right}
 use Rattle.op_name.proofs.CallerLemmas.{member_apart, name_itself}
 use Rattle.transform_rec.specs.Family.{Family, IsSound}
 use Rattle.transform_rec.specs.Derived.{IsFamily, weight}
@@ -39,6 +39,10 @@ within_none x xs ys zs h = let p = count-append x xs (ys ++ zs) in let q = count
 same_cells : (n : NameData) (first k : ℕ) → block n first k ≡ run_of n first k
 same_cells n first zero = refl
 same_cells n first (suc k) = ap (λ (cs : List Cell). (n, first) ∷ cs) (same_cells n (suc first) k)
+
+first_added : (n : NameData) (first k : ℕ) (ys : List Cell) → 1 ≤ k → IsIn (n, first) (block n first k ++ ys)
+first_added n first zero ys some = absurd (omega (arith, some))
+first_added n first (suc k) ys some = inl refl
 
 first_itself : (n : NameData) → first_of n (n, 0) ≡ true
 first_itself n = rw (name_itself n) refl
@@ -96,9 +100,10 @@ module _ (b : Family Form) (known : IsFamily form_inclusion b) (own_names : HasO
       first_there C x d n named within dk i =
           let P = filter (keep C) S in
           let more = one_more w form_at_place C x (Insert d) L s fs st df within i dk in
+          let some : 1 ≤ ins_extent d = omega arith in
           let there : IsIn (d.name, 0) (take d.place P ++ (added_by (Insert d) ++ drop d.place P)) =
           in_right (d.name, 0) (take d.place P) (added_by (Insert d) ++ drop d.place P)
-          (in_left (d.name, 0) (added_by (Insert d)) (drop d.place P) (inl refl)) in
+          (first_added d.name 0 (ins_extent d) (drop d.place P) some) in
           let kept = subst (λ (cs : List Cell). IsIn (d.name, 0) cs) (sym more) there in
           let first : first_of n (d.name, 0) ≡ true = subst (λ (m : NameData). first_of m (d.name, 0) ≡ true) named (first_itself d.name) in
           in_any (first_of n) (d.name, 0) S (filter_in (keep (plus C x)) (d.name, 0) S kept).0 first
