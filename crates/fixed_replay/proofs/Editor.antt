@@ -8,7 +8,7 @@ use Rattle.ttf_form.specs.declared.ins.Ins.{Ins}
 use Rattle.ttf_form.specs.declared.cover.Cover.{Cover}
 use Rattle.ttf_form.specs.declared.form.Form.{Form}
 use Rattle.ttf_form.specs.declared.form.Form.TheVariants.{Ins as Insert, Cover as Covered}
-use Rattle.ttf_form.specs.Forms.{place_of, extent_of, IsBoundedForm, ApartForms, form_over, added_by}
+use Rattle.ttf_form.specs.Forms.{ins_extent, place_of, extent_of, IsBoundedForm, ApartForms, form_over, added_by}
 use Rattle.ttf_form.specs.Cells.{CellData, bare_cells, cells_of, FitsCells, applied}
 use Rattle.ttf_form.specs.Laws.Forms.{form_tp2, form_apart_sym, form_apart_over, form_extent_over, form_bound_place, form_bound_over, form_added_length, form_added_over}
 use Rattle.ttf_form.specs.Laws.Cells.{form_tp1, form_kept, kept_at}
@@ -55,11 +55,12 @@ form_at_place s a h = kept_at s a
 abbrev pub setting_of : (b : Family Form) → IsFamily form_inclusion b → HasOwnNames form_table b → Setting Form (List CellData)
 setting_of b known own_names = record { table = form_table; laws = form_is_table; family = b; known = known; own_names = own_names }
 
--- an insert whose name, and so whose cell, is that of another
+-- an insert whose name and length, and so whose cells, are those of another
 pub record IsInsertOf (a : Ins) (f : Form) : Type 0 where
   pub ins : Ins
   pub is : f ≡ Insert ins
   pub name : ins.name ≡ a.name
+  pub len : ins_extent ins ≡ ins_extent a
   pub bare : bare_cells ins ≡ bare_cells a
 
 -- a cover with the mark of another
@@ -71,7 +72,7 @@ pub record IsCoverOf (c : Cover) (f : Form) : Type 0 where
 insert_over : (a : Ins) (f k : Form) → IsInsertOf a f → IsInsertOf a (form_over f k)
 insert_over a (Insert c) (Insert d) i =
     let e : c ≡ i.ins = ins_once c i.ins i.is in
-    record { ins = _; is = refl; name = ap (λ (x : Ins). x.name) e ∙ i.name; bare = ap bare_cells e ∙ i.bare }
+    record { ins = _; is = refl; name = ap (λ (x : Ins). x.name) e ∙ i.name; len = ap ins_extent e ∙ i.len; bare = ap bare_cells e ∙ i.bare }
   where
     ins_once : (x y : Ins) → Insert x ≡ Insert y → x ≡ y
     ins_once x y e = cc
@@ -90,7 +91,7 @@ cover_over c (Covered d) (Covered a) i = i
 -- the forms of a member are of the kind of its base form
 pub derived_insert : (b : Family Form) (a : Ins) (m : Member) (C : Member → Bool) (f : Form) → b.form m ≡ Insert a
     → Derived form_over b m C f → IsInsertOf a f
-derived_insert b a m C f base (at_base i s e) = record { ins = a; is = e ∙ base; name = refl; bare = refl }
+derived_insert b a m C f base (at_base i s e) = record { ins = a; is = e ∙ base; name = refl; len = refl; bare = refl }
 derived_insert b a m C f base (by_step D x g k i ne l s dg dk e) =
     subst (λ (h : Form). IsInsertOf a h) (sym e) (insert_over a g k (derived_insert b a m D g base dg))
 

@@ -72,6 +72,12 @@ block_once c n first (suc k) = elim (cases_Bool (same_cell c (n, first))) [
       omega (arith, all, rest)
 ]
 
+-- a block that isn't empty begins with the cell of its first offset
+pub block_begins : (n : NameData) (first k : ℕ) (ys : List Cell) → 1 ≤ k
+    → (rest : List Cell) × (block n first k ++ ys ≡ (n, first) ∷ rest)
+block_begins n first zero ys some = absurd (omega (arith, some))
+block_begins n first (suc k) ys some = (block n (suc first) k ++ ys, refl)
+
 -- a form adds no cell twice
 pub added_once : (f : Form) (c : Cell) → count (same_cell c) (added_by f) ≤ 1
 added_once (Insert a) c = block_once c a.name 0 (ins_extent a)
@@ -79,8 +85,8 @@ added_once (Covered d) c = omega arith
 
 -- a cell before any mark, as its insert makes it
 abbrev pub bare_at : Cell → Form → CellData
-bare_at c (Insert a) = record { name = c.0; offset = c.1; of = ins_extent a; ch = a.ch; generation = 0; deleters = [] }
-bare_at c (Covered d) = record { name = c.0; offset = c.1; of = 0; ch = 0; generation = 0; deleters = [] }
+bare_at c (Insert a) = record { name = c.0; offset = c.1; of = ins_extent a; generation = 0; deleters = [] }
+bare_at c (Covered d) = record { name = c.0; offset = c.1; of = 0; generation = 0; deleters = [] }
 
 bare_key : (c : Cell) (f : Form) → cell_key (bare_at c f) ≡ c
 bare_key c (Insert a) = refl
@@ -109,7 +115,10 @@ on_behind m xs d ys n c e =
 -- a mark at the place where the first cell of an insert stands
 pub on_first : (m : Mark) (xs : List Cell) (a : Ins) (ys : List Cell) (n : ℕ) (c : Cell) → length xs ≡ n
     → is_on m n (xs ++ (added_by (Insert a) ++ ys)) c ≡ reaches m (a.name, 0) c
-on_first m xs a ys n c e = on_behind m xs (a.name, 0) ys n c e
+on_first m xs a ys n c e =
+    let some : 1 ≤ ins_extent a = omega arith in
+    let begins = block_begins a.name 0 (ins_extent a) ys some in
+    ap (λ (cs : List Cell). is_on m n (xs ++ cs) c) begins.1 ∙ on_behind m xs (a.name, 0) begins.0 n c e
 
 -- a mark of a delete is on the cell that stands at its place
 pub on_stands : (d : NameData) (g n : ℕ) (cs : List Cell) (c : Cell) → is_on (By d g) n cs c ≡ stands_at n cs c

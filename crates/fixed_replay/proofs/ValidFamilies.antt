@@ -14,7 +14,7 @@ use Rattle.context_diff.proofs.CallerLemmas.{IsComplete, complete, group_facts, 
 use Rattle.ttf_form.specs.declared.ins.Ins.{Ins}
 use Rattle.ttf_form.specs.declared.form.Form.{Form}
 use Rattle.ttf_form.specs.declared.form.Form.TheVariants.{Ins as Insert, Cover as Covered}
-use Rattle.ttf_form.specs.Forms.{added_by}
+use Rattle.ttf_form.specs.Forms.{ins_extent, added_by}
 use Rattle.ttf_form.specs.Families.{IsIn}
 use Rattle.transform_rec.specs.Lists.{SameElements}
 use Rattle.transform_rec.specs.Family.{Family}
@@ -93,7 +93,7 @@ module _ (h : List OpData) (v : IsValid h) (form : Member → Form) (forms : Are
   -- what a member with an insert as its form puts
   abbrev put_of : Member → Ins → Insertion
   put_of m a =
-      record { name = a.name; place = a.place; rank = rank_in h v (target_of m); sees = λ (n : NameData). base_has h m (Original n) }
+      record { name = a.name; place = a.place; len = ins_extent a; rank = rank_in h v (target_of m); sees = λ (n : NameData). base_has h m (Original n) }
 
   put_is : (n : NameData) (p ch : ℕ) (c : ContextData) (a : Ins) → IsIn (inserting n p ch c) h → a.name ≡ n → a.place ≡ p
       → put_of (Original n) a ≡ insertion n p c
@@ -102,6 +102,7 @@ module _ (h : List OpData) (v : IsValid h) (form : Member → Form) (forms : Are
       λ j. record {
         name = name j;
         place = place j;
+        len = 1;
         rank = r j;
         sees =
             λ m. context_of_original h v (inserting n p ch c) n i refl (Original m) j;
