@@ -1,8 +1,9 @@
 -- What the proofs of other crates cite of this crate's lemmas.
+pub use Rattle.fixed_replay.proofs.Characters.{characters_beside, characters_stay, derived_adds, letters_fit}
 pub use Rattle.fixed_replay.proofs.ClosedParts.{part_replay}
 pub use Rattle.fixed_replay.proofs.Editor.{setting_of}
 pub use Rattle.fixed_replay.proofs.Elements.{any_in, in_any, not_both}
-pub use Rattle.fixed_replay.proofs.ExecutedForms.{computed_executed, executed_replayed, replayed_characters, replayed_shown, replayed_text}
+pub use Rattle.fixed_replay.proofs.ExecutedForms.{computed_executed, executed_replayed, replayed_characters, replayed_chars_beside, replayed_shown, replayed_text}
 pub use Rattle.fixed_replay.proofs.Growth.{base_form_on, forms_grow, forms_on, holds_more, known_set}
 pub use Rattle.fixed_replay.proofs.Narrowing.{gap_of_whole}
 pub use Rattle.fixed_replay.proofs.SameText.{same_text}

@@ -8,7 +8,7 @@ use Rattle.context_diff.specs.Histories.{members_in, IsValid}
 use Rattle.context_diff.specs.Replays.{fixed_order, insertions_in, is_earlier, replay, is_shown, shown, character_in, characters_of, text_of}
 use Rattle.ttf_form.specs.declared.form.Form.{Form}
 use Rattle.ttf_form.specs.Forms.{form_over}
-use Rattle.ttf_form.specs.Cells.{CellData, cell_key, cells_of, applied, cell_shown}
+use Rattle.ttf_form.specs.Cells.{CellData, cell_key, cells_of, applied, cell_shown, chars_where}
 use Rattle.ttf_form.specs.Families.{IsIn}
 use Rattle.transform_rec.specs.Sets.{none}
 use Rattle.transform_rec.specs.Executing.{AreFormsFrom, executed, deriving_of}
@@ -16,8 +16,9 @@ use Rattle.transform_rec.specs.Histories.{family_in}
 use Rattle.transform_rec.proofs.CallerLemmas.{computed_forms, computed_list, At, empty_state, any_order, book_run}
 use Rattle.transform_rec.specs.Lists.{SameElements}
 use Rattle.undo_group.specs.BaseForms.{AreBaseForms}
-use Rattle.fixed_replay.specs.Replayed.{IsReplayed}
+use Rattle.fixed_replay.specs.Replayed.{IsReplayed, AreCharacters, ShowsTheText}
 use Rattle.fixed_replay.specs.Insertions.{insertions_of}
+use Rattle.fixed_replay.proofs.Characters.{characters_beside}
 use Rattle.fixed_replay.proofs.Walk.{replay_along}
 use Rattle.fixed_replay.proofs.Editor.{setting_of}
 use Rattle.fixed_replay.proofs.Sorting.{sort_by-sorted}
@@ -39,7 +40,7 @@ executed_replayed h v form forms fs df =
     let cells =
     fixed_cells b known own (rank_in h v) (valid_ranks h v form forms) (valid_groups h v form forms) (fixed_order h) rising
     (same_inserts h v form forms) fs st df in
-    replayed b known own (valid_groups h v form forms) h (valid_is_family h v form forms) fs st df (sym cells) (told_apart h v)
+    replayed b known own (valid_groups h v form forms) h (valid_is_family h v form forms) fs st df (sym cells)
 
 -- the computed forms of a history are its forms
 pub computed_executed : (h : List OpData) → IsValid h → (form : Member → Form) → AreBaseForms h form
@@ -89,21 +90,25 @@ shown_part h all (d ∷ ds) r i =
       | inr k ↦ let l : is_shown h (cell_key d) ≡ false = sym same ∙ k in rw (k, l, ih) refl
     ]
 
-pub replayed_shown : (h : List OpData) (cs : List CellData) → IsReplayed h cs → map cell_key (filter cell_shown cs) ≡ shown h
+pub replayed_shown : (h : List OpData) (cs : List CellData) → IsReplayed h cs → cells_of (filter cell_shown cs) ≡ shown h
 replayed_shown h cs r = shown_part h cs cs r (λ d i. i) ∙ ap (filter (is_shown h)) r.cells
 
-characters_part : (h : List OpData) (all cs : List CellData) → IsReplayed h all → ((d : CellData) → IsIn d cs → IsIn d all)
-    → map (λ (d : CellData). d.ch) (filter cell_shown cs) ≡ map (character_in h) (map cell_key (filter cell_shown cs))
-characters_part h all [] r i = refl
-characters_part h all (d ∷ ds) r i =
-    let ih = characters_part h all ds r (λ e j. i e (inr j)) in
-    let same = r.characters d (i d (inl refl)) in
-    elim (cases_Bool (cell_shown d)) [ inl k ↦ rw (k, same, ih) refl | inr k ↦ rw (k, ih) refl ]
-
 pub replayed_characters : (h : List OpData) (cs : List CellData) → IsReplayed h cs
-    → map (λ (d : CellData). d.ch) (filter cell_shown cs) ≡ characters_of h
-replayed_characters h cs r = characters_part h cs cs r (λ d i. i) ∙ ap (map (character_in h)) (replayed_shown h cs r)
+    → map (character_in h) (cells_of (filter cell_shown cs)) ≡ characters_of h
+replayed_characters h cs r = ap (map (character_in h)) (replayed_shown h cs r)
 
-pub replayed_text : (h : List OpData) (cs : List CellData) → IsReplayed h cs
-    → encode_utf8_all (map (λ (d : CellData). d.ch) (filter cell_shown cs)) ≡ text_of h
-replayed_text h cs r = ap encode_utf8_all (replayed_characters h cs r)
+pub replayed_chars_beside : (h : List OpData) (cs : List CellData) → IsReplayed h cs → (ts : List ℕ) → AreCharacters h cs ts
+    → chars_where cell_shown cs ts ≡ characters_of h
+replayed_chars_beside h cs r ts is = characters_beside h cell_shown cs ts is ∙ replayed_characters h cs r
+
+pub replayed_text : (h : List OpData) (cs : List CellData) → IsReplayed h cs → (ts : List ℕ) → AreCharacters h cs ts
+    → encode_utf8_all (chars_where cell_shown cs ts) ≡ text_of h
+replayed_text h cs r ts is = ap encode_utf8_all (replayed_chars_beside h cs r ts is)
+
+pub shows_the_text : (h : List OpData) (cs : List CellData) → IsReplayed h cs → ShowsTheText h cs
+shows_the_text h cs r = record {
+  cells = replayed_shown h cs r;
+  characters = replayed_characters h cs r;
+  beside = replayed_chars_beside h cs r;
+  text = replayed_text h cs r;
+}

@@ -19,6 +19,7 @@ pub mod HistoryFamilies
 pub mod Reading
 pub mod ValidFamilies
 pub mod TextFamilies
+pub mod Characters
 pub mod ExecutedForms
 pub mod ClosedParts
 pub mod Growth

@@ -79,8 +79,8 @@ added_once (Covered d) c = omega arith
 
 -- a cell before any mark, as its insert makes it
 abbrev pub bare_at : Cell → Form → CellData
-bare_at c (Insert a) = record { name = c.0; offset = c.1; of = ins_extent a; ch = a.ch; generation = 0; deleters = [] }
-bare_at c (Covered d) = record { name = c.0; offset = c.1; of = 0; ch = 0; generation = 0; deleters = [] }
+bare_at c (Insert a) = record { name = c.0; offset = c.1; of = ins_extent a; generation = 0; deleters = [] }
+bare_at c (Covered d) = record { name = c.0; offset = c.1; of = 0; generation = 0; deleters = [] }
 
 bare_key : (c : Cell) (f : Form) → cell_key (bare_at c f) ≡ c
 bare_key c (Insert a) = refl

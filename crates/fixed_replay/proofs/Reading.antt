@@ -9,7 +9,7 @@ use Rattle.op_name.specs.declared.member.Member.TheVariants.{Original, Group}
 use Rattle.context_vector.specs.Contexts.{ContextData, has}
 use Rattle.context_diff.specs.Operations.{OpData, inserting, deleting, undoing, member_of}
 use Rattle.context_diff.specs.Histories.{members_in, generation_at, generation_in, in_force}
-use Rattle.context_diff.specs.Replays.{Cell, replay_of, hits, covers, is_shown, character_in}
+use Rattle.context_diff.specs.Replays.{Cell, replay_of, hits, covers, is_shown}
 use Rattle.ttf_form.specs.declared.cover.Mark.{Mark}
 use Rattle.ttf_form.specs.declared.cover.Mark.TheVariants.{Own, By}
 use Rattle.ttf_form.specs.declared.form.Form.{Form}
@@ -18,7 +18,6 @@ use Rattle.ttf_form.specs.Forms.{IsBoundedForm, added_by}
 use Rattle.ttf_form.specs.Cells.{CellData, marked, raise_in, IsRising, put_in, cell_key, cells_of, cell_shown}
 use Rattle.op_name.specs.Members.{is_even}
 use Rattle.ttf_form.specs.Laws.Deleters.{best, best_raise, best_raise_other, raise_rising}
-use Rattle.ttf_form.specs.Laws.Marks.{marked_char}
 use Rattle.transform_rec.specs.Sets.{none, plus, plus_all}
 use Rattle.transform_rec.specs.Lists.{IsIn, AreApart}
 use Rattle.transform_rec.specs.Family.{Family}
@@ -27,14 +26,13 @@ use Rattle.transform_rec.specs.Derived.Derived.{at_base}
 use Rattle.transform_rec.specs.Executing.{Setting, HasOwnNames, keep}
 use Rattle.op_name.proofs.CallerLemmas.{name_itself, name_same}
 use Rattle.transform_rec.proofs.CallerLemmas.{filter_all, filter_same, plus_here, plus_keeps, plus_cases, all_in, base_sound, Forms, run, At, state_after, part_state, one_more}
-use Rattle.fixed_replay.specs.Originals.{AreToldApart}
 use Rattle.fixed_replay.proofs.Families.{HasGroups}
 use Rattle.fixed_replay.specs.Replayed.{IsDeleter, IsReplayed}
 use Rattle.undo_group.specs.BaseForms.{IsCoverForm}
 use Rattle.fixed_replay.proofs.HistoryFamilies.{IsFamilyOf}
 use Rattle.fixed_replay.proofs.Elements.{not_both, map_same, any_in, in_any}
 use Rattle.fixed_replay.proofs.Operations.{member_listed, listed_member, one_operation}
-use Rattle.fixed_replay.proofs.SameText.{IsPut, in-replay_of, character_at}
+use Rattle.fixed_replay.proofs.SameText.{IsPut, in-replay_of}
 use Rattle.fixed_replay.proofs.Editor.{form_inclusion, form_table, form_at_place, setting_of}
 use Rattle.fixed_replay.proofs.Marks.{mark_by, bare_at, is_on, on_first, on_stands, form_on, bears, marks_of, marks_same, marks_key}
 use Rattle.fixed_replay.proofs.Marking.{state_marks}
@@ -50,11 +48,6 @@ abbrev pub everyone : Member → Bool
 everyone m = true
 
 -- ---- what a mark changes
-
-mark_char : (f : Form) (h : Bool) (d : CellData) → (mark_by f h d).ch ≡ d.ch
-mark_char (Insert a) h d = refl
-mark_char (Covered k) true d = marked_char k.mark d
-mark_char (Covered k) false d = refl
 
 rising_under : (m : Mark) (d : CellData) → IsRising d.deleters → IsRising (marked m d).deleters
 rising_under (Own g) d r = r
@@ -504,21 +497,8 @@ module _ (b : Family Form) (known : IsFamily form_inclusion b) (own_names : HasO
     shown_is : (c : Cell) → IsIn c S → cell_shown (marks c h) ≡ is_shown h c
     shown_is c i = ap₂ (λ (g : ℕ) (q : Bool). is_even g && not q) (generation_is h all_h c i) (covered_is c)
 
-    -- ---- characters
-
-    marks_char : (ms : List Member) (c : Cell) → (marks_of b S everyone c ms).ch ≡ (bare_at c (b.form (Original c.0))).ch
-    marks_char [] c = refl
-    marks_char (m ∷ ms) c = mark_char (b.form m) (bears b S m c) (marks_of b S everyone c ms) ∙ marks_char ms c
-
     key_is : (c : Cell) → cell_key (marks c h) ≡ c
     key_is c = marks_key b S everyone c (members_in h)
-
-    char_is : AreToldApart h → (c : Cell) → IsIn c S → (marks c h).ch ≡ character_in h c
-    char_is told c i =
-        let put = put_by c i in
-        let f = family.forms.inserts c.0 put.place put.character put.context put.there in
-        marks_char (members_in h) c ∙ (ap (λ (x : Form). (bare_at c x).ch) f.is
-        ∙ (f.char ∙ sym (character_at h told c.0 put.place put.character put.context c.1 put.there)))
 
     -- ---- the state
 
@@ -534,12 +514,9 @@ module _ (b : Family Form) (known : IsFamily form_inclusion b) (own_names : HasO
     in_state : (d : CellData) → IsIn d (run w [] fs) → (c : Cell) × IsIn c S × (d ≡ marks c h)
     in_state d i = in-map (λ (c : Cell). marks c h) d S (subst (λ (ds : List CellData). IsIn d ds) state_is i)
 
-    pub replayed : AreToldApart h → IsReplayed h (run w [] fs)
-    replayed told = record {
+    pub replayed : IsReplayed h (run w [] fs)
+    replayed = record {
       cells = is_replay;
-      characters =
-          λ d i. let r = in_state d i in ap (λ (x : CellData). x.ch) r.2
-          ∙ (char_is told r.0 r.1 ∙ ap (character_in h) (sym (key_of d r.0 r.2)));
       generations =
           λ d i. let r = in_state d i in ap (λ (x : CellData). x.generation) r.2
           ∙ (generation_is h all_h r.0 r.1 ∙ ap (λ (c : Cell). generation_in h c.0) (sym (key_of d r.0 r.2)));

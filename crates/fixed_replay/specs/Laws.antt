@@ -1,13 +1,13 @@
 -- The laws of the fixed replay.
-use Rattle.std.specs.Prelude.{◌≡◌, ℕ, true, List, [], ◌∷◌, ◌++◌, map, filter, encode_utf8_all}
+use Rattle.std.specs.Prelude.{◌≡◌, ℕ, Bool, true, List, [], ◌∷◌, ◌++◌, length}
 use Rattle.op_name.specs.NameData.{NameData}
 use Rattle.op_name.specs.declared.member.Member.{Member}
 use Rattle.context_diff.specs.Operations.{OpData, member_of}
 use Rattle.context_diff.specs.Histories.{members_in, is_known, Same, IsValid}
-use Rattle.context_diff.specs.Replays.{replay, shown, text_of}
+use Rattle.context_diff.specs.Replays.{replay, text_of}
 use Rattle.ttf_form.specs.declared.form.Form.{Form}
-use Rattle.ttf_form.specs.Forms.{form_over}
-use Rattle.ttf_form.specs.Cells.{CellData, cell_key, cells_of, applied, cell_shown}
+use Rattle.ttf_form.specs.Forms.{form_over, extent_of}
+use Rattle.ttf_form.specs.Cells.{CellData, cells_of, applied, FitsCells, text_put}
 use Rattle.transform_rec.specs.Sets.{none}
 use Rattle.transform_rec.specs.Derived.{Derived}
 use Rattle.transform_rec.specs.Lists.{SameElements}
@@ -16,7 +16,7 @@ use Rattle.transform_rec.specs.Histories.{family_in}
 use Rattle.fixed_replay.specs.Originals.{AreToldApart}
 use Rattle.undo_group.specs.BaseForms.{AreBaseForms, base_form}
 use Rattle.fixed_replay.specs.Insertions.{insertions_of}
-use Rattle.fixed_replay.specs.Replayed.{IsReplayed}
+use Rattle.fixed_replay.specs.Replayed.{IsReplayed, AreCharacters, letters_of, ShowsTheText}
 
 -- the forms of a valid history, executed in its order from no cell, give its fixed replay
 abbrev pub ExecutedIsReplayed : Type 0
@@ -76,11 +76,25 @@ OperationsSayBaseForms = (h : List OpData) → IsValid h → AreBaseForms h (bas
 
 -- the shown cells of a fixed replay are those of the history, and so is their text
 abbrev pub ReplayShowsTheText : Type 0
-ReplayShowsTheText =
-    (h : List OpData) (cs : List CellData)
-    → IsReplayed h cs
-    → (map cell_key (filter cell_shown cs) ≡ shown h)
-    × (encode_utf8_all (map (λ d. d.ch) (filter cell_shown cs)) ≡ text_of h)
+ReplayShowsTheText = (h : List OpData) (cs : List CellData) → IsReplayed h cs → ShowsTheText h cs
+
+-- a form of an operation adds as many cells as the operation brings characters
+abbrev pub LettersFit : Type 0
+LettersFit =
+    (h : List OpData) (o : OpData) (C : Member → Bool) (f : Form)
+    → IsValid (h ++ o ∷ [])
+    → Derived form_over (family_in (h ++ o ∷ []) (base_form (h ++ o ∷ []))) (member_of o) C f
+    → length (letters_of o) ≡ extent_of f
+
+-- when an operation is integrated by a form of it, its characters put at the place of the form keep the text that of the history
+abbrev pub CharactersStay : Type 0
+CharactersStay =
+    (h : List OpData) (o : OpData) (C : Member → Bool) (f : Form) (cs : List CellData) (ts : List ℕ)
+    → IsValid (h ++ o ∷ [])
+    → Derived form_over (family_in (h ++ o ∷ []) (base_form (h ++ o ∷ []))) (member_of o) C f
+    → FitsCells cs f
+    → AreCharacters h cs ts
+    → AreCharacters (h ++ o ∷ []) (applied cs f) (text_put f (letters_of o) ts)
 
 -- originals of a valid history differ in their names, and in rank or site
 abbrev pub OriginalsAreToldApart : Type 0

@@ -1,10 +1,9 @@
 //! Laws of the fixed replay: each says what its definitions give, and does nothing.
 
-ghost use Rattle.fixed_replay.specs.Laws.{ExecutedIsReplayed, AnyOrderIsReplayed, HistoriesHaveForms, FormsStay, BaseFormsStay, ReplayAlongAnyList, OperationsSayBaseForms, ReplayShowsTheText, OriginalsAreToldApart, SameOperationsSameText};
+ghost use Rattle.fixed_replay.specs.Laws.{ExecutedIsReplayed, AnyOrderIsReplayed, HistoriesHaveForms, FormsStay, BaseFormsStay, ReplayAlongAnyList, OperationsSayBaseForms, ReplayShowsTheText, LettersFit, CharactersStay, OriginalsAreToldApart, SameOperationsSameText};
 
 /// The forms of a valid history, executed in the order of its operations, give the cells of its fixed
-/// replay, each with the character and the generation of its insert, and shown exactly if it is shown in
-/// the history.
+/// replay, each with the generation of its insert, and shown exactly if it is shown in the history.
 pub fn executed_is_replayed()
     ensures { ExecutedIsReplayed }
 {}
@@ -42,9 +41,18 @@ pub fn operations_say_base_forms()
     ensures { OperationsSayBaseForms }
 {}
 
-/// The shown cells of a fixed replay are the shown cells of the history, and give its text.
+/// The shown cells of a fixed replay are the shown cells of the history, and the characters beside them give
+/// its text.
 pub fn replay_shows_the_text()
     ensures { ReplayShowsTheText }
+{}
+
+/// A form of an operation adds as many cells as the operation brings characters. Where the operation is
+/// integrated, its characters go to the place of its form, and the text beside the cells stays that of the
+/// history.
+pub fn characters_stay()
+    ensures fit { LettersFit }
+    ensures stay { CharactersStay }
 {}
 
 /// Two originals of a valid history differ in their names, and in rank or site.

@@ -11,8 +11,8 @@ mod laws;
 mod plain;
 
 pub use laws::{
-    any_order_is_replayed, base_forms_stay, executed_is_replayed, forms_stay, histories_have_forms,
-    operations_say_base_forms, originals_are_told_apart, replay_along_any_list,
-    replay_shows_the_text, same_operations_same_text,
+    any_order_is_replayed, base_forms_stay, characters_stay, executed_is_replayed, forms_stay,
+    histories_have_forms, operations_say_base_forms, originals_are_told_apart,
+    replay_along_any_list, replay_shows_the_text, same_operations_same_text,
 };
 pub use plain::{plain_characters, plain_text};

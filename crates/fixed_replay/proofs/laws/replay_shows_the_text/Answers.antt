@@ -1,5 +1,5 @@
-use Rattle.fixed_replay.proofs.ExecutedForms.{replayed_shown, replayed_text}
+use Rattle.fixed_replay.proofs.ExecutedForms.{shows_the_text}
 use Rattle.fixed_replay.proofs.laws.replay_shows_the_text.Goals as goal
 
 pub returns : goal.returns
-returns c = λ h cs r. (replayed_shown h cs r, replayed_text h cs r)
+returns c = λ h cs r. shows_the_text h cs r
