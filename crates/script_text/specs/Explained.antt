@@ -1,5 +1,5 @@
 -- The lines of `explain`: the steps that derive a form.
-use Rattle.std.specs.Prelude.{ℕ, zero, suc, ◌^◌, ◌/◌, ◌%◌, nat_lt, List, [], ◌∷◌, ◌++◌, decimal, codes, slice_index, if◌then◌else◌}
+use Rattle.std.specs.Prelude.{ℕ, zero, suc, ◌^◌, ◌/◌, ◌%◌, nat_lt, List, [], ◌∷◌, ◌++◌, decimal, codes, slice_index, flat_map, if◌then◌else◌}
 use Rattle.hex.specs.Hex.{upper_digits}
 use Rattle.op_name.specs.declared.member.Member.{Member}
 use Rattle.ttf_form.specs.declared.form.Form.{Form}
@@ -19,19 +19,24 @@ hex_width n = if nat_lt n (16 ^ 4) then 4 else (if nat_lt n (16 ^ 5) then 5 else
 abbrev pub scalar_text : ℕ → List ℕ
 scalar_text ch = codes "U+" ++ hex_digits (hex_width ch) ch
 
--- `ins PLACE U+HEX` or `cover PLACE`
-abbrev pub form_text : Form → List ℕ
-form_text (Ins a) = codes "ins " ++ (decimal a.place ++ (codes " " ++ scalar_text a.ch))
-form_text (Cover c) = codes "cover " ++ decimal c.place
+-- ` U+HEX` for each of these characters
+abbrev pub scalars_text : List ℕ → List ℕ
+scalars_text chars = flat_map (λ ch. codes " " ++ scalar_text ch) chars
+
+-- the form of a member that inserts these characters: `ins PLACE U+HEX`, or `cover PLACE`, which puts none
+abbrev pub form_text : List ℕ → Form → List ℕ
+form_text chars (Ins a) = codes "ins " ++ (decimal a.place ++ scalars_text chars)
+form_text chars (Cover c) = codes "cover " ++ decimal c.place
 
 -- a blank, `MEMBER FORM` and a line feed
-abbrev pub about_text : Member → Form → List ℕ
-about_text m f = codes " " ++ (member_text m ++ (codes " " ++ (form_text f ++ codes "\n")))
+abbrev pub about_text : Member → List ℕ → Form → List ℕ
+about_text m chars f = codes " " ++ (member_text m ++ (codes " " ++ (form_text chars f ++ codes "\n")))
 
 -- `K base MEMBER FORM` and a line feed
-abbrev pub base_text : ℕ → Member → Form → List ℕ
-base_text number m f = decimal number ++ (codes " base" ++ about_text m f)
+abbrev pub base_text : ℕ → Member → List ℕ → Form → List ℕ
+base_text number m chars f = decimal number ++ (codes " base" ++ about_text m chars f)
 
 -- `K step LEFT OVER MEMBER FORM` and a line feed
-abbrev pub step_text : ℕ → ℕ → ℕ → Member → Form → List ℕ
-step_text number left over m f = decimal number ++ (codes " step " ++ (decimal left ++ (codes " " ++ (decimal over ++ about_text m f))))
+abbrev pub step_text : ℕ → ℕ → ℕ → Member → List ℕ → Form → List ℕ
+step_text number left over m chars f =
+    decimal number ++ (codes " step " ++ (decimal left ++ (codes " " ++ (decimal over ++ about_text m chars f))))

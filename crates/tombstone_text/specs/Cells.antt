@@ -1,4 +1,4 @@
--- A text as contracts see it: its cells, the chunks that they are kept in, and the room that its lists have to spare.
+-- A text as contracts see it: its cells beside their characters, the chunks that both are kept in, and the room to spare.
 use Rattle.std.specs.Prelude.{◌≡◌, ℕ, ◌<◌, ◌==◌, ◌&&◌, Bool, Option, Some, List, length, slice_get, IfSome}
 use Rattle.op_name.specs.NameData.{name_eq}
 use Rattle.ttf_form.specs.declared.include.TheConstants.{CELLS}
@@ -14,10 +14,13 @@ pub record Room : Type 0 where
   pub ready : Option ℕ
   pub deleters : ℕ
 
--- the cells in the order in which they stand, shown or hidden, the chunks that they are kept in, and the room beside them
+-- the cells in the order in which they stand, shown or hidden, the text beside them, which has a character for each, the chunks
+-- that both are kept in, and the room
 pub record CellsData : Type 0 where
   pub chunks : List (List CellData)
   pub cells : List CellData
+  pub texts : List (List ℕ)
+  pub text : List ℕ
   pub room : Room
 
 -- a mark takes room only where it may add a deleter: a place for it beside those that the cell has

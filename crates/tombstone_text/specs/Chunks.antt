@@ -14,3 +14,7 @@ shown_in cs = length (filter cell_shown cs)
 -- the cells of all chunks, one after the other
 abbrev pub flat : List (List CellData) → List CellData
 flat chunks = flat_map (λ c. c) chunks
+
+-- the characters of all chunks, one after the other
+abbrev pub joined : List (List ℕ) → List ℕ
+joined texts = flat_map (λ t. t) texts

@@ -1,12 +1,13 @@
-//! The list of all cells of a text, kept in chunks.
+//! The list of all cells of a text beside their characters, kept in chunks.
 
-ghost use Rattle.std.specs.Prelude.{◌≡◌, ◌≢◌, ◌<◌, ◌≤◌, ◌^◌, ◌↔◌, [], length, filter, map, take, position, slice_get, slice_index_or, Contains, Some, IfSome, IfNone, IsTrue, OnOk, OnErr, option_map};
+ghost use Rattle.std.specs.Prelude.{◌≡◌, ◌≢◌, ◌<◌, ◌≤◌, ◌^◌, ◌↔◌, [], ◌∷◌, length, filter, map, take, position, slice_get, slice_index_or, Contains, Some, IfSome, IfNone, IsTrue, OnOk, OnErr, option_map};
 ghost use Rattle.ttf_form.specs.Names.{LacksName};
-ghost use Rattle.ttf_form.specs.Cells.{cell_shown, cells_of, put_in, bare_cells, change_at, marked, marked_in, raised, applied, FitsCells};
+ghost use Rattle.ttf_form.specs.Cells.{cell_shown, cells_of, put_in, bare_cells, change_at, marked, marked_in, raised, applied, text_put, FitsCells};
+ghost use Rattle.ttf_form.specs.Forms.{extent_of};
 ghost use Rattle.ttf_form.specs.declared.include.TheConstants.{CELLS};
 ghost use Rattle.ttf_form.specs.declared.form.Form.TheVariants.{Cover as Covered};
 ghost use Rattle.tombstone_text.specs.Cells.{CellsData, HasRoomFor, is_cell};
-ghost use Rattle.tombstone_text.specs.Chunks.{flat, flag_of, shown_in};
+ghost use Rattle.tombstone_text.specs.Chunks.{flat, flag_of, joined, shown_in};
 ghost use Rattle.tombstone_text.specs.Sums.{IsPart};
 ghost use Rattle.tombstone_text.specs.Code.Cells.{IsReady};
 ghost use Rattle.tombstone_text.specs.Code.Inserts.{AreInserts};
@@ -19,10 +20,10 @@ use std::alloc::Global;
 use std::marker::Model;
 use ttf_form::{CELLS, Cover, Form, Ins, Mark};
 
-/// A list of cells, in the order in which they stand in the text, shown or hidden. Places in it count all
-/// cells, from 0.
+/// A list of cells, in the order in which they stand in the text, shown or hidden, and beside it the text: the
+/// character of each cell. Places count all cells, from 0.
 ///
-/// The list is kept in chunks of 1 to 512 cells, each with a column of flags. An insert moves cells of one chunk
+/// Both are kept in chunks of 1 to 512 cells, each with a column of flags and one of characters. An insert moves cells of one chunk
 /// alone. A chunk starts with little room, which grows by half when it runs out; a full chunk is cut in two for the
 /// next insert into it.
 #[derive(Drop)]
@@ -35,7 +36,7 @@ pub struct Cells {
 impl Model for Cells {
     ghost Value = { CellsData };
 
-    ghost view = { λ c. record { chunks = c.chunks.chunks; cells = c.chunks.cells; room = record { ready = option_map (λ r. r.place) c.ready; deleters = c.spare } } };
+    ghost view = { λ c. record { chunks = c.chunks.chunks; cells = c.chunks.cells; texts = c.chunks.texts; text = c.chunks.text; room = record { ready = option_map (λ r. r.place) c.ready; deleters = c.spare } } };
 
     ghost invariant = { λ c. IfSome c.ready (λ r. IsReady c.chunks r) × AreInserts c.chunks.cells };
 }
@@ -43,7 +44,8 @@ impl Model for Cells {
 impl Cells {
     /// No cells; takes no memory.
     pub fn new(alloc: Global) -> Cells
-        ensures { result.cells ≡ [] }
+        ensures cells { result.cells ≡ [] }
+        ensures text { result.text ≡ [] }
     {
         Cells {
             chunks: Chunks::new(alloc),
@@ -67,10 +69,14 @@ impl Cells {
     }
 
     /// Does nothing; its contract says what every list of cells keeps: there are at most 4,294,967,295 of
-    /// them, and they are those of the chunks, one chunk after the other.
+    /// them, and they are those of the chunks, one chunk after the other; so are the characters, of which a chunk has
+    /// as many as cells.
     pub fn known(&self)
         ensures most { length self.now.cells < 2 ^ 32 }
         ensures chunks { flat self.now.chunks ≡ self.now.cells }
+        ensures texts { joined self.now.texts ≡ self.now.text }
+        ensures beside { map length self.now.texts ≡ map length self.now.chunks }
+        ensures long { length self.now.text ≡ length self.now.cells }
     {
         self.chunks.known();
     }
@@ -116,6 +122,15 @@ impl Cells {
         self.chunks.chunk_cells(i)
     }
 
+    /// The characters of the cells of chunk `i`, in their order, of shown and hidden ones. Those of all chunks, one
+    /// after the other, are the text, as `known` says.
+    pub fn chunk_text(&self, i: u32) -> &[char]
+        requires { i < length self.now.chunks }
+        ensures { result.now ≡ slice_index_or self.now.texts i [] }
+    {
+        self.chunks.chunk_text(i)
+    }
+
     /// The place of the first cell of chunk `i`; for `chunk_count` the number of all cells.
     pub fn chunk_start(&self, i: u32) -> u32
         requires { i ≤ length self.now.chunks }
@@ -156,13 +171,14 @@ impl Cells {
         }
     }
 
-    /// Makes room to apply `form`, which then takes no memory: for the cell that an insert adds at its place, also
-    /// where a chunk is to be cut in two, or for the deleter that a cover may add to the cell at its place. No cell
-    /// changes, also when out of memory, as it always answers for a 4,294,967,296th cell. The room for an insert is
+    /// Makes room to apply `form`, which then takes no memory: for the cell that an insert adds at its place with its
+    /// character, also where a chunk is to be cut in two, or for the deleter that a cover may add to the cell at its
+    /// place. Nothing else changes, also when out of memory, as it always answers for a 4,294,967,296th cell. The room for an insert is
     /// there until a form is applied, or room made for another insert. Out of memory comes only where the room isn't
     /// there yet; so never for a cover that leaves no deleter to note.
     pub fn reserve(&mut self, form: &Form) -> Result<(), Memory>
         ensures cells { self.new.cells ≡ self.old.cells }
+        ensures text { self.new.text ≡ self.old.text }
         ensures room { OnOk result (HasRoomFor self.new form.now) }
         ensures memory { OnErr result (¬ HasRoomFor self.old form.now) }
     {
@@ -186,6 +202,7 @@ impl Cells {
     /// Makes room for one more cell at a place.
     fn reserve_place(&mut self, place: u32) -> Result<(), Memory>
         ensures cells { self.new.cells ≡ self.old.cells }
+        ensures text { self.new.text ≡ self.old.text }
         ensures room { OnOk result (self.new.room.ready ≡ Some place) }
         ensures memory { OnErr result (self.old.room.ready ≢ Some place) }
     {
@@ -212,36 +229,41 @@ impl Cells {
     fn reserve_deleters(&mut self, deleters: usize) -> Result<(), Memory>
         requires { deleters < 2 ^ 63 }
         ensures cells { self.new.cells ≡ self.old.cells }
+        ensures text { self.new.text ≡ self.old.text }
         ensures room { OnOk result (deleters < self.new.room.deleters) }
         ensures memory { OnErr result (self.old.room.deleters ≤ deleters) }
     {
         self.spare.reserve(deleters, self.chunks.allocator())
     }
 
-    /// Applies a form for which `reserve` made room: an insert puts its new cell at its place, a cover marks
-    /// the cell at its place, together with all other cells of the same insert where it is an undo or a redo of that.
-    /// All other cells stay as they are, in their order.
-    pub fn apply(&mut self, form: &Form)
+    /// Applies a form for which `reserve` made room: an insert puts its new cell at its place, with the character of
+    /// `text`, a cover marks the cell at its place, together with all other cells of the same insert where it is an undo
+    /// or a redo of that. All other cells stay as they are, in their order, and so do their characters. `text` has a
+    /// character for each cell that the form adds: one for an insert, none for a cover.
+    pub fn apply(&mut self, form: &Form, text: &[char])
         requires room { HasRoomFor self.old form.now }
         requires fits { FitsCells self.old.cells form.now }
-        ensures { self.new.cells ≡ applied self.old.cells form.now }
+        requires text { length text.now ≡ extent_of form.now }
+        ensures cells { self.new.cells ≡ applied self.old.cells form.now }
+        ensures text { self.new.text ≡ text_put form.now text.now self.old.text }
     {
         match form {
-            Form::Ins(ins) => self.put(ins),
+            Form::Ins(ins) => self.put(ins, text[0]),
             Form::Cover(cover) => self.mark(cover),
         }
     }
 
-    /// Puts the new cell of an insert at its place.
-    fn put(&mut self, ins: &Ins)
+    /// Puts the new cell of an insert with its character at its place.
+    fn put(&mut self, ins: &Ins, ch: char)
         requires room { self.old.room.ready ≡ Some ins.now.place }
         requires bound { length self.old.cells < CELLS }
         requires place { ins.now.place ≤ length self.old.cells }
         requires new { LacksName (cells_of self.old.cells) ins.now.name }
-        ensures { self.new.cells ≡ put_in ins.now.place (bare_cells ins.now) self.old.cells }
+        ensures cells { self.new.cells ≡ put_in ins.now.place (bare_cells ins.now) self.old.cells }
+        ensures text { self.new.text ≡ put_in ins.now.place (ch ∷ []) self.old.text }
     {
         match self.ready.take() {
-            Some(ready) => self.chunks.put(ready, Cell::bare(ins)),
+            Some(ready) => self.chunks.put(ready, Cell::bare(ins), ch),
             None => unreachable!(),
         }
     }
@@ -251,7 +273,8 @@ impl Cells {
     fn mark(&mut self, cover: &Cover)
         requires room { HasRoomFor self.old (Covered cover.now) }
         requires place { cover.now.place < length self.old.cells }
-        ensures { self.new.cells ≡ marked_in cover.now.place cover.now.mark self.old.cells }
+        ensures cells { self.new.cells ≡ marked_in cover.now.place cover.now.mark self.old.cells }
+        ensures text { self.new.text ≡ self.old.text }
     {
         match self.several(cover) {
             Some((name, generation)) => self.raise(&name, generation),
@@ -284,7 +307,8 @@ impl Cells {
     fn mark_one(&mut self, cover: &Cover)
         requires room { HasRoomFor self.old (Covered cover.now) }
         requires place { cover.now.place < length self.old.cells }
-        ensures { self.new.cells ≡ change_at cover.now.place (marked cover.now.mark) self.old.cells }
+        ensures cells { self.new.cells ≡ change_at cover.now.place (marked cover.now.mark) self.old.cells }
+        ensures text { self.new.text ≡ self.old.text }
     {
         self.ready = None;
         self.chunks.mark(cover, &mut self.spare);
@@ -292,7 +316,8 @@ impl Cells {
 
     /// Raises all cells of an insert.
     fn raise(&mut self, name: &Name, generation: u16)
-        ensures { self.new.cells ≡ map (raised generation name.now) self.old.cells }
+        ensures cells { self.new.cells ≡ map (raised generation name.now) self.old.cells }
+        ensures text { self.new.text ≡ self.old.text }
     {
         self.ready = None;
         self.chunks.raise(name, generation, &mut self.spare);

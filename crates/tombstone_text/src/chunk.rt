@@ -1,4 +1,4 @@
-//! A chunk: some of the cells of a text that stand side by side.
+//! A chunk: some of the cells of a text that stand side by side, with their characters.
 
 ghost use Rattle.std.specs.Prelude.{◌≡◌, ℕ, ◌+◌, ◌<◌, ◌≤◌, List, [], length, map, take, drop, insert, sum, min, vec_len, vec_capacity, slice_index_or, slice_get, slice_set, option_map, IfOk, OnOk, if◌then◌else◌};
 ghost use Rattle.ttf_form.specs.Cells.{CellData, cell_shown, change_at, marked, raised};
@@ -48,20 +48,21 @@ fn flag(cell: &Cell) -> u8
     if cell.shown() { 1 } else { 0 }
 }
 
-/// Up to 512 cells, with a column of flags: 1 for a shown cell, 0 for a hidden one. A chunk may have room for more
-/// cells than it has. Out of memory, only `with_room` and `grow` fail.
+/// Up to 512 cells, with a column of flags, 1 for a shown cell and 0 for a hidden one, and a column of characters. A
+/// chunk may have room for more cells than it has. Out of memory, only `with_room` and `grow` fail.
 #[derive(Drop)]
 pub(crate) struct Chunk {
     cells: Vec<Cell>,
     flags: Vec<u8>,
+    text: Vec<char>,
 }
 
 impl Model for Chunk {
     ghost Value = { ChunkData };
 
-    ghost view = { λ c. record { cells = c.cells.items; room = min FULL (min (vec_capacity c.cells) (vec_capacity c.flags)) } };
+    ghost view = { λ c. record { cells = c.cells.items; text = c.text.items; room = min FULL (min (vec_capacity c.cells) (min (vec_capacity c.flags) (vec_capacity c.text))) } };
 
-    ghost invariant = { λ c. IsChunk c.cells.items c.flags.items };
+    ghost invariant = { λ c. IsChunk c.cells.items c.flags.items c.text.items };
 }
 
 impl Chunk {
@@ -69,11 +70,13 @@ impl Chunk {
     pub(crate) fn with_room(room: usize, alloc: Global) -> Result<Chunk, Memory>
         requires { room ≤ FULL }
         ensures cells { IfOk result (λ c. c.cells ≡ []) }
+        ensures text { IfOk result (λ c. c.text ≡ []) }
         ensures room { IfOk result (λ c. c.room ≡ room) }
     {
         let cells = Vec::with_capacity(alloc, room)?;
         let flags = Vec::with_capacity(alloc, room)?;
-        Ok(Chunk { cells, flags })
+        let text = Vec::with_capacity(alloc, room)?;
+        Ok(Chunk { cells, flags, text })
     }
 
     /// The number of cells.
@@ -89,7 +92,8 @@ impl Chunk {
     pub(crate) fn room(&self) -> usize
         ensures { result ≡ self.now.room }
     {
-        FULL.min(self.cells.capacity().min(self.flags.capacity()))
+        let columns = self.flags.capacity().min(self.text.capacity());
+        FULL.min(self.cells.capacity().min(columns))
     }
 
     /// The cells.
@@ -117,6 +121,15 @@ impl Chunk {
         self.flags.as_slice()
     }
 
+    /// The characters of the cells, in their order.
+    pub(crate) fn text(&self) -> &[char]
+        ensures text { result.now ≡ self.now.text }
+        ensures long { length result.now ≡ length self.now.cells }
+    {
+        let _ = &self.cells;
+        self.text.as_slice()
+    }
+
     /// The number of shown cells, counted by the flags.
     pub(crate) fn shown(&self) -> u32
         ensures { result ≡ shown_in self.now.cells }
@@ -124,21 +137,26 @@ impl Chunk {
         ones(self.flags())
     }
 
-    /// Makes room for a cell more than the chunk has. No cell changes, also when out of memory.
+    /// Makes room for a cell more than the chunk has, and for its character. Nothing else changes, also when out of
+    /// memory.
     pub(crate) fn grow(&mut self) -> Result<(), Memory>
         requires { length self.old.cells < FULL }
         ensures cells { self.new.cells ≡ self.old.cells }
+        ensures text { self.new.text ≡ self.old.text }
         ensures room { OnOk result (length self.new.cells < self.new.room) }
     {
         grow_list(&mut self.cells)?;
-        grow_list(&mut self.flags)
+        grow_list(&mut self.flags)?;
+        grow_list(&mut self.text)
     }
 
-    /// Puts a cell at a place of the chunk.
-    pub(crate) fn put(&mut self, at: usize, cell: Cell)
+    /// Puts a cell with its character at a place of the chunk.
+    pub(crate) fn put(&mut self, at: usize, cell: Cell, ch: char)
         requires room { length self.old.cells < self.old.room }
         requires within { at ≤ length self.old.cells }
-        ensures { self.new.cells ≡ insert self.old.cells at cell }
+        ensures cells { self.new.cells ≡ insert self.old.cells at cell }
+        ensures text { self.new.text ≡ insert self.old.text at ch }
+        ensures long { length self.new.text ≡ length self.new.cells }
     {
         let mark = flag(&cell);
         match self.cells.insert(at, cell) {
@@ -149,6 +167,10 @@ impl Chunk {
             Ok(()) => {}
             Err(_) => unreachable!(),
         }
+        match self.text.insert(at, ch) {
+            Ok(()) => {}
+            Err(_) => unreachable!(),
+        }
     }
 
     /// Marks the cell at a place of the chunk. A deleter that is added may take the list of `spare`.
@@ -156,6 +178,7 @@ impl Chunk {
         requires within { at < length self.old.cells }
         requires room { HasRoomOn mark (slice_index_or self.old.cells at blank) spare.old }
         ensures cells { self.new.cells ≡ change_at at (marked mark) self.old.cells }
+        ensures text { self.new.text ≡ self.old.text }
     {
         let cell = &mut self.cells[at];
         cell.cover(mark, spare);
@@ -164,7 +187,8 @@ impl Chunk {
 
     /// Raises all cells of an insert in the chunk, which takes nothing of `spare`.
     pub(crate) fn raise(&mut self, name: &Name, generation: u16, spare: &mut Spare)
-        ensures { self.new.cells ≡ map (raised generation name.now) self.old.cells }
+        ensures cells { self.new.cells ≡ map (raised generation name.now) self.old.cells }
+        ensures text { self.new.text ≡ self.old.text }
     {
         for at in 0..self.len() {
             self.raise_at(at, name, generation, spare);
@@ -174,14 +198,15 @@ impl Chunk {
     /// Raises the cell at a place of the chunk, if it is of the insert.
     fn raise_at(&mut self, at: usize, name: &Name, generation: u16, spare: &mut Spare)
         requires within { at < length self.old.cells }
-        ensures { self.new.cells ≡ change_at at (raised generation name.now) self.old.cells }
+        ensures cells { self.new.cells ≡ change_at at (raised generation name.now) self.old.cells }
+        ensures text { self.new.text ≡ self.old.text }
     {
         if self.cells[at].id().name == *name {
             self.cover(at, Mark::Own { generation }, spare);
         }
     }
 
-    /// Keeps the first `keep` cells and moves the others to another chunk, which was empty. Of the room that the
+    /// Keeps the first `keep` cells and moves the others, with their characters, to another chunk, which was empty. Of the room that the
     /// moved cells leave a part is kept, for new cells, and the rest given back; where there is no memory for the move
     /// to less room, all is kept.
     pub(crate) fn split(&mut self, keep: usize, upper: &mut Chunk)
@@ -190,13 +215,19 @@ impl Chunk {
         requires room { length self.old.cells ≤ keep + upper.old.room }
         ensures lower { self.new.cells ≡ take keep self.old.cells }
         ensures upper { upper.new.cells ≡ drop keep self.old.cells }
+        ensures lower_text { self.new.text ≡ take keep self.old.text }
+        ensures upper_text { upper.new.text ≡ drop keep self.old.text }
+        ensures lower_long { length self.new.text ≡ length self.new.cells }
+        ensures upper_long { length upper.new.text ≡ length upper.new.cells }
         ensures lower_room { keep < self.new.room }
         ensures upper_room { upper.old.room ≤ upper.new.room }
     {
         move_cells(&mut self.cells, keep, &mut upper.cells);
-        move_flags(&mut self.flags, keep, &mut upper.flags);
+        move_column(&mut self.flags, keep, &mut upper.flags);
+        move_column(&mut self.text, keep, &mut upper.text);
         self.cells.shrink_to(room_for(keep));
         self.flags.shrink_to(room_for(keep));
+        self.text.shrink_to(room_for(keep));
     }
 }
 
@@ -232,8 +263,8 @@ fn move_cells(from: &mut Vec<Cell>, keep: usize, to: &mut Vec<Cell>)
     to.reverse();
 }
 
-/// Moves the flags from place `keep` on to an empty list, in their order.
-fn move_flags(from: &mut Vec<u8>, keep: usize, to: &mut Vec<u8>)
+/// Moves the part of a column from place `keep` on to an empty list, in its order.
+fn move_column<T: Copy>(from: &mut Vec<T>, keep: usize, to: &mut Vec<T>)
     requires within { keep ≤ vec_len from.old }
     requires empty { to.old.items ≡ [] }
     requires room { vec_len from.old ≤ keep + vec_capacity to.old }

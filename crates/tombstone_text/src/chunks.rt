@@ -4,10 +4,10 @@ ghost use Rattle.std.specs.Prelude.{◌≡◌, ℕ, ◌+◌, ◌-◌, ◌<◌, �
 ghost use Rattle.ttf_form.specs.Cells.{cell_shown, change_at, marked, raised};
 ghost use Rattle.ttf_form.specs.declared.include.TheConstants.{CELLS};
 ghost use Rattle.tombstone_text.specs.Cells.{HasRoomOn};
-ghost use Rattle.tombstone_text.specs.Chunks.{flat, flag_of, shown_in};
+ghost use Rattle.tombstone_text.specs.Chunks.{flat, flag_of, joined, shown_in};
 ghost use Rattle.tombstone_text.specs.Sums.{IsPart};
-ghost use Rattle.tombstone_text.specs.Code.Cells.{ChunksData, cut, fresh_room, HasPlace, IsReady, IsSeat, IsText, is_sought};
-ghost use Rattle.tombstone_text.specs.Code.Chunks.{blank, bodies, rooms_of};
+ghost use Rattle.tombstone_text.specs.Code.Cells.{AreBeside, ChunksData, cut, fresh_room, HasPlace, IsReady, IsSeat, IsText, is_sought};
+ghost use Rattle.tombstone_text.specs.Code.Chunks.{blank, bodies, rooms_of, texts_of};
 
 use crate::cell::{Cell, CellId};
 use crate::chunk::{Chunk, FULL, room_for};
@@ -94,15 +94,16 @@ pub(crate) struct Chunks {
 impl Model for Chunks {
     ghost Value = { ChunksData };
 
-    ghost view = { λ c. record { chunks = bodies c.list.items; cells = flat (bodies c.list.items); rooms = rooms_of c.list.items; fresh = fresh_room c.fresh; spare = min (vec_capacity c.list - vec_len c.list) (min c.lens.spare c.shown.spare) } };
+    ghost view = { λ c. record { chunks = bodies c.list.items; cells = flat (bodies c.list.items); texts = texts_of c.list.items; text = joined (texts_of c.list.items); rooms = rooms_of c.list.items; fresh = fresh_room c.fresh; spare = min (vec_capacity c.list - vec_len c.list) (min c.lens.spare c.shown.spare) } };
 
-    ghost invariant = { λ c. IsText (bodies c.list.items) c.lens.parts c.shown.parts c.fresh };
+    ghost invariant = { λ c. IsText (bodies c.list.items) c.lens.parts c.shown.parts c.fresh × AreBeside (texts_of c.list.items) c.lens.parts };
 }
 
 impl Chunks {
     /// No cells; takes no memory.
     pub(crate) fn new(alloc: Global) -> Chunks
-        ensures { result.cells ≡ [] }
+        ensures cells { result.cells ≡ [] }
+        ensures text { result.text ≡ [] }
     {
         Chunks {
             list: Vec::new(alloc),
@@ -138,6 +139,9 @@ impl Chunks {
         ensures most { length self.now.cells < 2 ^ 32 }
         ensures few { length self.now.chunks < 2 ^ 32 }
         ensures chunks { flat self.now.chunks ≡ self.now.cells }
+        ensures texts { joined self.now.texts ≡ self.now.text }
+        ensures beside { map length self.now.texts ≡ map length self.now.chunks }
+        ensures long { length self.now.text ≡ length self.now.cells }
     {
         let _ = &self.list;
         let _ = self.lens.total();
@@ -191,6 +195,14 @@ impl Chunks {
         self.list[i as usize].cells()
     }
 
+    /// The characters of the cells of chunk `i`.
+    pub(crate) fn chunk_text(&self, i: u32) -> &[char]
+        requires { i < length self.now.chunks }
+        ensures { result.now ≡ slice_index_or self.now.texts i [] }
+    {
+        self.list[i as usize].text()
+    }
+
     /// The place of the first cell of chunk `i`; for `chunk_count` the number of all cells.
     pub(crate) fn chunk_start(&self, i: u32) -> u32
         requires { i ≤ length self.now.chunks }
@@ -230,11 +242,12 @@ impl Chunks {
         None
     }
 
-    /// Makes room for a new cell at a place, and answers the way by which it then comes in; a place past the end counts
-    /// as the end. No cell changes, also when out of memory.
+    /// Makes room for a new cell at a place, and for its character, and answers the way by which it then comes in; a
+    /// place past the end counts as the end. Nothing else changes, also when out of memory.
     pub(crate) fn reserve(&mut self, place: u32) -> Result<Ready, Memory>
         ensures chunks { self.new.chunks ≡ self.old.chunks }
         ensures cells { self.new.cells ≡ self.old.cells }
+        ensures text { self.new.text ≡ self.old.text }
         ensures place { IfOk result (λ r. r.place ≡ place) }
         ensures ready { IfOk result (λ r. IsReady self.new r) }
     {
@@ -294,6 +307,7 @@ impl Chunks {
         requires { room ≤ FULL }
         ensures chunks { self.new.chunks ≡ self.old.chunks }
         ensures cells { self.new.cells ≡ self.old.cells }
+        ensures text { self.new.text ≡ self.old.text }
         ensures fresh { OnOk result (room ≤ self.new.fresh) }
         ensures spare { OnOk result (1 ≤ self.new.spare) }
     {
@@ -312,46 +326,49 @@ impl Chunks {
         requires less { length (slice_index_or self.old.chunks i []) < FULL }
         ensures chunks { self.new.chunks ≡ self.old.chunks }
         ensures cells { self.new.cells ≡ self.old.cells }
+        ensures text { self.new.text ≡ self.old.text }
         ensures place { OnOk result (HasPlace self.new i) }
     {
         let _ = &self.lens;
         self.list[i].grow()
     }
 
-    /// Puts a shown cell at the place for which `reserve` made room.
-    pub(crate) fn put(&mut self, ready: Ready, cell: Cell)
+    /// Puts a shown cell with its character at the place for which `reserve` made room.
+    pub(crate) fn put(&mut self, ready: Ready, cell: Cell, ch: char)
         requires ready { IsReady self.old ready }
         requires place { ready.place ≤ length self.old.cells }
         requires bound { length self.old.cells < CELLS }
         requires shown { cell_shown cell ≡ true }
-        ensures { self.new.cells ≡ insert self.old.cells ready.place cell }
+        ensures cells { self.new.cells ≡ insert self.old.cells ready.place cell }
+        ensures text { self.new.text ≡ insert self.old.text ready.place ch }
     {
         self.known();
         match ready.way {
-            Way::First => self.put_first(cell),
-            Way::Into { chunk, at } => self.put_at(chunk, at, cell),
+            Way::First => self.put_first(cell, ch),
+            Way::Into { chunk, at } => self.put_at(chunk, at, cell, ch),
             Way::Cut { chunk, at, keep } => {
                 self.split(chunk, keep);
                 if at <= keep {
-                    self.put_at(chunk, at, cell);
+                    self.put_at(chunk, at, cell, ch);
                 } else {
-                    self.put_at(chunk + 1, at - keep, cell);
+                    self.put_at(chunk + 1, at - keep, cell, ch);
                 }
             }
         }
     }
 
     /// Puts the first cell of a text into the fresh chunk.
-    fn put_first(&mut self, cell: Cell)
+    fn put_first(&mut self, cell: Cell, ch: char)
         requires fresh { 1 ≤ self.old.fresh }
         requires spare { 1 ≤ self.old.spare }
         requires empty { self.old.chunks ≡ [] }
         requires shown { cell_shown cell ≡ true }
-        ensures { self.new.cells ≡ cell ∷ [] }
+        ensures cells { self.new.cells ≡ cell ∷ [] }
+        ensures text { self.new.text ≡ ch ∷ [] }
     {
         match self.fresh.take() {
             Some(mut chunk) => {
-                chunk.put(0, cell);
+                chunk.put(0, cell, ch);
                 self.lens.insert(0, 1);
                 self.shown.insert(0, 1);
                 self.list.push_reserved(chunk);
@@ -360,24 +377,26 @@ impl Chunks {
         }
     }
 
-    /// Puts a shown cell into chunk `i`, which has room, at place `at` of the chunk.
-    fn put_at(&mut self, i: usize, at: usize, cell: Cell)
+    /// Puts a shown cell with its character into chunk `i`, which has room, at place `at` of the chunk.
+    fn put_at(&mut self, i: usize, at: usize, cell: Cell, ch: char)
         requires chunk { i < length self.old.chunks }
         requires within { at ≤ length (slice_index_or self.old.chunks i []) }
         requires room { HasPlace self.old i }
         requires bound { length self.old.cells < CELLS }
         requires shown { cell_shown cell ≡ true }
-        ensures { (p : ℕ) → IsSeat self.old.chunks i at p → self.new.cells ≡ insert self.old.cells p cell }
+        ensures cells { (p : ℕ) → IsSeat self.old.chunks i at p → self.new.cells ≡ insert self.old.cells p cell }
+        ensures text { (p : ℕ) → IsSeat self.old.chunks i at p → self.new.text ≡ insert self.old.text p ch }
     {
         let len = self.lens.part(i);
         let shown = self.shown.part(i);
         let chunk = &mut self.list[i];
-        chunk.put(at, cell);
+        chunk.put(at, cell, ch);
         self.lens.set(i, len + 1);
         self.shown.set(i, shown + 1);
     }
 
-    /// Cuts chunk `i` in two: its first `keep` cells stay, the others become the next chunk. No cell changes.
+    /// Cuts chunk `i` in two: its first `keep` cells stay, the others become the next chunk. Neither cells nor text
+    /// change.
     fn split(&mut self, i: usize, keep: usize)
         requires room { length (slice_index_or self.old.chunks i []) < keep + self.old.fresh }
         requires spare { 1 ≤ self.old.spare }
@@ -387,6 +406,7 @@ impl Chunks {
         requires bound { length self.old.cells < CELLS }
         ensures chunks { self.new.chunks ≡ cut self.old.chunks i keep }
         ensures cells { self.new.cells ≡ self.old.cells }
+        ensures text { self.new.text ≡ self.old.text }
         ensures lower { HasPlace self.new i }
         ensures upper { HasPlace self.new (i + 1) }
     {
@@ -414,7 +434,8 @@ impl Chunks {
     pub(crate) fn mark(&mut self, cover: &Cover, spare: &mut Spare)
         requires room { IfSome (slice_get self.old.cells cover.now.place) (λ d. HasRoomOn cover.now.mark d spare.old) }
         requires place { cover.now.place < length self.old.cells }
-        ensures { self.new.cells ≡ change_at cover.now.place (marked cover.now.mark) self.old.cells }
+        ensures cells { self.new.cells ≡ change_at cover.now.place (marked cover.now.mark) self.old.cells }
+        ensures text { self.new.text ≡ self.old.text }
     {
         let _ = self.lens.total();
         let (i, at) = self.lens.find(cover.place);
@@ -428,7 +449,8 @@ impl Chunks {
 
     /// Raises all cells of an insert, wherever they stand, which takes nothing of `spare`.
     pub(crate) fn raise(&mut self, name: &Name, generation: u16, spare: &mut Spare)
-        ensures { self.new.cells ≡ map (raised generation name.now) self.old.cells }
+        ensures cells { self.new.cells ≡ map (raised generation name.now) self.old.cells }
+        ensures text { self.new.text ≡ self.old.text }
     {
         self.known();
         for i in 0..self.chunk_count() {
@@ -440,7 +462,8 @@ impl Chunks {
     /// Raises the cells of an insert in chunk `i`, and counts its shown cells anew.
     fn raise_chunk(&mut self, i: u32, name: &Name, generation: u16, spare: &mut Spare)
         requires { i < length self.old.chunks }
-        ensures { self.new.chunks ≡ change_at i (map (raised generation name.now)) self.old.chunks }
+        ensures chunks { self.new.chunks ≡ change_at i (map (raised generation name.now)) self.old.chunks }
+        ensures text { self.new.text ≡ self.old.text }
     {
         let _ = self.lens.total();
         let chunk = &mut self.list[i as usize];

@@ -1,12 +1,12 @@
 //! The cells of a text: the characters that inserts put, in the order in which they stand, shown or hidden.
 //!
-//! A `Cells` is a list of cells. Each has the name of its insert, its offset among the cells of that insert, its
-//! character, and the marks that covers left on it. Forms are applied to it: an insert adds its cells, a cover marks
-//! one, or all that one insert added, and no cell ever goes, so that places keep their meaning. A hidden cell is a
-//! tombstone.
+//! A `Cells` is a list of cells beside a list of as many characters. Each cell has the name of its insert, its offset
+//! among the cells of that insert, and the marks that covers left on it. Forms are applied to it: an insert adds its
+//! cells with their characters, a cover marks one, or all that one insert added, and no cell ever goes, so that places
+//! keep their meaning. A hidden cell is a tombstone.
 //!
-//! The cells are kept in chunks, each with a column of flags that tell which of its cells are shown; the calls
-//! on chunks lend them to those that look for shown cells.
+//! The cells are kept in chunks, each with a column of flags that tell which of its cells are shown, and one of
+//! characters; the calls on chunks lend them to those that look for shown cells and write them.
 #![tactic(auto)]
 
 mod cell;

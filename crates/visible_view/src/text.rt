@@ -1,15 +1,16 @@
 //! The shown characters as text.
 
-ghost use Rattle.std.specs.Prelude.{◌≡◌, ◌++◌, ◌∷◌, [], take, vec_len, encode_utf8, OnOk, OnErr};
+ghost use Rattle.std.specs.Prelude.{◌≡◌, ◌++◌, length, take, vec_len, encode_utf8, encode_utf8_all, OnOk, OnErr};
 ghost use Rattle.visible_view.specs.View.{shown_text};
+ghost use Rattle.visible_view.specs.Code.{flagged};
 
 use op_name::Memory;
-use tombstone_text::{Cell, Cells};
+use tombstone_text::Cells;
 
-/// Appends the characters of the shown cells in UTF-8, in one pass over the chunks that have any. When out of
-/// memory, `out` is as it was.
+/// Appends the characters of the shown cells in UTF-8, in one pass over the flags and characters of the chunks that
+/// show any. When out of memory, `out` is as it was.
 pub fn write_text(cells: &Cells, out: &mut Vec<u8>) -> Result<(), Memory>
-    ensures ok { OnOk result (out.new.items ≡ out.old.items ++ shown_text cells.now.cells) }
+    ensures ok { OnOk result (out.new.items ≡ out.old.items ++ shown_text cells.now.cells cells.now.text) }
     ensures err { OnErr result (out.new.items ≡ out.old.items) }
 {
     let start = out.len();
@@ -24,39 +25,30 @@ pub fn write_text(cells: &Cells, out: &mut Vec<u8>) -> Result<(), Memory>
 
 /// Appends the characters of the shown cells; when out of memory, those of some of them.
 fn push_shown(cells: &Cells, out: &mut Vec<u8>) -> Result<(), Memory>
-    ensures ok { OnOk result (out.new.items ≡ out.old.items ++ shown_text cells.now.cells) }
+    ensures ok { OnOk result (out.new.items ≡ out.old.items ++ shown_text cells.now.cells cells.now.text) }
     ensures err { OnErr result (take (vec_len out.old) out.new.items ≡ out.old.items) }
 {
     cells.known();
     for i in 0..cells.chunk_count() {
         if cells.chunk_shown(i) > 0 {
-            push_chunk(cells.chunk_cells(i), out)?;
+            push_flagged(cells.chunk_flags(i), cells.chunk_text(i), out)?;
         }
     }
     Ok(())
 }
 
-/// Appends the characters of the shown ones of some cells; when out of memory, of some of these.
-fn push_chunk(cells: &[Cell], out: &mut Vec<u8>) -> Result<(), Memory>
-    ensures ok { OnOk result (out.new.items ≡ out.old.items ++ shown_text cells.now) }
+/// Appends the characters that stand beside a flag that is 1; when out of memory, some of these.
+fn push_flagged(flags: &[u8], text: &[char], out: &mut Vec<u8>) -> Result<(), Memory>
+    requires long { length text.now ≡ length flags.now }
+    ensures ok { OnOk result (out.new.items ≡ out.old.items ++ encode_utf8_all (flagged flags.now text.now)) }
     ensures err { OnErr result (take (vec_len out.old) out.new.items ≡ out.old.items) }
 {
-    for cell in cells {
-        push_cell(cell, out)?;
+    for at in 0..flags.len() {
+        if flags[at] == 1 {
+            push_char(text[at], out)?;
+        }
     }
     Ok(())
-}
-
-/// Appends the character of a cell if it is shown.
-fn push_cell(cell: &Cell, out: &mut Vec<u8>) -> Result<(), Memory>
-    ensures ok { OnOk result (out.new.items ≡ out.old.items ++ shown_text (cell.now ∷ [])) }
-    ensures err { OnErr result (out.new.items ≡ out.old.items) }
-{
-    if cell.shown() {
-        push_char(cell.ch(), out)
-    } else {
-        Ok(())
-    }
 }
 
 /// Appends the bytes of a character.

@@ -2,7 +2,7 @@
 
 ghost use Rattle.std.specs.Prelude.{◌≡◌, ◌<◌, ◌∷◌, [], ◌++◌, OnOk, OnErr, length, take, codes, decimal, slice_index};
 ghost use Rattle.hex.specs.Hex.{upper_digits};
-ghost use Rattle.script_text.specs.Explained.{hex_digits, hex_width, scalar_text, form_text, about_text, base_text, step_text};
+ghost use Rattle.script_text.specs.Explained.{hex_digits, hex_width, scalar_text, scalars_text, form_text, about_text, base_text, step_text};
 
 use op_name::{Member, Memory};
 use site_answers::{put, put_member};
@@ -11,30 +11,43 @@ use ttf_form::Form;
 /// The digits of base 16.
 const DIGITS: &[u8; 16] = b"0123456789ABCDEF";
 
-/// Appends the line of a member's base form: `K base MEMBER FORM` and a line feed, where K is the line's number.
+/// Appends the line of a member's base form: `K base MEMBER FORM` and a line feed, where K is the line's number and `chars`
+/// are the characters that the member inserts, none where it inserts nothing.
 ///
 /// A refused call leaves `out` as it was.
-pub fn base_line(number: u64, member: Member, form: &Form, out: &mut Vec<u8>) -> Result<(), Memory>
-    ensures ok { OnOk result (out.new.items ≡ out.old.items ++ base_text number member form.now) }
+pub fn base_line(
+    number: u64,
+    member: Member,
+    chars: &[char],
+    form: &Form,
+    out: &mut Vec<u8>,
+) -> Result<(), Memory>
+    ensures ok { OnOk result (out.new.items ≡ out.old.items ++ base_text number member chars.now form.now) }
     ensures err { OnErr result (out.new.items ≡ out.old.items) }
 {
     let start = out.len();
-    let done = base_parts(number, member, form, out);
+    let done = base_parts(number, member, chars, form, out);
     put::take_back(out, start, done)
 }
 
 // The same, but a refused call may leave some of it after what `out` held; so with all that end in `parts`.
-fn base_parts(number: u64, member: Member, form: &Form, out: &mut Vec<u8>) -> Result<(), Memory>
-    ensures ok { OnOk result (out.new.items ≡ out.old.items ++ base_text number member form.now) }
+fn base_parts(
+    number: u64,
+    member: Member,
+    chars: &[char],
+    form: &Form,
+    out: &mut Vec<u8>,
+) -> Result<(), Memory>
+    ensures ok { OnOk result (out.new.items ≡ out.old.items ++ base_text number member chars.now form.now) }
     ensures err { OnErr result (take (length out.old.items) out.new.items ≡ out.old.items) }
 {
     put::number(out, b"", number)?;
     put::text(out, b" base")?;
-    put_about(member, form, out)
+    put_about(member, chars, form, out)
 }
 
 /// Appends the line of a step, which includes the form of line `over` in that of line `left`: `K step LEFT OVER MEMBER
-/// FORM` and a line feed, where K is the line's number.
+/// FORM` and a line feed, where K is the line's number and `chars` are the characters that the member inserts.
 ///
 /// A refused call leaves `out` as it was.
 pub fn step_line(
@@ -42,14 +55,15 @@ pub fn step_line(
     left: u64,
     over: u64,
     member: Member,
+    chars: &[char],
     form: &Form,
     out: &mut Vec<u8>,
 ) -> Result<(), Memory>
-    ensures ok { OnOk result (out.new.items ≡ out.old.items ++ step_text number left over member form.now) }
+    ensures ok { OnOk result (out.new.items ≡ out.old.items ++ step_text number left over member chars.now form.now) }
     ensures err { OnErr result (out.new.items ≡ out.old.items) }
 {
     let start = out.len();
-    let done = step_parts(number, left, over, member, form, out);
+    let done = step_parts(number, left, over, member, chars, form, out);
     put::take_back(out, start, done)
 }
 
@@ -58,66 +72,105 @@ fn step_parts(
     left: u64,
     over: u64,
     member: Member,
+    chars: &[char],
     form: &Form,
     out: &mut Vec<u8>,
 ) -> Result<(), Memory>
-    ensures ok { OnOk result (out.new.items ≡ out.old.items ++ step_text number left over member form.now) }
+    ensures ok { OnOk result (out.new.items ≡ out.old.items ++ step_text number left over member chars.now form.now) }
     ensures err { OnErr result (take (length out.old.items) out.new.items ≡ out.old.items) }
 {
     put::number(out, b"", number)?;
     put::number(out, b" step ", left)?;
     put::number(out, b" ", over)?;
-    put_about(member, form, out)
+    put_about(member, chars, form, out)
 }
 
 // What the line is about: a blank, `MEMBER FORM` and a line feed. A refused call leaves `out` as it was.
-fn put_about(member: Member, form: &Form, out: &mut Vec<u8>) -> Result<(), Memory>
-    ensures ok { OnOk result (out.new.items ≡ out.old.items ++ about_text member form.now) }
+fn put_about(member: Member, chars: &[char], form: &Form, out: &mut Vec<u8>) -> Result<(), Memory>
+    ensures ok { OnOk result (out.new.items ≡ out.old.items ++ about_text member chars.now form.now) }
     ensures err { OnErr result (out.new.items ≡ out.old.items) }
 {
     let start = out.len();
-    let done = about_parts(member, form, out);
+    let done = about_parts(member, chars, form, out);
     put::take_back(out, start, done)
 }
 
-fn about_parts(member: Member, form: &Form, out: &mut Vec<u8>) -> Result<(), Memory>
-    ensures ok { OnOk result (out.new.items ≡ out.old.items ++ about_text member form.now) }
+fn about_parts(member: Member, chars: &[char], form: &Form, out: &mut Vec<u8>) -> Result<(), Memory>
+    ensures ok { OnOk result (out.new.items ≡ out.old.items ++ about_text member chars.now form.now) }
     ensures err { OnErr result (take (length out.old.items) out.new.items ≡ out.old.items) }
 {
     put::text(out, b" ")?;
     put_member(member, out)?;
     put::text(out, b" ")?;
-    put_form(form, out)?;
+    put_form(chars, form, out)?;
     put::text(out, b"\n")
 }
 
-/// Appends a form: `ins PLACE U+HEX`, with the character's number in at least four digits, or `cover PLACE`. A refused
-/// call leaves `out` as it was.
-pub fn put_form(form: &Form, out: &mut Vec<u8>) -> Result<(), Memory>
-    ensures ok { OnOk result (out.new.items ≡ out.old.items ++ form_text form.now) }
+/// Appends the form of a member that inserts these characters: `ins PLACE U+HEX`, with the character's number in at least four
+/// digits, or `cover PLACE`, which puts none. A refused call leaves `out` as it was.
+pub fn put_form(chars: &[char], form: &Form, out: &mut Vec<u8>) -> Result<(), Memory>
+    ensures ok { OnOk result (out.new.items ≡ out.old.items ++ form_text chars.now form.now) }
     ensures err { OnErr result (out.new.items ≡ out.old.items) }
 {
     match form {
-        Form::Ins(ins) => put_ins(ins.place, ins.ch, out),
+        Form::Ins(ins) => put_ins(ins.place, chars, out),
         Form::Cover(cover) => put::number(out, b"cover ", u64::from(cover.place)),
     }
 }
 
 // `ins PLACE U+HEX`
-fn put_ins(place: u32, ch: char, out: &mut Vec<u8>) -> Result<(), Memory>
-    ensures ok { OnOk result (out.new.items ≡ out.old.items ++ (codes "ins " ++ (decimal place ++ (codes " " ++ scalar_text ch)))) }
+fn put_ins(place: u32, chars: &[char], out: &mut Vec<u8>) -> Result<(), Memory>
+    ensures ok { OnOk result (out.new.items ≡ out.old.items ++ (codes "ins " ++ (decimal place ++ scalars_text chars.now))) }
     ensures err { OnErr result (out.new.items ≡ out.old.items) }
 {
     let start = out.len();
-    let done = ins_parts(place, ch, out);
+    let done = ins_parts(place, chars, out);
     put::take_back(out, start, done)
 }
 
-fn ins_parts(place: u32, ch: char, out: &mut Vec<u8>) -> Result<(), Memory>
-    ensures ok { OnOk result (out.new.items ≡ out.old.items ++ (codes "ins " ++ (decimal place ++ (codes " " ++ scalar_text ch)))) }
+fn ins_parts(place: u32, chars: &[char], out: &mut Vec<u8>) -> Result<(), Memory>
+    ensures ok { OnOk result (out.new.items ≡ out.old.items ++ (codes "ins " ++ (decimal place ++ scalars_text chars.now))) }
     ensures err { OnErr result (take (length out.old.items) out.new.items ≡ out.old.items) }
 {
     put::number(out, b"ins ", u64::from(place))?;
+    put_scalars(chars, out)
+}
+
+// Each with a blank before it. A refused call leaves `out` as it was.
+fn put_scalars(chars: &[char], out: &mut Vec<u8>) -> Result<(), Memory>
+    ensures ok { OnOk result (out.new.items ≡ out.old.items ++ scalars_text chars.now) }
+    ensures err { OnErr result (out.new.items ≡ out.old.items) }
+{
+    let start = out.len();
+    let done = scalars_parts(chars, out);
+    put::take_back(out, start, done)
+}
+
+#[tactic(auto, using(crate::proofs::Listings::put_none, crate::proofs::Listings::put_more, crate::proofs::Listings::put_end))]
+fn scalars_parts(chars: &[char], out: &mut Vec<u8>) -> Result<(), Memory>
+    ensures ok { OnOk result (out.new.items ≡ out.old.items ++ scalars_text chars.now) }
+    ensures err { OnErr result (take (length out.old.items) out.new.items ≡ out.old.items) }
+{
+    for ch in chars {
+        put_scalar(*ch, out)?;
+    }
+    Ok(())
+}
+
+// A blank and `U+HEX`. A refused call leaves `out` as it was.
+fn put_scalar(ch: char, out: &mut Vec<u8>) -> Result<(), Memory>
+    ensures ok { OnOk result (out.new.items ≡ out.old.items ++ (codes " " ++ scalar_text ch)) }
+    ensures err { OnErr result (out.new.items ≡ out.old.items) }
+{
+    let start = out.len();
+    let done = scalar_parts(ch, out);
+    put::take_back(out, start, done)
+}
+
+fn scalar_parts(ch: char, out: &mut Vec<u8>) -> Result<(), Memory>
+    ensures ok { OnOk result (out.new.items ≡ out.old.items ++ (codes " " ++ scalar_text ch)) }
+    ensures err { OnErr result (take (length out.old.items) out.new.items ≡ out.old.items) }
+{
     put::text(out, b" U+")?;
     let number = u32::from(ch);
     put_hex(number, hex_width(number), out)

@@ -23,8 +23,8 @@ pub record IsSeat (chunks : List (List CellData)) (i : ℕ) (o : ℕ) (place : �
   pub within : o ≤ length (slice_index_or chunks i [])
   pub place_is : length (flat (take i chunks)) + o ≡ place
 
--- the chunks with the i-th cut in two, of which the first keeps k cells
-abbrev pub cut : List (List CellData) → ℕ → ℕ → List (List CellData)
+-- the chunks with the i-th cut in two, of which the first keeps k
+abbrev pub cut : {A : Type 0} → List (List A) → ℕ → ℕ → List (List A)
 cut [] i k = []
 cut (c ∷ cs) zero k = take k c ∷ drop k c ∷ cs
 cut (c ∷ cs) (suc i) k = c ∷ cut cs i k
@@ -34,17 +34,24 @@ pub record IsText (chunks : List (List CellData)) (lens : List ℕ) (shown : Lis
   pub lens_are : lens ≡ map length chunks
   pub shown_are : shown ≡ map shown_in chunks
   pub filled : AreFilled chunks
-  pub fresh_is : IfSome fresh (λ c. c.cells ≡ [])
+  pub fresh_is : IfSome fresh (λ c. (c.cells ≡ []) × (c.text ≡ []))
+
+-- the texts of the chunks are as long as these
+abbrev pub AreBeside : List (List ℕ) → List ℕ → Type 0
+AreBeside texts lens = lens ≡ map length texts
 
 -- the room of a chunk that waits to be used, 0 without one
 abbrev pub fresh_room : Option ChunkData → ℕ
 fresh_room None = 0
 fresh_room (Some c) = c.room
 
--- the chunks of a text with its cells, the room of each, that of the fresh one, and how many chunks the lists have places for
+-- the chunks of a text with its cells and their characters, the room of each chunk, that of the fresh one, and how many chunks the
+-- lists have places for
 pub record ChunksData : Type 0 where
   pub chunks : List (List CellData)
   pub cells : List CellData
+  pub texts : List (List ℕ)
+  pub text : List ℕ
   pub rooms : List ℕ
   pub fresh : ℕ
   pub spare : ℕ

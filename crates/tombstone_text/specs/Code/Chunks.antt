@@ -1,4 +1,4 @@
--- How a chunk is kept: its cells beside their flags.
+-- How a chunk is kept: its cells beside their flags and their characters.
 use Rattle.std.specs.Prelude.{◌≡◌, ℕ, ◌≤◌, List, [], length, map}
 use Rattle.ttf_form.specs.Cells.{CellData}
 use Rattle.tombstone_text.specs.Chunks.{flag_of}
@@ -6,21 +6,27 @@ use Rattle.tombstone_text.specs.declared.chunk.TheConstants.{FULL}
 
 -- any cell, where a list is known to have one
 pub blank : CellData
-blank = record { name = record { site = 0; number = 0 }; offset = 0; of = 1; ch = 0; generation = 0; deleters = [] }
+blank = record { name = record { site = 0; number = 0 }; offset = 0; of = 1; generation = 0; deleters = [] }
 
--- the cells of a chunk, and how many it has room for, these among them
+-- the cells of a chunk, their characters, and how many it has room for, these among them
 pub record ChunkData : Type 0 where
   pub cells : List CellData
+  pub text : List ℕ
   pub room : ℕ
 
--- at most FULL cells, with their flags
-pub record IsChunk (cells : List CellData) (flags : List ℕ) : Type 0 where
+-- at most FULL cells, with their flags, and as many characters
+pub record IsChunk (cells : List CellData) (flags : List ℕ) (text : List ℕ) : Type 0 where
   pub flags_are : flags ≡ map flag_of cells
+  pub long : length text ≡ length cells
   pub most : length cells ≤ FULL
 
 -- the cells of each chunk
 abbrev pub bodies : List ChunkData → List (List CellData)
 bodies cs = map (λ c. c.cells) cs
+
+-- the characters of each chunk
+abbrev pub texts_of : List ChunkData → List (List ℕ)
+texts_of cs = map (λ c. c.text) cs
 
 -- the room of each chunk
 abbrev pub rooms_of : List ChunkData → List ℕ

@@ -10,7 +10,7 @@ use Rattle.tombstone_text.proofs.chunks.Chunks.cell.Goals as goal
 pub returns-then-i-total : goal.returns-then-i-total
 returns-then-i-total c =
     let cs = (bodies c.self.inside.list.items) in
-    let part = subst (λ ls. IsPart ls c.find-k.result.0 c.find-k.result.1 c.args.i) c.self.invariant.lens_are c.find-k.ensures in
+    let part = subst (λ ls. IsPart ls c.find-k.result.0 c.find-k.result.1 c.args.i) c.self.invariant.0.lens_are c.find-k.ensures in
     let spot = chunked.spot cs c.find-k.result.0 c.find-k.result.1 c.args.i part in
     let read : c.index.result.now.cells ≡ get_or cs c.find-k.result.0 [] =
     body.body_read c.self.inside.list.items c.find-k.result.0 c.index.result.now spot.chunk c.index.ensures in
@@ -21,7 +21,7 @@ returns-then-i-total c =
 
 pub returns-else-i-total : goal.returns-else-i-total
 returns-else-i-total c =
-    let all = chunked.text-len _ _ _ _ c.self.invariant in
+    let all = chunked.text-len _ _ _ _ c.self.invariant.0 in
     let seen = ap (λ v. length v.cells) c.self.view_is in
     let sum = c.total.ensures.total in
     let past = c.if-i-total.false in

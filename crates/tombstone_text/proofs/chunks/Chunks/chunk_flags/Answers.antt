@@ -11,7 +11,7 @@ pub returns-clause-least : goal.returns-clause-least
 returns-clause-least c =
     let cs = (bodies c.self.inside.list.items) in
     let lt : c.args.i < length cs = let n = ap (λ v. length v.chunks) c.self.view_is in omega arith in
-    let one = chunked.filled_at cs c.args.i c.self.invariant.filled lt in
+    let one = chunked.filled_at cs c.args.i c.self.invariant.0.filled lt in
     let read : c.index.result.now.cells ≡ get_or cs c.args.i [] =
     body.body_read c.self.inside.list.items c.args.i c.index.result.now lt c.index.ensures in
     let long = ap (λ (c : List CellData). length c) read in

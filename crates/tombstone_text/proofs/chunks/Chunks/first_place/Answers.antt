@@ -13,7 +13,7 @@ overflow_add-result c =
     let lt : c.loop-i.i < length (bodies c.self.inside.list.items) =
     let t = c.loop-i-test.true in let l = c.len.ensures in omega (arith, body.bodies_long c.self.inside.list.items) in
     let chunk =
-    sought.searched _ _ _ _ _ _ _ _ c.self.invariant c.total.ensures.low lt c.loop-i.invariant.1
+    sought.searched _ _ _ _ _ _ _ _ c.self.invariant.0 c.total.ensures.low lt c.loop-i.invariant.1
     (body.body_there _ _ _ lt c.index.ensures) c.cells-cells.ensures in
     let found =
     sought.found_in (is_sought c.args.sought.now) (bodies c.self.inside.list.items) c.loop-i.i _ _ chunk.chunk_is
@@ -25,7 +25,7 @@ overflow_cast-result c =
     let lt : c.loop-i.i < length (bodies c.self.inside.list.items) =
     let t = c.loop-i-test.true in let l = c.len.ensures in omega (arith, body.bodies_long c.self.inside.list.items) in
     let chunk =
-    sought.searched _ _ _ _ _ _ _ _ c.self.invariant c.total.ensures.low lt c.loop-i.invariant.1
+    sought.searched _ _ _ _ _ _ _ _ c.self.invariant.0 c.total.ensures.low lt c.loop-i.invariant.1
     (body.body_there _ _ _ lt c.index.ensures) c.cells-cells.ensures in
     let found =
     sought.found_in (is_sought c.args.sought.now) (bodies c.self.inside.list.items) c.loop-i.i _ _ chunk.chunk_is
@@ -37,7 +37,7 @@ returns-in-Some c =
     let lt : c.loop-i.i < length (bodies c.self.inside.list.items) =
     let t = c.loop-i-test.true in let l = c.len.ensures in omega (arith, body.bodies_long c.self.inside.list.items) in
     let chunk =
-    sought.searched _ _ _ _ _ _ _ _ c.self.invariant c.total.ensures.low lt c.loop-i.invariant.1
+    sought.searched _ _ _ _ _ _ _ _ c.self.invariant.0 c.total.ensures.low lt c.loop-i.invariant.1
     (body.body_there _ _ _ lt c.index.ensures) c.cells-cells.ensures in
     let found =
     sought.found_in (is_sought c.args.sought.now) (bodies c.self.inside.list.items) c.loop-i.i _ _ chunk.chunk_is
@@ -53,7 +53,7 @@ overflow_add-start c =
     let lt : c.loop-i.i < length (bodies c.self.inside.list.items) =
     let t = c.loop-i-test.true in let l = c.len.ensures in omega (arith, body.bodies_long c.self.inside.list.items) in
     let chunk =
-    sought.searched _ _ _ _ _ _ _ _ c.self.invariant c.total.ensures.low lt c.loop-i.invariant.1
+    sought.searched _ _ _ _ _ _ _ _ c.self.invariant.0 c.total.ensures.low lt c.loop-i.invariant.1
     (body.body_there _ _ _ lt c.index.ensures) c.cells-cells.ensures in
     record { fits = omega (arith, chunk.low) }
 
@@ -62,7 +62,7 @@ loop-i-preserved c =
     let lt : c.loop-i.i < length (bodies c.self.inside.list.items) =
     let t = c.loop-i-test.true in let l = c.len.ensures in omega (arith, body.bodies_long c.self.inside.list.items) in
     let chunk =
-    sought.searched _ _ _ _ _ _ _ _ c.self.invariant c.total.ensures.low lt c.loop-i.invariant.1
+    sought.searched _ _ _ _ _ _ _ _ c.self.invariant.0 c.total.ensures.low lt c.loop-i.invariant.1
     (body.body_there _ _ _ lt c.index.ensures) c.cells-cells.ensures in
     let none : position (is_sought c.args.sought.now) (get_or (bodies c.self.inside.list.items) c.loop-i.i []) ≡ None =
     ap (λ (s : List CellData). position (is_sought c.args.sought.now) s) (sym chunk.chunk_is)

@@ -11,7 +11,7 @@ invariant_of-self c =
     let kept =
     body.bodies_kept c.self.inside.list.items c.args.i c.index_mut.result.now c.grow.new.self lt c.index_mut.ensures.value
     c.grow.ensures.cells in
-    rw kept c.self.invariant
+    rw kept c.self.invariant.0
 
 pub returns-clause-chunks : goal.returns-clause-chunks
 returns-clause-chunks c =

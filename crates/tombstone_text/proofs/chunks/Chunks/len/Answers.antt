@@ -3,4 +3,4 @@ use Rattle.tombstone_text.proofs.Chunked as chunked
 use Rattle.tombstone_text.proofs.chunks.Chunks.len.Goals as goal
 
 pub returns : goal.returns
-returns c = c.total.ensures.total ∙ chunked.text-len _ _ _ _ c.self.invariant ∙ ap (λ v. length v.cells) c.self.view_is
+returns c = c.total.ensures.total ∙ chunked.text-len _ _ _ _ c.self.invariant.0 ∙ ap (λ v. length v.cells) c.self.view_is

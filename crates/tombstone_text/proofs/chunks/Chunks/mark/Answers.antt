@@ -11,7 +11,7 @@ use Rattle.tombstone_text.proofs.chunks.Chunks.mark.Goals as goal
 
 pub find-i-requires : goal.find-i-requires
 find-i-requires c =
-    let all = chunked.text-len _ _ _ _ c.self.invariant in
+    let all = chunked.text-len _ _ _ _ c.self.invariant.0 in
     let seen = ap (λ v. length v.cells) c.self.view_is in
     omega arith
 
@@ -21,7 +21,7 @@ cover-requires-clause-room c =
     let i = c.find-i.result.0 in
     let o = c.find-i.result.1 in
     let p = c.args.cover.now.place in
-    let spot = texts.text-spot _ _ _ _ _ _ _ c.self.invariant c.find-i.ensures in
+    let spot = texts.text-spot _ _ _ _ _ _ _ c.self.invariant.0 c.find-i.ensures in
     let read : c.index_mut-chunk.result.now.cells ≡ get_or cs i [] =
     body.body_read c.self.inside.list.items i c.index_mut-chunk.result.now spot.chunk c.index_mut-chunk.ensures.value in
     let there =
@@ -33,7 +33,7 @@ cover-requires-clause-room c =
 
 pub flag_at-before-requires : goal.flag_at-before-requires
 flag_at-before-requires c =
-    let spot = texts.text-spot _ _ _ _ _ _ _ c.self.invariant c.find-i.ensures in
+    let spot = texts.text-spot _ _ _ _ _ _ _ c.self.invariant.0 c.find-i.ensures in
     let within = spot.within in
     let read =
     body.body_read c.self.inside.list.items c.find-i.result.0 c.index_mut-chunk.result.now spot.chunk c.index_mut-chunk.ensures.value in
@@ -42,7 +42,7 @@ flag_at-before-requires c =
 
 pub cover-requires-clause-within : goal.cover-requires-clause-within
 cover-requires-clause-within c =
-    let spot = texts.text-spot _ _ _ _ _ _ _ c.self.invariant c.find-i.ensures in
+    let spot = texts.text-spot _ _ _ _ _ _ _ c.self.invariant.0 c.find-i.ensures in
     let within = spot.within in
     let read =
     body.body_read c.self.inside.list.items c.find-i.result.0 c.index_mut-chunk.result.now spot.chunk c.index_mut-chunk.ensures.value in
@@ -51,7 +51,7 @@ cover-requires-clause-within c =
 
 pub flag_at-after-requires : goal.flag_at-after-requires
 flag_at-after-requires c =
-    let spot = texts.text-spot _ _ _ _ _ _ _ c.self.invariant c.find-i.ensures in
+    let spot = texts.text-spot _ _ _ _ _ _ _ c.self.invariant.0 c.find-i.ensures in
     let within = spot.within in
     let read =
     body.body_read c.self.inside.list.items c.find-i.result.0 c.index_mut-chunk.result.now spot.chunk c.index_mut-chunk.ensures.value in
@@ -64,49 +64,49 @@ flag_at-after-requires c =
 
 pub overflow_sub-shown : goal.overflow_sub-shown
 overflow_sub-shown c =
-    let spot = texts.text-spot _ _ _ _ _ _ _ c.self.invariant c.find-i.ensures in
+    let spot = texts.text-spot _ _ _ _ _ _ _ c.self.invariant.0 c.find-i.ensures in
     let changed =
-    texts.changed_text (marked c.args.cover.now.mark) _ _ _ _ _ _ _ _ _ _ _ blank c.self.invariant spot.chunk spot.within
+    texts.changed_text (marked c.args.cover.now.mark) _ _ _ _ _ _ _ _ _ _ _ blank c.self.invariant.0 spot.chunk spot.within
     (body.body_there _ _ _ spot.chunk c.index_mut-chunk.ensures.value)
     c.cover.ensures.cells c.part-shown.ensures c.flag_at-before.ensures c.flag_at-after.ensures in
     changed.low
 
 pub overflow_add-shown : goal.overflow_add-shown
 overflow_add-shown c =
-    let spot = texts.text-spot _ _ _ _ _ _ _ c.self.invariant c.find-i.ensures in
+    let spot = texts.text-spot _ _ _ _ _ _ _ c.self.invariant.0 c.find-i.ensures in
     let changed =
-    texts.changed_text (marked c.args.cover.now.mark) _ _ _ _ _ _ _ _ _ _ _ blank c.self.invariant spot.chunk spot.within
+    texts.changed_text (marked c.args.cover.now.mark) _ _ _ _ _ _ _ _ _ _ _ blank c.self.invariant.0 spot.chunk spot.within
     (body.body_there _ _ _ spot.chunk c.index_mut-chunk.ensures.value)
     c.cover.ensures.cells c.part-shown.ensures c.flag_at-before.ensures c.flag_at-after.ensures in
-    let all = chunked.text-len _ _ _ _ c.self.invariant in
+    let all = chunked.text-len _ _ _ _ c.self.invariant.0 in
     let low = c.total.ensures.low in
     record { fits = omega (arith, changed.shown) }
 
 pub set-requires-clause-low : goal.set-requires-clause-low
 set-requires-clause-low c =
-    let spot = texts.text-spot _ _ _ _ _ _ _ c.self.invariant c.find-i.ensures in
+    let spot = texts.text-spot _ _ _ _ _ _ _ c.self.invariant.0 c.find-i.ensures in
     let changed =
-    texts.changed_text (marked c.args.cover.now.mark) _ _ _ _ _ _ _ _ _ _ _ blank c.self.invariant spot.chunk spot.within
+    texts.changed_text (marked c.args.cover.now.mark) _ _ _ _ _ _ _ _ _ _ _ blank c.self.invariant.0 spot.chunk spot.within
     (body.body_there _ _ _ spot.chunk c.index_mut-chunk.ensures.value)
     c.cover.ensures.cells c.part-shown.ensures c.flag_at-before.ensures c.flag_at-after.ensures in
-    let all = chunked.text-len _ _ _ _ c.self.invariant in
+    let all = chunked.text-len _ _ _ _ c.self.invariant.0 in
     let low = c.total.ensures.low in
     omega (arith, changed.all)
 
 pub invariant_of-self : goal.invariant_of-self
 invariant_of-self c =
-    let spot = texts.text-spot _ _ _ _ _ _ _ c.self.invariant c.find-i.ensures in
+    let spot = texts.text-spot _ _ _ _ _ _ _ c.self.invariant.0 c.find-i.ensures in
     let changed =
-    texts.changed_text (marked c.args.cover.now.mark) _ _ _ _ _ _ _ _ _ _ _ blank c.self.invariant spot.chunk spot.within
+    texts.changed_text (marked c.args.cover.now.mark) _ _ _ _ _ _ _ _ _ _ _ blank c.self.invariant.0 spot.chunk spot.within
     (body.body_there _ _ _ spot.chunk c.index_mut-chunk.ensures.value)
     c.cover.ensures.cells c.part-shown.ensures c.flag_at-before.ensures c.flag_at-after.ensures in
     rw (c.set.ensures.parts, body.bodies_set c.self.inside.list.items c.find-i.result.0 c.cover.new.self) changed.text
 
 pub returns : goal.returns
 returns c =
-    let spot = texts.text-spot _ _ _ _ _ _ _ c.self.invariant c.find-i.ensures in
+    let spot = texts.text-spot _ _ _ _ _ _ _ c.self.invariant.0 c.find-i.ensures in
     let changed =
-    texts.changed_text (marked c.args.cover.now.mark) _ _ _ _ _ _ _ _ _ _ _ blank c.self.invariant spot.chunk spot.within
+    texts.changed_text (marked c.args.cover.now.mark) _ _ _ _ _ _ _ _ _ _ _ blank c.self.invariant.0 spot.chunk spot.within
     (body.body_there _ _ _ spot.chunk c.index_mut-chunk.ensures.value)
     c.cover.ensures.cells c.part-shown.ensures c.flag_at-before.ensures c.flag_at-after.ensures in
     ap (λ ds. flat ds) (body.bodies_set c.self.inside.list.items c.find-i.result.0 c.cover.new.self)

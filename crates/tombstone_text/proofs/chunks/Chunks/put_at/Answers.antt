@@ -12,9 +12,9 @@ use Rattle.tombstone_text.proofs.chunks.Chunks.put_at.Goals as goal
 pub set-requires-clause-low : goal.set-requires-clause-low
 set-requires-clause-low c =
     let ls = c.self.inside.lens.parts in
-    let long = (texts.lens_long _ _ _ _ c.self.invariant).0 in
+    let long = (texts.lens_long _ _ _ _ c.self.invariant.0).0 in
     let n = ap (λ v. length v.chunks) c.self.view_is in
-    let all = chunked.text-len _ _ _ _ c.self.invariant in
+    let all = chunked.text-len _ _ _ _ c.self.invariant.0 in
     let seen = ap (λ v. length v.cells) c.self.view_is in
     let more = texts.set-sum ls c.args.i (c.part-len.result + 1) (omega arith) in
     let part = c.part-len.ensures in
@@ -23,8 +23,8 @@ set-requires-clause-low c =
 pub overflow_add-len : goal.overflow_add-len
 overflow_add-len c =
     let lt : c.args.i < length (bodies c.self.inside.list.items) = let n = ap (λ v. length v.chunks) c.self.view_is in omega arith in
-    let long = (texts.lens_long _ _ _ _ c.self.invariant).0 in
-    let all = chunked.text-len _ _ _ _ c.self.invariant in
+    let long = (texts.lens_long _ _ _ _ c.self.invariant.0).0 in
+    let all = chunked.text-len _ _ _ _ c.self.invariant.0 in
     let seen = ap (λ v. length v.cells) c.self.view_is in
     let one = texts.part-le c.self.inside.lens.parts c.args.i (omega arith) in
     let part = c.part-len.ensures in
@@ -33,8 +33,8 @@ overflow_add-len c =
 pub overflow_add-shown : goal.overflow_add-shown
 overflow_add-shown c =
     let lt : c.args.i < length (bodies c.self.inside.list.items) = let n = ap (λ v. length v.chunks) c.self.view_is in omega arith in
-    let long = (texts.lens_long _ _ _ _ c.self.invariant).1 in
-    let all = chunked.text-shown _ _ _ _ c.self.invariant in
+    let long = (texts.lens_long _ _ _ _ c.self.invariant.0).1 in
+    let all = chunked.text-shown _ _ _ _ c.self.invariant.0 in
     let most = length-filter-le cell_shown (flat (bodies c.self.inside.list.items)) in
     let seen = ap (λ v. length v.cells) c.self.view_is in
     let one = texts.part-le c.self.inside.shown.parts c.args.i (omega arith) in
@@ -44,9 +44,9 @@ overflow_add-shown c =
 pub set-requires-2-clause-low : goal.set-requires-2-clause-low
 set-requires-2-clause-low c =
     let ss = c.self.inside.shown.parts in
-    let long = (texts.lens_long _ _ _ _ c.self.invariant).1 in
+    let long = (texts.lens_long _ _ _ _ c.self.invariant.0).1 in
     let n = ap (λ v. length v.chunks) c.self.view_is in
-    let all = chunked.text-shown _ _ _ _ c.self.invariant in
+    let all = chunked.text-shown _ _ _ _ c.self.invariant.0 in
     let most = length-filter-le cell_shown (flat (bodies c.self.inside.list.items)) in
     let seen = ap (λ v. length v.cells) c.self.view_is in
     let more = texts.set-sum ss c.args.i (c.part-shown.result + 1) (omega arith) in
@@ -65,7 +65,7 @@ invariant_of-self c =
     c.put.ensures ∙ ap (λ (s : List CellData). insert s c.args.at c.args.cell) read in
     let text =
     texts.text_put _ _ _ _ c.args.i c.args.at c.args.cell c.put.new.self.cells (c.part-len.result + 1) (c.part-shown.result + 1)
-    c.self.invariant lt within new c.requires.shown
+    c.self.invariant.0 lt within new c.requires.shown
     (ap (λ n. n + 1) c.part-len.ensures) (ap (λ n. n + 1) c.part-shown.ensures) in
     rw (c.set.ensures.parts, c.set-2.ensures.parts, body.bodies_set c.self.inside.list.items c.args.i c.put.new.self) text
 

@@ -17,8 +17,8 @@ set-requires-clause-low c =
     let long =
     ap (λ (s : List CellData). length s) c.raise.ensures ∙ length-map c.index_mut-chunk.result.now.cells f
     ∙ ap (λ (s : List CellData). length s) read in
-    let now = texts.chunk_changed _ _ _ _ _ _ _ c.self.invariant lt long c.shown-shown.ensures in
-    let all = chunked.text-len _ _ _ _ c.self.invariant in
+    let now = texts.chunk_changed _ _ _ _ _ _ _ c.self.invariant.0 lt long c.shown-shown.ensures in
+    let all = chunked.text-len _ _ _ _ c.self.invariant.0 in
     let low = c.total.ensures.low in
     omega (arith, now.all)
 
@@ -31,7 +31,7 @@ invariant_of-self c =
     let long =
     ap (λ (s : List CellData). length s) c.raise.ensures ∙ length-map c.index_mut-chunk.result.now.cells f
     ∙ ap (λ (s : List CellData). length s) read in
-    let now = texts.chunk_changed _ _ _ _ _ _ _ c.self.invariant lt long c.shown-shown.ensures in
+    let now = texts.chunk_changed _ _ _ _ _ _ _ c.self.invariant.0 lt long c.shown-shown.ensures in
     rw (c.set.ensures.parts, body.bodies_set c.self.inside.list.items c.args.i c.raise.new.self) now.text
 
 pub returns : goal.returns

@@ -7,7 +7,7 @@ use Rattle.tombstone_text.proofs.chunks.Chunks.seat.Goals as goal
 
 pub find-i-requires : goal.find-i-requires
 find-i-requires c =
-    let all = chunked.text-len _ _ _ _ c.self.invariant in
+    let all = chunked.text-len _ _ _ _ c.self.invariant.0 in
     let seen = ap (λ v. length v.cells) c.self.view_is in
     let some = c.if-place-eq0.false in
     omega arith
@@ -15,7 +15,7 @@ find-i-requires c =
 pub returns-else-place-eq0 : goal.returns-else-place-eq0
 returns-else-place-eq0 c =
     let cs = (bodies c.self.inside.list.items) in
-    let part = subst (λ ls. IsPart ls c.find-i.result.0 c.find-i.result.1 (c.args.place - 1)) c.self.invariant.lens_are c.find-i.ensures in
+    let part = subst (λ ls. IsPart ls c.find-i.result.0 c.find-i.result.1 (c.args.place - 1)) c.self.invariant.0.lens_are c.find-i.ensures in
     let some = c.if-place-eq0.false in
     let seat : IsSeat cs c.find-i.result.0 (c.find-i.result.1 + 1) c.args.place =
     chunked.seat_behind cs c.find-i.result.0 c.find-i.result.1 (c.find-i.result.1 + 1) (c.args.place - 1) c.args.place part refl

@@ -5,4 +5,4 @@ use Rattle.tombstone_text.proofs.chunks.Chunks.shown_len.Goals as goal
 
 pub returns : goal.returns
 returns c =
-    c.total.ensures.total ∙ chunked.text-shown _ _ _ _ c.self.invariant ∙ ap (λ v. length (filter cell_shown v.cells)) c.self.view_is
+    c.total.ensures.total ∙ chunked.text-shown _ _ _ _ c.self.invariant.0 ∙ ap (λ v. length (filter cell_shown v.cells)) c.self.view_is

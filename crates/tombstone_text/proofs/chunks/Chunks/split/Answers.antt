@@ -12,7 +12,7 @@ pub set-requires-clause-low : goal.set-requires-clause-low
 set-requires-clause-low c =
     let lt : c.args.i < length (bodies c.self.inside.list.items) = let n = ap (λ v. length v.chunks) c.self.view_is in omega arith in
     let parts =
-    texts.cut_seen {n = c.args.i + 1} (ap (λ v. v.chunks) c.self.view_is) c.self.invariant c.requires.chunk (omega arith) c.requires.some
+    texts.cut_seen {n = c.args.i + 1} (ap (λ v. v.chunks) c.self.view_is) c.self.invariant.0 c.requires.chunk (omega arith) c.requires.some
     c.requires.less
     (body.body_there _ _ _ lt c.index_mut-lower.ensures.value) c.split.ensures.lower c.split.ensures.upper c.part-len.ensures
     c.shown-low.ensures c.shown-high.ensures in
@@ -24,7 +24,7 @@ pub insert-requires-clause-low : goal.insert-requires-clause-low
 insert-requires-clause-low c =
     let lt : c.args.i < length (bodies c.self.inside.list.items) = let n = ap (λ v. length v.chunks) c.self.view_is in omega arith in
     let parts =
-    texts.cut_seen {n = c.args.i + 1} (ap (λ v. v.chunks) c.self.view_is) c.self.invariant c.requires.chunk (omega arith) c.requires.some
+    texts.cut_seen {n = c.args.i + 1} (ap (λ v. v.chunks) c.self.view_is) c.self.invariant.0 c.requires.chunk (omega arith) c.requires.some
     c.requires.less
     (body.body_there _ _ _ lt c.index_mut-lower.ensures.value) c.split.ensures.lower c.split.ensures.upper c.part-len.ensures
     c.shown-low.ensures c.shown-high.ensures in
@@ -37,7 +37,7 @@ pub set-requires-in-Some-clause-low : goal.set-requires-in-Some-clause-low
 set-requires-in-Some-clause-low c =
     let lt : c.args.i < length (bodies c.self.inside.list.items) = let n = ap (λ v. length v.chunks) c.self.view_is in omega arith in
     let parts =
-    texts.cut_seen {n = c.args.i + 1} (ap (λ v. v.chunks) c.self.view_is) c.self.invariant c.requires.chunk (omega arith) c.requires.some
+    texts.cut_seen {n = c.args.i + 1} (ap (λ v. v.chunks) c.self.view_is) c.self.invariant.0 c.requires.chunk (omega arith) c.requires.some
     c.requires.less
     (body.body_there _ _ _ lt c.index_mut-lower.ensures.value) c.split.ensures.lower c.split.ensures.upper c.part-len.ensures
     c.shown-low.ensures c.shown-high.ensures in
@@ -49,7 +49,7 @@ pub insert-requires-in-Some-clause-low : goal.insert-requires-in-Some-clause-low
 insert-requires-in-Some-clause-low c =
     let lt : c.args.i < length (bodies c.self.inside.list.items) = let n = ap (λ v. length v.chunks) c.self.view_is in omega arith in
     let parts =
-    texts.cut_seen {n = c.args.i + 1} (ap (λ v. v.chunks) c.self.view_is) c.self.invariant c.requires.chunk (omega arith) c.requires.some
+    texts.cut_seen {n = c.args.i + 1} (ap (λ v. v.chunks) c.self.view_is) c.self.invariant.0 c.requires.chunk (omega arith) c.requires.some
     c.requires.less
     (body.body_there _ _ _ lt c.index_mut-lower.ensures.value) c.split.ensures.lower c.split.ensures.upper c.part-len.ensures
     c.shown-low.ensures c.shown-high.ensures in
@@ -62,7 +62,7 @@ pub invariant_of-self : goal.invariant_of-self
 invariant_of-self c =
     let lt : c.args.i < length (bodies c.self.inside.list.items) = let n = ap (λ v. length v.chunks) c.self.view_is in omega arith in
     let parts =
-    texts.cut_seen {n = c.args.i + 1} (ap (λ v. v.chunks) c.self.view_is) c.self.invariant c.requires.chunk (omega arith) c.requires.some
+    texts.cut_seen {n = c.args.i + 1} (ap (λ v. v.chunks) c.self.view_is) c.self.invariant.0 c.requires.chunk (omega arith) c.requires.some
     c.requires.less
     (body.body_there _ _ _ lt c.index_mut-lower.ensures.value) c.split.ensures.lower c.split.ensures.upper c.part-len.ensures
     c.shown-low.ensures c.shown-high.ensures in
@@ -80,7 +80,7 @@ pub returns-clause-chunks : goal.returns-clause-chunks
 returns-clause-chunks c =
     let lt : c.args.i < length (bodies c.self.inside.list.items) = let n = ap (λ v. length v.chunks) c.self.view_is in omega arith in
     let parts =
-    texts.cut_seen {n = c.args.i + 1} (ap (λ v. v.chunks) c.self.view_is) c.self.invariant c.requires.chunk (omega arith) c.requires.some
+    texts.cut_seen {n = c.args.i + 1} (ap (λ v. v.chunks) c.self.view_is) c.self.invariant.0 c.requires.chunk (omega arith) c.requires.some
     c.requires.less
     (body.body_there _ _ _ lt c.index_mut-lower.ensures.value) c.split.ensures.lower c.split.ensures.upper c.part-len.ensures
     c.shown-low.ensures c.shown-high.ensures in
@@ -91,7 +91,7 @@ pub returns-clause-cells : goal.returns-clause-cells
 returns-clause-cells c =
     let lt : c.args.i < length (bodies c.self.inside.list.items) = let n = ap (λ v. length v.chunks) c.self.view_is in omega arith in
     let parts =
-    texts.cut_seen {n = c.args.i + 1} (ap (λ v. v.chunks) c.self.view_is) c.self.invariant c.requires.chunk (omega arith) c.requires.some
+    texts.cut_seen {n = c.args.i + 1} (ap (λ v. v.chunks) c.self.view_is) c.self.invariant.0 c.requires.chunk (omega arith) c.requires.some
     c.requires.less
     (body.body_there _ _ _ lt c.index_mut-lower.ensures.value) c.split.ensures.lower c.split.ensures.upper c.part-len.ensures
     c.shown-low.ensures c.shown-high.ensures in
