@@ -81,11 +81,11 @@ joined_cut ts cs ls ss f i n k was lower upper t b lt next read low high =
     ∙ ap (λ ds. joined ds) (cut_is ts i k n there next) ∙ all_cut ts i k
 
 -- how long both parts of a chunk that is cut in two are
-pub parts_long : (ts : List (List ℕ)) (cs : List (List CellData)) (ls ss : List ℕ) (f : Option ChunkData) (i k n : ℕ)
+pub parts_long : (cs : List (List CellData)) (ls ss : List ℕ) (f : Option ChunkData) (i k n : ℕ)
     (was lower upper : List CellData) (low high : List ℕ)
     → IsText cs ls ss f → i < length cs → was ≡ get_or cs i [] → k < length was → lower ≡ take k was → upper ≡ drop k was
     → n ≡ get_or ls i 0 → length low ≡ length lower → length high ≡ length upper → (k ≡ length low) × (n - k ≡ length high)
-parts_long ts cs ls ss f i k n was lower upper low high t lt read less l u is ll hl =
+parts_long cs ls ss f i k n was lower upper low high t lt read less l u is ll hl =
     let had = len_at cs ls ss f i t lt in
     let long = ap (λ (s : List CellData). length s) read in
     let first = ap (λ (s : List CellData). length s) l in

@@ -1,5 +1,6 @@
-use Rattle.std.proofs.Common.{◌+◌, ◌<◌, length, ap, ◌∙◌, arith}
+use Rattle.std.proofs.Common.{◌+◌, ◌<◌, List, [], length, get_or, ap, ◌∙◌, arith}
 use Rattle.std.specs.List.{sum}
+use Rattle.ttf_form.specs.Cells.{CellData}
 use Rattle.tombstone_text.specs.Chunks.{flat, joined}
 use Rattle.tombstone_text.specs.Code.Cells.{cut}
 use Rattle.tombstone_text.specs.Code.Chunks.{bodies, texts_of}
@@ -67,10 +68,12 @@ invariant_of-self c =
     c.requires.less
     (body.body_there _ _ _ lt c.index_mut-lower.ensures.value) c.split.ensures.lower c.split.ensures.upper c.part-len.ensures
     c.shown-low.ensures c.shown-high.ensures in
+    let read = body.body_read _ _ _ lt c.index_mut-lower.ensures.value in
+    let long = ap (λ (s : List CellData). length s) read in
+    let was = ap (λ v. length (get_or v.chunks c.args.i [])) c.self.view_is in
     let two =
-    beside.parts_long _ _ _ _ _ _ _ _ _ _ _ _ c.self.invariant.0 lt (body.body_read _ _ _ lt c.index_mut-lower.ensures.value)
-    c.split.requires.less c.split.ensures.lower c.split.ensures.upper c.part-len.ensures c.split.ensures.lower_long
-    c.split.ensures.upper_long in
+    beside.parts_long _ _ _ _ _ _ _ _ _ _ _ _ c.self.invariant.0 lt read (omega (arith, c.requires.less, was, long))
+    c.split.ensures.lower c.split.ensures.upper c.part-len.ensures c.split.ensures.lower_long c.split.ensures.upper_long in
     let texts = beside.beside_cut _ _ c.args.i (c.args.i + 1) _ _ _ _ c.self.invariant.1 two.0 two.1 in (
       rw (
         ap (λ ds. bodies ds) c.in-Ok.ensures.items
