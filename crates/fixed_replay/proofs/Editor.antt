@@ -1,5 +1,5 @@
 -- The forms of the editor as a table, and what the members of a family insert.
-use Rattle.std.proofs.Common.{◌≡◌, Bool, true, false, List, [], ◌∷◌, ◌++◌, filter, not, inl, inr, refl, ap, sym, ◌∙◌, subst, append_assoc}
+use Rattle.std.proofs.Common.{◌≡◌, ℕ, zero, suc, ◌≤◌, Bool, true, false, List, [], ◌∷◌, ◌++◌, filter, not, inl, inr, refl, ap, sym, ◌∙◌, subst, append_assoc, arith}
 use Rattle.std.proofs.lemmas.Bool.{cases_Bool}
 use Rattle.op_name.specs.NameData.{NameData}
 use Rattle.op_name.specs.declared.member.Member.{Member}
@@ -8,6 +8,7 @@ use Rattle.ttf_form.specs.declared.ins.Ins.{Ins}
 use Rattle.ttf_form.specs.declared.cover.Cover.{Cover}
 use Rattle.ttf_form.specs.declared.form.Form.{Form}
 use Rattle.ttf_form.specs.declared.form.Form.TheVariants.{Ins as Insert, Cover as Covered}
+use Rattle.ttf_form.specs.Names.{block}
 use Rattle.ttf_form.specs.Forms.{ins_extent, place_of, extent_of, IsBoundedForm, ApartForms, form_over, added_by}
 use Rattle.ttf_form.specs.Cells.{CellData, bare_cells, cells_of, FitsCells, applied}
 use Rattle.ttf_form.specs.Laws.Forms.{form_tp2, form_apart_sym, form_apart_over, form_extent_over, form_bound_place, form_bound_over, form_added_length, form_added_over}
@@ -101,12 +102,18 @@ derived_cover b c m C f base (at_base i s e) = record { cover = c; is = e ∙ ba
 derived_cover b c m C f base (by_step D x g k i ne l s dg dk e) =
     subst (λ (h : Form). IsCoverOf c h) (sym e) (cover_over c g k (derived_cover b c m D g base dg))
 
+-- the cells of an insert have its name
+block_named : (n : NameData) (first k : ℕ) → 1 ≤ k → LacksName (block n first k) n → ⊥
+block_named n first zero some lacks = omega (arith, some)
+block_named n first (suc k) some lacks = lacks.0 refl
+
 -- an insert is of the member of its name
 pub insert_owner : (b : Family Form) → HasOwnNames form_table b → (x : Member) (a : Ins) → IsIn x b.members → b.form x ≡ Insert a
     → x ≡ Original a.name
 insert_owner b own_names x a i base = elim (member_cases x (Original a.name)) [
   | inl e ↦ e
-  | inr ne ↦ absurd ((subst (λ (f : Form). LacksName (added_by f) a.name) base (own_names x a.name i ne)).0 refl)
+  | inr ne ↦ absurd (block_named a.name 0 (ins_extent a) a.some
+      (subst (λ (f : Form). LacksName (added_by f) a.name) base (own_names x a.name i ne)))
 ]
 
 -- the name of the insert that a form is

@@ -100,7 +100,7 @@ module _ (b : Family Form) (known : IsFamily form_inclusion b) (own_names : HasO
       first_there C x d n named within dk i =
           let P = filter (keep C) S in
           let more = one_more w form_at_place C x (Insert d) L s fs st df within i dk in
-          let some : 1 ≤ ins_extent d = omega arith in
+          let some : 1 ≤ ins_extent d = d.some in
           let there : IsIn (d.name, 0) (take d.place P ++ (added_by (Insert d) ++ drop d.place P)) =
           in_right (d.name, 0) (take d.place P) (added_by (Insert d) ++ drop d.place P)
           (first_added d.name 0 (ins_extent d) (drop d.place P) some) in
