@@ -8,15 +8,16 @@ use Rattle.context_diff.specs.Operations.{OpData, inserting, deleting, undoing}
 use Rattle.context_diff.specs.Histories.{in_force}
 use Rattle.context_diff.specs.Gaps.{Gap, gap, narrow}
 
--- what the replay reads of an insert: its name, its place, its rank (the number of originals in its context) and which
--- originals its context holds
+-- what the replay reads of an insert: its name, its place, the number of its characters, its rank (the number of originals in
+-- its context) and which originals its context holds
 pub record Insertion : Type 0 where
   pub name : NameData
   pub place : ℕ
+  pub len : ℕ
   pub rank : ℕ
   pub sees : NameData → Bool
 
--- a cell is named by its insert and by its offset in that insert, which is 0 for an insert of one character
+-- a cell is named by its insert and by its offset in that insert, from 0 on
 abbrev pub Cell : Type 0
 Cell = NameData × ℕ
 
@@ -24,7 +25,7 @@ Cell = NameData × ℕ
 abbrev pub insertions_in : List OpData → List Insertion
 insertions_in [] = []
 insertions_in (inserting n p ch c ∷ os) =
-    record { name = n; place = p; rank = rank_of c; sees = λ m. has c (Original m) } ∷ insertions_in os
+    record { name = n; place = p; len = 1; rank = rank_of c; sees = λ m. has c (Original m) } ∷ insertions_in os
 insertions_in (deleting n p c ∷ os) = insertions_in os
 insertions_in (undoing a t g c ∷ os) = insertions_in os
 
@@ -50,14 +51,27 @@ fixed_order h = sort_by is_earlier (insertions_in h)
 abbrev pub of_name : NameData → Cell → Bool
 of_name n c = name_eq n c.0
 
--- the cells that an insert puts
-abbrev pub cells_from : Insertion → List Cell
-cells_from o = (o.name, 0) ∷ []
+-- the first cell of that insert
+abbrev pub first_of : NameData → Cell → Bool
+first_of n c = name_eq n c.0 && (c.1 == 0)
 
--- an earlier insert that o doesn't see, if it lies in the gap, becomes its left neighbour where its site is smaller than
--- o's, and its right neighbour otherwise
+-- the cells of this name with the offsets from the first on, so many of them
+abbrev pub run_of : NameData → ℕ → ℕ → List Cell
+run_of n first zero = []
+run_of n first (suc k) = (n, first) ∷ run_of n (suc first) k
+
+-- the cells that an insert puts: one for each character
+abbrev pub cells_from : Insertion → List Cell
+cells_from o = run_of o.name 0 o.len
+
+-- of an earlier insert whose first cell lies in the gap, the last cell becomes the left neighbour, or the first cell the right one
+abbrev pub narrow_over : Bool → NameData → Gap Cell → Gap Cell
+narrow_over left x g = if list_any (first_of x) g.between then narrow left (of_name x) g else g
+
+-- an earlier insert that o doesn't see narrows the gap to its right side where its site is smaller than o's, and to its left side
+-- otherwise
 abbrev pub narrowed_by : Insertion → NameData → Gap Cell → Gap Cell
-narrowed_by o x g = if o.sees x then g else narrow (nat_lt x.site o.name.site) (of_name x) g
+narrowed_by o x g = if o.sees x then g else narrow_over (nat_lt x.site o.name.site) x g
 
 -- the gap, narrowed by each of these earlier inserts in turn
 unfoldable pub narrowed : Insertion → List NameData → Gap Cell → Gap Cell

@@ -1,5 +1,5 @@
 -- The forms of the editor as a table, and what the members of a family insert.
-use Rattle.std.proofs.Common.{◌≡◌, Bool, true, false, List, [], ◌∷◌, ◌++◌, filter, not, inl, inr, refl, ap, sym, ◌∙◌, subst, append_assoc}
+use Rattle.std.proofs.Common.{◌≡◌, ℕ, zero, suc, ◌≤◌, Bool, true, false, List, [], ◌∷◌, ◌++◌, filter, not, inl, inr, refl, ap, sym, ◌∙◌, subst, append_assoc, arith}
 use Rattle.std.proofs.lemmas.Bool.{cases_Bool}
 use Rattle.op_name.specs.NameData.{NameData}
 use Rattle.op_name.specs.declared.member.Member.{Member}
@@ -8,7 +8,8 @@ use Rattle.ttf_form.specs.declared.ins.Ins.{Ins}
 use Rattle.ttf_form.specs.declared.cover.Cover.{Cover}
 use Rattle.ttf_form.specs.declared.form.Form.{Form}
 use Rattle.ttf_form.specs.declared.form.Form.TheVariants.{Ins as Insert, Cover as Covered}
-use Rattle.ttf_form.specs.Forms.{place_of, extent_of, IsBoundedForm, ApartForms, form_over, added_by}
+use Rattle.ttf_form.specs.Names.{block}
+use Rattle.ttf_form.specs.Forms.{ins_extent, place_of, extent_of, IsBoundedForm, ApartForms, form_over, added_by}
 use Rattle.ttf_form.specs.Cells.{CellData, bare_cells, cells_of, FitsCells, applied}
 use Rattle.ttf_form.specs.Laws.Forms.{form_tp2, form_apart_sym, form_apart_over, form_extent_over, form_bound_place, form_bound_over, form_added_length, form_added_over}
 use Rattle.ttf_form.specs.Laws.Cells.{form_tp1, form_kept, kept_at}
@@ -55,11 +56,12 @@ form_at_place s a h = kept_at s a
 abbrev pub setting_of : (b : Family Form) → IsFamily form_inclusion b → HasOwnNames form_table b → Setting Form (List CellData)
 setting_of b known own_names = record { table = form_table; laws = form_is_table; family = b; known = known; own_names = own_names }
 
--- an insert whose name, and so whose cell, is that of another
+-- an insert whose name and length, and so whose cells, are those of another
 pub record IsInsertOf (a : Ins) (f : Form) : Type 0 where
   pub ins : Ins
   pub is : f ≡ Insert ins
   pub name : ins.name ≡ a.name
+  pub len : ins_extent ins ≡ ins_extent a
   pub bare : bare_cells ins ≡ bare_cells a
 
 -- a cover with the mark of another
@@ -71,7 +73,7 @@ pub record IsCoverOf (c : Cover) (f : Form) : Type 0 where
 insert_over : (a : Ins) (f k : Form) → IsInsertOf a f → IsInsertOf a (form_over f k)
 insert_over a (Insert c) (Insert d) i =
     let e : c ≡ i.ins = ins_once c i.ins i.is in
-    record { ins = _; is = refl; name = ap (λ (x : Ins). x.name) e ∙ i.name; bare = ap bare_cells e ∙ i.bare }
+    record { ins = _; is = refl; name = ap (λ (x : Ins). x.name) e ∙ i.name; len = ap ins_extent e ∙ i.len; bare = ap bare_cells e ∙ i.bare }
   where
     ins_once : (x y : Ins) → Insert x ≡ Insert y → x ≡ y
     ins_once x y e = cc
@@ -90,7 +92,7 @@ cover_over c (Covered d) (Covered a) i = i
 -- the forms of a member are of the kind of its base form
 pub derived_insert : (b : Family Form) (a : Ins) (m : Member) (C : Member → Bool) (f : Form) → b.form m ≡ Insert a
     → Derived form_over b m C f → IsInsertOf a f
-derived_insert b a m C f base (at_base i s e) = record { ins = a; is = e ∙ base; name = refl; bare = refl }
+derived_insert b a m C f base (at_base i s e) = record { ins = a; is = e ∙ base; name = refl; len = refl; bare = refl }
 derived_insert b a m C f base (by_step D x g k i ne l s dg dk e) =
     subst (λ (h : Form). IsInsertOf a h) (sym e) (insert_over a g k (derived_insert b a m D g base dg))
 
@@ -100,12 +102,18 @@ derived_cover b c m C f base (at_base i s e) = record { cover = c; is = e ∙ ba
 derived_cover b c m C f base (by_step D x g k i ne l s dg dk e) =
     subst (λ (h : Form). IsCoverOf c h) (sym e) (cover_over c g k (derived_cover b c m D g base dg))
 
+-- the cells of an insert have its name
+block_named : (n : NameData) (first k : ℕ) → 1 ≤ k → LacksName (block n first k) n → ⊥
+block_named n first zero some lacks = omega (arith, some)
+block_named n first (suc k) some lacks = lacks.0 refl
+
 -- an insert is of the member of its name
 pub insert_owner : (b : Family Form) → HasOwnNames form_table b → (x : Member) (a : Ins) → IsIn x b.members → b.form x ≡ Insert a
     → x ≡ Original a.name
 insert_owner b own_names x a i base = elim (member_cases x (Original a.name)) [
   | inl e ↦ e
-  | inr ne ↦ absurd ((subst (λ (f : Form). LacksName (added_by f) a.name) base (own_names x a.name i ne)).0 refl)
+  | inr ne ↦ absurd (block_named a.name 0 (ins_extent a) a.some
+      (subst (λ (f : Form). LacksName (added_by f) a.name) base (own_names x a.name i ne)))
 ]
 
 -- the name of the insert that a form is

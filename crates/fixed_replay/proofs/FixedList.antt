@@ -12,6 +12,7 @@ use Rattle.context_diff.specs.Replays.{Insertion, is_earlier, sort_by, replay}
 use Rattle.ttf_form.specs.declared.ins.Ins.{Ins}
 use Rattle.ttf_form.specs.declared.form.Form.{Form}
 use Rattle.ttf_form.specs.declared.form.Form.TheVariants.{Ins as Insert, Cover as Covered}
+use Rattle.ttf_form.specs.Forms.{ins_extent}
 use Rattle.ttf_form.specs.Cells.{CellData, cells_of}
 use Rattle.transform_rec.specs.Sets.{none}
 use Rattle.transform_rec.specs.Lists.{IsIn, AreApart, SameElements}
@@ -152,7 +153,7 @@ pub record IsInserted (b : Family Form) (rank : NameData → ℕ) (xs : List Mem
   pub ins : Ins
   pub there : IsIn member xs
   pub form : b.form member ≡ Insert ins
-  pub is : i ≡ record { name = ins.name; place = ins.place; rank = rank (target_of member); sees = λ n. b.context member (Original n) }
+  pub is : i ≡ record { name = ins.name; place = ins.place; len = ins_extent ins; rank = rank (target_of member); sees = λ n. b.context member (Original n) }
 
 inserted_first : (b : Family Form) (rank : NameData → ℕ) (x : Member) (xs : List Member) (i : Insertion) (f : Form) → b.form x ≡ f
     → (IsIn i (insertions_of b rank xs) → IsInserted b rank xs i)
@@ -169,13 +170,13 @@ in-insertions_of b rank [] i j = absurd j
 in-insertions_of b rank (x ∷ xs) i j = inserted_first b rank x xs i (b.form x) refl (in-insertions_of b rank xs i) j
 
 pub insertions_of-in : (b : Family Form) (rank : NameData → ℕ) (xs : List Member) (x : Member) (a : Ins) → IsIn x xs → b.form x ≡ Insert a
-    → IsIn (record { name = a.name; place = a.place; rank = rank (target_of x); sees = λ n. b.context x (Original n) })
+    → IsIn (record { name = a.name; place = a.place; len = ins_extent a; rank = rank (target_of x); sees = λ n. b.context x (Original n) })
     (insertions_of b rank xs)
 insertions_of-in b rank [] x a i e = absurd i
 insertions_of-in b rank (y ∷ ys) x a (inl p) e =
     in_left _ (inserted_by (b.form y) (rank (target_of y)) (λ n. b.context y (Original n))) (insertions_of b rank ys)
     (subst (λ (z : Member). IsIn (record
-    { name = a.name; place = a.place; rank = rank (target_of x); sees = λ n. b.context x (Original n) })
+    { name = a.name; place = a.place; len = ins_extent a; rank = rank (target_of x); sees = λ n. b.context x (Original n) })
     (inserted_by (b.form z) (rank (target_of z)) (λ n. b.context z (Original n)))) p (rw e (inl refl)))
 insertions_of-in b rank (y ∷ ys) x a (inr i) e =
     in_right _ (inserted_by (b.form y) (rank (target_of y)) (λ n. b.context y (Original n))) (insertions_of b rank ys)
@@ -193,8 +194,8 @@ module _ (b : Family Form) (known : IsFamily form_inclusion b) (own_names : HasO
   -- sorted members have sorted inserts
   earlier_from : (i j : Insertion) (x y : Member) (a d : Ins) → IsIn x b.members → IsIn y b.members → b.form x ≡ Insert a
       → b.form y ≡ Insert d
-      → i ≡ record { name = a.name; place = a.place; rank = rank (target_of x); sees = λ n. b.context x (Original n) }
-      → j ≡ record { name = d.name; place = d.place; rank = rank (target_of y); sees = λ n. b.context y (Original n) }
+      → i ≡ record { name = a.name; place = a.place; len = ins_extent a; rank = rank (target_of x); sees = λ n. b.context x (Original n) }
+      → j ≡ record { name = d.name; place = d.place; len = ins_extent d; rank = rank (target_of y); sees = λ n. b.context y (Original n) }
       → is_sooner rank x y ≡ true → is_earlier i j ≡ true
   earlier_from i j x y a d l m e f p q h =
       let x_is = insert_owner b own_names x a l e in
@@ -213,7 +214,7 @@ module _ (b : Family Form) (known : IsFamily form_inclusion b) (own_names : HasO
   rising_first x xs (Insert a) e l r ih = (
     λ z i. let q =
         in-insertions_of b rank xs z i in
-        earlier_from (record { name = a.name; place = a.place; rank = rank (target_of x); sees = λ n. b.context x (Original n) }) z x
+        earlier_from (record { name = a.name; place = a.place; len = ins_extent a; rank = rank (target_of x); sees = λ n. b.context x (Original n) }) z x
         q.member a q.ins (l x (inl refl)) (l q.member (inr q.there)) e q.form refl q.is (r.0 q.member q.there),
     ih,
   )

@@ -15,7 +15,7 @@ use Rattle.ttf_form.specs.declared.form.Form.{Form}
 use Rattle.ttf_form.specs.declared.form.Form.TheVariants.{Ins as Insert, Cover as Covered}
 use Rattle.ttf_form.specs.Names.{block}
 use Rattle.ttf_form.specs.Forms.{ins_extent, added_by}
-use Rattle.ttf_form.specs.Cells.{CellData, marked_if, bare_cells, cell_key}
+use Rattle.ttf_form.specs.Cells.{CellData, marked_if, bare_from, bare_cells, cell_key}
 use Rattle.ttf_form.specs.Laws.Lists.{get_behind}
 use Rattle.ttf_form.specs.Laws.Marks.{marks_if_two, marked_if_key}
 use Rattle.transform_rec.specs.Sets.{plus}
@@ -72,6 +72,12 @@ block_once c n first (suc k) = elim (cases_Bool (same_cell c (n, first))) [
       omega (arith, all, rest)
 ]
 
+-- a block that isn't empty begins with the cell of its first offset
+pub block_begins : (n : NameData) (first k : ℕ) (ys : List Cell) → 1 ≤ k
+    → (rest : List Cell) × (block n first k ++ ys ≡ (n, first) ∷ rest)
+block_begins n first zero ys some = absurd (omega (arith, some))
+block_begins n first (suc k) ys some = (block n (suc first) k ++ ys, refl)
+
 -- a form adds no cell twice
 pub added_once : (f : Form) (c : Cell) → count (same_cell c) (added_by f) ≤ 1
 added_once (Insert a) c = block_once c a.name 0 (ins_extent a)
@@ -87,8 +93,13 @@ bare_key c (Insert a) = refl
 bare_key c (Covered d) = refl
 
 -- the cells that an insert adds, before any mark, are its own
+bare_block : (a : Ins) (first k : ℕ)
+    → map (λ (c : Cell). bare_at c (Insert a)) (block a.name first k) ≡ bare_from a.name (ins_extent a) first k
+bare_block a first zero = refl
+bare_block a first (suc k) = ap (λ (cs : List CellData). bare_at (a.name, first) (Insert a) ∷ cs) (bare_block a (suc first) k)
+
 pub bare_added : (a : Ins) → map (λ (c : Cell). bare_at c (Insert a)) (added_by (Insert a)) ≡ bare_cells a
-bare_added a = refl
+bare_added a = bare_block a 0 (ins_extent a)
 
 -- ---- which cells bear a mark
 
@@ -109,7 +120,9 @@ on_behind m xs d ys n c e =
 -- a mark at the place where the first cell of an insert stands
 pub on_first : (m : Mark) (xs : List Cell) (a : Ins) (ys : List Cell) (n : ℕ) (c : Cell) → length xs ≡ n
     → is_on m n (xs ++ (added_by (Insert a) ++ ys)) c ≡ reaches m (a.name, 0) c
-on_first m xs a ys n c e = on_behind m xs (a.name, 0) ys n c e
+on_first m xs a ys n c e =
+    let begins = block_begins a.name 0 (ins_extent a) ys a.some in
+    ap (λ (cs : List Cell). is_on m n (xs ++ cs) c) begins.1 ∙ on_behind m xs (a.name, 0) begins.0 n c e
 
 -- a mark of a delete is on the cell that stands at its place
 pub on_stands : (d : NameData) (g n : ℕ) (cs : List Cell) (c : Cell) → is_on (By d g) n cs c ≡ stands_at n cs c

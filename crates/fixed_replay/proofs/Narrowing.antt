@@ -1,10 +1,11 @@
 -- Narrowing: a gap narrowed by one earlier insert after the other.
-use Rattle.std.proofs.Common.{◌≡◌, true, false, List, [], ◌∷◌, ◌++◌, filter, not, ◌⊎◌, inl, inr, refl, ap, sym, ◌∙◌, subst}
+use Rattle.std.proofs.Common.{◌≡◌, Bool, true, false, List, [], ◌∷◌, ◌++◌, filter, not, ◌⊎◌, inl, inr, refl, ap, sym, ◌∙◌, subst}
 use Rattle.std.proofs.lemmas.Bool.{cases_Bool}
+use Rattle.std.specs.List.{list_any}
 use Rattle.transform_rec.proofs.CallerLemmas.{in_cases, in_left, in_right}
 use Rattle.op_name.specs.NameData.{NameData}
 use Rattle.context_diff.specs.Gaps.{Gap, gap}
-use Rattle.context_diff.specs.Replays.{Insertion, Cell, cells_from, narrowed_by, narrowed, gap_of, put, replay}
+use Rattle.context_diff.specs.Replays.{Insertion, Cell, first_of, of_name, cells_from, narrow_over, narrowed_by, narrowed, gap_of, put, replay}
 use Rattle.transform_rec.specs.Lists.{IsIn}
 use Rattle.fixed_replay.proofs.Stretches.{whole_of, gap_whole, narrow_whole}
 
@@ -34,8 +35,12 @@ narrowed_unseen o (x ∷ xs) g =
     ∙ unseen_step o x (filter (λ (y : NameData). not (o.sees y)) xs) (filter (λ (y : NameData). not (o.sees y)) (x ∷ xs)) g (λ h. rw h refl)
     (λ h. rw h refl)
 
+over_whole : (left : Bool) (x : NameData) (g : Gap Cell) → whole_of (narrow_over left x g) ≡ whole_of g
+over_whole left x g =
+    elim (cases_Bool (list_any (first_of x) g.between)) [ inl h ↦ rw h (narrow_whole left (of_name x) g) | inr h ↦ rw h refl ]
+
 narrowed_by_whole : (o : Insertion) (x : NameData) (g : Gap Cell) → whole_of (narrowed_by o x g) ≡ whole_of g
-narrowed_by_whole o x g = elim (cases_Bool (o.sees x)) [ inl h ↦ rw h refl | inr h ↦ rw h (narrow_whole _ _ g) ]
+narrowed_by_whole o x g = elim (cases_Bool (o.sees x)) [ inl h ↦ rw h refl | inr h ↦ rw h (over_whole _ x g) ]
 
 pub narrowed_whole : (o : Insertion) (xs : List NameData) (g : Gap Cell) → whole_of (narrowed o xs g) ≡ whole_of g
 unfolding narrowed

@@ -1,5 +1,5 @@
 -- Two histories with the same originals, each at the same generation, have the same text.
-use Rattle.std.proofs.Common.{◌≡◌, ◌≢◌, ℕ, Bool, true, false, not, ◌&&◌, List, [], ◌∷◌, map, filter, encode_utf8_all, ◌⊎◌, inl, inr, refl, ap, ap₂, sym, ◌∙◌, subst, arith}
+use Rattle.std.proofs.Common.{◌≡◌, ◌≢◌, ℕ, zero, suc, Bool, true, false, not, ◌&&◌, List, [], ◌∷◌, map, filter, encode_utf8_all, ◌⊎◌, inl, inr, refl, ap, ap₂, sym, ◌∙◌, subst, arith}
 use Rattle.transform_rec.proofs.CallerLemmas.{filter_same, filter_in}
 use Rattle.std.proofs.lemmas.Bool.{cases_Bool}
 use Rattle.std.proofs.lemmas.Bool.Decides.{nat_tests}
@@ -10,7 +10,7 @@ use Rattle.context_vector.specs.Contexts.{ContextData, has, rank_of}
 use Rattle.context_diff.specs.Operations.{OpData, inserting, deleting, undoing, member_of, is_original}
 use Rattle.context_diff.specs.Histories.{in_force, Same}
 use Rattle.op_name.specs.Members.{is_even}
-use Rattle.context_diff.specs.Replays.{Insertion, Cell, cells_from, insertions_in, is_earlier, fixed_order, replay, replay_of, stands_at, hits, covers, is_shown, shown, character_in, characters_of, text_of}
+use Rattle.context_diff.specs.Replays.{Insertion, Cell, run_of, cells_from, insertions_in, is_earlier, fixed_order, replay, replay_of, stands_at, hits, covers, is_shown, shown, character_in, characters_of, text_of}
 use Rattle.fixed_replay.specs.Originals.{AreTold, AreToldFrom, AreToldApart}
 use Rattle.transform_rec.specs.Lists.{IsIn, SameElements}
 use Rattle.fixed_replay.proofs.Elements.{contains_in, in_contains, any_in, in_any, map_same}
@@ -28,7 +28,7 @@ told_from o (q ∷ qs) t p (inr i) = told_from o qs t.1 p i
 
 -- what the replay reads of an insert
 abbrev pub insertion : NameData → ℕ → ContextData → Insertion
-insertion n p c = record { name = n; place = p; rank = rank_of c; sees = λ m. has c (Original m) }
+insertion n p c = record { name = n; place = p; len = 1; rank = rank_of c; sees = λ m. has c (Original m) }
 
 -- an insert of the list with what the replay reads of it
 pub record IsRead (h : List OpData) (i : Insertion) : Type 0 where
@@ -115,6 +115,12 @@ module _ (h k : List OpData) (told_h : AreToldApart h) (told_k : AreToldApart k)
   pub same_replay : replay_of h ≡ replay_of k
   same_replay = ap (replay [] []) same_order
 
+-- the cells of an insert have its name
+in-run : (c : Cell) (n : NameData) (first k : ℕ) → IsIn c (run_of n first k) → c.0 ≡ n
+in-run c n first zero i = absurd i
+in-run c n first (suc k) (inl e) = ap (λ (d : Cell). d.0) e
+in-run c n first (suc k) (inr i) = in-run c n (suc first) k i
+
 -- a cell of the replay is of an insert
 pub record IsPut (h : List OpData) (c : Cell) : Type 0 where
   pub place : ℕ
@@ -129,10 +135,9 @@ in-replay_of h c i = elim (in-replay c (fixed_order h) [] [] i) [
 ]
   where
     of_insert : (o : Insertion) → IsIn o (fixed_order h) → IsIn c (cells_from o) → IsPut h c
-    of_insert o j (inr a) = absurd a
-    of_insert o j (inl e) =
+    of_insert o j i =
         let r = in-insertions o h (in-sort_by is_earlier o (insertions_in h) j) in
-        let name : c.0 ≡ r.name = ap (λ (d : Cell). d.0) e ∙ ap (λ (x : Insertion). x.name) r.is in
+        let name : c.0 ≡ r.name = in-run c o.name 0 o.len i ∙ ap (λ (x : Insertion). x.name) r.is in
         record {
           place = r.place;
           character = r.character;

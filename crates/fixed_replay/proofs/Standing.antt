@@ -9,7 +9,7 @@ use Rattle.context_diff.specs.Replays.{stands_at, seen, is_shown}
 use Rattle.fixed_replay.specs.Code.PlainCells.{cell_of, characters_among}
 use Rattle.fixed_replay.proofs.Searches.{at_place}
 
-and_same : (b : Bool) → (b && true) ≡ b
+pub and_same : (b : Bool) → (b && true) ≡ b
 and_same true = refl
 and_same false = refl
 

@@ -1,17 +1,22 @@
 -- The fixed order and the replay, one insert at a time.
-use Rattle.std.proofs.Common.{◌≡◌, ℕ, ◌+◌, ◌-◌, ◌<◌, ◌≤◌, Bool, true, false, List, [], ◌∷◌, ◌++◌, ap, sym, subst, ◌∙◌, arith, length, map, take, drop, get_or, length-take, length-drop}
-use Rattle.std.specs.Prelude.{nat_lt}
+use Rattle.std.proofs.Common.{◌≡◌, ℕ, ◌+◌, ◌-◌, ◌<◌, ◌≤◌, Bool, true, false, inl, inr, refl, List, [], ◌∷◌, ◌++◌, ap, ap₂, sym, subst, ◌∙◌, arith, length, map, take, drop, get_or, length-take, length-drop}
+use Rattle.std.specs.Prelude.{nat_lt, ◌||◌}
+use Rattle.std.specs.List.{list_any}
+use Rattle.std.proofs.lemmas.Bool.{cases_Bool}
 use Rattle.std.proofs.lemmas.List.{length-map, take-map, drop-map, map_more, take_rest, at_drop_all}
 use Rattle.op_name.specs.NameData.{NameData, name_eq}
 use Rattle.context_vector.specs.Contexts.{ContextData}
 use Rattle.context_diff.specs.Operations.{OpData, inserting}
 use Rattle.context_diff.specs.Ops.{data_of}
 use Rattle.context_diff.specs.declared.op.Op.{Op}
-use Rattle.context_diff.specs.Gaps.{Gap, gap}
+use Rattle.context_diff.specs.Gaps.{Gap, gap, narrow}
 use Rattle.context_diff.specs.Code.GapEnds.{up_to_nth, before_first, up_to_last, gap_between}
-use Rattle.context_diff.specs.Replays.{Insertion, Cell, is_earlier, put_by, sort_by, fixed_order, of_name, narrowed_by, narrowed, gap_of, put, replay}
+use Rattle.context_diff.specs.Replays.{Insertion, Cell, is_earlier, put_by, sort_by, fixed_order, of_name, first_of, narrow_over, narrowed_by, narrowed, gap_of, put, replay}
 use Rattle.context_diff.proofs.CallerLemmas.{gap_ends, narrow_left, narrow_right, map_insert, put_is_insert, put_at_end}
 use Rattle.fixed_replay.specs.Code.PlainCells.{InsertData, insertion_of, comes_before, knows, cell_of, name_of}
+use Rattle.fixed_replay.proofs.Counts.{count_any}
+use Rattle.fixed_replay.proofs.Stretches.{narrow_none}
+use Rattle.fixed_replay.proofs.Standing.{and_same}
 use Rattle.fixed_replay.proofs.Searches.{at_place, before_first_map, up_to_last_map, up_to_nth_map}
 
 -- the fixed order of no operations
@@ -55,10 +60,11 @@ unfolding replay
 replay_end order i cells past = at_drop_all (λ xs. replay (map name_of (take i order)) cells (map insertion_of xs)) order i past
 
 -- a name put at the right end of the gap puts the cell of its insert
-pub put_name : (o : Insertion) (earlier names : List NameData) (l r : ℕ)
-    → gap_of o earlier (map cell_of names) ≡ gap_between (map cell_of names) l r → l ≤ r
-    → map cell_of (take r names ++ o.name ∷ drop r names) ≡ put o earlier (map cell_of names)
-put_name o earlier names l r is le = map_insert cell_of r names o.name ∙ sym (put_at_end o earlier (map cell_of names) l r is le)
+pub put_name : (o : InsertData) (earlier names : List NameData) (l r : ℕ)
+    → gap_of (insertion_of o) earlier (map cell_of names) ≡ gap_between (map cell_of names) l r → l ≤ r
+    → map cell_of (take r names ++ o.name ∷ drop r names) ≡ put (insertion_of o) earlier (map cell_of names)
+put_name o earlier names l r is le =
+    map_insert cell_of r names o.name ∙ sym (put_at_end (insertion_of o) earlier (map cell_of names) l r is le)
 
 -- one insert of the replay, over names
 pub replay_step : (order : List InsertData) (i : ℕ) (o : InsertData) (names after slice : List NameData) (early : List InsertData)
@@ -74,7 +80,7 @@ replay_step order i o names after slice early n l r within is early_is slice_is 
     (subst (λ ns. gap_of (insertion_of o) (map name_of early) (map cell_of ns) ≡ gap_between (map cell_of ns) l r) slice_is found) in
     let puts : map cell_of after ≡ put (insertion_of o) (map name_of (take i order)) (map cell_of names) =
     ap (map cell_of) (added ∙ ap (λ m. take r names ++ m ∷ drop r names) n_is)
-    ∙ put_name (insertion_of o) (map name_of (take i order)) names l r whole le in
+    ∙ put_name o (map name_of (take i order)) names l r whole le in
     replay_more order i o (map cell_of names) (map cell_of after) within is puts
 
 -- the gap between the two neighbours, among names
@@ -107,6 +113,25 @@ start_within names l f le first =
 between_names : (names : List NameData) (l r : ℕ) → take (r - l) (drop l (map cell_of names)) ≡ map cell_of (take (r - l) (drop l names))
 between_names names l r = ap (take (r - l)) (drop-map cell_of l names) ∙ take-map cell_of (r - l) (drop l names)
 
+-- among names each cell is the first of its insert
+first_any : (x : NameData) (names : List NameData) → list_any (of_name x) (map cell_of names) ≡ list_any (first_of x) (map cell_of names)
+first_any x [] = refl
+first_any x (n ∷ ns) = ap₂ (λ (a b : Bool). a || b) (sym (and_same (name_eq x n))) (first_any x ns)
+
+over_names : (left : Bool) (x : NameData) (names : List NameData) (l r : ℕ)
+    → narrow_over left x (gap_between (map cell_of names) l r) ≡ narrow left (of_name x) (gap_between (map cell_of names) l r)
+over_names left x names l r = elim (cases_Bool (list_any (first_of x) between)) [
+  | inl k ↦ rw k refl
+  | inr k ↦ rw k (sym (narrow_none left (of_name x) (gap_between (map cell_of names) l r) (count_any (of_name x) between (same ∙ k))))
+]
+  where
+    between : List Cell
+    between = take (r - l) (drop l (map cell_of names))
+
+    same : list_any (of_name x) between ≡ list_any (first_of x) between
+    same = ap (list_any (of_name x)) (between_names names l r)
+        ∙ (first_any x (take (r - l) (drop l names)) ∙ ap (list_any (first_of x)) (sym (between_names names l r)))
+
 -- an earlier insert narrows the gap, among names
 pub narrowed_left : (o : Insertion) (x : NameData) (names : List NameData) (l r : ℕ) → l ≤ r → r ≤ length names → o.sees x ≡ false
     → nat_lt x.site o.name.site ≡ true
@@ -117,7 +142,7 @@ narrowed_left o x names l r le within unseen less =
     let long : length cs ≡ length names = length-map names cell_of in
     let end : up_to_last (of_name x) (take (r - l) (drop l cs)) ≡ up_to_last (name_eq x) (take (r - l) (drop l names)) =
     ap (up_to_last (of_name x)) (between_names names l r) ∙ up_to_last_map cell_of (of_name x) (take (r - l) (drop l names)) in
-    rw unseen (rw less (narrow_left (of_name x) cs l r le (omega arith) ∙ ap (λ n. gap_between cs (l + n) r) end))
+    rw unseen (over_names (nat_lt x.site o.name.site) x names l r ∙ (rw less (narrow_left (of_name x) cs l r le (omega arith) ∙ ap (λ n. gap_between cs (l + n) r) end)))
 
 pub narrowed_right : (o : Insertion) (x : NameData) (names : List NameData) (l r : ℕ) → l ≤ r → r ≤ length names → o.sees x ≡ false
     → nat_lt x.site o.name.site ≡ false
@@ -128,7 +153,7 @@ narrowed_right o x names l r le within unseen less =
     let long : length cs ≡ length names = length-map names cell_of in
     let end : before_first (of_name x) (take (r - l) (drop l cs)) ≡ before_first (name_eq x) (take (r - l) (drop l names)) =
     ap (before_first (of_name x)) (between_names names l r) ∙ before_first_map cell_of (of_name x) (take (r - l) (drop l names)) in
-    rw unseen (rw less (narrow_right (of_name x) cs l r le (omega arith) ∙ ap (λ n. gap_between cs l (l + n)) end))
+    rw unseen (over_names (nat_lt x.site o.name.site) x names l r ∙ (rw less (narrow_right (of_name x) cs l r le (omega arith) ∙ ap (λ n. gap_between cs l (l + n)) end)))
 
 -- the narrowing by the earlier inserts from a place on
 pub narrowed_more : (o : Insertion) (earlier : List InsertData) (i : ℕ) (x : InsertData) (g : Gap Cell) → i < length earlier

@@ -1,6 +1,6 @@
 -- Stretches: what a gap is among cells, where it starts, and how one more insert narrows it.
 use Rattle.std.proofs.Common.{◌≡◌, ℕ, zero, suc, ◌+◌, ◌<◌, ◌≤◌, Bool, true, false, ◌||◌, List, [], ◌∷◌, ◌++◌, length, take, drop, if◌then◌else◌, ◌⊎◌, inl, inr, refl, ap, sym, ◌∙◌, subst, arith, append_assoc, append-nil}
-use Rattle.std.proofs.lemmas.Bool.{cases_Bool}
+use Rattle.std.proofs.lemmas.Bool.{both_ways, cases_Bool}
 use Rattle.transform_rec.proofs.CallerLemmas.{in_left, in_right, count-append, count, either, EachAt}
 use Rattle.std.specs.List.{list_any}
 use Rattle.std.proofs.Math.Seq.{take-append_seam, drop-append_seam}
@@ -170,6 +170,14 @@ three (suc n) (suc q) =
 either_right : {K : Type 0} (p x : K → Bool) (c : K) → x c ≡ true → either p x c ≡ true
 either_right p x c h = elim (cases_Bool (p c)) [ inl k ↦ rw k refl | inr k ↦ rw (k, h) refl ]
 
+-- what passes less often than what never passes
+count_less : {K : Type 0} (first x : K → Bool) → ((c : K) → first c ≡ true → x c ≡ true) → (xs : List K) → count x xs ≡ 0 → count first xs ≡ 0
+count_less first x of_x [] e = refl
+count_less first x of_x (c ∷ cs) e = elim (cases_Bool (first c)) [
+  | inl k ↦ let y = of_x c k in let z : 1 + count x cs ≡ 0 = rw y at e in absurd (omega (arith, z))
+  | inr k ↦ let rest = count_less first x of_x cs (omega (arith, e)) in rw (k, rest) refl
+]
+
 module _ {K : Type 0} (S : List K) (p x : K → Bool) (disjoint : AreDisjoint p x) (q : ℕ) (each : EachAt p x q 0 S) (n : ℕ) (g : Gap K)
     (s : Stretch S p n g) where
   -- the cells of x in the three lists
@@ -239,6 +247,24 @@ module _ {K : Type 0} (S : List K) (p x : K → Bool) (disjoint : AreDisjoint p 
     begins = begins-append (either p x) (onward x g.between) g.behind
         (begins-more x (either p x) (either_right p x) (onward x g.between) (onward_begins x g.between)) begins_either;
   }
+
+  -- where the first cell of x isn't between, none of x is
+  pub between_first : (first : K → Bool) → ((c : K) → first c ≡ true → x c ≡ true) → list_any first S ≡ true
+      → list_any first g.between ≡ false → count x g.between ≡ 0
+  between_first first of_x there out = by_place (three n q)
+    where
+      by_place : (q < n) ⊎ ((n < q) ⊎ (n ≡ q)) → count x g.between ≡ 0
+      by_place (inl h) = each-between p x q n g.between s.free (λ (f : n ≡ q). absurd (omega arith)) parts.1
+      by_place (inr (inl h)) = each-between p x q n g.between s.free (λ (f : n ≡ q). absurd (omega arith)) parts.1
+      by_place (inr (inr h)) =
+          let before = count_less first x of_x g.before
+          (each-early p x disjoint q 0 g.before s.ends (let at = s.at in omega arith) parts.0) in
+          let behind = count_less first x of_x g.behind (begins-late p x disjoint q n g.behind s.begins (omega arith) parts.2) in
+          let between = count_any first g.between out in
+          let all : count first S ≡ count first g.before + (count first g.between + count first g.behind) =
+          ap (count first) s.whole ∙ count-append first g.before (g.between ++ g.behind)
+          ∙ ap (λ (k : ℕ). count first g.before + k) (count-append first g.between g.behind) in
+          absurd (both_ways (list_any first S) (any_count first S (omega (arith, all, before, behind, between))) there)
 
   -- the insert of x has its cells in one of the three lists, by its place and by the tie
   pub walk_step : (left : Bool) (n' : ℕ) → IsMoved n q (count x S) left n' → Stretch S (either p x) n' (narrow left x g)

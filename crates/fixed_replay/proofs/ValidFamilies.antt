@@ -14,8 +14,9 @@ use Rattle.context_diff.proofs.CallerLemmas.{IsComplete, complete, group_facts, 
 use Rattle.ttf_form.specs.declared.ins.Ins.{Ins}
 use Rattle.ttf_form.specs.declared.form.Form.{Form}
 use Rattle.ttf_form.specs.declared.form.Form.TheVariants.{Ins as Insert, Cover as Covered}
-use Rattle.ttf_form.specs.Forms.{added_by}
+use Rattle.ttf_form.specs.Forms.{ins_extent, extent_of, added_by}
 use Rattle.ttf_form.specs.Families.{IsIn}
+use Rattle.ttf_form.specs.Laws.Cells.{block_lacks}
 use Rattle.transform_rec.specs.Lists.{SameElements}
 use Rattle.transform_rec.specs.Family.{Family}
 use Rattle.transform_rec.specs.Derived.{IsFamily}
@@ -47,7 +48,8 @@ module _ (h : List OpData) (v : IsValid h) (form : Member → Form) (forms : Are
 
   own_by : (x : Member) (n : NameData) → IsIn x (members_in h) → x ≢ Original n → (f : Form) → form x ≡ f → LacksName (added_by f) n
   own_by x n i ne (Insert a) e =
-      let r = insert_op h v form forms x a i e in (λ (q : a.name ≡ n). ne (r.is ∙ ap Original (sym r.named ∙ q)), tt)
+      let r = insert_op h v form forms x a i e in
+      block_lacks a.name n 0 (ins_extent a) (λ (q : a.name ≡ n). ne (r.is ∙ ap Original (sym r.named ∙ q)))
   own_by x n i ne (Covered d) e = tt
 
   pub valid_own_names : HasOwnNames form_table b
@@ -93,15 +95,16 @@ module _ (h : List OpData) (v : IsValid h) (form : Member → Form) (forms : Are
   -- what a member with an insert as its form puts
   abbrev put_of : Member → Ins → Insertion
   put_of m a =
-      record { name = a.name; place = a.place; rank = rank_in h v (target_of m); sees = λ (n : NameData). base_has h m (Original n) }
+      record { name = a.name; place = a.place; len = ins_extent a; rank = rank_in h v (target_of m); sees = λ (n : NameData). base_has h m (Original n) }
 
   put_is : (n : NameData) (p ch : ℕ) (c : ContextData) (a : Ins) → IsIn (inserting n p ch c) h → a.name ≡ n → a.place ≡ p
-      → put_of (Original n) a ≡ insertion n p c
-  put_is n p ch c a i name place =
+      → ins_extent a ≡ 1 → put_of (Original n) a ≡ insertion n p c
+  put_is n p ch c a i name place len =
       let r = rank_is h v (inserting n p ch c) n i refl in
       λ j. record {
         name = name j;
         place = place j;
+        len = len j;
         rank = r j;
         sees =
             λ m. context_of_original h v (inserting n p ch c) n i refl (Original m) j;
@@ -115,13 +118,15 @@ module _ (h : List OpData) (v : IsValid h) (form : Member → Form) (forms : Are
         let f = forms.inserts r.name r.place r.character r.context r.there in
         let there = insertions_of-in b (rank_in h v) (members_in h) (Original r.name) f.ins (member_listed o h r.there) f.is in
         subst (λ (x : Insertion). IsIn x (insertions_of b (rank_in h v) (members_in h)))
-        (put_is r.name r.place r.character r.context f.ins r.there f.name f.place ∙ sym r.is) there;
+        (put_is r.name r.place r.character r.context f.ins r.there f.name f.place f.len ∙ sym r.is) there;
     back = λ z i.
         let r = in-insertions_of b (rank_in h v) (members_in h) z i in
         let o = insert_op h v form forms r.member r.ins r.there r.form in
+        let f = forms.inserts o.name o.place o.character o.context o.there in
+        let len : ins_extent r.ins ≡ 1 = ap extent_of (sym r.form ∙ (ap form o.is ∙ f.is)) ∙ f.len in
         let same : z ≡ insertion o.name o.place o.context =
         r.is ∙ (ap (λ (m : Member). put_of m r.ins) o.is
-        ∙ put_is o.name o.place o.character o.context r.ins o.there o.named o.placed) in
+        ∙ put_is o.name o.place o.character o.context r.ins o.there o.named o.placed len) in
         subst (λ (x : Insertion). IsIn x (fixed_order h)) (sym same)
         (sort_by-in is_earlier (insertion o.name o.place o.context) (insertions_in h)
         (insertions-in o.name o.place o.character o.context h o.there));

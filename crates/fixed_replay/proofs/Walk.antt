@@ -1,37 +1,54 @@
 -- The walk: the place of an insert among the cells of earlier ones is found by narrowing its gap, one insert after the other.
-use Rattle.std.proofs.Common.{◌≡◌, ◌≢◌, ℕ, ◌≤◌, Bool, true, false, nat_lt, not, List, [], ◌∷◌, ◌++◌, length, take, drop, filter, inl, inr, refl, ap, ap₂, sym, ◌∙◌, subst, subst₂, arith, append-nil, take-append-drop}
-use Rattle.std.proofs.lemmas.Bool.{both_ways, not-true, cases_Bool}
-use Rattle.op_name.specs.NameData.{NameData}
+use Rattle.std.proofs.Common.{◌≡◌, ◌≢◌, ℕ, zero, suc, ◌≤◌, ◌==◌, Bool, true, false, nat_lt, not, List, [], ◌∷◌, ◌++◌, length, take, drop, filter, inl, inr, refl, ap, ap₂, sym, ◌∙◌, subst, subst₂, arith, append-nil, take-append-drop}
+use Rattle.std.proofs.lemmas.Bool.{both_ways, not-true, cases_Bool, and_parts}
+use Rattle.std.specs.List.{list_any}
+use Rattle.op_name.specs.NameData.{NameData, name_eq}
 use Rattle.op_name.specs.declared.member.Member.{Member}
 use Rattle.op_name.specs.declared.member.Member.TheVariants.{Original}
 use Rattle.op_name.specs.Members.{target_of}
 use Rattle.context_diff.specs.Gaps.{Gap, gap, narrow}
-use Rattle.context_diff.specs.Replays.{Insertion, Cell, cells_from, of_name, narrowed_by, narrowed, gap_of, put, replay}
+use Rattle.context_diff.specs.Replays.{Insertion, Cell, run_of, cells_from, of_name, first_of, narrowed_by, narrowed, gap_of, put, replay}
 use Rattle.ttf_form.specs.declared.ins.Ins.{Ins}
 use Rattle.ttf_form.specs.declared.cover.Cover.{Cover}
 use Rattle.ttf_form.specs.declared.form.Form.{Form}
 use Rattle.ttf_form.specs.declared.form.Form.TheVariants.{Ins as Insert, Cover as Covered}
+use Rattle.ttf_form.specs.Names.{block}
 use Rattle.ttf_form.specs.Laws.Places.{IsMoved}
-use Rattle.ttf_form.specs.Forms.{place_of, IsBoundedForm, form_over, added_by}
+use Rattle.ttf_form.specs.Forms.{ins_extent, place_of, IsBoundedForm, form_over, added_by}
 use Rattle.ttf_form.specs.Cells.{CellData, cells_of, applied}
 use Rattle.ttf_form.specs.Laws.Forms.{form_over_cover, ins_moved}
 use Rattle.ttf_form.specs.Laws.Cells.{kept_at}
 use Rattle.transform_rec.specs.Sets.{none, IsSubset, SameSet, plus, plus_all}
 use Rattle.transform_rec.specs.Lists.{IsIn}
-use Rattle.transform_rec.proofs.CallerLemmas.{count, in_filter, filter_in, length-count, count-append, same_set, same_from, plus_cases, all_in, all_cases, all_keeps, all-append, base_sound, derived_sound, forms_apart, form_step, exists, derived_once, IsForm, Run, Forms, run, At, state_after, forms_run, run_listed, run_append, forms-append, rest_run, part_state, before_cell}
-use Rattle.op_name.proofs.CallerLemmas.{member_apart}
+use Rattle.transform_rec.proofs.CallerLemmas.{count, in_filter, filter_in, length-count, count-append, same_set, same_from, plus_cases, all_in, all_cases, all_keeps, all-append, base_sound, derived_sound, forms_apart, form_step, exists, derived_once, IsForm, Run, Forms, run, At, state_after, forms_run, run_listed, run_append, forms-append, rest_run, part_state, before_cell, one_more, in_right}
+use Rattle.op_name.proofs.CallerLemmas.{member_apart, name_itself}
 use Rattle.transform_rec.specs.Family.{Family, IsSound}
 use Rattle.transform_rec.specs.Derived.{IsFamily, weight}
 use Rattle.transform_rec.specs.Derived.Derived.{at_base}
 use Rattle.transform_rec.specs.Executing.{Setting, deriving_of, HasOwnNames, keep, own}
-use Rattle.fixed_replay.proofs.Elements.{not_both}
-use Rattle.fixed_replay.proofs.Stretches.{Stretch, start, walk_step, narrow_none, whole_gap}
+use Rattle.fixed_replay.proofs.Elements.{not_both, in_any}
+use Rattle.fixed_replay.proofs.Stretches.{Stretch, start, walk_step, between_first, narrow_none, whole_gap}
 use Rattle.fixed_replay.proofs.Narrowing.{narrowed-append, narrowed_unseen}
 use Rattle.fixed_replay.specs.Insertions.{inserted_by, insertions_of}
 use Rattle.fixed_replay.proofs.Editor.{form_inclusion, form_table, form_at_place, setting_of, IsInsertOf, derived_insert, derived_cover, insert_owner, named_by, names_of, names-append, names_filter}
 
 within_none : (x : Cell → Bool) (xs ys zs : List Cell) → count x (xs ++ (ys ++ zs)) ≡ 0 → count x ys ≡ 0
 within_none x xs ys zs h = let p = count-append x xs (ys ++ zs) in let q = count-append x ys zs in omega arith
+
+-- the cells of an insert are those of its form
+same_cells : (n : NameData) (first k : ℕ) → block n first k ≡ run_of n first k
+same_cells n first zero = refl
+same_cells n first (suc k) = ap (λ (cs : List Cell). (n, first) ∷ cs) (same_cells n (suc first) k)
+
+first_added : (n : NameData) (first k : ℕ) (ys : List Cell) → 1 ≤ k → IsIn (n, first) (block n first k ++ ys)
+first_added n first zero ys some = absurd (omega (arith, some))
+first_added n first (suc k) ys some = inl refl
+
+first_itself : (n : NameData) → first_of n (n, 0) ≡ true
+first_itself n = rw (name_itself n) refl
+
+first_own : (x : Member) (n : NameData) → x ≡ Original n → (c : Cell) → first_of n c ≡ true → own x c ≡ true
+first_own x n is c h = subst (λ (y : Member). own y c ≡ true) (sym is) (and_parts (name_eq n c.0) (c.1 == 0) h).0
 
 module _ (b : Family Form) (known : IsFamily form_inclusion b) (own_names : HasOwnNames form_table b) where
   abbrev w : Setting Form (List CellData)
@@ -46,7 +63,7 @@ module _ (b : Family Form) (known : IsFamily form_inclusion b) (own_names : HasO
     module _ (o : Member) (a : Ins) (base : b.form o ≡ Insert a) (rank : ℕ) (listed : IsIn o b.members)
         (needs : IsSubset (b.context o) (plus_all none L)) (out : plus_all none L o ≡ false) where
       abbrev insertion : Insertion
-      insertion = record { name = a.name; place = a.place; rank = rank; sees = λ n. b.context o (Original n) }
+      insertion = record { name = a.name; place = a.place; len = ins_extent a; rank = rank; sees = λ n. b.context o (Original n) }
 
       -- the walk has come to the set C, with a form of o there and the gap of that form's place
       record Reached (C : Member → Bool) (f : Form) (g : Gap Cell) : Type 0 where
@@ -66,12 +83,30 @@ module _ (b : Family Form) (known : IsFamily form_inclusion b) (own_names : HasO
           both_ways (C x) (derived_sound (deriving_of w) x C k dk).lacks (subst (λ (y : Member). C y ≡ true) (sym p) h))
 
       narrowed_is : (x : Member) (n : NameData) (c d : Ins) (g : Gap Cell) → c.name ≡ a.name → d.name ≡ n → x ≡ Original n
-          → b.context o x ≡ false → narrow (nat_lt d.name.site c.name.site) (own x) g ≡ narrowed_by insertion n g
-      narrowed_is x n c d g name_c name_d x_is unseen =
+          → b.context o x ≡ false → (list_any (first_of n) g.between ≡ false → count (own x) g.between ≡ 0)
+          → narrow (nat_lt d.name.site c.name.site) (own x) g ≡ narrowed_by insertion n g
+      narrowed_is x n c d g name_c name_d x_is unseen first =
           let same : narrow (nat_lt d.name.site c.name.site) (own x) g ≡ narrow (nat_lt n.site a.name.site) (of_name n) g =
           λ i. narrow (nat_lt (name_d i).site (name_c i).site) (own (x_is i)) g in
           let h : b.context o (Original n) ≡ false = subst (λ (y : Member). b.context o y ≡ false) x_is unseen in
-          same ∙ (rw h refl)
+          elim (cases_Bool (list_any (first_of n) g.between)) [
+            | inl k ↦ same ∙ (rw (h, k) refl)
+            | inr k ↦ narrow_none (nat_lt d.name.site c.name.site) (own x) g (first k) ∙ (rw (h, k) refl)
+          ]
+
+      -- the first cell of an insert of the list stands among the cells
+      first_there : (C : Member → Bool) (x : Member) (d : Ins) (n : NameData) → d.name ≡ n → ((z : Member) → C z ≡ true → IsIn z L)
+          → IsForm w x C (Insert d) → IsIn x L → list_any (first_of n) S ≡ true
+      first_there C x d n named within dk i =
+          let P = filter (keep C) S in
+          let more = one_more w form_at_place C x (Insert d) L s fs st df within i dk in
+          let some : 1 ≤ ins_extent d = d.some in
+          let there : IsIn (d.name, 0) (take d.place P ++ (added_by (Insert d) ++ drop d.place P)) =
+          in_right (d.name, 0) (take d.place P) (added_by (Insert d) ++ drop d.place P)
+          (first_added d.name 0 (ins_extent d) (drop d.place P) some) in
+          let kept = subst (λ (cs : List Cell). IsIn (d.name, 0) cs) (sym more) there in
+          let first : first_of n (d.name, 0) ≡ true = subst (λ (m : NameData). first_of m (d.name, 0) ≡ true) named (first_itself d.name) in
+          in_any (first_of n) (d.name, 0) S (filter_in (keep (plus C x)) (d.name, 0) S kept).0 first
 
       -- an insert that o doesn't see narrows the gap, and moves the place
       insert_step : (C : Member → Bool) (x : Member) (c d : Ins) (g : Gap Cell) (n : NameData) → c.name ≡ a.name → d.name ≡ n
@@ -88,7 +123,9 @@ module _ (b : Family Form) (known : IsFamily form_inclusion b) (own_names : HasO
           walk_step S (keep C) (own x) (disjoint C x (Insert d) dk) d.place before.0 c.place g r.stretch left
           (place_of (form_over (Insert c) (Insert d))) moved in
           subst (λ (h : Gap Cell). Stretch S (keep (plus C x)) (place_of (form_over (Insert c) (Insert d))) h)
-          (narrowed_is x n c d g name_c name_d x_is unseen) stepped
+          (narrowed_is x n c d g name_c name_d x_is unseen
+          (between_first S (keep C) (own x) (disjoint C x (Insert d) dk) d.place before.0 c.place g r.stretch (first_of n)
+          (λ e h. first_own x n x_is e h) (first_there C x d n name_d r.within dk i))) stepped
 
       -- a cover has no cells: gap and place stay
       cover_step : (C : Member → Bool) (x : Member) (f : Form) (d : Cover) (g : Gap Cell) → Reached C f g → IsForm w x C (Covered d)
@@ -220,7 +257,8 @@ module _ (b : Family Form) (known : IsFamily form_inclusion b) (own_names : HasO
           whole_gap S (cells_from insertion) (keep (plus_all none L)) (place_of f) (gap_of insertion (names_of b L) S) at
           (λ c i. (state_after w L none s fs st df).names c i) in
           let fi = derived_insert b a o (plus_all none L) f base form in
-          let cells : added_by f ≡ cells_from insertion = ap added_by fi.is ∙ ap (λ (n : NameData). (n, 0) ∷ []) fi.name in
+          let cells : added_by f ≡ cells_from insertion = ap added_by fi.is
+          ∙ (same_cells fi.ins.name 0 (ins_extent fi.ins) ∙ ap₂ (λ (n : NameData) (k : ℕ). run_of n 0 k) fi.name fi.len) in
           whole ∙ ap (λ (new : List Cell). take (place_of f) S ++ (new ++ drop (place_of f) S)) (sym cells) ∙ sym (kept_at (run w s fs) f)
 
   -- a cover puts no cell

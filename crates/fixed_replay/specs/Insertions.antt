@@ -7,11 +7,12 @@ use Rattle.op_name.specs.Members.{target_of}
 use Rattle.context_diff.specs.Replays.{Insertion}
 use Rattle.ttf_form.specs.declared.form.Form.{Form}
 use Rattle.ttf_form.specs.declared.form.Form.TheVariants.{Ins as Insert, Cover as Covered}
+use Rattle.ttf_form.specs.Forms.{ins_extent}
 use Rattle.transform_rec.specs.Family.{Family}
 
 -- what a form inserts: one insertion or none
 abbrev pub inserted_by : Form → ℕ → (NameData → Bool) → List Insertion
-inserted_by (Insert a) rank sees = record { name = a.name; place = a.place; rank = rank; sees = sees } ∷ []
+inserted_by (Insert a) rank sees = record { name = a.name; place = a.place; len = ins_extent a; rank = rank; sees = sees } ∷ []
 inserted_by (Covered c) rank sees = []
 
 -- the insertions of the members of a list, in its order, with a rank for each name

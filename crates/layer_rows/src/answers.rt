@@ -120,7 +120,7 @@ fn put_mark(out: &mut String, mark: &Mark) -> Result<(), Memory> {
 }
 
 /// Appends a blank and a character.
-pub(crate) fn put_character(out: &mut String, ch: char) -> Result<(), Memory> {
+fn put_character(out: &mut String, ch: char) -> Result<(), Memory> {
     out.push(' ')?;
     out.push(ch)?;
     Ok(())
@@ -132,7 +132,6 @@ pub(crate) fn put_form(out: &mut String, form: &Form) -> Result<(), Memory> {
         Form::Ins(ins) => {
             out.push_str("ins")?;
             put_further(out, u64::from(ins.place))?;
-            put_character(out, ins.ch)?;
             out.push(' ')?;
             put_name(out, &ins.name)
         }

@@ -50,13 +50,12 @@ pub(crate) fn base_of<F: Include, B: Bases<F>>(bases: &B, m: &Member) -> F
 }
 
 /// The base form in the family of one insert of the name.
-pub(crate) fn base_of_one(name: Name, ch: char) -> Form {
+pub(crate) fn base_of_one(name: Name) -> Form {
     let site = name.site;
     let one = One {
         ins: Ins {
             place: 0,
             site,
-            ch,
             name,
         },
     };

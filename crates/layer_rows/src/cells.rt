@@ -2,8 +2,8 @@
 
 use crate::answers::{put_found, put_further, put_name, put_none, put_number, put_truth, put_turn};
 use crate::long::{
-    Spot, Text, are_half_full, cells_agree, chunks_agree, execute, flags_agree, hide_each,
-    next_insert, put, put_and_hide, put_at_each,
+    Spot, Text, are_half_full, cells_agree, character_at, chunks_agree, execute, flags_agree,
+    hide_each, next_insert, put, put_and_hide, put_at_each,
 };
 use crate::words::Words;
 use op_name::Memory;
@@ -51,7 +51,7 @@ fn cover(words: &mut Words<'_>, cells: &mut Cells, out: &mut String) -> Result<b
     let Some(cover) = words.cover() else {
         return Ok(false);
     };
-    let fits = execute(cells, &Form::Cover(cover))?;
+    let fits = execute(cells, &Form::Cover(cover), &[])?;
     put_fits(out, fits)
 }
 
@@ -95,7 +95,7 @@ fn reserve(words: &mut Words<'_>, cells: &mut Cells) -> Result<bool, Memory> {
     let Some(place) = words.number() else {
         return Ok(false);
     };
-    match next_insert(cells, place, '!') {
+    match next_insert(cells, place) {
         Some(form) => {
             cells.reserve(&form)?;
             Ok(true)
@@ -135,15 +135,16 @@ fn cell_at(words: &mut Words<'_>, cells: &Cells, out: &mut String) -> Result<boo
     let Some(place) = words.number() else {
         return Ok(false);
     };
-    match cells.cell(place) {
-        Some(cell) => put_cell(out, cell)?,
-        None => put_none(out)?,
+    match (cells.cell(place), character_at(cells, place)) {
+        (Some(cell), Some(ch)) => put_cell(out, cell, ch)?,
+        (None, None) => put_none(out)?,
+        _ => out.push_str("a cell without a character")?,
     }
     Ok(true)
 }
 
-fn put_cell(out: &mut String, cell: &Cell) -> Result<(), Memory> {
-    out.push(cell.ch())?;
+fn put_cell(out: &mut String, cell: &Cell, ch: char) -> Result<(), Memory> {
+    out.push(ch)?;
     out.push(' ')?;
     put_name(out, &cell.id().name)?;
     put_further(out, u64::from(cell.generation()))?;
@@ -163,13 +164,13 @@ fn place_of(words: &mut Words<'_>, cells: &Cells, out: &mut String) -> Result<bo
     Ok(true)
 }
 
-fn put_seen(out: &mut String, cell: &Cell) -> Result<(), Memory> {
+fn put_seen(out: &mut String, cell: &Cell, ch: char) -> Result<(), Memory> {
     if cell.shown() {
-        out.push(cell.ch())?;
+        out.push(ch)?;
         return Ok(());
     }
     out.push('(')?;
-    out.push(cell.ch())?;
+    out.push(ch)?;
     out.push(')')?;
     Ok(())
 }
@@ -177,8 +178,8 @@ fn put_seen(out: &mut String, cell: &Cell) -> Result<(), Memory> {
 // `seen`: the characters of the cells, each hidden one in brackets.
 fn seen(cells: &Cells, out: &mut String) -> Result<bool, Memory> {
     for place in 0..cells.len() {
-        if let Some(cell) = cells.cell(place) {
-            put_seen(out, cell)?;
+        if let (Some(cell), Some(ch)) = (cells.cell(place), character_at(cells, place)) {
+            put_seen(out, cell, ch)?;
         }
     }
     Ok(true)

@@ -126,13 +126,11 @@ fn follow(words: &mut Words<'_>, out: &mut String) -> Result<bool, Memory> {
     }
 }
 
-// `one NAME CHARACTER`: the base form in a family of one insert.
+// `one NAME`: the base form in a family of one insert.
 fn one(words: &mut Words<'_>, out: &mut String) -> Result<bool, Memory> {
-    match (words.name(), words.character()) {
-        (Some(name), Some(ch)) => {
-            put_form(out, &base_of_one(name, ch))?;
-            Ok(true)
-        }
-        _ => Ok(false),
-    }
+    let Some(name) = words.name() else {
+        return Ok(false);
+    };
+    put_form(out, &base_of_one(name))?;
+    Ok(true)
 }

@@ -26,27 +26,39 @@ impl Text {
 /// The delete by which `hide` hides a cell.
 const HIDING: Name = Name { site: 1, number: 9 };
 
-/// Applies a form where it fits; answers whether it does. Out of memory no cell changes.
-pub(crate) fn execute(cells: &mut Cells, form: &Form) -> Result<bool, Memory> {
+/// Applies a form with the characters of its cells where it fits; answers whether it does. Out of memory no cell changes.
+pub(crate) fn execute(cells: &mut Cells, form: &Form, chars: &[char]) -> Result<bool, Memory> {
     let fits = match form {
-        Form::Ins(ins) => ins.place <= cells.len() && cells.lacks(&ins.name),
-        Form::Cover(cover) => cover.place < cells.len(),
+        Form::Ins(ins) => ins.place <= cells.len() && cells.lacks(&ins.name) && chars.len() == 1,
+        Form::Cover(cover) => cover.place < cells.len() && chars.is_empty(),
     };
     if !fits {
         return Ok(false);
     }
     cells.reserve(form)?;
-    cells.apply(form);
+    cells.apply(form, chars);
     Ok(true)
 }
 
+/// The character of the cell at a place; None past the end. It looks at the texts of the chunks, one after the other.
+pub(crate) fn character_at(cells: &Cells, place: u32) -> Option<char> {
+    let mut left = place as usize;
+    for i in 0..cells.chunk_count() {
+        let chars = cells.chunk_text(i);
+        if left < chars.len() {
+            return Some(chars[left]);
+        }
+        left -= chars.len();
+    }
+    None
+}
+
 /// The form of an insert with the next number of site 0; None where no number is left.
-pub(crate) fn next_insert(cells: &Cells, place: u32, ch: char) -> Option<Form> {
+pub(crate) fn next_insert(cells: &Cells, place: u32) -> Option<Form> {
     match Name::new(0, cells.len().saturating_add(1)) {
         Ok(name) => Some(Form::Ins(Ins {
             place,
             site: 0,
-            ch,
             name,
         })),
         Err(_) => None,
@@ -55,11 +67,11 @@ pub(crate) fn next_insert(cells: &Cells, place: u32, ch: char) -> Option<Form> {
 
 /// Puts a cell in; answers whether it fits.
 pub(crate) fn put(text: &mut Text, place: u32, ch: char) -> Result<bool, Memory> {
-    let Some(form) = next_insert(&text.cells, place, ch) else {
+    let Some(form) = next_insert(&text.cells, place) else {
         return Ok(false);
     };
     text.plain.reserve(1)?;
-    if !execute(&mut text.cells, &form)? || place as usize > text.plain.len() {
+    if !execute(&mut text.cells, &form, &[ch])? || place as usize > text.plain.len() {
         return Ok(false);
     }
     text.plain.insert(place as usize, (ch, true))?;
@@ -72,7 +84,7 @@ fn hide(text: &mut Text, place: u32) -> Result<bool, Memory> {
         name: HIDING,
         generation: 0,
     };
-    if !execute(&mut text.cells, &Form::Cover(Cover { place, mark }))? {
+    if !execute(&mut text.cells, &Form::Cover(Cover { place, mark }), &[])? {
         return Ok(false);
     }
     match text.plain.get_mut(place as usize) {
@@ -168,37 +180,61 @@ pub(crate) fn put_and_hide(text: &mut Text, spot: Spot, count: u32) -> Result<bo
     Ok(true)
 }
 
-fn is_seen(cell: &Cell, wanted: &(char, bool)) -> bool {
-    cell.ch() == wanted.0 && cell.shown() == wanted.1
+fn is_seen(cell: &Cell, ch: char, wanted: &(char, bool)) -> bool {
+    ch == wanted.0 && cell.shown() == wanted.1
+}
+
+/// Whether the cell found at a place, and its character, are those of the plain list.
+fn cell_agrees(text: &Text, place: u32) -> bool {
+    match (
+        text.cells.cell(place),
+        character_at(&text.cells, place),
+        text.plain.get(place as usize),
+    ) {
+        (Some(cell), Some(ch), Some(wanted)) => is_seen(cell, ch, wanted),
+        _ => false,
+    }
 }
 
 /// Whether the cells, found one by one, are those of the plain list.
 pub(crate) fn cells_agree(text: &Text) -> bool {
     for place in 0..text.cells.len() {
-        match (text.cells.cell(place), text.plain.get(place as usize)) {
-            (Some(cell), Some(wanted)) if is_seen(cell, wanted) => {}
-            _ => return false,
+        if !cell_agrees(text, place) {
+            return false;
         }
     }
     text.cells.len() as usize == text.plain.len()
 }
 
-/// Whether the chunks have the cells of the plain list, one after the other.
+/// Whether the chunks have the cells of the plain list, one after the other, and as many characters beside them.
 pub(crate) fn chunks_agree(text: &Text) -> bool {
     let mut place = 0;
     for i in 0..text.cells.chunk_count() {
         if text.cells.chunk_start(i) as usize != place {
             return false;
         }
-        for cell in text.cells.chunk_cells(i) {
-            match text.plain.get(place) {
-                Some(wanted) if is_seen(cell, wanted) => {}
-                _ => return false,
-            }
-            place = place.saturating_add(1);
+        let cells = text.cells.chunk_cells(i);
+        if !are_seen(cells, text.cells.chunk_text(i), &text.plain, place) {
+            return false;
         }
+        place = place.saturating_add(cells.len());
     }
     place == text.plain.len()
+}
+
+/// Whether the cells and their characters are those of the plain list from this place on.
+fn are_seen(cells: &[Cell], chars: &[char], plain: &[(char, bool)], from: usize) -> bool {
+    let mut place = from;
+    let mut beside = 0;
+    for cell in cells {
+        match (chars.get(beside), plain.get(place)) {
+            (Some(ch), Some(wanted)) if is_seen(cell, *ch, wanted) => {}
+            _ => return false,
+        }
+        place = place.saturating_add(1);
+        beside = beside.saturating_add(1);
+    }
+    beside == chars.len()
 }
 
 /// Whether each chunk has as many flags of shown cells as it tells.

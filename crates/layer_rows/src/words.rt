@@ -159,18 +159,12 @@ impl<'a> Words<'a> {
         }
     }
 
-    /// `PLACE CHARACTER NAME`, an insert of the name's site.
+    /// `PLACE NAME`, an insert of the name's site.
     pub(crate) fn ins(&mut self) -> Option<Ins> {
         let place = self.number()?;
-        let ch = self.character()?;
         let name = self.name()?;
         let site = name.site;
-        Some(Ins {
-            place,
-            site,
-            ch,
-            name,
-        })
+        Some(Ins { place, site, name })
     }
 
     /// `PLACE MARK`.
@@ -180,7 +174,7 @@ impl<'a> Words<'a> {
         Some(Cover { place, mark })
     }
 
-    /// A form: `ins PLACE CHARACTER NAME`, or `cover PLACE MARK`.
+    /// A form: `ins PLACE NAME`, or `cover PLACE MARK`.
     pub(crate) fn form(&mut self) -> Option<Form> {
         match self.word() {
             "ins" => {

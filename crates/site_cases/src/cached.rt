@@ -5,7 +5,7 @@ use crate::made::{op_of, ops_of, set_of};
 use context_diff::Op;
 use cot_site::Site;
 use form_cache::Key;
-use op_name::{Member, Memory};
+use op_name::{Member, Memory, Name};
 use std::alloc::Global;
 use std::test::Fail;
 use ttf_form::Form;
@@ -60,7 +60,7 @@ fn take_all(site: &mut Site, ops: &[Op]) -> Result<(), Fail> {
 #[derive(Clone, Copy)]
 enum Found {
     Nothing,
-    Insert { place: u32, ch: char },
+    Insert { place: u32, name: Name },
     Cover,
 }
 
@@ -68,7 +68,7 @@ fn kind_of(form: &Form) -> Found {
     match form {
         Form::Ins(ins) => Found::Insert {
             place: ins.place,
-            ch: ins.ch,
+            name: ins.name,
         },
         Form::Cover(_) => Found::Cover,
     }
@@ -81,9 +81,10 @@ fn found_as(form: Option<Form>) -> Found {
     }
 }
 
-fn has_character(op: &Op, character: char) -> bool {
+/// Whether the operation is the insert of this name.
+fn is_insert_of(op: &Op, wanted: Name) -> bool {
     match op {
-        Op::Insert { ch, .. } => *ch == character,
+        Op::Insert { name, .. } => *name == wanted,
         _ => false,
     }
 }
@@ -92,7 +93,7 @@ fn has_character(op: &Op, character: char) -> bool {
 fn is_right(found: Found, asked: &Op, wanted: Option<u32>) -> bool {
     match found {
         Found::Nothing => wanted.is_none(),
-        Found::Insert { place, ch } => wanted == Some(place) && has_character(asked, ch),
+        Found::Insert { place, name } => wanted == Some(place) && is_insert_of(asked, name),
         Found::Cover => false,
     }
 }

@@ -69,11 +69,11 @@ fn laws_hold(book: &Book) {
     one_more_member::<Form, TextBases>(&bases);
 }
 
-/// A form of a member: the place and the character of its insert; or the place of its mark and the generation, of a delete
-/// or of the insert of the cell itself.
+/// A form of a member: the place of its insert; or the place of its mark and the generation, of a delete or of the insert of
+/// the cell itself.
 #[derive(Clone, Copy)]
 enum Shape {
-    Ins(u32, char),
+    Ins(u32),
     By(u32, u16),
     Own(u32, u16),
 }
@@ -120,42 +120,42 @@ const ROWS: [Row; 9] = [
         ops: HISTORY,
         member: "1.1",
         at: "63.1 0 | 0.3 2.1",
-        form: Shape::Ins(1, 'x'),
+        form: Shape::Ins(1),
     },
     Row {
         why: "an insert after an undo goes on",
         ops: HISTORY,
         member: "3.1",
         at: "63.1 0 | 0.3 1.1 0.2/1",
-        form: Shape::Ins(4, 'y'),
+        form: Shape::Ins(4),
     },
     Row {
         why: "an insert passes over an undo",
         ops: HISTORY,
         member: "1.1",
         at: "63.1 0 | 0.3 3.1 0.2/1",
-        form: Shape::Ins(1, 'x'),
+        form: Shape::Ins(1),
     },
     Row {
         why: "an insert goes after what stands in front of it",
         ops: "2.1 0 x |; 2.2 0 y | 2.1; 1.1 0 m |; 3.1 0 n |",
         member: "3.1",
         at: "63.1 0 | 1.1 2.2",
-        form: Shape::Ins(3, 'n'),
+        form: Shape::Ins(3),
     },
     Row {
         why: "an insert after three others",
         ops: "0.1 0 a |; 0.2 1 b | 0.1; 0.3 2 c | 0.2; 1.1 0 p | 0.3; 2.1 3 q | 0.3; 3.1 2 r | 0.3",
         member: "2.1",
         at: "63.1 0 | 0.3 1.1 3.1",
-        form: Shape::Ins(5, 'q'),
+        form: Shape::Ins(5),
     },
     Row {
         why: "the same in another order of the book",
         ops: "0.1 0 a |; 0.2 1 b | 0.1; 0.3 2 c | 0.2; 3.1 2 r | 0.3; 2.1 3 q | 0.3; 1.1 0 p | 0.3",
         member: "2.1",
         at: "63.1 0 | 0.3 1.1 3.1",
-        form: Shape::Ins(5, 'q'),
+        form: Shape::Ins(5),
     },
 ];
 
@@ -190,12 +190,7 @@ fn name_of(member: &Member) -> Name {
 fn form_of(name: Name, shape: Shape) -> Form {
     let site = name.site;
     match shape {
-        Shape::Ins(place, ch) => Form::Ins(Ins {
-            place,
-            site,
-            ch,
-            name,
-        }),
+        Shape::Ins(place) => Form::Ins(Ins { place, site, name }),
         Shape::By(place, generation) => Form::Cover(Cover {
             place,
             mark: Mark::By { name, generation },

@@ -69,7 +69,7 @@ fn put_step(out: &mut Vec<u8>) -> Result<(), Memory> {
     let name = Name { site: 2, number: 1 };
     let mark = Mark::Own { generation: 2 };
     let cover = Form::Cover(Cover { place: 10, mark });
-    step_line(12, 1, 11, Member::Group(name, 2), &cover, out)
+    step_line(12, 1, 11, Member::Group(name, 2), &[], &cover, out)
 }
 
 #[test]

@@ -38,9 +38,15 @@ abbrev pub marked : Mark → CellData → CellData
 marked (Own g) c = record c { generation = max c.generation g }
 marked (By d g) c = record c { deleters = raise_in d g c.deleters }
 
+-- so many cells of an insert before any mark, from an offset on, of so many in all
+abbrev pub bare_from : NameData → ℕ → ℕ → ℕ → List CellData
+bare_from n total first zero = []
+bare_from n total first (suc k) =
+    record { name = n; offset = first; of = total; generation = 0; deleters = [] } ∷ bare_from n total (suc first) k
+
 -- the cells of an insert before any mark
 abbrev pub bare_cells : Ins → List CellData
-bare_cells a = record { name = a.name; offset = 0; of = 1; generation = 0; deleters = [] } ∷ []
+bare_cells a = bare_from a.name a.len 0 a.len
 
 -- the list with these new elements at a place
 abbrev pub put_in : {A : Type 0} → ℕ → List A → List A → List A

@@ -10,7 +10,7 @@ use Rattle.ttf_form.specs.Places.{over_place, cover_place, back_place}
 
 -- the number of cells that an insert adds
 abbrev pub ins_extent : Ins → ℕ
-ins_extent a = 1
+ins_extent a = a.len
 
 abbrev pub place_of : Form → ℕ
 place_of (Insert a) = a.place

@@ -1,17 +1,20 @@
 //! Inserts.
 
-ghost use Rattle.std.specs.Prelude.{◌≡◌};
+ghost use Rattle.std.specs.Prelude.{◌≡◌, ◌≤◌};
 
 use op_name::Name;
 
-/// A new cell at a place: it is put in front of the cell that stands there, or after the last one.
+/// New cells side by side at a place: they are put in front of the cell that stands there, or after the last one.
 ///
-/// The place counts all cells, shown or hidden, from 0. The site is that of the name; it decides between
-/// inserts at one place: the one of the smaller site stands in front.
+/// The place counts all cells, shown or hidden, from 0. There are 1 to 256 new cells. The site is that of the name; it decides
+/// between inserts at one place: the one of the smaller site stands in front.
 #[derive(Clone, Copy, Debug, PartialEq, Eq, Hash)]
 pub struct Ins {
     pub place: u32,
     pub site: u16,
+    pub len: u16,
     pub name: Name,
     ghost own: { site ≡ name.site },
+    ghost some: { 1 ≤ len },
+    ghost most: { len ≤ 256 },
 }

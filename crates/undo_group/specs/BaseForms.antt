@@ -1,5 +1,6 @@
 -- Base forms of a history: what each operation does to the state of its own context.
 use Rattle.std.specs.Prelude.{◌≡◌, ℕ, List, [], ◌∷◌, refl, if◌then◌else◌}
+use Rattle.std.proofs.Common.{lit≤}
 use Rattle.op_name.specs.NameData.{NameData}
 use Rattle.op_name.specs.declared.member.Member.{Member}
 use Rattle.op_name.specs.declared.member.Member.TheVariants.{Original, Group}
@@ -15,12 +16,13 @@ use Rattle.ttf_form.specs.declared.form.Form.{Form}
 use Rattle.ttf_form.specs.declared.form.Form.TheVariants.{Ins as Insert, Cover as Covered}
 use Rattle.ttf_form.specs.Families.{IsIn}
 
--- an insert of this name, at this place
+-- an insert of one cell of this name, at this place
 pub record IsInsertForm (n : NameData) (p : ℕ) (f : Form) : Type 0 where
   pub ins : Ins
   pub is : f ≡ Insert ins
   pub name : ins.name ≡ n
   pub place : ins.place ≡ p
+  pub len : ins.len ≡ 1
 
 -- a cover at this place that leaves this mark
 pub record IsCoverForm (p : ℕ) (m : Mark) (f : Form) : Type 0 where
@@ -41,7 +43,7 @@ pub record AreBaseForms (h : List OpData) (form : Member → Form) : Type 0 wher
 
 -- the form of an original, as its operation says
 abbrev pub form_of : OpData → Form
-form_of (inserting n p ch c) = Insert (record { place = p; site = n.site; name = n; own = refl })
+form_of (inserting n p ch c) = Insert (record { place = p; site = n.site; len = 1; name = n; own = refl; some = lit≤ tt; most = lit≤ tt })
 form_of (deleting n p c) = Covered (record { place = p; mark = By n 0 })
 form_of (undoing a t g c) = Covered (record { place = 0; mark = By t g })
 

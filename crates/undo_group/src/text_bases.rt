@@ -101,6 +101,7 @@ fn form_of(op: &Op, name: &Name) -> Form
         Op::Insert { name, place, .. } => Form::Ins(Ins {
             place: *place,
             site: name.site,
+            len: 1,
             name: *name,
         }),
         Op::Delete { name, place, .. } => Form::Cover(Cover {

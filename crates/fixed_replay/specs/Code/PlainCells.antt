@@ -14,7 +14,7 @@ pub record InsertData : Type 0 where
 
 -- what the replay reads of it
 abbrev pub insertion_of : InsertData → Insertion
-insertion_of o = record { name = o.name; place = o.place; rank = rank_of o.context; sees = λ n. has o.context (Original n) }
+insertion_of o = record { name = o.name; place = o.place; len = 1; rank = rank_of o.context; sees = λ n. has o.context (Original n) }
 
 -- by rank, then by site
 abbrev pub comes_before : InsertData → InsertData → Bool

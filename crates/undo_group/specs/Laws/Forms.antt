@@ -32,7 +32,7 @@ form_at h v o n i is = form_among n o is h (λ p j e. (complete h v).one p o (in
 
 pub base_forms_hold : (h : List OpData) → IsValid h → AreBaseForms h (base_form h)
 base_forms_hold h v = record {
-  inserts = λ n p ch c i. record { ins = _; is = form_at h v (inserting n p ch c) n i refl; name = refl; place = refl };
+  inserts = λ n p ch c i. record { ins = _; is = form_at h v (inserting n p ch c) n i refl; name = refl; place = refl; len = refl };
   deletes = λ n p c i. record { cover = _; is = form_at h v (deleting n p c) n i refl; place = refl; mark = refl };
   insert_groups = λ t g d i e. record { cover = _; is = ap (λ (f : Form). group_form f t g) e; place = refl; mark = refl };
   delete_groups = λ t g d i e. record { cover = _; is = ap (λ (f : Form). group_form f t g) e; place = refl; mark = refl };

@@ -1,5 +1,5 @@
 -- Groups follow the member before them, and the forms of followers follow through each inclusion.
-use Rattle.std.proofs.Common.{◌≡◌, ℕ, ◌+◌, ◌≤◌, Bool, true, false, ◌&&◌, ◌||◌, ◌==◌, nat_le, nat_lt, List, refl, ap, arith, lit≤}
+use Rattle.std.proofs.Common.{◌≡◌, ℕ, ◌+◌, ◌≤◌, Bool, true, false, ◌&&◌, ◌||◌, ◌==◌, nat_le, nat_lt, List, refl, ap, arith}
 use Rattle.std.proofs.lemmas.Bool.Decides.{nat_tests}
 use Rattle.op_name.specs.NameData.{NameData, name_eq}
 use Rattle.op_name.specs.declared.member.Member.{Member}
@@ -21,7 +21,7 @@ use Rattle.undo_group.specs.Following.{following, mark_of, Follows}
 pub form_follows : (m : Mark) (f k : Form) → ApartForms f k → form_over (following m f) (form_over k f) ≡ following m (form_over f k)
 form_follows m (Insert a) (Insert b) ne =
     ap (λ p. Covered (record { place = p; mark = m }))
-    (cell_follows a.place a.site b.place b.site (ins_extent b) (ins_extent a) ne (lit≤ tt))
+    (cell_follows a.place a.site b.place b.site (ins_extent b) (ins_extent a) ne a.some)
 form_follows m (Insert a) (Covered d) ne = refl
 form_follows m (Covered c) (Insert b) ne = refl
 form_follows m (Covered c) (Covered d) ne = refl

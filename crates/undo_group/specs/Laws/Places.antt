@@ -39,7 +39,7 @@ module _ (h : List OpData) (v : IsValid h) (form : Member → Form) (forms : Are
           → (if is_insert p && has c (member_of p) then 1 else 0) ≤ (if D (member_of p) then extent_of (form (member_of p)) else 0)
       weigh (inserting n p ch k) i = elim (cases_Bool (has c (Original n))) [
         | inl q ↦ let f =
-            forms.inserts n p ch k i in let one : extent_of (form (Original n)) ≡ 1 = ap extent_of f.is in
+            forms.inserts n p ch k i in let one : extent_of (form (Original n)) ≡ 1 = ap extent_of f.is ∙ f.len in
             rw (q, within (Original n) q, one) (omega arith)
         | inr q ↦ rw q (omega arith)
       ]
@@ -89,8 +89,8 @@ module _ (h : List OpData) (v : IsValid h) (form : Member → Form) (forms : Are
       let more =
       sum_more (base_has h (Original t)) (base_has h (Group t g)) (group_wider t g i) (λ (x : Member). extent_of (form x)) (Original t)
       (members_in h) lacks target (target_listed t g i) in
-      let one : extent_of (form (Original t)) ≡ 1 = ap extent_of e in
-      omega arith
+      let some : extent_of (form (Original t)) ≡ a.len = ap extent_of e in
+      omega (arith, more, some, a.some)
 
   bounded_original : (n : NameData) (o : OpData) → IsIn o h → member_of o ≡ Original n
       → IsBoundedForm (form (Original n)) (weight_of (base_has h (Original n)))
