@@ -2,6 +2,7 @@
 use Rattle.std.proofs.Common.{◌≡◌, ℕ, zero, suc, ◌+◌, ◌<◌, ◌≤◌, ◌==◌, Bool, true, false, if◌then◌else◌, List, [], ◌∷◌, ◌++◌, length, map, filter, cond, take, drop, get_or, encode_utf8, encode_utf8_all, Result, Ok, Err, OnErr, append_assoc, refl, sym, ap, ◌∙◌, arith}
 use Rattle.std.proofs.lemmas.List.{take_more, append-nil, take-append-drop, take_at, take_all, get_or_read, length-map, get_or-map, take-map}
 use Rattle.std.specs.List.{sum}
+use Rattle.std.proofs.lemmas.Bool.Decides.{nat_tests}
 use Rattle.std.proofs.lemmas.List.Sums.{sum-map}
 use Rattle.std.proofs.lemmas.List.Concat.{flat_map-append, length-flat_map}
 use Rattle.tombstone_text.specs.Chunks.{flat, flag_of, joined, shown_in}
@@ -41,32 +42,34 @@ flagged_next (f ∷ fs) (t ∷ ts) (suc k) lt e = by (f == 1) (flagged_next fs t
     by false rest = rest
 
 -- the bytes of one flag more: those of its character where it is 1, else none
-pub flagged_more : (fs ts : List ℕ) (k f t : ℕ) → k < length fs → length ts ≡ length fs → f ≡ get_or fs k f → t ≡ get_or ts k t
-    → (f == 1) ≡ true
+pub flagged_more : (fs ts : List ℕ) (k t : ℕ) → k < length fs → length ts ≡ length fs → t ≡ get_or ts k t → get_or fs k 0 ≡ 1
     → encode_utf8_all (flagged (take (k + 1) fs) (take (k + 1) ts)) ≡ encode_utf8_all (flagged (take k fs) (take k ts)) ++ encode_utf8 t
-flagged_more fs ts k f t lt e isf ist one =
+flagged_more fs ts k t lt e is one =
     let next : k + 1 ≡ suc k = omega arith in
     let there : k < length ts = omega (arith, lt, e) in
-    let flag : get_or fs k 0 ≡ f = sym (get_or_read fs k f lt isf 0) in
-    let char : get_or ts k 0 ≡ t = sym (get_or_read ts k t there ist 0) in
+    let char : get_or ts k 0 ≡ t = sym (get_or_read ts k t there is 0) in
     ap (λ n. encode_utf8_all (flagged (take n fs) (take n ts))) next
     ∙ ap (λ (l : List ℕ). encode_utf8_all l)
     (flagged_next fs ts k lt e
-    ∙ ap (λ b. flagged (take k fs) (take k ts) ++ (if b then get_or ts k 0 ∷ [] else [])) (ap (λ n. n == 1) flag ∙ one)
+    ∙ ap (λ n. flagged (take k fs) (take k ts) ++ (if n == 1 then get_or ts k 0 ∷ [] else [])) one
     ∙ ap (λ n. flagged (take k fs) (take k ts) ++ n ∷ []) char)
     ∙ encodes-append (flagged (take k fs) (take k ts)) (t ∷ [])
     ∙ ap (λ (bs : List ℕ). encode_utf8_all (flagged (take k fs) (take k ts)) ++ bs) (append-nil (encode_utf8 t))
 
-pub flagged_same : (fs ts : List ℕ) (k f : ℕ) → k < length fs → length ts ≡ length fs → f ≡ get_or fs k f → (f == 1) ≡ false
+pub flagged_same : (fs ts : List ℕ) (k : ℕ) → k < length fs → length ts ≡ length fs → (get_or fs k 0 ≡ 1 → ⊥)
     → encode_utf8_all (flagged (take (k + 1) fs) (take (k + 1) ts)) ≡ encode_utf8_all (flagged (take k fs) (take k ts))
-flagged_same fs ts k f lt e isf other =
+flagged_same fs ts k lt e other =
     let next : k + 1 ≡ suc k = omega arith in
-    let flag : get_or fs k 0 ≡ f = sym (get_or_read fs k f lt isf 0) in
+    let hidden : (get_or fs k 0 == 1) ≡ false = by (get_or fs k 0 == 1) refl in
     ap (λ n. encode_utf8_all (flagged (take n fs) (take n ts))) next
     ∙ ap (λ (l : List ℕ). encode_utf8_all l)
     (flagged_next fs ts k lt e
-    ∙ ap (λ b. flagged (take k fs) (take k ts) ++ (if b then get_or ts k 0 ∷ [] else [])) (ap (λ n. n == 1) flag ∙ other)
+    ∙ ap (λ b. flagged (take k fs) (take k ts) ++ (if b then get_or ts k 0 ∷ [] else [])) hidden
     ∙ append-nil (flagged (take k fs) (take k ts)))
+  where
+    by : (b : Bool) → (get_or fs k 0 == 1) ≡ b → b ≡ false
+    by true h = absurd (other (grind (arith, nat_tests, h)))
+    by false h = refl
 
 pub shown_text-append : (xs ys : List CellData) (ts us : List ℕ) → length ts ≡ length xs
     → shown_text (xs ++ ys) (ts ++ us) ≡ shown_text xs ts ++ shown_text ys us
