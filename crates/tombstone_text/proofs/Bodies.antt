@@ -1,8 +1,8 @@
--- The cells of chunks, and the room that these have, where a chunk changes or comes in.
+-- The cells of chunks, their texts, and the room that these have, where a chunk changes or comes in.
 use Rattle.std.proofs.Common.{◌≡◌, ℕ, ◌<◌, List, [], length, insert, set, get_or, sym, ap, ◌∙◌, arith}
 use Rattle.ttf_form.specs.Cells.{CellData}
 use Rattle.std.proofs.lemmas.List.{length-map, map-set, get_or-map, get_or-set_same, set-get_or}
-use Rattle.tombstone_text.specs.Code.Chunks.{ChunkData, bodies, rooms_of}
+use Rattle.tombstone_text.specs.Code.Chunks.{ChunkData, bodies, rooms_of, texts_of}
 use Rattle.tombstone_text.specs.Code.Cells.{cut}
 use Rattle.tombstone_text.proofs.Flags.{map-insert}
 
@@ -23,6 +23,11 @@ pub body_there : (cs : List ChunkData) (i : ℕ) (x : ChunkData) → i < length 
 body_there cs i x lt read =
     ap (λ (c : ChunkData). c.cells) read ∙ sym (get_or-map (λ (c : ChunkData). c.cells) cs i x x.cells (bodies_within cs i lt))
 
+pub text_read : (cs : List ChunkData) (i : ℕ) (x : ChunkData) → i < length (bodies cs) → x ≡ get_or cs i x
+    → x.text ≡ get_or (texts_of cs) i []
+text_read cs i x lt read =
+    ap (λ (c : ChunkData). c.text) read ∙ sym (get_or-map (λ (c : ChunkData). c.text) cs i x [] (bodies_within cs i lt))
+
 pub room_read : (cs : List ChunkData) (i : ℕ) (x : ChunkData) → i < length (bodies cs) → x ≡ get_or cs i x
     → x.room ≡ get_or (rooms_of cs) i 0
 room_read cs i x lt read =
@@ -32,6 +37,9 @@ room_read cs i x lt read =
 pub bodies_set : (cs : List ChunkData) (i : ℕ) (x : ChunkData) → bodies (set cs i x) ≡ set (bodies cs) i x.cells
 bodies_set cs i x = map-set (λ (c : ChunkData). c.cells) cs i x
 
+pub texts_set : (cs : List ChunkData) (i : ℕ) (x : ChunkData) → texts_of (set cs i x) ≡ set (texts_of cs) i x.text
+texts_set cs i x = map-set (λ (c : ChunkData). c.text) cs i x
+
 pub rooms_set : (cs : List ChunkData) (i : ℕ) (x : ChunkData) → rooms_of (set cs i x) ≡ set (rooms_of cs) i x.room
 rooms_set cs i x = map-set (λ (c : ChunkData). c.room) cs i x
 
@@ -40,6 +48,12 @@ pub bodies_kept : (cs : List ChunkData) (i : ℕ) (x y : ChunkData) → i < leng
     → bodies (set cs i y) ≡ bodies cs
 bodies_kept cs i x y lt read same =
     bodies_set cs i y ∙ ap (λ c. set (bodies cs) i c) (same ∙ body_read cs i x lt read) ∙ set-get_or (bodies cs) i []
+
+-- a chunk whose characters stayed
+pub texts_kept : (cs : List ChunkData) (i : ℕ) (x y : ChunkData) → i < length (bodies cs) → x ≡ get_or cs i x → y.text ≡ x.text
+    → texts_of (set cs i y) ≡ texts_of cs
+texts_kept cs i x y lt read same =
+    texts_set cs i y ∙ ap (λ c. set (texts_of cs) i c) (same ∙ text_read cs i x lt read) ∙ set-get_or (texts_of cs) i []
 
 -- a chunk that has room for a cell more now
 pub place_set : (cs : List ChunkData) (i : ℕ) (y : ChunkData) → i < length (bodies cs) → length y.cells < y.room
@@ -54,6 +68,14 @@ place_set cs i y lt less =
 -- a chunk that came in
 pub bodies_insert : (cs : List ChunkData) (i : ℕ) (x : ChunkData) → bodies (insert cs i x) ≡ insert (bodies cs) i x.cells
 bodies_insert cs i x = map-insert (λ (c : ChunkData). c.cells) cs i x
+
+pub texts_insert : (cs : List ChunkData) (i : ℕ) (x : ChunkData) → texts_of (insert cs i x) ≡ insert (texts_of cs) i x.text
+texts_insert cs i x = map-insert (λ (c : ChunkData). c.text) cs i x
+
+-- a chunk that changed, and one that came in
+pub texts_two : (cs : List ChunkData) (i n : ℕ) (x y : ChunkData)
+    → texts_of (insert (set cs i x) n y) ≡ insert (set (texts_of cs) i x.text) n y.text
+texts_two cs i n x y = texts_insert (set cs i x) n y ∙ ap (λ ts. insert ts n y.text) (texts_set cs i x)
 
 -- a chunk that was cut in two
 pub bodies_cut : (cs : List ChunkData) (i n k : ℕ) (x y : ChunkData) → insert (set (bodies cs) i x.cells) n y.cells ≡ cut (bodies cs) i k

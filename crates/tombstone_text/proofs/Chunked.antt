@@ -1,6 +1,6 @@
 -- A list of cells cut into chunks: what a change of one chunk does to the whole.
 use Rattle.std.proofs.Common.{◌≡◌, ℕ, zero, suc, ◌+◌, ◌-◌, ◌<◌, ◌≤◌, Bool, true, false, cond, if◌then◌else◌, List, [], ◌∷◌, ◌++◌, length, map, filter, take, drop, insert, set, get_or, slice_get, Option, Some, refl, sym, ap, ◌∙◌, subst, append_assoc, arith}
-use Rattle.std.specs.List.{sum}
+use Rattle.std.specs.List.{sum, flat_map}
 use Rattle.std.proofs.lemmas.List.{length-append, take-append-drop, length-take, length-drop, take-map, get_or-map, length-map}
 use Rattle.std.proofs.lemmas.List.Edits.{insert-append_left, insert-append_right}
 use Rattle.std.proofs.lemmas.List.Elements.{filter-append}
@@ -12,9 +12,13 @@ use Rattle.tombstone_text.specs.Sums.{IsPart}
 use Rattle.tombstone_text.specs.Code.Cells.{cut, AreFilled, IsSeat, IsText}
 use Rattle.tombstone_text.specs.Code.Chunks.{ChunkData}
 
+-- the elements of all lists, one after the other
+abbrev pub all : {A : Type 0} → List (List A) → List A
+all cs = flat_map (λ c. c) cs
+
 -- the columns count the cells
-pub sum-lens : (cs : List (List CellData)) → sum (map (λ c. length c) cs) ≡ length (flat cs)
-sum-lens cs = sum-map (λ (c : List CellData). length c) cs ∙ sym (length-flat_map (λ (c : List CellData). c) cs)
+pub sum-lens : {A : Type 0} (cs : List (List A)) → sum (map (λ c. length c) cs) ≡ length (all cs)
+sum-lens {A} cs = sum-map (λ (c : List A). length c) cs ∙ sym (length-flat_map (λ (c : List A). c) cs)
 
 pub sum-shown : (cs : List (List CellData)) → sum (map shown_in cs) ≡ shown_in (flat cs)
 sum-shown [] = refl
@@ -24,8 +28,8 @@ sum-shown (c ∷ cs) =
     ∙ sym (length-append (filter cell_shown c) (filter cell_shown (flat cs)))
     ∙ ap (λ (s : List CellData). length s) (sym (filter-append cell_shown c (flat cs)))
 
-pub sum-lens-take : (cs : List (List CellData)) (i : ℕ) → sum (take i (map (λ c. length c) cs)) ≡ length (flat (take i cs))
-sum-lens-take cs i = ap sum (take-map (λ (c : List CellData). length c) i cs) ∙ sum-lens (take i cs)
+pub sum-lens-take : {A : Type 0} (cs : List (List A)) (i : ℕ) → sum (take i (map (λ c. length c) cs)) ≡ length (all (take i cs))
+sum-lens-take {A} cs i = ap sum (take-map (λ (c : List A). length c) i cs) ∙ sum-lens (take i cs)
 
 -- there are no more chunks than cells
 pub chunks-le : (cs : List (List CellData)) → AreFilled cs → length cs ≤ length (flat cs)
@@ -43,30 +47,34 @@ filled_set (c ∷ cs) zero d f l = (l, f.1)
 filled_set (c ∷ cs) (suc i) d f l = (f.0, filled_set cs i d f.1 l)
 
 -- the number within which a place lies is that of its chunk
-tail_place : (c : List CellData) (cs : List (List CellData)) (i o p : ℕ) → length (flat (take (suc i) (c ∷ cs))) + o ≡ p
-    → (length (flat (take i cs)) + o ≡ p - length c) × (length c ≤ p)
-tail_place c cs i o p e = let l = length-append c (flat (take i cs)) in (omega arith, omega arith)
+tail_place : {A : Type 0} (c : List A) (cs : List (List A)) (i o p : ℕ) → length (all (take (suc i) (c ∷ cs))) + o ≡ p
+    → (length (all (take i cs)) + o ≡ p - length c) × (length c ≤ p)
+tail_place c cs i o p e = let l = length-append c (all (take i cs)) in (omega arith, omega arith)
+
+-- a new element in one of the lists
+pub all_put : {A : Type 0} (cs : List (List A)) (i o p : ℕ) (x : A) → i < length cs → o ≤ length (get_or cs i [])
+    → length (all (take i cs)) + o ≡ p → all (set cs i (insert (get_or cs i []) o x)) ≡ insert (all cs) p x
+all_put [] i o p x lt le e = absurd (omega arith)
+all_put (c ∷ cs) zero o p x lt le e =
+    let place : 0 + o ≡ p = e in
+    let at : o ≡ p = omega arith in
+    sym (insert-append_left c (all cs) o x le) ∙ ap (λ n. insert (c ++ all cs) n x) at
+all_put (c ∷ cs) (suc i) o p x lt le e =
+    let t = tail_place c cs i o p e in
+    ap (λ zs. c ++ zs) (all_put cs i o (p - length c) x (omega arith) le t.0)
+    ∙ sym (insert-append_right c (all cs) (length c) p x refl t.1)
 
 pub flat_put : (cs : List (List CellData)) (i o p : ℕ) (x : CellData) → IsSeat cs i o p
     → flat (set cs i (insert (get_or cs i []) o x)) ≡ insert (flat cs) p x
-flat_put [] i o p x s = let lt = s.chunk in absurd (omega arith)
-flat_put (c ∷ cs) zero o p x s =
-    let place : 0 + o ≡ p = s.place_is in
-    let at : o ≡ p = omega arith in
-    sym (insert-append_left c (flat cs) o x s.within) ∙ ap (λ n. insert (c ++ flat cs) n x) at
-flat_put (c ∷ cs) (suc i) o p x s =
-    let t = tail_place c cs i o p s.place_is in
-    let lt = s.chunk in
-    let rest : IsSeat cs i o (p - length c) = record { chunk = omega arith; within = s.within; place_is = t.0 } in
-    ap (λ zs. c ++ zs) (flat_put cs i o (p - length c) x rest) ∙ sym (insert-append_right c (flat cs) (length c) p x refl t.1)
+flat_put cs i o p x s = all_put cs i o p x s.chunk s.within s.place_is
 
 -- a chunk cut in two
-pub flat_cut : (cs : List (List CellData)) (i k : ℕ) → flat (cut cs i k) ≡ flat cs
-flat_cut [] i k = refl
-flat_cut (c ∷ cs) zero k = sym (append_assoc (take k c) (drop k c) (flat cs)) ∙ ap (λ zs. zs ++ flat cs) (take-append-drop k c)
-flat_cut (c ∷ cs) (suc i) k = ap (λ zs. c ++ zs) (flat_cut cs i k)
+pub all_cut : {A : Type 0} (cs : List (List A)) (i k : ℕ) → all (cut cs i k) ≡ all cs
+all_cut [] i k = refl
+all_cut (c ∷ cs) zero k = sym (append_assoc (take k c) (drop k c) (all cs)) ∙ ap (λ zs. zs ++ all cs) (take-append-drop k c)
+all_cut (c ∷ cs) (suc i) k = ap (λ zs. c ++ zs) (all_cut cs i k)
 
-pub cut_is : (cs : List (List CellData)) (i k n : ℕ) → i < length cs → n ≡ suc i
+pub cut_is : {A : Type 0} (cs : List (List A)) (i k n : ℕ) → i < length cs → n ≡ suc i
     → insert (set cs i (take k (get_or cs i []))) n (drop k (get_or cs i [])) ≡ cut cs i k
 cut_is [] i k n lt e = absurd (omega arith)
 cut_is (c ∷ cs) zero k n lt e = ap (λ m. insert (take k c ∷ cs) m (drop k c)) e

@@ -9,5 +9,6 @@ pub mod Bodies
 pub mod Ways
 pub mod Chunked
 pub mod Texts
+pub mod Beside
 pub mod Blocks
 pub mod CallerLemmas

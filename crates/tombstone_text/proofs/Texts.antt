@@ -38,7 +38,7 @@ set-sum xs i y lt = sum_by-set (λ (n : ℕ). n) xs i y 0 lt
 pub part-le : (xs : List ℕ) (i : ℕ) → i < length xs → get_or xs i 0 ≤ sum xs
 part-le xs i lt = get_or-le-sum_by (λ (n : ℕ). n) xs i 0 lt
 
-set_both : (xs ys : List ℕ) (i a b : ℕ) → xs ≡ ys → a ≡ b → set xs i a ≡ set ys i b
+pub set_both : (xs ys : List ℕ) (i a b : ℕ) → xs ≡ ys → a ≡ b → set xs i a ≡ set ys i b
 set_both xs ys i a b e f = ap (λ l. set l i a) e ∙ ap (λ n. set ys i n) f
 
 -- one more shown cell in a chunk
@@ -87,7 +87,7 @@ chunk_changed cs ls ss f i n d t lt long is =
     let most = length-filter-le cell_shown (flat (set cs i d)) in
     record { all = omega (arith, was_all, now_all, seen, most); text = text }
 
-insert_both : (xs ys : List ℕ) (k a b : ℕ) → xs ≡ ys → a ≡ b → insert xs k a ≡ insert ys k b
+pub insert_both : (xs ys : List ℕ) (k a b : ℕ) → xs ≡ ys → a ≡ b → insert xs k a ≡ insert ys k b
 insert_both xs ys k a b e f = ap (λ l. insert l k a) e ∙ ap (λ n. insert ys k n) f
 
 -- a column of a text with a chunk cut in two

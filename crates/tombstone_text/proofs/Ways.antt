@@ -24,7 +24,7 @@ pub cut_way : (t : ChunksData) (r : Ready) (i o k : ℕ) → IsReady t r → r.w
 cut_way t r i o k ready is le = this_way t r (Cut i o k) ready is le
 
 -- the first cell comes in at the front
-pub first_in : (xs : List CellData) (p : ℕ) (x : CellData) → length xs ≡ 0 → p ≤ length xs → x ∷ [] ≡ insert xs p x
+pub first_in : {A : Type 0} (xs : List A) (p : ℕ) (x : A) → length xs ≡ 0 → p ≤ length xs → x ∷ [] ≡ insert xs p x
 first_in [] zero x none le = refl
 first_in [] (suc p) x none le = absurd (omega arith)
 first_in (y ∷ ys) p x none le = absurd (omega arith)

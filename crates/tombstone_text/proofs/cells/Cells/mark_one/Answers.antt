@@ -6,6 +6,6 @@ use Rattle.tombstone_text.proofs.cells.Cells.mark_one.Goals as goal
 pub invariant_of-self : goal.invariant_of-self
 invariant_of-self c = (
   tt,
-  subst AreInserts (sym c.mark.ensures)
+  subst AreInserts (sym c.mark.ensures.cells)
       (inserts_changed c.args.cover.now.mark c.args.cover.now.place c.self.inside.chunks.cells c.self.invariant.1),
 )

@@ -13,6 +13,6 @@ invariant_of-self c =
     subst (λ d. LacksName (cells_of xs) d.name) (sym c.bare.ensures)
     (subst (λ v. LacksName (cells_of v.cells) c.args.ins.now.name) (sym c.self.view_is) c.requires.new) in (
       rw c.take.ensures.after tt,
-      subst AreInserts (sym c.put.ensures)
+      subst AreInserts (sym c.put.ensures.cells)
           (inserts_put c.in-Some.ready.place (c.bare.result ∷ []) xs new c.self.invariant.1 (lacks, tt)),
     )

@@ -6,6 +6,6 @@ use Rattle.tombstone_text.proofs.cells.Cells.raise.Goals as goal
 pub invariant_of-self : goal.invariant_of-self
 invariant_of-self c = (
   tt,
-  subst AreInserts (sym c.raise.ensures)
+  subst AreInserts (sym c.raise.ensures.cells)
       (inserts_raised c.args.generation c.args.name.now c.self.inside.chunks.cells c.self.invariant.1),
 )

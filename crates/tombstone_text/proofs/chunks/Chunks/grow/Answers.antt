@@ -1,6 +1,6 @@
 use Rattle.std.proofs.Common.{◌<◌, length, ap, ◌∙◌, arith}
 use Rattle.std.proofs.lemmas.Result.{on_ok_weaker}
-use Rattle.tombstone_text.specs.Chunks.{flat}
+use Rattle.tombstone_text.specs.Chunks.{flat, joined}
 use Rattle.tombstone_text.specs.Code.Chunks.{bodies}
 use Rattle.tombstone_text.proofs.Bodies as body
 use Rattle.tombstone_text.proofs.chunks.Chunks.grow.Goals as goal
@@ -11,7 +11,10 @@ invariant_of-self c =
     let kept =
     body.bodies_kept c.self.inside.list.items c.args.i c.index_mut.result.now c.grow.new.self lt c.index_mut.ensures.value
     c.grow.ensures.cells in
-    rw kept c.self.invariant.0
+    let texts =
+    body.texts_kept c.self.inside.list.items c.args.i c.index_mut.result.now c.grow.new.self lt c.index_mut.ensures.value
+    c.grow.ensures.text in
+    (rw kept c.self.invariant.0, rw texts c.self.invariant.1)
 
 pub returns-clause-chunks : goal.returns-clause-chunks
 returns-clause-chunks c =
@@ -26,6 +29,13 @@ returns-clause-cells c =
     ap (λ ds. flat ds) (body.bodies_kept c.self.inside.list.items c.args.i c.index_mut.result.now c.grow.new.self lt
     c.index_mut.ensures.value c.grow.ensures.cells)
     ∙ ap (λ v. v.cells) c.self.view_is
+
+pub returns-clause-text : goal.returns-clause-text
+returns-clause-text c =
+    let lt : c.args.i < length (bodies c.self.inside.list.items) = let n = ap (λ v. length v.chunks) c.self.view_is in omega arith in
+    ap (λ ts. joined ts) (body.texts_kept c.self.inside.list.items c.args.i c.index_mut.result.now c.grow.new.self lt
+    c.index_mut.ensures.value c.grow.ensures.text)
+    ∙ ap (λ v. v.text) c.self.view_is
 
 pub returns-clause-place : goal.returns-clause-place
 returns-clause-place c =

@@ -2,7 +2,7 @@ use Rattle.std.proofs.Common.{◌≡◌, List, [], length, set, get_or, slice_ge
 use Rattle.std.specs.Prelude.{IfSome}
 use Rattle.ttf_form.specs.Cells.{CellData, change_at, marked}
 use Rattle.tombstone_text.specs.Cells.{HasRoomOn}
-use Rattle.tombstone_text.specs.Chunks.{flat}
+use Rattle.tombstone_text.specs.Chunks.{flat, joined}
 use Rattle.tombstone_text.specs.Code.Chunks.{blank, bodies}
 use Rattle.tombstone_text.proofs.Bodies as body
 use Rattle.tombstone_text.proofs.Chunked as chunked
@@ -100,10 +100,15 @@ invariant_of-self c =
     texts.changed_text (marked c.args.cover.now.mark) _ _ _ _ _ _ _ _ _ _ _ blank c.self.invariant.0 spot.chunk spot.within
     (body.body_there _ _ _ spot.chunk c.index_mut-chunk.ensures.value)
     c.cover.ensures.cells c.part-shown.ensures c.flag_at-before.ensures c.flag_at-after.ensures in
-    rw (c.set.ensures.parts, body.bodies_set c.self.inside.list.items c.find-i.result.0 c.cover.new.self) changed.text
+    let texts =
+    body.texts_kept c.self.inside.list.items c.find-i.result.0 c.index_mut-chunk.result.now c.cover.new.self spot.chunk
+    c.index_mut-chunk.ensures.value c.cover.ensures.text in (
+      rw (c.set.ensures.parts, body.bodies_set c.self.inside.list.items c.find-i.result.0 c.cover.new.self) changed.text,
+      rw texts c.self.invariant.1,
+    )
 
-pub returns : goal.returns
-returns c =
+pub returns-clause-cells : goal.returns-clause-cells
+returns-clause-cells c =
     let spot = texts.text-spot _ _ _ _ _ _ _ c.self.invariant.0 c.find-i.ensures in
     let changed =
     texts.changed_text (marked c.args.cover.now.mark) _ _ _ _ _ _ _ _ _ _ _ blank c.self.invariant.0 spot.chunk spot.within
@@ -114,3 +119,10 @@ returns c =
     ∙ chunked.flat_change (marked c.args.cover.now.mark) (bodies c.self.inside.list.items) c.find-i.result.0 c.find-i.result.1
     c.args.cover.now.place spot
     ∙ ap (λ v. change_at c.args.cover.now.place (marked c.args.cover.now.mark) v.cells) c.self.view_is
+
+pub returns-clause-text : goal.returns-clause-text
+returns-clause-text c =
+    let spot = texts.text-spot _ _ _ _ _ _ _ c.self.invariant.0 c.find-i.ensures in
+    ap (λ ts. joined ts) (body.texts_kept c.self.inside.list.items c.find-i.result.0 c.index_mut-chunk.result.now c.cover.new.self
+    spot.chunk c.index_mut-chunk.ensures.value c.cover.ensures.text)
+    ∙ ap (λ v. v.text) c.self.view_is

@@ -1,4 +1,4 @@
-use Rattle.std.proofs.Common.{◌+◌, ◌-◌, List, length, insert, sym, ap, ◌∙◌, subst, arith}
+use Rattle.std.proofs.Common.{ℕ, ◌+◌, ◌-◌, List, length, insert, sym, ap, ◌∙◌, subst, arith}
 use Rattle.ttf_form.specs.Cells.{CellData}
 use Rattle.tombstone_text.specs.Chunks.{flat}
 use Rattle.tombstone_text.specs.Code.Cells.{IsSeat}
@@ -21,12 +21,22 @@ put_first-requires-clause-empty c =
     let first = way.first_way c.args.self.now c.args.ready c.requires.ready c.in-First.is c.requires.place in
     first.0
 
-pub returns-in-First : goal.returns-in-First
-returns-in-First c =
+pub returns-in-First-clause-cells : goal.returns-in-First-clause-cells
+returns-in-First-clause-cells c =
     let first = way.first_way c.args.self.now c.args.ready c.requires.ready c.in-First.is c.requires.place in
     let none = sym c.known.ensures.chunks ∙ ap (λ ds. flat ds) first.0 in
     let long = ap (λ (s : List CellData). length s) none in
-    c.put_first.ensures ∙ way.first_in c.args.self.now.cells c.args.ready.place c.args.cell long c.requires.place
+    c.put_first.ensures.cells ∙ way.first_in c.args.self.now.cells c.args.ready.place c.args.cell long c.requires.place
+
+pub returns-in-First-clause-text : goal.returns-in-First-clause-text
+returns-in-First-clause-text c =
+    let first = way.first_way c.args.self.now c.args.ready c.requires.ready c.in-First.is c.requires.place in
+    let none = sym c.known.ensures.chunks ∙ ap (λ ds. flat ds) first.0 in
+    let long = ap (λ (s : List CellData). length s) none in
+    let beside = c.known.ensures.long in
+    let place = c.requires.place in
+    c.put_first.ensures.text
+    ∙ way.first_in c.args.self.now.text c.args.ready.place c.args.ch (omega (arith, long, beside)) (omega (arith, place, beside))
 
 pub put_at-requires-clause-chunk : goal.put_at-requires-clause-chunk
 put_at-requires-clause-chunk c =
@@ -43,10 +53,15 @@ put_at-requires-clause-room c =
     let into = way.into_way c.args.self.now c.args.ready c.in-Into.chunk c.in-Into.at c.requires.ready c.in-Into.is c.requires.place in
     into.1
 
-pub returns-in-Into : goal.returns-in-Into
-returns-in-Into c =
+pub returns-in-Into-clause-cells : goal.returns-in-Into-clause-cells
+returns-in-Into-clause-cells c =
     let into = way.into_way c.args.self.now c.args.ready c.in-Into.chunk c.in-Into.at c.requires.ready c.in-Into.is c.requires.place in
-    c.put_at.ensures c.args.ready.place into.0
+    c.put_at.ensures.cells c.args.ready.place into.0
+
+pub returns-in-Into-clause-text : goal.returns-in-Into-clause-text
+returns-in-Into-clause-text c =
+    let into = way.into_way c.args.self.now c.args.ready c.in-Into.chunk c.in-Into.at c.requires.ready c.in-Into.is c.requires.place in
+    c.put_at.ensures.text c.args.ready.place into.0
 
 pub split-requires-clause-room : goal.split-requires-clause-room
 split-requires-clause-room c =
@@ -120,22 +135,42 @@ put_at-requires-else-at-keep-clause-within c =
     chunked.seat_in_high _ _ (c.in-Cut.chunk + 1) _ _ _ _ cut.0 cut.1.full cut.1.some cut.1.less c.if-at-keep.false (omega arith) in
     rw c.split.ensures.chunks high.seat.within
 
-pub returns-then-at-keep : goal.returns-then-at-keep
-returns-then-at-keep c =
+pub returns-then-at-keep-clause-cells : goal.returns-then-at-keep-clause-cells
+returns-then-at-keep-clause-cells c =
     let cut =
     way.cut_way c.args.self.now c.args.ready c.in-Cut.chunk c.in-Cut.at c.in-Cut.keep c.requires.ready c.in-Cut.is c.requires.place in
     let low = chunked.seat_in_low _ _ _ _ _ _ cut.0 cut.1.full cut.1.less c.if-at-keep.true in
     let p = c.args.ready.place in
-    c.put_at-then-at-keep.ensures p (subst (λ ds. IsSeat ds c.in-Cut.chunk c.in-Cut.at p) (sym c.split.ensures.chunks) low.seat)
+    c.put_at-then-at-keep.ensures.cells p (subst (λ ds. IsSeat ds c.in-Cut.chunk c.in-Cut.at p) (sym c.split.ensures.chunks) low.seat)
     ∙ ap (λ (s : List CellData). insert s p c.args.cell) c.split.ensures.cells
 
-pub returns-else-at-keep : goal.returns-else-at-keep
-returns-else-at-keep c =
+pub returns-then-at-keep-clause-text : goal.returns-then-at-keep-clause-text
+returns-then-at-keep-clause-text c =
+    let cut =
+    way.cut_way c.args.self.now c.args.ready c.in-Cut.chunk c.in-Cut.at c.in-Cut.keep c.requires.ready c.in-Cut.is c.requires.place in
+    let low = chunked.seat_in_low _ _ _ _ _ _ cut.0 cut.1.full cut.1.less c.if-at-keep.true in
+    let p = c.args.ready.place in
+    c.put_at-then-at-keep.ensures.text p (subst (λ ds. IsSeat ds c.in-Cut.chunk c.in-Cut.at p) (sym c.split.ensures.chunks) low.seat)
+    ∙ ap (λ (s : List ℕ). insert s p c.args.ch) c.split.ensures.text
+
+pub returns-else-at-keep-clause-cells : goal.returns-else-at-keep-clause-cells
+returns-else-at-keep-clause-cells c =
     let cut =
     way.cut_way c.args.self.now c.args.ready c.in-Cut.chunk c.in-Cut.at c.in-Cut.keep c.requires.ready c.in-Cut.is c.requires.place in
     let high =
     chunked.seat_in_high _ _ (c.in-Cut.chunk + 1) _ _ _ _ cut.0 cut.1.full cut.1.some cut.1.less c.if-at-keep.false (omega arith) in
     let p = c.args.ready.place in
-    c.put_at-else-at-keep.ensures p
+    c.put_at-else-at-keep.ensures.cells p
     (subst (λ ds. IsSeat ds (c.in-Cut.chunk + 1) (c.in-Cut.at - c.in-Cut.keep) p) (sym c.split.ensures.chunks) high.seat)
     ∙ ap (λ (s : List CellData). insert s p c.args.cell) c.split.ensures.cells
+
+pub returns-else-at-keep-clause-text : goal.returns-else-at-keep-clause-text
+returns-else-at-keep-clause-text c =
+    let cut =
+    way.cut_way c.args.self.now c.args.ready c.in-Cut.chunk c.in-Cut.at c.in-Cut.keep c.requires.ready c.in-Cut.is c.requires.place in
+    let high =
+    chunked.seat_in_high _ _ (c.in-Cut.chunk + 1) _ _ _ _ cut.0 cut.1.full cut.1.some cut.1.less c.if-at-keep.false (omega arith) in
+    let p = c.args.ready.place in
+    c.put_at-else-at-keep.ensures.text p
+    (subst (λ ds. IsSeat ds (c.in-Cut.chunk + 1) (c.in-Cut.at - c.in-Cut.keep) p) (sym c.split.ensures.chunks) high.seat)
+    ∙ ap (λ (s : List ℕ). insert s p c.args.ch) c.split.ensures.text

@@ -1,9 +1,10 @@
-use Rattle.std.proofs.Common.{◌≡◌, ◌+◌, ◌<◌, ◌≤◌, List, [], length, insert, set, get_or, sym, ap, ◌∙◌, subst, arith}
+use Rattle.std.proofs.Common.{◌≡◌, ℕ, ◌+◌, ◌<◌, ◌≤◌, List, [], length, insert, set, get_or, sym, ap, ◌∙◌, subst, arith}
 use Rattle.ttf_form.specs.Cells.{CellData, cell_shown}
-use Rattle.tombstone_text.specs.Chunks.{flat}
+use Rattle.tombstone_text.specs.Chunks.{flat, joined}
 use Rattle.tombstone_text.specs.Code.Cells.{IsSeat}
-use Rattle.tombstone_text.specs.Code.Chunks.{bodies}
+use Rattle.tombstone_text.specs.Code.Chunks.{bodies, texts_of}
 use Rattle.tombstone_text.proofs.Shown.{length-filter-le}
+use Rattle.tombstone_text.proofs.Beside as beside
 use Rattle.tombstone_text.proofs.Bodies as body
 use Rattle.tombstone_text.proofs.Chunked as chunked
 use Rattle.tombstone_text.proofs.Texts as texts
@@ -62,23 +63,43 @@ invariant_of-self c =
     let within : c.args.at ≤ length (get_or cs c.args.i []) =
     let e = ap (λ v. length (get_or v.chunks c.args.i [])) c.self.view_is in omega arith in
     let new : c.put.new.self.cells ≡ insert (get_or cs c.args.i []) c.args.at c.args.cell =
-    c.put.ensures ∙ ap (λ (s : List CellData). insert s c.args.at c.args.cell) read in
+    c.put.ensures.cells ∙ ap (λ (s : List CellData). insert s c.args.at c.args.cell) read in
     let text =
     texts.text_put _ _ _ _ c.args.i c.args.at c.args.cell c.put.new.self.cells (c.part-len.result + 1) (c.part-shown.result + 1)
     c.self.invariant.0 lt within new c.requires.shown
     (ap (λ n. n + 1) c.part-len.ensures) (ap (λ n. n + 1) c.part-shown.ensures) in
-    rw (c.set.ensures.parts, c.set-2.ensures.parts, body.bodies_set c.self.inside.list.items c.args.i c.put.new.self) text
+    let texts =
+    beside.beside_put _ _ _ _ _ c.args.i c.args.at c.part-len.result c.args.cell c.put.new.self.cells c.put.new.self.text
+    c.self.invariant.0 c.self.invariant.1 lt within new c.part-len.ensures c.put.ensures.long in (
+      rw (c.set.ensures.parts, c.set-2.ensures.parts, body.bodies_set c.self.inside.list.items c.args.i c.put.new.self) text,
+      rw (c.set.ensures.parts, body.texts_set c.self.inside.list.items c.args.i c.put.new.self) texts,
+    )
 
-pub returns : goal.returns
-returns c p s =
+pub returns-clause-cells : goal.returns-clause-cells
+returns-clause-cells c p s =
     let cs = (bodies c.self.inside.list.items) in
     let lt : c.args.i < length cs = let n = ap (λ v. length v.chunks) c.self.view_is in omega arith in
     let read : c.index_mut-chunk.result.now.cells ≡ get_or cs c.args.i [] =
     body.body_read c.self.inside.list.items c.args.i c.index_mut-chunk.result.now lt c.index_mut-chunk.ensures.value in
     let new : c.put.new.self.cells ≡ insert (get_or cs c.args.i []) c.args.at c.args.cell =
-    c.put.ensures ∙ ap (λ (s : List CellData). insert s c.args.at c.args.cell) read in
+    c.put.ensures.cells ∙ ap (λ (s : List CellData). insert s c.args.at c.args.cell) read in
     let seat : IsSeat cs c.args.i c.args.at p = subst (λ ds. IsSeat ds c.args.i c.args.at p) (sym (ap (λ v. v.chunks) c.self.view_is)) s in
     ap (λ ds. flat ds) (body.bodies_set c.self.inside.list.items c.args.i c.put.new.self)
     ∙ ap (λ d. flat (set cs c.args.i d)) new
     ∙ chunked.flat_put cs c.args.i c.args.at p c.args.cell seat
     ∙ ap (λ v. insert v.cells p c.args.cell) c.self.view_is
+
+pub returns-clause-text : goal.returns-clause-text
+returns-clause-text c p s =
+    let cs = (bodies c.self.inside.list.items) in
+    let ts = (texts_of c.self.inside.list.items) in
+    let lt : c.args.i < length (bodies c.self.inside.list.items) = let n = ap (λ v. length v.chunks) c.self.view_is in omega arith in
+    let read : c.index_mut-chunk.result.now.text ≡ get_or ts c.args.i [] =
+    body.text_read c.self.inside.list.items c.args.i c.index_mut-chunk.result.now lt c.index_mut-chunk.ensures.value in
+    let new : c.put.new.self.text ≡ insert (get_or ts c.args.i []) c.args.at c.args.ch =
+    c.put.ensures.text ∙ ap (λ (s : List ℕ). insert s c.args.at c.args.ch) read in
+    let seat : IsSeat cs c.args.i c.args.at p = subst (λ ds. IsSeat ds c.args.i c.args.at p) (sym (ap (λ v. v.chunks) c.self.view_is)) s in
+    ap (λ ds. joined ds) (body.texts_set c.self.inside.list.items c.args.i c.put.new.self)
+    ∙ ap (λ d. joined (set ts c.args.i d)) new
+    ∙ beside.joined_put ts cs _ _ _ c.args.i c.args.at p c.args.ch c.self.invariant.0 c.self.invariant.1 seat
+    ∙ ap (λ v. insert v.text p c.args.ch) c.self.view_is

@@ -4,4 +4,5 @@ use Rattle.tombstone_text.proofs.Raising.{changed_first}
 use Rattle.tombstone_text.proofs.chunks.Chunks.raise.Given as goal
 
 abbrev pub invariant-loop-i : goal.invariant-loop-i
-invariant-loop-i l = l.self.chunks ≡ changed_first l.i (map (raised l.generation l.name)) l.fn.self.chunks
+invariant-loop-i l =
+    (l.self.chunks ≡ changed_first l.i (map (raised l.generation l.name)) l.fn.self.chunks) × (l.self.text ≡ l.fn.self.text)

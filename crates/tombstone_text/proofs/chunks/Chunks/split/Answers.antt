@@ -1,8 +1,10 @@
-use Rattle.std.proofs.Common.{◌+◌, ◌<◌, length, ap, ◌∙◌, arith}
+use Rattle.std.proofs.Common.{◌+◌, ◌<◌, List, [], length, get_or, ap, ◌∙◌, arith}
 use Rattle.std.specs.List.{sum}
-use Rattle.tombstone_text.specs.Chunks.{flat}
+use Rattle.ttf_form.specs.Cells.{CellData}
+use Rattle.tombstone_text.specs.Chunks.{flat, joined}
 use Rattle.tombstone_text.specs.Code.Cells.{cut}
-use Rattle.tombstone_text.specs.Code.Chunks.{bodies}
+use Rattle.tombstone_text.specs.Code.Chunks.{bodies, texts_of}
+use Rattle.tombstone_text.proofs.Beside as beside
 use Rattle.tombstone_text.proofs.Bodies as body
 use Rattle.tombstone_text.proofs.Chunked as chunked
 use Rattle.tombstone_text.proofs.Texts as texts
@@ -66,15 +68,28 @@ invariant_of-self c =
     c.requires.less
     (body.body_there _ _ _ lt c.index_mut-lower.ensures.value) c.split.ensures.lower c.split.ensures.upper c.part-len.ensures
     c.shown-low.ensures c.shown-high.ensures in
-    rw (
-      ap (λ ds. bodies ds) c.in-Ok.ensures.items
-          ∙ body.bodies_cut _ _ _ _ _ _ parts.chunks,
-      c.insert.ensures.parts,
-      c.set.ensures.parts,
-      c.insert-in-Some.ensures.parts,
-      c.set-in-Some.ensures.parts,
-      c.take.ensures.after,
-    ) parts.text
+    let read = body.body_read _ _ _ lt c.index_mut-lower.ensures.value in
+    let long = ap (λ (s : List CellData). length s) read in
+    let was = ap (λ v. length (get_or v.chunks c.args.i [])) c.self.view_is in
+    let two =
+    beside.parts_long _ _ _ _ _ _ _ _ _ _ _ _ c.self.invariant.0 lt read (omega (arith, c.requires.less, was, long))
+    c.split.ensures.lower c.split.ensures.upper c.part-len.ensures c.split.ensures.lower_long c.split.ensures.upper_long in
+    let texts = beside.beside_cut _ _ c.args.i (c.args.i + 1) _ _ _ _ c.self.invariant.1 two.0 two.1 in (
+      rw (
+        ap (λ ds. bodies ds) c.in-Ok.ensures.items
+            ∙ body.bodies_cut _ _ _ _ _ _ parts.chunks,
+        c.insert.ensures.parts,
+        c.set.ensures.parts,
+        c.insert-in-Some.ensures.parts,
+        c.set-in-Some.ensures.parts,
+        c.take.ensures.after,
+      ) parts.text,
+      rw (
+        ap (λ ds. texts_of ds) c.in-Ok.ensures.items ∙ body.texts_two _ _ _ _ _,
+        c.insert.ensures.parts,
+        c.set.ensures.parts,
+      ) texts,
+    )
 
 pub returns-clause-chunks : goal.returns-clause-chunks
 returns-clause-chunks c =
@@ -96,4 +111,12 @@ returns-clause-cells c =
     (body.body_there _ _ _ lt c.index_mut-lower.ensures.value) c.split.ensures.lower c.split.ensures.upper c.part-len.ensures
     c.shown-low.ensures c.shown-high.ensures in
     ap (λ ds. flat ds) (ap (λ ds. bodies ds) c.in-Ok.ensures.items ∙ body.bodies_cut _ _ _ _ _ _ parts.chunks)
-    ∙ chunked.flat_cut (bodies c.self.inside.list.items) c.args.i c.args.keep ∙ ap (λ v. v.cells) c.self.view_is
+    ∙ chunked.all_cut (bodies c.self.inside.list.items) c.args.i c.args.keep ∙ ap (λ v. v.cells) c.self.view_is
+
+pub returns-clause-text : goal.returns-clause-text
+returns-clause-text c =
+    let lt : c.args.i < length (bodies c.self.inside.list.items) = let n = ap (λ v. length v.chunks) c.self.view_is in omega arith in
+    ap (λ ds. joined ds) (ap (λ ds. texts_of ds) c.in-Ok.ensures.items ∙ body.texts_two _ _ _ _ _)
+    ∙ beside.joined_cut _ _ _ _ _ c.args.i (c.args.i + 1) c.args.keep _ _ _ c.self.invariant.0 c.self.invariant.1 lt (omega arith)
+    (body.text_read _ _ _ lt c.index_mut-lower.ensures.value) c.split.ensures.lower_text c.split.ensures.upper_text
+    ∙ ap (λ v. v.text) c.self.view_is

@@ -1,0 +1,101 @@
+-- The texts of chunks beside their cells: as long as these, where a chunk changes or is cut in two.
+use Rattle.std.proofs.Common.{◌≡◌, ℕ, suc, ◌+◌, ◌-◌, ◌<◌, ◌≤◌, Option, List, [], ◌∷◌, length, map, take, drop, insert, set, get_or, refl, sym, ap, ◌∙◌, arith}
+use Rattle.std.specs.List.{sum}
+use Rattle.std.proofs.lemmas.List.{map-set, get_or-map, length-map, length-take, length-drop}
+use Rattle.std.proofs.lemmas.List.Edits.{length-insert}
+use Rattle.ttf_form.specs.Cells.{CellData}
+use Rattle.tombstone_text.specs.Chunks.{flat, joined}
+use Rattle.tombstone_text.specs.Code.Cells.{AreBeside, IsSeat, IsText, cut}
+use Rattle.tombstone_text.specs.Code.Chunks.{ChunkData}
+use Rattle.tombstone_text.proofs.Flags.{map-insert}
+use Rattle.tombstone_text.proofs.Chunked.{all_put, all_cut, cut_is, sum-lens, sum-lens-take, text-len}
+use Rattle.tombstone_text.proofs.Texts.{set_both, insert_both, len_at}
+
+-- the characters are as many as the cells: of all chunks, and of each
+pub beside_same : (ts : List (List ℕ)) (cs : List (List CellData)) (ls ss : List ℕ) (f : Option ChunkData) → IsText cs ls ss f
+    → AreBeside ts ls → map (λ t. length t) ts ≡ map (λ c. length c) cs
+beside_same ts cs ls ss f t b = sym b ∙ t.lens_are
+
+pub beside_all : (ts : List (List ℕ)) (cs : List (List CellData)) (ls ss : List ℕ) (f : Option ChunkData) → IsText cs ls ss f
+    → AreBeside ts ls → length (joined ts) ≡ length (flat cs)
+beside_all ts cs ls ss f t b = sym (sum-lens ts) ∙ ap sum (sym b) ∙ text-len cs ls ss f t
+
+beside_count : (ts : List (List ℕ)) (cs : List (List CellData)) (ls ss : List ℕ) (f : Option ChunkData) → IsText cs ls ss f
+    → AreBeside ts ls → length ts ≡ length cs
+beside_count ts cs ls ss f t b =
+    sym (length-map ts (λ (x : List ℕ). length x)) ∙ ap (λ (l : List ℕ). length l) (beside_same ts cs ls ss f t b)
+    ∙ length-map cs (λ (c : List CellData). length c)
+
+beside_at : (ts : List (List ℕ)) (cs : List (List CellData)) (ls ss : List ℕ) (f : Option ChunkData) (i : ℕ) → IsText cs ls ss f
+    → AreBeside ts ls → i < length cs → length (get_or ts i []) ≡ length (get_or cs i [])
+beside_at ts cs ls ss f i t b lt =
+    let count = beside_count ts cs ls ss f t b in
+    let there : i < length ts = omega arith in
+    sym (get_or-map (λ (x : List ℕ). length x) ts i [] 0 there) ∙ ap (λ (l : List ℕ). get_or l i 0) (sym b) ∙ len_at cs ls ss f i t lt
+
+-- a character that comes in where its cell does
+pub joined_put : (ts : List (List ℕ)) (cs : List (List CellData)) (ls ss : List ℕ) (f : Option ChunkData) (i o p x : ℕ) → IsText cs ls ss f
+    → AreBeside ts ls → IsSeat cs i o p → joined (set ts i (insert (get_or ts i []) o x)) ≡ insert (joined ts) p x
+joined_put ts cs ls ss f i o p x t b s =
+    let lt = s.chunk in
+    let within = s.within in
+    let place = s.place_is in
+    let count = beside_count ts cs ls ss f t b in
+    let long = beside_at ts cs ls ss f i t b lt in
+    let texts = sum-lens-take ts i in
+    let cells = sum-lens-take cs i in
+    let same = ap (λ (l : List ℕ). sum (take i l)) (beside_same ts cs ls ss f t b) in
+    all_put ts i o p x (omega (arith, lt, count)) (omega (arith, within, long)) (omega (arith, place, texts, cells, same))
+
+-- a chunk with a cell more has a character more
+pub beside_put : (ts : List (List ℕ)) (cs : List (List CellData)) (ls ss : List ℕ) (f : Option ChunkData) (i o n : ℕ) (x : CellData)
+    (d : List CellData) (t : List ℕ)
+    → IsText cs ls ss f → AreBeside ts ls → i < length cs → o ≤ length (get_or cs i []) → d ≡ insert (get_or cs i []) o x
+    → n ≡ get_or ls i 0 → length t ≡ length d → AreBeside (set ts i t) (set ls i (n + 1))
+beside_put ts cs ls ss f i o n x d t text b lt within new is long =
+    let more = ap (λ (c : List CellData). length c) new ∙ length-insert (get_or cs i []) o x within in
+    let had = len_at cs ls ss f i text lt in
+    set_both ls (map (λ (c : List ℕ). length c) ts) i (n + 1) (length t) b (omega (arith, more, had, is, long))
+    ∙ sym (map-set (λ (c : List ℕ). length c) ts i t)
+
+-- a chunk that is cut in two is cut with its characters
+pub beside_cut : (ts : List (List ℕ)) (ls : List ℕ) (i n k u : ℕ) (lower upper : List ℕ) → AreBeside ts ls → k ≡ length lower
+    → u ≡ length upper → AreBeside (insert (set ts i lower) n upper) (insert (set ls i k) n u)
+beside_cut ts ls i n k u lower upper b is_lower is_upper =
+    insert_both (set ls i k) (map (λ (c : List ℕ). length c) (set ts i lower)) n u (length upper)
+    (set_both ls (map (λ (c : List ℕ). length c) ts) i k (length lower) b is_lower ∙ sym (map-set (λ (c : List ℕ). length c) ts i lower))
+    is_upper
+    ∙ sym (map-insert (λ (c : List ℕ). length c) (set ts i lower) n upper)
+
+-- and no character changes
+pub joined_cut : (ts : List (List ℕ)) (cs : List (List CellData)) (ls ss : List ℕ) (f : Option ChunkData) (i n k : ℕ)
+    (was lower upper : List ℕ)
+    → IsText cs ls ss f → AreBeside ts ls → i < length cs → n ≡ suc i → was ≡ get_or ts i [] → lower ≡ take k was → upper ≡ drop k was
+    → joined (insert (set ts i lower) n upper) ≡ joined ts
+joined_cut ts cs ls ss f i n k was lower upper t b lt next read low high =
+    let count = beside_count ts cs ls ss f t b in
+    let there : i < length ts = omega (arith, lt, count) in
+    let l : lower ≡ take k (get_or ts i []) = low ∙ ap (λ (s : List ℕ). take k s) read in
+    let u : upper ≡ drop k (get_or ts i []) = high ∙ ap (λ (s : List ℕ). drop k s) read in
+    ap (λ d. joined (insert (set ts i d) n upper)) l ∙ ap (λ d. joined (insert (set ts i (take k (get_or ts i []))) n d)) u
+    ∙ ap (λ ds. joined ds) (cut_is ts i k n there next) ∙ all_cut ts i k
+
+-- how long both parts of a chunk that is cut in two are
+pub parts_long : (cs : List (List CellData)) (ls ss : List ℕ) (f : Option ChunkData) (i k n : ℕ)
+    (was lower upper : List CellData) (low high : List ℕ)
+    → IsText cs ls ss f → i < length cs → was ≡ get_or cs i [] → k < length was → lower ≡ take k was → upper ≡ drop k was
+    → n ≡ get_or ls i 0 → length low ≡ length lower → length high ≡ length upper → (k ≡ length low) × (n - k ≡ length high)
+parts_long cs ls ss f i k n was lower upper low high t lt read less l u is ll hl =
+    let had = len_at cs ls ss f i t lt in
+    let long = ap (λ (s : List CellData). length s) read in
+    let first = ap (λ (s : List CellData). length s) l in
+    let second = ap (λ (s : List CellData). length s) u in (
+      omega (arith, first, length-take k was, ll, less),
+      omega (arith, second, length-drop k was, hl, less, had, long, is),
+    )
+
+-- one character is all of a text of one
+pub only_one : (xs : List ℕ) (x : ℕ) → length xs ≡ 1 → x ≡ get_or xs 0 x → x ∷ [] ≡ xs
+only_one [] x e is = absurd (omega (arith, e))
+only_one (y ∷ []) x e is = ap (λ (z : ℕ). z ∷ []) is
+only_one (y ∷ z ∷ xs) x e is = absurd (omega (arith, e))
