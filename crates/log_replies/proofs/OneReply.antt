@@ -47,7 +47,7 @@ one_explained trace m s a b (inl x) (inl y) = x.1 ∙ sym y.1
 one_explained trace m s a b (inl x) (inr y) = absurd (true≢false (sym y.0 ∙ x.0))
 one_explained trace m s a b (inr x) (inl y) = absurd (true≢false (sym x.0 ∙ y.0))
 one_explained trace m s a b (inr (known, (ls, is, left))) (inr (also, (ks, same, right))) =
-    left ∙ ap (λ lines. accepting (lines_text 1 lines)) (trace s.history m ls ks is.listed same.listed) ∙ sym right
+    left ∙ ap (λ lines. accepting (lines_text s.history 1 lines)) (trace s.history m ls ks is.listed same.listed) ∙ sym right
 
 pub one_explanation : OneRefusal → OneLoading → OneTrace → OneExplanation
 one_explanation refusal loading trace =

@@ -1,9 +1,11 @@
 -- What `explain` writes: the steps that derive the form in which an operation was executed.
-use Rattle.std.specs.Prelude.{◌≡◌, ◌⊎◌, ℕ, suc, true, false, List, [], ◌∷◌, ◌++◌, codes, Some, slice_get}
+use Rattle.std.specs.Prelude.{◌≡◌, ◌⊎◌, ℕ, suc, true, false, List, [], ◌∷◌, ◌++◌, codes, Some, slice_get, if◌then◌else◌}
 use Rattle.op_name.specs.declared.member.Member.{Member}
-use Rattle.context_diff.specs.Operations.{OpData}
+use Rattle.op_name.specs.Members.{member_eq}
+use Rattle.context_diff.specs.Operations.{OpData, member_of}
 use Rattle.context_diff.specs.Histories.{is_known, members_in}
 use Rattle.ttf_form.specs.declared.form.Form.{Form}
+use Rattle.fixed_replay.specs.Replayed.{letters_of}
 use Rattle.trace_explain.specs.declared.line.TraceLine.{TraceLine}
 use Rattle.trace_explain.specs.declared.line.TraceLine.TheVariants.{Base, Step}
 use Rattle.trace_explain.specs.Traces.{IsTrace}
@@ -16,15 +18,25 @@ use Rattle.script_text.specs.Explained.{base_text, step_text}
 use Rattle.script_text.specs.Report.{Report}
 use Rattle.log_replies.specs.Replies.{RepliesToLogBy, accepting, refusing}
 
--- the line of this number
-abbrev pub line_text : ℕ → TraceLine → List ℕ
-line_text number (Base m f) = base_text number m f
-line_text number (Step left over m f) = step_text number left over m f
+-- the characters that a member brings: those of its operation in the history
+abbrev pub letters_by : List OpData → Member → List ℕ
+letters_by [] m = []
+letters_by (o ∷ os) m = if member_eq (member_of o) m then letters_of o else letters_by os m
 
--- the lines, of which the first has this number
-abbrev pub lines_text : ℕ → List TraceLine → List ℕ
-lines_text number [] = []
-lines_text number (l ∷ ls) = line_text number l ++ lines_text (suc number) ls
+-- the member that a line is about
+abbrev pub about : TraceLine → Member
+about (Base m f) = m
+about (Step left over m f) = m
+
+-- the line of this number, about a member that brings these characters
+abbrev pub line_text : List ℕ → ℕ → TraceLine → List ℕ
+line_text chars number (Base m f) = base_text number m chars f
+line_text chars number (Step left over m f) = step_text number left over m chars f
+
+-- the lines, of which the first has this number; each form is written with the characters that the line's member brings
+abbrev pub lines_text : List OpData → ℕ → List TraceLine → List ℕ
+lines_text h number [] = []
+lines_text h number (l ∷ ls) = line_text (letters_by h (about l)) number l ++ lines_text h (suc number) ls
 
 -- `refused unknown MEMBER` and a line feed
 abbrev pub unknown_text : Member → List ℕ
@@ -43,7 +55,7 @@ abbrev pub IsExplainedIn : Member → State → Report → Type 0
 IsExplainedIn m s reply =
     ((is_known s.history m ≡ false) × (reply ≡ refusing (unknown_text m)))
     ⊎ ((is_known s.history m ≡ true)
-    × ((lines : List TraceLine) × IsExplanation s.history m lines × (reply ≡ accepting (lines_text 1 lines))))
+    × ((lines : List TraceLine) × IsExplanation s.history m lines × (reply ≡ accepting (lines_text s.history 1 lines))))
 
 -- `explain`: the log is loaded as site 0
 abbrev pub IsExplained : Member → List ℕ → Report → Type 0

@@ -1,16 +1,20 @@
 //! The command `explain`.
 
 ghost use Rattle.std.specs.Prelude.{◌≡◌, ◌++◌, IfOk, OnOk};
+ghost use Rattle.context_diff.specs.Ops.{data_of};
+ghost use Rattle.fixed_replay.specs.Replayed.{letters_of};
 ghost use Rattle.cot_site.specs.Sites.{state_of};
 ghost use Rattle.log_replies.specs.Answers.{IsAppended};
-ghost use Rattle.log_replies.specs.Explaining.{IsExplained, IsExplainedIn, line_text, lines_text, unknown_text};
+ghost use Rattle.log_replies.specs.Explaining.{IsExplained, IsExplainedIn, about, letters_by, line_text, lines_text, unknown_text};
 
 use crate::replying::Replies;
+use context_diff::{Book, Op};
 use cot_site::Site;
 use op_name::{Member, Memory};
 use script_text::{base_line, step_line};
 use site_answers::put_member;
 use std::alloc::Global;
+use std::slice;
 use trace_explain::{TraceLine, ends_in_executed_form, trace};
 
 /// Loads a log as site 0, and writes the steps that derive the form in which this member was executed there.
@@ -53,7 +57,7 @@ fn explain_member(
     ends_in_executed_form();
     let mut lines = Vec::new(alloc);
     if trace(alloc, book, member, &mut lines)? {
-        put_lines(&lines, out)?;
+        put_lines(book, &lines, out)?;
         Ok(false)
     } else {
         refuse_unknown(*member, out)?;
@@ -61,30 +65,60 @@ fn explain_member(
     }
 }
 
-// Appends the lines of a trace, numbered from 1.
-fn put_lines(lines: &[TraceLine], out: &mut Vec<u8>) -> Result<(), Memory>
-    ensures { OnOk result (out.new.items ≡ out.old.items ++ lines_text 1 lines.now) }
+// Appends the lines of a trace in the book, numbered from 1.
+fn put_lines(book: &Book, lines: &[TraceLine], out: &mut Vec<u8>) -> Result<(), Memory>
+    ensures { OnOk result (out.new.items ≡ out.old.items ++ lines_text book.now.ops 1 lines.now) }
 {
     let mut number = 0;
     for line in lines {
         number += 1;
-        put_line(number, line, out)?;
+        put_line(book, number, line, out)?;
     }
     Ok(())
 }
 
-// Appends a line of a trace, which has this number.
-fn put_line(number: u64, line: &TraceLine, out: &mut Vec<u8>) -> Result<(), Memory>
-    ensures { OnOk result (out.new.items ≡ out.old.items ++ line_text number line.now) }
+// Appends a line of a trace in the book, which has this number.
+fn put_line(book: &Book, number: u64, line: &TraceLine, out: &mut Vec<u8>) -> Result<(), Memory>
+    ensures { OnOk result (out.new.items ≡ out.old.items ++ line_text (letters_by book.now.ops (about line.now)) number line.now) }
 {
     match line {
-        TraceLine::Base { member, form } => base_line(number, *member, form, out),
+        TraceLine::Base { member, form } => {
+            let letters = letters_by(book, member);
+            base_line(number, *member, letters, form, out)
+        }
         TraceLine::Step {
             left,
             over,
             member,
             form,
-        } => step_line(number, *left, *over, *member, form, out),
+        } => {
+            let letters = letters_by(book, member);
+            step_line(number, *left, *over, *member, letters, form, out)
+        }
+    }
+}
+
+// The characters that a member of the book brings: that of an insert, none of a delete or a group.
+fn letters_by<'a>(book: &'a Book, member: &Member) -> &'a [char]
+    ensures { result.now ≡ letters_by book.now.ops member.now }
+{
+    book.known();
+    match member {
+        Member::Original(name) => match book.original(name) {
+            Some(op) => letters_of(op),
+            None => &[],
+        },
+        Member::Group(_, _) => &[],
+    }
+}
+
+// The characters that an operation brings.
+fn letters_of(op: &Op) -> &[char]
+    ensures { result.now ≡ letters_of (data_of op.now) }
+{
+    match op {
+        Op::Insert { ch, .. } => slice::from_ref(ch),
+        Op::Delete { .. } | Op::Undo { .. } => &[],
     }
 }
 
