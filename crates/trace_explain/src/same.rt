@@ -24,7 +24,7 @@ pub fn is_same(a: &Form, b: &Form) -> bool
 fn is_same_insert(a: &Ins, b: &Ins) -> bool
     ensures { IsTrue result ↔ (a.now ≡ b.now) }
 {
-    a.place == b.place && a.site == b.site && a.name == b.name
+    a.place == b.place && a.site == b.site && a.len == b.len && a.name == b.name
 }
 
 // Whether the two covers are the same.
