@@ -1,4 +1,4 @@
-use Rattle.std.proofs.Common.{◌≡◌, ◌++◌, ◌≤◌, ℕ, List, take, length, encode_utf8, encode_utf8_all, sym, ap, ◌∙◌, append_assoc, arith}
+use Rattle.std.proofs.Common.{◌++◌, ◌≤◌, ℕ, List, take, length, encode_utf8, encode_utf8_all, sym, ap, ◌∙◌, append_assoc, arith}
 use Rattle.std.proofs.lemmas.List.{take_all}
 use Rattle.visible_view.specs.Code.{flagged}
 use Rattle.visible_view.proofs.ShownText.{flagged_more, flagged_same}
