@@ -61,7 +61,8 @@ module _ (o : OpData) where
   letters_among (p ∷ ps) one at = elim (cases_Bool (member_eq (member_of p) (member_of o))) [
     | inl same ↦ rw same (ap letters_of (one p (contains_here p ps) (member_same (member_of p) (member_of o) same)))
     | inr other ↦ rw other (elim (contains_cases p ps o at) [
-      | inl is ↦ absurd (false≢true (sym other ∙ (ap (λ (q : OpData). member_eq (member_of q) (member_of o)) is ∙ member_itself (member_of o))))
+      | inl is ↦ absurd (false≢true (sym other
+          ∙ (ap (λ (q : OpData). member_eq (member_of q) (member_of o)) is ∙ member_itself (member_of o))))
       | inr later ↦ letters_among ps (λ q there is. one q (contains_later p ps q there) is) later
     ])
   ]

@@ -9,7 +9,8 @@ pub returns-in-Some : goal.returns-in-Some
 returns-in-Some c =
     let h = c.args.book.now.ops in
     c.letters_of.ensures
-    ∙ sym (letters_original h c.in-Original.name (data_of c.in-Some.op.now) c.known.ensures.valid c.in-Some.ensures.there c.in-Some.ensures.named)
+    ∙ sym (letters_original h c.in-Original.name (data_of c.in-Some.op.now) c.known.ensures.valid c.in-Some.ensures.there
+    c.in-Some.ensures.named)
     ∙ sym (ap (letters_by h) c.in-Original.is)
 
 pub returns-in-None : goal.returns-in-None
