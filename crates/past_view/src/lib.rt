@@ -9,9 +9,9 @@ mod counted;
 mod laws;
 mod lines;
 mod past;
-mod playback;
+mod playing;
 
 pub use laws::one_place;
 pub use lines::{line_of_place, place_of_line};
 pub use past::{AtBad, text_at};
-pub use playback::{PlayBad, playback};
+pub use playing::{PlayBad, playback};

@@ -11,7 +11,7 @@ use outside_io::Sink;
 use std::alloc::Global;
 
 /// Why a history isn't played to its end.
-#[derive(Clone, Copy, Debug, PartialEq, Eq)]
+#[derive(Clone, Copy, Debug, PartialEq, Eq, Drop)]
 pub enum PlayBad {
     /// The sink failed.
     Fault,
