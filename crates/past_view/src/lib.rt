@@ -12,4 +12,4 @@ mod past;
 
 pub use laws::one_place;
 pub use lines::{line_of_place, place_of_line};
-pub use past::{AtBad, text_at};
+pub use past::{AtBad, text_at, text_before};

