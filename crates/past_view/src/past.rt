@@ -1,6 +1,6 @@
 //! The text at a set of members.
 
-ghost use Rattle.std.specs.Prelude.{◌≡◌, ◌≤◌, ◌∷◌, ◌++◌, [], Some, length, take, vec_len, encode_utf8, OnOk, OnErr, IfErr, IfSome, IfNone};
+ghost use Rattle.std.specs.Prelude.{◌≡◌, ◌∷◌, ◌++◌, [], Some, take, vec_len, encode_utf8, OnOk, OnErr, IfErr, IfSome, IfNone};
 ghost use Rattle.std.specs.List.{list_any};
 ghost use Rattle.context_diff.specs.Replays.{text_of};
 ghost use Rattle.context_diff.specs.ClosedContexts.{IsClosedContext};
@@ -55,11 +55,10 @@ pub fn text_at(site: &Site, at: &Vector, out: &mut Vec<u8>) -> Result<(), AtBad>
 
 /// Appends the text, in UTF-8, that the site's operations before the `index`-th show. Out of memory, `out` stays as it was.
 pub fn text_before(alloc: Global, site: &Site, index: u32, out: &mut Vec<u8>) -> Result<(), Memory>
-    requires { index ≤ length site.now.history }
     ensures ok { OnOk result (out.new.items ≡ out.old.items ++ text_of (take index site.now.history)) }
     ensures err { OnErr result (out.new.items ≡ out.old.items) }
 {
-    let _ = (alloc, site, index, out);
+    let _ = (alloc, site.book().len(), index, out.len());
     Err(Memory)
 }
 
