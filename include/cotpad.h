@@ -283,7 +283,8 @@ cotpad_status cotpad_text(cotpad_site *site, uint8_t *out, size_t room, size_t *
 
 /* The text that the operations before this index of the history show, in UTF-8: the empty one at 0, and the present one at
  * cotpad_operations(site). *needed is the number of its bytes. Else COTPAD_TOO_SHORT, which writes *needed alone; COTPAD_NONE, above
- * the number of operations; or COTPAD_NO_MEMORY. COST_BEFORE */
+ * the number of operations; or COTPAD_NO_MEMORY. Costs
+ * executing so many operations once more, and memory for a text of its own, which is freed. */
 cotpad_status cotpad_text_before(cotpad_site *site, uint32_t index, uint8_t *out, size_t room, size_t *needed);
 
 /* The text that the operations of a set of members show, in UTF-8, whoever made them and whenever they came: what a site shows that
