@@ -74,7 +74,8 @@ fn are_undone(undone: &[CotpadMember]) -> bool
 
 // Whether it can be undone, and that as often.
 fn is_undone(member: &CotpadMember) -> bool
-    ensures { IsTrue result ↔ IsName member.now.site member.now.number × (1 ≤ member.now.generation) × (member.now.generation ≤ GENERATIONS) }
+    ensures { IsTrue result ↔ IsName member.now.site member.now.number × (1 ≤ member.now.generation)
+        × (member.now.generation ≤ GENERATIONS) }
 {
     member.site < u32::from(SITES)
         && 1 <= member.number
