@@ -129,6 +129,8 @@ check-hosts:
 	bin/no_memory
 	$(CC) $(HOST_FLAGS) -o bin/settles tools/hosts/settles.c $(LIB)/libcotpad.a
 	bin/settles
+	$(CC) $(HOST_FLAGS) -o bin/pasts tools/hosts/pasts.c $(LIB)/libcotpad.a
+	bin/pasts
 # In C99, which sees no layout, and in C11 and C++11, which do.
 	@set -e; for language in 'c -std=c99' 'c -std=c11' 'c++ -std=c++11'; do \
 		$(CC) -x $$language -Wall -Wextra -Wpedantic -Werror -O2 -Iinclude -o bin/numbers tools/hosts/numbers.c -x none $(LIB)/libcotpad.a; \

@@ -49,7 +49,7 @@ typedef uint32_t cotpad_status;
 #define COTPAD_SITE_OUT 2u        /* the number of the site is above 63 */
 #define COTPAD_PLACE_OUT 3u       /* the text has no such place */
 #define COTPAD_NO_CHARACTER 4u    /* the number is no Unicode scalar value, or the bytes are no UTF-8 */
-#define COTPAD_UNKNOWN 5u         /* the site has integrated no insert or delete of this name */
+#define COTPAD_UNKNOWN 5u         /* the site has integrated no insert or delete of this name; or it lacks this member of a set */
 #define COTPAD_NOT_IN_FORCE 6u    /* it is undone already */
 #define COTPAD_IN_FORCE 7u        /* it isn't undone */
 #define COTPAD_GENERATION_FULL 8u /* it was undone and redone 65,535 times, as often as can be */
@@ -73,6 +73,11 @@ typedef uint32_t cotpad_status;
  * cotpad_settle tells its own releases alone. Of cotpad_save: a waiting operation is ready, and nothing is written. */
 #define COTPAD_UNSETTLED 20u
 
+/* Of a set of members. */
+#define COTPAD_NO_SET 21u     /* the lists spell no set: sites or names don't rise, or a number is out of its range */
+#define COTPAD_STRAY 22u      /* the set has undos of an insert or delete that it lacks */
+#define COTPAD_NOT_CLOSED 23u /* the set lacks what the last insert or delete that it has of a site was made after */
+
 /* An insert or delete, by the site that made it and the number that it gave, from 1, at generation 0; or all undos (odd
  * generation) or redos (even generation) of it at that generation. */
 typedef struct {
@@ -80,6 +85,12 @@ typedef struct {
     uint32_t number;
     uint32_t generation;
 } cotpad_member;
+
+/* How many inserts and deletes of a site a set of members has: its first ones. */
+typedef struct {
+    uint32_t site;
+    uint32_t count;
+} cotpad_count;
 
 /* What an operation is. */
 #define COTPAD_OPERATION_INSERT 1u
@@ -145,6 +156,8 @@ typedef struct {
 COTPAD_LAYOUT(sizeof(cotpad_member) == 12);
 COTPAD_LAYOUT(offsetof(cotpad_member, number) == 4);
 COTPAD_LAYOUT(offsetof(cotpad_member, generation) == 8);
+COTPAD_LAYOUT(sizeof(cotpad_count) == 8);
+COTPAD_LAYOUT(offsetof(cotpad_count, count) == 4);
 COTPAD_LAYOUT(sizeof(cotpad_operation) == 24);
 COTPAD_LAYOUT(offsetof(cotpad_operation, author) == 4);
 COTPAD_LAYOUT(offsetof(cotpad_operation, scalar) == 8);
@@ -267,6 +280,25 @@ cotpad_status cotpad_release(cotpad_site *site, cotpad_verdict *verdict);
 /* The shown text in UTF-8, with no byte after it; *needed is the number of its bytes. Else COTPAD_TOO_SHORT, which writes
  * *needed alone, or COTPAD_NO_MEMORY. */
 cotpad_status cotpad_text(cotpad_site *site, uint8_t *out, size_t room, size_t *needed);
+
+/* The text that the operations before this index of the history show, in UTF-8: the empty one at 0, and the present one at
+ * cotpad_operations(site). *needed is the number of its bytes. Else COTPAD_TOO_SHORT, which writes *needed alone; COTPAD_NONE, above
+ * the number of operations; or COTPAD_NO_MEMORY. Costs
+ * executing so many operations once more, and memory for a text of its own, which is freed. */
+cotpad_status cotpad_text_before(cotpad_site *site, uint32_t index, uint8_t *out, size_t room, size_t *needed);
+
+/* The text that the operations of a set of members show, in UTF-8, whoever made them and whenever they came: what a site shows that
+ * has these alone. `counts` tells of how many inserts and deletes of each site the set has the first ones, sites rising, each count 1
+ * to 1,000,000; `undone` each name of which it has undos or redos, names rising by site and number, with the greatest generation, 1
+ * to 65,535: the lower ones are in it too. *needed is the number of the bytes. Else COTPAD_TOO_SHORT, which writes *needed alone;
+ * COTPAD_NO_SET, where the lists are none of these; COTPAD_NO_MEMORY; or, of the first that holds, with *why written:
+ * COTPAD_UNKNOWN, where the site has not integrated all of the set: *why is the first member of it that it lacks, inserts and deletes
+ * before undos, each rising; COTPAD_STRAY, where it has undos of what it hasn't itself: *why is the first such name, at generation 0;
+ * or COTPAD_NOT_CLOSED, where its last insert or delete of why->site, the least such site, was made after something that it lacks
+ * (why->number is 0). What a site has is such a set, and so is what it has had at any time. Costs a look at each character that was
+ * ever inserted, shown or not, and at its deletes, whatever the set. */
+cotpad_status cotpad_text_at(cotpad_site *site, const cotpad_count *counts, size_t sites, const cotpad_member *undone, size_t names,
+    uint8_t *out, size_t room, size_t *needed, cotpad_member *why);
 
 /* An exchange: two sites tell each other what they have, and send what the other lacks, by three messages. The joiner
  * offers the first; the server answers it by the second; the joiner takes that in, and closes with the third, which the

@@ -14,7 +14,7 @@ try:
 except ImportError:  # before setuptools 70.1
     from wheel.bdist_wheel import bdist_wheel
 
-VERSION = "1.1.0"
+VERSION = "1.2.0"
 
 
 class WithLibrary(build_py):

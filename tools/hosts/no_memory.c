@@ -240,6 +240,81 @@ static void shows(cotpad_site *site, const char *text) {
     if (count != strlen(text) || memcmp(shown, text, count) != 0) stop("another text");
 }
 
+/* A text of the past, before the operation at an index or, where lists are given, at the set that they spell. A refused call has
+ * written none of it, and told nothing. */
+struct past {
+    uint32_t index;
+    const cotpad_count *counts;
+    size_t sites;
+    const cotpad_member *undone;
+    size_t names;
+};
+
+static cotpad_status past_of(cotpad_site *site, const struct past *past, uint8_t *out, size_t room, size_t *count, cotpad_member *why) {
+    if (past->counts == NULL) return cotpad_text_before(site, past->index, out, room, count);
+    return cotpad_text_at(site, past->counts, past->sites, past->undone, past->names, out, room, count, why);
+}
+
+static void showed(cotpad_site *site, const struct past *past, const char *text) {
+    static const cotpad_member none;
+    uint8_t shown[64];
+    size_t count = 65;
+    cotpad_member why = {0};
+    struct counts before = counts_of(site);
+    memset(shown, 0xff, sizeof shown);
+    cotpad_status answer = past_of(site, past, shown, sizeof shown, &count, &why);
+    if (answer == COTPAD_NO_MEMORY) {
+        again++;
+        for (size_t i = 0; i < sizeof shown; i++)
+            if (shown[i] != 0xff) stop("a refused call wrote a text of the past");
+        if (count != 65 || !has_counts(site, before)) stop("a refused call counted a text of the past, or changed the site");
+        answer = past_of(site, past, shown, sizeof shown, &count, &why);
+    }
+    if (answer != COTPAD_OK) stop("a text of the past");
+    if (count != strlen(text) || memcmp(shown, text, count) != 0) stop("another text of the past");
+    if (memcmp(&why, &none, sizeof why) != 0) stop("a set that has a text is told");
+}
+
+/* Inserts 0.1 of a, 0.2 of b, a delete 0.3 of a, an undo of it, and 1.1 of x, which came from another site
+ * that had nothing: it stands behind what was inserted at the same place by a site of a smaller number. */
+static void showed_before(cotpad_site *site) {
+    static const char *const texts[] = {"", "a", "ab", "b", "ab", "abx"};
+    for (uint32_t i = 0; i < sizeof texts / sizeof *texts; i++) {
+        struct past past = {i, NULL, 0, NULL, 0};
+        showed(site, &past, texts[i]);
+    }
+}
+
+static void showed_at(cotpad_site *site) {
+    static const cotpad_count both[] = {{0, 3}, {1, 1}}, one[] = {{0, 2}}, other[] = {{1, 1}};
+    static const cotpad_member undone[] = {{0, 3, 1}};
+    struct past deleted = {0, both, 2, undone, 0}, undo = {0, both, 2, undone, 1}, two = {0, one, 1, undone, 0};
+    struct past alone = {0, other, 1, undone, 0}, nothing = {0, one, 0, undone, 0};
+    showed(site, &deleted, "bx");
+    showed(site, &undo, "abx");
+    showed(site, &two, "ab");
+    showed(site, &alone, "x");
+    showed(site, &nothing, "");
+}
+
+static void pasts(void) {
+    cotpad_site first = COTPAD_SITE_EMPTY, second = COTPAD_SITE_EMPTY;
+    cotpad_site *here = &first, *there = &second;
+    DO(cotpad_open(here, 0));
+    DO(cotpad_open(there, 1));
+    EDIT(here, cotpad_insert(here, 0, 'a'));
+    EDIT(here, cotpad_insert(here, 1, 'b'));
+    EDIT(here, cotpad_delete(here, 0));
+    EDIT(here, cotpad_undo(here, 0, 3));
+    EDIT(there, cotpad_insert(there, 0, 'x'));
+    if (send(there, 0, here) != COTPAD_VERDICT_INTEGRATED) stop("the insert isn't integrated");
+    if (cotpad_operations(here) != 5) stop("five operations aren't there");
+    showed_before(here);
+    showed_at(here);
+    cotpad_close(there);
+    cotpad_close(here);
+}
+
 static void same_text(cotpad_site *a, cotpad_site *b, size_t characters) {
     uint8_t one[64], other[64];
     size_t count = text_of(a, one, sizeof one), others = text_of(b, other, sizeof other);
@@ -336,6 +411,7 @@ static void sessions(void) {
     session();
     backwards();
     freed_by_an_undo();
+    pasts();
 }
 
 int main(void) {

@@ -1,15 +1,10 @@
 -- The messages of an exchange, handed out into a host's buffer.
-use Rattle.std.specs.Prelude.{◌≡◌, ◌⊎◌, ℕ, List, []}
+use Rattle.std.specs.Prelude.{ℕ, List, []}
 use Rattle.context_diff.specs.Operations.{OpData}
 use Rattle.cot_site.specs.States.{State}
 use Rattle.peer_exchange.specs.Messages.{IsAnswered}
 use Rattle.peer_exchange.specs.Closing.{IsClosed}
-use Rattle.cotpad_c.specs.declared.status.TheConstants.{OK, TOO_SHORT}
 use Rattle.cotpad_c.specs.Statuses.{Wrote}
-
--- the message was made: it is handed out, or the buffer is too short for it
-abbrev pub IsMade : ℕ → Type 0
-IsMade n = (n ≡ OK) ⊎ (n ≡ TOO_SHORT)
 
 -- the second message that answers the first one was made
 pub record Answers (h : List OpData) (first : List ℕ) (n : ℕ) (old new : List ℕ) (needed : ℕ) : Type 0 where

@@ -33,6 +33,9 @@ pub record AreStatuses : Type 0 where
   pub extra : status.EXTRA ≡ 18
   pub refused : status.REFUSED ≡ 19
   pub unsettled : status.UNSETTLED ≡ 20
+  pub no_set : status.NO_SET ≡ 21
+  pub stray : status.STRAY ≡ 22
+  pub not_closed : status.NOT_CLOSED ≡ 23
 
 -- what an operation is
 pub record AreOperationKinds : Type 0 where

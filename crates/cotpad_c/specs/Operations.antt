@@ -21,6 +21,10 @@ abbrev pub member_told : Member → CotpadMember
 member_told (Original n) = record { site = n.site; number = n.number; generation = 0 }
 member_told (Group n g) = record { site = n.site; number = n.number; generation = g }
 
+-- a site, and no name of it: numbers begin with 1
+abbrev pub site_told : ℕ → CotpadMember
+site_told s = record { site = s; number = 0; generation = 0 }
+
 -- undos have the odd generations, redos the even ones
 abbrev pub turn_kind : ℕ → ℕ
 turn_kind g = if is_even g then REDO else UNDO

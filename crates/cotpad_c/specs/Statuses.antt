@@ -37,6 +37,10 @@ pub record Did (n : ℕ) (r : Result OpData Local) (a b : Reached) : Type 0 wher
   pub status : n ≡ number_of answer
   pub done : IsDone r a answer b
 
+-- the bytes were made: they are handed out, or the buffer is too short for them
+abbrev pub IsMade : ℕ → Type 0
+IsMade n = (n ≡ OK) ⊎ (n ≡ TOO_SHORT)
+
 -- bytes that a call hands out into a buffer: all of them, or none where the buffer is too short; their number either way
 pub record Wrote (n : ℕ) (bytes old new : List ℕ) (needed : ℕ) : Type 0 where
   pub count : needed ≡ length bytes

@@ -10,10 +10,10 @@ ghost use Rattle.peer_exchange.specs.Messages.{first_message};
 ghost use Rattle.peer_exchange.specs.Refusals.{IsUnread};
 ghost use Rattle.peer_exchange.specs.Closing.{IsFinished, IsUnclosed, IsUnfinished};
 ghost use Rattle.cotpad_c.specs.declared.status.TheConstants.{OK, NO_MEMORY, TOO_LONG};
-ghost use Rattle.cotpad_c.specs.Exchanges.{IsMade, Answers, Closes};
+ghost use Rattle.cotpad_c.specs.Exchanges.{Answers, Closes};
 ghost use Rattle.cotpad_c.specs.Hosting.{hosting};
 ghost use Rattle.cotpad_c.specs.Refusals.{IsRefused};
-ghost use Rattle.cotpad_c.specs.Statuses.{Wrote};
+ghost use Rattle.cotpad_c.specs.Statuses.{IsMade, Wrote};
 
 use crate::hosted::Hosted;
 use crate::reading::hand_out;

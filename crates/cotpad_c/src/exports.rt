@@ -5,6 +5,7 @@ ghost use Rattle.std.specs.Char.{IsScalar};
 ghost use Rattle.op_name.specs.NameData.{NameData, IsName};
 ghost use Rattle.op_name.specs.declared.name.TheConstants.{SITES};
 ghost use Rattle.op_name.specs.declared.member.Member.TheVariants.{Original};
+ghost use Rattle.context_vector.specs.Contexts.{IsContext};
 ghost use Rattle.context_diff.specs.Operations.{OpData};
 ghost use Rattle.context_diff.specs.Replays.{Cell, shown, text_of};
 ghost use Rattle.site_answers.specs.declared.release.Release.{Release};
@@ -24,25 +25,26 @@ ghost use Rattle.peer_exchange.specs.Messages.{first_message};
 ghost use Rattle.peer_exchange.specs.Refusals.{IsUnread};
 ghost use Rattle.peer_exchange.specs.Closing.{IsFinished, IsUnclosed, IsUnfinished};
 ghost use Rattle.participant.specs.Reached.{from, all_settled, IsHalfSettled};
-ghost use Rattle.cotpad_c.specs.declared.status.TheConstants.{OK, NO_MEMORY, SITE_OUT, PLACE_OUT, NO_CHARACTER, NO_NAME, NONE, TOO_SHORT, TOO_LONG, UNSETTLED};
+ghost use Rattle.cotpad_c.specs.declared.status.TheConstants.{OK, NO_MEMORY, SITE_OUT, PLACE_OUT, NO_CHARACTER, NO_NAME, NONE, TOO_SHORT, TOO_LONG, UNSETTLED, NO_SET};
 ghost use Rattle.cotpad_c.specs.declared.exports.TheConstants.{VERSION};
 ghost use Rattle.cotpad_c.specs.Operations.{member_told, operation_told};
 ghost use Rattle.cotpad_c.specs.Hosting.{hosting};
-ghost use Rattle.cotpad_c.specs.Exchanges.{IsMade, Answers, Closes};
+ghost use Rattle.cotpad_c.specs.Exchanges.{Answers, Closes};
 ghost use Rattle.cotpad_c.specs.Numbers.{AreTheNumbers};
+ghost use Rattle.cotpad_c.specs.Pasts.{set_told, IsNoPast, IsPast};
 ghost use Rattle.cotpad_c.specs.Refusals.{IsLogRefused, IsRefused};
 ghost use Rattle.cotpad_c.specs.Runs.{IsTyped, IsCut};
 ghost use Rattle.cotpad_c.specs.Saving.{Loads};
-ghost use Rattle.cotpad_c.specs.Statuses.{Did, Wrote};
+ghost use Rattle.cotpad_c.specs.Statuses.{Did, IsMade, Wrote};
 ghost use Rattle.cotpad_c.specs.Verdicts.{of_member, answered, received, IsHalfReceived, IsReleased};
 ghost use Rattle.cotpad_c.specs.Held.{fresh, held, held_site, held_state, held_releases, held_reached};
 
 use crate::handle::CotpadSite;
-use crate::operation::{CotpadMember, CotpadOperation};
+use crate::operation::{CotpadCount, CotpadMember, CotpadOperation};
 use crate::refusals::log_refused;
 use crate::status::{NO_MEMORY, OK, SITE_OUT, TOO_LONG};
 use crate::verdict::CotpadVerdict;
-use crate::{edits, exchange, making, reading, receiving, runs};
+use crate::{edits, exchange, making, pasts, reading, receiving, runs};
 use op_name::SITES;
 use peer_exchange::MAX_MESSAGE;
 use session_log::MAX_LOG;
@@ -382,6 +384,51 @@ pub extern "C" fn cotpad_text(
     ensures same { site.new.site ≡ site.old.site }
 {
     reading::text(alloc, site.inner().site(), out, needed)
+}
+
+/// The text at the set of members that the lists spell, in UTF-8, or why it has none.
+#[unsafe(no_mangle)]
+pub extern "C" fn cotpad_text_at(
+    alloc: Global,
+    site: &mut CotpadSite,
+    counts: &[CotpadCount],
+    undone: &[CotpadMember],
+    out: &mut [u8],
+    needed: &mut usize,
+    why: &mut CotpadMember,
+) -> u32
+    requires { IsSome site.old.site }
+    ensures no_set { (result ≡ NO_SET) ↔ (¬ IsContext (set_told counts.now undone.now)) }
+    ensures made { IsMade result
+        → IsPast (held_site site.old.site).history (set_told counts.now undone.now) result out.old out.new needed.new
+        × (why.new ≡ why.old) }
+    ensures refused { IsContext (set_told counts.now undone.now) → ¬ IsMade result
+        → IsNoPast (held_site site.old.site).history (set_told counts.now undone.now) result why.old why.new }
+    ensures err { ¬ IsMade result → (out.new ≡ out.old) × (needed.new ≡ needed.old) }
+    ensures kept { result ≡ NO_SET → why.new ≡ why.old }
+    ensures same { site.new.site ≡ site.old.site }
+{
+    pasts::text_at(alloc, site.inner().site(), counts, undone, out, needed, why)
+}
+
+/// The text that the operations before this index show, in UTF-8: the empty one at 0, and the present one at the number of operations.
+#[unsafe(no_mangle)]
+pub extern "C" fn cotpad_text_before(
+    alloc: Global,
+    site: &mut CotpadSite,
+    index: u32,
+    out: &mut [u8],
+    needed: &mut usize,
+) -> u32
+    requires { IsSome site.old.site }
+    ensures wrote { index ≤ length (held_site site.old.site).history
+        → (result ≡ NO_MEMORY) ⊎ Wrote result (text_of (take index (held_site site.old.site).history)) out.old out.new needed.new }
+    ensures none { length (held_site site.old.site).history < index
+        → (result ≡ NONE) × (out.new ≡ out.old) × (needed.new ≡ needed.old) }
+    ensures err { result ≡ NO_MEMORY → (out.new ≡ out.old) × (needed.new ≡ needed.old) }
+    ensures same { site.new.site ≡ site.old.site }
+{
+    pasts::text_before(alloc, site.inner().site(), index, out, needed)
 }
 
 /// The log of the site, where it is loaded again.

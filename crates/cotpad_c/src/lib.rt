@@ -19,10 +19,12 @@ mod lending;
 mod making;
 mod operation;
 mod parts;
+mod pasts;
 mod reading;
 mod receiving;
 mod refusals;
 mod runs;
+mod sets;
 mod status;
 #[cfg(test)]
 mod tests;

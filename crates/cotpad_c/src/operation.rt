@@ -2,7 +2,7 @@
 
 ghost use Rattle.std.specs.Prelude.{◌≡◌};
 ghost use Rattle.context_diff.specs.Ops.{data_of};
-ghost use Rattle.cotpad_c.specs.Operations.{no_member, no_operation, member_told, turn_kind, operation_told};
+ghost use Rattle.cotpad_c.specs.Operations.{no_member, no_operation, member_told, site_told, turn_kind, operation_told};
 
 use crate::kinds::{DELETE, INSERT, REDO, UNDO};
 use context_diff::Op;
@@ -15,6 +15,14 @@ pub struct CotpadMember {
     pub site: u32,
     pub number: u32,
     pub generation: u32,
+}
+
+/// How many inserts and deletes of a site a set has: its first ones.
+#[repr(C)]
+#[derive(Clone, Copy)]
+pub struct CotpadCount {
+    pub site: u32,
+    pub count: u32,
 }
 
 /// What an operation is, who made it, and the character of an insert.
@@ -66,6 +74,17 @@ fn named(name: &Name, generation: u16) -> CotpadMember
         site: u32::from(name.site),
         number: name.number,
         generation: u32::from(generation),
+    }
+}
+
+/// A site, and no name of it.
+pub(crate) fn site_told(site: u16) -> CotpadMember
+    ensures { result ≡ site_told site }
+{
+    CotpadMember {
+        site: u32::from(site),
+        number: 0,
+        generation: 0,
     }
 }
 

@@ -1,16 +1,21 @@
-//! Why an edit isn't made, and why a log or a message isn't taken, as a host is told.
+//! Why an edit isn't made, why a log or a message isn't taken, and why a set has no text, as a host is told.
 
 ghost use Rattle.std.specs.Prelude.{◌≡◌, ◌≢◌};
 ghost use Rattle.peer_exchange.specs.declared.peer.Peer.TheVariants.{Memory};
-ghost use Rattle.cotpad_c.specs.declared.status.TheConstants.{OK, NO_MEMORY, TOO_SHORT};
+ghost use Rattle.past_view.specs.declared.past.AtBad.TheVariants as bad;
+ghost use Rattle.cotpad_c.specs.declared.status.TheConstants.{OK, NO_MEMORY, TOO_SHORT, NO_SET};
+ghost use Rattle.cotpad_c.specs.Pasts.{past_status, past_told};
 ghost use Rattle.cotpad_c.specs.Refusals.{log_status, log_told, bytes_status, bytes_told, peer_status, peer_told};
-ghost use Rattle.cotpad_c.specs.Statuses.{refusal, stop_number, number_of};
+ghost use Rattle.cotpad_c.specs.Statuses.{refusal, stop_number, number_of, IsMade};
 
+use crate::operation::{CotpadMember, member_told, site_told};
 use crate::status;
 use crate::verdict::{CotpadVerdict, at_offset, malformed, unfit};
 use context_diff::Op;
 use cot_site::Local;
+use op_name::Member;
 use participant::Stopped;
+use past_view::AtBad;
 use peer_exchange::{Peer, PeerCause};
 use session_log::LogBad;
 
@@ -133,5 +138,30 @@ fn bytes_told(offset: u32, cause: PeerCause) -> CotpadVerdict
     match cause {
         PeerCause::Frame(why) => malformed(why, offset),
         PeerCause::Head | PeerCause::Cut | PeerCause::Extra | PeerCause::Limit => at_offset(offset),
+    }
+}
+
+/// Tells why a set has no text.
+pub(crate) fn past_refused(cause: AtBad, why: &mut CotpadMember) -> u32
+    ensures status { result ≡ past_status cause }
+    ensures told { why.new ≡ past_told why.old cause }
+    ensures memory { result ≡ NO_MEMORY → cause ≡ bad.Memory }
+    ensures not_made { ¬ IsMade result }
+    ensures not_unspelled { result ≢ NO_SET }
+{
+    match cause {
+        AtBad::Unknown { member } => {
+            *why = member_told(member);
+            status::UNKNOWN
+        }
+        AtBad::Stray { name } => {
+            *why = member_told(Member::Original(name));
+            status::STRAY
+        }
+        AtBad::NotClosed { site } => {
+            *why = site_told(site);
+            status::NOT_CLOSED
+        }
+        AtBad::Memory => status::NO_MEMORY,
     }
 }

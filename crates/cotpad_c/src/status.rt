@@ -15,7 +15,7 @@ pub const PLACE_OUT: u32 = 3;
 /// The number is no Unicode scalar value, or the bytes are no UTF-8 (RFC 3629).
 pub const NO_CHARACTER: u32 = 4;
 
-/// The site has integrated no insert or delete of this name.
+/// The site has integrated no insert or delete of this name; or it lacks this member of a set.
 pub const UNKNOWN: u32 = 5;
 
 /// It is undone already.
@@ -63,3 +63,12 @@ pub const REFUSED: u32 = 19;
 /// A waiting operation is ready: memory ran out before it was released, though what was asked is done; or, of a site that is
 /// to be saved, it has to be released first.
 pub const UNSETTLED: u32 = 20;
+
+/// The lists spell no set of members.
+pub const NO_SET: u32 = 21;
+
+/// The set has undos of an insert or delete that it lacks.
+pub const STRAY: u32 = 22;
+
+/// The set lacks what one of its inserts and deletes was made after.
+pub const NOT_CLOSED: u32 = 23;

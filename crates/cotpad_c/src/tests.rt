@@ -3,7 +3,7 @@
 ghost use Rattle.std.specs.Prelude.{IfOk, IsSome};
 
 use crate::handle::CotpadSite;
-use crate::operation::{CotpadMember, CotpadOperation, no_member, no_operation};
+use crate::operation::{CotpadCount, CotpadMember, CotpadOperation, no_member, no_operation};
 use crate::verdict::{CotpadVerdict, incomplete};
 use crate::{exports, kinds, status};
 use std::alloc::Global;
@@ -23,6 +23,7 @@ const SECOND: &[u8] = &[
 #[test]
 fn structs_are_as_long_as_the_header_says(rt: HostRuntime) {
     assert_eq!(rt; size_of::<CotpadMember>(), 12);
+    assert_eq!(rt; size_of::<CotpadCount>(), 8);
     assert_eq!(rt; size_of::<CotpadOperation>(), 24);
     assert_eq!(rt; size_of::<CotpadVerdict>(), 64);
     assert_eq!(rt; size_of::<CotpadSite>(), 8);
@@ -251,6 +252,75 @@ fn the_name_at_a_place_is_that_of_the_insert(rt: HostRuntime) -> Result<(), Fail
         exports::cotpad_name_at(&mut site, 2, &mut name),
         status::NONE
     );
+    exports::cotpad_close(alloc, &mut site);
+    site.let_go();
+    Ok(())
+}
+
+#[test]
+fn a_text_of_the_past_is_handed_out(rt: HostRuntime) -> Result<(), Fail> {
+    let alloc = rt.alloc();
+    let mut needed = 9;
+    let mut room = [0u8; 2];
+    let mut why = no_member();
+    let mut site = opened(alloc)?;
+    // Inserts 5.1 of b, 5.2 of a before it, and an undo of 5.1.
+    assert_eq!(rt; exports::cotpad_insert(&mut site, 0, 98), status::OK);
+    assert_eq!(rt; exports::cotpad_insert(&mut site, 0, 97), status::OK);
+    assert_eq!(rt; exports::cotpad_undo(&mut site, 5, 1), status::OK);
+    assert_eq!(rt;
+        exports::cotpad_text_before(alloc, &mut site, 2, &mut room, &mut needed),
+        status::OK
+    );
+    assert_eq!(rt; needed, 2);
+    assert_eq!(rt; room[0], 97);
+    assert_eq!(rt;
+        exports::cotpad_text_before(alloc, &mut site, 4, &mut room, &mut needed),
+        status::NONE
+    );
+    let both = [CotpadCount { site: 5, count: 2 }];
+    let undone = [CotpadMember {
+        site: 5,
+        number: 1,
+        generation: 1,
+    }];
+    let answer = exports::cotpad_text_at(
+        alloc,
+        &mut site,
+        &both,
+        &undone,
+        &mut room,
+        &mut needed,
+        &mut why,
+    );
+    assert_eq!(rt; answer, status::OK);
+    assert_eq!(rt; needed, 1);
+    assert_eq!(rt; room[0], 97);
+    let none: [CotpadCount; 0] = [];
+    let answer = exports::cotpad_text_at(
+        alloc,
+        &mut site,
+        &none,
+        &undone,
+        &mut room,
+        &mut needed,
+        &mut why,
+    );
+    assert_eq!(rt; answer, status::STRAY);
+    assert_eq!(rt; why.site, 5);
+    assert_eq!(rt; why.number, 1);
+    assert_eq!(rt; why.generation, 0);
+    let out_of_range = [CotpadCount { site: 64, count: 1 }];
+    let answer = exports::cotpad_text_at(
+        alloc,
+        &mut site,
+        &out_of_range,
+        &undone,
+        &mut room,
+        &mut needed,
+        &mut why,
+    );
+    assert_eq!(rt; answer, status::NO_SET);
     exports::cotpad_close(alloc, &mut site);
     site.let_go();
     Ok(())

@@ -21,7 +21,7 @@ The shared library is the one that COTPAD_LIB names, else the one in this packag
 """
 from .cursor import Cursor
 from .document import Document
-from .errors import BadBytes, CotpadError, InUse, NoDocument, NotSaved, NotTaken, Refused, Unsettled
+from .errors import BadBytes, CotpadError, InUse, NoDocument, NoText, NotSaved, NotTaken, Refused, Unsettled
 from .site import Batch, History, Incoming, Site, exchange
 from .storage import write_safely
 from .undo import Undo
@@ -29,6 +29,6 @@ from .values import Became, Cause, Delivered, Edit, Kind, Member, Name, Operatio
 
 __all__ = [
     "BadBytes", "Batch", "Became", "Cause", "CotpadError", "Cursor", "Delivered", "Document", "Edit", "History", "InUse",
-    "Incoming", "Kind", "Member", "Name", "NoDocument", "NotSaved", "NotTaken", "Operation", "Refused", "Site", "Status", "Undo",
-    "Unsettled", "exchange", "write_safely",
+    "Incoming", "Kind", "Member", "Name", "NoDocument", "NoText", "NotSaved", "NotTaken", "Operation", "Refused", "Site", "Status",
+    "Undo", "Unsettled", "exchange", "write_safely",
 ]

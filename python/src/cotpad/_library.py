@@ -18,6 +18,10 @@ class Member(ctypes.Structure):
     _fields_ = [(name, u32) for name in ("site", "number", "generation")]
 
 
+class Count(ctypes.Structure):
+    _fields_ = [(name, u32) for name in ("site", "count")]
+
+
 class Operation(ctypes.Structure):
     _fields_ = [*((name, u32) for name in ("kind", "author", "scalar")), ("member", Member)]
 
@@ -68,6 +72,7 @@ def _call(name: str, result: Any, *params: Any) -> Callable[..., int]:
 # Bytes that a call reads are passed as an address, those that it writes as an array.
 _site, _verdict, _needed = ctypes.POINTER(Handle), ctypes.POINTER(Verdict), ctypes.POINTER(size)
 _read, _out, _count = ctypes.c_void_p, ctypes.POINTER(byte), ctypes.POINTER(u32)
+_counts, _member = ctypes.POINTER(Count), ctypes.POINTER(Member)
 
 version = _call("version", u32)
 if version() != VERSION:
@@ -84,7 +89,7 @@ redo = _call("redo", u32, _site, u32, u32)
 operations = _call("operations", u32, _site)
 waiting = _call("waiting", u32, _site)
 characters = _call("characters", u32, _site)
-name_at = _call("name_at", u32, _site, u32, ctypes.POINTER(Member))
+name_at = _call("name_at", u32, _site, u32, _member)
 operation_at = _call("operation_at", u32, _site, u32, ctypes.POINTER(Operation))
 frame = _call("frame", u32, _site, u32, _out, size, _needed)
 receive = _call("receive", u32, _site, _read, size, _verdict)
@@ -93,6 +98,8 @@ released_at = _call("released_at", u32, _site, u32, _verdict)
 settle = _call("settle", u32, _site)
 release = _call("release", u32, _site, _verdict)
 text = _call("text", u32, _site, _out, size, _needed)
+text_before = _call("text_before", u32, _site, u32, _out, size, _needed)
+text_at = _call("text_at", u32, _site, _counts, size, _member, size, _out, size, _needed, _member)
 exchange_offer = _call("exchange_offer", u32, _site, _out, size, _needed)
 exchange_answer = _call("exchange_answer", u32, _site, _read, size, _out, size, _needed, _verdict)
 exchange_close = _call("exchange_close", u32, _site, _read, size, _out, size, _needed, _verdict)

@@ -5,7 +5,7 @@ import contextlib
 import errno
 import fcntl
 import os
-from collections.abc import Callable, Iterable, Iterator
+from collections.abc import Callable, Iterable, Iterator, Mapping
 from typing import BinaryIO, Optional
 
 from .errors import InUse, NoDocument, NotSaved, Refused, Unsettled
@@ -250,6 +250,14 @@ class Document:
     def text(self) -> str:
         """The shown text."""
         return self._open.text
+
+    def at(self, index: int) -> str:
+        """The text that the first `index` operations of the history show: see `Site.at`."""
+        return self._open.at(index)
+
+    def text_at(self, counts: Mapping[int, int], undone: Optional[Mapping[tuple[int, int], int]] = None) -> str:
+        """The text that a set of operations shows: see `Site.text_at`."""
+        return self._open.text_at(counts, undone)
 
     @property
     def characters(self) -> int:

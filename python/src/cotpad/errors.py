@@ -6,7 +6,7 @@ from collections.abc import Sequence
 from typing import Optional
 
 from . import _library as lib
-from .values import Became, Cause, Delivered, Edit, Name, Status, words
+from .values import Became, Cause, Delivered, Edit, Member, Name, Status, words
 
 
 class CotpadError(Exception):
@@ -49,6 +49,18 @@ class NotTaken(Refused):
         refused = self.status == Status.REFUSED
         self.became = Became(why.kind) if refused else None
         self.name = Name(why.operation.member.site, why.operation.member.number) if refused else None
+
+
+class NoText(Refused):
+    """A set of operations that has no text, by the status that says why. UNKNOWN: the site lacks some of them, and `missing` is the
+    first; STRAY: it has undos of `name`, and not that itself; NOT_CLOSED: its last insert or delete of `site` was made after something
+    that it lacks; NO_SET: a number is out of its range."""
+
+    def __init__(self, status: int, why: lib.Member) -> None:
+        super().__init__(status)
+        self.missing = Member(why.site, why.number, why.generation) if self.status == Status.UNKNOWN else None
+        self.name = Name(why.site, why.number) if self.status == Status.STRAY else None
+        self.site: Optional[int] = why.site if self.status == Status.NOT_CLOSED else None
 
 
 class BadBytes(CotpadError):
@@ -100,4 +112,11 @@ def taken(status: int, why: lib.Verdict) -> None:
     """The same of a call that reads a log or a message."""
     if status in (Status.NO_HEAD, Status.CUT, Status.MALFORMED, Status.EXTRA, Status.REFUSED):
         raise NotTaken(status, why)
+    must(status)
+
+
+def has_text(status: int, why: lib.Member) -> None:
+    """The same of a call that reads a set of operations."""
+    if status in (Status.NO_SET, Status.UNKNOWN, Status.STRAY, Status.NOT_CLOSED):
+        raise NoText(status, why)
     must(status)

@@ -6,12 +6,12 @@ import ctypes
 import threading
 import warnings
 import weakref
-from collections.abc import Callable, Iterable, Iterator, Sequence
+from collections.abc import Callable, Iterable, Iterator, Mapping, Sequence
 from pathlib import Path as PathOf
 from typing import Any, Optional, Protocol, Union, overload
 
 from . import _library as lib
-from .errors import BadBytes, CotpadError, Refused, Unsettled, must, taken
+from .errors import BadBytes, CotpadError, NoText, Refused, Unsettled, has_text, must, taken
 from .storage import Path, write_safely
 from .values import Became, Delivered, Edit, Kind, Member, Name, Operation, Status
 
@@ -368,6 +368,23 @@ class Site:
         """The shown text."""
         return self._written(lib.text).decode()
 
+    def at(self, index: int) -> str:
+        """The text that the first `index` operations of the history show: none of them at 0, and all of them at `operations`."""
+        return self._written(lib.text_before, _index(index)).decode()
+
+    def text_at(self, counts: Mapping[int, int], undone: Optional[Mapping[tuple[int, int], int]] = None) -> str:
+        """The text that a set of operations shows, whoever made them: `counts` tells of how many inserts and deletes of each site it
+        has the first ones, and `undone` of each name that it undoes or redoes the greatest generation. The set has to hold what its
+        operations were made after, as what a site has does, or had at any time. Else NoText is raised."""
+        why = lib.Member()
+        entries = sorted((site, number, generation) for (site, number), generation in (undone or {}).items())
+        if not all(_fits(it) for them in (*counts.items(), *entries) for it in them):
+            raise NoText(Status.NO_SET, why)
+        sites, names = (lib.Count * len(counts))(*sorted(counts.items())), (lib.Member * len(entries))(*entries)
+        return self._filled(
+            "text_at", lambda *out: lib.text_at(self._at, sites, len(sites), names, len(names), *out, why), lambda it: has_text(it, why)
+        ).decode()
+
     @property
     def history(self) -> History:
         """The integrated operations, in the order of integration."""
@@ -466,27 +483,31 @@ def _each(turn: Callable[[tuple[int, int]], Edit], names: Iterable[tuple[int, in
 # A number that C's types can't hold is refused as the library refuses one that is too great.
 
 
+def _fits(number: int) -> bool:
+    return 0 <= number < 1 << 32
+
+
 def _number(number: int) -> int:
-    if not 0 <= number < 1 << 32:
+    if not _fits(number):
         raise Refused(Status.SITE_OUT)
     return number
 
 
 def _place(place: int) -> int:
-    if not 0 <= place < 1 << 32:
+    if not _fits(place):
         raise Refused(Status.PLACE_OUT)
     return place
 
 
 def _index(index: int) -> int:
-    if not 0 <= index < 1 << 32:
+    if not _fits(index):
         raise Refused(Status.NONE)
     return index
 
 
 def _name(name: tuple[int, int]) -> tuple[int, int]:
     site, number = name
-    if not (0 <= site < 1 << 32 and 0 <= number < 1 << 32):
+    if not (_fits(site) and _fits(number)):
         raise Refused(Status.NO_NAME)
     return site, number
 

@@ -31,6 +31,9 @@ class Status(enum.IntEnum):
     EXTRA = 18
     REFUSED = 19
     UNSETTLED = 20
+    NO_SET = 21
+    STRAY = 22
+    NOT_CLOSED = 23
 
 
 class Kind(enum.IntEnum):

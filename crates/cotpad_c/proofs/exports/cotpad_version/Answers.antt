@@ -25,6 +25,9 @@ statuses = record {
   extra = refl;
   refused = refl;
   unsettled = refl;
+  no_set = refl;
+  stray = refl;
+  not_closed = refl;
 }
 
 operations : AreOperationKinds
