@@ -1,4 +1,5 @@
 pub mod Pasts
+pub mod Playing
 pub mod Lines
 pub mod Playing
 pub mod Laws

@@ -9,9 +9,10 @@ mod counted;
 mod laws;
 mod lines;
 mod past;
+mod player;
 mod playing;
 
 pub use laws::one_place;
 pub use lines::{line_of_place, place_of_line};
 pub use past::{AtBad, text_at};
-pub use playing::{PlayBad, playback};
+pub use playing::{PlayBad, playback, text_before};
