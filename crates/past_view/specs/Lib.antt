@@ -1,6 +1,5 @@
 pub mod Pasts
 pub mod Playing
 pub mod Lines
-pub mod Playing
 pub mod Laws
 pub mod Code
