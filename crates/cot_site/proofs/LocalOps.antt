@@ -12,7 +12,7 @@ use Rattle.context_vector.specs.Contexts.{ContextData, IsContext, HasNoStray, ha
 use Rattle.context_diff.specs.Operations.{OpData, inserting, deleting, undoing, member_of, IsWellFormed}
 use Rattle.context_diff.specs.Histories.{is_known, generation_in, context_of_all, inserts_in, LacksNothing, IsClosed, IsNext, IsValid}
 use Rattle.op_name.specs.Members.{is_even}
-use Rattle.context_diff.specs.Replays.{Insertion, Cell, insertions_in, is_earlier, put_by, sort_by, gap_of, put, replay, replay_of, is_shown, characters_of}
+use Rattle.context_diff.specs.Replays.{Insertion, Cell, run_of, cells_from, insertions_in, is_earlier, put_by, sort_by, gap_of, put, replay, replay_of, is_shown, characters_of}
 use Rattle.context_vector.proofs.CallerLemmas.{sum_at_most, entry_at_most, rank_raised}
 use Rattle.context_diff.proofs.CallerLemmas.{IsComplete, complete, next_member, context_push, generation_is, group_facts, contains_here, contains_later, holder, known_member, all_is_context, has_number, has_generation, by_pushes}
 use Rattle.fixed_replay.proofs.CallerLemmas.{gap_of_whole}
@@ -25,35 +25,55 @@ use Rattle.cot_site.specs.Commands.{place_of_shown, place_behind, count_made, ne
 
 -- ---- how many cells the replay has
 
-one_more : (a b c : List Cell) (x : Cell) → length (a ++ (b ++ (x ∷ c))) ≡ suc (length (a ++ (b ++ c)))
-one_more a b c x = omega (arith, length-append a (b ++ (x ∷ c)), length-append b (x ∷ c), length-append a (b ++ c), length-append b c)
+-- the numbers of cells of these inserts, added up
+all_cells : List Insertion → ℕ
+all_cells [] = 0
+all_cells (o ∷ os) = o.len + all_cells os
 
-length_put : (o : Insertion) (earlier : List NameData) (cells : List Cell) → length (put o earlier cells) ≡ suc (length cells)
+length_run : (n : NameData) (first k : ℕ) → length (run_of n first k) ≡ k
+length_run n first zero = refl
+length_run n first (suc k) = ap suc (length_run n (suc first) k)
+
+length_put : (o : Insertion) (earlier : List NameData) (cells : List Cell) → length (put o earlier cells) ≡ o.len + length cells
 length_put o earlier cells =
     let g = gap_of o earlier cells in
-    one_more g.before g.between g.behind (o.name, 0) ∙ ap (λ (xs : List Cell). suc (length xs)) (gap_of_whole o earlier cells)
+    let new = cells_from o in
+    omega (
+      arith, length_run o.name 0 o.len, ap (λ (xs : List Cell). length xs) (gap_of_whole o earlier cells),
+      length-append g.before (g.between ++ (new ++ g.behind)), length-append g.between (new ++ g.behind), length-append new g.behind,
+      length-append g.before (g.between ++ g.behind), length-append g.between g.behind,
+    )
 
 length_replay : (os : List Insertion) (earlier : List NameData) (cells : List Cell)
-    → length (replay earlier cells os) ≡ length cells + length os
+    → length (replay earlier cells os) ≡ length cells + all_cells os
 unfolding replay
 length_replay [] earlier cells = omega arith
 length_replay (o ∷ os) earlier cells =
     omega (arith, length_replay os (earlier ++ o.name ∷ []) (put o earlier cells), length_put o earlier cells)
 
-length_put_by : {A : Type 0} (less : A → A → Bool) (x : A) (xs : List A) → length (put_by less x xs) ≡ suc (length xs)
+cells_put_by : (less : Insertion → Insertion → Bool) (x : Insertion) (xs : List Insertion)
+    → all_cells (put_by less x xs) ≡ x.len + all_cells xs
 unfolding put_by
-length_put_by less x [] = refl
-length_put_by less x (y ∷ ys) =
-    elim (less x y) as (λ t. length (if t then x ∷ (y ∷ ys) else y ∷ put_by less x ys) ≡ suc (suc (length ys)))
-    [ true ↦ refl | false ↦ ap suc (length_put_by less x ys) ]
+cells_put_by less x [] = refl
+cells_put_by less x (y ∷ ys) =
+    elim (less x y) as (λ t. all_cells (if t then x ∷ (y ∷ ys) else y ∷ put_by less x ys) ≡ x.len + (y.len + all_cells ys))
+    [ true ↦ refl | false ↦ omega (arith, cells_put_by less x ys) ]
 
-length_sort_by : {A : Type 0} (less : A → A → Bool) (xs : List A) → length (sort_by less xs) ≡ length xs
+cells_sort_by : (less : Insertion → Insertion → Bool) (xs : List Insertion) → all_cells (sort_by less xs) ≡ all_cells xs
 unfolding sort_by
-length_sort_by less [] = refl
-length_sort_by less (x ∷ xs) = length_put_by less x (sort_by less xs) ∙ ap suc (length_sort_by less xs)
+cells_sort_by less [] = refl
+cells_sort_by less (x ∷ xs) = omega (arith, cells_put_by less x (sort_by less xs), cells_sort_by less xs)
+
+-- an insert of a history has one character
+cells_inserted : (h : List OpData) → all_cells (insertions_in h) ≡ length (insertions_in h)
+cells_inserted [] = refl
+cells_inserted (inserting n p ch c ∷ os) = ap suc (cells_inserted os)
+cells_inserted (deleting n p c ∷ os) = cells_inserted os
+cells_inserted (undoing a t g c ∷ os) = cells_inserted os
 
 pub cells_counted : (h : List OpData) → length (replay_of h) ≡ length (insertions_in h)
-cells_counted h = length_replay (sort_by is_earlier (insertions_in h)) [] [] ∙ omega (arith, length_sort_by is_earlier (insertions_in h))
+cells_counted h =
+    length_replay (sort_by is_earlier (insertions_in h)) [] [] ∙ (cells_sort_by is_earlier (insertions_in h) ∙ cells_inserted h)
 
 inserts_listed : (os : List OpData) (c : ContextData) → ((o : OpData) → Contains os o → has c (member_of o) ≡ true)
     → inserts_in os c ≡ length (insertions_in os)
