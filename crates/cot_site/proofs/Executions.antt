@@ -17,6 +17,7 @@ use Rattle.context_diff.proofs.CallerLemmas.{complete, closed_on, base_listed, b
 use Rattle.ttf_form.specs.declared.form.Form.{Form}
 use Rattle.ttf_form.specs.Forms.{form_over, IsInertForm}
 use Rattle.ttf_form.specs.Cells.{CellData, applied, FitsCells}
+use Rattle.tombstone_text.specs.Cells.{CellsData}
 use Rattle.transform_rec.specs.Sets.{none, plus, plus_all}
 use Rattle.transform_rec.specs.Derived.{Derived}
 use Rattle.transform_rec.specs.Executing.{AreFormsFrom, executed}
@@ -139,7 +140,7 @@ added_at h o k to m valid next grown is member =
     (subst (λ (c : ContextData). MayBeAddedTo (h ++ o ∷ []) c m) (sym is)
     (subst (λ (x : Member). MayBeAddedTo (h ++ o ∷ []) (context_of_all h) x) (sym member) (next_added h o valid next)))
 
-derived_at : (h : List OpData) (o : OpData) (k : List OpData) (to : ContextData) (m : Member) (f : Form) → k ≡ h ++ o ∷ []
+pub derived_at : (h : List OpData) (o : OpData) (k : List OpData) (to : ContextData) (m : Member) (f : Form) → k ≡ h ++ o ∷ []
     → to ≡ context_of_all h → m ≡ member_of o → Derived form_over (family_in k (base_form k)) m (has to) f
     → Derived form_over (family_in (h ++ o ∷ []) (base_form (h ++ o ∷ []))) (member_of o) (has (context_of_all h)) f
 derived_at h o k to m f grown is member d =
@@ -185,15 +186,15 @@ fits_at h o k to m fs cs valid next grown is member ex f d =
     more_fits h o fs cs f (valid_push h o valid next) ex (derived_at h o k to m f grown is member d)
 
 pub step_at : (h : List OpData) (o : OpData) (k : List OpData) (to : ContextData) (m : Member) (fs gs ns : List Form)
-    (cs ds : List CellData) → IsValid h → IsNext h o → k ≡ h ++ o ∷ [] → to ≡ context_of_all h → m ≡ member_of o → IsExecuted h fs cs
-    → gs ≡ fs → IsStep k m (has to) gs ns cs ds
-    → IsExecuted k ns ds
-step_at h o k to m fs gs ns cs ds valid next grown is member ex same step =
+    (old new : CellsData) → IsValid h → IsNext h o → k ≡ h ++ o ∷ [] → to ≡ context_of_all h → m ≡ member_of o
+    → IsExecuted h fs old.cells → gs ≡ fs → IsStep k m (has to) gs ns old new
+    → IsExecuted k ns new.cells
+step_at h o k to m fs gs ns old new valid next grown is member ex same step =
     let d = derived_at h o k to m step.form grown is member step.derived in
-    let more = executed_more h o fs cs step.form (valid_push h o valid next) ex d in
+    let more = executed_more h o fs old.cells step.form (valid_push h o valid next) ex d in
     let forms : fs ++ step.form ∷ [] ≡ ns = ap (λ (xs : List Form). xs ++ step.form ∷ []) (sym same) ∙ sym step.appended in
-    subst (λ (l : List OpData). IsExecuted l ns ds) (sym grown)
-    (subst (λ (xs : List Form). IsExecuted (h ++ o ∷ []) xs ds) forms
+    subst (λ (l : List OpData). IsExecuted l ns new.cells) (sym grown)
+    (subst (λ (xs : List Form). IsExecuted (h ++ o ∷ []) xs new.cells) forms
     (subst (λ (x : List CellData). IsExecuted (h ++ o ∷ []) (fs ++ step.form ∷ []) x) (sym step.cells) more))
 
 pub executed_same : (h k : List OpData) (fs gs : List Form) (cs ds : List CellData) → IsExecuted h fs cs → k ≡ h → gs ≡ fs → ds ≡ cs

@@ -5,6 +5,7 @@ pub mod Verdicts
 pub mod Releases
 pub mod LocalOps
 pub mod Executions
+pub mod Characters
 pub mod Views
 pub mod ShownPlaces
 pub mod FormLists

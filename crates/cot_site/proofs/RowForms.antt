@@ -75,6 +75,11 @@ form_after_at h m to fs kept f n only =
     subst (λ (C : Member → Bool). IsOnlyFormAt form_over (family_in h (base_form h)) m C f) (same_set (plus_all none n.before) to n.set)
     only
 
+-- behind a list stands what was put at its end
+pub at_end : {A : Type 0} (xs : List A) (x : A) → slice_get (xs ++ x ∷ []) (length xs) ≡ Some x
+at_end [] x = refl
+at_end (y ∷ ys) x = at_end ys x
+
 -- the last member of a history
 pub last_after : (h : List OpData) (m : Member) (to : Member → Bool) (fs : List Form) (kept : RowsData Form) → IsNextAfter h m to fs kept
     → IsLastMember h m
@@ -85,10 +90,6 @@ last_after h m to fs kept n =
       omega (arith, counted),
       ap (slice_get (members_in h)) place ∙ ap (λ (l : List Member). slice_get l (length n.before)) n.executed.whole ∙ at_end n.before m,
     )
-  where
-    at_end : (xs : List Member) (x : Member) → slice_get (xs ++ x ∷ []) (length xs) ≡ Some x
-    at_end [] x = refl
-    at_end (y ∷ ys) x = at_end ys x
 
 -- the first form of a row at the context of an original with that
 pub first_at : (h : List OpData) (n x : NameData) (c w : ContextData) (f : Form) → ((y : Member) → has c y ≡ base_has h (Original n) y)

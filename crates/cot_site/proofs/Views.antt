@@ -7,7 +7,7 @@ use Rattle.context_diff.specs.Replays.{Cell, is_shown, shown, character_in, char
 use Rattle.ttf_form.specs.Cells.{CellData, cell_key, cell_shown}
 use Rattle.ttf_form.specs.Families.{IsIn}
 use Rattle.visible_view.specs.View.{shown_cells, shown_places, shown_text}
-use Rattle.fixed_replay.specs.Replayed.{IsReplayed}
+use Rattle.fixed_replay.specs.Replayed.{IsReplayed, AreCharacters}
 use Rattle.fixed_replay.proofs.CallerLemmas.{replayed_shown, replayed_characters, replayed_text}
 use Rattle.cot_site.specs.States.{State}
 use Rattle.cot_site.specs.Views.{shown_places_of, cells_view, history_view}
@@ -29,11 +29,11 @@ same_places p (c ∷ cs) n same =
 pub places_are : (h : List OpData) (cs : List CellData) → IsReplayed h cs → shown_places cs ≡ shown_places_of h
 places_are h cs is = same_places (is_shown h) cs 0 is.shown ∙ ap (places_from (is_shown h) 0) is.cells
 
-pub text_is : (h : List OpData) (cs : List CellData) → IsReplayed h cs → shown_text cs ≡ text_of h
-text_is h cs is = replayed_text h cs is
+pub text_is : (h : List OpData) (cs : List CellData) (ts : List ℕ) → IsReplayed h cs → AreCharacters h cs ts → shown_text cs ts ≡ text_of h
+text_is h cs ts is are = replayed_text h cs is ts are
 
 -- the cells of a state's history are seen as the history says
-pub view_is : (s : State) (cs : List CellData) → IsReplayed s.history cs → cells_view cs ≡ history_view s
+pub view_is : (s : State) (cs : List CellData) → IsReplayed s.history cs → cells_view s.history cs ≡ history_view s
 view_is s cs is =
     let places = places_are s.history cs is in
     let characters = replayed_characters s.history cs is in

@@ -14,6 +14,7 @@ use Rattle.context_diff.specs.Replays.{shown, text_of}
 use Rattle.ttf_form.specs.declared.form.Form.{Form}
 use Rattle.ttf_form.specs.Cells.{applied}
 use Rattle.transform_rec.specs.Executing.{executed}
+use Rattle.fixed_replay.specs.Replayed.{AreCharacters}
 use Rattle.visible_view.specs.View.{shown_cells, shown_places, shown_text}
 use Rattle.cot_site.specs.Sites.{AreExecuted, KeepsForms}
 use Rattle.cot_site.specs.Releases.{IsSound, IsLater, all_releases, state_after, settled}
@@ -84,14 +85,15 @@ LocalOperationsAreNext =
     × ((t : NameData) → local_undo s t ≡ Ok o → IsNext s.history o)
     × ((t : NameData) → local_redo s t ≡ Ok o → IsNext s.history o)
 
--- what the executed forms of a valid history show is what the history shows: the text, where the shown characters stand, and
--- how many there are
+-- what the executed forms of a valid history show is what the history shows: the text, with the characters of the history's inserts
+-- beside the cells, where the shown characters stand, and how many there are
 abbrev pub ExecutedFormsShowTheHistory : Type 0
 ExecutedFormsShowTheHistory =
-    (h : List OpData) (fs : List Form)
+    (h : List OpData) (fs : List Form) (ts : List ℕ)
     → IsValid h
     → AreExecuted h fs
-    → (shown_text (executed applied [] fs) ≡ text_of h)
+    → AreCharacters h (executed applied [] fs) ts
+    → (shown_text (executed applied [] fs) ts ≡ text_of h)
     × (shown_places (executed applied [] fs) ≡ shown_places_of h)
     × (length (shown_cells (executed applied [] fs)) ≡ length (shown h))
 

@@ -63,8 +63,9 @@ pub fn local_operations_are_next()
     ensures { LocalOperationsAreNext }
 {}
 
-/// What the executed forms of a valid history show is what the history shows: the text, the places of the shown
-/// characters, and their number. So a session can as well be read with forms in the place of replays.
+/// What the executed forms of a valid history show is what the history shows: the text, where the characters of the history's inserts
+/// stand beside the cells, the places of the shown characters, and their number. So a session can as well be read with forms in the
+/// place of replays.
 pub fn executed_forms_show_the_history()
     ensures { ExecutedFormsShowTheHistory }
 {}

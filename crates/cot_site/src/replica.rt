@@ -9,7 +9,7 @@ ghost use Rattle.context_diff.specs.Operations.{OpData, context_of, is_original}
 ghost use Rattle.context_diff.specs.Histories.{context_of_all, is_known, IsNext, IsValid};
 ghost use Rattle.context_diff.specs.Replays.{shown, text_of};
 ghost use Rattle.context_diff.specs.Ops.{data_of};
-ghost use Rattle.ttf_form.specs.Forms.{form_over};
+ghost use Rattle.ttf_form.specs.Forms.{form_over, extent_of};
 ghost use Rattle.tombstone_text.specs.Cells.{HasRoomFor};
 ghost use Rattle.visible_view.specs.View.{shown_cells};
 ghost use Rattle.form_cache.specs.Entries.{form_at, used};
@@ -23,13 +23,13 @@ ghost use Rattle.undo_group.specs.BaseForms.{base_form};
 ghost use Rattle.form_rows.specs.Names.{insert_of};
 ghost use Rattle.form_rows.specs.Kept.{IsFormWith, empty_rows};
 ghost use Rattle.form_rows.specs.Stretches.{AreNoted};
-ghost use Rattle.fixed_replay.specs.Replayed.{IsReplayed};
+ghost use Rattle.fixed_replay.specs.Replayed.{IsReplayed, AreCharacters, letters_of};
 ghost use Rattle.cot_site.specs.Commands.{place_of_shown, place_behind};
 ghost use Rattle.cot_site.specs.Sites.{AreExecuted, AreCached, IsFormOf, KeepsForms};
 ghost use Rattle.cot_site.specs.Code.Judging.{HasCells};
 ghost use Rattle.cot_site.specs.Code.Notes.{AreFormsNoted};
 ghost use Rattle.cot_site.specs.declared.notes.TheConstants.{CACHED_FORMS};
-ghost use Rattle.cot_site.specs.Code.Replicas.{AreRowsOf, IsExecutedAsBefore, IsLastMember, IsStep, IsNextAfter, KnowsAll, KnowsBefore, before_last};
+ghost use Rattle.cot_site.specs.Code.Replicas.{AreRowsOf, IsExecutedAsBefore, IsLastMember, IsStep, IsNextAfter, KnowsAll, KnowsBefore, before_last, last_letters};
 
 use crate::notes::{At, Notes};
 use context_diff::{Book, Op, reserve_one};
@@ -39,13 +39,14 @@ use form_rows::{Passages, Rows, executed_group, executed_original};
 use op_name::{Member, Memory, Name};
 use std::alloc::Global;
 use std::marker::Model;
+use std::slice;
 use tombstone_text::Cells;
 use ttf_form::{Bases, Cover, Form, Ins};
 use undo_group::TextBases;
 use visible_view::{cell_of_visible, model_place, visible_len, write_text};
 
-/// A valid history, the form in which each of its operations was executed, the cells that these forms gave, the passages
-/// and rows out of which the next forms are found, and forms that were found on the way. A site hands its calls on what it has
+/// A valid history, the form in which each of its operations was executed, the cells that these forms gave, with the characters of
+/// their inserts beside them, the passages and rows out of which the next forms are found, and forms that were found on the way. A site hands its calls on what it has
 /// integrated to it: what ties these parts together is kept here, and a site adds its number and what waits.
 #[derive(Drop)]
 pub struct Replica {
@@ -59,6 +60,7 @@ pub struct Replica {
 
 impl Model for Replica {
     ghost use Rattle.std.specs.Prelude.{◌≡◌};
+    ghost use Rattle.fixed_replay.specs.Replayed.{AreCharacters};
     ghost use Rattle.form_rows.specs.Stretches.{AreNoted};
     ghost use Rattle.cot_site.specs.Sites.{AreCached};
     ghost use Rattle.cot_site.specs.Code.Notes.{entries_of, AreTold};
@@ -68,7 +70,7 @@ impl Model for Replica {
 
     ghost view = { λ r. record { history = r.book.ops; forms = r.forms.items; entries = entries_of r.book.ops r.notes } };
 
-    ghost invariant = { λ r. IsExecuted r.book.ops r.forms.items r.cells.cells × AreCached r.book.ops (entries_of r.book.ops r.notes) × AreTold r.book.ops r.notes × AreRowsOf r.book.ops r.rows × AreNoted r.passages r.forms.items };
+    ghost invariant = { λ r. IsExecuted r.book.ops r.forms.items r.cells.cells × AreCached r.book.ops (entries_of r.book.ops r.notes) × AreTold r.book.ops r.notes × AreRowsOf r.book.ops r.rows × AreNoted r.passages r.forms.items × AreCharacters r.book.ops r.cells.cells r.cells.text };
 }
 
 impl Replica {
@@ -133,10 +135,11 @@ impl Replica {
         self.notes.get(&self.book, key)
     }
 
-    /// The cells that the executed forms gave, shown or hidden.
+    /// The cells that the executed forms gave, shown or hidden, and beside each the character of its insert.
     pub fn cells(&self) -> &Cells
         ensures forms { result.now.cells ≡ executed applied [] self.now.forms }
         ensures replayed { IsReplayed self.now.history result.now.cells }
+        ensures text { AreCharacters self.now.history result.now.cells result.now.text }
     {
         self.book.known();
         &self.cells
@@ -186,8 +189,8 @@ impl Replica {
     }
 
     /// Appends the operation, which is next, and executes its form at the members that were integrated before
-    /// it. The context of an insert or delete has so many inserts. After out of memory the history, the forms and the cells are as
-    /// before, and the notes are the old ones or none.
+    /// it; the character of an insert comes to stand beside its cell. The context of an insert or delete has so many inserts. After out
+    /// of memory the history, the forms, the cells and their characters are as before, and the notes are the old ones or none.
     pub fn integrate(&mut self, op: Op, cells: u32) -> Result<(), Memory>
         requires next { IsNext self.old.history (data_of op) }
         requires cells { HasCells self.old.history (data_of op) cells }
@@ -306,8 +309,9 @@ fn take_back(book: &mut Book, notes: &mut Notes, rows: &mut Rows<Form>)
     book.pop();
 }
 
-// Executes the form of the last member of the book at the members before it, and appends it to the forms, which have a
-// spare place. After out of memory the forms and the cells are as they were. Each note stays a form.
+// Executes the form of the last member of the book at the members before it, with the characters of the last operation, and appends
+// it to the forms, which have a spare place. After out of memory the forms, the cells and their characters are as they were. Each note
+// stays a form.
 fn execute(
     book: &Book,
     notes: &mut Notes,
@@ -325,10 +329,12 @@ fn execute(
     requires noted { AreNoted passages.old forms.old.items }
     requires kept { AreFormsNoted book.now.ops notes.old }
     requires fits { (f : Form) → Derived form_over (family_in book.now.ops (base_form book.now.ops)) member.now (has (before_last book.now.ops)) f → FitsCells cells.old.cells f }
-    ensures step { OnOk result (IsStep book.now.ops member.now (has (before_last book.now.ops)) forms.old.items forms.new.items cells.old.cells cells.new.cells) }
+    requires letters { (f : Form) → Derived form_over (family_in book.now.ops (base_form book.now.ops)) member.now (has (before_last book.now.ops)) f → length (last_letters book.now.ops) ≡ extent_of f }
+    ensures step { OnOk result (IsStep book.now.ops member.now (has (before_last book.now.ops)) forms.old.items forms.new.items cells.old cells.new) }
     ensures rows { OnOk result (AreRowsOf book.now.ops rows.new) }
     ensures forms { OnErr result (forms.new.items ≡ forms.old.items) }
     ensures cells { OnErr result (cells.new.cells ≡ cells.old.cells) }
+    ensures text { OnErr result (cells.new.text ≡ cells.old.text) }
     ensures noted { AreNoted passages.new forms.new.items }
     ensures kept { AreFormsNoted book.now.ops notes.new }
 {
@@ -343,11 +349,31 @@ fn execute(
         knows_all,
     ) {
         Ok(form) => {
-            cells.apply(&form);
+            cells.apply(&form, last_letters(book));
             append(forms, &form);
             Ok(())
         }
         Err(want) => Err(want),
+    }
+}
+
+// The characters that the last operation of the book puts: that of an insert, and none of any other.
+fn last_letters(book: &Book) -> &[char]
+    ensures { result.now ≡ last_letters book.now.ops }
+{
+    match book.op(book.len().saturating_sub(1)) {
+        Some(op) => letters(op),
+        None => &[],
+    }
+}
+
+// The characters that an operation puts.
+fn letters(op: &Op) -> &[char]
+    ensures { result.now ≡ letters_of (data_of op.now) }
+{
+    match op {
+        Op::Insert { ch, .. } => slice::from_ref(ch),
+        _ => &[],
     }
 }
 
@@ -365,7 +391,8 @@ fn append(forms: &mut Vec<Form>, form: &Form)
     }
 }
 
-// The form of the last member of the book at the members before it, with room among the cells to apply it. The cells stay as they are.
+// The form of the last member of the book at the members before it, with room among the cells to apply it. The cells and their characters stay
+// as they are.
 fn form_with_room(
     book: &Book,
     notes: &mut Notes,
@@ -385,6 +412,7 @@ fn form_with_room(
     ensures rows { OnOk result (AreRowsOf book.now.ops rows.new) }
     ensures room { IfOk result (HasRoomFor cells.new) }
     ensures cells { cells.new.cells ≡ cells.old.cells }
+    ensures text { cells.new.text ≡ cells.old.text }
     ensures noted { AreNoted passages.new forms.now }
     ensures kept { AreFormsNoted book.now.ops notes.new }
 {

@@ -10,7 +10,7 @@ ghost use Rattle.cot_site.specs.Verdicts.{verdict_of};
 ghost use Rattle.ttf_form.specs.Cells.{applied};
 ghost use Rattle.form_cache.specs.Entries.{form_at, used};
 ghost use Rattle.transform_rec.specs.Executing.{executed};
-ghost use Rattle.fixed_replay.specs.Replayed.{IsReplayed};
+ghost use Rattle.fixed_replay.specs.Replayed.{IsReplayed, AreCharacters};
 ghost use Rattle.cot_site.specs.Sites.{AreExecuted, AreCached, AllFormed, IsFormOf, state_of};
 ghost use Rattle.cot_site.specs.Code.Judging.{HasCells};
 
@@ -145,11 +145,12 @@ impl Site {
     }
 
     /// The cells of the text, shown or hidden, which the executed forms gave: those of the fixed replay of the history, each with
-    /// its character, the generation of its insert, and the deletes that hit it with theirs. Lending them takes no memory and no
-    /// time; places in them count all cells, from 0.
+    /// the generation of its insert and the deletes that hit it with theirs, and beside them their characters, each that of the cell's
+    /// insert. Lending them takes no memory and no time; places in them count all cells, from 0.
     pub fn cells(&self) -> &Cells
         ensures forms { result.now.cells ≡ executed applied [] self.now.forms }
         ensures replayed { IsReplayed self.now.history result.now.cells }
+        ensures text { AreCharacters self.now.history result.now.cells result.now.text }
     {
         self.replica.cells()
     }

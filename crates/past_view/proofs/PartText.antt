@@ -19,20 +19,20 @@ use Rattle.ttf_form.specs.Families.{IsIn}
 use Rattle.undo_group.specs.Laws.Members.{in_contains, known_as}
 use Rattle.transform_rec.specs.Executing.{keep}
 use Rattle.transform_rec.proofs.CallerLemmas.{filter_in, in_filter}
-use Rattle.fixed_replay.specs.Replayed.{IsReplayed}
-use Rattle.fixed_replay.proofs.CallerLemmas.{any_in, in_any, not_both, part_replay}
+use Rattle.fixed_replay.specs.Replayed.{IsReplayed, AreCharacters}
+use Rattle.fixed_replay.proofs.CallerLemmas.{any_in, characters_beside, in_any, not_both, part_replay}
 use Rattle.past_view.specs.Pasts.{sub}
 use Rattle.past_view.specs.Code.PastCells.{is_in_force_at, is_past, past_text}
 use Rattle.past_view.proofs.Parts.{part_of_part, character_in_part, generation_in_sub}
 
 -- the characters of the cells that pass one test are those of the keys that pass two others, where they pass alike
-both_parts : (p : CellData → Bool) (q k : Cell → Bool) (ch : Cell → ℕ) (ds : List CellData)
-    → ((d : CellData) → IsIn d ds → k (cell_key d) ≡ true → (p d ≡ q (cell_key d)) × (d.ch ≡ ch (cell_key d)))
+both_parts : (p : CellData → Bool) (q k : Cell → Bool) (old ch : Cell → ℕ) (ds : List CellData)
+    → ((d : CellData) → IsIn d ds → k (cell_key d) ≡ true → (p d ≡ q (cell_key d)) × (old (cell_key d) ≡ ch (cell_key d)))
     → ((d : CellData) → IsIn d ds → k (cell_key d) ≡ false → p d ≡ false)
-    → map (λ (d : CellData). d.ch) (filter p ds) ≡ map ch (filter q (filter k (cells_of ds)))
-both_parts p q k ch [] f g = refl
-both_parts p q k ch (d ∷ ds) f g =
-    let ih = both_parts p q k ch ds (λ x i. f x (inr i)) (λ x i. g x (inr i)) in
+    → map old (cells_of (filter p ds)) ≡ map ch (filter q (filter k (cells_of ds)))
+both_parts p q k old ch [] f g = refl
+both_parts p q k old ch (d ∷ ds) f g =
+    let ih = both_parts p q k old ch ds (λ x i. f x (inr i)) (λ x i. g x (inr i)) in
     elim (cases_Bool (k (cell_key d))) [
       | inl there ↦
           let e = f d (inl refl) there in
@@ -123,13 +123,13 @@ module _ (h : List OpData) (v : IsValid h) (c : ContextData) (closed : IsClosedC
     past_none d e =
         ap (λ (x : Bool). (x && is_even (entry_of c d.name)) && not (list_any (λ e. is_in_force_at c e.0) d.deleters)) e
 
-    past_characters : map (λ (d : CellData). d.ch) (filter (is_past c) cs) ≡ characters_of (sub h c)
+    past_characters : map (character_in h) (cells_of (filter (is_past c) cs)) ≡ characters_of (sub h c)
     past_characters =
-        both_parts (is_past c) (is_shown (sub h c)) (keep (has c)) (character_in (sub h c)) cs
-        (λ d i e. (past_shown d i e, r.characters d i ∙ sym (character_in_part (has c) h (cell_key d) e)))
+        both_parts (is_past c) (is_shown (sub h c)) (keep (has c)) (character_in h) (character_in (sub h c)) cs
+        (λ d i e. (past_shown d i e, sym (character_in_part (has c) h (cell_key d) e)))
         (λ d i e. past_none d e)
         ∙ ap (λ (ks : List Cell). map (character_in (sub h c)) (filter (is_shown (sub h c)) ks))
         (ap (filter (keep (has c))) r.cells ∙ sym cells_of_sub)
 
-    pub past_is_sub : past_text c cs ≡ text_of (sub h c)
-    past_is_sub = ap encode_utf8_all past_characters
+    pub past_is_sub : (ts : List ℕ) → AreCharacters h cs ts → past_text c cs ts ≡ text_of (sub h c)
+    past_is_sub ts are = ap encode_utf8_all (characters_beside h (is_past c) cs ts are ∙ past_characters)

@@ -1,37 +1,47 @@
 -- The past text of two stretches of cells, one after the other, and undone names whose original a set hasn't.
-use Rattle.std.proofs.Common.{◌≡◌, ℕ, ◌+◌, ◌<◌, ◌≤◌, Bool, true, false, if◌then◌else◌, List, [], ◌∷◌, ◌++◌, length, map, take, drop, filter, get_or, encode_utf8_all, inl, inr, refl, sym, ap, ◌∙◌, arith}
+use Rattle.std.proofs.Common.{◌≡◌, ℕ, ◌+◌, ◌<◌, ◌≤◌, Bool, true, false, if◌then◌else◌, List, [], ◌∷◌, ◌++◌, length, map, take, drop, get_or, encode_utf8_all, inl, inr, refl, sym, ap, ap₂, ◌∙◌, arith}
 use Rattle.std.specs.Prelude.{Some, None, slice_get}
 use Rattle.std.proofs.lemmas.Bool.{cases_Bool}
-use Rattle.std.proofs.lemmas.List.{map-append, take_more}
-use Rattle.std.proofs.lemmas.List.Elements.{filter-append}
+use Rattle.std.proofs.lemmas.List.{length-take-le, take_more}
 use Rattle.std.proofs.lemmas.Str.{encodes-append}
 use Rattle.op_name.specs.NameData.{NameData, name_eq}
 use Rattle.op_name.specs.declared.member.Member.TheVariants.{Original}
 use Rattle.op_name.proofs.CallerLemmas.{name_same}
 use Rattle.context_vector.specs.Contexts.{ContextData, HasNoStray, has, entry_in}
 use Rattle.context_diff.proofs.CallerLemmas.{has_generation}
-use Rattle.ttf_form.specs.Cells.{CellData}
-use Rattle.tombstone_text.specs.Chunks.{flat}
-use Rattle.visible_view.proofs.CallerLemmas.{flat_more}
+use Rattle.ttf_form.specs.Cells.{CellData, chars_where}
+use Rattle.ttf_form.specs.Laws.Texts.{chars_where-append}
+use Rattle.tombstone_text.specs.Chunks.{flat, joined}
+use Rattle.tombstone_text.proofs.CallerLemmas.{beside_count, beside_taken}
+use Rattle.visible_view.proofs.CallerLemmas.{flat_more, joined_more}
 use Rattle.past_view.specs.Pasts.{first_stray}
 use Rattle.past_view.specs.Code.PastCells.{is_past, past_text}
 
-past_text-append : (c : ContextData) (xs ys : List CellData) → past_text c (xs ++ ys) ≡ past_text c xs ++ past_text c ys
-past_text-append c xs ys =
-    ap (λ (cs : List CellData). encode_utf8_all (map (λ d. d.ch) cs)) (filter-append (is_past c) xs ys)
-    ∙ ap encode_utf8_all (map-append (λ (d : CellData). d.ch) (filter (is_past c) xs) (filter (is_past c) ys))
-    ∙ encodes-append (map (λ d. d.ch) (filter (is_past c) xs)) (map (λ d. d.ch) (filter (is_past c) ys))
+past_text-append : (c : ContextData) (xs ys : List CellData) (ts us : List ℕ) → length ts ≡ length xs
+    → past_text c (xs ++ ys) (ts ++ us) ≡ past_text c xs ts ++ past_text c ys us
+past_text-append c xs ys ts us long =
+    ap encode_utf8_all (chars_where-append (is_past c) xs ys ts us long)
+    ∙ encodes-append (chars_where (is_past c) xs ts) (chars_where (is_past c) ys us)
 
--- one cell more of a chunk
-pub past_text_more : (c : ContextData) (xs : List CellData) (k : ℕ) (x : CellData) → k < length xs → x ≡ get_or xs k x
-    → past_text c (take (k + 1) xs) ≡ past_text c (take k xs) ++ past_text c (x ∷ [])
-past_text_more c xs k x lt is =
-    ap (past_text c) (take_more xs k x lt ∙ ap (λ (y : CellData). take k xs ++ y ∷ []) (sym is)) ∙ past_text-append c (take k xs) (x ∷ [])
+-- one cell more of a chunk, with its character
+pub past_text_more : (c : ContextData) (xs : List CellData) (ts : List ℕ) (k : ℕ) (x : CellData) (t : ℕ) → length ts ≡ length xs
+    → k < length xs → x ≡ get_or xs k x → t ≡ get_or ts k t
+    → past_text c (take (k + 1) xs) (take (k + 1) ts) ≡ past_text c (take k xs) (take k ts) ++ past_text c (x ∷ []) (t ∷ [])
+past_text_more c xs ts k x t long lt is at =
+    let few = length-take-le k xs (omega (arith, lt)) in
+    let beside = length-take-le k ts (omega (arith, lt, long)) in
+    ap₂ (past_text c) (take_more xs k x lt ∙ ap (λ (y : CellData). take k xs ++ y ∷ []) (sym is))
+    (take_more ts k t (omega (arith, lt, long)) ∙ ap (λ (y : ℕ). take k ts ++ y ∷ []) (sym at))
+    ∙ past_text-append c (take k xs) (x ∷ []) (take k ts) (t ∷ []) (omega (arith, few, beside))
 
--- one chunk more
-pub past_chunk_more : (c : ContextData) (cs : List (List CellData)) (i : ℕ) → i < length cs
-    → past_text c (flat (take (i + 1) cs)) ≡ past_text c (flat (take i cs)) ++ past_text c (get_or cs i [])
-past_chunk_more c cs i lt = ap (past_text c) (flat_more cs i lt) ∙ past_text-append c (flat (take i cs)) (get_or cs i [])
+-- one chunk more, with its characters
+pub past_chunk_more : (c : ContextData) (cs : List (List CellData)) (ts : List (List ℕ)) (i : ℕ) → map length ts ≡ map length cs
+    → i < length cs
+    → past_text c (flat (take (i + 1) cs)) (joined (take (i + 1) ts))
+    ≡ past_text c (flat (take i cs)) (joined (take i ts)) ++ past_text c (get_or cs i []) (get_or ts i [])
+past_chunk_more c cs ts i beside lt =
+    ap₂ (past_text c) (flat_more cs i lt) (joined_more ts i (omega (arith, lt, beside_count ts cs beside)))
+    ∙ past_text-append c (flat (take i cs)) (get_or cs i []) (joined (take i ts)) (get_or ts i []) (beside_taken ts cs i beside)
 
 -- ---- undone names that are read from the front
 

@@ -1,10 +1,10 @@
 //! The text at a set of members.
 
-ghost use Rattle.std.specs.Prelude.{◌≡◌, ◌∷◌, ◌++◌, [], Some, take, vec_len, encode_utf8, OnOk, OnErr, IfErr, IfSome, IfNone};
+ghost use Rattle.std.specs.Prelude.{◌≡◌, ◌∷◌, ◌++◌, [], Some, length, take, vec_len, encode_utf8, OnOk, OnErr, IfErr, IfSome, IfNone};
 ghost use Rattle.std.specs.List.{list_any};
 ghost use Rattle.context_diff.specs.Replays.{text_of};
 ghost use Rattle.context_diff.specs.ClosedContexts.{IsClosedContext};
-ghost use Rattle.fixed_replay.specs.Replayed.{IsReplayed};
+ghost use Rattle.fixed_replay.specs.Replayed.{IsReplayed, AreCharacters};
 ghost use Rattle.past_view.specs.Pasts.{sub, first_stray, IsRefusal};
 ghost use Rattle.past_view.specs.Code.PastCells.{is_in_force_at, is_past, past_text};
 
@@ -55,6 +55,7 @@ pub fn text_at(site: &Site, at: &Vector, out: &mut Vec<u8>) -> Result<(), AtBad>
 // Appends the text at the set, by the cells of the book's history.
 fn append_text(book: &Book, cells: &Cells, at: &Vector, out: &mut Vec<u8>) -> Result<(), AtBad>
     requires cells { IsReplayed book.now.ops cells.now.cells }
+    requires text { AreCharacters book.now.ops cells.now.cells cells.now.text }
     ensures text { OnOk result (out.new.items ≡ out.old.items ++ text_of (sub book.now.ops at.now.set)) }
     ensures closed { OnOk result (IsClosedContext book.now.ops at.now.set) }
     ensures refused { IfErr result (IsRefusal book.now.ops at.now.set) }
@@ -101,7 +102,7 @@ fn first_stray(at: &Vector) -> Option<Name>
 
 // Appends the characters of the cells that are of the past text; when out of memory, `out` is as it was.
 fn write_past(cells: &Cells, at: &Vector, out: &mut Vec<u8>) -> Result<(), Memory>
-    ensures ok { OnOk result (out.new.items ≡ out.old.items ++ past_text at.now.set cells.now.cells) }
+    ensures ok { OnOk result (out.new.items ≡ out.old.items ++ past_text at.now.set cells.now.cells cells.now.text) }
     ensures err { OnErr result (out.new.items ≡ out.old.items) }
 {
     let start = out.len();
@@ -116,34 +117,35 @@ fn write_past(cells: &Cells, at: &Vector, out: &mut Vec<u8>) -> Result<(), Memor
 
 // Appends the characters of the cells that are of the past text; when out of memory, those of some of them.
 fn push_past(cells: &Cells, at: &Vector, out: &mut Vec<u8>) -> Result<(), Memory>
-    ensures ok { OnOk result (out.new.items ≡ out.old.items ++ past_text at.now.set cells.now.cells) }
+    ensures ok { OnOk result (out.new.items ≡ out.old.items ++ past_text at.now.set cells.now.cells cells.now.text) }
     ensures err { OnErr result (take (vec_len out.old) out.new.items ≡ out.old.items) }
 {
     cells.known();
     for i in 0..cells.chunk_count() {
-        push_chunk(cells.chunk_cells(i), at, out)?;
+        push_chunk(cells.chunk_cells(i), cells.chunk_text(i), at, out)?;
     }
     Ok(())
 }
 
-// The same of some cells.
-fn push_chunk(cells: &[Cell], at: &Vector, out: &mut Vec<u8>) -> Result<(), Memory>
-    ensures ok { OnOk result (out.new.items ≡ out.old.items ++ past_text at.now.set cells.now) }
+// The same of some cells with the characters beside them.
+fn push_chunk(cells: &[Cell], text: &[char], at: &Vector, out: &mut Vec<u8>) -> Result<(), Memory>
+    requires { length text.now ≡ length cells.now }
+    ensures ok { OnOk result (out.new.items ≡ out.old.items ++ past_text at.now.set cells.now text.now) }
     ensures err { OnErr result (take (vec_len out.old) out.new.items ≡ out.old.items) }
 {
-    for cell in cells {
-        push_cell(cell, at, out)?;
+    for i in 0..cells.len() {
+        push_cell(&cells[i], text[i], at, out)?;
     }
     Ok(())
 }
 
 // Appends the character of a cell if it is of the past text.
-fn push_cell(cell: &Cell, at: &Vector, out: &mut Vec<u8>) -> Result<(), Memory>
-    ensures ok { OnOk result (out.new.items ≡ out.old.items ++ past_text at.now.set (cell.now ∷ [])) }
+fn push_cell(cell: &Cell, ch: char, at: &Vector, out: &mut Vec<u8>) -> Result<(), Memory>
+    ensures ok { OnOk result (out.new.items ≡ out.old.items ++ past_text at.now.set (cell.now ∷ []) (ch ∷ [])) }
     ensures err { OnErr result (out.new.items ≡ out.old.items) }
 {
     if is_past(cell, at) {
-        push_char(cell.ch(), out)
+        push_char(ch, out)
     } else {
         Ok(())
     }

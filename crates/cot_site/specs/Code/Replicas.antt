@@ -1,5 +1,5 @@
 -- An executed history: its forms, the cells that they give, and the entries of the cache.
-use Rattle.std.specs.Prelude.{◌≡◌, ◌-◌, Bool, true, List, [], ◌∷◌, ◌++◌, ◌≤◌, Some, IfSome, length, slice_get, take}
+use Rattle.std.specs.Prelude.{◌≡◌, ℕ, ◌-◌, Bool, true, List, [], ◌∷◌, ◌++◌, ◌≤◌, Option, Some, None, IfSome, length, slice_get, take}
 use Rattle.op_name.specs.declared.member.Member.{Member}
 use Rattle.op_name.specs.declared.member.Member.TheVariants.{Original}
 use Rattle.op_name.specs.NameData.{NameData}
@@ -9,13 +9,15 @@ use Rattle.context_diff.specs.Histories.{context_of_all, members_in}
 use Rattle.context_diff.specs.Bases.{base_has}
 use Rattle.ttf_form.specs.declared.form.Form.{Form}
 use Rattle.ttf_form.specs.Forms.{form_over, IsInertForm}
-use Rattle.ttf_form.specs.Cells.{CellData, applied}
+use Rattle.ttf_form.specs.Cells.{CellData, applied, text_put}
+use Rattle.tombstone_text.specs.Cells.{CellsData}
 use Rattle.form_cache.specs.Entries.{Entries}
 use Rattle.transform_rec.specs.Sets.{none, SameSet, plus_all}
 use Rattle.transform_rec.specs.Derived.{Derived}
 use Rattle.transform_rec.specs.Executing.{executed}
 use Rattle.transform_rec.specs.Histories.{family_in}
 use Rattle.undo_group.specs.BaseForms.{base_form}
+use Rattle.fixed_replay.specs.Replayed.{letters_of}
 use Rattle.form_rows.specs.Firsts.{AreFirstMembers}
 use Rattle.form_rows.specs.Kept.{RowsData, AreRows, IsExecutedBefore}
 use Rattle.cot_site.specs.Sites.{AreExecuted, AreKeptOrGone}
@@ -25,12 +27,22 @@ pub record IsExecuted (h : List OpData) (fs : List Form) (cs : List CellData) : 
   pub forms : AreExecuted h fs
   pub cells : cs ≡ executed applied [] fs
 
--- one more form of a member at a set, appended and applied to the cells
-pub record IsStep (h : List OpData) (m : Member) (to : Member → Bool) (old new : List Form) (before after : List CellData) : Type 0 where
+-- the characters that an operation puts, where there is one
+abbrev pub letters_at : Option OpData → List ℕ
+letters_at None = []
+letters_at (Some o) = letters_of o
+
+-- the characters that the last operation of a history puts
+abbrev pub last_letters : List OpData → List ℕ
+last_letters h = letters_at (slice_get h (length h - 1))
+
+-- one more form of a member at a set, appended and applied to the cells, with the characters of the last operation beside them
+pub record IsStep (h : List OpData) (m : Member) (to : Member → Bool) (old new : List Form) (before after : CellsData) : Type 0 where
   pub form : Form
   pub derived : Derived form_over (family_in h (base_form h)) m to form
   pub appended : new ≡ old ++ form ∷ []
-  pub cells : after ≡ applied before form
+  pub cells : after.cells ≡ applied before.cells form
+  pub text : after.text ≡ text_put form (last_letters h) before.text
 
 -- the rows are those of what authors of the history knew, over its members, and the first members are found in it
 abbrev pub AreRowsOf : List OpData → RowsData Form → Type 0

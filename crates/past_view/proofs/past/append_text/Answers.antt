@@ -7,4 +7,4 @@ returns-clause-text c =
     c.in_ok-write_past.ensures.ok
     ∙ ap (λ (bs : List ℕ). c.args.out.now.items ++ bs)
     (past_is_sub c.args.book.now.ops c.known.ensures.valid c.args.at.now.set c.in_default.ensures.closed c.args.cells.now.cells
-    c.requires.cells)
+    c.requires.cells c.args.cells.now.text c.requires.text)

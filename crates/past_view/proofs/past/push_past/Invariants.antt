@@ -1,7 +1,7 @@
 use Rattle.std.proofs.Common.{◌≡◌, ◌++◌, take}
-use Rattle.tombstone_text.specs.Chunks.{flat}
+use Rattle.tombstone_text.specs.Chunks.{flat, joined}
 use Rattle.past_view.specs.Code.PastCells.{past_text}
 use Rattle.past_view.proofs.past.push_past.Given as goal
 
 abbrev pub invariant-loop-i : goal.invariant-loop-i
-invariant-loop-i l = l.out.items ≡ l.fn.out.items ++ past_text l.at.set (flat (take l.i l.cells.chunks))
+invariant-loop-i l = l.out.items ≡ l.fn.out.items ++ past_text l.at.set (flat (take l.i l.cells.chunks)) (joined (take l.i l.cells.texts))

@@ -14,6 +14,7 @@ invariant_of-self c =
       λ n there. c.self.invariant.2 n (c.get.ensures.among n there),
       c.self.invariant.3,
       c.self.invariant.4,
+      c.self.invariant.5,
     )
 
 pub returns-clause-derived : goal.returns-clause-derived

@@ -3,11 +3,13 @@ use Rattle.context_diff.specs.Operations.{OpData}
 use Rattle.context_diff.specs.Histories.{IsNext, context_of_all}
 use Rattle.context_diff.specs.Ops.{data_of}
 use Rattle.ttf_form.specs.declared.form.Form.{Form}
+use Rattle.fixed_replay.specs.Replayed.{AreCharacters}
 use Rattle.form_rows.specs.Stretches.{AreNoted}
 use Rattle.cot_site.specs.Sites.{AreCached}
 use Rattle.cot_site.specs.Code.Judging.{HasCells}
 use Rattle.cot_site.specs.Code.Replicas.{ReplicaData, IsExecuted, AreRowsOf, KnowsAll, before_last}
 use Rattle.cot_site.proofs.Executions.{added_at, next_after_at, fits_at, step_at, executed_same}
+use Rattle.cot_site.proofs.Characters.{characters_same, letters_many, text_at}
 use Rattle.cot_site.specs.Code.Notes.{entries_of, AreTold}
 use Rattle.cot_site.proofs.Noted.{notes_more, notes_none, notes_same}
 use Rattle.cot_site.proofs.RowForms.{before_last_is, knows_before, no_rows, rows_same}
@@ -24,6 +26,8 @@ invariant_of-self-in_err-reserve c =
       kept.1,
       rows_same c.self.inside.book.ops c.reserve.new.self.ops c.self.inside.rows c.self.invariant.3 c.reserve.ensures.ops,
       subst (λ (fs : List Form). AreNoted c.self.inside.passages fs) (sym c.reserve_one.ensures.items) c.self.invariant.4,
+      characters_same c.self.inside.book.ops c.reserve.new.self.ops cs cs c.self.inside.cells.text c.self.inside.cells.text
+          c.self.invariant.5 c.reserve.ensures.ops (λ i. cs) (λ i. c.self.inside.cells.text),
     )
 
 pub push_counted-requires-clause-counted : goal.push_counted-requires-clause-counted
@@ -80,6 +84,17 @@ execute-requires-clause-fits c =
     fits_at h o c.push_counted.new.self.ops (before_last c.push_counted.new.self.ops) c.member-member.result c.self.inside.forms.items
     c.self.inside.cells.cells c.known.ensures.valid next grown before c.member-member.ensures.member c.self.invariant.0
 
+pub execute-requires-clause-letters : goal.execute-requires-clause-letters
+execute-requires-clause-letters c =
+    let h = c.self.inside.book.ops in
+    let o = data_of c.args.op in
+    let next = subst (λ (r : ReplicaData). IsNext r.history o) (sym c.self.view_is) c.requires.next in
+    let grown : c.push_counted.new.self.ops ≡ h ++ o ∷ [] =
+    c.push_counted.ensures ∙ ap (λ (l : List OpData). l ++ o ∷ []) c.reserve.ensures.ops in
+    let before = before_last_is h o c.push_counted.new.self.ops c.known.ensures.valid next grown in
+    letters_many h o c.push_counted.new.self.ops (before_last c.push_counted.new.self.ops) c.member-member.result c.known.ensures.valid
+    next grown before c.member-member.ensures.member
+
 pub execute-requires-clause-kept : goal.execute-requires-clause-kept
 execute-requires-clause-kept c =
     let h = c.self.inside.book.ops in
@@ -99,12 +114,17 @@ invariant_of-self-in-Ok c =
     let before = before_last_is h o c.push_counted.new.self.ops c.known.ensures.valid next grown in
     let made =
     step_at h o c.push_counted.new.self.ops (before_last c.push_counted.new.self.ops) c.member-member.result c.self.inside.forms.items
-    c.reserve_one.new.list.items c.execute.new.forms.items c.self.inside.cells.cells c.execute.new.cells.cells c.known.ensures.valid
+    c.reserve_one.new.list.items c.execute.new.forms.items c.self.inside.cells c.execute.new.cells c.known.ensures.valid
     next grown before c.member-member.ensures.member c.self.invariant.0 c.reserve_one.ensures.items c.in-Ok.ensures.step in
+    let text =
+    text_at h o c.push_counted.new.self.ops (before_last c.push_counted.new.self.ops) c.member-member.result c.known.ensures.valid next
+    grown before c.member-member.ensures.member c.self.inside.forms.items c.reserve_one.new.list.items c.execute.new.forms.items
+    c.self.inside.cells c.execute.new.cells c.self.invariant.0 c.self.invariant.5 c.in-Ok.ensures.step in
     subst (λ (k : List OpData). IsExecuted k c.execute.new.forms.items c.execute.new.cells.cells
     × AreCached k (entries_of k c.execute.new.notes) × AreTold k c.execute.new.notes × AreRowsOf k c.execute.new.rows
-    × AreNoted c.execute.new.passages c.execute.new.forms.items) (sym c.share.ensures.ops)
-    (made, c.in-Ok.ensures.kept.0, c.in-Ok.ensures.kept.1, c.in-Ok.ensures.rows, c.in-Ok.ensures.noted)
+    × AreNoted c.execute.new.passages c.execute.new.forms.items
+    × AreCharacters k c.execute.new.cells.cells c.execute.new.cells.text) (sym c.share.ensures.ops)
+    (made, c.in-Ok.ensures.kept.0, c.in-Ok.ensures.kept.1, c.in-Ok.ensures.rows, c.in-Ok.ensures.noted, text)
 
 pub invariant_of-self-in-Err : goal.invariant_of-self-in-Err
 invariant_of-self-in-Err c =
@@ -121,4 +141,6 @@ invariant_of-self-in-Err c =
       kept.1,
       no_rows back c.take_back.new.rows c.take_back.ensures.rows,
       c.in-Err.ensures.noted,
+      characters_same h back c.self.inside.cells.cells c.execute.new.cells.cells c.self.inside.cells.text c.execute.new.cells.text
+          c.self.invariant.5 (c.take_back.ensures.ops h o grown) c.in-Err.ensures.cells c.in-Err.ensures.text,
     )

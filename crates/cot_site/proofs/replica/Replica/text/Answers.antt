@@ -10,6 +10,7 @@ returns-clause-ok c =
     let h = c.self.inside.book.ops in
     let cs = c.self.inside.cells.cells in
     subst (λ (bytes : List ℕ). OnOk c.write_text.result (c.write_text.new.out.items ≡ c.args.out.now.items ++ bytes))
-    (text_is h cs (cells_replayed h c.self.inside.forms.items cs c.known.ensures.valid c.self.invariant.0)
+    (text_is h cs c.self.inside.cells.text
+    (cells_replayed h c.self.inside.forms.items cs c.known.ensures.valid c.self.invariant.0) c.self.invariant.5
     ∙ ap (λ (r : ReplicaData). text_of r.history) c.self.view_is)
     c.write_text.ensures.ok
