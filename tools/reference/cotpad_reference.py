@@ -295,7 +295,8 @@ def put(op, earlier, cells):
 
     First its two neighbours are taken, among the cells that it sees (`gap`): with place p the p-th of them and the next one, or an
     end of the text. Then each earlier insert that it doesn't see, if its cell lies strictly between them, becomes the left
-    neighbour where its site is smaller than op's, and the right one otherwise (`narrowed_by`)."""
+    neighbour where its site is smaller than op's, and the right one otherwise (`narrowed_by`). An insert has one cell, which is
+    its first and its last."""
     sees = seen(op, cells)
     left = cells.index(sees[op.place - 1]) if op.place > 0 else -1
     right = cells.index(sees[op.place]) if op.place < len(sees) else len(cells)

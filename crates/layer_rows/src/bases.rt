@@ -56,6 +56,7 @@ pub(crate) fn base_of_one(name: Name) -> Form {
         ins: Ins {
             place: 0,
             site,
+            len: 1,
             name,
         },
     };

@@ -59,6 +59,7 @@ pub(crate) fn next_insert(cells: &Cells, place: u32) -> Option<Form> {
         Ok(name) => Some(Form::Ins(Ins {
             place,
             site: 0,
+            len: 1,
             name,
         })),
         Err(_) => None,

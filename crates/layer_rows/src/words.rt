@@ -159,12 +159,17 @@ impl<'a> Words<'a> {
         }
     }
 
-    /// `PLACE NAME`, an insert of the name's site.
+    /// `PLACE NAME`, an insert of one cell, of the name's site.
     pub(crate) fn ins(&mut self) -> Option<Ins> {
         let place = self.number()?;
         let name = self.name()?;
         let site = name.site;
-        Some(Ins { place, site, name })
+        Some(Ins {
+            place,
+            site,
+            len: 1,
+            name,
+        })
     }
 
     /// `PLACE MARK`.

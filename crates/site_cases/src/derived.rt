@@ -190,7 +190,12 @@ fn name_of(member: &Member) -> Name {
 fn form_of(name: Name, shape: Shape) -> Form {
     let site = name.site;
     match shape {
-        Shape::Ins(place) => Form::Ins(Ins { place, site, name }),
+        Shape::Ins(place) => Form::Ins(Ins {
+            place,
+            site,
+            len: 1,
+            name,
+        }),
         Shape::By(place, generation) => Form::Cover(Cover {
             place,
             mark: Mark::By { name, generation },

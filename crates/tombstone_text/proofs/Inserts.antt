@@ -3,11 +3,10 @@ use Rattle.std.proofs.Common.{◌≡◌, ◌≢◌, ℕ, zero, suc, Bool, true, 
 use Rattle.std.specs.Prelude.{Option, Some, None, slice_get}
 use Rattle.std.specs.Option.{option_map_or}
 use Rattle.op_name.specs.NameData.{NameData, name_eq}
-use Rattle.ttf_form.specs.declared.ins.Ins.{Ins}
 use Rattle.ttf_form.specs.declared.cover.Mark.{Mark}
 use Rattle.ttf_form.specs.declared.cover.Mark.TheVariants.{Own, By}
 use Rattle.ttf_form.specs.Names.{LacksName, NewNames}
-use Rattle.ttf_form.specs.Cells.{CellData, bare_cells, put_in, change_at, marked, marked_if, raised, marked_in, cells_of}
+use Rattle.ttf_form.specs.Cells.{CellData, put_in, change_at, marked, marked_if, raised, marked_in, cells_of}
 use Rattle.ttf_form.specs.Laws.Lists.{map-map, map-change}
 use Rattle.ttf_form.specs.Laws.Marks.{raised_none}
 use Rattle.ttf_form.specs.Laws.Deleters.{name_self, name_same}
@@ -66,8 +65,12 @@ pub inserts_put : (k : ℕ) (new xs : List CellData) → AreInserts new → AreI
 inserts_put k new xs h g n =
     record { ordered = ordered_put k new xs h.ordered g.ordered n; within = within_put k new xs h.within g.within }
 
-pub inserts_bare : (a : Ins) → AreInserts (bare_cells a)
-inserts_bare a = record { ordered = (tt, tt); within = (omega arith, tt) }
+-- the only cell of an insert, before any mark
+abbrev pub only_cell : NameData → CellData
+only_cell n = record { name = n; offset = 0; of = 1; generation = 0; deleters = [] }
+
+pub inserts_one : (n : NameData) → AreInserts (only_cell n ∷ [])
+inserts_one n = record { ordered = (tt, tt); within = (omega arith, tt) }
 
 marked_origin : (b : Bool) (m : Mark) (c : CellData) → origin (marked_if b m c) ≡ origin c
 marked_origin true (Own g) c = refl

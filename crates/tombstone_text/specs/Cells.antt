@@ -2,6 +2,7 @@
 use Rattle.std.specs.Prelude.{◌≡◌, ℕ, ◌<◌, ◌==◌, ◌&&◌, Bool, Option, Some, List, length, slice_get, IfSome}
 use Rattle.op_name.specs.NameData.{name_eq}
 use Rattle.ttf_form.specs.declared.include.TheConstants.{CELLS}
+use Rattle.ttf_form.specs.Forms.{ins_extent}
 use Rattle.ttf_form.specs.Cells.{CellData}
 use Rattle.ttf_form.specs.declared.cover.Mark.{Mark}
 use Rattle.ttf_form.specs.declared.cover.Mark.TheVariants.{Own, By}
@@ -28,10 +29,10 @@ abbrev pub HasRoomOn : Mark → CellData → ℕ → Type 0
 HasRoomOn (Own g) c places = Unit {0}
 HasRoomOn (By d g) c places = length c.deleters < places
 
--- there is room to apply the form: for the cell that an insert adds at its place, below the greatest number of cells, or
--- for the deleter that a cover may add
+-- there is room to apply the form: for the cell that an insert adds at its place, below the greatest number of cells, where it
+-- adds no more than one, or for the deleter that a cover may add
 abbrev pub HasRoomFor : CellsData → Form → Type 0
-HasRoomFor t (Insert a) = (t.room.ready ≡ Some a.place) × (length t.cells < CELLS)
+HasRoomFor t (Insert a) = (t.room.ready ≡ Some a.place) × (length t.cells < CELLS) × (ins_extent a ≡ 1)
 HasRoomFor t (Covered c) = IfSome (slice_get t.cells c.place) (λ d. HasRoomOn c.mark d t.room.deleters)
 
 -- the cell is that with the name and the offset

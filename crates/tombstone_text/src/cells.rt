@@ -3,7 +3,7 @@
 ghost use Rattle.std.specs.Prelude.{◌≡◌, ◌≢◌, ◌<◌, ◌≤◌, ◌^◌, ◌↔◌, [], ◌∷◌, length, filter, map, take, position, slice_get, slice_index_or, Contains, Some, IfSome, IfNone, IsTrue, OnOk, OnErr, option_map};
 ghost use Rattle.ttf_form.specs.Names.{LacksName};
 ghost use Rattle.ttf_form.specs.Cells.{cell_shown, cells_of, put_in, bare_cells, change_at, marked, marked_in, raised, applied, text_put, FitsCells};
-ghost use Rattle.ttf_form.specs.Forms.{extent_of};
+ghost use Rattle.ttf_form.specs.Forms.{ins_extent, extent_of};
 ghost use Rattle.ttf_form.specs.declared.include.TheConstants.{CELLS};
 ghost use Rattle.ttf_form.specs.declared.form.Form.TheVariants.{Cover as Covered};
 ghost use Rattle.tombstone_text.specs.Cells.{CellsData, HasRoomFor, is_cell};
@@ -173,9 +173,10 @@ impl Cells {
 
     /// Makes room to apply `form`, which then takes no memory: for the cell that an insert adds at its place with its
     /// character, also where a chunk is to be cut in two, or for the deleter that a cover may add to the cell at its
-    /// place. Nothing else changes, also when out of memory, as it always answers for a 4,294,967,296th cell. The room for an insert is
-    /// there until a form is applied, or room made for another insert. Out of memory comes only where the room isn't
-    /// there yet; so never for a cover that leaves no deleter to note.
+    /// place. Nothing else changes, also when out of memory, as it always answers for a 4,294,967,296th cell, and for an
+    /// insert of more cells than one. The room for an insert is there until a form is applied, or room made for another
+    /// insert. Out of memory comes only where the room isn't there yet; so never for a cover that leaves no deleter to
+    /// note.
     pub fn reserve(&mut self, form: &Form) -> Result<(), Memory>
         ensures cells { self.new.cells ≡ self.old.cells }
         ensures text { self.new.text ≡ self.old.text }
@@ -184,7 +185,7 @@ impl Cells {
     {
         match form {
             Form::Ins(ins) => {
-                if self.len() >= CELLS {
+                if ins.len != 1 || self.len() >= CELLS {
                     return Err(Memory);
                 }
                 self.reserve_place(ins.place)
@@ -253,12 +254,13 @@ impl Cells {
         }
     }
 
-    /// Puts the new cell of an insert with its character at its place.
+    /// Puts the new cell of an insert of one with its character at its place.
     fn put(&mut self, ins: &Ins, ch: char)
         requires room { self.old.room.ready ≡ Some ins.now.place }
         requires bound { length self.old.cells < CELLS }
         requires place { ins.now.place ≤ length self.old.cells }
         requires new { LacksName (cells_of self.old.cells) ins.now.name }
+        requires one { ins_extent ins.now ≡ 1 }
         ensures cells { self.new.cells ≡ put_in ins.now.place (bare_cells ins.now) self.old.cells }
         ensures text { self.new.text ≡ put_in ins.now.place (ch ∷ []) self.old.text }
     {
