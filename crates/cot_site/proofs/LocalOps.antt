@@ -39,9 +39,14 @@ length_put o earlier cells =
     let g = gap_of o earlier cells in
     let new = cells_from o in
     omega (
-      arith, length_run o.name 0 o.len, ap (λ (xs : List Cell). length xs) (gap_of_whole o earlier cells),
-      length-append g.before (g.between ++ (new ++ g.behind)), length-append g.between (new ++ g.behind), length-append new g.behind,
-      length-append g.before (g.between ++ g.behind), length-append g.between g.behind,
+      arith,
+      length_run o.name 0 o.len,
+      ap (λ (xs : List Cell). length xs) (gap_of_whole o earlier cells),
+      length-append g.before (g.between ++ (new ++ g.behind)),
+      length-append g.between (new ++ g.behind),
+      length-append new g.behind,
+      length-append g.before (g.between ++ g.behind),
+      length-append g.between g.behind,
     )
 
 length_replay : (os : List Insertion) (earlier : List NameData) (cells : List Cell)

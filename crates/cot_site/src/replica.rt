@@ -23,7 +23,7 @@ ghost use Rattle.undo_group.specs.BaseForms.{base_form};
 ghost use Rattle.form_rows.specs.Names.{insert_of};
 ghost use Rattle.form_rows.specs.Kept.{IsFormWith, empty_rows};
 ghost use Rattle.form_rows.specs.Stretches.{AreNoted};
-ghost use Rattle.fixed_replay.specs.Replayed.{IsReplayed, AreCharacters, letters_of};
+ghost use Rattle.fixed_replay.specs.Replayed.{IsReplayed, AreCharacters};
 ghost use Rattle.cot_site.specs.Commands.{place_of_shown, place_behind};
 ghost use Rattle.cot_site.specs.Sites.{AreExecuted, AreCached, IsFormOf, KeepsForms};
 ghost use Rattle.cot_site.specs.Code.Judging.{HasCells};
@@ -34,20 +34,21 @@ ghost use Rattle.cot_site.specs.Code.Replicas.{AreRowsOf, IsExecutedAsBefore, Is
 use crate::notes::{At, Notes};
 use context_diff::{Book, Op, reserve_one};
 use context_vector::Vector;
+use fixed_replay::letters_of;
 use form_cache::Key;
 use form_rows::{Passages, Rows, executed_group, executed_original};
 use op_name::{Member, Memory, Name};
 use std::alloc::Global;
 use std::marker::Model;
-use std::slice;
 use tombstone_text::Cells;
 use ttf_form::{Bases, Cover, Form, Ins};
 use undo_group::TextBases;
 use visible_view::{cell_of_visible, model_place, visible_len, write_text};
 
 /// A valid history, the form in which each of its operations was executed, the cells that these forms gave, with the characters of
-/// their inserts beside them, the passages and rows out of which the next forms are found, and forms that were found on the way. A site hands its calls on what it has
-/// integrated to it: what ties these parts together is kept here, and a site adds its number and what waits.
+/// their inserts beside them, the passages and rows out of which the next forms are found, and forms that were found on the way. A
+/// site hands its calls on what it has integrated to it: what ties these parts together is kept here, and a site adds its number
+/// and what waits.
 #[derive(Drop)]
 pub struct Replica {
     book: Book,
@@ -362,18 +363,8 @@ fn last_letters(book: &Book) -> &[char]
     ensures { result.now ≡ last_letters book.now.ops }
 {
     match book.op(book.len().saturating_sub(1)) {
-        Some(op) => letters(op),
+        Some(op) => letters_of(op),
         None => &[],
-    }
-}
-
-// The characters that an operation puts.
-fn letters(op: &Op) -> &[char]
-    ensures { result.now ≡ letters_of (data_of op.now) }
-{
-    match op {
-        Op::Insert { ch, .. } => slice::from_ref(ch),
-        _ => &[],
     }
 }
 

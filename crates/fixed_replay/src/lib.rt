@@ -8,6 +8,7 @@
 #![tactic(auto)]
 
 mod laws;
+mod letters;
 mod plain;
 
 pub use laws::{
@@ -15,4 +16,5 @@ pub use laws::{
     histories_have_forms, operations_say_base_forms, originals_are_told_apart,
     replay_along_any_list, replay_shows_the_text, same_operations_same_text,
 };
+pub use letters::letters_of;
 pub use plain::{plain_characters, plain_text};

@@ -1,20 +1,18 @@
 //! The command `explain`.
 
 ghost use Rattle.std.specs.Prelude.{◌≡◌, ◌++◌, IfOk, OnOk};
-ghost use Rattle.context_diff.specs.Ops.{data_of};
-ghost use Rattle.fixed_replay.specs.Replayed.{letters_of};
 ghost use Rattle.cot_site.specs.Sites.{state_of};
 ghost use Rattle.log_replies.specs.Answers.{IsAppended};
 ghost use Rattle.log_replies.specs.Explaining.{IsExplained, IsExplainedIn, about, letters_by, line_text, lines_text, unknown_text};
 
 use crate::replying::Replies;
-use context_diff::{Book, Op};
+use context_diff::Book;
 use cot_site::Site;
+use fixed_replay::letters_of;
 use op_name::{Member, Memory};
 use script_text::{base_line, step_line};
 use site_answers::put_member;
 use std::alloc::Global;
-use std::slice;
 use trace_explain::{TraceLine, ends_in_executed_form, trace};
 
 /// Loads a log as site 0, and writes the steps that derive the form in which this member was executed there.
@@ -109,16 +107,6 @@ fn letters_by<'a>(book: &'a Book, member: &Member) -> &'a [char]
             None => &[],
         },
         Member::Group(_, _) => &[],
-    }
-}
-
-// The characters that an operation brings.
-fn letters_of(op: &Op) -> &[char]
-    ensures { result.now ≡ letters_of (data_of op.now) }
-{
-    match op {
-        Op::Insert { ch, .. } => slice::from_ref(ch),
-        Op::Delete { .. } | Op::Undo { .. } => &[],
     }
 }
 

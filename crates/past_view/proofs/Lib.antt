@@ -9,3 +9,5 @@ pub mod Counts
 pub mod Cuts
 pub mod Utf8
 pub mod OneRefusal
+pub mod Prefixes
+pub mod Moments

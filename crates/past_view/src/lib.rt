@@ -9,7 +9,6 @@ mod counted;
 mod laws;
 mod lines;
 mod past;
-mod player;
 mod playing;
 
 pub use laws::one_place;

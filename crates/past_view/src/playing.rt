@@ -8,10 +8,10 @@ ghost use Rattle.site_answers.specs.Names.{member_text};
 ghost use Rattle.script_text.specs.Report.{shown_text};
 ghost use Rattle.context_diff.specs.Replays.{text_of};
 ghost use Rattle.past_view.specs.Playing.{played};
-ghost use Rattle.past_view.specs.Code.Playing.{IsPlayed, HasWritten, cells_after};
+ghost use Rattle.past_view.specs.Code.Playing.{IsAfter, HasWritten};
 
-use crate::player::play;
 use cot_site::Site;
+use fixed_replay::letters_of;
 use op_name::{Member, Memory};
 use outside_io::{Failed, Sink, write_whole};
 use script_text::shown_lines;
@@ -58,9 +58,8 @@ impl From<Failed> for PlayBad {
 /// operations up to and with it show: `text CHARS BYTES`, a line feed, the text and a line feed. What was written before a
 /// playback stopped is a front of that.
 ///
-/// From one text to the next only what the operation changed is changed, at its place. So a playback costs what executing the
-/// operations once costs, a look at each chunk of 512 cells and the move of the bytes behind the place for each of them, and the
-/// writing of all texts. It keeps one copy of the cells, one of the text, and what is to be written, up to one text and 65,536 bytes.
+/// It costs executing the operations once, by the forms that the site keeps, and making and writing each text. It keeps one copy of
+/// the cells, one of the text, and what is to be written, up to one text and 65,536 bytes.
 pub fn playback<K: Sink>(alloc: Global, site: &Site, sink: &mut K) -> Result<(), PlayBad>
     ensures whole { OnOk result (Appends (K.held sink.old) (K.held sink.new) (played site.now.history)) }
     ensures front { OnErr result (WritesFront (K.held sink.old) (K.held sink.new) (played site.now.history)) }
@@ -72,8 +71,8 @@ pub fn playback<K: Sink>(alloc: Global, site: &Site, sink: &mut K) -> Result<(),
     let mut text = Vec::new(alloc);
     let mut out = Vec::new(alloc);
     for i in 0..site.book().len() {
-        play_next(site, i, &mut cells, &mut text)?;
-        put_moment(site, i, &cells, &text, &mut out)?;
+        execute_next(site, i, &mut cells)?;
+        put_moment(site, i, &cells, &mut text, &mut out)?;
         flush(sink, &mut out, ENOUGH)?;
     }
     flush(sink, &mut out, 1)?;
@@ -97,47 +96,39 @@ pub fn text_before(alloc: Global, site: &Site, index: u32, out: &mut Vec<u8>) ->
 // Executes the i-th operation of the site after those before it.
 fn execute_next(site: &Site, i: u32, cells: &mut Cells) -> Result<(), Memory>
     requires there { i < length site.now.history }
-    requires before { cells.old.cells ≡ cells_after site.now.forms i }
-    ensures { OnOk result (cells.new.cells ≡ cells_after site.now.forms (i + 1)) }
+    requires before { IsAfter site.now.history site.now.forms i cells.old.cells cells.old.text }
+    ensures { OnOk result (IsAfter site.now.history site.now.forms (i + 1) cells.new.cells cells.new.text) }
 {
     site.known();
-    match site.executed(i) {
-        Some(form) => {
-            cells.reserve(form)?;
-            cells.apply(form);
-            Ok(())
-        }
+    match site.book().op(i) {
+        Some(op) => match site.executed(i) {
+            Some(form) => {
+                cells.reserve(form)?;
+                cells.apply(form, letters_of(op));
+                Ok(())
+            }
+            None => unreachable!(),
+        },
         None => unreachable!(),
     }
 }
 
-// Plays the i-th operation of the site after those before it.
-fn play_next(site: &Site, i: u32, cells: &mut Cells, text: &mut Vec<u8>) -> Result<(), Memory>
-    requires there { i < length site.now.history }
-    requires before { IsPlayed site.now.forms i cells.old.cells text.old.items }
-    ensures { OnOk result (IsPlayed site.now.forms (i + 1) cells.new.cells text.new.items) }
-{
-    site.known();
-    match site.executed(i) {
-        Some(form) => play(cells, text, form),
-        None => unreachable!(),
-    }
-}
-
-// Appends what is played after the i-th operation of the site, whose text this is.
+// Appends what is played after the i-th operation of the site, once that was executed. The text of the cells is made in `text`.
 fn put_moment(
     site: &Site,
     i: u32,
     cells: &Cells,
-    text: &[u8],
+    text: &mut Vec<u8>,
     out: &mut Vec<u8>,
 ) -> Result<(), Memory>
     requires there { i < length site.now.history }
-    requires played { IsPlayed site.now.forms (i + 1) cells.now.cells text.now }
+    requires after { IsAfter site.now.history site.now.forms (i + 1) cells.now.cells cells.now.text }
     ensures { OnOk result ((front : List ℕ) → played (take i site.now.history) ≡ front ++ out.old.items
         → played (take (i + 1) site.now.history) ≡ front ++ out.new.items) }
 {
     site.known();
+    text.clear();
+    write_text(cells, text)?;
     match site.book().member(i) {
         Some(member) => put_text(member, cells.shown_len(), text, out),
         None => unreachable!(),
