@@ -37,7 +37,8 @@ world outside wire = record { outside = outside; wire = wire }
 -- ---- the table
 
 -- a row: when each status comes, and what it leaves; whether the source is read, and whether something may be written before a read
--- fails or memory runs out; the link that the wire is asked for, and how often at most; and whom the command needs beside calls that don't fail
+-- fails or memory runs out; the link that the wire is asked for, and how often at most; and whom the command needs beside calls that
+-- don't fail
 pub record Row : Type 1 where
   pub answers : World → World → Status → Type 0
   pub reads : Bool

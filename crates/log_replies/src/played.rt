@@ -35,7 +35,8 @@ pub fn answer_played<S: Source, K: Sink>(alloc: Global, source: &mut S, sink: &m
 
 // Writes the text after each operation of the site's history. The site is given up.
 fn play<K: Sink>(alloc: Global, site: Site, sink: &mut K) -> Status
-    ensures written { IsWrittenOut false (played site.history) (K.held sink.old) (K.held sink.new) (K.faults sink.old) (K.faults sink.new) result }
+    ensures written { IsWrittenOut false (played site.history)
+        (K.held sink.old) (K.held sink.new) (K.faults sink.old) (K.faults sink.new) result }
 {
     match playback(alloc, &site, sink) {
         Ok(()) => Status::Done,
