@@ -55,5 +55,15 @@ def test_the_cursor_of_a_user(sites):
     assert (ann.text, names["cursor"].place) == (">> Agenda: draftbudget", 16)
 
 
+def test_the_texts_of_the_past(sites):
+    ann = sites[0]
+    ann.insert(0, "tea")
+    ann.undo((0, 2))
+    names = {"mine": ann, "before": 4}
+    exec(example("docs/EMBEDDING.md", "mine.at(index)"), names)
+    assert names["texts"] == ["", "t", "te", "tea", "ta"]
+    assert (names["counts"], names["undone"], names["seen"]) == ({0: 3}, {(0, 2): 1}, "ta")
+
+
 def test_the_cursor_in_c_is_that_of_the_example():
     assert example("docs/EMBEDDING.md", "cursor *c", "c") in (TOP / "examples/embed/cursor.c").read_text()

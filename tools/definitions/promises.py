@@ -147,6 +147,11 @@ PROMISES = (
         "The four calls make and take the messages of an exchange.",
         functions(EXPORTS, "cotpad_exchange_offer", "cotpad_exchange_answer", "cotpad_exchange_close", "cotpad_exchange_finish"),
     ),
+    Promise(
+        "From C: texts of the past",
+        "The text before an operation, and at a set of operations, is that of these operations alone; or a status says why there is none.",
+        functions(EXPORTS, "cotpad_text_before", "cotpad_text_at"),
+    ),
     # All of them, so that none is left out.
     Promise(
         "From C: all exports",

@@ -4,7 +4,7 @@ use Rattle.op_name.specs.NameData.{NameData, IsName}
 use Rattle.op_name.specs.declared.member.TheConstants.{GENERATIONS}
 use Rattle.context_vector.specs.Contexts.{AreCounts, AreEntries}
 use Rattle.context_vector.specs.Vectors.{NamesBelow}
-use Rattle.wire_codec.proofs.Pushes.{FollowsCounts, follows_counts, follows_entries}
+use Rattle.wire_codec.proofs.CallerLemmas.{FollowsCounts, follows_counts, follows_entries}
 use Rattle.cotpad_c.specs.declared.operation.CotpadCount.{CotpadCount}
 use Rattle.cotpad_c.specs.declared.operation.CotpadMember.{CotpadMember}
 use Rattle.cotpad_c.specs.Pasts.{count_told, entry_told, counts_told, undone_told}

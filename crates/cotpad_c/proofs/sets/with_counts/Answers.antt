@@ -1,5 +1,5 @@
 use Rattle.std.proofs.Common.{arith}
-use Rattle.wire_codec.proofs.Pushes.{FollowsCounts}
+use Rattle.wire_codec.proofs.CallerLemmas.{FollowsCounts}
 use Rattle.cotpad_c.proofs.Spelled.{next_count}
 use Rattle.cotpad_c.specs.Pasts.{count_told}
 use Rattle.cotpad_c.proofs.sets.with_counts.Goals as goal
