@@ -2,6 +2,7 @@
 use Rattle.std.proofs.Common.{◌≡◌, ◌≢◌, ℕ, zero, suc, ◌+◌, ◌*◌, ◌<◌, ◌≤◌, Bool, true, false, inl, inr, List, [], ◌∷◌, ◌++◌, length, map, Result, Ok, Err, refl, ap, sym, subst, ◌∙◌, arith, length-append}
 use Rattle.std.specs.Prelude.{Option, Some, None, Contains, slice_get, ◌&&◌, ◌==◌, if◌then◌else◌}
 use Rattle.std.specs.Char.{IsScalar}
+use Rattle.ttf_form.specs.Families.{total_by}
 use Rattle.std.proofs.lemmas.Bool.{cases_Bool, cases_lt, true≢false, false≢true, false_from_ne_true, lt-ltb, le-ltb, eq-eqb}
 use Rattle.op_name.specs.declared.name.TheConstants.{SITES, NUMBERS}
 use Rattle.op_name.specs.declared.member.TheConstants.{GENERATIONS}
@@ -12,7 +13,7 @@ use Rattle.context_vector.specs.Contexts.{ContextData, IsContext, HasNoStray, ha
 use Rattle.context_diff.specs.Operations.{OpData, inserting, deleting, undoing, member_of, IsWellFormed}
 use Rattle.context_diff.specs.Histories.{is_known, generation_in, context_of_all, inserts_in, LacksNothing, IsClosed, IsNext, IsValid}
 use Rattle.op_name.specs.Members.{is_even}
-use Rattle.context_diff.specs.Replays.{Insertion, Cell, run_of, cells_from, insertions_in, is_earlier, put_by, sort_by, gap_of, put, replay, replay_of, is_shown, characters_of}
+use Rattle.context_diff.specs.Replays.{Insertion, Cell, insertions_in, is_earlier, put_by, sort_by, run_of, cells_from, gap_of, put, replay, replay_of, is_shown, characters_of}
 use Rattle.context_vector.proofs.CallerLemmas.{sum_at_most, entry_at_most, rank_raised}
 use Rattle.context_diff.proofs.CallerLemmas.{IsComplete, complete, next_member, context_push, generation_is, group_facts, contains_here, contains_later, holder, known_member, all_is_context, has_number, has_generation, by_pushes}
 use Rattle.fixed_replay.proofs.CallerLemmas.{gap_of_whole}
@@ -25,60 +26,68 @@ use Rattle.cot_site.specs.Commands.{place_of_shown, place_behind, count_made, ne
 
 -- ---- how many cells the replay has
 
--- the numbers of cells of these inserts, added up
-all_cells : List Insertion → ℕ
-all_cells [] = 0
-all_cells (o ∷ os) = o.len + all_cells os
+-- how many cells these inserts put
+abbrev all_len : List Insertion → ℕ
+all_len os = total_by (λ (o : Insertion). o.len) os
+
+more_cells : (a b c new : List Cell) → length (a ++ (b ++ (new ++ c))) ≡ length (a ++ (b ++ c)) + length new
+more_cells a b c new =
+    omega (
+      arith,
+      length-append a (b ++ (new ++ c)),
+      length-append b (new ++ c),
+      length-append new c,
+      length-append a (b ++ c),
+      length-append b c,
+    )
 
 length_run : (n : NameData) (first k : ℕ) → length (run_of n first k) ≡ k
 length_run n first zero = refl
 length_run n first (suc k) = ap suc (length_run n (suc first) k)
 
-length_put : (o : Insertion) (earlier : List NameData) (cells : List Cell) → length (put o earlier cells) ≡ o.len + length cells
+length_put : (o : Insertion) (earlier : List NameData) (cells : List Cell) → length (put o earlier cells) ≡ length cells + o.len
 length_put o earlier cells =
     let g = gap_of o earlier cells in
-    let new = cells_from o in
-    omega (
-      arith,
-      length_run o.name 0 o.len,
-      ap (λ (xs : List Cell). length xs) (gap_of_whole o earlier cells),
-      length-append g.before (g.between ++ (new ++ g.behind)),
-      length-append g.between (new ++ g.behind),
-      length-append new g.behind,
-      length-append g.before (g.between ++ g.behind),
-      length-append g.between g.behind,
-    )
+    let whole = ap length (gap_of_whole o earlier cells) in
+    omega (arith, more_cells g.before g.between g.behind (cells_from o), length_run o.name 0 o.len, whole)
 
 length_replay : (os : List Insertion) (earlier : List NameData) (cells : List Cell)
-    → length (replay earlier cells os) ≡ length cells + all_cells os
+    → length (replay earlier cells os) ≡ length cells + all_len os
 unfolding replay
 length_replay [] earlier cells = omega arith
 length_replay (o ∷ os) earlier cells =
     omega (arith, length_replay os (earlier ++ o.name ∷ []) (put o earlier cells), length_put o earlier cells)
 
-cells_put_by : (less : Insertion → Insertion → Bool) (x : Insertion) (xs : List Insertion)
-    → all_cells (put_by less x xs) ≡ x.len + all_cells xs
+len_put_by : (less : Insertion → Insertion → Bool) (x : Insertion) (xs : List Insertion) → all_len (put_by less x xs) ≡ x.len + all_len xs
 unfolding put_by
-cells_put_by less x [] = refl
-cells_put_by less x (y ∷ ys) =
-    elim (less x y) as (λ t. all_cells (if t then x ∷ (y ∷ ys) else y ∷ put_by less x ys) ≡ x.len + (y.len + all_cells ys))
-    [ true ↦ refl | false ↦ omega (arith, cells_put_by less x ys) ]
+len_put_by less x [] = refl
+len_put_by less x (y ∷ ys) = by (less x y) (len_put_by less x ys)
+  where
+    by : (t : Bool) → all_len (put_by less x ys) ≡ x.len + all_len ys
+        → all_len (if t then x ∷ (y ∷ ys) else y ∷ put_by less x ys) ≡ x.len + (y.len + all_len ys)
+    by true rest = refl
+    by false rest = omega (arith, rest)
 
-cells_sort_by : (less : Insertion → Insertion → Bool) (xs : List Insertion) → all_cells (sort_by less xs) ≡ all_cells xs
+len_sort_by : (less : Insertion → Insertion → Bool) (xs : List Insertion) → all_len (sort_by less xs) ≡ all_len xs
 unfolding sort_by
-cells_sort_by less [] = refl
-cells_sort_by less (x ∷ xs) = omega (arith, cells_put_by less x (sort_by less xs), cells_sort_by less xs)
+len_sort_by less [] = refl
+len_sort_by less (x ∷ xs) = len_put_by less x (sort_by less xs) ∙ ap (λ n. x.len + n) (len_sort_by less xs)
 
--- an insert of a history has one character
-cells_inserted : (h : List OpData) → all_cells (insertions_in h) ≡ length (insertions_in h)
-cells_inserted [] = refl
-cells_inserted (inserting n p ch c ∷ os) = ap suc (cells_inserted os)
-cells_inserted (deleting n p c ∷ os) = cells_inserted os
-cells_inserted (undoing a t g c ∷ os) = cells_inserted os
+-- an insert of a history puts one cell
+one_each : (os : List OpData) → all_len (insertions_in os) ≡ length (insertions_in os)
+one_each [] = refl
+one_each (inserting n p ch c ∷ os) = omega (arith, one_each os)
+one_each (deleting n p c ∷ os) = one_each os
+one_each (undoing a t g c ∷ os) = one_each os
 
 pub cells_counted : (h : List OpData) → length (replay_of h) ≡ length (insertions_in h)
 cells_counted h =
-    length_replay (sort_by is_earlier (insertions_in h)) [] [] ∙ (cells_sort_by is_earlier (insertions_in h) ∙ cells_inserted h)
+    omega (
+      arith,
+      length_replay (sort_by is_earlier (insertions_in h)) [] [],
+      len_sort_by is_earlier (insertions_in h),
+      one_each h,
+    )
 
 inserts_listed : (os : List OpData) (c : ContextData) → ((o : OpData) → Contains os o → has c (member_of o) ≡ true)
     → inserts_in os c ≡ length (insertions_in os)
