@@ -11,3 +11,4 @@ pub mod Utf8
 pub mod OneRefusal
 pub mod Prefixes
 pub mod Moments
+pub mod Plays

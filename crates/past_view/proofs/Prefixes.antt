@@ -1,6 +1,6 @@
 -- The first operations of a history, and the first of the forms in which it was executed.
-use Rattle.std.proofs.Common.{◌≡◌, ℕ, zero, suc, ◌+◌, ◌<◌, ◌≤◌, Bool, List, [], ◌∷◌, ◌++◌, Option, Some, None, length, take, drop, slice_get, get_or, refl, sym, ap, ◌∙◌, subst, arith, length-take-le, take-append-drop}
-use Rattle.std.proofs.lemmas.List.{length-map, take_more}
+use Rattle.std.proofs.Common.{◌≡◌, ℕ, zero, suc, ◌+◌, ◌<◌, ◌≤◌, Bool, List, [], ◌∷◌, ◌++◌, Some, None, length, take, drop, slice_get, refl, sym, ap, ◌∙◌, subst, arith, length-take-le, take-append-drop}
+use Rattle.std.proofs.lemmas.List.{length-map}
 use Rattle.op_name.specs.declared.member.Member.{Member}
 use Rattle.context_diff.specs.Operations.{OpData, member_of}
 use Rattle.context_diff.specs.Histories.{members_in, IsValid}
@@ -8,7 +8,7 @@ use Rattle.context_diff.specs.Replays.{character_in, characters_of, text_of}
 use Rattle.context_diff.proofs.CallerLemmas.{valid_parts, members-append}
 use Rattle.ttf_form.specs.declared.form.Form.{Form}
 use Rattle.ttf_form.specs.Forms.{form_over, extent_of}
-use Rattle.ttf_form.specs.Cells.{CellData, applied, cells_of, text_put, FitsCells, cell_shown}
+use Rattle.ttf_form.specs.Cells.{CellData, applied, cells_of, text_put, FitsCells}
 use Rattle.ttf_form.specs.Laws.Cells.{length-cells}
 use Rattle.transform_rec.specs.Sets.{none, plus, plus_all}
 use Rattle.transform_rec.specs.Family.{Family}
@@ -140,14 +140,19 @@ got_taken [] i f e = let none : None ≡ Some f = e in cc
 got_taken (g ∷ gs) zero f e = e
 got_taken (g ∷ gs) (suc i) f e = got_taken gs i f e
 
+taken_more : (h : List OpData) (i : ℕ) (o : OpData) → slice_get h i ≡ Some o → take (suc i) h ≡ take i h ++ o ∷ []
+taken_more [] i o e = let none : None ≡ Some o = e in cc
+taken_more (p ∷ ps) zero o e = let is : p ≡ o = cc in ap (λ (x : OpData). x ∷ []) is
+taken_more (p ∷ ps) (suc i) o e = ap (λ (xs : List OpData). p ∷ xs) (taken_more ps i o e)
+
 -- one operation more
 module _ (h : List OpData) (valid : IsValid h) (fs : List Form) (df : AreExecuted h fs) (i : ℕ) (lt : i < length h) (o : OpData)
-    (f : Form) (is : get_or h i o ≡ o) (at : slice_get fs i ≡ Some f) where
+    (f : Form) (there : slice_get h i ≡ Some o) (at : slice_get fs i ≡ Some f) where
   abbrev k : List OpData
   k = take i h
 
   grown : take (i + 1) h ≡ k ++ o ∷ []
-  grown = take_more h i o lt ∙ ap (λ (x : OpData). k ++ x ∷ []) is
+  grown = let on : i + 1 ≡ suc i = omega arith in ap (λ (n : ℕ). take n h) on ∙ taken_more h i o there
 
   long_valid : IsValid (k ++ o ∷ [])
   long_valid = subst IsValid grown (first_valid h valid fs df (i + 1) (omega (arith, lt)))

@@ -86,6 +86,7 @@ pub fn text_before(alloc: Global, site: &Site, index: u32, out: &mut Vec<u8>) ->
     ensures ok { OnOk result (out.new.items ≡ out.old.items ++ text_of (take index site.now.history)) }
     ensures err { OnErr result (out.new.items ≡ out.old.items) }
 {
+    site.known();
     let mut cells = Cells::new(alloc);
     for i in 0..index.min(site.book().len()) {
         execute_next(site, i, &mut cells)?;
