@@ -26,7 +26,7 @@ use Rattle.cot_site.specs.Commands.{place_of_shown, place_behind, count_made, ne
 -- ---- how many cells the replay has
 
 -- the numbers of cells of these inserts, added up
-all_cells : List Insertion → ℕ
+abbrev all_cells : List Insertion → ℕ
 all_cells [] = 0
 all_cells (o ∷ os) = o.len + all_cells os
 
@@ -39,9 +39,14 @@ length_put o earlier cells =
     let g = gap_of o earlier cells in
     let new = cells_from o in
     omega (
-      arith, length_run o.name 0 o.len, ap (λ (xs : List Cell). length xs) (gap_of_whole o earlier cells),
-      length-append g.before (g.between ++ (new ++ g.behind)), length-append g.between (new ++ g.behind), length-append new g.behind,
-      length-append g.before (g.between ++ g.behind), length-append g.between g.behind,
+      arith,
+      length_run o.name 0 o.len,
+      ap (λ (xs : List Cell). length xs) (gap_of_whole o earlier cells),
+      length-append g.before (g.between ++ (new ++ g.behind)),
+      length-append g.between (new ++ g.behind),
+      length-append new g.behind,
+      length-append g.before (g.between ++ g.behind),
+      length-append g.between g.behind,
     )
 
 length_replay : (os : List Insertion) (earlier : List NameData) (cells : List Cell)
@@ -67,13 +72,14 @@ cells_sort_by less (x ∷ xs) = omega (arith, cells_put_by less x (sort_by less 
 -- an insert of a history has one character
 cells_inserted : (h : List OpData) → all_cells (insertions_in h) ≡ length (insertions_in h)
 cells_inserted [] = refl
-cells_inserted (inserting n p ch c ∷ os) = ap suc (cells_inserted os)
+cells_inserted (inserting n p ch c ∷ os) = omega (arith, cells_inserted os)
 cells_inserted (deleting n p c ∷ os) = cells_inserted os
 cells_inserted (undoing a t g c ∷ os) = cells_inserted os
 
 pub cells_counted : (h : List OpData) → length (replay_of h) ≡ length (insertions_in h)
 cells_counted h =
-    length_replay (sort_by is_earlier (insertions_in h)) [] [] ∙ (cells_sort_by is_earlier (insertions_in h) ∙ cells_inserted h)
+    let os = insertions_in h in
+    omega (arith, length_replay (sort_by is_earlier os) [] [], cells_sort_by is_earlier os, cells_inserted h)
 
 inserts_listed : (os : List OpData) (c : ContextData) → ((o : OpData) → Contains os o → has c (member_of o) ≡ true)
     → inserts_in os c ≡ length (insertions_in os)
