@@ -73,7 +73,14 @@ pub record IsCoverOf (c : Cover) (f : Form) : Type 0 where
 insert_over : (a : Ins) (f k : Form) → IsInsertOf a f → IsInsertOf a (form_over f k)
 insert_over a (Insert c) (Insert d) i =
     let e : c ≡ i.ins = ins_once c i.ins i.is in
-    record { ins = _; is = refl; name = ap (λ (x : Ins). x.name) e ∙ i.name; len = ap ins_extent e ∙ i.len; bare = ap bare_cells e ∙ i.bare }
+    record {
+      ins = _;
+      is = refl;
+      name = ap (λ (x : Ins). x.name) e ∙ i.name;
+      len = ap ins_extent e ∙ i.len;
+      bare =
+          ap bare_cells e ∙ i.bare;
+    }
   where
     ins_once : (x y : Ins) → Insert x ≡ Insert y → x ≡ y
     ins_once x y e = cc

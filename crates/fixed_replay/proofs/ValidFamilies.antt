@@ -95,7 +95,14 @@ module _ (h : List OpData) (v : IsValid h) (form : Member → Form) (forms : Are
   -- what a member with an insert as its form puts
   abbrev put_of : Member → Ins → Insertion
   put_of m a =
-      record { name = a.name; place = a.place; len = ins_extent a; rank = rank_in h v (target_of m); sees = λ (n : NameData). base_has h m (Original n) }
+      record {
+        name = a.name;
+        place = a.place;
+        len = ins_extent a;
+        rank = rank_in h v (target_of m);
+        sees =
+            λ (n : NameData). base_has h m (Original n);
+      }
 
   put_is : (n : NameData) (p ch : ℕ) (c : ContextData) (a : Ins) → IsIn (inserting n p ch c) h → a.name ≡ n → a.place ≡ p
       → ins_extent a ≡ 1 → put_of (Original n) a ≡ insertion n p c
