@@ -1,17 +1,34 @@
 -- The texts of chunks beside their cells: as long as these, where a chunk changes or is cut in two.
-use Rattle.std.proofs.Common.{◌≡◌, ℕ, suc, ◌+◌, ◌-◌, ◌<◌, ◌≤◌, Option, List, [], ◌∷◌, length, map, take, drop, insert, set, get_or, refl, sym, ap, ◌∙◌, arith}
+use Rattle.std.proofs.Common.{◌≡◌, ℕ, suc, ◌+◌, ◌-◌, ◌<◌, ◌≤◌, Option, List, [], ◌∷◌, length, map, take, drop, insert, set, get_or, sym, ap, ◌∙◌, arith}
 use Rattle.std.specs.List.{sum}
 use Rattle.std.proofs.lemmas.List.{map-set, get_or-map, length-map, length-take, length-drop}
 use Rattle.std.proofs.lemmas.List.Edits.{length-insert}
 use Rattle.ttf_form.specs.Cells.{CellData}
 use Rattle.tombstone_text.specs.Chunks.{flat, joined}
-use Rattle.tombstone_text.specs.Code.Cells.{AreBeside, IsSeat, IsText, cut}
+use Rattle.tombstone_text.specs.Code.Cells.{AreBeside, IsSeat, IsText}
 use Rattle.tombstone_text.specs.Code.Chunks.{ChunkData}
 use Rattle.tombstone_text.proofs.Flags.{map-insert}
 use Rattle.tombstone_text.proofs.Chunked.{all_put, all_cut, cut_is, sum-lens, sum-lens-take, text-len}
 use Rattle.tombstone_text.proofs.Texts.{set_both, insert_both, len_at}
 
--- the characters are as many as the cells: of all chunks, and of each
+-- where each text is as long as its chunk: there are as many texts as chunks, one is as long as its chunk, and so are the first ones
+pub beside_count : (ts : List (List ℕ)) (cs : List (List CellData)) → map (λ t. length t) ts ≡ map (λ c. length c) cs
+    → length ts ≡ length cs
+beside_count ts cs e =
+    sym (length-map ts (λ (t : List ℕ). length t)) ∙ ap (λ (l : List ℕ). length l) e ∙ length-map cs (λ (c : List CellData). length c)
+
+pub beside_at : (ts : List (List ℕ)) (cs : List (List CellData)) (i : ℕ) → map (λ t. length t) ts ≡ map (λ c. length c) cs
+    → i < length cs → length (get_or ts i []) ≡ length (get_or cs i [])
+beside_at ts cs i e lt =
+    let count = beside_count ts cs e in
+    sym (get_or-map (λ (t : List ℕ). length t) ts i [] 0 (omega (arith, count, lt))) ∙ ap (λ (l : List ℕ). get_or l i 0) e
+    ∙ get_or-map (λ (c : List CellData). length c) cs i [] 0 lt
+
+pub beside_taken : (ts : List (List ℕ)) (cs : List (List CellData)) (i : ℕ) → map (λ t. length t) ts ≡ map (λ c. length c) cs
+    → length (joined (take i ts)) ≡ length (flat (take i cs))
+beside_taken ts cs i e = sym (sum-lens-take ts i) ∙ ap (λ (l : List ℕ). sum (take i l)) e ∙ sum-lens-take cs i
+
+-- so it is in a text
 pub beside_same : (ts : List (List ℕ)) (cs : List (List CellData)) (ls ss : List ℕ) (f : Option ChunkData) → IsText cs ls ss f
     → AreBeside ts ls → map (λ t. length t) ts ≡ map (λ c. length c) cs
 beside_same ts cs ls ss f t b = sym b ∙ t.lens_are
@@ -20,19 +37,6 @@ pub beside_all : (ts : List (List ℕ)) (cs : List (List CellData)) (ls ss : Lis
     → AreBeside ts ls → length (joined ts) ≡ length (flat cs)
 beside_all ts cs ls ss f t b = sym (sum-lens ts) ∙ ap sum (sym b) ∙ text-len cs ls ss f t
 
-beside_count : (ts : List (List ℕ)) (cs : List (List CellData)) (ls ss : List ℕ) (f : Option ChunkData) → IsText cs ls ss f
-    → AreBeside ts ls → length ts ≡ length cs
-beside_count ts cs ls ss f t b =
-    sym (length-map ts (λ (x : List ℕ). length x)) ∙ ap (λ (l : List ℕ). length l) (beside_same ts cs ls ss f t b)
-    ∙ length-map cs (λ (c : List CellData). length c)
-
-beside_at : (ts : List (List ℕ)) (cs : List (List CellData)) (ls ss : List ℕ) (f : Option ChunkData) (i : ℕ) → IsText cs ls ss f
-    → AreBeside ts ls → i < length cs → length (get_or ts i []) ≡ length (get_or cs i [])
-beside_at ts cs ls ss f i t b lt =
-    let count = beside_count ts cs ls ss f t b in
-    let there : i < length ts = omega arith in
-    sym (get_or-map (λ (x : List ℕ). length x) ts i [] 0 there) ∙ ap (λ (l : List ℕ). get_or l i 0) (sym b) ∙ len_at cs ls ss f i t lt
-
 -- a character that comes in where its cell does
 pub joined_put : (ts : List (List ℕ)) (cs : List (List CellData)) (ls ss : List ℕ) (f : Option ChunkData) (i o p x : ℕ) → IsText cs ls ss f
     → AreBeside ts ls → IsSeat cs i o p → joined (set ts i (insert (get_or ts i []) o x)) ≡ insert (joined ts) p x
@@ -40,12 +44,11 @@ joined_put ts cs ls ss f i o p x t b s =
     let lt = s.chunk in
     let within = s.within in
     let place = s.place_is in
-    let count = beside_count ts cs ls ss f t b in
-    let long = beside_at ts cs ls ss f i t b lt in
-    let texts = sum-lens-take ts i in
-    let cells = sum-lens-take cs i in
-    let same = ap (λ (l : List ℕ). sum (take i l)) (beside_same ts cs ls ss f t b) in
-    all_put ts i o p x (omega (arith, lt, count)) (omega (arith, within, long)) (omega (arith, place, texts, cells, same))
+    let same = beside_same ts cs ls ss f t b in
+    let count = beside_count ts cs same in
+    let long = beside_at ts cs i same lt in
+    let front = beside_taken ts cs i same in
+    all_put ts i o p x (omega (arith, lt, count)) (omega (arith, within, long)) (omega (arith, place, front))
 
 -- a chunk with a cell more has a character more
 pub beside_put : (ts : List (List ℕ)) (cs : List (List CellData)) (ls ss : List ℕ) (f : Option ChunkData) (i o n : ℕ) (x : CellData)
@@ -73,7 +76,7 @@ pub joined_cut : (ts : List (List ℕ)) (cs : List (List CellData)) (ls ss : Lis
     → IsText cs ls ss f → AreBeside ts ls → i < length cs → n ≡ suc i → was ≡ get_or ts i [] → lower ≡ take k was → upper ≡ drop k was
     → joined (insert (set ts i lower) n upper) ≡ joined ts
 joined_cut ts cs ls ss f i n k was lower upper t b lt next read low high =
-    let count = beside_count ts cs ls ss f t b in
+    let count = beside_count ts cs (beside_same ts cs ls ss f t b) in
     let there : i < length ts = omega (arith, lt, count) in
     let l : lower ≡ take k (get_or ts i []) = low ∙ ap (λ (s : List ℕ). take k s) read in
     let u : upper ≡ drop k (get_or ts i []) = high ∙ ap (λ (s : List ℕ). drop k s) read in

@@ -1,6 +1,5 @@
 -- What a way of a new cell asks, at a place of the text.
 use Rattle.std.proofs.Common.{◌≡◌, ℕ, zero, suc, ◌≤◌, min, List, [], ◌∷◌, length, insert, refl, subst, arith}
-use Rattle.ttf_form.specs.Cells.{CellData}
 use Rattle.tombstone_text.specs.Code.Cells.{ChunksData, IsSeat, HasPlace, MayBeCut, IsWay, IsReady}
 use Rattle.tombstone_text.specs.declared.chunks.Way.{Way}
 use Rattle.tombstone_text.specs.declared.chunks.Way.TheVariants.{First, Into, Cut}

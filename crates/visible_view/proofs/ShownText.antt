@@ -1,13 +1,13 @@
 -- The text of two stretches of cells, one after the other, and of one without shown cells.
 use Rattle.std.proofs.Common.{◌≡◌, ℕ, zero, suc, ◌+◌, ◌<◌, ◌≤◌, ◌==◌, Bool, true, false, if◌then◌else◌, List, [], ◌∷◌, ◌++◌, length, map, filter, cond, take, drop, get_or, encode_utf8, encode_utf8_all, Result, Ok, Err, OnErr, append_assoc, refl, sym, ap, ◌∙◌, arith}
-use Rattle.std.proofs.lemmas.List.{take_more, append-nil, take-append-drop, take_at, take_all, get_or_read, length-map, get_or-map, take-map}
-use Rattle.std.specs.List.{sum}
-use Rattle.std.proofs.lemmas.List.Sums.{sum-map}
-use Rattle.std.proofs.lemmas.List.Concat.{flat_map-append, length-flat_map}
+use Rattle.std.proofs.lemmas.List.{take_more, append-nil, take-append-drop, take_at, take_all, get_or_read}
+use Rattle.std.proofs.lemmas.Bool.Decides.{nat_tests}
+use Rattle.std.proofs.lemmas.List.Concat.{flat_map-append}
 use Rattle.tombstone_text.specs.Chunks.{flat, flag_of, joined, shown_in}
 use Rattle.std.proofs.lemmas.Str.{encodes-append}
 use Rattle.ttf_form.specs.Cells.{CellData, cell_shown, chars_where}
 use Rattle.ttf_form.specs.Laws.Texts.{chars_where-append}
+use Rattle.tombstone_text.proofs.CallerLemmas.{beside_count, beside_taken}
 use Rattle.visible_view.specs.View.{shown_text}
 use Rattle.visible_view.specs.Code.{flagged}
 
@@ -41,32 +41,34 @@ flagged_next (f ∷ fs) (t ∷ ts) (suc k) lt e = by (f == 1) (flagged_next fs t
     by false rest = rest
 
 -- the bytes of one flag more: those of its character where it is 1, else none
-pub flagged_more : (fs ts : List ℕ) (k f t : ℕ) → k < length fs → length ts ≡ length fs → f ≡ get_or fs k f → t ≡ get_or ts k t
-    → (f == 1) ≡ true
+pub flagged_more : (fs ts : List ℕ) (k t : ℕ) → k < length fs → length ts ≡ length fs → t ≡ get_or ts k t → get_or fs k 0 ≡ 1
     → encode_utf8_all (flagged (take (k + 1) fs) (take (k + 1) ts)) ≡ encode_utf8_all (flagged (take k fs) (take k ts)) ++ encode_utf8 t
-flagged_more fs ts k f t lt e isf ist one =
+flagged_more fs ts k t lt e is one =
     let next : k + 1 ≡ suc k = omega arith in
     let there : k < length ts = omega (arith, lt, e) in
-    let flag : get_or fs k 0 ≡ f = sym (get_or_read fs k f lt isf 0) in
-    let char : get_or ts k 0 ≡ t = sym (get_or_read ts k t there ist 0) in
+    let char : get_or ts k 0 ≡ t = sym (get_or_read ts k t there is 0) in
     ap (λ n. encode_utf8_all (flagged (take n fs) (take n ts))) next
     ∙ ap (λ (l : List ℕ). encode_utf8_all l)
     (flagged_next fs ts k lt e
-    ∙ ap (λ b. flagged (take k fs) (take k ts) ++ (if b then get_or ts k 0 ∷ [] else [])) (ap (λ n. n == 1) flag ∙ one)
+    ∙ ap (λ n. flagged (take k fs) (take k ts) ++ (if n == 1 then get_or ts k 0 ∷ [] else [])) one
     ∙ ap (λ n. flagged (take k fs) (take k ts) ++ n ∷ []) char)
     ∙ encodes-append (flagged (take k fs) (take k ts)) (t ∷ [])
     ∙ ap (λ (bs : List ℕ). encode_utf8_all (flagged (take k fs) (take k ts)) ++ bs) (append-nil (encode_utf8 t))
 
-pub flagged_same : (fs ts : List ℕ) (k f : ℕ) → k < length fs → length ts ≡ length fs → f ≡ get_or fs k f → (f == 1) ≡ false
+pub flagged_same : (fs ts : List ℕ) (k : ℕ) → k < length fs → length ts ≡ length fs → (get_or fs k 0 ≡ 1 → ⊥)
     → encode_utf8_all (flagged (take (k + 1) fs) (take (k + 1) ts)) ≡ encode_utf8_all (flagged (take k fs) (take k ts))
-flagged_same fs ts k f lt e isf other =
+flagged_same fs ts k lt e other =
     let next : k + 1 ≡ suc k = omega arith in
-    let flag : get_or fs k 0 ≡ f = sym (get_or_read fs k f lt isf 0) in
+    let hidden : (get_or fs k 0 == 1) ≡ false = by (get_or fs k 0 == 1) refl in
     ap (λ n. encode_utf8_all (flagged (take n fs) (take n ts))) next
     ∙ ap (λ (l : List ℕ). encode_utf8_all l)
     (flagged_next fs ts k lt e
-    ∙ ap (λ b. flagged (take k fs) (take k ts) ++ (if b then get_or ts k 0 ∷ [] else [])) (ap (λ n. n == 1) flag ∙ other)
+    ∙ ap (λ b. flagged (take k fs) (take k ts) ++ (if b then get_or ts k 0 ∷ [] else [])) hidden
     ∙ append-nil (flagged (take k fs) (take k ts)))
+  where
+    by : (b : Bool) → (get_or fs k 0 == 1) ≡ b → b ≡ false
+    by true h = absurd (other (grind (arith, nat_tests, h)))
+    by false h = refl
 
 pub shown_text-append : (xs ys : List CellData) (ts us : List ℕ) → length ts ≡ length xs
     → shown_text (xs ++ ys) (ts ++ us) ≡ shown_text xs ts ++ shown_text ys us
@@ -87,38 +89,19 @@ joined_more ts i lt =
     ∙ flat_map-append (λ (t : List ℕ). t) (take i ts) (get_or ts i [] ∷ [])
     ∙ ap (λ (t : List ℕ). joined (take i ts) ++ t) (append-nil (get_or ts i []))
 
--- chunks have as many characters as cells
-abbrev pub AreBeside : List (List CellData) → List (List ℕ) → Type 0
-AreBeside cs ts = map (λ t. length t) ts ≡ map (λ c. length c) cs
-
-beside_count : (cs : List (List CellData)) (ts : List (List ℕ)) → AreBeside cs ts → length ts ≡ length cs
-beside_count cs ts e =
-    sym (length-map ts (λ (t : List ℕ). length t)) ∙ ap (λ (l : List ℕ). length l) e ∙ length-map cs (λ (c : List CellData). length c)
-
-pub beside_at : (cs : List (List CellData)) (ts : List (List ℕ)) (i : ℕ) → AreBeside cs ts → i < length cs
-    → length (get_or ts i []) ≡ length (get_or cs i [])
-beside_at cs ts i e lt =
-    let count = beside_count cs ts e in
-    sym (get_or-map (λ (t : List ℕ). length t) ts i [] 0 (omega (arith, count, lt))) ∙ ap (λ (l : List ℕ). get_or l i 0) e
-    ∙ get_or-map (λ (c : List CellData). length c) cs i [] 0 lt
-
-beside_taken : (cs : List (List CellData)) (ts : List (List ℕ)) (i : ℕ) → AreBeside cs ts
-    → length (joined (take i ts)) ≡ length (flat (take i cs))
-beside_taken cs ts i e =
-    length-flat_map (λ (t : List ℕ). t) (take i ts) ∙ sym (sum-map (λ (t : List ℕ). length t) (take i ts))
-    ∙ ap sum (sym (take-map (λ (t : List ℕ). length t) i ts)) ∙ ap (λ (l : List ℕ). sum (take i l)) e
-    ∙ ap sum (take-map (λ (c : List CellData). length c) i cs)
-    ∙ sum-map (λ (c : List CellData). length c) (take i cs) ∙ sym (length-flat_map (λ (c : List CellData). c) (take i cs))
+-- each text is as long as its chunk
+abbrev pub AreAsLong : List (List CellData) → List (List ℕ) → Type 0
+AreAsLong cs ts = map (λ t. length t) ts ≡ map (λ c. length c) cs
 
 -- one chunk more of the text
-pub text_more : (cs : List (List CellData)) (ts : List (List ℕ)) (i : ℕ) → AreBeside cs ts → i < length cs
+pub text_more : (cs : List (List CellData)) (ts : List (List ℕ)) (i : ℕ) → AreAsLong cs ts → i < length cs
     → shown_text (flat (take (i + 1) cs)) (joined (take (i + 1) ts))
     ≡ shown_text (flat (take i cs)) (joined (take i ts)) ++ shown_text (get_or cs i []) (get_or ts i [])
 text_more cs ts i e lt =
-    let count = beside_count cs ts e in
+    let count = beside_count ts cs e in
     ap (λ (s : List CellData). shown_text s (joined (take (i + 1) ts))) (flat_more cs i lt)
     ∙ ap (λ (s : List ℕ). shown_text (flat (take i cs) ++ get_or cs i []) s) (joined_more ts i (omega (arith, lt, count)))
-    ∙ shown_text-append (flat (take i cs)) (get_or cs i []) (joined (take i ts)) (get_or ts i []) (beside_taken cs ts i e)
+    ∙ shown_text-append (flat (take i cs)) (get_or cs i []) (joined (take i ts)) (get_or ts i []) (beside_taken ts cs i e)
 
 no_characters : (cs : List CellData) (ts : List ℕ) → shown_in cs ≡ 0 → chars_where cell_shown cs ts ≡ []
 no_characters [] ts e = refl
@@ -132,7 +115,7 @@ no_characters (c ∷ cs) (t ∷ ts) e = by (cell_shown c) e (no_characters cs ts
     by false n rest = rest n
 
 -- a chunk without shown cells adds nothing
-pub text_same : (cs : List (List CellData)) (ts : List (List ℕ)) (i : ℕ) → AreBeside cs ts → i < length cs
+pub text_same : (cs : List (List CellData)) (ts : List (List ℕ)) (i : ℕ) → AreAsLong cs ts → i < length cs
     → shown_in (get_or cs i []) ≡ 0
     → shown_text (flat (take (i + 1) cs)) (joined (take (i + 1) ts)) ≡ shown_text (flat (take i cs)) (joined (take i ts))
 text_same cs ts i e lt none =
@@ -142,10 +125,10 @@ text_same cs ts i e lt none =
     ∙ append-nil (shown_text (flat (take i cs)) (joined (take i ts)))
 
 -- all chunks
-pub text_all : (cs : List (List CellData)) (ts : List (List ℕ)) (i : ℕ) → AreBeside cs ts → length cs ≤ i
+pub text_all : (cs : List (List CellData)) (ts : List (List ℕ)) (i : ℕ) → AreAsLong cs ts → length cs ≤ i
     → shown_text (flat (take i cs)) (joined (take i ts)) ≡ shown_text (flat cs) (joined ts)
 text_all cs ts i e le =
-    let count = beside_count cs ts e in
+    let count = beside_count ts cs e in
     ap (λ (ds : List (List CellData)). shown_text (flat ds) (joined (take i ts))) (take_all i cs le)
     ∙ ap (λ (ds : List (List ℕ)). shown_text (flat cs) (joined ds)) (take_all i ts (omega (arith, le, count)))
 

@@ -39,7 +39,7 @@ fn push_shown(cells: &Cells, out: &mut Vec<u8>) -> Result<(), Memory>
 
 /// Appends the characters that stand beside a flag that is 1; when out of memory, some of these.
 fn push_flagged(flags: &[u8], text: &[char], out: &mut Vec<u8>) -> Result<(), Memory>
-    requires long { length text.now ≡ length flags.now }
+    requires { length text.now ≡ length flags.now }
     ensures ok { OnOk result (out.new.items ≡ out.old.items ++ encode_utf8_all (flagged flags.now text.now)) }
     ensures err { OnErr result (take (vec_len out.old) out.new.items ≡ out.old.items) }
 {

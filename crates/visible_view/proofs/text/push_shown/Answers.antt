@@ -2,9 +2,10 @@ use Rattle.std.proofs.Common.{◌≡◌, ◌++◌, ◌<◌, ◌≤◌, ℕ, List
 use Rattle.std.proofs.lemmas.List.{length-map}
 use Rattle.ttf_form.specs.Cells.{CellData}
 use Rattle.tombstone_text.specs.Chunks.{flag_of, flat, joined, shown_in}
+use Rattle.tombstone_text.proofs.CallerLemmas.{beside_at}
 use Rattle.visible_view.specs.View.{shown_text}
 use Rattle.visible_view.specs.Code.{flagged}
-use Rattle.visible_view.proofs.ShownText.{beside_at, flagged_shown, text_more, text_same, text_all, front_stays, on_err}
+use Rattle.visible_view.proofs.ShownText.{flagged_shown, text_more, text_same, text_all, front_stays, on_err}
 use Rattle.visible_view.proofs.text.push_shown.Goals.{then-chunk_shown-gt0+in_ok-push_flagged, else-chunk_shown-gt0}
 use Rattle.visible_view.proofs.text.push_shown.Goals as goal
 
@@ -13,7 +14,7 @@ push_flagged-requires c =
     let cs = c.args.cells.now.chunks in
     let i = c.loop-i.i in
     let lt : i < length cs = let n = c.chunk_count-i-end.ensures in let t = c.loop-i-test.true in omega arith in
-    let beside = beside_at cs c.args.cells.now.texts i c.known.ensures.beside lt in
+    let beside = beside_at c.args.cells.now.texts cs i c.known.ensures.beside lt in
     let text = ap (λ (s : List ℕ). length s) c.chunk_text.ensures in
     let flags = ap (λ (s : List ℕ). length s) c.chunk_flags.ensures.flags ∙ length-map (get_or cs i []) flag_of in
     omega (arith, beside, text, flags)

@@ -1,4 +1,4 @@
-use Rattle.std.proofs.Common.{◌≡◌, ℕ, [], ◌∷◌, List, length, sym, ap, ◌∙◌}
+use Rattle.std.proofs.Common.{◌≡◌, ℕ, List, length, sym, ap, ◌∙◌}
 use Rattle.ttf_form.specs.Cells.{put_in, text_put}
 use Rattle.ttf_form.specs.Forms.{extent_of}
 use Rattle.tombstone_text.proofs.Beside.{only_one}
