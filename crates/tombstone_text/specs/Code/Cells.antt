@@ -60,8 +60,8 @@ pub record ChunksData : Type 0 where
 abbrev pub HasPlaces : ChunksData → ℕ → ℕ → Type 0
 HasPlaces t i n = length (slice_index_or t.chunks i []) + n ≤ slice_index_or t.rooms i 0
 
--- the i-th chunk may be cut to keep k cells: the fresh chunk has room for the others, and the part in which n new cells stand
--- that have their place at o has room for these too
+-- the i-th chunk may be cut to keep k cells: the fresh chunk has room for the others, and the part that gets n new cells, whose
+-- place in the chunk is o, has room for these too
 pub record MayBeCut (t : ChunksData) (i : ℕ) (o : ℕ) (k : ℕ) (n : ℕ) : Type 0 where
   pub some : 1 ≤ k
   pub less : k < length (slice_index_or t.chunks i [])
