@@ -1,9 +1,9 @@
 -- The texts of chunks beside their cells: as long as these, where a chunk changes or is cut in two.
-use Rattle.std.proofs.Common.{◌≡◌, ℕ, suc, ◌+◌, ◌-◌, ◌<◌, ◌≤◌, Option, List, [], ◌∷◌, length, map, take, drop, insert, set, get_or, sym, ap, ◌∙◌, arith}
+use Rattle.std.proofs.Common.{◌≡◌, ℕ, suc, ◌+◌, ◌-◌, ◌<◌, ◌≤◌, Option, List, [], length, map, take, drop, insert, set, get_or, sym, ap, ◌∙◌, arith}
 use Rattle.std.specs.List.{sum}
 use Rattle.std.proofs.lemmas.List.{map-set, get_or-map, length-map, length-take, length-drop}
-use Rattle.std.proofs.lemmas.List.Edits.{length-insert}
-use Rattle.ttf_form.specs.Cells.{CellData}
+use Rattle.ttf_form.specs.Cells.{CellData, put_in}
+use Rattle.ttf_form.specs.Laws.Lists.{length-put}
 use Rattle.tombstone_text.specs.Chunks.{flat, joined}
 use Rattle.tombstone_text.specs.Code.Cells.{AreBeside, IsSeat, IsText}
 use Rattle.tombstone_text.specs.Code.Chunks.{ChunkData}
@@ -37,10 +37,10 @@ pub beside_all : (ts : List (List ℕ)) (cs : List (List CellData)) (ls ss : Lis
     → AreBeside ts ls → length (joined ts) ≡ length (flat cs)
 beside_all ts cs ls ss f t b = sym (sum-lens ts) ∙ ap sum (sym b) ∙ text-len cs ls ss f t
 
--- a character that comes in where its cell does
-pub joined_put : (ts : List (List ℕ)) (cs : List (List CellData)) (ls ss : List ℕ) (f : Option ChunkData) (i o p x : ℕ) → IsText cs ls ss f
-    → AreBeside ts ls → IsSeat cs i o p → joined (set ts i (insert (get_or ts i []) o x)) ≡ insert (joined ts) p x
-joined_put ts cs ls ss f i o p x t b s =
+-- characters that come in where their cells do
+pub joined_put : (ts : List (List ℕ)) (cs : List (List CellData)) (ls ss : List ℕ) (f : Option ChunkData) (i o p : ℕ) (new : List ℕ)
+    → IsText cs ls ss f → AreBeside ts ls → IsSeat cs i o p → joined (set ts i (put_in o new (get_or ts i []))) ≡ put_in p new (joined ts)
+joined_put ts cs ls ss f i o p new t b s =
     let lt = s.chunk in
     let within = s.within in
     let place = s.place_is in
@@ -48,17 +48,17 @@ joined_put ts cs ls ss f i o p x t b s =
     let count = beside_count ts cs same in
     let long = beside_at ts cs i same lt in
     let front = beside_taken ts cs i same in
-    all_put ts i o p x (omega (arith, lt, count)) (omega (arith, within, long)) (omega (arith, place, front))
+    all_put ts i o p new (omega (arith, lt, count)) (omega (arith, within, long)) (omega (arith, place, front))
 
--- a chunk with a cell more has a character more
-pub beside_put : (ts : List (List ℕ)) (cs : List (List CellData)) (ls ss : List ℕ) (f : Option ChunkData) (i o n : ℕ) (x : CellData)
-    (d : List CellData) (t : List ℕ)
-    → IsText cs ls ss f → AreBeside ts ls → i < length cs → o ≤ length (get_or cs i []) → d ≡ insert (get_or cs i []) o x
-    → n ≡ get_or ls i 0 → length t ≡ length d → AreBeside (set ts i t) (set ls i (n + 1))
-beside_put ts cs ls ss f i o n x d t text b lt within new is long =
-    let more = ap (λ (c : List CellData). length c) new ∙ length-insert (get_or cs i []) o x within in
+-- a chunk with more cells has as many more characters
+pub beside_put : (ts : List (List ℕ)) (cs : List (List CellData)) (ls ss : List ℕ) (f : Option ChunkData) (i o n m : ℕ)
+    (new d : List CellData) (t : List ℕ)
+    → IsText cs ls ss f → AreBeside ts ls → i < length cs → o ≤ length (get_or cs i []) → d ≡ put_in o new (get_or cs i [])
+    → length new ≡ m → n ≡ get_or ls i 0 → length t ≡ length d → AreBeside (set ts i t) (set ls i (n + m))
+beside_put ts cs ls ss f i o n m new d t text b lt within is many n_is long =
+    let more = ap (λ (c : List CellData). length c) is ∙ length-put o new (get_or cs i []) within in
     let had = len_at cs ls ss f i text lt in
-    set_both ls (map (λ (c : List ℕ). length c) ts) i (n + 1) (length t) b (omega (arith, more, had, is, long))
+    set_both ls (map (λ (c : List ℕ). length c) ts) i (n + m) (length t) b (omega (arith, more, had, n_is, many, long))
     ∙ sym (map-set (λ (c : List ℕ). length c) ts i t)
 
 -- a chunk that is cut in two is cut with its characters
@@ -96,9 +96,3 @@ parts_long cs ls ss f i k n was lower upper low high t lt read less l u is ll hl
       omega (arith, first, length-take k was, ll, less),
       omega (arith, second, length-drop k was, hl, less, had, long, is),
     )
-
--- one character is all of a text of one
-pub only_one : (xs : List ℕ) (x : ℕ) → length xs ≡ 1 → x ≡ get_or xs 0 x → x ∷ [] ≡ xs
-only_one [] x e is = absurd (omega (arith, e))
-only_one (y ∷ []) x e is = ap (λ (z : ℕ). z ∷ []) is
-only_one (y ∷ z ∷ xs) x e is = absurd (omega (arith, e))

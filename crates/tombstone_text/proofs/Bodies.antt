@@ -1,6 +1,5 @@
 -- The cells of chunks, their texts, and the room that these have, where a chunk changes or comes in.
-use Rattle.std.proofs.Common.{◌≡◌, ℕ, ◌<◌, List, [], length, insert, set, get_or, sym, ap, ◌∙◌, arith}
-use Rattle.ttf_form.specs.Cells.{CellData}
+use Rattle.std.proofs.Common.{◌≡◌, ℕ, ◌<◌, List, [], ◌∷◌, length, insert, refl, set, get_or, sym, ap, ◌∙◌, arith}
 use Rattle.std.proofs.lemmas.List.{length-map, map-set, get_or-map, get_or-set_same, set-get_or}
 use Rattle.tombstone_text.specs.Code.Chunks.{ChunkData, bodies, rooms_of, texts_of}
 use Rattle.tombstone_text.specs.Code.Cells.{cut}
@@ -11,6 +10,10 @@ bodies_long cs = length-map cs (λ (c : ChunkData). c.cells)
 
 pub bodies_within : (cs : List ChunkData) (i : ℕ) → i < length (bodies cs) → i < length cs
 bodies_within cs i lt = omega (arith, bodies_long cs)
+
+pub bodies_none : (cs : List ChunkData) → bodies cs ≡ [] → cs ≡ []
+bodies_none [] none = refl
+bodies_none (c ∷ cs) none = cc
 
 -- a chunk that was read
 pub body_read : (cs : List ChunkData) (i : ℕ) (x : ChunkData) → i < length (bodies cs) → x ≡ get_or cs i x
@@ -55,15 +58,11 @@ pub texts_kept : (cs : List ChunkData) (i : ℕ) (x y : ChunkData) → i < lengt
 texts_kept cs i x y lt read same =
     texts_set cs i y ∙ ap (λ c. set (texts_of cs) i c) (same ∙ text_read cs i x lt read) ∙ set-get_or (texts_of cs) i []
 
--- a chunk that has room for a cell more now
-pub place_set : (cs : List ChunkData) (i : ℕ) (y : ChunkData) → i < length (bodies cs) → length y.cells < y.room
-    → length (get_or (bodies (set cs i y)) i []) < get_or (rooms_of (set cs i y)) i 0
-place_set cs i y lt less =
-    let body = ap (λ ds. get_or ds i []) (bodies_set cs i y) ∙ get_or-set_same (bodies cs) i y.cells [] lt in
-    let long = ap (λ (s : List CellData). length s) body in
-    let within : i < length (rooms_of cs) = omega (arith, bodies_long cs, length-map cs (λ (c : ChunkData). c.room)) in
-    let room = ap (λ ns. get_or ns i 0) (rooms_set cs i y) ∙ get_or-set_same (rooms_of cs) i y.room 0 within in
-    omega arith
+-- the room of a chunk that changed
+pub room_set : (cs : List ChunkData) (i : ℕ) (y : ChunkData) → i < length (bodies cs) → get_or (rooms_of (set cs i y)) i 0 ≡ y.room
+room_set cs i y lt =
+    let within : i < length (rooms_of cs) = omega (arith, lt, bodies_long cs, length-map cs (λ (c : ChunkData). c.room)) in
+    ap (λ ns. get_or ns i 0) (rooms_set cs i y) ∙ get_or-set_same (rooms_of cs) i y.room 0 within
 
 -- a chunk that came in
 pub bodies_insert : (cs : List ChunkData) (i : ℕ) (x : ChunkData) → bodies (insert cs i x) ≡ insert (bodies cs) i x.cells

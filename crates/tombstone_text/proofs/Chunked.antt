@@ -2,11 +2,11 @@
 use Rattle.std.proofs.Common.{◌≡◌, ℕ, zero, suc, ◌+◌, ◌-◌, ◌<◌, ◌≤◌, Bool, true, false, cond, if◌then◌else◌, List, [], ◌∷◌, ◌++◌, length, map, filter, take, drop, insert, set, get_or, slice_get, Option, Some, refl, sym, ap, ◌∙◌, subst, append_assoc, arith}
 use Rattle.std.specs.List.{sum, flat_map}
 use Rattle.std.proofs.lemmas.List.{length-append, take-append-drop, length-take, length-drop, take-map, get_or-map, length-map}
-use Rattle.std.proofs.lemmas.List.Edits.{insert-append_left, insert-append_right}
 use Rattle.std.proofs.lemmas.List.Elements.{filter-append}
 use Rattle.std.proofs.lemmas.List.Sums.{sum-map, sum_by-cons}
 use Rattle.std.proofs.lemmas.List.Concat.{length-flat_map}
-use Rattle.ttf_form.specs.Cells.{CellData, cell_shown, change_at}
+use Rattle.ttf_form.specs.Cells.{CellData, cell_shown, change_at, put_in}
+use Rattle.ttf_form.specs.Laws.Lists.{put_behind}
 use Rattle.tombstone_text.specs.Chunks.{flat, flag_of, shown_in}
 use Rattle.tombstone_text.specs.Sums.{IsPart}
 use Rattle.tombstone_text.specs.Code.Cells.{cut, AreFilled, IsSeat, IsText}
@@ -51,22 +51,28 @@ tail_place : {A : Type 0} (c : List A) (cs : List (List A)) (i o p : ℕ) → le
     → (length (all (take i cs)) + o ≡ p - length c) × (length c ≤ p)
 tail_place c cs i o p e = let l = length-append c (all (take i cs)) in (omega arith, omega arith)
 
--- a new element in one of the lists
-pub all_put : {A : Type 0} (cs : List (List A)) (i o p : ℕ) (x : A) → i < length cs → o ≤ length (get_or cs i [])
-    → length (all (take i cs)) + o ≡ p → all (set cs i (insert (get_or cs i []) o x)) ≡ insert (all cs) p x
-all_put [] i o p x lt le e = absurd (omega arith)
-all_put (c ∷ cs) zero o p x lt le e =
-    let place : 0 + o ≡ p = e in
-    let at : o ≡ p = omega arith in
-    sym (insert-append_left c (all cs) o x le) ∙ ap (λ n. insert (c ++ all cs) n x) at
-all_put (c ∷ cs) (suc i) o p x lt le e =
-    let t = tail_place c cs i o p e in
-    ap (λ zs. c ++ zs) (all_put cs i o (p - length c) x (omega arith) le t.0)
-    ∙ sym (insert-append_right c (all cs) (length c) p x refl t.1)
+-- new elements in front of the end of what stands in front
+put_left : {A : Type 0} (k : ℕ) (new xs ys : List A) → k ≤ length xs → put_in k new xs ++ ys ≡ put_in k new (xs ++ ys)
+put_left zero new xs ys le = append_assoc new xs ys
+put_left (suc k) new [] ys le = absurd (omega (arith, le))
+put_left (suc k) new (x ∷ xs) ys le = ap (λ zs. x ∷ zs) (put_left k new xs ys (omega (arith, le)))
 
-pub flat_put : (cs : List (List CellData)) (i o p : ℕ) (x : CellData) → IsSeat cs i o p
-    → flat (set cs i (insert (get_or cs i []) o x)) ≡ insert (flat cs) p x
-flat_put cs i o p x s = all_put cs i o p x s.chunk s.within s.place_is
+-- new elements in one of the lists
+pub all_put : {A : Type 0} (cs : List (List A)) (i o p : ℕ) (new : List A) → i < length cs → o ≤ length (get_or cs i [])
+    → length (all (take i cs)) + o ≡ p → all (set cs i (put_in o new (get_or cs i []))) ≡ put_in p new (all cs)
+all_put [] i o p new lt le e = absurd (omega (arith, lt))
+all_put (c ∷ cs) zero o p new lt le e =
+    let place : 0 + o ≡ p = e in
+    let at : o ≡ p = omega (arith, place) in
+    put_left o new c (all cs) le ∙ ap (λ n. put_in n new (c ++ all cs)) at
+all_put (c ∷ cs) (suc i) o p new lt le e =
+    let t = tail_place c cs i o p e in
+    ap (λ zs. c ++ zs) (all_put cs i o (p - length c) new (omega (arith, lt)) le t.0)
+    ∙ sym (put_behind (p - length c) p c new (all cs) (omega (arith, t.1)))
+
+pub flat_put : (cs : List (List CellData)) (i o p : ℕ) (new : List CellData) → IsSeat cs i o p
+    → flat (set cs i (put_in o new (get_or cs i []))) ≡ put_in p new (flat cs)
+flat_put cs i o p new s = all_put cs i o p new s.chunk s.within s.place_is
 
 -- a chunk cut in two
 pub all_cut : {A : Type 0} (cs : List (List A)) (i k : ℕ) → all (cut cs i k) ≡ all cs
@@ -145,28 +151,15 @@ parts_long cs i k lt most =
     let high = ap (λ (c : List CellData). length c) (high_part cs i k lt) in
     (omega (arith, length-take k (get_or cs i [])), omega (arith, length-drop k (get_or cs i [])))
 
--- a seat in a chunk that has fewer cells than so many
-pub record HasSeat (cs : List (List CellData)) (i o p full : ℕ) : Type 0 where
-  pub seat : IsSeat cs i o p
-  pub room : length (get_or cs i []) < full
-
--- after a full chunk was cut at k, a new cell has its seat in the lower part, which has room
-pub seat_in_low : (cs : List (List CellData)) (i o p k full : ℕ) → IsSeat cs i o p → length (get_or cs i []) ≡ full → k < full → o ≤ k
-    → HasSeat (cut cs i k) i o p full
-seat_in_low cs i o p k full s all less side =
-    let parts = parts_long cs i k s.chunk (omega arith) in
-    record { seat = seat_low cs i o p k s (omega arith) side; room = omega (arith, parts.0) }
-
--- or in the upper part
-pub seat_in_high : (cs : List (List CellData)) (i n o p k full : ℕ) → IsSeat cs i o p → length (get_or cs i []) ≡ full → 1 ≤ k → k < full
-    → k < o → n ≡ suc i → HasSeat (cut cs i k) n (o - k) p full
-seat_in_high cs i n o p k full s all some less side next =
-    let parts = parts_long cs i k s.chunk (omega arith) in
-    let upper : length (get_or (cut cs i k) (suc i) []) < full = omega (arith, parts.1) in
-    record {
-      seat = seat_high cs i n o (o - k) p k s (omega arith) side next (omega arith);
-      room = subst (λ m. length (get_or (cut cs i k) m []) < full) (sym next) upper;
-    }
+-- the seat at the end of a text is at the end of its chunk
+pub seat_last : (cs : List (List CellData)) (i o : ℕ) → i < length cs → length (flat (take i cs)) + o ≡ length (flat cs)
+    → length (get_or cs i []) ≤ o
+seat_last [] i o lt e = absurd (omega (arith, lt))
+seat_last (c ∷ cs) zero o lt e =
+    let place : 0 + o ≡ length (flat (c ∷ cs)) = e in
+    omega (arith, place, length-append c (flat cs))
+seat_last (c ∷ cs) (suc i) o lt e =
+    seat_last cs i o (omega (arith, lt)) (omega (arith, e, length-append c (flat (take i cs)), length-append c (flat cs)))
 
 -- a cell changed in its chunk
 change-left : (f : CellData → CellData) (xs ys : List CellData) (k : ℕ) → k < length xs → change_at k f (xs ++ ys) ≡ change_at k f xs ++ ys

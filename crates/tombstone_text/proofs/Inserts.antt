@@ -1,12 +1,14 @@
 -- How the cells of inserts stand, once new cells came in or a mark was left; and a mark on an insert of one cell.
-use Rattle.std.proofs.Common.{◌≡◌, ◌≢◌, ℕ, zero, suc, Bool, true, false, List, [], ◌∷◌, ◌++◌, map, refl, sym, ap, ◌∙◌, subst, arith}
+use Rattle.std.proofs.Common.{◌≡◌, ◌≢◌, ℕ, zero, suc, ◌+◌, ◌<◌, ◌≤◌, Bool, true, false, List, [], ◌∷◌, ◌++◌, map, refl, sym, ap, ◌∙◌, subst, arith}
 use Rattle.std.specs.Prelude.{Option, Some, None, slice_get}
 use Rattle.std.specs.Option.{option_map_or}
 use Rattle.op_name.specs.NameData.{NameData, name_eq}
+use Rattle.ttf_form.specs.declared.ins.Ins.{Ins}
 use Rattle.ttf_form.specs.declared.cover.Mark.{Mark}
 use Rattle.ttf_form.specs.declared.cover.Mark.TheVariants.{Own, By}
 use Rattle.ttf_form.specs.Names.{LacksName, NewNames}
-use Rattle.ttf_form.specs.Cells.{CellData, put_in, change_at, marked, marked_if, raised, marked_in, cells_of}
+use Rattle.ttf_form.specs.Cells.{CellData, bare_from, bare_cells, put_in, change_at, marked, marked_if, raised, marked_in, cells_of}
+use Rattle.ttf_form.specs.Laws.Cells.{keys_bare, block_new}
 use Rattle.ttf_form.specs.Laws.Lists.{map-map, map-change}
 use Rattle.ttf_form.specs.Laws.Marks.{raised_none}
 use Rattle.ttf_form.specs.Laws.Deleters.{name_self, name_same}
@@ -60,17 +62,34 @@ within_put (suc k) new [] h g = within_append new [] h g
 within_put (suc k) new (x ∷ xs) h g = (g.0, within_put k new xs h g.1)
 
 -- new cells of inserts that aren't there
-pub inserts_put : (k : ℕ) (new xs : List CellData) → AreInserts new → AreInserts xs → NewNames (cells_of xs) (cells_of new)
+inserts_put : (k : ℕ) (new xs : List CellData) → AreInserts new → AreInserts xs → NewNames (cells_of xs) (cells_of new)
     → AreInserts (put_in k new xs)
 inserts_put k new xs h g n =
     record { ordered = ordered_put k new xs h.ordered g.ordered n; within = within_put k new xs h.within g.within }
 
--- the only cell of an insert, before any mark
-abbrev pub only_cell : NameData → CellData
-only_cell n = record { name = n; offset = 0; of = 1; generation = 0; deleters = [] }
+-- the cells of an insert before any mark
+before_bare : (o : Origin) (n : NameData) (t f k : ℕ) → o.of ≡ t → o.offset < f → ComesBefore o (origins (bare_from n t f k))
+before_bare o n t f zero of lt = tt
+before_bare o n t f (suc k) of lt = (λ e. (lt, of), before_bare o n t (suc f) k of (omega (arith, lt)))
 
-pub inserts_one : (n : NameData) → AreInserts (only_cell n ∷ [])
-inserts_one n = record { ordered = (tt, tt); within = (omega arith, tt) }
+ordered_bare : (n : NameData) (t f k : ℕ) → AreOrdered (origins (bare_from n t f k))
+ordered_bare n t f zero = tt
+ordered_bare n t f (suc k) =
+    (before_bare (record { name = n; offset = f; of = t }) n t (suc f) k refl (omega arith), ordered_bare n t (suc f) k)
+
+within_bare : (n : NameData) (t f k : ℕ) → f + k ≤ t → AreWithin (origins (bare_from n t f k))
+within_bare n t f zero le = tt
+within_bare n t f (suc k) le = (omega (arith, le), within_bare n t (suc f) k (omega (arith, le)))
+
+inserts_bare : (a : Ins) → AreInserts (bare_cells a)
+inserts_bare a = record { ordered = ordered_bare a.name a.len 0 a.len; within = within_bare a.name a.len 0 a.len (omega arith) }
+
+-- an insert that isn't there
+pub inserts_added : (a : Ins) (k : ℕ) (xs : List CellData) → AreInserts xs → LacksName (cells_of xs) a.name
+    → AreInserts (put_in k (bare_cells a) xs)
+inserts_added a k xs h new =
+    inserts_put k (bare_cells a) xs (inserts_bare a) h
+    (subst (λ ks. NewNames (cells_of xs) ks) (sym (keys_bare a)) (block_new (cells_of xs) a.name 0 a.len new))
 
 marked_origin : (b : Bool) (m : Mark) (c : CellData) → origin (marked_if b m c) ≡ origin c
 marked_origin true (Own g) c = refl

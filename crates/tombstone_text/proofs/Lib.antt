@@ -4,6 +4,7 @@ pub mod Positions
 pub mod Searches
 pub mod Inserts
 pub mod Raising
+pub mod Runs
 pub mod Flags
 pub mod Bodies
 pub mod Ways

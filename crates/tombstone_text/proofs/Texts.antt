@@ -1,18 +1,18 @@
 -- What a change of one chunk does to the columns of a text.
-use Rattle.std.proofs.Common.{◌≡◌, ℕ, suc, ◌+◌, ◌-◌, ◌<◌, ◌≤◌, true, cond, List, [], length, map, filter, take, drop, insert, set, get_or, Option, None, sym, ap, ◌∙◌, subst, arith}
+use Rattle.std.proofs.Common.{◌≡◌, ℕ, suc, ◌+◌, ◌-◌, ◌<◌, ◌≤◌, List, [], ◌∷◌, ◌++◌, length, map, filter, take, drop, insert, set, get_or, Option, None, sym, ap, ◌∙◌, subst, arith}
 use Rattle.std.specs.List.{sum}
 use Rattle.std.proofs.lemmas.List.{map-set, get_or-map, get_or_read, length-map, set-get_or, length-take, length-drop, take-append-drop}
 use Rattle.std.proofs.lemmas.List.Elements.{filter-append}
 use Rattle.std.proofs.lemmas.List.{length-append}
-use Rattle.std.proofs.lemmas.List.Edits.{length-insert}
 use Rattle.std.proofs.lemmas.List.Sums.{sum_by-set, get_or-le-sum_by}
-use Rattle.ttf_form.specs.Cells.{CellData, cell_shown, change_at}
+use Rattle.ttf_form.specs.Cells.{CellData, cell_shown, change_at, put_in}
+use Rattle.ttf_form.specs.Laws.Lists.{length-put}
 use Rattle.tombstone_text.specs.Chunks.{flat, flag_of, shown_in}
 use Rattle.tombstone_text.specs.Sums.{IsPart}
 use Rattle.tombstone_text.specs.Code.Cells.{cut, IsText}
 use Rattle.tombstone_text.specs.Code.Chunks.{ChunkData}
 use Rattle.tombstone_text.proofs.Flags.{map-insert}
-use Rattle.tombstone_text.proofs.Shown.{length-filter-insert, length-filter-le}
+use Rattle.tombstone_text.proofs.Shown.{length-filter-le}
 use Rattle.tombstone_text.proofs.Chunked.{IsSpot, spot, text-len, text-shown, filled_at, filled_set, filled_cut, cut_is, length-change, flag-le, shown-change}
 
 pub len_at : (cs : List (List CellData)) (ls ss : List ℕ) (f : Option ChunkData) (i : ℕ) → IsText cs ls ss f → i < length cs
@@ -41,25 +41,53 @@ part-le xs i lt = get_or-le-sum_by (λ (n : ℕ). n) xs i 0 lt
 pub set_both : (xs ys : List ℕ) (i a b : ℕ) → xs ≡ ys → a ≡ b → set xs i a ≡ set ys i b
 set_both xs ys i a b e f = ap (λ l. set l i a) e ∙ ap (λ n. set ys i n) f
 
--- one more shown cell in a chunk
-pub text_put : (cs : List (List CellData)) (ls ss : List ℕ) (f : Option ChunkData) (i o : ℕ) (x : CellData) (d : List CellData) (a b : ℕ)
-    → IsText cs ls ss f → i < length cs → o ≤ length (get_or cs i []) → d ≡ insert (get_or cs i []) o x → cell_shown x ≡ true
-    → a ≡ get_or ls i 0 + 1 → b ≡ get_or ss i 0 + 1 → IsText (set cs i d) (set ls i a) (set ss i b) f
-text_put cs ls ss f i o x d a b t lt within new shows la sb =
-    let long : length d ≡ length (get_or cs i []) + 1 =
-    ap (λ (c : List CellData). length c) new ∙ length-insert (get_or cs i []) o x within in
-    let count : shown_in d ≡ shown_in (get_or cs i []) + 1 =
-    ap (λ (c : List CellData). shown_in c) new ∙ length-filter-insert cell_shown (get_or cs i []) o x
-    ∙ ap (λ q. shown_in (get_or cs i []) + cond q 1 0) shows in
+shown-append : (xs ys : List CellData) → shown_in (xs ++ ys) ≡ shown_in xs + shown_in ys
+shown-append xs ys =
+    ap (λ (s : List CellData). length s) (filter-append cell_shown xs ys) ∙ length-append (filter cell_shown xs) (filter cell_shown ys)
+
+shown-put : (k : ℕ) (new xs : List CellData) → shown_in (put_in k new xs) ≡ shown_in xs + shown_in new
+shown-put k new xs =
+    let whole = ap (λ (s : List CellData). shown_in s) (sym (take-append-drop k xs)) in
+    omega
+    (arith, whole, shown-append (take k xs) (new ++ drop k xs), shown-append new (drop k xs), shown-append (take k xs) (drop k xs))
+
+-- n more shown cells in a chunk
+pub text_put : (cs : List (List CellData)) (ls ss : List ℕ) (f : Option ChunkData) (i o n : ℕ) (new d : List CellData) (a b : ℕ)
+    → IsText cs ls ss f → i < length cs → o ≤ length (get_or cs i []) → d ≡ put_in o new (get_or cs i []) → length new ≡ n
+    → shown_in new ≡ n → a ≡ get_or ls i 0 + n → b ≡ get_or ss i 0 + n → IsText (set cs i d) (set ls i a) (set ss i b) f
+text_put cs ls ss f i o n new d a b t lt within is many all la sb =
+    let long = ap (λ (c : List CellData). length c) is ∙ length-put o new (get_or cs i []) within in
+    let count = ap (λ (c : List CellData). shown_in c) is ∙ shown-put o new (get_or cs i []) in
     let old = len_at cs ls ss f i t lt in
     let seen = shown_at cs ls ss f i t lt in
+    let some = filled_at cs i t.filled lt in
     record {
       lens_are =
-          set_both ls (map (λ (c : List CellData). length c) cs) i a (length d) t.lens_are (omega arith)
+          set_both ls (map (λ (c : List CellData). length c) cs) i a (length d) t.lens_are (omega (arith, la, old, long, many))
           ∙ sym (map-set (λ (c : List CellData). length c) cs i d);
-      shown_are = set_both ss (map shown_in cs) i b (shown_in d) t.shown_are (omega arith) ∙ sym (map-set shown_in cs i d);
-      filled = filled_set cs i d t.filled (omega arith);
+      shown_are =
+          set_both ss (map shown_in cs) i b (shown_in d) t.shown_are (omega (arith, sb, seen, count, all))
+          ∙ sym (map-set shown_in cs i d);
+      filled = filled_set cs i d t.filled (omega (arith, long, some));
       fresh_is = t.fresh_is;
+    }
+
+-- the first n cells of a text
+pub text_first : (cs : List (List CellData)) (ls ss : List ℕ) (f : Option ChunkData) (n : ℕ) (new old d : List CellData)
+    → IsText cs ls ss f → cs ≡ [] → old ≡ [] → d ≡ put_in 0 new old → length new ≡ n → shown_in new ≡ n → 1 ≤ n
+    → IsText (d ∷ []) (insert ls 0 n) (insert ss 0 n) None
+text_first cs ls ss f n new old d t none empty is many all some =
+    let no = ap (λ (c : List CellData). length c) empty in
+    let hidden = ap (λ (c : List CellData). shown_in c) empty in
+    let long = ap (λ (c : List CellData). length c) is ∙ length-put 0 new old (omega arith) in
+    let count = ap (λ (c : List CellData). shown_in c) is ∙ shown-put 0 new old in
+    let lens = t.lens_are ∙ ap (λ (c : List (List CellData)). map (λ b. length b) c) none in
+    let shown = t.shown_are ∙ ap (λ (c : List (List CellData)). map shown_in c) none in
+    record {
+      lens_are = ap (λ l. insert l 0 n) lens ∙ ap (λ k. k ∷ []) (omega (arith, long, many, no));
+      shown_are = ap (λ l. insert l 0 n) shown ∙ ap (λ k. k ∷ []) (omega (arith, count, all, hidden));
+      filled = (omega (arith, long, many, some), tt);
+      fresh_is = tt;
     }
 
 -- what stays true when the cells of a chunk are changed, and the chunk is d then, of which n cells are shown
@@ -119,9 +147,7 @@ text_cut cs ls ss f i n k up low high t lt next some all more l u =
 -- both parts have as many shown cells as the whole
 pub shown_parts : (xs : List CellData) (k : ℕ) → shown_in (take k xs) + shown_in (drop k xs) ≡ shown_in xs
 shown_parts xs k =
-    sym (length-append (filter cell_shown (take k xs)) (filter cell_shown (drop k xs)))
-    ∙ ap (λ (s : List CellData). length s) (sym (filter-append cell_shown (take k xs) (drop k xs)))
-    ∙ ap (λ (s : List CellData). shown_in s) (take-append-drop k xs)
+    sym (shown-append (take k xs) (drop k xs)) ∙ ap (λ (s : List CellData). shown_in s) (take-append-drop k xs)
 
 -- the number of shown cells, counted anew by the two flags of the cell that changed
 pub counted_again : (g : CellData → CellData) (xs : List CellData) (k n before after : ℕ) (d : CellData) → k < length xs → n ≡ shown_in xs

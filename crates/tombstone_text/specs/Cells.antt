@@ -1,18 +1,24 @@
 -- A text as contracts see it: its cells beside their characters, the chunks that both are kept in, and the room to spare.
-use Rattle.std.specs.Prelude.{◌≡◌, ℕ, ◌<◌, ◌==◌, ◌&&◌, Bool, Option, Some, List, length, slice_get, IfSome}
+use Rattle.std.specs.Prelude.{◌≡◌, ℕ, ◌+◌, ◌<◌, ◌≤◌, ◌==◌, ◌&&◌, Bool, Option, Some, List, length, slice_get, IfSome}
 use Rattle.op_name.specs.NameData.{name_eq}
 use Rattle.ttf_form.specs.declared.include.TheConstants.{CELLS}
-use Rattle.ttf_form.specs.Forms.{ins_extent}
 use Rattle.ttf_form.specs.Cells.{CellData}
+use Rattle.ttf_form.specs.Forms.{ins_extent}
+use Rattle.ttf_form.specs.declared.ins.Ins.{Ins}
 use Rattle.ttf_form.specs.declared.cover.Mark.{Mark}
 use Rattle.ttf_form.specs.declared.cover.Mark.TheVariants.{Own, By}
 use Rattle.ttf_form.specs.declared.form.Form.{Form}
 use Rattle.ttf_form.specs.declared.form.Form.TheVariants.{Ins as Insert, Cover as Covered}
 use Rattle.tombstone_text.specs.declared.cell.CellId.{CellId}
 
--- the place at which a cell may come in without memory, and places for the deleters of one cell
+-- a place at which so many cells may come in
+pub record Opening : Type 0 where
+  pub place : ℕ
+  pub len : ℕ
+
+-- where cells may come in without memory, and places for the deleters of one cell
 pub record Room : Type 0 where
-  pub ready : Option ℕ
+  pub ready : Option Opening
   pub deleters : ℕ
 
 -- the cells in the order in which they stand, shown or hidden, the text beside them, which has a character for each, the chunks
@@ -29,10 +35,14 @@ abbrev pub HasRoomOn : Mark → CellData → ℕ → Type 0
 HasRoomOn (Own g) c places = Unit {0}
 HasRoomOn (By d g) c places = length c.deleters < places
 
--- there is room to apply the form: for the cell that an insert adds at its place, below the greatest number of cells, where it
--- adds no more than one, or for the deleter that a cover may add
+-- the cells of an insert may come in at its place
+abbrev pub IsOpenFor : Room → Ins → Type 0
+IsOpenFor r a = r.ready ≡ Some (record { place = a.place; len = a.len })
+
+-- there is room to apply the form: for the cells that an insert adds at its place, up to the greatest number of cells, or
+-- for the deleter that a cover may add
 abbrev pub HasRoomFor : CellsData → Form → Type 0
-HasRoomFor t (Insert a) = (t.room.ready ≡ Some a.place) × (length t.cells < CELLS) × (ins_extent a ≡ 1)
+HasRoomFor t (Insert a) = IsOpenFor t.room a × (length t.cells + ins_extent a ≤ CELLS)
 HasRoomFor t (Covered c) = IfSome (slice_get t.cells c.place) (λ d. HasRoomOn c.mark d t.room.deleters)
 
 -- the cell is that with the name and the offset

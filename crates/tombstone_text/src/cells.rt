@@ -1,12 +1,12 @@
 //! The list of all cells of a text beside their characters, kept in chunks.
 
-ghost use Rattle.std.specs.Prelude.{◌≡◌, ◌≢◌, ◌<◌, ◌≤◌, ◌^◌, ◌↔◌, [], ◌∷◌, length, filter, map, take, position, slice_get, slice_index_or, Contains, Some, IfSome, IfNone, IsTrue, OnOk, OnErr, option_map};
+ghost use Rattle.std.specs.Prelude.{◌≡◌, ◌+◌, ◌<◌, ◌≤◌, ◌^◌, ◌↔◌, [], length, filter, map, take, position, slice_get, slice_index_or, Contains, IfSome, IfNone, IsTrue, OnOk, OnErr, option_map};
 ghost use Rattle.ttf_form.specs.Names.{LacksName};
 ghost use Rattle.ttf_form.specs.Cells.{cell_shown, cells_of, put_in, bare_cells, change_at, marked, marked_in, raised, applied, text_put, FitsCells};
-ghost use Rattle.ttf_form.specs.Forms.{ins_extent, extent_of};
+ghost use Rattle.ttf_form.specs.Forms.{extent_of};
 ghost use Rattle.ttf_form.specs.declared.include.TheConstants.{CELLS};
 ghost use Rattle.ttf_form.specs.declared.form.Form.TheVariants.{Cover as Covered};
-ghost use Rattle.tombstone_text.specs.Cells.{CellsData, HasRoomFor, is_cell};
+ghost use Rattle.tombstone_text.specs.Cells.{CellsData, HasRoomFor, IsOpenFor, is_cell};
 ghost use Rattle.tombstone_text.specs.Chunks.{flat, flag_of, joined, shown_in};
 ghost use Rattle.tombstone_text.specs.Sums.{IsPart};
 ghost use Rattle.tombstone_text.specs.Code.Cells.{IsReady};
@@ -24,8 +24,8 @@ use ttf_form::{CELLS, Cover, Form, Ins, Mark};
 /// character of each cell. Places count all cells, from 0.
 ///
 /// Both are kept in chunks of 1 to 512 cells, each with a column of flags and one of characters. An insert moves cells of one chunk
-/// alone. A chunk starts with little room, which grows by half when it runs out; a full chunk is cut in two for the
-/// next insert into it.
+/// alone. A chunk starts with little room, which grows by half when it runs out; a chunk that would have too many cells
+/// is cut in two for an insert into it.
 #[derive(Drop)]
 pub struct Cells {
     chunks: Chunks,
@@ -36,7 +36,7 @@ pub struct Cells {
 impl Model for Cells {
     ghost Value = { CellsData };
 
-    ghost view = { λ c. record { chunks = c.chunks.chunks; cells = c.chunks.cells; texts = c.chunks.texts; text = c.chunks.text; room = record { ready = option_map (λ r. r.place) c.ready; deleters = c.spare } } };
+    ghost view = { λ c. record { chunks = c.chunks.chunks; cells = c.chunks.cells; texts = c.chunks.texts; text = c.chunks.text; room = record { ready = option_map (λ r. record { place = r.place; len = r.len }) c.ready; deleters = c.spare } } };
 
     ghost invariant = { λ c. IfSome c.ready (λ r. IsReady c.chunks r) × AreInserts c.chunks.cells };
 }
@@ -171,12 +171,11 @@ impl Cells {
         }
     }
 
-    /// Makes room to apply `form`, which then takes no memory: for the cell that an insert adds at its place with its
-    /// character, also where a chunk is to be cut in two, or for the deleter that a cover may add to the cell at its
-    /// place. Nothing else changes, also when out of memory, as it always answers for a 4,294,967,296th cell, and for an
-    /// insert of more cells than one. The room for an insert is there until a form is applied, or room made for another
-    /// insert. Out of memory comes only where the room isn't there yet; so never for a cover that leaves no deleter to
-    /// note.
+    /// Makes room to apply `form`, which then takes no memory: for the cells that an insert adds at its place with their
+    /// characters, also where a chunk is to be cut in two, or for the deleter that a cover may add to the cell at its
+    /// place. Nothing else changes, also when out of memory, as it always answers for a 4,294,967,296th cell. The room for an insert is
+    /// there until a form is applied, or room made for another insert. Out of memory comes only where the room isn't
+    /// there yet; so never for a cover that leaves no deleter to note.
     pub fn reserve(&mut self, form: &Form) -> Result<(), Memory>
         ensures cells { self.new.cells ≡ self.old.cells }
         ensures text { self.new.text ≡ self.old.text }
@@ -185,10 +184,10 @@ impl Cells {
     {
         match form {
             Form::Ins(ins) => {
-                if ins.len != 1 || self.len() >= CELLS {
+                if ins.len as u32 > CELLS - self.len() {
                     return Err(Memory);
                 }
-                self.reserve_place(ins.place)
+                self.reserve_cells(ins)
             }
             Form::Cover(cover) => match (cover.mark, self.cell(cover.place)) {
                 (Mark::By { .. }, Some(cell)) => {
@@ -200,28 +199,28 @@ impl Cells {
         }
     }
 
-    /// Makes room for one more cell at a place.
-    fn reserve_place(&mut self, place: u32) -> Result<(), Memory>
+    /// Makes room for the cells of an insert at its place.
+    fn reserve_cells(&mut self, ins: &Ins) -> Result<(), Memory>
         ensures cells { self.new.cells ≡ self.old.cells }
         ensures text { self.new.text ≡ self.old.text }
-        ensures room { OnOk result (self.new.room.ready ≡ Some place) }
-        ensures memory { OnErr result (self.old.room.ready ≢ Some place) }
+        ensures room { OnOk result (IsOpenFor self.new.room ins.now) }
+        ensures memory { OnErr result (¬ IsOpenFor self.old.room ins.now) }
     {
-        if self.is_ready(place) {
+        if self.is_ready(ins) {
             return Ok(());
         }
         self.ready = None;
-        let ready = self.chunks.reserve(place)?;
+        let ready = self.chunks.reserve(ins)?;
         self.ready = Some(ready);
         Ok(())
     }
 
-    /// Whether a cell may come in at this place without memory.
-    fn is_ready(&self, place: u32) -> bool
-        ensures { IsTrue result ↔ (self.now.room.ready ≡ Some place) }
+    /// Whether the cells of an insert may come in at its place without memory.
+    fn is_ready(&self, ins: &Ins) -> bool
+        ensures { IsTrue result ↔ IsOpenFor self.now.room ins.now }
     {
         match &self.ready {
-            Some(ready) => ready.place() == place,
+            Some(ready) => ready.is_for(ins),
             None => false,
         }
     }
@@ -237,10 +236,10 @@ impl Cells {
         self.spare.reserve(deleters, self.chunks.allocator())
     }
 
-    /// Applies a form for which `reserve` made room: an insert puts its new cell at its place, with the character of
+    /// Applies a form for which `reserve` made room: an insert puts its new cells at its place, with the characters of
     /// `text`, a cover marks the cell at its place, together with all other cells of the same insert where it is an undo
     /// or a redo of that. All other cells stay as they are, in their order, and so do their characters. `text` has a
-    /// character for each cell that the form adds: one for an insert, none for a cover.
+    /// character for each cell that the form adds: as many as the insert says, none for a cover.
     pub fn apply(&mut self, form: &Form, text: &[char])
         requires room { HasRoomFor self.old form.now }
         requires fits { FitsCells self.old.cells form.now }
@@ -249,23 +248,23 @@ impl Cells {
         ensures text { self.new.text ≡ text_put form.now text.now self.old.text }
     {
         match form {
-            Form::Ins(ins) => self.put(ins, text[0]),
+            Form::Ins(ins) => self.put(ins, text),
             Form::Cover(cover) => self.mark(cover),
         }
     }
 
-    /// Puts the new cell of an insert of one with its character at its place.
-    fn put(&mut self, ins: &Ins, ch: char)
-        requires room { self.old.room.ready ≡ Some ins.now.place }
-        requires bound { length self.old.cells < CELLS }
+    /// Puts the new cells of an insert with their characters at its place.
+    fn put(&mut self, ins: &Ins, text: &[char])
+        requires room { IsOpenFor self.old.room ins.now }
+        requires bound { length self.old.cells + ins.now.len ≤ CELLS }
         requires place { ins.now.place ≤ length self.old.cells }
         requires new { LacksName (cells_of self.old.cells) ins.now.name }
-        requires one { ins_extent ins.now ≡ 1 }
+        requires text { length text.now ≡ ins.now.len }
         ensures cells { self.new.cells ≡ put_in ins.now.place (bare_cells ins.now) self.old.cells }
-        ensures text { self.new.text ≡ put_in ins.now.place (ch ∷ []) self.old.text }
+        ensures text { self.new.text ≡ put_in ins.now.place text.now self.old.text }
     {
         match self.ready.take() {
-            Some(ready) => self.chunks.put(ready, Cell::bare(ins), ch),
+            Some(ready) => self.chunks.put(ready, ins, text),
             None => unreachable!(),
         }
     }

@@ -1,7 +1,7 @@
 //! A chunk: some of the cells of a text that stand side by side, with their characters.
 
 ghost use Rattle.std.specs.Prelude.{◌≡◌, ℕ, ◌+◌, ◌<◌, ◌≤◌, List, [], length, map, take, drop, insert, sum, min, vec_len, vec_capacity, slice_index_or, slice_get, slice_set, option_map, IfOk, OnOk, if◌then◌else◌};
-ghost use Rattle.ttf_form.specs.Cells.{CellData, cell_shown, change_at, marked, raised};
+ghost use Rattle.ttf_form.specs.Cells.{CellData, cell_shown, bare_cells, change_at, marked, put_in, raised};
 ghost use Rattle.tombstone_text.specs.Cells.{HasRoomOn};
 ghost use Rattle.tombstone_text.specs.Chunks.{flag_of, shown_in};
 ghost use Rattle.tombstone_text.specs.Code.Chunks.{ChunkData, IsChunk, blank};
@@ -13,7 +13,7 @@ use lane_rank::ones;
 use op_name::{Memory, Name};
 use std::alloc::Global;
 use std::marker::Model;
-use ttf_form::Mark;
+use ttf_form::{Ins, Mark};
 
 /// A chunk has at most so many cells. An insert moves those after the new one in its chunk, so more of them cost
 /// more; with fewer, more chunks are searched and cut.
@@ -22,20 +22,21 @@ pub(crate) const FULL: usize = 512;
 /// The least room that a chunk is made with.
 const LEAST: usize = 16;
 
-/// The room for a chunk of so many cells that has none left: half as much again, so that a chunk moves to more room
-/// a few times only while it fills.
-fn grown(len: usize) -> usize
-    requires { len < FULL }
-    ensures more { len < result }
+/// The room for a chunk of `len` cells that needs room for `least`: half as much again as it has cells, so that a chunk
+/// moves to more room a few times only while it fills.
+fn grown(len: usize, least: usize) -> usize
+    requires len { len ≤ FULL }
+    requires least { least ≤ FULL }
+    ensures more { least ≤ result }
     ensures most { result ≤ FULL }
 {
-    (len + len / 2).max(LEAST).min(FULL)
+    (len + len / 2).max(LEAST).max(least).min(FULL)
 }
 
-/// The room for so many cells of a chunk that is cut in two: a quarter as much again.
+/// The room for so many cells of a chunk that is made new, or cut in two: a quarter as much again.
 pub(crate) fn room_for(len: usize) -> usize
-    requires { len < FULL }
-    ensures more { len < result }
+    requires { len ≤ FULL }
+    ensures more { len ≤ result }
     ensures most { result ≤ FULL }
 {
     (len + len / 4).max(LEAST).min(FULL)
@@ -137,26 +138,42 @@ impl Chunk {
         ones(self.flags())
     }
 
-    /// Makes room for a cell more than the chunk has, and for its character. Nothing else changes, also when out of
-    /// memory.
-    pub(crate) fn grow(&mut self) -> Result<(), Memory>
-        requires { length self.old.cells < FULL }
+    /// Makes room for so many cells in all, those that the chunk has among them, and for their characters. Nothing else
+    /// changes, also when out of memory.
+    pub(crate) fn grow(&mut self, room: usize) -> Result<(), Memory>
+        requires { room ≤ FULL }
         ensures cells { self.new.cells ≡ self.old.cells }
         ensures text { self.new.text ≡ self.old.text }
-        ensures room { OnOk result (length self.new.cells < self.new.room) }
+        ensures room { OnOk result (room ≤ self.new.room) }
     {
-        grow_list(&mut self.cells)?;
-        grow_list(&mut self.flags)?;
-        grow_list(&mut self.text)
+        let _ = self.len();
+        grow_list(&mut self.cells, room)?;
+        grow_list(&mut self.flags, room)?;
+        grow_list(&mut self.text, room)
+    }
+
+    /// Puts the cells of an insert with their characters at a place of the chunk, in their order.
+    pub(crate) fn put_all(&mut self, at: usize, ins: &Ins, text: &[char])
+        requires room { length self.old.cells + ins.now.len ≤ self.old.room }
+        requires within { at ≤ length self.old.cells }
+        requires text { length text.now ≡ ins.now.len }
+        ensures cells { self.new.cells ≡ put_in at (bare_cells ins.now) self.old.cells }
+        ensures text { self.new.text ≡ put_in at text.now self.old.text }
+        ensures long { length self.new.text ≡ length self.new.cells }
+    {
+        let _ = self.text();
+        for k in 0..ins.len {
+            self.put(at + k as usize, Cell::bare(ins, k), text[k as usize]);
+        }
     }
 
     /// Puts a cell with its character at a place of the chunk.
-    pub(crate) fn put(&mut self, at: usize, cell: Cell, ch: char)
+    fn put(&mut self, at: usize, cell: Cell, ch: char)
         requires room { length self.old.cells < self.old.room }
         requires within { at ≤ length self.old.cells }
         ensures cells { self.new.cells ≡ insert self.old.cells at cell }
         ensures text { self.new.text ≡ insert self.old.text at ch }
-        ensures long { length self.new.text ≡ length self.new.cells }
+        ensures room { self.old.room ≤ self.new.room }
     {
         let mark = flag(&cell);
         match self.cells.insert(at, cell) {
@@ -206,10 +223,10 @@ impl Chunk {
         }
     }
 
-    /// Keeps the first `keep` cells and moves the others, with their characters, to another chunk, which was empty. Of the room that the
-    /// moved cells leave a part is kept, for new cells, and the rest given back; where there is no memory for the move
-    /// to less room, all is kept.
-    pub(crate) fn split(&mut self, keep: usize, upper: &mut Chunk)
+    /// Keeps the first `keep` cells and moves the others, with their characters, to another chunk, which was empty. Of
+    /// the room that the moved cells leave a part is kept, for new cells, and room for `least` cells in all where there
+    /// is so much; the rest is given back. Where there is no memory for the move to less room, all is kept.
+    pub(crate) fn split(&mut self, keep: usize, least: usize, upper: &mut Chunk)
         requires less { keep < length self.old.cells }
         requires empty { upper.old.cells ≡ [] }
         requires room { length self.old.cells ≤ keep + upper.old.room }
@@ -219,27 +236,29 @@ impl Chunk {
         ensures upper_text { upper.new.text ≡ drop keep self.old.text }
         ensures lower_long { length self.new.text ≡ length self.new.cells }
         ensures upper_long { length upper.new.text ≡ length upper.new.cells }
-        ensures lower_room { keep < self.new.room }
+        ensures lower_room { least ≤ self.old.room → least ≤ self.new.room }
         ensures upper_room { upper.old.room ≤ upper.new.room }
     {
         move_cells(&mut self.cells, keep, &mut upper.cells);
         move_column(&mut self.flags, keep, &mut upper.flags);
         move_column(&mut self.text, keep, &mut upper.text);
-        self.cells.shrink_to(room_for(keep));
-        self.flags.shrink_to(room_for(keep));
-        self.text.shrink_to(room_for(keep));
+        let room = room_for(keep).max(least);
+        self.cells.shrink_to(room);
+        self.flags.shrink_to(room);
+        self.text.shrink_to(room);
     }
 }
 
-/// Makes room for an element more in a list of a chunk.
-fn grow_list<T>(list: &mut Vec<T>) -> Result<(), Memory>
-    requires { vec_len list.old < FULL }
+/// Makes room for so many elements in all in a list of a chunk.
+fn grow_list<T>(list: &mut Vec<T>, room: usize) -> Result<(), Memory>
+    requires len { vec_len list.old ≤ FULL }
+    requires room { room ≤ FULL }
     ensures items { list.new.items ≡ list.old.items }
-    ensures room { OnOk result (vec_len list.new < vec_capacity list.new) }
+    ensures room { OnOk result (room ≤ vec_capacity list.new) }
 {
     let len = list.len();
-    if len == list.capacity() {
-        list.reserve_exact(grown(len) - len)?;
+    if list.capacity() < room {
+        list.reserve_exact(grown(len, room) - len)?;
     }
     Ok(())
 }

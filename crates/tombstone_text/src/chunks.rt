@@ -1,12 +1,12 @@
 //! The chunks of a text, beside the columns of their lengths and of their numbers of shown cells.
 
-ghost use Rattle.std.specs.Prelude.{◌≡◌, ℕ, ◌+◌, ◌-◌, ◌<◌, ◌≤◌, ◌∷◌, ◌^◌, [], length, filter, map, take, insert, min, position, slice_get, slice_index_or, vec_len, vec_capacity, IfSome, IfOk, OnOk, IsTrue, IsFalse, true, option_map, if◌then◌else◌};
-ghost use Rattle.ttf_form.specs.Cells.{cell_shown, change_at, marked, raised};
+ghost use Rattle.std.specs.Prelude.{◌≡◌, ℕ, ◌+◌, ◌-◌, ◌<◌, ◌≤◌, ◌^◌, ◌↔◌, [], length, filter, map, take, min, position, slice_get, slice_index_or, vec_len, vec_capacity, IfSome, IfOk, OnOk, IsTrue, IsFalse, option_map, if◌then◌else◌};
+ghost use Rattle.ttf_form.specs.Cells.{cell_shown, bare_cells, change_at, marked, put_in, raised};
 ghost use Rattle.ttf_form.specs.declared.include.TheConstants.{CELLS};
 ghost use Rattle.tombstone_text.specs.Cells.{HasRoomOn};
 ghost use Rattle.tombstone_text.specs.Chunks.{flat, flag_of, joined, shown_in};
 ghost use Rattle.tombstone_text.specs.Sums.{IsPart};
-ghost use Rattle.tombstone_text.specs.Code.Cells.{AreBeside, ChunksData, cut, fresh_room, HasPlace, IsReady, IsSeat, IsText, is_sought};
+ghost use Rattle.tombstone_text.specs.Code.Cells.{AreBeside, ChunksData, cut, fresh_room, HasPlaces, IsReady, IsSeat, IsText, IsWay, MayBeCut, is_sought};
 ghost use Rattle.tombstone_text.specs.Code.Chunks.{blank, bodies, rooms_of, texts_of};
 
 use crate::cell::{Cell, CellId};
@@ -16,19 +16,20 @@ use crate::sums::Sums;
 use op_name::{Memory, Name};
 use std::alloc::Global;
 use std::marker::Model;
-use ttf_form::{CELLS, Cover};
+use ttf_form::{CELLS, Cover, Ins};
 
-/// How a new cell may come in without memory.
+/// How new cells may come in without memory.
 #[derive(Clone, Copy, Drop)]
 pub(crate) enum Way {
-    /// Into the fresh chunk, as the first cell of the text.
+    /// Into the fresh chunk, as the first cells of the text.
     First,
-    /// Into a chunk that has room for it, at place `at` of that chunk.
+    /// Into a chunk that has room for them, at place `at` of that chunk.
     Into {
         chunk: usize,
         at: usize,
     },
-    /// At place `at` of a full chunk, which is cut in two first: its first `keep` cells stay, the others move.
+    /// At place `at` of a chunk that may not have so many cells more, and is cut in two first: its first `keep` cells
+    /// stay, the others move.
     Cut {
         chunk: usize,
         at: usize,
@@ -36,19 +37,20 @@ pub(crate) enum Way {
     },
 }
 
-/// The place for which a cell may come in without memory, and the way.
+/// The place at which so many cells may come in without memory, and the way.
 #[derive(Clone, Copy, Drop)]
 pub(crate) struct Ready {
     place: u32,
+    len: u16,
     way: Way,
 }
 
 impl Ready {
-    /// The place.
-    pub(crate) fn place(&self) -> u32
-        ensures { result ≡ self.now.place }
+    /// Whether it is for the cells of this insert: as many, at its place.
+    pub(crate) fn is_for(&self, ins: &Ins) -> bool
+        ensures { IsTrue result ↔ (self.now.place ≡ ins.now.place) × (self.now.len ≡ ins.now.len) }
     {
-        self.place
+        self.place == ins.place && self.len == ins.len
     }
 }
 
@@ -81,8 +83,8 @@ fn position_of(list: &[Cell], sought: &Sought) -> Option<usize>
 
 /// The cells of a text in chunks of 1 to 512 cells. The lengths of the chunks and their numbers of shown cells are two
 /// columns of sums, by which the chunk of a place is found; so an insert moves cells of one chunk alone. The room of a
-/// chunk grows as it fills. A full chunk is cut in two for the next insert into it, and the upper part goes to a fresh
-/// chunk, which is made before.
+/// chunk grows as it fills. A chunk that would have too many cells is cut in two for an insert into it, and the upper
+/// part goes to a fresh chunk, which is made before.
 #[derive(Drop)]
 pub(crate) struct Chunks {
     list: Vec<Chunk>,
@@ -242,41 +244,51 @@ impl Chunks {
         None
     }
 
-    /// Makes room for a new cell at a place, and for its character, and answers the way by which it then comes in; a
-    /// place past the end counts as the end. Nothing else changes, also when out of memory.
-    pub(crate) fn reserve(&mut self, place: u32) -> Result<Ready, Memory>
+    /// Makes room for the cells of an insert at its place, and for their characters, and answers the way by which they
+    /// then come in; a place past the end counts as the end. Nothing else changes, also when out of memory.
+    pub(crate) fn reserve(&mut self, ins: &Ins) -> Result<Ready, Memory>
         ensures chunks { self.new.chunks ≡ self.old.chunks }
         ensures cells { self.new.cells ≡ self.old.cells }
         ensures text { self.new.text ≡ self.old.text }
-        ensures place { IfOk result (λ r. r.place ≡ place) }
+        ensures place { IfOk result (λ r. r.place ≡ ins.now.place) }
+        ensures len { IfOk result (λ r. r.len ≡ ins.now.len) }
         ensures ready { IfOk result (λ r. IsReady self.new r) }
     {
+        let way = self.reserve_way(ins.place, ins.len as usize)?;
+        Ok(Ready {
+            place: ins.place,
+            len: ins.len,
+            way,
+        })
+    }
+
+    /// Makes room for `n` new cells at a place.
+    fn reserve_way(&mut self, place: u32, n: usize) -> Result<Way, Memory>
+        requires { n ≤ 256 }
+        ensures chunks { self.new.chunks ≡ self.old.chunks }
+        ensures cells { self.new.cells ≡ self.old.cells }
+        ensures text { self.new.text ≡ self.old.text }
+        ensures way { IfOk result (λ w. IsWay self.new w (min place (length self.new.cells)) n) }
+    {
+        self.known();
         if self.chunk_count() == 0 {
-            self.reserve_chunk(room_for(0))?;
-            return Ok(Ready {
-                place,
-                way: Way::First,
-            });
+            self.reserve_chunk(room_for(n))?;
+            return Ok(Way::First);
         }
-        let len = self.len();
-        let (chunk, at) = self.seat(place.min(len));
-        if self.is_full(chunk) {
-            let keep = kept(place >= len);
-            self.reserve_chunk(room_for(FULL - keep))?;
-            Ok(Ready {
-                place,
-                way: Way::Cut { chunk, at, keep },
-            })
+        let all = self.len();
+        let (chunk, at) = self.seat(place.min(all));
+        let len = self.len_of(chunk);
+        if len + n <= FULL {
+            self.grow(chunk, len + n)?;
+            Ok(Way::Into { chunk, at })
         } else {
-            self.grow(chunk)?;
-            Ok(Ready {
-                place,
-                way: Way::Into { chunk, at },
-            })
+            let keep = kept(len, place >= all);
+            self.reserve_cut(chunk, at, keep, n)?;
+            Ok(Way::Cut { chunk, at, keep })
         }
     }
 
-    /// The chunk for a new cell at a place, and the place in that chunk: right after the cell before it, or at
+    /// The chunk for new cells at a place, and the place in that chunk: right after the cell before them, or at
     /// the front of the first chunk.
     fn seat(&self, place: u32) -> (usize, usize)
         requires some { 1 ≤ length self.now.chunks }
@@ -292,13 +304,13 @@ impl Chunks {
         }
     }
 
-    /// Whether chunk `i` has as many cells as a chunk may have.
-    fn is_full(&self, i: usize) -> bool
+    /// The number of cells of chunk `i`.
+    fn len_of(&self, i: usize) -> usize
         requires { i < length self.now.chunks }
-        ensures yes { IsTrue result → length (slice_index_or self.now.chunks i []) ≡ FULL }
-        ensures no { IsFalse result → length (slice_index_or self.now.chunks i []) < FULL }
+        ensures len { result ≡ length (slice_index_or self.now.chunks i []) }
+        ensures most { result ≤ FULL }
     {
-        self.list[i].len() == FULL
+        self.list[i].len()
     }
 
     /// Makes room for one chunk more: a fresh one with room for so many cells, and a place for it in the list and in each
@@ -308,6 +320,7 @@ impl Chunks {
         ensures chunks { self.new.chunks ≡ self.old.chunks }
         ensures cells { self.new.cells ≡ self.old.cells }
         ensures text { self.new.text ≡ self.old.text }
+        ensures rooms { self.new.rooms ≡ self.old.rooms }
         ensures fresh { OnOk result (room ≤ self.new.fresh) }
         ensures spare { OnOk result (1 ≤ self.new.spare) }
     {
@@ -320,101 +333,124 @@ impl Chunks {
         Ok(())
     }
 
-    /// Makes room in chunk `i`, which isn't full, for a cell more.
-    fn grow(&mut self, i: usize) -> Result<(), Memory>
+    /// Makes room in chunk `i` for so many cells in all.
+    fn grow(&mut self, i: usize, room: usize) -> Result<(), Memory>
         requires chunk { i < length self.old.chunks }
-        requires less { length (slice_index_or self.old.chunks i []) < FULL }
+        requires most { room ≤ FULL }
         ensures chunks { self.new.chunks ≡ self.old.chunks }
         ensures cells { self.new.cells ≡ self.old.cells }
         ensures text { self.new.text ≡ self.old.text }
-        ensures place { OnOk result (HasPlace self.new i) }
+        ensures room { OnOk result (room ≤ slice_index_or self.new.rooms i 0) }
     {
         let _ = &self.lens;
-        self.list[i].grow()
+        self.list[i].grow(room)
     }
 
-    /// Puts a shown cell with its character at the place for which `reserve` made room.
-    pub(crate) fn put(&mut self, ready: Ready, cell: Cell, ch: char)
+    /// Makes room for the cut of chunk `i` behind its first `keep` cells, and for `n` new cells in the part that gets
+    /// them.
+    fn reserve_cut(&mut self, i: usize, at: usize, keep: usize, n: usize) -> Result<(), Memory>
+        requires chunk { i < length self.old.chunks }
+        requires some { 1 ≤ keep }
+        requires less { keep < length (slice_index_or self.old.chunks i []) }
+        requires low { at ≤ keep → keep + n ≤ FULL }
+        requires high { length (slice_index_or self.old.chunks i []) + n ≤ keep + FULL }
+        ensures chunks { self.new.chunks ≡ self.old.chunks }
+        ensures cells { self.new.cells ≡ self.old.cells }
+        ensures text { self.new.text ≡ self.old.text }
+        ensures cut { OnOk result (MayBeCut self.new i at keep n) }
+    {
+        let moved = self.len_of(i) - keep;
+        if at <= keep {
+            self.grow(i, keep + n)?;
+            self.reserve_chunk(room_for(moved))
+        } else {
+            self.reserve_chunk(room_for(moved).max(moved + n))
+        }
+    }
+
+    /// Puts the cells of an insert with their characters at the place for which `reserve` made room.
+    pub(crate) fn put(&mut self, ready: Ready, ins: &Ins, text: &[char])
         requires ready { IsReady self.old ready }
+        requires len { ready.len ≡ ins.now.len }
         requires place { ready.place ≤ length self.old.cells }
-        requires bound { length self.old.cells < CELLS }
-        requires shown { cell_shown cell ≡ true }
-        ensures cells { self.new.cells ≡ insert self.old.cells ready.place cell }
-        ensures text { self.new.text ≡ insert self.old.text ready.place ch }
+        requires bound { length self.old.cells + ins.now.len ≤ CELLS }
+        requires text { length text.now ≡ ins.now.len }
+        ensures cells { self.new.cells ≡ put_in ready.place (bare_cells ins.now) self.old.cells }
+        ensures text { self.new.text ≡ put_in ready.place text.now self.old.text }
     {
         self.known();
         match ready.way {
-            Way::First => self.put_first(cell, ch),
-            Way::Into { chunk, at } => self.put_at(chunk, at, cell, ch),
+            Way::First => self.put_first(ins, text),
+            Way::Into { chunk, at } => self.put_at(chunk, at, ins, text),
             Way::Cut { chunk, at, keep } => {
-                self.split(chunk, keep);
+                self.split(chunk, keep, room_below(at, keep, ins.len as usize));
                 if at <= keep {
-                    self.put_at(chunk, at, cell, ch);
+                    self.put_at(chunk, at, ins, text);
                 } else {
-                    self.put_at(chunk + 1, at - keep, cell, ch);
+                    self.put_at(chunk + 1, at - keep, ins, text);
                 }
             }
         }
     }
 
-    /// Puts the first cell of a text into the fresh chunk.
-    fn put_first(&mut self, cell: Cell, ch: char)
-        requires fresh { 1 ≤ self.old.fresh }
+    /// Puts the first cells of a text into the fresh chunk.
+    fn put_first(&mut self, ins: &Ins, text: &[char])
+        requires fresh { ins.now.len ≤ self.old.fresh }
         requires spare { 1 ≤ self.old.spare }
         requires empty { self.old.chunks ≡ [] }
-        requires shown { cell_shown cell ≡ true }
-        ensures cells { self.new.cells ≡ cell ∷ [] }
-        ensures text { self.new.text ≡ ch ∷ [] }
+        requires text { length text.now ≡ ins.now.len }
+        ensures cells { self.new.cells ≡ put_in 0 (bare_cells ins.now) [] }
+        ensures text { self.new.text ≡ put_in 0 text.now [] }
     {
         match self.fresh.take() {
             Some(mut chunk) => {
-                chunk.put(0, cell, ch);
-                self.lens.insert(0, 1);
-                self.shown.insert(0, 1);
+                chunk.put_all(0, ins, text);
+                self.lens.insert(0, ins.len as u32);
+                self.shown.insert(0, ins.len as u32);
                 self.list.push_reserved(chunk);
             }
             None => unreachable!(),
         }
     }
 
-    /// Puts a shown cell with its character into chunk `i`, which has room, at place `at` of the chunk.
-    fn put_at(&mut self, i: usize, at: usize, cell: Cell, ch: char)
+    /// Puts the cells of an insert with their characters into chunk `i`, which has room, at place `at` of the chunk.
+    fn put_at(&mut self, i: usize, at: usize, ins: &Ins, text: &[char])
         requires chunk { i < length self.old.chunks }
         requires within { at ≤ length (slice_index_or self.old.chunks i []) }
-        requires room { HasPlace self.old i }
-        requires bound { length self.old.cells < CELLS }
-        requires shown { cell_shown cell ≡ true }
-        ensures cells { (p : ℕ) → IsSeat self.old.chunks i at p → self.new.cells ≡ insert self.old.cells p cell }
-        ensures text { (p : ℕ) → IsSeat self.old.chunks i at p → self.new.text ≡ insert self.old.text p ch }
+        requires room { HasPlaces self.old i ins.now.len }
+        requires bound { length self.old.cells + ins.now.len ≤ CELLS }
+        requires text { length text.now ≡ ins.now.len }
+        ensures cells { (p : ℕ) → IsSeat self.old.chunks i at p → self.new.cells ≡ put_in p (bare_cells ins.now) self.old.cells }
+        ensures text { (p : ℕ) → IsSeat self.old.chunks i at p → self.new.text ≡ put_in p text.now self.old.text }
     {
         let len = self.lens.part(i);
         let shown = self.shown.part(i);
         let chunk = &mut self.list[i];
-        chunk.put(at, cell, ch);
-        self.lens.set(i, len + 1);
-        self.shown.set(i, shown + 1);
+        chunk.put_all(at, ins, text);
+        self.lens.set(i, len + ins.len as u32);
+        self.shown.set(i, shown + ins.len as u32);
     }
 
-    /// Cuts chunk `i` in two: its first `keep` cells stay, the others become the next chunk. Neither cells nor text
-    /// change.
-    fn split(&mut self, i: usize, keep: usize)
-        requires room { length (slice_index_or self.old.chunks i []) < keep + self.old.fresh }
+    /// Cuts chunk `i` in two: its first `keep` cells stay, the others become the next chunk. The lower part keeps room
+    /// for `least` cells in all, where it has so much. Neither cells nor text change.
+    fn split(&mut self, i: usize, keep: usize, least: usize)
+        requires room { length (slice_index_or self.old.chunks i []) ≤ keep + self.old.fresh }
         requires spare { 1 ≤ self.old.spare }
         requires chunk { i < length self.old.chunks }
         requires some { 1 ≤ keep }
         requires less { keep < length (slice_index_or self.old.chunks i []) }
-        requires bound { length self.old.cells < CELLS }
+        requires bound { length self.old.cells ≤ CELLS }
         ensures chunks { self.new.chunks ≡ cut self.old.chunks i keep }
         ensures cells { self.new.cells ≡ self.old.cells }
         ensures text { self.new.text ≡ self.old.text }
-        ensures lower { HasPlace self.new i }
-        ensures upper { HasPlace self.new (i + 1) }
+        ensures lower { least ≤ slice_index_or self.old.rooms i 0 → least ≤ slice_index_or self.new.rooms i 0 }
+        ensures upper { self.old.fresh ≤ slice_index_or self.new.rooms (i + 1) 0 }
     {
         let len = self.lens.part(i);
         match self.fresh.take() {
             Some(mut upper) => {
                 let lower = &mut self.list[i];
-                lower.split(keep, &mut upper);
+                lower.split(keep, least, &mut upper);
                 let low = lower.shown();
                 let high = upper.shown();
                 self.lens.set(i, keep as u32);
@@ -483,13 +519,26 @@ fn has_room(fresh: &Option<Chunk>, room: usize) -> bool
     }
 }
 
-/// How many cells a full chunk keeps when it is cut for a new cell: half of them, and all but one where the new
-/// cell is put at the end of the text, so that typing there leaves full chunks.
-fn kept(at_end: bool) -> usize
+/// How many of its cells a chunk keeps when it is cut for new cells: half of them, and all but one where the new cells
+/// are put at the end of the text, so that typing there leaves full chunks.
+fn kept(len: usize, at_end: bool) -> usize
+    requires least { 2 ≤ len }
+    requires most { len ≤ FULL }
     ensures some { 1 ≤ result }
-    ensures less { result < FULL }
+    ensures less { result < len }
+    ensures high { len ≤ result + 256 }
+    ensures low { IsFalse at_end → result ≤ 256 }
 {
-    if at_end { FULL - 1 } else { FULL / 2 }
+    if at_end { len - 1 } else { len / 2 }
+}
+
+/// The room that the lower part of a chunk keeps at least: for the new cells too, where they go there.
+fn room_below(at: usize, keep: usize, n: usize) -> usize
+    requires keep { keep < FULL }
+    requires few { n ≤ 256 }
+    ensures { at ≤ keep → result ≡ keep + n }
+{
+    if at <= keep { keep + n } else { keep }
 }
 
 /// The flag of the cell at place `at` of a chunk.

@@ -17,7 +17,7 @@ abbrev pub AreFilled : List (List CellData) → Type 0
 AreFilled [] = Unit {0}
 AreFilled (c ∷ cs) = (1 ≤ length c) × AreFilled cs
 
--- a new cell at the place goes into the i-th chunk, at o
+-- new cells at the place go into the i-th chunk, at o
 pub record IsSeat (chunks : List (List CellData)) (i : ℕ) (o : ℕ) (place : ℕ) : Type 0 where
   pub chunk : i < length chunks
   pub within : o ≤ length (slice_index_or chunks i [])
@@ -56,27 +56,30 @@ pub record ChunksData : Type 0 where
   pub fresh : ℕ
   pub spare : ℕ
 
--- the i-th chunk has room for a cell more
-abbrev pub HasPlace : ChunksData → ℕ → Type 0
-HasPlace t i = length (slice_index_or t.chunks i []) < slice_index_or t.rooms i 0
+-- the i-th chunk has room for n cells more
+abbrev pub HasPlaces : ChunksData → ℕ → ℕ → Type 0
+HasPlaces t i n = length (slice_index_or t.chunks i []) + n ≤ slice_index_or t.rooms i 0
 
--- the i-th chunk is full, and may be cut to keep k cells: the fresh chunk has room for the others and one more
-pub record MayBeCut (t : ChunksData) (i : ℕ) (k : ℕ) : Type 0 where
-  pub full : length (slice_index_or t.chunks i []) ≡ FULL
+-- the i-th chunk may be cut to keep k cells: the fresh chunk has room for the others, and the part that gets n new cells, whose
+-- place in the chunk is o, has room for these too
+pub record MayBeCut (t : ChunksData) (i : ℕ) (o : ℕ) (k : ℕ) (n : ℕ) : Type 0 where
   pub some : 1 ≤ k
-  pub less : k < FULL
-  pub fresh : FULL < k + t.fresh
+  pub less : k < length (slice_index_or t.chunks i [])
+  pub most : length (slice_index_or t.chunks i []) ≤ FULL
+  pub fresh : length (slice_index_or t.chunks i []) ≤ k + t.fresh
+  pub low : o ≤ k → k + n ≤ slice_index_or t.rooms i 0
+  pub high : k < o → length (slice_index_or t.chunks i []) + n ≤ k + t.fresh
   pub spare : 1 ≤ t.spare
 
--- a new cell may come in at the place, this way, without memory
-abbrev pub IsWay : ChunksData → Way → ℕ → Type 0
-IsWay t First place = (t.chunks ≡ []) × (1 ≤ t.fresh) × (1 ≤ t.spare)
-IsWay t (Into i o) place = IsSeat t.chunks i o place × HasPlace t i
-IsWay t (Cut i o k) place = IsSeat t.chunks i o place × MayBeCut t i k
+-- n new cells may come in at the place, this way, without memory
+abbrev pub IsWay : ChunksData → Way → ℕ → ℕ → Type 0
+IsWay t First place n = (t.chunks ≡ []) × (n ≤ t.fresh) × (1 ≤ t.spare)
+IsWay t (Into i o) place n = IsSeat t.chunks i o place × HasPlaces t i n
+IsWay t (Cut i o k) place n = IsSeat t.chunks i o place × MayBeCut t i o k n
 
--- a new cell may come in without memory at the place for which this was made ready, one past the end counting as the end
+-- new cells may come in without memory at the place for which this was made ready, one past the end counting as the end
 abbrev pub IsReady : ChunksData → Ready → Type 0
-IsReady t r = IsWay t r.way (min r.place (length t.cells))
+IsReady t r = IsWay t r.way (min r.place (length t.cells)) r.len
 
 -- the cell is one that is looked for
 abbrev pub is_sought : Sought → CellData → Bool

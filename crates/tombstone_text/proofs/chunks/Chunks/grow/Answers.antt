@@ -1,4 +1,4 @@
-use Rattle.std.proofs.Common.{◌<◌, length, ap, ◌∙◌, arith}
+use Rattle.std.proofs.Common.{◌<◌, ◌≤◌, length, ap, ◌∙◌, arith}
 use Rattle.std.proofs.lemmas.Result.{on_ok_weaker}
 use Rattle.tombstone_text.specs.Chunks.{flat, joined}
 use Rattle.tombstone_text.specs.Code.Chunks.{bodies}
@@ -37,7 +37,8 @@ returns-clause-text c =
     c.index_mut.ensures.value c.grow.ensures.text)
     ∙ ap (λ v. v.text) c.self.view_is
 
-pub returns-clause-place : goal.returns-clause-place
-returns-clause-place c =
+pub returns-clause-room : goal.returns-clause-room
+returns-clause-room c =
     let lt : c.args.i < length (bodies c.self.inside.list.items) = let n = ap (λ v. length v.chunks) c.self.view_is in omega arith in
-    on_ok_weaker c.grow.result (body.place_set c.self.inside.list.items c.args.i c.grow.new.self lt) c.grow.ensures.room
+    let now = body.room_set c.self.inside.list.items c.args.i c.grow.new.self lt in
+    on_ok_weaker c.grow.result (λ (most : c.args.room ≤ c.grow.new.self.room). omega (arith, most, now)) c.grow.ensures.room

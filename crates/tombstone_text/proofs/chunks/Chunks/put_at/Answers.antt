@@ -1,8 +1,10 @@
-use Rattle.std.proofs.Common.{◌≡◌, ℕ, ◌+◌, ◌<◌, ◌≤◌, List, [], length, insert, set, get_or, sym, ap, ◌∙◌, subst, arith}
-use Rattle.ttf_form.specs.Cells.{CellData, cell_shown}
+use Rattle.std.proofs.Common.{◌≡◌, ℕ, ◌+◌, ◌<◌, ◌≤◌, List, [], length, set, get_or, sym, ap, ◌∙◌, subst, arith}
+use Rattle.ttf_form.specs.Cells.{CellData, bare_cells, cell_shown, put_in}
+use Rattle.ttf_form.specs.Laws.Cells.{length-bare}
 use Rattle.tombstone_text.specs.Chunks.{flat, joined}
 use Rattle.tombstone_text.specs.Code.Cells.{IsSeat}
 use Rattle.tombstone_text.specs.Code.Chunks.{bodies, texts_of}
+use Rattle.tombstone_text.proofs.Runs.{shown_bare}
 use Rattle.tombstone_text.proofs.Shown.{length-filter-le}
 use Rattle.tombstone_text.proofs.Beside as beside
 use Rattle.tombstone_text.proofs.Bodies as body
@@ -17,7 +19,7 @@ set-requires-clause-low c =
     let n = ap (λ v. length v.chunks) c.self.view_is in
     let all = chunked.text-len _ _ _ _ c.self.invariant.0 in
     let seen = ap (λ v. length v.cells) c.self.view_is in
-    let more = texts.set-sum ls c.args.i (c.part-len.result + 1) (omega arith) in
+    let more = texts.set-sum ls c.args.i (c.part-len.result + c.args.ins.now.len) (omega arith) in
     let part = c.part-len.ensures in
     omega arith
 
@@ -50,44 +52,46 @@ set-requires-2-clause-low c =
     let all = chunked.text-shown _ _ _ _ c.self.invariant.0 in
     let most = length-filter-le cell_shown (flat (bodies c.self.inside.list.items)) in
     let seen = ap (λ v. length v.cells) c.self.view_is in
-    let more = texts.set-sum ss c.args.i (c.part-shown.result + 1) (omega arith) in
+    let more = texts.set-sum ss c.args.i (c.part-shown.result + c.args.ins.now.len) (omega arith) in
     let part = c.part-shown.ensures in
     omega arith
 
 pub invariant_of-self : goal.invariant_of-self
 invariant_of-self c =
     let cs = (bodies c.self.inside.list.items) in
+    let a = c.args.ins.now in
     let lt : c.args.i < length cs = let n = ap (λ v. length v.chunks) c.self.view_is in omega arith in
     let read : c.index_mut-chunk.result.now.cells ≡ get_or cs c.args.i [] =
     body.body_read c.self.inside.list.items c.args.i c.index_mut-chunk.result.now lt c.index_mut-chunk.ensures.value in
     let within : c.args.at ≤ length (get_or cs c.args.i []) =
     let e = ap (λ v. length (get_or v.chunks c.args.i [])) c.self.view_is in omega arith in
-    let new : c.put.new.self.cells ≡ insert (get_or cs c.args.i []) c.args.at c.args.cell =
-    c.put.ensures.cells ∙ ap (λ (s : List CellData). insert s c.args.at c.args.cell) read in
+    let new : c.put_all.new.self.cells ≡ put_in c.args.at (bare_cells a) (get_or cs c.args.i []) =
+    c.put_all.ensures.cells ∙ ap (λ (s : List CellData). put_in c.args.at (bare_cells a) s) read in
     let text =
-    texts.text_put _ _ _ _ c.args.i c.args.at c.args.cell c.put.new.self.cells (c.part-len.result + 1) (c.part-shown.result + 1)
-    c.self.invariant.0 lt within new c.requires.shown
-    (ap (λ n. n + 1) c.part-len.ensures) (ap (λ n. n + 1) c.part-shown.ensures) in
+    texts.text_put _ _ _ _ c.args.i c.args.at a.len (bare_cells a) c.put_all.new.self.cells (c.part-len.result + a.len)
+    (c.part-shown.result + a.len) c.self.invariant.0 lt within new (length-bare a) (shown_bare a.name a.len 0 a.len)
+    (ap (λ n. n + a.len) c.part-len.ensures) (ap (λ n. n + a.len) c.part-shown.ensures) in
     let texts =
-    beside.beside_put _ _ _ _ _ c.args.i c.args.at c.part-len.result c.args.cell c.put.new.self.cells c.put.new.self.text
-    c.self.invariant.0 c.self.invariant.1 lt within new c.part-len.ensures c.put.ensures.long in (
-      rw (c.set.ensures.parts, c.set-2.ensures.parts, body.bodies_set c.self.inside.list.items c.args.i c.put.new.self) text,
-      rw (c.set.ensures.parts, body.texts_set c.self.inside.list.items c.args.i c.put.new.self) texts,
+    beside.beside_put _ _ _ _ _ c.args.i c.args.at c.part-len.result a.len (bare_cells a) c.put_all.new.self.cells c.put_all.new.self.text
+    c.self.invariant.0 c.self.invariant.1 lt within new (length-bare a) c.part-len.ensures c.put_all.ensures.long in (
+      rw (c.set.ensures.parts, c.set-2.ensures.parts, body.bodies_set c.self.inside.list.items c.args.i c.put_all.new.self) text,
+      rw (c.set.ensures.parts, body.texts_set c.self.inside.list.items c.args.i c.put_all.new.self) texts,
     )
 
 pub returns-clause-cells : goal.returns-clause-cells
 returns-clause-cells c p s =
     let cs = (bodies c.self.inside.list.items) in
+    let a = c.args.ins.now in
     let lt : c.args.i < length cs = let n = ap (λ v. length v.chunks) c.self.view_is in omega arith in
     let read : c.index_mut-chunk.result.now.cells ≡ get_or cs c.args.i [] =
     body.body_read c.self.inside.list.items c.args.i c.index_mut-chunk.result.now lt c.index_mut-chunk.ensures.value in
-    let new : c.put.new.self.cells ≡ insert (get_or cs c.args.i []) c.args.at c.args.cell =
-    c.put.ensures.cells ∙ ap (λ (s : List CellData). insert s c.args.at c.args.cell) read in
+    let new : c.put_all.new.self.cells ≡ put_in c.args.at (bare_cells a) (get_or cs c.args.i []) =
+    c.put_all.ensures.cells ∙ ap (λ (s : List CellData). put_in c.args.at (bare_cells a) s) read in
     let seat : IsSeat cs c.args.i c.args.at p = subst (λ ds. IsSeat ds c.args.i c.args.at p) (sym (ap (λ v. v.chunks) c.self.view_is)) s in
-    ap (λ ds. flat ds) (body.bodies_set c.self.inside.list.items c.args.i c.put.new.self)
+    ap (λ ds. flat ds) (body.bodies_set c.self.inside.list.items c.args.i c.put_all.new.self)
     ∙ ap (λ d. flat (set cs c.args.i d)) new
-    ∙ chunked.flat_put cs c.args.i c.args.at p c.args.cell seat
-    ∙ ap (λ v. insert v.cells p c.args.cell) c.self.view_is
+    ∙ chunked.flat_put cs c.args.i c.args.at p (bare_cells a) seat
+    ∙ ap (λ v. put_in p (bare_cells a) v.cells) c.self.view_is
 
 pub returns-clause-text : goal.returns-clause-text
 returns-clause-text c p s =
@@ -96,10 +100,10 @@ returns-clause-text c p s =
     let lt : c.args.i < length (bodies c.self.inside.list.items) = let n = ap (λ v. length v.chunks) c.self.view_is in omega arith in
     let read : c.index_mut-chunk.result.now.text ≡ get_or ts c.args.i [] =
     body.text_read c.self.inside.list.items c.args.i c.index_mut-chunk.result.now lt c.index_mut-chunk.ensures.value in
-    let new : c.put.new.self.text ≡ insert (get_or ts c.args.i []) c.args.at c.args.ch =
-    c.put.ensures.text ∙ ap (λ (s : List ℕ). insert s c.args.at c.args.ch) read in
+    let new : c.put_all.new.self.text ≡ put_in c.args.at c.args.text.now (get_or ts c.args.i []) =
+    c.put_all.ensures.text ∙ ap (λ (s : List ℕ). put_in c.args.at c.args.text.now s) read in
     let seat : IsSeat cs c.args.i c.args.at p = subst (λ ds. IsSeat ds c.args.i c.args.at p) (sym (ap (λ v. v.chunks) c.self.view_is)) s in
-    ap (λ ds. joined ds) (body.texts_set c.self.inside.list.items c.args.i c.put.new.self)
+    ap (λ ds. joined ds) (body.texts_set c.self.inside.list.items c.args.i c.put_all.new.self)
     ∙ ap (λ d. joined (set ts c.args.i d)) new
-    ∙ beside.joined_put ts cs _ _ _ c.args.i c.args.at p c.args.ch c.self.invariant.0 c.self.invariant.1 seat
-    ∙ ap (λ v. insert v.text p c.args.ch) c.self.view_is
+    ∙ beside.joined_put ts cs _ _ _ c.args.i c.args.at p c.args.text.now c.self.invariant.0 c.self.invariant.1 seat
+    ∙ ap (λ v. put_in p c.args.text.now v.text) c.self.view_is
