@@ -1,5 +1,11 @@
 //! A text beside the plain list of its characters.
 
+ghost use Rattle.std.specs.Prelude.{◌≡◌, IsTrue};
+ghost use Rattle.ttf_form.specs.Names.{NewNames};
+ghost use Rattle.ttf_form.specs.Forms.{added_by, extent_of};
+ghost use Rattle.ttf_form.specs.Cells.{FitsCells, cells_of};
+ghost use Rattle.ttf_form.specs.declared.form.Form.TheVariants.{Ins as Insert};
+
 use lane_rank::ones;
 use op_name::{Memory, Name};
 use std::alloc::Global;
@@ -28,16 +34,39 @@ const HIDING: Name = Name { site: 1, number: 9 };
 
 /// Applies a form with the characters of its cells where it fits; answers whether it does. Out of memory no cell changes.
 pub(crate) fn execute(cells: &mut Cells, form: &Form, chars: &[char]) -> Result<bool, Memory> {
-    let fits = match form {
-        Form::Ins(ins) => ins.place <= cells.len() && cells.lacks(&ins.name) && chars.len() == 1,
-        Form::Cover(cover) => cover.place < cells.len() && chars.is_empty(),
-    };
-    if !fits {
+    if !may_take(cells, form) || chars.len() != extent_of(form) {
         return Ok(false);
     }
     cells.reserve(form)?;
     cells.apply(form, chars);
     Ok(true)
+}
+
+/// Whether the form fits the cells: its place is there, and no cell of its name, if it is an insert.
+fn may_take(cells: &Cells, form: &Form) -> bool
+    ensures { IsTrue result → FitsCells cells.now.cells form.now }
+{
+    match form {
+        Form::Ins(ins) => ins.place <= cells.len() && lacks_all(cells, ins),
+        Form::Cover(cover) => cover.place < cells.len(),
+    }
+}
+
+/// Whether no cell has the name of the insert.
+fn lacks_all(cells: &Cells, ins: &Ins) -> bool
+    ensures { IsTrue result → NewNames (cells_of cells.now.cells) (added_by (Insert ins.now)) }
+{
+    cells.lacks(&ins.name)
+}
+
+/// How many cells the form adds.
+fn extent_of(form: &Form) -> usize
+    ensures { result ≡ extent_of form.now }
+{
+    match form {
+        Form::Ins(ins) => ins.extent() as usize,
+        Form::Cover(_) => 0,
+    }
 }
 
 /// The character of the cell at a place; None past the end. It looks at the texts of the chunks, one after the other.
