@@ -1,7 +1,7 @@
 //! Forms: what an operation does to a list of cells, and how a form changes when another form was
 //! applied first.
 //!
-//! A `Form` is a change of a list of cells that is meant for one state of it: `Ins` puts a new cell at a
+//! A `Form` is a change of a list of cells that is meant for one state of it: `Ins` puts new cells at a
 //! place, `Cover` marks the cell at a place and stands for deletes, undos and redos alike. Places count all
 //! cells, shown or hidden. `Include` is the inclusion of one form in another, `Exclude` takes one back,
 //! `Applies` is the rule of applying forms to states, and `Bases` a finite family of members with their first

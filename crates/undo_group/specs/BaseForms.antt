@@ -16,7 +16,7 @@ use Rattle.ttf_form.specs.declared.form.Form.{Form}
 use Rattle.ttf_form.specs.declared.form.Form.TheVariants.{Ins as Insert, Cover as Covered}
 use Rattle.ttf_form.specs.Families.{IsIn}
 
--- an insert of one cell of this name, at this place
+-- an insert of one cell, of this name and at this place
 pub record IsInsertForm (n : NameData) (p : ℕ) (f : Form) : Type 0 where
   pub ins : Ins
   pub is : f ≡ Insert ins
