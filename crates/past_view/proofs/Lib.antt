@@ -11,4 +11,8 @@ pub mod Utf8
 pub mod OneRefusal
 pub mod Prefixes
 pub mod Moments
+pub mod Splices
+pub mod Stretches
 pub mod Plays
+pub mod Bytes
+pub mod Turns

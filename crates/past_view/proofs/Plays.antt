@@ -1,6 +1,6 @@
 -- One operation more is played: its form on the cells and the text beside them, and its moment.
-use Rattle.std.proofs.Common.{◌≡◌, ℕ, zero, suc, ◌+◌, ◌<◌, ◌≤◌, min, Bool, true, false, nat_le, List, [], ◌∷◌, ◌++◌, Result, Ok, Err, OnOk, Option, Some, None, length, take, slice_get, option_map, refl, sym, ap, ◌∙◌, subst, arith, append_assoc}
-use Rattle.std.specs.Prelude.{codes}
+use Rattle.std.proofs.Common.{◌≡◌, ℕ, zero, suc, ◌+◌, ◌<◌, ◌≤◌, min, Bool, true, false, nat_le, List, [], ◌∷◌, ◌++◌, Result, Ok, Err, OnOk, Option, Some, None, length, take, slice_get, option_map, refl, sym, ap, ◌∙◌, subst, subst₂, arith, append_assoc}
+use Rattle.std.specs.Prelude.{codes, IsTrue}
 use Rattle.std.proofs.lemmas.List.{take_all}
 use Rattle.std.proofs.lemmas.Bool.Decides.{nat_tests}
 use Rattle.std.proofs.lemmas.Option.{slice_get_cases, slice_get-map, same_Some}
@@ -9,15 +9,16 @@ use Rattle.context_diff.specs.Operations.{OpData, member_of}
 use Rattle.context_diff.specs.Histories.{members_in, IsValid}
 use Rattle.context_diff.specs.Replays.{characters_of, text_of}
 use Rattle.ttf_form.specs.declared.form.Form.{Form}
-use Rattle.ttf_form.specs.Cells.{CellData, FitsCells}
+use Rattle.ttf_form.specs.Cells.{CellData, FitsCells, cells_of, applied, text_put}
 use Rattle.cot_site.specs.Sites.{AreExecuted}
 use Rattle.visible_view.specs.View.{shown_cells, shown_text}
 use Rattle.site_answers.specs.Names.{member_text}
 use Rattle.script_text.specs.Report.{shown_text as lines_text}
-use Rattle.fixed_replay.specs.Replayed.{AreCharacters}
+use Rattle.fixed_replay.specs.Replayed.{AreCharacters, letters_of}
 use Rattle.past_view.specs.Playing.{moment_text, played}
-use Rattle.past_view.specs.Code.Playing.{IsAfter}
-use Rattle.past_view.proofs.Prefixes.{first_text, first_count, next_fits}
+use Rattle.past_view.specs.Code.Playing.{AreApart, IsAfter, IsPlayed}
+use Rattle.past_view.proofs.Prefixes.{first_text, first_count, next_fits, next_after, next_letters}
+use Rattle.past_view.proofs.Splices.{apart_applied}
 use Rattle.past_view.proofs.Moments.{played_more}
 use mathlib.Core.Logic.{inl, inr}
 
@@ -40,11 +41,6 @@ take_front h i index is = by (nat_le (length h) index) refl
         let same : i ≡ index = omega (arith, is, within) in
         ap (λ (n : ℕ). take n h) same
 
--- no operation was executed
-pub after_none : (h : List OpData) (fs : List Form) (cs : List CellData) (ts : List ℕ) → cs ≡ [] → ts ≡ [] → IsAfter h fs 0 cs ts
-after_none h fs cs ts no_cell no_character =
-    record { given = no_cell; beside = subst (λ (l : List CellData). AreCharacters [] l ts) (sym no_cell) no_character }
-
 module _ (h : List OpData) (valid : IsValid h) (fs : List Form) (df : AreExecuted h fs) (i : ℕ) where
   -- the text of the first operations
   pub text_after : (cs : List CellData) (ts : List ℕ) → i ≤ length h → IsAfter h fs i cs ts → shown_text cs ts ≡ text_of (take i h)
@@ -60,6 +56,22 @@ module _ (h : List OpData) (valid : IsValid h) (fs : List Form) (df : AreExecute
   pub fits_after : (cs : List CellData) (ts : List ℕ) (f : Form) → i ≤ length h → IsAfter h fs i cs ts → slice_get fs i ≡ Some f
       → FitsCells cs f
   fits_after cs ts f le a e = subst (λ (l : List CellData). FitsCells l f) (sym a.given) (next_fits h valid fs df i le f e)
+
+-- one form more is played, with the characters that its operation brings
+pub played_next : (h : List OpData) (valid : IsValid h) (fs : List Form) (df : AreExecuted h fs) (i : ℕ) → i < length h
+    → (o : OpData) (f : Form) → slice_get h i ≡ Some o → slice_get fs i ≡ Some f
+    → (cs ds : List CellData) (ts us old new : List ℕ) (one still : Bool) → IsPlayed h fs i cs ts old one
+    → ds ≡ applied cs f → us ≡ text_put f (letters_of o) ts → new ≡ shown_text ds us
+    → (IsTrue still → IsTrue one × (length (letters_of o) ≤ 1))
+    → IsPlayed h fs (i + 1) ds us new still
+played_next h valid fs df i lt o f there at cs ds ts us old new one still p cells beside shown few = record {
+  after = subst₂ (λ (l : List CellData) (t : List ℕ). IsAfter h fs (i + 1) l t) (sym cells) (sym beside)
+      (next_after h valid fs df i lt o f there at cs ts p.after);
+  shown = shown;
+  apart = λ t. subst (λ (l : List CellData). AreApart (cells_of l)) (sym cells)
+      (apart_applied cs f (p.apart (few t).0) (fits_after h valid fs df i cs ts f (omega (arith, lt)) p.after at)
+      (let size = next_letters h valid fs df i lt o f there at in let least = (few t).1 in omega (arith, size, least)));
+}
 
 -- the moment of an operation, once it was executed
 pub moment_on : (h : List OpData) (valid : IsValid h) (fs : List Form) (df : AreExecuted h fs) (i : ℕ) → i < length h

@@ -41,7 +41,6 @@ fn is_counted(counted: Counted, byte: u8) -> bool
 
 /// Where the `k`-th of them stands, counted from 0. None exactly where there are not so many.
 pub(crate) fn nth(counted: Counted, bytes: &[u8], k: u32) -> Option<usize>
-    requires { length bytes.now < 2 ^ 32 }
     ensures { MatchOption result (count_by (counts counted) bytes.now ≤ k) (IsNth (counts counted) bytes.now k) }
 {
     let mut seen = 0;
@@ -60,7 +59,6 @@ pub(crate) fn nth(counted: Counted, bytes: &[u8], k: u32) -> Option<usize>
 /// Where the `k`-th of them stands, from a place on, before which so many were seen.
 fn nth_from(counted: Counted, bytes: &[u8], k: u32, from: usize, before: u32) -> Option<usize>
     requires within { from ≤ length bytes.now }
-    requires short { length bytes.now < 2 ^ 32 }
     requires counted { before ≡ count_by (counts counted) (take from bytes.now) }
     requires later { before ≤ k }
     ensures { MatchOption result (count_by (counts counted) bytes.now ≤ k) (IsNth (counts counted) bytes.now k) }

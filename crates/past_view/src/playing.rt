@@ -1,15 +1,17 @@
 //! What a site's history showed after each of its operations.
 
-ghost use Rattle.std.specs.Prelude.{◌≡◌, ◌+◌, ◌<◌, ◌≤◌, ◌++◌, [], ℕ, List, codes, length, take, OnOk, OnErr, IsErrOf, IfErr};
+ghost use Rattle.std.specs.Prelude.{◌≡◌, ◌+◌, ◌<◌, ◌≤◌, ◌++◌, [], ℕ, List, codes, length, take, OnOk, OnErr, IsErrOf, IfErr, IsTrue};
 ghost use Rattle.std.specs.Io.KnownBytes.{Appends};
 ghost use Rattle.outside_io.specs.Faults.{Rose, HasCause};
 ghost use Rattle.outside_io.specs.Writing.{WritesFront};
 ghost use Rattle.site_answers.specs.Names.{member_text};
+ghost use Rattle.visible_view.specs.View.{shown_text as shown_text_of};
 ghost use Rattle.script_text.specs.Report.{shown_text};
 ghost use Rattle.context_diff.specs.Replays.{text_of};
 ghost use Rattle.past_view.specs.Playing.{played};
-ghost use Rattle.past_view.specs.Code.Playing.{IsAfter, HasWritten};
+ghost use Rattle.past_view.specs.Code.Playing.{IsAfter, IsPlayed, HasWritten};
 
+use crate::player::play;
 use cot_site::Site;
 use fixed_replay::letters_of;
 use op_name::{Member, Memory};
@@ -58,8 +60,10 @@ impl From<Failed> for PlayBad {
 /// operations up to and with it show: `text CHARS BYTES`, a line feed, the text and a line feed. What was written before a
 /// playback stopped is a front of that.
 ///
-/// It costs executing the operations once, by the forms that the site keeps, and making and writing each text. It keeps one copy of
-/// the cells, one of the text, and what is to be written, up to one text and 65,536 bytes.
+/// From one text to the next only what the operation changed is changed, at its place. So a playback costs what executing the
+/// operations once costs, a look at each chunk of 512 cells and the move of the bytes behind the place for each of them, and the
+/// writing of all texts; once an insert brought several characters, each undo or redo of an insert makes the text anew. It keeps one copy
+/// of the cells, one of the text, and what is to be written, up to one text and 65,536 bytes.
 pub fn playback<K: Sink>(alloc: Global, site: &Site, sink: &mut K) -> Result<(), PlayBad>
     ensures whole { OnOk result (Appends (K.held sink.old) (K.held sink.new) (played site.now.history)) }
     ensures front { OnErr result (WritesFront (K.held sink.old) (K.held sink.new) (played site.now.history)) }
@@ -70,9 +74,10 @@ pub fn playback<K: Sink>(alloc: Global, site: &Site, sink: &mut K) -> Result<(),
     let mut cells = Cells::new(alloc);
     let mut text = Vec::new(alloc);
     let mut out = Vec::new(alloc);
+    let mut apart = true;
     for i in 0..site.book().len() {
-        execute_next(site, i, &mut cells)?;
-        put_moment(site, i, &cells, &mut text, &mut out)?;
+        play_next(site, i, &mut cells, &mut text, &mut apart)?;
+        put_moment(site, i, &cells, &text, &mut out)?;
         flush(sink, &mut out, ENOUGH)?;
     }
     flush(sink, &mut out, 1)?;
@@ -114,22 +119,56 @@ fn execute_next(site: &Site, i: u32, cells: &mut Cells) -> Result<(), Memory>
     }
 }
 
-// Appends what is played after the i-th operation of the site, once that was executed. The text of the cells is made in `text`.
+// Plays the i-th operation of the site after those before it; `apart` tells whether each insert so far had one cell.
+fn play_next(
+    site: &Site,
+    i: u32,
+    cells: &mut Cells,
+    text: &mut Vec<u8>,
+    apart: &mut bool,
+) -> Result<(), Memory>
+    requires there { i < length site.now.history }
+    requires before { IsPlayed site.now.history site.now.forms i cells.old.cells cells.old.text text.old.items apart.old }
+    ensures { OnOk result
+        (IsPlayed site.now.history site.now.forms (i + 1) cells.new.cells cells.new.text text.new.items apart.new) }
+{
+    site.known();
+    match site.book().op(i) {
+        Some(op) => match site.executed(i) {
+            Some(form) => {
+                let letters = letters_of(op);
+                play(cells, text, form, letters, *apart)?;
+                *apart = stays_apart(*apart, letters);
+                Ok(())
+            }
+            None => unreachable!(),
+        },
+        None => unreachable!(),
+    }
+}
+
+// Whether each insert so far had one cell, also that of these characters.
+fn stays_apart(apart: bool, letters: &[char]) -> bool
+    ensures { IsTrue result → IsTrue apart × (length letters.now ≤ 1) }
+{
+    apart && letters.len() <= 1
+}
+
+// Appends what is played after the i-th operation of the site, whose text this is.
 fn put_moment(
     site: &Site,
     i: u32,
     cells: &Cells,
-    text: &mut Vec<u8>,
+    text: &[u8],
     out: &mut Vec<u8>,
 ) -> Result<(), Memory>
     requires there { i < length site.now.history }
     requires after { IsAfter site.now.history site.now.forms (i + 1) cells.now.cells cells.now.text }
+    requires shown { text.now ≡ shown_text_of cells.now.cells cells.now.text }
     ensures { OnOk result ((front : List ℕ) → played (take i site.now.history) ≡ front ++ out.old.items
         → played (take (i + 1) site.now.history) ≡ front ++ out.new.items) }
 {
     site.known();
-    text.clear();
-    write_text(cells, text)?;
     match site.book().member(i) {
         Some(member) => put_text(member, cells.shown_len(), text, out),
         None => unreachable!(),

@@ -7,8 +7,8 @@ use Rattle.past_view.specs.Playing.{played, played_after}
 use Rattle.past_view.proofs.Moments.{played_front, written_more, written_on, written_all, front_written, front_on}
 use Rattle.past_view.proofs.playing.playback.Goals as goal
 
-pub returns-in_err-execute_next-clause-front : goal.returns-in_err-execute_next-clause-front
-returns-in_err-execute_next-clause-front g c =
+pub returns-in_err-play_next-clause-front : goal.returns-in_err-play_next-clause-front
+returns-in_err-play_next-clause-front g c =
     let h = c.args.site.now.history in
     let i = c.loop-i.i in
     on_err c.from_residual.result
@@ -42,7 +42,7 @@ loop-i-preserved g c =
     written_more (g.K.Sink.held c.args.sink.now) (g.K.Sink.held c.loop-i.sink) (played (take c.loop-i.i h)) c.loop-i.out.items
     (played (take i h)) c.put_moment.new.out.items c.loop-i.invariant.written c.in_ok-put_moment.ensures in
     record {
-      after = c.in_ok-execute_next.ensures;
+      before = c.in_ok-play_next.ensures;
       written =
           written_on (g.K.Sink.held c.args.sink.now) (g.K.Sink.held c.loop-i.sink) (g.K.Sink.held c.flush.new.sink) (played (take i h))
           c.put_moment.new.out.items c.flush.new.out.items more c.in_ok-flush.ensures.passed;
