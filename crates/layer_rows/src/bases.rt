@@ -1,7 +1,7 @@
 //! Base forms through the bound `Bases`.
 
 ghost use Rattle.std.specs.Prelude.{◌≡◌, false, ◌∷◌, []};
-ghost use Rattle.std.proofs.Common.{◌∙◌, sym, lit≤, inl, inr, arith};
+ghost use Rattle.std.proofs.Common.{◌∙◌, sym, inl, inr, arith};
 ghost use Rattle.op_name.specs.declared.member.Member.{Member};
 ghost use Rattle.op_name.specs.declared.member.Member.TheVariants.{Original};
 ghost use Rattle.ttf_form.specs.Families.{IsIn};
@@ -37,7 +37,7 @@ impl Bases<Form> for One {
 
     ghost bounded = { λ s m k i. Prim.omega arith };
 
-    ghost total = { λ s k. lit≤ tt };
+    ghost total = { λ s k. Prim.omega (arith, s.ins.most) };
 }
 
 /// A base form through the bound.
