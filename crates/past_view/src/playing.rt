@@ -22,7 +22,7 @@ use std::alloc::Global;
 use tombstone_text::Cells;
 use visible_view::write_text;
 
-/// So many bytes are written before the next operation is played.
+/// Once so many bytes stand ready, they are written before the next operation is played.
 const ENOUGH: usize = 65_536;
 
 /// Why a playback stopped.
