@@ -56,7 +56,8 @@ typedef uint32_t cotpad_status;
 #define COTPAD_NUMBER_FULL 9u     /* the site has made 1,000,000 inserts and deletes */
 #define COTPAD_CONTEXT_FULL 10u   /* more than 16,384 inserts and deletes were undone */
 #define COTPAD_NO_NAME 11u        /* a site above 63, or a number that is 0 or above 1,000,000 */
-#define COTPAD_NONE 12u           /* there is none: no operation at this index, none to release, no character at this place */
+#define COTPAD_NONE 12u           /* there is none: no operation at this index, none to release, no character at this place; or, of
+                                   * cotpad_text_before, the index is above the number of operations */
 #define COTPAD_TOO_SHORT 13u      /* the buffer is too short: *needed says how many bytes it takes */
 
 /* Of the bytes of a log or of a message of an exchange; then a verdict says where, and why. */
@@ -282,21 +283,23 @@ cotpad_status cotpad_release(cotpad_site *site, cotpad_verdict *verdict);
 cotpad_status cotpad_text(cotpad_site *site, uint8_t *out, size_t room, size_t *needed);
 
 /* The text that the operations before this index of the history show, in UTF-8: the empty one at 0, and the present one at
- * cotpad_operations(site). *needed is the number of its bytes. Else COTPAD_TOO_SHORT, which writes *needed alone; COTPAD_NONE, above
- * the number of operations; or COTPAD_NO_MEMORY. Costs
- * executing so many operations once more, and memory for a text of its own, which is freed. */
+ * cotpad_operations(site). *needed is the number of its bytes. Else COTPAD_TOO_SHORT, which writes *needed alone; COTPAD_NONE,
+ * where the index is above the number of operations; or COTPAD_NO_MEMORY. Each call executes so many operations once more, on a
+ * text of its own, whose memory is freed before the call answers. */
 cotpad_status cotpad_text_before(cotpad_site *site, uint32_t index, uint8_t *out, size_t room, size_t *needed);
 
 /* The text that the operations of a set of members show, in UTF-8, whoever made them and whenever they came: what a site shows that
- * has these alone. `counts` tells of how many inserts and deletes of each site the set has the first ones, sites rising, each count 1
- * to 1,000,000; `undone` each name of which it has undos or redos, names rising by site and number, with the greatest generation, 1
- * to 65,535: the lower ones are in it too. *needed is the number of the bytes. Else COTPAD_TOO_SHORT, which writes *needed alone;
- * COTPAD_NO_SET, where the lists are none of these; COTPAD_NO_MEMORY; or, of the first that holds, with *why written:
- * COTPAD_UNKNOWN, where the site has not integrated all of the set: *why is the first member of it that it lacks, inserts and deletes
- * before undos, each rising; COTPAD_STRAY, where it has undos of what it hasn't itself: *why is the first such name, at generation 0;
- * or COTPAD_NOT_CLOSED, where its last insert or delete of why->site, the least such site, was made after something that it lacks
- * (why->number is 0). What a site has is such a set, and so is what it has had at any time. Costs a look at each character that was
- * ever inserted, shown or not, and at its deletes, whatever the set. */
+ * has these alone. `counts` tells of how many inserts and deletes of each site the set has the first ones, sites rising, each count
+ * 1 to 1,000,000: a site of which it has none is left out. `undone` tells each name of which it has undos or redos, names rising by
+ * site and number, with the greatest generation, 1 to 65,535: the lower ones are in it too. Both lists are only read. For a list of
+ * no items any aligned pointer that isn't null will do. *needed is the number of the bytes. Else COTPAD_TOO_SHORT, which writes
+ * *needed alone; COTPAD_NO_SET, where the lists don't rise so, or a number is out of its range; COTPAD_NO_MEMORY; or, of the first
+ * that holds, with *why written: COTPAD_UNKNOWN, where the site has not integrated all of the set: *why is the first member of it
+ * that it lacks, inserts and deletes before undos, each rising; COTPAD_STRAY, where the set has undos of what it hasn't itself:
+ * *why is the first such name, at generation 0; or COTPAD_NOT_CLOSED, where the last insert or delete that the set has of
+ * why->site, the least such site, was made after something that the set lacks (why->number is 0). What a site has is a set that has
+ * a text, and so is what it has had at any time. Each call looks at each character that was ever inserted, shown or not, and at its
+ * deletes, whatever the set. */
 cotpad_status cotpad_text_at(cotpad_site *site, const cotpad_count *counts, size_t sites, const cotpad_member *undone, size_t names,
     uint8_t *out, size_t room, size_t *needed, cotpad_member *why);
 

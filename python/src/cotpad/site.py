@@ -369,13 +369,17 @@ class Site:
         return self._written(lib.text).decode()
 
     def at(self, index: int) -> str:
-        """The text that the first `index` operations of the history show: none of them at 0, and all of them at `operations`."""
+        """The text that the first `index` operations of the history show: the empty one at 0, and the present one at `operations`. An index
+        above that, or below 0, raises Refused with the status NONE. Each call executes so many operations once more: for the texts of all
+        moments, let a site of its own receive the frames one by one, and read its text after each."""
         return self._written(lib.text_before, _index(index)).decode()
 
     def text_at(self, counts: Mapping[int, int], undone: Optional[Mapping[tuple[int, int], int]] = None) -> str:
-        """The text that a set of operations shows, whoever made them: `counts` tells of how many inserts and deletes of each site it
-        has the first ones, and `undone` of each name that it undoes or redoes the greatest generation. The set has to hold what its
-        operations were made after, as what a site has does, or had at any time. Else NoText is raised."""
+        """The text that a set of operations shows, whoever made them. `counts` has for each site how many of its inserts and deletes are
+        in the set, which are its first ones; a site that has none there is left out. `undone` has for each name that is undone or redone
+        in the set the greatest generation, which stands for the lower ones too. All of the set has to be integrated here, and the set
+        has to have what its inserts and deletes were made after, and what its undos undo, as what a site has does, and what it had at
+        any time. Else NoText is raised, whose status says why: NO_SET also for a count or a generation of 0."""
         why = lib.Member()
         entries = sorted((site, number, generation) for (site, number), generation in (undone or {}).items())
         if not all(_fits(it) for them in (*counts.items(), *entries) for it in them):
