@@ -1,0 +1,14 @@
+pub mod Exchanges
+pub mod Handles
+pub mod Held
+pub mod Hosting
+pub mod Lending
+pub mod Numbers
+pub mod Operations
+pub mod Pasts
+pub mod Refusals
+pub mod Runs
+pub mod Saving
+pub mod SiteLending
+pub mod Statuses
+pub mod Verdicts
