@@ -64,7 +64,8 @@ run_of n first (suc k) = (n, first) ∷ run_of n (suc first) k
 abbrev pub cells_from : Insertion → List Cell
 cells_from o = run_of o.name 0 o.len
 
--- of an earlier insert whose first cell lies in the gap, the last cell becomes the left neighbour, or the first cell the right one
+-- of an earlier insert whose first cell lies in the gap, the last of its cells that lie there becomes the left neighbour, or the
+-- first one the right neighbour
 abbrev pub narrow_over : Bool → NameData → Gap Cell → Gap Cell
 narrow_over left x g = if list_any (first_of x) g.between then narrow left (of_name x) g else g
 

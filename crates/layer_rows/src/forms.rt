@@ -114,7 +114,7 @@ fn inert(words: &mut Words<'_>, out: &mut String) -> Result<bool, Memory> {
     Ok(true)
 }
 
-// `followed MARK FORM`: the mark on the cell of the form.
+// `followed MARK FORM`: the mark at the place of the form.
 fn follow(words: &mut Words<'_>, out: &mut String) -> Result<bool, Memory> {
     groups_follow();
     match (words.mark(), words.form()) {

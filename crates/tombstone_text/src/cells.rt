@@ -174,7 +174,7 @@ impl Cells {
     /// Makes room to apply `form`, which then takes no memory: for the cells that an insert adds at its place with their
     /// characters, also where a chunk is to be cut in two, or for the deleter that a cover may add to the cell at its
     /// place. Nothing else changes, also when out of memory, as it always answers for a 4,294,967,296th cell. The room for an insert is
-    /// there until a form is applied, or room made for another insert. Out of memory comes only where the room isn't
+    /// there until a form is applied, or room asked for another insert. Out of memory comes only where the room isn't
     /// there yet; so never for a cover that leaves no deleter to note.
     pub fn reserve(&mut self, form: &Form) -> Result<(), Memory>
         ensures cells { self.new.cells ≡ self.old.cells }

@@ -1,4 +1,4 @@
--- Members whose forms follow that of another: a mark on the cell that the other one adds or marks.
+-- Members whose forms follow that of another: a mark on the first cell that the other one adds, or on the cell that it marks.
 use Rattle.std.specs.Prelude.{◌≡◌, ℕ, ◌+◌, ◌≤◌, true, List, ◌||◌}
 use Rattle.op_name.specs.NameData.{NameData}
 use Rattle.op_name.specs.declared.member.Member.{Member}
@@ -13,7 +13,7 @@ use Rattle.ttf_form.specs.declared.form.Form.{Form}
 use Rattle.ttf_form.specs.declared.form.Form.TheVariants.{Ins as Insert, Cover as Covered}
 use Rattle.undo_group.specs.BaseForms.{original_form, base_form}
 
--- a mark on the cell that a form adds or marks
+-- a mark on the first cell that a form adds, or on the cell that it marks
 abbrev pub following : Mark → Form → Form
 following m (Insert a) = Covered (record { place = a.place; mark = m })
 following m (Covered c) = Covered (record { place = c.place; mark = m })
@@ -23,7 +23,7 @@ abbrev pub mark_of : Form → NameData → ℕ → Mark
 mark_of (Insert a) t g = Own g
 mark_of (Covered d) t g = By t g
 
--- in a history x follows m: its base context is that of m with m, and its base form is a mark on the cell of m's
+-- in a history x follows m: its base context is that of m with m, and its base form is a mark at the place of m's
 pub record Follows (h : List OpData) (mark : Mark) (m x : Member) : Type 0 where
   pub context : (y : Member) → base_has h x y ≡ (base_has h m y || member_eq m y)
   pub form : base_form h x ≡ following mark (base_form h m)

@@ -8,8 +8,8 @@ ghost use Rattle.undo_group.specs.Following.{following, FirstGroupsFollow, Furth
 
 use ttf_form::{Cover, Form, Mark};
 
-/// A mark on the cell that a form adds or marks. It follows the form: what is apart from the form may be included in
-/// both, and the mark is on the same cell still.
+/// A mark at the place of a form: on the first cell that an insert adds, or on the cell that the form marks. It follows
+/// the form: what is apart from the form may be included in both, and the mark is on the same cell still.
 pub fn followed(mark: Mark, form: &Form) -> Form
     ensures form { result ≡ following mark form.now }
     ensures law { (m : Mark) (f k : Form) → ApartForms f k → form_over (following m f) (form_over k f) ≡ following m (form_over f k) }

@@ -15,7 +15,7 @@ use ttf_form::{Bases, Cover, Form, Ins, Mark};
 /// The members of a book, each with its base form: what it does to the cells of its own base context.
 ///
 /// The base form of an insert or a delete is what the operation says. An undo group marks the cell of its
-/// original at its generation: the cell of an insert itself, or the cell of a delete among its deleters. Contracts see the
+/// original at its generation: the one cell of an insert itself, or the cell of a delete among its deleters. Contracts see the
 /// operations of the book.
 #[derive(Drop)]
 pub struct TextBases<'a> {
