@@ -34,9 +34,6 @@ played_front h i = ap played (sym (take-append-drop i h)) ∙ played_after-appen
 
 -- ---- what was written
 
-pub written_first : (held : Option (List ℕ)) (out : List ℕ) → out ≡ [] → HasWritten held held [] out
-written_first held out none = record { front = []; parts = sym none; written = Appends-nil held }
-
 -- as much is written, and more is to be
 pub written_more : (old now : Option (List ℕ)) (all out more next : List ℕ) → HasWritten old now all out
     → ((front : List ℕ) → all ≡ front ++ out → more ≡ front ++ next) → HasWritten old now more next

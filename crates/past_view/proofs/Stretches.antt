@@ -136,12 +136,6 @@ no_rest : (front rest : List ℕ) (bs : List ℕ) → bs ≡ encode_utf8_all fro
 no_rest front [] bs is none = ap length (is ∙ append-nil (encode_utf8_all front))
 no_rest front (c ∷ cs) bs is none = absurd (omega arith)
 
--- all characters end where the text does
-pub end_of_all : (front rest bs : List ℕ) (v chars : ℕ) → bs ≡ encode_utf8_all front ++ encode_utf8_all rest → length front ≡ v
-    → length front + length rest ≡ chars → v ≡ chars
-    → length bs ≡ length (encode_utf8_all front)
-end_of_all front rest bs v chars is long all same = no_rest front rest bs is (omega (arith, long, all, same))
-
 least : (cs : List ℕ) → length cs ≤ length (encode_utf8_all cs)
 least cs = omega (arith, starts_all cs, count_by-le-length starts_char (encode_utf8_all cs))
 
