@@ -70,12 +70,12 @@ later_group h w t g known more b c d is raised_has again y =
 
 -- a member of a history names a site and a number in their ranges
 name_range : (o : OpData) → IsWellFormed o → (n : NameData) → member_of o ≡ Original n → IsName n.site n.number
-name_range (inserting m p ch c) f n is = let same : m ≡ n = cc in subst (λ (x : NameData). IsName x.site x.number) same f.in_range.0
+name_range (inserting m p text c) f n is = let same : m ≡ n = cc in subst (λ (x : NameData). IsName x.site x.number) same f.in_range.0
 name_range (deleting m p c) f n is = let same : m ≡ n = cc in subst (λ (x : NameData). IsName x.site x.number) same f.in_range.0
 name_range (undoing a t g c) f n is = cc
 
 generation_range : (o : OpData) → IsWellFormed o → (t : NameData) (g : ℕ) → member_of o ≡ Group t g → g ≤ GENERATIONS
-generation_range (inserting m p ch c) f t g is = cc
+generation_range (inserting m p text c) f t g is = cc
 generation_range (deleting m p c) f t g is = cc
 generation_range (undoing a u k c) f t g is = let same : k ≡ g = cc in omega (arith, f.in_range.3)
 

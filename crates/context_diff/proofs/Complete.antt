@@ -23,7 +23,7 @@ pub record IsComplete (h : List OpData) : Type 0 where
 
 -- the number of a well formed original
 pub formed_number : (o : OpData) → IsWellFormed o → (n : NameData) → member_of o ≡ Original n → 1 ≤ n.number
-formed_number (inserting m p ch c) f n is = let same : m ≡ n = cc in subst (λ (x : NameData). 1 ≤ x.number) same f.in_range.0.1
+formed_number (inserting m p text c) f n is = let same : m ≡ n = cc in subst (λ (x : NameData). 1 ≤ x.number) same f.in_range.0.1
 formed_number (deleting m p c) f n is = let same : m ≡ n = cc in subst (λ (x : NameData). 1 ≤ x.number) same f.in_range.0.1
 formed_number (undoing a t g c) f n is = cc
 
@@ -71,7 +71,7 @@ next_group h a c t g ready holds low target new =
 -- a next operation is the next of its site or its original, among the members of the history
 pub next_member : (h : List OpData) (a : ContextData) (o : OpData) → ((m : Member) → has a m ≡ is_known h m) → IsNext h o
     → IsNextMember a (member_of o)
-next_member h a (inserting n p ch c) holds next = next_original h a c n next.ready holds next.formed.in_range.0.1 next.formed.own next.new
+next_member h a (inserting n p text c) holds next = next_original h a c n next.ready holds next.formed.in_range.0.1 next.formed.own next.new
 next_member h a (deleting n p c) holds next = next_original h a c n next.ready holds next.formed.in_range.0.1 next.formed.own next.new
 next_member h a (undoing u t g c) holds next = next_group h a c t g next.ready holds next.formed.in_range.2 next.formed.target.1 next.new
 

@@ -65,7 +65,7 @@ has_least c (Original n) there = (has_number c n there).0
 has_least c (Group t g) there = (has_generation c t g there).0
 
 pub lowered_by : (c : ContextData) (o : OpData) → IsContext c → IsWellFormed o → IsContext (lowered c (member_of o))
-lowered_by c (inserting n p ch d) is f = lowered_is_context c (Original n) is f.in_range.0 tt f.in_range.0.2
+lowered_by c (inserting n p text d) is f = lowered_is_context c (Original n) is f.in_range.0 tt f.in_range.0.2
 lowered_by c (deleting n p d) is f = lowered_is_context c (Original n) is f.in_range.0 tt f.in_range.0.2
 lowered_by c (undoing a t g d) is f = lowered_is_context c (Group t g) is f.in_range.1 f.in_range.2 f.in_range.3
 

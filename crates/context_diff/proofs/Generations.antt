@@ -17,7 +17,7 @@ generation_push (p ∷ ps) o t = rw (generation_push ps o t) (omega arith)
 
 entry_raised : (a : ContextData) (o : OpData) (t : NameData) → IsNextMember a (member_of o)
     → entry_of (raised a (member_of o)) t ≡ max (entry_of a t) (generation_at o t)
-entry_raised a (inserting n p ch c) t next = omega arith
+entry_raised a (inserting n p text c) t next = omega arith
 entry_raised a (deleting n p c) t next = omega arith
 entry_raised a (undoing u n g c) t next =
     rw (entry_put n g a.entries t) (elim (cases_Bool (name_eq n t)) [

@@ -25,7 +25,7 @@ pub record IsContextOf (h : List OpData) (n : NameData) (c : ContextData) : Type
 
 context_facts : (h : List OpData) (o : OpData) → IsWellFormed o → LacksNothing h (context_of o)
     → (is_original o ≡ true → IsClosed h (context_of o)) → (n : NameData) → member_of o ≡ Original n → IsContextOf h n (context_of o)
-context_facts h (inserting m p ch c) f ready closed n is =
+context_facts h (inserting m p text c) f ready closed n is =
     let same : m ≡ n = cc in
     record {
       number = subst (λ (x : NameData). 1 ≤ x.number) same f.in_range.0.1;
@@ -69,7 +69,7 @@ pub record IsGroupOf (h : List OpData) (t : NameData) (g : ℕ) : Type 0 where
 
 group_target : (h : List OpData) (o : OpData) → IsWellFormed o → LacksNothing h (context_of o) → (t : NameData) (g : ℕ)
     → member_of o ≡ Group t g → is_known h (Original t) ≡ true
-group_target h (inserting m p ch c) f ready t g is = cc
+group_target h (inserting m p text c) f ready t g is = cc
 group_target h (deleting m p c) f ready t g is = cc
 group_target h (undoing a u k c) f ready t g is =
     let same : u ≡ t = cc in

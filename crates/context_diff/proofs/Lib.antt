@@ -1,3 +1,4 @@
+pub mod Characters
 pub mod Names
 pub mod Known
 pub mod Raising
@@ -8,7 +9,7 @@ pub mod ClosedSets
 pub mod Order
 pub mod Generations
 pub mod Differences
-pub mod Inserts
+pub mod CellCounts
 pub mod Ready
 pub mod BaseValues
 pub mod Places

@@ -20,24 +20,24 @@ members-append (o ∷ os) k = ap (λ (ms : List Member). member_of o ∷ ms) (me
 
 -- the member of a well formed operation is in its range
 pub formed_member : (o : OpData) → IsWellFormed o → IsMember (member_of o)
-formed_member (inserting n p ch c) f = tt
+formed_member (inserting n p text c) f = tt
 formed_member (deleting n p c) f = tt
 formed_member (undoing a t g c) f = f.in_range.2
 
 -- the member of an insert or of a delete is its own name
 pub original_name : (o : OpData) → is_original o ≡ true → (n : NameData) × (member_of o ≡ Original n)
-original_name (inserting n p ch c) is = (n, refl)
+original_name (inserting n p text c) is = (n, refl)
 original_name (deleting n p c) is = (n, refl)
 original_name (undoing a t g c) is = cc
 
 -- and an operation with such a member is an insert or a delete
 pub named_original : (o : OpData) (n : NameData) → member_of o ≡ Original n → is_original o ≡ true
-named_original (inserting m p ch c) n is = refl
+named_original (inserting m p text c) n is = refl
 named_original (deleting m p c) n is = refl
 named_original (undoing a t g c) n is = cc
 
 pub raised_by : (c : ContextData) (o : OpData) → IsContext c → IsWellFormed o → IsContext (raised c (member_of o))
-raised_by c (inserting n p ch d) is f = raised_is_context c (Original n) is f.in_range.0 tt f.in_range.0.2
+raised_by c (inserting n p text d) is f = raised_is_context c (Original n) is f.in_range.0 tt f.in_range.0.2
 raised_by c (deleting n p d) is f = raised_is_context c (Original n) is f.in_range.0 tt f.in_range.0.2
 raised_by c (undoing a t g d) is f = raised_is_context c (Group t g) is f.in_range.1 f.in_range.2 f.in_range.3
 

@@ -62,7 +62,7 @@ earlier_original b o os n is next y e =
 
 earlier_at : (b : List OpData) (o : OpData) (os : List OpData) → IsComplete b → IsNext b o → (y : Member)
     → base_has (b ++ o ∷ os) (member_of o) y ≡ true → is_known b y ≡ true
-earlier_at b (inserting n p ch c) os w next y e = earlier_original b (inserting n p ch c) os n refl next y e
+earlier_at b (inserting n p text c) os w next y e = earlier_original b (inserting n p text c) os n refl next y e
 earlier_at b (deleting n p c) os w next y e = earlier_original b (deleting n p c) os n refl next y e
 earlier_at b (undoing a t g c) os w next y e = earlier_group b a t g c os w next y (base_group (b ++ undoing a t g c ∷ os) t g y e)
 

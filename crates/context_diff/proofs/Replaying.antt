@@ -1,7 +1,6 @@
 -- The replay by places: where an insert goes in the fixed order, and where its cell goes among the cells.
 use Rattle.std.proofs.Common.{◌≡◌, ℕ, zero, suc, ◌+◌, ◌-◌, ◌≤◌, Bool, inl, inr, List, [], ◌∷◌, ◌++◌, refl, ap, sym, ◌∙◌, arith, map, take, drop, append_assoc}
 use Rattle.std.proofs.lemmas.Bool.{cases_Bool}
-use Rattle.op_name.specs.NameData.{NameData}
 use Rattle.context_diff.specs.Gaps.{Gap}
 use Rattle.context_diff.specs.Replays.{Insertion, Cell, put_by, cells_from, put, gap_of}
 use Rattle.context_diff.specs.Code.GapEnds.{before_first, gap_between}
@@ -32,7 +31,7 @@ take_drop_put {K} l r cs new le =
     sym (append_assoc (take l cs) (take k (drop l cs)) (new ++ drop r cs)) ∙ ap (λ xs. xs ++ (new ++ drop r cs)) (sym t)
 
 -- a cell is put at the right end of the gap
-pub put_at_end : (o : Insertion) (earlier : List NameData) (cells : List Cell) (l r : ℕ) → gap_of o earlier cells ≡ gap_between cells l r
+pub put_at_end : (o : Insertion) (earlier : List Insertion) (cells : List Cell) (l r : ℕ) → gap_of o earlier cells ≡ gap_between cells l r
     → l ≤ r → put o earlier cells ≡ take r cells ++ (cells_from o ++ drop r cells)
 put_at_end o earlier cells l r is le =
     ap (λ (g : Gap Cell). g.before ++ (g.between ++ (cells_from o ++ g.behind))) is ∙ take_drop_put l r cells (cells_from o) le

@@ -8,18 +8,18 @@ use Rattle.op_name.specs.declared.member.Member.{Member}
 use Rattle.op_name.specs.declared.member.Member.TheVariants.{Original, Group}
 use Rattle.op_name.specs.NameData.{NameData}
 use Rattle.context_vector.specs.Contexts.{ContextData, IsNextMember, count_of, raised}
-use Rattle.context_diff.specs.Operations.{OpData, member_of, is_insert, IsWellFormed}
-use Rattle.context_diff.specs.Histories.{is_known, IsNext, context_of_all}
-use Rattle.context_diff.specs.Code.Counting.{inserts_of}
+use Rattle.context_diff.specs.Operations.{OpData, member_of, cells_put, IsWellFormed}
+use Rattle.context_diff.specs.Histories.{is_known, all_cells, IsNext, context_of_all}
+use Rattle.context_diff.specs.Code.Counting.{cells_of_site}
 use Rattle.context_diff.specs.Code.Tallies.{IsTally, AreTallies, entry_at, total, counted, without_last}
 use Rattle.context_diff.proofs.Complete.{IsComplete, context_push, next_member}
-use Rattle.context_diff.proofs.Inserts.{inserts_of_on, inserts_of_new, inserts_of_at_most, no_inserts}
+use Rattle.context_diff.proofs.CellCounts.{cells_of_site_on, cells_of_site_new, cells_of_site_at_most, no_cells}
 use Rattle.context_diff.proofs.Raising.{count_put}
 
 -- the entry of a number, also of 0
 pub entry_is : (h : List OpData) → ((o : OpData) → Contains h o → IsWellFormed o) → (s : ℕ) (counts : List ℕ) → IsTally h s counts → (n : ℕ)
-    → n ≤ length counts → entry_at counts n ≡ inserts_of h s n
-entry_is h formed s counts tally zero within = sym (no_inserts h s formed)
+    → n ≤ length counts → entry_at counts n ≡ cells_of_site h s n
+entry_is h formed s counts tally zero within = sym (no_cells h s formed)
 entry_is h formed s counts tally (suc n) within = tally.entries (suc n) (omega arith) within
 
 total_entry : (counts : List ℕ) → total counts ≡ entry_at counts (length counts)
@@ -28,15 +28,15 @@ total_entry (x ∷ xs) =
     let last : suc (length xs) - 1 ≡ length xs = omega arith in
     ap (λ i. get_or (x ∷ xs) i 0) last
 
--- the last entry counts all inserts of the site
+-- the last entry counts all cells of the site
 pub total_is : (h : List OpData) → ((o : OpData) → Contains h o → IsWellFormed o) → (s : ℕ) (counts : List ℕ) → IsTally h s counts
-    → total counts ≡ inserts_of h s (length counts)
+    → total counts ≡ cells_of_site h s (length counts)
 total_is h formed s counts tally = total_entry counts ∙ entry_is h formed s counts tally (length counts) (omega arith)
 
--- it is less than the number of operations
+-- it is at most the number of all cells
 pub total_short : (h : List OpData) → ((o : OpData) → Contains h o → IsWellFormed o) → (s : ℕ) (counts : List ℕ) → IsTally h s counts
-    → length h + 1 < 4294967296 → total counts + 1 < 4294967296
-total_short h formed s counts tally short = omega (arith, total_is h formed s counts tally, inserts_of_at_most h s (length counts))
+    → (n : ℕ) → all_cells h + n < 4294967296 → total counts + n < 4294967296
+total_short h formed s counts tally n few = omega (arith, total_is h formed s counts tally, cells_of_site_at_most h s (length counts))
 
 module _ (h : List OpData) (o : OpData) (w : IsComplete h) (next : IsNext h o) where
   -- the number of originals of a site with the operation more
@@ -48,14 +48,14 @@ module _ (h : List OpData) (o : OpData) (w : IsComplete h) (next : IsNext h o) w
       → IsTally (h ++ o ∷ []) s counts
   same_push s counts same tally = record {
     size = tally.size ∙ sym same;
-    entries = λ n low high. tally.entries n low high ∙ sym (inserts_of_on h w o next s n (omega (arith, tally.size)));
+    entries = λ n low high. tally.entries n low high ∙ sym (cells_of_site_on h w o next s n (omega (arith, tally.size)));
   }
 
   same_pop : (s : ℕ) (counts : List ℕ) → count_of (context_of_all (h ++ o ∷ [])) s ≡ count_of (context_of_all h) s
       → IsTally (h ++ o ∷ []) s counts → IsTally h s counts
   same_pop s counts same tally = record {
     size = tally.size ∙ same;
-    entries = λ n low high. tally.entries n low high ∙ inserts_of_on h w o next s n (omega (arith, tally.size));
+    entries = λ n low high. tally.entries n low high ∙ cells_of_site_on h w o next s n (omega (arith, tally.size));
   }
 
   module _ (n : NameData) (is : member_of o ≡ Original n) where
@@ -74,31 +74,31 @@ module _ (h : List OpData) (o : OpData) (w : IsComplete h) (next : IsNext h o) w
 
     -- the entries of the site's list with one more
     entry_push : (counts : List ℕ) (new : ℕ) → IsTally h n.site counts → n.number ≡ length counts + 1
-        → new ≡ inserts_of (h ++ o ∷ []) n.site n.number
-        → (i : ℕ) → 1 ≤ i → i ≤ length counts + 1 → entry_at (counts ++ new ∷ []) i ≡ inserts_of (h ++ o ∷ []) n.site i
+        → new ≡ cells_of_site (h ++ o ∷ []) n.site n.number
+        → (i : ℕ) → 1 ≤ i → i ≤ length counts + 1 → entry_at (counts ++ new ∷ []) i ≡ cells_of_site (h ++ o ∷ []) n.site i
     entry_push counts new tally number is_new zero low high = absurd (omega arith)
     entry_push counts new tally number is_new (suc j) low high =
         elim (cases_lt j (length counts)) [
           | inl before ↦
               get_or_append_left counts (new ∷ []) 0 j before
-              ∙ (tally.entries (suc j) low (omega arith) ∙ sym (inserts_of_on h w o next n.site (suc j) (omega (arith, tally.size))))
+              ∙ (tally.entries (suc j) low (omega arith) ∙ sym (cells_of_site_on h w o next n.site (suc j) (omega (arith, tally.size))))
           | inr last ↦
               let at : j ≡ length counts = omega arith in
               let here : n.number ≡ suc j = omega arith in
               ap (λ k. get_or (counts ++ new ∷ []) k 0) at
-              ∙ (get_or-append_seam counts new [] 0 ∙ (is_new ∙ ap (inserts_of (h ++ o ∷ []) n.site) here))
+              ∙ (get_or-append_seam counts new [] 0 ∙ (is_new ∙ ap (cells_of_site (h ++ o ∷ []) n.site) here))
         ]
 
     here_push : (counts : List ℕ) → IsTally h n.site counts
-        → IsTally (h ++ o ∷ []) n.site (counts ++ (total counts + (if is_insert o then 1 else 0)) ∷ [])
+        → IsTally (h ++ o ∷ []) n.site (counts ++ (total counts + cells_put o) ∷ [])
     here_push counts tally =
-        let new : ℕ = total counts + (if is_insert o then 1 else 0) in
+        let new : ℕ = total counts + cells_put o in
         let number : n.number ≡ length counts + 1 = number_is ∙ ap (λ x. x + 1) (sym tally.size) in
         let longer : length (counts ++ new ∷ []) ≡ length counts + 1 = simp length-append (omega arith) in
         let unknown : is_known h (Original n) ≡ false = ap (is_known h) (sym is) ∙ next.new in
-        let is_new : new ≡ inserts_of (h ++ o ∷ []) n.site n.number =
-        ap (λ x. x + (if is_insert o then 1 else 0)) (total_is h w.formed n.site counts tally)
-        ∙ sym (inserts_of_new h o n (length counts) is unknown number) in
+        let is_new : new ≡ cells_of_site (h ++ o ∷ []) n.site n.number =
+        ap (λ x. x + cells_put o) (total_is h w.formed n.site counts tally)
+        ∙ sym (cells_of_site_new h o n (length counts) is unknown number) in
         record {
           size = longer ∙ size_put n.site (length counts + 1) refl number;
           entries = λ i low high. entry_push counts new tally number is_new i low (omega (arith, longer));
@@ -106,11 +106,11 @@ module _ (h : List OpData) (o : OpData) (w : IsComplete h) (next : IsNext h o) w
 
     -- the entries of the site's list with one less
     entry_pop : (counts : List ℕ) → IsTally (h ++ o ∷ []) n.site counts → (i : ℕ) → 1 ≤ i → i ≤ length counts - 1
-        → i ≤ count_of (context_of_all h) n.site → entry_at (take (length counts - 1) counts) i ≡ inserts_of h n.site i
+        → i ≤ count_of (context_of_all h) n.site → entry_at (take (length counts - 1) counts) i ≡ cells_of_site h n.site i
     entry_pop counts tally zero low high within = absurd (omega arith)
     entry_pop counts tally (suc j) low high within =
         get_or-take (length counts - 1) counts j 0 (omega arith)
-        ∙ (tally.entries (suc j) low (omega arith) ∙ inserts_of_on h w o next n.site (suc j) within)
+        ∙ (tally.entries (suc j) low (omega arith) ∙ cells_of_site_on h w o next n.site (suc j) within)
 
     here_pop : (counts : List ℕ) → IsTally (h ++ o ∷ []) n.site counts → IsTally h n.site (take (length counts - 1) counts)
     here_pop counts tally =
@@ -122,13 +122,13 @@ module _ (h : List OpData) (o : OpData) (w : IsComplete h) (next : IsNext h o) w
           entries = λ i low high. entry_pop counts tally i low (omega (arith, less)) (omega (arith, less));
         }
 
-    original_push : (s : ℕ) (counts : List ℕ) → IsTally h s counts → IsTally (h ++ o ∷ []) s (counted (Original n) (is_insert o) s counts)
+    original_push : (s : ℕ) (counts : List ℕ) → IsTally h s counts → IsTally (h ++ o ∷ []) s (counted (Original n) (cells_put o) s counts)
     original_push s counts tally =
         elim (cases_Bool (n.site == s)) [
           | inl same ↦
               let at : n.site ≡ s = eqb-true n.site s same in
               rw same (subst (λ t. IsTally h t counts
-              → IsTally (h ++ o ∷ []) t (counts ++ (total counts + (if is_insert o then 1 else 0)) ∷ [])) at (here_push counts) tally)
+              → IsTally (h ++ o ∷ []) t (counts ++ (total counts + cells_put o) ∷ [])) at (here_push counts) tally)
           | inr other ↦ rw other (same_push s counts (counts_put s ∙ rw other refl) tally)
         ]
 
@@ -148,7 +148,7 @@ module _ (h : List OpData) (o : OpData) (w : IsComplete h) (next : IsNext h o) w
   group_same t g s is = count_of_push s ∙ ap (λ (m : Member). count_of (raised (context_of_all h) m) s) is
 
   member_push : (m : Member) → member_of o ≡ m → (s : ℕ) (counts : List ℕ) → IsTally h s counts
-      → IsTally (h ++ o ∷ []) s (counted m (is_insert o) s counts)
+      → IsTally (h ++ o ∷ []) s (counted m (cells_put o) s counts)
   member_push (Original n) is s counts tally = original_push n is s counts tally
   member_push (Group t g) is s counts tally = same_push s counts (group_same t g s is) tally
 
@@ -158,7 +158,7 @@ module _ (h : List OpData) (o : OpData) (w : IsComplete h) (next : IsNext h o) w
   member_pop (Group t g) is s counts tally = same_pop s counts (group_same t g s is) tally
 
   -- the lists with a next operation counted
-  pub tallies_push : (counts now : ℕ → List ℕ) → AreTallies h counts → ((s : ℕ) → now s ≡ counted (member_of o) (is_insert o) s (counts s))
+  pub tallies_push : (counts now : ℕ → List ℕ) → AreTallies h counts → ((s : ℕ) → now s ≡ counted (member_of o) (cells_put o) s (counts s))
       → AreTallies (h ++ o ∷ []) now
   tallies_push counts now tallies more s =
       subst (λ (t : List ℕ). IsTally (h ++ o ∷ []) s t) (sym (more s)) (member_push (member_of o) refl s (counts s) (tallies s))

@@ -1,15 +1,16 @@
 -- Small sessions are valid: each operation may be integrated after those before it. And what breaks a rule is refused.
-use Rattle.std.proofs.Common.{◌≡◌, ℕ, zero, suc, true, false, List, [], ◌∷◌, refl, arith, lit<, lit≤, subst}
+use Rattle.std.proofs.Common.{◌≡◌, ℕ, zero, suc, true, false, List, [], ◌∷◌, ap, refl, arith, lit<, lit≤, subst, ◌∙◌}
+use Rattle.std.specs.Char.{IsScalar}
 use Rattle.std.proofs.lemmas.Bool.{false≢true}
-use Rattle.std.specs.Prelude.{Contains}
+use Rattle.std.specs.Prelude.{Contains, ◌&&◌}
 use Rattle.std.proofs.lemmas.Bool.Decides.{nat_tests}
 use Rattle.op_name.specs.declared.member.Member.{Member}
 use Rattle.op_name.specs.declared.member.Member.TheVariants.{Original, Group}
 use Rattle.op_name.specs.Members.{member_lt}
 use Rattle.context_vector.specs.Contexts.{ContextData, HasNoStray, Within, has}
-use Rattle.context_diff.specs.Operations.{OpData, inserting, deleting, undoing, context_of}
+use Rattle.context_diff.specs.Operations.{OpData, inserting, deleting, undoing, context_of, IsLetters}
 use Rattle.context_diff.specs.Histories.{IsValid, LacksNothing, LacksFirst, IsClosed, CoversSite, HasPlace, is_known}
-use Rattle.context_diff.proofs.WorkedCases.{name, after, after_undos, abc, tie, typed, word_typed_backwards_reversed, undone_and_redone, both_deletes_undone}
+use Rattle.context_diff.proofs.WorkedCases.{name, after, after_undos, abc, tie, typed, word_typed_backwards_reversed, undone_and_redone, both_deletes_undone, run_split}
 
 -- a context without undo entries names no group
 no_stray : (counts : List (ℕ × ℕ)) → HasNoStray (after counts)
@@ -40,11 +41,11 @@ within_at (x ∷ xs) c each o (suc k, below, is) = within_at xs c each.1 o (k, o
 closed_where : (h : List OpData) (c : ContextData) → EachWithin h c → IsClosed h c
 closed_where h c each s o n in_h named site number = within_at h c each o in_h
 
-typed_2_lacks_nothing : LacksNothing (inserting (name 0 1) 0 97 (after []) ∷ []) (after ((0, 1) ∷ []))
+typed_2_lacks_nothing : LacksNothing (inserting (name 0 1) 0 (97 ∷ []) (after []) ∷ []) (after ((0, 1) ∷ []))
 typed_2_lacks_nothing (Original n) e = grind (arith, nat_tests)
 typed_2_lacks_nothing (Group n g) e = grind (arith, nat_tests)
 
-typed_3_lacks_nothing : LacksNothing (inserting (name 0 1) 0 97 (after []) ∷ inserting (name 0 2) 1 233 (after ((0, 1) ∷ [])) ∷ [])
+typed_3_lacks_nothing : LacksNothing (inserting (name 0 1) 0 (97 ∷ []) (after []) ∷ inserting (name 0 2) 1 (233 ∷ []) (after ((0, 1) ∷ [])) ∷ [])
     (after ((0, 2) ∷ []))
 typed_3_lacks_nothing (Original n) e = grind (arith, nat_tests)
 typed_3_lacks_nothing (Group n g) e = grind (arith, nat_tests)
@@ -54,12 +55,12 @@ within_0_1_0_2 (Original n) e = grind (arith, nat_tests)
 within_0_1_0_2 (Group n g) e = grind (arith, nat_tests)
 
 word_typed_backwards_reversed_4_lacks_nothing : LacksNothing
-    (inserting (name 3 1) 0 110 (after []) ∷ inserting (name 1 1) 0 109 (after []) ∷ inserting (name 2 1) 0 120 (after []) ∷ [])
+    (inserting (name 3 1) 0 (110 ∷ []) (after []) ∷ inserting (name 1 1) 0 (109 ∷ []) (after []) ∷ inserting (name 2 1) 0 (120 ∷ []) (after []) ∷ [])
     (after ((2, 1) ∷ []))
 word_typed_backwards_reversed_4_lacks_nothing (Original n) e = grind (arith, nat_tests)
 word_typed_backwards_reversed_4_lacks_nothing (Group n g) e = grind (arith, nat_tests)
 
-abc_3_lacks_nothing : LacksNothing (inserting (name 0 1) 0 97 (after []) ∷ inserting (name 0 2) 1 98 (after ((0, 1) ∷ [])) ∷ [])
+abc_3_lacks_nothing : LacksNothing (inserting (name 0 1) 0 (97 ∷ []) (after []) ∷ inserting (name 0 2) 1 (98 ∷ []) (after ((0, 1) ∷ [])) ∷ [])
     (after ((0, 2) ∷ []))
 abc_3_lacks_nothing (Original n) e = grind (arith, nat_tests)
 abc_3_lacks_nothing (Group n g) e = grind (arith, nat_tests)
@@ -111,7 +112,7 @@ first_of_two (Original n) e f = grind (arith, nat_tests)
 first_of_two (Group n g) e f = refl
 
 first_is_the_group : (x : Member) → has (after_undos ((0, 1) ∷ []) ((name 0 1, 1) ∷ [])) x ≡ true
-    → is_known (inserting (name 0 1) 0 97 (after []) ∷ []) x ≡ false → member_lt x (Group (name 0 1) 1) ≡ false
+    → is_known (inserting (name 0 1) 0 (97 ∷ []) (after []) ∷ []) x ≡ false → member_lt x (Group (name 0 1) 1) ≡ false
 first_is_the_group (Original n) e f = grind (arith, nat_tests)
 first_is_the_group (Group n g) e f = grind (arith, nat_tests)
 
@@ -119,13 +120,17 @@ within_both : Within (after ((0, 1) ∷ [])) (after ((0, 1) ∷ (1, 1) ∷ []))
 within_both (Original n) e = grind (arith, nat_tests)
 within_both (Group n g) e = grind (arith, nat_tests)
 
+-- one character is a text of an insert
+one_letter : (ch : ℕ) → IsScalar ch → IsLetters (ch ∷ [])
+one_letter ch scalar = record { some = lit≤ tt; most = lit≤ tt; scalars = ap (λ b. b && true) scalar }
+
 -- three characters typed by one site
 pub typed_is_valid : IsValid typed
 unfolding EachWithin
 typed_is_valid = (
   record {
     formed = record {
-      in_range = ((lit< tt, lit≤ tt, lit≤ tt), lit≤ tt, refl, record { counts = tt; entries = tt }, lit≤ tt);
+      in_range = ((lit< tt, lit≤ tt, lit≤ tt), lit≤ tt, one_letter _ refl, record { counts = tt; entries = tt }, lit≤ tt);
       own =
           refl;
       target = tt;
@@ -142,7 +147,7 @@ typed_is_valid = (
         in_range = (
           (lit< tt, lit≤ tt, lit≤ tt),
           lit≤ tt,
-          refl,
+          one_letter _ refl,
           record { counts = (lit≤ tt, lit< tt, lit≤ tt, lit≤ tt, tt); entries = tt },
           lit≤ tt,
         );
@@ -153,7 +158,7 @@ typed_is_valid = (
       };
       new = refl;
       ready = typed_2_lacks_nothing;
-      closed = λ e. closed_where (inserting (name 0 1) 0 97 (after []) ∷ []) (after ((0, 1) ∷ []))
+      closed = λ e. closed_where (inserting (name 0 1) 0 (97 ∷ []) (after []) ∷ []) (after ((0, 1) ∷ []))
           (nothing_within (after ((0, 1) ∷ [])), tt);
       placed = lit≤ tt;
     },
@@ -163,7 +168,7 @@ typed_is_valid = (
           in_range = (
             (lit< tt, lit≤ tt, lit≤ tt),
             lit≤ tt,
-            refl,
+            one_letter _ refl,
             record { counts = (lit≤ tt, lit< tt, lit≤ tt, lit≤ tt, tt); entries = tt },
             lit≤ tt,
           );
@@ -174,7 +179,7 @@ typed_is_valid = (
         };
         new = refl;
         ready = typed_3_lacks_nothing;
-        closed = λ e. closed_where (inserting (name 0 1) 0 97 (after []) ∷ inserting (name 0 2) 1 233 (after ((0, 1) ∷ [])) ∷ [])
+        closed = λ e. closed_where (inserting (name 0 1) 0 (97 ∷ []) (after []) ∷ inserting (name 0 2) 1 (233 ∷ []) (after ((0, 1) ∷ [])) ∷ [])
             (after ((0, 2) ∷ [])) (nothing_within (after ((0, 2) ∷ [])), (within_0_1_0_2, tt));
         placed = lit≤ tt;
       },
@@ -189,7 +194,7 @@ unfolding EachWithin
 tie_is_valid = (
   record {
     formed = record {
-      in_range = ((lit< tt, lit≤ tt, lit≤ tt), lit≤ tt, refl, record { counts = tt; entries = tt }, lit≤ tt);
+      in_range = ((lit< tt, lit≤ tt, lit≤ tt), lit≤ tt, one_letter _ refl, record { counts = tt; entries = tt }, lit≤ tt);
       own =
           refl;
       target = tt;
@@ -203,15 +208,15 @@ tie_is_valid = (
   (
     record {
       formed = record {
-        in_range = ((lit< tt, lit≤ tt, lit≤ tt), lit≤ tt, refl, record { counts = tt; entries = tt }, lit≤ tt);
+        in_range = ((lit< tt, lit≤ tt, lit≤ tt), lit≤ tt, one_letter _ refl, record { counts = tt; entries = tt }, lit≤ tt);
         own =
             refl;
         target = tt;
         stray = no_stray [];
       };
       new = refl;
-      ready = nothing_lacks (inserting (name 1 1) 0 112 (after []) ∷ []);
-      closed = λ e. closed_where (inserting (name 1 1) 0 112 (after []) ∷ []) (after []) (nothing_within (after []), tt);
+      ready = nothing_lacks (inserting (name 1 1) 0 (112 ∷ []) (after []) ∷ []);
+      closed = λ e. closed_where (inserting (name 1 1) 0 (112 ∷ []) (after []) ∷ []) (after []) (nothing_within (after []), tt);
       placed = lit≤ tt;
     },
     tt,
@@ -224,7 +229,7 @@ unfolding EachWithin
 word_typed_backwards_reversed_is_valid = (
   record {
     formed = record {
-      in_range = ((lit< tt, lit≤ tt, lit≤ tt), lit≤ tt, refl, record { counts = tt; entries = tt }, lit≤ tt);
+      in_range = ((lit< tt, lit≤ tt, lit≤ tt), lit≤ tt, one_letter _ refl, record { counts = tt; entries = tt }, lit≤ tt);
       own =
           refl;
       target = tt;
@@ -238,29 +243,29 @@ word_typed_backwards_reversed_is_valid = (
   (
     record {
       formed = record {
-        in_range = ((lit< tt, lit≤ tt, lit≤ tt), lit≤ tt, refl, record { counts = tt; entries = tt }, lit≤ tt);
+        in_range = ((lit< tt, lit≤ tt, lit≤ tt), lit≤ tt, one_letter _ refl, record { counts = tt; entries = tt }, lit≤ tt);
         own =
             refl;
         target = tt;
         stray = no_stray [];
       };
       new = refl;
-      ready = nothing_lacks (inserting (name 3 1) 0 110 (after []) ∷ []);
-      closed = λ e. closed_where (inserting (name 3 1) 0 110 (after []) ∷ []) (after []) (nothing_within (after []), tt);
+      ready = nothing_lacks (inserting (name 3 1) 0 (110 ∷ []) (after []) ∷ []);
+      closed = λ e. closed_where (inserting (name 3 1) 0 (110 ∷ []) (after []) ∷ []) (after []) (nothing_within (after []), tt);
       placed = lit≤ tt;
     },
     (
       record {
         formed = record {
-          in_range = ((lit< tt, lit≤ tt, lit≤ tt), lit≤ tt, refl, record { counts = tt; entries = tt }, lit≤ tt);
+          in_range = ((lit< tt, lit≤ tt, lit≤ tt), lit≤ tt, one_letter _ refl, record { counts = tt; entries = tt }, lit≤ tt);
           own =
               refl;
           target = tt;
           stray = no_stray [];
         };
         new = refl;
-        ready = nothing_lacks (inserting (name 3 1) 0 110 (after []) ∷ inserting (name 1 1) 0 109 (after []) ∷ []);
-        closed = λ e. closed_where (inserting (name 3 1) 0 110 (after []) ∷ inserting (name 1 1) 0 109 (after []) ∷ []) (after [])
+        ready = nothing_lacks (inserting (name 3 1) 0 (110 ∷ []) (after []) ∷ inserting (name 1 1) 0 (109 ∷ []) (after []) ∷ []);
+        closed = λ e. closed_where (inserting (name 3 1) 0 (110 ∷ []) (after []) ∷ inserting (name 1 1) 0 (109 ∷ []) (after []) ∷ []) (after [])
             (nothing_within (after []), (nothing_within (after []), tt));
         placed = lit≤ tt;
       },
@@ -270,7 +275,7 @@ word_typed_backwards_reversed_is_valid = (
             in_range = (
               (lit< tt, lit≤ tt, lit≤ tt),
               lit≤ tt,
-              refl,
+              one_letter _ refl,
               record { counts = (lit≤ tt, lit< tt, lit≤ tt, lit≤ tt, tt); entries = tt },
               lit≤ tt,
             );
@@ -281,8 +286,8 @@ word_typed_backwards_reversed_is_valid = (
           };
           new = refl;
           ready = word_typed_backwards_reversed_4_lacks_nothing;
-          closed = λ e. closed_where (inserting (name 3 1) 0 110 (after []) ∷ inserting (name 1 1) 0 109 (after []) ∷ inserting (name 2 1) 0
-              120 (after []) ∷ []) (after ((2, 1) ∷ []))
+          closed = λ e. closed_where (inserting (name 3 1) 0 (110 ∷ []) (after []) ∷ inserting (name 1 1) 0 (109 ∷ []) (after []) ∷ inserting (name 2 1) 0
+              (120 ∷ []) (after []) ∷ []) (after ((2, 1) ∷ []))
               (nothing_within (after ((2, 1) ∷ [])), (nothing_within (after ((2, 1) ∷ [])), (nothing_within (after ((2, 1) ∷ [])), tt)));
           placed = lit≤ tt;
         },
@@ -298,7 +303,7 @@ unfolding EachWithin
 undone_and_redone_is_valid = (
   record {
     formed = record {
-      in_range = ((lit< tt, lit≤ tt, lit≤ tt), lit≤ tt, refl, record { counts = tt; entries = tt }, lit≤ tt);
+      in_range = ((lit< tt, lit≤ tt, lit≤ tt), lit≤ tt, one_letter _ refl, record { counts = tt; entries = tt }, lit≤ tt);
       own =
           refl;
       target = tt;
@@ -315,7 +320,7 @@ undone_and_redone_is_valid = (
         in_range = (
           (lit< tt, lit≤ tt, lit≤ tt),
           lit≤ tt,
-          refl,
+          one_letter _ refl,
           record { counts = (lit≤ tt, lit< tt, lit≤ tt, lit≤ tt, tt); entries = tt },
           lit≤ tt,
         );
@@ -326,7 +331,7 @@ undone_and_redone_is_valid = (
       };
       new = refl;
       ready = typed_2_lacks_nothing;
-      closed = λ e. closed_where (inserting (name 0 1) 0 97 (after []) ∷ []) (after ((0, 1) ∷ []))
+      closed = λ e. closed_where (inserting (name 0 1) 0 (97 ∷ []) (after []) ∷ []) (after ((0, 1) ∷ []))
           (nothing_within (after ((0, 1) ∷ [])), tt);
       placed = lit≤ tt;
     },
@@ -336,7 +341,7 @@ undone_and_redone_is_valid = (
           in_range = (
             (lit< tt, lit≤ tt, lit≤ tt),
             lit≤ tt,
-            refl,
+            one_letter _ refl,
             record { counts = (lit≤ tt, lit< tt, lit≤ tt, lit≤ tt, tt); entries = tt },
             lit≤ tt,
           );
@@ -347,7 +352,7 @@ undone_and_redone_is_valid = (
         };
         new = refl;
         ready = abc_3_lacks_nothing;
-        closed = λ e. closed_where (inserting (name 0 1) 0 97 (after []) ∷ inserting (name 0 2) 1 98 (after ((0, 1) ∷ [])) ∷ [])
+        closed = λ e. closed_where (inserting (name 0 1) 0 (97 ∷ []) (after []) ∷ inserting (name 0 2) 1 (98 ∷ []) (after ((0, 1) ∷ [])) ∷ [])
             (after ((0, 2) ∷ [])) (nothing_within (after ((0, 2) ∷ [])), (within_0_1_0_2, tt));
         placed = lit≤ tt;
       },
@@ -410,7 +415,7 @@ unfolding EachWithin
 both_deletes_undone_is_valid = (
   record {
     formed = record {
-      in_range = ((lit< tt, lit≤ tt, lit≤ tt), lit≤ tt, refl, record { counts = tt; entries = tt }, lit≤ tt);
+      in_range = ((lit< tt, lit≤ tt, lit≤ tt), lit≤ tt, one_letter _ refl, record { counts = tt; entries = tt }, lit≤ tt);
       own =
           refl;
       target = tt;
@@ -427,7 +432,7 @@ both_deletes_undone_is_valid = (
         in_range = (
           (lit< tt, lit≤ tt, lit≤ tt),
           lit≤ tt,
-          refl,
+          one_letter _ refl,
           record { counts = (lit≤ tt, lit< tt, lit≤ tt, lit≤ tt, tt); entries = tt },
           lit≤ tt,
         );
@@ -438,7 +443,7 @@ both_deletes_undone_is_valid = (
       };
       new = refl;
       ready = typed_2_lacks_nothing;
-      closed = λ e. closed_where (inserting (name 0 1) 0 97 (after []) ∷ []) (after ((0, 1) ∷ []))
+      closed = λ e. closed_where (inserting (name 0 1) 0 (97 ∷ []) (after []) ∷ []) (after ((0, 1) ∷ []))
           (nothing_within (after ((0, 1) ∷ [])), tt);
       placed = lit≤ tt;
     },
@@ -448,7 +453,7 @@ both_deletes_undone_is_valid = (
           in_range = (
             (lit< tt, lit≤ tt, lit≤ tt),
             lit≤ tt,
-            refl,
+            one_letter _ refl,
             record { counts = (lit≤ tt, lit< tt, lit≤ tt, lit≤ tt, tt); entries = tt },
             lit≤ tt,
           );
@@ -459,7 +464,7 @@ both_deletes_undone_is_valid = (
         };
         new = refl;
         ready = abc_3_lacks_nothing;
-        closed = λ e. closed_where (inserting (name 0 1) 0 97 (after []) ∷ inserting (name 0 2) 1 98 (after ((0, 1) ∷ [])) ∷ [])
+        closed = λ e. closed_where (inserting (name 0 1) 0 (97 ∷ []) (after []) ∷ inserting (name 0 2) 1 (98 ∷ []) (after ((0, 1) ∷ [])) ∷ [])
             (after ((0, 2) ∷ [])) (nothing_within (after ((0, 2) ∷ [])), (within_0_1_0_2, tt));
         placed = lit≤ tt;
       },
@@ -562,18 +567,18 @@ pub first_original_is_lacked_first : LacksFirst [] (after ((0, 2) ∷ [])) (Orig
 first_original_is_lacked_first = record { named = refl; missing = refl; first = first_of_two }
 
 -- an undo group is lacked where its original is there
-pub group_is_lacked_after_its_original : LacksFirst (inserting (name 0 1) 0 97 (after []) ∷ [])
+pub group_is_lacked_after_its_original : LacksFirst (inserting (name 0 1) 0 (97 ∷ []) (after []) ∷ [])
     (after_undos ((0, 1) ∷ []) ((name 0 1, 1) ∷ [])) (Group (name 0 1) 1)
 group_is_lacked_after_its_original = record { named = refl; missing = refl; first = first_is_the_group }
 
 -- site 0 writes a character, and site 1 one behind it
 abbrev pub in_turn : List OpData
-in_turn = inserting (name 0 1) 0 97 (after []) ∷ inserting (name 1 1) 1 98 (after ((0, 1) ∷ [])) ∷ []
+in_turn = inserting (name 0 1) 0 (97 ∷ []) (after []) ∷ inserting (name 1 1) 1 (98 ∷ []) (after ((0, 1) ∷ [])) ∷ []
 
 -- a context that names an original but not what it was made after isn't closed, at the site of that original
 pub context_without_a_cause_is_not_closed : CoversSite in_turn (after ((1, 1) ∷ [])) 1 → ⊥
 context_without_a_cause_is_not_closed covers =
-    absurd (false≢true (covers (inserting (name 1 1) 1 98 (after ((0, 1) ∷ []))) (name 1 1) (1, lit< tt, refl) refl refl refl
+    absurd (false≢true (covers (inserting (name 1 1) 1 (98 ∷ []) (after ((0, 1) ∷ []))) (name 1 1) (1, lit< tt, refl) refl refl refl
     (Original (name 0 1)) refl))
 
 -- with the cause it is closed
@@ -583,10 +588,18 @@ context_with_its_cause_is_closed =
     closed_where in_turn (after ((0, 1) ∷ (1, 1) ∷ [])) (nothing_within (after ((0, 1) ∷ (1, 1) ∷ [])), (within_both, tt))
 
 -- behind no cell there is place 0 alone
-pub place_1_of_no_cells_is_out : HasPlace [] (inserting (name 0 1) 1 97 (after [])) → ⊥
+pub place_1_of_no_cells_is_out : HasPlace [] (inserting (name 0 1) 1 (97 ∷ []) (after [])) → ⊥
 place_1_of_no_cells_is_out in_place = absurd (omega arith)
 
 -- a delete needs a cell at its place
-pub delete_behind_the_last_cell_is_out : HasPlace (inserting (name 0 1) 0 97 (after []) ∷ []) (deleting (name 0 2) 1 (after ((0, 1) ∷ [])))
+pub delete_behind_the_last_cell_is_out : HasPlace (inserting (name 0 1) 0 (97 ∷ []) (after []) ∷ []) (deleting (name 0 2) 1 (after ((0, 1) ∷ [])))
     → ⊥
 delete_behind_the_last_cell_is_out in_place = absurd (omega arith)
+
+-- a delete behind the last cell of a run has no place
+pub delete_behind_a_run_is_out : HasPlace (run_split []) (deleting (name 1 2) 3 (after ((0, 1) ∷ []))) → ⊥
+delete_behind_a_run_is_out in_place = absurd (omega arith)
+
+-- one of its last cell has
+pub delete_of_the_last_cell_of_a_run_is_in : HasPlace (run_split []) (deleting (name 1 2) 2 (after ((0, 1) ∷ [])))
+delete_of_the_last_cell_of_a_run_is_in = lit< tt

@@ -1,11 +1,11 @@
 -- Small sessions written out as histories, and what the definitions say of them. Characters are given by their codes.
 use Rattle.std.proofs.Common.{◌≡◌, ℕ, true, false, List, [], ◌∷◌, refl}
-use Rattle.op_name.specs.NameData.{NameData}
+use Rattle.op_name.specs.NameData.{NameData, name_eq}
 use Rattle.context_vector.specs.Contexts.{ContextData}
 use Rattle.context_diff.specs.Operations.{OpData, inserting, deleting, undoing}
-use Rattle.context_diff.specs.Histories.{generation_in, in_force, context_of_all}
+use Rattle.context_diff.specs.Histories.{all_cells, cells_in, generation_in, in_force, context_of_all}
 use Rattle.context_diff.specs.Gaps.{until, onward, through, beyond, gap}
-use Rattle.context_diff.specs.Replays.{Cell, put_by, sort_by, narrowed, replay, stands_at, replay_of, hits, characters_of, text_of}
+use Rattle.context_diff.specs.Replays.{Cell, Insertion, put, put_by, sort_by, narrowed, replay, stands_at, replay_of, hits, character_in, characters_of, text_of}
 
 abbrev pub name : ℕ → ℕ → NameData
 name site number = record { site = site; number = number }
@@ -25,9 +25,9 @@ after_undos counts entries = record { counts = counts; entries = entries }
 -- site 0 writes `abc` one character after the other, and then other operations come
 abbrev pub abc : List OpData → List OpData
 abc later =
-    inserting (name 0 1) 0 97 (after [])
-    ∷ inserting (name 0 2) 1 98 (after ((0, 1) ∷ []))
-    ∷ inserting (name 0 3) 2 99 (after ((0, 2) ∷ []))
+    inserting (name 0 1) 0 (97 ∷ []) (after [])
+    ∷ inserting (name 0 2) 1 (98 ∷ []) (after ((0, 1) ∷ []))
+    ∷ inserting (name 0 3) 2 (99 ∷ []) (after ((0, 2) ∷ []))
     ∷ later
 
 -- no operation shows no character
@@ -43,9 +43,9 @@ empty_history_has_an_empty_text = refl
 -- one site writes `a`, `é` and `😀`
 abbrev pub typed : List OpData
 typed =
-    inserting (name 0 1) 0 97 (after [])
-    ∷ inserting (name 0 2) 1 233 (after ((0, 1) ∷ []))
-    ∷ inserting (name 0 3) 2 128512 (after ((0, 2) ∷ []))
+    inserting (name 0 1) 0 (97 ∷ []) (after [])
+    ∷ inserting (name 0 2) 1 (233 ∷ []) (after ((0, 1) ∷ []))
+    ∷ inserting (name 0 3) 2 (128512 ∷ []) (after ((0, 2) ∷ []))
     ∷ []
 
 -- characters typed one after the other stand in the order of typing
@@ -63,26 +63,26 @@ abbrev pub edits_at_first_site : List OpData
 edits_at_first_site =
     abc (
     deleting (name 0 4) 1 (after ((0, 3) ∷ []))
-    ∷ inserting (name 1 1) 2 120 (after ((0, 3) ∷ []))
-    ∷ inserting (name 2 1) 1 121 (after ((0, 3) ∷ []))
+    ∷ inserting (name 1 1) 2 (120 ∷ []) (after ((0, 3) ∷ []))
+    ∷ inserting (name 2 1) 1 (121 ∷ []) (after ((0, 3) ∷ []))
     ∷ [])
 
 -- the same as the second site integrates them
 abbrev pub edits_at_second_site : List OpData
 edits_at_second_site =
     abc (
-    inserting (name 1 1) 2 120 (after ((0, 3) ∷ []))
+    inserting (name 1 1) 2 (120 ∷ []) (after ((0, 3) ∷ []))
     ∷ deleting (name 0 4) 1 (after ((0, 3) ∷ []))
-    ∷ inserting (name 2 1) 1 121 (after ((0, 3) ∷ []))
+    ∷ inserting (name 2 1) 1 (121 ∷ []) (after ((0, 3) ∷ []))
     ∷ [])
 
 -- the same as the third site integrates them
 abbrev pub edits_at_third_site : List OpData
 edits_at_third_site =
     abc (
-    inserting (name 2 1) 1 121 (after ((0, 3) ∷ []))
+    inserting (name 2 1) 1 (121 ∷ []) (after ((0, 3) ∷ []))
     ∷ deleting (name 0 4) 1 (after ((0, 3) ∷ []))
-    ∷ inserting (name 1 1) 2 120 (after ((0, 3) ∷ []))
+    ∷ inserting (name 1 1) 2 (120 ∷ []) (after ((0, 3) ∷ []))
     ∷ [])
 
 -- all three edits take effect
@@ -119,15 +119,15 @@ delete_misses_the_cell_that_came_to_its_place = refl
 -- two sites insert at the same place, neither knowing of the other
 abbrev pub tie : List OpData
 tie =
-    inserting (name 1 1) 0 112 (after [])
-    ∷ inserting (name 2 1) 0 113 (after [])
+    inserting (name 1 1) 0 (112 ∷ []) (after [])
+    ∷ inserting (name 2 1) 0 (113 ∷ []) (after [])
     ∷ []
 
 -- the same integrated in the other order
 abbrev pub tie_reversed : List OpData
 tie_reversed =
-    inserting (name 2 1) 0 113 (after [])
-    ∷ inserting (name 1 1) 0 112 (after [])
+    inserting (name 2 1) 0 (113 ∷ []) (after [])
+    ∷ inserting (name 1 1) 0 (112 ∷ []) (after [])
     ∷ []
 
 -- of two inserts at one place that of the smaller site stands in front
@@ -143,10 +143,10 @@ smaller_site_stands_in_front_whatever_came_first = refl
 -- site 2 writes `xy`, and sites 1 and 3 write one character each in front, none knowing of another
 abbrev pub word_between : List OpData
 word_between =
-    inserting (name 1 1) 0 109 (after [])
-    ∷ inserting (name 2 1) 0 120 (after [])
-    ∷ inserting (name 2 2) 1 121 (after ((2, 1) ∷ []))
-    ∷ inserting (name 3 1) 0 110 (after [])
+    inserting (name 1 1) 0 (109 ∷ []) (after [])
+    ∷ inserting (name 2 1) 0 (120 ∷ []) (after [])
+    ∷ inserting (name 2 2) 1 (121 ∷ []) (after ((2, 1) ∷ []))
+    ∷ inserting (name 3 1) 0 (110 ∷ []) (after [])
     ∷ []
 
 -- a word of one site isn't split by other inserts at its front
@@ -157,19 +157,19 @@ greater_site_goes_behind_the_whole_word = refl
 -- site 2 writes `x` and then `y` in front of it, and sites 1 and 3 write one character each, none knowing of another
 abbrev pub word_typed_backwards : List OpData
 word_typed_backwards =
-    inserting (name 2 1) 0 120 (after [])
-    ∷ inserting (name 2 2) 0 121 (after ((2, 1) ∷ []))
-    ∷ inserting (name 1 1) 0 109 (after [])
-    ∷ inserting (name 3 1) 0 110 (after [])
+    inserting (name 2 1) 0 (120 ∷ []) (after [])
+    ∷ inserting (name 2 2) 0 (121 ∷ []) (after ((2, 1) ∷ []))
+    ∷ inserting (name 1 1) 0 (109 ∷ []) (after [])
+    ∷ inserting (name 3 1) 0 (110 ∷ []) (after [])
     ∷ []
 
 -- the same in another order of integration
 abbrev pub word_typed_backwards_reversed : List OpData
 word_typed_backwards_reversed =
-    inserting (name 3 1) 0 110 (after [])
-    ∷ inserting (name 1 1) 0 109 (after [])
-    ∷ inserting (name 2 1) 0 120 (after [])
-    ∷ inserting (name 2 2) 0 121 (after ((2, 1) ∷ []))
+    inserting (name 3 1) 0 (110 ∷ []) (after [])
+    ∷ inserting (name 1 1) 0 (109 ∷ []) (after [])
+    ∷ inserting (name 2 1) 0 (120 ∷ []) (after [])
+    ∷ inserting (name 2 2) 0 (121 ∷ []) (after ((2, 1) ∷ []))
     ∷ []
 
 -- a word typed backwards stays together between the smaller and the greater site
@@ -372,14 +372,14 @@ delete_undone_after_its_insert_is_not_in_force = refl
 -- the second insert of a tie alone
 abbrev pub part_of_a_tie : List OpData
 part_of_a_tie =
-    inserting (name 1 1) 0 98 (after [])
+    inserting (name 1 1) 0 (98 ∷ []) (after [])
     ∷ []
 
 -- a tie of sites 0 and 1
 abbrev pub tie_of_0_and_1 : List OpData
 tie_of_0_and_1 =
-    inserting (name 0 1) 0 97 (after [])
-    ∷ inserting (name 1 1) 0 98 (after [])
+    inserting (name 0 1) 0 (97 ∷ []) (after [])
+    ∷ inserting (name 1 1) 0 (98 ∷ []) (after [])
     ∷ []
 
 -- in the tie the insert of the greater site stands at place 1
@@ -395,10 +395,10 @@ part_of_a_tie_is_replayed_by_itself = refl
 -- site 2 inserts behind the cell of site 0, and knows neither that of site 3 nor that of site 1 behind it
 abbrev pub crossing : List OpData
 crossing =
-    inserting (name 0 1) 0 97 (after [])
-    ∷ inserting (name 3 1) 0 98 (after [])
-    ∷ inserting (name 1 1) 1 99 (after ((3, 1) ∷ []))
-    ∷ inserting (name 2 1) 1 100 (after ((0, 1) ∷ []))
+    inserting (name 0 1) 0 (97 ∷ []) (after [])
+    ∷ inserting (name 3 1) 0 (98 ∷ []) (after [])
+    ∷ inserting (name 1 1) 1 (99 ∷ []) (after ((3, 1) ∷ []))
+    ∷ inserting (name 2 1) 1 (100 ∷ []) (after ((0, 1) ∷ []))
     ∷ []
 
 -- site 3's cell narrows the gap first, so site 1's cell behind it plays no part: place 1 and not 3
@@ -409,11 +409,11 @@ earlier_insert_of_a_greater_site_shuts_out_what_is_behind_it = refl
 -- site 2 inserts behind both cells of site 0, and knows neither site 1's cell nor site 3's cell in front of that
 abbrev pub crossing_to_the_left : List OpData
 crossing_to_the_left =
-    inserting (name 0 1) 0 97 (after [])
-    ∷ inserting (name 1 1) 0 98 (after [])
-    ∷ inserting (name 0 2) 0 99 (after ((0, 1) ∷ []))
-    ∷ inserting (name 3 1) 0 100 (after ((1, 1) ∷ []))
-    ∷ inserting (name 2 1) 2 101 (after ((0, 2) ∷ []))
+    inserting (name 0 1) 0 (97 ∷ []) (after [])
+    ∷ inserting (name 1 1) 0 (98 ∷ []) (after [])
+    ∷ inserting (name 0 2) 0 (99 ∷ []) (after ((0, 1) ∷ []))
+    ∷ inserting (name 3 1) 0 (100 ∷ []) (after ((1, 1) ∷ []))
+    ∷ inserting (name 2 1) 2 (101 ∷ []) (after ((0, 2) ∷ []))
     ∷ []
 
 -- site 1's cell narrows the gap first, so site 3's cell in front of it plays no part: place 4 and not 2
@@ -425,12 +425,12 @@ earlier_insert_of_a_smaller_site_shuts_out_what_is_in_front_of_it = refl
 -- over `abc` three sites insert at once at the front, at the end and before `c`
 abbrev pub three_inserts_over_abc : List OpData
 three_inserts_over_abc =
-    inserting (name 0 1) 0 97 (after [])
-    ∷ inserting (name 0 2) 1 98 (after ((0, 1) ∷ []))
-    ∷ inserting (name 0 3) 2 99 (after ((0, 2) ∷ []))
-    ∷ inserting (name 1 1) 0 112 (after ((0, 3) ∷ []))
-    ∷ inserting (name 2 1) 3 113 (after ((0, 3) ∷ []))
-    ∷ inserting (name 3 1) 2 114 (after ((0, 3) ∷ []))
+    inserting (name 0 1) 0 (97 ∷ []) (after [])
+    ∷ inserting (name 0 2) 1 (98 ∷ []) (after ((0, 1) ∷ []))
+    ∷ inserting (name 0 3) 2 (99 ∷ []) (after ((0, 2) ∷ []))
+    ∷ inserting (name 1 1) 0 (112 ∷ []) (after ((0, 3) ∷ []))
+    ∷ inserting (name 2 1) 3 (113 ∷ []) (after ((0, 3) ∷ []))
+    ∷ inserting (name 3 1) 2 (114 ∷ []) (after ((0, 3) ∷ []))
     ∷ []
 
 -- each insert stands where it was made
@@ -441,33 +441,33 @@ three_concurrent_inserts_stand_where_they_were_made = refl
 -- over `Agenda: budget` site 1 writes `, staff` at the end while site 0 writes `draft ` in the middle
 abbrev pub two_write_notes : List OpData
 two_write_notes =
-    inserting (name 0 1) 0 65 (after [])
-    ∷ inserting (name 0 2) 1 103 (after ((0, 1) ∷ []))
-    ∷ inserting (name 0 3) 2 101 (after ((0, 2) ∷ []))
-    ∷ inserting (name 0 4) 3 110 (after ((0, 3) ∷ []))
-    ∷ inserting (name 0 5) 4 100 (after ((0, 4) ∷ []))
-    ∷ inserting (name 0 6) 5 97 (after ((0, 5) ∷ []))
-    ∷ inserting (name 0 7) 6 58 (after ((0, 6) ∷ []))
-    ∷ inserting (name 0 8) 7 32 (after ((0, 7) ∷ []))
-    ∷ inserting (name 0 9) 8 98 (after ((0, 8) ∷ []))
-    ∷ inserting (name 0 10) 9 117 (after ((0, 9) ∷ []))
-    ∷ inserting (name 0 11) 10 100 (after ((0, 10) ∷ []))
-    ∷ inserting (name 0 12) 11 103 (after ((0, 11) ∷ []))
-    ∷ inserting (name 0 13) 12 101 (after ((0, 12) ∷ []))
-    ∷ inserting (name 0 14) 13 116 (after ((0, 13) ∷ []))
-    ∷ inserting (name 1 1) 14 44 (after ((0, 14) ∷ []))
-    ∷ inserting (name 1 2) 15 32 (after ((0, 14) ∷ (1, 1) ∷ []))
-    ∷ inserting (name 1 3) 16 115 (after ((0, 14) ∷ (1, 2) ∷ []))
-    ∷ inserting (name 1 4) 17 116 (after ((0, 14) ∷ (1, 3) ∷ []))
-    ∷ inserting (name 1 5) 18 97 (after ((0, 14) ∷ (1, 4) ∷ []))
-    ∷ inserting (name 1 6) 19 102 (after ((0, 14) ∷ (1, 5) ∷ []))
-    ∷ inserting (name 1 7) 20 102 (after ((0, 14) ∷ (1, 6) ∷ []))
-    ∷ inserting (name 0 15) 8 100 (after ((0, 14) ∷ []))
-    ∷ inserting (name 0 16) 9 114 (after ((0, 15) ∷ []))
-    ∷ inserting (name 0 17) 10 97 (after ((0, 16) ∷ []))
-    ∷ inserting (name 0 18) 11 102 (after ((0, 17) ∷ []))
-    ∷ inserting (name 0 19) 12 116 (after ((0, 18) ∷ []))
-    ∷ inserting (name 0 20) 13 32 (after ((0, 19) ∷ []))
+    inserting (name 0 1) 0 (65 ∷ []) (after [])
+    ∷ inserting (name 0 2) 1 (103 ∷ []) (after ((0, 1) ∷ []))
+    ∷ inserting (name 0 3) 2 (101 ∷ []) (after ((0, 2) ∷ []))
+    ∷ inserting (name 0 4) 3 (110 ∷ []) (after ((0, 3) ∷ []))
+    ∷ inserting (name 0 5) 4 (100 ∷ []) (after ((0, 4) ∷ []))
+    ∷ inserting (name 0 6) 5 (97 ∷ []) (after ((0, 5) ∷ []))
+    ∷ inserting (name 0 7) 6 (58 ∷ []) (after ((0, 6) ∷ []))
+    ∷ inserting (name 0 8) 7 (32 ∷ []) (after ((0, 7) ∷ []))
+    ∷ inserting (name 0 9) 8 (98 ∷ []) (after ((0, 8) ∷ []))
+    ∷ inserting (name 0 10) 9 (117 ∷ []) (after ((0, 9) ∷ []))
+    ∷ inserting (name 0 11) 10 (100 ∷ []) (after ((0, 10) ∷ []))
+    ∷ inserting (name 0 12) 11 (103 ∷ []) (after ((0, 11) ∷ []))
+    ∷ inserting (name 0 13) 12 (101 ∷ []) (after ((0, 12) ∷ []))
+    ∷ inserting (name 0 14) 13 (116 ∷ []) (after ((0, 13) ∷ []))
+    ∷ inserting (name 1 1) 14 (44 ∷ []) (after ((0, 14) ∷ []))
+    ∷ inserting (name 1 2) 15 (32 ∷ []) (after ((0, 14) ∷ (1, 1) ∷ []))
+    ∷ inserting (name 1 3) 16 (115 ∷ []) (after ((0, 14) ∷ (1, 2) ∷ []))
+    ∷ inserting (name 1 4) 17 (116 ∷ []) (after ((0, 14) ∷ (1, 3) ∷ []))
+    ∷ inserting (name 1 5) 18 (97 ∷ []) (after ((0, 14) ∷ (1, 4) ∷ []))
+    ∷ inserting (name 1 6) 19 (102 ∷ []) (after ((0, 14) ∷ (1, 5) ∷ []))
+    ∷ inserting (name 1 7) 20 (102 ∷ []) (after ((0, 14) ∷ (1, 6) ∷ []))
+    ∷ inserting (name 0 15) 8 (100 ∷ []) (after ((0, 14) ∷ []))
+    ∷ inserting (name 0 16) 9 (114 ∷ []) (after ((0, 15) ∷ []))
+    ∷ inserting (name 0 17) 10 (97 ∷ []) (after ((0, 16) ∷ []))
+    ∷ inserting (name 0 18) 11 (102 ∷ []) (after ((0, 17) ∷ []))
+    ∷ inserting (name 0 19) 12 (116 ∷ []) (after ((0, 18) ∷ []))
+    ∷ inserting (name 0 20) 13 (32 ∷ []) (after ((0, 19) ∷ []))
     ∷ []
 
 -- both words stand whole where they were written
@@ -476,3 +476,104 @@ pub notes_of_two_stand_where_they_were_written : characters_of two_write_notes
     97 ∷ 102 ∷ 102 ∷ []
 unfolding put_by sort_by replay narrowed until onward through beyond gap stands_at
 notes_of_two_stand_where_they_were_written = refl
+
+-- ---- Inserts of several characters
+
+-- site 0 writes `abc` at once, deletes the `b`, and site 1, which knows `abc` alone, writes `xy` behind the `b`
+abbrev pub run_split : List OpData → List OpData
+run_split later =
+    inserting (name 0 1) 0 (97 ∷ 98 ∷ 99 ∷ []) (after [])
+    ∷ deleting (name 0 2) 1 (after ((0, 1) ∷ []))
+    ∷ inserting (name 1 1) 2 (120 ∷ 121 ∷ []) (after ((0, 1) ∷ []))
+    ∷ later
+
+-- the cells of an insert stand in the order of its text, and another insert may part them
+pub another_insert_parts_a_run : replay_of (run_split [])
+    ≡ (name 0 1, 0) ∷ (name 0 1, 1) ∷ (name 1 1, 0) ∷ (name 1 1, 1) ∷ (name 0 1, 2) ∷ []
+unfolding put_by sort_by replay narrowed until onward through beyond gap stands_at
+another_insert_parts_a_run = refl
+
+-- a delete hits the cell at its place, and not the others of the insert
+pub a_delete_hits_one_cell_of_a_run : hits (run_split []) (deleting (name 0 2) 1 (after ((0, 1) ∷ []))) (name 0 1, 1) ≡ true
+unfolding put_by sort_by replay narrowed until onward through beyond gap stands_at
+a_delete_hits_one_cell_of_a_run = refl
+
+pub a_delete_misses_the_first_cell_of_a_run : hits (run_split []) (deleting (name 0 2) 1 (after ((0, 1) ∷ []))) (name 0 1, 0) ≡ false
+unfolding put_by sort_by replay narrowed until onward through beyond gap stands_at
+a_delete_misses_the_first_cell_of_a_run = refl
+
+pub a_run_without_a_character_is_shown_around_another : characters_of (run_split []) ≡ 97 ∷ 120 ∷ 121 ∷ 99 ∷ []
+unfolding put_by sort_by replay narrowed until onward through beyond gap stands_at
+a_run_without_a_character_is_shown_around_another = refl
+
+-- an undo takes back all characters of its insert, wherever they stand
+pub an_undo_takes_back_a_whole_run : characters_of (run_split (undoing 0 (name 0 1) 1 (after ((0, 2) ∷ (1, 1) ∷ [])) ∷ [])) ≡ 120 ∷ 121 ∷ []
+unfolding put_by sort_by replay narrowed until onward through beyond gap stands_at
+an_undo_takes_back_a_whole_run = refl
+
+-- a redo shows them again, but for the deleted one
+pub a_redo_shows_a_run_again : characters_of (run_split
+    (undoing 0 (name 0 1) 1 (after ((0, 2) ∷ (1, 1) ∷ []))
+    ∷ undoing 1 (name 0 1) 2 (after_undos ((0, 2) ∷ (1, 1) ∷ []) ((name 0 1, 1) ∷ [])) ∷ [])) ≡ 97 ∷ 120 ∷ 121 ∷ 99 ∷ []
+unfolding put_by sort_by replay narrowed until onward through beyond gap stands_at
+a_redo_shows_a_run_again = refl
+
+-- a context has a cell for each character of its inserts
+pub a_context_has_a_cell_for_each_character : cells_in (run_split []) (after ((0, 1) ∷ [])) ≡ 3
+a_context_has_a_cell_for_each_character = refl
+
+pub a_history_has_a_cell_for_each_character : all_cells (run_split []) ≡ 5
+a_history_has_a_cell_for_each_character = refl
+
+-- a character is that of the text at the cell's offset
+pub a_character_is_found_by_its_offset : character_in (run_split []) (name 1 1, 1) ≡ 121
+a_character_is_found_by_its_offset = refl
+
+-- sites 2, 1 and 3 write `rs`, `pq` and `z` at the front, none knowing of another
+abbrev pub runs_at_one_place : List OpData
+runs_at_one_place =
+    inserting (name 2 1) 0 (114 ∷ 115 ∷ []) (after [])
+    ∷ inserting (name 1 1) 0 (112 ∷ 113 ∷ []) (after [])
+    ∷ inserting (name 3 1) 0 (122 ∷ []) (after [])
+    ∷ []
+
+-- whoever goes behind an insert goes behind all of it
+pub runs_at_one_place_stay_whole : characters_of runs_at_one_place ≡ 112 ∷ 113 ∷ 114 ∷ 115 ∷ 122 ∷ []
+unfolding put_by sort_by replay narrowed until onward through beyond gap stands_at
+runs_at_one_place_stay_whole = refl
+
+-- site 0 writes `ab` and site 2, which knows that, `X` between them; site 3 writes `w` and then, knowing no other insert, `v` in front
+abbrev pub parted_run : List OpData
+parted_run =
+    inserting (name 0 1) 0 (97 ∷ 98 ∷ []) (after [])
+    ∷ inserting (name 2 1) 1 (88 ∷ []) (after ((0, 1) ∷ []))
+    ∷ inserting (name 3 1) 0 (119 ∷ []) (after [])
+    ∷ inserting (name 3 2) 0 (118 ∷ []) (after ((3, 1) ∷ []))
+    ∷ []
+
+-- where another insert parts them, whoever goes behind an insert goes behind its last cell
+pub the_last_cell_of_a_parted_run_is_the_left_neighbour : characters_of parted_run ≡ 97 ∷ 88 ∷ 98 ∷ 118 ∷ 119 ∷ []
+unfolding put_by sort_by replay narrowed until onward through beyond gap stands_at
+the_last_cell_of_a_parted_run_is_the_left_neighbour = refl
+
+-- an insert of so many characters at the front, which knows no other
+abbrev pub front : NameData → ℕ → Insertion
+front n len = record { name = n; place = 0; len = len; rank = 0; sees = λ m. false }
+
+-- an insert of site 1, at the place behind the cell of site 0's that it knows
+abbrev pub behind_one : Insertion
+behind_one = record { name = name 1 1; place = 1; len = 1; rank = 1; sees = λ n. name_eq n (name 0 1) }
+
+-- where the first cell of an earlier insert lies before the gap, its cells in the gap don't narrow it; no valid history has such a list
+pub an_insert_narrows_where_its_first_cell_lies :
+    put behind_one (front (name 0 1) 1 ∷ front (name 2 1) 2 ∷ []) ((name 2 1, 0) ∷ (name 0 1, 0) ∷ (name 2 1, 1) ∷ [])
+    ≡ (name 2 1, 0) ∷ (name 0 1, 0) ∷ (name 2 1, 1) ∷ (name 1 1, 0) ∷ []
+unfolding put_by sort_by replay narrowed until onward through beyond gap stands_at
+an_insert_narrows_where_its_first_cell_lies = refl
+
+-- where it lies in the gap, it does
+pub an_insert_of_a_greater_site_is_the_right_neighbour :
+    put behind_one (front (name 0 1) 1 ∷ front (name 2 1) 2 ∷ []) ((name 0 1, 0) ∷ (name 2 1, 0) ∷ (name 2 1, 1) ∷ [])
+    ≡ (name 0 1, 0) ∷ (name 1 1, 0) ∷ (name 2 1, 0) ∷ (name 2 1, 1) ∷ []
+unfolding put_by sort_by replay narrowed until onward through beyond gap stands_at
+an_insert_of_a_greater_site_is_the_right_neighbour = refl

@@ -1,4 +1,5 @@
 -- Words of the code: how values are kept, and what private functions promise.
+pub mod Letters
 pub mod Judged
 pub mod Kept
 pub mod Places

@@ -5,7 +5,7 @@ use Rattle.op_name.specs.declared.member.Member.TheVariants.{Original}
 use Rattle.op_name.specs.NameData.{NameData, name_eq}
 use Rattle.op_name.specs.Members.{is_even, member_eq, member_lt}
 use Rattle.context_vector.specs.Contexts.{ContextData, Within, has, count_of, empty, raised}
-use Rattle.context_diff.specs.Operations.{OpData, inserting, deleting, undoing, member_of, context_of, is_original, is_insert, IsWellFormed}
+use Rattle.context_diff.specs.Operations.{OpData, inserting, deleting, undoing, member_of, context_of, is_original, cells_put, IsWellFormed}
 
 -- the members of a history, in its order
 abbrev pub members_in : List OpData → List Member
@@ -18,7 +18,7 @@ is_known (o ∷ os) m = member_eq (member_of o) m || is_known os m
 
 -- the generation of an undo of this original, 0 for any other operation
 abbrev pub generation_at : OpData → NameData → ℕ
-generation_at (inserting n p ch c) t = 0
+generation_at (inserting n p text c) t = 0
 generation_at (deleting n p c) t = 0
 generation_at (undoing a n g c) t = if name_eq n t then g else 0
 
@@ -67,15 +67,20 @@ CoversSite h c s =
 abbrev pub IsClosed : List OpData → ContextData → Type 0
 IsClosed h c = (s : ℕ) → CoversSite h c s
 
--- the number of inserts among the originals of a context
-abbrev pub inserts_in : List OpData → ContextData → ℕ
-inserts_in [] c = 0
-inserts_in (o ∷ os) c = (if is_insert o && has c (member_of o) then 1 else 0) + inserts_in os c
+-- the number of cells of a context: the sum of the lengths of the inserts among its originals
+abbrev pub cells_in : List OpData → ContextData → ℕ
+cells_in [] c = 0
+cells_in (o ∷ os) c = (if has c (member_of o) then cells_put o else 0) + cells_in os c
+
+-- the number of cells of a history: the sum of the lengths of its inserts
+abbrev pub all_cells : List OpData → ℕ
+all_cells [] = 0
+all_cells (o ∷ os) = cells_put o + all_cells os
 
 -- a place counts the cells of the context: an insert may stand after the last one, a delete needs a cell
 abbrev pub HasPlace : List OpData → OpData → Type 0
-HasPlace h (inserting n p ch c) = p ≤ inserts_in h c
-HasPlace h (deleting n p c) = p < inserts_in h c
+HasPlace h (inserting n p text c) = p ≤ cells_in h c
+HasPlace h (deleting n p c) = p < cells_in h c
 HasPlace h (undoing a t g c) = Unit {0}
 
 -- Next: the operation may be integrated after the history

@@ -1,4 +1,5 @@
 pub mod Operations
+pub mod Letters
 pub mod Histories
 pub mod Gaps
 pub mod Replays

@@ -1,5 +1,5 @@
 -- The fixed replay of the inserts of a history, and the text that is shown.
-use Rattle.std.specs.Prelude.{ℕ, zero, suc, Bool, false, List, [], ◌∷◌, ◌++◌, ◌&&◌, ◌||◌, ◌==◌, not, nat_lt, filter, map, encode_utf8_all, if◌then◌else◌}
+use Rattle.std.specs.Prelude.{ℕ, zero, suc, ◌+◌, Bool, true, false, List, [], ◌∷◌, ◌++◌, ◌&&◌, ◌||◌, ◌==◌, not, nat_lt, filter, length, map, slice_index_or, encode_utf8_all, if◌then◌else◌}
 use Rattle.std.specs.List.{list_any}
 use Rattle.op_name.specs.declared.member.Member.TheVariants.{Original}
 use Rattle.op_name.specs.NameData.{NameData, name_eq}
@@ -24,8 +24,8 @@ Cell = NameData × ℕ
 -- the inserts of a history, in its order
 abbrev pub insertions_in : List OpData → List Insertion
 insertions_in [] = []
-insertions_in (inserting n p ch c ∷ os) =
-    record { name = n; place = p; len = 1; rank = rank_of c; sees = λ m. has c (Original m) } ∷ insertions_in os
+insertions_in (inserting n p text c ∷ os) =
+    record { name = n; place = p; len = length text; rank = rank_of c; sees = λ m. has c (Original m) } ∷ insertions_in os
 insertions_in (deleting n p c ∷ os) = insertions_in os
 insertions_in (undoing a t g c ∷ os) = insertions_in os
 
@@ -53,7 +53,11 @@ of_name n c = name_eq n c.0
 
 -- the first cell of that insert
 abbrev pub first_of : NameData → Cell → Bool
-first_of n c = name_eq n c.0 && (c.1 == 0)
+first_of n c = of_name n c && (c.1 == 0)
+
+-- the last cell of an insert
+abbrev pub last_of : Insertion → Cell → Bool
+last_of x c = of_name x.name c && (c.1 + 1 == x.len)
 
 -- the cells of this name with the offsets from the first on, so many of them
 abbrev pub run_of : NameData → ℕ → ℕ → List Cell
@@ -64,34 +68,35 @@ run_of n first (suc k) = (n, first) ∷ run_of n (suc first) k
 abbrev pub cells_from : Insertion → List Cell
 cells_from o = run_of o.name 0 o.len
 
--- of an earlier insert whose first cell lies in the gap, the last of its cells that lie there becomes the left neighbour, or the
--- first one the right neighbour
-abbrev pub narrow_over : Bool → NameData → Gap Cell → Gap Cell
-narrow_over left x g = if list_any (first_of x) g.between then narrow left (of_name x) g else g
+-- of an earlier insert whose first cell lies in the gap, the last cell becomes the left neighbour, or the first one the right
+-- neighbour
+abbrev pub narrow_over : Bool → Insertion → Gap Cell → Gap Cell
+narrow_over left x g =
+    if list_any (first_of x.name) g.between then (if left then narrow true (last_of x) g else narrow false (first_of x.name) g) else g
 
 -- an earlier insert that o doesn't see narrows the gap to its right side where its site is smaller than o's, and to its left side
 -- otherwise
-abbrev pub narrowed_by : Insertion → NameData → Gap Cell → Gap Cell
-narrowed_by o x g = if o.sees x then g else narrow_over (nat_lt x.site o.name.site) x g
+abbrev pub narrowed_by : Insertion → Insertion → Gap Cell → Gap Cell
+narrowed_by o x g = if o.sees x.name then g else narrow_over (nat_lt x.name.site o.name.site) x g
 
 -- the gap, narrowed by each of these earlier inserts in turn
-unfoldable pub narrowed : Insertion → List NameData → Gap Cell → Gap Cell
+unfoldable pub narrowed : Insertion → List Insertion → Gap Cell → Gap Cell
 narrowed o [] g = g
 narrowed o (x ∷ xs) g = narrowed o xs (narrowed_by o x g)
 
 -- Place: the gap into which o goes, among cells that the earlier inserts put: first between its two neighbours among the
 -- cells that it sees, then narrowed by each earlier insert in turn
-abbrev pub gap_of : Insertion → List NameData → List Cell → Gap Cell
+abbrev pub gap_of : Insertion → List Insertion → List Cell → Gap Cell
 gap_of o earlier cells = narrowed o earlier (gap (λ c. o.sees c.0) o.place cells)
 
 -- the cells with o's put directly before its right neighbour
-abbrev pub put : Insertion → List NameData → List Cell → List Cell
+abbrev pub put : Insertion → List Insertion → List Cell → List Cell
 put o earlier cells = let g = gap_of o earlier cells in g.before ++ (g.between ++ (cells_from o ++ g.behind))
 
 -- the cells with those of these inserts put one after the other; each is narrowed by the earlier ones and those before it
-unfoldable pub replay : List NameData → List Cell → List Insertion → List Cell
+unfoldable pub replay : List Insertion → List Cell → List Insertion → List Cell
 replay earlier cells [] = cells
-replay earlier cells (o ∷ os) = replay (earlier ++ o.name ∷ []) (put o earlier cells) os
+replay earlier cells (o ∷ os) = replay (earlier ++ o ∷ []) (put o earlier cells) os
 
 -- Replay: the cells of the inserts of a history, put in their fixed order
 abbrev pub replay_of : List OpData → List Cell
@@ -109,13 +114,13 @@ stands_at (suc n) (d ∷ ds) c = stands_at n ds c
 
 -- Hit: the cell stands at the delete's place among those cells of the replay that the delete's context holds
 abbrev pub hits : List OpData → OpData → Cell → Bool
-hits h (inserting n p ch k) c = false
+hits h (inserting n p text k) c = false
 hits h (deleting n p k) c = stands_at p (seen (λ m. has k (Original m)) (replay_of h)) c
 hits h (undoing a t g k) c = false
 
 -- the operation is a delete that is in force and hits the cell
 abbrev pub covers : List OpData → Cell → OpData → Bool
-covers h c (inserting n p ch k) = false
+covers h c (inserting n p text k) = false
 covers h c (deleting n p k) = in_force h n && hits h (deleting n p k) c
 covers h c (undoing a t g k) = false
 
@@ -127,10 +132,10 @@ is_shown h c = in_force h c.0 && not (list_any (covers h c) h)
 abbrev pub shown : List OpData → List Cell
 shown h = filter (is_shown h) (replay_of h)
 
--- the character of a cell
+-- the character of a cell: that of its insert's text at the offset
 abbrev pub character_in : List OpData → Cell → ℕ
 character_in [] c = 0
-character_in (inserting n p ch k ∷ os) c = if name_eq n c.0 then ch else character_in os c
+character_in (inserting n p text k ∷ os) c = if name_eq n c.0 then slice_index_or text c.1 0 else character_in os c
 character_in (deleting n p k ∷ os) c = character_in os c
 character_in (undoing a t g k ∷ os) c = character_in os c
 

@@ -5,8 +5,8 @@ ghost use Rattle.std.specs.Option.{option_to_list};
 ghost use Rattle.op_name.specs.declared.member.Member.{Member};
 ghost use Rattle.op_name.specs.declared.member.Member.TheVariants.{Original};
 ghost use Rattle.context_vector.specs.Contexts.{Within};
-ghost use Rattle.context_diff.specs.Operations.{OpData, member_of, context_of, is_original};
-ghost use Rattle.context_diff.specs.Histories.{is_known, members_in, inserts_in, context_of_all, IsNext, IsValid};
+ghost use Rattle.context_diff.specs.Operations.{OpData, member_of, context_of, cells_put, is_original};
+ghost use Rattle.context_diff.specs.Histories.{is_known, members_in, all_cells, cells_in, context_of_all, IsNext, IsValid};
 ghost use Rattle.context_diff.specs.Ops.{data_of};
 ghost use Rattle.context_diff.specs.Books.{HasRoom, IsJudged};
 ghost use Rattle.context_diff.specs.Code.Judged.{IsLately};
@@ -26,19 +26,23 @@ use std::marker::Model;
 /// The greatest number of operations that a book holds.
 const OPS: usize = 4_294_967_295;
 
+/// The greatest number of cells that they put.
+const CELLS: u32 = 4_294_967_295;
+
 /// A valid history: operations in the order in which a site integrated them, each well formed, and next
 /// after those before it.
 ///
-/// Beside the operations it keeps, for each site, where each of its originals stands, and how many inserts the site had made with
-/// it: so an original is found at once, and the inserts of a context are counted by one look at each of its sites. Undo groups,
+/// Beside the operations it keeps, for each site, where each of its originals stands, and how many cells the site had put with
+/// it: so an original is found at once, and the cells of a context are counted by one look at each of its sites. Undo groups,
 /// of which there are fewer, are found by their members. And of the last two operations, as far as they are
-/// inserts or deletes and none was taken out since, it keeps how many inserts their contexts have: so what comes with such a context,
-/// or with that context and its own operation, is judged at a look. It has at most 4,294,967,295 operations.
+/// inserts or deletes and none was taken out since, it keeps how many cells their contexts have: so what comes with such a context,
+/// or with that context and its own operation, is judged at a look. It has at most 4,294,967,295 operations, and they put at most as
+/// many cells.
 #[derive(Drop)]
 pub struct Book {
     ops: Vec<Op>,
     have: Vector,
-    inserts: u32,
+    cells: u32,
     tallies: Tallies,
     groups: IndexMap<Member, u32>,
     last: Option<Lately>,
@@ -62,7 +66,7 @@ impl Model for Book {
       site_spares = spares_of b.tallies;
     } };
 
-    ghost invariant = { λ b. IsBook (map data_of b.ops.items) b.have.set b.have.room.own b.inserts (counts_of b.tallies)
+    ghost invariant = { λ b. IsBook (map data_of b.ops.items) b.have.set b.have.room.own b.cells (counts_of b.tallies)
         (places_of b.tallies) b.groups.entries b.last b.earlier };
 }
 
@@ -74,7 +78,7 @@ impl Book {
         Book {
             ops: Vec::new(alloc),
             have: Vector::new(alloc),
-            inserts: 0,
+            cells: 0,
             tallies: Tallies::new(alloc),
             groups: IndexMap::new(alloc),
             last: None,
@@ -87,6 +91,7 @@ impl Book {
         ensures valid { IsValid self.now.ops }
         ensures have { self.now.have.set ≡ context_of_all self.now.ops }
         ensures short { length self.now.ops < 4294967296 }
+        ensures cells { all_cells self.now.ops < 4294967296 }
     {
         let _ = &self.ops;
     }
@@ -141,14 +146,14 @@ impl Book {
         }
     }
 
-    /// Makes room for the operation; no operation comes or goes. A book with 4,294,967,295 operations answers
-    /// Memory.
+    /// Makes room for the operation; no operation comes or goes. Where there would be more than 4,294,967,295 operations, or more than
+    /// as many cells, it answers Memory.
     pub fn reserve(&mut self, op: &Op) -> Result<(), Memory>
         ensures ops { self.new.ops ≡ self.old.ops }
         ensures have { self.new.have.set ≡ self.old.have.set }
         ensures room { OnOk result (HasRoom self.new (data_of op.now)) }
     {
-        if self.ops.len() >= OPS {
+        if self.ops.len() >= OPS || op.cells() > CELLS - self.cells {
             return Err(Memory);
         }
         let member = op.as_member();
@@ -169,33 +174,34 @@ impl Book {
         self.push_counted(op, cells);
     }
 
-    /// The same, of an operation that is known to be next, where it is known too how many inserts its context has, if it is an insert
+    /// The same, of an operation that is known to be next, where it is known too how many cells its context has, if it is an insert
     /// or a delete: nothing is compared.
     pub fn push_counted(&mut self, op: Op, cells: u32)
         requires room { HasRoom self.old (data_of op) }
         requires next { IsNext self.old.ops (data_of op) }
-        requires counted { is_original (data_of op) ≡ true → cells ≡ inserts_in self.old.ops (context_of (data_of op)) }
+        requires counted { is_original (data_of op) ≡ true → cells ≡ cells_in self.old.ops (context_of (data_of op)) }
         ensures { self.new.ops ≡ self.old.ops ++ data_of op ∷ [] }
     {
         let member = op.member();
         let place = self.len();
-        self.tallies.push(&member, op.is_insert(), place);
+        let more = op.cells();
+        self.tallies.push(&member, more, place);
         groups::note(&mut self.groups, &member, place);
         self.have.add_reserved(&member);
-        self.inserts = with_insert(self.inserts, op.is_insert());
+        self.cells += more;
         self.earlier = self.last;
         self.last = kept_of(&op, place, cells);
         self.ops.push_reserved(op);
     }
 
-    // How many inserts the context of the operation, which is next, has, if it is an insert or delete.
+    // How many cells the context of the operation, which is next, has, if it is an insert or delete.
     fn cells_of(&self, op: &Op) -> u32
         requires { IsNext self.now.ops (data_of op.now) }
-        ensures { is_original (data_of op.now) ≡ true → result ≡ inserts_in self.now.ops (context_of (data_of op.now)) }
+        ensures { is_original (data_of op.now) ≡ true → result ≡ cells_in self.now.ops (context_of (data_of op.now)) }
     {
         self.known();
         match op {
-            Op::Insert { context, .. } | Op::Delete { context, .. } => self.inserts_in(context),
+            Op::Insert { context, .. } | Op::Delete { context, .. } => self.cells_in(context),
             Op::Undo { .. } => 0,
         }
     }
@@ -212,19 +218,19 @@ impl Book {
         self.tallies.pop(&member);
         groups::forget(&mut self.groups, &member);
         self.have.drop_last(&member);
-        self.inserts = without_insert(self.inserts, op.is_insert());
+        self.cells -= op.cells();
         self.have.known();
         Some(op)
     }
 
-    /// The number of inserts of the book.
-    pub fn inserts(&self) -> u32
-        ensures { result ≡ inserts_in self.now.ops self.now.have.set }
+    /// The number of cells of the book.
+    pub fn cells(&self) -> u32
+        ensures { result ≡ cells_in self.now.ops self.now.have.set }
     {
-        self.inserts
+        self.cells
     }
 
-    /// The number of inserts of a context that was judged lately: the book has its members, and it is closed. It is that of one of
+    /// The number of cells of a context that was judged lately: the book has its members, and it is closed. It is that of one of
     /// the last two operations, an insert or delete, or that with the operation itself. None says nothing.
     pub fn judged(&self, v: &Vector) -> Option<u32>
         ensures { IfSome result (IsJudged self.now.ops v.now.set) }
@@ -235,10 +241,10 @@ impl Book {
         }
     }
 
-    /// How many inserts the context of the last operation has, if that is an insert or a delete and none was taken out since it came.
+    /// How many cells the context of the last operation has, if that is an insert or a delete and none was taken out since it came.
     /// None says nothing.
     pub fn last_cells(&self) -> Option<u32>
-        ensures { IfSome result (λ n. (o : OpData) (before : List Member) → Contains self.now.ops o → members_in self.now.ops ≡ before ++ member_of o ∷ [] → n ≡ inserts_in self.now.ops (context_of o)) }
+        ensures { IfSome result (λ n. (o : OpData) (before : List Member) → Contains self.now.ops o → members_in self.now.ops ≡ before ++ member_of o ∷ [] → n ≡ cells_in self.now.ops (context_of o)) }
     {
         self.known();
         let known = self.last?;
@@ -273,10 +279,10 @@ impl Book {
         }
     }
 
-    /// The number of inserts among the originals of `v`, whose members the book has.
-    pub fn inserts_in(&self, v: &Vector) -> u32
+    /// The number of cells of `v`, whose members the book has: the sum of the lengths of its inserts.
+    pub fn cells_in(&self, v: &Vector) -> u32
         requires { Within v.now.set self.now.have.set }
-        ensures { result ≡ inserts_in self.now.ops v.now.set }
+        ensures { result ≡ cells_in self.now.ops v.now.set }
     {
         match self.judged(v) {
             Some(cells) => cells,
@@ -287,14 +293,14 @@ impl Book {
     // The same, counted site by site.
     fn counted(&self, v: &Vector) -> u32
         requires { Within v.now.set self.now.have.set }
-        ensures { result ≡ inserts_in self.now.ops v.now.set }
+        ensures { result ≡ cells_in self.now.ops v.now.set }
     {
         v.known();
         self.known();
         let mut total = 0;
         let mut left = v.sites_read();
         while let Some((site, number)) = left.next() {
-            total += self.tallies.inserts(site, number);
+            total += self.tallies.cells(site, number);
         }
         total
     }
@@ -351,20 +357,4 @@ fn op_at(ops: &[Op], i: usize) -> Option<&Op>
         Some(op) => Some(op),
         None => None,
     }
-}
-
-// A number of inserts with one operation more.
-fn with_insert(inserts: u32, is_insert: bool) -> u32
-    requires { inserts + 1 < 4294967296 }
-    ensures { result ≡ inserts + (if is_insert then 1 else 0) }
-{
-    inserts + u32::from(is_insert)
-}
-
-// A number of inserts with one operation less.
-fn without_insert(inserts: u32, is_insert: bool) -> u32
-    requires { (if is_insert then 1 else 0) ≤ inserts }
-    ensures { inserts ≡ result + (if is_insert then 1 else 0) }
-{
-    inserts - u32::from(is_insert)
 }

@@ -4,7 +4,7 @@
 ghost use Rattle.std.specs.Prelude.{◌≡◌, ◌⊎◌, ◌+◌, ◌<◌, true, IsTrue, IfSome};
 ghost use Rattle.op_name.specs.declared.member.Member.TheVariants.{Original};
 ghost use Rattle.context_vector.specs.Contexts.{raised};
-ghost use Rattle.context_diff.specs.Operations.{is_original};
+ghost use Rattle.context_diff.specs.Operations.{cells_put, is_original};
 ghost use Rattle.context_diff.specs.Ops.{data_of};
 ghost use Rattle.context_diff.specs.Code.Judged.{IsCellsBy};
 
@@ -12,14 +12,14 @@ use crate::op::Op;
 use context_vector::Vector;
 use op_name::Name;
 
-/// An insert or delete of a book, by its place, and how many inserts its context has.
+/// An insert or delete of a book, by its place, and how many cells its context has.
 #[derive(Clone, Copy, Drop)]
 pub(crate) struct Lately {
     pub(crate) place: u32,
     pub(crate) cells: u32,
 }
 
-/// What is kept of the operation at this place, if it is an insert or delete, whose context has so many inserts.
+/// What is kept of the operation at this place, if it is an insert or delete, whose context has so many cells.
 pub(crate) fn kept_of(op: &Op, place: u32, cells: u32) -> Option<Lately>
     ensures { IfSome result (λ l. (is_original (data_of op.now) ≡ true) × (l.place ≡ place) × (l.cells ≡ cells)) }
 {
@@ -29,21 +29,25 @@ pub(crate) fn kept_of(op: &Op, place: u32, cells: u32) -> Option<Lately>
     }
 }
 
-/// How many inserts `v` has, where it is the context of the operation, an insert or delete, of so many inserts, or that context
+/// How many cells `v` has, where it is the context of the operation, an insert or delete, of so many cells, or that context
 /// with the operation itself.
 pub(crate) fn cells_by(op: &Op, v: &Vector, cells: u32) -> Option<u32>
-    requires { cells + 1 < 4294967296 }
+    requires { cells + cells_put (data_of op.now) < 4294967296 }
     ensures { IfSome result (IsCellsBy (data_of op.now) v.now.set cells) }
 {
     match op {
-        Op::Insert { name, context, .. } => cells_beyond(v, name, context, cells, 1),
+        Op::Insert {
+            name,
+            text,
+            context,
+            ..
+        } => cells_beyond(v, name, context, cells, u32::from(text.len())),
         Op::Delete { name, context, .. } => cells_beyond(v, name, context, cells, 0),
         Op::Undo { .. } => None,
     }
 }
 
-// How many inserts `v` has, where it is the context, or the context with the original of this name, which counts as
-// `more` inserts.
+// How many cells `v` has, where it is the context, or the context with the original of this name, which puts `more` cells.
 fn cells_beyond(v: &Vector, name: &Name, context: &Vector, cells: u32, more: u32) -> Option<u32>
     requires { cells + more < 4294967296 }
     ensures { IfSome result (λ n. ((v.now.set ≡ context.now.set) × (n ≡ cells)) ⊎ ((v.now.set ≡ raised context.now.set (Original name.now)) × (n ≡ cells + more))) }

@@ -44,7 +44,7 @@ impl Book {
         requires { Within (context_of (data_of op.now)) self.now.have.set }
         ensures { IsTrue result ↔ HasPlace self.now.ops (data_of op.now) }
     {
-        let cells = self.inserts_in(op.context());
+        let cells = self.cells_in(op.context());
         match op {
             Op::Insert { place, .. } => *place <= cells,
             Op::Delete { place, .. } => *place < cells,

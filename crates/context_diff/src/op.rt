@@ -3,14 +3,15 @@
 ghost use Rattle.std.specs.Prelude.{◌≡◌, ◌↔◌, ◌≤◌, IsNone, IsTrue, IfOk, IfSome, length};
 ghost use Rattle.op_name.specs.Members.{IsMember};
 ghost use Rattle.context_vector.specs.Contexts.{IsContext, HasNoStray};
-ghost use Rattle.context_diff.specs.Operations.{member_of, context_of, is_insert, IsWellFormed, IsInRange, KeepsOwn, KeepsTarget};
+ghost use Rattle.context_diff.specs.Operations.{member_of, context_of, cells_put, is_insert, IsWellFormed, IsInRange, KeepsOwn, KeepsTarget};
 ghost use Rattle.context_diff.specs.Ops.{data_of, IsFirstBroken};
 
+use crate::letters::Letters;
 use context_vector::Vector;
 use op_name::{Member, Memory, Name, SITES};
 
 /// The greatest place that an operation names: a place counts cells of the text.
-pub const PLACES: u32 = 64_000_000;
+pub const PLACES: u32 = 4_294_967_295;
 
 /// The greatest number of undo entries in the context of an operation.
 pub const UNDO_ENTRIES: u32 = 16_384;
@@ -21,11 +22,11 @@ pub const UNDO_ENTRIES: u32 = 16_384;
 /// since cells never go). Two operations are equal where all their parts are, and contexts as sets.
 #[derive(Drop, PartialEq, Eq, Hash)]
 pub enum Op {
-    /// Puts a character before the cell at `place`, or after the last one.
+    /// Puts the characters of a text, a cell for each, before the cell at `place`, or after the last one.
     Insert {
         name: Name,
         place: u32,
-        ch: char,
+        text: Letters,
         context: Vector,
     },
     /// Hides the cell at `place`.
@@ -109,6 +110,16 @@ impl Op {
         matches!(self, Op::Insert { .. })
     }
 
+    /// How many cells the operation puts: one for each character of an insert, and else none.
+    pub fn cells(&self) -> u32
+        ensures { result ≡ cells_put (data_of self.now) }
+    {
+        match self {
+            Op::Insert { text, .. } => u32::from(text.len()),
+            Op::Delete { .. } | Op::Undo { .. } => 0,
+        }
+    }
+
     /// The same operation once more.
     pub fn try_clone(&self) -> Result<Op, Memory>
         ensures { IfOk result (λ o. data_of o ≡ data_of self.now) }
@@ -118,12 +129,12 @@ impl Op {
             Op::Insert {
                 name,
                 place,
-                ch,
+                text,
                 ..
             } => Op::Insert {
                 name: *name,
                 place: *place,
-                ch: *ch,
+                text: text.try_clone()?,
                 context,
             },
             Op::Delete { name, place, .. } => Op::Delete {
@@ -171,20 +182,22 @@ impl Op {
             Op::Insert {
                 name,
                 place,
-                ch,
+                text,
                 context,
             } => {
-                let _scalar = *ch;
+                let _place = *place;
                 name.known();
-                *place <= PLACES && is_short(context)
+                text.known();
+                is_short(context)
             }
             Op::Delete {
                 name,
                 place,
                 context,
             } => {
+                let _place = *place;
                 name.known();
-                *place <= PLACES && is_short(context)
+                is_short(context)
             }
             Op::Undo {
                 author,

@@ -1,4 +1,4 @@
-//! What a book keeps of its originals, site by site: where each stands, and how many of the first ones of a site are inserts.
+//! What a book keeps of its originals, site by site: where each stands, and how many cells the first ones of a site put.
 
 ghost use Rattle.std.specs.Prelude.{◌≡◌, ℕ, ◌+◌, ◌-◌, ◌<◌, ◌++◌, ◌∷◌, ◌==◌, [], length, take, IfErr, IfOk, OnOk, if◌then◌else◌};
 ghost use Rattle.context_vector.specs.Contexts.{count_in};
@@ -10,8 +10,8 @@ use op_name::{Member, Memory};
 use std::alloc::Global;
 use std::marker::Model;
 
-/// The originals of one site, whose numbers are dense: of the n-th one its place in the order of the book, and how many of
-/// the first n are inserts.
+/// The originals of one site, whose numbers are dense: of the n-th one its place in the order of the book, and how many
+/// cells the first n put.
 #[derive(Drop)]
 pub(crate) struct Tally {
     site: u16,
@@ -47,8 +47,8 @@ impl Tally {
         }
     }
 
-    // The number of inserts among the first originals, up to this number; 0 past the end.
-    fn inserts(&self, number: u32) -> u32
+    // The number of cells of the first originals, up to this number; 0 past the end.
+    fn cells(&self, number: u32) -> u32
         ensures { result ≡ entry_at self.now.counts number }
     {
         if number == 0 {
@@ -78,16 +78,16 @@ impl Tally {
         reserve_one(&mut self.places)
     }
 
-    // Takes one more original in, in the room that was made for it.
-    fn push(&mut self, is_insert: bool, place: u32)
+    // Takes one more original in, which puts so many cells, in the room that was made for it.
+    fn push(&mut self, cells: u32, place: u32)
         requires room { 0 < self.old.spare }
-        requires short { total self.old.counts + 1 < 4294967296 }
+        requires short { total self.old.counts + cells < 4294967296 }
         ensures site { self.new.site ≡ self.old.site }
-        ensures counts { self.new.counts ≡ self.old.counts ++ (total self.old.counts + (if is_insert then 1 else 0)) ∷ [] }
+        ensures counts { self.new.counts ≡ self.old.counts ++ (total self.old.counts + cells) ∷ [] }
         ensures places { self.new.places ≡ self.old.places ++ place ∷ [] }
     {
         let before = self.counts.last().copied().unwrap_or(0);
-        self.counts.push_reserved(before + u32::from(is_insert));
+        self.counts.push_reserved(before + cells);
         self.places.push_reserved(place);
     }
 
@@ -131,12 +131,12 @@ impl Tallies {
         }
     }
 
-    /// The number of inserts among the first originals of the site, up to this number; 0 where they aren't counted.
-    pub(crate) fn inserts(&self, site: u16, number: u32) -> u32
+    /// The number of cells of the first originals of the site, up to this number; 0 where they aren't counted.
+    pub(crate) fn cells(&self, site: u16, number: u32) -> u32
         ensures { result ≡ entry_at (counts_of self.now site) number }
     {
         match self.find(site) {
-            Ok(at) => self.sites[at].inserts(number),
+            Ok(at) => self.sites[at].cells(number),
             Err(_) => 0,
         }
     }
@@ -201,28 +201,29 @@ impl Tallies {
         }
     }
 
-    /// Takes the member in, which stands at this place of the book, in the room that was made for it. It takes no memory.
-    pub(crate) fn push(&mut self, m: &Member, is_insert: bool, place: u32)
+    /// Takes the member in, which puts so many cells and stands at this place of the book, in the room that was made for it. It takes no
+    /// memory.
+    pub(crate) fn push(&mut self, m: &Member, cells: u32, place: u32)
         requires room { HasSpareFor (spares_of self.old) m.now }
-        requires short { (s : ℕ) → total (counts_of self.old s) + 1 < 4294967296 }
-        ensures counts { (s : ℕ) → counts_of self.new s ≡ counted m.now is_insert s (counts_of self.old s) }
+        requires short { (s : ℕ) → total (counts_of self.old s) + cells < 4294967296 }
+        ensures counts { (s : ℕ) → counts_of self.new s ≡ counted m.now cells s (counts_of self.old s) }
         ensures places { (s : ℕ) → places_of self.new s ≡ placed m.now place s (places_of self.old s) }
     {
         match m {
-            Member::Original(name) => self.push_at(name.site, is_insert, place),
+            Member::Original(name) => self.push_at(name.site, cells, place),
             Member::Group(_, _) => {}
         }
     }
 
     // Takes one more original of this site in.
-    fn push_at(&mut self, site: u16, is_insert: bool, place: u32)
+    fn push_at(&mut self, site: u16, cells: u32, place: u32)
         requires room { 0 < count_in (spares_of self.old) site }
-        requires short { total (counts_of self.old site) + 1 < 4294967296 }
-        ensures counts { (s : ℕ) → counts_of self.new s ≡ (if site == s then counts_of self.old s ++ (total (counts_of self.old s) + (if is_insert then 1 else 0)) ∷ [] else counts_of self.old s) }
+        requires short { total (counts_of self.old site) + cells < 4294967296 }
+        ensures counts { (s : ℕ) → counts_of self.new s ≡ (if site == s then counts_of self.old s ++ (total (counts_of self.old s) + cells) ∷ [] else counts_of self.old s) }
         ensures places { (s : ℕ) → places_of self.new s ≡ (if site == s then places_of self.old s ++ place ∷ [] else places_of self.old s) }
     {
         match self.find(site) {
-            Ok(at) => self.sites[at].push(is_insert, place),
+            Ok(at) => self.sites[at].push(cells, place),
             Err(_) => unreachable!(),
         }
     }

@@ -2,7 +2,6 @@
 use Rattle.std.proofs.Common.{◌≡◌, ◌≢◌, ℕ, Bool, true, false, inl, inr, refl, ap, sym, subst, ◌∙◌, arith}
 use Rattle.std.proofs.lemmas.Bool.{false≢true, false_from_ne_true, cases_Bool}
 use Rattle.std.specs.Prelude.{◌==◌, nat_lt, ◌||◌, ◌&&◌, ◌⊎◌}
-use Rattle.std.specs.Bool.{Decides}
 use Rattle.std.proofs.lemmas.Bool.Decides.{nat_tests}
 use Rattle.op_name.specs.declared.member.Member.{Member}
 use Rattle.op_name.specs.declared.member.Member.TheVariants.{Original, Group}
@@ -76,10 +75,6 @@ member_other a b e is = false≢true (sym e ∙ (ap (member_eq a) (sym is) ∙ m
 pub member_cases : (a b : Member) → (a ≡ b) ⊎ (a ≢ b)
 member_cases a b = elim (cases_Bool (member_eq a b)) [ inl e ↦ inl (member_same a b e) | inr e ↦ inr (member_other a b e) ]
 
--- the test of members decides equality
-pub members_decide : (a b : Member) → Decides (member_eq a b) (a ≡ b)
-members_decide a b = (member_same a b, λ e. subst (λ x. member_eq a x ≡ true) e (member_itself a))
-
 pub member_irreflexive : (a : Member) → member_lt a a ≡ false
 member_irreflexive (Original n) = name_irreflexive n
 member_irreflexive (Group n g) = grind (arith, nat_tests)
@@ -123,17 +118,6 @@ member_total (Original a) (Original b) e f = name_total a b e f
 member_total (Original a) (Group b h) e f = cc
 member_total (Group a g) (Original b) e f = refl
 member_total (Group a g) (Group b h) e f = grind (arith, nat_tests)
-
-pub member_order : IsOrder member_eq member_lt
-member_order =
-    record {
-      same = member_same;
-      itself = member_itself;
-      irreflexive = member_irreflexive;
-      transitive = member_transitive;
-      total =
-          member_total;
-    }
 
 -- one of two values comes first, or they are one
 pub cases_by_order : {K : Type 0} (eq lt : K → K → Bool) → IsOrder eq lt → (a b : K) (P : Type 0)

@@ -11,6 +11,6 @@ pub record IsClosedPart (h : List OpData) (v c : ContextData) : Type 0 where
 
 -- the site that made the operation
 abbrev pub author_of : OpData → ℕ
-author_of (inserting n p ch c) = n.site
+author_of (inserting n p text c) = n.site
 author_of (deleting n p c) = n.site
 author_of (undoing a t g c) = a

@@ -1,12 +1,12 @@
--- What is kept of the originals of each site: two lists whose n-th entries are the number of inserts among its first n originals, and
+-- What is kept of the originals of each site: two lists whose n-th entries are the number of cells of its first n originals, and
 -- the place of the n-th one in the book.
-use Rattle.std.specs.Prelude.{◌≡◌, ℕ, zero, suc, ◌+◌, ◌-◌, ◌<◌, ◌≤◌, Bool, List, [], ◌∷◌, ◌++◌, ◌==◌, Option, Some, None, length, map, take, slice_get, slice_index_or, if◌then◌else◌}
+use Rattle.std.specs.Prelude.{◌≡◌, ℕ, zero, suc, ◌+◌, ◌-◌, ◌<◌, ◌≤◌, List, [], ◌∷◌, ◌++◌, ◌==◌, Option, Some, None, length, map, take, slice_get, slice_index_or, if◌then◌else◌}
 use Rattle.op_name.specs.declared.member.Member.{Member}
 use Rattle.op_name.specs.declared.member.Member.TheVariants.{Original, Group}
 use Rattle.context_vector.specs.Contexts.{count_of}
 use Rattle.context_diff.specs.Operations.{OpData}
 use Rattle.context_diff.specs.Histories.{context_of_all, members_in}
-use Rattle.context_diff.specs.Code.Counting.{inserts_of}
+use Rattle.context_diff.specs.Code.Counting.{cells_of_site}
 
 -- a site, its counts, the places of its originals, and how many more both lists have room for
 pub record TallyData : Type 0 where
@@ -63,14 +63,14 @@ abbrev pub place_at : List ℕ → ℕ → Option ℕ
 place_at places zero = None
 place_at places (suc n) = slice_get places n
 
--- the last entry, which is the number of all inserts; 0 if there is none
+-- the last entry, which is the number of all cells; 0 if there is none
 abbrev pub total : List ℕ → ℕ
 total counts = slice_index_or counts (length counts - 1) 0
 
--- the list of a site after the member came: an original of the site gets an entry, which counts it if it is an insert
-abbrev pub counted : Member → Bool → ℕ → List ℕ → List ℕ
-counted (Original n) insert s counts = if n.site == s then counts ++ (total counts + (if insert then 1 else 0)) ∷ [] else counts
-counted (Group t g) insert s counts = counts
+-- the list of a site after the member came, which puts so many cells: an original of the site gets an entry, which counts them
+abbrev pub counted : Member → ℕ → ℕ → List ℕ → List ℕ
+counted (Original n) cells s counts = if n.site == s then counts ++ (total counts + cells) ∷ [] else counts
+counted (Group t g) cells s counts = counts
 
 -- the places of a site after the member came, which stands at place p
 abbrev pub placed : Member → ℕ → ℕ → List ℕ → List ℕ
@@ -82,10 +82,10 @@ abbrev pub without_last : Member → ℕ → List ℕ → List ℕ
 without_last (Original n) s xs = if n.site == s then take (length xs - 1) xs else xs
 without_last (Group t g) s xs = xs
 
--- the list of a site is right for a history: each original of the site has its entry, the number of inserts up to it
+-- the list of a site is right for a history: each original of the site has its entry, the number of cells up to it
 pub record IsTally (h : List OpData) (s : ℕ) (counts : List ℕ) : Type 0 where
   pub size : length counts ≡ count_of (context_of_all h) s
-  pub entries : (n : ℕ) → 1 ≤ n → n ≤ length counts → entry_at counts n ≡ inserts_of h s n
+  pub entries : (n : ℕ) → 1 ≤ n → n ≤ length counts → entry_at counts n ≡ cells_of_site h s n
 
 -- so it is for each site
 abbrev pub AreTallies : List OpData → (ℕ → List ℕ) → Type 0

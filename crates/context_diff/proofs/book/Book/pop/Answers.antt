@@ -1,5 +1,5 @@
-use Rattle.std.proofs.Common.{◌≡◌, ℕ, ◌+◌, false, ap, sym, subst, ◌∙◌, arith, length, length-append}
-use Rattle.std.specs.Prelude.{map, None, if◌then◌else◌}
+use Rattle.std.proofs.Common.{◌≡◌, ℕ, ◌+◌, ◌-◌, false, ap, sym, subst, ◌∙◌, arith, length, length-append}
+use Rattle.std.specs.Prelude.{map, None}
 use Rattle.std.proofs.lemmas.Bool.{true≢false}
 use Rattle.op_name.specs.declared.member.Member.{Member}
 use Rattle.op_name.specs.Members.{IsMember}
@@ -12,7 +12,7 @@ use Rattle.context_diff.specs.Books.{BookData}
 use Rattle.context_diff.specs.Code.Kept.{IsBook}
 use Rattle.context_diff.specs.Code.Tallies.{counts_of, places_of, without_last}
 use Rattle.context_diff.proofs.Complete.{context_push}
-use Rattle.context_diff.proofs.Inserts.{made_push}
+use Rattle.context_diff.proofs.CellCounts.{all_cells_push}
 use Rattle.context_diff.proofs.Kept.{book_before, book_pop, seen_pop}
 use Rattle.context_diff.proofs.Books.{pop_last}
 use Rattle.context_diff.proofs.Members.{formed_member, lowered_back}
@@ -23,7 +23,7 @@ pub drop_last-requires-clause-member : goal.drop_last-requires-clause-member
 drop_last-requires-clause-member c =
     let o = data_of c.in_ok-op.op in
     let book = book_before c.self.inside.ops.items c.pop.new.self.items c.pop.result c.in_ok-op.op c.self.inside.have.set
-    c.self.inside.have.room.own c.self.inside.inserts (counts_of c.self.inside.tallies) (places_of c.self.inside.tallies)
+    c.self.inside.have.room.own c.self.inside.cells (counts_of c.self.inside.tallies) (places_of c.self.inside.tallies)
     c.self.inside.groups.entries c.self.inside.last c.self.inside.earlier c.self.invariant c.pop.ensures.items c.in_ok-op.was in
     let parts = valid_pop (map data_of c.pop.new.self.items) o book.valid in
     subst IsMember (sym c.as_member-member.ensures) (formed_member o parts.1.formed)
@@ -32,7 +32,7 @@ pub drop_last-requires-clause-last : goal.drop_last-requires-clause-last
 drop_last-requires-clause-last c =
     let o = data_of c.in_ok-op.op in
     let book = book_before c.self.inside.ops.items c.pop.new.self.items c.pop.result c.in_ok-op.op c.self.inside.have.set
-    c.self.inside.have.room.own c.self.inside.inserts (counts_of c.self.inside.tallies) (places_of c.self.inside.tallies)
+    c.self.inside.have.room.own c.self.inside.cells (counts_of c.self.inside.tallies) (places_of c.self.inside.tallies)
     c.self.inside.groups.entries c.self.inside.last c.self.inside.earlier c.self.invariant c.pop.ensures.items c.in_ok-op.was in
     subst (IsLastMember c.self.inside.have.set) (sym c.as_member-member.ensures)
     (pop_last (map data_of c.pop.new.self.items) o c.self.inside.have.set book.members)
@@ -44,38 +44,35 @@ drop_last-requires-clause-own c =
     ∙ simp length-append (omega arith) in
     c.self.invariant.in_place (omega arith)
 
-pub without_insert-self-inside-requires : goal.without_insert-self-inside-requires
-without_insert-self-inside-requires c =
+pub overflow_sub-self : goal.overflow_sub-self
+overflow_sub-self c =
     let book = book_before c.self.inside.ops.items c.pop.new.self.items c.pop.result c.in_ok-op.op c.self.inside.have.set
-    c.self.inside.have.room.own c.self.inside.inserts (counts_of c.self.inside.tallies) (places_of c.self.inside.tallies)
+    c.self.inside.have.room.own c.self.inside.cells (counts_of c.self.inside.tallies) (places_of c.self.inside.tallies)
     c.self.inside.groups.entries c.self.inside.last c.self.inside.earlier c.self.invariant c.pop.ensures.items c.in_ok-op.was in
-    let bits : ◌≡◌ {A = ℕ} (if c.is_insert.result then 1 else 0) (if is_insert (data_of c.in_ok-op.op) then 1 else 0) =
-    ap (λ b. if b then 1 else 0) c.is_insert.ensures in
-    omega (arith, bits, book.inserts, made_push (map data_of c.pop.new.self.items) (data_of c.in_ok-op.op))
+    omega (arith, c.cells.ensures, book.cells, all_cells_push (map data_of c.pop.new.self.items) (data_of c.in_ok-op.op))
 
 pub invariant_of-self-2 : goal.invariant_of-self-2
 invariant_of-self-2 c =
     let h = map data_of c.pop.new.self.items in
     let o = data_of c.in_ok-op.op in
     let book = book_before c.self.inside.ops.items c.pop.new.self.items c.pop.result c.in_ok-op.op c.self.inside.have.set
-    c.self.inside.have.room.own c.self.inside.inserts (counts_of c.self.inside.tallies) (places_of c.self.inside.tallies)
+    c.self.inside.have.room.own c.self.inside.cells (counts_of c.self.inside.tallies) (places_of c.self.inside.tallies)
     c.self.inside.groups.entries c.self.inside.last c.self.inside.earlier c.self.invariant c.pop.ensures.items c.in_ok-op.was in
     let parts = valid_pop h o book.valid in
     let is : c.as_member-member.result ≡ member_of o = c.as_member-member.ensures in
     let unknown : is_known h c.as_member-member.result ≡ false = ap (is_known h) is ∙ parts.1.new in
     let less =
-    book_pop h c.self.inside.have.set c.self.inside.have.room.own c.drop_last.new.self.room.own c.self.inside.inserts
-    c.without_insert-self-inside.result (counts_of c.self.inside.tallies) (counts_of c.pop-2.new.self)
+    book_pop h c.self.inside.have.set c.self.inside.have.room.own c.drop_last.new.self.room.own c.self.inside.cells
+    (c.self.inside.cells - c.cells.result) (counts_of c.self.inside.tallies) (counts_of c.pop-2.new.self)
     (places_of c.self.inside.tallies) (places_of c.pop-2.new.self) c.self.inside.groups.entries c.forget.new.groups.entries
-    c.self.inside.last c.self.inside.earlier o book c.drop_last.ensures.own (c.without_insert-self-inside.ensures
-    ∙ ap (λ b. c.without_insert-self-inside.result + (if b then 1 else 0)) c.is_insert.ensures)
+    c.self.inside.last c.self.inside.earlier o book c.drop_last.ensures.own (omega (arith, c.cells.ensures, book.cells, all_cells_push h o))
     (λ s. c.pop-2.ensures.counts s ∙ ap (λ (m : Member). without_last m s (counts_of c.self.inside.tallies s)) is)
     (λ s. c.pop-2.ensures.places s ∙ ap (λ (m : Member). without_last m s (places_of c.self.inside.tallies s)) is)
     (c.forget.ensures h o (sym is) unknown) in
     let back =
     lowered_back h o c.self.inside.have.set c.drop_last.new.self.set c.as_member-member.result parts.0 parts.1 is
     (book.members ∙ context_push h o) c.known.ensures c.drop_last.ensures.members in
-    subst (λ (d : ContextData). IsBook h d c.drop_last.new.self.room.own c.without_insert-self-inside.result (counts_of c.pop-2.new.self)
+    subst (λ (d : ContextData). IsBook h d c.drop_last.new.self.room.own (c.self.inside.cells - c.cells.result) (counts_of c.pop-2.new.self)
     (places_of c.pop-2.new.self) c.forget.new.groups.entries None None) (sym back) less
 
 pub returns-clause-none : goal.returns-clause-none

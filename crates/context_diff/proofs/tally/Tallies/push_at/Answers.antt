@@ -45,7 +45,7 @@ returns-clause-counts c q =
     let new = c.push.new.self in
     let found = read_at ts c.self.invariant s c.in-Ok.at at c.index_mut.result.now c.index_mut.ensures.value in
     let have = put_at ts c.self.invariant s c.in-Ok.at at c.index_mut.result.now new c.index_mut.ensures.value c.push.ensures.site in
-    let more : List ℕ → List ℕ = λ xs. xs ++ (total xs + (if c.args.is_insert then 1 else 0)) ∷ [] in
+    let more : List ℕ → List ℕ = λ xs. xs ++ (total xs + c.args.cells) ∷ [] in
     one_list (λ (t : TallyData). t.counts) more ts (set ts c.in-Ok.at new) s new have
     (c.push.ensures.counts ∙ ap (λ (t : TallyData). more t.counts) found) q
     ∙ ap (λ (xs : List TallyData). if s == q then more (counts_of xs q) else counts_of xs q) c.self.view_is
