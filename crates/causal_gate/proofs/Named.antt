@@ -29,7 +29,7 @@ not_named o n never =
     ]
 
 undo_unnamed : (o : OpData) (n : NameData) → is_original o ≡ false → member_eq (member_of o) (Original n) ≡ false
-undo_unnamed (inserting m p ch c) n undo = absurd (true≢false undo)
+undo_unnamed (inserting m p text c) n undo = absurd (true≢false undo)
 undo_unnamed (deleting m p c) n undo = absurd (true≢false undo)
 undo_unnamed (undoing a t g c) n undo = refl
 

@@ -33,9 +33,9 @@ undo_found q ks os r undos undo found there =
 
 -- an undo is no insert or delete
 unlike : (d o : OpData) → is_original d ≡ false → is_original o ≡ true → op_eq d o ≡ false
-unlike (inserting n p ch c) o undo original = absurd (true≢false undo)
+unlike (inserting n p text c) o undo original = absurd (true≢false undo)
 unlike (deleting n p c) o undo original = absurd (true≢false undo)
-unlike (undoing a t g c) (inserting n p ch d) undo original = refl
+unlike (undoing a t g c) (inserting n p text d) undo original = refl
 unlike (undoing a t g c) (deleting n p d) undo original = refl
 unlike (undoing a t g c) (undoing b u h d) undo original = absurd (true≢false (sym original))
 

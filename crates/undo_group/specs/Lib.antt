@@ -1,3 +1,4 @@
+pub mod Counts
 pub mod BaseForms
 pub mod Bounds
 pub mod Following

@@ -2,20 +2,22 @@
 
 ghost use Rattle.std.specs.Prelude.{◌≡◌, true};
 ghost use Rattle.op_name.specs.declared.member.Member.TheVariants.{Original};
-ghost use Rattle.context_diff.specs.Operations.{member_of};
+ghost use Rattle.context_diff.specs.Operations.{inserting, member_of};
+ghost use Rattle.context_vector.specs.Contexts.{empty};
+ghost use Rattle.ttf_form.specs.declared.form.Form.TheVariants.{Ins as Insert};
 ghost use Rattle.context_diff.specs.Histories.{is_known};
 ghost use Rattle.context_diff.specs.Ops.{data_of};
 ghost use Rattle.undo_group.specs.BaseForms.{form_of, original_form, group_form};
 
-use context_diff::{Book, Op};
+use context_diff::{Book, Letters, Op};
 use op_name::{Member, Name};
 use std::marker::Model;
 use ttf_form::{Bases, Cover, Form, Ins, Mark};
 
 /// The members of a book, each with its base form: what it does to the cells of its own base context.
 ///
-/// The base form of an insert or a delete is what the operation says. An undo group marks the cell of its
-/// original at its generation: the one cell of an insert itself, or the cell of a delete among its deleters. Contracts see the
+/// The base form of an insert or a delete is what the operation says. An undo group marks its original at its
+/// generation: all cells of an insert, by the first one, or the cell of a delete among its deleters. Contracts see the
 /// operations of the book.
 #[derive(Drop)]
 pub struct TextBases<'a> {
@@ -86,7 +88,7 @@ impl Bases<Form> for TextBases<'_> {
         }
     }
 
-    /// The book is a valid history, of at most as many operations as there may be cells.
+    /// The book is a valid history, and its inserts put at most as many cells as there may be.
     fn known(&self) {
         self.book.known();
     }
@@ -98,12 +100,12 @@ fn form_of(op: &Op, name: &Name) -> Form
     ensures { result ≡ form_of (data_of op.now) }
 {
     match op {
-        Op::Insert { name, place, .. } => Form::Ins(Ins {
-            place: *place,
-            site: name.site,
-            len: 1,
-            name: *name,
-        }),
+        Op::Insert {
+            name,
+            place,
+            text,
+            ..
+        } => Form::Ins(put_form(*name, *place, text)),
         Op::Delete { name, place, .. } => Form::Cover(Cover {
             place: *place,
             mark: Mark::By {
@@ -112,6 +114,20 @@ fn form_of(op: &Op, name: &Name) -> Form
             },
         }),
         Op::Undo { .. } => unreachable!(),
+    }
+}
+
+// The cells of a text, put at a place.
+fn put_form(name: Name, place: u32, text: &Letters) -> Ins
+    ensures { Insert result ≡ form_of (inserting name place text.now empty) }
+{
+    text.known();
+    let site = name.site;
+    Ins {
+        place,
+        site,
+        len: text.len(),
+        name,
     }
 }
 

@@ -29,9 +29,9 @@ context_of_original h v o n i e y =
 pub record IsInsertOp (h : List OpData) (m : Member) (a : Ins) : Type 0 where
   pub name : NameData
   pub place : ℕ
-  pub character : ℕ
+  pub text : List ℕ
   pub context : ContextData
-  pub there : IsIn (inserting name place character context) h
+  pub there : IsIn (inserting name place text context) h
   pub is : m ≡ Original name
   pub named : a.name ≡ name
   pub placed : a.place ≡ place
@@ -39,16 +39,16 @@ pub record IsInsertOp (h : List OpData) (m : Member) (a : Ins) : Type 0 where
 module _ (h : List OpData) (v : IsValid h) (form : Member → Form) (forms : AreBaseForms h form) where
   of_original : (n : NameData) (a : Ins) → form (Original n) ≡ Insert a → (o : OpData) → IsIn o h → member_of o ≡ Original n
       → IsInsertOp h (Original n) a
-  of_original n a base (inserting m p ch c) i e =
+  of_original n a base (inserting m p text c) i e =
       let s : m ≡ n = (cc) in
-      let there : IsIn (inserting n p ch c) h = subst (λ (x : NameData). IsIn (inserting x p ch c) h) s i in
-      let f = forms.inserts n p ch c there in
+      let there : IsIn (inserting n p text c) h = subst (λ (x : NameData). IsIn (inserting x p text c) h) s i in
+      let f = forms.inserts n p text c there in
       let q : Insert f.ins ≡ Insert a = sym f.is ∙ base in
       let r : f.ins ≡ a = (cc) in
       record {
         name = n;
         place = p;
-        character = ch;
+        text = text;
         context = c;
         there = there;
         is = refl;

@@ -6,7 +6,7 @@ use Rattle.op_name.specs.declared.member.Member.TheVariants.{Original, Group}
 use Rattle.op_name.specs.NameData.{NameData}
 use Rattle.context_vector.specs.Contexts.{ContextData}
 use Rattle.context_diff.specs.Operations.{OpData, member_of}
-use Rattle.context_diff.specs.Histories.{members_in, is_known, inserts_in, IsNext, IsValid, IsValidAfter}
+use Rattle.context_diff.specs.Histories.{members_in, is_known, cells_in, IsNext, IsValid, IsValidAfter}
 use Rattle.context_diff.proofs.CallerLemmas.{in_known, contains_cases, contains_here, contains_later, contains_none, shifted, complete, group_facts}
 use Rattle.ttf_form.specs.Families.{IsIn}
 
@@ -54,7 +54,7 @@ placed_after b (p ∷ ps) v o (inr i) = subst (λ (h : List OpData). IsPlacedIn 
 pub placed_in : (h : List OpData) → IsValid h → (o : OpData) → IsIn o h → IsPlacedIn h o
 placed_in h v o i = placed_after [] h v o i
 
--- a longer list has as many inserts of a context, or more
-pub inserts_behind : (h k : List OpData) (c : ContextData) → inserts_in h c ≤ inserts_in (h ++ k) c
-inserts_behind [] k c = omega arith
-inserts_behind (o ∷ os) k c = let rest = inserts_behind os k c in omega arith
+-- a longer list has as many cells of a context, or more
+pub cells_behind : (h k : List OpData) (c : ContextData) → cells_in h c ≤ cells_in (h ++ k) c
+cells_behind [] k c = omega arith
+cells_behind (o ∷ os) k c = let rest = cells_behind os k c in omega arith

@@ -1,12 +1,12 @@
 -- The places of base forms are within the cells of their base contexts.
-use Rattle.std.proofs.Common.{◌≡◌, ℕ, ◌+◌, ◌<◌, ◌≤◌, Bool, true, false, ◌&&◌, if◌then◌else◌, List, [], ◌∷◌, ◌++◌, inl, inr, refl, ap, sym, ◌∙◌, subst, arith}
+use Rattle.std.proofs.Common.{◌≡◌, ℕ, ◌+◌, ◌<◌, ◌≤◌, Bool, true, false, if◌then◌else◌, List, [], ◌∷◌, ◌++◌, inl, inr, refl, ap, sym, ◌∙◌, subst, arith, length}
 use Rattle.std.proofs.lemmas.Bool.{false_from_ne_true, cases_Bool}
 use Rattle.op_name.specs.NameData.{NameData}
 use Rattle.op_name.specs.declared.member.Member.{Member}
 use Rattle.op_name.specs.declared.member.Member.TheVariants.{Original, Group}
 use Rattle.context_vector.specs.Contexts.{ContextData, has}
-use Rattle.context_diff.specs.Operations.{OpData, inserting, deleting, undoing, member_of, context_of, is_insert}
-use Rattle.context_diff.specs.Histories.{members_in, inserts_in, IsValid}
+use Rattle.context_diff.specs.Operations.{OpData, inserting, deleting, undoing, member_of, context_of, cells_put}
+use Rattle.context_diff.specs.Histories.{members_in, cells_in, IsValid}
 use Rattle.context_diff.specs.Bases.{base_has}
 use Rattle.context_diff.proofs.CallerLemmas.{IsComplete, complete, group_has_target, base_listed, base_closed, base_itself, known_in, in_known}
 use Rattle.ttf_form.specs.declared.ins.Ins.{Ins}
@@ -15,7 +15,7 @@ use Rattle.ttf_form.specs.declared.form.Form.TheVariants.{Ins as Insert, Cover a
 use Rattle.ttf_form.specs.Forms.{extent_of, IsBoundedForm}
 use Rattle.ttf_form.specs.Families.{IsIn, sum_where}
 use Rattle.undo_group.specs.BaseForms.{AreBaseForms}
-use Rattle.undo_group.specs.Laws.Members.{listed_member, placed_in, inserts_behind}
+use Rattle.undo_group.specs.Laws.Members.{listed_member, placed_in, cells_behind}
 use Rattle.undo_group.specs.Laws.Sums.{sum_within, sum_more}
 use Rattle.undo_group.specs.Laws.Inserts.{context_of_original}
 
@@ -26,49 +26,49 @@ module _ (h : List OpData) (v : IsValid h) (form : Member → Form) (forms : Are
   abbrev weight_of : (Member → Bool) → ℕ
   weight_of D = sum_where D (λ x. extent_of (form x)) (members_in h)
 
-  -- the inserts of a context weigh at least as much as they are many
-  inserts_weigh : (os : List OpData) (c : ContextData) (D : Member → Bool) → ((o : OpData) → IsIn o os → IsIn o h)
-      → ((y : Member) → has c y ≡ true → D y ≡ true) → inserts_in os c ≤ sum_where D (λ x. extent_of (form x)) (members_in os)
-  inserts_weigh [] c D all within = omega arith
-  inserts_weigh (o ∷ os) c D all within =
-      let ih = inserts_weigh os c D (λ p i. all p (inr i)) within in
+  -- the inserts of a context weigh at least as much as they have cells
+  cells_weigh : (os : List OpData) (c : ContextData) (D : Member → Bool) → ((o : OpData) → IsIn o os → IsIn o h)
+      → ((y : Member) → has c y ≡ true → D y ≡ true) → cells_in os c ≤ sum_where D (λ x. extent_of (form x)) (members_in os)
+  cells_weigh [] c D all within = omega arith
+  cells_weigh (o ∷ os) c D all within =
+      let ih = cells_weigh os c D (λ p i. all p (inr i)) within in
       let here = weigh o (all o (inl refl)) in
       omega arith
     where
       weigh : (p : OpData) → IsIn p h
-          → (if is_insert p && has c (member_of p) then 1 else 0) ≤ (if D (member_of p) then extent_of (form (member_of p)) else 0)
-      weigh (inserting n p ch k) i = elim (cases_Bool (has c (Original n))) [
+          → (if has c (member_of p) then cells_put p else 0) ≤ (if D (member_of p) then extent_of (form (member_of p)) else 0)
+      weigh (inserting n p text k) i = elim (cases_Bool (has c (Original n))) [
         | inl q ↦ let f =
-            forms.inserts n p ch k i in let one : extent_of (form (Original n)) ≡ 1 = ap extent_of f.is ∙ f.len in
-            rw (q, within (Original n) q, one) (omega arith)
+            forms.inserts n p text k i in let size : extent_of (form (Original n)) ≡ length text = ap extent_of f.is ∙ f.len in
+            rw (q, within (Original n) q, size) (omega arith)
         | inr q ↦ rw q (omega arith)
       ]
-      weigh (deleting n p k) i = omega arith
-      weigh (undoing a t g k) i = omega arith
+      weigh (deleting n p k) i = grind arith
+      weigh (undoing a t g k) i = grind arith
 
-  -- the inserts before an operation, of its own context, weigh at most as much as that context
+  -- the cells before an operation, of its own context, weigh at most as much as that context
   placed_weight : (o : OpData) (n : NameData) (i : IsIn o h) → member_of o ≡ Original n
-      → inserts_in (placed_in h v o i).before (context_of o) ≤ weight_of (base_has h (Original n))
+      → cells_in (placed_in h v o i).before (context_of o) ≤ weight_of (base_has h (Original n))
   placed_weight o n i is =
       let a = placed_in h v o i in
-      let one = inserts_weigh h (context_of o) (base_has h (Original n)) (λ p j. j) (λ y e. context_of_original h v o n i is y ∙ e) in
-      let two = inserts_behind a.before (o ∷ a.after) (context_of o) in
-      let all : inserts_in h (context_of o) ≡ inserts_in (a.before ++ (o ∷ a.after)) (context_of o) =
-      ap (λ (l : List OpData). inserts_in l (context_of o)) a.whole in
+      let one = cells_weigh h (context_of o) (base_has h (Original n)) (λ p j. j) (λ y e. context_of_original h v o n i is y ∙ e) in
+      let two = cells_behind a.before (o ∷ a.after) (context_of o) in
+      let all : cells_in h (context_of o) ≡ cells_in (a.before ++ (o ∷ a.after)) (context_of o) =
+      ap (λ (l : List OpData). cells_in l (context_of o)) a.whole in
       omega arith
 
-  insert_place : (n : NameData) (p ch : ℕ) (c : ContextData) → IsIn (inserting n p ch c) h → p ≤ weight_of (base_has h (Original n))
-  insert_place n p ch c i =
-      let o = inserting n p ch c in
+  insert_place : (n : NameData) (p : ℕ) (text : List ℕ) (c : ContextData) → IsIn (inserting n p text c) h → p ≤ weight_of (base_has h (Original n))
+  insert_place n p text c i =
+      let o = inserting n p text c in
       let w = placed_weight o n i refl in
-      let q : p ≤ inserts_in (placed_in h v o i).before c = (placed_in h v o i).next.placed in
+      let q : p ≤ cells_in (placed_in h v o i).before c = (placed_in h v o i).next.placed in
       omega arith
 
   delete_place : (n : NameData) (p : ℕ) (c : ContextData) → IsIn (deleting n p c) h → p < weight_of (base_has h (Original n))
   delete_place n p c i =
       let o = deleting n p c in
       let w = placed_weight o n i refl in
-      let q : p < inserts_in (placed_in h v o i).before c = (placed_in h v o i).next.placed in
+      let q : p < cells_in (placed_in h v o i).before c = (placed_in h v o i).next.placed in
       omega arith
 
   group_wider : (t : NameData) (g : ℕ) → IsIn (Group t g) (members_in h) → (y : Member) → base_has h (Original t) y ≡ true
@@ -94,11 +94,11 @@ module _ (h : List OpData) (v : IsValid h) (form : Member → Form) (forms : Are
 
   bounded_original : (n : NameData) (o : OpData) → IsIn o h → member_of o ≡ Original n
       → IsBoundedForm (form (Original n)) (weight_of (base_has h (Original n)))
-  bounded_original n (inserting m p ch c) i e =
+  bounded_original n (inserting m p text c) i e =
       let s : m ≡ n = (cc) in
-      let there : IsIn (inserting n p ch c) h = subst (λ (x : NameData). IsIn (inserting x p ch c) h) s i in
-      let f = forms.inserts n p ch c there in
-      let q = insert_place n p ch c there in
+      let there : IsIn (inserting n p text c) h = subst (λ (x : NameData). IsIn (inserting x p text c) h) s i in
+      let f = forms.inserts n p text c there in
+      let q = insert_place n p text c there in
       let place = f.place in
       subst (λ (x : Form). IsBoundedForm x (weight_of (base_has h (Original n)))) (sym f.is) (omega arith)
   bounded_original n (deleting m p c) i e =

@@ -1,7 +1,7 @@
 -- Sums over sets of elements of a list.
-use Rattle.std.proofs.Common.{◌≡◌, ℕ, ◌+◌, ◌≤◌, Bool, true, false, List, [], ◌∷◌, inl, inr, if◌then◌else◌, length, ap, subst, arith}
+use Rattle.std.proofs.Common.{◌≡◌, ℕ, ◌+◌, ◌≤◌, Bool, true, false, List, [], ◌∷◌, inl, inr, if◌then◌else◌, ap, subst, arith}
 use Rattle.std.proofs.lemmas.Bool.{cases_Bool}
-use Rattle.ttf_form.specs.Families.{IsIn, sum_where, total_by}
+use Rattle.ttf_form.specs.Families.{IsIn, sum_where}
 
 module _ {A : Type 0} (C D : A → Bool) (within : (x : A) → C x ≡ true → D x ≡ true) (f : A → ℕ) where
   at_within : (x : A) → (if C x then f x else 0) ≤ (if D x then f x else 0)
@@ -21,8 +21,3 @@ module _ {A : Type 0} (C D : A → Bool) (within : (x : A) → C x ≡ true → 
       let same : f x ≡ f y = ap f e in
       rw (c, d) (omega arith)
   sum_more x (y ∷ ys) lacks there (inr i) = let rest = sum_more x ys lacks there i in let here = at_within y in omega arith
-
--- a sum of ones and zeros is at most their number
-pub total_short : {A : Type 0} (f : A → ℕ) (xs : List A) → ((x : A) → f x ≤ 1) → total_by f xs ≤ length xs
-total_short f [] low = omega arith
-total_short f (x ∷ xs) low = let rest = total_short f xs low in let here = low x in omega arith
