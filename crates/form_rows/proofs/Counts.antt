@@ -1,5 +1,5 @@
--- A row that has no more forms than there are inserts that a context lacks has none of those that it has.
-use Rattle.std.proofs.Common.{◌≡◌, ℕ, zero, suc, ◌+◌, ◌-◌, ◌≤◌, Bool, true, false, not, ◌&&◌, inl, inr, List, [], ◌∷◌, ◌++◌, length, take, drop, refl, sym, ap, subst, ◌∙◌, arith, length-append}
+-- A row whose forms add no more cells than a context lacks has none of an insert that it has.
+use Rattle.std.proofs.Common.{◌≡◌, ℕ, zero, suc, ◌+◌, ◌-◌, ◌≤◌, Bool, true, false, if◌then◌else◌, inl, inr, List, [], ◌∷◌, ◌++◌, length, take, drop, refl, sym, ap, subst, ◌∙◌, arith, length-append}
 use Rattle.std.specs.Prelude.{Option, Some, None, option_map, slice_get}
 use Rattle.std.proofs.lemmas.Bool.{cases_Bool, both_ways}
 use Rattle.std.proofs.lemmas.List.{length-map, take-append-le, take-map, take_all}
@@ -7,36 +7,32 @@ use Rattle.std.proofs.lemmas.Option.{none-some, same_Some, slice_get-map, slice_
 use Rattle.op_name.specs.NameData.{NameData}
 use Rattle.op_name.specs.declared.member.Member.{Member}
 use Rattle.context_vector.specs.Contexts.{ContextData, has}
-use Rattle.context_diff.specs.Operations.{OpData, member_of, is_insert}
-use Rattle.context_diff.specs.Histories.{members_in}
-use Rattle.ttf_form.specs.Families.{IsIn}
+use Rattle.context_diff.specs.Operations.{OpData, member_of, cells_put, is_insert}
+use Rattle.context_diff.specs.Histories.{members_in, IsValid}
+use Rattle.ttf_form.specs.Families.{IsIn, total_by}
 use Rattle.transform_rec.specs.Sets.{none, plus}
 use Rattle.transform_rec.specs.Derived.{Deriving}
 use Rattle.transform_rec.specs.Executing.{IsCausalFrom}
-use Rattle.transform_rec.proofs.CallerLemmas.{derived_sound, plus_cases, plus_here, plus_keeps}
+use Rattle.transform_rec.proofs.CallerLemmas.{derived_extent, derived_sound, plus_cases, plus_here, plus_keeps}
 use Rattle.undo_group.specs.Laws.Members.{member_listed}
 use Rattle.form_rows.specs.Names.{had, had_by, AreNamed}
 use Rattle.form_rows.specs.RowSets.{Inertness, RowData, IsAdded, IsSource}
 use Rattle.form_rows.specs.Lacking.{all_but_last, lacking}
-use Rattle.form_rows.specs.Kept.{InsertsAreKept}
+use Rattle.form_rows.specs.Kept.{CoversAreInert, InsertsAreKept}
 use Rattle.form_rows.proofs.Choices.{in_take}
 use Rattle.form_rows.proofs.Cuts.{named_form}
 use Rattle.form_rows.proofs.Looks.{caught_up}
 use Rattle.form_rows.proofs.Followers.{forms_length}
 use Rattle.form_rows.proofs.Passing.{Row}
-use Rattle.form_rows.proofs.Prefixes.{one_if}
+use Rattle.form_rows.proofs.Prefixes.{some_put, lacked_of, lacked_none, lacked_all, lacked_cover}
 use Rattle.form_rows.proofs.Sources.{forms_run}
+
+abbrev one_if : Bool → ℕ
+one_if b = if b then 1 else 0
 
 not_one : (b : Bool) → one_if b ≡ 0 → b ≡ false
 not_one true e = absurd (omega arith)
 not_one false e = refl
-
--- an insert is lacked, or had, or neither
-one_at_most : (i h : Bool) → one_if (i && not h) + one_if h ≤ 1
-one_at_most true true = omega arith
-one_at_most true false = omega arith
-one_at_most false true = omega arith
-one_at_most false false = omega arith
 
 -- the place of the last operation is behind all members before it
 last_place : (h : List OpData) (before : List Member) (m : Member) → members_in h ≡ before ++ m ∷ [] → length h - 1 ≡ length before
@@ -123,56 +119,69 @@ module _ {F : Type 0} (d : Deriving F) (IsInert : F → Type 0) (n : Inertness d
             (subst (λ (y : Member). plus S (member_of o) y ≡ true) e (plus_here S (member_of o))))
       ]
 
-  no_insert : (o : OpData) → is_insert o ≡ false → one_if (is_insert o && not (has c (member_of o))) ≡ 0
-  no_insert o e = ap (λ (b : Bool). one_if (b && not (has c (member_of o)))) e
+  -- the base form of an operation: that of an insert adds its cells, of which there is one at least, and any other is inert
+  record IsBased (o : OpData) : Type 0 where
+    insert : is_insert o ≡ true → (IsInert (d.family.form (member_of o)) → ⊥)
+        × (d.inclusion.extent (d.family.form (member_of o)) ≡ cells_put o)
+    some : is_insert o ≡ true → 1 ≤ cells_put o
+    cover : is_insert o ≡ false → IsInert (d.family.form (member_of o))
 
-  in_set : (o : OpData) (hs : List OpData) (C : Member → Bool) → Near C (o ∷ hs) → C (member_of o) ≡ true
-      → one_if (is_insert o && not (has c (member_of o))) ≡ 0
+  in_set : (o : OpData) (hs : List OpData) (C : Member → Bool) → Near C (o ∷ hs) → C (member_of o) ≡ true → lacked_of c o ≡ 0
   in_set o hs C near there = elim (cases_Bool (has c (member_of o))) [
-    | inl h ↦ elim (cases_Bool (is_insert o)) [
-      | inl i ↦ ap (λ (b : Bool). one_if (b && not (has c (member_of o)))) i ∙ ap (λ (b : Bool). one_if (not b)) h
-      | inr i ↦ no_insert o i
-    ]
-    | inr lacks ↦ no_insert o (near o (inl refl) there lacks)
+    | inl had ↦ lacked_none c o had
+    | inr lacks ↦ lacked_cover c o (near o (inl refl) there lacks)
   ]
 
-  kept : (o : OpData) → (is_insert o ≡ true → IsInert (d.family.form (member_of o)) → ⊥) → IsInert (d.family.form (member_of o))
-      → is_insert o ≡ false
-  kept o other inert = elim (cases_Bool (is_insert o)) [ inl i ↦ absurd (other i inert) | inr e ↦ e ]
+  kept : (o : OpData) → IsBased o → IsInert (d.family.form (member_of o)) → is_insert o ≡ false
+  kept o b inert = elim (cases_Bool (is_insert o)) [ inl i ↦ absurd ((b.insert i).0 inert) | inr e ↦ e ]
 
-  counted : (hs : List OpData) (S C : Member → Bool) (fs : List F) → InsertsAreKept IsInert d.family.form hs
+  -- a form in a row adds the cells of its insert: these are lacked, or the form is had
+  one_form : (o : OpData) → IsBased o → (IsInert (d.family.form (member_of o)) → ⊥) → (f : F)
+      → d.inclusion.extent f ≡ d.inclusion.extent (d.family.form (member_of o)) → had_by named c f ≡ has c (member_of o)
+      → lacked_of c o + one_if (had_by named c f) ≤ d.inclusion.extent f
+  one_form o b other f size same = elim (cases_Bool (is_insert o)) [
+    | inl i ↦ let adds = (b.insert i).1 in
+        elim (cases_Bool (has c (member_of o))) [
+          | inl there ↦ omega (arith, size, adds, b.some i, lacked_none c o there, ap one_if (same ∙ there))
+          | inr out ↦ omega (arith, size, adds, lacked_all c o out, ap one_if (same ∙ out))
+        ]
+    | inr e ↦ absurd (other (b.cover e))
+  ]
+
+  counted : (hs : List OpData) (S C : Member → Bool) (fs : List F) → ((o : OpData) → IsIn o hs → IsBased o)
       → IsCausalFrom d.family S (members_in hs) → Near C hs → Row d IsInert n C (members_in hs) fs
-      → lacking hs c + had_number fs ≤ length fs
-  counted [] S C [] other r near row = omega arith
-  counted [] S C (f ∷ fs) other r near row = absurd row
-  counted (o ∷ hs) S C [] other r near (inl a) =
-      let rest = counted hs (plus S (member_of o)) C [] (λ p i. other p (inr i)) r.1 (λ p i. near p (inr i)) a.1 in
+      → lacking hs c + had_number fs ≤ total_by d.inclusion.extent fs
+  counted [] S C [] b r near row = omega arith
+  counted [] S C (f ∷ fs) b r near row = absurd row
+  counted (o ∷ hs) S C [] b r near (inl a) =
+      let rest = counted hs (plus S (member_of o)) C [] (λ p i. b p (inr i)) r.1 (λ p i. near p (inr i)) a.1 in
       omega (arith, rest, in_set o hs C near a.0)
-  counted (o ∷ hs) S C [] other r near (inr q) =
-      let rest = counted hs (plus S (member_of o)) (plus C (member_of o)) [] (λ p i. other p (inr i)) r.1 (near_rest o hs S C r near) q.1 in
-      omega (arith, rest, no_insert o (kept o (other o (inl refl)) q.0.0))
-  counted (o ∷ hs) S C (f ∷ fs) other r near (inl a) =
-      let rest = counted hs (plus S (member_of o)) C (f ∷ fs) (λ p i. other p (inr i)) r.1 (λ p i. near p (inr i)) a.1 in
+  counted (o ∷ hs) S C [] b r near (inr q) =
+      let rest = counted hs (plus S (member_of o)) (plus C (member_of o)) [] (λ p i. b p (inr i)) r.1 (near_rest o hs S C r near) q.1 in
+      omega (arith, rest, lacked_cover c o (kept o (b o (inl refl)) q.0.0))
+  counted (o ∷ hs) S C (f ∷ fs) b r near (inl a) =
+      let rest = counted hs (plus S (member_of o)) C (f ∷ fs) (λ p i. b p (inr i)) r.1 (λ p i. near p (inr i)) a.1 in
       omega (arith, rest, in_set o hs C near a.0)
-  counted (o ∷ hs) S C (f ∷ fs) other r near (inr (inl q)) =
+  counted (o ∷ hs) S C (f ∷ fs) b r near (inr (inl q)) =
       let rest =
-      counted hs (plus S (member_of o)) (plus C (member_of o)) (f ∷ fs) (λ p i. other p (inr i)) r.1 (near_rest o hs S C r near) q.1 in
-      omega (arith, rest, no_insert o (kept o (other o (inl refl)) q.0.0))
-  counted (o ∷ hs) S C (f ∷ fs) other r near (inr (inr k)) =
-      let rest = counted hs (plus S (member_of o)) (plus C (member_of o)) fs (λ p i. other p (inr i)) r.1 (near_rest o hs S C r near) k.1 in
+      counted hs (plus S (member_of o)) (plus C (member_of o)) (f ∷ fs) (λ p i. b p (inr i)) r.1 (near_rest o hs S C r near) q.1 in
+      omega (arith, rest, lacked_cover c o (kept o (b o (inl refl)) q.0.0))
+  counted (o ∷ hs) S C (f ∷ fs) b r near (inr (inr k)) =
+      let rest = counted hs (plus S (member_of o)) (plus C (member_of o)) fs (λ p i. b p (inr i)) r.1 (near_rest o hs S C r near) k.1 in
       let s = names (member_of o) (derived_sound d (member_of o) C f k.0.1).listed k.0.0 in
       let same : had_by named c f ≡ has c (member_of o) =
       ap (had c) (named_form d IsInert n named named_over (member_of o) C f k.0.1 ∙ s.says) ∙ ap (has c) (sym s.is) in
-      omega (arith, rest, one_at_most (is_insert o) (has c (member_of o)), ap one_if same)
+      omega (arith, rest, one_form o (b o (inl refl)) k.0.0 f (derived_extent d (member_of o) C f k.0.1) same)
 
-  -- a row out of which m is executed, once it has looked at all that was: with no more forms than inserts before m that its context
-  -- lacks, it has none of those that the context has
-  pub row_apart : (m : Member) → ((y : Member) → has c y ≡ d.family.context m y) → (h : List OpData)
-      → InsertsAreKept IsInert d.family.form h → (C : Member → Bool) (xs : List Member) → members_in h ≡ xs ++ m ∷ []
+  -- a row out of which m is executed, once it has looked at all that was: where its forms add no more cells than its context lacks
+  -- of those before m, it has none of an insert that the context has
+  pub row_apart : (m : Member) → ((y : Member) → has c y ≡ d.family.context m y) → (h : List OpData) → IsValid h
+      → InsertsAreKept IsInert d.inclusion.extent d.family.form h → CoversAreInert IsInert d.family.form h
+      → (C : Member → Bool) (xs : List Member) → members_in h ≡ xs ++ m ∷ []
       → (executed : List F) (r : RowData F) → IsSource d.inclusion.over IsInert d.family m C xs executed r
-      → (fs : List F) → IsAdded IsInert (drop r.upto executed) r.forms fs → length fs ≤ lacking (all_but_last h) c → (f : F) → IsIn f fs
-      → had_by named c f ≡ false
-  row_apart m context h other C xs whole executed r w fs added few =
+      → (fs : List F) → IsAdded IsInert (drop r.upto executed) r.forms fs → total_by d.inclusion.extent fs ≤ lacking (all_but_last h) c
+      → (f : F) → IsIn f fs → had_by named c f ≡ false
+  row_apart m context h v inserts covers C xs whole executed r w fs added few =
       let before = all_but_last h in
       let all : members_in before ≡ xs = before_members h xs m whole in
       let size : length executed ≡ length xs = forms_length d xs none executed w.executed in
@@ -181,8 +190,10 @@ module _ {F : Type 0} (d : Deriving F) (IsInert : F → Type 0) (n : Inertness d
       let row : Row d IsInert n C (members_in before) fs = subst (λ (l : List Member). Row d IsInert n C l fs) (long ∙ sym all) at.row in
       let run : IsCausalFrom d.family none (members_in before) =
       subst (λ (l : List Member). IsCausalFrom d.family none l) (sym all) (forms_run d xs none executed w.executed) in
-      let others : InsertsAreKept IsInert d.family.form before = λ o i. other o (in_take o h (length h - 1) i) in
+      let based : (o : OpData) → IsIn o before → IsBased o = λ o i.
+      let there : IsIn o h = in_take o h (length h - 1) i in
+      record { insert = inserts o there; some = some_put h v o there; cover = covers o there } in
       let near : Near C before =
-      λ o i there lacks. kept o (others o i) (w.near (member_of o) there (sym (context (member_of o)) ∙ lacks)) in
-      let sum = counted before none C fs others run near row in
+      λ o i there lacks. kept o (based o i) (w.near (member_of o) there (sym (context (member_of o)) ∙ lacks)) in
+      let sum = counted before none C fs based run near row in
       none_had fs (omega (arith, sum, few))

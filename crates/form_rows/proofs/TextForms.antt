@@ -12,7 +12,7 @@ use Rattle.context_diff.specs.Bases.{base_has}
 use Rattle.context_diff.proofs.CallerLemmas.{base_listed, base_value, complete, context_is, known_member}
 use Rattle.ttf_form.specs.declared.form.Form.{Form}
 use Rattle.ttf_form.specs.declared.form.Form.TheVariants.{Ins as Insert, Cover as Covered}
-use Rattle.ttf_form.specs.Forms.{IsInertForm}
+use Rattle.ttf_form.specs.Forms.{IsInertForm, extent_of}
 use Rattle.ttf_form.specs.Families.{IsIn}
 use Rattle.transform_rec.specs.Histories.{family_in}
 use Rattle.undo_group.specs.BaseForms.{original_form, group_form, base_form}
@@ -27,8 +27,8 @@ group_inert (Covered d) t g = tt
 
 named_op : (h : List OpData) → IsValid h → (o : OpData) → IsIn o h → (IsInertForm (base_form h (member_of o)) → ⊥)
     → IsNamed insert_of (family_in h (base_form h)) (member_of o)
-named_op h v (inserting n p ch c) i other =
-    let f = (base_forms_hold h v).inserts n p ch c i in
+named_op h v (inserting n p text c) i other =
+    let f = (base_forms_hold h v).inserts n p text c i in
     record { name = n; is = refl; says = ap insert_of f.is ∙ ap (λ (x : NameData). Some x) f.name }
 named_op h v (deleting n p c) i other = let f = (base_forms_hold h v).deletes n p c i in absurd (other (subst IsInertForm (sym f.is) tt))
 named_op h v (undoing a t g c) i other = absurd (other (group_inert (original_form h t) t g))
@@ -42,14 +42,17 @@ text_names h v x i other =
 
 -- all others are inert
 pub text_covers : (h : List OpData) → IsValid h → CoversAreInert IsInertForm (base_form h) h
-text_covers h v (inserting n p ch c) i e = absurd (both_ways true e refl)
+text_covers h v (inserting n p text c) i e = absurd (both_ways true e refl)
 text_covers h v (deleting n p c) i e = let f = (base_forms_hold h v).deletes n p c i in subst IsInertForm (sym f.is) tt
 text_covers h v (undoing a t g c) i e = group_inert (original_form h t) t g
 
-pub text_inserts : (h : List OpData) → IsValid h → InsertsAreKept IsInertForm (base_form h) h
-text_inserts h v (inserting n p ch c) i e inert = let f = (base_forms_hold h v).inserts n p ch c i in subst IsInertForm f.is inert
-text_inserts h v (deleting n p c) i e inert = both_ways false refl e
-text_inserts h v (undoing a t g c) i e inert = both_ways false refl e
+-- that of an insert adds its cells
+pub text_inserts : (h : List OpData) → IsValid h → InsertsAreKept IsInertForm extent_of (base_form h) h
+text_inserts h v (inserting n p text c) i e =
+    let f = (base_forms_hold h v).inserts n p text c i in
+    ((λ inert. subst IsInertForm f.is inert), ap extent_of f.is ∙ f.len)
+text_inserts h v (deleting n p c) i e = absurd (both_ways false refl e)
+text_inserts h v (undoing a t g c) i e = absurd (both_ways false refl e)
 
 -- the context of an original is its base context
 pub original_base : (h : List OpData) → IsValid h → (o : OpData) (n : NameData) → Contains h o → member_of o ≡ Original n → (y : Member)

@@ -21,6 +21,23 @@ each_more {F} P row i f less is here h k j =
       | inr (inr a) ↦ absurd a
     ]
 
+pub total-append : {F : Type 0} (extent : F → ℕ) (xs ys : List F) → total_by extent (xs ++ ys) ≡ total_by extent xs + total_by extent ys
+total-append extent [] ys = omega arith
+total-append extent (x ∷ xs) ys = let rest = total-append extent xs ys in omega (arith, rest)
+
+-- the cells of two lists are those of both in one
+pub counted-append : {F : Type 0} (extent : F → ℕ) (xs ys : List F) (a b s : ℕ) → AreCounted extent a xs → AreCounted extent b ys
+    → s ≡ min (a + b) 4294967295 → AreCounted extent s (xs ++ ys)
+counted-append extent xs ys a b s h g e less =
+    let total = total-append extent xs ys in
+    let one = h (omega (arith, e, less)) in
+    let two = g (omega (arith, e, less)) in
+    omega (arith, total, one, two, e, less)
+
+pub counted-one : {F : Type 0} (extent : F → ℕ) (xs : List F) (f : F) (a b s : ℕ) → AreCounted extent a xs → b ≡ extent f
+    → s ≡ min (a + b) 4294967295 → AreCounted extent s (xs ++ f ∷ [])
+counted-one extent xs f a b s h e = counted-append extent xs (f ∷ []) a b s h (λ less. omega (arith, e))
+
 module _ {F : Type 0} (row : List F) (i : ℕ) (f : F) (less : i < length row) (is : f ≡ get_or row i f) where
   pub within_more : (place : F → ℕ) (low high low2 high2 : ℕ) → low2 ≤ low → low2 ≤ place f → high ≤ high2 → place f ≤ high2
       → AreWithin place low high (take i row) → AreWithin place low2 high2 (take (i + 1) row)
@@ -31,21 +48,11 @@ module _ {F : Type 0} (row : List F) (i : ℕ) (f : F) (less : i < length row) (
       lower : (a b c : ℕ) → a ≤ b → b ≤ c → a ≤ c
       lower a b c h k = omega arith
 
-  total-append : (extent : F → ℕ) (xs ys : List F) → total_by extent (xs ++ ys) ≡ total_by extent xs + total_by extent ys
-  total-append extent [] ys = omega arith
-  total-append extent (x ∷ xs) ys =
-      ap (λ (n : ℕ). extent x + n) (total-append extent xs ys) ∙ three (extent x) (total_by extent xs) (total_by extent ys)
-    where
-      three : (a b c : ℕ) → a + (b + c) ≡ a + b + c
-      three a b c = omega arith
-
   pub counted_more : (extent : F → ℕ) (cells more cells2 : ℕ) → more ≡ extent f → cells2 ≡ min (cells + more) 4294967295
       → AreCounted extent cells (take i row) → AreCounted extent cells2 (take (i + 1) row)
   counted_more extent cells more cells2 e s h less2 =
       let t : take (i + 1) row ≡ take i row ++ f ∷ [] = take_more row i f less ∙ ap (λ (y : F). take i row ++ y ∷ []) (sym is) in
-      let total = ap (total_by extent) t ∙ total-append extent (take i row) (f ∷ []) in
-      let before = h (omega (arith, s, less2)) in
-      omega (arith, total, before, e, s, less2)
+      ap (total_by extent) t ∙ counted-one extent (take i row) f cells more cells2 h e s less2
 
   pub from_more : (named : F → Option NameData) (site least least2 : ℕ) → least2 ≤ least
       → ((n : NameData) → named f ≡ Some n → 0 < least2 → (n.site ≡ site) × (least2 ≤ n.number)) → AreFrom named site least (take i row)

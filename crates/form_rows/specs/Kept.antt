@@ -4,7 +4,7 @@ use Rattle.op_name.specs.NameData.{NameData}
 use Rattle.context_vector.specs.Contexts.{ContextData, has}
 use Rattle.op_name.specs.declared.member.Member.{Member}
 use Rattle.op_name.specs.declared.member.Member.TheVariants.{Original}
-use Rattle.context_diff.specs.Operations.{OpData, member_of, is_insert}
+use Rattle.context_diff.specs.Operations.{OpData, member_of, cells_put, is_insert}
 use Rattle.context_diff.specs.Histories.{members_in}
 use Rattle.ttf_form.specs.declared.form.Form.{Form}
 use Rattle.ttf_form.specs.Forms.{form_over, IsInertForm}
@@ -68,9 +68,10 @@ abbrev pub forms_in : {F : Type 0} → List (AuthorRow F) → ℕ
 forms_in [] = 0
 forms_in (k ∷ ks) = length k.row.forms + forms_in ks
 
--- the base form of an insert isn't inert
-abbrev pub InsertsAreKept : {F : Type 0} → (F → Type 0) → (Member → F) → List OpData → Type 0
-InsertsAreKept IsInert form h = (o : OpData) → IsIn o h → is_insert o ≡ true → IsInert (form (member_of o)) → ⊥
+-- the base form of an insert isn't inert, and adds the cells that the insert puts
+abbrev pub InsertsAreKept : {F : Type 0} → (F → Type 0) → (F → ℕ) → (Member → F) → List OpData → Type 0
+InsertsAreKept IsInert extent form h =
+    (o : OpData) → IsIn o h → is_insert o ≡ true → (IsInert (form (member_of o)) → ⊥) × (extent (form (member_of o)) ≡ cells_put o)
 
 -- the base form of an operation that is no insert is inert
 abbrev pub CoversAreInert : {F : Type 0} → (F → Type 0) → (Member → F) → List OpData → Type 0

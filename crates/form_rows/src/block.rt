@@ -186,7 +186,7 @@ fn bounds<F: Placed>(forms: &[F]) -> (u32, u32)
 }
 
 // The number of cells that the forms add, or `CELLS` if that is too great.
-fn cells_of<F: Placed>(forms: &[F]) -> u32
+pub(crate) fn cells_of<F: Placed>(forms: &[F]) -> u32
     ensures { AreCounted F.extent result forms.now }
 {
     let mut cells: u32 = 0;

@@ -4,9 +4,9 @@ ghost use Rattle.std.specs.Prelude.{◌≡◌, ◌<◌, ◌≤◌, ◌++◌, ◌
 ghost use Rattle.ttf_form.specs.Families.{IsIn};
 ghost use Rattle.form_rows.specs.Names.{had_by};
 ghost use Rattle.form_rows.specs.RowSets.{form_after, row_after, PassFits};
-ghost use Rattle.form_rows.specs.Code.Blocks.{joined};
+ghost use Rattle.form_rows.specs.Code.Blocks.{joined, AreCounted};
 
-use crate::block::Block;
+use crate::block::{Block, cells_of};
 use crate::had::has_none;
 use crate::named::Named;
 use crate::passes::pass;
@@ -19,23 +19,25 @@ use std::marker::Model;
 const SIZE: usize = 32;
 
 /// A list of forms: most of them in blocks, and then the last ones, which aren't enough for a block yet or for which there
-/// was no memory to make one.
+/// was no memory to make one. With them goes the number of cells that they add (`CELLS` where that isn't known).
 #[derive(Drop)]
 pub(crate) struct Blocks<F: Named> {
     blocks: Vec<Block<F>>,
     rest: Vec<F>,
     len: usize,
+    cells: u32,
 }
 
 impl<F: Named> Model for Blocks<F> {
     ghost use Rattle.std.specs.Prelude.{◌≡◌, List, ◌++◌, length};
-    ghost use Rattle.form_rows.specs.Code.Blocks.{joined};
+    ghost use Rattle.form_rows.specs.Code.Blocks.{joined, AreCounted};
 
     ghost Value = { List F };
 
     ghost view = { λ b. joined b.blocks.items ++ b.rest.items };
 
-    ghost invariant = { λ b. b.len ≡ length (joined b.blocks.items ++ b.rest.items) };
+    ghost invariant = { λ b. (b.len ≡ length (joined b.blocks.items ++ b.rest.items))
+        × AreCounted F.extent b.cells (joined b.blocks.items ++ b.rest.items) };
 }
 
 impl<F: Named + Copy> Blocks<F> {
@@ -47,6 +49,7 @@ impl<F: Named + Copy> Blocks<F> {
             blocks: Vec::new(alloc),
             rest: Vec::new(alloc),
             len: 0,
+            cells: 0,
         }
     }
 
@@ -55,10 +58,16 @@ impl<F: Named + Copy> Blocks<F> {
         ensures { result ≡ forms.items }
     {
         let len = forms.len();
+        let cells = cells_of(forms.as_slice());
         let mut rest = forms;
         let mut blocks = Vec::new(*rest.allocator());
         settle(&mut blocks, &mut rest);
-        Blocks { blocks, rest, len }
+        Blocks {
+            blocks,
+            rest,
+            len,
+            cells,
+        }
     }
 
     /// The number of forms.
@@ -66,6 +75,13 @@ impl<F: Named + Copy> Blocks<F> {
         ensures { result ≡ length self.now }
     {
         self.len
+    }
+
+    /// The number of cells that the forms add, or `CELLS` if that is too great.
+    pub(crate) fn cells(&self) -> u32
+        ensures { AreCounted F.extent result self.now }
+    {
+        self.cells
     }
 
     /// A list without forms, which takes its memory where this one does.
@@ -108,6 +124,7 @@ impl<F: Named + Copy> Blocks<F> {
         add_all(&mut self.rest, more)?;
         settle(&mut self.blocks, &mut self.rest);
         self.len = len;
+        self.cells = self.cells.saturating_add(cells_of(more));
         Ok(())
     }
 

@@ -1,9 +1,9 @@
-//! First members of a book whose inserts a context has, and how many inserts it lacks.
+//! First members of a book whose inserts a context has, and how many cells it lacks.
 
-ghost use Rattle.std.specs.Prelude.{◌≡◌, ◌-◌, ◌≤◌, ◌&&◌, not, Some, IfSome, IsTrue, if◌then◌else◌, length, slice_get};
+ghost use Rattle.std.specs.Prelude.{◌≡◌, ◌-◌, ◌≤◌, ◌&&◌, not, Some, IfSome, IsTrue, length, slice_get};
 ghost use Rattle.context_vector.specs.Contexts.{count_of, has, Within};
-ghost use Rattle.context_diff.specs.Operations.{OpData, member_of, is_insert};
-ghost use Rattle.context_diff.specs.Histories.{inserts_in};
+ghost use Rattle.context_diff.specs.Operations.{OpData, member_of, cells_put, is_insert};
+ghost use Rattle.context_diff.specs.Histories.{cells_in};
 ghost use Rattle.form_rows.specs.Lacking.{all_but_last, lacking};
 ghost use Rattle.form_rows.specs.Firsts.{AreFirstMembers, HasFirst, IsLastContext};
 
@@ -20,8 +20,8 @@ pub struct FirstMembers {
 }
 
 impl FirstMembers {
-    /// Those of the last operation, which has this context and lacks so many of the inserts before it, if no more than `most`
-    /// others come after them.
+    /// Those of the last operation, which has this context and lacks so many of the cells before it, if no more than `most`
+    /// cells of others come after them. An operation that puts none counts as one.
     pub(crate) fn of_last(
         book: &Book,
         context: &Vector,
@@ -68,54 +68,48 @@ fn last_place(book: &Book) -> u32
     book.len().saturating_sub(1)
 }
 
-/// How many of the inserts before it the last operation of the book, which has this context, lacks.
-pub(crate) fn lacked_inserts(book: &Book, context: &Vector) -> u32
+/// How many of the cells before it the last operation of the book, which has this context, lacks.
+pub(crate) fn lacked_cells(book: &Book, context: &Vector) -> u32
     requires within { Within context.now.set book.now.have.set }
     requires last { IsLastContext book.now.ops context.now.set }
     ensures { result ≡ lacking (all_but_last book.now.ops) context.now.set }
 {
     book.known();
-    let had = inserts_of_last(book, context);
-    let last = is_insert_at(book, last_place(book));
-    without_one(book.inserts().saturating_sub(had), last)
+    let had = cells_of_last(book, context);
+    let last = cells_at(book, last_place(book));
+    book.cells().saturating_sub(had).saturating_sub(last)
 }
 
-// The number, or one less if there is one more to be left out.
-fn without_one(number: u32, one: bool) -> u32
-    ensures { result ≡ number - (if one then 1 else 0) }
-{
-    number.saturating_sub(u32::from(one))
-}
-
-// How many inserts the context of the book's last operation has.
-fn inserts_of_last(book: &Book, context: &Vector) -> u32
+// How many cells the context of the book's last operation has.
+fn cells_of_last(book: &Book, context: &Vector) -> u32
     requires within { Within context.now.set book.now.have.set }
     requires last { IsLastContext book.now.ops context.now.set }
-    ensures { result ≡ inserts_in book.now.ops context.now.set }
+    ensures { result ≡ cells_in book.now.ops context.now.set }
 {
     match book.last_cells() {
         Some(cells) => cells,
-        None => book.inserts_in(context),
+        None => book.cells_in(context),
     }
 }
 
-// Whether the i-th operation is an insert.
-fn is_insert_at(book: &Book, i: u32) -> bool
-    ensures { (o : OpData) → slice_get book.now.ops i ≡ Some o → result ≡ is_insert o }
+// How many cells the i-th operation puts.
+fn cells_at(book: &Book, i: u32) -> u32
+    ensures { (o : OpData) → slice_get book.now.ops i ≡ Some o → result ≡ cells_put o }
 {
     match book.op(i) {
-        Some(op) => op.is_insert(),
-        None => false,
+        Some(op) => op.cells(),
+        None => 0,
     }
 }
 
-// How many of the first operations of the book have all their inserts in the context, if no more than `most` come between them
-// and the last one which aren't inserts that the context lacks.
+// How many of the first operations of the book have all their inserts in the context, if no more than `most` cells of others than
+// the inserts that it lacks come between them and the last one. An operation that puts none counts as one.
 fn common(book: &Book, context: &Vector, lacked: u32, most: usize) -> Option<u32>
     requires { lacked ≡ lacking (all_but_last book.now.ops) context.now.set }
     ensures has { IfSome result (HasFirst book.now.ops context.now.set) }
     ensures within { IfSome result (λ k. k ≤ length book.now.ops) }
 {
+    book.known();
     let mut lacked = lacked;
     let mut left = most;
     let mut i = last_place(book);
@@ -123,12 +117,11 @@ fn common(book: &Book, context: &Vector, lacked: u32, most: usize) -> Option<u32
     let mut count = context.count(site);
     while lacked > 0 && i > 0 {
         i -= 1;
+        let cells = cells_at(book, i);
         if lacks_insert(book, i, context, &mut site, &mut count) {
-            lacked -= 1;
-        } else if left > 0 {
-            left -= 1;
+            lacked -= cells;
         } else {
-            return None;
+            left = left.checked_sub(cells.max(1) as usize)?;
         }
     }
     Some(i)

@@ -1,28 +1,31 @@
 //! The row of one set of members.
 
-ghost use Rattle.std.specs.Prelude.{◌≡◌, ◌+◌, ◌<◌, ◌≤◌, ◌++◌, ◌∷◌, ◌⊎◌, [], Bool, false, List, IsTrue, OnOk, OnErr, IfOk, length, drop, slice_get};
+ghost use Rattle.std.specs.Prelude.{◌≡◌, ◌+◌, ◌<◌, ◌≤◌, ◌++◌, ◌∷◌, ◌⊎◌, [], ℕ, Bool, false, List, Some, IsTrue, OnOk, OnErr, IfOk, IfSome, length, drop, slice_get};
 ghost use Rattle.op_name.specs.declared.member.Member.{Member};
 ghost use Rattle.context_vector.specs.Contexts.{has};
-ghost use Rattle.ttf_form.specs.Families.{IsIn};
+ghost use Rattle.ttf_form.specs.declared.include.TheConstants.{CELLS};
+ghost use Rattle.ttf_form.specs.Families.{IsIn, total_by};
 ghost use Rattle.transform_rec.specs.Sets.{none, plus, plus_all};
 ghost use Rattle.transform_rec.specs.Family.{IsCausalFamily};
 ghost use Rattle.transform_rec.specs.Derived.{Derived};
 ghost use Rattle.transform_rec.specs.Laws.{family_of};
 ghost use Rattle.form_rows.specs.Names.{had_by, AreNamed};
 ghost use Rattle.form_rows.specs.RowSets.{form_after, row_after, front_of, taken_out, PassFits, TakingFits, IsAdded, IsKept, IsRowAt, IsSource};
+ghost use Rattle.form_rows.specs.Code.Blocks.{AreCounted};
 
 use crate::blocks::Blocks;
 use crate::had::is_had;
 use crate::laws::derives;
 use crate::named::Named;
 use crate::passes::{front, pass};
+use crate::placed::Placed;
 use context_vector::Vector;
 use op_name::{Member, Memory};
 use std::alloc::Global;
 use std::marker::Model;
-use ttf_form::{Bases, Include};
+use ttf_form::{Bases, CELLS, Include};
 
-// How many inert forms are looked at, in order to count those that aren't.
+// How many inert forms are looked at, in order to count the cells of those that aren't.
 const LOOKS: usize = 256;
 
 /// Forms of the inserts that a set of members lacks, among those that were executed up to a place: each after the set
@@ -71,19 +74,23 @@ impl<F: Named + Copy> Row<F> {
         self.forms.len()
     }
 
-    /// How many forms come to it once it looks at the forms in which the members since were executed.
-    pub(crate) fn coming(&self, executed: &[F]) -> usize
-        ensures { (ks : List F) → IsKept F.IsInert (drop self.now.upto executed.now) ks → result ≡ length ks }
+    /// How many cells its forms add once it looks at the forms in which the members since were executed, or `CELLS` if that is
+    /// too great.
+    pub(crate) fn cells_with(&self, executed: &[F]) -> u32
+        ensures { (ks : List F) → IsKept F.IsInert (drop self.now.upto executed.now) ks → AreCounted F.extent result (self.now.forms ++ ks) }
     {
-        kept_number(executed, self.upto)
+        self.forms
+            .cells()
+            .saturating_add(kept_cells(executed, self.upto))
     }
 
-    /// Whether it has no more than `most` forms once it looks at the forms in which the members since were executed. False
-    /// also where too many of these are inert.
-    pub(crate) fn has_at_most(&self, executed: &[F], most: usize) -> bool
-        ensures { IsTrue result → (ks : List F) → IsKept F.IsInert (drop self.now.upto executed.now) ks → length self.now.forms + length ks ≤ most }
+    /// Whether its forms add no more than `most` cells once it looks at the forms in which the members since were executed.
+    /// False also where too many of these are inert.
+    pub(crate) fn has_at_most(&self, executed: &[F], most: u32) -> bool
+        ensures { IsTrue result → (ks : List F) → IsKept F.IsInert (drop self.now.upto executed.now) ks → total_by F.extent self.now.forms + total_by F.extent ks ≤ most }
     {
-        self.len() <= most && are_at_most(executed, self.upto, most - self.len())
+        let cells = self.forms.cells();
+        is_at_most(cells, most) && are_at_most(executed, self.upto, most - cells)
     }
 
     /// The first of its forms.
@@ -112,23 +119,23 @@ impl<F: Named + Copy> Row<F> {
         ensures row { OnOk result ((C : Member → Bool) (xs : List Member) → IsSource F.over F.IsInert (family_of ⟦<B as Bases<F>>⟧ bases.now) m.now C xs executed.now self.old → IsRowAt F.over F.IsInert (family_of ⟦<B as Bases<F>>⟧ bases.now) (plus (B.base_context bases.now m.now) m.now) (xs ++ m.now ∷ []) self.new) }
         ensures err { OnErr result ((self.new ≡ self.old) ⊎ (IsAdded F.IsInert (drop self.old.upto executed.now) self.old.forms self.new.forms × (self.new.upto ≡ length executed.now))) }
     {
-        self.execute_apart(bases, m, context, executed, 0)
+        self.execute_apart(bases, m, context, executed, None)
     }
 
-    /// The same, where it is known that the context has none of its members if it has no more than `apart` forms, once it has
-    /// looked at those in which the members since were executed: nothing is looked for then.
+    /// The same, where it may be known that the context has none of its members if its forms add no more than `apart` cells, once it
+    /// has looked at those in which the members since were executed: nothing is looked for then.
     pub(crate) fn execute_apart<B: Bases<F>>(
         &mut self,
         bases: &B,
         m: &Member,
         context: &Vector,
         executed: &[F],
-        apart: usize,
+        apart: Option<u32>,
     ) -> Result<F, Memory>
         requires causal { IsCausalFamily (family_of ⟦<B as Bases<F>>⟧ bases.now) }
         requires names { AreNamed F.named F.IsInert (family_of ⟦<B as Bases<F>>⟧ bases.now) }
         requires context { (y : Member) → has context.now.set y ≡ B.base_context bases.now m.now y }
-        requires apart { (fs : List F) → IsAdded F.IsInert (drop self.old.upto executed.now) self.old.forms fs → length fs ≤ apart → (f : F) → IsIn f fs → had_by F.named context.now.set f ≡ false }
+        requires apart { IfSome apart (λ most. (fs : List F) → IsAdded F.IsInert (drop self.old.upto executed.now) self.old.forms fs → total_by F.extent fs ≤ most → (f : F) → IsIn f fs → had_by F.named context.now.set f ≡ false) }
         requires short { length executed.now < 4294967296 }
         requires ready { (C : Member → Bool) × ((xs : List Member) × IsSource F.over F.IsInert (family_of ⟦<B as Bases<F>>⟧ bases.now) m.now C xs executed.now self.old) }
         ensures form { IfOk result (λ f. (C : Member → Bool) (xs : List Member) → IsSource F.over F.IsInert (family_of ⟦<B as Bases<F>>⟧ bases.now) m.now C xs executed.now self.old → Derived F.over (family_of ⟦<B as Bases<F>>⟧ bases.now) m.now (plus_all none xs) f) }
@@ -138,18 +145,29 @@ impl<F: Named + Copy> Row<F> {
         bases.known();
         derives::<F, B>(bases);
         self.catch_up(executed)?;
-        let apart = is_at_most(self.forms.len(), apart);
+        let apart = are_few(self.forms.cells(), apart);
         let form = brought_over(bases.base(m), &mut self.forms, context, apart)?;
         self.upto += 1;
         Ok(form)
     }
 }
 
-// Whether the number is at most the other one.
-fn is_at_most(number: usize, most: usize) -> bool
-    ensures { IsTrue result → number ≤ most }
+// Whether the number of cells is known, and at most the other one.
+fn is_at_most(cells: u32, most: u32) -> bool
+    ensures known { IsTrue result → cells < CELLS }
+    ensures most { IsTrue result → cells ≤ most }
 {
-    number <= most
+    cells < CELLS && cells <= most
+}
+
+// Whether another one is given, and the number of cells is known, and at most that.
+fn are_few(cells: u32, most: Option<u32>) -> bool
+    ensures { IsTrue result → (n : ℕ) × ((most ≡ Some n) × ((cells < CELLS) × (cells ≤ n))) }
+{
+    match most {
+        Some(most) => is_at_most(cells, most),
+        None => false,
+    }
 }
 
 // Takes the forms of members that the context has out of the row, and brings the form over the others, and these over it.
@@ -198,23 +216,23 @@ fn collect_kept<F: Include + Copy>(out: &mut Vec<F>, forms: &[F], from: usize) -
     Ok(())
 }
 
-// How many forms from a place on aren't inert.
-fn kept_number<F: Include + Copy>(forms: &[F], from: usize) -> usize
-    ensures { (ks : List F) → IsKept F.IsInert (drop from forms.now) ks → result ≡ length ks }
+// How many cells the forms from a place on that aren't inert add, or `CELLS` if that is too great.
+fn kept_cells<F: Placed + Copy>(forms: &[F], from: usize) -> u32
+    ensures { (ks : List F) → IsKept F.IsInert (drop from forms.now) ks → AreCounted F.extent result ks }
 {
-    let mut number = 0;
+    let mut cells: u32 = 0;
     for i in from..forms.len() {
         let one = forms[i];
         if !one.inert() {
-            number += 1;
+            cells = cells.saturating_add(one.cells());
         }
     }
-    number
+    cells
 }
 
-// Whether no more than `most` forms from a place on aren't inert. False also where more than `LOOKS` are inert.
-pub(crate) fn are_at_most<F: Include + Copy>(forms: &[F], from: usize, most: usize) -> bool
-    ensures { IsTrue result → (ks : List F) → IsKept F.IsInert (drop from forms.now) ks → length ks ≤ most }
+// Whether the forms from a place on that aren't inert add no more than `most` cells. False also where more than `LOOKS` are inert.
+pub(crate) fn are_at_most<F: Placed + Copy>(forms: &[F], from: usize, most: u32) -> bool
+    ensures { IsTrue result → (ks : List F) → IsKept F.IsInert (drop from forms.now) ks → total_by F.extent ks ≤ most }
 {
     let mut left = most;
     let mut looks = LOOKS;
@@ -226,10 +244,11 @@ pub(crate) fn are_at_most<F: Include + Copy>(forms: &[F], from: usize, most: usi
             }
             looks -= 1;
         } else {
-            if left == 0 {
+            let cells = one.cells();
+            if left < cells {
                 return false;
             }
-            left -= 1;
+            left -= cells;
         }
     }
     true

@@ -16,7 +16,7 @@ ghost use Rattle.form_rows.specs.Firsts.{AreFirstMembers, IsLastContext};
 ghost use Rattle.form_rows.specs.Kept.{AreRows, IsLast, IsFormWith, IsFirstRow, IsOwnRow, IsBeginning, empty_rows, forms_in, CoversAreInert, InsertsAreKept};
 ghost use Rattle.form_rows.specs.declared.rows.TheConstants.{ENTRIES};
 
-use crate::first_members::{FirstMembers, lacked_inserts};
+use crate::first_members::{FirstMembers, lacked_cells};
 use crate::laws::derives;
 use crate::named::Named;
 use crate::row::{Row, are_at_most};
@@ -111,7 +111,7 @@ impl<F: Named + Copy> Rows<F> {
     }
 
     // The row to begin with: the author's own, where no form would have to be moved out of it; else that of the first members
-    // that were found last, where that is so of it; else the one of these two kinds that has fewer such forms.
+    // that were found last, where that is so of it; else the one of these two kinds whose forms of that sort have fewer cells.
     fn source(
         &mut self,
         book: &Book,
@@ -133,7 +133,7 @@ impl<F: Named + Copy> Rows<F> {
         }
     }
 
-    // The author's row, or that of first members where that has fewer forms to be moved.
+    // The author's row, or that of first members where the forms to be moved out of it have fewer cells.
     fn nearer_row(
         &mut self,
         own: Row<F>,
@@ -149,17 +149,14 @@ impl<F: Named + Copy> Rows<F> {
         ensures rows { self.new.rows ≡ self.old.rows }
         ensures firsts { IfSome self.new.firsts (AreFirstMembers book.now.ops) }
     {
-        if own.has_at_most(executed, lacked as usize) {
+        if own.has_at_most(executed, lacked) {
             return own;
         }
         match self.known_row(book, context, executed, lacked) {
             Some(row) => row,
             None => {
-                let moves = own
-                    .len()
-                    .saturating_add(own.coming(executed))
-                    .saturating_sub(lacked as usize);
-                match self.first_row(book, context, lacked, moves, executed.len()) {
+                let moved = own.cells_with(executed).saturating_sub(lacked) as usize;
+                match self.first_row(book, context, lacked, moved, executed.len()) {
                     Some(row) => row,
                     None => own,
                 }
@@ -187,7 +184,7 @@ impl<F: Named + Copy> Rows<F> {
     }
 
     // The row of the first members that were found last, if the context has their inserts, and no form since is of an insert
-    // that it has: there are no more than the `lacked` ones of those that it lacks.
+    // that it has: they add no more than the `lacked` cells of those that it lacks.
     fn known_row(
         &self,
         book: &Book,
@@ -200,15 +197,15 @@ impl<F: Named + Copy> Rows<F> {
     {
         let firsts = self.firsts?;
         let upto = firsts.upto();
-        if are_at_most(executed, upto, lacked as usize) && firsts.has_inserts(book, context) {
+        if are_at_most(executed, upto, lacked) && firsts.has_inserts(book, context) {
             Some(self.row_of_first(upto, executed.len()))
         } else {
             None
         }
     }
 
-    // The row of the first members whose inserts the context has, if no more than `most` members come after these which
-    // aren't inserts that it lacks. The first members are remembered.
+    // The row of the first members whose inserts the context has, if no more than `most` cells come after these of other operations
+    // than inserts that it lacks, one that puts none counted as one. The first members are remembered.
     fn first_row(
         &mut self,
         book: &Book,
@@ -315,7 +312,7 @@ pub fn executed_form<F: Named + Copy, B: Bases<F>>(
     requires names { AreNamed F.named F.IsInert (family_of ⟦<B as Bases<F>>⟧ bases.now) }
     requires members { B.members bases.now ≡ members_in book.now.ops }
     requires covers { CoversAreInert F.IsInert (B.base_form bases.now) book.now.ops }
-    requires inserts { InsertsAreKept F.IsInert (B.base_form bases.now) book.now.ops }
+    requires inserts { InsertsAreKept F.IsInert F.extent (B.base_form bases.now) book.now.ops }
     requires within { Within context.now.set book.now.have.set }
     requires context { (y : Member) → has context.now.set y ≡ B.base_context bases.now (Original name.now) y }
     requires last { IsLastContext book.now.ops context.now.set }
@@ -331,9 +328,9 @@ pub fn executed_form<F: Named + Copy, B: Bases<F>>(
 {
     book.known();
     derives::<F, B>(bases);
-    let lacked = lacked_inserts(book, context);
+    let lacked = lacked_cells(book, context);
     let mut row = rows.source(book, name, context, executed, lacked);
-    let apart = lacked as usize;
+    let apart = Some(lacked);
     let form = row.execute_apart(bases, &Member::Original(*name), context, executed, apart)?;
     let first = row.first();
     rows.put(AuthorRow { last: *name, row });

@@ -8,7 +8,7 @@ use Rattle.context_diff.specs.Operations.{OpData, member_of}
 use Rattle.context_diff.specs.Ops.{data_of}
 use Rattle.context_diff.specs.Bases.{base_has}
 use Rattle.context_diff.specs.Histories.{members_in}
-use Rattle.ttf_form.specs.Forms.{form_over, IsInertForm}
+use Rattle.ttf_form.specs.Forms.{form_over, extent_of, IsInertForm}
 use Rattle.transform_rec.specs.Sets.{none, plus_all}
 use Rattle.transform_rec.specs.Derived.{IsOnlyFormAt}
 use Rattle.transform_rec.specs.Family.{IsCausalFamily}
@@ -43,7 +43,7 @@ executed_form-requires-clause-covers c =
 
 pub executed_form-requires-clause-inserts : goal.executed_form-requires-clause-inserts
 executed_form-requires-clause-inserts c =
-    subst (λ (os : List OpData). InsertsAreKept IsInertForm (base_form os) c.args.book.now.ops) (sym c.new-bases.ensures)
+    subst (λ (os : List OpData). InsertsAreKept IsInertForm extent_of (base_form os) c.args.book.now.ops) (sym c.new-bases.ensures)
     (text_inserts c.args.book.now.ops c.known.ensures.valid)
 
 pub executed_form-requires-clause-last : goal.executed_form-requires-clause-last

@@ -1,7 +1,9 @@
-use Rattle.std.proofs.Common.{◌∷◌, ◌++◌, [], refl, ap, ◌∙◌, arith, length, length-append}
+use Rattle.std.proofs.Common.{◌∷◌, ◌++◌, [], refl, ap, ◌∙◌, arith}
 use Rattle.std.proofs.lemmas.Bool.{both_ways}
+use Rattle.ttf_form.specs.Families.{total_by}
+use Rattle.form_rows.proofs.Turns.{total-append}
 use Rattle.form_rows.proofs.Looks.{adding_start, adding_skip, adding_push, adding_end, kept_once}
-use Rattle.form_rows.proofs.row.are_at_most.Goals.{then-inert+else-looks-eq0, else-inert+else-left-eq0}
+use Rattle.form_rows.proofs.row.are_at_most.Goals.{then-inert+else-looks-eq0, else-inert+else-left-cells}
 use Rattle.form_rows.proofs.row.are_at_most.Goals as goal
 
 pub loop-i-init : goal.loop-i-init
@@ -20,15 +22,22 @@ loop-i-preserved g c =
           omega (arith, w.left-is, was.2),
         );
       }
-      | else-inert+else-left-eq0 w ↦
-          let some = w.if-left-eq0.false in
+      | else-inert+else-left-cells w ↦
+          let some = w.if-left-cells.false in
           record {
             added = (
               was.0 ++ c.index-forms-i.result ∷ [],
               adding_push g.F.Include.IsInert c.args.forms.now c.args.from [] c.index-forms-i.result c.loop-i.i was.0
                   (was.0 ++ c.index-forms-i.result ∷ []) less c.index-forms-i.is
                   (λ i. both_ways c.inert.result w.if-inert.false (c.inert.ensures.1 i)) refl was.1,
-              omega (arith, w.left-is, was.2, some, length-append was.0 (c.index-forms-i.result ∷ [])),
+              omega (
+                arith,
+                w.left-is,
+                was.2,
+                some,
+                w.cells-cells.ensures,
+                total-append g.F.Include.extent was.0 (c.index-forms-i.result ∷ []),
+              ),
             );
           }
     ]
@@ -37,5 +46,5 @@ pub returns : goal.returns
 returns g c = λ yes ks kept.
     let was = c.loop-i.invariant.added in
     let all = adding_end g.F.Include.IsInert c.args.forms.now c.args.from [] c.loop-i.i was.0 (omega arith) was.1 in
-    let same = ap length (all.whole ∙ kept_once g.F.Include.IsInert _ all.more ks all.kept kept) in
+    let same = ap (total_by g.F.Include.extent) (all.whole ∙ kept_once g.F.Include.IsInert _ all.more ks all.kept kept) in
     omega (arith, was.2, same)

@@ -1,6 +1,7 @@
-use Rattle.std.proofs.Common.{◌≤◌, ℕ, ◌++◌, ◌∷◌, [], length, refl, sym, subst, ◌∙◌}
+use Rattle.std.proofs.Common.{◌≤◌, ℕ, ◌++◌, ◌∷◌, [], refl, sym, subst, ◌∙◌}
 use Rattle.op_name.specs.declared.member.Member.{Member}
 use Rattle.op_name.specs.declared.member.Member.TheVariants.{Original}
+use Rattle.ttf_form.specs.Families.{total_by}
 use Rattle.transform_rec.specs.Sets.{none, plus_all}
 use Rattle.transform_rec.specs.Derived.{Deriving}
 use Rattle.transform_rec.specs.Laws.{inclusion_of, family_of}
@@ -50,8 +51,9 @@ execute_apart-requires-clause-apart g c fs added few =
     let s = beginning_source d g.F.Include.IsInert n m before c.args.executed.now c.args.rows.now.rows w h c.args.context.now.set
     c.source-row.result c.requires.members c.requires.covers c.requires.context c.source-row.ensures.row in
     row_apart d g.F.Include.IsInert n g.F.Named.named g.met.F.Named.named_over c.requires.names c.args.context.now.set m c.requires.context
-    h c.requires.inserts s.0 before (sym c.requires.members ∙ w.whole) c.args.executed.now c.source-row.result s.1
-    fs added (subst (λ (k : ℕ). length fs ≤ k) c.lacked_inserts-lacked.ensures few)
+    h c.known.ensures.valid c.requires.inserts c.requires.covers s.0 before (sym c.requires.members ∙ w.whole) c.args.executed.now
+    c.source-row.result s.1
+    fs added (subst (λ (k : ℕ). total_by g.F.Include.extent fs ≤ k) c.lacked_cells-lacked.ensures few)
 
 pub returns-clause-form : goal.returns-clause-form
 returns-clause-form g c = λ before w.

@@ -1,10 +1,11 @@
-use Rattle.std.proofs.Common.{◌≡◌, ◌∙◌, ◌+◌, List, [], length, sym, subst, ap, arith}
-use Rattle.ttf_form.specs.Families.{IsIn}
+use Rattle.std.proofs.Common.{◌≡◌, ◌≤◌, ◌∙◌, ℕ, ◌+◌, false, List, [], Option, drop, sym, subst, ap, arith}
+use Rattle.std.specs.Prelude.{IfSome}
+use Rattle.ttf_form.specs.Families.{IsIn, total_by}
 use Rattle.transform_rec.specs.Sets.{none, plus_all}
 use Rattle.transform_rec.specs.Derived.{Derived, Deriving}
 use Rattle.transform_rec.specs.Laws.{inclusion_of, family_of}
 use Rattle.form_rows.specs.Names.{had_by}
-use Rattle.form_rows.specs.RowSets.{form_after, row_after, taken_out, PassFits, TakingFits, Inertness, RowData}
+use Rattle.form_rows.specs.RowSets.{form_after, row_after, taken_out, PassFits, TakingFits, Inertness, IsAdded, RowData}
 use Rattle.form_rows.proofs.Followers.{forms_length}
 use Rattle.form_rows.proofs.Looks.{caught_up}
 use Rattle.form_rows.proofs.Sources.{taking_fits, passing_fits, source_form, source_row}
@@ -32,9 +33,14 @@ catch_up-requires g c =
 pub brought_over-requires-clause-apart : goal.brought_over-requires-clause-apart
 brought_over-requires-clause-apart g c few f there =
     let e : c.catch_up.new.self.forms ≡ c.self.inside.forms = ap (λ (r : RowData g.row.F.Denot). r.forms) (sym c.self.view_is) in
-    let size = ap length e in
-    c.requires.apart c.catch_up.new.self.forms c.in_ok-catch_up.ensures.forms
-    (let le = c.is_at_most-apart.ensures few in omega (arith, le, c.len.ensures, size)) f
+    let told = c.are_few-apart.ensures few in
+    let least = subst (λ (o : Option ℕ). IfSome o (λ most. (fs : List g.row.F.Denot)
+    → IsAdded g.F.Include.IsInert (drop c.args.self.now.upto c.args.executed.now) c.args.self.now.forms fs
+    → total_by g.F.Include.extent fs ≤ most → (k : g.row.F.Denot) → IsIn k fs
+    → had_by g.F.Named.named c.args.context.now.set k ≡ false)) told.1.0 c.requires.apart in
+    let total : total_by g.F.Include.extent c.catch_up.new.self.forms ≡ c.cells.result =
+    ap (total_by g.F.Include.extent) e ∙ c.cells.ensures told.1.1.0 in
+    least c.catch_up.new.self.forms c.in_ok-catch_up.ensures.forms (omega (arith, total, told.1.1.1)) f
     (subst (λ (l : List g.row.F.Denot). IsIn f l) (sym e) there)
 
 pub brought_over-requires-clause-taking : goal.brought_over-requires-clause-taking

@@ -1,10 +1,10 @@
 use Rattle.std.proofs.Common.{◌≡◌, ◌-◌, length, subst}
 use Rattle.context_vector.specs.Contexts.{ContextData}
-use Rattle.context_diff.specs.Histories.{inserts_in, members_in}
+use Rattle.context_diff.specs.Histories.{cells_in, members_in}
 use Rattle.form_rows.specs.Lacking.{all_but_last}
 use Rattle.form_rows.proofs.Counts.{members_end}
 use Rattle.form_rows.proofs.Prefixes.{contains_at}
-use Rattle.form_rows.proofs.first_members.inserts_of_last.Goals as goal
+use Rattle.form_rows.proofs.first_members.cells_of_last.Goals as goal
 
 pub returns-in-Some : goal.returns-in-Some
 returns-in-Some c =
@@ -12,4 +12,4 @@ returns-in-Some c =
     let last = c.requires.last in
     let there = contains_at h (length h - 1) last.op last.at in
     let told = c.in-Some.ensures last.op (members_in (all_but_last h)) there (members_end h last.op last.at) in
-    subst (λ (k : ContextData). c.in-Some.cells ≡ inserts_in h k) last.context told
+    subst (λ (k : ContextData). c.in-Some.cells ≡ cells_in h k) last.context told
