@@ -129,10 +129,10 @@ module _ (h : List OpData) (v : IsValid h) (D : Member → Bool) (closed : IsClo
   -- an insert of the part is one of the whole, and its name is in the set
   in_whole : (z : Insertion) → IsRead (part D h) z → IsIn z (fixed_order h) × (D (Original z.name) ≡ true)
   in_whole z r =
-      let passed = filter_in (λ p. D (member_of p)) (inserting r.name r.place r.character r.context) h r.there in (
+      let passed = filter_in (λ p. D (member_of p)) (inserting r.name r.place r.text r.context) h r.there in (
         subst (λ (x : Insertion). IsIn x (fixed_order h)) (sym r.is)
-            (sort_by-in is_earlier (insertion r.name r.place r.context) (insertions_in h)
-            (insertions-in r.name r.place r.character r.context h passed.0)),
+            (sort_by-in is_earlier (insertion r.name r.place r.text r.context) (insertions_in h)
+            (insertions-in r.name r.place r.text r.context h passed.0)),
         subst (λ (x : Insertion). D (Original x.name) ≡ true) (sym r.is) passed.1,
       )
 
@@ -141,9 +141,9 @@ module _ (h : List OpData) (v : IsValid h) (D : Member → Bool) (closed : IsClo
   in_part z r within =
       let named : D (Original r.name) ≡ true = subst (λ (x : Insertion). D (Original x.name) ≡ true) r.is within in
       subst (λ (x : Insertion). IsIn x (fixed_order (part D h))) (sym r.is)
-      (sort_by-in is_earlier (insertion r.name r.place r.context) (insertions_in (part D h))
-      (insertions-in r.name r.place r.character r.context (part D h)
-      (in_filter (λ p. D (member_of p)) (inserting r.name r.place r.character r.context) h r.there named)))
+      (sort_by-in is_earlier (insertion r.name r.place r.text r.context) (insertions_in (part D h))
+      (insertions-in r.name r.place r.text r.context (part D h)
+      (in_filter (λ p. D (member_of p)) (inserting r.name r.place r.text r.context) h r.there named)))
 
   -- the same of the inserts of members
   member_in_part : (z : Insertion) → IsInserted b rank (members_in h) z → D (Original z.name) ≡ true → IsIn z (insertions_of b rank there)

@@ -4,6 +4,8 @@ use Rattle.std.proofs.lemmas.Bool.{cases_Bool}
 use Rattle.op_name.specs.NameData.{NameData}
 use Rattle.op_name.specs.declared.member.Member.{Member}
 use Rattle.op_name.specs.declared.member.Member.TheVariants.{Original}
+use Rattle.op_name.specs.Members.{target_of}
+use Rattle.context_diff.specs.Replays.{Insertion}
 use Rattle.ttf_form.specs.declared.ins.Ins.{Ins}
 use Rattle.ttf_form.specs.declared.cover.Cover.{Cover}
 use Rattle.ttf_form.specs.declared.form.Form.{Form}
@@ -19,6 +21,7 @@ use Rattle.transform_rec.specs.Derived.{Derived, Inclusion, IsInclusion, IsFamil
 use Rattle.transform_rec.specs.Derived.Derived.{at_base, by_step}
 use Rattle.transform_rec.specs.Executing.{Table, IsTable, AddsAtPlace, HasOwnNames, Setting, LacksName}
 use Rattle.op_name.proofs.CallerLemmas.{member_cases}
+use Rattle.fixed_replay.specs.Insertions.{inserted_by, insertions_of}
 
 abbrev pub form_inclusion : Inclusion Form
 form_inclusion = record { Apart = ApartForms; IsBounded = IsBoundedForm; over = form_over; place = place_of; extent = extent_of }
@@ -123,36 +126,31 @@ insert_owner b own_names x a i base = elim (member_cases x (Original a.name)) [
       (subst (λ (f : Form). LacksName (added_by f) a.name) base (own_names x a.name i ne)))
 ]
 
--- the name of the insert that a form is
-abbrev pub named_by : Form → List NameData
-named_by (Insert a) = a.name ∷ []
-named_by (Covered c) = []
+pub insertions-append : (b : Family Form) (rank : NameData → ℕ) (xs ys : List Member)
+    → insertions_of b rank (xs ++ ys) ≡ insertions_of b rank xs ++ insertions_of b rank ys
+insertions-append b rank [] ys = refl
+insertions-append b rank (x ∷ xs) ys =
+    let here = inserted_by (b.form x) (rank (target_of x)) (λ n. b.context x (Original n)) in
+    ap (λ (os : List Insertion). here ++ os) (insertions-append b rank xs ys)
+    ∙ sym (append_assoc here (insertions_of b rank xs) (insertions_of b rank ys))
 
--- the names of the inserts of a list
-abbrev pub names_of : Family Form → List Member → List NameData
-names_of b [] = []
-names_of b (x ∷ xs) = named_by (b.form x) ++ names_of b xs
-
-pub names-append : (b : Family Form) (xs ys : List Member) → names_of b (xs ++ ys) ≡ names_of b xs ++ names_of b ys
-names-append b [] ys = refl
-names-append b (x ∷ xs) ys =
-    ap (λ (ns : List NameData). named_by (b.form x) ++ ns) (names-append b xs ys)
-    ∙ sym (append_assoc (named_by (b.form x)) (names_of b xs) (names_of b ys))
-
--- names that pass a test are those of the members that pass
-names_kept : (b : Family Form) (sees : NameData → Bool) (D : Member → Bool) (x : Member) (xs : List Member) (f : Form) → b.form x ≡ f
-    → ((a : Ins) → f ≡ Insert a → D x ≡ sees a.name) → filter (λ n. not (sees n)) (names_of b xs) ≡ names_of b (filter (λ z. not (D z)) xs)
-    → filter (λ n. not (sees n)) (named_by f ++ names_of b xs) ≡ names_of b (filter (λ z. not (D z)) (x ∷ xs))
-names_kept b sees D x xs (Insert a) e h ih = elim (cases_Bool (D x)) [
-  | inl k ↦ let l : sees a.name ≡ true = sym (h a refl) ∙ k in rw (l, k) ih
-  | inr k ↦ let l : sees a.name ≡ false = sym (h a refl) ∙ k in rw (l, k, e, ih) refl
+-- the insertions that a set lacks are those of the members that it lacks
+lacked_first : (b : Family Form) (rank : NameData → ℕ) (D : Member → Bool) (x : Member) (xs : List Member) (f : Form) → b.form x ≡ f
+    → ((a : Ins) → f ≡ Insert a → D x ≡ D (Original a.name))
+    → filter (λ y. not (D (Original y.name))) (insertions_of b rank xs) ≡ insertions_of b rank (filter (λ z. not (D z)) xs)
+    → filter (λ y. not (D (Original y.name)))
+    (inserted_by f (rank (target_of x)) (λ n. b.context x (Original n)) ++ insertions_of b rank xs)
+    ≡ insertions_of b rank (filter (λ z. not (D z)) (x ∷ xs))
+lacked_first b rank D x xs (Insert a) e h ih = elim (cases_Bool (D x)) [
+  | inl k ↦ let l : D (Original a.name) ≡ true = sym (h a refl) ∙ k in rw (l, k) ih
+  | inr k ↦ let l : D (Original a.name) ≡ false = sym (h a refl) ∙ k in rw (l, k, e, ih) refl
 ]
-names_kept b sees D x xs (Covered c) e h ih = elim (cases_Bool (D x)) [ inl k ↦ rw k ih | inr k ↦ rw (k, e) ih ]
+lacked_first b rank D x xs (Covered c) e h ih = elim (cases_Bool (D x)) [ inl k ↦ rw k ih | inr k ↦ rw (k, e) ih ]
 
-pub names_filter : (b : Family Form) → HasOwnNames form_table b → (D : Member → Bool) (xs : List Member)
+pub insertions_lacked : (b : Family Form) (rank : NameData → ℕ) → HasOwnNames form_table b → (D : Member → Bool) (xs : List Member)
     → ((z : Member) → IsIn z xs → IsIn z b.members)
-    → filter (λ n. not (D (Original n))) (names_of b xs) ≡ names_of b (filter (λ z. not (D z)) xs)
-names_filter b own D [] l = refl
-names_filter b own D (x ∷ xs) l =
-    names_kept b (λ n. D (Original n)) D x xs (b.form x) refl (λ a e. ap D (insert_owner b own x a (l x (inl refl)) e))
-    (names_filter b own D xs (λ z i. l z (inr i)))
+    → filter (λ y. not (D (Original y.name))) (insertions_of b rank xs) ≡ insertions_of b rank (filter (λ z. not (D z)) xs)
+insertions_lacked b rank own D [] l = refl
+insertions_lacked b rank own D (x ∷ xs) l =
+    lacked_first b rank D x xs (b.form x) refl (λ a e. ap D (insert_owner b own x a (l x (inl refl)) e))
+    (insertions_lacked b rank own D xs (λ z i. l z (inr i)))

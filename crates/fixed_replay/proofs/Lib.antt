@@ -3,6 +3,7 @@ pub mod Families
 pub mod Counts
 pub mod Stretches
 pub mod Narrowing
+pub mod Neighbours
 pub mod Sorting
 pub mod Operations
 pub mod SameText

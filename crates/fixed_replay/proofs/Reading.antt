@@ -121,12 +121,12 @@ module _ (b : Family Form) (known : IsFamily form_inclusion b) (own_names : HasO
   one_op o p i j e = one_operation h apart_members o p i j e
 
   -- an insert's name is no delete's
-  not_delete : (n m : NameData) (p ch q : ℕ) (c k : ContextData) → IsIn (inserting n p ch c) h → IsIn (deleting m q k) h
+  not_delete : (n m : NameData) (p : ℕ) (text : List ℕ) (q : ℕ) (c k : ContextData) → IsIn (inserting n p text c) h → IsIn (deleting m q k) h
       → name_eq m n ≡ false
-  not_delete n m p ch q c k i j =
+  not_delete n m p text q c k i j =
       false_from_ne_true (name_eq m n)
-      (λ e. let o : inserting n p ch c ≡ deleting m q k =
-      one_op (inserting n p ch c) (deleting m q k) i j (ap Original (sym (name_same m n e))) in (cc))
+      (λ e. let o : inserting n p text c ≡ deleting m q k =
+      one_op (inserting n p text c) (deleting m q k) i j (ap Original (sym (name_same m n e))) in (cc))
 
   module _ (fs : List Form) (st : At w none []) (df : Forms w none b.members fs) (is_replay : cells_of (run w [] fs) ≡ replay_of h) where
     abbrev S : List Cell
@@ -167,7 +167,7 @@ module _ (b : Family Form) (known : IsFamily form_inclusion b) (own_names : HasO
           | inl a ↦ a
           | inr a ↦ elim a [
             | inl r ↦ let put =
-                put_by e l in absurd (both_ways (name_eq t e.0) (not_delete e.0 t put.place put.character q put.context k put.there j)
+                put_by e l in absurd (both_ways (name_eq t e.0) (not_delete e.0 t put.place put.text q put.context k put.there j)
                 (let s : e.0 ≡ t = (cc) in subst (λ (v : NameData). name_eq t v ≡ true) (sym s) (name_itself t)))
             | inr r ↦ let s = r.1 in absurd (cc)
           ]
@@ -178,14 +178,14 @@ module _ (b : Family Form) (known : IsFamily form_inclusion b) (own_names : HasO
         ∙ (ap (λ (v : ℕ). is_on (By t 0) v mine c) o.place ∙ sym (cover_on q (By t 0) (b.form (Original t)) mine mine c o refl))
 
     -- the mark of a group of an insert is on the cells of the insert
-    insert_group_hits : (t : NameData) (g p ch : ℕ) (k : ContextData) (c : Cell) → IsIn (inserting t p ch k) h → IsIn (Group t g) b.members
+    insert_group_hits : (t : NameData) (g p : ℕ) (text : List ℕ) (k : ContextData) (c : Cell) → IsIn (inserting t p text k) h → IsIn (Group t g) b.members
         → bears b S (Group t g) c ≡ name_eq t c.0
-    insert_group_hits t g p ch k c j i =
+    insert_group_hits t g p text k c j i =
         let y : Member = Original t in
-        let f = family.forms.inserts t p ch k j in
+        let f = family.forms.inserts t p text k j in
         let a = f.ins in
         let cover = family.forms.insert_groups t g a (group_listed t g i) f.is in
-        let listed = listed_of (inserting t p ch k) j in
+        let listed = listed_of (inserting t p text k) j in
         let needs = b.context y in
         let P = filter (keep needs) S in
         let within : (z : Member) → needs z ≡ true → IsIn z b.members = λ z e. known.causal.listed y z listed e in
@@ -224,16 +224,16 @@ module _ (b : Family Form) (known : IsFamily form_inclusion b) (own_names : HasO
 
     -- the original that a group is of is an insert or a delete
     target_is : (t : NameData) (g : ℕ) → IsIn (Group t g) b.members
-        → ((p : ℕ) × (ch : ℕ) × (k : ContextData) × IsIn (inserting t p ch k) h) ⊎ ((p : ℕ) × (k : ContextData) × IsIn (deleting t p k) h)
+        → ((p : ℕ) × (text : List ℕ) × (k : ContextData) × IsIn (inserting t p text k) h) ⊎ ((p : ℕ) × (k : ContextData) × IsIn (deleting t p k) h)
     target_is t g i =
         let there = known.causal.listed (Group t g) (Original t) i (groups.target t g i) in
         let r = listed_member (Original t) h (subst (λ (ms : List Member). IsIn (Original t) ms) family.members there) in
         of_kind r.0 r.1 r.2
       where
         of_kind : (o : OpData) → IsIn o h → member_of o ≡ Original t
-            → ((p : ℕ) × (ch : ℕ) × (k : ContextData) × IsIn (inserting t p ch k) h)
+            → ((p : ℕ) × (text : List ℕ) × (k : ContextData) × IsIn (inserting t p text k) h)
             ⊎ ((p : ℕ) × (k : ContextData) × IsIn (deleting t p k) h)
-        of_kind (inserting n p ch k) j e = let s : n ≡ t = (cc) in inl (p, ch, k, subst (λ (v : NameData). IsIn (inserting v p ch k) h) s j)
+        of_kind (inserting n p text k) j e = let s : n ≡ t = (cc) in inl (p, text, k, subst (λ (v : NameData). IsIn (inserting v p text k) h) s j)
         of_kind (deleting n p k) j e = let s : n ≡ t = (cc) in inr (p, k, subst (λ (v : NameData). IsIn (deleting v p k) h) s j)
         of_kind (undoing q n f k) j e = absurd (cc)
 
@@ -241,8 +241,8 @@ module _ (b : Family Form) (known : IsFamily form_inclusion b) (own_names : HasO
 
     mark_generation : (o : OpData) → IsIn o h → (c : Cell) → IsIn c S → (d : CellData)
         → (mark_of o c d).generation ≡ max (generation_at o c.0) d.generation
-    mark_generation (inserting n p ch k) i c l d =
-        let f = family.forms.inserts n p ch k i in
+    mark_generation (inserting n p text k) i c l d =
+        let f = family.forms.inserts n p text k i in
         ap (λ (x : Form). (mark_by x (bears b S (Original n) c) d).generation) f.is ∙ omega arith
     mark_generation (deleting n p k) i c l d =
         by_generation p n 0 (b.form (Original n)) (bears b S (Original n) c) d (family.forms.deletes n p k i) ∙ omega arith
@@ -257,7 +257,7 @@ module _ (b : Family Form) (known : IsFamily form_inclusion b) (own_names : HasO
           let f = family.forms.deletes t r.0 r.1 r.2 in
           let listed = listed_of (undoing a t g k) i in
           let put = put_by c l in
-          let other : name_eq t c.0 ≡ false = not_delete c.0 t put.place put.character r.0 put.context r.1 put.there r.2 in
+          let other : name_eq t c.0 ≡ false = not_delete c.0 t put.place put.text r.0 put.context r.1 put.there r.2 in
           by_generation f.cover.place t g (b.form (Group t g)) (bears b S (Group t g) c) d
           (family.forms.delete_groups t g f.cover (group_listed t g listed) f.is)
           ∙ (rw other (omega arith))
@@ -317,8 +317,8 @@ module _ (b : Family Form) (known : IsFamily form_inclusion b) (own_names : HasO
 
     mark_best : (o : OpData) → IsIn o h → (c : Cell) (d : NameData) → Deletes d c → (e : CellData)
         → max 1 (best d (mark_of o c e).deleters) ≡ max (suc (generation_at o d)) (max 1 (best d e.deleters))
-    mark_best (inserting n p ch k) i c d del e =
-        let f = family.forms.inserts n p ch k i in
+    mark_best (inserting n p text k) i c d del e =
+        let f = family.forms.inserts n p text k i in
         ap (λ (x : Form). max 1 (best d (mark_by x (bears b S (Original n) c) e).deleters)) f.is ∙ omega arith
     mark_best (deleting n p k) i c d del e =
         let f = family.forms.deletes n p k i in
@@ -404,8 +404,8 @@ module _ (b : Family Form) (known : IsFamily form_inclusion b) (own_names : HasO
     -- each deleter of the cell is a delete that hits it
     mark_entries : (o : OpData) → IsIn o h → (c : Cell) (e : CellData) → ((x : Entry) → IsIn x e.deleters → Deletes x.0 c) → (x : Entry)
         → IsIn x (mark_of o c e).deleters → Deletes x.0 c
-    mark_entries (inserting n p ch k) i c e old x j =
-        let f = family.forms.inserts n p ch k i in
+    mark_entries (inserting n p text k) i c e old x j =
+        let f = family.forms.inserts n p text k i in
         old x (subst (λ (g : Form). IsIn x (mark_by g (bears b S (Original n) c) e).deleters) f.is j)
     mark_entries (deleting n p k) i c e old x j =
         raised_entries n 0 c e old (bears b S (Original n) c) x (λ q. record { place = p; context = k; there = i; hit = q })
@@ -484,7 +484,7 @@ module _ (b : Family Form) (known : IsFamily form_inclusion b) (own_names : HasO
             (and_from (in_force h n) (hits h (deleting n del.0.place del.0.context) c) force del.0.hit)
 
         of_op : (o : OpData) → IsIn o h → covers h c o ≡ true → list_any (λ (e : Entry). is_even e.1) (marks c h).deleters ≡ true
-        of_op (inserting n p ch k) i q = not_both q refl
+        of_op (inserting n p text k) i q = not_both q refl
         of_op (deleting n p k) i q =
             let r = and_parts (in_force h n) (hits h (deleting n p k) c) q in
             in_any (λ (e : Entry). is_even e.1) (n, generation_in h n) (marks c h).deleters

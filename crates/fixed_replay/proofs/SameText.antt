@@ -1,5 +1,5 @@
 -- Two histories with the same originals, each at the same generation, have the same text.
-use Rattle.std.proofs.Common.{◌≡◌, ◌≢◌, ℕ, zero, suc, Bool, true, false, not, ◌&&◌, List, [], ◌∷◌, map, filter, encode_utf8_all, ◌⊎◌, inl, inr, refl, ap, ap₂, sym, ◌∙◌, subst, arith}
+use Rattle.std.proofs.Common.{◌≡◌, ◌≢◌, ℕ, zero, suc, Bool, true, false, not, ◌&&◌, List, [], ◌∷◌, length, map, filter, slice_index_or, encode_utf8_all, ◌⊎◌, inl, inr, refl, ap, ap₂, sym, ◌∙◌, subst, arith}
 use Rattle.transform_rec.proofs.CallerLemmas.{filter_same, filter_in}
 use Rattle.std.proofs.lemmas.Bool.{cases_Bool}
 use Rattle.std.proofs.lemmas.Bool.Decides.{nat_tests}
@@ -27,39 +27,43 @@ told_from o (q ∷ qs) t p (inl e) = subst (λ (r : OpData). AreTold o r) (sym e
 told_from o (q ∷ qs) t p (inr i) = told_from o qs t.1 p i
 
 -- what the replay reads of an insert
-abbrev pub insertion : NameData → ℕ → ContextData → Insertion
-insertion n p c = record { name = n; place = p; len = 1; rank = rank_of c; sees = λ m. has c (Original m) }
+abbrev pub insertion : NameData → ℕ → List ℕ → ContextData → Insertion
+insertion n p text c = record { name = n; place = p; len = length text; rank = rank_of c; sees = λ m. has c (Original m) }
 
 -- an insert of the list with what the replay reads of it
 pub record IsRead (h : List OpData) (i : Insertion) : Type 0 where
   pub name : NameData
   pub place : ℕ
-  pub character : ℕ
+  pub text : List ℕ
   pub context : ContextData
-  pub there : IsIn (inserting name place character context) h
-  pub is : i ≡ insertion name place context
+  pub there : IsIn (inserting name place text context) h
+  pub is : i ≡ insertion name place text context
 
 read_behind : (i : Insertion) (o : OpData) (os : List OpData) → IsRead os i → IsRead (o ∷ os) i
 read_behind i o os r =
-    record { name = r.name; place = r.place; character = r.character; context = r.context; there = inr r.there; is = r.is }
+    record { name = r.name; place = r.place; text = r.text; context = r.context; there = inr r.there; is = r.is }
 
 pub in-insertions : (i : Insertion) (h : List OpData) → IsIn i (insertions_in h) → IsRead h i
 in-insertions i [] a = absurd a
-in-insertions i (inserting n p ch c ∷ os) (inl e) = record { name = n; place = p; character = ch; context = c; there = inl refl; is = e }
-in-insertions i (inserting n p ch c ∷ os) (inr a) = read_behind i (inserting n p ch c) os (in-insertions i os a)
+in-insertions i (inserting n p text c ∷ os) (inl e) = record { name = n; place = p; text = text; context = c; there = inl refl; is = e }
+in-insertions i (inserting n p text c ∷ os) (inr a) = read_behind i (inserting n p text c) os (in-insertions i os a)
 in-insertions i (deleting n p c ∷ os) a = read_behind i (deleting n p c) os (in-insertions i os a)
 in-insertions i (undoing s n g c ∷ os) a = read_behind i (undoing s n g c) os (in-insertions i os a)
 
-pub insertions-in : (n : NameData) (p ch : ℕ) (c : ContextData) (h : List OpData) → IsIn (inserting n p ch c) h
-    → IsIn (insertion n p c) (insertions_in h)
-insertions-in n p ch c [] a = absurd a
-insertions-in n p ch c (inserting n' p' ch' c' ∷ os) (inl e) =
-    inl (let a : n ≡ n' = (cc) in let b : p ≡ p' = (cc) in let d : c ≡ c' = (cc) in λ i. insertion (a i) (b i) (d i))
-insertions-in n p ch c (inserting n' p' ch' c' ∷ os) (inr a) = inr (insertions-in n p ch c os a)
-insertions-in n p ch c (deleting n' p' c' ∷ os) (inl e) = absurd (cc)
-insertions-in n p ch c (deleting n' p' c' ∷ os) (inr a) = insertions-in n p ch c os a
-insertions-in n p ch c (undoing s n' g c' ∷ os) (inl e) = absurd (cc)
-insertions-in n p ch c (undoing s n' g c' ∷ os) (inr a) = insertions-in n p ch c os a
+pub insertions-in : (n : NameData) (p : ℕ) (text : List ℕ) (c : ContextData) (h : List OpData) → IsIn (inserting n p text c) h
+    → IsIn (insertion n p text c) (insertions_in h)
+insertions-in n p text c [] a = absurd a
+insertions-in n p text c (inserting n' p' text' c' ∷ os) (inl e) =
+    inl (let a : n ≡ n' = (cc) in
+    let b : p ≡ p' = (cc) in
+    let t : text ≡ text' = (cc) in
+    let d : c ≡ c' = (cc) in
+    λ i. insertion (a i) (b i) (t i) (d i))
+insertions-in n p text c (inserting n' p' text' c' ∷ os) (inr a) = inr (insertions-in n p text c os a)
+insertions-in n p text c (deleting n' p' c' ∷ os) (inl e) = absurd (cc)
+insertions-in n p text c (deleting n' p' c' ∷ os) (inr a) = insertions-in n p text c os a
+insertions-in n p text c (undoing s n' g c' ∷ os) (inl e) = absurd (cc)
+insertions-in n p text c (undoing s n' g c' ∷ os) (inr a) = insertions-in n p text c os a
 
 -- ---- the order of insertions
 
@@ -74,13 +78,13 @@ earlier_one o p ne = grind (arith, nat_tests)
 
 pub insertions_comparable : (h : List OpData) → AreToldApart h → AreComparable is_earlier (insertions_in h)
 insertions_comparable [] t = tt
-insertions_comparable (inserting n p ch c ∷ os) t = (first, insertions_comparable os t.1)
+insertions_comparable (inserting n p text c ∷ os) t = (first, insertions_comparable os t.1)
   where
-    first : (z : Insertion) → IsIn z (insertions_in os) → (is_earlier (insertion n p c) z ≡ true) ⊎ (is_earlier z (insertion n p c) ≡ true)
+    first : (z : Insertion) → IsIn z (insertions_in os) → (is_earlier (insertion n p text c) z ≡ true) ⊎ (is_earlier z (insertion n p text c) ≡ true)
     first z i = let r = in-insertions z os i in
-        let told = told_from (inserting n p ch c) os t.0 (inserting r.name r.place r.character r.context) r.there in
-        subst (λ (w : Insertion). (is_earlier (insertion n p c) w ≡ true) ⊎ (is_earlier w (insertion n p c) ≡ true)) (sym r.is)
-        (earlier_one (insertion n p c) (insertion r.name r.place r.context) (told.keys refl refl))
+        let told = told_from (inserting n p text c) os t.0 (inserting r.name r.place r.text r.context) r.there in
+        subst (λ (w : Insertion). (is_earlier (insertion n p text c) w ≡ true) ⊎ (is_earlier w (insertion n p text c) ≡ true)) (sym r.is)
+        (earlier_one (insertion n p text c) (insertion r.name r.place r.text r.context) (told.keys refl refl))
 insertions_comparable (deleting n p c ∷ os) t = insertions_comparable os t.1
 insertions_comparable (undoing s n g c ∷ os) t = insertions_comparable os t.1
 
@@ -98,7 +102,7 @@ module _ (h k : List OpData) (told_h : AreToldApart h) (told_k : AreToldApart k)
   moved a b f z i =
       let r = in-insertions z a i in
       subst (λ (w : Insertion). IsIn w (insertions_in b)) (sym r.is)
-      (insertions-in r.name r.place r.character r.context b (f (inserting r.name r.place r.character r.context) refl r.there))
+      (insertions-in r.name r.place r.text r.context b (f (inserting r.name r.place r.text r.context) refl r.there))
 
   same_elements : SameElements (fixed_order h) (fixed_order k)
   same_elements = record {
@@ -124,9 +128,9 @@ in-run c n first (suc k) (inr i) = in-run c n (suc first) k i
 -- a cell of the replay is of an insert
 pub record IsPut (h : List OpData) (c : Cell) : Type 0 where
   pub place : ℕ
-  pub character : ℕ
+  pub text : List ℕ
   pub context : ContextData
-  pub there : IsIn (inserting c.0 place character context) h
+  pub there : IsIn (inserting c.0 place text context) h
 
 pub in-replay_of : (h : List OpData) (c : Cell) → IsIn c (replay_of h) → IsPut h c
 in-replay_of h c i = elim (in-replay c (fixed_order h) [] [] i) [
@@ -140,31 +144,32 @@ in-replay_of h c i = elim (in-replay c (fixed_order h) [] [] i) [
         let name : c.0 ≡ r.name = in-run c o.name 0 o.len i ∙ ap (λ (x : Insertion). x.name) r.is in
         record {
           place = r.place;
-          character = r.character;
+          text = r.text;
           context = r.context;
           there =
-              subst (λ (n : NameData). IsIn (inserting n r.place r.character r.context) h) (sym name) r.there;
+              subst (λ (n : NameData). IsIn (inserting n r.place r.text r.context) h) (sym name) r.there;
         }
 
 -- ---- characters
 
-pub character_at : (h : List OpData) → AreToldApart h → (n : NameData) (p ch : ℕ) (ctx : ContextData) (offset : ℕ)
-    → IsIn (inserting n p ch ctx) h → character_in h (n, offset) ≡ ch
-character_at [] t n p ch ctx offset i = absurd i
-character_at (inserting n' p' ch' ctx' ∷ os) t n p ch ctx offset (inl e) =
+-- the character of a cell is that of its insert's text at the offset
+pub character_at : (h : List OpData) → AreToldApart h → (n : NameData) (p : ℕ) (text : List ℕ) (ctx : ContextData) (offset : ℕ)
+    → IsIn (inserting n p text ctx) h → character_in h (n, offset) ≡ slice_index_or text offset 0
+character_at [] t n p text ctx offset i = absurd i
+character_at (inserting n' p' text' ctx' ∷ os) t n p text ctx offset (inl e) =
     let a : n' ≡ n = (cc) in
-    let b : ch' ≡ ch = (cc) in
+    let b : text' ≡ text = (cc) in
     let eq : name_eq n' n ≡ true = subst (λ (m : NameData). name_eq n' m ≡ true) a (name_itself n') in
-    rw eq b
-character_at (inserting n' p' ch' ctx' ∷ os) t n p ch ctx offset (inr i) = elim (cases_Bool (name_eq n' n)) [
-  | inl eq ↦ absurd ((told_from (inserting n' p' ch' ctx') os t.0 (inserting n p ch ctx) i).names refl refl
+    rw eq (ap (λ (ts : List ℕ). slice_index_or ts offset 0) b)
+character_at (inserting n' p' text' ctx' ∷ os) t n p text ctx offset (inr i) = elim (cases_Bool (name_eq n' n)) [
+  | inl eq ↦ absurd ((told_from (inserting n' p' text' ctx') os t.0 (inserting n p text ctx) i).names refl refl
       (ap Original (name_same n' n eq)))
-  | inr eq ↦ rw eq (character_at os t.1 n p ch ctx offset i)
+  | inr eq ↦ rw eq (character_at os t.1 n p text ctx offset i)
 ]
-character_at (deleting n' p' ctx' ∷ os) t n p ch ctx offset (inl e) = absurd (cc)
-character_at (deleting n' p' ctx' ∷ os) t n p ch ctx offset (inr i) = character_at os t.1 n p ch ctx offset i
-character_at (undoing s n' g ctx' ∷ os) t n p ch ctx offset (inl e) = absurd (cc)
-character_at (undoing s n' g ctx' ∷ os) t n p ch ctx offset (inr i) = character_at os t.1 n p ch ctx offset i
+character_at (deleting n' p' ctx' ∷ os) t n p text ctx offset (inl e) = absurd (cc)
+character_at (deleting n' p' ctx' ∷ os) t n p text ctx offset (inr i) = character_at os t.1 n p text ctx offset i
+character_at (undoing s n' g ctx' ∷ os) t n p text ctx offset (inl e) = absurd (cc)
+character_at (undoing s n' g ctx' ∷ os) t n p text ctx offset (inr i) = character_at os t.1 n p text ctx offset i
 
 -- ---- the same text
 
@@ -177,12 +182,12 @@ module _ (h k : List OpData) (told_h : AreToldApart h) (told_k : AreToldApart k)
       ap (λ (cs : List Cell). stands_at p (filter (λ d. has ctx (Original d.0)) cs) c) (same_replay h k told_h told_k same)
 
   same_covers : (o : OpData) (c : Cell) → IsIn o h → covers h c o ≡ covers k c o
-  same_covers (inserting n p ch ctx) c i = refl
+  same_covers (inserting n p text ctx) c i = refl
   same_covers (deleting n p ctx) c i = ap₂ (λ (a b : Bool). a && b) (same_force (deleting n p ctx) n i refl) (same_hits n p ctx c)
   same_covers (undoing s n g ctx) c i = refl
 
   cover_original : (l : List OpData) (c : Cell) (o : OpData) → covers l c o ≡ true → is_original o ≡ true
-  cover_original l c (inserting n p ch ctx) e = refl
+  cover_original l c (inserting n p text ctx) e = refl
   cover_original l c (deleting n p ctx) e = refl
   cover_original l c (undoing s n g ctx) e = e
 
@@ -203,7 +208,7 @@ module _ (h k : List OpData) (told_h : AreToldApart h) (told_k : AreToldApart k)
   same_is_shown : (c : Cell) → IsIn c (replay_of h) → is_shown h c ≡ is_shown k c
   same_is_shown c i =
       let r = in-replay_of h c i in
-      ap₂ (λ (a b : Bool). a && b) (same_force (inserting c.0 r.place r.character r.context) c.0 r.there refl) (ap not (same_covered c))
+      ap₂ (λ (a b : Bool). a && b) (same_force (inserting c.0 r.place r.text r.context) c.0 r.there refl) (ap not (same_covered c))
 
   pub same_shown : shown h ≡ shown k
   same_shown =
@@ -212,9 +217,9 @@ module _ (h k : List OpData) (told_h : AreToldApart h) (told_k : AreToldApart k)
   same_character : (c : Cell) → IsIn c (shown h) → character_in h c ≡ character_in k c
   same_character c i =
       let r = in-replay_of h c (filter_in (is_shown h) c (replay_of h) i).0 in
-      character_at h told_h c.0 r.place r.character r.context c.1 r.there
-      ∙ sym (character_at k told_k c.0 r.place r.character r.context c.1
-      (forth h k told_h told_k same (inserting c.0 r.place r.character r.context) refl r.there))
+      character_at h told_h c.0 r.place r.text r.context c.1 r.there
+      ∙ sym (character_at k told_k c.0 r.place r.text r.context c.1
+      (forth h k told_h told_k same (inserting c.0 r.place r.text r.context) refl r.there))
 
   pub same_characters : characters_of h ≡ characters_of k
   same_characters = map_same (character_in h) (character_in k) (shown h) same_character ∙ ap (map (character_in k)) same_shown

@@ -1,6 +1,6 @@
 -- Walks over a list that look for a place: each step and the end of them.
 use Rattle.std.proofs.Common.{◌≡◌, ℕ, zero, suc, ◌+◌, ◌-◌, ◌<◌, ◌≤◌, Bool, true, false, inl, inr, List, [], ◌∷◌, refl, ap, sym, ◌∙◌, arith, length, map, drop, get_or}
-use Rattle.std.specs.Prelude.{◌||◌, if◌then◌else◌}
+use Rattle.std.specs.Prelude.{if◌then◌else◌}
 use Rattle.std.specs.List.{list_any}
 use Rattle.std.proofs.lemmas.Bool.{cases_Bool}
 use Rattle.std.proofs.lemmas.List.{at_drop_more, at_drop_all}
@@ -71,18 +71,3 @@ before_first_map f p (x ∷ xs) = elim (cases_Bool (p (f x))) [
   | inl e ↦ rw e refl
   | inr e ↦ rw e (ap (λ n. suc n) (before_first_map f p xs))
 ]
-
-list_any_map : {X Y : Type 0} (f : X → Y) (p : Y → Bool) (xs : List X) → list_any p (map f xs) ≡ list_any (λ x. p (f x)) xs
-list_any_map f p [] = refl
-list_any_map f p (x ∷ xs) = ap (λ b. p (f x) || b) (list_any_map f p xs)
-
-pub up_to_last_map : {X Y : Type 0} (f : X → Y) (p : Y → Bool) (xs : List X) → up_to_last p (map f xs) ≡ up_to_last (λ x. p (f x)) xs
-up_to_last_map f p [] = refl
-up_to_last_map f p (x ∷ xs) =
-    λ i. if p (f x) || list_any_map f p xs i then suc (up_to_last_map f p xs i) else 0
-
-pub up_to_nth_map : {X Y : Type 0} (f : X → Y) (p : Y → Bool) (n : ℕ) (xs : List X)
-    → up_to_nth p n (map f xs) ≡ up_to_nth (λ x. p (f x)) n xs
-up_to_nth_map f p zero xs = refl
-up_to_nth_map f p (suc n) [] = refl
-up_to_nth_map f p (suc n) (x ∷ xs) = ap (λ k. suc k) (up_to_nth_map f p (if p (f x) then n else suc n) xs)

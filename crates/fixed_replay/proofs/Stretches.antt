@@ -1,7 +1,7 @@
 -- Stretches: what a gap is among cells, where it starts, and how one more insert narrows it.
-use Rattle.std.proofs.Common.{◌≡◌, ℕ, zero, suc, ◌+◌, ◌<◌, ◌≤◌, Bool, true, false, ◌||◌, List, [], ◌∷◌, ◌++◌, length, take, drop, if◌then◌else◌, ◌⊎◌, inl, inr, refl, ap, sym, ◌∙◌, subst, arith, append_assoc, append-nil}
-use Rattle.std.proofs.lemmas.Bool.{both_ways, cases_Bool}
-use Rattle.transform_rec.proofs.CallerLemmas.{in_left, in_right, count-append, count, either, EachAt}
+use Rattle.std.proofs.Common.{◌≡◌, ℕ, zero, suc, ◌+◌, ◌<◌, ◌≤◌, Bool, true, false, ◌||◌, List, [], ◌∷◌, ◌++◌, length, take, drop, filter, if◌then◌else◌, ◌≢◌, ◌⊎◌, inl, inr, refl, ap, sym, ◌∙◌, subst, arith, append_assoc, append-nil, take-append-drop}
+use Rattle.std.proofs.lemmas.Bool.{both_ways, cases_Bool, false_from_ne_true}
+use Rattle.transform_rec.proofs.CallerLemmas.{in_left, in_right, count-append, length-count, filter-append, filter_all, count, either, EachAt}
 use Rattle.std.specs.List.{list_any}
 use Rattle.std.proofs.Math.Seq.{take-append_seam, drop-append_seam}
 use Rattle.ttf_form.specs.Laws.Places.{IsMoved}
@@ -9,6 +9,38 @@ use Rattle.context_diff.specs.Gaps.{Gap, until, onward, through, beyond, gap, na
 use Rattle.transform_rec.specs.Lists.{IsIn}
 use Rattle.fixed_replay.proofs.Elements.{not_both}
 use Rattle.fixed_replay.proofs.Counts.{count-either, any_count, count_any, count_all, AreDisjoint, each-append, each-late, each-between, each-early, begins-late, BeginsIn, EndsIn, ends-more, ends-append, ends-cons, begins-more, begins-append}
+
+no_length : {K : Type 0} (xs : List K) → length xs ≡ 0 → xs ≡ []
+no_length [] h = refl
+no_length (x ∷ xs) h = absurd (omega arith)
+
+-- where no element passes, none is kept
+none_kept : {K : Type 0} (p : K → Bool) (xs : List K) → count p xs ≡ 0 → filter p xs ≡ []
+none_kept p xs none = no_length (filter p xs) (length-count p xs ∙ none)
+
+-- of elements put among others that fail, the elements put in are kept
+pub kept_alone : {K : Type 0} (p : K → Bool) (n : ℕ) (new xs : List K) → count p xs ≡ 0 → ((c : K) → IsIn c new → p c ≡ true)
+    → filter p (take n xs ++ (new ++ drop n xs)) ≡ new
+kept_alone {K} p n new xs none pass =
+    let parts = count-append p (take n xs) (drop n xs) in
+    let whole = ap (count p) (take-append-drop n xs) in
+    let before = none_kept p (take n xs) (omega (arith, parts, whole, none)) in
+    let behind = none_kept p (drop n xs) (omega (arith, parts, whole, none)) in
+    filter-append p (take n xs) (new ++ drop n xs)
+    ∙ (ap (λ (ys : List K). ys ++ filter p (new ++ drop n xs)) before
+    ∙ (filter-append p new (drop n xs)
+    ∙ ((λ i. filter_all p new pass i ++ behind i) ∙ append-nil new)))
+
+-- what is kept of the elements that pass another test, where all that are kept pass that
+pub kept_within : {K : Type 0} (p q : K → Bool) → ((c : K) → p c ≡ true → q c ≡ true) → (xs : List K)
+    → filter p (filter q xs) ≡ filter p xs
+kept_within p q h [] = refl
+kept_within p q h (x ∷ xs) =
+    let rest = kept_within p q h xs in
+    elim (cases_Bool (q x)) [
+      | inl k ↦ rw (k, rest) refl
+      | inr k ↦ let fails : p x ≡ false = false_from_ne_true (p x) (λ e. both_ways (q x) k (h x e)) in rw (k, fails) rest
+    ]
 
 -- the four parts of a list
 
@@ -167,16 +199,8 @@ three (suc n) zero = inl (omega arith)
 three (suc n) (suc q) =
     elim (three n q) [ inl h ↦ inl (omega arith) | inr h ↦ elim h [ inl k ↦ inr (inl (omega arith)) | inr k ↦ inr (inr (ap suc k)) ] ]
 
-either_right : {K : Type 0} (p x : K → Bool) (c : K) → x c ≡ true → either p x c ≡ true
+pub either_right : {K : Type 0} (p x : K → Bool) (c : K) → x c ≡ true → either p x c ≡ true
 either_right p x c h = elim (cases_Bool (p c)) [ inl k ↦ rw k refl | inr k ↦ rw (k, h) refl ]
-
--- what passes less often than what never passes
-count_less : {K : Type 0} (first x : K → Bool) → ((c : K) → first c ≡ true → x c ≡ true) → (xs : List K) → count x xs ≡ 0 → count first xs ≡ 0
-count_less first x of_x [] e = refl
-count_less first x of_x (c ∷ cs) e = elim (cases_Bool (first c)) [
-  | inl k ↦ let y = of_x c k in let z : 1 + count x cs ≡ 0 = rw y at e in absurd (omega (arith, z))
-  | inr k ↦ let rest = count_less first x of_x cs (omega (arith, e)) in rw (k, rest) refl
-]
 
 module _ {K : Type 0} (S : List K) (p x : K → Bool) (disjoint : AreDisjoint p x) (q : ℕ) (each : EachAt p x q 0 S) (n : ℕ) (g : Gap K)
     (s : Stretch S p n g) where
@@ -248,23 +272,24 @@ module _ {K : Type 0} (S : List K) (p x : K → Bool) (disjoint : AreDisjoint p 
         (begins-more x (either p x) (either_right p x) (onward x g.between) (onward_begins x g.between)) begins_either;
   }
 
-  -- where the first cell of x isn't between, none of x is
-  pub between_first : (first : K → Bool) → ((c : K) → first c ≡ true → x c ≡ true) → list_any first S ≡ true
-      → list_any first g.between ≡ false → count x g.between ≡ 0
-  between_first first of_x there out = by_place (three n q)
+  -- all cells of x are between, or none is
+  pub all_or_none : (filter x g.between ≡ []) ⊎ (filter x g.between ≡ filter x S)
+  all_or_none = by_place (three n q)
     where
-      by_place : (q < n) ⊎ ((n < q) ⊎ (n ≡ q)) → count x g.between ≡ 0
-      by_place (inl h) = each-between p x q n g.between s.free (λ (f : n ≡ q). absurd (omega arith)) parts.1
-      by_place (inr (inl h)) = each-between p x q n g.between s.free (λ (f : n ≡ q). absurd (omega arith)) parts.1
+      none : n ≢ q → filter x g.between ≡ []
+      none other = none_kept x g.between (each-between p x q n g.between s.free other parts.1)
+
+      by_place : (q < n) ⊎ ((n < q) ⊎ (n ≡ q)) → (filter x g.between ≡ []) ⊎ (filter x g.between ≡ filter x S)
+      by_place (inl h) = inl (none (λ e. absurd (omega (arith, h, e))))
+      by_place (inr (inl h)) = inl (none (λ e. absurd (omega (arith, h, e))))
       by_place (inr (inr h)) =
-          let before = count_less first x of_x g.before
-          (each-early p x disjoint q 0 g.before s.ends (let at = s.at in omega arith) parts.0) in
-          let behind = count_less first x of_x g.behind (begins-late p x disjoint q n g.behind s.begins (omega arith) parts.2) in
-          let between = count_any first g.between out in
-          let all : count first S ≡ count first g.before + (count first g.between + count first g.behind) =
-          ap (count first) s.whole ∙ count-append first g.before (g.between ++ g.behind)
-          ∙ ap (λ (k : ℕ). count first g.before + k) (count-append first g.between g.behind) in
-          absurd (both_ways (list_any first S) (any_count first S (omega (arith, all, before, behind, between))) there)
+          let before = none_kept x g.before (each-early p x disjoint q 0 g.before s.ends (let at = s.at in omega arith) parts.0) in
+          let behind = none_kept x g.behind (begins-late p x disjoint q n g.behind s.begins (omega arith) parts.2) in
+          inr (sym (ap (filter x) s.whole
+          ∙ (filter-append x g.before (g.between ++ g.behind)
+          ∙ (ap (λ (ys : List K). ys ++ filter x (g.between ++ g.behind)) before
+          ∙ (filter-append x g.between g.behind
+          ∙ (ap (λ (ys : List K). filter x g.between ++ ys) behind ∙ append-nil (filter x g.between)))))))
 
   -- the insert of x has its cells in one of the three lists, by its place and by the tie
   pub walk_step : (left : Bool) (n' : ℕ) → IsMoved n q (count x S) left n' → Stretch S (either p x) n' (narrow left x g)
@@ -292,10 +317,6 @@ module _ {K : Type 0} (S : List K) (p x : K → Bool) (disjoint : AreDisjoint p 
           tie : (l : Bool) → left ≡ l → Stretch S (either p x) n' (narrow left x g)
           tie true t = rw t (to_left n' no_before no_behind (m.tie_left h t))
           tie false t = rw t (to_right n' no_before (m.tie_right h t))
-
-no_length : {K : Type 0} (xs : List K) → length xs ≡ 0 → xs ≡ []
-no_length [] h = refl
-no_length (x ∷ xs) h = absurd (omega arith)
 
 seam : {K : Type 0} (xs new ys : List K) (n : ℕ) → length xs ≡ n → xs ++ (new ++ ys) ≡ take n (xs ++ ys) ++ (new ++ drop n (xs ++ ys))
 seam xs new ys n h = rw (← h, take-append_seam xs ys, drop-append_seam xs ys) refl

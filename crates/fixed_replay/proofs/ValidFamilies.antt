@@ -1,6 +1,6 @@
 -- A valid history is a family of the editor: unrelated base forms are apart, each is bounded by its base context, and its
 -- cells have its own name.
-use Rattle.std.proofs.Common.{◌≡◌, ◌≢◌, ℕ, ◌<◌, ◌≤◌, true, List, ◌⊎◌, inl, inr, refl, ap, sym, ◌∙◌, subst}
+use Rattle.std.proofs.Common.{◌≡◌, ◌≢◌, ℕ, ◌<◌, ◌≤◌, true, List, length, ◌⊎◌, inl, inr, refl, ap, sym, ◌∙◌, subst}
 use Rattle.op_name.specs.NameData.{NameData}
 use Rattle.op_name.specs.declared.member.Member.{Member}
 use Rattle.op_name.specs.declared.member.Member.TheVariants.{Original, Group}
@@ -104,37 +104,37 @@ module _ (h : List OpData) (v : IsValid h) (form : Member → Form) (forms : Are
             λ (n : NameData). base_has h m (Original n);
       }
 
-  put_is : (n : NameData) (p ch : ℕ) (c : ContextData) (a : Ins) → IsIn (inserting n p ch c) h → a.name ≡ n → a.place ≡ p
-      → ins_extent a ≡ 1 → put_of (Original n) a ≡ insertion n p c
-  put_is n p ch c a i name place len =
-      let r = rank_is h v (inserting n p ch c) n i refl in
+  put_is : (n : NameData) (p : ℕ) (text : List ℕ) (c : ContextData) (a : Ins) → IsIn (inserting n p text c) h → a.name ≡ n → a.place ≡ p
+      → ins_extent a ≡ length text → put_of (Original n) a ≡ insertion n p text c
+  put_is n p text c a i name place len =
+      let r = rank_is h v (inserting n p text c) n i refl in
       λ j. record {
         name = name j;
         place = place j;
         len = len j;
         rank = r j;
         sees =
-            λ m. context_of_original h v (inserting n p ch c) n i refl (Original m) j;
+            λ m. context_of_original h v (inserting n p text c) n i refl (Original m) j;
       }
 
   pub same_inserts : SameElements (fixed_order h) (insertions_of b (rank_in h v) (members_in h))
   same_inserts = record {
     forth = λ z i.
         let r = in-insertions z h (in-sort_by is_earlier z (insertions_in h) i) in
-        let o = inserting r.name r.place r.character r.context in
-        let f = forms.inserts r.name r.place r.character r.context r.there in
+        let o = inserting r.name r.place r.text r.context in
+        let f = forms.inserts r.name r.place r.text r.context r.there in
         let there = insertions_of-in b (rank_in h v) (members_in h) (Original r.name) f.ins (member_listed o h r.there) f.is in
         subst (λ (x : Insertion). IsIn x (insertions_of b (rank_in h v) (members_in h)))
-        (put_is r.name r.place r.character r.context f.ins r.there f.name f.place f.len ∙ sym r.is) there;
+        (put_is r.name r.place r.text r.context f.ins r.there f.name f.place f.len ∙ sym r.is) there;
     back = λ z i.
         let r = in-insertions_of b (rank_in h v) (members_in h) z i in
         let o = insert_op h v form forms r.member r.ins r.there r.form in
-        let f = forms.inserts o.name o.place o.character o.context o.there in
-        let len : ins_extent r.ins ≡ 1 = ap extent_of (sym r.form ∙ (ap form o.is ∙ f.is)) ∙ f.len in
-        let same : z ≡ insertion o.name o.place o.context =
+        let f = forms.inserts o.name o.place o.text o.context o.there in
+        let len : ins_extent r.ins ≡ length o.text = ap extent_of (sym r.form ∙ (ap form o.is ∙ f.is)) ∙ f.len in
+        let same : z ≡ insertion o.name o.place o.text o.context =
         r.is ∙ (ap (λ (m : Member). put_of m r.ins) o.is
-        ∙ put_is o.name o.place o.character o.context r.ins o.there o.named o.placed len) in
+        ∙ put_is o.name o.place o.text o.context r.ins o.there o.named o.placed len) in
         subst (λ (x : Insertion). IsIn x (fixed_order h)) (sym same)
-        (sort_by-in is_earlier (insertion o.name o.place o.context) (insertions_in h)
-        (insertions-in o.name o.place o.character o.context h o.there));
+        (sort_by-in is_earlier (insertion o.name o.place o.text o.context) (insertions_in h)
+        (insertions-in o.name o.place o.text o.context h o.there));
   }

@@ -1,5 +1,5 @@
 -- Cells that are the fixed replay of a history, the text beside them, and what both show.
-use Rattle.std.specs.Prelude.{◌≡◌, ◌↔◌, ℕ, true, List, [], ◌∷◌, map, filter, encode_utf8_all}
+use Rattle.std.specs.Prelude.{◌≡◌, ◌↔◌, ℕ, true, List, [], map, filter, encode_utf8_all}
 use Rattle.op_name.specs.NameData.{NameData}
 use Rattle.context_vector.specs.Contexts.{ContextData}
 use Rattle.context_diff.specs.Operations.{OpData, inserting, deleting, undoing}
@@ -26,13 +26,13 @@ pub record IsReplayed (h : List OpData) (cs : List CellData) : Type 0 where
   pub once : (d : CellData) → IsIn d cs → IsRising d.deleters
   pub shown : (d : CellData) → IsIn d cs → cell_shown d ≡ is_shown h (cell_key d)
 
--- the text beside the cells: each character is the one that the cell's insert has in the history
+-- the text beside the cells: each character is the one that the cell's insert has in the history at the cell's offset
 abbrev pub AreCharacters : List OpData → List CellData → List ℕ → Type 0
 AreCharacters h cs ts = ts ≡ map (character_in h) (cells_of cs)
 
--- the characters that an operation brings: that of an insert; others bring none
+-- the characters that an operation brings: those of an insert; others bring none
 abbrev pub letters_of : OpData → List ℕ
-letters_of (inserting n p ch c) = ch ∷ []
+letters_of (inserting n p text c) = text
 letters_of (deleting n p c) = []
 letters_of (undoing a t g c) = []
 

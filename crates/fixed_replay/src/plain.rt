@@ -11,6 +11,7 @@ use context_diff::Op;
 use op_name::Memory;
 use std::alloc::Global;
 
+mod cells;
 mod order;
 mod places;
 mod shown;

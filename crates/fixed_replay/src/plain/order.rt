@@ -4,21 +4,23 @@ ghost use Rattle.std.specs.Prelude.{◌≡◌, ◌≤◌, ◌∷◌, List, IfOk,
 ghost use Rattle.std.specs.List.{insert};
 ghost use Rattle.context_diff.specs.Operations.{OpData};
 ghost use Rattle.context_diff.specs.Ops.{data_of};
-ghost use Rattle.context_diff.specs.Replays.{is_earlier, put_by, fixed_order};
+ghost use Rattle.context_diff.specs.Replays.{is_earlier, put_by, fixed_order, first_of, last_of};
 ghost use Rattle.context_diff.specs.Code.GapEnds.{before_first};
-ghost use Rattle.fixed_replay.specs.Code.PlainCells.{insertion_of, comes_before, knows};
+ghost use Rattle.fixed_replay.specs.Code.PlainCells.{insertion_of, comes_before, knows, sees};
 
+use super::cells::CellName;
 use context_diff::Op;
 use context_vector::Vector;
 use op_name::{Member, Memory, Name};
 use std::alloc::Global;
 use std::marker::Model;
 
-/// What the replay reads of an insert: its name, its place, and what it was made after.
+/// What the replay reads of an insert: its name, its place, the number of its characters, and what it was made after.
 #[derive(Drop)]
 pub struct Inserted {
     name: Name,
     place: u32,
+    len: u16,
     context: Vector,
 }
 
@@ -27,11 +29,11 @@ impl Model for Inserted {
 
     ghost Value = { InsertData };
 
-    ghost view = { λ o. record { name = o.name; place = o.place; context = o.context.set } };
+    ghost view = { λ o. record { name = o.name; place = o.place; len = o.len; context = o.context.set } };
 }
 
 impl Inserted {
-    /// The name of the insert, which is that of its cell.
+    /// The name of the insert.
     pub fn name(&self) -> Name
         ensures { result ≡ self.now.name }
     {
@@ -45,19 +47,46 @@ impl Inserted {
         self.place
     }
 
-    /// Whether the insert was made after the original of this name.
-    pub fn knows(&self, name: &Name) -> bool
-        ensures { result ≡ knows self.now name.now }
+    /// How many cells the insert puts: one for each of its characters.
+    pub fn len(&self) -> u16
+        ensures { result ≡ self.now.len }
     {
-        self.context.contains(&Member::Original(*name))
+        self.len
     }
 
-    /// Whether the original of this name is of a smaller site: of two that go to one place, that of the
-    /// smaller site stands in front.
-    pub fn goes_after(&self, name: &Name) -> bool
-        ensures { result ≡ nat_lt name.now.site self.now.name.site }
+    /// Whether the insert was made after the other.
+    pub fn knows(&self, other: &Inserted) -> bool
+        ensures { result ≡ knows self.now other.now.name }
     {
-        name.site < self.name.site
+        self.context.contains(&Member::Original(other.name))
+    }
+
+    /// Whether the insert was made after the one that put the cell.
+    pub fn sees(&self, cell: &CellName) -> bool
+        ensures { result ≡ sees self.now cell.now }
+    {
+        cell.is_in(&self.context)
+    }
+
+    /// Whether the cell is the first that the insert put.
+    pub fn is_first(&self, cell: &CellName) -> bool
+        ensures { result ≡ first_of self.now.name cell.now }
+    {
+        cell.is_first_of(&self.name)
+    }
+
+    /// Whether the cell is the last that the insert put.
+    pub fn is_last(&self, cell: &CellName) -> bool
+        ensures { result ≡ last_of (insertion_of self.now) cell.now }
+    {
+        cell.is_of(&self.name) && u32::from(cell.offset()) + 1 == u32::from(self.len)
+    }
+
+    /// Whether the other is of a smaller site: of two that go to one place, that of the smaller site stands in front.
+    pub fn goes_after(&self, other: &Inserted) -> bool
+        ensures { result ≡ nat_lt other.now.name.site self.now.name.site }
+    {
+        other.name.site < self.name.site
     }
 
     // Whether the insert comes before the other: by rank, then by site.
@@ -89,12 +118,13 @@ fn put_op(order: &mut Vec<Inserted>, op: &Op) -> Result<(), Memory>
         Op::Insert {
             name,
             place,
+            text,
             context,
-            ..
         } => {
             let inserted = Inserted {
                 name: *name,
                 place: *place,
+                len: text.len(),
                 context: context.try_clone()?,
             };
             put(order, inserted)

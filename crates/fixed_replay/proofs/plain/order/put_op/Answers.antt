@@ -11,9 +11,10 @@ pub returns-in_ok-try_clone-in-Insert : goal.returns-in_ok-try_clone-in-Insert
 returns-in_ok-try_clone-in-Insert c =
     let name = c.in-Insert.name in
     let place = c.in-Insert.place in
-    let ch = c.in-Insert.ch in
+    let text = c.in-Insert.text in
     let copy = c.in_ok-try_clone-in-Insert in
     on_ok_weaker c.put.result (λ puts h was.
-    order_with h name place ch copy.field-0.set (map insertion_of c.args.order.now.items) (map insertion_of c.put.new.order.items) was puts
-    ∙ (ap (λ known. fixed_order (inserting name place ch known ∷ h)) copy.ensures
+    order_with h name place c.len.result text copy.field-0.set (map insertion_of c.args.order.now.items)
+    (map insertion_of c.put.new.order.items) c.len.ensures was puts
+    ∙ (ap (λ known. fixed_order (inserting name place text known ∷ h)) copy.ensures
     ∙ ap (λ op. fixed_order (data_of op ∷ h)) (sym c.in-Insert.is))) c.put.ensures

@@ -1,19 +1,18 @@
-use Rattle.std.proofs.Common.{◌≡◌, ◌+◌, ◌<◌, Bool, drop, ap, sym, ◌∙◌, arith}
-use Rattle.op_name.specs.NameData.{NameData, name_eq}
+use Rattle.std.proofs.Common.{◌+◌, ◌<◌, Bool, drop, ap, sym, ◌∙◌, arith}
+use Rattle.op_name.specs.NameData.{NameData}
 use Rattle.op_name.specs.declared.member.Member.TheVariants.{Original}
 use Rattle.context_vector.specs.Contexts.{has}
 use Rattle.fixed_replay.proofs.Standing.{stands_among, stands_past, stands_here, stands_later, stands_end}
 use Rattle.fixed_replay.proofs.plain.shown.hits.Goals as goal
-use Rattle.fixed_replay.proofs.plain.shown.hits.Goals.{then-contains+else-before-eq0, else-contains}
+use Rattle.fixed_replay.proofs.plain.shown.hits.Goals.{then-is_in+else-before-eq0, else-is_in}
 
 pub returns-then-before-eq0 : goal.returns-then-before-eq0
 returns-then-before-eq0 c =
     let sees : NameData → Bool = λ n. has c.args.context.now.set (Original n) in
     let x = c.other-item.result in
-    let same : c.eq.result ≡ name_eq x c.args.cell.now = c.eq.ensures in
-    same ∙ sym (c.loop-other.invariant
+    c.is.ensures ∙ sym (c.loop-other.invariant
     ∙ stands_here sees c.args.cell.now c.loop-other.before c.args.cells.now c.loop-other.other-index x c.loop-other-test.true
-    c.other-item.is (sym c.contains.ensures ∙ c.if-contains.true) c.if-before-eq0.true)
+    c.other-item.is (sym c.is_in.ensures ∙ c.if-is_in.true) c.if-before-eq0.true)
 
 pub loop-other-preserved : goal.loop-other-preserved
 loop-other-preserved c =
@@ -23,16 +22,16 @@ loop-other-preserved c =
     let i = c.loop-other.other-index in
     let before = c.loop-other.before in
     let x = c.other-item.result in
-    elim c.if-contains.branch [
-      | then-contains+else-before-eq0 w ↦
+    elim c.if-is_in.branch [
+      | then-is_in+else-before-eq0 w ↦
           let some : 0 < before = let other = w.if-before-eq0.false in omega arith in
           c.loop-other.invariant
-          ∙ (stands_later sees cell before cells i x c.loop-other-test.true c.other-item.is (sym c.contains.ensures ∙ w.if-contains.true)
+          ∙ (stands_later sees cell before cells i x c.loop-other-test.true c.other-item.is (sym c.is_in.ensures ∙ w.if-is_in.true)
           some
           ∙ ap (λ n. stands_among sees cell n (drop (i + 1) cells)) (sym w.before-is))
-      | else-contains w ↦
+      | else-is_in w ↦
           c.loop-other.invariant
-          ∙ (stands_past sees cell before cells i x c.loop-other-test.true c.other-item.is (sym c.contains.ensures ∙ w.if-contains.false)
+          ∙ (stands_past sees cell before cells i x c.loop-other-test.true c.other-item.is (sym c.is_in.ensures ∙ w.if-is_in.false)
           ∙ ap (λ n. stands_among sees cell n (drop (i + 1) cells)) (sym w.before-is))
     ]
 
