@@ -1,7 +1,7 @@
 -- The cells of chunks, their texts, and the room that these have, where a chunk changes or comes in.
 use Rattle.std.proofs.Common.{◌≡◌, ℕ, ◌<◌, List, [], ◌∷◌, length, insert, refl, set, get_or, sym, ap, ◌∙◌, arith}
 use Rattle.std.proofs.lemmas.List.{length-map, map-set, get_or-map, get_or-set_same, set-get_or}
-use Rattle.tombstone_text.specs.Code.Chunks.{ChunkData, bodies, rooms_of, texts_of}
+use Rattle.tombstone_text.specs.Code.Chunks.{ChunkData, bodies, gaps_of, rooms_of, texts_of}
 use Rattle.tombstone_text.specs.Code.Cells.{cut}
 use Rattle.tombstone_text.proofs.Flags.{map-insert}
 
@@ -36,6 +36,11 @@ pub room_read : (cs : List ChunkData) (i : ℕ) (x : ChunkData) → i < length (
 room_read cs i x lt read =
     ap (λ (c : ChunkData). c.room) read ∙ sym (get_or-map (λ (c : ChunkData). c.room) cs i x 0 (bodies_within cs i lt))
 
+pub gap_read : (cs : List ChunkData) (i : ℕ) (x : ChunkData) → i < length (bodies cs) → x ≡ get_or cs i x
+    → x.gaps ≡ get_or (gaps_of cs) i 0
+gap_read cs i x lt read =
+    ap (λ (c : ChunkData). c.gaps) read ∙ sym (get_or-map (λ (c : ChunkData). c.gaps) cs i x 0 (bodies_within cs i lt))
+
 -- a chunk that changed
 pub bodies_set : (cs : List ChunkData) (i : ℕ) (x : ChunkData) → bodies (set cs i x) ≡ set (bodies cs) i x.cells
 bodies_set cs i x = map-set (λ (c : ChunkData). c.cells) cs i x
@@ -63,6 +68,11 @@ pub room_set : (cs : List ChunkData) (i : ℕ) (y : ChunkData) → i < length (b
 room_set cs i y lt =
     let within : i < length (rooms_of cs) = omega (arith, lt, bodies_long cs, length-map cs (λ (c : ChunkData). c.room)) in
     ap (λ ns. get_or ns i 0) (rooms_set cs i y) ∙ get_or-set_same (rooms_of cs) i y.room 0 within
+
+pub gap_set : (cs : List ChunkData) (i : ℕ) (y : ChunkData) → i < length (bodies cs) → get_or (gaps_of (set cs i y)) i 0 ≡ y.gaps
+gap_set cs i y lt =
+    let within : i < length (gaps_of cs) = omega (arith, lt, bodies_long cs, length-map cs (λ (c : ChunkData). c.gaps)) in
+    ap (λ ns. get_or ns i 0) (map-set (λ (c : ChunkData). c.gaps) cs i y) ∙ get_or-set_same (gaps_of cs) i y.gaps 0 within
 
 -- a chunk that came in
 pub bodies_insert : (cs : List ChunkData) (i : ℕ) (x : ChunkData) → bodies (insert cs i x) ≡ insert (bodies cs) i x.cells

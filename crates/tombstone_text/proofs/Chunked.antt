@@ -9,8 +9,9 @@ use Rattle.ttf_form.specs.Cells.{CellData, cell_shown, change_at, put_in}
 use Rattle.ttf_form.specs.Laws.Lists.{put_behind}
 use Rattle.tombstone_text.specs.Chunks.{flat, flag_of, shown_in}
 use Rattle.tombstone_text.specs.Sums.{IsPart}
-use Rattle.tombstone_text.specs.Code.Cells.{cut, AreFilled, IsSeat, IsText}
+use Rattle.tombstone_text.specs.Code.Cells.{cut, IsSeat, IsText}
 use Rattle.tombstone_text.specs.Code.Chunks.{ChunkData}
+use Rattle.tombstone_text.specs.Code.Spans.{AreFilled, IsSpot}
 
 -- the elements of all lists, one after the other
 abbrev pub all : {A : Type 0} → List (List A) → List A
@@ -99,7 +100,7 @@ length-cut [] i k lt = absurd (omega arith)
 length-cut (c ∷ cs) zero k lt = refl
 length-cut (c ∷ cs) (suc i) k lt = ap suc (length-cut cs i k (omega arith))
 
-low_part : (cs : List (List CellData)) (i k : ℕ) → i < length cs → get_or (cut cs i k) i [] ≡ take k (get_or cs i [])
+pub low_part : (cs : List (List CellData)) (i k : ℕ) → i < length cs → get_or (cut cs i k) i [] ≡ take k (get_or cs i [])
 low_part [] i k lt = absurd (omega arith)
 low_part (c ∷ cs) zero k lt = refl
 low_part (c ∷ cs) (suc i) k lt = low_part cs i k (omega arith)
@@ -109,12 +110,12 @@ high_part [] i k lt = absurd (omega arith)
 high_part (c ∷ cs) zero k lt = refl
 high_part (c ∷ cs) (suc i) k lt = high_part cs i k (omega arith)
 
-before_low : (cs : List (List CellData)) (i k : ℕ) → i < length cs → flat (take i (cut cs i k)) ≡ flat (take i cs)
+pub before_low : (cs : List (List CellData)) (i k : ℕ) → i < length cs → flat (take i (cut cs i k)) ≡ flat (take i cs)
 before_low [] i k lt = absurd (omega arith)
 before_low (c ∷ cs) zero k lt = refl
 before_low (c ∷ cs) (suc i) k lt = ap (λ zs. c ++ zs) (before_low cs i k (omega arith))
 
-before_high : (cs : List (List CellData)) (i k : ℕ) → i < length cs → k ≤ length (get_or cs i [])
+pub before_high : (cs : List (List CellData)) (i k : ℕ) → i < length cs → k ≤ length (get_or cs i [])
     → length (flat (take (suc i) (cut cs i k))) ≡ length (flat (take i cs)) + k
 before_high [] i k lt e = absurd (omega arith)
 before_high (c ∷ cs) zero k lt e = omega (arith, length-append (take k c) (flat (take 0 (drop k c ∷ cs))), length-take k c)
@@ -174,17 +175,33 @@ change-right f (x ∷ xs) ys k zero e = absurd (omega arith)
 change-right f (x ∷ xs) ys k (suc n) e = ap (λ zs. x ∷ zs) (change-right f xs ys k n (omega arith))
 
 -- a cell that is there stands in its chunk
-pub record IsSpot (cs : List (List CellData)) (i o p : ℕ) : Type 0 where
-  pub chunk : i < length cs
-  pub within : o < length (get_or cs i [])
-  pub place_is : length (flat (take i cs)) + o ≡ p
-
 tail_spot : (c : List CellData) (cs : List (List CellData)) (i o p : ℕ) → IsSpot (c ∷ cs) (suc i) o p
     → IsSpot cs i o (p - length c) × (length c + (p - length c) ≡ p)
 tail_spot c cs i o p s =
     let t = tail_place c cs i o p s.place_is in
     let lt = s.chunk in
     (record { chunk = omega arith; within = s.within; place_is = t.0 }, let le = t.1 in omega arith)
+
+-- a place has one spot, within the cells
+pub spot_unique : (cs : List (List CellData)) (i o j q p : ℕ) → IsSpot cs i o p → IsSpot cs j q p → i ≡ j
+spot_unique [] i o j q p s t = absurd (omega (arith, s.chunk))
+spot_unique (c ∷ cs) zero o zero q p s t = refl
+spot_unique (c ∷ cs) zero o (suc j) q p s t =
+    let here : 0 + o ≡ p = s.place_is in
+    absurd (omega (arith, here, s.within, t.place_is, length-append c (flat (take j cs))))
+spot_unique (c ∷ cs) (suc i) o zero q p s t =
+    let here : 0 + q ≡ p = t.place_is in
+    absurd (omega (arith, here, t.within, s.place_is, length-append c (flat (take i cs))))
+spot_unique (c ∷ cs) (suc i) o (suc j) q p s t =
+    ap suc (spot_unique cs i o j q (p - length c) (tail_spot c cs i o p s).0 (tail_spot c cs j q p t).0)
+
+pub spot_inside : (cs : List (List CellData)) (i o p : ℕ) → IsSpot cs i o p → p < length (flat cs)
+spot_inside [] i o p s = absurd (omega (arith, s.chunk))
+spot_inside (c ∷ cs) zero o p s =
+    let here : 0 + o ≡ p = s.place_is in omega (arith, here, s.within, length-append c (flat cs))
+spot_inside (c ∷ cs) (suc i) o p s =
+    let t = tail_spot c cs i o p s in
+    omega (arith, spot_inside cs i o (p - length c) t.0, t.1, length-append c (flat cs))
 
 pub flat_change : (f : CellData → CellData) (cs : List (List CellData)) (i o p : ℕ) → IsSpot cs i o p
     → flat (set cs i (change_at o f (get_or cs i []))) ≡ change_at p f (flat cs)

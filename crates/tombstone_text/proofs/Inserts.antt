@@ -1,7 +1,8 @@
--- How the cells of inserts stand, once new cells came in or a mark was left; and a mark on an insert of one cell.
-use Rattle.std.proofs.Common.{◌≡◌, ◌≢◌, ℕ, zero, suc, ◌+◌, ◌<◌, ◌≤◌, Bool, true, false, List, [], ◌∷◌, ◌++◌, map, refl, sym, ap, ◌∙◌, subst, arith}
+-- How the cells of inserts stand, once new cells came in or a mark was left; and a mark on an insert of one cell, or of several.
+use Rattle.std.proofs.Common.{◌≡◌, ◌≢◌, ℕ, zero, suc, ◌+◌, ◌<◌, ◌≤◌, ◌==◌, Bool, true, false, if◌then◌else◌, List, [], ◌∷◌, ◌++◌, map, refl, sym, ap, ◌∙◌, subst, arith}
 use Rattle.std.specs.Prelude.{Option, Some, None, slice_get}
 use Rattle.std.specs.Option.{option_map_or}
+use Rattle.std.proofs.lemmas.Bool.Decides.{nat_tests}
 use Rattle.op_name.specs.NameData.{NameData, name_eq}
 use Rattle.ttf_form.specs.declared.ins.Ins.{Ins}
 use Rattle.ttf_form.specs.declared.cover.Mark.{Mark}
@@ -13,6 +14,8 @@ use Rattle.ttf_form.specs.Laws.Lists.{map-map, map-change}
 use Rattle.ttf_form.specs.Laws.Marks.{raised_none}
 use Rattle.ttf_form.specs.Laws.Deleters.{name_self, name_same}
 use Rattle.tombstone_text.specs.Code.Inserts.{Origin, origin, origins, ComesBefore, AreOrdered, AreWithin, AreInserts}
+use Rattle.tombstone_text.specs.Code.Spans.{raised_run}
+use Rattle.tombstone_text.proofs.Following.{raised_only, raised_several}
 
 before_append : (o : Origin) (xs ys : List CellData) → ComesBefore o (origins xs) → ComesBefore o (origins ys)
     → ComesBefore o (origins (xs ++ ys))
@@ -104,10 +107,14 @@ pub inserts_changed : (m : Mark) (p : ℕ) (cs : List CellData) → AreInserts c
 inserts_changed m p cs h =
     inserts_same cs (change_at p (marked m) cs) (map-change origin (marked m) (λ c. marked_origin true m c) p cs) h
 
+run_origin : (t : Bool) (g : ℕ) (n : NameData) (c : CellData) → origin (if t then c else raised g n c) ≡ origin c
+run_origin true g n c = refl
+run_origin false g n c = marked_origin (name_eq c.name n) (Own g) c
+
 -- and on all of an insert
-pub inserts_raised : (g : ℕ) (n : NameData) (cs : List CellData) → AreInserts cs → AreInserts (map (raised g n) cs)
+pub inserts_raised : (g : ℕ) (n : NameData) (cs : List CellData) → AreInserts cs → AreInserts (map (raised_run g n) cs)
 inserts_raised g n cs h =
-    inserts_same cs (map (raised g n) cs) (map-map origin (raised g n) (λ c. marked_origin (name_eq c.name n) (Own g) c) cs) h
+    inserts_same cs (map (raised_run g n) cs) (map-map origin (raised_run g n) (λ c. run_origin (c.of == 1) g n c) cs) h
 
 -- behind the only cell of an insert no cell is of that insert
 lacks_alone : (x : CellData) (xs : List CellData) → x.of ≡ 1 → ComesBefore (origin x) (origins xs) → AreWithin (origins xs)
@@ -167,3 +174,49 @@ change_past f (suc p) (x ∷ xs) e = ap (λ (l : List CellData). x ∷ l) (chang
 pub own_past : (g p : ℕ) (cs : List CellData) → slice_get cs p ≡ None → marked_in p (Own g) cs ≡ change_at p (marked (Own g)) cs
 own_past g p cs e =
     ap (λ (o : Option CellData). option_map_or (λ c. map (raised g c.name) cs) o cs) e ∙ change_past (marked (Own g)) p cs e
+
+-- the cells of an insert are not its only one
+abbrev AreSeveral : NameData → List CellData → Type 0
+AreSeveral n [] = Unit {0}
+AreSeveral n (c ∷ cs) = (c.name ≡ n → c.of ≢ 1) × AreSeveral n cs
+
+several_behind : (c : CellData) (xs : List CellData) → ComesBefore (origin c) (origins xs) → c.of ≢ 1 → AreSeveral c.name xs
+several_behind c [] h several = tt
+several_behind c (x ∷ xs) h several = (λ e one. several ((h.0 (sym e)).1 ∙ one), several_behind c xs h.1 several)
+
+of_before : (x : CellData) (p : ℕ) (xs : List CellData) (c : CellData) → ComesBefore (origin x) (origins xs) → slice_get xs p ≡ Some c
+    → x.name ≡ c.name → x.of ≡ c.of
+of_before x p [] c h e same = cc
+of_before x zero (y ∷ xs) c h e same =
+    let is : y ≡ c = cc in
+    (h.0 (same ∙ ap (λ (d : CellData). d.name) (sym is))).1 ∙ ap (λ (d : CellData). d.of) is
+of_before x (suc p) (y ∷ xs) c h e same = of_before x p xs c h.1 e same
+
+several_all : (p : ℕ) (cs : List CellData) (c : CellData) → AreOrdered (origins cs) → slice_get cs p ≡ Some c → c.of ≢ 1
+    → AreSeveral c.name cs
+several_all p [] c h e several = tt
+several_all zero (x ∷ xs) c h e several =
+    let is : x ≡ c = cc in
+    let here : x.of ≢ 1 = λ one. several (ap (λ (d : CellData). d.of) (sym is) ∙ one) in
+    (λ _. here, subst (λ (d : CellData). AreSeveral d.name xs) is (several_behind x xs h.0 here))
+several_all (suc p) (x ∷ xs) c h e several =
+    (λ same one. several (sym (of_before x p xs c h.0 e same) ∙ one), several_all p xs c h.1 e several)
+
+raised_same : (g : ℕ) (n : NameData) (x : CellData) → (x.name ≡ n → x.of ≢ 1) → raised g n x ≡ raised_run g n x
+raised_same g n x other = by (x.of == 1) refl (name_eq x.name n) refl
+  where
+    by : (t : Bool) → (x.of == 1) ≡ t → (b : Bool) → name_eq x.name n ≡ b → raised g n x ≡ raised_run g n x
+    by true e true f = absurd (other (name_same x.name n f) (grind (arith, nat_tests)))
+    by true e false f =
+        ap (λ (b : Bool). marked_if b (Own g) x) f ∙ sym (raised_only g n x (grind (arith, nat_tests)))
+    by false e b f = sym (raised_several g n x (grind (arith, nat_tests)))
+
+map_same : (g : ℕ) (n : NameData) (cs : List CellData) → AreSeveral n cs → map (raised g n) cs ≡ map (raised_run g n) cs
+map_same g n [] h = refl
+map_same g n (c ∷ cs) h =
+    ap (λ d. d ∷ map (raised g n) cs) (raised_same g n c h.0) ∙ ap (λ (l : List CellData). raised_run g n c ∷ l) (map_same g n cs h.1)
+
+-- at a cell of several it is on all of them
+pub own_several : (g p : ℕ) (cs : List CellData) (c : CellData) → AreInserts cs → slice_get cs p ≡ Some c → c.of ≢ 1
+    → marked_in p (Own g) cs ≡ map (raised_run g c.name) cs
+own_several g p cs c h e several = own_at g p cs c e ∙ map_same g c.name cs (several_all p cs c h.ordered e several)

@@ -5,9 +5,12 @@ pub mod Searches
 pub mod Inserts
 pub mod Raising
 pub mod Runs
+pub mod Following
+pub mod Pieces
 pub mod Flags
 pub mod Bodies
 pub mod Ways
+pub mod Rooms
 pub mod Chunked
 pub mod Texts
 pub mod Beside

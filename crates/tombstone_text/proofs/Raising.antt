@@ -1,11 +1,8 @@
--- The cells of an insert raised one place after the other, in a chunk, and chunk after chunk.
-use Rattle.std.proofs.Common.{◌≡◌, ℕ, zero, suc, ◌<◌, ◌≤◌, true, false, List, [], ◌∷◌, ◌++◌, map, length, set, get_or, refl, sym, ap, ◌∙◌, arith}
-use Rattle.std.proofs.lemmas.List.{set-get_or, map-append}
-use Rattle.op_name.specs.NameData.{NameData, name_eq}
-use Rattle.ttf_form.specs.declared.cover.Mark.TheVariants.{Own}
-use Rattle.ttf_form.specs.Cells.{CellData, change_at, marked, marked_if, raised}
+-- Elements changed one place after the other.
+use Rattle.std.proofs.Common.{◌≡◌, ℕ, zero, suc, ◌≤◌, List, [], ◌∷◌, ◌++◌, map, length, refl, sym, ap, ◌∙◌, arith}
+use Rattle.std.proofs.lemmas.List.{map-append}
+use Rattle.ttf_form.specs.Cells.{CellData, change_at}
 use Rattle.tombstone_text.specs.Chunks.{flat}
-use Rattle.tombstone_text.proofs.Shown.{set_change}
 
 -- the list with its first k elements changed
 abbrev pub changed_first : {A : Type 0} → ℕ → (A → A) → List A → List A
@@ -42,19 +39,3 @@ length-first f (suc k) (x ∷ xs) = ap suc (length-first f k xs)
 pub flat_map_all : (f : CellData → CellData) (cs : List (List CellData)) → flat (map (map f) cs) ≡ map f (flat cs)
 flat_map_all f [] = refl
 flat_map_all f (c ∷ cs) = ap (λ l. map f c ++ l) (flat_map_all f cs) ∙ sym (map-append f c (flat cs))
-
--- the cell at a place raised as its name says
-pub is_raised : (g : ℕ) (n : NameData) (xs : List CellData) (k : ℕ) (x : CellData) → k < length xs → x ≡ get_or xs k x
-    → name_eq x.name n ≡ true → change_at k (marked (Own g)) xs ≡ change_at k (raised g n) xs
-is_raised g n xs k x lt at e =
-    sym (set_change (marked (Own g)) xs k x lt at)
-    ∙ ap (λ t. set xs k (marked_if t (Own g) x)) (sym e)
-    ∙ set_change (raised g n) xs k x lt at
-
-pub isnt_raised : (g : ℕ) (n : NameData) (xs : List CellData) (k : ℕ) (x : CellData) → k < length xs → x ≡ get_or xs k x
-    → name_eq x.name n ≡ false → xs ≡ change_at k (raised g n) xs
-isnt_raised g n xs k x lt at e =
-    sym (set-get_or xs k x)
-    ∙ ap (λ y. set xs k y) (sym at)
-    ∙ ap (λ t. set xs k (marked_if t (Own g) x)) (sym e)
-    ∙ set_change (raised g n) xs k x lt at

@@ -85,6 +85,20 @@ pub record NoneBefore (p : CellData → Bool) (cs : List CellData) (k : ℕ) : T
 pub none_first : (p : CellData → Bool) (cs : List CellData) (k : ℕ) → k ≡ 0 → NoneBefore p cs k
 none_first p cs k e = record { none = λ j d lt. absurd (omega arith) }
 
+pub none_next : (p : CellData → Bool) (cs : List CellData) (k n : ℕ) → n ≡ k + 1 → NoneBefore p cs k
+    → ((d : CellData) → p (get_or cs k d) ≡ false) → NoneBefore p cs n
+none_next p cs k n e before out = record { none = λ j d lt. by j d lt (nat_lt j k) refl }
+  where
+    by : (j : ℕ) (d : CellData) → j < n → (t : Bool) → nat_lt j k ≡ t → p (get_or cs j d) ≡ false
+    by j d lt true h = before.none j d (grind (arith, nat_tests))
+    by j d lt false h = let same : j ≡ k = grind (arith, nat_tests) in ap (λ m. p (get_or cs m d)) same ∙ out d
+
+-- the first cell that passes
+pub found_at : (p : CellData → Bool) (cs : List CellData) (k : ℕ) → NoneBefore p cs k → k < length cs → p (get_or cs k blank) ≡ true
+    → position p cs ≡ Some k
+found_at p cs k before lt passes =
+    placed p cs k (position_or_len_is p cs k blank (omega arith) (λ j l. before.none j blank l) (λ l. passes)) lt
+
 pub length-more : (cs : List (List CellData)) (i : ℕ) → i < length cs
     → length (flat (take (i + 1) cs)) ≡ length (flat (take i cs)) + length (get_or cs i [])
 length-more [] i lt = absurd (omega arith)

@@ -13,7 +13,8 @@ use Rattle.tombstone_text.specs.Code.Cells.{cut, IsText}
 use Rattle.tombstone_text.specs.Code.Chunks.{ChunkData}
 use Rattle.tombstone_text.proofs.Flags.{map-insert}
 use Rattle.tombstone_text.proofs.Shown.{length-filter-le}
-use Rattle.tombstone_text.proofs.Chunked.{IsSpot, spot, text-len, text-shown, filled_at, filled_set, filled_cut, cut_is, length-change, flag-le, shown-change}
+use Rattle.tombstone_text.specs.Code.Spans.{IsSpot}
+use Rattle.tombstone_text.proofs.Chunked.{spot, text-len, text-shown, filled_at, filled_set, filled_cut, cut_is, length-change, flag-le, shown-change}
 
 pub len_at : (cs : List (List CellData)) (ls ss : List ℕ) (f : Option ChunkData) (i : ℕ) → IsText cs ls ss f → i < length cs
     → get_or ls i 0 ≡ length (get_or cs i [])

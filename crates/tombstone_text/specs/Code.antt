@@ -1,5 +1,6 @@
 pub mod Sums
 pub mod Chunks
 pub mod Cells
+pub mod Spans
 pub mod Deleters
 pub mod Inserts

@@ -2,19 +2,21 @@
 
 ghost use Rattle.std.specs.Prelude.{◌≡◌, ◌+◌, ◌<◌, ◌≤◌, ◌^◌, ◌↔◌, [], length, filter, map, take, position, slice_get, slice_index_or, Contains, IfSome, IfNone, IsTrue, OnOk, OnErr, option_map};
 ghost use Rattle.ttf_form.specs.Names.{LacksName};
-ghost use Rattle.ttf_form.specs.Cells.{cell_shown, cells_of, put_in, bare_cells, change_at, marked, marked_in, raised, applied, text_put, FitsCells};
+ghost use Rattle.ttf_form.specs.Cells.{cell_shown, cells_of, put_in, bare_cells, change_at, marked, marked_in, applied, text_put, FitsCells};
 ghost use Rattle.ttf_form.specs.Forms.{extent_of};
 ghost use Rattle.ttf_form.specs.declared.include.TheConstants.{CELLS};
 ghost use Rattle.ttf_form.specs.declared.form.Form.TheVariants.{Cover as Covered};
-ghost use Rattle.tombstone_text.specs.Cells.{CellsData, HasRoomFor, IsOpenFor, is_cell};
+ghost use Rattle.tombstone_text.specs.Cells.{CellsData, HasGaps, HasRoomFor, IsOpenFor, is_cell};
 ghost use Rattle.tombstone_text.specs.Chunks.{flat, flag_of, joined, shown_in};
 ghost use Rattle.tombstone_text.specs.Sums.{IsPart};
 ghost use Rattle.tombstone_text.specs.Code.Cells.{IsReady};
 ghost use Rattle.tombstone_text.specs.Code.Inserts.{AreInserts};
+ghost use Rattle.tombstone_text.specs.Code.Spans.{raised_run};
 
 use crate::cell::{Cell, CellId};
-use crate::chunks::{Chunks, Ready, Sought};
+use crate::chunks::{Chunks, Ready};
 use crate::deleters::Spare;
+use crate::sought::Sought;
 use op_name::{Memory, Name};
 use std::alloc::Global;
 use std::marker::Model;
@@ -23,8 +25,9 @@ use ttf_form::{CELLS, Cover, Form, Ins, Mark};
 /// A list of cells, in the order in which they stand in the text, shown or hidden, and beside it the text: the
 /// character of each cell. Places count all cells, from 0.
 ///
-/// Both are kept in chunks of 1 to 512 cells, each with a column of flags and one of characters. An insert moves cells of one chunk
-/// alone. A chunk starts with little room, which grows by half when it runs out; a chunk that would have too many cells
+/// Both are kept in chunks of 1 to 512 cells, each with a column of flags and one of characters. The cells of a chunk are
+/// kept in spans: cells of one insert that stand side by side, in the order of their offsets, take the room of one. An
+/// insert moves what is in one chunk alone. A chunk starts with little room, which grows by half when it runs out; a chunk that would have too many cells
 /// is cut in two for an insert into it.
 #[derive(Drop)]
 pub struct Cells {
@@ -36,7 +39,7 @@ pub struct Cells {
 impl Model for Cells {
     ghost Value = { CellsData };
 
-    ghost view = { λ c. record { chunks = c.chunks.chunks; cells = c.chunks.cells; texts = c.chunks.texts; text = c.chunks.text; room = record { ready = option_map (λ r. record { place = r.place; len = r.len }) c.ready; deleters = c.spare } } };
+    ghost view = { λ c. record { chunks = c.chunks.chunks; cells = c.chunks.cells; texts = c.chunks.texts; text = c.chunks.text; room = record { ready = option_map (λ r. record { place = r.place; len = r.len }) c.ready; deleters = c.spare; gaps = c.chunks.gaps } } };
 
     ghost invariant = { λ c. IfSome c.ready (λ r. IsReady c.chunks r) × AreInserts c.chunks.cells };
 }
@@ -82,8 +85,8 @@ impl Cells {
     }
 
     /// The cell at place `i`; None exactly past the end.
-    pub fn cell(&self, i: u32) -> Option<&Cell>
-        ensures { option_map (λ c. c.now) result ≡ slice_get self.now.cells i }
+    pub fn cell(&self, i: u32) -> Option<Cell<'_>>
+        ensures { result ≡ slice_get self.now.cells i }
     {
         self.chunks.cell(i)
     }
@@ -114,12 +117,12 @@ impl Cells {
         self.chunks.chunk_shown(i)
     }
 
-    /// The cells of chunk `i`.
-    pub fn chunk_cells(&self, i: u32) -> &[Cell]
+    /// The cell at a place of chunk `i`, counted from 0 in the chunk; None exactly past its end.
+    pub fn chunk_cell(&self, i: u32, at: usize) -> Option<Cell<'_>>
         requires { i < length self.now.chunks }
-        ensures { result.now ≡ slice_index_or self.now.chunks i [] }
+        ensures { result ≡ slice_get (slice_index_or self.now.chunks i []) at }
     {
-        self.chunks.chunk_cells(i)
+        self.chunks.chunk_cell(i, at)
     }
 
     /// The characters of the cells of chunk `i`, in their order, of shown and hidden ones. Those of all chunks, one
@@ -172,10 +175,10 @@ impl Cells {
     }
 
     /// Makes room to apply `form`, which then takes no memory: for the cells that an insert adds at its place with their
-    /// characters, also where a chunk is to be cut in two, or for the deleter that a cover may add to the cell at its
-    /// place. Nothing else changes, also when out of memory, as it always answers for a 4,294,967,296th cell. The room for an insert is
-    /// there until a form is applied, or room asked for another insert. Out of memory comes only where the room isn't
-    /// there yet; so never for a cover that leaves no deleter to note.
+    /// characters, also where a chunk is to be cut in two, or for the cell at the place of a cover to stand in a span of its
+    /// own, with the deleter that the cover may add. Nothing else changes, also when out of memory, as it always answers for
+    /// a 4,294,967,296th cell. The room for an insert is there until a form is applied, or room asked for another one. Out
+    /// of memory comes only where the room isn't there yet.
     pub fn reserve(&mut self, form: &Form) -> Result<(), Memory>
         ensures cells { self.new.cells ≡ self.old.cells }
         ensures text { self.new.text ≡ self.old.text }
@@ -189,14 +192,47 @@ impl Cells {
                 }
                 self.reserve_cells(ins)
             }
-            Form::Cover(cover) => match (cover.mark, self.cell(cover.place)) {
-                (Mark::By { .. }, Some(cell)) => {
-                    let deleters = cell.deleters().len();
-                    self.reserve_deleters(deleters)
+            Form::Cover(cover) => {
+                if cover.place < self.len() {
+                    self.reserve_mark(cover)
+                } else {
+                    self.known();
+                    Ok(())
                 }
-                _ => Ok(()),
-            },
+            }
         }
+    }
+
+    /// Makes room for the mark of a cover at its place.
+    fn reserve_mark(&mut self, cover: &Cover) -> Result<(), Memory>
+        requires { cover.now.place < length self.old.cells }
+        ensures cells { self.new.cells ≡ self.old.cells }
+        ensures text { self.new.text ≡ self.old.text }
+        ensures room { OnOk result (HasRoomFor self.new (Covered cover.now)) }
+        ensures memory { OnErr result (¬ HasRoomFor self.old (Covered cover.now)) }
+    {
+        self.make_gaps(cover.place)?;
+        match (cover.mark, self.cell(cover.place)) {
+            (Mark::By { .. }, Some(cell)) => {
+                let deleters = cell.deleters().len();
+                self.reserve_deleters(deleters)
+            }
+            _ => Ok(()),
+        }
+    }
+
+    /// Makes room for the spans that a mark at a place adds. Room for an insert is gone.
+    fn make_gaps(&mut self, place: u32) -> Result<(), Memory>
+        requires { place < length self.old.cells }
+        ensures chunks { self.new.chunks ≡ self.old.chunks }
+        ensures cells { self.new.cells ≡ self.old.cells }
+        ensures text { self.new.text ≡ self.old.text }
+        ensures deleters { self.new.room.deleters ≡ self.old.room.deleters }
+        ensures gaps { OnOk result (HasGaps self.new.chunks self.new.room.gaps place) }
+        ensures memory { OnErr result (¬ HasGaps self.old.chunks self.old.room.gaps place) }
+    {
+        self.ready = None;
+        self.chunks.make_gaps(place)
     }
 
     /// Makes room for the cells of an insert at its place.
@@ -228,8 +264,10 @@ impl Cells {
     /// Makes room for a list of one deleter more than so many.
     fn reserve_deleters(&mut self, deleters: usize) -> Result<(), Memory>
         requires { deleters < 2 ^ 63 }
+        ensures chunks { self.new.chunks ≡ self.old.chunks }
         ensures cells { self.new.cells ≡ self.old.cells }
         ensures text { self.new.text ≡ self.old.text }
+        ensures gaps { self.new.room.gaps ≡ self.old.room.gaps }
         ensures room { OnOk result (deleters < self.new.room.deleters) }
         ensures memory { OnErr result (self.old.room.deleters ≤ deleters) }
     {
@@ -286,7 +324,7 @@ impl Cells {
     /// The insert of several cells that a cover marks, and the generation; None where it marks the cell at its place
     /// alone.
     fn several(&self, cover: &Cover) -> Option<(Name, u16)>
-        ensures several { let c = cover.now in let cs = self.now.cells in IfSome result (λ r. marked_in c.place c.mark cs ≡ map (raised r.1 r.0) cs) }
+        ensures several { let c = cover.now in let cs = self.now.cells in IfSome result (λ r. marked_in c.place c.mark cs ≡ map (raised_run r.1 r.0) cs) }
         ensures alone { let c = cover.now in let cs = self.now.cells in IfNone result (marked_in c.place c.mark cs ≡ change_at c.place (marked c.mark) cs) }
     {
         let Mark::Own { generation } = cover.mark else {
@@ -315,12 +353,12 @@ impl Cells {
         self.chunks.mark(cover, &mut self.spare);
     }
 
-    /// Raises all cells of an insert.
+    /// Raises all cells of an insert that has several.
     fn raise(&mut self, name: &Name, generation: u16)
-        ensures cells { self.new.cells ≡ map (raised generation name.now) self.old.cells }
+        ensures cells { self.new.cells ≡ map (raised_run generation name.now) self.old.cells }
         ensures text { self.new.text ≡ self.old.text }
     {
         self.ready = None;
-        self.chunks.raise(name, generation, &mut self.spare);
+        self.chunks.raise(name, generation);
     }
 }

@@ -1,17 +1,20 @@
 //! The chunks of a text, beside the columns of their lengths and of their numbers of shown cells.
 
-ghost use Rattle.std.specs.Prelude.{◌≡◌, ℕ, ◌+◌, ◌-◌, ◌<◌, ◌≤◌, ◌^◌, ◌↔◌, [], length, filter, map, take, min, position, slice_get, slice_index_or, vec_len, vec_capacity, IfSome, IfOk, OnOk, IsTrue, IsFalse, option_map, if◌then◌else◌};
-ghost use Rattle.ttf_form.specs.Cells.{cell_shown, bare_cells, change_at, marked, put_in, raised};
+ghost use Rattle.std.specs.Prelude.{◌≡◌, ℕ, ◌+◌, ◌-◌, ◌<◌, ◌≤◌, ◌^◌, ◌↔◌, [], length, filter, map, take, min, position, slice_get, slice_index_or, vec_len, vec_capacity, IfSome, IfOk, OnOk, OnErr, IsTrue, IsFalse, option_map, if◌then◌else◌};
+ghost use Rattle.ttf_form.specs.Cells.{cell_shown, bare_cells, change_at, marked, put_in};
 ghost use Rattle.ttf_form.specs.declared.include.TheConstants.{CELLS};
-ghost use Rattle.tombstone_text.specs.Cells.{HasRoomOn};
+ghost use Rattle.tombstone_text.specs.Cells.{HasGaps, HasRoomOn};
 ghost use Rattle.tombstone_text.specs.Chunks.{flat, flag_of, joined, shown_in};
 ghost use Rattle.tombstone_text.specs.Sums.{IsPart};
-ghost use Rattle.tombstone_text.specs.Code.Cells.{AreBeside, ChunksData, cut, fresh_room, HasPlaces, IsReady, IsSeat, IsText, IsWay, MayBeCut, is_sought};
-ghost use Rattle.tombstone_text.specs.Code.Chunks.{blank, bodies, rooms_of, texts_of};
+ghost use Rattle.tombstone_text.specs.Code.Cells.{AreBeside, ChunksData, cut, fresh_gaps, fresh_room, HasPlaces, IsReady, IsSeat, IsText, IsWay, MayBeCut, is_sought};
+ghost use Rattle.tombstone_text.specs.Code.Chunks.{blank, bodies, gaps_of, rooms_of, texts_of};
+ghost use Rattle.tombstone_text.specs.Code.Spans.{raised_run};
+ghost use Rattle.tombstone_text.specs.declared.chunk.TheConstants.{FULL, GAPS};
 
-use crate::cell::{Cell, CellId};
-use crate::chunk::{Chunk, FULL, room_for};
+use crate::cell::Cell;
+use crate::chunk::{Chunk, FULL, GAPS, room_for};
 use crate::deleters::Spare;
+use crate::sought::Sought;
 use crate::sums::Sums;
 use op_name::{Memory, Name};
 use std::alloc::Global;
@@ -54,33 +57,6 @@ impl Ready {
     }
 }
 
-/// What is looked for: any cell of an insert, or a certain one.
-#[derive(Clone, Copy, Drop)]
-pub(crate) enum Sought {
-    Any(Name),
-    One(CellId),
-}
-
-impl Sought {
-    /// Whether the cell is one that is looked for.
-    fn is(&self, cell: &Cell) -> bool
-        ensures { result ≡ is_sought self.now cell.now }
-    {
-        let id = cell.id();
-        match self {
-            Sought::Any(name) => id.name == *name,
-            Sought::One(one) => id.name == one.name && id.offset == one.offset,
-        }
-    }
-}
-
-/// The first place at which a cell is one that is looked for.
-fn position_of(list: &[Cell], sought: &Sought) -> Option<usize>
-    ensures { result ≡ position (is_sought sought.now) list.now }
-{
-    list.iter().position(|cell| sought.is(cell))
-}
-
 /// The cells of a text in chunks of 1 to 512 cells. The lengths of the chunks and their numbers of shown cells are two
 /// columns of sums, by which the chunk of a place is found; so an insert moves cells of one chunk alone. The room of a
 /// chunk grows as it fills. A chunk that would have too many cells is cut in two for an insert into it, and the upper
@@ -96,7 +72,7 @@ pub(crate) struct Chunks {
 impl Model for Chunks {
     ghost Value = { ChunksData };
 
-    ghost view = { λ c. record { chunks = bodies c.list.items; cells = flat (bodies c.list.items); texts = texts_of c.list.items; text = joined (texts_of c.list.items); rooms = rooms_of c.list.items; fresh = fresh_room c.fresh; spare = min (vec_capacity c.list - vec_len c.list) (min c.lens.spare c.shown.spare) } };
+    ghost view = { λ c. record { chunks = bodies c.list.items; cells = flat (bodies c.list.items); texts = texts_of c.list.items; text = joined (texts_of c.list.items); rooms = rooms_of c.list.items; gaps = gaps_of c.list.items; fresh = fresh_room c.fresh; fresh_gaps = fresh_gaps c.fresh; spare = min (vec_capacity c.list - vec_len c.list) (min c.lens.spare c.shown.spare) } };
 
     ghost invariant = { λ c. IsText (bodies c.list.items) c.lens.parts c.shown.parts c.fresh × AreBeside (texts_of c.list.items) c.lens.parts };
 }
@@ -150,8 +126,8 @@ impl Chunks {
     }
 
     /// The cell at place `i`; None exactly past the end.
-    pub(crate) fn cell(&self, i: u32) -> Option<&Cell>
-        ensures { option_map (λ c. c.now) result ≡ slice_get self.now.cells i }
+    pub(crate) fn cell(&self, i: u32) -> Option<Cell<'_>>
+        ensures { result ≡ slice_get self.now.cells i }
     {
         if i < self.lens.total() {
             let (k, at) = self.lens.find(i);
@@ -189,12 +165,12 @@ impl Chunks {
         self.shown.part(i as usize)
     }
 
-    /// The cells of chunk `i`.
-    pub(crate) fn chunk_cells(&self, i: u32) -> &[Cell]
+    /// The cell at a place of chunk `i`; None exactly past its end.
+    pub(crate) fn chunk_cell(&self, i: u32, at: usize) -> Option<Cell<'_>>
         requires { i < length self.now.chunks }
-        ensures { result.now ≡ slice_index_or self.now.chunks i [] }
+        ensures { result ≡ slice_get (slice_index_or self.now.chunks i []) at }
     {
-        self.list[i as usize].cells()
+        self.list[i as usize].cell(at)
     }
 
     /// The characters of the cells of chunk `i`.
@@ -233,12 +209,12 @@ impl Chunks {
         let mut start = 0;
         let mut i = 0;
         while i < self.list.len() {
-            let cells = self.list[i].cells();
-            match position_of(cells, sought) {
+            let chunk = &self.list[i];
+            match chunk.position(sought) {
                 Some(at) => return Some((start + at) as u32),
                 None => {}
             }
-            start += cells.len();
+            start += chunk.len();
             i += 1;
         }
         None
@@ -272,7 +248,7 @@ impl Chunks {
     {
         self.known();
         if self.chunk_count() == 0 {
-            self.reserve_chunk(room_for(n))?;
+            self.reserve_chunk(room_for(n), GAPS)?;
             return Ok(Way::First);
         }
         let all = self.len();
@@ -313,27 +289,29 @@ impl Chunks {
         self.list[i].len()
     }
 
-    /// Makes room for one chunk more: a fresh one with room for so many cells, and a place for it in the list and in each
-    /// column.
-    fn reserve_chunk(&mut self, room: usize) -> Result<(), Memory>
+    /// Makes room for one chunk more: a fresh one with room for so many cells, and for so many spans, and a place for it in
+    /// the list and in each column.
+    fn reserve_chunk(&mut self, room: usize, gaps: usize) -> Result<(), Memory>
         requires { room ≤ FULL }
         ensures chunks { self.new.chunks ≡ self.old.chunks }
         ensures cells { self.new.cells ≡ self.old.cells }
         ensures text { self.new.text ≡ self.old.text }
         ensures rooms { self.new.rooms ≡ self.old.rooms }
+        ensures gaps { self.new.gaps ≡ self.old.gaps }
         ensures fresh { OnOk result (room ≤ self.new.fresh) }
+        ensures fresh_gaps { OnOk result (gaps ≤ self.new.fresh_gaps) }
         ensures spare { OnOk result (1 ≤ self.new.spare) }
     {
         self.list.reserve(1)?;
         self.lens.reserve()?;
         self.shown.reserve()?;
-        if !has_room(&self.fresh, room) {
-            self.fresh = Some(Chunk::with_room(room, *self.list.allocator())?);
+        if !has_room(&self.fresh, room, gaps) {
+            self.fresh = Some(Chunk::with_room(room, gaps, *self.list.allocator())?);
         }
         Ok(())
     }
 
-    /// Makes room in chunk `i` for so many cells in all.
+    /// Makes room in chunk `i` for so many cells in all, and for the spans that a change of it adds.
     fn grow(&mut self, i: usize, room: usize) -> Result<(), Memory>
         requires chunk { i < length self.old.chunks }
         requires most { room ≤ FULL }
@@ -341,9 +319,26 @@ impl Chunks {
         ensures cells { self.new.cells ≡ self.old.cells }
         ensures text { self.new.text ≡ self.old.text }
         ensures room { OnOk result (room ≤ slice_index_or self.new.rooms i 0) }
+        ensures gaps { OnOk result (GAPS ≤ slice_index_or self.new.gaps i 0) }
     {
         let _ = &self.lens;
         self.list[i].grow(room)
+    }
+
+    /// Makes room for the spans that a mark at a place adds to its chunk; out of memory comes only where it isn't there
+    /// yet. Nothing else changes.
+    pub(crate) fn make_gaps(&mut self, place: u32) -> Result<(), Memory>
+        requires { place < length self.old.cells }
+        ensures chunks { self.new.chunks ≡ self.old.chunks }
+        ensures cells { self.new.cells ≡ self.old.cells }
+        ensures texts { self.new.texts ≡ self.old.texts }
+        ensures text { self.new.text ≡ self.old.text }
+        ensures gaps { OnOk result (HasGaps self.new.chunks self.new.gaps place) }
+        ensures memory { OnErr result (¬ HasGaps self.old.chunks self.old.gaps place) }
+    {
+        let _ = self.lens.total();
+        let (i, _) = self.lens.find(place);
+        self.list[i].make_gaps()
     }
 
     /// Makes room for the cut of chunk `i` behind its first `keep` cells, and for `n` new cells in the part that gets
@@ -362,9 +357,10 @@ impl Chunks {
         let moved = self.len_of(i) - keep;
         if at <= keep {
             self.grow(i, keep + n)?;
-            self.reserve_chunk(room_for(moved))
+            self.reserve_chunk(room_for(moved), FULL + GAPS)
         } else {
-            self.reserve_chunk(room_for(moved).max(moved + n))
+            self.grow(i, keep)?;
+            self.reserve_chunk(room_for(moved).max(moved + n), FULL + GAPS)
         }
     }
 
@@ -396,6 +392,7 @@ impl Chunks {
     /// Puts the first cells of a text into the fresh chunk.
     fn put_first(&mut self, ins: &Ins, text: &[char])
         requires fresh { ins.now.len ≤ self.old.fresh }
+        requires gaps { GAPS ≤ self.old.fresh_gaps }
         requires spare { 1 ≤ self.old.spare }
         requires empty { self.old.chunks ≡ [] }
         requires text { length text.now ≡ ins.now.len }
@@ -435,6 +432,8 @@ impl Chunks {
     /// for `least` cells in all, where it has so much. Neither cells nor text change.
     fn split(&mut self, i: usize, keep: usize, least: usize)
         requires room { length (slice_index_or self.old.chunks i []) ≤ keep + self.old.fresh }
+        requires gaps { GAPS ≤ slice_index_or self.old.gaps i 0 }
+        requires fresh_gaps { FULL + GAPS ≤ self.old.fresh_gaps }
         requires spare { 1 ≤ self.old.spare }
         requires chunk { i < length self.old.chunks }
         requires some { 1 ≤ keep }
@@ -445,6 +444,8 @@ impl Chunks {
         ensures text { self.new.text ≡ self.old.text }
         ensures lower { least ≤ slice_index_or self.old.rooms i 0 → least ≤ slice_index_or self.new.rooms i 0 }
         ensures upper { self.old.fresh ≤ slice_index_or self.new.rooms (i + 1) 0 }
+        ensures lower_gaps { GAPS ≤ slice_index_or self.new.gaps i 0 }
+        ensures upper_gaps { GAPS ≤ slice_index_or self.new.gaps (i + 1) 0 }
     {
         let len = self.lens.part(i);
         match self.fresh.take() {
@@ -470,6 +471,7 @@ impl Chunks {
     pub(crate) fn mark(&mut self, cover: &Cover, spare: &mut Spare)
         requires room { IfSome (slice_get self.old.cells cover.now.place) (λ d. HasRoomOn cover.now.mark d spare.old) }
         requires place { cover.now.place < length self.old.cells }
+        requires gaps { HasGaps self.old.chunks self.old.gaps cover.now.place }
         ensures cells { self.new.cells ≡ change_at cover.now.place (marked cover.now.mark) self.old.cells }
         ensures text { self.new.text ≡ self.old.text }
     {
@@ -483,38 +485,39 @@ impl Chunks {
         self.shown.set(i, shown - before + after);
     }
 
-    /// Raises all cells of an insert, wherever they stand, which takes nothing of `spare`.
-    pub(crate) fn raise(&mut self, name: &Name, generation: u16, spare: &mut Spare)
-        ensures cells { self.new.cells ≡ map (raised generation name.now) self.old.cells }
+    /// Raises all cells of an insert, wherever they stand, if it has several.
+    pub(crate) fn raise(&mut self, name: &Name, generation: u16)
+        ensures cells { self.new.cells ≡ map (raised_run generation name.now) self.old.cells }
         ensures text { self.new.text ≡ self.old.text }
     {
         self.known();
         for i in 0..self.chunk_count() {
-            self.raise_chunk(i, name, generation, spare);
+            self.raise_chunk(i, name, generation);
         }
         self.known();
     }
 
-    /// Raises the cells of an insert in chunk `i`, and counts its shown cells anew.
-    fn raise_chunk(&mut self, i: u32, name: &Name, generation: u16, spare: &mut Spare)
+    /// Raises the cells of an insert in chunk `i`, if it has several, and counts the chunk's shown cells anew.
+    fn raise_chunk(&mut self, i: u32, name: &Name, generation: u16)
         requires { i < length self.old.chunks }
-        ensures chunks { self.new.chunks ≡ change_at i (map (raised generation name.now)) self.old.chunks }
+        ensures chunks { self.new.chunks ≡ change_at i (map (raised_run generation name.now)) self.old.chunks }
         ensures text { self.new.text ≡ self.old.text }
     {
         let _ = self.lens.total();
         let chunk = &mut self.list[i as usize];
-        chunk.raise(name, generation, spare);
+        chunk.raise(name, generation);
         let shown = chunk.shown();
         self.shown.set(i as usize, shown);
     }
 }
 
-/// Whether there is a fresh chunk with room for so many cells.
-fn has_room(fresh: &Option<Chunk>, room: usize) -> bool
-    ensures { IsTrue result → room ≤ fresh_room fresh.now }
+/// Whether there is a fresh chunk with room for so many cells, and for so many spans.
+fn has_room(fresh: &Option<Chunk>, room: usize, gaps: usize) -> bool
+    ensures room { IsTrue result → room ≤ fresh_room fresh.now }
+    ensures gaps { IsTrue result → gaps ≤ fresh_gaps fresh.now }
 {
     match fresh {
-        Some(chunk) => room <= chunk.room(),
+        Some(chunk) => room <= chunk.room() && gaps <= chunk.gaps(),
         None => false,
     }
 }

@@ -5,8 +5,9 @@
 //! cells with their characters, a cover marks one, or all that one insert added, and no cell ever goes, so that places
 //! keep their meaning. A hidden cell is a tombstone.
 //!
-//! The cells are kept in chunks, each with a column of flags that tell which of its cells are shown, and one of
-//! characters; the calls on chunks lend them to those that look for shown cells and write them.
+//! The cells are kept in chunks, each in spans of cells that follow one another, with a column of flags that tell which of
+//! its cells are shown, and one of characters; the calls on chunks lend these to those that look for shown cells and
+//! write them.
 #![tactic(auto)]
 
 mod cell;
@@ -14,6 +15,9 @@ mod cells;
 mod chunk;
 mod chunks;
 mod deleters;
+mod sought;
+mod span;
+mod spans;
 mod sums;
 
 pub use cell::{Cell, CellId};

@@ -25,7 +25,7 @@ pub fn cell_of_visible(cells: &Cells, v: u32) -> Option<u32>
     place_of_visible(cells, v)
 }
 
-/// The place, among all cells, for a character that is to come after `v` shown ones: 0 for `v` = 0, else
+/// The place, among all cells, for a text that is to come after `v` shown ones: 0 for `v` = 0, else
 /// one past the place of the shown cell `v` - 1; None exactly where `v` is above `visible_len`. It costs what
 /// `cell_of_visible` costs.
 pub fn model_place(cells: &Cells, v: u32) -> Option<u32>

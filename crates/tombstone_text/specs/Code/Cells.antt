@@ -3,19 +3,15 @@ use Rattle.std.specs.Prelude.{◌≡◌, Bool, ℕ, zero, suc, ◌+◌, ◌<◌,
 use Rattle.ttf_form.specs.Cells.{CellData}
 use Rattle.tombstone_text.specs.Chunks.{flat, shown_in}
 use Rattle.tombstone_text.specs.Code.Chunks.{ChunkData}
-use Rattle.tombstone_text.specs.declared.chunk.TheConstants.{FULL}
+use Rattle.tombstone_text.specs.Code.Spans.{AreFilled}
+use Rattle.tombstone_text.specs.declared.chunk.TheConstants.{FULL, GAPS}
 use Rattle.tombstone_text.specs.declared.chunks.Way.{Way}
 use Rattle.tombstone_text.specs.declared.chunks.Way.TheVariants.{First, Into, Cut}
 use Rattle.tombstone_text.specs.declared.chunks.Ready.{Ready}
-use Rattle.tombstone_text.specs.declared.chunks.Sought.{Sought}
-use Rattle.tombstone_text.specs.declared.chunks.Sought.TheVariants.{Any, One}
+use Rattle.tombstone_text.specs.declared.sought.Sought.{Sought}
+use Rattle.tombstone_text.specs.declared.sought.Sought.TheVariants.{Any, One}
 use Rattle.op_name.specs.NameData.{name_eq}
 use Rattle.tombstone_text.specs.Cells.{is_cell}
-
--- each chunk has a cell
-abbrev pub AreFilled : List (List CellData) → Type 0
-AreFilled [] = Unit {0}
-AreFilled (c ∷ cs) = (1 ≤ length c) × AreFilled cs
 
 -- new cells at the place go into the i-th chunk, at o
 pub record IsSeat (chunks : List (List CellData)) (i : ℕ) (o : ℕ) (place : ℕ) : Type 0 where
@@ -45,23 +41,30 @@ abbrev pub fresh_room : Option ChunkData → ℕ
 fresh_room None = 0
 fresh_room (Some c) = c.room
 
--- the chunks of a text with its cells and their characters, the room of each chunk, that of the fresh one, and how many chunks the
--- lists have places for
+-- for how many spans it has room
+abbrev pub fresh_gaps : Option ChunkData → ℕ
+fresh_gaps None = 0
+fresh_gaps (Some c) = c.gaps
+
+-- the chunks of a text with its cells and their characters, the room of each chunk for cells and for more spans, that of the fresh
+-- one, and how many chunks the lists have places for
 pub record ChunksData : Type 0 where
   pub chunks : List (List CellData)
   pub cells : List CellData
   pub texts : List (List ℕ)
   pub text : List ℕ
   pub rooms : List ℕ
+  pub gaps : List ℕ
   pub fresh : ℕ
+  pub fresh_gaps : ℕ
   pub spare : ℕ
 
--- the i-th chunk has room for n cells more
+-- the i-th chunk has room for n cells more, and for the spans that a change adds
 abbrev pub HasPlaces : ChunksData → ℕ → ℕ → Type 0
-HasPlaces t i n = length (slice_index_or t.chunks i []) + n ≤ slice_index_or t.rooms i 0
+HasPlaces t i n = (length (slice_index_or t.chunks i []) + n ≤ slice_index_or t.rooms i 0) × (GAPS ≤ slice_index_or t.gaps i 0)
 
 -- the i-th chunk may be cut to keep k cells: the fresh chunk has room for the others, and the part that gets n new cells, whose
--- place in the chunk is o, has room for these too
+-- place in the chunk is o, has room for these too; each has room for the spans
 pub record MayBeCut (t : ChunksData) (i : ℕ) (o : ℕ) (k : ℕ) (n : ℕ) : Type 0 where
   pub some : 1 ≤ k
   pub less : k < length (slice_index_or t.chunks i [])
@@ -70,10 +73,12 @@ pub record MayBeCut (t : ChunksData) (i : ℕ) (o : ℕ) (k : ℕ) (n : ℕ) : T
   pub low : o ≤ k → k + n ≤ slice_index_or t.rooms i 0
   pub high : k < o → length (slice_index_or t.chunks i []) + n ≤ k + t.fresh
   pub spare : 1 ≤ t.spare
+  pub gaps : GAPS ≤ slice_index_or t.gaps i 0
+  pub fresh_gaps : FULL + GAPS ≤ t.fresh_gaps
 
 -- n new cells may come in at the place, this way, without memory
 abbrev pub IsWay : ChunksData → Way → ℕ → ℕ → Type 0
-IsWay t First place n = (t.chunks ≡ []) × (n ≤ t.fresh) × (1 ≤ t.spare)
+IsWay t First place n = (t.chunks ≡ []) × (n ≤ t.fresh) × (1 ≤ t.spare) × (GAPS ≤ t.fresh_gaps)
 IsWay t (Into i o) place n = IsSeat t.chunks i o place × HasPlaces t i n
 IsWay t (Cut i o k) place n = IsSeat t.chunks i o place × MayBeCut t i o k n
 

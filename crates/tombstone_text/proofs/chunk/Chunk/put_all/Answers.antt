@@ -1,62 +1,48 @@
-use Rattle.std.proofs.Common.{ℕ, ◌+◌, List, length, take, insert, refl, ap, ◌∙◌, arith}
-use Rattle.std.proofs.lemmas.List.{length-take}
-use Rattle.ttf_form.specs.Cells.{CellData, bare_cells}
+use Rattle.std.proofs.Common.{ℕ, ◌≤◌, List, length, map, replicate, sym, ap, ◌∙◌, subst, arith}
+use Rattle.ttf_form.specs.Cells.{CellData, bare_cells, put_in}
 use Rattle.ttf_form.specs.Laws.Cells.{length-bare}
-use Rattle.ttf_form.specs.Laws.Lists.{length-put}
-use Rattle.tombstone_text.specs.Code.Chunks.{blank}
-use Rattle.tombstone_text.proofs.Runs.{put_next, put_done, bare_at}
+use Rattle.ttf_form.specs.Laws.Lists.{map-put, length-put}
+use Rattle.tombstone_text.specs.Chunks.{flag_of}
+use Rattle.tombstone_text.specs.Code.Spans.{cells_in}
+use Rattle.tombstone_text.specs.declared.chunk.TheConstants.{FULL}
+use Rattle.tombstone_text.proofs.Runs.{flags_bare}
 use Rattle.tombstone_text.proofs.chunk.Chunk.put_all.Goals as goal
 
-pub put-requires-clause-within : goal.put-requires-clause-within
-put-requires-clause-within c =
-    let new = bare_cells c.args.ins.now in
-    let now = ap (λ (s : List CellData). length s) c.loop-k.invariant.0 in
-    let more = length-put c.args.at (take c.loop-k.k new) c.args.self.now.cells c.requires.within in
-    omega (arith, now, more, length-take c.loop-k.k new, length-bare c.args.ins.now, c.loop-k-test.true)
-
-pub loop-k-preserved : goal.loop-k-preserved
-loop-k-preserved c =
+pub invariant_of-self : goal.invariant_of-self
+invariant_of-self c =
     let a = c.args.ins.now in
-    let k = c.loop-k.k in
-    let beside = ap (λ (s : List ℕ). length s) c.text.ensures.text in
-    let there = c.loop-k-test.true in (
-      c.put.ensures.cells ∙ ap (λ (s : List CellData). insert s (c.args.at + k) c.bare.result) c.loop-k.invariant.0
-          ∙ put_next c.args.at k (c.args.at + k) (k + 1) (bare_cells a) c.args.self.now.cells c.bare.result blank c.requires.within
-          (omega (arith, there, length-bare a)) (c.bare.ensures ∙ bare_at a k blank there) refl (omega arith),
-      c.put.ensures.text ∙ ap (λ (s : List ℕ). insert s (c.args.at + k) c.index-text-k.result) c.loop-k.invariant.1
-          ∙ put_next c.args.at k (c.args.at + k) (k + 1) c.args.text.now c.args.self.now.text c.index-text-k.result
-          c.index-text-k.result
-          (omega (arith, c.requires.within, c.text.ensures.long, beside)) (omega (arith, there, c.requires.text))
-          c.index-text-k.is refl (omega arith),
-      omega (arith, c.put.ensures.room, c.loop-k.invariant.2),
-    )
-
-pub returns-clause-cells : goal.returns-clause-cells
-returns-clause-cells c =
-    let all = c.loop-k-test.false in
-    c.loop-k.invariant.0
-    ∙ put_done c.args.at c.loop-k.k (bare_cells c.args.ins.now) c.args.self.now.cells (omega (arith, all, length-bare c.args.ins.now))
+    let p = c.args.at in
+    let xs = cells_in c.self.inside.spans.items in
+    let ts = c.self.inside.text.items in
+    let beside = c.self.invariant.long in
+    let within : p ≤ length xs = omega (arith, c.requires.within, ap (λ s. length s.cells) c.self.view_is) in
+    let cells = ap (λ (s : List CellData). length s) c.put.ensures.cells in
+    let text = ap (λ (s : List ℕ). length s) c.put_text.ensures in
+    let more = length-put p (bare_cells a) xs within in
+    let chars = length-put p c.args.text.now ts (omega (arith, within, beside)) in
+    let most : length (put_in p (bare_cells a) xs) ≤ FULL =
+    omega (arith, more, length-bare a, c.requires.room, ap (λ s. s.room) c.self.view_is, ap (λ s. length s.cells) c.self.view_is) in
+    record {
+      filled = c.put.ensures.filled;
+      flags_are =
+          c.put_shown.ensures ∙ ap (λ (fs : List ℕ). put_in p (replicate c.from.result 1) fs) c.self.invariant.flags_are
+          ∙ ap (λ (n : ℕ). put_in p (replicate n 1) (map flag_of xs)) c.from.ensures
+          ∙ ap (λ (fs : List ℕ). put_in p fs (map flag_of xs)) (sym (flags_bare a.name a.len 0 a.len))
+          ∙ sym (map-put flag_of p (bare_cells a) xs) ∙ ap (λ (s : List CellData). map flag_of s) (sym c.put.ensures.cells);
+      long = omega (arith, cells, text, more, chars, beside, length-bare a, c.requires.text);
+      most = subst (λ (s : List CellData). length s ≤ FULL) (sym c.put.ensures.cells) most;
+    }
 
 pub returns-clause-long : goal.returns-clause-long
 returns-clause-long c =
-    let new = bare_cells c.args.ins.now in
-    let k = c.loop-k.k in
-    let beside = ap (λ (s : List ℕ). length s) c.text.ensures.text in
-    let cells = ap (λ (s : List CellData). length s) c.loop-k.invariant.0 in
-    let text = ap (λ (s : List ℕ). length s) c.loop-k.invariant.1 in
-    let more = length-put c.args.at (take k new) c.args.self.now.cells c.requires.within in
-    let chars =
-    length-put c.args.at (take k c.args.text.now) c.args.self.now.text (omega (arith, c.requires.within, c.text.ensures.long, beside)) in
-    omega (
-      arith,
-      cells,
-      text,
-      more,
-      chars,
-      beside,
-      c.text.ensures.long,
-      c.requires.text,
-      length-take k new,
-      length-take k c.args.text.now,
-      length-bare c.args.ins.now,
-    )
+    let a = c.args.ins.now in
+    let p = c.args.at in
+    let xs = cells_in c.self.inside.spans.items in
+    let ts = c.self.inside.text.items in
+    let beside = c.self.invariant.long in
+    let seen = ap (λ s. length s.cells) c.self.view_is in
+    let cells = ap (λ (s : List CellData). length s) c.put.ensures.cells in
+    let text = ap (λ (s : List ℕ). length s) c.put_text.ensures in
+    let more = length-put p (bare_cells a) xs (omega (arith, seen, c.requires.within)) in
+    let chars = length-put p c.args.text.now ts (omega (arith, seen, c.requires.within, beside)) in
+    omega (arith, cells, text, more, chars, beside, c.requires.text, length-bare a)

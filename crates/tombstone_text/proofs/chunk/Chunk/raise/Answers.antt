@@ -1,30 +1,43 @@
-use Rattle.std.proofs.Common.{◌+◌, List, length, refl, ap, ◌∙◌, arith}
-use Rattle.ttf_form.specs.Cells.{CellData, change_at, raised}
-use Rattle.tombstone_text.proofs.Raising.{first_none, first_more, first_all, length-first}
+use Rattle.std.proofs.Common.{◌≡◌, ℕ, List, length, map, sym, ap, ◌∙◌, subst, arith}
+use Rattle.std.proofs.lemmas.List.{length-map}
+use Rattle.ttf_form.specs.Cells.{CellData}
+use Rattle.tombstone_text.specs.Chunks.{flag_of, flat}
+use Rattle.tombstone_text.specs.Code.Spans.{AreFilled, cells_in, pieces, raised_run}
+use Rattle.tombstone_text.proofs.Pieces.{filled_map}
+use Rattle.tombstone_text.proofs.Raising.{flat_map_all}
 use Rattle.tombstone_text.proofs.chunk.Chunk.raise.Goals as goal
 
-pub loop-at-init : goal.loop-at-init
-loop-at-init c = (first_none (raised c.args.generation c.args.name.now) c.args.self.now.cells, refl)
+pub invariant_of-self : goal.invariant_of-self
+invariant_of-self c =
+    let f = raised_run c.args.generation c.args.name.now in
+    let ss = c.self.inside.spans.items in
+    let now : cells_in c.raise.new.spans.items ≡ map f (cells_in ss) =
+    ap (λ cs. flat cs) c.raise.ensures ∙ flat_map_all f (pieces ss) in
+    let long = ap (λ (s : List CellData). length s) now in
+    let same = length-map (cells_in ss) f in
+    record {
+      filled = subst AreFilled (sym c.raise.ensures) (filled_map f (pieces ss) c.self.invariant.filled);
+      flags_are =
+          c.set_flags.ensures.flags
+          ∙ ap (λ ts. map flag_of (cells_in ts)) c.as_slice.ensures.value;
+      long = omega (arith, long, same, c.self.invariant.long);
+      most = omega (arith, long, same, c.self.invariant.most);
+    }
 
-pub raise_at-requires : goal.raise_at-requires
-raise_at-requires c =
-    let t = c.loop-at-test.true in
-    let n = c.len-at-end.ensures.len in
-    let now = ap (λ (s : List CellData). length s) c.loop-at.invariant.0 in
-    let same = length-first (raised c.args.generation c.args.name.now) c.loop-at.at c.args.self.now.cells in
-    omega arith
-
-pub loop-at-preserved : goal.loop-at-preserved
-loop-at-preserved c =
-    let f = raised c.args.generation c.args.name.now in (
-      c.raise_at.ensures.cells
-          ∙ ap (λ (s : List CellData). change_at c.loop-at.at f s) c.loop-at.invariant.0
-          ∙ first_more f c.loop-at.at (c.loop-at.at + 1) c.args.self.now.cells (omega arith),
-      c.raise_at.ensures.text ∙ c.loop-at.invariant.1,
-    )
+pub set_flags-requires : goal.set_flags-requires
+set_flags-requires c =
+    let f = raised_run c.args.generation c.args.name.now in
+    let ss = c.self.inside.spans.items in
+    let now : cells_in c.raise.new.spans.items ≡ map f (cells_in ss) =
+    ap (λ cs. flat cs) c.raise.ensures ∙ flat_map_all f (pieces ss) in
+    let long = ap (λ (s : List CellData). length s) now in
+    let same = length-map (cells_in ss) f in
+    let flags = ap (λ (fs : List ℕ). length fs) c.self.invariant.flags_are in
+    let beside = length-map (cells_in ss) flag_of in
+    let lent = ap (λ ts. length (cells_in ts)) c.as_slice.ensures.value in
+    omega (arith, long, same, flags, beside, lent)
 
 pub returns-clause-cells : goal.returns-clause-cells
 returns-clause-cells c =
-    let t = c.loop-at-test.false in
-    let n = c.len-at-end.ensures.len in
-    c.loop-at.invariant.0 ∙ first_all (raised c.args.generation c.args.name.now) c.loop-at.at c.args.self.now.cells (omega arith)
+    let f = raised_run c.args.generation c.args.name.now in
+    ap (λ cs. flat cs) c.raise.ensures ∙ flat_map_all f (pieces c.self.inside.spans.items) ∙ ap (λ s. map f s.cells) c.self.view_is

@@ -1,4 +1,4 @@
-use Rattle.std.proofs.Common.{◌≡◌, ◌+◌, ◌<◌, ◌≤◌, List, [], length, get_or, position, None, sym, ap, ◌∙◌, subst, arith}
+use Rattle.std.proofs.Common.{◌≡◌, ◌+◌, ◌<◌, ◌≤◌, List, [], length, get_or, position, None, refl, sym, ap, ◌∙◌, subst, arith}
 use Rattle.std.proofs.lemmas.List.{take_all}
 use Rattle.ttf_form.specs.Cells.{CellData}
 use Rattle.tombstone_text.specs.Chunks.{flat}
@@ -14,10 +14,10 @@ overflow_add-result c =
     let t = c.loop-i-test.true in let l = c.len.ensures in omega (arith, body.bodies_long c.self.inside.list.items) in
     let chunk =
     sought.searched _ _ _ _ _ _ _ _ c.self.invariant.0 c.total.ensures.low lt c.loop-i.invariant.1
-    (body.body_there _ _ _ lt c.index.ensures) c.cells-cells.ensures in
+    (body.body_there _ _ _ lt c.index-chunk.ensures) refl in
     let found =
     sought.found_in (is_sought c.args.sought.now) (bodies c.self.inside.list.items) c.loop-i.i _ _ chunk.chunk_is
-    (sym c.position_of.ensures ∙ c.in-Some.is) in
+    (sym c.position.ensures ∙ c.in-Some.is) in
     record { fits = omega (arith, chunk.low, found.1) }
 
 pub overflow_cast-result : goal.overflow_cast-result
@@ -26,10 +26,10 @@ overflow_cast-result c =
     let t = c.loop-i-test.true in let l = c.len.ensures in omega (arith, body.bodies_long c.self.inside.list.items) in
     let chunk =
     sought.searched _ _ _ _ _ _ _ _ c.self.invariant.0 c.total.ensures.low lt c.loop-i.invariant.1
-    (body.body_there _ _ _ lt c.index.ensures) c.cells-cells.ensures in
+    (body.body_there _ _ _ lt c.index-chunk.ensures) refl in
     let found =
     sought.found_in (is_sought c.args.sought.now) (bodies c.self.inside.list.items) c.loop-i.i _ _ chunk.chunk_is
-    (sym c.position_of.ensures ∙ c.in-Some.is) in
+    (sym c.position.ensures ∙ c.in-Some.is) in
     record { fits = omega (arith, chunk.low, found.1) }
 
 pub returns-in-Some : goal.returns-in-Some
@@ -38,10 +38,10 @@ returns-in-Some c =
     let t = c.loop-i-test.true in let l = c.len.ensures in omega (arith, body.bodies_long c.self.inside.list.items) in
     let chunk =
     sought.searched _ _ _ _ _ _ _ _ c.self.invariant.0 c.total.ensures.low lt c.loop-i.invariant.1
-    (body.body_there _ _ _ lt c.index.ensures) c.cells-cells.ensures in
+    (body.body_there _ _ _ lt c.index-chunk.ensures) refl in
     let found =
     sought.found_in (is_sought c.args.sought.now) (bodies c.self.inside.list.items) c.loop-i.i _ _ chunk.chunk_is
-    (sym c.position_of.ensures ∙ c.in-Some.is) in
+    (sym c.position.ensures ∙ c.in-Some.is) in
     let within = ap (λ (s : List CellData). length s) chunk.chunk_is in
     sym (sought.placed_in (is_sought c.args.sought.now) (bodies c.self.inside.list.items) c.loop-i.i c.loop-i.start c.in-Some.at lt
     c.loop-i.invariant.1
@@ -54,8 +54,8 @@ overflow_add-start c =
     let t = c.loop-i-test.true in let l = c.len.ensures in omega (arith, body.bodies_long c.self.inside.list.items) in
     let chunk =
     sought.searched _ _ _ _ _ _ _ _ c.self.invariant.0 c.total.ensures.low lt c.loop-i.invariant.1
-    (body.body_there _ _ _ lt c.index.ensures) c.cells-cells.ensures in
-    record { fits = omega (arith, chunk.low) }
+    (body.body_there _ _ _ lt c.index-chunk.ensures) refl in
+    record { fits = omega (arith, chunk.low, c.len-start.ensures.len) }
 
 pub loop-i-preserved : goal.loop-i-preserved
 loop-i-preserved c =
@@ -63,16 +63,17 @@ loop-i-preserved c =
     let t = c.loop-i-test.true in let l = c.len.ensures in omega (arith, body.bodies_long c.self.inside.list.items) in
     let chunk =
     sought.searched _ _ _ _ _ _ _ _ c.self.invariant.0 c.total.ensures.low lt c.loop-i.invariant.1
-    (body.body_there _ _ _ lt c.index.ensures) c.cells-cells.ensures in
+    (body.body_there _ _ _ lt c.index-chunk.ensures) refl in
     let none : position (is_sought c.args.sought.now) (get_or (bodies c.self.inside.list.items) c.loop-i.i []) ≡ None =
     ap (λ (s : List CellData). position (is_sought c.args.sought.now) s) (sym chunk.chunk_is)
-    ∙ sym c.position_of.ensures ∙ c.in-None.is in
+    ∙ sym c.position.ensures ∙ c.in-None.is in
     let behind =
     sought.none_more (is_sought c.args.sought.now) (bodies c.self.inside.list.items) c.loop-i.i c.loop-i.start lt c.loop-i.invariant.1
     c.loop-i.invariant.2 none in
-    let long = ap (λ (s : List CellData). length s) chunk.chunk_is in (
+    let long : c.len-start.result ≡ length (get_or (bodies c.self.inside.list.items) c.loop-i.i []) =
+    c.len-start.ensures.len ∙ ap (λ (s : List CellData). length s) chunk.chunk_is in (
       omega arith,
-      omega (arith, chunk.behind),
+      omega (arith, chunk.behind, c.len-start.ensures.len),
       subst (λ k. sought.NoneBefore (is_sought c.args.sought.now) (flat (bodies c.self.inside.list.items)) (c.loop-i.start + k)) (sym long)
           behind,
     )

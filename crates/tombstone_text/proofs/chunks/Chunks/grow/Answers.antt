@@ -2,6 +2,7 @@ use Rattle.std.proofs.Common.{◌<◌, ◌≤◌, length, ap, ◌∙◌, arith}
 use Rattle.std.proofs.lemmas.Result.{on_ok_weaker}
 use Rattle.tombstone_text.specs.Chunks.{flat, joined}
 use Rattle.tombstone_text.specs.Code.Chunks.{bodies}
+use Rattle.tombstone_text.specs.declared.chunk.TheConstants.{GAPS}
 use Rattle.tombstone_text.proofs.Bodies as body
 use Rattle.tombstone_text.proofs.chunks.Chunks.grow.Goals as goal
 
@@ -42,3 +43,9 @@ returns-clause-room c =
     let lt : c.args.i < length (bodies c.self.inside.list.items) = let n = ap (λ v. length v.chunks) c.self.view_is in omega arith in
     let now = body.room_set c.self.inside.list.items c.args.i c.grow.new.self lt in
     on_ok_weaker c.grow.result (λ (most : c.args.room ≤ c.grow.new.self.room). omega (arith, most, now)) c.grow.ensures.room
+
+pub returns-clause-gaps : goal.returns-clause-gaps
+returns-clause-gaps c =
+    let lt : c.args.i < length (bodies c.self.inside.list.items) = let n = ap (λ v. length v.chunks) c.self.view_is in omega arith in
+    let now = body.gap_set c.self.inside.list.items c.args.i c.grow.new.self lt in
+    on_ok_weaker c.grow.result (λ (more : GAPS ≤ c.grow.new.self.gaps). omega (arith, more, now)) c.grow.ensures.gaps

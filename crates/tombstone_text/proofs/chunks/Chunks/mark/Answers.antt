@@ -4,6 +4,7 @@ use Rattle.ttf_form.specs.Cells.{CellData, change_at, marked}
 use Rattle.tombstone_text.specs.Cells.{HasRoomOn}
 use Rattle.tombstone_text.specs.Chunks.{flat, joined}
 use Rattle.tombstone_text.specs.Code.Chunks.{blank, bodies}
+use Rattle.tombstone_text.specs.Code.Spans.{IsSpot}
 use Rattle.tombstone_text.proofs.Bodies as body
 use Rattle.tombstone_text.proofs.Chunked as chunked
 use Rattle.tombstone_text.proofs.Texts as texts
@@ -126,3 +127,14 @@ returns-clause-text c =
     ap (λ ts. joined ts) (body.texts_kept c.self.inside.list.items c.find-i.result.0 c.index_mut-chunk.result.now c.cover.new.self
     spot.chunk c.index_mut-chunk.ensures.value c.cover.ensures.text)
     ∙ ap (λ v. v.text) c.self.view_is
+
+pub cover-requires-clause-gaps : goal.cover-requires-clause-gaps
+cover-requires-clause-gaps c =
+    let i = c.find-i.result.0 in
+    let o = c.find-i.result.1 in
+    let p = c.args.cover.now.place in
+    let spot = texts.text-spot _ _ _ _ _ _ _ c.self.invariant.0 c.find-i.ensures in
+    let seen = subst (λ ds. IsSpot ds i o p) (ap (λ v. v.chunks) c.self.view_is) spot in
+    let room = c.requires.gaps i o seen in
+    let gaps = ap (λ v. get_or v.gaps i 0) c.self.view_is in
+    omega (arith, room, gaps, body.gap_read c.self.inside.list.items i c.index_mut-chunk.result.now spot.chunk c.index_mut-chunk.ensures.value)

@@ -16,6 +16,12 @@ put_first-requires-clause-spare c =
     way.first_way c.args.self.now c.args.ready c.args.ins.now.len c.requires.ready c.in-First.is c.requires.place c.requires.len in
     first.2
 
+pub put_first-requires-clause-gaps : goal.put_first-requires-clause-gaps
+put_first-requires-clause-gaps c =
+    let first =
+    way.first_way c.args.self.now c.args.ready c.args.ins.now.len c.requires.ready c.in-First.is c.requires.place c.requires.len in
+    first.3
+
 pub put_first-requires-clause-empty : goal.put_first-requires-clause-empty
 put_first-requires-clause-empty c =
     let first =
@@ -91,6 +97,20 @@ split-requires-clause-room c =
     c.requires.place c.requires.len in
     cut.1.fresh
 
+pub split-requires-clause-gaps : goal.split-requires-clause-gaps
+split-requires-clause-gaps c =
+    let cut =
+    way.cut_way c.args.self.now c.args.ready c.in-Cut.chunk c.in-Cut.at c.in-Cut.keep c.args.ins.now.len c.requires.ready c.in-Cut.is
+    c.requires.place c.requires.len in
+    cut.1.gaps
+
+pub split-requires-clause-fresh_gaps : goal.split-requires-clause-fresh_gaps
+split-requires-clause-fresh_gaps c =
+    let cut =
+    way.cut_way c.args.self.now c.args.ready c.in-Cut.chunk c.in-Cut.at c.in-Cut.keep c.args.ins.now.len c.requires.ready c.in-Cut.is
+    c.requires.place c.requires.len in
+    cut.1.fresh_gaps
+
 pub split-requires-clause-spare : goal.split-requires-clause-spare
 split-requires-clause-spare c =
     let cut =
@@ -127,7 +147,7 @@ put_at-requires-then-at-keep-clause-chunk c =
     let low =
     way.cut_low c.args.self.now c.split.new.self c.in-Cut.chunk c.in-Cut.at c.in-Cut.keep c.args.ins.now.len c.args.ready.place
     c.room_below.result cut.0 cut.1 c.if-at-keep.true c.split.ensures.chunks (c.room_below.ensures c.if-at-keep.true)
-    c.split.ensures.lower in
+    c.split.ensures.lower c.split.ensures.lower_gaps in
     low.0.chunk
 
 pub put_at-requires-then-at-keep-clause-within : goal.put_at-requires-then-at-keep-clause-within
@@ -138,7 +158,7 @@ put_at-requires-then-at-keep-clause-within c =
     let low =
     way.cut_low c.args.self.now c.split.new.self c.in-Cut.chunk c.in-Cut.at c.in-Cut.keep c.args.ins.now.len c.args.ready.place
     c.room_below.result cut.0 cut.1 c.if-at-keep.true c.split.ensures.chunks (c.room_below.ensures c.if-at-keep.true)
-    c.split.ensures.lower in
+    c.split.ensures.lower c.split.ensures.lower_gaps in
     low.0.within
 
 pub put_at-requires-then-at-keep-clause-room : goal.put_at-requires-then-at-keep-clause-room
@@ -149,7 +169,7 @@ put_at-requires-then-at-keep-clause-room c =
     let low =
     way.cut_low c.args.self.now c.split.new.self c.in-Cut.chunk c.in-Cut.at c.in-Cut.keep c.args.ins.now.len c.args.ready.place
     c.room_below.result cut.0 cut.1 c.if-at-keep.true c.split.ensures.chunks (c.room_below.ensures c.if-at-keep.true)
-    c.split.ensures.lower in
+    c.split.ensures.lower c.split.ensures.lower_gaps in
     low.1
 
 pub overflow_add-chunk : goal.overflow_add-chunk
@@ -168,7 +188,8 @@ put_at-requires-else-at-keep-clause-chunk c =
     c.requires.place c.requires.len in
     let high =
     way.cut_high c.args.self.now c.split.new.self c.in-Cut.chunk (c.in-Cut.chunk + 1) c.in-Cut.at c.in-Cut.keep c.args.ins.now.len
-    c.args.ready.place cut.0 cut.1 (omega (arith, c.if-at-keep.false)) c.split.ensures.chunks (omega arith) c.split.ensures.upper in
+    c.args.ready.place cut.0 cut.1 (omega (arith, c.if-at-keep.false)) c.split.ensures.chunks (omega arith) c.split.ensures.upper
+    c.split.ensures.upper_gaps in
     high.0.chunk
 
 pub put_at-requires-else-at-keep-clause-within : goal.put_at-requires-else-at-keep-clause-within
@@ -178,7 +199,8 @@ put_at-requires-else-at-keep-clause-within c =
     c.requires.place c.requires.len in
     let high =
     way.cut_high c.args.self.now c.split.new.self c.in-Cut.chunk (c.in-Cut.chunk + 1) c.in-Cut.at c.in-Cut.keep c.args.ins.now.len
-    c.args.ready.place cut.0 cut.1 (omega (arith, c.if-at-keep.false)) c.split.ensures.chunks (omega arith) c.split.ensures.upper in
+    c.args.ready.place cut.0 cut.1 (omega (arith, c.if-at-keep.false)) c.split.ensures.chunks (omega arith) c.split.ensures.upper
+    c.split.ensures.upper_gaps in
     high.0.within
 
 pub put_at-requires-else-at-keep-clause-room : goal.put_at-requires-else-at-keep-clause-room
@@ -188,7 +210,8 @@ put_at-requires-else-at-keep-clause-room c =
     c.requires.place c.requires.len in
     let high =
     way.cut_high c.args.self.now c.split.new.self c.in-Cut.chunk (c.in-Cut.chunk + 1) c.in-Cut.at c.in-Cut.keep c.args.ins.now.len
-    c.args.ready.place cut.0 cut.1 (omega (arith, c.if-at-keep.false)) c.split.ensures.chunks (omega arith) c.split.ensures.upper in
+    c.args.ready.place cut.0 cut.1 (omega (arith, c.if-at-keep.false)) c.split.ensures.chunks (omega arith) c.split.ensures.upper
+    c.split.ensures.upper_gaps in
     high.1
 
 pub returns-then-at-keep-clause-cells : goal.returns-then-at-keep-clause-cells
@@ -199,7 +222,7 @@ returns-then-at-keep-clause-cells c =
     let low =
     way.cut_low c.args.self.now c.split.new.self c.in-Cut.chunk c.in-Cut.at c.in-Cut.keep c.args.ins.now.len c.args.ready.place
     c.room_below.result cut.0 cut.1 c.if-at-keep.true c.split.ensures.chunks (c.room_below.ensures c.if-at-keep.true)
-    c.split.ensures.lower in
+    c.split.ensures.lower c.split.ensures.lower_gaps in
     c.put_at-then-at-keep.ensures.cells c.args.ready.place low.0
     ∙ ap (λ (s : List CellData). put_in c.args.ready.place (bare_cells c.args.ins.now) s) c.split.ensures.cells
 
@@ -211,7 +234,7 @@ returns-then-at-keep-clause-text c =
     let low =
     way.cut_low c.args.self.now c.split.new.self c.in-Cut.chunk c.in-Cut.at c.in-Cut.keep c.args.ins.now.len c.args.ready.place
     c.room_below.result cut.0 cut.1 c.if-at-keep.true c.split.ensures.chunks (c.room_below.ensures c.if-at-keep.true)
-    c.split.ensures.lower in
+    c.split.ensures.lower c.split.ensures.lower_gaps in
     c.put_at-then-at-keep.ensures.text c.args.ready.place low.0
     ∙ ap (λ (s : List ℕ). put_in c.args.ready.place c.args.text.now s) c.split.ensures.text
 
@@ -222,7 +245,8 @@ returns-else-at-keep-clause-cells c =
     c.requires.place c.requires.len in
     let high =
     way.cut_high c.args.self.now c.split.new.self c.in-Cut.chunk (c.in-Cut.chunk + 1) c.in-Cut.at c.in-Cut.keep c.args.ins.now.len
-    c.args.ready.place cut.0 cut.1 (omega (arith, c.if-at-keep.false)) c.split.ensures.chunks (omega arith) c.split.ensures.upper in
+    c.args.ready.place cut.0 cut.1 (omega (arith, c.if-at-keep.false)) c.split.ensures.chunks (omega arith) c.split.ensures.upper
+    c.split.ensures.upper_gaps in
     c.put_at-else-at-keep.ensures.cells c.args.ready.place high.0
     ∙ ap (λ (s : List CellData). put_in c.args.ready.place (bare_cells c.args.ins.now) s) c.split.ensures.cells
 
@@ -233,6 +257,7 @@ returns-else-at-keep-clause-text c =
     c.requires.place c.requires.len in
     let high =
     way.cut_high c.args.self.now c.split.new.self c.in-Cut.chunk (c.in-Cut.chunk + 1) c.in-Cut.at c.in-Cut.keep c.args.ins.now.len
-    c.args.ready.place cut.0 cut.1 (omega (arith, c.if-at-keep.false)) c.split.ensures.chunks (omega arith) c.split.ensures.upper in
+    c.args.ready.place cut.0 cut.1 (omega (arith, c.if-at-keep.false)) c.split.ensures.chunks (omega arith) c.split.ensures.upper
+    c.split.ensures.upper_gaps in
     c.put_at-else-at-keep.ensures.text c.args.ready.place high.0
     ∙ ap (λ (s : List ℕ). put_in c.args.ready.place c.args.text.now s) c.split.ensures.text

@@ -1,6 +1,7 @@
 use Rattle.std.proofs.Common.{◌<◌, List, length, map, set, ap, ◌∙◌, arith}
 use Rattle.std.proofs.lemmas.List.{length-map}
-use Rattle.ttf_form.specs.Cells.{CellData, change_at, raised}
+use Rattle.ttf_form.specs.Cells.{CellData, change_at}
+use Rattle.tombstone_text.specs.Code.Spans.{raised_run}
 use Rattle.tombstone_text.specs.Chunks.{joined}
 use Rattle.tombstone_text.specs.Code.Chunks.{bodies}
 use Rattle.tombstone_text.proofs.Bodies as body
@@ -12,7 +13,7 @@ use Rattle.tombstone_text.proofs.chunks.Chunks.raise_chunk.Goals as goal
 pub set-requires-clause-low : goal.set-requires-clause-low
 set-requires-clause-low c =
     let lt : c.args.i < length (bodies c.self.inside.list.items) = let n = ap (λ v. length v.chunks) c.self.view_is in omega arith in
-    let f = raised c.args.generation c.args.name.now in
+    let f = raised_run c.args.generation c.args.name.now in
     let read =
     body.body_read c.self.inside.list.items c.args.i c.index_mut-chunk.result.now lt c.index_mut-chunk.ensures.value in
     let long =
@@ -26,7 +27,7 @@ set-requires-clause-low c =
 pub invariant_of-self : goal.invariant_of-self
 invariant_of-self c =
     let lt : c.args.i < length (bodies c.self.inside.list.items) = let n = ap (λ v. length v.chunks) c.self.view_is in omega arith in
-    let f = raised c.args.generation c.args.name.now in
+    let f = raised_run c.args.generation c.args.name.now in
     let read =
     body.body_read c.self.inside.list.items c.args.i c.index_mut-chunk.result.now lt c.index_mut-chunk.ensures.value in
     let long =
@@ -43,7 +44,7 @@ invariant_of-self c =
 pub returns-clause-chunks : goal.returns-clause-chunks
 returns-clause-chunks c =
     let lt : c.args.i < length (bodies c.self.inside.list.items) = let n = ap (λ v. length v.chunks) c.self.view_is in omega arith in
-    let f = raised c.args.generation c.args.name.now in
+    let f = raised_run c.args.generation c.args.name.now in
     let there =
     body.body_there c.self.inside.list.items c.args.i c.index_mut-chunk.result.now lt c.index_mut-chunk.ensures.value in
     body.bodies_set c.self.inside.list.items c.args.i c.raise.new.self

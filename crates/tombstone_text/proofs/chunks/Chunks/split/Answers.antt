@@ -120,3 +120,15 @@ returns-clause-text c =
     ∙ beside.joined_cut _ _ _ _ _ c.args.i (c.args.i + 1) c.args.keep _ _ _ c.self.invariant.0 c.self.invariant.1 lt (omega arith)
     (body.text_read _ _ _ lt c.index_mut-lower.ensures.value) c.split.ensures.lower_text c.split.ensures.upper_text
     ∙ ap (λ v. v.text) c.self.view_is
+
+pub split-requires-clause-gaps : goal.split-requires-clause-gaps
+split-requires-clause-gaps c =
+    let lt : c.args.i < length (bodies c.self.inside.list.items) = let n = ap (λ v. length v.chunks) c.self.view_is in omega arith in
+    let gaps = ap (λ v. get_or v.gaps c.args.i 0) c.self.view_is in
+    omega (
+      arith,
+      gaps,
+      c.requires.gaps,
+      body.gap_read c.self.inside.list.items c.args.i c.index_mut-lower.result.now lt
+          c.index_mut-lower.ensures.value,
+    )

@@ -1,0 +1,9 @@
+use Rattle.std.proofs.Common.{◌≡◌, length, map}
+use Rattle.tombstone_text.specs.Code.Spans.{pieces, raised_run}
+use Rattle.tombstone_text.proofs.Raising.{changed_first}
+use Rattle.tombstone_text.proofs.spans.raise.Given as goal
+
+abbrev pub invariant-loop-i : goal.invariant-loop-i
+invariant-loop-i l =
+    (pieces l.spans.items ≡ changed_first l.i (map (raised_run l.generation l.name)) (pieces l.fn.spans.items))
+    × (length l.spans.items ≡ length l.fn.spans.items)
