@@ -52,7 +52,7 @@ le_decides : (a b : ℕ) → Decides (nat_le a b) (a ≤ b)
 le_decides a b = (λ e. grind (arith, nat_tests), λ e. grind (arith, nat_tests))
 
 pub repeat_decides : (h : List OpData) (o : OpData) → Decides (is_repeat h o) (IsRepeat h o)
-repeat_decides h (inserting n p ch c) = same_any (inserting n p ch c) h
+repeat_decides h (inserting n p text c) = same_any (inserting n p text c) h
 repeat_decides h (deleting n p c) = same_any (deleting n p c) h
 repeat_decides h (undoing a t g c) = le_decides g (generation_in h t)
 
@@ -104,7 +104,7 @@ forged_decides h w o n is =
     known (inr two) = or_right (list_any (is_other o) h) (list_any (is_other o) w) ((other_any o w n is).1 two)
 
 pub no_forgery_undo : (h w : List OpData) (o : OpData) → is_original o ≡ false → is_forged h w o ≡ false
-no_forgery_undo h w (inserting n p ch c) e = absurd (true≢false e)
+no_forgery_undo h w (inserting n p text c) e = absurd (true≢false e)
 no_forgery_undo h w (deleting n p c) e = absurd (true≢false e)
 no_forgery_undo h w (undoing a t g c) e = refl
 

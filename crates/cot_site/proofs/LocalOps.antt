@@ -1,28 +1,32 @@
 -- What a site makes may come next in its history.
 use Rattle.std.proofs.Common.{◌≡◌, ◌≢◌, ℕ, zero, suc, ◌+◌, ◌*◌, ◌<◌, ◌≤◌, Bool, true, false, inl, inr, List, [], ◌∷◌, ◌++◌, length, map, Result, Ok, Err, refl, ap, sym, subst, ◌∙◌, arith, length-append}
-use Rattle.std.specs.Prelude.{Option, Some, None, Contains, slice_get, ◌&&◌, ◌==◌, if◌then◌else◌}
+use Rattle.std.specs.Prelude.{Option, Some, None, Contains, slice_get, nat_le, ◌&&◌, ◌==◌, if◌then◌else◌}
 use Rattle.std.specs.Char.{IsScalar}
 use Rattle.ttf_form.specs.Families.{total_by}
 use Rattle.std.proofs.lemmas.Bool.{cases_Bool, cases_lt, true≢false, false≢true, false_from_ne_true, lt-ltb, le-ltb, eq-eqb}
+use Rattle.std.proofs.lemmas.Bool.Decides.{nat_tests}
 use Rattle.op_name.specs.declared.name.TheConstants.{SITES, NUMBERS}
 use Rattle.op_name.specs.declared.member.TheConstants.{GENERATIONS}
-use Rattle.context_diff.specs.declared.op.TheConstants.{UNDO_ENTRIES}
+use Rattle.context_diff.specs.declared.letters.TheConstants.{LETTERS}
+use Rattle.context_diff.specs.declared.op.TheConstants.{PLACES, UNDO_ENTRIES}
 use Rattle.op_name.specs.NameData.{NameData, IsName}
 use Rattle.op_name.specs.declared.member.Member.TheVariants.{Original, Group}
-use Rattle.context_vector.specs.Contexts.{ContextData, IsContext, HasNoStray, has, rank_of, raised, IsNextMember}
-use Rattle.context_diff.specs.Operations.{OpData, inserting, deleting, undoing, member_of, IsWellFormed}
-use Rattle.context_diff.specs.Histories.{is_known, generation_in, context_of_all, inserts_in, LacksNothing, IsClosed, IsNext, IsValid}
+use Rattle.context_vector.specs.Contexts.{ContextData, HasNoStray, has}
+use Rattle.context_diff.specs.Operations.{OpData, inserting, deleting, undoing, member_of, cells_put, IsLetters, IsWellFormed}
+use Rattle.context_diff.specs.Histories.{is_known, generation_in, context_of_all, all_cells, cells_in, LacksNothing, IsClosed, IsNext, IsValid}
 use Rattle.op_name.specs.Members.{is_even}
 use Rattle.context_diff.specs.Replays.{Insertion, Cell, insertions_in, is_earlier, put_by, sort_by, run_of, cells_from, gap_of, put, replay, replay_of, is_shown, characters_of}
-use Rattle.context_vector.proofs.CallerLemmas.{sum_at_most, entry_at_most, rank_raised}
-use Rattle.context_diff.proofs.CallerLemmas.{IsComplete, complete, next_member, context_push, generation_is, group_facts, contains_here, contains_later, holder, known_member, all_is_context, has_number, has_generation, by_pushes}
+use Rattle.context_vector.proofs.CallerLemmas.{entry_at_most}
+use Rattle.context_diff.proofs.CallerLemmas.{IsComplete, complete, generation_is, group_facts, contains_here, contains_later, holder, known_member, all_is_context, has_number, has_generation}
 use Rattle.fixed_replay.proofs.CallerLemmas.{gap_of_whole}
 use Rattle.site_answers.specs.declared.local.Local.{Local}
 use Rattle.site_answers.specs.declared.local.Local.TheVariants.{PlaceOut, Unknown, NotInForce, InForce, GenerationFull, NumberFull, ContextFull}
 use Rattle.cot_site.specs.States.{State}
 use Rattle.cot_site.specs.Views.{shown_places_of}
 use Rattle.op_name.specs.Lists.{places_from}
-use Rattle.cot_site.specs.Commands.{place_of_shown, place_behind, count_made, next_name, in_context, numbered, turned, local_insert, local_delete, local_undo, local_redo}
+use Rattle.visible_view.specs.View.{places_after}
+use Rattle.cot_site.specs.Code.Making.{IsHead}
+use Rattle.cot_site.specs.Commands.{within_range, place_of_shown, place_behind, count_made, next_name, in_context, numbered, turned, local_run, local_insert, local_delete, local_undo, local_redo}
 
 -- ---- how many cells the replay has
 
@@ -45,18 +49,18 @@ length_run : (n : NameData) (first k : ℕ) → length (run_of n first k) ≡ k
 length_run n first zero = refl
 length_run n first (suc k) = ap suc (length_run n (suc first) k)
 
-length_put : (o : Insertion) (earlier : List NameData) (cells : List Cell) → length (put o earlier cells) ≡ length cells + o.len
+length_put : (o : Insertion) (earlier : List Insertion) (cells : List Cell) → length (put o earlier cells) ≡ length cells + o.len
 length_put o earlier cells =
     let g = gap_of o earlier cells in
     let whole = ap length (gap_of_whole o earlier cells) in
     omega (arith, more_cells g.before g.between g.behind (cells_from o), length_run o.name 0 o.len, whole)
 
-length_replay : (os : List Insertion) (earlier : List NameData) (cells : List Cell)
+length_replay : (os : List Insertion) (earlier : List Insertion) (cells : List Cell)
     → length (replay earlier cells os) ≡ length cells + all_len os
 unfolding replay
 length_replay [] earlier cells = omega arith
 length_replay (o ∷ os) earlier cells =
-    omega (arith, length_replay os (earlier ++ o.name ∷ []) (put o earlier cells), length_put o earlier cells)
+    omega (arith, length_replay os (earlier ++ o ∷ []) (put o earlier cells), length_put o earlier cells)
 
 len_put_by : (less : Insertion → Insertion → Bool) (x : Insertion) (xs : List Insertion) → all_len (put_by less x xs) ≡ x.len + all_len xs
 unfolding put_by
@@ -73,64 +77,47 @@ unfolding sort_by
 len_sort_by less [] = refl
 len_sort_by less (x ∷ xs) = len_put_by less x (sort_by less xs) ∙ ap (λ n. x.len + n) (len_sort_by less xs)
 
--- an insert of a history puts one cell
-one_each : (os : List OpData) → all_len (insertions_in os) ≡ length (insertions_in os)
-one_each [] = refl
-one_each (inserting n p ch c ∷ os) = omega (arith, one_each os)
-one_each (deleting n p c ∷ os) = one_each os
-one_each (undoing a t g c ∷ os) = one_each os
+-- an insert of a history puts a cell for each of its characters
+each_put : (os : List OpData) → all_len (insertions_in os) ≡ all_cells os
+each_put [] = refl
+each_put (inserting n p text c ∷ os) = ap (λ k. length text + k) (each_put os)
+each_put (deleting n p c ∷ os) = omega (arith, each_put os)
+each_put (undoing a t g c ∷ os) = omega (arith, each_put os)
 
-pub cells_counted : (h : List OpData) → length (replay_of h) ≡ length (insertions_in h)
+-- the replay has the cells of all inserts
+pub cells_counted : (h : List OpData) → length (replay_of h) ≡ all_cells h
 cells_counted h =
     omega (
       arith,
       length_replay (sort_by is_earlier (insertions_in h)) [] [],
       len_sort_by is_earlier (insertions_in h),
-      one_each h,
+      each_put h,
     )
 
-inserts_listed : (os : List OpData) (c : ContextData) → ((o : OpData) → Contains os o → has c (member_of o) ≡ true)
-    → inserts_in os c ≡ length (insertions_in os)
-inserts_listed [] c there = refl
-inserts_listed (inserting n p ch d ∷ os) c there =
-    let o = inserting n p ch d in
-    let rest = inserts_listed os c (λ x at. there x (contains_later o os x at)) in
-    ap (λ b. (if true && b then 1 else 0) + inserts_in os c) (there o (contains_here o os)) ∙ omega (arith, rest)
-inserts_listed (deleting n p d ∷ os) c there =
-    let rest = inserts_listed os c (λ x at. there x (contains_later (deleting n p d) os x at)) in omega (arith, rest)
-inserts_listed (undoing a t g d ∷ os) c there =
-    let rest = inserts_listed os c (λ x at. there x (contains_later (undoing a t g d) os x at)) in omega (arith, rest)
+cells_listed : (os : List OpData) (c : ContextData) → ((o : OpData) → Contains os o → has c (member_of o) ≡ true)
+    → cells_in os c ≡ all_cells os
+cells_listed [] c there = refl
+cells_listed (o ∷ os) c there =
+    let rest = cells_listed os c (λ x at. there x (contains_later o os x at)) in
+    rw (there o (contains_here o os)) (omega (arith, rest))
 
-pub all_inserts : (h : List OpData) → IsComplete h → inserts_in h (context_of_all h) ≡ length (replay_of h)
-all_inserts h w = inserts_listed h (context_of_all h) (λ o at. w.holds (member_of o) ∙ known_member h o at) ∙ sym (cells_counted h)
+-- so has the context of all members
+pub all_have : (h : List OpData) → IsComplete h → cells_in h (context_of_all h) ≡ all_cells h
+all_have h w = cells_listed h (context_of_all h) (λ o at. w.holds (member_of o) ∙ known_member h o at)
 
-insertions_push : (h : List OpData) (o : OpData)
-    → length (insertions_in (h ++ o ∷ [])) ≡ length (insertions_in h) + length (insertions_in (o ∷ []))
-insertions_push [] o = omega arith
-insertions_push (inserting n p ch d ∷ os) o = omega (arith, insertions_push os o)
-insertions_push (deleting n p d ∷ os) o = insertions_push os o
-insertions_push (undoing a t g d ∷ os) o = insertions_push os o
+-- each operation puts at most LETTERS cells
+pub cells_few : (h : List OpData) → IsValid h → all_cells h ≤ LETTERS * length h
+cells_few h valid = of_formed h (complete h valid).formed
+  where
+    few : (o : OpData) → IsWellFormed o → cells_put o ≤ LETTERS
+    few (inserting n p text c) f = f.in_range.2.most
+    few (deleting n p c) f = omega arith
+    few (undoing a t g c) f = omega arith
 
-rank_more : (a : ContextData) (o : OpData) (n : ℕ) → IsContext a → IsNextMember a (member_of o) → n ≤ rank_of a
-    → n + length (insertions_in (o ∷ [])) ≤ rank_of (raised a (member_of o))
-rank_more a (inserting m p ch c) n is next le = omega (arith, le, rank_raised a m is next)
-rank_more a (deleting m p c) n is next le = omega (arith, le, rank_raised a m is next)
-rank_more a (undoing u t g c) n is next le = omega (arith, le)
-
-few_inserts : (h : List OpData) → IsValid h → length (insertions_in h) ≤ rank_of (context_of_all h)
-few_inserts h valid =
-    by_pushes (λ k. length (insertions_in k) ≤ rank_of (context_of_all k)) (omega arith) (λ k o v was next.
-    let more =
-    rank_more (context_of_all k) o (length (insertions_in k)) (all_is_context k v)
-    (next_member k (context_of_all k) o (complete k v).holds next) was in
-    subst (λ (c : ContextData). length (insertions_in (k ++ o ∷ [])) ≤ rank_of c) (sym (context_push k o))
-    (omega (arith, more, insertions_push k o))) h valid
-
--- there are at most as many cells as originals
-pub few_cells : (h : List OpData) → IsValid h → length (replay_of h) ≤ SITES * NUMBERS
-few_cells h valid =
-    let most = sum_at_most 0 (context_of_all h).counts (omega arith) (all_is_context h valid).counts in
-    omega (arith, few_inserts h valid, cells_counted h, most)
+    of_formed : (os : List OpData) → ((o : OpData) → Contains os o → IsWellFormed o) → all_cells os ≤ LETTERS * length os
+    of_formed [] formed = omega arith
+    of_formed (o ∷ os) formed =
+        omega (arith, few o (formed o (contains_here o os)), of_formed os (λ x at. formed x (contains_later o os x at)))
 
 -- ---- the context of all members
 
@@ -175,12 +162,43 @@ behind_some [] v p e = absurd (no_place v p e)
 behind_some (x ∷ xs) zero p e = (x, refl, sym (some_is (suc x) p e))
 behind_some (x ∷ xs) (suc v) p e = behind_some xs v p e
 
-pub shown_within : (h : List OpData) (v p : ℕ) → place_of_shown h v ≡ Some p → p < length (replay_of h)
-shown_within h v p e = omega (arith, at_most (is_shown h) (replay_of h) 0 v p e)
+shown_within : (h : List OpData) (v p : ℕ) → slice_get (shown_places_of h) v ≡ Some p → p < all_cells h
+shown_within h v p e = omega (arith, at_most (is_shown h) (replay_of h) 0 v p e, cells_counted h)
 
-pub behind_within : (h : List OpData) (v p : ℕ) → place_behind h v ≡ Some p → p ≤ length (replay_of h)
+behind_within : (h : List OpData) (v p : ℕ) → slice_get (places_after (shown_places_of h)) v ≡ Some p → p ≤ all_cells h
 behind_within h zero p e = omega (arith, some_is 0 p e)
 behind_within h (suc v) p e = let found = behind_some (shown_places_of h) v p e in omega (arith, shown_within h v found.0 found.1, found.2)
+
+-- a place that an operation may name was there, and is a number in range
+pub range_was : (r : Option ℕ) (p : ℕ) → within_range r ≡ Some p → (r ≡ Some p) × (p ≤ PLACES)
+range_was None p e = absurd (none_some p e)
+  where
+    none_some : (p : ℕ) → ◌≡◌ {A = Option ℕ} None (Some p) → ⊥
+    none_some p e = cc
+range_was (Some q) p e =
+    elim (cases_Bool (nat_le q PLACES)) [
+      | inl so ↦
+          let same : q ≡ p = some_is q p (sym (ap (λ (b : Bool). if b then Some q else None) so) ∙ e) in
+          (ap (λ (n : ℕ). Some n) same, grind (arith, nat_tests))
+      | inr isnt ↦ absurd (never (sym (ap (λ (b : Bool). if b then Some q else None) isnt) ∙ e))
+    ]
+  where
+    never : ◌≡◌ {A = Option ℕ} None (Some p) → ⊥
+    never f = cc
+
+-- each place in range may be named
+range_is : (r : Option ℕ) → ((p : ℕ) → r ≡ Some p → p ≤ PLACES) → within_range r ≡ r
+range_is None within = refl
+range_is (Some p) within =
+    let so : nat_le p PLACES ≡ true = (let few = within p refl in grind (arith, nat_tests)) in
+    ap (λ (b : Bool). if b then Some p else None) so
+
+-- of at most PLACES cells each place is in range
+pub shown_named : (h : List OpData) → all_cells h ≤ PLACES → (v : ℕ) → place_of_shown h v ≡ slice_get (shown_places_of h) v
+shown_named h few v = range_is (slice_get (shown_places_of h) v) (λ p e. omega (arith, shown_within h v p e))
+
+pub behind_named : (h : List OpData) → all_cells h ≤ PLACES → (v : ℕ) → place_behind h v ≡ slice_get (places_after (shown_places_of h)) v
+behind_named h few v = range_is (slice_get (places_after (shown_places_of h)) v) (λ p e. omega (arith, behind_within h v p e))
 
 -- ---- what a made operation has passed
 
@@ -220,6 +238,10 @@ numbered_ok s o p e =
 
 -- ---- the operations
 
+-- a character is a text of one
+one_letter : (ch : ℕ) → IsScalar ch → IsLetters (ch ∷ [])
+one_letter ch scalar = record { some = omega arith; most = omega arith; scalars = ap (λ (b : Bool). b && true) scalar }
+
 module _ (s : State) (valid : IsValid s.history) (site : s.number < SITES) where
   next_unknown : is_known s.history (Original (next_name s)) ≡ false
   next_unknown =
@@ -229,14 +251,15 @@ module _ (s : State) (valid : IsValid s.history) (site : s.number < SITES) where
       let most : count_made s + 1 ≤ count_made s = there.1 in
       omega (arith, most))
 
-  pub insert_next : (p ch : ℕ) → IsScalar ch → count_made s < NUMBERS → length (context_of_all s.history).entries ≤ UNDO_ENTRIES
-      → p ≤ length (replay_of s.history) → IsNext s.history (inserting (next_name s) p ch (context_of_all s.history))
-  insert_next p ch scalar free few place =
+  pub insert_next : (v p : ℕ) (text : List ℕ) → IsLetters text → count_made s < NUMBERS
+      → length (context_of_all s.history).entries ≤ UNDO_ENTRIES → place_behind s.history v ≡ Some p
+      → IsNext s.history (inserting (next_name s) p text (context_of_all s.history))
+  insert_next v p text letters free few at =
       let w = complete s.history valid in
+      let place = range_was (slice_get (places_after (shown_places_of s.history)) v) p at in
       record {
         formed = record {
-          in_range =
-              ((site, omega arith, omega arith), omega (arith, few_cells s.history valid), scalar, all_is_context s.history valid, few);
+          in_range = ((site, omega arith, omega arith), place.1, letters, all_is_context s.history valid, few);
           own = refl;
           target = tt;
           stray = all_stray s.history w;
@@ -244,16 +267,17 @@ module _ (s : State) (valid : IsValid s.history) (site : s.number < SITES) where
         new = next_unknown;
         ready = all_ready s.history w;
         closed = λ _. all_closed s.history w;
-        placed = omega (arith, all_inserts s.history w);
+        placed = omega (arith, all_have s.history w, behind_within s.history v p place.0);
       }
 
-  pub delete_next : (p : ℕ) → count_made s < NUMBERS → length (context_of_all s.history).entries ≤ UNDO_ENTRIES
-      → p < length (replay_of s.history) → IsNext s.history (deleting (next_name s) p (context_of_all s.history))
-  delete_next p free few place =
+  pub delete_next : (v p : ℕ) → count_made s < NUMBERS → length (context_of_all s.history).entries ≤ UNDO_ENTRIES
+      → place_of_shown s.history v ≡ Some p → IsNext s.history (deleting (next_name s) p (context_of_all s.history))
+  delete_next v p free few at =
       let w = complete s.history valid in
+      let place = range_was (slice_get (shown_places_of s.history) v) p at in
       record {
         formed = record {
-          in_range = ((site, omega arith, omega arith), omega (arith, few_cells s.history valid), all_is_context s.history valid, few);
+          in_range = ((site, omega arith, omega arith), place.1, all_is_context s.history valid, few);
           own = refl;
           target = tt;
           stray = all_stray s.history w;
@@ -261,11 +285,11 @@ module _ (s : State) (valid : IsValid s.history) (site : s.number < SITES) where
         new = next_unknown;
         ready = all_ready s.history w;
         closed = λ _. all_closed s.history w;
-        placed = omega (arith, all_inserts s.history w);
+        placed = omega (arith, all_have s.history w, shown_within s.history v p place.0);
       }
 
   name_range : (o : OpData) (t : NameData) → IsWellFormed o → member_of o ≡ Original t → IsName t.site t.number
-  name_range (inserting n p ch c) t f is = let same : n ≡ t = cc in subst (λ (x : NameData). IsName x.site x.number) same f.in_range.0
+  name_range (inserting n p text c) t f is = let same : n ≡ t = cc in subst (λ (x : NameData). IsName x.site x.number) same f.in_range.0
   name_range (deleting n p c) t f is = let same : n ≡ t = cc in subst (λ (x : NameData). IsName x.site x.number) same f.in_range.0
   name_range (undoing a u g c) t f is = absurd (cc)
 
@@ -306,20 +330,23 @@ module _ (s : State) (valid : IsValid s.history) (site : s.number < SITES) where
 
   -- ---- the commands
 
-  pub local_insert_next : (o : OpData) (v ch : ℕ) → IsScalar ch → local_insert s v ch ≡ Ok o → IsNext s.history o
-  local_insert_next o v ch scalar e = from (place_behind s.history v) refl e
+  pub local_run_next : (o : OpData) (v : ℕ) (text : List ℕ) → IsLetters text → local_run s v text ≡ Ok o → IsNext s.history o
+  local_run_next o v text letters e = from (place_behind s.history v) refl e
     where
       from : (r : Option ℕ) → place_behind s.history v ≡ r
           → ◌≡◌ {A = Result OpData Local}
           (elim r [
             | None ↦ Err (PlaceOut v (length (characters_of s.history)))
             | Some p ↦
-                numbered s (inserting (next_name s) p ch (context_of_all s.history))
+                numbered s (inserting (next_name s) p text (context_of_all s.history))
           ]) (Ok o) → IsNext s.history o
       from None at f = absurd (err_ok (PlaceOut v (length (characters_of s.history))) o f)
       from (Some p) at f =
-          let made = numbered_ok s (inserting (next_name s) p ch (context_of_all s.history)) o f in
-          subst (IsNext s.history) made.1 (insert_next p ch scalar made.0 made.2 (behind_within s.history v p at))
+          let made = numbered_ok s (inserting (next_name s) p text (context_of_all s.history)) o f in
+          subst (IsNext s.history) made.1 (insert_next v p text letters made.0 made.2 at)
+
+  pub local_insert_next : (o : OpData) (v ch : ℕ) → IsScalar ch → local_insert s v ch ≡ Ok o → IsNext s.history o
+  local_insert_next o v ch scalar e = local_run_next o v (ch ∷ []) (one_letter ch scalar) e
 
   pub local_delete_next : (o : OpData) (v : ℕ) → local_delete s v ≡ Ok o → IsNext s.history o
   local_delete_next o v e = from (place_of_shown s.history v) refl e
@@ -334,7 +361,7 @@ module _ (s : State) (valid : IsValid s.history) (site : s.number < SITES) where
       from None at f = absurd (err_ok (PlaceOut v (length (characters_of s.history))) o f)
       from (Some p) at f =
           let made = numbered_ok s (deleting (next_name s) p (context_of_all s.history)) o f in
-          subst (IsNext s.history) made.1 (delete_next p made.0 made.2 (shown_within s.history v p at))
+          subst (IsNext s.history) made.1 (delete_next v p made.0 made.2 at)
 
   pub local_undo_next : (o : OpData) (t : NameData) → local_undo s t ≡ Ok o → IsNext s.history o
   local_undo_next o t e =
@@ -388,13 +415,12 @@ module _ (s : State) (valid : IsValid s.history) (site : s.number < SITES) where
       less g le ne = omega arith
 
 -- the same for parts that are equal to these
-pub insert_ready : (s : State) → IsValid s.history → s.number < SITES → (n : NameData) (p ch v : ℕ) (k : ContextData) → IsScalar ch
-    → n ≡ next_name s → count_made s < NUMBERS → k ≡ context_of_all s.history → length (context_of_all s.history).entries ≤ UNDO_ENTRIES
-    → place_behind s.history v ≡ Some p → IsNext s.history (inserting n p ch k)
-insert_ready s valid site n p ch v k scalar name free context few at =
-    subst (λ (m : NameData). IsNext s.history (inserting m p ch k)) (sym name)
-    (subst (λ (c : ContextData). IsNext s.history (inserting (next_name s) p ch c)) (sym context)
-    (insert_next s valid site p ch scalar free few (behind_within s.history v p at)))
+pub insert_ready : (s : State) → IsValid s.history → s.number < SITES → (v : ℕ) (n : NameData) (p : ℕ) (k : ContextData) (text : List ℕ)
+    → IsHead s v n p k → IsLetters text → IsNext s.history (inserting n p text k)
+insert_ready s valid site v n p k text head letters =
+    subst (λ (m : NameData). IsNext s.history (inserting m p text k)) (sym head.name)
+    (subst (λ (c : ContextData). IsNext s.history (inserting (next_name s) p text c)) (sym head.context)
+    (insert_next s valid site v p text letters head.free head.few head.place))
 
 pub delete_ready : (s : State) → IsValid s.history → s.number < SITES → (n : NameData) (p v : ℕ) (k : ContextData) → n ≡ next_name s
     → count_made s < NUMBERS → k ≡ context_of_all s.history → length (context_of_all s.history).entries ≤ UNDO_ENTRIES
@@ -402,7 +428,7 @@ pub delete_ready : (s : State) → IsValid s.history → s.number < SITES → (n
 delete_ready s valid site n p v k name free context few at =
     subst (λ (m : NameData). IsNext s.history (deleting m p k)) (sym name)
     (subst (λ (c : ContextData). IsNext s.history (deleting (next_name s) p c)) (sym context)
-    (delete_next s valid site p free few (shown_within s.history v p at)))
+    (delete_next s valid site v p free few at))
 
 pub turn_ready : (s : State) → IsValid s.history → s.number < SITES → (a : ℕ) (t : NameData) (g : ℕ) (k : ContextData) → a ≡ s.number
     → is_known s.history (Original t) ≡ true → g ≡ generation_in s.history t → g < GENERATIONS → k ≡ context_of_all s.history

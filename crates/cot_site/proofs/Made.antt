@@ -1,5 +1,5 @@
 -- Which answer a local command has, step by step.
-use Rattle.std.proofs.Common.{◌≡◌, inl, inr, ℕ, ◌<◌, ◌≤◌, ◌+◌, Bool, length, Result, Ok, Err, refl, ap, sym, subst, ◌∙◌}
+use Rattle.std.proofs.Common.{◌≡◌, inl, inr, ℕ, List, ◌<◌, ◌≤◌, ◌+◌, Bool, length, Result, Ok, Err, refl, ap, sym, subst, ◌∙◌}
 use Rattle.std.specs.Prelude.{Option, Some, None, IsOk, IfOk, IsErrAnd, OnErr, if◌then◌else◌}
 use Rattle.std.proofs.lemmas.Bool.{lt-ltb}
 use Rattle.op_name.specs.declared.name.TheConstants.{NUMBERS}
@@ -14,8 +14,8 @@ use Rattle.context_diff.specs.Ops.{data_of}
 use Rattle.site_answers.specs.declared.local.Local.{Local}
 use Rattle.site_answers.specs.declared.local.Local.TheVariants.{PlaceOut, NumberFull, ContextFull, Memory}
 use Rattle.cot_site.specs.States.{State}
-use Rattle.cot_site.specs.Commands.{place_of_shown, place_behind, count_made, next_name, in_context, numbered, turned, local_insert, local_delete, IsAnswer}
-use Rattle.cot_site.specs.Code.Making.{IsContextAnswer}
+use Rattle.cot_site.specs.Commands.{place_of_shown, place_behind, count_made, next_name, in_context, numbered, turned, local_run, local_delete, IsAnswer}
+use Rattle.cot_site.specs.Code.Making.{IsContextAnswer, IsHead}
 use Rattle.cot_site.proofs.LocalOps.{in_context_made}
 
 pub in_context_full : (c : ContextData) (o : OpData) → UNDO_ENTRIES < length c.entries
@@ -55,11 +55,11 @@ handed_on r (Err x) e is answer = subst (λ (y : Local). IsAnswer r (Err y)) (sy
 
 -- ---- the commands, where their places are
 
-pub insert_at : (s : State) (v ch p : ℕ) → place_behind s.history v ≡ Some p
-    → local_insert s v ch ≡ numbered s (inserting (next_name s) p ch (context_of_all s.history))
-insert_at s v ch p at = ap (λ (r : Option ℕ). elim r [
+pub insert_at : (s : State) (v p : ℕ) (text : List ℕ) → place_behind s.history v ≡ Some p
+    → local_run s v text ≡ numbered s (inserting (next_name s) p text (context_of_all s.history))
+insert_at s v p text at = ap (λ (r : Option ℕ). elim r [
   | None ↦ Err (PlaceOut v (length (characters_of s.history)))
-  | Some q ↦ numbered s (inserting (next_name s) q ch (context_of_all s.history))
+  | Some q ↦ numbered s (inserting (next_name s) q text (context_of_all s.history))
 ]) at
 
 pub delete_at : (s : State) (v p : ℕ) → place_of_shown s.history v ≡ Some p
@@ -77,12 +77,12 @@ make_answer r o (Ok p) is same memory = is ∙ ap (λ (x : OpData). Ok x) (sym s
 make_answer r o (Err e) is same memory =
     let e_is : e ≡ Memory = cc in subst (λ (x : Local). IsAnswer r (Err x)) (sym e_is) (made_memory r o is)
 
-pub insert_made : (s : State) (v ch p : ℕ) (n : NameData) (k : ContextData) → place_behind s.history v ≡ Some p → n ≡ next_name s
-    → count_made s < NUMBERS → k ≡ context_of_all s.history → length (context_of_all s.history).entries ≤ UNDO_ENTRIES
-    → local_insert s v ch ≡ Ok (inserting n p ch k)
-insert_made s v ch p n k at name free context few =
-    insert_at s v ch p at ∙ (numbered_made s (inserting (next_name s) p ch (context_of_all s.history)) free few
-    ∙ (λ i. Ok (inserting (sym name i) p ch (sym context i))))
+pub insert_made : (s : State) (v : ℕ) (n : NameData) (p : ℕ) (k : ContextData) (text : List ℕ) → IsHead s v n p k
+    → local_run s v text ≡ Ok (inserting n p text k)
+insert_made s v n p k text head =
+    insert_at s v p text head.place
+    ∙ (numbered_made s (inserting (next_name s) p text (context_of_all s.history)) head.free head.few
+    ∙ (λ i. Ok (inserting (sym head.name i) p text (sym head.context i))))
 
 pub delete_made : (s : State) (v p : ℕ) (n : NameData) (k : ContextData) → place_of_shown s.history v ≡ Some p → n ≡ next_name s
     → count_made s < NUMBERS → k ≡ context_of_all s.history → length (context_of_all s.history).entries ≤ UNDO_ENTRIES

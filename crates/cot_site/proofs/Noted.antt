@@ -131,7 +131,7 @@ at_member (o ∷ os) (suc i) m at = at_member os i m at
 
 -- an operation is the next of its site or its original after its context
 own_next : (o : OpData) → IsWellFormed o → IsNextMember (context_of o) (member_of o)
-own_next (inserting n p ch c) f = sym f.own
+own_next (inserting n p text c) f = sym f.own
 own_next (deleting n p c) f = sym f.own
 own_next (undoing a t g c) f = sym f.target.1
 

@@ -10,7 +10,7 @@ use Rattle.op_name.specs.declared.member.Member.TheVariants.{Original, Group}
 use Rattle.op_name.specs.Members.{target_of}
 use Rattle.context_vector.specs.Contexts.{IsContext}
 use Rattle.context_diff.specs.Operations.{OpData, inserting, deleting, undoing, member_of, context_of, is_original, IsWellFormed}
-use Rattle.context_diff.specs.Histories.{is_known, generation_in, context_of_all, inserts_in, LacksNothing, HasPlace, IsNext, IsValid}
+use Rattle.context_diff.specs.Histories.{is_known, generation_in, context_of_all, cells_in, LacksNothing, HasPlace, IsNext, IsValid}
 use Rattle.context_diff.proofs.CallerLemmas.{complete, holder, known_member, generation_is, has_group, has_generation, op_eq_decides, original_name}
 use Rattle.context_diff.specs.Books.{IsJudged}
 use Rattle.context_diff.specs.Ops.{op_eq}
@@ -47,12 +47,12 @@ waiting_is h w o e f i = pick (e i) (f i) (lacked h (context_of o)) (target_of (
 
 -- whether the place is among the cells of the context
 abbrev pub fits : List OpData → OpData → Bool
-fits h (inserting n p ch c) = nat_le p (inserts_in h c)
-fits h (deleting n p c) = nat_lt p (inserts_in h c)
+fits h (inserting n p text c) = nat_le p (cells_in h c)
+fits h (deleting n p c) = nat_lt p (cells_in h c)
 fits h (undoing a t g c) = true
 
 pub fits_decides : (h : List OpData) (o : OpData) → Decides (fits h o) (HasPlace h o)
-fits_decides h (inserting n p ch c) = (λ e. grind (arith, nat_tests), λ e. grind (arith, nat_tests))
+fits_decides h (inserting n p text c) = (λ e. grind (arith, nat_tests), λ e. grind (arith, nat_tests))
 fits_decides h (deleting n p c) = (λ e. grind (arith, nat_tests), λ e. grind (arith, nat_tests))
 fits_decides h (undoing a t g c) = (λ e. tt, λ e. refl)
 
@@ -61,29 +61,29 @@ abbrev pub site_of : List OpData → OpData → Option ℕ
 site_of h o = first_uncovered h (context_of o) (context_of o).counts
 
 pub ready_open : (h : List OpData) (o : OpData) (s : ℕ) → is_original o ≡ true → site_of h o ≡ Some s → ready_verdict h o ≡ NotClosed s
-ready_open h (inserting n p ch c) s original e = λ i. placed_verdict (e i) (nat_le p (inserts_in h c)) p (inserts_in h c)
-ready_open h (deleting n p c) s original e = λ i. placed_verdict (e i) (nat_lt p (inserts_in h c)) p (inserts_in h c)
+ready_open h (inserting n p text c) s original e = λ i. placed_verdict (e i) (nat_le p (cells_in h c)) p (cells_in h c)
+ready_open h (deleting n p c) s original e = λ i. placed_verdict (e i) (nat_lt p (cells_in h c)) p (cells_in h c)
 ready_open h (undoing a t g c) s original e = absurd (false≢true original)
 
 some_same : (p q : ℕ) → Some p ≡ Some q → p ≡ q
 some_same p q e = cc
 
 pub ready_out : (h : List OpData) (o : OpData) (p : ℕ) → site_of h o ≡ None → fits h o ≡ false → place_in o ≡ Some p
-    → ready_verdict h o ≡ PlaceOut p (inserts_in h (context_of o))
-ready_out h (inserting n q ch c) p e f at = λ i. placed_verdict (e i) (f i) (some_same q p at i) (inserts_in h c)
-ready_out h (deleting n q c) p e f at = λ i. placed_verdict (e i) (f i) (some_same q p at i) (inserts_in h c)
+    → ready_verdict h o ≡ PlaceOut p (cells_in h (context_of o))
+ready_out h (inserting n q text c) p e f at = λ i. placed_verdict (e i) (f i) (some_same q p at i) (cells_in h c)
+ready_out h (deleting n q c) p e f at = λ i. placed_verdict (e i) (f i) (some_same q p at i) (cells_in h c)
 ready_out h (undoing a t g c) p e f at = absurd (true≢false f)
 
 pub ready_fine : (h : List OpData) (o : OpData) → (is_original o ≡ true → site_of h o ≡ None) → fits h o ≡ true
     → ready_verdict h o ≡ Integrated
-ready_fine h (inserting n p ch c) e f = λ i. placed_verdict (e refl i) (f i) p (inserts_in h c)
-ready_fine h (deleting n p c) e f = λ i. placed_verdict (e refl i) (f i) p (inserts_in h c)
+ready_fine h (inserting n p text c) e f = λ i. placed_verdict (e refl i) (f i) p (cells_in h c)
+ready_fine h (deleting n p c) e f = λ i. placed_verdict (e refl i) (f i) p (cells_in h c)
 ready_fine h (undoing a t g c) e f = refl
 
 -- ---- facts of well-formed operations
 
 pub formed_context : (o : OpData) → IsWellFormed o → IsContext (context_of o)
-formed_context (inserting n p ch c) f = f.in_range.3
+formed_context (inserting n p text c) f = f.in_range.3
 formed_context (deleting n p c) f = f.in_range.2
 formed_context (undoing a t g c) f = f.in_range.4
 
@@ -99,12 +99,12 @@ pub judged_ready : (h : List OpData) → IsValid h → (o : OpData) → IsWellFo
 judged_ready h valid o formed n known = lacked_none h (complete h valid) (context_of o) (formed_context o formed) known.ready
 
 place_of_original : (o : OpData) → is_original o ≡ true → (p : ℕ) × (place_in o ≡ Some p)
-place_of_original (inserting n p ch c) e = (p, refl)
+place_of_original (inserting n p text c) e = (p, refl)
 place_of_original (deleting n p c) e = (p, refl)
 place_of_original (undoing a t g c) e = absurd (false≢true e)
 
 undo_fits : (h : List OpData) (o : OpData) → is_original o ≡ false → fits h o ≡ true
-undo_fits h (inserting n p ch c) e = absurd (true≢false e)
+undo_fits h (inserting n p text c) e = absurd (true≢false e)
 undo_fits h (deleting n p c) e = absurd (true≢false e)
 undo_fits h (undoing a t g c) e = refl
 
@@ -162,7 +162,7 @@ module _ (h w : List OpData) (valid : IsValid h) (o : OpData) (formed : IsWellFo
       ]
     where
       never : (p : OpData) → is_original p ≡ false → is_forged h w p ≡ true → ⊥
-      never (inserting n p ch c) u g = true≢false u
+      never (inserting n p text c) u g = true≢false u
       never (deleting n p c) u g = true≢false u
       never (undoing a t k c) u g = false≢true g
 
@@ -237,12 +237,12 @@ known_original h w o n is known new same_is =
     ]
 
 pub new_unknown : (h w : List OpData) → IsValid h → (o : OpData) → IsNew h w o → is_known h (member_of o) ≡ true → ⊥
-new_unknown h w valid (inserting n p ch c) new known = known_original h w (inserting n p ch c) n refl known new (λ at. at)
+new_unknown h w valid (inserting n p text c) new known = known_original h w (inserting n p text c) n refl known new (λ at. at)
 new_unknown h w valid (deleting n p c) new known = known_original h w (deleting n p c) n refl known new (λ at. at)
 new_unknown h w valid (undoing a t g c) new known = new.no_repeat (group_reached h valid t g known)
 
 pub unknown_no_repeat : (h : List OpData) → IsValid h → (o : OpData) → IsWellFormed o → is_known h (member_of o) ≡ false → ¬ IsRepeat h o
-unknown_no_repeat h valid (inserting n p ch c) f new at = true≢false (sym (known_member h (inserting n p ch c) at) ∙ new)
+unknown_no_repeat h valid (inserting n p text c) f new at = true≢false (sym (known_member h (inserting n p text c) at) ∙ new)
 unknown_no_repeat h valid (deleting n p c) f new at = true≢false (sym (known_member h (deleting n p c) at) ∙ new)
 unknown_no_repeat h valid (undoing a t g c) f new reached = true≢false (sym (reached_group h valid t g f.in_range.2 reached) ∙ new)
 

@@ -1,11 +1,12 @@
 -- The laws of verdicts, releases and local commands.
-use Rattle.std.specs.Prelude.{◌≡◌, ◌↔◌, ℕ, ◌<◌, ◌≤◌, List, [], ◌∷◌, ◌++◌, Contains, Ok, Some, length}
+use Rattle.std.specs.Prelude.{◌≡◌, ◌↔◌, ℕ, ◌<◌, ◌≤◌, List, [], ◌∷◌, ◌++◌, Contains, Ok, Some, length, slice_get}
 use Rattle.op_name.specs.declared.member.Member.{Member}
 use Rattle.op_name.specs.declared.member.Member.TheVariants.{Original}
 use Rattle.op_name.specs.declared.name.TheConstants.{SITES}
 use Rattle.op_name.specs.NameData.{NameData}
-use Rattle.context_diff.specs.Operations.{OpData, member_of, IsWellFormed}
-use Rattle.context_diff.specs.Histories.{IsNext, IsValid}
+use Rattle.context_diff.specs.Operations.{OpData, member_of, IsLetters, IsWellFormed}
+use Rattle.context_diff.specs.declared.op.TheConstants.{PLACES}
+use Rattle.context_diff.specs.Histories.{IsNext, IsValid, all_cells}
 use Rattle.site_answers.specs.declared.verdict.Verdict.{Verdict}
 use Rattle.site_answers.specs.declared.verdict.Verdict.TheVariants.{Waits, Integrated}
 use Rattle.cot_site.specs.Verdicts.{verdict_of, IsVerdict, HasOther}
@@ -15,11 +16,11 @@ use Rattle.ttf_form.specs.declared.form.Form.{Form}
 use Rattle.ttf_form.specs.Cells.{applied}
 use Rattle.transform_rec.specs.Executing.{executed}
 use Rattle.fixed_replay.specs.Replayed.{AreCharacters}
-use Rattle.visible_view.specs.View.{shown_cells, shown_places, shown_text}
+use Rattle.visible_view.specs.View.{shown_cells, shown_places, shown_text, places_after}
 use Rattle.cot_site.specs.Sites.{AreExecuted, KeepsForms}
 use Rattle.cot_site.specs.Releases.{IsSound, IsLater, all_releases, state_after, settled}
 use Rattle.cot_site.specs.Views.{shown_places_of, history_view, forms_view, AreFormLists}
-use Rattle.cot_site.specs.Commands.{local_insert, local_delete, local_undo, local_redo}
+use Rattle.cot_site.specs.Commands.{place_behind, place_of_shown, local_run, local_insert, local_delete, local_undo, local_redo}
 use Rattle.std.specs.Char.{IsScalar}
 
 -- a well-formed operation has exactly one verdict over a valid history, and it comes exactly where its words hold
@@ -80,10 +81,19 @@ LocalOperationsAreNext =
     (s : State) (o : OpData)
     → IsValid s.history
     → s.number < SITES
-    → ((v ch : ℕ) → IsScalar ch → local_insert s v ch ≡ Ok o → IsNext s.history o)
+    → ((v : ℕ) (text : List ℕ) → IsLetters text → local_run s v text ≡ Ok o → IsNext s.history o)
+    × ((v ch : ℕ) → IsScalar ch → local_insert s v ch ≡ Ok o → IsNext s.history o)
     × ((v : ℕ) → local_delete s v ≡ Ok o → IsNext s.history o)
     × ((t : NameData) → local_undo s t ≡ Ok o → IsNext s.history o)
     × ((t : NameData) → local_redo s t ≡ Ok o → IsNext s.history o)
+
+-- in a history of at most PLACES cells, as that of each book is, the range of places refuses none: a text has its place after each number
+-- of shown characters that there are, and each shown character has its own
+abbrev pub PlacesAreInRange : Type 0
+PlacesAreInRange =
+    (h : List OpData) (v : ℕ)
+    → all_cells h ≤ PLACES
+    → (place_behind h v ≡ slice_get (places_after (shown_places_of h)) v) × (place_of_shown h v ≡ slice_get (shown_places_of h) v)
 
 -- what the executed forms of a valid history show is what the history shows: the text, with the characters of the history's inserts
 -- beside the cells, where the shown characters stand, and how many there are

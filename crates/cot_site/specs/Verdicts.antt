@@ -9,7 +9,7 @@ use Rattle.op_name.specs.NameData.{NameData}
 use Rattle.op_name.specs.Members.{target_of, member_eq}
 use Rattle.context_vector.specs.Contexts.{ContextData, count_in, entry_in}
 use Rattle.context_diff.specs.Operations.{OpData, inserting, deleting, undoing, member_of, context_of, is_original}
-use Rattle.context_diff.specs.Histories.{generation_in, context_of_all, inserts_in, LacksNothing, LacksFirst, IsClosed, HasPlace}
+use Rattle.context_diff.specs.Histories.{generation_in, context_of_all, cells_in, LacksNothing, LacksFirst, IsClosed, HasPlace}
 use Rattle.context_vector.specs.Shortfalls.{first_short}
 use Rattle.context_diff.specs.Ops.{op_eq}
 use Rattle.context_diff.specs.Bases.{original_context}
@@ -21,7 +21,7 @@ use Rattle.site_answers.specs.declared.verdict.Verdict.TheVariants.{Repeat, Forg
 
 -- the same insert or delete is in the history; or the history has reached the generation of the undo
 abbrev pub is_repeat : List OpData → OpData → Bool
-is_repeat h (inserting n p ch c) = list_any (op_eq (inserting n p ch c)) h
+is_repeat h (inserting n p text c) = list_any (op_eq (inserting n p text c)) h
 is_repeat h (deleting n p c) = list_any (op_eq (deleting n p c)) h
 is_repeat h (undoing a t g c) = nat_le g (generation_in h t)
 
@@ -62,8 +62,8 @@ placed_verdict None fits place cells = if fits then Integrated else PlaceOut pla
 
 -- on an operation whose context is there
 abbrev pub ready_verdict : List OpData → OpData → Verdict
-ready_verdict h (inserting n p ch c) = placed_verdict (first_uncovered h c c.counts) (nat_le p (inserts_in h c)) p (inserts_in h c)
-ready_verdict h (deleting n p c) = placed_verdict (first_uncovered h c c.counts) (nat_lt p (inserts_in h c)) p (inserts_in h c)
+ready_verdict h (inserting n p text c) = placed_verdict (first_uncovered h c c.counts) (nat_le p (cells_in h c)) p (cells_in h c)
+ready_verdict h (deleting n p c) = placed_verdict (first_uncovered h c c.counts) (nat_lt p (cells_in h c)) p (cells_in h c)
 ready_verdict h (undoing a t g c) = Integrated
 
 -- it waits for the missing member, if there is one
@@ -82,7 +82,7 @@ verdict_of h w o =
 
 -- the same insert or delete is in the history; or the history has reached the generation of the undo
 abbrev pub IsRepeat : List OpData → OpData → Type 0
-IsRepeat h (inserting n p ch c) = Contains h (inserting n p ch c)
+IsRepeat h (inserting n p text c) = Contains h (inserting n p text c)
 IsRepeat h (deleting n p c) = Contains h (deleting n p c)
 IsRepeat h (undoing a t g c) = g ≤ generation_in h t
 
@@ -105,7 +105,7 @@ pub record IsNew (h w : List OpData) (o : OpData) : Type 0 where
 
 -- the place that an original names
 abbrev pub place_in : OpData → Option ℕ
-place_in (inserting n p ch c) = Some p
+place_in (inserting n p text c) = Some p
 place_in (deleting n p c) = Some p
 place_in (undoing a t g c) = None
 
@@ -117,5 +117,5 @@ IsVerdict h w o (Waits m) = IsNew h w o × LacksFirst h (context_of o) m
 IsVerdict h w o (NotClosed s) = IsNew h w o × LacksNothing h (context_of o) × (is_original o ≡ true) × IsFirstOpenSite h (context_of o) s
 IsVerdict h w o (PlaceOut p k) =
     IsNew h w o × LacksNothing h (context_of o) × IsClosed h (context_of o) × (¬ HasPlace h o) × (place_in o ≡ Some p)
-    × (k ≡ inserts_in h (context_of o))
+    × (k ≡ cells_in h (context_of o))
 IsVerdict h w o Integrated = IsNew h w o × LacksNothing h (context_of o) × (is_original o ≡ true → IsClosed h (context_of o)) × HasPlace h o

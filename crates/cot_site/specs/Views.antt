@@ -29,7 +29,7 @@ abbrev pub cells_view : List OpData → List CellData → View
 cells_view h cs = record { places = shown_places cs; characters = map (character_in h) (cells_of (shown_cells cs)) }
 
 -- the view that the forms beside the state give: that of the cells that they make, executed one after the other from no cell. Forms
--- have no characters: a shown cell has that of the history's insert by whose name it stands
+-- have no characters: a shown cell has the one at its offset in the text of the history's insert by whose name it stands
 abbrev pub forms_view : (State → List Form) → State → View
 forms_view forms s = cells_view s.history (executed applied [] (forms s))
 

@@ -4,7 +4,7 @@ ghost use Rattle.std.specs.Prelude.{◌≡◌, List, None, IfNone};
 ghost use Rattle.std.specs.List.{list_any};
 ghost use Rattle.op_name.specs.declared.member.Member.TheVariants.{Original};
 ghost use Rattle.context_diff.specs.Operations.{OpData, member_of, context_of, IsWellFormed};
-ghost use Rattle.context_diff.specs.Histories.{LacksNothing, inserts_in};
+ghost use Rattle.context_diff.specs.Histories.{LacksNothing, cells_in};
 ghost use Rattle.context_diff.specs.Ops.{data_of, op_eq};
 ghost use Rattle.site_answers.specs.declared.verdict.Verdict.TheVariants.{Integrated};
 ghost use Rattle.cot_site.specs.Code.Judging.{HasCells};
@@ -17,7 +17,7 @@ use op_name::{Member, Name};
 use site_answers::Verdict;
 use undo_group::generation;
 
-/// A verdict, and the number of inserts of the operation's context, which is told of an insert or delete that is to be integrated:
+/// A verdict, and the number of cells of the operation's context, which is told of an insert or delete that is to be integrated:
 /// whoever integrates it needs the number, and counts nothing again. Beside other verdicts it says nothing.
 #[derive(Drop)]
 pub(crate) struct Judgement {
@@ -25,7 +25,7 @@ pub(crate) struct Judgement {
     pub(crate) cells: u32,
 }
 
-/// The verdict on a well-formed operation over a book and a pool: the first case that holds; with the inserts of its context.
+/// The verdict on a well-formed operation over a book and a pool: the first case that holds; with the cells of its context.
 pub(crate) fn judgement_on(book: &Book, pool: &Pool, op: &Op) -> Judgement
     requires { IsWellFormed (data_of op.now) }
     ensures verdict { result.verdict ≡ verdict_of book.now.ops pool.now (data_of op.now) }
@@ -56,11 +56,11 @@ fn uncounted(verdict: Verdict) -> Judgement
     Judgement { verdict, cells: 0 }
 }
 
-// The verdict on an operation whose context is there, by the first open site of the context and the number of its inserts; an undo
+// The verdict on an operation whose context is there, by the first open site of the context and the number of its cells; an undo
 // asks for neither.
 fn ready_verdict(op: &Op, first: Option<u16>, cells: u32) -> Verdict
     ensures { (h : List OpData) → first ≡ first_uncovered h (context_of (data_of op.now)) (context_of (data_of op.now)).counts
-        → cells ≡ inserts_in h (context_of (data_of op.now)) → result ≡ ready_verdict h (data_of op.now) }
+        → cells ≡ cells_in h (context_of (data_of op.now)) → result ≡ ready_verdict h (data_of op.now) }
 {
     match op {
         Op::Insert { place, .. } => placed_verdict(first, *place <= cells, *place, cells),
@@ -197,13 +197,13 @@ fn placed_verdict(first: Option<u16>, fits: bool, place: u32, cells: u32) -> Ver
     }
 }
 
-// The number of inserts of a context that the book has.
+// The number of cells of a context that the book has: the sum of the lengths of its inserts.
 fn cells_of(book: &Book, v: &Vector) -> u32
     requires { LacksNothing book.now.ops v.now.set }
-    ensures { result ≡ inserts_in book.now.ops v.now.set }
+    ensures { result ≡ cells_in book.now.ops v.now.set }
 {
     book.known();
-    book.inserts_in(v)
+    book.cells_in(v)
 }
 
 // The first site whose last original in the context was made after something that the context hasn't.

@@ -1,6 +1,6 @@
 //! Laws of verdicts, releases and local commands: each says what its definitions give, and does nothing.
 
-ghost use Rattle.cot_site.specs.Laws.{VerdictsAreExact, IntegratedOperationsAreNext, ReleasesNeverWait, NoReleaseWaits, EachReleaseIsTheFirst, ReleasesAreFew, ReleasesSettle, SettledStatesStay, ReleasesKeepHistories, SettledStatesHaveNoneReady, ReleasesAreExact, LocalOperationsAreNext, ExecutedFormsShowTheHistory, FormListsAreThere, OneListOfForms, FormListsStay, FormListsShowTheHistories};
+ghost use Rattle.cot_site.specs.Laws.{VerdictsAreExact, IntegratedOperationsAreNext, ReleasesNeverWait, NoReleaseWaits, EachReleaseIsTheFirst, ReleasesAreFew, ReleasesSettle, SettledStatesStay, ReleasesKeepHistories, SettledStatesHaveNoneReady, ReleasesAreExact, LocalOperationsAreNext, PlacesAreInRange, ExecutedFormsShowTheHistory, FormListsAreThere, OneListOfForms, FormListsStay, FormListsShowTheHistories};
 
 /// A well-formed operation has exactly one verdict over a valid history, the one whose words hold.
 pub fn verdicts_are_exact()
@@ -61,6 +61,11 @@ pub fn releases_are_exact()
 /// What a site makes may come next in its history.
 pub fn local_operations_are_next()
     ensures { LocalOperationsAreNext }
+{}
+
+/// In a history of at most 4,294,967,295 cells, as that of each site is, no place is refused for being out of the range of places.
+pub fn places_are_in_range()
+    ensures { PlacesAreInRange }
 {}
 
 /// What the executed forms of a valid history show is what the history shows: the text, where the characters of the history's inserts

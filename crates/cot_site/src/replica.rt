@@ -32,7 +32,7 @@ ghost use Rattle.cot_site.specs.declared.notes.TheConstants.{CACHED_FORMS};
 ghost use Rattle.cot_site.specs.Code.Replicas.{AreRowsOf, IsExecutedAsBefore, IsLastMember, IsStep, IsNextAfter, KnowsAll, KnowsBefore, before_last, last_letters};
 
 use crate::notes::{At, Notes};
-use context_diff::{Book, Op, reserve_one};
+use context_diff::{Book, Letters, LettersBad, Op, reserve_one};
 use context_vector::Vector;
 use fixed_replay::letters_of;
 use form_cache::Key;
@@ -136,7 +136,7 @@ impl Replica {
         self.notes.get(&self.book, key)
     }
 
-    /// The cells that the executed forms gave, shown or hidden, and beside each the character of its insert.
+    /// The cells that the executed forms gave, shown or hidden, and beside each its character.
     pub fn cells(&self) -> &Cells
         ensures forms { result.now.cells ≡ executed applied [] self.now.forms }
         ensures replayed { IsReplayed self.now.history result.now.cells }
@@ -172,12 +172,19 @@ impl Replica {
         name_of_visible(&self.cells, v)
     }
 
-    /// The place for a character after v shown ones; None exactly where there are fewer than v.
+    /// The place for a text after v shown characters; None exactly where there are fewer than v.
     pub fn place_behind(&self, v: u32) -> Option<u32>
         ensures { result ≡ place_behind self.now.history v }
     {
         self.book.known();
         model_place(&self.cells, v)
+    }
+
+    /// These characters as the text of an insert.
+    pub fn letters(&self, text: &[char]) -> Result<Letters, LettersBad>
+        ensures { IfOk result (λ l. l ≡ text.now) }
+    {
+        Letters::new(*self.forms.allocator(), text)
     }
 
     /// Appends the shown text in UTF-8; after out of memory `out` is as it was.
@@ -190,7 +197,7 @@ impl Replica {
     }
 
     /// Appends the operation, which is next, and executes its form at the members that were integrated before
-    /// it; the character of an insert comes to stand beside its cell. The context of an insert or delete has so many inserts. After out
+    /// it; the characters of an insert come to stand beside its cells. The context of an insert or delete has so many cells. After out
     /// of memory the history, the forms, the cells and their characters are as before, and the notes are the old ones or none.
     pub fn integrate(&mut self, op: Op, cells: u32) -> Result<(), Memory>
         requires next { IsNext self.old.history (data_of op) }
@@ -215,7 +222,7 @@ impl Replica {
         ensures err { OnErr result (IsExecutedAsBefore self.old self.new) }
     {
         self.book.known();
-        let cells = self.book.inserts();
+        let cells = self.book.cells();
         self.integrate_after(op, cells, true)
     }
 
@@ -285,11 +292,11 @@ fn with_shared_lists(book: &Book, op: Op) -> Op
 }
 
 // Whether the operation, which comes next, was made after just the members of the book, or is an undo: then its form needs no row.
-// A context that has fewer inserts than the book isn't compared.
+// A context that has fewer cells than the book isn't compared.
 fn knows_all(book: &Book, op: &Op, cells: u32) -> bool
     ensures { IsTrue result → KnowsAll book.now.have.set (data_of op.now) }
 {
-    is_undo(op) || (cells == book.inserts() && are_same(op.context(), book.have()))
+    is_undo(op) || (cells == book.cells() && are_same(op.context(), book.have()))
 }
 
 // Whether the operation is an undo or a redo.
@@ -382,8 +389,8 @@ fn append(forms: &mut Vec<Form>, form: &Form)
     }
 }
 
-// The form of the last member of the book at the members before it, with room among the cells to apply it. The cells and their characters stay
-// as they are.
+// The form of the last member of the book at the members before it, with room among the cells to apply it. The cells and their
+// characters stay as they are.
 fn form_with_room(
     book: &Book,
     notes: &mut Notes,

@@ -145,8 +145,8 @@ impl Site {
     }
 
     /// The cells of the text, shown or hidden, which the executed forms gave: those of the fixed replay of the history, each with
-    /// the generation of its insert and the deletes that hit it with theirs, and beside them their characters, each that of the cell's
-    /// insert. Lending them takes no memory and no time; places in them count all cells, from 0.
+    /// the generation of its insert and the deletes that hit it with theirs, and beside them their characters, each the one that the
+    /// text of its insert has at the cell's offset. Lending them takes no memory and no time; places in them count all cells, from 0.
     pub fn cells(&self) -> &Cells
         ensures forms { result.now.cells ≡ executed applied [] self.now.forms }
         ensures replayed { IsReplayed self.now.history result.now.cells }
@@ -162,9 +162,10 @@ impl Site {
         self.replica.visible_len()
     }
 
-    /// The name of the insert by which the `v`-th shown character, from 0, stands in the text: what undoes that insert, or
-    /// whatever else is said of this character on all sites, names it so. None exactly where `v` isn't below `visible_len`.
-    /// It costs what finding the character's place does: no history is looked through.
+    /// The name of the insert by which the `v`-th shown character, from 0, stands in the text: what undoes that insert names it so.
+    /// The insert may have brought other characters too: a character is named by its insert and its offset there, as `cells` has
+    /// them. None exactly where `v` isn't below `visible_len`. It costs what finding the character's place does: no history is
+    /// looked through.
     pub fn name_at(&self, v: u32) -> Option<Name>
         ensures name { result ≡ option_map (λ c. c.0) (slice_get (shown self.now.history) v) }
         ensures none { IsNone result ↔ (length (shown self.now.history) ≤ v) }
@@ -191,7 +192,7 @@ impl Site {
         self.judge(op).verdict
     }
 
-    // That verdict, with the inserts of the operation's context.
+    // That verdict, with the cells of the operation's context.
     fn judge(&self, op: &Op) -> Judgement
         requires { IsWellFormed (data_of op.now) }
         ensures verdict { result.verdict ≡ verdict_of self.now.history self.now.waiting (data_of op.now) }

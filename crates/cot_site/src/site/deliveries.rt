@@ -49,7 +49,7 @@ impl Site {
         }
     }
 
-    // Integrates the operation, which is next, and whose context, if it is an insert or delete, has so many inserts.
+    // Integrates the operation, which is next, and whose context, if it is an insert or delete, has so many cells.
     pub(super) fn integrate(&mut self, op: Op, cells: u32) -> Result<(), Memory>
         requires next { IsNext self.old.history (data_of op) }
         requires cells { HasCells self.old.history (data_of op) cells }

@@ -1,28 +1,36 @@
 //! Local commands: what the user of a site does.
 
-ghost use Rattle.std.specs.Prelude.{◌≡◌, ◌≢◌, ◌<◌, true, Err, IfOk, OnOk, OnErr, length};
+ghost use Rattle.std.specs.Prelude.{◌≡◌, ◌≢◌, ◌<◌, ◌≤◌, ℕ, true, Err, IfOk, IfErr, List, OnOk, OnErr, length};
 ghost use Rattle.context_diff.specs.Operations.{context_of};
+ghost use Rattle.context_diff.specs.declared.letters.TheConstants.{LETTERS};
 ghost use Rattle.context_diff.specs.Histories.{IsNext, context_of_all, is_known, generation_in};
 ghost use Rattle.context_diff.specs.Replays.{characters_of};
 ghost use Rattle.op_name.specs.declared.member.Member.TheVariants.{Original};
 ghost use Rattle.op_name.specs.declared.member.TheConstants.{GENERATIONS};
 ghost use Rattle.context_diff.specs.Ops.{data_of};
 ghost use Rattle.cot_site.specs.States.{with_last};
-ghost use Rattle.cot_site.specs.Commands.{place_behind, place_of_shown, local_insert, local_delete, local_undo, local_redo, turned, IsAnswer};
-ghost use Rattle.cot_site.specs.Code.Making.{IsNumber, IsContextAnswer, IsGeneration};
+ghost use Rattle.cot_site.specs.Commands.{place_behind, place_of_shown, local_run, local_insert, local_delete, local_undo, local_redo, turned, IsAnswer};
+ghost use Rattle.cot_site.specs.Code.Making.{IsNumber, IsContextAnswer, IsGeneration, IsHead};
 ghost use Rattle.cot_site.specs.Sites.{KeepsForms, IsAsBefore, state_of};
 
 use crate::site::Site;
-use context_diff::{Op, UNDO_ENTRIES};
+use context_diff::{LETTERS, Letters, Op, UNDO_ENTRIES};
 use context_vector::Vector;
 use op_name::{GENERATIONS, Memory, NUMBERS, Name};
 use site_answers::Local;
 use undo_group::generation;
 
+/// What an insert has beside its text.
+#[derive(Drop)]
+struct Head {
+    name: Name,
+    place: u32,
+    context: Vector,
+}
+
 impl Site {
-    /// Inserts a character after `v` shown ones: makes the operation with the site's next number and all
-    /// members of the history as context, integrates it, and answers a copy. Refused by PlaceOut, NumberFull,
-    /// ContextFull or Memory; then nothing is changed, but that after Memory the cache may be empty.
+    /// Inserts a character after `v` shown ones: the insert of a text of one character. Refused, and what stays then, as
+    /// `insert_letters`.
     pub fn insert(&mut self, v: u32, ch: char) -> Result<Op, Local>
         ensures answer { IsAnswer (local_insert (state_of self.old) v ch) result }
         ensures made { IfOk result (λ o. state_of self.new ≡ with_last (state_of self.old) (data_of o)) }
@@ -30,18 +38,44 @@ impl Site {
         ensures err { OnErr result (IsAsBefore self.old self.new) }
         ensures refused { OnErr result (result ≢ Err Local.Memory → self.new ≡ self.old) }
     {
-        self.known();
-        let Some(place) = self.place_behind(v) else {
-            return Err(self.place_out(v));
+        self.insert_letters(v, Letters::one(ch))
+    }
+
+    /// Inserts a text after `v` shown characters: makes one operation, with the site's next number and all
+    /// members of the history as context, integrates it, and answers a copy. Refused by PlaceOut, NumberFull,
+    /// ContextFull or Memory; then nothing is changed, but that after Memory the cache may be empty.
+    pub fn insert_letters(&mut self, v: u32, text: Letters) -> Result<Op, Local>
+        ensures answer { IsAnswer (local_run (state_of self.old) v text) result }
+        ensures made { IfOk result (λ o. state_of self.new ≡ with_last (state_of self.old) (data_of o)) }
+        ensures forms { OnOk result (KeepsForms self.old.forms self.new.forms) }
+        ensures err { OnErr result (IsAsBefore self.old self.new) }
+        ensures refused { OnErr result (result ≢ Err Local.Memory → self.new ≡ self.old) }
+    {
+        match self.head(v) {
+            Ok(head) => self.put(v, head, text),
+            Err(why) => Err(why),
+        }
+    }
+
+    /// The same of these characters, of which there are 1 to `LETTERS`. Refused, and what stays then, as `insert_letters`; out of
+    /// memory also where a list of them finds no room.
+    pub fn insert_run(&mut self, v: u32, text: &[char]) -> Result<Op, Local>
+        requires some { 1 ≤ length text.now }
+        requires most { length text.now ≤ LETTERS }
+        ensures answer { IsAnswer (local_run (state_of self.old) v text.now) result }
+        ensures made { IfOk result (λ o. state_of self.new ≡ with_last (state_of self.old) (data_of o)) }
+        ensures forms { OnOk result (KeepsForms self.old.forms self.new.forms) }
+        ensures err { OnErr result (IsAsBefore self.old self.new) }
+        ensures refused { OnErr result (result ≢ Err Local.Memory → self.new ≡ self.old) }
+    {
+        let head = match self.head(v) {
+            Ok(head) => head,
+            Err(why) => return Err(why),
         };
-        let name = self.next_name()?;
-        let context = self.context()?;
-        self.make(Op::Insert {
-            name,
-            place,
-            ch,
-            context,
-        })
+        match self.replica.letters(text) {
+            Ok(text) => self.put(v, head, text),
+            Err(_) => Err(Local::Memory),
+        }
     }
 
     /// Deletes the `v`-th shown character, from 0: makes the operation with the site's next number and all
@@ -104,7 +138,48 @@ impl Site {
         self.turn(name, generation)
     }
 
-    // The place for a character after `v` shown ones, if there are so many.
+    // What an insert after `v` shown characters has beside its text, or why there is none.
+    fn head(&self, v: u32) -> Result<Head, Local>
+        ensures head { IfOk result (λ h. IsHead (state_of self.now) v h.name h.place h.context.set) }
+        ensures refused { IfErr result (λ e. (text : List ℕ) → IsAnswer (local_run (state_of self.now) v text) (Err e)) }
+    {
+        let Some(place) = self.place_behind(v) else {
+            return Err(self.place_out(v));
+        };
+        let name = self.next_name()?;
+        let context = self.context()?;
+        Ok(Head {
+            name,
+            place,
+            context,
+        })
+    }
+
+    // The insert of the text with this head.
+    fn put(&mut self, v: u32, head: Head, text: Letters) -> Result<Op, Local>
+        requires { IsHead (state_of self.old) v head.name head.place head.context.set }
+        ensures answer { IsAnswer (local_run (state_of self.old) v text) result }
+        ensures made { IfOk result (λ o. state_of self.new ≡ with_last (state_of self.old) (data_of o)) }
+        ensures forms { OnOk result (KeepsForms self.old.forms self.new.forms) }
+        ensures err { OnErr result (IsAsBefore self.old self.new) }
+        ensures refused { OnErr result (result ≢ Err Local.Memory → self.new ≡ self.old) }
+    {
+        self.known();
+        text.known();
+        let Head {
+            name,
+            place,
+            context,
+        } = head;
+        self.make(Op::Insert {
+            name,
+            place,
+            text,
+            context,
+        })
+    }
+
+    // The place for a text after `v` shown characters, if there are so many.
     fn place_behind(&self, v: u32) -> Option<u32>
         ensures { result ≡ place_behind self.now.history v }
     {

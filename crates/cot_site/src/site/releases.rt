@@ -112,7 +112,7 @@ impl Site {
         Ok((self.take(place), verdict))
     }
 
-    // The verdict on the waiting operation at this place, with the inserts of its context.
+    // The verdict on the waiting operation at this place, with the cells of its context.
     fn judgement_at(&self, place: u32) -> Judgement
         requires { place < length self.now.waiting }
         ensures verdict { (o : OpData) → slice_get self.now.waiting place ≡ Some o

@@ -1,7 +1,7 @@
 use Rattle.std.proofs.Common.{ap, sym, subst, ◌∙◌}
 use Rattle.context_vector.specs.Contexts.{ContextData}
 use Rattle.context_diff.specs.Operations.{context_of}
-use Rattle.context_diff.specs.Histories.{inserts_in}
+use Rattle.context_diff.specs.Histories.{cells_in}
 use Rattle.context_diff.specs.Books.{IsJudged}
 use Rattle.context_diff.specs.Ops.{data_of}
 use Rattle.cot_site.proofs.Verdicts.{waiting_is, ready_is, judged_covered, judged_ready}
@@ -18,7 +18,7 @@ returns-in-Some-clause-verdict c =
     (judged_ready h c.known.ensures.valid o c.requires c.in-Some.cells known))
 
 pub returns-in-Some-clause-cells : goal.returns-in-Some-clause-cells
-returns-in-Some-clause-cells c _ _ = c.in-Some.ensures.cells ∙ ap (inserts_in c.args.book.now.ops) c.context.ensures
+returns-in-Some-clause-cells c _ _ = c.in-Some.ensures.cells ∙ ap (cells_in c.args.book.now.ops) c.context.ensures
 
 pub returns-in-None-clause-verdict : goal.returns-in-None-clause-verdict
 returns-in-None-clause-verdict c =

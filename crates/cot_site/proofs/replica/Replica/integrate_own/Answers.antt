@@ -1,5 +1,5 @@
 use Rattle.std.proofs.Common.{◌∙◌, ap, sym}
-use Rattle.context_diff.specs.Histories.{inserts_in, context_of_all}
+use Rattle.context_diff.specs.Histories.{cells_in, context_of_all}
 use Rattle.cot_site.specs.Code.Replicas.{ReplicaData}
 use Rattle.cot_site.proofs.replica.Replica.integrate_own.Goals as goal
 
@@ -8,7 +8,7 @@ integrate_after-requires-clause-knows c = λ sure original. c.requires.own
 
 pub integrate_after-requires-clause-cells : goal.integrate_after-requires-clause-cells
 integrate_after-requires-clause-cells c _ =
-    c.inserts-cells.ensures
-    ∙ (ap (inserts_in c.self.inside.book.ops) c.known.ensures.have
-    ∙ (ap (λ (r : ReplicaData). inserts_in r.history (context_of_all r.history)) c.self.view_is
-    ∙ ap (inserts_in c.args.self.now.history) (sym c.requires.own)))
+    c.cells-cells.ensures
+    ∙ (ap (cells_in c.self.inside.book.ops) c.known.ensures.have
+    ∙ (ap (λ (r : ReplicaData). cells_in r.history (context_of_all r.history)) c.self.view_is
+    ∙ ap (cells_in c.args.self.now.history) (sym c.requires.own)))

@@ -1,0 +1,4 @@
+use Rattle.cot_site.proofs.site.Site.insert_run.Goals as goal
+
+pub returns-in-Err-clause-answer : goal.returns-in-Err-clause-answer
+returns-in-Err-clause-answer c = c.in-Err.ensures.refused c.args.text.now
