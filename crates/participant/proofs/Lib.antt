@@ -1,3 +1,4 @@
 pub mod CallerLemmas
 mod Later
 mod EditRuns
+mod Pieces

@@ -5,7 +5,7 @@ use Rattle.context_diff.specs.declared.op.Op.{Op}
 use Rattle.context_diff.specs.Ops.{data_of}
 use Rattle.site_answers.specs.declared.local.Local.{Local}
 use Rattle.cot_site.specs.States.{State}
-use Rattle.cot_site.specs.Commands.{local_insert, local_delete, local_undo, local_redo, IsAnswer}
+use Rattle.cot_site.specs.Commands.{local_run, local_delete, local_undo, local_redo, IsAnswer}
 use Rattle.participant.specs.declared.edits.Edit.{Edit}
 use Rattle.participant.specs.declared.edits.Edit.TheVariants.{Insert, Delete, Undo, Redo}
 use Rattle.participant.specs.declared.edits.Stopped.{Stopped}
@@ -14,7 +14,7 @@ use Rattle.participant.specs.Reached.{Reached, with_one, all_settled, IsHalfSett
 
 -- the operation that an edit makes at a site, or why there is none
 abbrev pub made_by : Edit → State → Result OpData Local
-made_by (Insert v ch) s = local_insert s v ch
+made_by (Insert v text) s = local_run s v text
 made_by (Delete v) s = local_delete s v
 made_by (Undo t) s = local_undo s t
 made_by (Redo t) s = local_redo s t

@@ -1,7 +1,8 @@
 -- Runs of edits, one after the other, each with the releases after it.
-use Rattle.std.specs.Prelude.{⊤, ◌≡◌, ◌⊎◌, ℕ, zero, suc, ◌+◌, max, Bool, true, false, List, [], ◌∷◌, map, reverse, Option, Some, None, Result, Ok, Err, if◌then◌else◌}
+use Rattle.std.specs.Prelude.{⊤, ◌≡◌, ◌⊎◌, ℕ, zero, suc, ◌+◌, max, Bool, true, false, List, [], ◌∷◌, map, reverse, Option, Some, None, Result, Ok, Err, if◌then◌else◌, length, take, drop}
 use Rattle.op_name.specs.NameData.{NameData}
 use Rattle.context_diff.specs.Operations.{OpData}
+use Rattle.context_diff.specs.declared.letters.TheConstants.{LETTERS}
 use Rattle.site_answers.specs.declared.local.Local.{Local}
 use Rattle.site_answers.specs.declared.local.Local.TheVariants as local
 use Rattle.site_answers.specs.declared.release.Release.{Release}
@@ -17,10 +18,32 @@ use Rattle.participant.specs.Edits.{made_by, IsLeftUnsettled}
 
 -- ---- the edits of a run
 
--- the characters of a text are inserted after so many shown ones, each at the place behind the one before it
-unfoldable pub inserts : ℕ → List ℕ → List Edit
-inserts v [] = []
-inserts v (ch ∷ cs) = Insert v ch ∷ inserts (v + 1) cs
+-- each character of a text by itself
+abbrev pub letters : List ℕ → List (List ℕ)
+letters text = map (λ ch. ch ∷ []) text
+
+-- a text is cut from the front into pieces of LETTERS characters and a shorter last one, into at most so many
+unfoldable pub cut : ℕ → List ℕ → List (List ℕ)
+cut most [] = []
+cut zero (ch ∷ cs) = []
+cut (suc most) (ch ∷ cs) = take LETTERS (ch ∷ cs) ∷ cut most (drop LETTERS (ch ∷ cs))
+
+-- the pieces of a text, which are no more than its characters: each may be the text of an insert, and a text without characters has none
+unfoldable pub pieces : List ℕ → List (List ℕ)
+pieces text = cut (length text) text
+
+-- pieces are inserted after so many shown characters, each at the place behind the one before it
+unfoldable pub puts : ℕ → List (List ℕ) → List Edit
+puts v [] = []
+puts v (piece ∷ ps) = Insert v piece ∷ puts (v + length piece) ps
+
+-- a text is inserted, one edit for each character
+abbrev pub inserts : ℕ → List ℕ → List Edit
+inserts v text = puts v (letters text)
+
+-- a text is inserted, one edit for each of its pieces
+abbrev pub runs : ℕ → List ℕ → List Edit
+runs v text = puts v (pieces text)
 
 -- so many shown characters are deleted, one after the other, each at this place
 unfoldable pub deletes : ℕ → ℕ → List Edit
@@ -78,7 +101,7 @@ is_in_force local.Memory = false
 
 -- an edit for which there is no operation, for this reason, is passed over: there is nothing to undo, or nothing to redo
 abbrev pub is_passed : Edit → Local → Bool
-is_passed (Insert v ch) why = false
+is_passed (Insert v text) why = false
 is_passed (Delete v) why = false
 is_passed (Undo t) why = is_undone why
 is_passed (Redo t) why = is_in_force why

@@ -1,6 +1,7 @@
 //! One edit of a site's user, with the releases after it.
 
-ghost use Rattle.std.specs.Prelude.{◌≡◌, ◌<◌, IfOk, OnOk, OnErr, length};
+ghost use Rattle.std.specs.Prelude.{◌≡◌, ◌+◌, ◌<◌, ◌≤◌, IfOk, OnOk, OnErr, length};
+ghost use Rattle.context_diff.specs.Histories.{all_cells};
 ghost use Rattle.context_diff.specs.Ops.{data_of};
 ghost use Rattle.cot_site.specs.Commands.{IsAnswer};
 ghost use Rattle.cot_site.specs.Releases.{IsLater};
@@ -8,16 +9,18 @@ ghost use Rattle.cot_site.specs.Sites.{state_of};
 ghost use Rattle.cot_site.specs.States.{with_last, IsSettled};
 ghost use Rattle.participant.specs.Reached.{at};
 ghost use Rattle.participant.specs.Edits.{made_by, IsDone, HasMade};
+ghost use Rattle.participant.specs.Code.Running.{IsReleased};
 
-use context_diff::Op;
+use crate::releases::release_all;
+use context_diff::{LETTERS, Letters, Op};
 use cot_site::{Local, Release, Site};
 use op_name::{Memory, Name};
 
 /// What the user of a site does. Places count shown characters.
-#[derive(Clone, Copy, Debug)]
+#[derive(Drop)]
 pub enum Edit {
-    /// Inserts a character after so many shown ones.
-    Insert { place: u32, ch: char },
+    /// Inserts a text after so many shown characters.
+    Insert { place: u32, text: Letters },
     /// Deletes the shown character at this place, from 0.
     Delete { place: u32 },
     /// Undoes the insert or delete of this name, whoever made it.
@@ -47,13 +50,29 @@ pub fn do_edit(site: &mut Site, edit: &Edit, released: &mut Vec<Release>) -> Res
     ensures longer { HasMade result → length site.old.history < length site.new.history }
 {
     match make(site, edit) {
-        Ok(op) => {
-            site.known();
-            match site.settle(released) {
-                Ok(()) => Ok(op),
-                Err(Memory) => Err(Stopped::Unsettled),
-            }
-        }
+        Ok(op) => release_after(site, op, released),
+        Err(why) => Err(Stopped::Refused { why }),
+    }
+}
+
+// The same of an insert of these characters. The text has those before it and its own, once it is made.
+pub(crate) fn do_insert(
+    site: &mut Site,
+    place: u32,
+    text: &[char],
+    released: &mut Vec<Release>,
+) -> Result<Op, Stopped>
+    requires some { 1 ≤ length text.now }
+    requires most { length text.now ≤ LETTERS }
+    ensures done { IsDone (made_by (Edit.Insert place text.now) (state_of site.old)) (at site.old released.old.items) result
+        (at site.new released.new.items) }
+    ensures settled { OnOk result (IsSettled (state_of site.new)) }
+    ensures later { IsLater (state_of site.old) (state_of site.new) }
+    ensures longer { HasMade result → length site.old.history < length site.new.history }
+    ensures room { OnOk result (place + length text.now ≤ all_cells site.new.history) }
+{
+    match site.insert_run(place, text) {
+        Ok(op) => release_after(site, op, released),
         Err(why) => Err(Stopped::Refused { why }),
     }
 }
@@ -65,9 +84,24 @@ fn make(site: &mut Site, edit: &Edit) -> Result<Op, Local>
     ensures err { OnErr result (state_of site.new ≡ state_of site.old) }
 {
     match edit {
-        Edit::Insert { place, ch } => site.insert(*place, *ch),
+        Edit::Insert { place, text } => {
+            text.known();
+            site.insert_run(*place, text.as_slice())
+        }
         Edit::Delete { place } => site.delete(*place),
         Edit::Undo { name } => site.undo(*name),
         Edit::Redo { name } => site.redo(*name),
+    }
+}
+
+// Releases until none is ready, after this operation was made, which is answered.
+fn release_after(site: &mut Site, op: Op, released: &mut Vec<Release>) -> Result<Op, Stopped>
+    ensures done { IsReleased (data_of op) (at site.old released.old.items) result (at site.new released.new.items) }
+    ensures settled { OnOk result (IsSettled (state_of site.new)) }
+    ensures later { IsLater (state_of site.old) (state_of site.new) }
+{
+    match release_all(site, released) {
+        Ok(()) => Ok(op),
+        Err(Memory) => Err(Stopped::Unsettled),
     }
 }

@@ -5,9 +5,12 @@
 #![tactic(auto)]
 
 mod edits;
+mod laws;
+mod releases;
 mod runs;
 mod taking;
 
 pub use edits::{Edit, Stopped, do_edit};
-pub use runs::{Run, delete_range, insert_text, redo_all, undo_all};
+pub use laws::pieces_are_the_text;
+pub use runs::{Run, delete_range, insert_runs, insert_text, redo_all, undo_all};
 pub use taking::{Taking, Untaken, is_had, is_refusal, take_in};

@@ -6,12 +6,14 @@ ghost use Rattle.cot_site.specs.Releases.{IsLater};
 ghost use Rattle.cot_site.specs.Sites.{state_of};
 ghost use Rattle.cot_site.specs.States.{IsSettled};
 ghost use Rattle.participant.specs.Reached.{at};
-ghost use Rattle.participant.specs.Runs.{inserts, deletes, undos, redos, past_end, progress, is_passed, after_edit, StopsAt, IsRun};
+ghost use Rattle.participant.specs.Runs.{inserts, runs, pieces, deletes, undos, redos, past_end, progress, is_passed, after_edit, StopsAt, IsRun};
 ghost use Rattle.participant.specs.Code.Running.{turning, IsStop};
 
-use crate::edits::{Edit, Stopped, do_edit};
+use crate::edits::{Edit, Stopped, do_edit, do_insert};
+use context_diff::LETTERS;
 use cot_site::{Local, Release, Site};
 use op_name::Name;
+use std::slice;
 
 /// What a run of edits did.
 #[derive(Clone, Copy, Debug)]
@@ -38,8 +40,7 @@ pub fn insert_text(site: &mut Site, place: u32, text: &str, released: &mut Vec<R
     let mut made = 0;
     let mut next = place;
     for ch in text.chars() {
-        site.known();
-        match step(site, Edit::Insert { place: next, ch }, &mut made, released) {
+        match put(site, next, slice::from_ref(&ch), &mut made, released) {
             Ok(()) => next += 1,
             Err(why) => {
                 return Run {
@@ -48,6 +49,39 @@ pub fn insert_text(site: &mut Site, place: u32, text: &str, released: &mut Vec<R
                 };
             }
         }
+    }
+    Run { made, end: Ok(()) }
+}
+
+/// Inserts a text after so many shown characters by as few operations as do: it is cut from the front into pieces of `LETTERS` characters
+/// and a shorter last one, and each piece is one insert, after the one before it. After each it releases everything that is ready. Each
+/// release is appended.
+///
+/// A place counts what is shown at that moment: where the release after a piece shows or hides characters before its end, the next piece
+/// stands among others. It stops at the first piece that is refused, as `Site::insert_run` says: at once, by PlaceOut, where the text
+/// shows fewer characters. Those before it stay inserted. A text without characters is refused nowhere.
+pub fn insert_runs(site: &mut Site, place: u32, text: &[char], released: &mut Vec<Release>) -> Run
+    ensures run { IsRun (runs place text.now) (at site.old released.old.items) result (at site.new released.new.items) }
+    ensures within { result.made ≤ length text.now }
+    ensures whole { OnOk result.end (result.made ≡ length (pieces text.now)) }
+    ensures settled { IsSettled (state_of site.old) → result.end ≢ Err Stopped.Unsettled → IsSettled (state_of site.new) }
+    ensures later { IsLater (state_of site.old) (state_of site.new) }
+{
+    let mut made = 0;
+    let mut next = place;
+    let mut rest = text;
+    while !rest.is_empty() {
+        let (piece, behind) = rest.split_at((LETTERS as usize).min(rest.len()));
+        match put(site, next, piece, &mut made, released) {
+            Ok(()) => next += piece.len() as u32,
+            Err(why) => {
+                return Run {
+                    made,
+                    end: Err(why),
+                };
+            }
+        }
+        rest = behind;
     }
     Run { made, end: Ok(()) }
 }
@@ -171,6 +205,41 @@ fn turning(name: Name, redo: bool) -> Edit
         Edit::Redo { name }
     } else {
         Edit::Undo { name }
+    }
+}
+
+// One insert of a run that has made so many operations, of which the history has each. The place behind its text is a number yet.
+fn put(
+    site: &mut Site,
+    place: u32,
+    text: &[char],
+    made: &mut u32,
+    released: &mut Vec<Release>,
+) -> Result<(), Stopped>
+    requires counted { made.old ≤ length site.old.history }
+    requires some { 1 ≤ length text.now }
+    requires most { length text.now ≤ LETTERS }
+    ensures next { OnOk result (after_edit (Edit.Insert place text.now) (progress site.old released.old.items made.old)
+        ≡ Some (progress site.new released.new.items made.new)) }
+    ensures stop { OnErr result (StopsAt (Edit.Insert place text.now) (progress site.old released.old.items made.old) result
+        (progress site.new released.new.items made.new)) }
+    ensures count { made.new ≤ length site.new.history }
+    ensures one { made.new ≤ made.old + 1 }
+    ensures room { OnOk result (place + length text.now ≤ u32.MAX) }
+    ensures settled { IsSettled (state_of site.old) → result ≢ Err Stopped.Unsettled → IsSettled (state_of site.new) }
+    ensures later { IsLater (state_of site.old) (state_of site.new) }
+{
+    match do_insert(site, place, text, released) {
+        Ok(_made) => {
+            site.book().known();
+            count(site, made);
+            Ok(())
+        }
+        Err(Stopped::Unsettled) => {
+            count(site, made);
+            Err(Stopped::Unsettled)
+        }
+        Err(Stopped::Refused { why }) => Err(Stopped::Refused { why }),
     }
 }
 

@@ -9,6 +9,7 @@ ghost use Rattle.cot_site.specs.States.{judged, delivered, IsSettled};
 ghost use Rattle.participant.specs.Reached.{at, all_settled, IsHalfSettled};
 ghost use Rattle.participant.specs.Taking.{is_refusal, is_had, takes, taken_in, IsUntaken};
 
+use crate::releases::release_all;
 use context_diff::Op;
 use cot_site::{Release, Site, Verdict};
 use op_name::Memory;
@@ -110,8 +111,7 @@ fn settle_after(
     ensures settled { OnOk result (IsSettled (state_of site.new)) }
     ensures later { IsLater (state_of site.old) (state_of site.new) }
 {
-    site.known();
-    match site.settle(released) {
+    match release_all(site, released) {
         Ok(()) => Ok(verdict),
         Err(Memory) => Err(Untaken::Unsettled { verdict }),
     }

@@ -4,7 +4,7 @@ use Rattle.cot_site.specs.Sites.{state_of}
 use Rattle.cot_site.specs.States.{IsSettled}
 use Rattle.cot_site.proofs.CallerLemmas.{settled_settles}
 use Rattle.participant.proofs.Later.{sound_of, later_settled, later_half}
-use Rattle.participant.proofs.taking.settle_after.Goals as goal
+use Rattle.participant.proofs.releases.release_all.Goals as goal
 
 pub returns-in-Ok-clause-settled : goal.returns-in-Ok-clause-settled
 returns-in-Ok-clause-settled c =
