@@ -199,32 +199,32 @@ context_reads =
 -- ---- operations
 
 pub context_of-op_of : (h : Head) (c : ContextData) → context_of (op_of h c) ≡ c
-context_of-op_of (Insert n p ch) c = refl
+context_of-op_of (Insert n p text) c = refl
 context_of-op_of (Delete n p) c = refl
 context_of-op_of (Undo a t g) c = refl
 
 head_of-op_of : (h : Head) (c : ContextData) → head_of (op_of h c) ≡ h
-head_of-op_of (Insert n p ch) c = refl
+head_of-op_of (Insert n p text) c = refl
 head_of-op_of (Delete n p) c = refl
 head_of-op_of (Undo a t g) c = refl
 
 op_of-head_of : (o : OpData) → op_of (head_of o) (context_of o) ≡ o
-op_of-head_of (inserting n p ch c) = refl
+op_of-head_of (inserting n p text c) = refl
 op_of-head_of (deleting n p c) = refl
 op_of-head_of (undoing a t g c) = refl
 
 in_range_from : (o : OpData) → IsHead (head_of o) → FitsContext (context_of o) → IsInRange o
-in_range_from (inserting n p ch c) h f = (h.0, h.1.0.1, h.1.1, f.is, f.few)
-in_range_from (deleting n p c) h f = (h.0, h.1.1, f.is, f.few)
+in_range_from (inserting n p text c) h f = (h.0, h.1.0, h.1.1, f.is, f.few)
+in_range_from (deleting n p c) h f = (h.0, h.1, f.is, f.few)
 in_range_from (undoing a t g c) h f = (omega (arith, h.0.1), h.1.0, h.1.1.0, h.1.1.1, f.is, f.few)
 
 head_in_range : (o : OpData) → IsInRange o → IsHead (head_of o)
-head_in_range (inserting n p ch c) h = (h.0, ((omega arith, h.1), h.2))
-head_in_range (deleting n p c) h = (h.0, (omega arith, h.1))
+head_in_range (inserting n p text c) h = (h.0, (h.1, h.2))
+head_in_range (deleting n p c) h = (h.0, h.1)
 head_in_range (undoing a t g c) h = ((omega arith, omega (arith, h.0)), (h.1, (h.2, h.3)))
 
 pub context_in_range : (o : OpData) → IsInRange o → FitsContext (context_of o)
-context_in_range (inserting n p ch c) h = record { is = h.3; few = h.4 }
+context_in_range (inserting n p text c) h = record { is = h.3; few = h.4 }
 context_in_range (deleting n p c) h = record { is = h.2; few = h.3 }
 context_in_range (undoing a t g c) h = record { is = h.4; few = h.5 }
 

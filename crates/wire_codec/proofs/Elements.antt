@@ -4,7 +4,7 @@ use Rattle.std.proofs.Math.Nat.{mul-suc, mul-zero}
 use Rattle.std.proofs.lemmas.List.{append-nil, length-append, length-drop, drop-drop, take_at, drop_at}
 use Rattle.wire_codec.specs.declared.fault.Fault.{Fault}
 use Rattle.wire_codec.specs.Reading.{LeftData, Found, ◌>>=◌, many}
-use Rattle.wire_codec.specs.Code.Sections.{elements}
+use Rattle.wire_codec.specs.Code.Elements.{elements}
 use Rattle.wire_codec.proofs.Steps.{IsBytes, IsBytes-drop}
 use Rattle.wire_codec.proofs.TwoWays.{Reads}
 

@@ -1,26 +1,27 @@
 -- The fields of operations, both ways.
-use Rattle.std.proofs.Common.{◌≡◌, ℕ, ◌<◌, ◌≤◌, ◌^◌, ltb, true, ◌++◌, Ok, refl, sym, ap, subst, arith, inl, inr}
+use Rattle.std.proofs.Common.{◌≡◌, ℕ, ◌<◌, ◌≤◌, ◌^◌, ltb, true, List, [], ◌++◌, length, Ok, refl, sym, ap, subst, arith, inl, inr}
 use Rattle.std.specs.Int.{w8, w16, w32, to_be_bytes}
-use Rattle.std.specs.Char.{IsScalar}
+use Rattle.std.specs.List.{flat_map}
 use Rattle.std.proofs.lemmas.Bool.{ltb-true, lt-ltb, cases_eq}
-use Rattle.std.proofs.Math.Utf8.{scalar, scalar_fits}
 use Rattle.op_name.specs.NameData.{NameData, IsName}
 use Rattle.op_name.specs.declared.name.TheConstants.{NUMBERS}
 use Rattle.op_name.specs.declared.member.TheConstants.{GENERATIONS}
+use Rattle.context_diff.specs.Operations.{IsLetters}
 use Rattle.context_diff.specs.declared.op.TheConstants.{PLACES}
-use Rattle.wire_codec.specs.declared.cause.Cause.TheVariants.{Range, Kind, Char}
+use Rattle.wire_codec.specs.declared.cause.Cause.TheVariants.{Range, Kind}
 use Rattle.wire_codec.specs.declared.head.Head.{Head}
 use Rattle.wire_codec.specs.declared.head.Head.TheVariants.{Insert, Delete, Undo}
-use Rattle.wire_codec.specs.Spelling.{site_width, site_bytes, name_bytes, kind_of, field_bytes, head_bytes}
-use Rattle.wire_codec.specs.Reading.{LeftData, ◌>>=◌, number, last_site, kind_at, site_at, number_at, place_at, char_at, generation_at, name_at, insert_at, delete_at, undo_at, fields_at, head_at}
+use Rattle.wire_codec.specs.Spelling.{site_width, site_bytes, name_bytes, insert_kind, kind_of, length_bytes, character_bytes, text_bytes, field_bytes, head_bytes}
+use Rattle.wire_codec.specs.Reading.{LeftData, ◌>>=◌, number, last_site, kind_at, site_at, number_at, place_at, generation_at, name_at, length_at, characters_at, insert_at, delete_at, undo_at, fields_at, head_at}
 use Rattle.wire_codec.proofs.TwoWays.{Reads, bind, mapped, in_words, tested_reads}
 use Rattle.wire_codec.proofs.Numbers.{wide8, wide16, wide32, number_reads, bounded_reads}
+use Rattle.wire_codec.proofs.InsertTexts.{insert_kinds, IsLengthOf, one_reads, more_reads, AreCharacters, characters_reads}
 
 abbrev pub IsSite : ℕ → Type 0
 IsSite s = (0 ≤ s) × (s ≤ last_site)
 
 abbrev pub IsPlace : ℕ → Type 0
-IsPlace p = (0 ≤ p) × (p ≤ PLACES)
+IsPlace p = p ≤ PLACES
 
 abbrev pub IsGeneration : ℕ → Type 0
 IsGeneration g = (1 ≤ g) × (g ≤ GENERATIONS)
@@ -30,7 +31,7 @@ IsNamed n = IsName n.site n.number
 
 -- the ranges of the fields before a context
 abbrev pub IsHead : Head → Type 0
-IsHead (Insert n p ch) = IsNamed n × (IsPlace p × IsScalar ch)
+IsHead (Insert n p text) = IsNamed n × (IsPlace p × IsLetters text)
 IsHead (Delete n p) = IsNamed n × IsPlace p
 IsHead (Undo a t g) = IsSite a × (IsNamed t × IsGeneration g)
 
@@ -38,13 +39,9 @@ pub site_reads : Reads site_at site_bytes IsSite
 site_reads = bounded_reads site_width (2 ^ 8) wide8 0 last_site Range (omega arith)
 
 pub place_reads : Reads place_at (to_be_bytes w32) IsPlace
-place_reads = bounded_reads w32 (2 ^ 32) wide32 0 PLACES Range (omega arith)
-
-char_reads : Reads char_at (to_be_bytes w32) IsScalar
-char_reads =
-    in_words char_at (to_be_bytes w32) (to_be_bytes w32) (λ c. (c < 2 ^ 32) × (scalar c ≡ true)) IsScalar
-    (tested_reads scalar Char (number w32) (to_be_bytes w32) (λ c. c < 2 ^ 32) (number_reads w32 (2 ^ 32) wide32))
-    (λ c h. h.1) (λ c h. (scalar_fits c h, h)) (λ c h. refl)
+place_reads =
+    in_words place_at (to_be_bytes w32) (to_be_bytes w32) (λ p. p < 2 ^ 32) IsPlace (number_reads w32 (2 ^ 32) wide32)
+    (λ p h. omega (arith, h)) (λ p h. omega (arith, h)) (λ p h. refl)
 
 generation_reads : Reads generation_at (to_be_bytes w16) IsGeneration
 generation_reads =
@@ -72,27 +69,27 @@ name_reads =
 -- ---- heads
 
 abbrev name_in : Head → NameData
-name_in (Insert n p ch) = n
+name_in (Insert n p text) = n
 name_in (Delete n p) = n
 name_in (Undo a t g) = t
 
 abbrev place_in : Head → ℕ
-place_in (Insert n p ch) = p
+place_in (Insert n p text) = p
 place_in (Delete n p) = p
 place_in (Undo a t g) = 0
 
-abbrev char_in : Head → ℕ
-char_in (Insert n p ch) = ch
-char_in (Delete n p) = 0
-char_in (Undo a t g) = 0
+abbrev text_in : Head → List ℕ
+text_in (Insert n p text) = text
+text_in (Delete n p) = []
+text_in (Undo a t g) = []
 
 abbrev author_in : Head → ℕ
-author_in (Insert n p ch) = 0
+author_in (Insert n p text) = 0
 author_in (Delete n p) = 0
 author_in (Undo a t g) = a
 
 abbrev generation_in : Head → ℕ
-generation_in (Insert n p ch) = 0
+generation_in (Insert n p text) = 0
 generation_in (Delete n p) = 0
 generation_in (Undo a t g) = g
 
@@ -100,39 +97,72 @@ generation_in (Undo a t g) = g
 abbrev OfKind : ℕ → Head → Type 0
 OfKind kind h = IsHead h × (kind_of h ≡ kind)
 
-abbrev InsertParts : Head → Type 0
-InsertParts h = IsNamed (name_in h) × (IsPlace (place_in h) × (IsScalar (char_in h) × (Insert (name_in h) (place_in h) (char_in h) ≡ h)))
+-- a text, and that it is the head's
+abbrev TextParts : NameData → ℕ → ℕ → Head → Type 0
+TextParts n p len h = AreCharacters len (text_in h) × (Insert n p (text_in h) ≡ h)
 
-insert_of : (h : Head) → OfKind 1 h → InsertParts h
-insert_of (Insert n p ch) f = (f.0.0, (f.0.1.0, (f.0.1.1, refl)))
-insert_of (Delete n p) f = absurd (let no = f.1 in omega arith)
-insert_of (Undo a t g) f = absurd (let no = f.1 in omega arith)
+abbrev InsertParts : ℕ → Head → Type 0
+InsertParts kind h =
+    IsNamed (name_in h)
+    × (IsPlace (place_in h)
+    × (IsLengthOf kind (length (text_in h)) × TextParts (name_in h) (place_in h) (length (text_in h)) h))
 
-insert_reads : Reads insert_at field_bytes (OfKind 1)
-unfolding insert_at
-insert_reads =
-    in_words insert_at (λ h. name_bytes (name_in h) ++ (to_be_bytes w32 (place_in h) ++ to_be_bytes w32 (char_in h))) field_bytes
-    InsertParts (OfKind 1)
-    (bind {X = Head} name_at (λ n m. place_at m >>= λ p. ◌>>=◌ {B = Head × LeftData} (char_at p.1) (λ c. Ok (Insert n p.0 c.0, c.1)))
-    name_bytes (λ h. to_be_bytes w32 (place_in h) ++ to_be_bytes w32 (char_in h)) IsNamed
-    (λ n h. IsPlace (place_in h) × (IsScalar (char_in h) × (Insert n (place_in h) (char_in h) ≡ h))) name_in
-    name_reads
-    (λ n _. bind {X = Head} place_at (λ p m. ◌>>=◌ {B = Head × LeftData} (char_at m) (λ c. Ok (Insert n p c.0, c.1)))
-    (to_be_bytes w32) (λ h. to_be_bytes w32 (char_in h)) IsPlace
-    (λ p h. IsScalar (char_in h) × (Insert n p (char_in h) ≡ h)) place_in
-    place_reads
-    (λ p _. mapped char_at (to_be_bytes w32) IsScalar (λ c. Insert n p c) char_in char_reads (λ c. refl))
-    (λ p h e. ap place_in (sym e.1)))
-    (λ n h e. ap name_in (sym e.1.1)))
-    (λ h f. subst (OfKind 1) f.1.1.1 ((f.0, (f.1.0, f.1.1.0)), refl))
-    insert_of
-    (λ h f. ap field_bytes f.1.1.1)
+module _ (kind : ℕ) (no_delete : kind ≡ 2 → ⊥) (no_undo : kind ≡ 3 → ⊥) (lens : Reads (length_at kind) length_bytes (IsLengthOf kind)) where
+  insert_of : (h : Head) → OfKind kind h → InsertParts kind h
+  insert_of (Insert n p text) f =
+      let letters = f.0.1.1 in
+      let long : IsLengthOf kind (length text) = record { some = letters.some; most = letters.most; is = f.1 } in
+      (f.0.0, (f.0.1.0, (long, (record { len = refl; scalars = letters.scalars }, refl))))
+  insert_of (Delete n p) f = absurd (no_delete (sym f.1))
+  insert_of (Undo a t g) f = absurd (no_undo (sym f.1))
+
+  of_insert : (h : Head) → InsertParts kind h → OfKind kind h
+  of_insert h f =
+      let long = f.1.1.0 in
+      let letters : IsLetters (text_in h) = record { some = long.some; most = long.most; scalars = f.1.1.1.0.scalars } in
+      subst (OfKind kind) f.1.1.1.1 ((f.0, (f.1.0, letters)), long.is)
+
+  insert_reads : Reads (insert_at kind) field_bytes (OfKind kind)
+  unfolding insert_at
+  insert_reads =
+      in_words (insert_at kind) (λ h. name_bytes (name_in h) ++ (to_be_bytes w32 (place_in h) ++ text_bytes (text_in h))) field_bytes
+      (InsertParts kind) (OfKind kind)
+      (bind {X = Head} name_at
+      (λ n m. place_at m >>= λ p. length_at kind p.1 >>= λ k. ◌>>=◌ {B = Head × LeftData} (characters_at k.0 k.1)
+      (λ t. Ok (Insert n p.0 t.0, t.1)))
+      name_bytes (λ h. to_be_bytes w32 (place_in h) ++ text_bytes (text_in h)) IsNamed
+      (λ n h. IsPlace (place_in h) × (IsLengthOf kind (length (text_in h)) × TextParts n (place_in h) (length (text_in h)) h)) name_in
+      name_reads
+      (λ n _. bind {X = Head} place_at
+      (λ p m. length_at kind m >>= λ k. ◌>>=◌ {B = Head × LeftData} (characters_at k.0 k.1) (λ t. Ok (Insert n p t.0, t.1)))
+      (to_be_bytes w32) (λ h. text_bytes (text_in h)) IsPlace
+      (λ p h. IsLengthOf kind (length (text_in h)) × TextParts n p (length (text_in h)) h) place_in
+      place_reads
+      (λ p _. bind {X = Head} (length_at kind)
+      (λ k m. ◌>>=◌ {B = Head × LeftData} (characters_at k m) (λ t. Ok (Insert n p t.0, t.1)))
+      length_bytes (λ h. flat_map character_bytes (text_in h)) (IsLengthOf kind) (TextParts n p) (λ h. length (text_in h))
+      lens
+      (λ k _. mapped (characters_at k) (flat_map character_bytes) (AreCharacters k) (λ t. Insert n p t) text_in (characters_reads k)
+      (λ t. refl))
+      (λ k h e. e.0.len))
+      (λ p h e. ap place_in (sym e.1.1)))
+      (λ n h e. ap name_in (sym e.1.1.1)))
+      of_insert
+      insert_of
+      (λ h f. ap field_bytes f.1.1.1.1)
+
+-- a kind between 1 and 4 is none of an insert
+no_insert_kind : (kind len : ℕ) → insert_kind len ≡ kind → 1 < kind → kind < 4 → ⊥
+no_insert_kind kind len e low high = elim (insert_kinds len) [
+  | inl one ↦ omega (arith, e, one.0, low)
+  | inr more ↦ omega (arith, e, more.0, high)
+]
 
 abbrev DeleteParts : Head → Type 0
 DeleteParts h = IsNamed (name_in h) × (IsPlace (place_in h) × (Delete (name_in h) (place_in h) ≡ h))
 
 delete_of : (h : Head) → OfKind 2 h → DeleteParts h
-delete_of (Insert n p ch) f = absurd (let no = f.1 in omega arith)
+delete_of (Insert n p text) f = absurd (no_insert_kind 2 (length text) f.1 (omega arith) (omega arith))
 delete_of (Delete n p) f = (f.0.0, (f.0.1, refl))
 delete_of (Undo a t g) f = absurd (let no = f.1 in omega arith)
 
@@ -155,7 +185,7 @@ UndoParts h =
     IsSite (author_in h) × (IsNamed (name_in h) × (IsGeneration (generation_in h) × (Undo (author_in h) (name_in h) (generation_in h) ≡ h)))
 
 undo_of : (h : Head) → OfKind 3 h → UndoParts h
-undo_of (Insert n p ch) f = absurd (let no = f.1 in omega arith)
+undo_of (Insert n p text) f = absurd (no_insert_kind 3 (length text) f.1 (omega arith) (omega arith))
 undo_of (Delete n p) f = absurd (let no = f.1 in omega arith)
 undo_of (Undo a t g) f = (f.0.0, (f.0.1.0, (f.0.1.1, refl)))
 
@@ -179,26 +209,34 @@ undo_reads =
     undo_of
     (λ h f. ap field_bytes f.1.1.1)
 
-fields_reads : (kind : ℕ) → (1 ≤ kind) × (kind ≤ 3) → Reads (fields_at kind) field_bytes (OfKind kind)
+fields_reads : (kind : ℕ) → (1 ≤ kind) × (kind ≤ 4) → Reads (fields_at kind) field_bytes (OfKind kind)
 fields_reads kind h =
     let Law : ℕ → Type 0 = λ k. Reads (fields_at k) field_bytes (OfKind k) in
-    elim (cases_eq kind 1) [
-      | inl one ↦ subst Law (sym one) insert_reads
-      | inr not_one ↦ elim (cases_eq kind 2) [
-        | inl two ↦ subst Law (sym two) delete_reads
-        | inr not_two ↦ let three : kind ≡ 3 = omega (arith, h.0, h.1, not_one, not_two) in subst Law (sym three) undo_reads
+    elim (cases_eq kind 2) [
+      | inl two ↦ subst Law (sym two) delete_reads
+      | inr not_two ↦ elim (cases_eq kind 3) [
+        | inl three ↦ subst Law (sym three) undo_reads
+        | inr not_three ↦ elim (cases_eq kind 1) [
+          | inl one ↦ subst Law (sym one) (insert_reads 1 (λ e. omega (arith, e)) (λ e. omega (arith, e)) one_reads)
+          | inr not_one ↦
+              let four : kind ≡ 4 = omega (arith, h.0, h.1, not_one, not_two, not_three) in
+              subst Law (sym four) (insert_reads 4 (λ e. omega (arith, e)) (λ e. omega (arith, e)) more_reads)
+        ]
       ]
     ]
 
-kind_is : (h : Head) → (1 ≤ kind_of h) × (kind_of h ≤ 3)
-kind_is (Insert n p ch) = (omega arith, omega arith)
+kind_is : (h : Head) → (1 ≤ kind_of h) × (kind_of h ≤ 4)
+kind_is (Insert n p text) = elim (insert_kinds (length text)) [
+  | inl one ↦ (omega (arith, one.0), omega (arith, one.0))
+  | inr more ↦ (omega (arith, more.0), omega (arith, more.0))
+]
 kind_is (Delete n p) = (omega arith, omega arith)
 kind_is (Undo a t g) = (omega arith, omega arith)
 
 pub head_reads : Reads head_at head_bytes IsHead
 unfolding head_at head_bytes
 head_reads =
-    in_words head_at head_bytes head_bytes (λ h. ((1 ≤ kind_of h) × (kind_of h ≤ 3)) × OfKind (kind_of h) h) IsHead
-    (bind kind_at (λ k m. fields_at k m) (to_be_bytes w8) field_bytes (λ k. (1 ≤ k) × (k ≤ 3)) OfKind kind_of
-    (bounded_reads w8 (2 ^ 8) wide8 1 3 Kind (omega arith)) fields_reads (λ k h f. f.1))
+    in_words head_at head_bytes head_bytes (λ h. ((1 ≤ kind_of h) × (kind_of h ≤ 4)) × OfKind (kind_of h) h) IsHead
+    (bind kind_at (λ k m. fields_at k m) (to_be_bytes w8) field_bytes (λ k. (1 ≤ k) × (k ≤ 4)) OfKind kind_of
+    (bounded_reads w8 (2 ^ 8) wide8 1 4 Kind (omega arith)) fields_reads (λ k h f. f.1))
     (λ h f. f.1.0) (λ h f. (kind_is h, (f, refl))) (λ h f. refl)

@@ -2,8 +2,7 @@
 use Rattle.std.proofs.Common.{◌≡◌, ℕ, ◌+◌, ◌≤◌, List, ◌++◌, length, drop, Result, Ok, Err, refl, sym, ap, subst, ◌∙◌, arith}
 use Rattle.std.specs.Prelude.{IsOk, IfOk}
 use Rattle.std.proofs.lemmas.List.{length-append}
-use Rattle.context_vector.specs.Contexts.{ContextData, AreCounts}
-use Rattle.context_diff.specs.Operations.{OpData, IsWellFormed}
+use Rattle.context_diff.specs.Operations.{OpData, IsInRange, IsWellFormed}
 use Rattle.context_diff.specs.Ops.{data_of}
 use Rattle.wire_codec.specs.declared.answers.Decoded.{Decoded}
 use Rattle.wire_codec.specs.declared.answers.Decoded.TheVariants as decoded
@@ -14,10 +13,9 @@ use Rattle.wire_codec.specs.declared.rules.LentOp.{LentOp}
 use Rattle.wire_codec.specs.Spelling.{frame}
 use Rattle.wire_codec.specs.Reading.{fault}
 use Rattle.wire_codec.specs.Judging.{judge, IsFrame}
-use Rattle.wire_codec.specs.Code.Lent.{context_seen, op_seen, judged_as}
+use Rattle.wire_codec.specs.Code.Lent.{op_seen, judged_as}
 use Rattle.wire_codec.specs.Answers.{scan_of, judgement_of, HasFrame, IsBad, SaysOf, TellsOf}
 use Rattle.wire_codec.proofs.Steps.{IsBytes}
-use Rattle.wire_codec.proofs.Contexts.{context_in_range, context_of-op_of}
 use Rattle.wire_codec.proofs.Growth.{bad_stays}
 use Rattle.wire_codec.proofs.Judgement.{judge_takes, judge_again, judge_more, judge_within}
 
@@ -61,15 +59,11 @@ decode_tells bytes (decoded.Got op used) fits e = judge_takes bytes (data_of op)
 decode_tells bytes (decoded.More n) fits e = judge_more bytes n (sym e)
 decode_tells bytes (decoded.Bad cause offset) fits e = bad_says bytes (fault cause offset) fits (sym e)
 
--- the counts of an operation that was judged good
-pub judged_counts : (bytes : List ℕ) (judged : Result (LentOp × ℕ) Refused) → IsBytes bytes → judged_as op_seen judged ≡ judge bytes
-    → IfOk judged (λ p. AreCounts 0 p.0.context.counts)
-judged_counts bytes (Ok p) fits e =
-    let o = p.0 in
-    let in_range = (judge_takes bytes (op_seen o) p.1 fits (sym e)).well.in_range in
-    subst (λ (c : ContextData). AreCounts 0 c.counts) (context_of-op_of o.head (context_seen o.context))
-    (context_in_range (op_seen o) in_range).is.counts
-judged_counts bytes (Err r) fits e = tt
+-- an operation that was judged good is in its ranges
+pub judged_range : (bytes : List ℕ) (judged : Result (LentOp × ℕ) Refused) → IsBytes bytes → judged_as op_seen judged ≡ judge bytes
+    → IfOk judged (λ p. IsInRange (op_seen p.0))
+judged_range bytes (Ok p) fits e = (judge_takes bytes (op_seen p.0) p.1 fits (sym e)).well.in_range
+judged_range bytes (Err r) fits e = tt
 
 -- out of memory only where there is a frame
 pub judged_frame : (bytes : List ℕ) (judged : Result (LentOp × ℕ) Refused) → IsBytes bytes → judged_as op_seen judged ≡ judge bytes

@@ -2,6 +2,7 @@ pub mod Steps
 pub mod TwoWays
 pub mod Numbers
 pub mod Lists
+pub mod InsertTexts
 pub mod Fields
 pub mod Contexts
 pub mod WellFormed
@@ -17,4 +18,5 @@ pub mod Fronts
 pub mod Appended
 pub mod Streaming
 pub mod Growth
+pub mod WorkedFrames
 pub mod CallerLemmas

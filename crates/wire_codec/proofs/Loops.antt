@@ -1,18 +1,25 @@
--- The two lists of a context, read one element after the other.
-use Rattle.std.proofs.Common.{◌≡◌, ℕ, suc, ◌+◌, ◌<◌, ◌≤◌, Option, None, Ok, Err, refl, ap, subst, ◌∙◌, arith}
+-- The characters of a text and the two lists of a context, read one element after the other.
+use Rattle.std.proofs.Common.{◌≡◌, ℕ, suc, true, ◌+◌, ◌<◌, ◌≤◌, Option, None, Ok, Err, refl, ap, subst, ◌∙◌, arith}
 use Rattle.std.specs.Int.{w8, w16, w32, to_be_bytes, from_be_bytes}
+use Rattle.std.specs.Str.{all_scalars}
+use Rattle.std.proofs.Math.Utf8.{scalar_fits}
 use Rattle.op_name.specs.NameData.{NameData}
 use Rattle.context_vector.specs.Contexts.{AreEntries}
 use Rattle.wire_codec.specs.declared.fault.Fault.{Fault}
-use Rattle.wire_codec.specs.Spelling.{count_bytes, entry_bytes}
-use Rattle.wire_codec.specs.Reading.{LeftData, many, count_at, site_after, entry_at, name_of}
-use Rattle.wire_codec.specs.Code.Sections.{elements, raw_count, raw_entry}
+use Rattle.wire_codec.specs.Spelling.{character_bytes, count_bytes, entry_bytes}
+use Rattle.wire_codec.specs.Reading.{LeftData, many, character_at, any_after, characters_at, count_at, site_after, entry_at, name_of}
+use Rattle.wire_codec.specs.Code.Elements.{elements, character_len, raw_character}
+use Rattle.wire_codec.specs.Code.Sections.{raw_count, raw_entry}
 use Rattle.wire_codec.specs.Judging.{count_len, entry_len}
 use Rattle.wire_codec.proofs.Steps.{IsBytes}
 use Rattle.wire_codec.proofs.Numbers.{wide8, wide16, wide32}
 use Rattle.wire_codec.proofs.Lists.{many_reads}
+use Rattle.wire_codec.proofs.InsertTexts.{IsCharacter, character_reads, characters_reads}
 use Rattle.wire_codec.proofs.Contexts.{IsCount, count_reads, IsEntry, entry_reads, entries_in_order}
 use Rattle.wire_codec.proofs.Elements.{IsUnderWay, begins, goes_on, ends, is_done}
+
+character_back : (before : Unit {0}) (ch : ℕ) → IsCharacter before ch → raw_character (character_bytes ch) ≡ ch
+character_back before ch h = wide32.again ch (scalar_fits ch h)
 
 count_back : (low : ℕ) (p : ℕ × ℕ) → IsCount low p → raw_count (count_bytes p) ≡ p
 count_back low p h =
@@ -31,6 +38,41 @@ entry_back before e h =
     ∙ ap (λ (g : ℕ). entry e.0.site e.0.number g) generation)
 
 module _ (count : ℕ) (start : LeftData) where
+  pub characters_begin : IsUnderWay character_at any_after raw_character character_len count tt start 0 tt start
+  characters_begin =
+      begins character_at any_after raw_character character_len character_bytes IsCharacter character_reads (λ c. refl) character_back count
+      tt start
+
+  pub characters_go_on : (i : ℕ) (now m : LeftData) (ch : ℕ) → IsBytes start.bytes → i < count → character_at tt now ≡ Ok (ch, m)
+      → IsUnderWay character_at any_after raw_character character_len count tt start i tt now
+      → IsUnderWay character_at any_after raw_character character_len count tt start (i + 1) tt m
+  characters_go_on i now m ch fits lt h way =
+      let more : suc i ≡ i + 1 = omega arith in
+      subst (λ (k : ℕ). IsUnderWay character_at any_after raw_character character_len count tt start k tt m) more
+      (goes_on character_at any_after raw_character character_len character_bytes IsCharacter character_reads (λ c. refl) character_back
+      count tt start i tt now m ch fits lt h way)
+
+  pub characters_end : (i : ℕ) (now : LeftData) (f : Fault) → i < count → character_at tt now ≡ Err f
+      → IsUnderWay character_at any_after raw_character character_len count tt start i tt now → characters_at count start ≡ Err f
+  characters_end i =
+      ends character_at any_after raw_character character_len character_bytes IsCharacter character_reads (λ c. refl) character_back count
+      tt start i tt
+
+  pub characters_done : (i : ℕ) (now : LeftData) → count ≤ i
+      → IsUnderWay character_at any_after raw_character character_len count tt start i tt now
+      → characters_at count start ≡ Ok (elements raw_character character_len i start.bytes, now)
+  characters_done i =
+      is_done character_at any_after raw_character character_len character_bytes IsCharacter character_reads (λ c. refl) character_back
+      count tt start i tt
+
+  -- what was read are characters
+  pub characters_are : (i : ℕ) (now : LeftData) → IsBytes start.bytes → count ≤ i
+      → IsUnderWay character_at any_after raw_character character_len count tt start i tt now
+      → all_scalars (elements raw_character character_len i start.bytes) ≡ true
+  characters_are i now fits le way =
+      let read = elements raw_character character_len i start.bytes in
+      ((characters_reads count).takes start now read fits (characters_done i now le way)).1.scalars
+
   pub counts_begin : IsUnderWay count_at site_after raw_count count_len count 0 start 0 0 start
   counts_begin = begins count_at site_after raw_count count_len count_bytes IsCount count_reads (λ p. refl) count_back count 0 start
 

@@ -13,22 +13,22 @@ use Rattle.wire_codec.specs.Judging.{entry_len, is_own, has_target, stray_from}
 use Rattle.wire_codec.proofs.Steps.{want_ok, want_err}
 
 pub own_from : (o : OpData) → is_own o ≡ true → KeepsOwn o
-own_from (inserting n p ch c) h = eqb-true _ _ h
+own_from (inserting n p text c) h = eqb-true _ _ h
 own_from (deleting n p c) h = eqb-true _ _ h
 own_from (undoing a t g c) h = tt
 
 pub own_to : (o : OpData) → KeepsOwn o → is_own o ≡ true
-own_to (inserting n p ch c) h = eq-eqb _ _ h
+own_to (inserting n p text c) h = eq-eqb _ _ h
 own_to (deleting n p c) h = eq-eqb _ _ h
 own_to (undoing a t g c) h = refl
 
 pub target_from : (o : OpData) → has_target o ≡ true → KeepsTarget o
-target_from (inserting n p ch c) h = tt
+target_from (inserting n p text c) h = tt
 target_from (deleting n p c) h = tt
 target_from (undoing a t g c) h = let parts = and_parts (has c (Original t)) (eqb (entry_of c t + 1) g) h in (parts.0, eqb-true _ _ parts.1)
 
 pub target_to : (o : OpData) → KeepsTarget o → has_target o ≡ true
-target_to (inserting n p ch c) h = refl
+target_to (inserting n p text c) h = refl
 target_to (deleting n p c) h = refl
 target_to (undoing a t g c) h = and_from (has c (Original t)) (eqb (entry_of c t + 1) g) h.0 (eq-eqb _ _ h.1)
 

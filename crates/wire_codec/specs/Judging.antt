@@ -13,7 +13,8 @@ use Rattle.wire_codec.specs.declared.rules.TheConstants.{LONGEST_BODY}
 use Rattle.wire_codec.specs.Spelling.{frame}
 use Rattle.wire_codec.specs.Reading.{LeftData, left_at, fault, ◌>>=◌, want, op_at}
 
--- the bytes of the longest body: an insert with a count for each site and as many undo entries as there may be
+-- the bytes of the longest body: an insert of as many characters as one may have, with a count for each site and as many undo entries as
+-- there may be
 abbrev pub longest : ℕ
 longest = LONGEST_BODY
 
@@ -30,13 +31,13 @@ entry_len = 7
 
 -- an insert or delete knows just the earlier ones of its site
 abbrev pub is_own : OpData → Bool
-is_own (inserting n p ch c) = count_of c n.site + 1 == n.number
+is_own (inserting n p text c) = count_of c n.site + 1 == n.number
 is_own (deleting n p c) = count_of c n.site + 1 == n.number
 is_own (undoing a t g c) = true
 
 -- an undo knows its target, at the generation before its own
 abbrev pub has_target : OpData → Bool
-has_target (inserting n p ch c) = true
+has_target (inserting n p text c) = true
 has_target (deleting n p c) = true
 has_target (undoing a t g c) = has c (Original t) && (entry_of c t + 1 == g)
 

@@ -7,7 +7,8 @@ use Rattle.op_name.specs.declared.name.TheConstants.{NUMBERS}
 use Rattle.wire_codec.specs.declared.limits.TheConstants.{FRAME_SITES}
 use Rattle.context_vector.specs.Contexts.{ContextData}
 use Rattle.context_diff.specs.Operations.{OpData}
-use Rattle.context_diff.specs.declared.op.TheConstants.{PLACES, UNDO_ENTRIES}
+use Rattle.context_diff.specs.declared.letters.TheConstants.{LETTERS}
+use Rattle.context_diff.specs.declared.op.TheConstants.{UNDO_ENTRIES}
 use Rattle.wire_codec.specs.declared.cause.Cause.{Cause}
 use Rattle.wire_codec.specs.declared.cause.Cause.TheVariants.{Kind, Range, Char, Order, Zero, Length}
 use Rattle.wire_codec.specs.declared.fault.Fault.{Fault}
@@ -61,13 +62,21 @@ tested test cause read l = do
 abbrev pub bounded : Width → ℕ → ℕ → Cause → LeftData → Found ℕ
 bounded w low high cause = tested (λ n. nat_le low n && nat_le n high) cause (number w)
 
+-- so many elements; a state says what may come next, and each element gives the state after it
+unfoldable pub many : {S A : Type 0} → (S → LeftData → Found A) → (A → S) → ℕ → S → LeftData → Found (List A)
+many step next zero state l = Ok ([], l)
+many step next (suc n) state l = do
+  first ← step state l
+  others ← many step next n (next first.0) first.1
+  Ok (first.0 ∷ others.0, others.1)
+
 -- ---- fields
 
 abbrev pub last_site : ℕ
 last_site = FRAME_SITES - 1
 
 abbrev pub kind_at : LeftData → Found ℕ
-kind_at = bounded w8 1 3 Kind
+kind_at = bounded w8 1 4 Kind
 
 abbrev pub site_at : LeftData → Found ℕ
 site_at = bounded site_width 0 last_site Range
@@ -76,10 +85,7 @@ abbrev pub number_at : LeftData → Found ℕ
 number_at = bounded w32 1 NUMBERS Range
 
 abbrev pub place_at : LeftData → Found ℕ
-place_at = bounded w32 0 PLACES Range
-
-abbrev pub char_at : LeftData → Found ℕ
-char_at = tested scalar Char (number w32)
+place_at = number w32
 
 abbrev pub generation_at : LeftData → Found ℕ
 generation_at = tested (nat_lt 0) Range (number w16)
@@ -90,14 +96,34 @@ name_at l = do
   number ← number_at site.1
   Ok (record { site = site.0; number = number.0 }, number.1)
 
+-- ---- texts
+
+-- how many characters an insert of this kind has: one of kind 1, and else two and more, as a field says
+abbrev pub length_at : ℕ → LeftData → Found ℕ
+length_at kind l = if kind == 1 then Ok (1, l) else bounded w16 2 LETTERS Range l
+
+-- a character, whatever comes before it
+abbrev pub character_at : Unit {0} → LeftData → Found ℕ
+character_at before = tested scalar Char (number w32)
+
+-- any character may come after any other
+abbrev pub any_after : ℕ → Unit {0}
+any_after ch = tt
+
+-- so many characters
+abbrev pub characters_at : ℕ → LeftData → Found (List ℕ)
+characters_at n = many character_at any_after n tt
+
 -- ---- heads
 
-unfoldable pub insert_at : LeftData → Found Head
-insert_at l = do
+-- an insert of this kind, 1 or 4
+unfoldable pub insert_at : ℕ → LeftData → Found Head
+insert_at kind l = do
   name ← name_at l
   place ← place_at name.1
-  ch ← char_at place.1
-  Ok (Insert name.0 place.0 ch.0, ch.1)
+  len ← length_at kind place.1
+  text ← characters_at len.0 len.1
+  Ok (Insert name.0 place.0 text.0, text.1)
 
 unfoldable pub delete_at : LeftData → Found Head
 delete_at l = do
@@ -112,9 +138,9 @@ undo_at l = do
   generation ← generation_at target.1
   Ok (Undo author.0 target.0 generation.0, generation.1)
 
--- the fields of a kind, 3 where it is neither 1 nor 2
+-- the fields of a kind
 abbrev pub fields_at : ℕ → LeftData → Found Head
-fields_at kind l = if kind == 1 then insert_at l else if kind == 2 then delete_at l else undo_at l
+fields_at kind l = if kind == 2 then delete_at l else if kind == 3 then undo_at l else insert_at kind l
 
 unfoldable pub head_at : LeftData → Found Head
 head_at l = do
@@ -122,14 +148,6 @@ head_at l = do
   fields_at kind.0 kind.1
 
 -- ---- contexts
-
--- so many elements; a state says what may come next, and each element gives the state after it
-unfoldable pub many : {S A : Type 0} → (S → LeftData → Found A) → (A → S) → ℕ → S → LeftData → Found (List A)
-many step next zero state l = Ok ([], l)
-many step next (suc n) state l = do
-  first ← step state l
-  others ← many step next n (next first.0) first.1
-  Ok (first.0 ∷ others.0, others.1)
 
 -- a site from `low` on with its count
 unfoldable pub count_at : ℕ → LeftData → Found (ℕ × ℕ)

@@ -1,8 +1,7 @@
 //! Judging bytes from anywhere.
 
 ghost use Rattle.std.specs.Prelude.{◌≡◌, ◌++◌, ℕ, List, length, Ok, IfOk, IsOk, OnErr};
-ghost use Rattle.context_vector.specs.Contexts.{AreCounts};
-ghost use Rattle.context_diff.specs.Operations.{OpData, IsWellFormed};
+ghost use Rattle.context_diff.specs.Operations.{OpData, IsInRange, IsWellFormed};
 ghost use Rattle.wire_codec.specs.Spelling.{frame};
 ghost use Rattle.wire_codec.specs.Judging.{judge};
 ghost use Rattle.wire_codec.specs.Code.Lent.{op_seen, judged_as};
@@ -29,9 +28,9 @@ fn scanned(judged: Result<(LentOp, u32), Refused>) -> Scan
     }
 }
 
-// What is answered to a judgement, the operation with a context of its own.
+// What is answered to a judgement, the operation with a text and a context of its own.
 fn decoded(alloc: Global, judged: Result<(LentOp, u32), Refused>) -> Result<Decoded, Memory>
-    requires { IfOk judged (λ p. AreCounts 0 p.0.context.counts) }
+    requires { IfOk judged (λ p. IsInRange (op_seen p.0)) }
     ensures exact { IfOk result (λ d. judgement_of d ≡ judged_as op_seen judged.entry) }
     ensures memory { OnErr result (IsOk judged.entry) }
 {
@@ -68,7 +67,7 @@ pub fn scan(bytes: &[u8]) -> Scan
 
 /// What the bytes begin with, as `scan` answers, and the operation of the frame.
 ///
-/// It answers `Memory` where the context of the operation found none, so only where the bytes begin with a frame.
+/// It answers `Memory` where the text or the context of the operation found none, so only where the bytes begin with a frame.
 pub fn decode(alloc: Global, bytes: &[u8]) -> Result<Decoded, Memory>
     ensures exact { IfOk result (λ d. judgement_of d ≡ judge bytes.now) }
 

@@ -1,14 +1,14 @@
 //! Reading names, and the fields before a context.
 
 ghost use Rattle.std.specs.Prelude.{◌≡◌, ◌<◌, IfOk};
-ghost use Rattle.wire_codec.specs.Reading.{after, site_at, number_at, place_at, char_at, generation_at, name_at, insert_at, delete_at, undo_at, fields_at, head_at};
+ghost use Rattle.wire_codec.specs.Reading.{after, site_at, number_at, place_at, generation_at, name_at, insert_at, delete_at, undo_at, fields_at, head_at};
 
 use crate::cause::Cause;
 use crate::fault::Fault;
 use crate::head::Head;
 use crate::left::{Left, check};
 use crate::limits::{FRAME_SITES, LAST_SITE};
-use context_diff::PLACES;
+use crate::texts::{characters_of, text_len};
 use op_name::{NUMBERS, Name};
 
 pub(crate) fn site(left: &mut Left) -> Result<u16, Fault>
@@ -31,21 +31,7 @@ pub(crate) fn name(left: &mut Left) -> Result<Name, Fault>
 fn place(left: &mut Left) -> Result<u32, Fault>
     ensures { after result left.new ≡ place_at left.old }
 {
-    left.bounded32(0, PLACES, Cause::Range)
-}
-
-fn character(left: &mut Left) -> Result<char, Fault>
-    ensures { after result left.new ≡ char_at left.old }
-{
-    let offset = left.at();
-    let code = left.number32()?;
-    match char::from_u32(code) {
-        Some(ch) => Ok(ch),
-        None => Err(Fault {
-            cause: Cause::Char,
-            offset,
-        }),
-    }
+    left.number32()
 }
 
 fn generation(left: &mut Left) -> Result<u16, Fault>
@@ -58,17 +44,18 @@ fn generation(left: &mut Left) -> Result<u16, Fault>
 }
 
 #[tactic(auto, unfolding(crate::specs::Reading::insert_at))]
-fn insert(left: &mut Left) -> Result<Head, Fault>
-    ensures { after result left.new ≡ insert_at left.old }
+fn insert<'a>(left: &mut Left<'a>, kind: u8) -> Result<Head<'a>, Fault>
+    ensures { after result left.new ≡ insert_at kind left.old }
 {
     let name = name(left)?;
     let place = place(left)?;
-    let ch = character(left)?;
-    Ok(Head::Insert(name, place, ch))
+    let len = text_len(left, kind)?;
+    let text = characters_of(left, len)?;
+    Ok(Head::Insert(name, place, text))
 }
 
 #[tactic(auto, unfolding(crate::specs::Reading::delete_at))]
-fn delete(left: &mut Left) -> Result<Head, Fault>
+fn delete<'a>(left: &mut Left<'a>) -> Result<Head<'a>, Fault>
     ensures { after result left.new ≡ delete_at left.old }
 {
     let name = name(left)?;
@@ -77,7 +64,7 @@ fn delete(left: &mut Left) -> Result<Head, Fault>
 }
 
 #[tactic(auto, unfolding(crate::specs::Reading::undo_at))]
-fn undo(left: &mut Left) -> Result<Head, Fault>
+fn undo<'a>(left: &mut Left<'a>) -> Result<Head<'a>, Fault>
     ensures { after result left.new ≡ undo_at left.old }
 {
     let author = site(left)?;
@@ -88,13 +75,13 @@ fn undo(left: &mut Left) -> Result<Head, Fault>
 
 /// The fields before the context.
 #[tactic(auto, unfolding(crate::specs::Reading::head_at))]
-pub(crate) fn head(left: &mut Left) -> Result<Head, Fault>
+pub(crate) fn head<'a>(left: &mut Left<'a>) -> Result<Head<'a>, Fault>
     ensures { after result left.new ≡ head_at left.old }
 {
-    let kind = left.bounded8(1, 3, Cause::Kind)?;
+    let kind = left.bounded8(1, 4, Cause::Kind)?;
     match kind {
-        1 => insert(left),
         2 => delete(left),
-        _ => undo(left),
+        3 => undo(left),
+        _ => insert(left, kind),
     }
 }

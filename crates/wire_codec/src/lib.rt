@@ -21,6 +21,7 @@ mod sections;
 mod state_answers;
 mod states;
 mod stream;
+mod texts;
 mod vectors;
 mod writing;
 

@@ -14,13 +14,15 @@ use crate::head::Head;
 use crate::left::{Left, check};
 use crate::limits::FRAME_SITES;
 use crate::sections::{COUNT_LEN, Counts, ENTRY_LEN, Entries};
+use crate::texts::CHARACTER_LEN;
 use crate::{heads, listing};
-use context_diff::UNDO_ENTRIES;
+use context_diff::{LETTERS, UNDO_ENTRIES};
 use op_name::Name;
 
-/// The greatest number of bytes of a body: that of an insert whose context has a count for each site that a frame can name, and as many
-/// undo entries as there may be.
-pub const LONGEST_BODY: u32 = 14
+/// The greatest number of bytes of a body: that of an insert of `LETTERS` characters whose context has a count for each site that a frame
+/// can name, and as many undo entries as there may be.
+pub const LONGEST_BODY: u32 = 12
+    + CHARACTER_LEN as u32 * LETTERS as u32
     + 1
     + COUNT_LEN as u32 * FRAME_SITES as u32
     + 2
@@ -38,7 +40,7 @@ pub(crate) struct LentContext<'a> {
 /// An operation, its context lent as it lies in a frame.
 #[derive(Drop)]
 pub(crate) struct LentOp<'a> {
-    pub(crate) head: Head,
+    pub(crate) head: Head<'a>,
     pub(crate) context: LentContext<'a>,
 }
 
@@ -94,9 +96,9 @@ fn has_original(context: &LentContext, name: &Name) -> bool
 fn own(op: &LentOp) -> bool
     ensures { result ≡ is_own (op_seen op.now) }
 {
-    match op.head {
-        Head::Insert(name, _, _) => knows_own(&op.context, &name),
-        Head::Delete(name, _) => knows_own(&op.context, &name),
+    match &op.head {
+        Head::Insert(name, _, _) => knows_own(&op.context, name),
+        Head::Delete(name, _) => knows_own(&op.context, name),
         Head::Undo(_, _, _) => true,
     }
 }
@@ -111,12 +113,12 @@ fn knows_own(context: &LentContext, name: &Name) -> bool
 fn target(op: &LentOp) -> bool
     ensures { result ≡ has_target (op_seen op.now) }
 {
-    match op.head {
+    match &op.head {
         Head::Insert(_, _, _) => true,
         Head::Delete(_, _) => true,
         Head::Undo(_, target, generation) => {
-            has_original(&op.context, &target)
-                && u32::from(entry_of(&op.context, &target)) + 1 == u32::from(generation)
+            has_original(&op.context, target)
+                && u32::from(entry_of(&op.context, target)) + 1 == u32::from(*generation)
         }
     }
 }

@@ -4,7 +4,8 @@ ghost use Rattle.std.specs.Prelude.{◌≡◌, ◌*◌, ◌<◌, ◌^◌, ◌≤
 ghost use Rattle.std.specs.Iterator.{YieldsFirst, item_count};
 ghost use Rattle.context_vector.specs.Contexts.{AreEntries};
 ghost use Rattle.wire_codec.specs.Judging.{count_len, entry_len};
-ghost use Rattle.wire_codec.specs.Code.Sections.{elements, raw_count, raw_entry};
+ghost use Rattle.wire_codec.specs.Code.Elements.{elements};
+ghost use Rattle.wire_codec.specs.Code.Sections.{raw_count, raw_entry};
 
 use op_name::Name;
 use std::marker::Model;
@@ -23,7 +24,8 @@ pub(crate) struct Counts<'a> {
 impl<'a> Model for Counts<'a> {
     ghost use Rattle.std.specs.Prelude.{ℕ, List, ◌*◌, ◌≤◌, length};
     ghost use Rattle.wire_codec.specs.Judging.{count_len};
-    ghost use Rattle.wire_codec.specs.Code.Sections.{elements, raw_count};
+    ghost use Rattle.wire_codec.specs.Code.Elements.{elements};
+    ghost use Rattle.wire_codec.specs.Code.Sections.{raw_count};
 
     ghost Value = { List (ℕ × ℕ) };
 
@@ -86,7 +88,8 @@ impl<'a> Model for Entries<'a> {
     ghost use Rattle.op_name.specs.NameData.{NameData};
     ghost use Rattle.context_vector.specs.Contexts.{AreEntries};
     ghost use Rattle.wire_codec.specs.Judging.{entry_len};
-    ghost use Rattle.wire_codec.specs.Code.Sections.{elements, raw_entry};
+    ghost use Rattle.wire_codec.specs.Code.Elements.{elements};
+    ghost use Rattle.wire_codec.specs.Code.Sections.{raw_entry};
 
     ghost Value = { List (NameData × ℕ) };
 

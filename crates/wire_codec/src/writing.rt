@@ -2,19 +2,19 @@
 
 ghost use Rattle.std.specs.Prelude.{◌≡◌, ◌+◌, ◌*◌, ◌≤◌, ◌<◌, ◌++◌, length, OnOk, OnErr};
 ghost use Rattle.std.specs.List.{flat_map};
-ghost use Rattle.std.specs.Int.{w32, to_be_bytes};
+ghost use Rattle.std.specs.Int.{w8, to_be_bytes};
 ghost use Rattle.context_vector.specs.Contexts.{AreCounts};
 ghost use Rattle.context_diff.specs.Operations.{IsWellFormed, context_of};
 ghost use Rattle.context_diff.specs.Ops.{data_of};
 ghost use Rattle.wire_codec.specs.declared.head.Head.TheVariants.{Insert, Delete, Undo};
-ghost use Rattle.wire_codec.specs.Spelling.{head_of, site_bytes, name_bytes, count_bytes, entry_bytes, counts_bytes, entries_bytes, head_bytes, body_bytes, frame};
+ghost use Rattle.wire_codec.specs.Spelling.{head_of, insert_kind, site_bytes, name_bytes, length_bytes, character_bytes, text_bytes, count_bytes, entry_bytes, counts_bytes, entries_bytes, head_bytes, body_bytes, frame};
 ghost use Rattle.wire_codec.specs.Judging.{count_len, entry_len};
 ghost use Rattle.wire_codec.specs.States.{named_bytes, state_bytes};
-ghost use Rattle.wire_codec.specs.Code.Puts.{HasRoom, Puts, HasAuthor, head_len};
+ghost use Rattle.wire_codec.specs.Code.Elements.{character_len};
+ghost use Rattle.wire_codec.specs.Code.Puts.{HasRoom, Puts, HasAuthor, text_len, head_len};
 
-use crate::head::Head;
 use crate::limits::FRAME_SITES;
-use context_diff::{Op, UNDO_ENTRIES};
+use context_diff::{Letters, Op, UNDO_ENTRIES};
 use context_vector::{Entry, SiteCounts, Vector};
 use op_name::{Memory, Name};
 
@@ -46,54 +46,84 @@ fn put_name(out: &mut Vec<u8>, name: &Name)
     put(out, &name.number.to_be_bytes());
 }
 
-// The operation without its context.
-fn head_of(op: &Op) -> Head
-    ensures { result ≡ head_of (data_of op.now) }
+fn text_len(text: &Letters) -> u32
+    ensures value { result ≡ text_len (length text.now) }
+    ensures bound { result ≤ 1026 }
 {
-    match op {
-        Op::Insert {
-            name,
-            place,
-            ch,
-            ..
-        } => Head::Insert(*name, *place, *ch),
-        Op::Delete { name, place, .. } => Head::Delete(*name, *place),
-        Op::Undo {
-            author,
-            target,
-            generation,
-            ..
-        } => Head::Undo(*author, *target, *generation),
+    text.known();
+    match text.len() {
+        1 => 4,
+        len => 2 + 4 * u32::from(len),
     }
 }
 
-fn head_len(head: Head) -> u32
-    ensures value { result ≡ head_len head }
-    ensures bound { result ≤ 14 }
+// How many bytes of the operation stand before its context.
+fn head_len(op: &Op) -> u32
+    ensures value { result ≡ head_len (head_of (data_of op.now)) }
+    ensures bound { result ≤ 1036 }
 {
-    match head {
-        Head::Insert(_, _, _) => 14,
-        Head::Delete(_, _) => 10,
-        Head::Undo(_, _, _) => 9,
+    match op {
+        Op::Insert { text, .. } => 10 + text_len(text),
+        Op::Delete { .. } => 10,
+        Op::Undo { .. } => 9,
     }
 }
 
 fn put_character(out: &mut Vec<u8>, ch: char)
     requires { HasRoom out.old 4 }
-    ensures { Puts out.old out.new (to_be_bytes w32 ch) }
+    ensures { Puts out.old out.new (character_bytes ch) }
 {
     put(out, &u32::from(ch).to_be_bytes());
 }
 
-#[tactic(auto, unfolding(crate::specs::Spelling::head_bytes))]
-fn put_insert(out: &mut Vec<u8>, name: &Name, place: u32, ch: char)
-    requires { HasRoom out.old 14 }
-    ensures { Puts out.old out.new (head_bytes (Insert name.now place ch)) }
+fn put_each_character(out: &mut Vec<u8>, chars: &[char])
+    requires { HasRoom out.old (character_len * length chars.now) }
+    ensures { Puts out.old out.new (flat_map character_bytes chars.now) }
 {
-    put(out, &[1]);
+    for ch in chars {
+        put_character(out, *ch);
+    }
+}
+
+// How many characters follow, which isn't said of one.
+fn put_length(out: &mut Vec<u8>, len: u16)
+    requires { HasRoom out.old 2 }
+    ensures { Puts out.old out.new (length_bytes len) }
+{
+    if len != 1 {
+        put(out, &len.to_be_bytes());
+    }
+}
+
+fn put_text(out: &mut Vec<u8>, text: &Letters)
+    requires { HasRoom out.old (text_len (length text.now)) }
+    ensures { Puts out.old out.new (text_bytes text.now) }
+{
+    text.known();
+    put_length(out, text.len());
+    put_each_character(out, text.as_slice());
+}
+
+fn put_insert_kind(out: &mut Vec<u8>, len: u16)
+    requires { HasRoom out.old 1 }
+    ensures { Puts out.old out.new (to_be_bytes w8 (insert_kind len)) }
+{
+    if len == 1 {
+        put(out, &[1]);
+    } else {
+        put(out, &[4]);
+    }
+}
+
+#[tactic(auto, unfolding(crate::specs::Spelling::head_bytes))]
+fn put_insert(out: &mut Vec<u8>, name: &Name, place: u32, text: &Letters)
+    requires { HasRoom out.old (head_len (Insert name.now place text.now)) }
+    ensures { Puts out.old out.new (head_bytes (Insert name.now place text.now)) }
+{
+    put_insert_kind(out, text.len());
     put_name(out, name);
     put(out, &place.to_be_bytes());
-    put_character(out, ch);
+    put_text(out, text);
 }
 
 #[tactic(auto, unfolding(crate::specs::Spelling::head_bytes))]
@@ -118,15 +148,26 @@ fn put_undo(out: &mut Vec<u8>, author: u16, target: &Name, generation: u16)
     put(out, &generation.to_be_bytes());
 }
 
-fn put_head(out: &mut Vec<u8>, head: Head)
-    requires room { HasRoom out.old (head_len head) }
-    requires author { HasAuthor head }
-    ensures { Puts out.old out.new (head_bytes head) }
+// The operation without its context.
+fn put_head(out: &mut Vec<u8>, op: &Op)
+    requires room { HasRoom out.old (head_len (head_of (data_of op.now))) }
+    requires author { HasAuthor (head_of (data_of op.now)) }
+    ensures { Puts out.old out.new (head_bytes (head_of (data_of op.now))) }
 {
-    match head {
-        Head::Insert(name, place, ch) => put_insert(out, &name, place, ch),
-        Head::Delete(name, place) => put_delete(out, &name, place),
-        Head::Undo(author, target, generation) => put_undo(out, author, &target, generation),
+    match op {
+        Op::Insert {
+            name,
+            place,
+            text,
+            ..
+        } => put_insert(out, name, *place, text),
+        Op::Delete { name, place, .. } => put_delete(out, name, *place),
+        Op::Undo {
+            author,
+            target,
+            generation,
+            ..
+        } => put_undo(out, *author, target, *generation),
     }
 }
 
@@ -191,7 +232,7 @@ fn body_len(op: &Op) -> u32
     ensures parts { result ≡ head_len (head_of (data_of op.now)) + (3 + count_len * length (context_of (data_of op.now)).counts + entry_len * length (context_of (data_of op.now)).entries) }
 {
     let context = op.context();
-    head_len(head_of(op)) + 3 + 5 * context.sites() + 7 * context.entries()
+    head_len(op) + 3 + 5 * context.sites() + 7 * context.entries()
 }
 
 /// Appends the one frame of the operation.
@@ -206,7 +247,7 @@ pub fn encode(op: &Op, out: &mut Vec<u8>) -> Result<(), Memory>
     let body = body_len(op);
     out.reserve(4 + body as usize)?;
     put(out, &body.to_be_bytes());
-    put_head(out, head_of(op));
+    put_head(out, op);
     put_counts(out, op.context());
     put_entries(out, entries.as_slice());
     Ok(())

@@ -5,11 +5,11 @@ use Rattle.wire_codec.specs.Spelling.{frame}
 use Rattle.wire_codec.specs.Judging.{judge}
 use Rattle.wire_codec.specs.Code.Lent.{op_seen, judged_as}
 use Rattle.wire_codec.specs.Answers.{judgement_of, TellsOf}
-use Rattle.wire_codec.proofs.Fronts.{decode_tells, judged_only, judged_counts, judged_frame}
+use Rattle.wire_codec.proofs.Fronts.{decode_tells, judged_only, judged_range, judged_frame}
 use Rattle.wire_codec.proofs.front.decode.Goals as goal
 
 pub decoded-requires : goal.decoded-requires
-decoded-requires c = judged_counts c.args.bytes.now c.judge.result (λ i. omega (arith, c.type_inv.bytes i)) c.judge.ensures.exact
+decoded-requires c = judged_range c.args.bytes.now c.judge.result (λ i. omega (arith, c.type_inv.bytes i)) c.judge.ensures.exact
 
 answer : (c : goal.After-decoded) → IfOk c.decoded.result (λ d. judgement_of d ≡ judge c.args.bytes.now)
 answer c =

@@ -1,7 +1,8 @@
 use Rattle.std.proofs.Common.{◌≡◌, ℕ, List, sym, ap, subst, ◌∙◌, arith, Ok}
 use Rattle.std.proofs.lemmas.Result.{err_from_is_err_and}
 use Rattle.wire_codec.specs.Reading.{LeftData}
-use Rattle.wire_codec.specs.Code.Sections.{elements, raw_count}
+use Rattle.wire_codec.specs.Code.Elements.{elements}
+use Rattle.wire_codec.specs.Code.Sections.{raw_count}
 use Rattle.wire_codec.specs.Judging.{count_len}
 use Rattle.wire_codec.proofs.Steps.{IsBytes}
 use Rattle.wire_codec.proofs.Loops.{counts_begin, counts_go_on, counts_end, counts_done}

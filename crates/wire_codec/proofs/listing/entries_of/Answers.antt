@@ -3,7 +3,8 @@ use Rattle.std.proofs.lemmas.Result.{err_from_is_err_and}
 use Rattle.op_name.specs.NameData.{NameData}
 use Rattle.context_vector.specs.Contexts.{AreEntries}
 use Rattle.wire_codec.specs.Reading.{LeftData}
-use Rattle.wire_codec.specs.Code.Sections.{elements, raw_entry}
+use Rattle.wire_codec.specs.Code.Elements.{elements}
+use Rattle.wire_codec.specs.Code.Sections.{raw_entry}
 use Rattle.wire_codec.specs.Judging.{entry_len}
 use Rattle.wire_codec.proofs.Steps.{IsBytes}
 use Rattle.wire_codec.proofs.Loops.{entries_begin, entries_go_on, entries_end, entries_done, entries_are}
