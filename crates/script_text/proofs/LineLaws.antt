@@ -1,23 +1,23 @@
 -- A line says what is spelled so, and nothing else.
-use Rattle.std.proofs.Common.{◌≡◌, ℕ, ◌<◌, ◌≤◌, ◌^◌, Bool, true, ◌&&◌, nat_lt, ltb-true, List, [], ◌∷◌, ◌++◌, length, codes, bytes_eq, decimal, encode_utf8_all, Option, Some, None, Result, Ok, Err, IfOk, refl, sym, ap, ◌∙◌, subst, arith, inl, inr, IsUtf8, option_map, eqb-true, ◌==◌}
+use Rattle.std.proofs.Common.{◌≡◌, ℕ, ◌<◌, ◌≤◌, ◌^◌, Bool, true, ◌&&◌, nat_lt, ltb-true, List, [], ◌∷◌, ◌++◌, length, codes, bytes_eq, decimal, encode_utf8_all, Option, Some, None, Result, Ok, Err, IfOk, refl, sym, ap, ◌∙◌, subst, arith, inl, inr, IsUtf8, option_map, IsTrue, eqb-true, ◌==◌}
 use Rattle.std.proofs.lemmas.Bool.{cond_both, and_parts}
 use Rattle.std.proofs.lemmas.Slice.Eq.{bytes_eq-Decides}
 use Rattle.std.proofs.lemmas.Str.{IsUtf8-from_ascii, IsUtf8-append, IsUtf8-nil}
 use Rattle.std.proofs.lemmas.Str.Ascii.{IsAscii-cons, IsAscii-nil}
 use Rattle.std.proofs.lemmas.Fmt.{IsAscii-decimal}
-use Rattle.std.specs.Str.{IsAscii}
+use Rattle.std.specs.Str.{IsAscii, all_scalars}
 use Rattle.std.specs.Prelude.{IsSomeAnd}
 use Rattle.hex.specs.Hex.{encode_lower, lower_digits}
 use Rattle.hex.proofs.HexLemmas.{decode_of-encode_lower, decode_of-ok, IsAscii-encode_with}
 use Rattle.script_text.specs.declared.reading.line.Line.{Line}
-use Rattle.script_text.specs.declared.reading.line.Line.TheVariants.{Blank, Sites, Ins, Nl, Del, Undo, Redo, Give, All, Sync, Raw, Show, State}
+use Rattle.script_text.specs.declared.reading.line.Line.TheVariants.{Blank, Sites, Ins, Run, Nl, Del, Undo, Redo, Give, All, Sync, Raw, Show, State}
 use Rattle.script_text.specs.declared.reading.line.LineBad.{LineBad}
 use Rattle.script_text.specs.declared.reading.line.LineBad.TheVariants.{Limit, Long, Utf8, Form, Memory}
 use Rattle.op_name.specs.NameData.{NameData, IsName}
 use Rattle.op_name.specs.declared.name.TheConstants.{SITES}
 use Rattle.site_answers.specs.Names.{name_text}
 use Rattle.script_text.specs.Fields.{IsText, cut, pair_by, number_of, site_of, count_of, name_of, text_of, octets_of, IsNumber, IsSite, IsNameText, IsCharacters, IsHex, IsPair}
-use Rattle.script_text.specs.Rows.{Row, table, row_in, sites_row, ins_row, nl_row, del_row, undo_row, redo_row, give_row, all_row, raw_row, show_row, state_row}
+use Rattle.script_text.specs.Rows.{Row, table, row_in, sites_row, ins_row, run_row, nl_row, del_row, undo_row, redo_row, give_row, all_row, raw_row, show_row, state_row}
 use Rattle.script_text.specs.declared.reading.parse.TheConstants.{LONGEST}
 use Rattle.script_text.specs.Lines.{command, two, spelling, IsInRange, IsLine, HasContent}
 use Rattle.script_text.specs.Answers.{line_in, LineAnswers, Answers, IsReadAs}
@@ -117,15 +117,30 @@ state_found : (bs : List ℕ) (l : Line) → state_row bs ≡ Some l → IsLine 
 unfolding state_row
 state_found = site_found (codes "state") (λ s. State s) (λ s few. (refl, few))
 
-ins_found : (bs : List ℕ) (l : Line) → ins_row bs ≡ Some l → IsLine (command (codes "ins") bs) l
-unfolding ins_row
-ins_found bs l e =
+-- a row of a site, a place and a text
+text_found : (word : List ℕ) (make : ℕ → ℕ → List ℕ → Line)
+    → ((site place : ℕ) (text : List ℕ) → site < SITES → place < 2 ^ 32 → 0 < length text → IsTrue (all_scalars text)
+    → IsLine (command word (two (decimal site) (two (decimal place) (encode_utf8_all text)))) (make site place text))
+    → (bs : List ℕ) (l : Line)
+    → option_map (λ (x : ℕ × (ℕ × List ℕ)). make x.0 x.1.0 x.1.1) (pair_by 32 site_of (pair_by 32 number_of text_of) bs) ≡ Some l
+    → IsLine (command word bs) l
+text_found word make is bs l e =
     let m = mapped_some _ (pair_by 32 site_of (pair_by 32 number_of text_of) bs) l e in
     let h = site_place_and_text.from bs m.0 m.1 in
     let rest = h.4 in
     let fields = two_is h.1 rest.0 rest.1 (decimal m.0.1.0) (encode_utf8_all m.0.1.1) rest.2 rest.3.0 rest.4.0 in
     let spelled = two_is bs h.0 h.1 (decimal m.0.0) (two (decimal m.0.1.0) (encode_utf8_all m.0.1.1)) h.2 h.3.0 fields in
-    subst (IsLine (command (codes "ins") bs)) m.2 (ap (command (codes "ins")) spelled, (h.3.1, rest.3.1, rest.4.1, rest.4.2))
+    subst (IsLine (command word bs)) m.2
+    (subst (λ (t : List ℕ). IsLine (command word t) (make m.0.0 m.0.1.0 m.0.1.1)) (sym spelled)
+    (is m.0.0 m.0.1.0 m.0.1.1 h.3.1 rest.3.1 rest.4.1 rest.4.2))
+
+ins_found : (bs : List ℕ) (l : Line) → ins_row bs ≡ Some l → IsLine (command (codes "ins") bs) l
+unfolding ins_row
+ins_found = text_found (codes "ins") (λ s v t. Ins s v t) (λ s v t few low some ok. (refl, (few, low, some, ok)))
+
+run_found : (bs : List ℕ) (l : Line) → run_row bs ≡ Some l → IsLine (command (codes "run") bs) l
+unfolding run_row
+run_found = text_found (codes "run") (λ s v t. Run s v t) (λ s v t few low some ok. (refl, (few, low, some, ok)))
 
 raw_found : (bs : List ℕ) (l : Line) → raw_row bs ≡ Some l → IsLine (command (codes "raw") bs) l
 unfolding raw_row
@@ -146,10 +161,13 @@ unfolding AllFound Found
 table_found = (
   ins_found,
   (
-    raw_found,
+    run_found,
     (
-      sites_found,
-      (nl_found, (del_found, (undo_found, (redo_found, (give_found, (all_found, (show_found, (state_found, tt)))))))),
+      raw_found,
+      (
+        sites_found,
+        (nl_found, (del_found, (undo_found, (redo_found, (give_found, (all_found, (show_found, (state_found, tt)))))))),
+      ),
     ),
   ),
 )
@@ -178,7 +196,7 @@ line_found (b ∷ bs) l e =
     e
 
 pub line_only : (bs : List ℕ) (l : Line) → IsLine bs l → line_in bs ≡ Some l
-unfolding line_in cut sites_row ins_row nl_row del_row undo_row redo_row give_row all_row raw_row show_row state_row
+unfolding line_in cut sites_row ins_row run_row nl_row del_row undo_row redo_row give_row all_row raw_row show_row state_row
 line_only bs Blank (inl e, r) = rw e refl
 line_only bs Blank (inr h, r) = rw h.1 refl
 line_only bs (Sites count) (e, r) = ap line_in e ∙ ap (option_map (λ n. Sites n)) (count_reads.to (decimal count) count (refl, r.0, r.1))
@@ -203,6 +221,11 @@ line_only bs (State site) (e, r) = ap line_in e ∙ ap (option_map (λ n. State 
 line_only bs (Ins site place text) (e, r) =
     let fields : List ℕ = two (decimal place) (encode_utf8_all text) in
     ap line_in e ∙ ap (option_map (λ (x : ℕ × (ℕ × List ℕ)). Ins x.0 x.1.0 x.1.1))
+    (site_place_and_text.to _ (site, (place, text))
+    (decimal site, fields, refl, (refl, r.0), (decimal place, encode_utf8_all text, refl, (refl, r.1), (refl, r.2, r.3))))
+line_only bs (Run site place text) (e, r) =
+    let fields : List ℕ = two (decimal place) (encode_utf8_all text) in
+    ap line_in e ∙ ap (option_map (λ (x : ℕ × (ℕ × List ℕ)). Run x.0 x.1.0 x.1.1))
     (site_place_and_text.to _ (site, (place, text))
     (decimal site, fields, refl, (refl, r.0), (decimal place, encode_utf8_all text, refl, (refl, r.1), (refl, r.2, r.3))))
 line_only bs Sync (e, r) = rw e refl
@@ -259,6 +282,7 @@ spelling_is Blank r = (inl refl, r)
 spelling_is (Raw site bytes) r = ((encode_lower bytes, refl, decode_of-encode_lower bytes r.2), r)
 spelling_is (Sites count) r = (refl, r)
 spelling_is (Ins site place text) r = (refl, r)
+spelling_is (Run site place text) r = (refl, r)
 spelling_is (Nl site place) r = (refl, r)
 spelling_is (Del site place) r = (refl, r)
 spelling_is (Undo site name) r = (refl, r)
@@ -307,6 +331,9 @@ spelling_utf8 Blank r = IsUtf8-nil
 spelling_utf8 (Sites count) r = blank_utf8 _ _ (word_utf8 (codes "sites") refl) (number_utf8 count (omega arith))
 spelling_utf8 (Ins site place text) r =
     blank_utf8 _ _ (word_utf8 (codes "ins") refl) (blank_utf8 _ _ (number_utf8 site (omega arith))
+    (blank_utf8 _ _ (number_utf8 place (omega arith)) (text, (r.3, refl))))
+spelling_utf8 (Run site place text) r =
+    blank_utf8 _ _ (word_utf8 (codes "run") refl) (blank_utf8 _ _ (number_utf8 site (omega arith))
     (blank_utf8 _ _ (number_utf8 place (omega arith)) (text, (r.3, refl))))
 spelling_utf8 (Nl site place) r =
     blank_utf8 _ _ (word_utf8 (codes "nl") refl) (blank_utf8 _ _ (number_utf8 site (omega arith)) (number_utf8 place (omega arith)))

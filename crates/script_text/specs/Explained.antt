@@ -1,5 +1,5 @@
 -- The lines of `explain`: the steps that derive a form.
-use Rattle.std.specs.Prelude.{ℕ, zero, suc, ◌^◌, ◌/◌, ◌%◌, nat_lt, List, [], ◌∷◌, ◌++◌, decimal, codes, slice_index, flat_map, if◌then◌else◌}
+use Rattle.std.specs.Prelude.{ℕ, zero, suc, ◌^◌, ◌/◌, ◌%◌, nat_lt, List, [], ◌∷◌, ◌++◌, decimal, codes, slice_index, length, if◌then◌else◌}
 use Rattle.hex.specs.Hex.{upper_digits}
 use Rattle.op_name.specs.declared.member.Member.{Member}
 use Rattle.ttf_form.specs.declared.form.Form.{Form}
@@ -19,13 +19,14 @@ hex_width n = if nat_lt n (16 ^ 4) then 4 else (if nat_lt n (16 ^ 5) then 5 else
 abbrev pub scalar_text : ℕ → List ℕ
 scalar_text ch = codes "U+" ++ hex_digits (hex_width ch) ch
 
--- ` U+HEX` for each of these characters
-abbrev pub scalars_text : List ℕ → List ℕ
-scalars_text chars = flat_map (λ ch. codes " " ++ scalar_text ch) chars
+-- an insert of these characters there: of one `ins PLACE U+HEX`, of others `run PLACE LEN`, with how many they are
+abbrev pub insert_text : ℕ → List ℕ → List ℕ
+insert_text place (ch ∷ []) = codes "ins " ++ (decimal place ++ (codes " " ++ scalar_text ch))
+insert_text place chars = codes "run " ++ (decimal place ++ (codes " " ++ decimal (length chars)))
 
--- the form of a member that inserts these characters: `ins PLACE U+HEX`, or `cover PLACE`, which puts none
+-- the form of a member that inserts these characters: an insert of them, or `cover PLACE`, which puts none
 abbrev pub form_text : List ℕ → Form → List ℕ
-form_text chars (Ins a) = codes "ins " ++ (decimal a.place ++ scalars_text chars)
+form_text chars (Ins a) = insert_text a.place chars
 form_text chars (Cover c) = codes "cover " ++ decimal c.place
 
 -- a blank, `MEMBER FORM` and a line feed

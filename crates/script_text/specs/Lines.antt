@@ -5,7 +5,7 @@ use Rattle.hex.specs.Hex.{decode_of, encode_lower, IsBytes}
 use Rattle.op_name.specs.NameData.{IsName}
 use Rattle.op_name.specs.declared.name.TheConstants.{SITES}
 use Rattle.script_text.specs.declared.reading.line.Line.{Line}
-use Rattle.script_text.specs.declared.reading.line.Line.TheVariants.{Blank, Sites, Ins, Nl, Del, Undo, Redo, Give, All, Sync, Raw, Show, State}
+use Rattle.script_text.specs.declared.reading.line.Line.TheVariants.{Blank, Sites, Ins, Run, Nl, Del, Undo, Redo, Give, All, Sync, Raw, Show, State}
 use Rattle.site_answers.specs.Names.{name_text}
 
 -- a word and its fields; two fields
@@ -20,6 +20,7 @@ abbrev pub spelling : Line → List ℕ
 spelling Blank = []
 spelling (Sites count) = command (codes "sites") (decimal count)
 spelling (Ins site place text) = command (codes "ins") (two (decimal site) (two (decimal place) (encode_utf8_all text)))
+spelling (Run site place text) = command (codes "run") (two (decimal site) (two (decimal place) (encode_utf8_all text)))
 spelling (Nl site place) = command (codes "nl") (two (decimal site) (decimal place))
 spelling (Del site place) = command (codes "del") (two (decimal site) (decimal place))
 spelling (Undo site name) = command (codes "undo") (two (decimal site) (name_text name))
@@ -36,6 +37,7 @@ abbrev pub IsInRange : Line → Type 0
 IsInRange Blank = Unit {0}
 IsInRange (Sites count) = (1 ≤ count) × (count ≤ SITES)
 IsInRange (Ins site place text) = (site < SITES) × (place < 2 ^ 32) × (0 < length text) × IsTrue (all_scalars text)
+IsInRange (Run site place text) = (site < SITES) × (place < 2 ^ 32) × (0 < length text) × IsTrue (all_scalars text)
 IsInRange (Nl site place) = (site < SITES) × (place < 2 ^ 32)
 IsInRange (Del site place) = (site < SITES) × (place < 2 ^ 32)
 IsInRange (Undo site name) = (site < SITES) × IsName name.site name.number
@@ -64,6 +66,7 @@ line_site Blank = None
 line_site (Sites count) = None
 line_site Sync = None
 line_site (Ins site place text) = Some site
+line_site (Run site place text) = Some site
 line_site (Nl site place) = Some site
 line_site (Del site place) = Some site
 line_site (Undo site name) = Some site
@@ -77,5 +80,6 @@ line_site (State site) = Some site
 -- the line has a text or bytes
 abbrev pub HasContent : Line → Type 0
 HasContent (Ins site place text) = Unit {0}
+HasContent (Run site place text) = Unit {0}
 HasContent (Raw site bytes) = Unit {0}
 HasContent line = ⊥

@@ -18,7 +18,7 @@ abbrev pub turn_word : ℕ → List ℕ
 turn_word g = if is_even g then codes "redo " else codes "undo "
 
 abbrev pub made_words : OpData → List ℕ
-made_words (inserting n p ch c) = codes "insert " ++ name_text n
+made_words (inserting n p text c) = codes "insert " ++ name_text n
 made_words (deleting n p c) = codes "delete " ++ name_text n
 made_words (undoing a t g c) = turn_word g ++ group_text t g
 

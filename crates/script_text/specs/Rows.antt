@@ -1,7 +1,7 @@
 -- The table of lines, as it is read: a word, and a reader of the fields after it.
 use Rattle.std.specs.Prelude.{ℕ, List, [], ◌∷◌, codes, bytes_eq, Option, None, option_map, if◌then◌else◌}
 use Rattle.script_text.specs.declared.reading.line.Line.{Line}
-use Rattle.script_text.specs.declared.reading.line.Line.TheVariants.{Sites, Ins, Nl, Del, Undo, Redo, Give, All, Raw, Show, State}
+use Rattle.script_text.specs.declared.reading.line.Line.TheVariants.{Sites, Ins, Run, Nl, Del, Undo, Redo, Give, All, Raw, Show, State}
 use Rattle.script_text.specs.Fields.{pair_by, count_of, site_of, number_of, name_of, text_of, octets_of}
 
 unfoldable pub sites_row : List ℕ → Option Line
@@ -9,6 +9,9 @@ sites_row bs = option_map (λ n. Sites n) (count_of bs)
 
 unfoldable pub ins_row : List ℕ → Option Line
 ins_row bs = option_map (λ x. Ins x.0 x.1.0 x.1.1) (pair_by 32 site_of (pair_by 32 number_of text_of) bs)
+
+unfoldable pub run_row : List ℕ → Option Line
+run_row bs = option_map (λ x. Run x.0 x.1.0 x.1.1) (pair_by 32 site_of (pair_by 32 number_of text_of) bs)
 
 unfoldable pub nl_row : List ℕ → Option Line
 nl_row bs = option_map (λ x. Nl x.0 x.1) (pair_by 32 site_of number_of bs)
@@ -48,7 +51,7 @@ plain_table =
     ∷ (codes "give", give_row) ∷ (codes "all", all_row) ∷ (codes "show", show_row) ∷ (codes "state", state_row) ∷ []
 
 abbrev pub table : List Row
-table = (codes "ins", ins_row) ∷ (codes "raw", raw_row) ∷ plain_table
+table = (codes "ins", ins_row) ∷ (codes "run", run_row) ∷ (codes "raw", raw_row) ∷ plain_table
 
 -- what the row of this word reads
 abbrev pub row_in : List Row → List ℕ → List ℕ → Option Line

@@ -17,6 +17,9 @@ pub enum Line {
     Sites { count: u16 },
     /// `ins S V TEXT`: inserts each character at the site, at visible places `place`, `place + 1` and so on.
     Ins { site: u16, place: u32, text: Chars },
+    /// `run S V TEXT`: inserts the text at the site, cut from the front into pieces of 256 characters and a shorter last one: one
+    /// operation each, at visible places `place`, `place + 256` and so on.
+    Run { site: u16, place: u32, text: Chars },
     /// `nl S V`: inserts a line feed.
     Nl { site: u16, place: u32 },
     /// `del S V`: deletes the shown cell.
@@ -47,6 +50,7 @@ impl Line {
         match self {
             Line::Blank | Line::Sites { .. } | Line::Sync => None,
             Line::Ins { site, .. }
+            | Line::Run { site, .. }
             | Line::Nl { site, .. }
             | Line::Del { site, .. }
             | Line::Undo { site, .. }

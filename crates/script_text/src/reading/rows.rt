@@ -2,7 +2,7 @@
 
 ghost use Rattle.std.specs.Prelude.{◌≡◌, Some, None, MatchOption, chars, ℕ};
 ghost use Rattle.script_text.specs.Fields.{pair_by, site_of, number_of, text_of, name_of, octets_of};
-ghost use Rattle.script_text.specs.Rows.{sites_row, ins_row, nl_row, del_row, undo_row, redo_row, give_row, all_row, raw_row, show_row, state_row, plain_table, table, row_in};
+ghost use Rattle.script_text.specs.Rows.{sites_row, ins_row, run_row, nl_row, del_row, undo_row, redo_row, give_row, all_row, raw_row, show_row, state_row, plain_table, table, row_in};
 ghost use Rattle.script_text.specs.Answers.{LineAnswers};
 
 use crate::reading::chars::Chars;
@@ -18,6 +18,7 @@ pub(crate) fn row(alloc: Global, word: &str, fields: &str) -> Result<Line, LineB
 {
     match word {
         "ins" => ins_line(alloc, fields),
+        "run" => run_line(alloc, fields),
         "raw" => raw_line(alloc, fields),
         _ => match plain_row(word, fields) {
             Some(line) => Ok(line),
@@ -55,6 +56,19 @@ fn ins_line(alloc: Global, fields: &str) -> Result<Line, LineBad>
         return Err(LineBad::Memory);
     };
     Ok(Line::Ins { site, place, text })
+}
+
+#[tactic(auto, unfolding(crate::specs::Rows::run_row))]
+fn run_line(alloc: Global, fields: &str) -> Result<Line, LineBad>
+    ensures { LineAnswers result (run_row fields.now) }
+{
+    let Some((site, place, text)) = site_place_and_text(fields) else {
+        return Err(LineBad::Form);
+    };
+    let Ok(text) = Chars::of_text(alloc, text) else {
+        return Err(LineBad::Memory);
+    };
+    Ok(Line::Run { site, place, text })
 }
 
 #[tactic(auto, unfolding(crate::specs::Rows::raw_row))]

@@ -2,7 +2,7 @@
 
 ghost use Rattle.std.specs.Prelude.{◌≡◌, ◌<◌, ◌∷◌, [], ◌++◌, OnOk, OnErr, length, take, codes, decimal, slice_index};
 ghost use Rattle.hex.specs.Hex.{upper_digits};
-ghost use Rattle.script_text.specs.Explained.{hex_digits, hex_width, scalar_text, scalars_text, form_text, about_text, base_text, step_text};
+ghost use Rattle.script_text.specs.Explained.{hex_digits, hex_width, scalar_text, insert_text, form_text, about_text, base_text, step_text};
 
 use op_name::{Member, Memory};
 use site_answers::{put, put_member};
@@ -106,55 +106,39 @@ fn about_parts(member: Member, chars: &[char], form: &Form, out: &mut Vec<u8>) -
     put::text(out, b"\n")
 }
 
-/// Appends the form of a member that inserts these characters: `ins PLACE U+HEX`, with the character's number in at least four
-/// digits, or `cover PLACE`, which puts none. A refused call leaves `out` as it was.
+/// Appends the form of a member that inserts these characters: `ins PLACE U+HEX` of one character, with its number in at least
+/// four digits, `run PLACE LEN` of more, with how many they are, or `cover PLACE`, which puts none. A refused call leaves `out`
+/// as it was.
 pub fn put_form(chars: &[char], form: &Form, out: &mut Vec<u8>) -> Result<(), Memory>
     ensures ok { OnOk result (out.new.items ≡ out.old.items ++ form_text chars.now form.now) }
     ensures err { OnErr result (out.new.items ≡ out.old.items) }
 {
     match form {
-        Form::Ins(ins) => put_ins(ins.place, chars, out),
+        Form::Ins(ins) => put_insert(ins.place, chars, out),
         Form::Cover(cover) => put::number(out, b"cover ", u64::from(cover.place)),
     }
 }
 
-// `ins PLACE U+HEX`
-fn put_ins(place: u32, chars: &[char], out: &mut Vec<u8>) -> Result<(), Memory>
-    ensures ok { OnOk result (out.new.items ≡ out.old.items ++ (codes "ins " ++ (decimal place ++ scalars_text chars.now))) }
+// `ins PLACE U+HEX` of one character, `run PLACE LEN` of others.
+fn put_insert(place: u32, chars: &[char], out: &mut Vec<u8>) -> Result<(), Memory>
+    ensures ok { OnOk result (out.new.items ≡ out.old.items ++ insert_text place chars.now) }
     ensures err { OnErr result (out.new.items ≡ out.old.items) }
 {
     let start = out.len();
-    let done = ins_parts(place, chars, out);
+    let done = insert_parts(place, chars, out);
     put::take_back(out, start, done)
 }
 
-fn ins_parts(place: u32, chars: &[char], out: &mut Vec<u8>) -> Result<(), Memory>
-    ensures ok { OnOk result (out.new.items ≡ out.old.items ++ (codes "ins " ++ (decimal place ++ scalars_text chars.now))) }
+fn insert_parts(place: u32, chars: &[char], out: &mut Vec<u8>) -> Result<(), Memory>
+    ensures ok { OnOk result (out.new.items ≡ out.old.items ++ insert_text place chars.now) }
     ensures err { OnErr result (take (length out.old.items) out.new.items ≡ out.old.items) }
 {
-    put::number(out, b"ins ", u64::from(place))?;
-    put_scalars(chars, out)
-}
-
-// Each with a blank before it. A refused call leaves `out` as it was.
-fn put_scalars(chars: &[char], out: &mut Vec<u8>) -> Result<(), Memory>
-    ensures ok { OnOk result (out.new.items ≡ out.old.items ++ scalars_text chars.now) }
-    ensures err { OnErr result (out.new.items ≡ out.old.items) }
-{
-    let start = out.len();
-    let done = scalars_parts(chars, out);
-    put::take_back(out, start, done)
-}
-
-#[tactic(auto, using(crate::proofs::Listings::put_none, crate::proofs::Listings::put_more, crate::proofs::Listings::put_end))]
-fn scalars_parts(chars: &[char], out: &mut Vec<u8>) -> Result<(), Memory>
-    ensures ok { OnOk result (out.new.items ≡ out.old.items ++ scalars_text chars.now) }
-    ensures err { OnErr result (take (length out.old.items) out.new.items ≡ out.old.items) }
-{
-    for ch in chars {
-        put_scalar(*ch, out)?;
+    if let [ch] = chars {
+        put::number(out, b"ins ", u64::from(place))?;
+        return put_scalar(*ch, out);
     }
-    Ok(())
+    put::number(out, b"run ", u64::from(place))?;
+    put::number(out, b" ", chars.len() as u64)
 }
 
 // A blank and `U+HEX`. A refused call leaves `out` as it was.
