@@ -1,28 +1,8 @@
--- One byte or one character put into a text, or one byte removed, after others.
-use Rattle.std.proofs.Common.{◌≡◌, ℕ, ◌+◌, ◌<◌, ◌≤◌, List, [], ◌∷◌, ◌++◌, length, take, drop, insert, get_or, sym, ap, ◌∙◌, arith, append_assoc, length-append, length-take-le, drop-drop}
+-- Characters put into a text, and one byte removed after others.
+use Rattle.std.proofs.Common.{◌≡◌, ℕ, ◌+◌, ◌-◌, ◌<◌, ◌≤◌, List, [], ◌∷◌, ◌++◌, length, take, drop, get_or, sym, ap, ◌∙◌, arith, append_assoc, length-append, length-drop, length-take-le, drop-drop}
 use Rattle.std.specs.Prelude.{encode_utf8, encode_utf8_all}
-use Rattle.std.proofs.lemmas.List.{take_at, drop_at, take_more, append-nil}
+use Rattle.std.proofs.lemmas.List.{take_at, drop_at, take_more, take-append-le, drop-append-le, append-nil}
 use Rattle.std.proofs.lemmas.Str.{encodes-append}
-
--- the next byte stands behind those before it
-pub byte_put : (xs bs text new : List ℕ) (at k next b : ℕ) → at ≤ length xs → k < length bs → b ≡ get_or bs k 0 → next ≡ at + k
-    → text ≡ take at xs ++ (take k bs ++ drop at xs)
-    → new ≡ insert text next b
-    → new ≡ take at xs ++ (take (k + 1) bs ++ drop at xs)
-byte_put xs bs text new at k next b le lt byte where_ is put =
-    let f = take at xs in
-    let t = take k bs in
-    let r = drop at xs in
-    let both : text ≡ (f ++ t) ++ r = is ∙ sym (append_assoc f t r) in
-    let long : length (f ++ t) ≡ next =
-    omega (arith, length-append f t, length-take-le at xs le, length-take-le k bs (omega arith), where_) in
-    let front : take next text ≡ f ++ t = ap (take next) both ∙ take_at (f ++ t) r next long in
-    let rest : drop next text ≡ r = ap (drop next) both ∙ drop_at (f ++ t) r next long in
-    put
-    ∙ (λ i. front i ++ (byte i ∷ rest i))
-    ∙ append_assoc f t (get_or bs k 0 ∷ r)
-    ∙ ap (λ (l : List ℕ). f ++ l) (sym (append_assoc t (get_or bs k 0 ∷ []) r))
-    ∙ ap (λ (l : List ℕ). f ++ (l ++ r)) (sym (take_more bs k 0 lt))
 
 -- one byte more is gone
 pub byte_removed : (xs text new : List ℕ) (at k : ℕ) → at ≤ length xs → text ≡ take at xs ++ drop (at + k) xs
@@ -43,7 +23,7 @@ byte_removed xs text new at k le is gone =
     behind ys n m = sym (drop-drop m n ys)
 
 -- one character more in UTF-8
-pub letters_encoded : (letters : List ℕ) (k x : ℕ) → k < length letters → x ≡ get_or letters k x
+letters_encoded : (letters : List ℕ) (k x : ℕ) → k < length letters → x ≡ get_or letters k x
     → encode_utf8_all (take (k + 1) letters) ≡ encode_utf8_all (take k letters) ++ encode_utf8 x
 letters_encoded letters k x lt is =
     ap encode_utf8_all (take_more letters k x lt ∙ ap (λ (y : ℕ). take k letters ++ y ∷ []) (sym is))
@@ -51,21 +31,25 @@ letters_encoded letters k x lt is =
     ∙ ap (λ (l : List ℕ). encode_utf8_all (take k letters) ++ l) (append-nil (encode_utf8 x))
 
 -- the next character stands behind those before it
-pub char_put : (xs text new letters : List ℕ) (at k next x : ℕ) → at ≤ length xs → k < length letters → x ≡ get_or letters k x
-    → next ≡ at + length (encode_utf8_all (take k letters))
-    → text ≡ take at xs ++ (encode_utf8_all (take k letters) ++ drop at xs)
-    → new ≡ take next text ++ (encode_utf8 x ++ drop next text)
-    → new ≡ take at xs ++ (encode_utf8_all (take (k + 1) letters) ++ drop at xs)
-char_put xs text new letters at k next x le lt is start whole put =
-    let f = take at xs in
-    let t = encode_utf8_all (take k letters) in
+pub char_pushed : (xs text new letters : List ℕ) (k x : ℕ) → k < length letters → x ≡ get_or letters k x
+    → text ≡ xs ++ encode_utf8_all (take k letters) → new ≡ text ++ encode_utf8 x → new ≡ xs ++ encode_utf8_all (take (k + 1) letters)
+char_pushed xs text new letters k x lt is so_far pushed =
+    pushed ∙ ap (λ (l : List ℕ). l ++ encode_utf8 x) so_far ∙ append_assoc xs (encode_utf8_all (take k letters)) (encode_utf8 x)
+    ∙ ap (λ (l : List ℕ). xs ++ l) (sym (letters_encoded letters k x lt is))
+
+-- what was put behind the text is brought to a place of it, in front of what stood there
+pub put_turned : (xs es text slice turned : List ℕ) (at behind n : ℕ) → at ≤ length xs → behind ≡ length xs - at → text ≡ xs ++ es
+    → slice ≡ text → n ≡ length text → turned ≡ take at slice ++ (drop behind (drop at slice) ++ take behind (drop at slice))
+    → take n (turned ++ drop (length turned) text) ≡ take at xs ++ (es ++ drop at xs)
+put_turned xs es text slice turned at behind n le size is same count by =
     let r = drop at xs in
-    let both : text ≡ (f ++ t) ++ r = whole ∙ sym (append_assoc f t r) in
-    let long : length (f ++ t) ≡ next = omega (arith, length-append f t, length-take-le at xs le, start) in
-    let front : take next text ≡ f ++ t = ap (take next) both ∙ take_at (f ++ t) r next long in
-    let rest : drop next text ≡ r = ap (drop next) both ∙ drop_at (f ++ t) r next long in
-    put
-    ∙ (λ i. front i ++ (encode_utf8 x ++ rest i))
-    ∙ append_assoc f t (encode_utf8 x ++ r)
-    ∙ ap (λ (l : List ℕ). f ++ l) (sym (append_assoc t (encode_utf8 x) r))
-    ∙ ap (λ (l : List ℕ). f ++ (l ++ r)) (sym (letters_encoded letters k x lt is))
+    let whole = same ∙ is in
+    let front : take at slice ≡ take at xs = ap (take at) whole ∙ take-append-le at xs es le in
+    let rest : drop at slice ≡ r ++ es = ap (drop at) whole ∙ drop-append-le at xs es le in
+    let long : length r ≡ behind = length-drop at xs ∙ sym size in
+    let put : turned ≡ take at xs ++ (es ++ r) =
+    by ∙ (λ i. front i ++ ((ap (drop behind) rest ∙ drop_at r es behind long) i ++ (ap (take behind) rest ∙ take_at r es behind long) i)) in
+    let all : length turned ≡ n =
+    ap length put
+    ∙ omega (arith, length-append (take at xs) (es ++ r), length-append es r, length-take-le at xs le, length-append xs es, ap length is, long) in
+    take_at turned (drop (length turned) text) n all ∙ put

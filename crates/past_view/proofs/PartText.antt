@@ -83,7 +83,7 @@ module _ (h : List OpData) (v : IsValid h) (c : ContextData) (closed : IsClosedC
     -- an operation of the set that covers the cell is one of its deletes
     covering : (d : CellData) → IsIn d cs → (o : OpData) → IsIn o (sub h c) → covers (sub h c) (cell_key d) o ≡ true
         → list_any (λ e. is_in_force_at c e.0) d.deleters ≡ true
-    covering d i (inserting n p ch k) j e = not_both e refl
+    covering d i (inserting n p text k) j e = not_both e refl
     covering d i (deleting n p k) j e =
         let passed = sub_in (deleting n p k) j in
         let parts = and_parts (in_force (sub h c) n) (hits (sub h c) (deleting n p k) (cell_key d)) e in

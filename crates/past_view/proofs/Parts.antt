@@ -1,5 +1,5 @@
 -- Parts of lists, and what a part of a history says: characters and generations.
-use Rattle.std.proofs.Common.{◌≡◌, ℕ, ◌≤◌, Bool, true, if◌then◌else◌, List, [], ◌∷◌, filter, inl, inr, refl, ap, sym, ◌∙◌, subst, arith}
+use Rattle.std.proofs.Common.{◌≡◌, ℕ, ◌≤◌, Bool, true, if◌then◌else◌, List, [], ◌∷◌, filter, slice_index_or, inl, inr, refl, ap, sym, ◌∙◌, subst, arith}
 use Rattle.std.proofs.lemmas.Bool.{cases_Bool, cases_lt, both_ways}
 use Rattle.op_name.specs.NameData.{NameData, name_eq}
 use Rattle.op_name.specs.declared.member.Member.{Member}
@@ -32,8 +32,8 @@ module _ (D : Member → Bool) where
   -- a cell whose insert is in the part has its character
   pub character_in_part : (h : List OpData) (c : Cell) → D (Original c.0) ≡ true → character_in (part h) c ≡ character_in h c
   character_in_part [] c e = refl
-  character_in_part (inserting n p ch k ∷ os) c e = elim (cases_Bool (D (Original n))) [
-    | inl d ↦ rw d (ap (λ (z : ℕ). if name_eq n c.0 then ch else z) (character_in_part os c e))
+  character_in_part (inserting n p text k ∷ os) c e = elim (cases_Bool (D (Original n))) [
+    | inl d ↦ rw d (ap (λ (z : ℕ). if name_eq n c.0 then slice_index_or text c.1 0 else z) (character_in_part os c e))
     | inr d ↦ elim (cases_Bool (name_eq n c.0)) [
       | inl q ↦ absurd (both_ways (D (Original n)) d (subst (λ (m : NameData). D (Original m) ≡ true) (sym (name_same n c.0 q)) e))
       | inr q ↦ rw (d, q) (character_in_part os c e)
@@ -50,7 +50,7 @@ module _ (D : Member → Bool) where
 
   generation_here : (o : OpData) (t : NameData) (most : ℕ) → ((g : ℕ) → D (Group t g) ≡ true → g ≤ most) → D (member_of o) ≡ true
       → generation_at o t ≤ most
-  generation_here (inserting n p ch k) t most h d = omega arith
+  generation_here (inserting n p text k) t most h d = omega arith
   generation_here (deleting n p k) t most h d = omega arith
   generation_here (undoing a n g k) t most h d = elim (cases_Bool (name_eq n t)) [
     | inl q ↦ rw q (h g (subst (λ (m : NameData). D (Group m g) ≡ true) (name_same n t q) d))
@@ -77,7 +77,7 @@ generation_reached (p ∷ ps) o t (inl e) =
 generation_reached (p ∷ ps) o t (inr i) = omega (arith, generation_reached ps o t i)
 
 generation_of_group : (o : OpData) (t : NameData) (g : ℕ) → member_of o ≡ Group t g → generation_at o t ≡ g
-generation_of_group (inserting n p ch k) t g e = absurd (cc)
+generation_of_group (inserting n p text k) t g e = absurd (cc)
 generation_of_group (deleting n p k) t g e = absurd (cc)
 generation_of_group (undoing a n k c) t g e =
     let name : n ≡ t = cc in

@@ -1,6 +1,6 @@
 //! The text at a set of members.
 
-ghost use Rattle.std.specs.Prelude.{◌≡◌, ◌∷◌, ◌++◌, [], Some, length, take, vec_len, encode_utf8, OnOk, OnErr, IfErr, IfSome, IfNone};
+ghost use Rattle.std.specs.Prelude.{◌≡◌, ◌∷◌, ◌++◌, ◌<◌, [], Some, length, slice_get, slice_index_or, take, vec_len, encode_utf8, OnOk, OnErr, IfErr, IfSome, IfNone};
 ghost use Rattle.std.specs.List.{list_any};
 ghost use Rattle.context_diff.specs.Replays.{text_of};
 ghost use Rattle.context_diff.specs.ClosedContexts.{IsClosedContext};
@@ -122,25 +122,39 @@ fn push_past(cells: &Cells, at: &Vector, out: &mut Vec<u8>) -> Result<(), Memory
 {
     cells.known();
     for i in 0..cells.chunk_count() {
-        push_chunk(cells.chunk_cells(i), cells.chunk_text(i), at, out)?;
+        push_chunk(cells, i, at, out)?;
     }
     Ok(())
 }
 
-// The same of some cells with the characters beside them.
-fn push_chunk(cells: &[Cell], text: &[char], at: &Vector, out: &mut Vec<u8>) -> Result<(), Memory>
-    requires { length text.now ≡ length cells.now }
-    ensures ok { OnOk result (out.new.items ≡ out.old.items ++ past_text at.now.set cells.now text.now) }
+// The same of the cells of a chunk with the characters beside them.
+fn push_chunk(cells: &Cells, chunk: u32, at: &Vector, out: &mut Vec<u8>) -> Result<(), Memory>
+    requires there { chunk < length cells.now.chunks }
+    requires beside { length (slice_index_or cells.now.texts chunk []) ≡ length (slice_index_or cells.now.chunks chunk []) }
+    ensures ok { OnOk result (out.new.items ≡ out.old.items ++ past_text at.now.set (slice_index_or cells.now.chunks chunk []) (slice_index_or cells.now.texts chunk [])) }
     ensures err { OnErr result (take (vec_len out.old) out.new.items ≡ out.old.items) }
 {
-    for i in 0..cells.len() {
-        push_cell(&cells[i], text[i], at, out)?;
+    let text = cells.chunk_text(chunk);
+    for i in 0..text.len() {
+        push_cell(&cell_of(cells, chunk, i), text[i], at, out)?;
     }
     Ok(())
+}
+
+// The cell at a place of a chunk, which is there.
+fn cell_of(cells: &Cells, chunk: u32, at: usize) -> Cell<'_>
+    requires there { chunk < length cells.now.chunks }
+    requires within { at < length (slice_index_or cells.now.chunks chunk []) }
+    ensures { slice_get (slice_index_or cells.now.chunks chunk []) at ≡ Some result }
+{
+    match cells.chunk_cell(chunk, at) {
+        Some(cell) => cell,
+        None => unreachable!(),
+    }
 }
 
 // Appends the character of a cell if it is of the past text.
-fn push_cell(cell: &Cell, ch: char, at: &Vector, out: &mut Vec<u8>) -> Result<(), Memory>
+fn push_cell(cell: &Cell<'_>, ch: char, at: &Vector, out: &mut Vec<u8>) -> Result<(), Memory>
     ensures ok { OnOk result (out.new.items ≡ out.old.items ++ past_text at.now.set (cell.now ∷ []) (ch ∷ [])) }
     ensures err { OnErr result (out.new.items ≡ out.old.items) }
 {
@@ -151,8 +165,8 @@ fn push_cell(cell: &Cell, ch: char, at: &Vector, out: &mut Vec<u8>) -> Result<()
     }
 }
 
-// Appends the bytes of a character.
-fn push_char(ch: char, out: &mut Vec<u8>) -> Result<(), Memory>
+/// Appends the bytes of a character.
+pub(crate) fn push_char(ch: char, out: &mut Vec<u8>) -> Result<(), Memory>
     ensures ok { OnOk result (out.new.items ≡ out.old.items ++ encode_utf8 ch) }
     ensures err { OnErr result (out.new.items ≡ out.old.items) }
 {
@@ -162,7 +176,7 @@ fn push_char(ch: char, out: &mut Vec<u8>) -> Result<(), Memory>
 }
 
 // Whether the cell is of the text at the set: its insert is in force there, and none of its deletes is.
-fn is_past(cell: &Cell, at: &Vector) -> bool
+fn is_past(cell: &Cell<'_>, at: &Vector) -> bool
     ensures { result ≡ is_past at.now.set cell.now }
 {
     is_in_force_at(at, &cell.id().name) && !any_in_force_at(at, cell.deleters())

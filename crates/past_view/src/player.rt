@@ -8,6 +8,7 @@ ghost use Rattle.ttf_form.specs.declared.form.Form.TheVariants.{Ins as Insert};
 ghost use Rattle.past_view.specs.Code.Playing.{AreApart, MarksOne, shown_beside, text_with, text_without};
 
 use crate::counted::{Counted, nth};
+use crate::past::push_char;
 use lane_rank::prefix_ones;
 use op_name::Memory;
 use tombstone_text::Cells;
@@ -212,39 +213,34 @@ fn byte_at(text: &[u8], v: u32, chars: u32) -> usize
     }
 }
 
-// Puts the bytes of characters at a place of the text, one character after the other.
-fn put_chars(text: &mut Vec<u8>, at: usize, letters: &[char]) -> Result<(), Memory>
-    requires { at ≤ length text.old.items }
-    ensures { OnOk result (text.new.items ≡ take at text.old.items ++ (encode_utf8_all letters.now ++ drop at text.old.items)) }
-{
-    let mut next = at;
-    for letter in letters {
-        put_char(text, next, *letter)?;
-        next += letter.len_utf8();
-    }
-    Ok(())
-}
-
 // Puts the bytes of a character at a place of the text.
 fn put_char(text: &mut Vec<u8>, at: usize, ch: char) -> Result<(), Memory>
     requires { at ≤ length text.old.items }
     ensures { OnOk result (text.new.items ≡ take at text.old.items ++ (encode_utf8 ch ++ drop at text.old.items)) }
 {
-    let mut bytes = [0; 4];
-    put_bytes(text, at, ch.encode_utf8(&mut bytes).as_bytes())
+    put_chars(text, at, &[ch])
 }
 
-// Puts bytes at a place of the text. The bytes behind it move as a block, once for each byte.
-fn put_bytes(text: &mut Vec<u8>, at: usize, bytes: &[u8]) -> Result<(), Memory>
+// Puts the bytes of characters at a place of the text: behind it, and then the bytes behind the place change places with them. So these
+// move once, as a block.
+fn put_chars(text: &mut Vec<u8>, at: usize, letters: &[char]) -> Result<(), Memory>
     requires { at ≤ length text.old.items }
-    ensures { OnOk result (text.new.items ≡ take at text.old.items ++ (bytes.now ++ drop at text.old.items)) }
+    ensures { OnOk result (text.new.items ≡ take at text.old.items ++ (encode_utf8_all letters.now ++ drop at text.old.items)) }
 {
-    let mut next = at;
-    for byte in bytes {
-        text.insert(next, *byte)?;
-        next += 1;
+    let behind = text.len() - at;
+    for letter in letters {
+        push_char(*letter, text)?;
     }
+    turn(text, at, behind);
     Ok(())
+}
+
+// Brings so many bytes from a place on to the end.
+fn turn(text: &mut [u8], at: usize, count: usize)
+    requires { at + count ≤ length text.old }
+    ensures { text.new ≡ take at text.old ++ (drop count (drop at text.old) ++ take count (drop at text.old)) }
+{
+    text[at..].rotate_left(count);
 }
 
 // Removes so many bytes at a place of the text. The bytes behind them move as a block, once for each.

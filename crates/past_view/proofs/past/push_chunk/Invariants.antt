@@ -1,6 +1,8 @@
-use Rattle.std.proofs.Common.{◌≡◌, ◌++◌, take}
+use Rattle.std.proofs.Common.{◌≡◌, ◌++◌, [], take, get_or}
 use Rattle.past_view.specs.Code.PastCells.{past_text}
 use Rattle.past_view.proofs.past.push_chunk.Given as goal
 
 abbrev pub invariant-loop-i : goal.invariant-loop-i
-invariant-loop-i l = l.out.items ≡ l.fn.out.items ++ past_text l.at.set (take l.i l.cells) (take l.i l.text)
+invariant-loop-i l =
+    l.out.items
+    ≡ l.fn.out.items ++ past_text l.at.set (take l.i (get_or l.cells.chunks l.chunk [])) (take l.i (get_or l.cells.texts l.chunk []))

@@ -1,5 +1,4 @@
-use Rattle.std.proofs.Common.{◌≡◌, ◌++◌, ◌<◌, ℕ, List, [], take, length, get_or, vec_len, ap, ap₂, ◌∙◌, sym, append_assoc, arith}
-use Rattle.ttf_form.specs.Cells.{CellData}
+use Rattle.std.proofs.Common.{◌≡◌, ◌++◌, ◌<◌, ℕ, List, [], take, length, get_or, vec_len, ap, ◌∙◌, sym, append_assoc, arith}
 use Rattle.tombstone_text.specs.Chunks.{flat, joined}
 use Rattle.visible_view.proofs.CallerLemmas.{front_stays, on_err}
 use Rattle.past_view.specs.Code.PastCells.{past_text}
@@ -15,12 +14,11 @@ returns-in_err-push_chunk-clause-err c =
     (front_stays c.args.out.now.items more c.loop-i.out.items c.push_chunk.new.out.items (vec_len c.args.out.now) (vec_len c.loop-i.out)
     c.loop-i.invariant long c.in_err-push_chunk.ensures.err)
 
-pub push_chunk-requires : goal.push_chunk-requires
-push_chunk-requires c =
+pub push_chunk-requires-clause-beside : goal.push_chunk-requires-clause-beside
+push_chunk-requires-clause-beside c =
     let cs = c.args.cells.now.chunks in
     let lt : c.loop-i.i < length cs = let n = c.chunk_count-i-end.ensures in let t = c.loop-i-test.true in omega arith in
-    ap (λ (l : List ℕ). length l) c.chunk_text.ensures ∙ beside_at c.args.cells.now.texts cs c.loop-i.i c.known.ensures.beside lt
-    ∙ ap (λ (l : List CellData). length l) (sym c.chunk_cells.ensures)
+    beside_at c.args.cells.now.texts cs c.loop-i.i c.known.ensures.beside lt
 
 pub loop-i-preserved : goal.loop-i-preserved
 loop-i-preserved c =
@@ -31,7 +29,6 @@ loop-i-preserved c =
     let front = c.args.out.now.items in
     let lt : i < length cs = let n = c.chunk_count-i-end.ensures in let t = c.loop-i-test.true in omega arith in
     c.in_ok-push_chunk.ensures.ok
-    ∙ ap₂ (λ (s : List CellData) (t : List ℕ). c.loop-i.out.items ++ past_text v s t) c.chunk_cells.ensures c.chunk_text.ensures
     ∙ ap (λ (bs : List ℕ). bs ++ past_text v (get_or cs i []) (get_or ts i [])) c.loop-i.invariant
     ∙ append_assoc front (past_text v (flat (take i cs)) (joined (take i ts))) (past_text v (get_or cs i []) (get_or ts i []))
     ∙ ap (λ (bs : List ℕ). front ++ bs) (sym (past_chunk_more v cs ts i c.known.ensures.beside lt))

@@ -1,23 +1,21 @@
-use Rattle.std.proofs.Common.{take, length, ap, arith, length-append}
-use Rattle.std.specs.Prelude.{encode_utf8, encode_utf8_all}
-use Rattle.past_view.proofs.Bytes.{char_put, letters_encoded}
+use Rattle.std.proofs.Common.{◌≡◌, ◌-◌, length, ap, sym, ◌∙◌, ◌++◌, rules}
+use Rattle.std.specs.Prelude.{encode_utf8_all}
+use Rattle.std.proofs.lemmas.List.{take_all}
+use Rattle.past_view.proofs.Bytes.{char_pushed, put_turned}
 use Rattle.past_view.proofs.player.put_chars.Goals as goal
 
 pub loop-letter-preserved : goal.loop-letter-preserved
 loop-letter-preserved c =
-    let k = c.loop-letter.letter-index in
+    char_pushed c.args.text.now.items c.loop-letter.text.items c.push_char.new.out.items c.args.letters.now c.loop-letter.letter-index
+    c.letter-item.result c.loop-letter-test.true c.letter-item.is c.loop-letter.invariant c.in_ok-push_char.ensures.ok
+
+pub returns : goal.returns
+returns c =
+    let xs = c.args.text.now.items in
     let letters = c.args.letters.now in
-    let x = c.letter-item.result in
-    let one = ap length (letters_encoded letters k x c.loop-letter-test.true c.letter-item.is) in
-    let both = length-append (encode_utf8_all (take k letters)) (encode_utf8 x) in
-    let so_far = c.loop-letter.invariant.0 in
-    let size = c.len_utf8-next.ensures.len in (
-      omega (arith, so_far, size, one, both),
-      char_put c.args.text.now.items c.loop-letter.text.items c.put_char.new.text.items letters c.args.at k c.loop-letter.next x
-          c.requires
-          c.loop-letter-test.true
-          c.letter-item.is
-          so_far
-          c.loop-letter.invariant.1
-          c.in_ok-put_char.ensures,
-    )
+    let text = c.loop-letter.text in
+    let all : text.items ≡ xs ++ encode_utf8_all letters =
+    c.loop-letter.invariant ∙ ap (λ l. xs ++ encode_utf8_all l) (take_all c.loop-letter.letter-index letters c.loop-letter-test.false) in
+    let behind : c.len.result - c.args.at ≡ length xs - c.args.at = ap (λ n. n - c.args.at) (search rules) in
+    put_turned xs (encode_utf8_all letters) text.items c.deref_mut.result.now c.turn.new.text c.args.at (c.len.result - c.args.at) text.len
+    c.requires behind all c.deref_mut.ensures.value (sym c.deref_mut.ensures.len ∙ ap length c.deref_mut.ensures.value) c.turn.ensures
