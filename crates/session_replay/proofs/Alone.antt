@@ -25,7 +25,7 @@ AreOwn i h = (o : OpData) → Contains h o → (target_of (member_of o)).site �
 -- an operation that comes next, and whose name is the site's own if it has one, is of an original of the site
 own_next : (i : ℕ) (h : List OpData) (o : OpData) → AreOwn i h → IsNext h o → ((n : NameData) → member_of o ≡ Original n → n.site ≡ i)
     → (target_of (member_of o)).site ≡ i
-own_next i h (inserting n p ch c) own next named = named n refl
+own_next i h (inserting n p text c) own next named = named n refl
 own_next i h (deleting n p c) own next named = named n refl
 own_next i h (undoing a t g c) own next named =
     let held = holder h (Original t) (next.ready (Original t) next.formed.target.0) in

@@ -1,5 +1,5 @@
 -- Characters of a text, one after the other.
-use Rattle.std.proofs.Common.{◌≡◌, ℕ, zero, suc, ◌+◌, ◌<◌, ◌≤◌, true, List, [], ◌∷◌, sym, ap, subst, ◌∙◌, length, take, get_or, arith}
+use Rattle.std.proofs.Common.{◌≡◌, ℕ, zero, suc, ◌+◌, ◌<◌, ◌≤◌, true, List, [], ◌∷◌, sym, ap, subst, ◌∙◌, length, take, drop, get_or, refl, arith}
 use Rattle.std.specs.Prelude.{◌&&◌}
 use Rattle.std.specs.Char.{IsScalar}
 use Rattle.std.specs.Str.{all_scalars}
@@ -28,3 +28,14 @@ scalars_more i xs x before within is scalar = ap (λ k. all_scalars (take k xs))
 -- all of them
 pub scalars_all : (i : ℕ) (xs : List ℕ) → all_scalars (take i xs) ≡ true → length xs ≤ i → all_scalars xs ≡ true
 scalars_all i xs all past = ap all_scalars (sym (take_all i xs past)) ∙ all
+
+-- those of a part
+pub scalars_take : (n : ℕ) (xs : List ℕ) → all_scalars xs ≡ true → all_scalars (take n xs) ≡ true
+scalars_take zero xs all = refl
+scalars_take (suc n) [] all = refl
+scalars_take (suc n) (x ∷ xs) all = let parts = and_parts _ _ all in scalar_first x (take n xs) parts.0 (scalars_take n xs parts.1)
+
+pub scalars_drop : (n : ℕ) (xs : List ℕ) → all_scalars xs ≡ true → all_scalars (drop n xs) ≡ true
+scalars_drop zero xs all = all
+scalars_drop (suc n) [] all = refl
+scalars_drop (suc n) (x ∷ xs) all = let parts = and_parts _ _ all in scalars_drop n xs parts.1

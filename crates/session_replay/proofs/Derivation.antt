@@ -1,14 +1,13 @@
 -- The report that is read with forms: a view that agrees with the histories of a session gives the same steps, line by line, and
 -- so the same report.
-use Rattle.std.proofs.Common.{◌≡◌, ℕ, ◌+◌, ◌<◌, Bool, true, inl, inr, List, [], ◌∷◌, ◌++◌, length, Result, Ok, Err, refl, ap, sym, subst, ◌∙◌}
+use Rattle.std.proofs.Common.{◌≡◌, ℕ, ◌+◌, ◌<◌, Bool, inl, inr, List, [], ◌∷◌, ◌++◌, length, Result, Ok, Err, refl, ap, sym, subst, ◌∙◌}
 use Rattle.std.specs.Prelude.{Option, Some, None, IfSome, nat_lt, if◌then◌else◌}
-use Rattle.std.specs.Str.{all_scalars}
-use Rattle.std.proofs.lemmas.Bool.{cases_Bool, and_parts, ltb-true}
+use Rattle.std.proofs.lemmas.Bool.{cases_Bool, ltb-true}
 use Rattle.context_diff.specs.Operations.{OpData}
 use Rattle.context_diff.specs.Histories.{IsNext, IsValid}
 use Rattle.cot_site.specs.States.{State}
 use Rattle.cot_site.specs.Views.{View, history_view, forms_view}
-use Rattle.cot_site.specs.Commands.{insert_in, delete_in, local_insert}
+use Rattle.cot_site.specs.Commands.{run_in, delete_in, local_run}
 use Rattle.site_answers.specs.declared.local.Local.{Local}
 use Rattle.cot_site.proofs.CallerLemmas.{computed_of, computed_lists, lists_show}
 use Rattle.script_text.specs.declared.reading.line.Line.{Line}
@@ -19,12 +18,14 @@ use Rattle.script_text.specs.Lines.{line_site}
 use Rattle.session_replay.specs.Steps.{Step, last_of, written_by}
 use Rattle.session_replay.specs.Sessions.{SessionData, site_at, made, unstarted}
 use Rattle.session_replay.specs.LineSteps.{told, commanded, typed, typed_in, typed_on, show_text_in, once_started, at_site_of, steps_there, steps_there_in, line_steps, line_steps_in, AreValues}
+use Rattle.participant.specs.Runs.{letters, pieces}
 use Rattle.script_text.specs.Report.{Report}
 use Rattle.session_replay.specs.Scripts.{Piece, prepended, line_read, pieces_of, steps_of_read, steps_of_read_in, piece_steps, piece_steps_in, report_on, report_from, report_from_in, script_report, script_report_in}
 use Rattle.session_replay.specs.Derivation.{IsDerivedReport}
 use Rattle.session_replay.specs.Soundness.{IsSound}
 use Rattle.session_replay.proofs.Sound.{Kept, good_made, good_last, site_sound}
 use Rattle.session_replay.proofs.LineLaws.{inserted_next}
+use Rattle.session_replay.proofs.Typing.{AreLetters, letters_are, pieces_are}
 use Rattle.session_replay.proofs.ScriptLaws.{Rests, unstarted_rests, read_values, piece_rests}
 
 -- a view that sees of each valid history what the history shows
@@ -43,17 +44,17 @@ module _ (view : State → View) (agrees : (s : State) → IsValid s.history →
       (good_last d (made i o d) sound (good_made d i o sound within (is o refl))))
   typed_on_same next other i (Err why) d sound within is same = refl
 
-  typed_same : (chs : List ℕ) → all_scalars chs ≡ true → (n i v : ℕ) → i < n → (d : SessionData) → Kept n d
-      → typed_in view i v chs d ≡ typed i v chs d
+  typed_same : (ps : List (List ℕ)) → AreLetters ps → (n i v : ℕ) → i < n → (d : SessionData) → Kept n d
+      → typed_in view i v ps d ≡ typed i v ps d
   unfolding typed_in
-  typed_same [] scalars n i v within d kept = refl
-  typed_same (ch ∷ chs) scalars n i v within d kept =
+  typed_same [] letters n i v within d kept = refl
+  typed_same (p ∷ ps) letters n i v within d kept =
       let here : i < length d.sites = subst (λ k. i < k) (sym kept.sites) within in
-      let parts = and_parts _ _ scalars in
-      let rest = typed_same chs parts.1 n i (v + 1) within in
-      ap (λ (x : View). typed_on (typed_in view i (v + 1) chs) i (insert_in x (site_at d i) v ch) d) (seen_at d i kept.sound here)
-      ∙ typed_on_same (typed_in view i (v + 1) chs) (typed i (v + 1) chs) i (local_insert (site_at d i) v ch) d kept.sound here
-      (inserted_next d i v ch kept.sound here parts.0)
+      let behind = v + length p in
+      let rest = typed_same ps letters.1 n i behind within in
+      ap (λ (x : View). typed_on (typed_in view i behind ps) i (run_in x (site_at d i) v p) d) (seen_at d i kept.sound here)
+      ∙ typed_on_same (typed_in view i behind ps) (typed i behind ps) i (local_run (site_at d i) v p) d kept.sound here
+      (inserted_next d i v p kept.sound here letters.0)
       (λ e after. rest e (record { sound = after.sound; sites = after.sites ∙ kept.sites }))
 
   -- ---- lines
@@ -74,9 +75,13 @@ module _ (view : State → View) (agrees : (s : State) → IsValid s.history →
   there_same line.Blank d sound values within = refl
   there_same (line.Sites n) d sound values within = refl
   there_same (line.Ins i v text) d sound values within =
-      ap (λ es. Ok es) (typed_same text values (length d.sites) i v within d (record { sound = sound; sites = refl }))
+      ap (λ es. Ok es)
+      (typed_same (letters text) (letters_are text values) (length d.sites) i v within d (record { sound = sound; sites = refl }))
+  there_same (line.Run i v text) d sound values within =
+      ap (λ es. Ok es)
+      (typed_same (pieces text) (pieces_are text values) (length d.sites) i v within d (record { sound = sound; sites = refl }))
   there_same (line.Nl i v) d sound values within =
-      ap (λ (x : View). Ok (commanded i (insert_in x (site_at d i) v 10) d)) (seen_at d i sound within)
+      ap (λ (x : View). Ok (commanded i (run_in x (site_at d i) v (10 ∷ [])) d)) (seen_at d i sound within)
   there_same (line.Del i v) d sound values within =
       ap (λ (x : View). Ok (commanded i (delete_in x (site_at d i) v) d)) (seen_at d i sound within)
   there_same (line.Undo i t) d sound values within = refl

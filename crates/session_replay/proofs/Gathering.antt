@@ -78,9 +78,9 @@ record Took (ms : List OpData) (i : ℕ) (s : State) (o : OpData) (t : State) : 
 
 repeat_known : (h ms : List OpData) (o : OpData) → IsValid h → ((x : OpData) → Contains h x → Contains ms x) → Agree ms ms → Contains ms o
     → is_known h (member_of o) ≡ true → IsRepeat h o
-repeat_known h ms (inserting n p ch c) valid part one at known =
+repeat_known h ms (inserting n p text c) valid part one at known =
     let held = holder h (Original n) known in
-    subst (λ x. Contains h x) (one held.op (inserting n p ch c) n (part held.op held.there) at held.is refl) held.there
+    subst (λ x. Contains h x) (one held.op (inserting n p text c) n (part held.op held.there) at held.is refl) held.there
 repeat_known h ms (deleting n p c) valid part one at known =
     let held = holder h (Original n) known in
     subst (λ x. Contains h x) (one held.op (deleting n p c) n (part held.op held.there) at held.is refl) held.there

@@ -43,7 +43,7 @@ any_more p xs ys is = list_any-append p xs ys ∙ or_left (list_any p xs) (list_
 
 -- a repeat stays one, whatever is integrated
 pub repeat_more : (h more : List OpData) (o : OpData) → is_repeat h o ≡ true → is_repeat (h ++ more) o ≡ true
-repeat_more h more (inserting n p ch c) is = any_more (op_eq (inserting n p ch c)) h more is
+repeat_more h more (inserting n p text c) is = any_more (op_eq (inserting n p text c)) h more is
 repeat_more h more (deleting n p c) is = any_more (op_eq (deleting n p c)) h more is
 repeat_more h more (undoing a t g c) is =
     le-leb g (generation_in (h ++ more) t) (omega (arith, leb-true g (generation_in h t) is, generation_more h more t))
@@ -72,7 +72,7 @@ placed_other None true place cells e = cc
 placed_other None false place cells e = cc
 
 ready_other : (h : List OpData) (o : OpData) → ready_verdict h o ≡ Repeat → ⊥
-ready_other h (inserting n p ch c) e = placed_other _ _ _ _ e
+ready_other h (inserting n p text c) e = placed_other _ _ _ _ e
 ready_other h (deleting n p c) e = placed_other _ _ _ _ e
 ready_other h (undoing a t g c) e = cc
 
@@ -103,7 +103,7 @@ reached_held (o ∷ os) a t g c at = elim (contains_cases o os (undoing a t g c)
 
 -- an operation of the history is a repeat
 repeat_held : (h : List OpData) (o : OpData) → Contains h o → is_repeat h o ≡ true
-repeat_held h (inserting n p ch c) at = (same_any (inserting n p ch c) h).1 at
+repeat_held h (inserting n p text c) at = (same_any (inserting n p text c) h).1 at
 repeat_held h (deleting n p c) at = (same_any (deleting n p c) h).1 at
 repeat_held h (undoing a t g c) at = le-leb g (generation_in h t) (reached_held h a t g c at)
 

@@ -13,6 +13,7 @@ pub mod Commanding
 pub mod Loops
 pub mod Lines
 pub mod Characters
+pub mod Typing
 mod Names
 mod Room
 mod Gathering

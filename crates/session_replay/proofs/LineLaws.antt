@@ -1,17 +1,15 @@
 -- Lines: what each does keeps sessions sound and ends settled.
 use Rattle.std.proofs.Common.{◌≡◌, ℕ, zero, suc, ◌+◌, ◌<◌, ◌≤◌, Bool, true, false, inl, inr, List, [], ◌∷◌, ◌++◌, length, Result, Ok, Err, refl, ap, sym, subst, ◌∙◌, arith}
 use Rattle.std.specs.Prelude.{Contains, Option, Some, None, IfSome, slice_get, drop, nat_lt, nat_le, if◌then◌else◌}
-use Rattle.std.specs.Char.{IsScalar}
-use Rattle.std.specs.Str.{all_scalars}
-use Rattle.std.proofs.lemmas.Bool.{cases_Bool, and_parts, ltb-true, leb-true}
+use Rattle.std.proofs.lemmas.Bool.{cases_Bool, ltb-true, leb-true}
 use Rattle.op_name.specs.declared.name.TheConstants.{SITES}
-use Rattle.context_diff.specs.Operations.{OpData, IsWellFormed}
+use Rattle.context_diff.specs.Operations.{OpData, IsLetters, IsWellFormed}
 use Rattle.context_diff.specs.Histories.{IsNext, IsValid}
 use Rattle.context_diff.proofs.CallerLemmas.{contains_cases, contains_here, contains_later, contains_none}
 use Rattle.cot_site.specs.States.{State}
-use Rattle.cot_site.proofs.CallerLemmas.{settled_none, local_insert_next, local_delete_next, local_undo_next, local_redo_next, formed_at}
+use Rattle.cot_site.proofs.CallerLemmas.{settled_none, local_run_next, local_delete_next, local_undo_next, local_redo_next, formed_at}
 use Rattle.cot_site.specs.Sites.{AllFormed}
-use Rattle.cot_site.specs.Commands.{local_insert, local_delete, local_undo, local_redo}
+use Rattle.cot_site.specs.Commands.{local_run, local_delete, local_undo, local_redo}
 use Rattle.site_answers.specs.declared.local.Local.{Local}
 use Rattle.wire_codec.specs.Causes.{cause_word}
 use Rattle.wire_codec.specs.Judging.{judge}
@@ -28,10 +26,12 @@ use Rattle.script_text.specs.Lines.{line_site}
 use Rattle.session_replay.specs.Steps.{Step, last_of}
 use Rattle.session_replay.specs.Sessions.{SessionData, site_at, new_site, new_sites, opened, made, given, given_all, synced}
 use Rattle.session_replay.specs.LineSteps.{told, commanded, typed, typed_in, typed_on, framed, framed_on, given_message, once_started, at_site_of, opening, steps_there, line_steps, AreValues, show_text, have_text}
+use Rattle.participant.specs.Runs.{letters, pieces}
 use Rattle.session_replay.specs.Events.{Opening}
 use Rattle.session_replay.specs.Soundness.{IsSound, AreSettled}
 use Rattle.session_replay.proofs.Every.{Every, every_map}
 use Rattle.session_replay.proofs.Telling.{no_release}
+use Rattle.session_replay.proofs.Typing.{AreLetters, letters_are, pieces_are}
 use Rattle.session_replay.proofs.Sound.{Good, Kept, Eventful, AreQuiet, quiet_none, quiet_told, eventless, one_event, good_none, good_told, good_made, good_given, good_then, good_last, site_sound}
 
 -- ---- local commands
@@ -55,21 +55,20 @@ good_typed_on : (next : SessionData → List (Step SessionData)) (i : ℕ) (r : 
 good_typed_on next i (Ok o) d sound within is rest = on_last d (made i o d) next sound (good_made d i o sound within (is o refl)) rest
 good_typed_on next i (Err why) d sound within is rest = good_told (local_text why) d sound refl refl
 
-pub inserted_next : (d : SessionData) (i v ch : ℕ) → IsSound d → i < length d.sites → IsScalar ch → (o : OpData)
-    → local_insert (site_at d i) v ch ≡ Ok o → IsNext (site_at d i).history o
-inserted_next d i v ch sound within scalar o is =
+pub inserted_next : (d : SessionData) (i v : ℕ) (text : List ℕ) → IsSound d → i < length d.sites → IsLetters text → (o : OpData)
+    → local_run (site_at d i) v text ≡ Ok o → IsNext (site_at d i).history o
+inserted_next d i v text sound within letters o is =
     let fine = site_sound d i sound within in
-    local_insert_next (site_at d i) fine.history fine.number o v ch scalar is
+    local_run_next (site_at d i) fine.history fine.number o v text letters is
 
-good_typed : (chs : List ℕ) → all_scalars chs ≡ true → (n i v : ℕ) → i < n → GoodNext n (typed i v chs)
+good_typed : (ps : List (List ℕ)) → AreLetters ps → (n i v : ℕ) → i < n → GoodNext n (typed i v ps)
 unfolding typed_in
-good_typed [] scalars n i v within d kept = good_none d
-good_typed (ch ∷ chs) scalars n i v within d kept =
+good_typed [] letters n i v within d kept = good_none d
+good_typed (p ∷ ps) letters n i v within d kept =
     let here : i < length d.sites = subst (λ k. i < k) (sym kept.sites) within in
-    let parts = and_parts _ _ scalars in
-    good_typed_on (typed i (v + 1) chs) i (local_insert (site_at d i) v ch) d kept.sound here
-    (inserted_next d i v ch kept.sound here parts.0)
-    (subst (λ k. GoodNext k (typed i (v + 1) chs)) (sym kept.sites) (good_typed chs parts.1 n i (v + 1) within))
+    good_typed_on (typed i (v + length p) ps) i (local_run (site_at d i) v p) d kept.sound here
+    (inserted_next d i v p kept.sound here letters.0)
+    (subst (λ k. GoodNext k (typed i (v + length p) ps)) (sym kept.sites) (good_typed ps letters.1 n i (v + length p) within))
 
 -- ---- deliveries
 
@@ -240,10 +239,15 @@ there_lasts : (l : Line) (d : SessionData) (es : List (Step SessionData)) → Is
 there_lasts line.Blank d es sound values within is = subst (Lasting d) (ok_steps [] es is) (nothing_lasts d)
 there_lasts (line.Sites n) d es sound values within is = opening_lasts n d es is
 there_lasts (line.Ins i v text) d es sound values within is =
-    good_lasts d (typed i v text d) es is (good_typed text values (length d.sites) i v within d (record { sound = sound; sites = refl }))
+    good_lasts d (typed i v (letters text) d) es is
+    (good_typed (letters text) (letters_are text values) (length d.sites) i v within d (record { sound = sound; sites = refl }))
+there_lasts (line.Run i v text) d es sound values within is =
+    good_lasts d (typed i v (pieces text) d) es is
+    (good_typed (pieces text) (pieces_are text values) (length d.sites) i v within d (record { sound = sound; sites = refl }))
 there_lasts (line.Nl i v) d es sound values within is =
-    good_lasts d (commanded i (local_insert (site_at d i) v 10) d) es is
-    (good_command i (local_insert (site_at d i) v 10) d sound within (inserted_next d i v 10 sound within refl))
+    let line_feed : IsLetters (10 ∷ []) = record { some = omega arith; most = omega arith; scalars = refl } in
+    good_lasts d (commanded i (local_run (site_at d i) v (10 ∷ [])) d) es is
+    (good_command i (local_run (site_at d i) v (10 ∷ [])) d sound within (inserted_next d i v (10 ∷ []) sound within line_feed))
 there_lasts (line.Del i v) d es sound values within is =
     let fine = site_sound d i sound within in
     good_lasts d (commanded i (local_delete (site_at d i) v) d) es is

@@ -164,14 +164,21 @@ told_line : {T E : Type 0} (r : Result T E) (w : List ℕ) (d : SessionData) (ol
 told_line (Ok t) w d old new ok err = told_done d d w old new refl ok
 told_line (Err e) w d old new ok err = done_nothing (told w d) d d old new refl err
 
+-- a line with these steps
+pub steps_answer : {T E : Type 0} (line this : Line) (r : Result T E) (q : Result T StepBad) (es : List (Step SessionData))
+    (d now : SessionData) (old new : List ℕ)
+    → line ≡ this → steps_there this d ≡ Ok es → q ≡ as_step r → AreDone r es d now old new
+    → IsLineDone (steps_there line d) q d now old new
+steps_answer line this r q es d now old new is steps also done =
+    subst (λ x. IsLineDone x q d now old new) (sym (ap (λ l. steps_there l d) is ∙ steps))
+    (subst (λ x. IsLineDone (Ok es) x d now old new) (sym also) (line_from_done r es d now old new done))
+
 pub told_answer : {T E : Type 0} (line this : Line) (r : Result T E) (q : Result T StepBad) (w : List ℕ) (d : SessionData)
     (old new : List ℕ)
     → line ≡ this → steps_there this d ≡ Ok (told w d) → q ≡ as_step r → OnOk r (new ≡ old ++ w) → OnErr r (new ≡ old)
     → IsLineDone (steps_there line d) q d d old new
 told_answer line this r q w d old new is steps also ok err =
-    subst (λ x. IsLineDone x q d d old new) (sym (ap (λ l. steps_there l d) is ∙ steps))
-    (subst (λ x. IsLineDone (Ok (told w d)) x d d old new) (sym also)
-    (line_from_done r (told w d) d d old new (told_line r w d old new ok err)))
+    steps_answer line this r q (told w d) d d old new is steps also (told_line r w d old new ok err)
 
 pub blank_answer : (line : Line) (d : SessionData) (old : List ℕ) → line ≡ Blank
     → IsLineDone {T = Unit {0}} (steps_there line d) (Ok tt) d d old old

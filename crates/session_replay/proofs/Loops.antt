@@ -1,21 +1,15 @@
 -- Steps of a line that go over a text, over messages, or over sites: the first part and the rest.
-use Rattle.std.proofs.Common.{◌≡◌, ℕ, zero, suc, ◌+◌, ◌-◌, ◌<◌, ◌≤◌, if◌then◌else◌, Bool, true, false, List, [], ◌∷◌, ◌++◌, refl, sym, ap, ◌∙◌, length, drop, get_or, append-nil, length-drop, arith}
+use Rattle.std.proofs.Common.{◌≡◌, ℕ, zero, suc, ◌+◌, ◌-◌, ◌<◌, ◌≤◌, if◌then◌else◌, min, Bool, true, false, inl, inr, List, [], ◌∷◌, ◌++◌, refl, sym, ap, ◌∙◌, length, take, drop, get_or, append-nil, length-drop, arith}
 use Rattle.std.specs.Prelude.{Option, Some, None, Result, Ok, Err, slice_get, nat_lt}
 use Rattle.std.specs.Result.{is_ok}
 use Rattle.std.proofs.Math.Seq.{drop-cons}
-use Rattle.std.proofs.lemmas.List.{drop_all}
+use Rattle.std.proofs.lemmas.List.{drop_all, take_min, length-take}
 use Rattle.std.proofs.lemmas.Option.{slice_get_within, slice_get-get_or, none-some}
-use Rattle.std.proofs.lemmas.Bool.{true≢false, false≢true}
-use Rattle.context_diff.specs.Operations.{OpData, inserting}
-use Rattle.context_diff.specs.Histories.{IsValid, context_of_all}
-use Rattle.context_diff.specs.declared.op.TheConstants.{PLACES}
-use Rattle.context_diff.specs.Replays.{characters_of}
-use Rattle.cot_site.specs.States.{State}
-use Rattle.cot_site.specs.Commands.{local_insert, place_behind, numbered, next_name}
+use Rattle.std.proofs.lemmas.Bool.{cases_lt, true≢false, false≢true}
+use Rattle.context_diff.specs.Operations.{OpData}
+use Rattle.cot_site.specs.Commands.{local_run}
 use Rattle.site_answers.specs.declared.local.Local.{Local}
-use Rattle.site_answers.specs.declared.local.Local.TheVariants.{PlaceOut}
 use Rattle.script_text.specs.Report.{raw_bad_text, raw_more_text}
-use Rattle.cot_site.proofs.CallerLemmas.{behind_few}
 use Rattle.wire_codec.specs.Causes.{cause_word}
 use Rattle.wire_codec.specs.Judging.{judge, judged, longest, length_of}
 use Rattle.wire_codec.specs.declared.fault.Fault.{Fault}
@@ -24,6 +18,8 @@ use Rattle.wire_codec.specs.declared.fault.Refused.TheVariants.{More, Bad}
 use Rattle.session_replay.specs.Steps.{Step, last_of}
 use Rattle.session_replay.specs.Sessions.{SessionData, site_at, given, given_all, synced, new_site, new_sites}
 use Rattle.session_replay.specs.Code.Doing.{frame_bytes}
+use Rattle.session_replay.specs.Code.Typing.{parts}
+use Rattle.session_replay.proofs.Typing.{parts_next, parts_none}
 use Rattle.session_replay.specs.LineSteps.{commanded, typed, typed_in, typed_on, framed, framed_on, told}
 
 -- the line of bytes that begin with no frame
@@ -33,63 +29,86 @@ refused_frame i (Bad f) = raw_bad_text i (cause_word f.cause) f.offset
 
 -- ---- a text
 
-typed_any : (i v : ℕ) (chs : List ℕ) (d : SessionData) (r : Result OpData Local)
-    → (left : List (Step SessionData)) × (typed_on (typed i (v + 1) chs) i r d ≡ commanded i r d ++ left)
-typed_any i v chs d (Ok o) = (typed i (v + 1) chs (last_of d (commanded i (Ok o) d)), refl)
-typed_any i v chs d (Err why) = ([], sym (append-nil (commanded i (Err why) d)))
+typed_any : (next : SessionData → List (Step SessionData)) (i : ℕ) (d : SessionData) (r : Result OpData Local)
+    → (left : List (Step SessionData)) × (typed_on next i r d ≡ commanded i r d ++ left)
+typed_any next i d (Ok o) = (next (last_of d (commanded i (Ok o) d)), refl)
+typed_any next i d (Err why) = ([], sym (append-nil (commanded i (Err why) d)))
 
-typed_next : (i v : ℕ) (chs : List ℕ) (d now : SessionData) (r : Result OpData Local) → is_ok r ≡ true → now ≡ last_of d (commanded i r d)
-    → typed_on (typed i (v + 1) chs) i r d ≡ commanded i r d ++ typed i (v + 1) chs now
-typed_next i v chs d now (Ok o) ok at = ap (λ x. commanded i (Ok o) d ++ typed i (v + 1) chs x) (sym at)
-typed_next i v chs d now (Err why) ok at = absurd (false≢true ok)
+typed_next : (next : SessionData → List (Step SessionData)) (i : ℕ) (d now : SessionData) (r : Result OpData Local) → is_ok r ≡ true
+    → now ≡ last_of d (commanded i r d) → typed_on next i r d ≡ commanded i r d ++ next now
+typed_next next i d now (Ok o) ok at = ap (λ x. commanded i (Ok o) d ++ next x) (sym at)
+typed_next next i d now (Err why) ok at = absurd (false≢true ok)
 
-typed_end : (i v : ℕ) (chs : List ℕ) (d : SessionData) (r : Result OpData Local) → is_ok r ≡ false
-    → typed_on (typed i (v + 1) chs) i r d ≡ commanded i r d ++ []
-typed_end i v chs d (Ok o) not_ok = absurd (true≢false not_ok)
-typed_end i v chs d (Err why) not_ok = sym (append-nil (commanded i (Err why) d))
+typed_end : (next : SessionData → List (Step SessionData)) (i : ℕ) (d : SessionData) (r : Result OpData Local) → is_ok r ≡ false
+    → typed_on next i r d ≡ commanded i r d ++ []
+typed_end next i d (Ok o) not_ok = absurd (true≢false not_ok)
+typed_end next i d (Err why) not_ok = sym (append-nil (commanded i (Err why) d))
 
-typed_at : (i v k : ℕ) (text : List ℕ) (d : SessionData) (ch : ℕ) → k < length text → ch ≡ get_or text k ch
-    → typed i v (drop k text) d ≡ typed_on (typed i (v + 1) (drop (k + 1) text)) i (local_insert (site_at d i) v ch) d
+-- what a text begins with: a part of so many characters, or all of a shorter one
+pub record IsCut (size : ℕ) (text part behind : List ℕ) : Type 0 where
+  pub least : 1 ≤ size
+  pub some : 0 < length text
+  pub front : part ≡ take size text
+  pub back : behind ≡ drop size text
+
+pub cut_at : (size k : ℕ) (text part behind : List ℕ) → 1 ≤ size → 0 < length text → k ≡ min size (length text) → part ≡ take k text
+    → behind ≡ drop k text → IsCut size text part behind
+cut_at size k text part behind least some at front back = record {
+  least = least;
+  some = some;
+  front = front ∙ ap (λ n. take n text) at ∙ take_min size text;
+  back = back ∙ ap (λ n. drop n text) at ∙ drop_min;
+}
+  where
+    drop_min : drop (min size (length text)) text ≡ drop size text
+    drop_min =
+        elim (cases_lt size (length text)) [
+          | inl more ↦ ap (λ n. drop n text) (omega (arith, more))
+          | inr all ↦
+              drop_all (min size (length text)) text (omega (arith, all)) ∙ sym (drop_all size text all)
+        ]
+
+-- what is cut off may be the text of an insert
+pub cut_fits : (size : ℕ) (text part behind : List ℕ) → IsCut size text part behind → (1 ≤ length part) × (length part ≤ size)
+    × (length behind < length text)
+cut_fits size text part behind cut =
+    let long = length-take size text in
+    let left = length-drop size text in
+    let least = cut.least in
+    let some = cut.some in
+    let part_is : length part ≡ length (take size text) = ap length cut.front in
+    let behind_is : length behind ≡ length (drop size text) = ap length cut.back in
+    (omega (arith, long, part_is, least, some), omega (arith, long, part_is), omega (arith, left, behind_is, least, some))
+
+module _ (size i v : ℕ) (text part behind : List ℕ) (d : SessionData) (cut : IsCut size text part behind) where
+  abbrev answer : Result OpData Local
+  answer = local_run (site_at d i) v part
+
+  abbrev rest : SessionData → List (Step SessionData)
+  rest now = typed i (v + length part) (parts size behind) now
+
+  typed_at : typed i v (parts size text) d ≡ typed_on rest i answer d
+  unfolding typed_in
+  typed_at =
+      ap (λ ps. typed i v ps d)
+      (parts_next size text cut.least cut.some
+      ∙ ap (λ p. p ∷ parts size (drop size text)) (sym cut.front)
+      ∙ ap (λ t. part ∷ parts size t) (sym cut.back))
+
+  -- the first part of a text and, if it was inserted, what is left then
+  pub typed_more : (now : SessionData) → true ≡ is_ok answer → now ≡ last_of d (commanded i answer d)
+      → typed i v (parts size text) d ≡ commanded i answer d ++ rest now
+  typed_more now ok at = typed_at ∙ typed_next rest i d now answer (sym ok) at
+
+  pub typed_last : false ≡ is_ok answer → typed i v (parts size text) d ≡ commanded i answer d ++ []
+  typed_last not_ok = typed_at ∙ typed_end rest i d answer (sym not_ok)
+
+  pub typed_part : (left : List (Step SessionData)) × (typed i v (parts size text) d ≡ commanded i answer d ++ left)
+  typed_part = let any = typed_any rest i d answer in (any.0, typed_at ∙ any.1)
+
+pub typed_none : (size i v : ℕ) (text : List ℕ) (d : SessionData) → length text ≡ 0 → typed i v (parts size text) d ≡ []
 unfolding typed_in
-typed_at i v k text d ch within is =
-    let cut : drop k text ≡ ch ∷ drop (k + 1) text =
-    drop-cons text k ch within ∙ ap (λ c. c ∷ drop (suc k) text) (sym is) ∙ ap (λ n. ch ∷ drop n text) (next_is k) in
-    ap (λ cs. typed i v cs d) cut
-  where
-    next_is : (n : ℕ) → suc n ≡ n + 1
-    next_is n = omega arith
-
--- the first character of the rest and, if it was inserted, what is left then
-pub typed_more : (i v k : ℕ) (text : List ℕ) (d now : SessionData) (ch : ℕ) → k < length text → ch ≡ get_or text k ch
-    → true ≡ is_ok (local_insert (site_at d i) v ch) → now ≡ last_of d (commanded i (local_insert (site_at d i) v ch) d)
-    → typed i v (drop k text) d ≡ commanded i (local_insert (site_at d i) v ch) d ++ typed i (v + 1) (drop (k + 1) text) now
-typed_more i v k text d now ch within is ok at =
-    typed_at i v k text d ch within is ∙ typed_next i v (drop (k + 1) text) d now (local_insert (site_at d i) v ch) (sym ok) at
-
-pub typed_last : (i v k : ℕ) (text : List ℕ) (d : SessionData) (ch : ℕ) → k < length text → ch ≡ get_or text k ch
-    → false ≡ is_ok (local_insert (site_at d i) v ch)
-    → typed i v (drop k text) d ≡ commanded i (local_insert (site_at d i) v ch) d ++ []
-typed_last i v k text d ch within is not_ok =
-    typed_at i v k text d ch within is ∙ typed_end i v (drop (k + 1) text) d (local_insert (site_at d i) v ch) (sym not_ok)
-
-pub typed_part : (i v k : ℕ) (text : List ℕ) (d : SessionData) (ch : ℕ) → k < length text → ch ≡ get_or text k ch
-    → (left : List (Step SessionData)) × (typed i v (drop k text) d ≡ commanded i (local_insert (site_at d i) v ch) d ++ left)
-typed_part i v k text d ch within is =
-    let any = typed_any i v (drop (k + 1) text) d (local_insert (site_at d i) v ch) in
-    (any.0, typed_at i v k text d ch within is ∙ any.1)
-
--- a character was inserted after at most `PLACES` others
-pub place_small : (s : State) (v ch : ℕ) → IsValid s.history → true ≡ is_ok (local_insert s v ch) → v ≤ PLACES
-place_small s v ch valid ok = from (place_behind s.history v) refl ok
-  where
-    from : (r : Option ℕ) → place_behind s.history v ≡ r
-        → true ≡ is_ok (elim r as (λ _. Result OpData Local) [
-          | None ↦ Err (PlaceOut v (length (characters_of s.history)))
-          | Some p ↦
-              numbered s (inserting (next_name s) p ch (context_of_all s.history))
-        ]) → v ≤ PLACES
-    from None at ok = absurd (true≢false ok)
-    from (Some p) at ok = behind_few s.history valid v p at
+typed_none size i v text d none = ap (λ ps. typed i v ps d) (parts_none size text none)
 
 -- ---- messages
 
@@ -105,10 +124,6 @@ given_more i k os d o at =
     let cut : drop k os ≡ o ∷ drop (k + 1) os =
     drop-cons os k o within ∙ ap (λ p. p ∷ drop (suc k) os) here ∙ ap (λ n. o ∷ drop n os) next in
     ap (λ ps. given_all i ps d) cut
-
-pub typed_none : (i v : ℕ) (text : List ℕ) (d : SessionData) (k : ℕ) → length text ≤ k → typed i v (drop k text) d ≡ []
-unfolding typed_in
-typed_none i v text d k past = ap (λ cs. typed i v cs d) (drop_all k text past)
 
 pub given_none : (i : ℕ) (os : List OpData) (d : SessionData) (k : ℕ) → length os ≤ k → given_all i (drop k os) d ≡ []
 unfolding given_all

@@ -15,7 +15,7 @@ use Rattle.op_name.specs.declared.member.TheConstants.{GENERATIONS}
 use Rattle.context_vector.proofs.CallerLemmas.{has_original}
 use Rattle.context_diff.specs.Operations.{OpData, inserting, deleting, undoing, member_of}
 use Rattle.op_name.specs.Members.{is_even}
-use Rattle.context_diff.specs.Histories.{is_known, generation_in, context_of_all, IsNext, IsValid}
+use Rattle.context_diff.specs.Histories.{is_known, generation_in, context_of_all, all_cells, IsNext, IsValid}
 use Rattle.context_diff.specs.Replays.{Cell, replay_of, is_shown, shown, characters_of}
 use Rattle.context_diff.specs.declared.op.TheConstants.{PLACES}
 use Rattle.context_diff.proofs.CallerLemmas.{complete, all_is_context, named_few}
@@ -25,7 +25,7 @@ use Rattle.cot_site.specs.States.{State}
 use Rattle.op_name.specs.Lists.{places_from}
 use Rattle.cot_site.specs.Views.{shown_places_of}
 use Rattle.cot_site.specs.Commands.{place_of_shown, place_behind, count_made, next_name, in_context, numbered, turned, local_insert, local_delete, local_undo, local_redo}
-use Rattle.cot_site.proofs.CallerLemmas.{local_insert_next, local_delete_next, local_undo_next, local_redo_next, in_context_made, shown_few}
+use Rattle.cot_site.proofs.CallerLemmas.{local_insert_next, local_delete_next, local_undo_next, local_redo_next, behind_named, cells_few, in_context_made, shown_named}
 use Rattle.session_replay.specs.declared.draws.Draw.{Draw}
 use Rattle.session_replay.specs.declared.generator.TheConstants.{MAX_EVENTS}
 use Rattle.session_replay.specs.Generating.{names_of, drawn_target, drawn_turn, drawn_insert, drawn_operation}
@@ -58,9 +58,9 @@ places_number test n (c ∷ cs) =
 shown_number : (h : List OpData) → length (shown_places_of h) ≡ length (shown h)
 shown_number h = places_number (is_shown h) 0 (replay_of h)
 
--- so few that a place after each of them is a number of 32 bits
-pub characters_few : (h : List OpData) → IsValid h → length (shown h) ≤ PLACES
-characters_few h valid = omega (arith, shown_number h, shown_few h valid)
+-- so few cells that each place is one that an operation may name
+few_cells : (s : State) → HasRoom s → all_cells s.history ≤ PLACES
+few_cells s room = omega (arith, cells_few s.history room.valid, room.few)
 
 -- ---- inserts and deletes
 
@@ -88,17 +88,19 @@ insert_makes s room v ch within scalar = record {
     place = get_or places v 0
 
     at : place_behind s.history v ≡ Some place
-    at = slice_get-get_or places v 0 (omega (arith, within, length-map (shown_places_of s.history) suc, shown_number s.history))
+    at =
+        behind_named s.history (few_cells s room) v
+        ∙ slice_get-get_or places v 0 (omega (arith, within, length-map (shown_places_of s.history) suc, shown_number s.history))
 
     o : OpData
-    o = inserting (next_name s) place ch (context_of_all s.history)
+    o = inserting (next_name s) place (ch ∷ []) (context_of_all s.history)
 
     is : local_insert s v ch ≡ Ok o
     is =
         ap (λ (q : Option ℕ). elim q as (λ _. Result OpData Local) [
           | None ↦ Err (PlaceOut v (length (characters_of s.history)))
           | Some p ↦
-              numbered s (inserting (next_name s) p ch (context_of_all s.history))
+              numbered s (inserting (next_name s) p (ch ∷ []) (context_of_all s.history))
         ]) at
         ∙ numbered_made s o room
 
@@ -114,7 +116,9 @@ delete_makes s room v within = record {
     place = get_or (shown_places_of s.history) v 0
 
     at : place_of_shown s.history v ≡ Some place
-    at = slice_get-get_or (shown_places_of s.history) v 0 (omega (arith, within, shown_number s.history))
+    at =
+        shown_named s.history (few_cells s room) v
+        ∙ slice_get-get_or (shown_places_of s.history) v 0 (omega (arith, within, shown_number s.history))
 
     o : OpData
     o = deleting (next_name s) place (context_of_all s.history)

@@ -4,7 +4,7 @@ use Rattle.std.specs.Prelude.{Option, Some, None, Result, Ok, Err, OnErr, nat_lt
 use Rattle.op_name.specs.declared.name.TheConstants.{SITES}
 use Rattle.context_diff.specs.Operations.{OpData}
 use Rattle.site_answers.specs.declared.local.Local.{Local}
-use Rattle.cot_site.specs.Commands.{local_insert}
+use Rattle.cot_site.specs.Commands.{local_run}
 use Rattle.wire_codec.specs.Judging.{judge}
 use Rattle.wire_codec.specs.declared.fault.Refused.{Refused}
 use Rattle.wire_codec.specs.declared.fault.Refused.TheVariants.{More, Bad}
@@ -29,12 +29,12 @@ pub commanded_some : (i : ℕ) (r : Result OpData Local) (d : SessionData) → H
 commanded_some i (Ok o) d = tt
 commanded_some i (Err why) d = tt
 
-pub typed_some : (i v : ℕ) (chs : List ℕ) (d : SessionData) → 0 < length chs → HasStep (Ok (typed i v chs d))
+pub typed_some : (i v : ℕ) (ps : List (List ℕ)) (d : SessionData) → 0 < length ps → HasStep (Ok (typed i v ps d))
 unfolding typed_in
 typed_some i v [] d some = absurd (omega (arith, some))
-typed_some i v (ch ∷ chs) d some = from (local_insert (site_at d i) v ch)
+typed_some i v (p ∷ ps) d some = from (local_run (site_at d i) v p)
   where
-    from : (r : Result OpData Local) → HasStep (Ok (typed_on (typed i (v + 1) chs) i r d))
+    from : (r : Result OpData Local) → HasStep (Ok (typed_on (typed i (v + length p) ps) i r d))
     from (Ok o) = tt
     from (Err why) = tt
 

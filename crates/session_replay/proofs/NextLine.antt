@@ -2,7 +2,7 @@
 use Rattle.std.proofs.Common.{◌≡◌, ℕ, Bool, true, false, List, [], ◌∷◌, refl, sym, ap, subst, ◌∙◌, length}
 use Rattle.std.specs.Prelude.{Option, Some, None, IsSomeAnd, Result, Ok, Err, OnErr, nat_lt, if◌then◌else◌}
 use Rattle.script_text.specs.declared.reading.line.Line.{Line}
-use Rattle.script_text.specs.declared.reading.line.Line.TheVariants.{Ins, Raw}
+use Rattle.script_text.specs.declared.reading.line.Line.TheVariants.{Ins, Run, Raw}
 use Rattle.script_text.specs.declared.reading.line.LineBad.{LineBad}
 use Rattle.script_text.specs.declared.reading.line.LineBad.TheVariants as reading
 use Rattle.script_text.specs.declared.report.refusal.Refusal.{Refusal}
@@ -12,6 +12,7 @@ use Rattle.script_text.specs.LeftLines.{LeftLine, InputData}
 use Rattle.script_text.specs.Streams.{IsNext, Reads, TakesLine}
 use Rattle.script_text.specs.Answers.{line_in}
 use Rattle.script_text.proofs.CallerLemmas.{line_found}
+use Rattle.participant.specs.Runs.{letters, pieces}
 use Rattle.session_replay.specs.declared.session.StepBad.{StepBad}
 use Rattle.session_replay.specs.declared.session.StepBad.TheVariants.{Memory}
 use Rattle.session_replay.specs.Steps.{Step}
@@ -22,6 +23,7 @@ use Rattle.session_replay.specs.Scripts.{Whole, Past, steps_of_read, piece_steps
 use Rattle.session_replay.specs.Readers.{DoesSomething, NextDoesSomething}
 use Rattle.session_replay.proofs.PiecesLaws.{line_is, line_unread}
 use Rattle.session_replay.proofs.Needed.{typed_some, framed_some}
+use Rattle.session_replay.proofs.Typing.{letters_some, pieces_some}
 
 pub err_from : {T E X Y : Type 0} (r : Result T E) → (X → Y) → OnErr r X → OnErr r Y
 err_from (Ok t) f h = tt
@@ -53,7 +55,11 @@ at_site_does i d r some = of (nat_lt 0 (length d.sites)) (nat_lt i (length d.sit
 
 content_does : (line : Line) (d : SessionData) → HasContent line → IsInRange line → DoesSomething (line_steps line d)
 content_does (Ins i v text) d content range =
-    at_site_does i d (Ok (typed i v text d)) (step_does (Ok (typed i v text d)) (typed_some i v text d range.2))
+    at_site_does i d (Ok (typed i v (letters text) d))
+    (step_does (Ok (typed i v (letters text) d)) (typed_some i v (letters text) d (letters_some text range.2)))
+content_does (Run i v text) d content range =
+    at_site_does i d (Ok (typed i v (pieces text) d))
+    (step_does (Ok (typed i v (pieces text) d)) (typed_some i v (pieces text) d (pieces_some text range.2)))
 content_does (Raw i bytes) d content range =
     at_site_does i d (Ok (framed (length bytes) i bytes d))
     (step_does (Ok (framed (length bytes) i bytes d)) (framed_some i bytes d range.1))

@@ -74,6 +74,7 @@ in_values : (l : Line) → IsInRange l → AreValues l
 in_values line.Blank range = tt
 in_values (line.Sites n) range = tt
 in_values (line.Ins i v text) range = range.3
+in_values (line.Run i v text) range = range.3
 in_values (line.Nl i v) range = tt
 in_values (line.Del i v) range = tt
 in_values (line.Undo i t) range = tt

@@ -77,6 +77,10 @@ told_short result first old mid new written = on_err_weaker result (front_on old
 
 -- ---- how far an answer says that steps came
 
+pub on_ok : {T E : Type 0} {X : Type 0} (r : Result T E) → X → OnOk r X
+on_ok (Ok t) x = x
+on_ok (Err e) x = tt
+
 -- no step was done, out of memory
 pub done_nothing : {S : Type 0} (es : List (Step S)) (s now : S) (old new : List ℕ) → now ≡ s → new ≡ old
     → IsReached s es now × IsFront old new

@@ -17,7 +17,7 @@ added a b =
 -- ---- sums
 
 counted_more : (o : OpData) (k : Counts) → all_counted (one_more o k) ≡ suc (all_counted k)
-counted_more (inserting n p ch c) k = omega arith
+counted_more (inserting n p text c) k = omega arith
 counted_more (deleting n p c) k = omega arith
 counted_more (undoing a t g c) k = by_force (is_even g)
   where
@@ -35,7 +35,7 @@ shift : (a b : ℕ) → a + (b + 1) ≡ (a + 1) + b
 shift a b = omega arith
 
 added_more : (o : OpData) (a b : Counts) → added a (one_more o b) ≡ added (one_more o a) b
-added_more (inserting n p ch c) a b =
+added_more (inserting n p text c) a b =
     λ i. record {
       inserts = shift a.inserts b.inserts i;
       deletes = a.deletes + b.deletes;

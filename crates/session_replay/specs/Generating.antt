@@ -135,7 +135,7 @@ pub record Counts : Type 0 where
 
 -- one operation more, by what it is: a group of an even generation is a redo
 abbrev pub one_more : OpData → Counts → Counts
-one_more (inserting n p ch c) k = record k { inserts = k.inserts + 1 }
+one_more (inserting n p text c) k = record k { inserts = k.inserts + 1 }
 one_more (deleting n p c) k = record k { deletes = k.deletes + 1 }
 one_more (undoing a t g c) k = if is_even g then record k { redos = k.redos + 1 } else record k { undos = k.undos + 1 }
 

@@ -7,7 +7,8 @@ use Rattle.context_diff.specs.Operations.{OpData}
 use Rattle.context_diff.specs.Histories.{context_of_all}
 use Rattle.cot_site.specs.States.{State as SiteState}
 use Rattle.cot_site.specs.Views.{View, history_view}
-use Rattle.cot_site.specs.Commands.{insert_in, delete_in, local_undo, local_redo}
+use Rattle.cot_site.specs.Commands.{run_in, delete_in, local_undo, local_redo}
+use Rattle.participant.specs.Runs.{letters, pieces}
 use Rattle.site_answers.specs.declared.local.Local.{Local}
 use Rattle.wire_codec.specs.Judging.{judge}
 use Rattle.wire_codec.specs.declared.fault.Refused.{Refused}
@@ -19,7 +20,7 @@ use Rattle.script_text.specs.Verdicts.{local_text}
 use Rattle.script_text.specs.declared.report.refusal.Refusal.{Refusal}
 use Rattle.script_text.specs.declared.report.refusal.Refusal.TheVariants.{NoSites, Twice, NoSite, NoMessage}
 use Rattle.script_text.specs.declared.reading.line.Line.{Line}
-use Rattle.script_text.specs.declared.reading.line.Line.TheVariants.{Blank, Sites, Ins, Nl, Del, Undo, Redo, Give, All, Sync, Raw, Show, State}
+use Rattle.script_text.specs.declared.reading.line.Line.TheVariants.{Blank, Sites, Ins, Run, Nl, Del, Undo, Redo, Give, All, Sync, Raw, Show, State}
 use Rattle.session_replay.specs.Steps.{Step, and_then}
 use Rattle.session_replay.specs.Sessions.{SessionData, site_at, opened, made, given, given_all, synced}
 
@@ -37,14 +38,14 @@ abbrev pub typed_on : (SessionData → List (Step SessionData)) → ℕ → Resu
 typed_on next i (Ok o) d = and_then d (made i o d) next
 typed_on next i (Err why) d = told (local_text why) d
 
--- characters at visible places v, v + 1 and so on, until one is refused
-unfoldable pub typed_in : (SiteState → View) → ℕ → ℕ → List ℕ → SessionData → List (Step SessionData)
+-- an insert of each piece of a text, at visible place v, at that behind it and so on, until one is refused
+unfoldable pub typed_in : (SiteState → View) → ℕ → ℕ → List (List ℕ) → SessionData → List (Step SessionData)
 typed_in view i v [] d = []
-typed_in view i v (ch ∷ chs) d = typed_on (typed_in view i (v + 1) chs) i (insert_in (view (site_at d i)) (site_at d i) v ch) d
+typed_in view i v (p ∷ ps) d = typed_on (typed_in view i (v + length p) ps) i (run_in (view (site_at d i)) (site_at d i) v p) d
 
 -- the same where each site sees what its history shows
-abbrev pub typed : ℕ → ℕ → List ℕ → SessionData → List (Step SessionData)
-typed i v chs d = typed_in history_view i v chs d
+abbrev pub typed : ℕ → ℕ → List (List ℕ) → SessionData → List (Step SessionData)
+typed i v ps d = typed_in history_view i v ps d
 
 -- what bytes of `raw` begin with: a frame is delivered, and what follows it goes on; bytes that begin with none are reported
 abbrev pub framed_on : (List ℕ → SessionData → List (Step SessionData)) → ℕ → List ℕ → Result (OpData × ℕ) Refused → SessionData
@@ -93,8 +94,9 @@ opening n d = if nat_lt 0 (length d.sites) then Err Twice else if nat_le n SITES
 abbrev pub steps_there_in : (SiteState → View) → Line → SessionData → Result (List (Step SessionData)) Refusal
 steps_there_in view Blank d = Ok []
 steps_there_in view (Sites n) d = opening n d
-steps_there_in view (Ins i v text) d = Ok (typed_in view i v text d)
-steps_there_in view (Nl i v) d = Ok (commanded i (insert_in (view (site_at d i)) (site_at d i) v 10) d)
+steps_there_in view (Ins i v text) d = Ok (typed_in view i v (letters text) d)
+steps_there_in view (Run i v text) d = Ok (typed_in view i v (pieces text) d)
+steps_there_in view (Nl i v) d = Ok (commanded i (run_in (view (site_at d i)) (site_at d i) v (10 ∷ [])) d)
 steps_there_in view (Del i v) d = Ok (commanded i (delete_in (view (site_at d i)) (site_at d i) v) d)
 steps_there_in view (Undo i t) d = Ok (commanded i (local_undo (site_at d i) t) d)
 steps_there_in view (Redo i t) d = Ok (commanded i (local_redo (site_at d i) t) d)
@@ -122,6 +124,7 @@ abbrev pub AreValues : Line → Type 0
 AreValues Blank = Unit {0}
 AreValues (Sites n) = Unit {0}
 AreValues (Ins i v text) = IsTrue (all_scalars text)
+AreValues (Run i v text) = IsTrue (all_scalars text)
 AreValues (Nl i v) = Unit {0}
 AreValues (Del i v) = Unit {0}
 AreValues (Undo i t) = Unit {0}

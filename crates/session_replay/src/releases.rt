@@ -10,10 +10,9 @@ ghost use Rattle.cot_site.specs.States.{judged};
 ghost use Rattle.participant.specs.Edits.{made_by};
 ghost use Rattle.participant.specs.Taking.{is_had};
 ghost use Rattle.script_text.specs.Report.{op_text};
-ghost use Rattle.session_replay.specs.Code.Doing.{AreDone, HasCharacter, IsFront, IsTold, free_lines};
+ghost use Rattle.session_replay.specs.Code.Doing.{AreDone, HasLetters, HasPlaceBehind, IsFront, IsTold, free_lines};
 ghost use Rattle.session_replay.specs.Sessions.{taking_in, told_verdict};
 
-use crate::sites::is_character;
 use context_diff::Op;
 use cot_site::{Local, Release, Site, Verdict};
 use op_name::Memory;
@@ -36,23 +35,27 @@ pub(crate) fn edit_and_tell(
     ensures state { OnErr result (state_of site.new ≡ state_of site.old) }
     ensures err { OnErr result (out.new.items ≡ out.old.items) }
     ensures sound { IsSound (state_of site.old) }
+    ensures behind { IfOk result (λ told. OnOk told (HasPlaceBehind edit.now)) }
 {
     site.known();
-    check_character(edit);
+    check_letters(edit);
     released.clear();
     match do_edit(site, edit, released) {
-        Ok(op) => Ok(tell_made(number, &op, site.number(), released, out)),
+        Ok(op) => {
+            site.book().known();
+            Ok(tell_made(number, &op, site.number(), released, out))
+        }
         Err(Stopped::Unsettled) => Ok(Err(Memory)),
         Err(Stopped::Refused { why }) => Err(why),
     }
 }
 
-// Nothing but what the type of a local command's character says.
-fn check_character(edit: &Edit)
-    ensures { HasCharacter edit.now }
+// Nothing but what the type of a local command's text says.
+fn check_letters(edit: &Edit)
+    ensures { HasLetters edit.now }
 {
     match edit {
-        Edit::Insert { ch, .. } => is_character(*ch),
+        Edit::Insert { text, .. } => text.known(),
         Edit::Delete { .. } | Edit::Undo { .. } | Edit::Redo { .. } => {}
     }
 }

@@ -18,6 +18,7 @@ ghost use Rattle.script_text.specs.declared.reading.line.Line.TheVariants.{Sync}
 use crate::generated::Generated;
 use crate::message::Message;
 use crate::session::StepBad;
+use context_diff::{LETTERS, Letters};
 use cot_site::{Release, Site};
 use op_name::{Memory, SITES};
 use participant::Edit;
@@ -149,13 +150,17 @@ impl Sites {
             Line::Blank => Ok(()),
             Line::Sites { count } => self.start(*count),
             Line::Ins { site, place, text } => {
-                done(self.type_text(*site as usize, *place, text.as_slice(), out))
+                done(self.type_text(*site as usize, *place, text.as_slice(), 1, out))
+            }
+            Line::Run { site, place, text } => {
+                let size = LETTERS as usize;
+                done(self.type_text(*site as usize, *place, text.as_slice(), size, out))
             }
             Line::Nl { site, place } => self.do_command(
                 *site as usize,
                 Edit::Insert {
                     place: *place,
-                    ch: '\n',
+                    text: Letters::one('\n'),
                 },
                 out,
             ),
@@ -286,7 +291,7 @@ fn check_values(line: &Line)
     ensures { AreValues line.now }
 {
     match line {
-        Line::Ins { text, .. } => are_characters(text.as_slice()),
+        Line::Ins { text, .. } | Line::Run { text, .. } => are_characters(text.as_slice()),
         Line::Raw { bytes, .. } => are_bytes(bytes.as_slice()),
         Line::Blank
         | Line::Sites { .. }
@@ -310,8 +315,8 @@ fn are_characters(text: &[char])
     }
 }
 
-/// Nothing but what the type of a character says.
-pub(crate) fn is_character(ch: char)
+// Nothing but what the type of a character says.
+fn is_character(ch: char)
     ensures { IsScalar ch }
 {}
 

@@ -1,7 +1,7 @@
 -- What the parts of a session's calls do and answer.
-use Rattle.std.specs.Prelude.{◌≡◌, ℕ, Bool, true, List, [], ◌∷◌, ◌++◌, Option, Some, None, Result, Ok, Err, length, ◌<◌, ◌≤◌}
-use Rattle.std.specs.Char.{IsScalar}
-use Rattle.context_diff.specs.Operations.{OpData}
+use Rattle.std.specs.Prelude.{◌≡◌, ℕ, Bool, true, List, [], ◌∷◌, ◌++◌, Option, Some, None, Result, Ok, Err, length, ◌+◌, ◌<◌, ◌≤◌}
+use Rattle.context_diff.specs.declared.op.TheConstants.{PLACES}
+use Rattle.context_diff.specs.Operations.{OpData, IsLetters}
 use Rattle.context_diff.specs.Histories.{IsNext}
 use Rattle.cot_site.specs.States.{State, with_last}
 use Rattle.site_answers.specs.declared.release.Release.{Release}
@@ -29,12 +29,19 @@ abbrev pub AreDone : {T E S : Type 0} → Result T E → List (Step S) → S →
 AreDone (Ok t) es s now old new = (now ≡ last_of s es) × (new ≡ old ++ written_by es)
 AreDone (Err e) es s now old new = IsReached s es now × IsFront old new
 
--- what the type of a local command's character says: what is inserted, if it is an insert, is a character
-abbrev pub HasCharacter : Edit → Type 0
-HasCharacter (Insert v ch) = IsScalar ch
-HasCharacter (Delete v) = Unit {0}
-HasCharacter (Undo t) = Unit {0}
-HasCharacter (Redo t) = Unit {0}
+-- what the type of a local command's text says: what is inserted, if it is an insert, is the text of one
+abbrev pub HasLetters : Edit → Type 0
+HasLetters (Insert v text) = IsLetters text
+HasLetters (Delete v) = Unit {0}
+HasLetters (Undo t) = Unit {0}
+HasLetters (Redo t) = Unit {0}
+
+-- the place behind what a local command inserts, if it is an insert, is one that an edit can name
+abbrev pub HasPlaceBehind : Edit → Type 0
+HasPlaceBehind (Insert v text) = v + length text ≤ PLACES
+HasPlaceBehind (Delete v) = Unit {0}
+HasPlaceBehind (Undo t) = Unit {0}
+HasPlaceBehind (Redo t) = Unit {0}
 
 -- the local command made its operation, which comes next in the history; it is the message of this number, and that is told, and the
 -- releases after it are done and told, as far as the answer says

@@ -1,45 +1,79 @@
 //! Local commands: an operation becomes the next message, and a refusal is reported.
 
-ghost use Rattle.std.specs.Prelude.{◌≡◌, ◌≢◌, ◌++◌, ◌<◌, IfOk, OnOk, OnErr, length, vec_len, vec_capacity};
+ghost use Rattle.std.specs.Prelude.{◌≡◌, ◌≢◌, ◌++◌, ◌+◌, ◌<◌, ◌≤◌, true, IfOk, OnOk, OnErr, length, vec_len, vec_capacity};
 ghost use Rattle.std.specs.Result.{is_ok};
+ghost use Rattle.context_diff.specs.declared.letters.TheConstants.{LETTERS};
+ghost use Rattle.context_diff.specs.declared.op.TheConstants.{PLACES};
+ghost use Rattle.cot_site.specs.Commands.{local_run};
 ghost use Rattle.participant.specs.Edits.{made_by};
 ghost use Rattle.script_text.specs.Verdicts.{local_text};
 ghost use Rattle.session_replay.specs.Sessions.{site_at};
 ghost use Rattle.session_replay.specs.LineSteps.{commanded, typed};
-ghost use Rattle.session_replay.specs.Code.Doing.{AreDone};
+ghost use Rattle.session_replay.specs.Code.Doing.{AreDone, HasPlaceBehind};
+ghost use Rattle.session_replay.specs.Code.Typing.{parts};
 
 use crate::message::Message;
 use crate::releases::edit_and_tell;
 use crate::sites::Sites;
 use crate::sites::deliveries::still_known;
+use context_diff::Letters;
 use cot_site::Local;
 use op_name::Memory;
 use participant::Edit;
 use script_text::local_line;
 
 impl Sites {
-    // Inserts each character of a text at the site, at shown places `from`, `from + 1` and so on, until one is
-    // refused.
+    // Inserts a text at the site, cut from the front into parts of `size` characters and a shorter last one: the first at shown place
+    // `from`, each other one behind the part before it, until one is refused.
     pub(super) fn type_text(
         &mut self,
         at: usize,
         from: u32,
         text: &[char],
+        size: usize,
         out: &mut Vec<u8>,
     ) -> Result<(), Memory>
-        requires { at < length self.old.sites }
-        ensures done { AreDone result (typed at from text.now self.old) self.old self.new out.old.items out.new.items }
+        requires site { at < length self.old.sites }
+        requires some { 1 ≤ size }
+        requires most { size ≤ LETTERS }
+        ensures done { AreDone result (typed at from (parts size text.now) self.old) self.old self.new out.old.items out.new.items }
         ensures needed { OnErr result (0 < length text.now) }
     {
         let mut place = from;
-        for ch in text {
-            self.sites[at].known();
-            if !self.command(at, &Edit::Insert { place, ch: *ch }, out)? {
+        let mut rest = text;
+        while !rest.is_empty() {
+            let (part, behind) = rest.split_at(size.min(rest.len()));
+            if !self.type_part(at, place, part, out)? {
                 return Ok(());
             }
-            place += 1;
+            place += part.len() as u32;
+            rest = behind;
         }
         Ok(())
+    }
+
+    // Inserts these characters at the site, by one operation. Answers whether it was made.
+    fn type_part(
+        &mut self,
+        at: usize,
+        place: u32,
+        part: &[char],
+        out: &mut Vec<u8>,
+    ) -> Result<bool, Memory>
+        requires site { at < length self.old.sites }
+        requires some { 1 ≤ length part.now }
+        requires most { length part.now ≤ LETTERS }
+        ensures done { AreDone result (commanded at (local_run (site_at self.old at) place part.now) self.old) self.old self.new
+            out.old.items out.new.items }
+        ensures made { IfOk result (λ more. more ≡ is_ok (local_run (site_at self.old at) place part.now)) }
+        ensures behind { IfOk result (λ more. more ≡ true → place + length part.now ≤ PLACES) }
+        ensures sites { length self.new.sites ≡ length self.old.sites }
+    {
+        let alloc = *self.sites.allocator();
+        match Letters::new(alloc, part) {
+            Ok(text) => self.command(at, &Edit::Insert { place, text }, out),
+            Err(_) => Err(Memory),
+        }
     }
 
     // Does a local command at the site. Answers whether it made an operation.
@@ -53,6 +87,7 @@ impl Sites {
         ensures done { AreDone result (commanded at (made_by edit.now (site_at self.old at)) self.old) self.old self.new
             out.old.items out.new.items }
         ensures made { IfOk result (λ more. more ≡ is_ok (made_by edit.now (site_at self.old at))) }
+        ensures behind { IfOk result (λ more. more ≡ true → HasPlaceBehind edit.now) }
         ensures sites { length self.new.sites ≡ length self.old.sites }
     {
         make_room(&mut self.messages)?;

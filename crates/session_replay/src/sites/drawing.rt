@@ -1,6 +1,6 @@
 //! Events of generated sessions.
 
-ghost use Rattle.std.specs.Prelude.{◌≡◌, ◌<◌, ◌+◌, ◌%◌, length, slice_get};
+ghost use Rattle.std.specs.Prelude.{◌≡◌, ◌<◌, ◌+◌, ◌%◌, ◌∷◌, [], length, slice_get};
 ghost use Rattle.context_vector.specs.Contexts.{AreCounts};
 ghost use Rattle.cot_site.specs.Sites.{state_of};
 ghost use Rattle.participant.specs.Edits.{made_by};
@@ -12,6 +12,7 @@ ghost use Rattle.session_replay.specs.Code.Doing.{AreDone};
 
 use crate::draws::Draw;
 use crate::sites::Sites;
+use context_diff::Letters;
 use context_vector::SiteCounts;
 use cot_site::Site;
 use op_name::{Memory, Name};
@@ -52,12 +53,11 @@ fn drawn_edit(site: &Site, draw: Draw) -> Edit
 
 // The insert of the drawn letter after some of the shown characters.
 fn drawn_insert(visible: u32, draw: Draw) -> Edit
-    requires { visible < 4294967295 }
-    ensures { result ≡ Insert (draw.place % (visible + 1)) (97 + draw.letter % 26) }
+    ensures { result ≡ Insert (draw.place % (visible + 1)) ((97 + draw.letter % 26) ∷ []) }
 {
     Edit::Insert {
-        place: draw.place % (visible + 1),
-        ch: (b'a' + (draw.letter % 26) as u8) as char,
+        place: (u64::from(draw.place) % (u64::from(visible) + 1)) as u32,
+        text: Letters::one((b'a' + (draw.letter % 26) as u8) as char),
     }
 }
 
