@@ -33,12 +33,12 @@ pub record Has (h : List OpData) (o : OpData) : Type 0 where
   pub same : (n : NameData) → member_of o ≡ Original n → Contains h o
 
 repeat_of : (h : List OpData) (o : OpData) → IsValid h → Has h o → IsRepeat h o
-repeat_of h (inserting n p ch c) valid has = has.same n refl
+repeat_of h (inserting n p text c) valid has = has.same n refl
 repeat_of h (deleting n p c) valid has = has.same n refl
 repeat_of h (undoing a t g c) valid has = group_reached h valid t g has.known
 
 same_of : (h : List OpData) (o : OpData) (n : NameData) → IsRepeat h o → member_of o ≡ Original n → Contains h o
-same_of h (inserting m p ch c) n is named = is
+same_of h (inserting m p text c) n is named = is
 same_of h (deleting m p c) n is named = is
 same_of h (undoing a t g c) n is named = absurd (let never = named in cc)
 

@@ -24,7 +24,7 @@ use Rattle.peer_exchange.proofs.Again.{Has, taken_has}
 use Rattle.peer_exchange.proofs.Exchanging.{answered_is, closed_is, IsReplied}
 
 original_there : (h : List OpData) (o : OpData) → is_original o ≡ true → Has h o → Contains h o
-original_there h (inserting n p ch c) original there = there.same n refl
+original_there h (inserting n p text c) original there = there.same n refl
 original_there h (deleting n p c) original there = there.same n refl
 original_there h (undoing a t g c) original there = absurd (let never = original in cc)
 

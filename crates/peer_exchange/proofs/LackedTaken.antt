@@ -59,7 +59,7 @@ is_unseen k (p ∷ ps) o at new =
 -- an operation that the history has, under agreement on its name, is a repeat
 repeats : (h : List OpData) (o : OpData) → IsValid h → is_known h (member_of o) ≡ true
     → ((x : OpData) (n : NameData) → Contains h x → member_of x ≡ Original n → member_of o ≡ Original n → x ≡ o) → IsRepeat h o
-repeats h (inserting n p ch c) v known same =
+repeats h (inserting n p text c) v known same =
     let held = holder h (Original n) known in
     subst (λ (x : OpData). Contains h x) (same held.op n held.there held.is refl) held.there
 repeats h (deleting n p c) v known same =

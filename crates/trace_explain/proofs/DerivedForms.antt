@@ -1,11 +1,10 @@
 -- Lines that are listed have derived forms.
 use Rattle.std.proofs.Common.{◌≡◌, ◌≢◌, ◌+◌, ◌<◌, ◌≤◌, Bool, true, List, refl, ap, ◌∙◌, arith}
-use Rattle.std.specs.Prelude.{length}
 use Rattle.op_name.specs.declared.member.Member.{Member}
 use Rattle.context_vector.specs.Contexts.{ContextData, has}
 use Rattle.context_vector.specs.Vectors.{lowered}
 use Rattle.context_diff.specs.Operations.{OpData}
-use Rattle.context_diff.specs.Histories.{is_known, IsValid}
+use Rattle.context_diff.specs.Histories.{is_known, all_cells, IsValid}
 use Rattle.context_diff.specs.Bases.{base_context_of}
 use Rattle.context_diff.proofs.CallerLemmas.{known_in}
 use Rattle.form_cache.specs.Keys.{KeyData}
@@ -46,7 +45,7 @@ text_deriving h s = record {
   };
 }
 
-pub short_history : (h : List OpData) → IsValid h → length h < 4294967296 → IsShortHistory h
+pub short_history : (h : List OpData) → IsValid h → all_cells h < 4294967296 → IsShortHistory h
 short_history h v short = record { valid = v; short = omega arith }
 
 -- a form stands where its member may be added

@@ -28,7 +28,7 @@ use Rattle.std.specs.Cmp.{both_ways as same_bool}
 -- ---- members of a history are in range
 
 least_of : (o : OpData) → IsWellFormed o → 1 ≤ size_of (member_of o)
-least_of (inserting n p ch d) f = f.in_range.0.1
+least_of (inserting n p text d) f = f.in_range.0.1
 least_of (deleting n p d) f = f.in_range.0.1
 least_of (undoing a t g d) f = f.in_range.2
 

@@ -8,7 +8,7 @@ use Rattle.trace_explain.proofs.checking.is_executed.Goals as goal
 
 pub context_before-requires : goal.context_before-requires
 context_before-requires c =
-    let s = short_history c.args.book.now.ops c.known.ensures.valid c.known.ensures.short in
+    let s = short_history c.args.book.now.ops c.known.ensures.valid c.known.ensures.cells in
     subst (λ (m : Member). is_known c.args.book.now.ops m ≡ true) (sym c.member_in.ensures ∙ c.are_same.ensures.0 c.if-not-are_same.false)
     (form_added c.args.book.now.ops s c.args.last.now.at c.args.last.now.form c.requires).known
 

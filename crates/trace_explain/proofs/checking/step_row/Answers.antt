@@ -11,7 +11,7 @@ use Rattle.trace_explain.proofs.checking.step_row.Goals as goal
 
 pub include-requires : goal.include-requires
 include-requires c =
-    let s = short_history c.args.book.now.ops c.known.ensures.valid c.known.ensures.short in
+    let s = short_history c.args.book.now.ops c.known.ensures.valid c.known.ensures.cells in
     let y = c.may_include.ensures.0 c.if-not-may_include.false in
     room c.args.book.now.ops s c.args.member.now c.args.b.now.at.member c.args.a.now.at.context c.args.a.now.form c.args.b.now.form
     (left_derived c.args.book.now.ops c.args.a.now c.args.member.now y.0 c.requires.left)
@@ -19,7 +19,7 @@ include-requires c =
 
 pub add_reserved-requires-clause-member : goal.add_reserved-requires-clause-member
 add_reserved-requires-clause-member c =
-    let s = short_history c.args.book.now.ops c.known.ensures.valid c.known.ensures.short in
+    let s = short_history c.args.book.now.ops c.known.ensures.valid c.known.ensures.cells in
     let y = c.may_include.ensures.0 c.if-not-may_include.false in
     subst IsMember (sym c.member_in-x.ensures)
     (known_generation c.args.book.now.ops c.known.ensures.valid c.args.b.now.at.member
@@ -27,7 +27,7 @@ add_reserved-requires-clause-member c =
 
 pub add_reserved-requires-clause-next : goal.add_reserved-requires-clause-next
 add_reserved-requires-clause-next c =
-    let s = short_history c.args.book.now.ops c.known.ensures.valid c.known.ensures.short in
+    let s = short_history c.args.book.now.ops c.known.ensures.valid c.known.ensures.cells in
     let y = c.may_include.ensures.0 c.if-not-may_include.false in
     let next =
     added_next c.args.book.now.ops c.known.ensures.valid c.args.a.now.at.context c.args.b.now.at.member
@@ -38,7 +38,7 @@ add_reserved-requires-clause-next c =
 
 pub returns-clause-derived : goal.returns-clause-derived
 returns-clause-derived c =
-    let s = short_history c.args.book.now.ops c.known.ensures.valid c.known.ensures.short in
+    let s = short_history c.args.book.now.ops c.known.ensures.valid c.known.ensures.cells in
     let y = c.may_include.ensures.0 c.if-not-may_include.false in
     let set = c.reserve.ensures.same ∙ (c.in_ok-context.ensures ∙ c.context_in.ensures) in
     let grown = c.add_reserved.ensures.added ∙ (λ i. raised (set i) (c.member_in-x.ensures i)) in

@@ -8,12 +8,12 @@ use Rattle.trace_explain.proofs.tasks.join.Goals as goal
 
 pub take_two-left-requires : goal.take_two-left-requires
 take_two-left-requires c =
-    has_two c.args.book.now.ops (short_history c.args.book.now.ops c.known.ensures.valid c.known.ensures.short) c.args.key c.args.over
+    has_two c.args.book.now.ops (short_history c.args.book.now.ops c.known.ensures.valid c.known.ensures.cells) c.args.key c.args.over
     c.args.work.now.tasks c.args.work.now.done c.requires.tasks
 
 pub include-form-requires : goal.include-form-requires
 include-form-requires c =
-    let s = short_history c.args.book.now.ops c.known.ensures.valid c.known.ensures.short in
+    let s = short_history c.args.book.now.ops c.known.ensures.valid c.known.ensures.cells in
     let j = joined_forms c.args.book.now.ops s c.args.key c.args.over c.take_two-left.result.0 c.take_two-left.result.1
     c.args.work.now.tasks c.args.work.now.done c.take_two-left.new.self.done c.take_two-left.ensures.done c.requires.tasks in
     room c.args.book.now.ops s c.args.key.member c.args.over (lowered c.args.key.context c.args.over) c.take_two-left.result.0.form
@@ -21,7 +21,7 @@ include-form-requires c =
 
 pub returns : goal.returns
 returns c =
-    let s = short_history c.args.book.now.ops c.known.ensures.valid c.known.ensures.short in
+    let s = short_history c.args.book.now.ops c.known.ensures.valid c.known.ensures.cells in
     turn_joined c.args.book.now.ops s c.args.key c.args.over c.take_two-left.result.0 c.take_two-left.result.1 c.take_two-left.new.self.done
     c.args.work.now c.put.new.self (data_of c.args.listing.now) (data_of c.push.new.self) c.requires.derived
     c.take_two-left.ensures.done c.requires.tasks

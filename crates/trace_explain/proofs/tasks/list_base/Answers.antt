@@ -14,7 +14,7 @@ base_of-form-requires c =
 
 pub returns : goal.returns
 returns c =
-    let s = short_history c.args.book.now.ops c.known.ensures.valid c.known.ensures.short in
+    let s = short_history c.args.book.now.ops c.known.ensures.valid c.known.ensures.cells in
     let form = c.base_of-form.ensures ∙ ap (base_form c.args.book.now.ops) c.member_in-member.ensures in
     turn_based c.args.book.now.ops s c.args.key c.args.work.now c.put.new.self (data_of c.args.listing.now) (data_of c.push.new.self)
     c.requires.derived c.requires.tasks c.requires.new c.requires.here

@@ -8,7 +8,7 @@ use Rattle.trace_explain.proofs.tasks.split.Goals as goal
 
 pub returns : goal.returns
 returns c =
-    let s = short_history c.args.book.now.ops c.known.ensures.valid c.known.ensures.short in
+    let s = short_history c.args.book.now.ops c.known.ensures.valid c.known.ensures.cells in
     let last =
     last_of_key c.args.book.now.ops c.args.key c.member_in-member.result c.in_ok-over.over c.context_in-2.result.now.set
     c.member_in-member.ensures c.context_in-2.ensures c.in_ok-over.ensures in
