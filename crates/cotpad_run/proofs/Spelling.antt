@@ -1,5 +1,5 @@
 -- Words are read as a command exactly where they spell it.
-use Rattle.std.proofs.Common.{◌≡◌, ℕ, Bool, true, false, List, [], ◌∷◌, length, codes, bytes_eq, decimal, map, string_bytes, String, Option, Some, None, refl, sym, ap, ◌∙◌, subst, option_map, ◌==◌, ◌≤◌, ◌&&◌, nat_le, leb-true, le-leb, eq-eqb, ne_eqb, arith}
+use Rattle.std.proofs.Common.{◌≡◌, ℕ, Bool, true, false, List, [], ◌∷◌, length, codes, bytes_eq, decimal, map, string_bytes, String, Option, Some, None, refl, sym, ap, ◌∙◌, subst, option_map, ◌==◌, ◌<◌, ◌≤◌, ◌^◌, ◌&&◌, nat_le, leb-true, le-leb, eq-eqb, ne_eqb, arith}
 use Rattle.std.specs.Prelude.{IfSome, is_some, if◌then◌else◌}
 use Rattle.std.proofs.lemmas.Bool.{cond_both, and_parts, true≢false}
 use Rattle.std.proofs.lemmas.Slice.Eq.{bytes_eq-Decides}
@@ -10,12 +10,12 @@ use Rattle.script_text.specs.Report.{listed, count_text}
 use Rattle.script_text.specs.Sets.{set_of, set_or_empty}
 use Rattle.script_text.proofs.CallerLemmas.{set_from, set_some, set_to, long_reads, number_reads, site_reads, name_reads, member_reads, and_then_some, some_is}
 use Rattle.session_replay.specs.declared.generator.TheConstants.{MAX_EVENTS, MAX_WINDOW}
-use Rattle.log_replies.specs.Editing.{EditData, Ins, Nl, Del, Undo, Redo}
+use Rattle.log_replies.specs.Editing.{EditData, Ins, Run, Nl, Del, Undo, Redo}
 use Rattle.cotpad_run.specs.declared.command.Command.{Command}
 use Rattle.cotpad_run.specs.declared.command.TheConstants.{MAX_PORT}
 use Rattle.cotpad_run.specs.Commands.{CommandData, Replay, Show, Edit, Gen, Explain, Where, Find, At, Playback, Serve, Join, Loop, Help, DashedHelp, command_data}
 use Rattle.cotpad_run.specs.Words.{edit_words, command_words, IsEditInRange, IsPort, IsInRange, Spells}
-use Rattle.cotpad_run.specs.Code.Reading.{first_in, one_in, alone_in, text_in, ins_in, nl_in, del_in, undo_in, redo_in, edit_row, edit_in, gen_in, gen_of, explain_in, where_in, find_in, at_in, port_of, port_in, loop_in, command_row, command_in}
+use Rattle.cotpad_run.specs.Code.Reading.{first_in, one_in, alone_in, text_in, placed_in, nl_in, del_in, undo_in, redo_in, edit_row, edit_in, gen_in, gen_of, explain_in, where_in, find_in, at_in, port_of, port_in, loop_in, command_row, command_in}
 
 first_some : (ws : List (List ℕ)) (p : List ℕ × List (List ℕ)) → first_in ws ≡ Some p → ws ≡ p.0 ∷ p.1
 first_some [] p e = cc
@@ -44,20 +44,42 @@ text_to (c ∷ cs) some = rw (ne_eqb (length (c ∷ cs)) 0 (λ e. absurd (omega 
 IsEdit : List (List ℕ) → EditData → Type 0
 IsEdit ws e = (ws ≡ edit_words e) × IsEditInRange e
 
-ins_from : (parts : List (List ℕ)) (e : EditData) → ins_in parts ≡ Some e → IsEdit (codes "ins" ∷ parts) e
-unfolding ins_in IsEdit
-ins_from parts e h =
-    let p = and_then_some (first_in parts) _ e h in
-    let v = and_then_some (number_of p.0.0) _ e p.2 in
-    let w = and_then_some (one_in p.0.1) _ e v.2 in
-    let t = and_then_some (text_in w.0) _ e w.2 in
+mapped_from : {X Y : Type 0} (make : X → Y) (o : Option X) (y : Y) → option_map make o ≡ Some y → (x : X) × (o ≡ Some x) × (make x ≡ y)
+mapped_from make None y h = cc
+mapped_from make (Some x) y h = (x, refl, some_is (make x) y h)
+
+-- a place and a text that isn't empty
+placed_from : (parts : List (List ℕ)) (at : ℕ × List ℕ) → placed_in parts ≡ Some at
+    → (parts ≡ decimal at.0 ∷ at.1 ∷ []) × ((at.0 < 2 ^ 32) × (at.1 ≡ [] → ⊥))
+unfolding placed_in
+placed_from parts at h =
+    let p = and_then_some (first_in parts) _ at h in
+    let v = and_then_some (number_of p.0.0) _ at p.2 in
+    let w = and_then_some (one_in p.0.1) _ at v.2 in
+    let t = and_then_some (text_in w.0) _ at w.2 in
     let number = number_reads.from p.0.0 v.0 v.1 in
     let text = text_some w.0 t.0 t.1 in
     let spelled : parts ≡ decimal v.0 ∷ t.0 ∷ [] =
     first_some parts p.0 p.1 ∙ ap (λ x. x ∷ p.0.1) number.0
     ∙ ap (λ xs. decimal v.0 ∷ xs) (one_some p.0.1 w.0 w.1 ∙ ap (λ x. x ∷ []) text.0) in
-    subst (λ x. (codes "ins" ∷ parts ≡ edit_words x) × IsEditInRange x) (some_is (Ins v.0 t.0) e t.2)
-    (ap (λ xs. codes "ins" ∷ xs) spelled, (number.1, text.1))
+    subst (λ (x : ℕ × List ℕ). (parts ≡ decimal x.0 ∷ x.1 ∷ []) × ((x.0 < 2 ^ 32) × (x.1 ≡ [] → ⊥))) (some_is (v.0, t.0) at t.2)
+    (spelled, (number.1, text.1))
+
+ins_from : (parts : List (List ℕ)) (e : EditData) → option_map (λ p. Ins p.0 p.1) (placed_in parts) ≡ Some e
+    → IsEdit (codes "ins" ∷ parts) e
+unfolding IsEdit
+ins_from parts e h =
+    let p = mapped_from (λ (p : ℕ × List ℕ). Ins p.0 p.1) (placed_in parts) e h in
+    let at = placed_from parts p.0 p.1 in
+    subst (λ x. (codes "ins" ∷ parts ≡ edit_words x) × IsEditInRange x) p.2 (ap (λ xs. codes "ins" ∷ xs) at.0, at.1)
+
+run_from : (parts : List (List ℕ)) (e : EditData) → option_map (λ p. Run p.0 p.1) (placed_in parts) ≡ Some e
+    → IsEdit (codes "run" ∷ parts) e
+unfolding IsEdit
+run_from parts e h =
+    let p = mapped_from (λ (p : ℕ × List ℕ). Run p.0 p.1) (placed_in parts) e h in
+    let at = placed_from parts p.0 p.1 in
+    subst (λ x. (codes "run" ∷ parts ≡ edit_words x) × IsEditInRange x) p.2 (ap (λ xs. codes "run" ∷ xs) at.0, at.1)
 
 nl_from : (parts : List (List ℕ)) (e : EditData) → nl_in parts ≡ Some e → IsEdit (codes "nl" ∷ parts) e
 unfolding nl_in IsEdit
@@ -112,11 +134,12 @@ row_or P word own parts x row others here there e =
 edit_from : (word : List ℕ) (parts : List (List ℕ)) (e : EditData) → edit_row word parts ≡ Some e → IsEdit (word ∷ parts) e
 unfolding edit_row
 edit_from word parts e h =
-    row_or IsEdit word (codes "ins") parts e (ins_in parts) _ (ins_from parts e)
+    row_or IsEdit word (codes "ins") parts e _ _ (ins_from parts e)
+    (row_or IsEdit word (codes "run") parts e _ _ (run_from parts e)
     (row_or IsEdit word (codes "nl") parts e (nl_in parts) _ (nl_from parts e)
     (row_or IsEdit word (codes "del") parts e (del_in parts) _ (del_from parts e)
     (row_or IsEdit word (codes "undo") parts e (undo_in parts) _ (undo_from parts e)
-    (row_or IsEdit word (codes "redo") parts e (redo_in parts) None (redo_from parts e) (λ never. cc)))))
+    (row_or IsEdit word (codes "redo") parts e (redo_in parts) None (redo_from parts e) (λ never. cc))))))
     h
 
 -- the words are those of the command, whose parts are in range
@@ -249,10 +272,6 @@ port_from parts port h =
     let is = port_of_some n.0 port n.2 in
     (one_some parts w.0 w.1 ∙ ap (λ x. x ∷ []) (number.0 ∙ ap decimal is.1), is.0)
 
-mapped_from : (make : ℕ → CommandData) (o : Option ℕ) (c : CommandData) → option_map make o ≡ Some c → (n : ℕ) × (o ≡ Some n) × (make n ≡ c)
-mapped_from make None c h = cc
-mapped_from make (Some n) c h = (n, refl, some_is (make n) c h)
-
 serve_from : (parts : List (List ℕ)) (c : CommandData) → option_map Serve (port_in parts) ≡ Some c → IsCommand (codes "serve" ∷ parts) c
 unfolding IsCommand
 serve_from parts c h =
@@ -341,7 +360,7 @@ command_from ws c h =
     p.2)
 
 command_to : (c : CommandData) → IsInRange c → command_in (command_words c) ≡ Some c
-unfolding command_in command_row edit_in edit_row ins_in nl_in del_in undo_in redo_in gen_in explain_in where_in find_in at_in loop_in
+unfolding command_in command_row edit_in edit_row placed_in nl_in del_in undo_in redo_in gen_in explain_in where_in find_in at_in loop_in
 command_to Replay r = refl
 command_to Show r = refl
 command_to Help r = refl
@@ -364,6 +383,8 @@ command_to (Serve port) r = rw (port_to port r) refl
 command_to (Join port) r = rw (port_to port r) refl
 command_to (Loop start) r = rw (long_reads.to (decimal start) start (refl, r)) refl
 command_to (Edit site (Ins place text)) r =
+    rw (site_reads.to (decimal site) site (refl, r.0), number_reads.to (decimal place) place (refl, r.1.0), text_to text r.1.1) refl
+command_to (Edit site (Run place text)) r =
     rw (site_reads.to (decimal site) site (refl, r.0), number_reads.to (decimal place) place (refl, r.1.0), text_to text r.1.1) refl
 command_to (Edit site (Nl place)) r =
     rw (site_reads.to (decimal site) site (refl, r.0), number_reads.to (decimal place) place (refl, r.1)) refl

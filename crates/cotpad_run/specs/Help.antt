@@ -7,6 +7,7 @@ help_text =
     codes "cotpad replay                      reads a script, and writes the report of its session\n"
     ++ (codes "cotpad show                        reads a log, and writes its text\n"
     ++ (codes "cotpad edit SITE ins V TEXT        reads a log, inserts a text after V shown characters, and writes the new log\n"
+    ++ (codes "cotpad edit SITE run V TEXT        the same with as few inserts as do, each of at most 256 characters\n"
     ++ (codes "cotpad edit SITE nl V              the same with a line feed\n"
     ++ (codes "cotpad edit SITE del V             reads a log, deletes the shown character V, from 0, and writes the new log\n"
     ++ (codes "cotpad edit SITE undo NAME         reads a log, undoes an insert or delete, whoever made it, and writes the new log\n"
@@ -20,4 +21,4 @@ help_text =
     ++ (codes "cotpad join PORT                   reads a log, exchanges with who waits at the port, and writes the new log\n"
     ++ (codes "cotpad loop START                  lets two sites exchange over a connection, and writes what went\n"
     ++ (codes "cotpad gen START EVENTS WINDOW     generates a session of four sites, and writes what it did\n"
-    ++ (codes "cotpad help                        writes these lines\n"))))))))))))))))
+    ++ (codes "cotpad help                        writes these lines\n")))))))))))))))))

@@ -3,6 +3,7 @@ use Rattle.std.specs.Prelude.{◌≡◌, ◌+◌}
 use Rattle.outside_io.specs.declared.reading.TheConstants.{MAX_INPUT}
 use Rattle.op_name.specs.declared.member.TheConstants.{GENERATIONS}
 use Rattle.op_name.specs.declared.name.TheConstants.{SITES, NUMBERS}
+use Rattle.context_diff.specs.declared.letters.TheConstants.{LETTERS}
 use Rattle.context_diff.specs.declared.op.TheConstants.{PLACES, UNDO_ENTRIES}
 use Rattle.wire_codec.specs.declared.rules.TheConstants.{LONGEST_BODY}
 use Rattle.script_text.specs.declared.reading.parse.TheConstants.{LONGEST}
@@ -25,18 +26,19 @@ pub record AreLimitsOfCommands : Type 0 where
   pub loop_events : LOOP_EVENTS ≡ 16
 
 -- how many sites there are; how many inserts and deletes one of them makes, how often one of these is undone and redone, and of how many
--- names a context tells undos; and the greatest place that an operation names
+-- names a context tells undos; the most characters of an insert; and the greatest place that an operation names
 pub record AreLimitsOfOperations : Type 0 where
   pub sites : SITES ≡ 64
   pub numbers : NUMBERS ≡ 1000000
   pub generations : GENERATIONS ≡ 65535
   pub undone : UNDO_ENTRIES ≡ 16384
-  pub places : PLACES ≡ 64000000
+  pub letters : LETTERS ≡ 256
+  pub places : PLACES ≡ 4294967295
 
 -- the most bytes of a line, of a frame, which is a length of four bytes and a body, of an input, a script and a log, and of a message
 pub record AreLimitsOfBytes : Type 0 where
   pub line : LONGEST ≡ 262144
-  pub frame : 4 + LONGEST_BODY ≡ 115029
+  pub frame : 4 + LONGEST_BODY ≡ 116051
   pub input : MAX_INPUT ≡ 67108864
   pub script : MAX_SCRIPT ≡ 67108864
   pub log : MAX_LOG ≡ 67108864

@@ -7,7 +7,7 @@ use Rattle.site_answers.specs.Names.{name_text, member_text, group_text}
 use Rattle.script_text.specs.Fields.{IsMemberInRange}
 use Rattle.script_text.specs.Report.{listed, count_text}
 use Rattle.session_replay.specs.declared.generator.TheConstants.{MAX_EVENTS, MAX_WINDOW}
-use Rattle.log_replies.specs.Editing.{EditData, Ins, Nl, Del, Undo, Redo}
+use Rattle.log_replies.specs.Editing.{EditData, Ins, Run, Nl, Del, Undo, Redo}
 use Rattle.log_replies.specs.Outside.{Outside, IsWritten, IsCutOff}
 use Rattle.log_replies.specs.declared.status.Status.{Status}
 use Rattle.log_replies.specs.declared.status.Status.TheVariants.{Done, Refused, Words, ReadFault, WriteFault, Memory, LinkFault, PeerRefused}
@@ -17,6 +17,7 @@ use Rattle.cotpad_run.specs.Commands.{CommandData, Replay, Show, Edit, Gen, Expl
 -- the words of an edit, after its site: a row for each. A text is one word
 abbrev pub edit_words : EditData → List (List ℕ)
 edit_words (Ins place text) = codes "ins" ∷ decimal place ∷ text ∷ []
+edit_words (Run place text) = codes "run" ∷ decimal place ∷ text ∷ []
 edit_words (Nl place) = codes "nl" ∷ decimal place ∷ []
 edit_words (Del place) = codes "del" ∷ decimal place ∷ []
 edit_words (Undo name) = codes "undo" ∷ name_text name ∷ []
@@ -42,6 +43,7 @@ command_words DashedHelp = codes "--help" ∷ []
 -- the parts of an edit are in range; a text isn't empty
 abbrev pub IsEditInRange : EditData → Type 0
 IsEditInRange (Ins place text) = (place < 2 ^ 32) × (text ≢ [])
+IsEditInRange (Run place text) = (place < 2 ^ 32) × (text ≢ [])
 IsEditInRange (Nl place) = place < 2 ^ 32
 IsEditInRange (Del place) = place < 2 ^ 32
 IsEditInRange (Undo name) = IsName name.site name.number

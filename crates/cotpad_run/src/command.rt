@@ -2,10 +2,11 @@
 
 ghost use Rattle.std.specs.Prelude.{◌≡◌, Some, None, IfSome, MatchOption, map, option_map, string_bytes};
 ghost use Rattle.log_replies.specs.Editing.{edit_data};
+ghost use Rattle.log_replies.specs.Editing as made;
 ghost use Rattle.cotpad_run.specs.Commands.{CommandData, command_data};
 ghost use Rattle.cotpad_run.specs.Commands as asked;
 ghost use Rattle.cotpad_run.specs.Words.{Spells};
-ghost use Rattle.cotpad_run.specs.Code.Reading.{command_in, command_row, edit_in, edit_row, explain_in, where_in, find_in, at_in, gen_in, loop_in, port_in, ins_in, nl_in, del_in, undo_in, redo_in, first_in, one_in, alone_in};
+ghost use Rattle.cotpad_run.specs.Code.Reading.{command_in, command_row, edit_in, edit_row, explain_in, where_in, find_in, at_in, gen_in, loop_in, port_in, placed_in, nl_in, del_in, undo_in, redo_in, first_in, one_in, alone_in};
 
 use log_replies::Edit;
 use op_name::Member;
@@ -149,6 +150,7 @@ fn edit_row<'a>(word: &str, parts: &'a [String]) -> Option<Edit<'a>>
 {
     match word {
         "ins" => ins_of(parts),
+        "run" => run_of(parts),
         "nl" => nl_of(parts),
         "del" => del_of(parts),
         "undo" => undo_of(parts),
@@ -157,10 +159,24 @@ fn edit_row<'a>(word: &str, parts: &'a [String]) -> Option<Edit<'a>>
     }
 }
 
-// `V TEXT`
-#[tactic(auto, unfolding(crate::specs::Code::Reading::ins_in))]
 fn ins_of(parts: &[String]) -> Option<Edit<'_>>
-    ensures { option_map edit_data result ≡ ins_in (map string_bytes parts.now) }
+    ensures { option_map edit_data result ≡ option_map (λ p. made.Ins p.0 p.1) (placed_in (map string_bytes parts.now)) }
+{
+    let (place, text) = placed_of(parts)?;
+    Some(Edit::Ins { place, text })
+}
+
+fn run_of(parts: &[String]) -> Option<Edit<'_>>
+    ensures { option_map edit_data result ≡ option_map (λ p. made.Run p.0 p.1) (placed_in (map string_bytes parts.now)) }
+{
+    let (place, text) = placed_of(parts)?;
+    Some(Edit::Run { place, text })
+}
+
+// `V TEXT`
+#[tactic(auto, unfolding(crate::specs::Code::Reading::placed_in))]
+fn placed_of(parts: &[String]) -> Option<(u32, &str)>
+    ensures { option_map (λ p. (p.0, p.1.now)) result ≡ placed_in (map string_bytes parts.now) }
 {
     let (place, rest) = first(parts)?;
     let place = parse_number(place)?;
@@ -168,7 +184,7 @@ fn ins_of(parts: &[String]) -> Option<Edit<'_>>
     if text.is_empty() {
         None
     } else {
-        Some(Edit::Ins { place, text })
+        Some((place, text))
     }
 }
 

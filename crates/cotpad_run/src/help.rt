@@ -12,6 +12,7 @@ const HELP: &str =
     "cotpad replay                      reads a script, and writes the report of its session\n\
 cotpad show                        reads a log, and writes its text\n\
 cotpad edit SITE ins V TEXT        reads a log, inserts a text after V shown characters, and writes the new log\n\
+cotpad edit SITE run V TEXT        the same with as few inserts as do, each of at most 256 characters\n\
 cotpad edit SITE nl V              the same with a line feed\n\
 cotpad edit SITE del V             reads a log, deletes the shown character V, from 0, and writes the new log\n\
 cotpad edit SITE undo NAME         reads a log, undoes an insert or delete, whoever made it, and writes the new log\n\

@@ -27,8 +27,8 @@ use outside_io::{Failed, Sink, Source, Wire, write_whole};
 use std::alloc::Global;
 
 /// Does what the words say, which are those after the program's name. `replay` reads a script, and writes the report of each
-/// line before it reads on. `show` reads a log, and writes its text. `edit SITE ins V TEXT`, `edit SITE nl V`, `edit SITE del V`,
-/// `edit SITE undo NAME` and `edit SITE redo NAME` read a log, edit it as this site, and write the log of the result.
+/// line before it reads on. `show` reads a log, and writes its text. `edit SITE ins V TEXT`, `edit SITE run V TEXT`, `edit SITE nl V`,
+/// `edit SITE del V`, `edit SITE undo NAME` and `edit SITE redo NAME` read a log, edit it as this site, and write the log of the result.
 /// `gen START EVENTS WINDOW` reads nothing, generates a session of four sites, and writes what it did and what site 0 shows.
 /// `explain MEMBER` reads a log, and writes the steps that derive the form in which the operation of this member was executed.
 /// `where V` reads a log, and writes the line and the column of the place after so many shown characters; `find L C` reads one,

@@ -15,11 +15,11 @@ use Rattle.participant.specs.declared.edits.Stopped.TheVariants as stopped
 use Rattle.participant.specs.Reached.{Reached, from, with_one, all_settled}
 use Rattle.participant.specs.Edits as participant
 use Rattle.participant.specs.Edits.{made_by}
-use Rattle.participant.specs.Runs.{inserts, Progress, StopsAt, Runs}
-use Rattle.participant.proofs.CallerLemmas.{by_characters}
+use Rattle.participant.specs.Runs.{puts, Progress, StopsAt, Runs}
+use Rattle.participant.proofs.CallerLemmas.{by_pieces}
 use Rattle.log_replies.specs.Answers.{IsAppended}
 use Rattle.log_replies.specs.Editing.{EditData, edited, made, then_next, all_made}
-use Rattle.log_replies.specs.Code.Editing.{IsDone, IsEditReply, reason_of}
+use Rattle.log_replies.specs.Code.Editing.{IsDone, IsEditReply, ended, reason_of}
 use Rattle.log_replies.specs.Replies.{edit_reply, refused_edit_text}
 use Rattle.log_replies.proofs.Answering.{once_replied}
 
@@ -67,33 +67,30 @@ one_stopped e a b stopped.Unsettled done = tt
 
 -- ---- a text
 
--- how a run ended, as it is answered
-abbrev pub IsEnded : Result State Local → Result ⊤ Stopped → State → Type 0
-IsEnded defined (Ok u) t = IsDone defined (Ok tt) t
-IsEnded defined (Err why) t = IsDone defined (Err (reason_of why)) t
-
-pub text_ended : (v : ℕ) (text : List ℕ) (p : Progress) (end : Result ⊤ Stopped) (q : Progress) → Runs (inserts v text) p end q
-    → IsEnded (all_made (inserts v text) p.reached.state) end q.reached.state
-text_ended =
-    by_characters (λ es p end q. IsEnded (all_made es p.reached.state) end q.reached.state)
+-- a run of inserts, as it is answered
+pub pieces_ended : (v : ℕ) (ps : List (List ℕ)) (p : Progress) (end : Result ⊤ Stopped) (q : Progress) → Runs (puts v ps) p end q
+    → IsDone (all_made (puts v ps) p.reached.state) (ended end) q.reached.state
+pieces_ended =
+    by_pieces (λ es p end q. IsDone (all_made es p.reached.state) (ended end) q.reached.state)
     (λ p. nothing_made p.reached.state) inserted stopped_at
   where
     -- after an insert that was made
-    inserted : (v ch : ℕ) (es : List Edit) (p : Progress) (o : OpData) (end : Result ⊤ Stopped) (q : Progress)
-        → made_by (Insert v ch) p.reached.state ≡ Ok o
-        → IsEnded (all_made es ((all_settled (with_one p.reached o)).state)) end q.reached.state
-        → IsEnded (all_made (Insert v ch ∷ es) p.reached.state) end q.reached.state
-    inserted v ch es p o end q is rest =
-        subst (λ (x : Result State Local). IsEnded x end q.reached.state) (sym (first_made (Insert v ch) es p.reached.state o is)) rest
+    inserted : (v : ℕ) (text : List ℕ) (es : List Edit) (p : Progress) (o : OpData) (end : Result ⊤ Stopped) (q : Progress)
+        → made_by (Insert v text) p.reached.state ≡ Ok o
+        → IsDone (all_made es ((all_settled (with_one p.reached o)).state)) (ended end) q.reached.state
+        → IsDone (all_made (Insert v text ∷ es) p.reached.state) (ended end) q.reached.state
+    inserted v text es p o end q is rest =
+        subst (λ (x : Result State Local). IsDone x (ended end) q.reached.state)
+        (sym (first_made (Insert v text) es p.reached.state o is)) rest
 
     -- where it stops at one
-    stopped_at : (v ch : ℕ) (es : List Edit) (p : Progress) (end : Result ⊤ Stopped) (q : Progress) → StopsAt (Insert v ch) p end q
-        → IsEnded (all_made (Insert v ch ∷ es) p.reached.state) end q.reached.state
-    stopped_at v ch es p (Ok u) q stop = absurd stop
-    stopped_at v ch es p (Err (stopped.Refused why)) q stop =
-        stops_for (all_made (Insert v ch ∷ es) p.reached.state) (made_by (Insert v ch) p.reached.state) why q.reached.state
-        (λ w. none_made (Insert v ch) es p.reached.state w) stop.0
-    stopped_at v ch es p (Err stopped.Unsettled) q stop = tt
+    stopped_at : (v : ℕ) (text : List ℕ) (es : List Edit) (p : Progress) (end : Result ⊤ Stopped) (q : Progress)
+        → StopsAt (Insert v text) p end q → IsDone (all_made (Insert v text ∷ es) p.reached.state) (ended end) q.reached.state
+    stopped_at v text es p (Ok u) q stop = absurd stop
+    stopped_at v text es p (Err (stopped.Refused why)) q stop =
+        stops_for (all_made (Insert v text ∷ es) p.reached.state) (made_by (Insert v text) p.reached.state) why q.reached.state
+        (λ w. none_made (Insert v text) es p.reached.state w) stop.0
+    stopped_at v text es p (Err stopped.Unsettled) q stop = tt
 
 -- ---- the reply
 

@@ -4,6 +4,5 @@ pub mod Logs
 pub mod OneReply
 pub mod PastReplies
 pub mod Playing
-pub mod Texts
 pub mod Traces
 pub mod CallerLemmas

@@ -1,19 +1,15 @@
 -- What the past text of a set is written, and why a set has none.
-use Rattle.std.proofs.Common.{◌≡◌, ◌≢◌, ℕ, ◌<◌, ◌^◌, true, false, List, ◌++◌, length, inl, inr, refl, ap, sym, subst, ◌∙◌, arith}
-use Rattle.std.proofs.lemmas.List.{length-map}
-use Rattle.std.proofs.lemmas.List.Sums.{length-filter, count_by-le-length}
+use Rattle.std.proofs.Common.{◌≡◌, ◌≢◌, ℕ, true, false, List, ◌++◌, length, inl, inr, refl, ap, sym, ◌∙◌}
 use Rattle.lane_rank.specs.Texts.{starts_of}
 use Rattle.context_vector.specs.Contexts.{ContextData, IsContext}
 use Rattle.context_diff.specs.Operations.{OpData}
-use Rattle.context_diff.specs.Histories.{IsValid}
 use Rattle.context_diff.specs.ClosedContexts.{IsClosedContext}
-use Rattle.context_diff.specs.Replays.{replay_of, is_shown, shown, character_in, characters_of, text_of}
+use Rattle.context_diff.specs.Replays.{characters_of, text_of}
 use Rattle.cot_site.specs.States.{State}
-use Rattle.cot_site.proofs.CallerLemmas.{few_cells}
 use Rattle.past_view.specs.declared.past.AtBad.{AtBad}
 use Rattle.past_view.specs.declared.past.AtBad.TheVariants as bad
 use Rattle.past_view.specs.Pasts.{sub, IsRefusal}
-use Rattle.past_view.proofs.CallerLemmas.{closed_accepted, one_refusal, past_fewer, starts_all}
+use Rattle.past_view.proofs.CallerLemmas.{closed_accepted, one_refusal, starts_all}
 use Rattle.script_text.specs.Report.{Report, shown_text}
 use Rattle.session_log.specs.Laws.{OneRefusal, OneLoading}
 use Rattle.log_replies.specs.Answers.{IsAppended}
@@ -21,17 +17,6 @@ use Rattle.log_replies.specs.Replies.{refusing}
 use Rattle.log_replies.specs.PastTexts.{IsShownAtIn, past_reply, refused_at_text}
 use Rattle.log_replies.specs.Laws.{OnePast}
 use Rattle.log_replies.proofs.OneReply.{one_reply_by}
-use Rattle.log_replies.proofs.Texts.{four_each}
-
--- a past text has fewer bytes than numbers of 32 bits count
-pub past_short : (h : List OpData) (c : ContextData) → IsValid h → IsClosedContext h c → length (text_of (sub h c)) < 2 ^ 32
-past_short h c valid closed =
-    let part = sub h c in
-    let cells = few_cells h valid in
-    let fewer = past_fewer h valid c closed in
-    let some = length-filter (is_shown part) (replay_of part) in
-    let few = count_by-le-length (is_shown part) (replay_of part) in
-    omega (arith, four_each (characters_of part), length-map (shown part) (character_in part), some, few, fewer, cells)
 
 pub past_chars : (h : List OpData) (c : ContextData) (text : List ℕ) → text ≡ text_of (sub h c)
     → starts_of text ≡ length (characters_of (sub h c))

@@ -1,5 +1,5 @@
 -- What is written piece by piece is a reply to what the source had.
-use Rattle.std.proofs.Common.{◌≡◌, Bool, true, false, Option, None, Some, List, ℕ, [], ◌+◌, ◌++◌, refl, ap, subst, ◌∙◌, inl, inr}
+use Rattle.std.proofs.Common.{◌≡◌, Bool, false, Option, None, Some, List, ℕ, [], ◌+◌, ◌++◌, refl, ap, subst, ◌∙◌, inl, inr}
 use Rattle.std.specs.Prelude.{IfSome}
 use Rattle.std.specs.Io.KnownBytes.{Appends, IsAtEnd}
 use Rattle.outside_io.specs.Writing.{WritesFront}

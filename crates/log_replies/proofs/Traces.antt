@@ -8,7 +8,7 @@ use Rattle.op_name.specs.declared.member.Member.TheVariants.{Original, Group}
 use Rattle.op_name.specs.NameData.{NameData}
 use Rattle.op_name.specs.Members.{member_eq}
 use Rattle.context_diff.specs.Operations.{OpData, inserting, deleting, undoing, member_of}
-use Rattle.context_diff.specs.Histories.{IsValid, is_known}
+use Rattle.context_diff.specs.Histories.{IsValid, all_cells, is_known}
 use Rattle.context_diff.proofs.CallerLemmas.{complete, contains_cases, contains_here, contains_later, contains_none, member_itself, member_same}
 use Rattle.fixed_replay.specs.Replayed.{letters_of}
 use Rattle.trace_explain.specs.declared.line.TraceLine.{TraceLine}
@@ -88,7 +88,7 @@ letters_group (o ∷ os) t g = elim (cases_Bool (member_eq (member_of o) (Group 
 ]
   where
     grouped : (o : OpData) → member_of o ≡ Group t g → letters_of o ≡ []
-    grouped (inserting n p ch c) is = cc
+    grouped (inserting n p text c) is = cc
     grouped (deleting n p c) is = refl
     grouped (undoing a n k c) is = refl
 
@@ -100,7 +100,7 @@ three_written start a b c one two three first second third =
     ∙ append_assoc start a (b ++ c)
 
 -- the trace of m is its explanation
-pub explanation : (h : List OpData) (m : Member) (lines : List TraceLine) → IsValid h → length h < 4294967296 → EndsInExecutedForm
+pub explanation : (h : List OpData) (m : Member) (lines : List TraceLine) → IsValid h → all_cells h < 4294967296 → EndsInExecutedForm
     → IsTraceOf h m lines → IsTrace h m lines → IsExplanation h m lines
 explanation h m lines valid short ends listed right = record {
   listed = listed;
@@ -122,7 +122,7 @@ lines_replied m s lines old new known is written = record {
 
 -- the same of what `trace` gave
 pub trace_replied : (h : List OpData) (m : Member) (s : State) (found : Bool) (first items given : List TraceLine) (old new : List ℕ)
-    → h ≡ s.history → IsValid h → length h < 4294967296 → EndsInExecutedForm
+    → h ≡ s.history → IsValid h → all_cells h < 4294967296 → EndsInExecutedForm
     → found ≡ true → (IsTrue found ↔ (is_known h m ≡ true)) → first ≡ []
     → (found ≡ true → (lines : List TraceLine) × IsTraceOf h m lines × IsTrace h m lines × (items ≡ first ++ lines))
     → given ≡ items → new ≡ old ++ lines_text h 1 given → IsAppended (IsExplainedIn m) false s old new

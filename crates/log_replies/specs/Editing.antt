@@ -8,14 +8,15 @@ use Rattle.participant.specs.declared.edits.Edit.{Edit}
 use Rattle.participant.specs.declared.edits.Edit.TheVariants as one
 use Rattle.participant.specs.Reached.{from, with_one, all_settled}
 use Rattle.participant.specs.Edits.{made_by}
-use Rattle.participant.specs.Runs.{inserts}
+use Rattle.participant.specs.Runs.{inserts, runs}
 use Rattle.log_replies.specs.declared.edit.Edit as declared
 use Rattle.log_replies.specs.declared.edit.Edit.TheVariants as edit
 
--- an edit at a site: a text or a line feed is inserted after so many shown characters, a shown character is deleted, an insert or
--- delete is undone or redone
+-- an edit at a site: the characters of a text, a text in pieces or a line feed is inserted after so many shown characters, a shown
+-- character is deleted, an insert or delete is undone or redone
 pub data EditData : Type 0 where
   Ins : ℕ → List ℕ → EditData
+  Run : ℕ → List ℕ → EditData
   Nl : ℕ → EditData
   Del : ℕ → EditData
   Undo : NameData → EditData
@@ -24,16 +25,18 @@ pub data EditData : Type 0 where
 -- what contracts see of an edit, whose text is its bytes
 abbrev pub edit_data : declared.Edit → EditData
 edit_data (edit.Ins place text) = Ins place text.now
+edit_data (edit.Run place text) = Run place text.now
 edit_data (edit.Nl place) = Nl place
 edit_data (edit.Del place) = Del place
 edit_data (edit.Undo name) = Undo name
 edit_data (edit.Redo name) = Redo name
 
 -- what it consists of: edits of one operation each, one after the other. The characters of a text are inserted after v shown
--- ones, v + 1 and so on
+-- ones, v + 1 and so on; its pieces, each by one operation, after v, v + LETTERS and so on
 abbrev pub edits_of : EditData → List Edit
 edits_of (Ins v text) = inserts v (chars text)
-edits_of (Nl v) = one.Insert v 10 ∷ []
+edits_of (Run v text) = runs v (chars text)
+edits_of (Nl v) = one.Insert v (10 ∷ []) ∷ []
 edits_of (Del v) = one.Delete v ∷ []
 edits_of (Undo t) = one.Undo t ∷ []
 edits_of (Redo t) = one.Redo t ∷ []

@@ -1,6 +1,6 @@
 //! The commands `where` and `find`.
 
-ghost use Rattle.std.specs.Prelude.{◌≡◌, ◌++◌, IfOk, OnOk};
+ghost use Rattle.std.specs.Prelude.{◌≡◌, ◌<◌, ◌^◌, ◌++◌, IfOk, OnOk, length};
 ghost use Rattle.cot_site.specs.Sites.{state_of};
 ghost use Rattle.log_replies.specs.Addressing.{IsLocated, IsFound, located_reply, found_reply, address_text, place_text, no_place_text, no_line_text};
 ghost use Rattle.log_replies.specs.Answers.{IsAppended};
@@ -70,10 +70,11 @@ fn locate(alloc: Global, site: &Site, place: u32, out: &mut Vec<u8>) -> Result<b
     ensures { IfOk result (λ refused.
         IsAppended (λ s reply. reply ≡ located_reply place s) refused (state_of site.now) out.old.items out.new.items) }
 {
-    site.known();
     let mut text = Vec::new(alloc);
     site.text(&mut text)?;
-    match line_of_place(&text, place) {
+    let text = text.as_slice();
+    fits_numbers(text)?;
+    match line_of_place(text, place) {
         Some((line, column)) => {
             put_address(line, column, out)?;
             Ok(false)
@@ -96,10 +97,11 @@ fn find(
     ensures { IfOk result (λ refused.
         IsAppended (λ s reply. reply ≡ found_reply line column s) refused (state_of site.now) out.old.items out.new.items) }
 {
-    site.known();
     let mut text = Vec::new(alloc);
     site.text(&mut text)?;
-    match place_of_line(&text, line, column) {
+    let text = text.as_slice();
+    fits_numbers(text)?;
+    match place_of_line(text, line, column) {
         Some(place) => {
             put_place(place, out)?;
             Ok(false)
@@ -108,6 +110,18 @@ fn find(
             refuse_line(line, column, out)?;
             Ok(true)
         }
+    }
+}
+
+/// Passes a text whose bytes are numbered in 32 bits, as each one that a log gives, which has no more bytes than `MAX_INPUT`. A longer
+/// one counts as out of memory.
+pub(crate) fn fits_numbers(text: &[u8]) -> Result<(), Memory>
+    ensures { OnOk result (length text.now < 2 ^ 32) }
+{
+    if text.len() as u64 > u64::from(u32::MAX) {
+        Err(Memory)
+    } else {
+        Ok(())
     }
 }
 

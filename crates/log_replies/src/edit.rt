@@ -1,14 +1,15 @@
 //! The command `edit`.
 
-ghost use Rattle.std.specs.Prelude.{◌≡◌, ◌≢◌, ◌++◌, ◌∷◌, ◌<◌, [], chars, IfOk, OnOk, OnErr};
+ghost use Rattle.std.specs.Prelude.{◌≡◌, ◌≢◌, ◌++◌, ◌∷◌, ◌<◌, [], chars, IfOk, OnOk};
 ghost use Rattle.op_name.specs.declared.name.TheConstants.{SITES};
 ghost use Rattle.cot_site.specs.Sites.{state_of};
-ghost use Rattle.participant.specs.Runs.{inserts};
+ghost use Rattle.participant.specs.Runs.{inserts, runs};
 ghost use Rattle.log_replies.specs.Editing.{edit_data, edited, all_made};
 ghost use Rattle.log_replies.specs.Replies.{IsEdited, edit_reply, refused_edit_text};
-ghost use Rattle.log_replies.specs.Code.Editing.{IsDone, IsEditReply, reason_of};
+ghost use Rattle.log_replies.specs.Code.Editing.{IsDone, IsEditReply, ended, reason_of};
 
 use crate::replying::Replies;
+use context_diff::Letters;
 use cot_site::{Local, Release, Site};
 use op_name::{Memory, Name};
 use participant::{Edit as One, Stopped};
@@ -21,6 +22,9 @@ use std::alloc::Global;
 pub enum Edit<'a> {
     /// `ins V TEXT`: inserts each character of a text, after so many shown ones and on.
     Ins { place: u32, text: &'a str },
+    /// `run V TEXT`: inserts a text after so many shown characters, cut from the front into pieces of 256 characters and a shorter
+    /// last one: one operation each.
+    Run { place: u32, text: &'a str },
     /// `nl V`: inserts a line feed.
     Nl { place: u32 },
     /// `del V`: deletes the shown character at this place, from 0.
@@ -98,17 +102,18 @@ fn do_edit(alloc: Global, site: &mut Site, edit: &Edit<'_>) -> Result<(), Local>
     let mut released = Vec::new(alloc);
     match edit {
         Edit::Ins { place, text } => type_text(site, *place, text, &mut released),
+        Edit::Run { place, text } => run_text(alloc, site, *place, text, &mut released),
         Edit::Nl { place } => make(
             site,
-            &One::Insert {
+            One::Insert {
                 place: *place,
-                ch: '\n',
+                text: Letters::one('\n'),
             },
             &mut released,
         ),
-        Edit::Del { place } => make(site, &One::Delete { place: *place }, &mut released),
-        Edit::Undo { name } => make(site, &One::Undo { name: *name }, &mut released),
-        Edit::Redo { name } => make(site, &One::Redo { name: *name }, &mut released),
+        Edit::Del { place } => make(site, One::Delete { place: *place }, &mut released),
+        Edit::Undo { name } => make(site, One::Undo { name: *name }, &mut released),
+        Edit::Redo { name } => make(site, One::Redo { name: *name }, &mut released),
     }
 }
 
@@ -121,7 +126,37 @@ fn type_text(
 ) -> Result<(), Local>
     ensures { IsDone (all_made (inserts place (chars text.now)) (state_of site.old)) result (state_of site.new) }
 {
-    let end = participant::insert_text(site, place, text, released).end;
+    ended(participant::insert_text(site, place, text, released).end)
+}
+
+// Inserts the text after so many shown characters, one operation for each piece of it, until one is refused. Each release is appended.
+fn run_text(
+    alloc: Global,
+    site: &mut Site,
+    place: u32,
+    text: &str,
+    released: &mut Vec<Release>,
+) -> Result<(), Local>
+    ensures { IsDone (all_made (runs place (chars text.now)) (state_of site.old)) result (state_of site.new) }
+{
+    match characters(alloc, text) {
+        Ok(list) => ended(participant::insert_runs(site, place, list.as_slice(), released).end),
+        Err(Memory) => Err(Local::Memory),
+    }
+}
+
+// The characters of a text.
+fn characters(alloc: Global, text: &str) -> Result<Vec<char>, Memory>
+    ensures { IfOk result (λ list. list.items ≡ chars text.now) }
+{
+    let list = text.chars().collect(alloc)?;
+    Ok(list)
+}
+
+// How a run of edits ended, as it is answered.
+fn ended(end: Result<(), Stopped>) -> Result<(), Local>
+    ensures { result ≡ ended end }
+{
     match end {
         Ok(()) => Ok(()),
         Err(why) => Err(reason_of(why)),
@@ -129,10 +164,10 @@ fn type_text(
 }
 
 // Makes an edit of one operation. Each release is appended.
-fn make(site: &mut Site, edit: &One, released: &mut Vec<Release>) -> Result<(), Local>
-    ensures { IsDone (all_made (edit.now ∷ []) (state_of site.old)) result (state_of site.new) }
+fn make(site: &mut Site, edit: One, released: &mut Vec<Release>) -> Result<(), Local>
+    ensures { IsDone (all_made (edit ∷ []) (state_of site.old)) result (state_of site.new) }
 {
-    match participant::do_edit(site, edit, released) {
+    match participant::do_edit(site, &edit, released) {
         Ok(_made) => Ok(()),
         Err(why) => Err(reason_of(why)),
     }

@@ -7,6 +7,7 @@ ghost use Rattle.script_text.specs.Sets.{set_or_empty};
 ghost use Rattle.log_replies.specs.Answers.{IsAppended};
 ghost use Rattle.log_replies.specs.PastTexts.{IsShownAt, IsShownAtIn, at_bad_words, refused_at_text};
 
+use crate::addressing::fits_numbers;
 use crate::replying::Replies;
 use context_vector::Vector;
 use cot_site::Site;
@@ -63,11 +64,12 @@ fn show_spelled(
 fn show_past(alloc: Global, site: &Site, at: &Vector, out: &mut Vec<u8>) -> Result<bool, Memory>
     ensures { IfOk result (λ refused. IsAppended (IsShownAtIn at.now.set) refused (state_of site.now) out.old.items out.new.items) }
 {
-    site.known();
     let mut text = Vec::new(alloc);
     match text_at(site, at, &mut text) {
         Ok(()) => {
-            shown_lines(utf8_len(&text), &text, out)?;
+            let text = text.as_slice();
+            fits_numbers(text)?;
+            shown_lines(utf8_len(text), text, out)?;
             Ok(false)
         }
         Err(why) => {

@@ -3,7 +3,7 @@ use Rattle.std.specs.Prelude.{ℕ, ◌==◌, ◌&&◌, nat_le, List, [], ◌∷�
 use Rattle.session_replay.specs.declared.generator.TheConstants.{MAX_EVENTS, MAX_WINDOW}
 use Rattle.script_text.specs.Fields.{number_of, long_of, site_of, name_of, member_of, ◌>>=◌}
 use Rattle.script_text.specs.Sets.{set_of}
-use Rattle.log_replies.specs.Editing.{EditData, Ins, Nl, Del, Undo, Redo}
+use Rattle.log_replies.specs.Editing.{EditData, Ins, Run, Nl, Del, Undo, Redo}
 use Rattle.cotpad_run.specs.declared.command.TheConstants.{MAX_PORT}
 use Rattle.cotpad_run.specs.Commands.{CommandData, Replay, Show, Edit, Gen, Explain, Where, Find, At, Playback, Serve, Join, Loop, Help, DashedHelp}
 
@@ -27,13 +27,14 @@ alone_in command (w ∷ ws) = None
 abbrev pub text_in : List ℕ → Option (List ℕ)
 text_in text = if length text == 0 then None else Some text
 
-unfoldable pub ins_in : List (List ℕ) → Option EditData
-ins_in ws = do
+-- a place and a text
+unfoldable pub placed_in : List (List ℕ) → Option (ℕ × List ℕ)
+placed_in ws = do
   p ← first_in ws
   place ← number_of p.0
   word ← one_in p.1
   text ← text_in word
-  Some (Ins place text)
+  Some (place, text)
 
 unfoldable pub nl_in : List (List ℕ) → Option EditData
 nl_in ws = do
@@ -62,12 +63,13 @@ redo_in ws = do
 -- the edit of this word and these parts
 unfoldable pub edit_row : List ℕ → List (List ℕ) → Option EditData
 edit_row word parts =
-    if bytes_eq word (codes "ins") then ins_in parts
+    if bytes_eq word (codes "ins") then option_map (λ p. Ins p.0 p.1) (placed_in parts)
+    else (if bytes_eq word (codes "run") then option_map (λ p. Run p.0 p.1) (placed_in parts)
     else (if bytes_eq word (codes "nl") then nl_in parts
     else (if bytes_eq word (codes "del") then del_in parts
     else (if bytes_eq word (codes "undo") then undo_in parts
     else (if bytes_eq word (codes "redo") then redo_in parts
-    else None))))
+    else None)))))
 
 unfoldable pub edit_in : List (List ℕ) → Option CommandData
 edit_in ws = do

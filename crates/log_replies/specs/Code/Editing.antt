@@ -18,6 +18,11 @@ abbrev pub reason_of : Stopped → Local
 reason_of (stopped.Refused why) = why
 reason_of stopped.Unsettled = local.Memory
 
+-- how a run of edits ended, as it is answered
+abbrev pub ended : Result ⊤ Stopped → Result ⊤ Local
+ended (Ok u) = Ok u
+ended (Err why) = Err (reason_of why)
+
 -- the reply of an edit was appended, which refuses it or not
 pub record IsEditReply (edited : Result State Local) (old new : List ℕ) (refused : Bool) : Type 0 where
   pub written : new ≡ old ++ (edit_reply edited).written

@@ -1,4 +1,4 @@
-use Rattle.std.proofs.Common.{◌≡◌, ◌+◌, true, false, ◌++◌, sym, ap, ◌∙◌, arith, length, bytes_eq}
+use Rattle.std.proofs.Common.{◌≡◌, ◌+◌, true, ◌++◌, sym, ap, ◌∙◌, arith, length, bytes_eq}
 use Rattle.std.specs.Prelude.{Some, slice_get}
 use Rattle.context_diff.specs.Replays.{text_of}
 use Rattle.cot_site.specs.Sites.{state_of}

@@ -16,6 +16,7 @@ returns c = record {
     numbers = refl;
     generations = refl;
     undone = refl;
+    letters = refl;
     places = refl;
   };
   bytes = record {

@@ -9,12 +9,12 @@ use Rattle.log_replies.proofs.edit.make.Goals as goal
 
 pub returns-in-Ok : goal.returns-in-Ok
 returns-in-Ok c =
-    one_made c.args.edit.now (at c.args.site.now c.args.released.now.items) (at c.do_edit.new.site c.do_edit.new.released.items)
+    one_made c.args.edit (at c.args.site.now c.args.released.now.items) (at c.do_edit.new.site c.do_edit.new.released.items)
     c.in-Ok._made c.in-Ok.ensures.done
 
-pub returns-in-Err : goal.returns-in-Err
-returns-in-Err c =
-    subst (λ (why : Local). IsDone (all_made (c.args.edit.now ∷ []) (state_of c.args.site.now)) (Err why) (state_of c.do_edit.new.site))
+pub returns : goal.returns
+returns c =
+    subst (λ (why : Local). IsDone (all_made (c.args.edit ∷ []) (state_of c.args.site.now)) (Err why) (state_of c.do_edit.new.site))
     (sym c.reason_of.ensures)
-    (one_stopped c.args.edit.now (at c.args.site.now c.args.released.now.items) (at c.do_edit.new.site c.do_edit.new.released.items)
+    (one_stopped c.args.edit (at c.args.site.now c.args.released.now.items) (at c.do_edit.new.site c.do_edit.new.released.items)
     c.in-Err.why c.in-Err.ensures.done)
