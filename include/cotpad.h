@@ -23,8 +23,8 @@
  * No call ends the process, prints, waits, or keeps a pointer of the host's. What a site has on the heap goes by
  * cotpad_close; a host frees nothing else. A call that answers neither COTPAD_OK nor COTPAD_UNSETTLED leaves the history,
  * what waits and the text as they were, and writes nothing but what is said of that answer. Four calls do many things one
- * after the other, and may have done the first of them: cotpad_insert_text and cotpad_delete_range tell how many,
- * cotpad_exchange_close and cotpad_exchange_finish take no operation back.
+ * after the other, and may have done the first of them: cotpad_insert_text and cotpad_delete_range tell how many operations they
+ * made, cotpad_exchange_close and cotpad_exchange_finish take no operation back.
  */
 #ifndef COTPAD_H
 #define COTPAD_H
@@ -37,10 +37,10 @@ extern "C" {
 #endif
 
 /* The version of this header. cotpad_version() tells that of the library: begin by comparing them. */
-#define COTPAD_VERSION 1u
+#define COTPAD_VERSION 2u
 
 /* The bytes of the longest frame: what cotpad_frame needs at most. */
-#define COTPAD_LONGEST_FRAME 115029u
+#define COTPAD_LONGEST_FRAME 116051u
 
 /* What a call answers. */
 typedef uint32_t cotpad_status;
@@ -102,7 +102,8 @@ typedef struct {
 typedef struct {
     uint32_t kind;
     uint32_t author;      /* the site that made it; of an undo not the site of its member */
-    uint32_t scalar;      /* the character of an insert, else 0 */
+    uint32_t scalar;      /* the first character of an insert, else 0 */
+    uint32_t characters;  /* how many characters an insert has, 1 to 256, else 0; cotpad_operation_text hands them out */
     cotpad_member member; /* undo and redo take its site and number */
 } cotpad_operation;
 
@@ -159,19 +160,20 @@ COTPAD_LAYOUT(offsetof(cotpad_member, number) == 4);
 COTPAD_LAYOUT(offsetof(cotpad_member, generation) == 8);
 COTPAD_LAYOUT(sizeof(cotpad_count) == 8);
 COTPAD_LAYOUT(offsetof(cotpad_count, count) == 4);
-COTPAD_LAYOUT(sizeof(cotpad_operation) == 24);
+COTPAD_LAYOUT(sizeof(cotpad_operation) == 28);
 COTPAD_LAYOUT(offsetof(cotpad_operation, author) == 4);
 COTPAD_LAYOUT(offsetof(cotpad_operation, scalar) == 8);
-COTPAD_LAYOUT(offsetof(cotpad_operation, member) == 12);
-COTPAD_LAYOUT(sizeof(cotpad_verdict) == 64);
+COTPAD_LAYOUT(offsetof(cotpad_operation, characters) == 12);
+COTPAD_LAYOUT(offsetof(cotpad_operation, member) == 16);
+COTPAD_LAYOUT(sizeof(cotpad_verdict) == 68);
 COTPAD_LAYOUT(offsetof(cotpad_verdict, cause) == 4);
 COTPAD_LAYOUT(offsetof(cotpad_verdict, offset) == 8);
 COTPAD_LAYOUT(offsetof(cotpad_verdict, used) == 12);
 COTPAD_LAYOUT(offsetof(cotpad_verdict, operation) == 16);
-COTPAD_LAYOUT(offsetof(cotpad_verdict, missing) == 40);
-COTPAD_LAYOUT(offsetof(cotpad_verdict, site) == 52);
-COTPAD_LAYOUT(offsetof(cotpad_verdict, place) == 56);
-COTPAD_LAYOUT(offsetof(cotpad_verdict, cells) == 60);
+COTPAD_LAYOUT(offsetof(cotpad_verdict, missing) == 44);
+COTPAD_LAYOUT(offsetof(cotpad_verdict, site) == 56);
+COTPAD_LAYOUT(offsetof(cotpad_verdict, place) == 60);
+COTPAD_LAYOUT(offsetof(cotpad_verdict, cells) == 64);
 COTPAD_LAYOUT(sizeof(cotpad_site) == 8);
 COTPAD_LAYOUT(sizeof(size_t) == 8);
 #undef COTPAD_LAYOUT
@@ -202,35 +204,37 @@ cotpad_status cotpad_save(cotpad_site *site, uint8_t *out, size_t room, size_t *
 /* Ends a site, frees all of it, and leaves the handle empty. */
 void cotpad_close(cotpad_site *site);
 
-/* What the user of the site does. A place counts shown characters, each a Unicode scalar value: an insert goes after so many
- * of them, a delete takes the one at the place, from 0. An undo or a redo names an insert or a delete, whoever made it, by the
- * two numbers of its cotpad_member: name_site is not the author of an undo. On COTPAD_OK and COTPAD_UNSETTLED the operation is
- * made, at the index that cotpad_operations told before the call, and what was released after it stands behind it: fetch its
- * frame by cotpad_frame(site, index, ..) and send it to all other sites; what was released came from others, who sent it. An
- * edit that frees something is rare, and a host must not pass it over: the one that waited for an undo, say, is released by the
- * user's own undo, and may be refused then. Else, of insert and delete: COTPAD_PLACE_OUT, COTPAD_NUMBER_FULL; of insert
- * COTPAD_NO_CHARACTER; of undo and redo: COTPAD_NO_NAME, COTPAD_UNKNOWN; of undo COTPAD_NOT_IN_FORCE; of redo COTPAD_IN_FORCE,
- * COTPAD_GENERATION_FULL; of all COTPAD_CONTEXT_FULL, COTPAD_NO_MEMORY. */
+/* What the user of the site does. A place counts shown characters, each a Unicode scalar value: an insert of one character goes
+ * after so many of them, a delete takes the one at the place, from 0. An undo or a redo names an insert or a delete, whoever
+ * made it, by the two numbers of its cotpad_member: name_site is not the author of an undo. An insert is undone and redone
+ * whole, with all its characters. On COTPAD_OK and COTPAD_UNSETTLED the operation is made, at the index that cotpad_operations
+ * told before the call, and what was released after it stands behind it: fetch its frame by cotpad_frame(site, index, ..) and
+ * send it to all other sites; what was released came from others, who sent it. An edit that frees something is rare, and a host
+ * must not pass it over: the one that waited for an undo, say, is released by the user's own undo, and may be refused then.
+ * Else, of insert and delete: COTPAD_PLACE_OUT, COTPAD_NUMBER_FULL; of insert COTPAD_NO_CHARACTER; of undo and redo:
+ * COTPAD_NO_NAME, COTPAD_UNKNOWN; of undo COTPAD_NOT_IN_FORCE; of redo COTPAD_IN_FORCE, COTPAD_GENERATION_FULL; of all
+ * COTPAD_CONTEXT_FULL, COTPAD_NO_MEMORY. */
 cotpad_status cotpad_insert(cotpad_site *site, uint32_t place, uint32_t scalar);
 cotpad_status cotpad_delete(cotpad_site *site, uint32_t place);
 cotpad_status cotpad_undo(cotpad_site *site, uint32_t name_site, uint32_t number);
 cotpad_status cotpad_redo(cotpad_site *site, uint32_t name_site, uint32_t number);
 
-/* Inserts the characters of a text in UTF-8, the first after `place` shown ones, each next one after it, and releases after each.
- * *made is how many were inserted, each by an operation of the site's own: they stand in the history from the index on that
- * cotpad_operations told before the call, with what was released between them (cotpad_operation_at tells the author).
- * A place counts what is shown at that moment: where the release after one of them shows or hides characters before it, the next
- * one stands among others. COTPAD_OK: all of them, and nothing can go wrong with no character. Else COTPAD_NO_CHARACTER (no UTF-8)
- * or COTPAD_PLACE_OUT, and *made is 0 (unless such a release hid the place of the next one); or COTPAD_NUMBER_FULL,
- * COTPAD_CONTEXT_FULL or COTPAD_NO_MEMORY, where the first *made characters are inserted, and no more: go on with the rest, or undo
- * these; or COTPAD_UNSETTLED: the same, and what the last of these freed is released in part: settle, and go on. */
+/* Inserts a text in UTF-8 after `place` shown characters. It is cut from the front into pieces of 256 characters and a shorter last
+ * one; each piece is one operation, which is undone and redone whole, and releases after it. *made is how many operations were made:
+ * they stand in the history from the index on that cotpad_operations told before the call, with what was released between them
+ * (cotpad_operation_at tells the author). A place counts what is shown at that moment: where the release after one of them shows or
+ * hides characters before it, the next one stands among others. COTPAD_OK: all of them, and nothing can go wrong with no character.
+ * Else COTPAD_NO_CHARACTER (no UTF-8) or COTPAD_PLACE_OUT, and *made is 0 (unless such a release hid the place of the next one); or
+ * COTPAD_NUMBER_FULL, COTPAD_CONTEXT_FULL or COTPAD_NO_MEMORY, where the first *made pieces are inserted, and no more: go on with the
+ * rest, which begins after 256 * *made characters, or undo these; or COTPAD_UNSETTLED: the same, and what the last of these freed is
+ * released in part: settle, and go on. */
 cotpad_status cotpad_insert_text(cotpad_site *site, uint32_t place, const uint8_t *text, size_t length, uint32_t *made);
 
-/* Deletes `count` shown characters, from the one at `place` on, and releases after each. *made is how many were deleted, as
- * above, and a place counts as there. COTPAD_OK: all of them. Else COTPAD_PLACE_OUT, where they aren't all there, and *made is 0
- * (unless a release hid what was left of them); or COTPAD_NUMBER_FULL, COTPAD_CONTEXT_FULL, COTPAD_NO_MEMORY or COTPAD_UNSETTLED,
- * where the first *made characters are deleted, and no more. To take a text or a range back, read the names of these operations by
- * cotpad_operation_at, right after the call, and give each to cotpad_undo. */
+/* Deletes `count` shown characters, from the one at `place` on, each by an operation, and releases after each. *made is how many were
+ * deleted, as above, and a place counts as there. COTPAD_OK: all of them. Else COTPAD_PLACE_OUT, where they aren't all there, and
+ * *made is 0 (unless a release hid what was left of them); or COTPAD_NUMBER_FULL, COTPAD_CONTEXT_FULL, COTPAD_NO_MEMORY or
+ * COTPAD_UNSETTLED, where the first *made characters are deleted, and no more. To take a text or a range back, read the names of these
+ * operations by cotpad_operation_at, right after the call, and give each to cotpad_undo. */
 cotpad_status cotpad_delete_range(cotpad_site *site, uint32_t place, uint32_t count, uint32_t *made);
 
 /* How many operations are integrated, how many wait, and how many characters are shown. */
@@ -238,13 +242,18 @@ uint32_t cotpad_operations(cotpad_site *site);
 uint32_t cotpad_waiting(cotpad_site *site);
 uint32_t cotpad_characters(cotpad_site *site);
 
-/* The insert by which the shown character at `place` stands there, counted from 0: undo and redo take its site and number.
- * Else COTPAD_NONE. */
-cotpad_status cotpad_name_at(cotpad_site *site, uint32_t place, cotpad_member *name);
+/* The insert by which the shown character at `place` stands there, counted from 0, and which of its characters it is, from 0: undo and
+ * redo take the site and number. Else COTPAD_NONE: *name and *offset are as they were. */
+cotpad_status cotpad_name_at(cotpad_site *site, uint32_t place, cotpad_member *name, uint32_t *offset);
 
 /* What the integrated operation at this index is, and who made it. Operations stand in the order of integration, from 0,
  * so what was done last stands at cotpad_operations(site) - 1. Else COTPAD_NONE. */
 cotpad_status cotpad_operation_at(cotpad_site *site, uint32_t index, cotpad_operation *operation);
+
+/* The text of the integrated operation at this index in UTF-8, with no byte after it: the characters of an insert, at most 1,024
+ * bytes; other operations have none. It takes no memory. *needed is the number of its bytes. Else COTPAD_TOO_SHORT, which writes
+ * *needed alone, or COTPAD_NONE. */
+cotpad_status cotpad_operation_text(cotpad_site *site, uint32_t index, uint8_t *out, size_t room, size_t *needed);
 
 /* The frame of the integrated operation at this index; *needed is the number of its bytes. Else COTPAD_TOO_SHORT, which
  * writes *needed alone, COTPAD_NONE or COTPAD_NO_MEMORY. A site that comes late is sent all frames, from index 0 on. */

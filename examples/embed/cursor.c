@@ -4,32 +4,44 @@
 #include <stdlib.h>
 #include <string.h>
 
+/* A character stays the same wherever it goes: which one it is of the characters of its insert. */
+typedef struct {
+    cotpad_member name;
+    uint32_t offset;
+} letter;
+
 /* The characters that stood before the cursor at any look since it was put, in the order of the text, hidden ones too. */
 typedef struct {
-    cotpad_member *before;
+    letter *before;
     uint32_t count, place; /* it stands after so many shown characters */
     uint32_t seen;         /* the operations that there were at the last look */
 } cursor;
 #define CURSOR_AT_START {NULL, 0, 0, 0}
 
 typedef struct {
-    cotpad_member name; /* first, so that names are compared */
+    letter is; /* first, so that letters are compared */
     uint32_t place;
 } standing;
 
 static int by_name(const void *left, const void *right) {
-    const cotpad_member *a = left, *b = right;
-    if (a->site != b->site) return a->site < b->site ? -1 : 1;
-    return (a->number > b->number) - (a->number < b->number);
+    const letter *a = left, *b = right;
+    if (a->name.site != b->name.site) return a->name.site < b->name.site ? -1 : 1;
+    if (a->name.number != b->name.number) return a->name.number < b->name.number ? -1 : 1;
+    return (a->offset > b->offset) - (a->offset < b->offset);
 }
 
-/* Whether nothing changed before it, which is quick to see where one operation came: that shows or hides one character. */
+/* Which character is shown at this place. */
+static cotpad_status letter_at(cotpad_site *site, uint32_t place, letter *it) {
+    return cotpad_name_at(site, place, &it->name, &it->offset);
+}
+
+/* Whether nothing changed before it, which is quick to see where one operation came: that shows characters or hides some, but not
+ * both, so where as many stand before the last one of these, they are the same. */
 static int stays(const cursor *c, cotpad_site *site) {
-    cotpad_member name = {0};
+    letter last = {{0, 0, 0}, 0};
     uint32_t came = cotpad_operations(site) - c->seen;
     if (came == 0 || c->count == 0) return 1;
-    return came == 1 && c->place > 0 && cotpad_name_at(site, c->place - 1, &name) == COTPAD_OK &&
-        by_name(&name, &c->before[c->count - 1]) == 0;
+    return came == 1 && c->place > 0 && letter_at(site, c->place - 1, &last) == COTPAD_OK && by_name(&last, &c->before[c->count - 1]) == 0;
 }
 
 /* All shown characters in their order, and after them the same, sorted by name. The caller frees them. */
@@ -38,7 +50,7 @@ static standing *text_of(cotpad_site *site, uint32_t shown) {
     if (text == NULL) return NULL;
     for (uint32_t i = 0; i < shown; i++) {
         text[i].place = i;
-        cotpad_name_at(site, i, &text[i].name);
+        letter_at(site, i, &text[i].is);
         text[shown + i] = text[i];
     }
     qsort(text + shown, shown, sizeof *text, by_name);
@@ -50,7 +62,7 @@ static cotpad_status look(cursor *c, cotpad_site *site) {
     uint32_t shown = cotpad_characters(site), count = 0, at = 0;
     if (!stays(c, site)) {
         standing *text = text_of(site, shown);
-        cotpad_member *before = malloc((c->count + (size_t)shown) * sizeof *before);
+        letter *before = malloc((c->count + (size_t)shown) * sizeof *before);
         if (text == NULL || before == NULL) {
             free(text);
             free(before);
@@ -59,7 +71,7 @@ static cotpad_status look(cursor *c, cotpad_site *site) {
         for (uint32_t i = 0; i < c->count; i++) {
             const standing *it = bsearch(&c->before[i], text + shown, shown, sizeof *it, by_name);
             if (it == NULL) before[count++] = c->before[i];
-            while (it != NULL && at <= it->place) before[count++] = text[at++].name;
+            while (it != NULL && at <= it->place) before[count++] = text[at++].is;
         }
         free(text);
         free(c->before);
@@ -76,11 +88,11 @@ static cotpad_status put(cursor *c, cotpad_site *site, uint32_t place) {
     cotpad_status status = look(c, site);
     if (status != COTPAD_OK) return status;
     if (place > cotpad_characters(site)) return COTPAD_PLACE_OUT;
-    cotpad_member *before = realloc(c->before, (place + (size_t)c->count + 1) * sizeof *before);
+    letter *before = realloc(c->before, (place + (size_t)c->count + 1) * sizeof *before);
     if (before == NULL) return COTPAD_NO_MEMORY;
     c->before = before;
     uint32_t same = c->count == c->place ? c->place : 0; /* where some are hidden, all are read anew */
-    for (uint32_t i = same; i < place; i++) cotpad_name_at(site, i, &before[i]);
+    for (uint32_t i = same; i < place; i++) letter_at(site, i, &before[i]);
     c->count = c->place = place;
     return COTPAD_OK;
 }
@@ -157,7 +169,7 @@ int main(void) {
     draw("Bob deletes what Ann typed");
     insert(&bob, &ann, 3, "our ");
     draw("Bob types before it");
-    undo(4); /* the delete of the blank */
+    undo(1); /* the delete of the blank */
     draw("Bob takes back the last delete");
     erase(&ann, &bob, here.place - 1, 1);
     draw("Ann deletes backwards");

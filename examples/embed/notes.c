@@ -98,7 +98,7 @@ static void type_alone(person *people, int who, uint32_t place, const char *text
     uint32_t made = 0;
     cotpad_status status = cotpad_insert_text(site, place, (const uint8_t *)text, strlen(text), &made);
     tell_released(site, who);
-    must(status, "insert_text"); /* a host that goes on where memory ran out has `made` characters less to insert */
+    must(status, "insert_text"); /* a host that goes on where memory ran out has 256 * `made` characters less to insert */
 }
 
 static void type(person *people, int who, uint32_t place, const char *text) {
@@ -141,6 +141,17 @@ static void show(person *people, int who) {
 static void sync_and_show(person *people) {
     for (int who = 0; who < PEOPLE; who++) take_in(people, who);
     for (int who = 0; who < PEOPLE; who++) show(people, who);
+}
+
+/* Tells what the operation that was integrated last inserted. */
+static void tell_inserted(cotpad_site *site) {
+    uint8_t text[1025]; /* 256 characters are at most 1,024 bytes */
+    uint32_t index = cotpad_operations(site) - 1;
+    cotpad_operation o = {0};
+    size_t count = 0;
+    must(cotpad_operation_at(site, index, &o), "operation_at");
+    must(cotpad_operation_text(site, index, text, sizeof text, &count), "operation_text");
+    printf("  %u.%u inserts %u characters:%.*s\n", o.member.site, o.member.number, o.characters, (int)count, (char *)text);
 }
 
 /* The insert or delete that was integrated last, but for `back` later ones. */
@@ -228,14 +239,14 @@ static void refusals(person *people) {
     cotpad_site *site = &people[0].site, none = COTPAD_SITE_EMPTY;
     cotpad_status place = cotpad_delete(site, 99), after = cotpad_insert(site, 99, 'x');
     cotpad_status character = cotpad_insert(site, 0, 0xD800), site_out = cotpad_open(&none, 64);
-    cotpad_status unknown = cotpad_undo(site, 9, 9), name = cotpad_undo(site, 64, 1), force = cotpad_redo(site, 0, 1);
+    cotpad_status unknown = cotpad_undo(site, 9, 9), name = cotpad_undo(site, 64, 1), force = cotpad_redo(site, 0, 3);
     printf("refused: place %u %u, character %u, site %u, unknown %u, name %u, in force %u\n", place, after, character,
         site_out, unknown, name, force);
     const uint8_t latin[] = {'c', 0xE9}, *text = (const uint8_t *)"x";
-    uint32_t made = 9;
+    uint32_t made = 9, offset = 9;
     cotpad_member at = {0, 0, 0};
     cotpad_status utf8 = cotpad_insert_text(site, 0, latin, sizeof latin, &made), far = cotpad_insert_text(site, 99, text, 1, &made);
-    cotpad_status range = cotpad_delete_range(site, 1, 99, &made), nobody = cotpad_name_at(site, 99, &at);
+    cotpad_status range = cotpad_delete_range(site, 1, 99, &made), nobody = cotpad_name_at(site, 99, &at, &offset);
     printf("refused: text %u, its place %u, range %u, made %u, name at a place %u\n", utf8, far, range, made, nobody);
     const uint8_t bad[] = {0, 0, 0, 4, 9, 9, 9, 9};
     cotpad_verdict v = {0};
@@ -259,7 +270,7 @@ int main(void) {
     sync_and_show(people);
     printf("-- each undoes what another did\n");
     undo(people, 0, (cotpad_member){1, 1, 0});
-    undo(people, 1, (cotpad_member){0, 4, 0});
+    undo(people, 1, (cotpad_member){0, 2, 0});
     undo(people, 2, (cotpad_member){1, 2, 0});
     sync_and_show(people);
     printf("-- and 0 undoes the last insert or delete that it has\n");
@@ -267,15 +278,18 @@ int main(void) {
     sync_and_show(people);
     printf("-- apart: 0 types, 2 deletes, and each exchanges with the other\n");
     type_alone(people, 0, 3, " at 4, caf\xC3\xA9");
+    tell_inserted(&people[0].site);
     uint32_t made = 0;
     must(cotpad_delete_range(&people[2].site, 0, 2, &made), "delete_range");
     exchange(&people[2].site, &people[0].site);
     exchange(&people[1].site, &people[0].site);
     sync_and_show(people);
-    printf("-- 1 leaves, comes back, and undoes the character at the front\n");
+    printf("-- 1 leaves, comes back, and undoes the insert of the character at the front\n");
     leave_and_come_back(&people[1].site, 1);
     cotpad_member name = {0, 0, 0};
-    must(cotpad_name_at(&people[1].site, 0, &name), "name_at");
+    uint32_t offset = 0;
+    must(cotpad_name_at(&people[1].site, 0, &name, &offset), "name_at");
+    printf("  it is character %u of %u.%u, from 0\n", offset, name.site, name.number);
     undo(people, 1, name);
     sync_and_show(people);
     refusals(people);

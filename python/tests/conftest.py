@@ -15,6 +15,21 @@ def insert_frame(site, number, place, character, counts, undone=()):
     return len(body).to_bytes(4, "big") + body
 
 
+def run_frame(site, number, place, text):
+    """The frame of an insert of several characters, written by hand, with an empty context."""
+    body = bytes([4, site]) + number.to_bytes(4, "big") + place.to_bytes(4, "big") + len(text).to_bytes(2, "big")
+    body += text.encode("utf-32-be") + bytes(3)
+    return len(body).to_bytes(4, "big") + body
+
+
+def typed(editor, place, text):
+    """Types a text letter by letter: an operation for each."""
+    with editor.batch() as batch:
+        for at, letter in enumerate(text, place):
+            batch.insert(at, letter)
+    return batch.edit
+
+
 def send(edit, *others):
     for other in others:
         other.receive(b"".join(edit))

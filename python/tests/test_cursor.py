@@ -4,7 +4,7 @@ from __future__ import annotations
 import random
 
 import pytest
-from conftest import send
+from conftest import send, typed
 
 from cotpad import Cursor, Document, Refused, Site, Status
 
@@ -91,12 +91,27 @@ def test_typing_moves_it_and_deleting_backwards_needs_nothing(sites):
 
 def test_what_an_edit_of_ones_own_releases_moves_it(sites):
     ann, bob, carl = sites
-    send(ann.insert(0, "abc"), bob, carl)
+    send(typed(ann, 0, "abc"), bob, carl)
     bob.undo((0, 1))
-    carl.receive(bob.insert(0, "xy")[0])
+    carl.receive(bob.insert(0, "x")[0])
     cursor = Cursor(carl, 3)
     assert carl.undo((0, 1)).released
     assert (carl.text, cursor.place) == ("xbc", 3)
+
+
+def test_it_stands_behind_one_of_several_characters_of_an_insert(sites):
+    ann, bob = sites[:2]
+    send(ann.insert(0, "abc"), bob)
+    send(bob.insert(1, "xyz"), ann)
+    cursor = Cursor(ann, 3)
+    send(bob.undo((1, 1)), ann)
+    assert (ann.text, cursor.place) == ("abc", 1)
+    send(bob.insert(2, "!?"), ann)
+    assert (ann.text, cursor.place) == ("ab!?c", 1)
+    send(bob.redo((1, 1)), ann)
+    assert (ann.text, cursor.place) == ("axyzb!?c", 3)
+    send(bob.undo((0, 1)), ann)
+    assert (ann.text, cursor.place) == ("xyz!?", 2)
 
 
 def test_what_came_where_something_was_hidden_stands_before_it_too(sites):

@@ -9,10 +9,11 @@ import subprocess
 import sys
 
 import pytest
-from conftest import insert_frame, send
+from conftest import insert_frame, send, typed
 
 from cotpad import (
-    Became, Document, InUse, Name, NoDocument, NotSaved, NotTaken, Refused, Site, Status, Unsettled, exchange, storage, write_safely,
+    Became, Character, Document, InUse, Name, NoDocument, NotSaved, NotTaken, Refused, Site, Status, Unsettled, exchange, storage,
+    write_safely,
 )
 from cotpad import _library as lib
 
@@ -34,14 +35,15 @@ def test_create_edit_and_open_again(path):
     with Document.create(path, 3) as mine:
         assert list(mine.insert(0, "a")) == [insert_frame(3, 1, 0, "a", [])]
         assert text_in(path) == "a"
-        mine.insert(1, "bc")
+        typed(mine, 1, "bc")
         assert mine.delete(0).names == (Name(3, 4),)
         mine.undo((3, 4))
         mine.redo((3, 4))
         assert mine.undo_each([(3, 4), (3, 4)]).names == mine.redo_each([(3, 4), (3, 4)]).names == (Name(3, 4),)
         assert text_in(path) == mine.text == "bc"
         assert (mine.characters, mine.operations, mine.waiting, mine.number, mine.unsaved) == (2, 8, 0, 3, False)
-        assert mine.name_at(0) == Name(3, 2) and mine.names(0, 2) == [Name(3, 2), Name(3, 3)]
+        assert mine.name_at(0) == Character(Name(3, 2), 0)
+        assert mine.names(0, 2) == [Character(Name(3, 2), 0), Character(Name(3, 3), 0)]
         assert mine.history[0] == mine.operation(0)
     with Document(path) as mine:
         assert mine.number == 3 and mine.text == "bc"
@@ -76,7 +78,7 @@ def test_a_batch_is_saved_once(path, monkeypatch):
             for call in (lambda: batch.edit, lambda: mine.insert(0, "x"), mine.save, lambda: mine.batch().__enter__()):
                 with pytest.raises(RuntimeError):
                     call()
-        assert len(batch.edit) == 4 and len(saved) == 1 and text_in(path) == "ea"
+        assert len(batch.edit) == 2 and len(saved) == 1 and text_in(path) == "ea"
         assert not mine.save() and len(saved) == 1
 
 
@@ -87,7 +89,7 @@ def test_a_batch_that_raises_is_held_back(path):
             batch.delete(9)
         assert why.value.status is Status.PLACE_OUT
         assert mine.unsaved and mine.text == "ab" and text_in(path) == ""
-        assert [str(it) for it in mine.insert(2, "c").names] == ["0.1", "0.2", "0.3"]
+        assert [str(it) for it in mine.insert(2, "c").names] == ["0.1", "0.2"]
         assert text_in(path) == "abc"
 
 
@@ -251,7 +253,7 @@ def test_a_file_that_cannot_grow(path):
         with Site(1) as peer:
             peer.receive(b"".join(mine.frames(0)))
             assert peer.text == "kept lost?"
-        assert len(mine.save()) == 6 and text_in(path) == "kept lost?"
+        assert len(mine.save()) == 1 and text_in(path) == "kept lost?"
 
 
 def test_a_name_that_is_taken_by_a_folder(path):

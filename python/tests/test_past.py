@@ -4,7 +4,7 @@ from __future__ import annotations
 import random
 
 import pytest
-from conftest import insert_frame, send
+from conftest import insert_frame, send, typed
 
 from cotpad import Document, Kind, Member, Name, NoText, Refused, Site, Status
 
@@ -21,7 +21,7 @@ def pair(sites):
     """Ann inserts 0.1 of a and 0.2 of é behind it; Bob, who has both, deletes the a by 1.1 and undoes 0.2. Ann gets that, inserts 0.3 of
     z in front, and redoes 0.2."""
     ann, bob = sites[:2]
-    send(ann.insert(0, "aé"), bob)
+    send(typed(ann, 0, "aé"), bob)
     send([*bob.delete(0), *bob.undo((0, 2))], ann)
     send([*ann.insert(0, "z"), *ann.redo((0, 2))], bob)
     return ann, bob
@@ -86,7 +86,7 @@ def test_numbers_that_are_out_of_range(pair, counts, undone):
 
 def test_a_document(tmp_path):
     with Document.create(tmp_path / "notes.cotpad", 3) as mine:
-        mine.insert(0, "ab")
+        typed(mine, 0, "ab")
         mine.delete(0)
         assert [mine.at(index) for index in range(4)] == ["", "a", "ab", "b"]
         assert mine.text_at({3: 2}) == "ab"
@@ -101,7 +101,7 @@ def test_a_closed_site(sites):
 
 
 def test_the_history(pair):
-    assert [(it.kind, it.author, it.name, it.generation, it.character) for it in pair[0].history] == [
+    assert [(it.kind, it.author, it.name, it.generation, it.text) for it in pair[0].history] == [
         (Kind.INSERT, 0, Name(0, 1), 0, "a"),
         (Kind.INSERT, 0, Name(0, 2), 0, "é"),
         (Kind.DELETE, 1, Name(1, 1), 0, ""),

@@ -5,7 +5,7 @@ import re
 from pathlib import Path
 
 import pytest
-from conftest import send
+from conftest import send, typed
 
 from cotpad import Cursor, Document, Site
 
@@ -22,7 +22,7 @@ def example(page, has, kind="python"):
 def test_the_example_of_the_readme(tmp_path, monkeypatch, capsys):
     monkeypatch.chdir(tmp_path)
     exec(example("README.md", "from cotpad"), {})
-    assert capsys.readouterr().out == "ea\n"
+    assert capsys.readouterr().out == "tea\n"
 
 
 def test_the_example_of_the_package(tmp_path, monkeypatch, capsys):
@@ -43,7 +43,7 @@ def test_a_new_document_has_the_text_of_the_old_one(tmp_path, monkeypatch):
         old.delete(0)
     exec(example("docs/EMBEDDING.md", "new.cotpad"), {"Document": Document})
     with Document("new.cotpad") as new:
-        assert (new.number, new.text, new.operations) == (0, "ea\n", 3)
+        assert (new.number, new.text, new.operations) == (0, "ea\n", 1)
 
 
 def test_the_cursor_of_a_user(sites):
@@ -57,7 +57,7 @@ def test_the_cursor_of_a_user(sites):
 
 def test_the_texts_of_the_past(sites):
     ann = sites[0]
-    ann.insert(0, "tea")
+    typed(ann, 0, "tea")
     ann.undo((0, 2))
     names = {"mine": ann, "before": 4}
     exec(example("docs/EMBEDDING.md", "mine.at(index)"), names)

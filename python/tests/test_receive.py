@@ -2,7 +2,7 @@
 from __future__ import annotations
 
 import pytest
-from conftest import insert_frame, send
+from conftest import insert_frame, run_frame, send, typed
 
 from cotpad import BadBytes, Became, Cause, Kind, Member, Name, Operation, Refused, Site, Status, Unsettled
 from cotpad import _library as lib
@@ -14,15 +14,29 @@ def became(delivered):
 
 def test_a_late_operation_waits_and_is_released(sites):
     ann, bob = sites[:2]
-    frames = ann.insert(0, "tea")
+    frames = typed(ann, 0, "tea")
     told = bob.receive(frames[2])
     assert told[0].became is Became.WAITS and told[0].missing == Member(0, 1, 0) and not told[0].released
     assert bob.waiting == 1 and bob.text == ""
     assert bob.receive(frames[1])[0].missing == Member(0, 1, 0)
     told = bob.receive(frames[0])
     assert became(told) == [Became.INTEGRATED] * 3 and [it.released for it in told] == [False, True, True]
-    assert [it.operation.character for it in told] == ["t", "e", "a"]
+    assert [it.operation.text for it in told] == ["t", "e", "a"]
     assert bob.text == "tea" and bob.waiting == 0
+
+
+def test_the_text_of_an_insert_is_told_whatever_its_verdict(sites):
+    ann, bob = sites[:2]
+    first, second = ann.insert(0, "tea")[0], ann.insert(3, " pot")[0]
+    assert first == run_frame(0, 1, 0, "tea")
+    assert [(it.became, it.operation.text) for it in bob.receive(second)] == [(Became.WAITS, " pot")]
+    assert [(it.became, it.operation.text) for it in bob.receive(first)] == [(Became.INTEGRATED, "tea"), (Became.INTEGRATED, " pot")]
+    forged = run_frame(0, 1, 0, "xyz")
+    told = bob.receive(first + forged + run_frame(2, 1, 1, "ab"))
+    assert [(it.became, it.operation.text) for it in told] == [
+        (Became.REPEAT, "tea"), (Became.FORGED, "xyz"), (Became.PLACE_OUT, "ab"),
+    ]
+    assert bob.text == "tea pot"
 
 
 def test_what_waits_for_an_undo_names_its_generation(sites):
@@ -59,12 +73,12 @@ def test_a_release_that_is_refused_is_told_and_the_log_is_loaded_again(sites):
         assert list(same.history) == list(carl.history)
 
 
-def test_what_an_insert_releases_may_stand_between_its_characters():
+def test_what_an_insert_releases_may_stand_between_its_pieces():
     with Site(0) as ann:
-        assert became(ann.receive(insert_frame(1, 1, 1, "x", [(0, 1)]))) == [Became.WAITS]
-        edit = ann.insert(0, "ab")
+        assert became(ann.receive(insert_frame(1, 1, 256, "x", [(0, 1)]))) == [Became.WAITS]
+        edit = ann.insert(0, 256 * "a" + "b")
         assert [str(it.name) for it in ann.history] == ["0.1", "1.1", "0.2"]
-        assert ann.text == "abx"
+        assert ann.text == 256 * "a" + "bx"
         assert [str(it) for it in edit.names] == ["0.1", "0.2"]
         assert list(edit) == [ann.frame(0), ann.frame(2)]
         assert became(edit.released) == [Became.INTEGRATED] and edit.released[0].operation.name == Name(1, 1)
@@ -72,7 +86,7 @@ def test_what_an_insert_releases_may_stand_between_its_characters():
 
 def test_what_a_delete_releases_may_stand_between_its_characters():
     with Site(0) as ann:
-        ann.insert(0, "abc")
+        typed(ann, 0, "abc")
         ann.receive(insert_frame(1, 1, 3, "x", [(0, 4)]))
         edit = ann.delete(0, 2)
         assert [str(it.name) for it in ann.history] == ["0.1", "0.2", "0.3", "0.4", "1.1", "0.5"]
@@ -110,9 +124,9 @@ def test_a_context_that_is_not_closed(sites):
 
 def test_frames_in_pieces(sites):
     ann, bob = sites[:2]
-    data = b"".join(ann.insert(0, "tea"))
+    data = b"".join([*typed(ann, 0, "tea"), *ann.insert(3, " pot")])
     told = [it for at in range(len(data)) for it in bob.receive(data[at : at + 1])]
-    assert became(told) == [Became.INTEGRATED] * 3 and bob.text == "tea"
+    assert became(told) == [Became.INTEGRATED] * 4 and bob.text == "tea pot"
 
 
 def test_pieces_of_two_senders(sites):
@@ -144,10 +158,13 @@ INSERT = "01 00 00000001 00000000 00000061"  # 0.1 at place 0 of a, before its c
 @pytest.mark.parametrize(
     ("hexadecimal", "cause", "offset"),
     [
-        ("0001c152", Cause.TOO_LONG, 0),
+        ("0001c550", Cause.TOO_LONG, 0),
         ("00000004 09090909", Cause.KIND, 4),
         ("00000011 01 40 00000001 00000000 00000061 00 0000", Cause.RANGE, 5),
         ("00000011 01 00 00000001 00000000 0000d800 00 0000", Cause.CHARACTER, 14),
+        ("00000013 04 00 00000001 00000000 0001 00000061 00 0000", Cause.RANGE, 14),
+        ("00000017 04 00 00000001 00000000 0101 00000061 00000062 00 0000", Cause.RANGE, 14),
+        ("00000017 04 00 00000001 00000000 0002 00000061 00110000 00 0000", Cause.CHARACTER, 20),
         ("0000001b 01 02 00000001 00000000 00000061 02 01 00000001 01 00000001 0000", Cause.ORDER, 24),
         (f"00000016 {INSERT} 01 00 00000000 0000", Cause.ZERO, 20),
         (f"00000012 {INSERT} 00 0000 00", Cause.LENGTH, 21),
@@ -163,14 +180,14 @@ def test_causes(sites, hexadecimal, cause, offset):
     assert sites[0].operations == 0 and sites[0].waiting == 0
 
 
-def test_each_turned_bit_is_told():
+@pytest.mark.parametrize("frame", [insert_frame(1, 2, 1, "a", [(0, 3), (1, 1)], [(0, 2, 1)]), run_frame(1, 2, 1, "ab")])
+def test_each_turned_bit_is_told(frame):
     """A frame with any bit turned is another operation, or malformed; what it says is told, and nothing else happens."""
-    frame = insert_frame(1, 2, 1, "a", [(0, 3), (1, 1)], [(0, 2, 1)])
     for bit in range(8 * len(frame)):
         turned = bytearray(frame)
         turned[bit // 8] ^= 1 << bit % 8
         with Site(0) as site:
-            site.insert(0, "tea")
+            typed(site, 0, "tea")
             try:
                 told = became(site.receive(turned))
             except BadBytes as why:
@@ -207,14 +224,14 @@ def test_an_edit_that_is_not_settled_has_its_frames(sites, monkeypatch):
     unsettled_once(monkeypatch, "insert_text")
     with pytest.raises(Unsettled) as why:
         sites[0].insert(0, "ab")
-    assert why.value.status is Status.UNSETTLED and len(why.value.edit) == 2
+    assert why.value.status is Status.UNSETTLED and len(why.value.edit) == 1
     send(why.value.edit, sites[1])
     assert sites[1].text == sites[0].text == "ab" and sites[0].settle() == []
 
 
 def test_a_delivery_that_is_not_settled_is_told_and_what_follows_is_kept(sites, monkeypatch):
     ann, bob = sites[:2]
-    data = b"".join(ann.insert(0, "abc"))
+    data = b"".join(typed(ann, 0, "abc"))
     unsettled_once(monkeypatch, "receive")
     with pytest.raises(Unsettled) as why:
         bob.receive(data)
@@ -226,7 +243,7 @@ def test_a_delivery_that_is_not_settled_is_told_and_what_follows_is_kept(sites, 
 
 def test_a_delivery_without_memory_is_made_again(sites, monkeypatch):
     ann, bob = sites[:2]
-    data = b"".join(ann.insert(0, "abc"))
+    data = b"".join(typed(ann, 0, "abc"))
     with monkeypatch.context() as short:
         without_memory(short, "receive")
         with pytest.raises(Refused) as why:
@@ -239,7 +256,7 @@ def test_a_frame_for_which_there_is_no_memory_is_fetched_later(sites, monkeypatc
     with monkeypatch.context() as short:
         without_memory(short, "frame")
         with pytest.raises(Refused) as why:
-            sites[0].insert(0, "ab")
+            sites[0].insert(0, 257 * "a")
     assert why.value.edit.names == (Name(0, 1), Name(0, 2)) and len(why.value.edit) == 0
     assert list(sites[0].complete(why.value.edit)) == sites[0].frames()
 

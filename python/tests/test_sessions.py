@@ -4,7 +4,7 @@ from __future__ import annotations
 import random
 
 import pytest
-from conftest import send
+from conftest import send, typed
 
 from cotpad import Refused, Site, Status, exchange
 
@@ -26,13 +26,13 @@ def test_three_people(sites):
     at_once(sites, (0, lambda it: it.insert(0, "tea")))
     at_once(
         sites,
-        (0, lambda it: it.delete(0)),  # 0.4
+        (0, lambda it: it.delete(0)),  # 0.2
         (1, lambda it: it.delete(1)),  # 1.1
         (2, lambda it: it.insert(3, "!")),  # 2.1
         (1, lambda it: it.insert(1, "o")),  # 1.2
     )
     assert texts(sites) == ["oa!"] * 3
-    at_once(sites, (0, lambda it: it.undo((1, 1))), (1, lambda it: it.undo((0, 4))), (2, lambda it: it.undo((1, 2))))
+    at_once(sites, (0, lambda it: it.undo((1, 1))), (1, lambda it: it.undo((0, 2))), (2, lambda it: it.undo((1, 2))))
     assert texts(sites) == ["tea!"] * 3
 
 
@@ -42,7 +42,7 @@ def test_inserts_at_one_place_stand_by_the_numbers_of_their_sites(sites):
 
 
 def test_two_who_undo_the_same_at_once_have_undone_it_once(sites):
-    at_once(sites, (0, lambda it: it.insert(0, "ab")))
+    at_once(sites, (0, lambda it: typed(it, 0, "ab")))
     at_once(sites, (1, lambda it: it.undo((0, 1))), (2, lambda it: it.undo((0, 1))))
     assert texts(sites) == ["b"] * 3
     at_once(sites, (0, lambda it: it.redo((0, 1))))
@@ -59,11 +59,21 @@ def test_two_who_delete_the_same_at_once_have_deleted_it_twice(sites):
 
 
 def test_an_undone_insert_comes_back_where_it_stood(sites):
-    at_once(sites, (0, lambda it: it.insert(0, "abc")))
+    at_once(sites, (0, lambda it: typed(it, 0, "abc")))
     at_once(sites, (1, lambda it: it.undo((0, 2))))
     at_once(sites, (2, lambda it: it.insert(1, "x")))  # right after a, in front of the hidden b
     at_once(sites, (0, lambda it: it.redo((0, 2))))
     assert texts(sites) == ["axbc"] * 3
+
+
+def test_an_insert_of_several_characters_is_undone_and_redone_whole(sites):
+    at_once(sites, (0, lambda it: it.insert(0, "abc")))
+    at_once(sites, (1, lambda it: it.insert(1, "xy")), (2, lambda it: it.delete(2)))
+    assert texts(sites) == ["axyb"] * 3
+    at_once(sites, (2, lambda it: it.undo((0, 1))))
+    assert texts(sites) == ["xy"] * 3
+    at_once(sites, (1, lambda it: it.redo((0, 1))), (0, lambda it: it.undo((2, 1))))
+    assert texts(sites) == ["axybc"] * 3
 
 
 class Drawn:

@@ -6,11 +6,11 @@ import sys
 import threading
 
 import pytest
-from conftest import insert_frame, send
+from conftest import insert_frame, run_frame, send, typed
 
 import cotpad
 from cotpad import (
-    Became, Cause, CotpadError, Edit, Kind, Member, Name, NotTaken, Operation, Refused, Site, Status, exchange,
+    Became, Cause, Character, CotpadError, Edit, Kind, Member, Name, NotTaken, Operation, Refused, Site, Status, exchange,
 )
 
 FIRST = insert_frame(0, 1, 0, "a", [])
@@ -42,6 +42,17 @@ def test_insert_answers_the_frames(sites):
     assert not Edit() and edit.without_frames() and len(edit.without_frames()) == 0
 
 
+def test_a_text_is_cut_into_pieces(sites):
+    site, text = sites[0], "ä" * 256 + "b" * 256 + "𝄞c"
+    edit = site.insert(0, text)
+    assert list(edit) == [site.frame(at) for at in range(3)] and edit[2][4] == 4
+    assert [(str(it.name), it.text) for it in edit.operations] == [("0.1", "ä" * 256), ("0.2", "b" * 256), ("0.3", "𝄞c")]
+    send(edit, sites[1])
+    sites[1].undo((0, 2))
+    assert sites[1].text == "ä" * 256 + "𝄞c"
+    assert sites[2].insert(0, "tea")[0] == run_frame(2, 1, 0, "tea")
+
+
 def test_a_text_of_no_character_changes_nothing(sites):
     assert not sites[0].insert(0, "")
     assert not Site(1).delete(0, 0)
@@ -51,21 +62,21 @@ def test_a_text_of_no_character_changes_nothing(sites):
 def test_delete_undo_and_redo(sites):
     site = sites[0]
     site.insert(0, "tea")
-    assert [str(it) for it in site.delete(1).names] == ["0.4"]
+    assert [str(it) for it in site.delete(1).names] == ["0.2"]
     assert site.text == "ta"
-    assert site.undo(Name(0, 4)).operations == (Operation(Kind.UNDO, 0, Name(0, 4), 1, ""),)
+    assert site.undo(Name(0, 2)).operations == (Operation(Kind.UNDO, 0, Name(0, 2), 1, ""),)
     assert site.text == "tea"
-    edit = site.redo((0, 4))
-    assert edit.operations[0].kind is Kind.REDO and edit.operations[0].member == Member(0, 4, 2)
-    assert str(edit.operations[0].member) == "0.4/2" and edit.operations[0].member.name == Name(0, 4)
+    edit = site.redo((0, 2))
+    assert edit.operations[0].kind is Kind.REDO and edit.operations[0].member == Member(0, 2, 2)
+    assert str(edit.operations[0].member) == "0.2/2" and edit.operations[0].member.name == Name(0, 2)
     assert site.text == "ta"
     assert len(site.delete(0, 2)) == 2
-    assert site.text == "" and site.characters == 0 and site.operations == 8
+    assert site.text == "" and site.characters == 0 and site.operations == 6
 
 
 def test_undo_each_and_redo_each_pass_over_what_does_not_need_it(sites):
     site = sites[0]
-    names = site.insert(0, "abc").names
+    names = typed(site, 0, "abc").names
     site.undo(names[1])
     assert site.undo_each(names).names == (names[0], names[2])
     assert site.text == ""
@@ -82,15 +93,15 @@ def test_undo_each_and_redo_each_pass_over_what_does_not_need_it(sites):
 def test_a_batch_hands_out_its_frames_at_its_end(sites):
     site = sites[0]
     with site.batch() as batch:
-        assert batch.insert(0, "tee").names == (Name(0, 1), Name(0, 2), Name(0, 3))
+        assert batch.insert(0, "tee").names == (Name(0, 1),)
         assert len(batch.delete(1)) == 0
-        batch.undo((0, 4))
-        batch.redo((0, 4))
-        batch.undo_each([(0, 4)])
-        batch.redo_each([(0, 4)])
+        batch.undo((0, 2))
+        batch.redo((0, 2))
+        batch.undo_each([(0, 2)])
+        batch.redo_each([(0, 2)])
         with pytest.raises(RuntimeError):
             batch.edit
-    assert len(batch.edit) == 8 and site.text == "te"
+    assert len(batch.edit) == 6 and site.text == "te"
     send(batch.edit, sites[1])
     assert sites[1].text == "te"
 
@@ -100,12 +111,12 @@ def test_a_batch_that_ends_early_has_what_was_done(sites):
         batch.insert(0, "ab")
         batch.delete(7)
     assert why.value.status is Status.PLACE_OUT
-    assert len(batch.edit) == 2
+    assert len(batch.edit) == 1
 
 
 def test_refusals(sites):
     site = sites[0]
-    site.insert(0, "tea")
+    typed(site, 0, "tea")
     for place in (4, 1 << 32, -1):
         refused(Status.PLACE_OUT, site.insert, place, "x")
         refused(Status.PLACE_OUT, site.delete, place)
@@ -136,7 +147,7 @@ def test_history_is_a_sequence(sites):
     ann, bob = sites[:2]
     history = ann.history
     assert len(history) == 0 and list(history) == []
-    send(ann.insert(0, "ab"), bob)
+    send(typed(ann, 0, "ab"), bob)
     send(bob.undo((0, 1)), ann)
     inserts = [Operation(Kind.INSERT, 0, Name(0, 1), 0, "a"), Operation(Kind.INSERT, 0, Name(0, 2), 0, "b")]
     undo = Operation(Kind.UNDO, 1, Name(0, 1), 1, "")
@@ -155,14 +166,14 @@ def test_names_at_places(sites):
     send(ann.insert(0, "ac"), bob)
     bob.insert(1, "b")
     assert bob.text == "abc"
-    assert bob.name_at(1) == Name(1, 1)
-    assert bob.names(0, 3) == [Name(0, 1), Name(1, 1), Name(0, 2)]
+    assert bob.name_at(1) == Character(Name(1, 1), 0)
+    assert bob.names(0, 3) == [Character(Name(0, 1), 0), Character(Name(1, 1), 0), Character(Name(0, 1), 1)]
     assert bob.names(1, 1) == []
 
 
 def test_frames_are_for_a_site_that_comes_late(sites):
     ann, bob, late = sites
-    send(ann.insert(0, "tea"), bob)
+    send(typed(ann, 0, "tea"), bob)
     send(bob.delete(0), ann)
     assert ann.frames()[0] == ann.frame(0) == insert_frame(0, 1, 0, "t", [])
     assert ann.frames(3) == [ann.frame(3)]
@@ -205,8 +216,7 @@ def test_logs_that_are_not_taken():
 
 def test_an_exchange(sites):
     ann, bob, carl = sites
-    exchange_text = "tea"
-    ann.insert(0, exchange_text)
+    typed(ann, 0, "tea")
     exchange(bob, ann)
     assert bob.text == "tea"
     ann.insert(3, "!")
@@ -243,7 +253,7 @@ def test_a_long_text_and_long_answers(sites):
     text = "häß€𝄞\n" * 2000
     send(ann.insert(0, text), bob)
     assert bob.text == ann.text == text and bob.characters == 12000
-    assert len(ann.save()) > 300_000
+    assert len(ann.save()) > 48_000 and ann.operations == 47
     exchange(sites[2], bob)
     assert sites[2].text == text
 

@@ -5,7 +5,7 @@ import json
 import random
 
 import pytest
-from conftest import send
+from conftest import send, typed
 
 from cotpad import Document, Edit, NotSaved, Site, Undo, storage
 
@@ -39,7 +39,8 @@ def test_what_was_pasted_is_undone_at_once(sites):
 
 def test_last_first(sites):
     undo = Undo(sites[0])
-    names = sites[0].insert(0, "abc").names
+    with undo.group():
+        names = typed(sites[0], 0, "abc").names
     assert undo.last().names == names[::-1]
     assert undo.redo().names == names
 
@@ -71,7 +72,8 @@ def test_what_somebody_undid_is_passed_over(sites):
     ann, bob = sites[:2]
     undo = Undo(ann)
     send(ann.insert(0, "a"), bob)
-    send(ann.insert(1, "bc"), bob)
+    with undo.group():
+        send(typed(ann, 1, "bc"), bob)
     send(ann.insert(3, "d"), bob)
     send(bob.undo((0, 4)), ann)
     send(bob.undo((0, 2)), ann)
@@ -112,7 +114,7 @@ def test_the_last_edit_of_another(sites):
 def test_what_was_written_last_in_a_selection(sites):
     ann, bob, carl = sites
     undo = Undo(carl)
-    send(ann.insert(0, "-----"), bob, carl)
+    send(typed(ann, 0, "-----"), bob, carl)
     send(bob.insert(1, "b"), ann, carl)
     send(ann.insert(5, "a"), bob, carl)
     assert carl.text == "-b---a-"
@@ -127,9 +129,30 @@ def test_what_was_written_last_in_a_selection(sites):
 
 def test_a_selection_takes_a_group_as_far_as_it_stands_there(sites):
     undo = Undo(sites[0])
-    sites[0].insert(0, "abcdef")
+    with undo.group():
+        typed(sites[0], 0, "abcdef")
     undo.within(1, 4)
     assert sites[0].text == "aef"
+
+
+def test_a_selection_takes_an_insert_whole(sites):
+    ann, bob = sites[:2]
+    undo = Undo(bob)
+    send(ann.insert(0, "tea pot"), bob)
+    send(bob.insert(7, "!"), ann)
+    send(undo.within(0, 1), ann)
+    assert ann.text == bob.text == "!"
+
+
+def test_a_text_that_another_inserted_by_one_call(sites):
+    ann, bob = sites[:2]
+    undo = Undo(bob)
+    send(ann.insert(0, "x"), bob)
+    send(ann.insert(1, 300 * "ab"), bob)
+    send(ann.insert(601, "y"), bob)
+    for text in ("x" + 300 * "ab", "x", ""):
+        undo.last_of(0)
+        assert bob.text == text
 
 
 def test_words_that_others_typed(sites):
@@ -159,7 +182,7 @@ def test_what_stands_apart_is_undone_apart(sites):
 def test_what_came_in_one_message(sites):
     ann, bob = sites[:2]
     undo = Undo(bob)
-    undo.note(bob.receive(b"".join(ann.insert(0, "two words"))))
+    undo.note(bob.receive(b"".join(typed(ann, 0, "two words"))))
     undo.note([*bob.receive(b"".join(ann.delete(0, 3)))])
     undo.last_of(0)
     assert bob.text == "two words"
@@ -170,7 +193,8 @@ def test_what_came_in_one_message(sites):
 def test_groups_are_kept_by_a_host(sites):
     ann = sites[0]
     undo = Undo(ann)
-    ann.insert(0, "one two")
+    with undo.group():
+        typed(ann, 0, "one two")
     ann.insert(7, "!")
     kept = json.loads(json.dumps(undo.groups))
     assert len(kept) == 1
@@ -185,7 +209,8 @@ def test_groups_are_kept_by_a_host(sites):
 def test_undo_of_a_document_is_saved_once(tmp_path, monkeypatch):
     with Document.create(tmp_path / "mine", 0) as mine, Site(1) as bob:
         undo = Undo(mine)
-        send(mine.insert(0, "abc"), bob)
+        with undo.group():
+            send(typed(mine, 0, "abc"), bob)
         assert len(undo.last()) == 3
         send(undo.redo(), bob)
         send(bob.insert(3, "d"), mine)

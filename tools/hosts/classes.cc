@@ -96,7 +96,7 @@ int main() {
         sites[2].insert(3, "!");
         expect(sites, "oa!");
         sites[0].undo(1, 1);
-        sites[1].undo(0, 4);
+        sites[1].undo(0, 2);
         sites[2].undo(1, 2);
         expect(sites, "tea!");
         std::puts("a host in C++ shows tea!");

@@ -165,19 +165,21 @@ static uint32_t receive(cotpad_site *site, const uint8_t *frame, size_t count) {
 
 /* Sends the operation at this index, and answers the kind of its verdict. */
 static uint32_t send(cotpad_site *from, uint32_t index, cotpad_site *to) {
-    uint8_t frame[256];
+    uint8_t frame[2048];
     size_t count = 0;
     DO_AT(from, cotpad_frame(from, index, frame, sizeof frame, &count));
     return receive(to, frame, count);
 }
 
-/* Goes on after what was inserted or deleted before memory ran out. */
+/* Goes on after what was inserted or deleted before memory ran out: pieces of an ASCII text. */
 static void type(cotpad_site *site, uint32_t place, const char *text) {
     size_t left = strlen(text);
     for (;;) {
-        uint32_t made = 0;
+        uint32_t made = 0, characters = cotpad_characters(site);
         cotpad_status answer = cotpad_insert_text(site, place, (const uint8_t *)text, left, &made);
-        place += made, text += made, left -= made;
+        size_t done = 256 * (size_t)made < left ? 256 * (size_t)made : left;
+        if (cotpad_characters(site) != characters + done) stop("other characters than were told are inserted");
+        place += (uint32_t)done, text += done, left -= done;
         if (answer == COTPAD_OK) return;
         if (answer != COTPAD_NO_MEMORY) stop("insert_text");
         again++;
@@ -315,6 +317,42 @@ static void pasts(void) {
     cotpad_close(here);
 }
 
+/* The text of the operation at this index is so many times one character, whatever the memory; a buffer that is too short gets none of
+ * it. */
+static void inserted(cotpad_site *site, uint32_t index, uint8_t letter, size_t times) {
+    uint8_t text[256];
+    size_t count = 300;
+    memset(text, 0xff, sizeof text);
+    if (times > 0 && (cotpad_operation_text(site, index, text, times - 1, &count) != COTPAD_TOO_SHORT || count != times || text[0] != 0xff))
+        stop("a buffer that is too short got the text of an operation");
+    cotpad_status answer = cotpad_operation_text(site, index, text, sizeof text, &count);
+    if (answer != COTPAD_OK || count != times) stop("operation_text");
+    for (size_t i = 0; i < sizeof text; i++)
+        if (text[i] != (i < times ? letter : 0xff)) stop("another text of an operation");
+}
+
+/* A text of two pieces, its frames, and an undo of the first piece. */
+static void pieces(void) {
+    cotpad_site first = COTPAD_SITE_EMPTY, second = COTPAD_SITE_EMPTY;
+    cotpad_site *here = &first, *there = &second;
+    char text[258] = {0};
+    memset(text, 'p', 256);
+    text[256] = 'q';
+    DO(cotpad_open(here, 0));
+    DO(cotpad_open(there, 1));
+    type(here, 0, text);
+    if (cotpad_operations(here) != 2) stop("a text of 257 characters isn't two operations");
+    inserted(here, 0, 'p', 256);
+    inserted(here, 1, 'q', 1);
+    for (uint32_t i = 0; i < 2; i++)
+        if (send(here, i, there) != COTPAD_VERDICT_INTEGRATED) stop("a piece isn't integrated");
+    EDIT(there, cotpad_undo(there, 0, 1));
+    inserted(there, 2, 0, 0);
+    shows(there, "q");
+    cotpad_close(there);
+    cotpad_close(here);
+}
+
 static void same_text(cotpad_site *a, cotpad_site *b, size_t characters) {
     uint8_t one[64], other[64];
     size_t count = text_of(a, one, sizeof one), others = text_of(b, other, sizeof other);
@@ -411,6 +449,7 @@ static void sessions(void) {
     session();
     backwards();
     freed_by_an_undo();
+    pieces();
     pasts();
 }
 

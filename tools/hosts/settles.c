@@ -6,7 +6,7 @@
 #include <stdlib.h>
 #include <string.h>
 
-enum { LONGEST = 115029, LIMIT = 67108864 };
+enum { LONGEST = 116051, LETTERS = 256, LIMIT = 67108864 };
 
 static void stop(const char *what, uint32_t is, uint32_t wanted) {
     printf("%s: %u, and not %u\n", what, is, wanted);
@@ -42,6 +42,14 @@ static void end(frame *f) {
 static frame *insert(frame *f, uint32_t site, uint32_t number, uint32_t place, uint32_t scalar) {
     f->count = 4;
     put(f, 1, 1), put_name(f, site, number), put(f, 4, place), put(f, 4, scalar);
+    return f;
+}
+
+/* The same of so many times one character. */
+static frame *run(frame *f, uint32_t site, uint32_t number, uint32_t place, uint32_t scalar, uint32_t count) {
+    f->count = 4;
+    put(f, 1, 4), put_name(f, site, number), put(f, 4, place), put(f, 2, count);
+    while (count-- > 0) put(f, 4, scalar);
     return f;
 }
 
@@ -159,10 +167,11 @@ static void undo_and_redo_free_what_is_good(cotpad_site *site, cotpad_site *othe
     cotpad_close(site);
 }
 
-/* A text frees something after its first character, and after its last: what others made after operations of the user's that the
- * site hasn't made yet, as a copy of the site, which must not be, can bring about. One is good; one is a copy of the user's first
+/* A text of two pieces frees something after its first one, and after its last: what others made after operations of the user's that
+ * the site hasn't made yet, as a copy of the site, which must not be, can bring about. One is good; one is a copy of the user's first
  * operation with other contents; one was made after the second operation, but not after all that this is made after now. */
-static void a_text_frees_between_its_characters(cotpad_site *site) {
+static void a_text_frees_between_its_pieces(cotpad_site *site) {
+    uint8_t text[LETTERS + 1];
     uint32_t made = 9;
     cotpad_operation last = {0};
     is(cotpad_open(site, 2), COTPAD_OK, "open");
@@ -170,9 +179,11 @@ static void a_text_frees_between_its_characters(cotpad_site *site) {
     is(receive(site, after(insert(&one, 1, 1, 0, 'x'), 2, 1, 0)), COTPAD_VERDICT_WAITS, "1.1");
     is(receive(site, after(insert(&one, 2, 1, 0, 'q'), 0, 1, 0)), COTPAD_VERDICT_WAITS, "2.1");
     is(cotpad_insert_text(site, 0, (const uint8_t *)"", 0, &made), COTPAD_OK, "no text");
-    is(made, 0, "how many characters no text has");
-    is(cotpad_insert_text(site, 0, (const uint8_t *)"ab", 2, &made), COTPAD_OK, "a text");
-    is(made, 2, "how many characters were inserted");
+    is(made, 0, "how many pieces no text has");
+    memset(text, 'a', LETTERS);
+    text[LETTERS] = 'b';
+    is(cotpad_insert_text(site, 0, text, sizeof text, &made), COTPAD_OK, "a text");
+    is(made, 2, "how many pieces were inserted");
     is(cotpad_released(site), 3, "what the text released");
     released(site, 0, 1, 1, COTPAD_VERDICT_INTEGRATED);
     released(site, 1, 2, 1, COTPAD_VERDICT_FORGED);
@@ -180,15 +191,19 @@ static void a_text_frees_between_its_characters(cotpad_site *site) {
     is(cotpad_operations(site), 3, "the operations");
     is(cotpad_operation_at(site, 2, &last), COTPAD_OK, "operation_at");
     is(last.scalar, 'b', "the last character");
+    is(last.characters, 1, "the length of the last piece");
+    is(cotpad_operation_at(site, 0, &last), COTPAD_OK, "operation_at");
+    is(last.characters, LETTERS, "the length of the first piece");
     is(cotpad_delete_range(site, 0, 0, &made), COTPAD_OK, "no range");
     is(cotpad_released(site), 0, "what no range released");
     come_back(site, 2);
     cotpad_close(site);
 }
 
-/* A frame as long as can be: an insert 1.N that waits for 0.1, with a context of all sites and of 16,384 undone names. */
+/* A frame as long as can be: an insert 1.N of 256 characters that waits for 0.1, with a context of all sites and of 16,384 undone
+ * names. */
 static const frame *longest(uint32_t number) {
-    insert(&one, 1, number, 0, 'x');
+    run(&one, 1, number, 0, 'x', LETTERS);
     put(&one, 1, 64);
     for (uint32_t site = 0; site < 64; site++) put_name(&one, site, site == 0 ? 16384 : site == 1 ? number - 1 : 1);
     put(&one, 2, 16384);
@@ -198,16 +213,16 @@ static const frame *longest(uint32_t number) {
     return &one;
 }
 
-/* 583 of them and the head are 67,061,915 bytes, which can be loaded, and 584 are too many. */
+/* 578 of them and the head are 67,077,486 bytes, which can be loaded, and 579 are too many. */
 static void a_log_that_is_too_long_is_not_saved(cotpad_site *site) {
     static uint8_t log[LIMIT];
     size_t count = 0;
     cotpad_verdict why = {0};
     is(cotpad_open(site, 2), COTPAD_OK, "open");
-    for (uint32_t number = 2; number < 2 + 583; number++) is(receive(site, longest(number)), COTPAD_VERDICT_WAITS, "a long frame");
+    for (uint32_t number = 2; number < 2 + 578; number++) is(receive(site, longest(number)), COTPAD_VERDICT_WAITS, "a long frame");
     is(cotpad_save(site, log, sizeof log, &count), COTPAD_OK, "save of a long log");
-    is((uint32_t)count, 67061915, "the bytes of a long log");
-    is(receive(site, longest(2 + 583)), COTPAD_VERDICT_WAITS, "the frame that is too many");
+    is((uint32_t)count, 67077486, "the bytes of a long log");
+    is(receive(site, longest(2 + 578)), COTPAD_VERDICT_WAITS, "the frame that is too many");
     size_t needed = 7;
     uint8_t untouched = log[0];
     log[0] = 0;
@@ -217,7 +232,7 @@ static void a_log_that_is_too_long_is_not_saved(cotpad_site *site) {
     log[0] = untouched;
     cotpad_close(site);
     is(cotpad_load(site, 2, log, count, &why), COTPAD_OK, "load of a long log");
-    is(cotpad_waiting(site), 583, "what waits in a long log");
+    is(cotpad_waiting(site), 578, "what waits in a long log");
     cotpad_close(site);
 }
 
@@ -225,7 +240,7 @@ int main(void) {
     cotpad_site site = COTPAD_SITE_EMPTY, other = COTPAD_SITE_EMPTY;
     undo_frees_what_cannot_be(&site);
     undo_and_redo_free_what_is_good(&site, &other);
-    a_text_frees_between_its_characters(&site);
+    a_text_frees_between_its_pieces(&site);
     a_log_that_is_too_long_is_not_saved(&site);
     printf("what a call frees is released and told, and what is saved is loaded\n");
     return 0;

@@ -2,6 +2,7 @@
 use Rattle.std.specs.Prelude.{◌≡◌, ◌+◌}
 use Rattle.op_name.specs.declared.member.TheConstants.{GENERATIONS}
 use Rattle.op_name.specs.declared.name.TheConstants.{SITES, NUMBERS}
+use Rattle.context_diff.specs.declared.letters.TheConstants.{LETTERS}
 use Rattle.context_diff.specs.declared.op.TheConstants.{UNDO_ENTRIES}
 use Rattle.wire_codec.specs.declared.rules.TheConstants.{LONGEST_BODY}
 use Rattle.session_log.specs.declared.reading.TheConstants.{MAX_LOG}
@@ -56,19 +57,21 @@ pub record AreVerdictKinds : Type 0 where
   pub malformed : kind.MALFORMED ≡ 8
 
 -- how many sites there are; how many inserts and deletes one of them makes, how often one of these is undone and redone, and of how many
--- names a context tells undos; and the most bytes of a log, of a message and of a frame, which is a length of four bytes and a body
+-- names a context tells undos; the most characters of an insert; and the most bytes of a log, of a message and of a frame, which is a
+-- length of four bytes and a body
 pub record AreLimits : Type 0 where
   pub sites : SITES ≡ 64
   pub numbers : NUMBERS ≡ 1000000
   pub generations : GENERATIONS ≡ 65535
   pub undone : UNDO_ENTRIES ≡ 16384
+  pub letters : LETTERS ≡ 256
   pub log : MAX_LOG ≡ 67108864
   pub message : MAX_MESSAGE ≡ 67108864
-  pub frame : 4 + LONGEST_BODY ≡ 115029
+  pub frame : 4 + LONGEST_BODY ≡ 116051
 
 -- all of them, in this version
 pub record AreTheNumbers : Type 0 where
-  pub version : VERSION ≡ 1
+  pub version : VERSION ≡ 2
   pub statuses : AreStatuses
   pub operations : AreOperationKinds
   pub verdicts : AreVerdictKinds

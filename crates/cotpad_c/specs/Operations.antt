@@ -1,5 +1,5 @@
 -- Operations as a host reads them.
-use Rattle.std.specs.Prelude.{ℕ, if◌then◌else◌}
+use Rattle.std.specs.Prelude.{ℕ, List, [], ◌∷◌, length, encode_utf8_all, if◌then◌else◌}
 use Rattle.op_name.specs.declared.member.Member.{Member}
 use Rattle.op_name.specs.declared.member.Member.TheVariants.{Original, Group}
 use Rattle.op_name.specs.Members.{is_even}
@@ -14,7 +14,7 @@ no_member = record { site = 0; number = 0; generation = 0 }
 
 -- no operation is told
 abbrev pub no_operation : CotpadOperation
-no_operation = record { kind = 0; author = 0; scalar = 0; member = no_member }
+no_operation = record { kind = 0; author = 0; scalar = 0; characters = 0; member = no_member }
 
 -- an original has generation 0, which no undo has
 abbrev pub member_told : Member → CotpadMember
@@ -29,8 +29,20 @@ site_told s = record { site = s; number = 0; generation = 0 }
 abbrev pub turn_kind : ℕ → ℕ
 turn_kind g = if is_even g then REDO else UNDO
 
--- what an operation is, who made it, the character of an insert, and the member that it is
+-- the first character of a text
+abbrev pub first_of : List ℕ → ℕ
+first_of [] = 0
+first_of (ch ∷ chs) = ch
+
+-- what an operation is, who made it, of an insert the first character and how many there are, and the member that it is
 abbrev pub operation_told : OpData → CotpadOperation
-operation_told (inserting n p ch c) = record { kind = INSERT; author = n.site; scalar = ch; member = member_told (Original n) }
-operation_told (deleting n p c) = record { kind = DELETE; author = n.site; scalar = 0; member = member_told (Original n) }
-operation_told (undoing a t g c) = record { kind = turn_kind g; author = a; scalar = 0; member = member_told (Group t g) }
+operation_told (inserting n p text c) =
+    record { kind = INSERT; author = n.site; scalar = first_of text; characters = length text; member = member_told (Original n) }
+operation_told (deleting n p c) = record { kind = DELETE; author = n.site; scalar = 0; characters = 0; member = member_told (Original n) }
+operation_told (undoing a t g c) = record { kind = turn_kind g; author = a; scalar = 0; characters = 0; member = member_told (Group t g) }
+
+-- the text of an insert in UTF-8 (RFC 3629); other operations have none
+abbrev pub text_told : OpData → List ℕ
+text_told (inserting n p text c) = encode_utf8_all text
+text_told (deleting n p c) = []
+text_told (undoing a t g c) = []

@@ -1,9 +1,13 @@
--- Runs of edits: a text that is inserted, and a range that is deleted, one character after the other, each with the releases after it.
+-- Runs of edits: a text that is inserted, piece by piece, and a range that is deleted, character by character, each with the releases
+-- after it.
 use Rattle.std.specs.Prelude.{⊤, ◌≡◌, ℕ, ◌≤◌, List, Result, OnOk, length}
+use Rattle.cot_site.specs.Sites.{SiteData}
 use Rattle.participant.specs.declared.edits.Edit.{Edit}
 use Rattle.participant.specs.declared.edits.Stopped.{Stopped}
 use Rattle.participant.specs.Reached.{Reached}
-use Rattle.participant.specs.Runs.{inserts, deletes, IsRun}
+use Rattle.participant.specs.Runs.{pieces, runs, deletes, IsRun}
+use Rattle.cotpad_c.specs.declared.status.TheConstants.{NO_MEMORY}
+use Rattle.cotpad_c.specs.Hosting.{HostedData, hosting}
 use Rattle.cotpad_c.specs.Statuses.{number_of}
 
 -- a run of these edits, which are so many: its number is that of how it ended, and it made so many operations
@@ -14,10 +18,14 @@ pub record Ran (n : ℕ) (es : List Edit) (count : ℕ) (a b : Reached) (made : 
   pub within : made ≤ count
   pub whole : OnOk end (made ≡ count)
 
--- the first `made` characters of the text are inserted: all of them, or those before the first that isn't, or those up to the one
--- at which memory ran out among the releases
+-- the text is cut from the front into pieces of LETTERS characters and a shorter last one; the first `made` pieces are inserted:
+-- all of them, or those before the first that isn't, or those up to the one at which memory ran out among the releases
 abbrev pub IsTyped : ℕ → Reached → ℕ → List ℕ → Reached → ℕ → Type 0
-IsTyped n a v cs b made = Ran n (inserts v cs) (length cs) a b made
+IsTyped n a v cs b made = Ran n (runs v cs) (length (pieces cs)) a b made
+
+-- memory ran out while the text was read, before its first insert: nothing is done
+abbrev pub IsUnbegun : ℕ → SiteData → HostedData → ℕ → Type 0
+IsUnbegun n s h made = (n ≡ NO_MEMORY) × (made ≡ 0) × (h ≡ hosting s)
 
 -- the first `made` characters of the range are deleted: all of them, or those before the first that isn't, or those up to the one
 -- at which memory ran out among the releases

@@ -12,6 +12,7 @@ ghost use Rattle.cotpad_c.specs.Statuses.{Did};
 
 use crate::hosted::Hosted;
 use crate::status;
+use context_diff::Letters;
 use op_name::{Name, NameBad, SITES};
 use participant::Edit;
 
@@ -23,7 +24,10 @@ pub(crate) fn insert(hosted: &mut Hosted, place: u32, scalar: u32) -> u32
 {
     hosted.forget();
     match char::from_u32(scalar) {
-        Some(ch) => hosted.edit(&Edit::Insert { place, ch }),
+        Some(ch) => hosted.edit(&Edit::Insert {
+            place,
+            text: Letters::one(ch),
+        }),
         None => status::NO_CHARACTER,
     }
 }

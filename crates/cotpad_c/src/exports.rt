@@ -27,13 +27,13 @@ ghost use Rattle.peer_exchange.specs.Closing.{IsFinished, IsUnclosed, IsUnfinish
 ghost use Rattle.participant.specs.Reached.{from, all_settled, IsHalfSettled};
 ghost use Rattle.cotpad_c.specs.declared.status.TheConstants.{OK, NO_MEMORY, SITE_OUT, PLACE_OUT, NO_CHARACTER, NO_NAME, NONE, TOO_SHORT, TOO_LONG, UNSETTLED, NO_SET};
 ghost use Rattle.cotpad_c.specs.declared.exports.TheConstants.{VERSION};
-ghost use Rattle.cotpad_c.specs.Operations.{member_told, operation_told};
+ghost use Rattle.cotpad_c.specs.Operations.{member_told, operation_told, text_told};
 ghost use Rattle.cotpad_c.specs.Hosting.{hosting};
 ghost use Rattle.cotpad_c.specs.Exchanges.{Answers, Closes};
 ghost use Rattle.cotpad_c.specs.Numbers.{AreTheNumbers};
 ghost use Rattle.cotpad_c.specs.Pasts.{set_told, IsNoPast, IsPast};
 ghost use Rattle.cotpad_c.specs.Refusals.{IsLogRefused, IsRefused};
-ghost use Rattle.cotpad_c.specs.Runs.{IsTyped, IsCut};
+ghost use Rattle.cotpad_c.specs.Runs.{IsTyped, IsUnbegun, IsCut};
 ghost use Rattle.cotpad_c.specs.Saving.{Loads};
 ghost use Rattle.cotpad_c.specs.Statuses.{Did, IsMade, Wrote};
 ghost use Rattle.cotpad_c.specs.Verdicts.{of_member, answered, received, IsHalfReceived, IsReleased};
@@ -52,7 +52,7 @@ use std::alloc::Global;
 use std::mem::replace;
 
 /// The version of these calls, of their structs and of their numbers.
-pub const VERSION: u32 = 1;
+pub const VERSION: u32 = 2;
 
 /// Tells the version.
 #[unsafe(no_mangle)]
@@ -149,10 +149,11 @@ pub extern "C" fn cotpad_delete(site: &mut CotpadSite, place: u32) -> u32
     edits::delete(site.inner(), place)
 }
 
-/// Inserts the characters of a text in UTF-8 after so many shown ones, one after the other, each with the releases after it, and
-/// answers how many it inserted.
+/// Inserts a text in UTF-8 after so many shown characters, by inserts of up to `LETTERS` characters, one after the other, each with
+/// the releases after it, and answers how many inserts it made.
 #[unsafe(no_mangle)]
 pub extern "C" fn cotpad_insert_text(
+    alloc: Global,
     site: &mut CotpadSite,
     place: u32,
     text: &[u8],
@@ -165,10 +166,11 @@ pub extern "C" fn cotpad_insert_text(
     ensures past { IsUtf8 text.now → length (shown (held_site site.old.site).history) < place
         → (result ≡ PLACE_OUT) × (made.new ≡ 0) × (held site.new.site ≡ hosting (held_site site.old.site)) }
     ensures typed { IsUtf8 text.now → place ≤ length (shown (held_site site.old.site).history)
-        → IsTyped result (from (held_state site.old.site)) place (chars text.now) (held_reached site.new.site) made.new }
+        → IsTyped result (from (held_state site.old.site)) place (chars text.now) (held_reached site.new.site) made.new
+        ⊎ IsUnbegun result (held_site site.old.site) (held site.new.site) made.new }
     ensures nothing { IsUtf8 text.now → place ≤ length (shown (held_site site.old.site).history) → chars text.now ≡ [] → result ≡ OK }
 {
-    runs::insert_text(site.inner(), place, text, made)
+    runs::insert_text(alloc, site.inner(), place, text, made)
 }
 
 /// Deletes so many shown characters from a place on, one after the other, each with the releases after it, and answers how many it
@@ -247,16 +249,22 @@ pub extern "C" fn cotpad_characters(site: &mut CotpadSite) -> u32
     site.inner().site().visible_len()
 }
 
-/// The insert by which the shown character at this place stands there, from 0.
+/// The insert by which the shown character at this place stands there, from 0, and its offset in the text of that insert.
 #[unsafe(no_mangle)]
-pub extern "C" fn cotpad_name_at(site: &mut CotpadSite, place: u32, name: &mut CotpadMember) -> u32
+pub extern "C" fn cotpad_name_at(
+    site: &mut CotpadSite,
+    place: u32,
+    name: &mut CotpadMember,
+    offset: &mut u32,
+) -> u32
     requires { IsSome site.old.site }
     ensures found { (c : Cell) → slice_get (shown (held_site site.old.site).history) place ≡ Some c
-        → (result ≡ OK) × (name.new ≡ member_told (Original c.0)) }
-    ensures none { slice_get (shown (held_site site.old.site).history) place ≡ None → (result ≡ NONE) × (name.new ≡ name.old) }
+        → (result ≡ OK) × (name.new ≡ member_told (Original c.0)) × (offset.new ≡ c.1) }
+    ensures none { slice_get (shown (held_site site.old.site).history) place ≡ None
+        → (result ≡ NONE) × (name.new ≡ name.old) × (offset.new ≡ offset.old) }
     ensures same { site.new.site ≡ site.old.site }
 {
-    reading::name_at(site.inner().site(), place, name)
+    reading::name_at(site.inner().site(), place, name, offset)
 }
 
 /// What the integrated operation at this index is, and who made it. They stand in the order of integration, from 0.
@@ -273,6 +281,24 @@ pub extern "C" fn cotpad_operation_at(
     ensures same { site.new.site ≡ site.old.site }
 {
     reading::operation_at(site.inner().site(), index, operation)
+}
+
+/// The text of the integrated operation at this index, in UTF-8: that of an insert. Others have none.
+#[unsafe(no_mangle)]
+pub extern "C" fn cotpad_operation_text(
+    site: &mut CotpadSite,
+    index: u32,
+    out: &mut [u8],
+    needed: &mut usize,
+) -> u32
+    requires { IsSome site.old.site }
+    ensures wrote { (o : OpData) → slice_get (held_site site.old.site).history index ≡ Some o
+        → Wrote result (text_told o) out.old out.new needed.new }
+    ensures none { slice_get (held_site site.old.site).history index ≡ None
+        → (result ≡ NONE) × (out.new ≡ out.old) × (needed.new ≡ needed.old) }
+    ensures same { site.new.site ≡ site.old.site }
+{
+    reading::operation_text(site.inner().site(), index, out, needed)
 }
 
 /// The frame of the integrated operation at this index.

@@ -1,6 +1,6 @@
 //! A site as a handle keeps it.
 
-ghost use Rattle.std.specs.Prelude.{◌≡◌, ◌⊎◌, ◌+◌, ◌<◌, ◌≤◌, [], IfOk, IfErr, OnOk, chars, length};
+ghost use Rattle.std.specs.Prelude.{◌≡◌, ◌⊎◌, ◌+◌, ◌<◌, ◌≤◌, [], IfOk, IfErr, OnOk, length};
 ghost use Rattle.std.specs.Borrow.{sem};
 ghost use Rattle.context_diff.specs.Operations.{IsWellFormed};
 ghost use Rattle.context_diff.specs.Ops.{data_of};
@@ -21,7 +21,7 @@ use crate::refusals::{edit_number, end_number};
 use crate::status;
 use context_diff::Op;
 use cot_site::{Release, Site, Verdict};
-use participant::{Edit, Taking, Untaken, delete_range, do_edit, insert_text, take_in};
+use participant::{Edit, Taking, Untaken, delete_range, do_edit, insert_runs, take_in};
 use std::alloc::Global;
 use std::marker::Model;
 
@@ -109,12 +109,12 @@ impl Hosted {
         edit_number(&do_edit(&mut self.site, edit, &mut self.released))
     }
 
-    /// Inserts the characters of a text, and releases after each; tells how many it inserted.
-    pub(crate) fn insert_text(&mut self, place: u32, text: &str, made: &mut u32) -> u32
-        ensures typed { IsTyped result (reached self.old) place (chars text.now) (reached self.new) made.new }
-        ensures nothing { chars text.now ≡ [] → result ≡ OK }
+    /// Inserts the characters of a text, piece by piece, and releases after each; tells how many inserts it made.
+    pub(crate) fn insert_runs(&mut self, place: u32, text: &[char], made: &mut u32) -> u32
+        ensures typed { IsTyped result (reached self.old) place text.now (reached self.new) made.new }
+        ensures nothing { text.now ≡ [] → result ≡ OK }
     {
-        let run = insert_text(&mut self.site, place, text, &mut self.released);
+        let run = insert_runs(&mut self.site, place, text, &mut self.released);
         *made = run.made;
         end_number(run.end)
     }

@@ -1,6 +1,6 @@
 //! The numbers by which a host is told what an operation is, and what became of a delivery.
 
-/// An operation that inserts a character.
+/// An operation that inserts a text.
 pub const INSERT: u32 = 1;
 
 /// An operation that deletes a character.

@@ -25,6 +25,7 @@ mod receiving;
 mod refusals;
 mod runs;
 mod sets;
+mod spelling;
 mod status;
 #[cfg(test)]
 mod tests;

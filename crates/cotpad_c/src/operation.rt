@@ -2,10 +2,10 @@
 
 ghost use Rattle.std.specs.Prelude.{◌≡◌};
 ghost use Rattle.context_diff.specs.Ops.{data_of};
-ghost use Rattle.cotpad_c.specs.Operations.{no_member, no_operation, member_told, site_told, turn_kind, operation_told};
+ghost use Rattle.cotpad_c.specs.Operations.{no_member, no_operation, member_told, site_told, turn_kind, first_of, operation_told};
 
 use crate::kinds::{DELETE, INSERT, REDO, UNDO};
-use context_diff::Op;
+use context_diff::{Letters, Op};
 use op_name::{Member, Name};
 
 /// A member of contexts: an insert or a delete by its name, at generation 0, or the undos of it at one generation.
@@ -25,13 +25,14 @@ pub struct CotpadCount {
     pub count: u32,
 }
 
-/// What an operation is, who made it, and the character of an insert.
+/// What an operation is, who made it, and of an insert the first character and how many it has.
 #[repr(C)]
 #[derive(Clone, Copy)]
 pub struct CotpadOperation {
     pub kind: u32,
     pub author: u32,
     pub scalar: u32,
+    pub characters: u32,
     pub member: CotpadMember,
 }
 
@@ -53,6 +54,7 @@ pub(crate) fn no_operation() -> CotpadOperation
         kind: 0,
         author: 0,
         scalar: 0,
+        characters: 0,
         member: no_member(),
     }
 }
@@ -95,21 +97,33 @@ fn turn_kind(generation: u16) -> u32
     if generation % 2 == 0 { REDO } else { UNDO }
 }
 
+// The first character of an insert's text.
+fn first_of(text: &Letters) -> u32
+    ensures { result ≡ first_of text.now }
+{
+    match text.as_slice().split_first() {
+        Some((first, _)) => u32::from(*first),
+        None => 0,
+    }
+}
+
 /// The operation as a host reads it.
 pub(crate) fn operation_told(op: &Op) -> CotpadOperation
     ensures { result ≡ operation_told (data_of op.now) }
 {
     match op {
-        Op::Insert { name, ch, .. } => CotpadOperation {
+        Op::Insert { name, text, .. } => CotpadOperation {
             kind: INSERT,
             author: u32::from(name.site),
-            scalar: u32::from(*ch),
+            scalar: first_of(text),
+            characters: u32::from(text.len()),
             member: named(name, 0),
         },
         Op::Delete { name, .. } => CotpadOperation {
             kind: DELETE,
             author: u32::from(name.site),
             scalar: 0,
+            characters: 0,
             member: named(name, 0),
         },
         Op::Undo {
@@ -121,6 +135,7 @@ pub(crate) fn operation_told(op: &Op) -> CotpadOperation
             kind: turn_kind(*generation),
             author: u32::from(*author),
             scalar: 0,
+            characters: 0,
             member: named(target, *generation),
         },
     }

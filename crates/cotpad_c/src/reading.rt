@@ -1,25 +1,31 @@
 //! What a site shows and has, as bytes in a buffer of the host's.
 
-ghost use Rattle.std.specs.Prelude.{◌≡◌, ◌≢◌, ◌⊎◌, ◌<◌, ◌≤◌, ◌↔◌, IsTrue, Some, None, length, slice_get, take};
+ghost use Rattle.std.specs.Prelude.{◌≡◌, ◌≢◌, ◌⊎◌, ◌<◌, ◌≤◌, ◌↔◌, IsTrue, Some, None, length, option_map, slice_get, take};
 ghost use Rattle.op_name.specs.declared.member.Member.TheVariants.{Original};
 ghost use Rattle.context_diff.specs.Operations.{OpData};
+ghost use Rattle.context_diff.specs.Ops.{data_of};
 ghost use Rattle.context_diff.specs.Replays.{Cell, shown, text_of};
+ghost use Rattle.ttf_form.specs.Cells.{cell_key};
 ghost use Rattle.wire_codec.specs.Spelling.{frame};
 ghost use Rattle.cot_site.specs.Sites.{state_of};
 ghost use Rattle.cot_site.specs.States.{IsSettled};
 ghost use Rattle.session_log.specs.declared.reading.TheConstants.{MAX_LOG};
 ghost use Rattle.session_log.specs.Logs.{log_of};
 ghost use Rattle.cotpad_c.specs.declared.status.TheConstants.{OK, NO_MEMORY, NONE, TOO_SHORT, TOO_LONG, UNSETTLED};
-ghost use Rattle.cotpad_c.specs.Operations.{member_told, operation_told};
+ghost use Rattle.cotpad_c.specs.Operations.{member_told, operation_told, text_told};
 ghost use Rattle.cotpad_c.specs.Saving.{Loads};
 ghost use Rattle.cotpad_c.specs.Statuses.{Wrote};
 
 use crate::operation::{CotpadMember, CotpadOperation, member_told, operation_told};
+use crate::spelling::hand_out_spelled;
 use crate::status::{NO_MEMORY, NONE, OK, TOO_LONG, TOO_SHORT, UNSETTLED};
+use context_diff::Op;
 use cot_site::{Site, settled_states_have_none_ready};
 use op_name::Member;
 use session_log::{MAX_LOG, round_trip, write_log};
 use std::alloc::Global;
+use tombstone_text::{CellId, Cells};
+use visible_view::cell_of_visible;
 use wire_codec::encode;
 
 /// Copies the bytes, if there is room for all, and answers their number.
@@ -141,17 +147,64 @@ pub(crate) fn operation_at(site: &Site, index: u32, operation: &mut CotpadOperat
     OK
 }
 
-/// The insert by which the character at this place stands there, from 0.
-pub(crate) fn name_at(site: &Site, place: u32, name: &mut CotpadMember) -> u32
-    ensures found { (c : Cell) → slice_get (shown site.now.history) place ≡ Some c
-        → (result ≡ OK) × (name.new ≡ member_told (Original c.0)) }
-    ensures none { slice_get (shown site.now.history) place ≡ None → (result ≡ NONE) × (name.new ≡ name.old) }
+/// The text of the operation at this place of the history, in UTF-8.
+pub(crate) fn operation_text(site: &Site, index: u32, out: &mut [u8], needed: &mut usize) -> u32
+    ensures wrote { (o : OpData) → slice_get site.now.history index ≡ Some o → Wrote result (text_told o) out.old out.new needed.new }
+    ensures none { slice_get site.now.history index ≡ None → (result ≡ NONE) × (out.new ≡ out.old) × (needed.new ≡ needed.old) }
 {
-    match site.name_at(place) {
-        Some(insert) => {
-            *name = member_told(Member::Original(insert));
+    let Some(op) = site.book().op(index) else {
+        return NONE;
+    };
+    hand_out_text(op, out, needed)
+}
+
+// Copies the text of an operation: that of an insert, and else none.
+fn hand_out_text(op: &Op, out: &mut [u8], needed: &mut usize) -> u32
+    ensures { Wrote result (text_told (data_of op.now)) out.old out.new needed.new }
+{
+    match op {
+        Op::Insert { text, .. } => {
+            text.known();
+            hand_out_spelled(text.as_slice(), out, needed)
+        }
+        Op::Delete { .. } | Op::Undo { .. } => hand_out(&[], out, needed),
+    }
+}
+
+/// The insert by which the character at this place stands there, from 0, and its offset in the text of that insert.
+pub(crate) fn name_at(site: &Site, place: u32, name: &mut CotpadMember, offset: &mut u32) -> u32
+    ensures found { (c : Cell) → slice_get (shown site.now.history) place ≡ Some c
+        → (result ≡ OK) × (name.new ≡ member_told (Original c.0)) × (offset.new ≡ c.1) }
+    ensures none { slice_get (shown site.now.history) place ≡ None
+        → (result ≡ NONE) × (name.new ≡ name.old) × (offset.new ≡ offset.old) }
+{
+    match cell_at(site, place) {
+        Some(cell) => {
+            *name = member_told(Member::Original(cell.name));
+            *offset = u32::from(cell.offset);
             OK
         }
         None => NONE,
+    }
+}
+
+// The cell of the shown character at this place, if there is one.
+fn cell_at(site: &Site, place: u32) -> Option<CellId>
+    ensures { option_map (λ c. (c.name, c.offset)) result ≡ slice_get (shown site.now.history) place }
+{
+    let cells = site.cells();
+    match cell_of_visible(cells, place) {
+        Some(at) => id_of(cells, at),
+        None => None,
+    }
+}
+
+// Which cell stands at this place among all cells, if one does.
+fn id_of(cells: &Cells, at: u32) -> Option<CellId>
+    ensures { option_map (λ c. (c.name, c.offset)) result ≡ option_map cell_key (slice_get cells.now.cells at) }
+{
+    match cells.cell(at) {
+        Some(cell) => Some(cell.id()),
+        None => None,
     }
 }

@@ -1,24 +1,33 @@
-//! Runs of local edits: a text that is inserted, and a range that is deleted, one character after the other, each with the
-//! releases after it.
+//! Runs of local edits: a text that is inserted, piece by piece, and a range that is deleted, character by character, each with
+//! the releases after it.
 
-ghost use Rattle.std.specs.Prelude.{◌≡◌, ◌<◌, ◌≤◌, ◌+◌, [], IsUtf8, chars, length};
+ghost use Rattle.std.specs.Prelude.{◌≡◌, ◌<◌, ◌≤◌, ◌+◌, ◌⊎◌, [], IfOk, IsOk, IsUtf8, chars, length};
 ghost use Rattle.context_diff.specs.Replays.{shown};
 ghost use Rattle.cot_site.specs.Sites.{state_of};
 ghost use Rattle.participant.specs.Reached.{from};
 ghost use Rattle.cotpad_c.specs.declared.status.TheConstants.{OK, PLACE_OUT, NO_CHARACTER};
 ghost use Rattle.cotpad_c.specs.Hosting.{hosting, reached};
-ghost use Rattle.cotpad_c.specs.Runs.{IsTyped, IsCut};
+ghost use Rattle.cotpad_c.specs.Runs.{IsTyped, IsUnbegun, IsCut};
 
 use crate::hosted::Hosted;
 use crate::status;
+use op_name::Memory;
+use std::alloc::Global;
 
-/// Inserts the characters of a text after so many shown ones, and answers how many it inserted.
-pub(crate) fn insert_text(hosted: &mut Hosted, place: u32, bytes: &[u8], made: &mut u32) -> u32
+/// Inserts a text after so many shown characters, and answers how many inserts it made.
+pub(crate) fn insert_text(
+    alloc: Global,
+    hosted: &mut Hosted,
+    place: u32,
+    bytes: &[u8],
+    made: &mut u32,
+) -> u32
     ensures no_text { ¬ IsUtf8 bytes.now → (result ≡ NO_CHARACTER) × (made.new ≡ 0) × (hosted.new ≡ hosting hosted.old.site) }
     ensures past { IsUtf8 bytes.now → length (shown hosted.old.site.history) < place
         → (result ≡ PLACE_OUT) × (made.new ≡ 0) × (hosted.new ≡ hosting hosted.old.site) }
     ensures typed { IsUtf8 bytes.now → place ≤ length (shown hosted.old.site.history)
-        → IsTyped result (from (state_of hosted.old.site)) place (chars bytes.now) (reached hosted.new) made.new }
+        → IsTyped result (from (state_of hosted.old.site)) place (chars bytes.now) (reached hosted.new) made.new
+        ⊎ IsUnbegun result hosted.old.site hosted.new made.new }
     ensures nothing { IsUtf8 bytes.now → place ≤ length (shown hosted.old.site.history) → chars bytes.now ≡ [] → result ≡ OK }
 {
     *made = 0;
@@ -30,7 +39,22 @@ pub(crate) fn insert_text(hosted: &mut Hosted, place: u32, bytes: &[u8], made: &
     if hosted.site().visible_len() < place {
         return status::PLACE_OUT;
     }
-    hosted.insert_text(place, text, made)
+    match characters(alloc, text) {
+        Ok(list) => hosted.insert_runs(place, list.as_slice(), made),
+        Err(_) => status::NO_MEMORY,
+    }
+}
+
+// The characters of a text; an empty one takes no memory.
+fn characters(alloc: Global, text: &str) -> Result<Vec<char>, Memory>
+    ensures read { IfOk result (λ c. c.items ≡ chars text.now) }
+    ensures none { chars text.now ≡ [] → IsOk result }
+{
+    let mut list = Vec::new(alloc);
+    for ch in text.chars() {
+        list.push(ch)?;
+    }
+    Ok(list)
 }
 
 /// Deletes so many shown characters from a place on, and answers how many it deleted.

@@ -24,8 +24,8 @@ const SECOND: &[u8] = &[
 fn structs_are_as_long_as_the_header_says(rt: HostRuntime) {
     assert_eq!(rt; size_of::<CotpadMember>(), 12);
     assert_eq!(rt; size_of::<CotpadCount>(), 8);
-    assert_eq!(rt; size_of::<CotpadOperation>(), 24);
-    assert_eq!(rt; size_of::<CotpadVerdict>(), 64);
+    assert_eq!(rt; size_of::<CotpadOperation>(), 28);
+    assert_eq!(rt; size_of::<CotpadVerdict>(), 68);
     assert_eq!(rt; size_of::<CotpadSite>(), 8);
 }
 
@@ -33,7 +33,7 @@ fn structs_are_as_long_as_the_header_says(rt: HostRuntime) {
 fn a_handle_is_opened_and_closed(rt: HostRuntime) {
     let alloc = rt.alloc();
     let mut site = CotpadSite::empty(alloc);
-    assert_eq!(rt; exports::cotpad_version(), 1);
+    assert_eq!(rt; exports::cotpad_version(), 2);
     assert_eq!(rt;
         exports::cotpad_open(alloc, &mut site, 64),
         status::SITE_OUT
@@ -144,6 +144,40 @@ fn what_a_delivery_frees_is_told(rt: HostRuntime) -> Result<(), Fail> {
     Ok(())
 }
 
+/// Insert 0.1 of `ab` at place 0, with an empty context.
+const BOTH: &[u8] = &[
+    0, 0, 0, 23, 4, 0, 0, 0, 0, 1, 0, 0, 0, 0, 0, 2, 0, 0, 0, 97, 0, 0, 0, 98, 0, 0, 0,
+];
+
+#[test]
+fn an_insert_of_two_characters_is_told(rt: HostRuntime) -> Result<(), Fail> {
+    let alloc = rt.alloc();
+    let mut site = opened(alloc)?;
+    let mut verdict = incomplete(0);
+    let mut name = no_member();
+    let mut offset = 9;
+    assert_eq!(rt;
+        exports::cotpad_receive(alloc, &mut site, BOTH, &mut verdict),
+        status::OK
+    );
+    assert_eq!(rt; verdict.kind, kinds::INTEGRATED);
+    assert_eq!(rt; verdict.used, 27);
+    assert_eq!(rt; verdict.operation.kind, kinds::INSERT);
+    assert_eq!(rt; verdict.operation.scalar, 97);
+    assert_eq!(rt; verdict.operation.characters, 2);
+    assert_eq!(rt; exports::cotpad_characters(&mut site), 2);
+    assert_eq!(rt;
+        exports::cotpad_name_at(&mut site, 1, &mut name, &mut offset),
+        status::OK
+    );
+    assert_eq!(rt; name.site, 0);
+    assert_eq!(rt; name.number, 1);
+    assert_eq!(rt; offset, 1);
+    exports::cotpad_close(alloc, &mut site);
+    site.let_go();
+    Ok(())
+}
+
 /// Insert 1.1 of `x` at place 9, after 0.1 and the undo of it: there is one cell.
 const FAR: &[u8] = &[
     0, 0, 0, 29, 1, 1, 0, 0, 0, 1, 0, 0, 0, 9, 0, 0, 0, 120, 1, 0, 0, 0, 0, 1, 0, 1, 0, 0, 0, 0, 1,
@@ -212,14 +246,15 @@ fn a_text_is_inserted_and_a_range_deleted(rt: HostRuntime) -> Result<(), Fail> {
     let mut made = 9;
     let mut site = opened(alloc)?;
     assert_eq!(rt;
-        exports::cotpad_insert_text(&mut site, 0, b"t\xC3\xA9a", &mut made),
+        exports::cotpad_insert_text(alloc, &mut site, 0, b"t\xC3\xA9a", &mut made),
         status::OK
     );
-    assert_eq!(rt; made, 3);
+    assert_eq!(rt; made, 1);
     assert_eq!(rt;
-        exports::cotpad_insert_text(&mut site, 0, b"\xC3", &mut made),
+        exports::cotpad_insert_text(alloc, &mut site, 0, b"\xC3", &mut made),
         status::NO_CHARACTER
     );
+    assert_eq!(rt; made, 0);
     assert_eq!(rt;
         exports::cotpad_delete_range(&mut site, 2, 2, &mut made),
         status::PLACE_OUT
@@ -236,20 +271,73 @@ fn a_text_is_inserted_and_a_range_deleted(rt: HostRuntime) -> Result<(), Fail> {
 }
 
 #[test]
+fn a_long_text_is_cut_into_inserts_whose_texts_are_told(rt: HostRuntime) -> Result<(), Fail> {
+    let alloc = rt.alloc();
+    let mut made = 9;
+    let mut needed = 9;
+    let mut told = no_operation();
+    let mut room = [0u8; 2];
+    let mut text = [97u8; 258];
+    text[256] = 0xC3;
+    text[257] = 0xA9;
+    let mut site = opened(alloc)?;
+    assert_eq!(rt;
+        exports::cotpad_insert_text(alloc, &mut site, 0, &text, &mut made),
+        status::OK
+    );
+    assert_eq!(rt; made, 2);
+    assert_eq!(rt; exports::cotpad_characters(&mut site), 257);
+    assert_eq!(rt;
+        exports::cotpad_operation_at(&mut site, 0, &mut told),
+        status::OK
+    );
+    assert_eq!(rt; told.scalar, 97);
+    assert_eq!(rt; told.characters, 256);
+    assert_eq!(rt;
+        exports::cotpad_operation_text(&mut site, 0, &mut room, &mut needed),
+        status::TOO_SHORT
+    );
+    assert_eq!(rt; needed, 256);
+    assert_eq!(rt;
+        exports::cotpad_operation_text(&mut site, 1, &mut room, &mut needed),
+        status::OK
+    );
+    assert_eq!(rt; needed, 2);
+    assert_eq!(rt; room[0], 0xC3);
+    assert_eq!(rt; room[1], 0xA9);
+    assert_eq!(rt; exports::cotpad_undo(&mut site, 5, 1), status::OK);
+    assert_eq!(rt; exports::cotpad_characters(&mut site), 1);
+    assert_eq!(rt;
+        exports::cotpad_operation_text(&mut site, 2, &mut room, &mut needed),
+        status::OK
+    );
+    assert_eq!(rt; needed, 0);
+    assert_eq!(rt;
+        exports::cotpad_operation_text(&mut site, 3, &mut room, &mut needed),
+        status::NONE
+    );
+    exports::cotpad_close(alloc, &mut site);
+    site.let_go();
+    Ok(())
+}
+
+#[test]
 fn the_name_at_a_place_is_that_of_the_insert(rt: HostRuntime) -> Result<(), Fail> {
     let alloc = rt.alloc();
     let mut name = no_member();
+    let mut offset = 9;
     let mut site = opened(alloc)?;
     assert_eq!(rt; exports::cotpad_insert(&mut site, 0, 98), status::OK);
     assert_eq!(rt; exports::cotpad_insert(&mut site, 0, 97), status::OK);
     assert_eq!(rt;
-        exports::cotpad_name_at(&mut site, 1, &mut name),
+        exports::cotpad_name_at(&mut site, 1, &mut name, &mut offset),
         status::OK
     );
     assert_eq!(rt; name.site, 5);
     assert_eq!(rt; name.number, 1);
+    assert_eq!(rt; offset, 0);
     assert_eq!(rt;
-        exports::cotpad_name_at(&mut site, 2, &mut name),
+        exports::cotpad_name_at(&mut site, 2, &mut name, &mut offset),
         status::NONE
     );
     exports::cotpad_close(alloc, &mut site);

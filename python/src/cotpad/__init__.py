@@ -25,10 +25,10 @@ from .errors import BadBytes, CotpadError, InUse, NoDocument, NoText, NotSaved, 
 from .site import Batch, History, Incoming, Site, exchange
 from .storage import write_safely
 from .undo import Undo
-from .values import Became, Cause, Delivered, Edit, Kind, Member, Name, Operation, Status
+from .values import Became, Cause, Character, Delivered, Edit, Kind, Member, Name, Operation, Status
 
 __all__ = [
-    "BadBytes", "Batch", "Became", "Cause", "CotpadError", "Cursor", "Delivered", "Document", "Edit", "History", "InUse",
-    "Incoming", "Kind", "Member", "Name", "NoDocument", "NoText", "NotSaved", "NotTaken", "Operation", "Refused", "Site", "Status",
-    "Undo", "Unsettled", "exchange", "write_safely",
+    "BadBytes", "Batch", "Became", "Cause", "Character", "CotpadError", "Cursor", "Delivered", "Document", "Edit", "History",
+    "InUse", "Incoming", "Kind", "Member", "Name", "NoDocument", "NoText", "NotSaved", "NotTaken", "Operation", "Refused", "Site",
+    "Status", "Undo", "Unsettled", "exchange", "write_safely",
 ]

@@ -7,8 +7,8 @@ from collections.abc import Callable
 from pathlib import Path
 from typing import Any
 
-VERSION = 1
-FILE = "libcotpad.so.1"
+VERSION = 2
+FILE = "libcotpad.so.2"
 
 u32, size = ctypes.c_uint32, ctypes.c_size_t
 byte = ctypes.c_uint8
@@ -23,7 +23,7 @@ class Count(ctypes.Structure):
 
 
 class Operation(ctypes.Structure):
-    _fields_ = [*((name, u32) for name in ("kind", "author", "scalar")), ("member", Member)]
+    _fields_ = [*((name, u32) for name in ("kind", "author", "scalar", "characters")), ("member", Member)]
 
 
 class Verdict(ctypes.Structure):
@@ -89,8 +89,9 @@ redo = _call("redo", u32, _site, u32, u32)
 operations = _call("operations", u32, _site)
 waiting = _call("waiting", u32, _site)
 characters = _call("characters", u32, _site)
-name_at = _call("name_at", u32, _site, u32, _member)
+name_at = _call("name_at", u32, _site, u32, _member, _count)
 operation_at = _call("operation_at", u32, _site, u32, ctypes.POINTER(Operation))
+operation_text = _call("operation_text", u32, _site, u32, _out, size, _needed)
 frame = _call("frame", u32, _site, u32, _out, size, _needed)
 receive = _call("receive", u32, _site, _read, size, _verdict)
 released = _call("released", u32, _site)

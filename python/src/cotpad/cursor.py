@@ -6,7 +6,7 @@ from typing import Union
 from .document import Document
 from .errors import Refused
 from .site import Site
-from .values import Name, Status
+from .values import Character, Status
 
 
 class Cursor:
@@ -30,7 +30,7 @@ class Cursor:
 
     def __init__(self, editor: Union[Site, Document], place: int = 0) -> None:
         self._editor = editor
-        self._before: list[Name] = []  # in the order of the text, hidden ones too
+        self._before: list[Character] = []  # in the order of the text, hidden ones too
         self._place, self._seen = 0, editor.operations
         self.place = place
 
@@ -52,7 +52,8 @@ class Cursor:
         self._place = place
 
     def _stays(self) -> bool:
-        """Whether nothing changed before it, which is quick to see where one operation came: that shows or hides one character."""
+        """Whether nothing changed before it, which is quick to see where one operation came: that shows characters or hides some, but not
+        both, so where as many stand before the last one of these, they are the same."""
         came = self._editor.operations - self._seen
         if came == 0 or not self._before:
             return True
@@ -64,7 +65,7 @@ class Cursor:
     def _look(self) -> None:
         names = self._editor.names(0, self._editor.characters)
         place_of = {name: place for place, name in enumerate(names)}
-        before, at = list[Name](), 0
+        before, at = list[Character](), 0
         for name in self._before:
             end = place_of.get(name, -1) + 1
             if not end:

@@ -11,7 +11,7 @@ from typing import BinaryIO, Optional
 from .errors import InUse, NoDocument, NotSaved, Refused, Unsettled
 from .site import Batch, History, Incoming, Site, Taken
 from .storage import Path, write_safely
-from .values import Delivered, Edit, Name, Operation
+from .values import Character, Delivered, Edit, Operation
 
 HEAD = b"COTDOC1\n"
 
@@ -80,7 +80,7 @@ class Document:
     # Edits, each of which is saved before its frames are handed out.
 
     def insert(self, place: int, text: str) -> Edit:
-        """Inserts a text after so many shown characters, one operation a character, and saves."""
+        """Inserts a text after so many shown characters, 256 characters an operation, and saves."""
         return self._saved(lambda site: site.insert(place, text))
 
     def delete(self, place: int, count: int = 1) -> Edit:
@@ -283,12 +283,12 @@ class Document:
         """What the operation at this index of the history is, and who made it."""
         return self._open.operation(index)
 
-    def name_at(self, place: int) -> Name:
-        """The insert by which the character at this place stands there."""
+    def name_at(self, place: int) -> Character:
+        """The character at this place: the insert by which it stands there, and which of that one's characters it is."""
         return self._open.name_at(place)
 
-    def names(self, start: int, stop: int) -> list[Name]:
-        """The inserts by which the characters from place `start` on, and before `stop`, stand there."""
+    def names(self, start: int, stop: int) -> list[Character]:
+        """The characters from place `start` on, and before `stop`."""
         return self._open.names(start, stop)
 
 

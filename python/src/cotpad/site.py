@@ -13,10 +13,12 @@ from typing import Any, Optional, Protocol, Union, overload
 from . import _library as lib
 from .errors import BadBytes, CotpadError, NoText, Refused, Unsettled, has_text, must, taken
 from .storage import Path, write_safely
-from .values import Became, Delivered, Edit, Kind, Member, Name, Operation, Status
+from .values import Became, Character, Delivered, Edit, Kind, Member, Name, Operation, Status
 
 # A buffer for answers is kept up to this size.
 KEPT = 1 << 20
+# Where the frame of an insert of several characters has them, each by four bytes.
+TEXT = 16
 
 
 # Delivers the frame that bytes have at an offset: the verdict, and what became of the operation and of those it released.
@@ -205,8 +207,9 @@ class Site:
     # What the user of the site does.
 
     def insert(self, place: int, text: str) -> Edit:
-        """Inserts a text after so many shown characters, one operation a character. Where memory or numbers run out, those before it stay:
-        `edit` of the exception has them."""
+        """Inserts a text after so many shown characters. It is cut from the front into pieces of 256 characters, each of them one
+        operation, which is undone and redone whole. Where memory or numbers run out, the first pieces stay: `edit` of the exception has
+        them."""
         data, made = text.encode("utf-8", "surrogatepass"), lib.u32()
         return self._edited(lambda at: lib.insert_text(at, _place(place), data, len(data), made), made)
 
@@ -311,7 +314,8 @@ class Site:
             must(status)
         if verdict.kind in (Became.INCOMPLETE, Became.MALFORMED):
             return verdict, []
-        told = [_delivered(verdict, _operation(verdict.operation)), *self._released(since)]
+        text = _text_in(data, at + TEXT, verdict.operation)
+        told = [_delivered(verdict, _operation(verdict.operation, text)), *self._released(since)]
         if status == Status.UNSETTLED:
             raise Unsettled(delivered=told, used=verdict.used)
         return verdict, told
@@ -339,12 +343,14 @@ class Site:
 
     def release(self) -> Optional[Delivered]:
         """Releases the first waiting operation that is ready, if there is one."""
-        verdict = lib.Verdict()
+        since, verdict = self.operations, lib.Verdict()
         status = lib.release(self._at, verdict)
         if status == Status.NONE:
             return None
         must(status)
-        return _delivered(verdict, _operation(verdict.operation), released=True)
+        integrated = verdict.kind == Became.INTEGRATED
+        operation = self.operation(since) if integrated else _operation(verdict.operation, _only(verdict.operation))
+        return _delivered(verdict, operation, released=True)
 
     # What the site has.
 
@@ -398,20 +404,22 @@ class Site:
         """What the operation at this index of the history is, and who made it."""
         operation = lib.Operation()
         must(lib.operation_at(self._at, _index(index), operation))
-        return _operation(operation)
+        text = self._written(lib.operation_text, index).decode() if operation.characters > 1 else _only(operation)
+        return _operation(operation, text)
 
     def latest(self) -> Iterator[Operation]:
         """All operations, what was integrated last first."""
         return reversed(self.history)
 
-    def name_at(self, place: int) -> Name:
-        """The insert by which the character at this place stands there, from 0: what to undo from a cursor."""
-        name = lib.Member()
-        must(lib.name_at(self._at, _place(place), name))
-        return Name(name.site, name.number)
+    def name_at(self, place: int) -> Character:
+        """The character at this place, from 0: the insert by which it stands there, which is what to undo from a cursor, and which of that
+        one's characters it is."""
+        name, offset = lib.Member(), lib.u32()
+        must(lib.name_at(self._at, _place(place), name, offset))
+        return Character(Name(name.site, name.number), offset.value)
 
-    def names(self, start: int, stop: int) -> list[Name]:
-        """The inserts by which the characters from place `start` on, and before `stop`, stand there."""
+    def names(self, start: int, stop: int) -> list[Character]:
+        """The characters from place `start` on, and before `stop`."""
         return [self.name_at(place) for place in range(start, stop)]
 
     def frame(self, index: int) -> bytes:
@@ -520,9 +528,18 @@ def _member(m: lib.Member) -> Member:
     return Member(m.site, m.number, m.generation)
 
 
-def _operation(o: lib.Operation) -> Operation:
-    character = chr(o.scalar) if o.kind == Kind.INSERT else ""
-    return Operation(Kind(o.kind), o.author, Name(o.member.site, o.member.number), o.member.generation, character)
+def _operation(o: lib.Operation, text: str) -> Operation:
+    return Operation(Kind(o.kind), o.author, Name(o.member.site, o.member.number), o.member.generation, text)
+
+
+def _only(o: lib.Operation) -> str:
+    """The character of an insert that has no other."""
+    return chr(o.scalar) if o.characters == 1 else ""
+
+
+def _text_in(data: bytes, at: int, o: lib.Operation) -> str:
+    """The characters of an insert, of which several stand there in its frame."""
+    return data[at : at + 4 * o.characters].decode("utf-32-be") if o.characters > 1 else _only(o)
 
 
 def _untold(member: Member) -> Operation:

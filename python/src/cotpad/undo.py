@@ -9,8 +9,10 @@ from .document import Document
 from .site import Site
 from .values import Delivered, Edit, Kind, Name, Operation
 
-# Where a frame has the site, the number and the place of an insert or a delete.
+# Where a frame has the place of an insert or a delete.
 PLACE = slice(10, 14)
+# A text of more characters is cut into pieces of so many.
+PIECE = 256
 
 
 class Undo:
@@ -25,14 +27,15 @@ class Undo:
 
     Each answers the frames to send, and an empty Edit where there is nothing to take back.
 
-    Each character that was ever undone makes every later operation longer, for good: a text of 4,373 characters that is taken back
-    by one `last()` makes a log that can't be saved, which ends the document. Take back thousands by `delete`.
+    Each insert and delete that was ever undone makes every later operation longer, for good: 4,373 characters that were typed one by
+    one, taken back by one `last()`, make a log that can't be saved, which ends the document. Take back thousands by `delete`. A text
+    that was inserted by one call is an insert for each 256 characters, so to take it back costs little.
 
     What is taken back at once is a *group*: what one call of `insert` or `delete` did; all that was done in a `with undo.group()`; or
     operations of others that `note` was told of. Frames don't tell groups. So of all other operations, those of other sites and of the
-    time before this object was made, a group is guessed: a word with the blanks after it, or a run of deletes, which their author
-    typed one after the other at one place. A host that sends the frames of each edit as one message can tell `note` what came in
-    it, and one that stores `groups` can give them to the next object."""
+    time before this object was made, a group is guessed: a word with the blanks after it that was typed character by character, a text
+    of several characters, or a run of deletes, which their author made one after the other at one place. A host that sends the frames
+    of each edit as one message can tell `note` what came in it, and one that stores `groups` can give them to the next object."""
 
     def __init__(self, editor: Union[Site, Document], groups: Iterable[Iterable[tuple[int, int]]] = ()) -> None:
         self._editor = editor
@@ -92,10 +95,10 @@ class Undo:
         return self._first_in_force(self._groups_back(lambda it: True))
 
     def within(self, start: int, stop: int) -> Edit:
-        """Takes back the edit that wrote last, whoever made it, of what stands from place `start` on and before `stop`, as far as it stands
-        there; called again, the one before. What was deleted there isn't found, since no place tells it: `last_of` takes back
-        deletes."""
-        there = set(self._editor.names(start, stop))
+        """Takes back the edit that wrote last, whoever made it, of what stands from place `start` on and before `stop`: each insert of it
+        of which a character stands there, whole; called again, the one before. What was deleted there isn't found, since no place tells
+        it: `last_of` takes back deletes."""
+        there = {it.name for it in self._editor.names(start, stop)}
         groups = self._groups_back(lambda it: it.name in there)
         return self._first_in_force([name for name in group if name in there] for group in groups)
 
@@ -157,9 +160,13 @@ class Undo:
 
 
 def _goes_on(earlier: Operation, place: int, later: Operation, later_place: int) -> bool:
-    """Whether the later operation goes on with the earlier one: the next character of a word, or the next delete of a run."""
+    """Whether the later operation goes on with the earlier one: the next character of a word, the next piece of a long text, or the next
+    delete of a run."""
     if earlier.kind != later.kind or earlier.name.number + 1 != later.name.number:
         return False
     if later.kind == Kind.DELETE:
         return abs(later_place - place) == 1
-    return later_place == place + 1 and (later.character.isspace() or not earlier.character.isspace())
+    if later_place != place + len(earlier.text):
+        return False
+    typed = len(earlier.text) == len(later.text) == 1
+    return len(earlier.text) == PIECE or typed and (later.text.isspace() or not earlier.text.isspace())

@@ -89,6 +89,14 @@ class Name(NamedTuple):
         return f"{self.site}.{self.number}"
 
 
+class Character(NamedTuple):
+    """A character of the text, which stays the same wherever it goes: the insert that it came by, and which of that one's characters it is,
+    from 0."""
+
+    name: Name
+    offset: int
+
+
 class Member(NamedTuple):
     """An insert or a delete at generation 0; or all undos (odd generation) or redos (even generation) of it at that generation."""
 
@@ -106,14 +114,15 @@ class Member(NamedTuple):
 
 
 class Operation(NamedTuple):
-    """What was done, by whom. `name` is the insert or delete itself, or the one that is undone or redone. Of an operation that was
-    released and refused the member alone is known: its kind is NOT_TOLD, and its author None."""
+    """What was done, by whom. `name` is the insert or delete itself, or the one that is undone or redone; `text` the 1 to 256 characters
+    of an insert. Of an operation that was released and refused the member alone is known: its kind is NOT_TOLD, and its author None;
+    `Site.release` tells all of it but a text of several characters."""
 
     kind: Kind
     author: Optional[int]
     name: Name
     generation: int
-    character: str
+    text: str
 
     @property
     def member(self) -> Member:

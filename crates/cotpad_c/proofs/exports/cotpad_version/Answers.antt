@@ -56,6 +56,7 @@ limits = record {
   numbers = refl;
   generations = refl;
   undone = refl;
+  letters = refl;
   log = refl;
   message = refl;
   frame = refl;
