@@ -185,7 +185,7 @@ at("away").addEventListener("change", ({ target }) => send({ kind: "away", on: t
 
 function counted(operations, undone) {
   state.operations = operations;
-  at("undone").textContent = undone > 500 ? `${undone} characters were undone of the 1,000 that may be: each makes the document grow.` : "";
+  at("undone").textContent = undone > 500 ? `${undone} inserts and deletes were undone of the 1,000 that may be: each makes the document grow.` : "";
   showSlider();
 }
 

@@ -1,13 +1,14 @@
 """Where the cursor of another person stands.
 
-A cursor's *anchor* is the name of the character on its left, or None at the beginning of the text. So it means the same place in each
+A cursor's *anchor* is the character on its left, by its insert and offset, or None at the beginning of the text. So it means the same place in each
 copy, whatever else these show. Where the anchor is hidden, the cursor stands behind the nearest character on its left that is shown;
 it goes back when the anchor is shown again.
 """
 
 
 class Order:
-    """The names of all characters that a copy has shown, in their order: those that are hidden by now keep their place."""
+    """All characters that a copy has shown, in their order: those that are hidden by now keep their place. A character is named by its
+    insert and its offset there."""
 
     def __init__(self, shown):
         self._names, self._known, self._shown = list(shown), set(shown), set(shown)

@@ -1,11 +1,11 @@
 """Which characters a call of the library changed.
 
-The library doesn't tell it. So this compares the names of the characters that are shown, before and after: a name stands at most once
-in a text, and characters never change their order, so that tells exactly what came and what went, also where an undo brings back
-several pieces, or one `e` out of several.
+The library doesn't tell it. So this compares the names of the characters that are shown, before and after: a character is named by its
+insert and its offset there, such a name stands at most once in a text, and characters never change their order, so that tells exactly
+what came and what went, also where an undo brings back several pieces, or one `e` out of several.
 
-One operation changes at most one character. Where a call integrated one, its place is found by halving, in some ten steps. Else all
-names are read, which costs by the length of the text.
+What one insert brings stands in one piece, and a delete takes one character. Where a call integrated one of these, or an undo of one
+character, its place is found by halving, in some ten steps. Else all names are read, which costs by the length of the text.
 """
 from .delta import Writer
 from .library import cotpad
@@ -21,7 +21,8 @@ class Shown:
         self._learn(document.history[:])
 
     def _learn(self, operations):
-        self.letters.update((it.name, it.character) for it in operations if it.kind is cotpad.Kind.INSERT)
+        for it in operations:
+            self.letters.update((cotpad.Character(it.name, offset), letter) for offset, letter in enumerate(it.text))
 
     @property
     def text(self):
@@ -29,7 +30,7 @@ class Shown:
         return self.text_of(self.names)
 
     def text_of(self, names):
-        return [(name.site, self.letters[name]) for name in names]
+        return [(it.name.site, self.letters[it]) for it in names]
 
     def follow(self):
         """Goes on to what the document shows now. Answers the delta, and the operations that were integrated meanwhile."""
@@ -37,24 +38,25 @@ class Shown:
         self._read += len(came)
         self._learn(came)
         before, count = len(self.names), self._document.characters
-        if len(came) == 1 and count == before + 1:
-            return self._one_more(), came
+        if len(came) == 1 and (came[0].kind is cotpad.Kind.INSERT or count == before + 1):
+            return self._more(count - before), came
         if len(came) == 1 and count == before - 1:
             return self._one_less(), came
-        if len(came) < 2:
+        if not came or len(came) == 1 and count == before:
             return [before] if before else [], came
         names = self._document.names(0, count)
         delta = difference(self.names, names, self.letters)
         self.names = names
         return delta, came
 
-    def _one_more(self):
+    def _more(self, count):
         place, writer = self._first_other(len(self.names)), Writer()
-        name = self._document.name_at(place)
+        names = self._document.names(place, place + count)
         writer.keep(place)
-        writer.insert(name.site, self.letters[name])
+        for it in names:
+            writer.insert(it.name.site, self.letters[it])
         writer.keep(len(self.names) - place)
-        self.names.insert(place, name)
+        self.names[place:place] = names
         return writer.parts
 
     def _one_less(self):
@@ -91,6 +93,6 @@ def difference(before, after, letters):
             writer.keep(1)
             at += 1
         else:
-            writer.insert(name.site, letters[name])
+            writer.insert(name.name.site, letters[name])
     writer.remove(len(before) - at)
     return writer.parts

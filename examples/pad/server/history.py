@@ -3,6 +3,8 @@
 An entry is what its author typed or deleted in one piece: a word with the blanks around it, or a run of deletes; or what somebody undid
 or redid of one entry. Operations don't tell where they stood in the text, nor which character a delete took. So `Notes` keeps both.
 """
+import re
+
 from .changes import Shown
 from .delta import changes, keeps
 from .library import cotpad
@@ -12,6 +14,11 @@ Kind = cotpad.Kind
 WORDS = {Kind.INSERT: "insert", Kind.DELETE: "delete", Kind.UNDO: "undo", Kind.REDO: "redo"}
 
 
+def words(text):
+    """A text in the pieces that are inserted by themselves, so that each can be undone: words with the blanks behind them."""
+    return re.findall(r"\S+\s*|\s+", text)
+
+
 class Notes:
     """What all people's histories share: by the name of an insert or a delete, the character that it was made `behind` (None at the
     beginning of the text), and by the name of a delete, the character that it `took`."""
@@ -19,15 +26,16 @@ class Notes:
     def __init__(self):
         self.behind, self.took = {}, {}
 
-    def typed(self, left, names):
-        """These were inserted one after the other, the first behind `left`."""
-        for name in names:
-            self.behind[name], left = left, name
+    def typed(self, left, inserts):
+        """These were inserted one after the other, the first behind `left`. Answers the last character of them."""
+        for it in inserts:
+            self.behind[it.name], left = left, _last_of(it.name, it.text)
+        return left
 
     def deleted(self, left, deletes, names):
         """These characters stood behind `left`, and were deleted first to last."""
         for delete, name in zip(deletes, names):
-            self.behind[delete], self.took[delete] = left, name
+            self.behind[delete.name], self.took[delete.name] = left, name
 
     def learn(self, document):
         """Notes what a document did that was opened: its history is done once more. A delete of what somebody else had deleted already
@@ -73,7 +81,7 @@ class History:
 
     def __init__(self, notes):
         self.entries, self._notes, self._read = [], notes, 0
-        self._letters, self._entry_of, self._generation = {}, {}, {}
+        self._letters, self._texts, self._entry_of, self._generation = {}, {}, {}, {}
         self._last_of, self._turns_of = {}, {}  # an author's last entry; the undos and redos of an entry
 
     @property
@@ -98,24 +106,26 @@ class History:
 
     def _original(self, operation):
         name, entry = operation.name, self._last_of.get(operation.author)
-        letter = operation.character or self._letters.get(self._notes.took.get(name), "\ufffd")
-        self._letters[name] = letter
+        text = operation.text or self._letters.get(self._notes.took.get(name), "\ufffd")
+        self._letters.update((cotpad.Character(name, offset), letter) for offset, letter in enumerate(operation.text))
+        self._texts[name] = text
         if entry and entry.kind is operation.kind and entry.last.number + 1 == name.number and self._goes_on(entry, name):
             entry.add(operation, self._read, first=entry.kind is Kind.DELETE and self._notes.took[name] == self._notes.behind[entry.last])
         else:
             entry = self._begin(operation)
-        entry.blank = entry.blank and letter.isspace()
+        entry.blank = entry.blank and text.isspace()
         self._entry_of[name] = entry
         return entry
 
     def _goes_on(self, entry, name):
-        """Whether an insert or a delete goes on with its author's last entry: the next character of a word, or the next delete of a run."""
+        """Whether an insert or a delete goes on with its author's last entry: the next piece of a word, or the next delete of a run."""
         last, behind = entry.last, self._notes.behind
         if last not in behind or name not in behind:
             return False
         if entry.kind is Kind.DELETE:
             return behind[name] == behind[last] or self._notes.took[name] == behind[last]
-        return behind[name] == last and (entry.blank or self._letters[name].isspace() or not self._letters[last].isspace())
+        before, text = self._texts[last], self._texts[name]
+        return behind[name] == _last_of(last, before) and (entry.blank or text[0].isspace() or not before[-1].isspace())
 
     def _turn(self, operation):
         of, last = self._entry_of[operation.name], self._last_of.get(operation.author)
@@ -161,5 +171,10 @@ class History:
         state = "in force" if standing == len(entry.names) else "in part" if standing else "undone"
         about, names = entry.of or entry, set(entry.names)
         line = {"id": entry.id, "author": entry.author, "kind": WORDS[entry.kind], "state": state, "position": entry.position,
-                "text": "".join(self._letters[name] for name in about.names if name in names)}
+                "text": "".join(self._texts[name] for name in about.names if name in names)}
         return line if about is entry else {**line, "of": {"author": about.author, "kind": WORDS[about.kind]}}
+
+
+def _last_of(name, text):
+    """The last character of an insert of this text."""
+    return cotpad.Character(name, len(text) - 1)

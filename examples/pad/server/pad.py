@@ -177,7 +177,7 @@ class Pad:
         """Undoes or redoes these inserts or deletes."""
         person = tab.person
         if kind == "undo" and person.history.undone_with(names) > UNDONE:
-            tab.refuse(f"only {UNDONE:,} characters may ever be undone in a pad: type or delete this instead")
+            tab.refuse(f"only {UNDONE:,} inserts and deletes may ever be undone in a pad: type or delete this instead")
             return
         change = person.undo(names) if kind == "undo" else person.redo(names)
         if not change.entries and not change.refused:

@@ -6,7 +6,7 @@ from typing import Optional
 from .anchors import Order
 from .changes import Shown
 from .delta import inserts, size
-from .history import Entry, History
+from .history import Entry, History, words
 from .library import cotpad
 from .past import Past
 
@@ -50,9 +50,10 @@ class Person:
         for part in delta:
             count = size(part)
             if inserts(part):
-                with _made(batch.insert, place, part[1]) as made:
-                    self._notes.typed(left, made)
-                place, left = place + count, made[-1]
+                for word in words(part[1]):
+                    with _made(batch.insert, place, word) as made:
+                        left = self._notes.typed(left, made)
+                    place += len(word)
             elif part > 0:
                 place, at, left = place + count, at + count, names[at + count - 1]
             else:
@@ -118,11 +119,11 @@ class Person:
 
 @contextlib.contextmanager
 def _made(call, *args):
-    """The names of what an edit made, also where it is refused on its way."""
+    """The operations that an edit made, also where it is refused on its way."""
     try:
         edit, refused = call(*args), None
     except cotpad.Refused as why:
         edit, refused = why.edit, why
-    yield edit.names
+    yield edit.operations
     if refused:
         raise refused

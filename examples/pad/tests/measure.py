@@ -19,6 +19,7 @@ import time
 import aiohttp
 
 try:
+    from server.history import words
     from server.tab import INSERTED
 except (ImportError, OSError) as why:
     sys.exit(f"measure: the library can't be loaded: {why}")
@@ -27,7 +28,7 @@ from model import Page
 
 PAD = pathlib.Path(__file__).resolve().parents[1]
 STUCK = 60.0  # seconds after which the script gives up
-SHORTEST = 200  # characters, so that the middle of the history is within the paste
+SHORTEST = 200  # characters, so that the paste has more words than are undone
 SENTENCE = "We meet on Tuesday at four by the old pear tree; bring gloves, and something to drink.\n"
 TYPED = "what somebody else types, " * 4
 KEYS, UNDOS = 100, 10
@@ -127,17 +128,17 @@ async def timed(act, tabs, characters):
 
 async def paste(tabs, text):
     took = await timed(tabs[0].insert(0, text), tabs[1:], len(text))
-    await settled(tabs, len(text))
+    await settled(tabs, len(words(text)))
     return took
 
 
 async def type_keys(tabs):
     """Cas types, and each key is timed."""
     *others, cas = tabs
-    length, times = len(cas.page.text), []
+    length, operations, times = len(cas.page.text), cas.page.operations, []
     for key in range(KEYS):
         times.append(await timed(cas.insert(length // 2 + key, TYPED[key]), others, length + key + 1))
-        await settled(tabs, length + key + 1)
+        await settled(tabs, operations + key + 1)
     return times
 
 
@@ -149,11 +150,11 @@ def spread(entries, count):
 async def undo_words(tabs):
     """Bob undoes words of Ann's, and each undo is timed."""
     ann, bob, _ = tabs
-    words = [it for it in bob.page.history.values() if it["author"] == ann.page.number and it["kind"] == "insert"]
+    entries = [it for it in bob.page.history.values() if it["author"] == ann.page.number and it["kind"] == "insert"]
     operations, times = bob.page.operations, []
-    for word in spread(words, UNDOS):
+    for word in spread(entries, UNDOS):
         times.append(await timed(bob.undo(word), tabs, len(bob.page.text) - len(word["text"])))
-        operations += len(word["text"])
+        operations += len(words(word["text"]))
         await settled(tabs, operations)
     return times
 
@@ -207,11 +208,12 @@ async def undo_rows(tabs):
 
 
 async def past_rows(tab, text):
-    """The middle of the history is within the paste of this text."""
-    middle = tab.page.operations // 2
+    """Half of the paste of this text, which the history begins with."""
+    pieces = words(text)
+    middle = len(pieces) // 2
     return {
-        "The moment in the middle of the history, by the slider: the first look": await look(tab, middle, text[:middle]),
-        "the moment after it, then": await look(tab, middle + 1, text[: middle + 1]),
+        "The moment in the middle of the paste, by the slider: the first look": await look(tab, middle, "".join(pieces[:middle])),
+        "the moment after it, then": await look(tab, middle + 1, "".join(pieces[: middle + 1])),
     }
 
 

@@ -8,11 +8,8 @@ from server.changes import Shown, difference
 from server.delta import applied
 from server.library import cotpad
 
-Name = cotpad.Name
-
-
 def test_several_pieces_are_told_as_several():
-    names = [Name(0, number) for number in range(1, 8)]
+    names = [cotpad.Character(cotpad.Name(0, number), offset) for number, offset in zip((1, 1, 2, 3, 3, 3, 4), (0, 1, 0, 0, 1, 2, 0))]
     letters = {name: letter for name, letter in zip(names, "abcdefg")}
     assert difference(names[2:3] + names[4:5], names, letters) == [(0, "ab"), 1, (0, "d"), 1, (0, "fg")]
     assert difference(names, names[1:2] + names[3:4], letters) == [-1, 1, -1, 1, -3]
@@ -21,13 +18,29 @@ def test_several_pieces_are_told_as_several():
 
 def test_which_of_two_equal_letters_went_is_told(documents):
     ann = documents[0]
-    ann.insert(0, "tell")
+    for place, letter in enumerate("tell"):
+        ann.insert(place, letter)
     shown = Shown(ann)
     ann.undo((0, 3))
     assert shown.follow()[0] == [2, -1, 1]
     ann.redo((0, 3))
     assert shown.follow()[0] == [2, (0, "l"), 1]
-    assert shown.names == [(0, 1), (0, 2), (0, 3), (0, 4)]
+    assert shown.names == [((0, 1), 0), ((0, 2), 0), ((0, 3), 0), ((0, 4), 0)]
+
+
+def test_an_insert_of_several_characters_and_its_undo(documents, send):
+    ann, bob, _ = documents
+    send(ann.insert(0, "ad"))
+    shown = Shown(bob)
+    send(ann.insert(1, "bbb"))
+    assert shown.follow()[0] == [1, (0, "bbb"), 1]
+    send(bob.insert(3, "c"))
+    shown.follow()
+    send(ann.undo((0, 2)))
+    assert shown.follow()[0] == [1, -2, 1, -1, 1]
+    assert (bob.text, shown.names) == ("acd", [((0, 1), 0), ((1, 1), 0), ((0, 1), 1)])
+    send(bob.redo((0, 2)))
+    assert shown.follow()[0] == [1, (0, "bb"), 1, (0, "b"), 1]
 
 
 def test_an_undo_that_shows_several_pieces(documents, send):

@@ -48,11 +48,23 @@ def test_words_are_entries(people):
     assert lines(bob) == expected
 
 
+def test_what_comes_in_one_piece_is_inserted_word_by_word(people):
+    _, ann, bob, do = people
+    typed(ann, do, "so ")
+    do(ann, ann.edit([3, (0, "two  words\n and more")]))
+    assert lines(bob) == [(0, "insert", it, "in force") for it in ("so ", "two  ", "words\n ", "and ", "more")]
+    assert [it.text for it in bob.document.history[3:]] == ["two  ", "words\n ", "and ", "more"]
+    do(bob, bob.undo(bob.history.entries[2].originals))
+    assert ann.document.text == "so two  and more"
+    typed(ann, do, "!")
+    assert lines(bob)[4] == (0, "insert", "more!", "in force")
+
+
 def test_what_two_type_at_once_is_told_apart(people):
     _, ann, bob, do = people
     typed(ann, do, "\n")
     for a, b in zip("one", "two"):
-        typed(ann, do, a, len([it for it in ann.shown.names if it.site == 0]) - 1)
+        typed(ann, do, a, len([it for it in ann.shown.names if it.name.site == 0]) - 1)
         typed(bob, do, b)
     assert lines(ann)[1:] == [(0, "insert", "one", "in force"), (1, "insert", "two", "in force")]
 
@@ -149,9 +161,9 @@ def test_what_both_deleted_is_told_from_the_document_of_each(documents, send):
         send(it)
     notes = Notes()
     notes.learn(ann)
-    assert notes.took == {(0, 4): (0, 2)}
+    assert notes.took == {(0, 2): ((0, 1), 1)}
     notes.learn(bob)
-    assert notes.took == {(0, 4): (0, 2), (1, 1): (0, 2)}
+    assert notes.took == {(0, 2): ((0, 1), 1), (1, 1): ((0, 1), 1)}
     history = History(notes)
     history.take(bob.history[:])
     assert [history.told(it)["text"] for it in history.entries] == ["tea", "e", "e"]

@@ -57,7 +57,7 @@ def check(pad, wires):
         page, person = wire.page, wire.tab.person
         assert page.quiet
         assert page.shown == person.document.text
-        assert [author for author, _ in page.text] == [name.site for name in person.document.names(0, person.document.characters)]
+        assert [author for author, _ in page.text] == [it.name.site for it in person.document.names(0, person.document.characters)]
         assert page.history == {it.id: person.history.told(it) for it in person.history.entries}
         assert page.operations == person.document.operations
         assert page.cursors == person.cursors()
@@ -251,7 +251,7 @@ def test_away_holds_back_and_lets_go(pad, wires):
     carry(wires)
     assert [it.page.shown for it in wires] == ["tea!?", "xtea", "tea!?"]
     told = {it["name"]: (it["away"], it["from"], it["to"]) for it in cas.page.people}
-    assert told["Bob"] == (True, 1, 2)
+    assert told["Bob"] == (True, 1, 1)
     bob.page.say("undo", entry=0)
     carry(wires)
     assert [it.page.shown for it in wires] == ["tea!?", "x", "tea!?"]
@@ -360,7 +360,7 @@ def test_what_waits_and_is_freed_by_ones_own_undo_is_told(pad, wires):
     with cotpad.Site(40) as stranger:
         stranger.receive(b"".join(pad.people[0].document.frames()))
         stranger.undo((0, 1))
-        frame = stranger.insert(2, "!").frames[0]
+        frame = stranger.insert(0, "!").frames[0]
     pad.people[0].receive([frame])
     assert ann.page.shown == "tea"
     ann.page.say("undo", entry=0)
@@ -370,8 +370,9 @@ def test_what_waits_and_is_freed_by_ones_own_undo_is_told(pad, wires):
 
 def test_the_text_at_an_earlier_moment(pad, wires):
     ann, bob, _ = wires
-    ann.page.replace(0, 0, "tea")
-    carry(wires)
+    for place, letter in enumerate("tea"):
+        ann.page.replace(place, 0, letter)
+        carry(wires)
     for position, text in ((1, "t"), (3, "tea"), (0, ""), (2, "te")):
         ann.page.say("past", position=position)
         bob.page.replace(0, 0, "x")
@@ -398,7 +399,7 @@ def test_the_history_goes_back_page_by_page(pad, monkeypatch):
 
 
 def test_undos_have_a_limit(pad, wires, monkeypatch):
-    monkeypatch.setattr("server.pad.UNDONE", 4)
+    monkeypatch.setattr("server.pad.UNDONE", 1)
     ann, bob, _ = wires
     ann.page.replace(0, 0, "tea tea")
     carry(wires)
@@ -426,7 +427,7 @@ def test_undos_have_a_limit(pad, wires, monkeypatch):
     ({"kind": "undo", "entry": 1}, "entry is a number"),
     ({"kind": "undo", "entry": "0"}, "entry is a number"),
     ({"kind": "away", "on": 1}, "away is on or not"),
-    ({"kind": "past", "position": 4}, "position is a number from 0 to 3"),
+    ({"kind": "past", "position": 2}, "position is a number from 0 to 1"),
     ({"kind": "more", "before": 2}, "before is a number"),
     ({"kind": "seen", "version": 2}, "version is a number"),
 ])

@@ -22,5 +22,5 @@ def test_each_moment_of_a_drawn_session(documents, monkeypatch, seed):
         assert back.names(position) == moments[position][1]
     for position, (text, names) in moments.items():
         assert past.Past(ann).names(position) == back.names(position) == names
-        letters = {it.name: it.character for it in ann.history if it.kind is cotpad.Kind.INSERT}
-        assert "".join(letters[name] for name in names) == text
+        texts = {it.name: it.text for it in ann.history if it.kind is cotpad.Kind.INSERT}
+        assert "".join(texts[it.name][it.offset] for it in names) == text

@@ -87,7 +87,7 @@ async def _session(folder, seed):
             await until(lambda: same(server, clients))
             for client, person in zip(clients, people(server)):
                 names = person.document.names(0, person.document.characters)
-                assert [author for author, _ in client.page.text] == [it.site for it in names]
+                assert [author for author, _ in client.page.text] == [it.name.site for it in names]
                 await client.close()
             text = clients[0].page.shown
     for number in range(3):

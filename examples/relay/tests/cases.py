@@ -111,7 +111,7 @@ class Texts(Case):
     async def test_three_people_as_in_the_readme(self):
         ann, bob, cas = [await self.peer(it) for it in ("ann", "bob", "cas")]
         self.assertEqual([it.number for it in (ann, bob, cas)], [0, 1, 2])
-        self.assertEqual(await ann.insert(0, "tea"), ["0.1", "0.2", "0.3"])
+        self.assertEqual(await ann.insert(0, "tea"), ["0.1"])
         await self.same(ann, bob, cas)
         with mock.patch.object(Room, "append", side_effect=ConnectionError("away")):
             await ann.delete(0)
@@ -122,7 +122,7 @@ class Texts(Case):
         await self.same(ann, bob, cas)
         self.assertEqual({it.text for it in (ann, bob, cas)}, {"oa!"})
         self.assertEqual(await ann.undo((1, 1)), ["1.1/1"])
-        self.assertEqual(await bob.undo((0, 4)), ["0.4/1"])
+        self.assertEqual(await bob.undo((0, 2)), ["0.2/1"])
         self.assertEqual(await cas.undo((1, 2)), ["1.2/1"])
         await self.same(ann, bob, cas)
         self.assertEqual({it.text for it in (ann, bob, cas)}, {"tea!"})
@@ -272,7 +272,7 @@ class Crashes(Case):
         await ann.insert(0, "once")
         await self.same(ann)
         await self.crash(ann)
-        self.assertEqual(len(saved.read(self.path("ann")).outbox), 4)
+        self.assertEqual(len(saved.read(self.path("ann")).outbox), 1)
         ann = await self.peer("ann")
         await self.same(ann)
         self.assertEqual(await self.raw.xlen(self.frames), 1)
@@ -393,7 +393,8 @@ class Checkpoints(Case):
     async def test_one_who_was_away_takes_it_in_and_keeps_own_edits(self):
         ann = await self.peer("ann", checkpoint_every=10, margin=2)
         bob = await self.peer("bob", checkpoint_every=10, margin=2)
-        await ann.insert(0, "ab")
+        await ann.insert(0, "a")
+        await ann.insert(1, "b")
         await self.same(ann, bob)
         with mock.patch.object(Room, "append", side_effect=ConnectionError("away")):
             self.assertEqual(await ann.insert(1, "-"), ["0.3"])
@@ -475,7 +476,8 @@ class Checkpoints(Case):
 class Losses(Case):
     async def test_the_engine_lost_the_end_of_its_stream(self):
         ann, bob = await self.peer("ann", pause=0.1), await self.peer("bob", pause=0.1)
-        await ann.insert(0, "ab")
+        await ann.insert(0, "a")
+        await ann.insert(1, "b")
         await self.same(ann, bob)
         ENGINE.keep("older")
         await bob.insert(2, "c")
