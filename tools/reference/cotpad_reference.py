@@ -9,7 +9,8 @@ whenever it is looked at, and a few hundred operations take minutes.
   python3 tools/reference/cotpad_reference.py replay < SCRIPT
   python3 tools/reference/cotpad_reference.py show < LOG
   python3 tools/reference/cotpad_reference.py playback < LOG
-  python3 tools/reference/cotpad_reference.py edit SITE ins V TEXT < LOG     and so for nl, del, undo, redo
+  python3 tools/reference/cotpad_reference.py explain MEMBER < LOG
+  python3 tools/reference/cotpad_reference.py edit SITE ins V TEXT < LOG     and so for run, nl, del, undo, redo
 
 write what the program writes, and end with its status. `tools/check-sessions` compares the two on drawn sessions.
 """
@@ -17,10 +18,10 @@ import os
 import re
 import sys
 from dataclasses import dataclass, field
-from typing import FrozenSet, List, NamedTuple
+from typing import FrozenSet, List, NamedTuple, Tuple
 
-SITES, NUMBERS, GENERATIONS, PLACES, UNDO_ENTRIES = 64, 1_000_000, 65_535, 64_000_000, 16_384
-LONGEST_LINE, LONGEST_BODY, MOST_BYTES = 262_144, 115_025, 67_108_864
+SITES, NUMBERS, GENERATIONS, PLACES, UNDO_ENTRIES, LETTERS = 64, 1_000_000, 65_535, 4_294_967_295, 16_384, 256
+LONGEST_LINE, LONGEST_BODY, MOST_BYTES = 262_144, 116_047, 67_108_864
 
 
 # ---- Names, members, contexts
@@ -104,18 +105,18 @@ def rank_of(context):
 
 @dataclass(frozen=True)
 class Insert:
-    """context_diff/Operations.antt, `inserting`: an insert has a name, a place, a character (its code) and a context. A place
-    counts all cells, shown or hidden, of the inserts that the context has."""
+    """context_diff/Operations.antt, `inserting`: an insert has a name, a place, a text (the codes of its characters) and a context.
+    A place counts all cells, shown or hidden, of the inserts that the context has."""
 
     name: Name
     place: int
-    character: int
+    text: Tuple[int, ...]
     context: Context
 
 
 @dataclass(frozen=True)
 class Delete:
-    """context_diff/Operations.antt, `deleting`: a delete has no character"""
+    """context_diff/Operations.antt, `deleting`: a delete has no text"""
 
     name: Name
     place: int
@@ -138,6 +139,11 @@ def is_original(op):
     return not isinstance(op, Undo)
 
 
+def cells_put(op):
+    """context_diff/Operations.antt, `cells_put`: how many cells the operation puts: one for each character of an insert"""
+    return len(op.text) if isinstance(op, Insert) else 0
+
+
 def member_of(op):
     """context_diff/Operations.antt, `member_of`: the member that an operation is: all undos of one original at one generation are
     one member"""
@@ -152,6 +158,11 @@ def is_name(name):
 def is_scalar(code):
     """A character is a Unicode scalar value (RFC 3629)."""
     return 0 <= code <= 0x10FFFF and not 0xD800 <= code <= 0xDFFF
+
+
+def is_letters(text):
+    """context_diff/Operations.antt, `IsLetters`: the text of an insert: 1 to LETTERS characters, each a Unicode scalar value"""
+    return 1 <= len(text) <= LETTERS and all(is_scalar(code) for code in text)
 
 
 def is_context(context):
@@ -170,13 +181,12 @@ def is_context(context):
 
 
 def is_in_range(op):
-    """context_diff/Operations.antt, `IsInRange`: names and contexts are in their ranges, a place is at most PLACES, a character is a
-    Unicode scalar value, an author is one of the SITES sites, a generation is 1 to GENERATIONS, a context has at most UNDO_ENTRIES
-    undo entries"""
+    """context_diff/Operations.antt, `IsInRange`: names and contexts are in their ranges, a place is at most PLACES, an insert has a
+    text, an author is one of the SITES sites, a generation is 1 to GENERATIONS, a context has at most UNDO_ENTRIES undo entries"""
     if isinstance(op, Undo):
         fields = 0 <= op.author < SITES and is_name(op.target) and 1 <= op.generation <= GENERATIONS
     else:
-        fields = is_name(op.name) and 0 <= op.place <= PLACES and (isinstance(op, Delete) or is_scalar(op.character))
+        fields = is_name(op.name) and 0 <= op.place <= PLACES and (isinstance(op, Delete) or is_letters(op.text))
     return fields and is_context(op.context) and len(generations_of(op.context)) <= UNDO_ENTRIES
 
 
@@ -246,17 +256,18 @@ def first_open_site(history, context):
     return None
 
 
-def inserts_in(history, context):
-    """context_diff/Histories.antt, `inserts_in`: the number of inserts among the originals of a context"""
-    return sum(isinstance(op, Insert) and member_of(op) in context for op in history)
+def cells_in(history, context):
+    """context_diff/Histories.antt, `cells_in`: the number of cells of a context: the sum of the lengths of the inserts among its
+    originals"""
+    return sum(cells_put(op) for op in history if member_of(op) in context)
 
 
 def has_place(history, op):
     """context_diff/Histories.antt, `HasPlace`: a place counts the cells of the context: an insert may stand after the last one, a
     delete needs a cell"""
     if isinstance(op, Insert):
-        return op.place <= inserts_in(history, op.context)
-    return isinstance(op, Undo) or op.place < inserts_in(history, op.context)
+        return op.place <= cells_in(history, op.context)
+    return isinstance(op, Undo) or op.place < cells_in(history, op.context)
 
 
 def is_next(history, op):
@@ -271,7 +282,15 @@ def is_valid(history):
     return all(is_next(history[:i], op) for i, op in enumerate(history))
 
 
-# ---- The fixed replay and the text. A cell is named by its insert: here it is that member
+# ---- The fixed replay and the text
+
+
+class Cell(NamedTuple):
+    """context_diff/Replays.antt, `Cell`: a cell is named by its insert and by its offset in that insert, from 0 on. Here the insert
+    is that member."""
+
+    insert: Member
+    offset: int
 
 
 def is_earlier(op):
@@ -284,29 +303,35 @@ def fixed_order(history):
     return sorted((op for op in history if isinstance(op, Insert)), key=is_earlier)
 
 
+def cells_from(op):
+    """context_diff/Replays.antt, `cells_from`: the cells that an insert puts: one for each character"""
+    return [Cell(member_of(op), offset) for offset in range(len(op.text))]
+
+
 def seen(op, cells):
     """context_diff/Replays.antt, `seen`: the cells of a list whose inserts these are, in the order of the list: those of the
     operation's context"""
-    return [cell for cell in cells if cell in op.context]
+    return [cell for cell in cells if cell.insert in op.context]
 
 
 def put(op, earlier, cells):
     """context_diff/Replays.antt, `put`: the cells with op's put directly before its right neighbour.
 
     First its two neighbours are taken, among the cells that it sees (`gap`): with place p the p-th of them and the next one, or an
-    end of the text. Then each earlier insert that it doesn't see, if its cell lies strictly between them, becomes the left
-    neighbour where its site is smaller than op's, and the right one otherwise (`narrowed_by`). An insert has one cell, which is
-    its first and its last."""
+    end of the text. Then each earlier insert that it doesn't see, if its first cell lies strictly between them (`first_of`), narrows
+    the gap (`narrowed_by`): where its site is smaller than op's, its last cell (`last_of`) becomes the left neighbour, and otherwise
+    its first one the right neighbour."""
     sees = seen(op, cells)
     left = cells.index(sees[op.place - 1]) if op.place > 0 else -1
     right = cells.index(sees[op.place]) if op.place < len(sees) else len(cells)
-    for other in earlier:
-        if other not in op.context and left < cells.index(other) < right:
+    for other in [it for it in earlier if member_of(it) not in op.context]:
+        first, last = cells_from(other)[0], cells_from(other)[-1]
+        if first in cells[left + 1 : right]:
             if other.name.site < op.name.site:
-                left = cells.index(other)
+                left = cells.index(last)
             else:
-                right = cells.index(other)
-    return cells[:right] + [member_of(op)] + cells[right:]
+                right = cells.index(first)
+    return cells[:right] + cells_from(op) + cells[right:]
 
 
 def replay_of(history):
@@ -314,7 +339,7 @@ def replay_of(history):
     earlier, cells = [], []
     for op in fixed_order(history):
         cells = put(op, earlier, cells)
-        earlier.append(member_of(op))
+        earlier.append(op)
     return cells
 
 
@@ -328,14 +353,16 @@ def shown_places_of(history):
     """cot_site/Views.antt, `shown_places_of`: where the shown cells of a history stand among all cells of its replay.
     context_diff/Replays.antt, `is_shown`: a cell is shown if its insert is in force and no delete in force hits it."""
     cells = replay_of(history)
-    covered = [cell for op in history if isinstance(op, Delete) and in_force(history, op.name) for cell in hit_of(op, cells)]
-    return [place for place, cell in enumerate(cells) if in_force(history, cell.name) and cell not in covered]
+    covered = {cell for op in history if isinstance(op, Delete) and in_force(history, op.name) for cell in hit_of(op, cells)}
+    shown = {op.name for op in history if isinstance(op, Insert) and in_force(history, op.name)}
+    return [place for place, cell in enumerate(cells) if cell.insert.name in shown and cell not in covered]
 
 
 def text_of(history):
-    """context_diff/Replays.antt, `characters_of`: the characters of the shown cells"""
-    cells, character = replay_of(history), {member_of(op): chr(op.character) for op in history if isinstance(op, Insert)}
-    return "".join(character[cells[place]] for place in shown_places_of(history))
+    """context_diff/Replays.antt, `characters_of`: the characters of the shown cells. `character_in`: that of a cell is the one at the
+    offset in its insert's text."""
+    cells, texts = replay_of(history), {member_of(op): op.text for op in history if isinstance(op, Insert)}
+    return "".join(chr(texts[cells[place].insert][cells[place].offset]) for place in shown_places_of(history))
 
 
 # ---- Sites: verdicts, deliveries, releases
@@ -387,7 +414,7 @@ def judged(state, op):
     if site is not None:
         return Verdict("notclosed", member, (site,))
     if not has_place(state.history, op):
-        return Verdict("placeout", member, (op.place, inserts_in(state.history, op.context)))
+        return Verdict("placeout", member, (op.place, cells_in(state.history, op.context)))
     return Verdict("integrated", member)
 
 
@@ -444,13 +471,13 @@ def context_carried(state):
     return context
 
 
-def local_insert(state, v, character):
-    """cot_site/Commands.antt, `local_insert`: the insert of a character after v shown ones: at the front, or at the place after the
+def local_run(state, v, text):
+    """cot_site/Commands.antt, `local_run`: the insert of a text after v shown characters: at the front, or at the place after the
     shown cell before it"""
     places = shown_places_of(state.history)
     if v > len(places):
         raise Refused(f"place {v} {len(places)}")
-    return Insert(numbered(state), places[v - 1] + 1 if v > 0 else 0, character, context_carried(state))
+    return Insert(numbered(state), places[v - 1] + 1 if v > 0 else 0, tuple(map(ord, text)), context_carried(state))
 
 
 def local_delete(state, v):
@@ -516,9 +543,12 @@ def context_bytes(context):
 
 
 def frame(op):
-    """wire_codec/Spelling.antt, `frame`: the one frame of an operation: four bytes of length, and the body of that length"""
+    """wire_codec/Spelling.antt, `frame`: the one frame of an operation: four bytes of length, and the body of that length. An insert
+    of one character has a kind of its own."""
     if isinstance(op, Insert):
-        head = b"\x01" + name_bytes(op.name) + number_bytes(4, op.place) + number_bytes(4, op.character)
+        length = b"" if len(op.text) == 1 else number_bytes(2, len(op.text))
+        kind = b"\x04" if length else b"\x01"
+        head = kind + name_bytes(op.name) + number_bytes(4, op.place) + length + b"".join(number_bytes(4, code) for code in op.text)
     elif isinstance(op, Delete):
         head = b"\x02" + name_bytes(op.name) + number_bytes(4, op.place)
     else:
@@ -561,11 +591,20 @@ class Body:
         return Name(self.bounded(1, 0, SITES - 1), self.bounded(4, 1, NUMBERS))
 
     def character(self):
-        """wire_codec/Reading.antt, `char_at`"""
+        """wire_codec/Reading.antt, `character_at`"""
         start, code = self.at, self.number(4)
         if not is_scalar(code):
             raise Bad("char", start)
         return code
+
+    def length(self, kind):
+        """wire_codec/Reading.antt, `length_at`: how many characters an insert of this kind has: one of kind 1, and else two and more, as a
+        field says"""
+        return 1 if kind == 1 else self.bounded(2, 2, LETTERS)
+
+    def text(self, length):
+        """wire_codec/Reading.antt, `characters_at`: so many characters"""
+        return tuple(self.character() for _ in range(length))
 
     def counts(self):
         """wire_codec/Reading.antt, `counts_at`: sites rising, each with its count"""
@@ -590,16 +629,16 @@ class Body:
 
 def op_in(body):
     """wire_codec/Judging.antt, `body_at`: a whole body: its fields, nothing after them, and then the rules own, target and stray"""
-    kind = body.bounded(1, 1, 3, "kind")
+    kind = body.bounded(1, 1, 4, "kind")
     author = body.bounded(1, 0, SITES - 1) if kind == 3 else None
     name = body.name()
     value = body.bounded(2, 1, GENERATIONS) if kind == 3 else body.bounded(4, 0, PLACES)
-    character = body.character() if kind == 1 else None
+    text = body.text(body.length(kind)) if kind in (1, 4) else None
     counts = body.counts()
     generations, starts = body.generations()
     if body.at < len(body.data):
         raise Bad("length", body.at)
-    if kind < 3 and counts.get(name.site, 0) + 1 != name.number:
+    if kind != 3 and counts.get(name.site, 0) + 1 != name.number:
         raise Bad("own", 6)
     if kind == 3 and (counts.get(name.site, 0) < name.number or generations.get(name, 0) + 1 != value):
         raise Bad("target", 6)
@@ -607,8 +646,8 @@ def op_in(body):
         if counts.get(undone.site, 0) < undone.number:
             raise Bad("stray", starts[undone])
     context = context_with(counts, generations)
-    if kind == 1:
-        return Insert(name, value, character, context)
+    if text is not None:
+        return Insert(name, value, text, context)
     return Delete(name, value, context) if kind == 2 else Undo(author, name, value, context)
 
 
@@ -649,6 +688,15 @@ def name_in(text):
     return Name(site, number) if dot and site is not None and number else None
 
 
+def member_in(text):
+    """script_text/Fields.antt, `member_of`: a member: the name of an original, or a group as a name with a generation, `S.N/G`"""
+    before, slash, behind = text.partition("/")
+    name, generation = name_in(before), number_in(behind, GENERATIONS + 1)
+    if name is None or (slash and not generation):
+        return None
+    return group(name, generation) if slash else original(name)
+
+
 def text_in(text):
     """script_text/Fields.antt, `text_of`: the characters of a field that has one at least"""
     return text or None
@@ -663,6 +711,7 @@ def octets_in(text):
 TABLE = {
     "sites": [count_in],
     "ins": [site_in, number_in, text_in],
+    "run": [site_in, number_in, text_in],
     "nl": [site_in, number_in],
     "del": [site_in, number_in],
     "undo": [site_in, name_in],
@@ -702,6 +751,28 @@ def line_in(data):
     return word, values
 
 
+# ---- What is typed
+
+
+def letters(text):
+    """participant/Runs.antt, `letters`: each character of a text by itself"""
+    return list(text)
+
+
+def pieces(text):
+    """participant/Runs.antt, `pieces`: a text that is cut from the front into pieces of LETTERS characters, and a shorter last one"""
+    return [text[at : at + LETTERS] for at in range(0, len(text), LETTERS)]
+
+
+def puts(v, texts):
+    """participant/Runs.antt, `puts`: texts at visible places, the first one at v, each other one behind the one before it"""
+    return [(v + sum(map(len, texts[:i])), text) for i, text in enumerate(texts)]
+
+
+# a line that types, and the texts that it puts
+TYPED = {"ins": letters, "run": pieces, "nl": letters}
+
+
 # ---- Sessions and their reports
 
 
@@ -735,10 +806,10 @@ class Session:
         self.settle(state)
         return True
 
-    def type(self, state, v, text):
-        """session_replay/LineSteps.antt, `typed`: characters at visible places v, v + 1 and so on, until one is refused"""
-        for i, character in enumerate(text):
-            if not self.make(state, local_insert, v + i, ord(character)):
+    def type(self, state, v, texts):
+        """session_replay/LineSteps.antt, `typed`: texts at visible places, each behind the one before it, until one is refused"""
+        for place, text in puts(v, texts):
+            if not self.make(state, local_run, place, text):
                 break
 
     def give(self, state, op, many=False):
@@ -802,10 +873,9 @@ class Session:
         if site >= len(self.sites):
             raise Refused("nosite")
         state = self.sites[site]
-        if word == "ins":
-            self.type(state, *given)
-        elif word == "nl":
-            self.type(state, *given, "\n")
+        if word in TYPED:
+            v, text = given if word != "nl" else (*given, "\n")
+            self.type(state, v, TYPED[word](text))
         elif word == "del":
             self.make(state, local_delete, *given)
         elif word == "undo":
@@ -905,6 +975,105 @@ def edited(state, local, *given):
     releases(state)
 
 
+# ---- Forms and explanations
+
+
+class Ins(NamedTuple):
+    """ttf_form/Forms.antt, `ins_extent`: the form of an insert adds so many cells at its place; its site says who stands in front where two
+    are put at one place. `text` is what it is told by."""
+
+    place: int
+    site: int
+    text: Tuple[int, ...]
+
+    def __str__(self):
+        """script_text/Explained.antt, `form_text`: of one character the place and that one, of more the place and how many"""
+        return f"run {self.place} {len(self.text)}" if len(self.text) > 1 else f"ins {self.place} U+{self.text[0]:04X}"
+
+
+class Cover(NamedTuple):
+    """undo_group/BaseForms.antt, `IsCoverForm`: the form of a delete, an undo or a redo marks what stands at its place"""
+
+    place: int
+
+    def __str__(self):
+        return f"cover {self.place}"
+
+
+def goes_before(form, other):
+    """ttf_form/Places.antt, `goes_before`: of two inserts the one with the smaller place stands in front, and at one place that of the
+    smaller site. `cover_place`: the cell that a cover marks stands in front of what is put behind it."""
+    return (form.place, form.site) < (other.place, other.site) if isinstance(form, Ins) else form.place < other.place
+
+
+def form_over(form, other):
+    """ttf_form/Forms.antt, `form_over`: a form after the inclusion of another: a cover moves nothing, an insert moves by its cells what
+    doesn't stand in front of it"""
+    if isinstance(other, Cover) or goes_before(form, other):
+        return form
+    return form._replace(place=form.place + len(other.text))
+
+
+def operation_in(history, name):
+    return next(op for op in history if member_of(op) == original(name))
+
+
+def base_form(history, member):
+    """undo_group/BaseForms.antt, `base_form`: of an original what its operation says; a group covers the place of its original"""
+    op = operation_in(history, member.name)
+    if member.is_group or isinstance(op, Delete):
+        return Cover(op.place)
+    return Ins(op.place, op.name.site, op.text)
+
+
+def base_context_of(history, member):
+    """context_diff/Bases.antt, `base_context_of`: what an original knew; of a group what its original knew, that original, and the
+    groups of it before this one"""
+    name, generation = member.name, member.generation
+    before = {original(name), *(group(name, g) for g in range(1, generation))} if member.is_group else set()
+    return operation_in(history, name).context | before
+
+
+def difference_of(history, before, after):
+    """context_diff/Differences.antt, `difference_of`: the members of the one context that the other lacks, in the history's order"""
+    return [member for member in map(member_of, history) if member in after and member not in before]
+
+
+class Listing:
+    """trace_explain/Listings.antt, `ListingData`: the lines so far, and of each pair of a member and a context that is listed, its line's
+    number and form"""
+
+    def __init__(self, history):
+        self.history, self.lines, self.at = history, [], {}
+
+    def add(self, member, context, form, *words):
+        self.lines.append(" ".join(map(str, (len(self.lines) + 1, *words, member, form))) + "\n")
+        self.at[member, context] = (len(self.lines), form)
+
+    def list(self, member, context):
+        """trace_explain/Listings.antt, `Lists`: a line that is there serves; at its base context a member gets a line of its base form;
+        else, with x the last member between, it is listed without x, then x is listed there, and then comes the step of the two"""
+        if (member, context) not in self.at:
+            base = base_context_of(self.history, member)
+            if context == base:
+                self.add(member, context, base_form(self.history, member), "base")
+            else:
+                last = difference_of(self.history, base, context)[-1]
+                left, form = self.list(member, context - {last})
+                over, other = self.list(last, context - {last})
+                self.add(member, context, form_over(form, other), "step", left, over)
+        return self.at[member, context]
+
+
+def explained(history, member):
+    """log_replies/Explaining.antt, `IsExplanation`: the lines that the listing rule gives for a member. trace_explain/Traces.antt,
+    `context_before`: at all members that the history holds before it."""
+    members = list(map(member_of, history))
+    listing = Listing(history)
+    listing.list(member, frozenset(members[: members.index(member)]))
+    return "".join(listing.lines)
+
+
 # ---- The command
 
 
@@ -925,18 +1094,26 @@ def played_reply(data):
     return "".join(session.report).encode()
 
 
+def explain_reply(member, data):
+    """log_replies/Explaining.antt, `IsExplainedIn`: the steps of a member, or the line that it isn't integrated"""
+    history = load(0, data).history
+    if member not in context_of_all(history):
+        raise Refused(f"unknown {member}")
+    return explained(history, member).encode()
+
+
 def edit_reply(words, data):
     """log_replies/Replies.antt, `edit_reply`: the log of the edited site; nothing of it where an operation is refused, but why.
     None where the words are no edit."""
     site, (word, *given) = site_in(words[0]), words[1:]
-    values = values_in(given, TABLE[word][1:]) if word in ("ins", "nl", "del", "undo", "redo") else None
+    values = values_in(given, TABLE[word][1:]) if word in ("ins", "run", "nl", "del", "undo", "redo") else None
     if site is None or values is None:
         return None
     state = load(site, data)
-    if word in ("ins", "nl"):
-        v, text = values if word == "ins" else (values[0], "\n")
-        for i, character in enumerate(text):
-            edited(state, local_insert, v + i, ord(character))
+    if word in TYPED:
+        v, text = values if word != "nl" else (*values, "\n")
+        for place, piece in puts(v, TYPED[word](text)):
+            edited(state, local_run, place, piece)
     else:
         edited(state, {"del": local_delete, "undo": local_undo, "redo": local_redo}[word], *values)
     return log_of(state)
@@ -952,6 +1129,9 @@ def run(words, data):
             return show_reply(data), 0
         if words == ["playback"]:
             return played_reply(data), 0
+        if len(words) == 2 and words[0] == "explain":
+            member = member_in(words[1])
+            return (b"cotpad: words\n", 2) if member is None else (explain_reply(member, data), 0)
         if len(words) > 2 and words[0] == "edit":
             reply = edit_reply(words[1:], data)
             return (b"cotpad: words\n", 2) if reply is None else (reply, 0)

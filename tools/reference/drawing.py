@@ -7,12 +7,13 @@ from cotpad_reference import Delete, Insert, Name, Undo
 
 LETTERS = "abcdefghijklmnopqrstuvwxyz"
 OTHERS = " #.\t\réßλ€\u2028\ufeff😀\U0010ffff\0"
-EDGES = (0, 1, 2, 3, 4, 63, 64, 127, 128, 255)
+EDGES = (0, 1, 2, 3, 4, 5, 63, 64, 127, 128, 255)
 
 # lines that are refused, wherever they stand or at some sites
 WRONG_TEXTS = (
     "ins|ins 0|ins 0 0|ins 0 0 |ins 0  a|ins 0 a|ins 64 0 a|ins 00 0 a|ins 0 01 a|ins  0 0 a| ins 0 0 a|ins 0 +1 a|ins 0 -1 a|INS 0 0 a|"
-    "ins 0 4294967296 a|ins 0 ٣ a|nl 0|nl 0 |nl 0 0 |nl 0 0 a|del 0|del 0 4294967296|del 0 99999999999999999999|del 0 0 0|undo 0|undo 0 0|"
+    "ins 0 4294967296 a|ins 0 ٣ a|run|run 0|run 0 0|run 0 0 |run 0  a|run 0 a|run 64 0 a|run 00 0 a|run 0 01 a|run  0 0 a| run 0 0 a|RUN 0 0 a|"
+    "run 0 4294967296 a|run 0.1 0 a|runs 0 0 a|nl 0|nl 0 |nl 0 0 |nl 0 0 a|del 0|del 0 4294967296|del 0 99999999999999999999|del 0 0 0|undo 0|undo 0 0|"
     "undo 0 0.|undo 0 .1|undo 0 0.0|undo 0 0.01|undo 0 64.1|undo 0 0.1000001|undo 0 0.1/1|undo 0 0.1.1|redo 0 0.1 |redo 0  0.1|give 0|"
     "give 0 4294967295|give 0 4294967296|give 0 x|give 0 0.1|all|all |all 64|all 0 0|sync |sync 0|sync\r|syn|raw|raw 0|raw 0 |raw 0 0|"
     "raw 0 0g|raw 0 00 00|raw 0 0000 |raw 64 00|show|show 64|show 0 |show -1|state|state 64|state 0.0|sites|sites 0|sites 65|sites 01|"
@@ -22,10 +23,10 @@ NO_TEXTS = [b"\xff", b"# \xc3", b"ins 0 0 \xc0\x80", b"ins 0 0 \xed\xa0\x80", b"
 WRONG_LINES = [line.encode() for line in WRONG_TEXTS.split("|")] + 3 * NO_TEXTS
 
 # of a line with the last site or one that isn't there
-SITE_LINES = "ins {} 0 a|nl {} 0|del {} 0|undo {} 0.1|redo {} 0.1|give {} 0|all {}|raw {} 00|show {}|state {}".split("|")
+SITE_LINES = "ins {} 0 a|run {} 0 ab|nl {} 0|del {} 0|undo {} 0.1|redo {} 0.1|give {} 0|all {}|raw {} 00|show {}|state {}".split("|")
 
 # what may be changed of an operation
-WAYS = ("place", "character", "author", "kind", "next", "less", "less", "less", "more", "undone", "whole", "drawn", "drawn", "undo")
+WAYS = ("place", "text", "text", "author", "kind", "next", "less", "less", "less", "more", "undone", "whole", "drawn", "drawn", "drawn", "undo")
 
 
 def is_large(data):
@@ -34,7 +35,7 @@ def is_large(data):
     while len(data) > 4:
         used = 4 + int.from_bytes(data[:4], "big")
         body = ref.Body(data[:used])
-        body.at = {1: 18, 2: 14}.get(data[4], 13)  # where the context begins
+        body.at = {1: 18, 2: 14, 3: 13}.get(data[4], 16 + 4 * int.from_bytes(data[14:16], "big"))  # where the context begins
         try:
             if sum(body.counts().values()) + sum(body.generations()[0].values()) > 10_000:
                 return True
@@ -51,8 +52,8 @@ class Drawing:
     def __init__(self, draw):
         self.draw, self.session, self.lines, self.goes_on = draw, ref.Session(), [], True
         self.elsewhere, self.made = [ref.State(63)], []
-        self.kinds = Counter({kind: draw.choice((1, 2, 4, 8)) for kind in ("type", "nl", "del", "undo", "redo", "give", "raw")})
-        self.kinds.update({"type": 4, "raw": 4, "all": 2, "sync": draw.choice((0, 1, 2)), "show": 2, "state": 2, "nothing": 1})
+        self.kinds = Counter({kind: draw.choice((1, 2, 4, 8)) for kind in ("type", "run", "nl", "del", "undo", "redo", "give", "raw")})
+        self.kinds.update({"type": 2, "run": 2, "raw": 4, "all": 2, "sync": draw.choice((0, 1, 2)), "split": 1, "show": 2, "state": 2, "nothing": 1})
 
     def chance(self, share):
         return self.draw.random() < share
@@ -77,6 +78,11 @@ class Drawing:
     def character(self):
         return self.draw.choice(OTHERS if self.chance(0.1) else LETTERS)
 
+    def text(self, lengths=(1, 2, 2, 3, 3, 5, 9)):
+        """A text for one insert, at times as long as may be."""
+        count = self.draw.choice((20, 255, 256, 256)) if self.chance(0.06) else self.draw.choice(lengths)
+        return "".join(self.character() for _ in range(count))
+
     def name(self, history, undone=False):
         """A name that is likely known, undone where that is wanted, and at times one that isn't known, or not yet."""
         known = [op.name for op in history if ref.is_original(op)]
@@ -88,6 +94,13 @@ class Drawing:
         if others and self.chance(0.7):
             return self.draw.choice(others)
         return Name(self.draw.choice((0, 1, 2, 9, 63)), self.draw.choice((1, 2, 3, 5, 12, 1_000_000)))
+
+    def member(self, history):
+        """A member of the history, mostly one that came late, and at times one that isn't there."""
+        if history and self.chance(0.9):
+            return ref.member_of(self.draw.choice(history[-8:] if self.chance(0.7) else history))
+        name = self.name(history)
+        return self.draw.choice((ref.original(name), ref.group(name, self.draw.choice((1, 2, 65_535)))))
 
     # ---- operations of authors elsewhere
 
@@ -103,8 +116,8 @@ class Drawing:
             return
         most = len(ref.shown_places_of(state.history))
         local, *given = self.draw.choice((
-            (ref.local_insert, self.draw.randint(0, most), ord(self.character())),
-            (ref.local_insert, most, ord(self.character())),
+            (ref.local_run, self.draw.randint(0, most), self.text(lengths=(1, 1, 2, 4))),
+            (ref.local_run, most, self.text(lengths=(1, 1, 2, 4))),
             (ref.local_delete, self.draw.randint(0, most)),
             (ref.local_undo, self.name(state.history)),
             (ref.local_redo, self.name(state.history, undone=True)),
@@ -121,16 +134,17 @@ class Drawing:
         """The operation with one part changed, so that it's forged, or that no site that keeps the rules can have made it."""
         way = self.draw.choice(WAYS)
         if way == "place" and ref.is_original(op):
-            return dataclasses.replace(op, place=self.place(len(op.context)) % 64_000_002)
-        if way == "character" and isinstance(op, Insert):
-            codes = (ord("z"), ord("z"), 0, 0xD7FF, 0xD800, 0xDFFF, 0xE000, 0x10FFFF, 0x110000)
-            return dataclasses.replace(op, character=self.draw.choice(codes))
+            return dataclasses.replace(op, place=self.place(ref.cells_in(self.state().history, op.context)))
+        if way == "text" and isinstance(op, Insert) and op.text:
+            at, codes = self.draw.randrange(len(op.text)), (ord("z"), ord("z"), 0, 0xD7FF, 0xD800, 0xDFFF, 0xE000, 0x10FFFF, 0x110000)
+            other = op.text[:at] + (self.draw.choice(codes),) + op.text[at + 1 :]
+            return dataclasses.replace(op, text=self.draw.choice((other, other, op.text[:-1], op.text + (ord("z"),))))
         if way == "author" and isinstance(op, Undo):
             return dataclasses.replace(op, author=self.draw.choice((0, 1, 63)))
         if way == "kind" and isinstance(op, Insert):
             return Delete(op.name, op.place, op.context)
         if way == "kind" and isinstance(op, Delete):
-            return Insert(op.name, op.place, ord("k"), op.context)
+            return Insert(op.name, op.place, tuple(map(ord, self.draw.choice(("k", "kl")))), op.context)
         if way == "next" and ref.is_original(op):
             op = dataclasses.replace(op, name=Name(op.name.site, op.name.number + 1))
         counts, generations = ref.counts_of(op.context), ref.generations_of(op.context)
@@ -171,9 +185,9 @@ class Drawing:
         known = self.session.messages[-12:] + self.made[-12:] + self.made[-4:]
         if not known:
             name = Name(self.draw.choice((0, 1, 9, 63)), 1)
-            return Insert(name, self.draw.choice((0, 0, 0, 1)), ord(self.character()), frozenset())
+            return Insert(name, self.draw.choice((0, 0, 0, 1)), tuple(map(ord, self.text())), frozenset())
         op = self.draw.choice(known)
-        if not self.chance(0.35):
+        if not self.chance(0.45):
             return op
         op = self.bent(op)
         if self.chance(0.3):
@@ -187,11 +201,13 @@ class Drawing:
     def spoiled(self, data):
         """Bytes with a change, which mostly make no frame."""
         data, at = bytearray(data), self.draw.randrange(len(data))
-        way = self.draw.choice(("bit", "bit", "byte", "byte", "cut", "cut with its length", "more", "length"))
+        way = self.draw.choice(("bit", "bit", "byte", "byte", "cut", "cut with its length", "more", "length", "kind"))
         if way == "bit":
             data[at] ^= 1 << self.draw.randrange(8)
         elif way == "byte":
             data[at] = self.draw.choice(EDGES)
+        elif way == "kind":
+            data[4:5] = bytes([self.draw.choice((0, 1, 2, 3, 4, 5, 255))])
         elif way == "cut":
             del data[max(1, at) :]
         elif way == "cut with its length" and at >= 4:
@@ -199,13 +215,16 @@ class Drawing:
         elif way == "more":
             data += bytes(self.draw.choice(EDGES) for _ in range(self.draw.randint(1, 6)))
         else:
-            lengths = (0, 1, max(0, len(data) - 5), max(0, len(data) - 3), 115_025, 115_026, 2**32 - 1)
+            lengths = (0, 1, max(0, len(data) - 5), max(0, len(data) - 3), ref.LONGEST_BODY, ref.LONGEST_BODY + 1, 2**32 - 1)
             data[:4] = self.draw.choice(lengths).to_bytes(4, "big")
         return bytes(data)
 
     def odd_frame(self, op):
-        """A frame of the operation, but that its context is spelled in another way than it may be."""
+        """A frame of the operation, but that its text or its context is spelled in another way than it may be."""
         head = ref.frame(op)[4 : -len(ref.context_bytes(op.context))]
+        if head[0] == 1 and self.chance(0.5):  # one character as a text of one, or of none
+            head = b"\x04" + head[1:10] + self.draw.choice((b"\0\1" + head[10:], b"\0\0"))
+            return (len(head) + len(ref.context_bytes(op.context))).to_bytes(4, "big") + head + ref.context_bytes(op.context)
         counts, generations = list(ref.counts_of(op.context).items()), list(ref.generations_of(op.context).items())
         items = generations if generations and self.chance(0.5) else counts
         if not items:
@@ -235,13 +254,30 @@ class Drawing:
 
     # ---- lines
 
+    def split(self):
+        """A run, an insert of another site inside of it, and one of a third site at its place, which knows neither. That one has typed
+        elsewhere, so that it comes later in the fixed order."""
+        whose, inside, beside = (state.number for state in self.draw.sample(self.session.sites[:6], 3))
+        place = self.place(len(ref.shown_places_of(self.session.sites[whose].history)))
+        self.add("run", whose, place, self.text(lengths=(2, 3)))
+        self.add("give", inside, max(0, len(self.session.messages) - 1))
+        self.add("run", inside, place + 1, self.text())
+        self.add("ins", beside, len(ref.shown_places_of(self.session.sites[beside].history)), self.text(lengths=(1, 2, 3))[:9])
+        self.add("run", beside, place, self.text())
+
     def line(self):
         kind = self.draw.choices(list(self.kinds), list(self.kinds.values()))[0]
         state = self.state()
-        most = len(ref.shown_places_of(state.history)) if kind in ("type", "nl", "del") else 0
+        most = len(ref.shown_places_of(state.history)) if kind in ("type", "run", "nl", "del") else 0
         if kind == "type":
             text = "".join(self.character() for _ in range(self.draw.choice((1, 1, 2, 3))))
             self.add("ins", state.number, self.place(most), text)
+        elif kind == "run":
+            pieces = self.draw.choice((1, 2, 3)) if self.chance(0.03) else 0
+            self.add("run", state.number, self.place(most), pieces * ref.LETTERS * self.draw.choice(LETTERS) + self.text())
+        elif kind == "split":
+            if len(self.session.sites) > 2:
+                self.split()
         elif kind == "nl":
             self.add("nl", state.number, self.place(most))
         elif kind == "del":
@@ -315,11 +351,14 @@ class Drawing:
                 other = self.spoiled(data) if way == "spoiled" and self.chance(0.5) else data
                 frames.insert(draw.randint(0, len(frames)), data if is_large(other) else other)
         pieces = [self.spoiled(ref.HEADER) if way == "header" else ref.HEADER] + frames
-        if self.chance(0.4):
+        if self.chance(0.3):
             return [draw.choice(("show", "playback"))], pieces
+        if self.chance(0.4):
+            return ["explain", str(self.member(state.history))], pieces
         most = len(ref.shown_places_of(state.history))
         edits = (
             ["ins", self.place(most), "".join(draw.choice(LETTERS + "é😀 ") for _ in range(draw.choice((1, 1, 3))))],
+            ["run", self.place(most), "".join(draw.choice(LETTERS + "é😀 ") for _ in range(draw.choice((1, 2, 5, 256, 257, 600))))],
             ["nl", self.place(most)],
             ["del", self.place(max(0, most - 1))],
             ["undo", self.name(state.history)],

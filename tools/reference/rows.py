@@ -10,6 +10,7 @@ TOP = Path(__file__).resolve().parent.parent.parent
 
 # rows with too many operations for plain sets
 TOO_LONG = ("an insert is undone and redone up to the last generation",)
+COMMANDS = (["replay"], ["show"], ["playback"], ["explain"], ["edit"])
 FAULTS = ("badread", "badwrite", "badcall", "peer")
 MOST_ORDERS = 24
 
@@ -87,7 +88,7 @@ def try_rows():
     tried, skipped, calls, wrong = 0, [], 0, []
     for name, lines, known in rows_of((TOP / "crates" / "worked_rows" / "stdin").read_text(encoding="utf-8")):
         words = words_of(lines)
-        if words[:1] not in (["replay"], ["show"], ["playback"], ["edit"]) or any(word in FAULTS for word, _ in lines):
+        if words[:1] not in COMMANDS or any(word in FAULTS for word, _ in lines):
             continue
         if name in TOO_LONG:
             skipped.append(name)
@@ -158,7 +159,7 @@ def try_names():
                 where = TOP / "crates" / (crate or where.parts[-3]) / "specs" / f"{file}.antt"
             for name in re.findall(r"\w+", names or later) if where else ():
                 named += 1
-                definition = rf"^(abbrev |unfoldable )?pub (record |data |unfoldable )?{name} |^  (pub )?{name} :"
+                definition = rf"^ *(abbrev |unfoldable )?pub (record |data |unfoldable )?{name} |^  (pub )?{name} :"
                 if not where.exists() or not re.search(definition, where.read_text(), re.M):
                     wrong.append(f"{where.relative_to(TOP)} has no {name}")
     print("\n".join([f"{named} definitions named, {len(wrong)} of them not there", *wrong]))

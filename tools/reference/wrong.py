@@ -9,11 +9,21 @@ WRONG = (
     # the fixed replay and the text
     ("of two at one place the greater site stands in front", "if other.name.site < op.name.site:", "if other.name.site > op.name.site:"),
     ("inserts are replayed by site, then by rank", "return rank_of(op.context), op.name.site", "return op.name.site, rank_of(op.context)"),
-    ("neighbours are narrowed by the latest insert first", "for other in earlier:", "for other in reversed(earlier):"),
-    ("neighbours aren't narrowed", "and left < cells.index(other) < right:", "and False:"),
+    (
+        "neighbours are narrowed by the latest insert first",
+        "for it in earlier if member_of(it)",
+        "for it in reversed(earlier) if member_of(it)",
+    ),
+    ("neighbours aren't narrowed", "if first in cells[left + 1 : right]:", "if False:"),
+    ("an insert may stand within one of a smaller site", "left = cells.index(last)", "left = cells.index(first)"),
+    ("a place counts inserts", "return len(op.text) if isinstance(op, Insert) else 0", "return 1 if isinstance(op, Insert) else 0"),
+    ("a delete's place counts inserts", "return seen(op, cells)[op.place", "return [it for it in seen(op, cells) if it.offset == 0][op.place"),
+    ("an undo hides the first cell alone", "if cell.insert.name in shown and", "if (cell.offset > 0 or cell.insert.name in shown) and"),
+    ("a delete hides all cells of its insert", "and cell not in covered", "and cell.insert not in {it.insert for it in covered}"),
+    ("a cell has the first character of its insert", "[cells[place].offset])", "[0])"),
     ("a delete hits by its place among all cells", "return seen(op, cells)[op.place", "return cells[op.place"),
     ("an undone delete still hides", "isinstance(op, Delete) and in_force(history, op.name) for cell", "isinstance(op, Delete) for cell"),
-    ("an undone insert is still shown", "if in_force(history, cell.name) and cell not in covered", "if cell not in covered"),
+    ("an undone insert is still shown", "if cell.insert.name in shown and cell not in covered", "if cell not in covered"),
     ("a redone insert isn't shown", "    return is_even(generation_in(history, name))", "    return generation_in(history, name) == 0"),
     # verdicts
     (
@@ -48,15 +58,15 @@ WRONG = (
     ),
     (
         "an insert after the last cell is out of place",
-        "return op.place <= inserts_in(history, op.context)",
-        "return op.place < inserts_in(history, op.context)",
+        "return op.place <= cells_in(history, op.context)",
+        "return op.place < cells_in(history, op.context)",
     ),
     (
         "a delete behind the last cell has a place",
-        "isinstance(op, Undo) or op.place < inserts_in",
-        "isinstance(op, Undo) or op.place <= inserts_in",
+        "isinstance(op, Undo) or op.place < cells_in",
+        "isinstance(op, Undo) or op.place <= cells_in",
     ),
-    ("deletes count as cells", "isinstance(op, Insert) and member_of(op) in context", "member_of(op) in context and is_original(op)"),
+    ("deletes count as cells", "if isinstance(op, Insert) else 0", "if isinstance(op, Insert) else int(is_original(op))"),
     # waiting and releases
     ("an operation waits twice", 'elif verdict.word == "waits" and op not in state.waiting:', 'elif verdict.word == "waits":'),
     (
@@ -77,7 +87,12 @@ WRONG = (
     ("an undo of what is undone is done", 'raise Refused(f"notinforce {generation_in(state.history, name)}")', "pass"),
     ("a redo of what is in force is done", 'raise Refused(f"inforce {generation_in(state.history, name)}")', "pass"),
     # sessions
-    ("typing goes on after a refusal", "ord(character)):\n                break", "ord(character)):\n                continue"),
+    ("typing goes on after a refusal", "place, text):\n                break", "place, text):\n                continue"),
+    ("a piece of a text is put at the place after that before it", "(v + sum(map(len, texts[:i])), text)", "(v + i, text)"),
+    ("a text is one insert, however long", "[text[at : at + LETTERS] for at in range(0, len(text), LETTERS)]", "[text]"),
+    ("a text is cut from its end", "for at in range(0, len(text), LETTERS)]", "for at in range(len(text) % LETTERS - LETTERS, len(text), LETTERS)]"),
+    ("each character of a run is an insert", '"run": pieces,', '"run": letters,'),
+    ("a line's characters are one insert", '"ins": letters,', '"ins": pieces,'),
     ("repeats are told where many are delivered", 'if not (many and verdict.word == "repeat"):', "if True:"),
     ("repeats are never told", 'if not (many and verdict.word == "repeat"):', 'if verdict.word != "repeat":'),
     ("`all` tells no refusal", 'if not (many and verdict.word == "repeat"):', 'if not many or verdict.word in ("integrated", "waits"):'),
@@ -91,7 +106,24 @@ WRONG = (
     ("what waits is played", "enumerate(state.history, 1)", "enumerate(state.history + state.waiting, 1)"),
     ("the text before an operation is played", "state.history[:count]", "state.history[: count - 1]"),
     ("the last text is played after each operation", "state.history[:count]", "state.history"),
+    # explanations
+    ("an insert moves others by one", "form.place + len(other.text)", "form.place + 1"),
+    (
+        "in a form the greater site stands in front",
+        "(form.place, form.site) < (other.place, other.site)",
+        "(form.place, -form.site) < (other.place, -other.site)",
+    ),
+    ("a cover stays where an insert is put at its place", "else form.place < other.place", "else form.place <= other.place"),
+    ("a member's lines begin with the first one between", "difference_of(self.history, base, context)[-1]", "difference_of(self.history, base, context)[0]"),
+    ("a run is told like one character", "if len(self.text) > 1 else", "if False else"),
     # frames
+    ("a frame of kind 4 may have one character", "self.bounded(2, 2, LETTERS)", "self.bounded(2, 1, LETTERS)"),
+    ("a frame of kind 4 may have no character", "self.bounded(2, 2, LETTERS)", "self.bounded(2, 0, LETTERS)"),
+    ("a frame may have 257 characters", "self.bounded(2, 2, LETTERS)", "self.bounded(2, 2, LETTERS + 1)"),
+    ("own isn't judged of kind 4", "if kind != 3 and counts", "if kind < 3 and counts"),
+    ("there are three kinds", 'body.bounded(1, 1, 4, "kind")', 'body.bounded(1, 1, 3, "kind")'),
+    ("there are five kinds", 'body.bounded(1, 1, 4, "kind")', 'body.bounded(1, 1, 5, "kind")'),
+    ("a place has a limit", "LETTERS = 64, 1_000_000, 65_535, 4_294_967_295,", "LETTERS = 64, 1_000_000, 65_535, 64_000_000,"),
     ("a context's zero is out of range", 'raise Bad("zero", start)', 'raise Bad("range", start)'),
     ("sites needn't rise", "if site < low:", "if False:"),
     (

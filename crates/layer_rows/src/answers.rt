@@ -3,7 +3,7 @@
 use context_diff::Op;
 use context_vector::Vector;
 use op_name::{Member, Memory, Name};
-use ttf_form::{Form, Mark};
+use ttf_form::{Form, Ins, Mark};
 
 /// Appends a number.
 pub(crate) fn put_number(out: &mut String, number: u64) -> Result<(), Memory> {
@@ -119,22 +119,30 @@ fn put_mark(out: &mut String, mark: &Mark) -> Result<(), Memory> {
     }
 }
 
-/// Appends a blank and a character.
-fn put_character(out: &mut String, ch: char) -> Result<(), Memory> {
+/// Appends a blank and the characters.
+fn put_text(out: &mut String, text: &[char]) -> Result<(), Memory> {
     out.push(' ')?;
-    out.push(ch)?;
+    for ch in text {
+        out.push(*ch)?;
+    }
     Ok(())
+}
+
+/// Appends an insert: `ins PLACE NAME` of one cell, `run PLACE LENGTH NAME` of more.
+fn put_ins(out: &mut String, ins: &Ins) -> Result<(), Memory> {
+    out.push_str(if ins.len == 1 { "ins" } else { "run" })?;
+    put_further(out, u64::from(ins.place))?;
+    if ins.len != 1 {
+        put_further(out, u64::from(ins.len))?;
+    }
+    out.push(' ')?;
+    put_name(out, &ins.name)
 }
 
 /// Appends a form.
 pub(crate) fn put_form(out: &mut String, form: &Form) -> Result<(), Memory> {
     match form {
-        Form::Ins(ins) => {
-            out.push_str("ins")?;
-            put_further(out, u64::from(ins.place))?;
-            out.push(' ')?;
-            put_name(out, &ins.name)
-        }
+        Form::Ins(ins) => put_ins(out, ins),
         Form::Cover(cover) => {
             out.push_str("cover")?;
             put_further(out, u64::from(cover.place))?;
@@ -149,13 +157,13 @@ fn put_parts(out: &mut String, op: &Op) -> Result<(), Memory> {
         Op::Insert {
             name,
             place,
-            ch,
+            text,
             ..
         } => {
             out.push_str("insert ")?;
             put_name(out, name)?;
             put_further(out, u64::from(*place))?;
-            put_character(out, *ch)
+            put_text(out, text.as_slice())
         }
         Op::Delete { name, place, .. } => {
             out.push_str("delete ")?;

@@ -12,8 +12,8 @@ use crate::bases::base_of;
 use crate::ops::read_op;
 use crate::words::Words;
 use context_diff::{
-    Book, Op, base_context, closed, difference, difference_is_ready, last_may_be_taken_out,
-    two_may_be_taken_out,
+    Book, Letters, Op, base_context, closed, difference, difference_is_ready,
+    last_may_be_taken_out, two_may_be_taken_out,
 };
 use context_vector::Vector;
 use op_name::{Member, Memory, Name};
@@ -140,7 +140,7 @@ fn type_one(alloc: Global, before: u32, book: &mut Book) -> Result<bool, Memory>
     let op = Op::Insert {
         name,
         place: 0,
-        ch: 'a',
+        text: Letters::one('a'),
         context: first_of(alloc, before)?,
     };
     take_in(book, op)
@@ -171,7 +171,7 @@ fn call_reading(
         "member" => member_at(words, book, out),
         "original" => original(words, book, out),
         "open" => open(alloc, words, book, out),
-        "inserts" => inserts(alloc, words, book, out),
+        "cells" => cells(alloc, words, book, out),
         "base" => base(alloc, words, book, out),
         "form" => form(words, book, out),
         "difference" => lacking(alloc, words, book, out),
@@ -234,16 +234,16 @@ fn open(
     Ok(true)
 }
 
-/// The number of the set's inserts; None where the book lacks a member of it.
-fn inserts_in(book: &Book, set: &Vector) -> Option<u32> {
+/// The number of cells that the set's inserts put; None where the book lacks a member of it.
+fn cells_in(book: &Book, set: &Vector) -> Option<u32> {
     if book.have().covers(set) {
-        return Some(book.inserts_in(set));
+        return Some(book.cells_in(set));
     }
     None
 }
 
-// `inserts SET`
-fn inserts(
+// `cells SET`
+fn cells(
     alloc: Global,
     words: &mut Words<'_>,
     book: &Book,
@@ -252,7 +252,7 @@ fn inserts(
     let Some(set) = words.set(alloc)? else {
         return Ok(false);
     };
-    let count = inserts_in(book, &set);
+    let count = cells_in(book, &set);
     put_found(out, count)?;
     Ok(true)
 }

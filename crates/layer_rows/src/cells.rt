@@ -3,7 +3,7 @@
 use crate::answers::{put_found, put_further, put_name, put_none, put_number, put_truth, put_turn};
 use crate::long::{
     Spot, Text, are_half_full, cells_agree, character_at, chunks_agree, execute, flags_agree,
-    hide_each, next_insert, put, put_and_hide, put_at_each,
+    hide_each, next_insert, put, put_and_hide, put_at_each, put_runs, undo,
 };
 use crate::words::Words;
 use op_name::Memory;
@@ -13,17 +13,20 @@ use ttf_form::Form;
 use visible_view::{cell_of_visible, model_place, visible_len, write_text};
 
 pub(crate) fn call_cells(
+    alloc: Global,
     words: &mut Words<'_>,
     text: &mut Text,
     out: &mut String,
 ) -> Result<bool, Memory> {
     match words.word() {
-        "put" => put_one(words, text, out),
+        "put" => put_one(alloc, words, text, out),
         "cover" => cover(words, &mut text.cells, out),
+        "undo" => undo_one(words, text, out),
         "hide" => hide_some(words, text),
         "fill" => fill(words, text),
         "mixed" => mixed(words, text),
-        "reserve" => reserve(words, &mut text.cells),
+        "runs" => runs(alloc, words, text),
+        "reserve" => reserve(words, text),
         call => call_reading(call, words, text, out),
     }
 }
@@ -35,11 +38,26 @@ fn put_fits(out: &mut String, fits: bool) -> Result<bool, Memory> {
     Ok(true)
 }
 
-// `put PLACE CHARACTER`: the insert of the next number of site 0.
-fn put_one(words: &mut Words<'_>, text: &mut Text, out: &mut String) -> Result<bool, Memory> {
-    match (words.number(), words.character()) {
-        (Some(place), Some(ch)) => {
-            let fits = put(text, place, ch)?;
+// `put PLACE TEXT`: the insert of the next number of site 0.
+fn put_one(
+    alloc: Global,
+    words: &mut Words<'_>,
+    text: &mut Text,
+    out: &mut String,
+) -> Result<bool, Memory> {
+    let Some(place) = words.number() else {
+        return Ok(false);
+    };
+    let chars = words.text(alloc)?;
+    let fits = put(text, place, &chars)?;
+    put_fits(out, fits)
+}
+
+// `undo PLACE GENERATION`: the insert of the cell there gets the generation, if that is greater than its own.
+fn undo_one(words: &mut Words<'_>, text: &mut Text, out: &mut String) -> Result<bool, Memory> {
+    match (words.number(), words.short()) {
+        (Some(place), Some(generation)) => {
+            let fits = undo(text, place, generation)?;
             put_fits(out, fits)
         }
         _ => Ok(false),
@@ -90,14 +108,28 @@ fn mixed(words: &mut Words<'_>, text: &mut Text) -> Result<bool, Memory> {
     }
 }
 
-// `reserve PLACE`: room is made for an insert there.
-fn reserve(words: &mut Words<'_>, cells: &mut Cells) -> Result<bool, Memory> {
-    let Some(place) = words.number() else {
-        return Ok(false);
-    };
-    match next_insert(cells, place) {
+// `runs SPOT COUNT MOST`: so many inserts of up to so many letters at a spot; some cells are hidden, and some inserts undone.
+fn runs(alloc: Global, words: &mut Words<'_>, text: &mut Text) -> Result<bool, Memory> {
+    match (spot_of(words.word()), words.number(), words.number()) {
+        (Some(spot), Some(count), Some(most)) if 1 <= most && most <= 256 => {
+            put_runs(alloc, text, spot, count, most)
+        }
+        _ => Ok(false),
+    }
+}
+
+// `reserve PLACE LENGTH`: room is made for an insert of so many cells there.
+fn reserve(words: &mut Words<'_>, text: &mut Text) -> Result<bool, Memory> {
+    match (words.number(), words.short()) {
+        (Some(place), Some(len)) => reserve_for(text, place, len),
+        _ => Ok(false),
+    }
+}
+
+fn reserve_for(text: &mut Text, place: u32, len: u16) -> Result<bool, Memory> {
+    match next_insert(text, place, len as usize) {
         Some(form) => {
-            cells.reserve(&form)?;
+            text.cells.reserve(&form)?;
             Ok(true)
         }
         None => Ok(false),
@@ -116,6 +148,10 @@ fn call_reading(
         "seen" => seen(&text.cells, out),
         "sizes" => sizes(&text.cells, out),
         "agree" => agree(text, out),
+        "halffull" => {
+            put_truth(out, are_half_full(&text.cells))?;
+            Ok(true)
+        }
         "chunks" => has_chunks(words, &text.cells, out),
         _ => Ok(false),
     }
@@ -136,17 +172,17 @@ fn cell_at(words: &mut Words<'_>, cells: &Cells, out: &mut String) -> Result<boo
         return Ok(false);
     };
     match (cells.cell(place), character_at(cells, place)) {
-        (Some(cell), Some(ch)) => put_cell(out, cell, ch)?,
+        (Some(cell), Some(ch)) => put_cell(out, &cell, ch)?,
         (None, None) => put_none(out)?,
         _ => out.push_str("a cell without a character")?,
     }
     Ok(true)
 }
 
-fn put_cell(out: &mut String, cell: &Cell, ch: char) -> Result<(), Memory> {
+fn put_cell(out: &mut String, cell: &Cell<'_>, ch: char) -> Result<(), Memory> {
     out.push(ch)?;
     out.push(' ')?;
-    put_name(out, &cell.id().name)?;
+    put_id(out, &cell.id())?;
     put_further(out, u64::from(cell.generation()))?;
     for pair in cell.deleters() {
         out.push(' ')?;
@@ -155,16 +191,26 @@ fn put_cell(out: &mut String, cell: &Cell, ch: char) -> Result<(), Memory> {
     Ok(())
 }
 
-// `placeof NAME`: the place of the first cell of the insert.
+// A cell as `NAME+OFFSET`, the first one of an insert as `NAME`.
+fn put_id(out: &mut String, id: &CellId) -> Result<(), Memory> {
+    put_name(out, &id.name)?;
+    if id.offset == 0 {
+        return Ok(());
+    }
+    out.push('+')?;
+    put_number(out, u64::from(id.offset))
+}
+
+// `placeof CELL`: the place of the cell.
 fn place_of(words: &mut Words<'_>, cells: &Cells, out: &mut String) -> Result<bool, Memory> {
-    let Some(name) = words.name() else {
+    let Some((name, offset)) = words.cell() else {
         return Ok(false);
     };
-    put_found(out, cells.place_of(&CellId { name, offset: 0 }))?;
+    put_found(out, cells.place_of(&CellId { name, offset }))?;
     Ok(true)
 }
 
-fn put_seen(out: &mut String, cell: &Cell, ch: char) -> Result<(), Memory> {
+fn put_seen(out: &mut String, cell: &Cell<'_>, ch: char) -> Result<(), Memory> {
     if cell.shown() {
         out.push(ch)?;
         return Ok(());
@@ -179,7 +225,7 @@ fn put_seen(out: &mut String, cell: &Cell, ch: char) -> Result<(), Memory> {
 fn seen(cells: &Cells, out: &mut String) -> Result<bool, Memory> {
     for place in 0..cells.len() {
         if let (Some(cell), Some(ch)) = (cells.cell(place), character_at(cells, place)) {
-            put_seen(out, cell, ch)?;
+            put_seen(out, &cell, ch)?;
         }
     }
     Ok(true)
@@ -194,15 +240,13 @@ fn sizes(cells: &Cells, out: &mut String) -> Result<bool, Memory> {
     Ok(true)
 }
 
-// `agree`: whether the cells, the chunks and the flags are those of the plain list, and the chunks half full.
+// `agree`: whether the cells, the chunks and the flags are those of the plain list.
 fn agree(text: &Text, out: &mut String) -> Result<bool, Memory> {
     put_truth(out, cells_agree(text))?;
     out.push(' ')?;
     put_truth(out, chunks_agree(text))?;
     out.push(' ')?;
     put_truth(out, flags_agree(&text.cells))?;
-    out.push(' ')?;
-    put_truth(out, are_half_full(&text.cells))?;
     Ok(true)
 }
 
@@ -265,7 +309,7 @@ fn view_agrees(text: &Text) -> bool {
     let mut before: u32 = 0;
     let mut place: u32 = 0;
     for one in &text.plain {
-        if one.1 {
+        if one.is_shown() {
             if cell_of_visible(&text.cells, before) != Some(place) {
                 return false;
             }

@@ -1,23 +1,43 @@
 //! A text beside the plain list of its characters.
 
-ghost use Rattle.std.specs.Prelude.{◌≡◌, IsTrue};
+ghost use Rattle.std.specs.Prelude.{◌≡◌, ◌<◌, ◌≤◌, IsTrue, length};
 ghost use Rattle.ttf_form.specs.Names.{NewNames};
 ghost use Rattle.ttf_form.specs.Forms.{added_by, extent_of};
 ghost use Rattle.ttf_form.specs.Cells.{FitsCells, cells_of};
 ghost use Rattle.ttf_form.specs.declared.form.Form.TheVariants.{Ins as Insert};
 
+use crate::words::ins_of;
 use lane_rank::ones;
 use op_name::{Memory, Name};
 use std::alloc::Global;
 use tombstone_text::{Cell, Cells};
 use ttf_form::{Cover, Form, Ins, Mark};
 
-/// Cells, and beside them a plain list of their characters, each with whether it is shown. The list knows only what
-/// `put` and `hide` did.
+/// Cells, and beside them a plain list of them. The list knows only what `put`, `hide` and `undo` did.
 #[derive(Drop)]
 pub(crate) struct Text {
     pub(crate) cells: Cells,
-    pub(crate) plain: Vec<(char, bool)>,
+    pub(crate) plain: Vec<Plain>,
+    /// How many inserts there were.
+    made: u32,
+}
+
+/// A cell of the plain list.
+#[derive(Clone, Copy)]
+pub(crate) struct Plain {
+    ch: char,
+    /// The number of its insert.
+    of: u32,
+    /// The generation of its insert.
+    generation: u16,
+    is_hidden: bool,
+}
+
+impl Plain {
+    /// Whether the cell is shown: its insert is in force, and no delete hid it.
+    pub(crate) fn is_shown(&self) -> bool {
+        self.generation % 2 == 0 && !self.is_hidden
+    }
 }
 
 impl Text {
@@ -25,6 +45,7 @@ impl Text {
         Text {
             cells: Cells::new(alloc),
             plain: Vec::new(alloc),
+            made: 0,
         }
     }
 }
@@ -82,30 +103,75 @@ pub(crate) fn character_at(cells: &Cells, place: u32) -> Option<char> {
     None
 }
 
-/// The form of an insert with the next number of site 0; None where no number is left.
-pub(crate) fn next_insert(cells: &Cells, place: u32) -> Option<Form> {
-    match Name::new(0, cells.len().saturating_add(1)) {
-        Ok(name) => Some(Form::Ins(Ins {
-            place,
-            site: 0,
-            len: 1,
-            name,
-        })),
-        Err(_) => None,
+/// The form of an insert of so many cells with the next number of site 0; None where no number is left.
+pub(crate) fn next_insert(text: &Text, place: u32, len: usize) -> Option<Form> {
+    let Ok(name) = Name::new(0, text.made.saturating_add(1)) else {
+        return None;
+    };
+    match ins_of(place, u16::try_from(len).unwrap_or(0), name) {
+        Some(ins) => Some(Form::Ins(ins)),
+        None => None,
     }
 }
 
-/// Puts a cell in; answers whether it fits.
-pub(crate) fn put(text: &mut Text, place: u32, ch: char) -> Result<bool, Memory> {
-    let Some(form) = next_insert(&text.cells, place) else {
+/// Puts a cell in for each character; answers whether they fit.
+pub(crate) fn put(text: &mut Text, place: u32, chars: &[char]) -> Result<bool, Memory> {
+    let Some(form) = next_insert(text, place, chars.len()) else {
         return Ok(false);
     };
-    text.plain.reserve(1)?;
-    if !execute(&mut text.cells, &form, &[ch])? || place as usize > text.plain.len() {
+    text.plain.reserve(chars.len())?;
+    if !execute(&mut text.cells, &form, chars)? {
         return Ok(false);
     }
-    text.plain.insert(place as usize, (ch, true))?;
+    text.made = text.made.saturating_add(1);
+    put_plain(&mut text.plain, place as usize, text.made, chars)
+}
+
+/// Puts the characters of the insert of this number into the plain list.
+fn put_plain(
+    plain: &mut Vec<Plain>,
+    place: usize,
+    of: u32,
+    chars: &[char],
+) -> Result<bool, Memory> {
+    for ch in chars.iter().rev() {
+        if place > plain.len() {
+            return Ok(false);
+        }
+        let one = Plain {
+            ch: *ch,
+            of,
+            generation: 0,
+            is_hidden: false,
+        };
+        plain.insert(place, one)?;
+    }
     Ok(true)
+}
+
+/// Raises the generation of the insert of the cell at a place; answers whether there is one.
+pub(crate) fn undo(text: &mut Text, place: u32, generation: u16) -> Result<bool, Memory> {
+    let mark = Mark::Own { generation };
+    if !execute(&mut text.cells, &Form::Cover(Cover { place, mark }), &[])? {
+        return Ok(false);
+    }
+    match text.plain.get(place as usize) {
+        Some(one) => {
+            let of = one.of;
+            undo_plain(&mut text.plain, of, generation);
+            Ok(true)
+        }
+        None => Ok(false),
+    }
+}
+
+/// Raises the generation of each cell of the insert of this number.
+fn undo_plain(plain: &mut [Plain], of: u32, generation: u16) {
+    for one in plain.iter_mut() {
+        if one.of == of {
+            one.generation = one.generation.max(generation);
+        }
+    }
 }
 
 /// Hides a cell; answers whether there is one.
@@ -119,7 +185,7 @@ fn hide(text: &mut Text, place: u32) -> Result<bool, Memory> {
     }
     match text.plain.get_mut(place as usize) {
         Some(one) => {
-            one.1 = false;
+            one.is_hidden = true;
             Ok(true)
         }
         None => Ok(false),
@@ -131,11 +197,11 @@ fn letter(number: u32) -> char {
     (b'a' + (number % 26) as u8) as char
 }
 
-/// Puts a cell in, at the second try where the first one was out of memory.
-fn put_at_last(text: &mut Text, place: u32, ch: char) -> Result<bool, Memory> {
-    match put(text, place, ch) {
+/// Puts cells in, at the second try where the first one was out of memory.
+fn put_at_last(text: &mut Text, place: u32, chars: &[char]) -> Result<bool, Memory> {
+    match put(text, place, chars) {
         Ok(fits) => Ok(fits),
-        Err(Memory) => put(text, place, ch),
+        Err(Memory) => put(text, place, chars),
     }
 }
 
@@ -147,10 +213,18 @@ fn hide_at_last(text: &mut Text, place: u32) -> Result<bool, Memory> {
     }
 }
 
+/// Raises a generation, at the second try where the first one was out of memory.
+fn undo_at_last(text: &mut Text, place: u32, generation: u16) -> Result<bool, Memory> {
+    match undo(text, place, generation) {
+        Ok(fits) => Ok(fits),
+        Err(Memory) => undo(text, place, generation),
+    }
+}
+
 /// Puts a letter at each of these places.
 pub(crate) fn put_at_each(text: &mut Text, from: u32, to: u32) -> Result<bool, Memory> {
     for number in from..to {
-        if !put_at_last(text, number, letter(number))? {
+        if !put_at_last(text, number, &[letter(number)])? {
             return Ok(false);
         }
     }
@@ -200,7 +274,7 @@ fn place_in(spot: Spot, number: u32, len: u32) -> u32 {
 pub(crate) fn put_and_hide(text: &mut Text, spot: Spot, count: u32) -> Result<bool, Memory> {
     for number in 0..count {
         let len = text.cells.len();
-        if !put_at_last(text, place_in(spot, number, len), letter(number))? {
+        if !put_at_last(text, place_in(spot, number, len), &[letter(number)])? {
             return Ok(false);
         }
         if number % 3 == 0 && !hide_at_last(text, number / 2)? {
@@ -210,8 +284,54 @@ pub(crate) fn put_and_hide(text: &mut Text, spot: Spot, count: u32) -> Result<bo
     Ok(true)
 }
 
-fn is_seen(cell: &Cell, ch: char, wanted: &(char, bool)) -> bool {
-    ch == wanted.0 && cell.shown() == wanted.1
+/// Puts so many inserts of up to `most` letters in at a spot. After each third one a cell is hidden, and after each fifth one the insert
+/// of the middle cell is undone, or redone where it was undone before.
+pub(crate) fn put_runs(
+    alloc: Global,
+    text: &mut Text,
+    spot: Spot,
+    count: u32,
+    most: u32,
+) -> Result<bool, Memory>
+    requires { 1 ≤ most }
+{
+    let mut chars = Vec::new(alloc);
+    chars.reserve(most as usize)?;
+    for number in 0..count {
+        spell(&mut chars, number, 1 + number.wrapping_mul(number) % most)?;
+        if !put_run(text, spot, number, &chars)? {
+            return Ok(false);
+        }
+    }
+    Ok(true)
+}
+
+/// So many letters, from that of the number on.
+fn spell(chars: &mut Vec<char>, number: u32, count: u32) -> Result<(), Memory> {
+    chars.clear();
+    for i in 0..count {
+        chars.push(letter(number.wrapping_add(i)))?;
+    }
+    Ok(())
+}
+
+/// The insert of a number, and what follows it.
+fn put_run(text: &mut Text, spot: Spot, number: u32, chars: &[char]) -> Result<bool, Memory> {
+    let len = text.cells.len();
+    if !put_at_last(text, place_in(spot, number, len), chars)? {
+        return Ok(false);
+    }
+    if number % 3 == 0 && !hide_at_last(text, number.wrapping_mul(7) % len.max(1))? {
+        return Ok(false);
+    }
+    if number % 5 == 0 {
+        return undo_at_last(text, len / 2, 1 + (number / 15 % 2) as u16);
+    }
+    Ok(true)
+}
+
+fn is_seen(cell: &Cell<'_>, ch: char, wanted: &Plain) -> bool {
+    ch == wanted.ch && cell.shown() == wanted.is_shown()
 }
 
 /// Whether the cell found at a place, and its character, are those of the plain list.
@@ -221,7 +341,7 @@ fn cell_agrees(text: &Text, place: u32) -> bool {
         character_at(&text.cells, place),
         text.plain.get(place as usize),
     ) {
-        (Some(cell), Some(ch), Some(wanted)) => is_seen(cell, ch, wanted),
+        (Some(cell), Some(ch), Some(wanted)) => is_seen(&cell, ch, wanted),
         _ => false,
     }
 }
@@ -243,28 +363,29 @@ pub(crate) fn chunks_agree(text: &Text) -> bool {
         if text.cells.chunk_start(i) as usize != place {
             return false;
         }
-        let cells = text.cells.chunk_cells(i);
-        if !are_seen(cells, text.cells.chunk_text(i), &text.plain, place) {
+        if !are_seen(&text.cells, i, &text.plain, place) {
             return false;
         }
-        place = place.saturating_add(cells.len());
+        place = place.saturating_add(text.cells.chunk_text(i).len());
     }
     place == text.plain.len()
 }
 
-/// Whether the cells and their characters are those of the plain list from this place on.
-fn are_seen(cells: &[Cell], chars: &[char], plain: &[(char, bool)], from: usize) -> bool {
+/// Whether the cells of a chunk and their characters are those of the plain list from this place on.
+fn are_seen(cells: &Cells, i: u32, plain: &[Plain], from: usize) -> bool
+    requires { i < length cells.now.chunks }
+{
     let mut place = from;
     let mut beside = 0;
-    for cell in cells {
-        match (chars.get(beside), plain.get(place)) {
-            (Some(ch), Some(wanted)) if is_seen(cell, *ch, wanted) => {}
+    for ch in cells.chunk_text(i) {
+        match (cells.chunk_cell(i, beside), plain.get(place)) {
+            (Some(cell), Some(wanted)) if is_seen(&cell, *ch, wanted) => {}
             _ => return false,
         }
         place = place.saturating_add(1);
         beside = beside.saturating_add(1);
     }
-    beside == chars.len()
+    cells.chunk_cell(i, beside).is_none()
 }
 
 /// Whether each chunk has as many flags of shown cells as it tells.

@@ -12,6 +12,7 @@ mod cache;
 mod cells;
 mod flags;
 mod forms;
+mod letters;
 mod long;
 mod making;
 mod names;

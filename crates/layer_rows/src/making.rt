@@ -5,6 +5,7 @@ use crate::cache::call_cache;
 use crate::cells::{call_cells, call_view};
 use crate::flags::call_flags;
 use crate::forms::call_form;
+use crate::letters::call_letters;
 use crate::names::{call_member, call_name};
 use crate::ops::call_op;
 use crate::pool::call_pool;
@@ -48,10 +49,11 @@ fn make_one(
         "name" => call_name(words, out),
         "member" => call_member(words, out),
         "form" => call_form(words, out),
+        "letters" => call_letters(alloc, words, out),
         "op" => call_op(alloc, words, &mut all.op, out),
         "book" => call_book(alloc, words, &mut all.book, &mut all.op, out),
         "pool" => call_pool(alloc, words, &mut all.pool, &mut all.op, out),
-        "cells" => call_cells(words, &mut all.text, out),
+        "cells" => call_cells(alloc, words, &mut all.text, out),
         "view" => call_view(alloc, words, &all.text, out),
         "cache" => call_cache(alloc, words, &mut all.cache, out),
         "flags" => call_flags(words, &mut all.flags, out),

@@ -1,12 +1,12 @@
 //! Calls of one operation.
 
-use crate::answers::put_truth;
+use crate::answers::{put_number, put_truth};
 use crate::words::Words;
 use context_diff::{Op, OpFault};
 use op_name::Memory;
 use std::alloc::Global;
 
-/// Reads an operation: `insert NAME PLACE CHARACTER SET`, `delete NAME PLACE SET` or `undo AUTHOR NAME GENERATION SET`, with
+/// Reads an operation: `insert NAME PLACE TEXT SET`, `delete NAME PLACE SET` or `undo AUTHOR NAME GENERATION SET`, with
 /// the set as its context. Answers whether there is one.
 pub(crate) fn read_op(
     alloc: Global,
@@ -22,8 +22,10 @@ pub(crate) fn read_op(
 }
 
 fn read_insert(alloc: Global, words: &mut Words<'_>, op: &mut Option<Op>) -> Result<bool, Memory> {
-    let (Some(name), Some(place), Some(ch)) = (words.name(), words.number(), words.character())
-    else {
+    let (Some(name), Some(place)) = (words.name(), words.number()) else {
+        return Ok(false);
+    };
+    let Some(text) = words.letters(alloc)? else {
         return Ok(false);
     };
     let Some(context) = words.set(alloc)? else {
@@ -32,7 +34,7 @@ fn read_insert(alloc: Global, words: &mut Words<'_>, op: &mut Option<Op>) -> Res
     *op = Some(Op::Insert {
         name,
         place,
-        ch,
+        text,
         context,
     });
     Ok(true)
@@ -93,6 +95,7 @@ fn call_of(call: &str, op: &Op, out: &mut String) -> Result<bool, Memory> {
     match call {
         "fault" => put_fault(out, op.fault())?,
         "isinsert" => put_truth(out, op.is_insert())?,
+        "cells" => put_number(out, u64::from(op.cells()))?,
         "copied" => put_truth(out, is_copied(op)?)?,
         _ => return Ok(false),
     }

@@ -3,6 +3,7 @@
 ghost use Rattle.std.specs.Prelude.{IfSome};
 ghost use Rattle.op_name.specs.Members.{IsMember};
 
+use context_diff::{Letters, LettersBad};
 use context_vector::Vector;
 use op_name::{Member, Memory, Name};
 use std::alloc::Global;
@@ -52,6 +53,52 @@ fn member_of(word: &str) -> Option<Member>
         Some((name, generation)) if 1 <= generation => Some(Member::Group(name, generation)),
         _ => None,
     }
+}
+
+/// Appends the characters of a text: those of the word, or of `COUNT*CHARACTER` so many of the one.
+fn put_text(word: &str, text: &mut Vec<char>) -> Result<(), Memory> {
+    if let Some((count, ch)) = repeat_of(word) {
+        for _ in 0..count {
+            text.push(ch)?;
+        }
+        return Ok(());
+    }
+    for ch in word.chars() {
+        text.push(ch)?;
+    }
+    Ok(())
+}
+
+/// The number and the character of `COUNT*CHARACTER`.
+fn repeat_of(word: &str) -> Option<(u32, char)> {
+    let (count, ch) = word.split_once('*')?;
+    match (count.parse::<u32>(), character_of(ch)) {
+        (Ok(count), Some(ch)) => Some((count, ch)),
+        _ => None,
+    }
+}
+
+/// A word of one character.
+fn character_of(word: &str) -> Option<char> {
+    let mut all = word.chars();
+    match (all.next(), all.next()) {
+        (Some(ch), None) => Some(ch),
+        _ => None,
+    }
+}
+
+/// The insert of so many cells, of the name's site; None where there are none, or more than 256.
+pub(crate) fn ins_of(place: u32, len: u16, name: Name) -> Option<Ins> {
+    if len < 1 || 256 < len {
+        return None;
+    }
+    let site = name.site;
+    Some(Ins {
+        place,
+        site,
+        len,
+        name,
+    })
 }
 
 /// Adds each member of a list, with all below it. Answers whether the list could be read.
@@ -107,10 +154,23 @@ impl<'a> Words<'a> {
 
     /// A word of one character.
     pub(crate) fn character(&mut self) -> Option<char> {
-        let mut all = self.word().chars();
-        match (all.next(), all.next()) {
-            (Some(ch), None) => Some(ch),
-            _ => None,
+        character_of(self.word())
+    }
+
+    /// A text of any length: its characters, or `COUNT*CHARACTER`.
+    pub(crate) fn text(&mut self, alloc: Global) -> Result<Vec<char>, Memory> {
+        let mut text = Vec::new(alloc);
+        put_text(self.word(), &mut text)?;
+        Ok(text)
+    }
+
+    /// The text of an insert, of 1 to 256 characters.
+    pub(crate) fn letters(&mut self, alloc: Global) -> Result<Option<Letters>, Memory> {
+        let text = self.text(alloc)?;
+        match Letters::new(alloc, &text) {
+            Ok(letters) => Ok(Some(letters)),
+            Err(LettersBad::Memory) => Err(Memory),
+            Err(_) => Ok(None),
         }
     }
 
@@ -121,6 +181,16 @@ impl<'a> Words<'a> {
 
     pub(crate) fn name(&mut self) -> Option<Name> {
         name_of(self.word())
+    }
+
+    /// A cell: `NAME+OFFSET`, or `NAME`, the first one of its insert.
+    pub(crate) fn cell(&mut self) -> Option<(Name, u16)> {
+        let word = self.word();
+        let (name, offset) = word.split_once('+').unwrap_or((word, "0"));
+        match (name_of(name), offset.parse::<u16>()) {
+            (Some(name), Ok(offset)) => Some((name, offset)),
+            _ => None,
+        }
     }
 
     /// A name with a generation.
@@ -159,17 +229,19 @@ impl<'a> Words<'a> {
         }
     }
 
-    /// `PLACE NAME`, an insert of one cell, of the name's site.
-    pub(crate) fn ins(&mut self) -> Option<Ins> {
+    /// `PLACE NAME`, an insert of one cell.
+    fn ins(&mut self) -> Option<Ins> {
         let place = self.number()?;
         let name = self.name()?;
-        let site = name.site;
-        Some(Ins {
-            place,
-            site,
-            len: 1,
-            name,
-        })
+        ins_of(place, 1, name)
+    }
+
+    /// `PLACE LENGTH NAME`, an insert of so many cells.
+    fn run(&mut self) -> Option<Ins> {
+        let place = self.number()?;
+        let len = self.short()?;
+        let name = self.name()?;
+        ins_of(place, len, name)
     }
 
     /// `PLACE MARK`.
@@ -179,11 +251,15 @@ impl<'a> Words<'a> {
         Some(Cover { place, mark })
     }
 
-    /// A form: `ins PLACE NAME`, or `cover PLACE MARK`.
+    /// A form: `ins PLACE NAME`, `run PLACE LENGTH NAME` or `cover PLACE MARK`.
     pub(crate) fn form(&mut self) -> Option<Form> {
         match self.word() {
             "ins" => {
                 let ins = self.ins()?;
+                Some(Form::Ins(ins))
+            }
+            "run" => {
+                let ins = self.run()?;
                 Some(Form::Ins(ins))
             }
             "cover" => {

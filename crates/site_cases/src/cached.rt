@@ -22,7 +22,7 @@ struct Row {
 /// Two inserts of site 2, one of site 1 and one of site 3, all in front of all cells; only site 2 knew of another.
 const ALL: &str = "2.1 0 x |; 2.2 0 y | 2.1; 1.1 0 m |; 3.1 0 n |";
 
-const ROWS: [Row; 4] = [
+const ROWS: [Row; 5] = [
     Row {
         what: "the form in which the last one was executed",
         given: ALL,
@@ -46,6 +46,12 @@ const ROWS: [Row; 4] = [
         given: "1.1 0 m |; 2.1 0 x |; 2.2 0 y | 2.1",
         asked: "1.1 0 m | 2.1",
         place: Some(0),
+    },
+    Row {
+        what: "the form of a text behind another one",
+        given: "1.1 0 pqr |; 2.1 0 st |",
+        asked: "2.1 0 st | 1.1",
+        place: Some(3),
     },
 ];
 

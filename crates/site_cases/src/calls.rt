@@ -31,7 +31,7 @@ fn is_named(site: &Site, place: u32, name: Name) -> bool {
     }
 }
 
-// `ab` was typed, then `x` in front of it, and the `a` deleted: `xb` is shown.
+// `ab` was typed, then `x` in front of it, and the `a` deleted; then a text of two characters came behind the `x`: four are shown.
 #[test]
 fn a_shown_character_is_named_by_its_insert(rt: HostRuntime) -> Result<(), Fail> {
     let mut site = Site::new(rt.alloc(), 0)?;
@@ -42,11 +42,14 @@ fn a_shown_character_is_named_by_its_insert(rt: HostRuntime) -> Result<(), Fail>
             Edit::Insert(1, 'b'),
             Edit::Insert(0, 'x'),
             Edit::Delete(1),
+            Edit::Run(1, 2),
         ],
     );
     let named = is_named(&site, 0, Name { site: 0, number: 3 })
-        && is_named(&site, 1, Name { site: 0, number: 2 })
-        && site.name_at(2).is_none();
+        && is_named(&site, 1, Name { site: 0, number: 5 })
+        && is_named(&site, 2, Name { site: 0, number: 5 })
+        && is_named(&site, 3, Name { site: 0, number: 2 })
+        && site.name_at(4).is_none();
     assert!(rt; done && named);
     Ok(())
 }

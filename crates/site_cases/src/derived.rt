@@ -69,11 +69,12 @@ fn laws_hold(book: &Book) {
     one_more_member::<Form, TextBases>(&bases);
 }
 
-/// A form of a member: the place of its insert; or the place of its mark and the generation, of a delete or of the insert of
+/// A form of a member: the place of its insert, of one cell or of so many; or the place of its mark and the generation, of a delete or of the insert of
 /// the cell itself.
 #[derive(Clone, Copy)]
 enum Shape {
     Ins(u32),
+    Run(u32, u16),
     By(u32, u16),
     Own(u32, u16),
 }
@@ -93,7 +94,12 @@ struct Row {
 const HISTORY: &str =
     "0.1 0 a |; 0.2 1 b | 0.1; 0.3 2 c | 0.2; 1.1 1 x | 0.3; 2.1 1 | 0.3; 2.1/1 3 | 0.3 2.1; 0.2/1 3 | 0.3; 3.1 3 y | 0.3 0.2/1";
 
-const ROWS: [Row; 9] = [
+/// Site 0 writes `abc` by one insert. Site 1 inserts `xy` before the b and site 2 deletes the c, neither of which knows of the other;
+/// the delete is undone, and so is the first text itself, after which site 3 inserts at the end.
+const TEXTS: &str =
+    "0.1 0 abc |; 1.1 1 xy | 0.1; 2.1 2 | 0.1; 2.1/1 3 | 0.1 2.1; 0.1/1 3 | 0.1; 3.1 3 z | 0.1 0.1/1";
+
+const ROWS: [Row; 17] = [
     Row {
         why: "a delete goes on with its cell",
         ops: HISTORY,
@@ -157,6 +163,62 @@ const ROWS: [Row; 9] = [
         at: "63.1 0 | 0.3 1.1 3.1",
         form: Shape::Ins(5),
     },
+    Row {
+        why: "a delete within a text goes on with its cell",
+        ops: TEXTS,
+        member: "2.1",
+        at: "63.1 0 | 0.1 1.1",
+        form: Shape::By(4, 0),
+    },
+    Row {
+        why: "an undone delete within a text goes on with its cell",
+        ops: TEXTS,
+        member: "2.1/1",
+        at: "63.1 0 | 0.1 1.1 2.1",
+        form: Shape::By(4, 1),
+    },
+    Row {
+        why: "an undone text stays at its first cell",
+        ops: TEXTS,
+        member: "0.1/1",
+        at: "63.1 0 | 0.1 1.1 2.1 2.1/1",
+        form: Shape::Own(0, 1),
+    },
+    Row {
+        why: "a text passes over a delete",
+        ops: TEXTS,
+        member: "1.1",
+        at: "63.1 0 | 0.1 2.1",
+        form: Shape::Run(1, 2),
+    },
+    Row {
+        why: "an insert goes on by the length of a text",
+        ops: TEXTS,
+        member: "3.1",
+        at: "63.1 0 | 0.1 1.1 0.1/1",
+        form: Shape::Ins(5),
+    },
+    Row {
+        why: "a text goes behind one of a smaller site",
+        ops: "1.1 0 pqr |; 2.1 0 st |",
+        member: "2.1",
+        at: "63.1 0 | 1.1",
+        form: Shape::Run(3, 2),
+    },
+    Row {
+        why: "a text stays in front of one of a greater site",
+        ops: "1.1 0 pqr |; 2.1 0 st |",
+        member: "1.1",
+        at: "63.1 0 | 2.1",
+        form: Shape::Run(0, 3),
+    },
+    Row {
+        why: "an undone text goes on with its first cell",
+        ops: "1.1 0 pqr |; 0.1 0 ab |; 1.1/1 1 | 1.1",
+        member: "1.1/1",
+        at: "63.1 0 | 0.1 1.1",
+        form: Shape::Own(2, 1),
+    },
 ];
 
 /// Appends the operation where it is next; answers whether it was.
@@ -186,16 +248,23 @@ fn name_of(member: &Member) -> Name {
     }
 }
 
+/// The insert of so many cells, of 1 to 256.
+fn ins_of(name: Name, place: u32, len: u16) -> Ins {
+    let site = name.site;
+    let len = len.clamp(1, 256);
+    Ins {
+        place,
+        site,
+        len,
+        name,
+    }
+}
+
 /// The form of this shape, of a member with this name.
 fn form_of(name: Name, shape: Shape) -> Form {
-    let site = name.site;
     match shape {
-        Shape::Ins(place) => Form::Ins(Ins {
-            place,
-            site,
-            len: 1,
-            name,
-        }),
+        Shape::Ins(place) => Form::Ins(ins_of(name, place, 1)),
+        Shape::Run(place, len) => Form::Ins(ins_of(name, place, len)),
         Shape::By(place, generation) => Form::Cover(Cover {
             place,
             mark: Mark::By { name, generation },

@@ -49,6 +49,15 @@ fn some_name(numbers: &mut Numbers, messages: &[Op]) -> Name {
     }
 }
 
+/// The length of a text: mostly one of the shortest, else any.
+fn some_length(numbers: &mut Numbers) -> u16 {
+    if numbers.below(4) == 0 {
+        1 + numbers.below(256) as u16
+    } else {
+        1 + numbers.below(4) as u16
+    }
+}
+
 /// A command at a site that shows so many characters.
 fn some_edit(numbers: &mut Numbers, visible: u32, messages: &[Op]) -> Edit {
     let name = some_name(numbers, messages);
@@ -58,7 +67,7 @@ fn some_edit(numbers: &mut Numbers, visible: u32, messages: &[Op]) -> Edit {
         1 => Edit::Undo(name),
         2 => Edit::Redo(name),
         3 => Edit::Delete(place),
-        _ => Edit::Insert(place, 'x'),
+        _ => Edit::Run(place, some_length(numbers)),
     }
 }
 

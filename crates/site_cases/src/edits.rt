@@ -10,6 +10,8 @@ use std::test::Fail;
 #[derive(Clone, Copy)]
 pub(crate) enum Edit {
     Insert(u32, char),
+    /// The insert of a text of so many characters, of 1 to 256.
+    Run(u32, u16),
     Delete(u32),
     Undo(Name),
     Redo(Name),
@@ -19,10 +21,17 @@ pub(crate) enum Edit {
 pub(crate) fn edited(site: &mut Site, edit: &Edit) -> Option<Op> {
     match edit {
         Edit::Insert(place, ch) => site.insert(*place, *ch).ok(),
+        Edit::Run(place, len) => inserted(site, *place, *len),
         Edit::Delete(place) => site.delete(*place).ok(),
         Edit::Undo(name) => site.undo(*name).ok(),
         Edit::Redo(name) => site.redo(*name).ok(),
     }
+}
+
+fn inserted(site: &mut Site, place: u32, len: u16) -> Option<Op> {
+    let text = ['x'; 256];
+    let len = (len as usize).clamp(1, 256);
+    site.insert_run(place, &text[..len]).ok()
 }
 
 /// Whether the site does all commands.

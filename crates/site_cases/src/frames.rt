@@ -31,7 +31,7 @@ fn bytes_that_no_row_has(rt: HostRuntime) {
 }
 
 /// Operations with their frames.
-const SPELLED: [(&str, &str); 7] = [
+const SPELLED: [(&str, &str); 9] = [
     ("0.1 0 a |", "000000110100000000010000000000000061000000"),
     (
         "0.2 1 b | 0.1",
@@ -39,6 +39,14 @@ const SPELLED: [(&str, &str); 7] = [
     ),
     ("1.1 0 p |", "000000110101000000010000000000000070000000"),
     ("2.1 0 q |", "000000110102000000010000000000000071000000"),
+    (
+        "0.1 0 ab |",
+        "000000170400000000010000000000020000006100000062000000",
+    ),
+    (
+        "1.1 2 pqr | 0.1",
+        "000000200401000000010000000200030000007000000071000000720100000000010000",
+    ),
     (
         "0.2 0 | 0.1",
         "00000012020000000002000000000100000000010000",
@@ -104,14 +112,25 @@ fn put_entries(bytes: &mut Vec<u8>, undone: u16) -> Result<(), Memory> {
     Ok(())
 }
 
+// 256 times the character `a`, after how many there are.
+fn put_text(bytes: &mut Vec<u8>) -> Result<(), Memory> {
+    bytes.extend_from_slice(b"\x01\x00")?;
+    for _ in 0..256 {
+        bytes.extend_from_slice(b"\x00\x00\x00\x61")?;
+    }
+    Ok(())
+}
+
 fn put_full(bytes: &mut Vec<u8>, length: u32, undone: u16) -> Result<(), Memory> {
     bytes.extend_from_slice(&length.to_be_bytes())?;
-    bytes.extend_from_slice(b"\x01\x3f\x00\x00\x00\x02\x00\x00\x00\x00\x00\x00\x00\x61\x40")?;
+    bytes.extend_from_slice(b"\x04\x3f\x00\x00\x00\x02\x00\x00\x00\x00")?;
+    put_text(bytes)?;
+    bytes.push(0x40)?;
     put_counts(bytes)?;
     put_entries(bytes, undone)
 }
 
-/// The second insert of the last site, with a count for each site and so many undo entries.
+/// The second insert of the last site, of 256 characters, with a count for each site and so many undo entries.
 fn full(alloc: Global, length: u32, undone: u16) -> Result<Vec<u8>, Memory> {
     let mut bytes = Vec::new(alloc);
     put_full(&mut bytes, length, undone)?;
@@ -129,9 +148,9 @@ fn is_written_again(alloc: Global, bytes: &[u8]) -> Result<bool, Memory> {
 fn the_longest_frame_is_read_and_written_again(rt: HostRuntime) -> Result<(), Memory> {
     let bytes = full(rt.alloc(), LONGEST_BODY, 16_384)?;
     let again = is_written_again(rt.alloc(), bytes.as_slice())?;
-    assert_eq!(rt; LONGEST_BODY, 115_025);
-    assert_eq!(rt; bytes.len(), 115_029);
-    assert!(rt; again && scan(bytes.as_slice()) == Scan::Frame { used: 115_029 });
+    assert_eq!(rt; LONGEST_BODY, 116_047);
+    assert_eq!(rt; bytes.len(), 116_051);
+    assert!(rt; again && scan(bytes.as_slice()) == Scan::Frame { used: 116_051 });
     Ok(())
 }
 

@@ -9,7 +9,7 @@ use std::alloc::Global;
 use std::test::Fail;
 
 /// What a history shows, its operations in an order in which a site may have taken them in, and their text.
-const HISTORIES: [(&str, &str, &str); 38] = [
+const HISTORIES: [(&str, &str, &str); 47] = [
     ("nothing", "", ""),
     (
         "characters of one, two and four bytes",
@@ -192,6 +192,51 @@ const HISTORIES: [(&str, &str, &str); 38] = [
         "0.1 0 a |; 0.2 1 b | 0.1; 0.2/1 0 | 0.2; 2.1 1 | 0.2 0.2/1; 0.3 2 c | 0.2; 0.2/2 0 | 0.3 0.2/1",
         "ac",
     ),
+    (
+        "a text within another of which one character was deleted",
+        "0.1 0 abc |; 0.2 1 | 0.1; 1.1 2 xy | 0.1",
+        "axyc",
+    ),
+    (
+        "the first text undone",
+        "0.1 0 abc |; 0.2 1 | 0.1; 1.1 2 xy | 0.1; 0.1/1 0 | 0.2 1.1",
+        "xy",
+    ),
+    (
+        "the first text redone",
+        "0.1 0 abc |; 1.1 2 xy | 0.1; 0.2 1 | 0.1; 0.1/1 0 | 0.2; 0.1/2 1 | 0.2 1.1 0.1/1",
+        "axyc",
+    ),
+    (
+        "a text of one of three sites at one place",
+        "2.1 0 rs |; 1.1 0 pq |; 3.1 0 z |",
+        "pqrsz",
+    ),
+    (
+        "the same in another order",
+        "3.1 0 z |; 1.1 0 pq |; 2.1 0 rs |",
+        "pqrsz",
+    ),
+    (
+        "texts of three sites within a text, of which one knows another",
+        "0.1 0 ab |; 2.1 1 rs | 0.1; 1.1 2 pq | 0.1 2.1; 3.1 1 xyz | 0.1",
+        "arpqsxyzb",
+    ),
+    (
+        "the same in another order, with the text in the middle undone",
+        "0.1 0 ab |; 3.1 1 xyz | 0.1; 2.1 1 rs | 0.1; 1.1 2 pq | 0.1 2.1; 2.1/1 3 | 0.1 2.1 3.1",
+        "apqxyzb",
+    ),
+    (
+        "deletes at both ends and in the middle of a text that others part",
+        "0.1 0 abcde |; 1.1 1 x | 0.1; 1.2 5 y | 0.1 1.1; 2.1 0 | 0.1; 2.2 2 | 0.1 2.1; 2.3 4 | 0.1 2.2",
+        "xbdy",
+    ),
+    (
+        "and the one in the middle undone",
+        "0.1 0 abcde |; 2.1 0 | 0.1; 2.2 2 | 0.1 2.1; 2.3 4 | 0.1 2.2; 2.2/1 3 | 0.1 2.3; 1.1 1 x | 0.1; 1.2 5 y | 0.1 1.1",
+        "xbcdy",
+    ),
 ];
 
 fn has_plain_text(alloc: Global, ops: &[Op], text: &str) -> Result<bool, Memory> {
@@ -220,8 +265,8 @@ fn are_characters(alloc: Global, ops: &[Op], wanted: &[char]) -> Result<bool, Me
 
 #[test]
 fn characters_are_those_of_the_text(rt: HostRuntime) -> Result<(), Fail> {
-    let ops = ops_of(rt.alloc(), "0.1 0 a |; 0.2 1 é | 0.1; 0.3 2 😀 | 0.2")?;
-    let right = are_characters(rt.alloc(), ops.as_slice(), &['a', 'é', '😀'])?;
+    let ops = ops_of(rt.alloc(), "0.1 0 a |; 0.2 1 éß | 0.1; 0.3 2 😀 | 0.2")?;
+    let right = are_characters(rt.alloc(), ops.as_slice(), &['a', 'é', '😀', 'ß'])?;
     assert!(rt; right);
     Ok(())
 }

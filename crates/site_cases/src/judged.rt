@@ -13,7 +13,7 @@ use std::alloc::Global;
 use std::test::Fail;
 
 /// Operations that are delivered to one site, one after the other, each with its verdict.
-const DELIVERED: [(&str, &str); 11] = [
+const DELIVERED: [(&str, &str); 16] = [
     ("0.2 1 b | 0.1", "waits 0.2 0.1"),
     ("0.2 1 b | 0.1", "waits 0.2 0.1"),
     ("0.2 0 x | 0.1", "forged 0.2"),
@@ -25,6 +25,11 @@ const DELIVERED: [(&str, &str); 11] = [
     ("0.1/1 3 | 0.1", "repeat 0.1/1"),
     ("1.1 1 c | 0.2", "integrated 1.1"),
     ("2.1 0 d | 1.1", "notclosed 2.1 1"),
+    ("3.1 4 xyz | 0.2 1.1", "placeout 3.1 4 3"),
+    ("3.1 3 xyz | 0.2 1.1", "integrated 3.1"),
+    ("3.1 3 xyw | 0.2 1.1", "forged 3.1"),
+    ("3.1 3 xyz | 0.2 1.1", "repeat 3.1"),
+    ("3.2 7 | 0.2 1.1 3.1", "placeout 3.2 7 6"),
 ];
 
 /// The verdict that is given before the delivery, and that of the delivery; then what is ready is released.

@@ -28,6 +28,11 @@ fn piece_of(letter: char) -> &'static [u8] {
         // Insert 1.2 of `c` at place 0 after 1.1.
         'W' =>
             b"\x00\x00\x00\x16\x01\x01\x00\x00\x00\x02\x00\x00\x00\x00\x00\x00\x00\x63\x01\x01\x00\x00\x00\x01\x00\x00",
+        // Insert 1.1 of `pq` at place 0, which knows nothing, and its first 26 bytes.
+        'R' =>
+            b"\x00\x00\x00\x17\x04\x01\x00\x00\x00\x01\x00\x00\x00\x00\x00\x02\x00\x00\x00\x70\x00\x00\x00\x71\x00\x00\x00",
+        'r' =>
+            b"\x00\x00\x00\x17\x04\x01\x00\x00\x00\x01\x00\x00\x00\x00\x00\x02\x00\x00\x00\x70\x00\x00\x00\x71\x00\x00",
         // A body of a kind that is none.
         'K' => b"\x00\x00\x00\x01\x09",
         // Other headers.
@@ -40,13 +45,16 @@ fn piece_of(letter: char) -> &'static [u8] {
 }
 
 /// Logs, and what comes of each: the log that the site writes then, or the line that says why there is none.
-const LOGS: [(&str, &str, &str); 22] = [
+const LOGS: [(&str, &str, &str); 25] = [
     ("H", "H", ""),
     ("HAB", "HAB", ""),
     ("HBA", "HAB", ""),
     ("HB", "HB", ""),
     ("HBBAA", "HAB", ""),
     ("HWA", "HAW", ""),
+    ("HR", "HR", ""),
+    ("HWARR", "HARW", ""),
+    ("HAr", "", "refused log cut 29\n"),
     ("HAF", "", "refused log op 29 forged 0.1\n"),
     ("HAO", "", "refused log op 29 placeout 0.2 5 1\n"),
     ("HOA", "", "refused log op 34 placeout 0.2 5 1\n"),

@@ -1,9 +1,9 @@
 //! Operations, contexts and bytes of tests, spelled as words.
 //!
-//! `0.2 1 b | 0.1` is insert 0.2 of `b` at place 1, made after 0.1 and what comes before it at its site; `0.3 0 | 0.2` is
-//! a delete at place 0; and `0.2/1 3 | 0.3 1.1` is the first undo of 0.2, by site 3.
+//! `0.2 1 b | 0.1` is insert 0.2 of `b` at place 1, made after 0.1 and what comes before it at its site, as `0.2 1 bcd | 0.1` is that of
+//! a longer text; `0.3 0 | 0.2` is a delete at place 0; and `0.2/1 3 | 0.3 1.1` is the first undo of 0.2, by site 3.
 
-use context_diff::Op;
+use context_diff::{Letters, Op};
 use context_vector::Vector;
 use op_name::{Member, Memory, Name};
 use script_text::{parse_member, parse_number};
@@ -13,15 +13,15 @@ use std::test::Fail;
 /// What an operation does.
 #[derive(Clone, Copy)]
 enum Act {
-    /// Name, place and character.
-    Insert(Name, u32, char),
+    /// Name and place, of an insert.
+    Insert(Name, u32),
     /// Name and place.
     Delete(Name, u32),
     /// Author, target and generation.
     Turn(u16, Name, u16),
 }
 
-/// What the words say: a member, a number, and the character of an insert.
+/// What the words say: a member, a number, and after these the text of an insert.
 fn act_of(text: &str) -> Option<Act> {
     let mut words = text.split(' ');
     let member = parse_member(words.next()?)?;
@@ -32,7 +32,7 @@ fn act_of(text: &str) -> Option<Act> {
             Some(Act::Turn(author, name, generation))
         }
         Member::Original(name) => match words.next() {
-            Some(word) => Some(Act::Insert(name, number, word.chars().next()?)),
+            Some(_) => Some(Act::Insert(name, number)),
             None => Some(Act::Delete(name, number)),
         },
     }
@@ -65,26 +65,57 @@ pub(crate) fn set_of(alloc: Global, members: &str) -> Result<Vector, Fail> {
     Ok(set)
 }
 
-fn op_with(act: Act, context: Vector) -> Op {
-    match act {
-        Act::Insert(name, place, ch) => Op::Insert {
-            name,
-            place,
-            ch,
-            context,
-        },
-        Act::Delete(name, place) => Op::Delete {
-            name,
-            place,
-            context,
-        },
-        Act::Turn(author, target, generation) => Op::Undo {
-            author,
-            target,
-            generation,
-            context,
-        },
+/// The text of an insert.
+fn letters_of(alloc: Global, text: &str) -> Result<Letters, Fail> {
+    let mut chars = Vec::new(alloc);
+    for ch in text.chars() {
+        chars.push(ch)?;
     }
+    match Letters::new(alloc, &chars) {
+        Ok(letters) => Ok(letters),
+        Err(_) => Err(Fail::new("the word is no text of an insert")),
+    }
+}
+
+/// The last word.
+fn last_of(words: &str) -> &str {
+    match words.rsplit_once(' ') {
+        Some((_, last)) => last,
+        None => words,
+    }
+}
+
+fn insert_of(alloc: Global, name: Name, place: u32, text: &str, known: &str) -> Result<Op, Fail> {
+    let text = letters_of(alloc, text)?;
+    Ok(Op::Insert {
+        name,
+        place,
+        text,
+        context: set_of(alloc, known)?,
+    })
+}
+
+fn delete_of(alloc: Global, name: Name, place: u32, known: &str) -> Result<Op, Fail> {
+    Ok(Op::Delete {
+        name,
+        place,
+        context: set_of(alloc, known)?,
+    })
+}
+
+fn undo_of(
+    alloc: Global,
+    author: u16,
+    target: Name,
+    generation: u16,
+    known: &str,
+) -> Result<Op, Fail> {
+    Ok(Op::Undo {
+        author,
+        target,
+        generation,
+        context: set_of(alloc, known)?,
+    })
 }
 
 /// The operation that the words spell.
@@ -95,7 +126,11 @@ pub(crate) fn op_of(alloc: Global, words: &str) -> Result<Op, Fail> {
     let Some(act) = act_of(does) else {
         return Err(Fail::new("the words spell no operation"));
     };
-    Ok(op_with(act, set_of(alloc, known)?))
+    match act {
+        Act::Insert(name, place) => insert_of(alloc, name, place, last_of(does), known),
+        Act::Delete(name, place) => delete_of(alloc, name, place, known),
+        Act::Turn(author, name, generation) => undo_of(alloc, author, name, generation, known),
+    }
 }
 
 fn put_ops(alloc: Global, words: &str, ops: &mut Vec<Op>) -> Result<(), Fail> {

@@ -4,7 +4,8 @@ use crate::made::op_of;
 use cot_site::Site;
 use op_name::Name;
 use participant::{
-    Edit, Run, Stopped, Taking, delete_range, do_edit, insert_text, redo_all, take_in, undo_all,
+    Edit, Run, Stopped, Taking, delete_range, do_edit, insert_runs, insert_text, redo_all, take_in,
+    undo_all,
 };
 use site_answers::{Local, Release, Verdict};
 use std::alloc::Global;
@@ -74,6 +75,23 @@ fn a_text_is_typed_and_a_range_is_deleted(rt: HostRuntime) -> Result<(), Fail> {
     assert_eq!(rt; whole(run), Some(2));
     assert!(rt; shows(alloc, &site, "a")?);
     assert_eq!(rt; released.len(), 0);
+    Ok(())
+}
+
+#[test]
+fn a_long_text_is_as_few_operations_as_it_can_be(rt: HostRuntime) -> Result<(), Fail> {
+    let alloc = rt.alloc();
+    let mut site = Site::new(alloc, 2)?;
+    let mut released = Vec::new(alloc);
+    let run = insert_runs(&mut site, 0, &['x'; 513], &mut released);
+    assert_eq!(rt; whole(run), Some(3));
+    assert_eq!(rt; site.visible_len(), 513);
+    let run = insert_runs(&mut site, 514, &['y'; 2], &mut released);
+    let (place, visible) = (514, 513);
+    assert_eq!(rt; refused(run), Some((0, Local::PlaceOut { place, visible })));
+    let run = undo_all(&mut site, &[Name { site: 2, number: 2 }], &mut released);
+    assert_eq!(rt; whole(run), Some(1));
+    assert_eq!(rt; site.visible_len(), 257);
     Ok(())
 }
 

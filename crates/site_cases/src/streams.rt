@@ -10,11 +10,11 @@ use wire_codec::{Cause, FrameStream, StreamBad, encode};
 const FIRST: &[u8] =
     b"\x00\x00\x00\x11\x01\x00\x00\x00\x00\x01\x00\x00\x00\x00\x00\x00\x00\x61\x00\x00\x00";
 
-/// Insert 0.1, insert 0.2 after it, and insert 1.1 that knows nothing.
+/// Insert 0.1, insert 0.2 after it, and insert 1.1 of two characters, which knows nothing.
 const THREE: &[u8] =
     b"\x00\x00\x00\x11\x01\x00\x00\x00\x00\x01\x00\x00\x00\x00\x00\x00\x00\x61\x00\x00\x00\
     \x00\x00\x00\x16\x01\x00\x00\x00\x00\x02\x00\x00\x00\x01\x00\x00\x00\x62\x01\x00\x00\x00\x00\x01\x00\x00\
-    \x00\x00\x00\x11\x01\x01\x00\x00\x00\x01\x00\x00\x00\x00\x00\x00\x00\x70\x00\x00\x00";
+    \x00\x00\x00\x17\x04\x01\x00\x00\x00\x01\x00\x00\x00\x00\x00\x02\x00\x00\x00\x70\x00\x00\x00\x71\x00\x00\x00";
 
 /// Puts the frames of what a stream gives one after the other.
 fn drain(stream: &mut FrameStream, out: &mut Vec<u8>) -> Result<(), Memory> {
@@ -156,7 +156,7 @@ fn a_stream_stays_at_a_fault(rt: HostRuntime) -> Result<(), Memory> {
 }
 
 fn holds_long_frames(stream: &mut FrameStream, piece: &[u8]) -> Result<bool, Memory> {
-    stream.feed(b"\x00\x01\xc1\x51")?;
+    stream.feed(b"\x00\x01\xc5\x4f")?;
     stream.feed(piece)?;
     let waits = is_nothing(given(stream)) && stream.rest() == 65_540;
     stream.feed(piece)?;

@@ -15,12 +15,12 @@ use Rattle.cot_site.specs.Verdicts.{IsRepeat}
 -- ---- from repeats to the same operations
 
 there : (k : List OpData) (o : OpData) → is_original o ≡ true → IsRepeat k o → Contains k o
-there k (inserting n p ch c) is repeat = repeat
+there k (inserting n p text c) is repeat = repeat
 there k (deleting n p c) is repeat = repeat
 there k (undoing a t g c) is repeat = cc
 
 reached : (k : List OpData) (o : OpData) (t : NameData) → IsRepeat k o → generation_at o t ≤ generation_in k t
-reached k (inserting n p ch c) t repeat = omega arith
+reached k (inserting n p text c) t repeat = omega arith
 reached k (deleting n p c) t repeat = omega arith
 reached k (undoing a n g c) t repeat =
     elim (cases_Bool (name_eq n t)) [
@@ -60,7 +60,7 @@ same_back h k same = record {
 
 repeat_of : (h k : List OpData) (o : OpData) → IsValid h → Same h k → Contains h o
     → ((t : NameData) → generation_at o t ≤ generation_in h t) → IsRepeat k o
-repeat_of h k (inserting n p ch c) valid same at within = (same.originals (inserting n p ch c) refl).0 at
+repeat_of h k (inserting n p text c) valid same at within = (same.originals (inserting n p text c) refl).0 at
 repeat_of h k (deleting n p c) valid same at within = (same.originals (deleting n p c) refl).0 at
 repeat_of h k (undoing a t g c) valid same at within =
     let w = complete h valid in

@@ -49,5 +49,12 @@ fn main(rt: HostRuntime) -> Result<(), Stop> {
     send_all(alloc, &ann, &mut bob)?;
     send_all(alloc, &bob, &mut ann)?;
     out.write_all(&report(alloc, &ann, &bob)?)?; // no delete is in force: teams
+
+    // A text is one operation, and others may write among its characters.
+    ann.insert_run(5, &[' ', 'w', 'n'])?; // 0.6
+    send_all(alloc, &ann, &mut bob)?;
+    bob.insert(7, 'i')?; // 1.3, behind the w
+    send_all(alloc, &bob, &mut ann)?;
+    out.write_all(&report(alloc, &ann, &bob)?)?; // teams win
     Ok(())
 }
