@@ -1,7 +1,8 @@
--- Names and members are ordered: `name_eq` and `member_eq` decide equality, `name_lt` and `member_lt` are total orders.
+-- Names and members: `name_eq` and `member_eq` decide equality, `name_lt` is a total order, and of two members that differ one is before
+-- the other.
 use Rattle.std.proofs.Common.{◌≡◌, ◌≢◌, ℕ, Bool, true, false, inl, inr, refl, ap, sym, subst, ◌∙◌, arith}
 use Rattle.std.proofs.lemmas.Bool.{false≢true, false_from_ne_true, cases_Bool}
-use Rattle.std.specs.Prelude.{◌==◌, nat_lt, ◌||◌, ◌&&◌, ◌⊎◌}
+use Rattle.std.specs.Prelude.{◌==◌, nat_lt, ◌⊎◌}
 use Rattle.std.proofs.lemmas.Bool.Decides.{nat_tests}
 use Rattle.op_name.specs.declared.member.Member.{Member}
 use Rattle.op_name.specs.declared.member.Member.TheVariants.{Original, Group}
@@ -45,14 +46,6 @@ pub name_order : IsOrder name_eq name_lt
 name_order =
     record { same = name_same; itself = name_itself; irreflexive = name_irreflexive; transitive = name_transitive; total = name_total }
 
-and_left : (x y : Bool) → (x && y) ≡ true → x ≡ true
-and_left true y e = refl
-and_left false y e = e
-
-and_right : (x y : Bool) → (x && y) ≡ true → y ≡ true
-and_right true y e = e
-and_right false y e = absurd (false≢true e)
-
 pub member_same : (a b : Member) → member_eq a b ≡ true → a ≡ b
 member_same (Original n) (Original m) e = ap (λ x. Original x) (name_same n m e)
 member_same (Original n) (Group m h) e = cc
@@ -74,44 +67,6 @@ member_other a b e is = false≢true (sym e ∙ (ap (member_eq a) (sym is) ∙ m
 
 pub member_cases : (a b : Member) → (a ≡ b) ⊎ (a ≢ b)
 member_cases a b = elim (cases_Bool (member_eq a b)) [ inl e ↦ inl (member_same a b e) | inr e ↦ inr (member_other a b e) ]
-
-pub member_irreflexive : (a : Member) → member_lt a a ≡ false
-member_irreflexive (Original n) = name_irreflexive n
-member_irreflexive (Group n g) = grind (arith, nat_tests)
-
-or_cases : (x y : Bool) → (x || y) ≡ true → (x ≡ true) ⊎ (x ≡ false) × (y ≡ true)
-or_cases true y e = inl refl
-or_cases false y e = inr (refl, e)
-
-group_transitive : (a b c : NameData) (g h k : ℕ) → member_lt (Group a g) (Group b h) ≡ true → member_lt (Group b h) (Group c k) ≡ true
-    → member_lt (Group a g) (Group c k) ≡ true
-group_transitive a b c g h k e f =
-    let less : name_lt a c ≡ true → member_lt (Group a g) (Group c k) ≡ true = λ l. rw l refl in
-    elim (or_cases (name_lt a b) _ e) [
-      | inl ab ↦ elim (or_cases (name_lt b c) _ f) [
-        | inl bc ↦ less (name_transitive a b c ab bc)
-        | inr same ↦ less (subst (λ x. name_lt a x ≡ true) (name_same b c (and_left _ _ same.1)) ab)
-      ]
-      | inr one ↦
-          let is : a ≡ b = name_same a b (and_left _ _ one.1) in
-          elim (or_cases (name_lt b c) _ f) [
-            | inl bc ↦ less (subst (λ x. name_lt x c ≡ true) (sym is) bc)
-            | inr same ↦
-                let ac : a ≡ c = is ∙ name_same b c (and_left _ _ same.1) in
-                let gk : nat_lt g k ≡ true = number_order.transitive g h k (and_right _ _ one.1) (and_right _ _ same.1) in
-                subst (λ x. member_lt (Group a g) (Group x k) ≡ true) ac (rw (name_irreflexive a, name_itself a, gk) refl)
-          ]
-    ]
-
-pub member_transitive : (a b c : Member) → member_lt a b ≡ true → member_lt b c ≡ true → member_lt a c ≡ true
-member_transitive (Original a) (Original b) (Original c) e f = name_transitive a b c e f
-member_transitive (Original a) (Original b) (Group c k) e f = refl
-member_transitive (Original a) (Group b h) (Original c) e f = cc
-member_transitive (Original a) (Group b h) (Group c k) e f = refl
-member_transitive (Group a g) (Original b) (Original c) e f = cc
-member_transitive (Group a g) (Original b) (Group c k) e f = cc
-member_transitive (Group a g) (Group b h) (Original c) e f = cc
-member_transitive (Group a g) (Group b h) (Group c k) e f = group_transitive a b c g h k e f
 
 pub member_total : (a b : Member) → member_eq a b ≡ false → member_lt a b ≡ false → member_lt b a ≡ true
 member_total (Original a) (Original b) e f = name_total a b e f

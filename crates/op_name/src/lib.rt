@@ -5,10 +5,12 @@
 //! original. Both are ordered, so that sets of them have one listing.
 #![tactic(auto)]
 
+mod limits;
 mod member;
 mod memory;
 mod name;
 
+pub use limits::LETTERS;
 pub use member::{GENERATIONS, Member};
 pub use memory::Memory;
 pub use name::{NUMBERS, Name, NameBad, SITES};

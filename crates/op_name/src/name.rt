@@ -6,7 +6,7 @@ ghost use Rattle.op_name.specs.NameData.{NameData, IsName, name_lt};
 use std::marker::Model;
 
 /// The number of sites: sites are numbered from 0 to `SITES - 1`.
-pub const SITES: u16 = 64;
+pub const SITES: u16 = 1_024;
 
 /// The greatest number that a site gives to one of its originals.
 pub const NUMBERS: u32 = 1_000_000;
