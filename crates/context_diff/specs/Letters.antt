@@ -7,9 +7,9 @@ use Rattle.std.specs.Hash as fed
 use Rattle.std.specs.Hash.{HashWrites}
 use lib.Pointwise.{pointwise, pointwise_decides}
 use Rattle.op_name.proofs.CallerLemmas.{number_order}
+use Rattle.op_name.specs.declared.limits.TheConstants.{LETTERS}
 use Rattle.context_diff.specs.declared.letters.LettersBad.{LettersBad}
 use Rattle.context_diff.specs.declared.letters.LettersBad.TheVariants.{Empty, Long, Memory}
-use Rattle.context_diff.specs.declared.letters.TheConstants.{LETTERS}
 
 -- two texts have the same characters
 abbrev pub letters_eq : List ℕ → List ℕ → Bool

@@ -6,9 +6,9 @@ use Rattle.op_name.specs.declared.member.Member.TheVariants.{Original, Group}
 use Rattle.op_name.specs.NameData.{NameData, IsName}
 use Rattle.op_name.specs.declared.name.TheConstants.{SITES}
 use Rattle.op_name.specs.declared.member.TheConstants.{GENERATIONS}
+use Rattle.op_name.specs.declared.limits.TheConstants.{LETTERS}
 use Rattle.context_vector.specs.Contexts.{ContextData, IsContext, HasNoStray, has, count_of, entry_of}
 use Rattle.context_diff.specs.declared.op.TheConstants.{PLACES, UNDO_ENTRIES}
-use Rattle.context_diff.specs.declared.letters.TheConstants.{LETTERS}
 
 -- an insert has a name, a place, a text (the codes of its characters) and a context; a delete has no text; an undo has its author,
 -- the original that it is of, a generation (odd: undo, even: redo) and a context. A place counts all cells, shown or hidden,

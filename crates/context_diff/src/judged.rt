@@ -50,7 +50,8 @@ pub(crate) fn cells_by(op: &Op, v: &Vector, cells: u32) -> Option<u32>
 // How many cells `v` has, where it is the context, or the context with the original of this name, which puts `more` cells.
 fn cells_beyond(v: &Vector, name: &Name, context: &Vector, cells: u32, more: u32) -> Option<u32>
     requires { cells + more < 4294967296 }
-    ensures { IfSome result (λ n. ((v.now.set ≡ context.now.set) × (n ≡ cells)) ⊎ ((v.now.set ≡ raised context.now.set (Original name.now)) × (n ≡ cells + more))) }
+    ensures { IfSome result (λ n. ((v.now.set ≡ context.now.set) × (n ≡ cells))
+        ⊎ ((v.now.set ≡ raised context.now.set (Original name.now)) × (n ≡ cells + more))) }
 {
     if v.count(name.site) == name.number {
         if v.follows(context, name) {

@@ -6,15 +6,12 @@ ghost use Rattle.std.specs.Str.{all_scalars};
 ghost use Rattle.context_diff.specs.Operations.{IsLetters};
 ghost use Rattle.context_diff.specs.Letters.{IsManyLetters, IsUnmade, letters_eq, letters_per, letters_equiv, letters_input, letters_alike};
 
-use op_name::Memory;
+use op_name::{LETTERS, Memory};
 use std::alloc::Global;
 use std::hash::{Hash, Hasher};
 use std::marker::Model;
 use std::rc::Rc;
 use std::slice;
-
-/// The greatest number of characters of an insert.
-pub const LETTERS: u16 = 256;
 
 /// The text of an insert: 1 to `LETTERS` characters. One alone stands in the value itself; of more, copies share one list. Contracts see
 /// the list of their codes.

@@ -22,5 +22,5 @@ pub use coverage::{base_context, closed};
 pub use gathering::difference;
 pub use growth::reserve_one;
 pub use laws::{difference_is_ready, last_may_be_taken_out, two_may_be_taken_out};
-pub use letters::{LETTERS, Letters, LettersBad};
+pub use letters::{Letters, LettersBad};
 pub use op::{Op, OpFault, PLACES, UNDO_ENTRIES};

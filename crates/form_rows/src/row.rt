@@ -1,6 +1,7 @@
 //! The row of one set of members.
 
-ghost use Rattle.std.specs.Prelude.{◌≡◌, ◌+◌, ◌<◌, ◌≤◌, ◌++◌, ◌∷◌, ◌⊎◌, [], ℕ, Bool, false, List, Some, IsTrue, OnOk, OnErr, IfOk, IfSome, length, drop, slice_get};
+ghost use Rattle.std.specs.Prelude.{◌≡◌, ◌+◌, ◌<◌, ◌≤◌, ◌++◌, ◌∷◌, ◌⊎◌, [], ℕ, Bool, false, List, Some};
+ghost use Rattle.std.specs.Prelude.{IsTrue, OnOk, OnErr, IfOk, IfSome, length, drop, slice_get};
 ghost use Rattle.op_name.specs.declared.member.Member.{Member};
 ghost use Rattle.context_vector.specs.Contexts.{has};
 ghost use Rattle.ttf_form.specs.declared.include.TheConstants.{CELLS};
@@ -10,7 +11,8 @@ ghost use Rattle.transform_rec.specs.Family.{IsCausalFamily};
 ghost use Rattle.transform_rec.specs.Derived.{Derived};
 ghost use Rattle.transform_rec.specs.Laws.{family_of};
 ghost use Rattle.form_rows.specs.Names.{had_by, AreNamed};
-ghost use Rattle.form_rows.specs.RowSets.{form_after, row_after, front_of, taken_out, PassFits, TakingFits, IsAdded, IsKept, IsRowAt, IsSource};
+ghost use Rattle.form_rows.specs.RowSets.{form_after, row_after, front_of, taken_out};
+ghost use Rattle.form_rows.specs.RowSets.{PassFits, TakingFits, IsAdded, IsKept, IsRowAt, IsSource};
 ghost use Rattle.form_rows.specs.Code.Blocks.{AreCounted};
 
 use crate::blocks::Blocks;
@@ -28,12 +30,17 @@ use ttf_form::{Bases, CELLS, Include};
 // How many inert forms are looked at, in order to count the cells of those that aren't.
 const LOOKS: usize = 256;
 
+// How many moves make a row dear.
+const DEAR: usize = 4;
+
 /// Forms of the inserts that a set of members lacks, among those that were executed up to a place: each after the set
 /// and the members before it.
 #[derive(Drop)]
 pub struct Row<F: Named> {
     forms: Blocks<F>,
     upto: usize,
+    // How many forms were moved out of it, as far as it was kept: that many moves it costs to make it anew.
+    moved: usize,
 }
 
 impl<F: Named> Model for Row<F> {
@@ -52,6 +59,7 @@ impl<F: Named + Copy> Row<F> {
         Row {
             forms: Blocks::new(alloc),
             upto,
+            moved: 0,
         }
     }
 
@@ -74,10 +82,16 @@ impl<F: Named + Copy> Row<F> {
         self.forms.len()
     }
 
+    /// Whether it costs much to make it anew: more forms were moved out of it than it is worth to move again.
+    pub(crate) fn is_dear(&self) -> bool {
+        self.moved >= DEAR
+    }
+
     /// How many cells its forms add once it looks at the forms in which the members since were executed, or `CELLS` if that is
     /// too great.
     pub(crate) fn cells_with(&self, executed: &[F]) -> u32
-        ensures { (ks : List F) → IsKept F.IsInert (drop self.now.upto executed.now) ks → AreCounted F.extent result (self.now.forms ++ ks) }
+        ensures { (ks : List F) → IsKept F.IsInert (drop self.now.upto executed.now) ks
+            → AreCounted F.extent result (self.now.forms ++ ks) }
     {
         self.forms
             .cells()
@@ -87,7 +101,8 @@ impl<F: Named + Copy> Row<F> {
     /// Whether its forms add no more than `most` cells once it looks at the forms in which the members since were executed.
     /// False also where too many of these are inert.
     pub(crate) fn has_at_most(&self, executed: &[F], most: u32) -> bool
-        ensures { IsTrue result → (ks : List F) → IsKept F.IsInert (drop self.now.upto executed.now) ks → total_by F.extent self.now.forms + total_by F.extent ks ≤ most }
+        ensures { IsTrue result → (ks : List F) → IsKept F.IsInert (drop self.now.upto executed.now) ks
+            → total_by F.extent self.now.forms + total_by F.extent ks ≤ most }
     {
         let cells = self.forms.cells();
         is_at_most(cells, most) && are_at_most(executed, self.upto, most - cells)
@@ -114,10 +129,18 @@ impl<F: Named + Copy> Row<F> {
         requires names { AreNamed F.named F.IsInert (family_of ⟦<B as Bases<F>>⟧ bases.now) }
         requires context { (y : Member) → has context.now.set y ≡ B.base_context bases.now m.now y }
         requires short { length executed.now < 4294967296 }
-        requires ready { (C : Member → Bool) × ((xs : List Member) × IsSource F.over F.IsInert (family_of ⟦<B as Bases<F>>⟧ bases.now) m.now C xs executed.now self.old) }
-        ensures form { IfOk result (λ f. (C : Member → Bool) (xs : List Member) → IsSource F.over F.IsInert (family_of ⟦<B as Bases<F>>⟧ bases.now) m.now C xs executed.now self.old → Derived F.over (family_of ⟦<B as Bases<F>>⟧ bases.now) m.now (plus_all none xs) f) }
-        ensures row { OnOk result ((C : Member → Bool) (xs : List Member) → IsSource F.over F.IsInert (family_of ⟦<B as Bases<F>>⟧ bases.now) m.now C xs executed.now self.old → IsRowAt F.over F.IsInert (family_of ⟦<B as Bases<F>>⟧ bases.now) (plus (B.base_context bases.now m.now) m.now) (xs ++ m.now ∷ []) self.new) }
-        ensures err { OnErr result ((self.new ≡ self.old) ⊎ (IsAdded F.IsInert (drop self.old.upto executed.now) self.old.forms self.new.forms × (self.new.upto ≡ length executed.now))) }
+        requires ready { (C : Member → Bool) × ((xs : List Member)
+            × IsSource F.over F.IsInert (family_of ⟦<B as Bases<F>>⟧ bases.now) m.now C xs executed.now self.old) }
+        ensures form { IfOk result (λ f. (C : Member → Bool) (xs : List Member)
+            → IsSource F.over F.IsInert (family_of ⟦<B as Bases<F>>⟧ bases.now) m.now C xs executed.now self.old
+            → Derived F.over (family_of ⟦<B as Bases<F>>⟧ bases.now) m.now (plus_all none xs) f) }
+        ensures row { OnOk result ((C : Member → Bool) (xs : List Member)
+            → IsSource F.over F.IsInert (family_of ⟦<B as Bases<F>>⟧ bases.now) m.now C xs executed.now self.old
+            → IsRowAt F.over F.IsInert (family_of ⟦<B as Bases<F>>⟧ bases.now) (plus (B.base_context bases.now m.now) m.now)
+            (xs ++ m.now ∷ []) self.new) }
+        ensures err { OnErr result ((self.new ≡ self.old)
+            ⊎ (IsAdded F.IsInert (drop self.old.upto executed.now) self.old.forms self.new.forms
+            × (self.new.upto ≡ length executed.now))) }
     {
         self.execute_apart(bases, m, context, executed, None)
     }
@@ -135,18 +158,31 @@ impl<F: Named + Copy> Row<F> {
         requires causal { IsCausalFamily (family_of ⟦<B as Bases<F>>⟧ bases.now) }
         requires names { AreNamed F.named F.IsInert (family_of ⟦<B as Bases<F>>⟧ bases.now) }
         requires context { (y : Member) → has context.now.set y ≡ B.base_context bases.now m.now y }
-        requires apart { IfSome apart (λ most. (fs : List F) → IsAdded F.IsInert (drop self.old.upto executed.now) self.old.forms fs → total_by F.extent fs ≤ most → (f : F) → IsIn f fs → had_by F.named context.now.set f ≡ false) }
+        requires apart { IfSome apart (λ most. (fs : List F) → IsAdded F.IsInert (drop self.old.upto executed.now) self.old.forms fs
+            → total_by F.extent fs ≤ most → (f : F) → IsIn f fs → had_by F.named context.now.set f ≡ false) }
         requires short { length executed.now < 4294967296 }
-        requires ready { (C : Member → Bool) × ((xs : List Member) × IsSource F.over F.IsInert (family_of ⟦<B as Bases<F>>⟧ bases.now) m.now C xs executed.now self.old) }
-        ensures form { IfOk result (λ f. (C : Member → Bool) (xs : List Member) → IsSource F.over F.IsInert (family_of ⟦<B as Bases<F>>⟧ bases.now) m.now C xs executed.now self.old → Derived F.over (family_of ⟦<B as Bases<F>>⟧ bases.now) m.now (plus_all none xs) f) }
-        ensures row { OnOk result ((C : Member → Bool) (xs : List Member) → IsSource F.over F.IsInert (family_of ⟦<B as Bases<F>>⟧ bases.now) m.now C xs executed.now self.old → IsRowAt F.over F.IsInert (family_of ⟦<B as Bases<F>>⟧ bases.now) (plus (B.base_context bases.now m.now) m.now) (xs ++ m.now ∷ []) self.new) }
-        ensures err { OnErr result ((self.new ≡ self.old) ⊎ (IsAdded F.IsInert (drop self.old.upto executed.now) self.old.forms self.new.forms × (self.new.upto ≡ length executed.now))) }
+        requires ready { (C : Member → Bool) × ((xs : List Member)
+            × IsSource F.over F.IsInert (family_of ⟦<B as Bases<F>>⟧ bases.now) m.now C xs executed.now self.old) }
+        ensures form { IfOk result (λ f. (C : Member → Bool) (xs : List Member)
+            → IsSource F.over F.IsInert (family_of ⟦<B as Bases<F>>⟧ bases.now) m.now C xs executed.now self.old
+            → Derived F.over (family_of ⟦<B as Bases<F>>⟧ bases.now) m.now (plus_all none xs) f) }
+        ensures row { OnOk result ((C : Member → Bool) (xs : List Member)
+            → IsSource F.over F.IsInert (family_of ⟦<B as Bases<F>>⟧ bases.now) m.now C xs executed.now self.old
+            → IsRowAt F.over F.IsInert (family_of ⟦<B as Bases<F>>⟧ bases.now) (plus (B.base_context bases.now m.now) m.now)
+            (xs ++ m.now ∷ []) self.new) }
+        ensures err { OnErr result ((self.new ≡ self.old)
+            ⊎ (IsAdded F.IsInert (drop self.old.upto executed.now) self.old.forms self.new.forms
+            × (self.new.upto ≡ length executed.now))) }
     {
         bases.known();
         derives::<F, B>(bases);
         self.catch_up(executed)?;
         let apart = are_few(self.forms.cells(), apart);
+        let before = self.forms.len();
         let form = brought_over(bases.base(m), &mut self.forms, context, apart)?;
+        self.moved = self
+            .moved
+            .saturating_add(before.saturating_sub(self.forms.len()));
         self.upto += 1;
         Ok(form)
     }

@@ -31,6 +31,9 @@ use ttf_form::Bases;
 /// The greatest number of forms in all rows that are kept.
 pub const ENTRIES: usize = 1_048_576;
 
+// The number of forms in all rows from which on only rows are kept that cost much to make.
+const CHEAP_ENTRIES: usize = 8_192;
+
 /// The row of what an author knew when it made its last insert or delete, with that.
 #[derive(Drop)]
 pub struct AuthorRow<F: Named> {
@@ -96,12 +99,17 @@ impl<F: Named + Copy> Rows<F> {
         }
     }
 
-    // Keeps a row, if memory suffices. Where the rows have too many forms then, all are dropped.
+    // Keeps a row, if memory suffices. Where the rows have too many forms then, all are dropped; and one that is made anew with few
+    // moves isn't kept where they have more than `CHEAP_ENTRIES` then: among many authors that make few operations each before they
+    // know those of the others, rows would take the square of their number.
     fn put(&mut self, row: AuthorRow<F>)
         ensures rows { (k : AuthorRow F) → Contains self.new.rows k → Contains self.old.rows k ⊎ (row ≡ k) }
         ensures bound { forms_in self.new.rows ≤ ENTRIES }
         ensures firsts { self.new.firsts ≡ self.old.firsts }
     {
+        if !row.row.is_dear() && row.row.len() > CHEAP_ENTRIES.saturating_sub(self.forms) {
+            return;
+        }
         if may_come(row.row.len(), self.forms) {
             self.forms = forms_with(&mut self.kept, row, self.forms);
         } else {

@@ -31,10 +31,11 @@ pub record IsCoverForm (p : ℕ) (m : Mark) (f : Form) : Type 0 where
   pub place : cover.place ≡ p
   pub mark : cover.mark ≡ m
 
--- the base form of an insert or a delete is what the operation says, an insert with a cell for each character; that of a group is a cover at its original's place,
--- which raises the generation of an insert, or of a delete among the deleters
+-- the base form of an insert or a delete is what the operation says, an insert with a cell for each character; that of a group is a cover
+-- at its original's place, which raises the generation of an insert, or of a delete among the deleters
 pub record AreBaseForms (h : List OpData) (form : Member → Form) : Type 0 where
-  pub inserts : (n : NameData) (p : ℕ) (text : List ℕ) (c : ContextData) → IsIn (inserting n p text c) h → IsInsertForm n p (length text) (form (Original n))
+  pub inserts : (n : NameData) (p : ℕ) (text : List ℕ) (c : ContextData) → IsIn (inserting n p text c) h
+      → IsInsertForm n p (length text) (form (Original n))
   pub deletes : (n : NameData) (p : ℕ) (c : ContextData) → IsIn (deleting n p c) h → IsCoverForm p (By n 0) (form (Original n))
   pub insert_groups : (t : NameData) (g : ℕ) (a : Ins) → IsIn (Group t g) (members_in h) → form (Original t) ≡ Insert a
       → IsCoverForm a.place (Own g) (form (Group t g))
@@ -43,7 +44,15 @@ pub record AreBaseForms (h : List OpData) (form : Member → Form) : Type 0 wher
 
 -- the form of an original, as its operation says
 abbrev pub form_of : OpData → Form
-form_of (inserting n p text c) = Insert (record { place = p; site = n.site; len = cell_count text; name = n; own = refl; some = some_cells text; most = few_cells text })
+form_of (inserting n p text c) = Insert (record {
+  place = p;
+  site = n.site;
+  len = cell_count text;
+  name = n;
+  own = refl;
+  some = some_cells text;
+  most = few_cells text;
+})
 form_of (deleting n p c) = Covered (record { place = p; mark = By n 0 })
 form_of (undoing a t g c) = Covered (record { place = 0; mark = By t g })
 
