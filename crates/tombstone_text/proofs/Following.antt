@@ -1,7 +1,6 @@
 -- The cells of a span: how they follow one another, and what becomes of them where it is cut, raised or shown.
-use Rattle.std.proofs.Common.{◌≡◌, ◌≢◌, ℕ, zero, suc, ◌+◌, ◌-◌, ◌<◌, ◌≤◌, ◌==◌, Bool, true, false, if◌then◌else◌, List, [], ◌∷◌, ◌++◌, map, length, take, drop, get_or, refl, sym, ap, ◌∙◌, append_assoc, arith}
+use Rattle.std.proofs.Common.{◌≡◌, ◌≢◌, ℕ, zero, suc, ◌+◌, ◌-◌, ◌<◌, ◌≤◌, ◌==◌, Bool, true, false, if◌then◌else◌, List, [], ◌∷◌, ◌++◌, map, length, take, drop, get_or, replicate, refl, sym, ap, ◌∙◌, arith}
 use Rattle.std.proofs.lemmas.Bool.Decides.{nat_tests}
-use Rattle.std.proofs.lemmas.List.{map-append}
 use Rattle.op_name.specs.NameData.{NameData, name_eq}
 use Rattle.ttf_form.specs.declared.ins.Ins.{Ins}
 use Rattle.ttf_form.specs.declared.cover.Mark.TheVariants.{Own}
@@ -26,7 +25,7 @@ placed c o = record { name = c.name; offset = o; of = c.of; generation = c.gener
 next_numbered : (c : CellData) → c.of ≡ 1 → next_of c ≡ numbered c (c.name.number + 1)
 next_numbered c e = ap (λ (t : Bool). if t then numbered c (c.name.number + 1) else placed c (c.offset + 1)) (is_one c.of e)
 
-next_placed : (c : CellData) → c.of ≢ 1 → next_of c ≡ placed c (c.offset + 1)
+pub next_placed : (c : CellData) → c.of ≢ 1 → next_of c ≡ placed c (c.offset + 1)
 next_placed c e = ap (λ (t : Bool). if t then numbered c (c.name.number + 1) else placed c (c.offset + 1)) (not_one c.of e)
 
 -- the cell so many places behind
@@ -103,15 +102,10 @@ pub flag_after : (c : CellData) (k : ℕ) → flag_of (after c k) ≡ flag_of c
 flag_after c zero = refl
 flag_after c (suc k) = flag_after (next_of c) k ∙ flag_next c
 
--- the flag of one cell more
-pub flags_more : (c : CellData) (k n x : ℕ) (fs : List ℕ) → x ≡ flag_of c → n ≡ suc k
-    → (fs ++ map flag_of (run_from c k)) ++ x ∷ [] ≡ fs ++ map flag_of (run_from c n)
-flags_more c k n x fs is next =
-    append_assoc fs (map flag_of (run_from c k)) (x ∷ [])
-    ∙ ap (λ zs. fs ++ zs)
-    (ap (λ y. map flag_of (run_from c k) ++ y ∷ []) (is ∙ sym (flag_after c k))
-    ∙ sym (map-append flag_of (run_from c k) (after c k ∷ []))
-    ∙ ap (λ (xs : List CellData). map flag_of xs) (run_more c k n next))
+pub flags_run : (c : CellData) (k : ℕ) → map flag_of (run_from c k) ≡ replicate k (flag_of c)
+flags_run c zero = refl
+flags_run c (suc k) =
+    ap (λ fs. flag_of c ∷ fs) (flags_run (next_of c) k ∙ ap (λ x. replicate k x) (flag_next c))
 
 -- a cell is raised as its span is
 pub raised_only : (g : ℕ) (n : NameData) (c : CellData) → c.of ≡ 1 → raised_run g n c ≡ c

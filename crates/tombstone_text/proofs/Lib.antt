@@ -3,6 +3,7 @@ pub mod Entries
 pub mod Positions
 pub mod Searches
 pub mod Inserts
+pub mod Reach
 pub mod Raising
 pub mod Runs
 pub mod Following

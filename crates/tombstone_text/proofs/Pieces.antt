@@ -1,7 +1,7 @@
 -- The cells of a list of spans, and where a place lies among them.
 use Rattle.std.proofs.Common.{◌≡◌, ℕ, zero, suc, ◌+◌, ◌<◌, ◌≤◌, Bool, true, false, nat_lt, List, [], ◌∷◌, ◌++◌, map, length, take, drop, insert, set, get_or, refl, sym, ap, ◌∙◌, subst, append_assoc, arith}
 use Rattle.std.proofs.lemmas.Bool.Decides.{nat_tests}
-use Rattle.std.proofs.lemmas.List.{map-append, length-map, length-append, length-take, map-set, get_or-map, take-map, drop-map, take_at, drop_at, take_all}
+use Rattle.std.proofs.lemmas.List.{map-append, length-map, length-append, length-take, map-set, get_or-map, take-map, drop-map, take_at, drop_at, take_all, set-get_or}
 use Rattle.std.proofs.lemmas.List.Concat.{get_or-flat_map}
 use Rattle.ttf_form.specs.Cells.{CellData, change_at, put_in}
 use Rattle.ttf_form.specs.Laws.Lists.{put_behind}
@@ -91,10 +91,68 @@ pub flat_more : (cs : List (List CellData)) (i n : ℕ) (c : List CellData) → 
 flat_more cs i n c lt next is =
     ap (λ k. flat (take k cs)) next ∙ flat_next cs i lt ∙ ap (λ xs. flat (take i cs) ++ xs) (sym is)
 
-pub flags_next : (cs : List (List CellData)) (i n : ℕ) (c : List CellData) → i < length cs → n ≡ suc i → c ≡ get_or cs i []
-    → map flag_of (flat (take i cs)) ++ map flag_of c ≡ map flag_of (flat (take n cs))
-flags_next cs i n c lt next is =
-    sym (map-append flag_of (flat (take i cs)) c) ∙ ap (λ (xs : List CellData). map flag_of xs) (sym (flat_more cs i n c lt next is))
+-- the flags of the cells of a list, among those of all, and once the list is another one
+flat_set : (cs : List (List CellData)) (i : ℕ) (d : List CellData) → i < length cs
+    → flat (set cs i d) ≡ flat (take i cs) ++ (d ++ flat (drop (suc i) cs))
+flat_set [] i d lt = absurd (omega arith)
+flat_set (c ∷ cs) zero d lt = refl
+flat_set (c ∷ cs) (suc i) d lt =
+    ap (λ xs. c ++ xs) (flat_set cs i d (omega arith))
+    ∙ sym (append_assoc c (flat (take i cs)) (d ++ flat (drop (suc i) cs)))
+
+flags_split : (cs : List (List CellData)) (i : ℕ) (d : List CellData) → i < length cs
+    → map flag_of (flat (set cs i d)) ≡ map flag_of (flat (take i cs)) ++ (map flag_of d ++ map flag_of (flat (drop (suc i) cs)))
+flags_split cs i d lt =
+    let low = flat (take i cs) in
+    let high = flat (drop (suc i) cs) in
+    ap (λ (xs : List CellData). map flag_of xs) (flat_set cs i d lt)
+    ∙ map-append flag_of low (d ++ high) ∙ ap (λ fs. map flag_of low ++ fs) (map-append flag_of d high)
+
+flags_whole : (cs : List (List CellData)) (i : ℕ) → i < length cs
+    → map flag_of (flat cs)
+    ≡ map flag_of (flat (take i cs)) ++ (map flag_of (get_or cs i []) ++ map flag_of (flat (drop (suc i) cs)))
+flags_whole cs i lt =
+    ap (λ (ds : List (List CellData)). map flag_of (flat ds)) (sym (set-get_or cs i [])) ∙ flags_split cs i (get_or cs i []) lt
+
+pub flags_part : (cs : List (List CellData)) (i a k : ℕ) (c : List CellData) → i < length cs → a ≡ length (flat (take i cs))
+    → c ≡ get_or cs i [] → k ≡ length c → take k (drop a (map flag_of (flat cs))) ≡ map flag_of c
+flags_part cs i a k c lt at is long =
+    let low = map flag_of (flat (take i cs)) in
+    let mid = map flag_of (get_or cs i []) in
+    let high = map flag_of (flat (drop (suc i) cs)) in
+    let same = ap (λ (xs : List CellData). length xs) is in
+    ap (λ fs. take k (drop a fs)) (flags_whole cs i lt)
+    ∙ ap (λ fs. take k fs) (drop_at low (mid ++ high) a (omega (arith, at, length-map (flat (take i cs)) flag_of)))
+    ∙ take_at mid high k (omega (arith, long, same, length-map (get_or cs i []) flag_of))
+    ∙ ap (λ (xs : List CellData). map flag_of xs) (sym is)
+
+pub flags_put : (cs : List (List CellData)) (i a k : ℕ) (c d : List CellData) → i < length cs → a ≡ length (flat (take i cs))
+    → c ≡ get_or cs i [] → k ≡ length c
+    → take a (map flag_of (flat cs)) ++ (map flag_of d ++ drop k (drop a (map flag_of (flat cs)))) ≡ map flag_of (flat (set cs i d))
+flags_put cs i a k c d lt at is long =
+    let low = map flag_of (flat (take i cs)) in
+    let mid = map flag_of (get_or cs i []) in
+    let high = map flag_of (flat (drop (suc i) cs)) in
+    let new = map flag_of d in
+    let same = ap (λ (xs : List CellData). length xs) is in
+    let front : length low ≡ a = omega (arith, at, length-map (flat (take i cs)) flag_of) in
+    let wide : length mid ≡ k = omega (arith, long, same, length-map (get_or cs i []) flag_of) in
+    ap (λ fs. take a fs ++ (new ++ drop k (drop a fs))) (flags_whole cs i lt)
+    ∙ ap (λ fs. fs ++ (new ++ drop k (drop a (low ++ (mid ++ high))))) (take_at low (mid ++ high) a front)
+    ∙ ap (λ fs. low ++ (new ++ drop k fs)) (drop_at low (mid ++ high) a front)
+    ∙ ap (λ fs. low ++ (new ++ fs)) (drop_at mid high k wide)
+    ∙ sym (flags_split cs i d lt)
+
+-- how many cells there are up to a list that was set
+pub length-set_more : (cs : List (List CellData)) (i : ℕ) (d : List CellData) → i < length cs
+    → length (flat (take (i + 1) (set cs i d))) ≡ length (flat (take i cs)) + length d
+length-set_more [] i d lt = absurd (omega arith)
+length-set_more (c ∷ cs) zero d lt = omega (arith, length-append d [])
+length-set_more (c ∷ cs) (suc i) d lt =
+    let rest = length-set_more cs i d (omega arith) in
+    let next : suc i + 1 ≡ suc (i + 1) = omega arith in
+    ap (λ k. length (flat (take k (c ∷ set cs i d)))) next
+    ∙ omega (arith, length-append c (flat (take (i + 1) (set cs i d))), length-append c (flat (take i cs)))
 
 -- a list that comes in between two others
 pub flat_insert : (cs : List (List CellData)) (i p : ℕ) (c : List CellData) → i ≤ length cs → length (flat (take i cs)) ≡ p

@@ -308,7 +308,8 @@ impl Cells {
     }
 
     /// Marks the cell at the place of a cover, or all cells of its insert. An insert of one cell is marked at the place
-    /// alone; where there are more, all chunks are gone over.
+    /// alone. One of several, of which a cover is at the first cell, costs by the chunks from that cell to the insert's last
+    /// one, between which others' cells may stand.
     fn mark(&mut self, cover: &Cover)
         requires room { HasRoomFor self.old (Covered cover.now) }
         requires place { cover.now.place < length self.old.cells }
@@ -316,7 +317,7 @@ impl Cells {
         ensures text { self.new.text ≡ self.old.text }
     {
         match self.several(cover) {
-            Some((name, generation)) => self.raise(&name, generation),
+            Some((name, generation)) => self.raise(cover.place, &name, generation),
             None => self.mark_one(cover),
         }
     }
@@ -353,12 +354,13 @@ impl Cells {
         self.chunks.mark(cover, &mut self.spare);
     }
 
-    /// Raises all cells of an insert that has several.
-    fn raise(&mut self, name: &Name, generation: u16)
+    /// Raises all cells of an insert that has several, of which one stands at the place.
+    fn raise(&mut self, place: u32, name: &Name, generation: u16)
+        requires { place < length self.old.cells }
         ensures cells { self.new.cells ≡ map (raised_run generation name.now) self.old.cells }
         ensures text { self.new.text ≡ self.old.text }
     {
         self.ready = None;
-        self.chunks.raise(name, generation);
+        self.chunks.raise(place, name, generation);
     }
 }

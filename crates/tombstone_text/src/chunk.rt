@@ -6,12 +6,13 @@ ghost use Rattle.tombstone_text.specs.Cells.{HasRoomOn};
 ghost use Rattle.tombstone_text.specs.Chunks.{flag_of, shown_in};
 ghost use Rattle.tombstone_text.specs.Code.Cells.{is_sought};
 ghost use Rattle.tombstone_text.specs.Code.Chunks.{ChunkData, IsChunk, blank};
+ghost use Rattle.tombstone_text.specs.Code.Inserts.{IsFound};
 ghost use Rattle.tombstone_text.specs.Code.Spans.{cells_in, raised_run};
 ghost use Rattle.tombstone_text.specs.declared.chunk.TheConstants.{FULL, GAPS};
 
 use crate::cell::Cell;
 use crate::deleters::Spare;
-use crate::sought::Sought;
+use crate::sought::{Found, Sought};
 use crate::span::Span;
 use crate::spans;
 use lane_rank::ones;
@@ -126,6 +127,14 @@ impl Chunk {
         spans::position_of(self.spans.as_slice(), sought)
     }
 
+    /// What the chunk has of an insert that has several cells.
+    pub(crate) fn found(&self, name: &Name) -> Found
+        ensures { IsFound result name.now self.now.cells }
+    {
+        let _ = &self.flags;
+        spans::found(self.spans.as_slice(), name)
+    }
+
     /// The flags of the cells, in their order.
     pub(crate) fn flags(&self) -> &[u8]
         ensures flags { result.now ≡ map flag_of self.now.cells }
@@ -210,8 +219,7 @@ impl Chunk {
         ensures cells { self.new.cells ≡ map (raised_run generation name.now) self.old.cells }
         ensures text { self.new.text ≡ self.old.text }
     {
-        spans::raise(&mut self.spans, name, generation);
-        spans::set_flags(self.spans.as_slice(), &mut self.flags);
+        spans::raise(&mut self.spans, self.flags.as_mut_slice(), name, generation);
     }
 
     /// Keeps the first `keep` cells and moves the others, with their characters, to another chunk, which was empty. Of

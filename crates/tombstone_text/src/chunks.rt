@@ -1,6 +1,7 @@
 //! The chunks of a text, beside the columns of their lengths and of their numbers of shown cells.
 
 ghost use Rattle.std.specs.Prelude.{◌≡◌, ℕ, ◌+◌, ◌-◌, ◌<◌, ◌≤◌, ◌^◌, ◌↔◌, [], length, filter, map, take, min, position, slice_get, slice_index_or, vec_len, vec_capacity, IfSome, IfOk, OnOk, OnErr, IsTrue, IsFalse, option_map, if◌then◌else◌};
+ghost use Rattle.op_name.specs.declared.limits.TheConstants.{LETTERS};
 ghost use Rattle.ttf_form.specs.Cells.{cell_shown, bare_cells, change_at, marked, put_in};
 ghost use Rattle.ttf_form.specs.declared.include.TheConstants.{CELLS};
 ghost use Rattle.tombstone_text.specs.Cells.{HasGaps, HasRoomOn};
@@ -8,13 +9,14 @@ ghost use Rattle.tombstone_text.specs.Chunks.{flat, flag_of, joined, shown_in};
 ghost use Rattle.tombstone_text.specs.Sums.{IsPart};
 ghost use Rattle.tombstone_text.specs.Code.Cells.{AreBeside, ChunksData, cut, fresh_gaps, fresh_room, HasPlaces, IsReady, IsSeat, IsText, IsWay, MayBeCut, is_sought};
 ghost use Rattle.tombstone_text.specs.Code.Chunks.{blank, bodies, gaps_of, rooms_of, texts_of};
+ghost use Rattle.tombstone_text.specs.Code.Inserts.{AreInserts, HasLast, IsFound, LacksRun};
 ghost use Rattle.tombstone_text.specs.Code.Spans.{raised_run};
 ghost use Rattle.tombstone_text.specs.declared.chunk.TheConstants.{FULL, GAPS};
 
 use crate::cell::Cell;
 use crate::chunk::{Chunk, FULL, GAPS, room_for};
 use crate::deleters::Spare;
-use crate::sought::Sought;
+use crate::sought::{Found, Sought};
 use crate::sums::Sums;
 use op_name::{Memory, Name};
 use std::alloc::Global;
@@ -240,7 +242,7 @@ impl Chunks {
 
     /// Makes room for `n` new cells at a place.
     fn reserve_way(&mut self, place: u32, n: usize) -> Result<Way, Memory>
-        requires { n ≤ 256 }
+        requires { n ≤ LETTERS }
         ensures chunks { self.new.chunks ≡ self.old.chunks }
         ensures cells { self.new.cells ≡ self.old.cells }
         ensures text { self.new.text ≡ self.old.text }
@@ -485,29 +487,91 @@ impl Chunks {
         self.shown.set(i, shown - before + after);
     }
 
-    /// Raises all cells of an insert, wherever they stand, if it has several.
-    pub(crate) fn raise(&mut self, name: &Name, generation: u16)
+    /// Raises all cells of an insert, if it has several. Where its first cell is that at the place, this costs by the
+    /// chunks from that cell to the insert's last one; else by those from the front of the text on.
+    pub(crate) fn raise(&mut self, place: u32, name: &Name, generation: u16)
+        requires place { place < length self.old.cells }
+        requires inserts { AreInserts self.old.cells }
         ensures cells { self.new.cells ≡ map (raised_run generation name.now) self.old.cells }
         ensures text { self.new.text ≡ self.old.text }
     {
         self.known();
-        for i in 0..self.chunk_count() {
-            self.raise_chunk(i, name, generation);
-        }
+        let first = self.first_of(place, name);
+        self.raise_from(first, name, generation);
         self.known();
     }
 
+    /// A chunk in front of which no cell is of an insert that has several: that of the place, where the insert's first cell
+    /// stands there, else the first one.
+    fn first_of(&self, place: u32, name: &Name) -> usize
+        requires place { place < length self.now.cells }
+        requires inserts { AreInserts self.now.cells }
+        ensures { LacksRun name.now (flat (take result self.now.chunks)) }
+    {
+        let _ = self.lens.total();
+        let (i, at) = self.lens.find(place);
+        match self.list[i].cell(at as usize) {
+            Some(cell) => { if cell.is_first_of(name) { i } else { 0 } }
+            None => 0,
+        }
+    }
+
+    /// Raises all cells of an insert, if it has several, none of which stands in front of chunk `first`. No cell stands
+    /// behind the insert's last one, so the chunks behind that aren't looked at.
+    fn raise_from(&mut self, first: usize, name: &Name, generation: u16)
+        requires before { LacksRun name.now (flat (take first self.old.chunks)) }
+        requires inserts { AreInserts (flat self.old.chunks) }
+        ensures chunks { self.new.chunks ≡ map (map (raised_run generation name.now)) self.old.chunks }
+        ensures text { self.new.text ≡ self.old.text }
+    {
+        for i in first..self.chunk_count() as usize {
+            if self.raise_chunk(i, name, generation) {
+                return;
+            }
+        }
+    }
+
+    /// Raises the cells of an insert in chunk `i`, if it has several, and answers whether its last one is there. A chunk
+    /// that has none is only read.
+    fn raise_chunk(&mut self, i: usize, name: &Name, generation: u16) -> bool
+        requires { i < length self.old.chunks }
+        ensures chunks { self.new.chunks ≡ change_at i (map (raised_run generation name.now)) self.old.chunks }
+        ensures text { self.new.text ≡ self.old.text }
+        ensures last { IsTrue result → HasLast name.now (slice_index_or self.old.chunks i []) }
+    {
+        match self.found(i, name) {
+            Found::Nothing => false,
+            Found::Cells => {
+                self.raise_there(i, name, generation);
+                false
+            }
+            Found::Last => {
+                self.raise_there(i, name, generation);
+                true
+            }
+        }
+    }
+
+    /// What chunk `i` has of an insert that has several cells.
+    fn found(&self, i: usize, name: &Name) -> Found
+        requires { i < length self.now.chunks }
+        ensures { IsFound result name.now (slice_index_or self.now.chunks i []) }
+    {
+        let _ = &self.lens;
+        self.list[i].found(name)
+    }
+
     /// Raises the cells of an insert in chunk `i`, if it has several, and counts the chunk's shown cells anew.
-    fn raise_chunk(&mut self, i: u32, name: &Name, generation: u16)
+    fn raise_there(&mut self, i: usize, name: &Name, generation: u16)
         requires { i < length self.old.chunks }
         ensures chunks { self.new.chunks ≡ change_at i (map (raised_run generation name.now)) self.old.chunks }
         ensures text { self.new.text ≡ self.old.text }
     {
         let _ = self.lens.total();
-        let chunk = &mut self.list[i as usize];
+        let chunk = &mut self.list[i];
         chunk.raise(name, generation);
         let shown = chunk.shown();
-        self.shown.set(i as usize, shown);
+        self.shown.set(i, shown);
     }
 }
 
@@ -538,7 +602,7 @@ fn kept(len: usize, at_end: bool) -> usize
 /// The room that the lower part of a chunk keeps at least: for the new cells too, where they go there.
 fn room_below(at: usize, keep: usize, n: usize) -> usize
     requires keep { keep < FULL }
-    requires few { n ≤ 256 }
+    requires few { n ≤ LETTERS }
     ensures { at ≤ keep → result ≡ keep + n }
 {
     if at <= keep { keep + n } else { keep }

@@ -1,16 +1,18 @@
 //! A span: cells that stand side by side, each of which follows the one before it.
 
-ghost use Rattle.std.specs.Prelude.{◌≡◌, ◌+◌, ◌-◌, ◌<◌, ◌≤◌, [], length, max, position, IsTrue};
+ghost use Rattle.std.specs.Prelude.{◌≡◌, ◌+◌, ◌-◌, ◌<◌, ◌≤◌, [], length, map, max, position, IsTrue};
+ghost use Rattle.op_name.specs.declared.limits.TheConstants.{LETTERS};
 ghost use Rattle.op_name.specs.declared.name.TheConstants.{NUMBERS};
 ghost use Rattle.ttf_form.specs.Cells.{marked, raise_in};
 ghost use Rattle.tombstone_text.specs.Cells.{HasRoomOn};
 ghost use Rattle.tombstone_text.specs.Chunks.{flag_of};
 ghost use Rattle.tombstone_text.specs.Code.Cells.{is_sought};
+ghost use Rattle.tombstone_text.specs.Code.Inserts.{IsFound};
 ghost use Rattle.tombstone_text.specs.Code.Spans.{IsNext, IsSpan, SpanData, after, raised_run, span_cells};
 
 use crate::cell::Cell;
 use crate::deleters::{Deleters, Spare, any_in_force};
-use crate::sought::Sought;
+use crate::sought::{Found, Sought};
 use op_name::Name;
 use std::marker::Model;
 use ttf_form::{Ins, Mark};
@@ -54,7 +56,7 @@ impl Span {
     /// Cells that no delete has hit: the one with this name and offset, and so many behind it.
     fn plain(name: Name, generation: u16, offset: u8, last: u8, more: u8) -> Span
         requires numbers { last ≡ 0 → name.number + more ≤ NUMBERS }
-        requires offsets { 1 ≤ last → offset + more ≤ 255 }
+        requires offsets { 1 ≤ last → offset + more < LETTERS }
         ensures { result ≡ record { first = record { name = name; offset = offset; of = last + 1; generation = generation; deleters = [] }; count = more + 1 } }
     {
         Span {
@@ -189,14 +191,38 @@ impl Span {
         self.deleters.raise(name, generation, spare);
     }
 
-    /// Raises the cells, if they are of the insert and it has several.
-    pub(crate) fn raise(&mut self, name: &Name, generation: u16)
+    /// What the cells are of an insert that has several: one of them is its last one where that has the last offset.
+    pub(crate) fn found(&self, name: &Name) -> Found
+        ensures { IsFound result name.now (span_cells self.now) }
+    {
+        if self.last == 0 || self.name != *name {
+            Found::Nothing
+        } else if self.offset + self.more == self.last {
+            Found::Last
+        } else {
+            Found::Cells
+        }
+    }
+
+    /// Raises the cells and sets their flags, if they are of the insert and it has several.
+    pub(crate) fn raise(&mut self, name: &Name, generation: u16, flags: &mut [u8])
+        requires { flags.old ≡ map flag_of (span_cells self.old) }
         ensures first { self.new.first ≡ raised_run generation name.now self.old.first }
         ensures count { self.new.count ≡ self.old.count }
+        ensures flags { flags.new ≡ map flag_of (span_cells self.new) }
     {
         if self.last != 0 && self.name == *name {
             self.raise_own(generation);
+            self.put_flags(flags);
         }
+    }
+
+    /// Sets the flags of the cells.
+    fn put_flags(&self, flags: &mut [u8])
+        requires { length flags.old ≡ self.now.count }
+        ensures { flags.new ≡ map flag_of (span_cells self.now) }
+    {
+        flags.fill(self.flag());
     }
 }
 

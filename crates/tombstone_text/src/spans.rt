@@ -6,12 +6,13 @@ ghost use Rattle.tombstone_text.specs.Cells.{HasRoomOn};
 ghost use Rattle.tombstone_text.specs.Chunks.{flag_of, flat};
 ghost use Rattle.tombstone_text.specs.Code.Cells.{cut, is_sought};
 ghost use Rattle.tombstone_text.specs.Code.Chunks.{blank};
+ghost use Rattle.tombstone_text.specs.Code.Inserts.{IsFound};
 ghost use Rattle.tombstone_text.specs.Code.Spans.{AreFilled, IsPlace, IsSpot, cells_in, pieces, raised_run, span_cells};
 ghost use Rattle.tombstone_text.specs.declared.chunk.TheConstants.{FULL};
 
 use crate::chunk::FULL;
 use crate::deleters::Spare;
-use crate::sought::Sought;
+use crate::sought::{Found, Sought};
 use crate::span::Span;
 use op_name::Name;
 use ttf_form::{Ins, Mark};
@@ -163,36 +164,32 @@ pub(crate) fn mark(spans: &mut Vec<Span>, at: usize, mark: Mark, spare: &mut Spa
     span.flag()
 }
 
-/// Raises all cells of an insert, if it has several.
-pub(crate) fn raise(spans: &mut Vec<Span>, name: &Name, generation: u16)
-    ensures { pieces spans.new.items ≡ map (map (raised_run generation name.now)) (pieces spans.old.items) }
+/// What there is of an insert that has several cells. The search ends at the last one.
+pub(crate) fn found(spans: &[Span], name: &Name) -> Found
+    ensures { IsFound result name.now (cells_in spans.now) }
 {
+    let mut any = false;
+    for i in 0..spans.len() {
+        match spans[i].found(name) {
+            Found::Nothing => {}
+            Found::Cells => any = true,
+            Found::Last => return Found::Last,
+        }
+    }
+    if any { Found::Cells } else { Found::Nothing }
+}
+
+/// Raises all cells of an insert, if it has several, and sets their flags in a column of the flags of all cells.
+pub(crate) fn raise(spans: &mut Vec<Span>, flags: &mut [u8], name: &Name, generation: u16)
+    requires { flags.old ≡ map flag_of (cells_in spans.old.items) }
+    ensures pieces { pieces spans.new.items ≡ map (map (raised_run generation name.now)) (pieces spans.old.items) }
+    ensures flags { flags.new ≡ map flag_of (cells_in spans.new.items) }
+{
+    let mut at = 0;
     for i in 0..spans.len() {
         let span = &mut spans[i];
-        span.raise(name, generation);
-    }
-}
-
-/// Sets the flags of all cells anew.
-pub(crate) fn set_flags(spans: &[Span], flags: &mut Vec<u8>)
-    requires { length (cells_in spans.now) ≤ vec_capacity flags.old }
-    ensures flags { flags.new.items ≡ map flag_of (cells_in spans.now) }
-    ensures capacity { vec_capacity flags.new ≡ vec_capacity flags.old }
-{
-    flags.clear();
-    for i in 0..spans.len() {
-        push_flags(&spans[i], flags);
-    }
-}
-
-/// Appends the flags of the cells of a span.
-fn push_flags(span: &Span, flags: &mut Vec<u8>)
-    requires { vec_len flags.old + span.now.count ≤ vec_capacity flags.old }
-    ensures flags { flags.new.items ≡ flags.old.items ++ map flag_of (span_cells span.now) }
-    ensures capacity { vec_capacity flags.new ≡ vec_capacity flags.old }
-{
-    let flag = span.flag();
-    for _ in 0..span.count() {
-        flags.push_reserved(flag);
+        let behind = at + span.count();
+        span.raise(name, generation, &mut flags[at..behind]);
+        at = behind;
     }
 }

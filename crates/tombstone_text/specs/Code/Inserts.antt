@@ -1,7 +1,9 @@
 -- How the cells of one insert stand among all cells of a text.
-use Rattle.std.specs.Prelude.{◌≡◌, ℕ, ◌<◌, List, [], ◌∷◌, map}
+use Rattle.std.specs.Prelude.{◌≡◌, ℕ, ◌+◌, ◌<◌, ◌⊎◌, List, [], ◌∷◌, map}
 use Rattle.op_name.specs.NameData.{NameData}
 use Rattle.ttf_form.specs.Cells.{CellData}
+use Rattle.tombstone_text.specs.declared.sought.Found.{Found}
+use Rattle.tombstone_text.specs.declared.sought.Found.TheVariants.{Nothing, Cells, Last}
 
 -- of which insert a cell is, at which offset, among how many
 pub record Origin : Type 0 where
@@ -34,3 +36,19 @@ AreWithin (o ∷ os) = (o.offset < o.of) × AreWithin os
 pub record AreInserts (cs : List CellData) : Type 0 where
   pub ordered : AreOrdered (origins cs)
   pub within : AreWithin (origins cs)
+
+-- no cell is of the insert, if that has several
+abbrev pub LacksRun : NameData → List CellData → Type 0
+LacksRun n [] = Unit {0}
+LacksRun n (c ∷ cs) = (c.name ≡ n → c.of ≡ 1) × LacksRun n cs
+
+-- one of the cells is the last one of the insert
+abbrev pub HasLast : NameData → List CellData → Type 0
+HasLast n [] = ⊥
+HasLast n (c ∷ cs) = ((c.name ≡ n) × (c.offset + 1 ≡ c.of)) ⊎ HasLast n cs
+
+-- what was found of the insert is so
+abbrev pub IsFound : Found → NameData → List CellData → Type 0
+IsFound Nothing n cs = LacksRun n cs
+IsFound Cells n cs = Unit {0}
+IsFound Last n cs = HasLast n cs

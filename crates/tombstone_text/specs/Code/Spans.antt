@@ -1,6 +1,7 @@
 -- How cells are kept in spans: a first cell, and how many there are from it on.
 use Rattle.std.specs.Prelude.{◌≡◌, ℕ, zero, suc, ◌+◌, ◌<◌, ◌≤◌, ◌==◌, if◌then◌else◌, List, [], ◌∷◌, length, map, take, slice_index_or}
 use Rattle.op_name.specs.NameData.{NameData}
+use Rattle.op_name.specs.declared.limits.TheConstants.{LETTERS}
 use Rattle.op_name.specs.declared.name.TheConstants.{NUMBERS}
 use Rattle.ttf_form.specs.declared.ins.Ins.{Ins}
 use Rattle.ttf_form.specs.Cells.{CellData, IsRising, bare_cells, raised}
@@ -47,7 +48,7 @@ pub record IsSpan (name : NameData) (offset : ℕ) (last : ℕ) (more : ℕ) (de
   pub rising : IsRising deleters
   pub bare : 1 ≤ more → deleters ≡ []
   pub numbers : last ≡ 0 → name.number + more ≤ NUMBERS
-  pub offsets : 1 ≤ last → offset + more ≤ 255
+  pub offsets : 1 ≤ last → offset + more < LETTERS
 
 -- the insert has one cell, which follows the last one of the span, and may stand there
 pub record IsNext (s : SpanData) (a : Ins) : Type 0 where

@@ -1,7 +1,7 @@
-use Rattle.std.proofs.Common.{◌≡◌, ℕ, List, length, map, sym, ap, ◌∙◌, subst, arith}
-use Rattle.std.proofs.lemmas.List.{length-map}
+use Rattle.std.proofs.Common.{◌≡◌, List, length, map, sym, ap, ◌∙◌, subst, arith}
+use Rattle.std.proofs.lemmas.List.{length-map, take_at}
 use Rattle.ttf_form.specs.Cells.{CellData}
-use Rattle.tombstone_text.specs.Chunks.{flag_of, flat}
+use Rattle.tombstone_text.specs.Chunks.{flat}
 use Rattle.tombstone_text.specs.Code.Spans.{AreFilled, cells_in, pieces, raised_run}
 use Rattle.tombstone_text.proofs.Pieces.{filled_map}
 use Rattle.tombstone_text.proofs.Raising.{flat_map_all}
@@ -12,32 +12,17 @@ invariant_of-self c =
     let f = raised_run c.args.generation c.args.name.now in
     let ss = c.self.inside.spans.items in
     let now : cells_in c.raise.new.spans.items ≡ map f (cells_in ss) =
-    ap (λ cs. flat cs) c.raise.ensures ∙ flat_map_all f (pieces ss) in
+    ap (λ cs. flat cs) c.raise.ensures.pieces ∙ flat_map_all f (pieces ss) in
     let long = ap (λ (s : List CellData). length s) now in
     let same = length-map (cells_in ss) f in
     record {
-      filled = subst AreFilled (sym c.raise.ensures) (filled_map f (pieces ss) c.self.invariant.filled);
-      flags_are =
-          c.set_flags.ensures.flags
-          ∙ ap (λ ts. map flag_of (cells_in ts)) c.as_slice.ensures.value;
+      filled = subst AreFilled (sym c.raise.ensures.pieces) (filled_map f (pieces ss) c.self.invariant.filled);
+      flags_are = take_at c.raise.new.flags _ _ (c.raise.auto.flags ∙ c.as_mut_slice.ensures.len) ∙ c.raise.ensures.flags;
       long = omega (arith, long, same, c.self.invariant.long);
       most = omega (arith, long, same, c.self.invariant.most);
     }
 
-pub set_flags-requires : goal.set_flags-requires
-set_flags-requires c =
-    let f = raised_run c.args.generation c.args.name.now in
-    let ss = c.self.inside.spans.items in
-    let now : cells_in c.raise.new.spans.items ≡ map f (cells_in ss) =
-    ap (λ cs. flat cs) c.raise.ensures ∙ flat_map_all f (pieces ss) in
-    let long = ap (λ (s : List CellData). length s) now in
-    let same = length-map (cells_in ss) f in
-    let flags = ap (λ (fs : List ℕ). length fs) c.self.invariant.flags_are in
-    let beside = length-map (cells_in ss) flag_of in
-    let lent = ap (λ ts. length (cells_in ts)) c.as_slice.ensures.value in
-    omega (arith, long, same, flags, beside, lent)
-
 pub returns-clause-cells : goal.returns-clause-cells
 returns-clause-cells c =
     let f = raised_run c.args.generation c.args.name.now in
-    ap (λ cs. flat cs) c.raise.ensures ∙ flat_map_all f (pieces c.self.inside.spans.items) ∙ ap (λ s. map f s.cells) c.self.view_is
+    ap (λ cs. flat cs) c.raise.ensures.pieces ∙ flat_map_all f (pieces c.self.inside.spans.items) ∙ ap (λ s. map f s.cells) c.self.view_is

@@ -1,7 +1,7 @@
 use Rattle.std.proofs.Common.{◌≡◌, map}
 use Rattle.tombstone_text.specs.Code.Spans.{raised_run}
 use Rattle.tombstone_text.proofs.Raising.{changed_first}
-use Rattle.tombstone_text.proofs.chunks.Chunks.raise.Given as goal
+use Rattle.tombstone_text.proofs.chunks.Chunks.raise_from.Given as goal
 
 abbrev pub invariant-loop-i : goal.invariant-loop-i
 invariant-loop-i l =
