@@ -1,6 +1,7 @@
 //! The integrated operations of a site, with what they made of the text.
 
-ghost use Rattle.std.specs.Prelude.{◌≡◌, ◌+◌, ◌<◌, ◌≤◌, ◌↔◌, ◌++◌, ◌∷◌, true, false, List, [], IsTrue, IsNone, OnOk, OnErr, IfOk, IfSome, length, option_map, slice_get, vec_len, vec_capacity};
+ghost use Rattle.std.specs.Prelude.{◌≡◌, ◌+◌, ◌<◌, ◌≤◌, ◌↔◌, ◌++◌, ◌∷◌, true, false, List, []};
+ghost use Rattle.std.specs.Prelude.{IsTrue, IsNone, OnOk, OnErr, IfOk, IfSome, length, option_map, slice_get, vec_len, vec_capacity};
 ghost use Rattle.op_name.specs.declared.member.Member.{Member};
 ghost use Rattle.op_name.specs.declared.member.Member.TheVariants.{Original};
 ghost use Rattle.context_diff.specs.Bases.{base_has};
@@ -29,7 +30,8 @@ ghost use Rattle.cot_site.specs.Sites.{AreExecuted, AreCached, IsFormOf, KeepsFo
 ghost use Rattle.cot_site.specs.Code.Judging.{HasCells};
 ghost use Rattle.cot_site.specs.Code.Notes.{AreFormsNoted};
 ghost use Rattle.cot_site.specs.declared.notes.TheConstants.{CACHED_FORMS};
-ghost use Rattle.cot_site.specs.Code.Replicas.{AreRowsOf, IsExecutedAsBefore, IsLastMember, IsStep, IsNextAfter, KnowsAll, KnowsBefore, before_last, last_letters};
+ghost use Rattle.cot_site.specs.Code.Replicas.{AreRowsOf, IsExecutedAsBefore, IsLastMember, IsStep, IsNextAfter, KnowsAll, KnowsBefore};
+ghost use Rattle.cot_site.specs.Code.Replicas.{before_last, last_letters};
 
 use crate::notes::{At, Notes};
 use context_diff::{Book, Letters, LettersBad, Op, reserve_one};
@@ -71,7 +73,12 @@ impl Model for Replica {
 
     ghost view = { λ r. record { history = r.book.ops; forms = r.forms.items; entries = entries_of r.book.ops r.notes } };
 
-    ghost invariant = { λ r. IsExecuted r.book.ops r.forms.items r.cells.cells × AreCached r.book.ops (entries_of r.book.ops r.notes) × AreTold r.book.ops r.notes × AreRowsOf r.book.ops r.rows × AreNoted r.passages r.forms.items × AreCharacters r.book.ops r.cells.cells r.cells.text };
+    ghost invariant = { λ r. IsExecuted r.book.ops r.forms.items r.cells.cells
+        × AreCached r.book.ops (entries_of r.book.ops r.notes)
+        × AreTold r.book.ops r.notes
+        × AreRowsOf r.book.ops r.rows
+        × AreNoted r.passages r.forms.items
+        × AreCharacters r.book.ops r.cells.cells r.cells.text };
 }
 
 impl Replica {
@@ -336,9 +343,14 @@ fn execute(
     requires knows { IsTrue knows_all → KnowsBefore book.now.ops member.now }
     requires noted { AreNoted passages.old forms.old.items }
     requires kept { AreFormsNoted book.now.ops notes.old }
-    requires fits { (f : Form) → Derived form_over (family_in book.now.ops (base_form book.now.ops)) member.now (has (before_last book.now.ops)) f → FitsCells cells.old.cells f }
-    requires letters { (f : Form) → Derived form_over (family_in book.now.ops (base_form book.now.ops)) member.now (has (before_last book.now.ops)) f → length (last_letters book.now.ops) ≡ extent_of f }
-    ensures step { OnOk result (IsStep book.now.ops member.now (has (before_last book.now.ops)) forms.old.items forms.new.items cells.old cells.new) }
+    requires fits { (f : Form)
+        → Derived form_over (family_in book.now.ops (base_form book.now.ops)) member.now (has (before_last book.now.ops)) f
+        → FitsCells cells.old.cells f }
+    requires letters { (f : Form)
+        → Derived form_over (family_in book.now.ops (base_form book.now.ops)) member.now (has (before_last book.now.ops)) f
+        → length (last_letters book.now.ops) ≡ extent_of f }
+    ensures step { OnOk result
+        (IsStep book.now.ops member.now (has (before_last book.now.ops)) forms.old.items forms.new.items cells.old cells.new) }
     ensures rows { OnOk result (AreRowsOf book.now.ops rows.new) }
     ensures forms { OnErr result (forms.new.items ≡ forms.old.items) }
     ensures cells { OnErr result (cells.new.cells ≡ cells.old.cells) }
@@ -406,7 +418,8 @@ fn form_with_room(
     requires next { IsNextAfter book.now.ops member.now (has (before_last book.now.ops)) forms.now rows.old }
     requires knows { IsTrue knows_all → KnowsBefore book.now.ops member.now }
     requires kept { AreFormsNoted book.now.ops notes.old }
-    ensures form { IfOk result (Derived form_over (family_in book.now.ops (base_form book.now.ops)) member.now (has (before_last book.now.ops))) }
+    ensures form { IfOk result
+        (Derived form_over (family_in book.now.ops (base_form book.now.ops)) member.now (has (before_last book.now.ops))) }
     ensures rows { OnOk result (AreRowsOf book.now.ops rows.new) }
     ensures room { IfOk result (HasRoomFor cells.new) }
     ensures cells { cells.new.cells ≡ cells.old.cells }
@@ -435,7 +448,8 @@ fn form_at(
     requires next { IsNextAfter book.now.ops member.now (has (before_last book.now.ops)) forms.now rows.old }
     requires knows { IsTrue knows_all → KnowsBefore book.now.ops member.now }
     requires kept { AreFormsNoted book.now.ops notes.old }
-    ensures form { IfOk result (Derived form_over (family_in book.now.ops (base_form book.now.ops)) member.now (has (before_last book.now.ops))) }
+    ensures form { IfOk result
+        (Derived form_over (family_in book.now.ops (base_form book.now.ops)) member.now (has (before_last book.now.ops))) }
     ensures rows { OnOk result (AreRowsOf book.now.ops rows.new) }
     ensures noted { AreNoted passages.new forms.now }
     ensures kept { AreFormsNoted book.now.ops notes.new }
@@ -466,7 +480,8 @@ fn original_form(
     requires next { IsNextAfter book.now.ops (Original name.now) (has (before_last book.now.ops)) forms.now rows.old }
     requires knows { IsTrue knows_all → KnowsBefore book.now.ops (Original name.now) }
     requires kept { AreFormsNoted book.now.ops notes.old }
-    ensures form { IfOk result (Derived form_over (family_in book.now.ops (base_form book.now.ops)) (Original name.now) (has (before_last book.now.ops))) }
+    ensures form { IfOk result
+        (Derived form_over (family_in book.now.ops (base_form book.now.ops)) (Original name.now) (has (before_last book.now.ops))) }
     ensures rows { OnOk result (AreRowsOf book.now.ops rows.new) }
     ensures kept { AreFormsNoted book.now.ops notes.new }
 {
@@ -501,7 +516,8 @@ fn base_of(book: &Book, name: &Name) -> Form
 // row, which is that of an insert at the original's context with the original, if all that the insert was made after is there.
 fn note_found(book: &Book, notes: &mut Notes, name: &Name, form: Form, first: Option<Form>)
     requires last { IsLastMember book.now.ops (Original name.now) }
-    requires form { IsOnlyFormAt form_over (family_in book.now.ops (base_form book.now.ops)) (Original name.now) (has (before_last book.now.ops)) form }
+    requires form { IsOnlyFormAt form_over (family_in book.now.ops (base_form book.now.ops)) (Original name.now)
+        (has (before_last book.now.ops)) form }
     requires first { IfSome first (IsFormWith form_over insert_of (family_in book.now.ops (base_form book.now.ops)) (Original name.now)) }
     requires kept { AreFormsNoted book.now.ops notes.old }
     ensures kept { AreFormsNoted book.now.ops notes.new }
@@ -540,7 +556,8 @@ fn last_place(book: &Book) -> u32
 
 // Whether one original of the book was made after all that another one was made after.
 fn knew_base(book: &Book, name: &Name, other: &Name) -> bool
-    ensures { IsTrue result → (y : Member) → base_has book.now.ops (Original other.now) y ≡ true → base_has book.now.ops (Original name.now) y ≡ true }
+    ensures { IsTrue result → (y : Member)
+        → base_has book.now.ops (Original other.now) y ≡ true → base_has book.now.ops (Original name.now) y ≡ true }
 {
     book.known();
     match (book.original(name), book.original(other)) {

@@ -5,7 +5,7 @@ use Rattle.std.proofs.Math.Seq.{drop-cons}
 use Rattle.std.proofs.lemmas.Bool.{cases_lt}
 use Rattle.std.proofs.lemmas.List.{take_more, take_min, reverse-append, drop_all}
 use Rattle.op_name.specs.NameData.{NameData}
-use Rattle.context_diff.specs.declared.letters.TheConstants.{LETTERS}
+use Rattle.op_name.specs.declared.limits.TheConstants.{LETTERS}
 use Rattle.context_diff.specs.Operations.{OpData}
 use Rattle.site_answers.specs.declared.local.Local.{Local}
 use Rattle.participant.specs.declared.edits.Edit.{Edit}

@@ -1,7 +1,7 @@
 -- What a text is cut into.
 use Rattle.std.proofs.Common.{◌≡◌, ℕ, zero, suc, ◌-◌, ◌≤◌, min, inl, inr, List, [], ◌∷◌, ◌++◌, length, take, drop, length-take, length-drop, take-append-drop, refl, sym, ap, subst, ◌∙◌, arith}
 use Rattle.std.proofs.lemmas.Bool.{cases_lt}
-use Rattle.context_diff.specs.declared.letters.TheConstants.{LETTERS}
+use Rattle.op_name.specs.declared.limits.TheConstants.{LETTERS}
 use Rattle.participant.specs.Runs.{pieces}
 use Rattle.participant.specs.Laws.{joined, AreFull}
 use Rattle.participant.proofs.EditRuns.{pieces_next, pieces_none}

@@ -1,6 +1,6 @@
 -- The law of pieces: what a text is cut into.
 use Rattle.std.specs.Prelude.{⊤, ◌≡◌, ℕ, ◌≤◌, List, [], ◌∷◌, ◌++◌, length}
-use Rattle.context_diff.specs.declared.letters.TheConstants.{LETTERS}
+use Rattle.op_name.specs.declared.limits.TheConstants.{LETTERS}
 use Rattle.participant.specs.Runs.{pieces}
 
 -- lists one after the other

@@ -12,9 +12,9 @@ ghost use Rattle.participant.specs.Edits.{made_by, IsDone, HasMade};
 ghost use Rattle.participant.specs.Code.Running.{IsReleased};
 
 use crate::releases::release_all;
-use context_diff::{LETTERS, Letters, Op};
+use context_diff::{Letters, Op};
 use cot_site::{Local, Release, Site};
-use op_name::{Memory, Name};
+use op_name::{LETTERS, Memory, Name};
 
 /// What the user of a site does. Places count shown characters.
 #[derive(Drop)]

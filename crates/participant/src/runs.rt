@@ -10,9 +10,8 @@ ghost use Rattle.participant.specs.Runs.{inserts, runs, pieces, deletes, undos, 
 ghost use Rattle.participant.specs.Code.Running.{turning, IsStop};
 
 use crate::edits::{Edit, Stopped, do_edit, do_insert};
-use context_diff::LETTERS;
 use cot_site::{Local, Release, Site};
-use op_name::Name;
+use op_name::{LETTERS, Name};
 use std::slice;
 
 /// What a run of edits did.

@@ -1,4 +1,3 @@
 -- What the proofs of other crates cite of this crate's lemmas.
 pub use Rattle.past_view.proofs.OneRefusal.{closed_accepted, one_refusal}
-pub use Rattle.past_view.proofs.PartText.{past_fewer}
 pub use Rattle.past_view.proofs.Utf8.{starts_all}

@@ -1,10 +1,9 @@
 -- The text of the operations of a closed set, by the cells of the whole history with their deletes.
-use Rattle.std.proofs.Common.{◌≡◌, ℕ, ◌≤◌, Bool, true, false, List, [], ◌∷◌, map, filter, encode_utf8_all, inl, inr, refl, ap, ap₂, sym, ◌∙◌, subst, length, arith}
+use Rattle.std.proofs.Common.{◌≡◌, ℕ, Bool, true, false, List, [], ◌∷◌, map, filter, encode_utf8_all, inl, inr, refl, ap, ap₂, sym, ◌∙◌, subst}
 use Rattle.std.specs.Prelude.{◌&&◌, not}
 use Rattle.std.specs.List.{list_any}
 use Rattle.std.specs.Cmp.{both_ways as same_bool}
 use Rattle.std.proofs.lemmas.Bool.{cases_Bool, and_parts, and_from}
-use Rattle.std.proofs.lemmas.List.Sums.{length-filter, count_by-le-length}
 use Rattle.op_name.specs.NameData.{NameData}
 use Rattle.op_name.specs.declared.member.Member.TheVariants.{Original}
 use Rattle.op_name.specs.Members.{is_even}
@@ -46,12 +45,6 @@ both_parts p q k old ch (d ∷ ds) f g =
 module _ (h : List OpData) (v : IsValid h) (c : ContextData) (closed : IsClosedContext h c) where
   cells_of_sub : replay_of (sub h c) ≡ filter (keep (has c)) (replay_of h)
   cells_of_sub = part_replay h v (has c) (closed_set h (complete h v) c closed)
-
-  -- so they are no more
-  pub past_fewer : length (replay_of (sub h c)) ≤ length (replay_of h)
-  past_fewer =
-      let same = ap length cells_of_sub in
-      omega (arith, same, length-filter (keep (has c)) (replay_of h), count_by-le-length (keep (has c)) (replay_of h))
 
   -- an operation of the set
   there_in_sub : (o : OpData) → IsIn o h → has c (member_of o) ≡ true → IsIn o (sub h c)

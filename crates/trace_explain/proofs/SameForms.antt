@@ -3,6 +3,7 @@ use Rattle.std.proofs.Common.{◌≡◌, ◌≤◌}
 use Rattle.std.proofs.Math.Bridge.{le_prop}
 use mathlib.Core.HLevel.{is_prop→PathP}
 use native.Mathlib.Nat.{ℕ_set}
+use Rattle.op_name.specs.declared.limits.TheConstants.{LETTERS}
 use Rattle.ttf_form.specs.declared.ins.Ins.{Ins}
 
 -- equal parts make equal inserts
@@ -18,5 +19,5 @@ ins_same a b p s l n =
       some =
           is_prop→PathP (λ j. 1 ≤ l j) (λ j. le_prop) a.some b.some i;
       most =
-          is_prop→PathP (λ j. l j ≤ 256) (λ j. le_prop) a.most b.most i;
+          is_prop→PathP (λ j. l j ≤ LETTERS) (λ j. le_prop) a.most b.most i;
     }

@@ -2,11 +2,11 @@
 
 ghost use Rattle.std.specs.Prelude.{◌≡◌, ◌≢◌, ◌<◌, ◌≤◌, ℕ, true, Err, IfOk, IfErr, List, OnOk, OnErr, length};
 ghost use Rattle.context_diff.specs.Operations.{context_of};
-ghost use Rattle.context_diff.specs.declared.letters.TheConstants.{LETTERS};
 ghost use Rattle.context_diff.specs.Histories.{IsNext, context_of_all, is_known, generation_in};
 ghost use Rattle.context_diff.specs.Replays.{characters_of};
 ghost use Rattle.op_name.specs.declared.member.Member.TheVariants.{Original};
 ghost use Rattle.op_name.specs.declared.member.TheConstants.{GENERATIONS};
+ghost use Rattle.op_name.specs.declared.limits.TheConstants.{LETTERS};
 ghost use Rattle.context_diff.specs.Ops.{data_of};
 ghost use Rattle.cot_site.specs.States.{with_last};
 ghost use Rattle.cot_site.specs.Commands.{place_behind, place_of_shown, local_run, local_insert, local_delete, local_undo, local_redo, turned, IsAnswer};
@@ -14,9 +14,9 @@ ghost use Rattle.cot_site.specs.Code.Making.{IsNumber, IsContextAnswer, IsGenera
 ghost use Rattle.cot_site.specs.Sites.{KeepsForms, IsAsBefore, state_of};
 
 use crate::site::Site;
-use context_diff::{LETTERS, Letters, Op, UNDO_ENTRIES};
+use context_diff::{Letters, Op, UNDO_ENTRIES};
 use context_vector::Vector;
-use op_name::{GENERATIONS, Memory, NUMBERS, Name};
+use op_name::{GENERATIONS, LETTERS, Memory, NUMBERS, Name};
 use site_answers::Local;
 use undo_group::generation;
 
