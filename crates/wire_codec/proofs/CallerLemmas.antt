@@ -5,6 +5,7 @@ pub use Rattle.wire_codec.proofs.Growth.{bad_stays}
 pub use Rattle.wire_codec.proofs.Judgement.{frame_once, judge_again, judge_more, judge_takes, judge_within}
 pub use Rattle.wire_codec.proofs.Needing.{state_bound, state_needs, state_some}
 pub use Rattle.wire_codec.proofs.Pushes.{FollowsCounts, follows_counts, follows_entries, pieces_more}
-pub use Rattle.wire_codec.proofs.Sizes.{body_long, body_short}
+pub use Rattle.wire_codec.proofs.Sites.{fits_two}
+pub use Rattle.wire_codec.proofs.Sizes.{body_long, body_short, state_short}
 pub use Rattle.wire_codec.proofs.StateJudgement.{state_again, state_more, state_stays, state_takes, state_within}
 pub use Rattle.wire_codec.proofs.Steps.{IsBytes, IsBytes-drop, IsBytes-take, cond_err}

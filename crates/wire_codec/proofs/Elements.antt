@@ -53,13 +53,13 @@ regroup {A = A} front x (Ok y) =
 regroup {A = A} front x (Err f) = refl
 
 -- after i of `count` elements from `start`, where `state` says what may come next and `now` is left
-pub record IsUnderWay {S A : Type 0} (step : S → LeftData → Found A) (next : A → S) (one : List ℕ → A) (size count : ℕ) (first : S)
+pub record IsUnderWay {S A : Type 0} (step : S → LeftData → Found A) (next : S → A → S) (one : List ℕ → A) (size count : ℕ) (first : S)
     (start : LeftData) (i : ℕ) (state : S) (now : LeftData) : Type 0 where
   pub so_far : with_front (elements one size i start.bytes) (many step next (count - i) state now) ≡ many step next count first start
   pub place : drop (size * i) start.bytes ≡ now.bytes
   pub long : size * i ≤ length start.bytes
 
-module _ {S A : Type 0} (step : S → LeftData → Found A) (next : A → S) (one : List ℕ → A) (size : ℕ) (spell : A → List ℕ)
+module _ {S A : Type 0} (step : S → LeftData → Found A) (next : S → A → S) (one : List ℕ → A) (size : ℕ) (spell : A → List ℕ)
     (Is : S → A → Type 0)
     (reads : (s : S) → Reads (step s) spell (Is s)) (sized : (x : A) → length (spell x) ≡ size)
     (back : (s : S) (x : A) → Is s x → one (spell x) ≡ x) (count : ℕ) (first : S) (start : LeftData) where
@@ -74,7 +74,8 @@ module _ {S A : Type 0} (step : S → LeftData → Found A) (next : A → S) (on
       }
 
   pub goes_on : (i : ℕ) (state : S) (now m : LeftData) (x : A) → IsBytes start.bytes → i < count → step state now ≡ Ok (x, m)
-      → IsUnderWay step next one size count first start i state now → IsUnderWay step next one size count first start (suc i) (next x) m
+      → IsUnderWay step next one size count first start i state now
+      → IsUnderWay step next one size count first start (suc i) (next state x) m
   unfolding many
   goes_on i state now m x fits lt h way =
       let now_fits : IsBytes now.bytes = subst IsBytes way.place (IsBytes-drop (size * i) start.bytes fits) in
@@ -88,15 +89,15 @@ module _ {S A : Type 0} (step : S → LeftData → Found A) (next : A → S) (on
       let more : elements one size (suc i) start.bytes ≡ elements one size i start.bytes ++ x ∷ [] =
       elements_more one size i start.bytes ∙ ap (λ (y : A). elements one size i start.bytes ++ y ∷ []) element in
       let k : count - i ≡ suc (count - suc i) = omega (arith, lt) in
-      let stepped : many step next (count - i) state now ≡ (many step next (count - suc i) (next x) m >>= λ y. Ok (x ∷ y.0, y.1)) =
+      let stepped : many step next (count - i) state now ≡ (many step next (count - suc i) (next state x) m >>= λ y. Ok (x ∷ y.0, y.1)) =
       rw (k, h) refl in
       let one_more : size * suc i ≡ size * i + size = mul-suc size i in
       let len : length now.bytes ≡ size + length m.bytes =
       ap length parts ∙ length-append (spell x) m.bytes ∙ ap (λ (n : ℕ). n + length m.bytes) wide in
       let left : length now.bytes ≡ length start.bytes - size * i = ap length (sym way.place) ∙ length-drop (size * i) start.bytes in
       record {
-        so_far = ap (λ (es : List A). with_front es (many step next (count - suc i) (next x) m)) more
-            ∙ (sym (regroup (elements one size i start.bytes) x (many step next (count - suc i) (next x) m))
+        so_far = ap (λ (es : List A). with_front es (many step next (count - suc i) (next state x) m)) more
+            ∙ (sym (regroup (elements one size i start.bytes) x (many step next (count - suc i) (next state x) m))
             ∙ (ap (with_front (elements one size i start.bytes)) (sym stepped) ∙ way.so_far));
         place = ap (λ (n : ℕ). drop n start.bytes) one_more
             ∙ (sym (drop-drop size (size * i) start.bytes) ∙ (ap (drop size) way.place ∙ rest));

@@ -7,7 +7,7 @@ use Rattle.std.specs.Str.{all_scalars}
 use Rattle.std.proofs.lemmas.Bool.{ne_eqb, cond-true, cond-false, and_parts, and_from}
 use Rattle.std.proofs.lemmas.Bool.Decides.{eqb_tells}
 use Rattle.std.proofs.Math.Utf8.{scalar, scalar_fits}
-use Rattle.context_diff.specs.declared.letters.TheConstants.{LETTERS}
+use Rattle.op_name.specs.declared.limits.TheConstants.{LETTERS}
 use Rattle.wire_codec.specs.declared.cause.Cause.TheVariants.{Range, Char}
 use Rattle.wire_codec.specs.Spelling.{insert_kind, length_bytes, character_bytes}
 use Rattle.wire_codec.specs.Reading.{number, bounded, length_at, character_at, any_after, characters_at}

@@ -12,7 +12,9 @@ use Rattle.op_name.specs.declared.name.TheConstants.{SITES, NUMBERS}
 use Rattle.context_vector.specs.Contexts.{AreCounts, AreEntries}
 use Rattle.op_name.proofs.CallerLemmas.{name_transitive}
 use Rattle.context_vector.specs.Vectors.{SitesBelow, NamesBelow}
-use Rattle.wire_codec.specs.Code.Puts.{HasRoom, Puts}
+use Rattle.wire_codec.specs.declared.version.Version.{Version}
+use Rattle.wire_codec.specs.Versions.{sites}
+use Rattle.wire_codec.specs.Code.Puts.{HasRoom, Puts, CountsIn, EntriesIn}
 
 -- a site with its count in the middle of a list
 pub record FollowsCounts (before : List (ℕ × ℕ)) (p : ℕ × ℕ) : Type 0 where
@@ -53,11 +55,17 @@ taken_over {A = A} all before now after x e is = append_assoc before (x ∷ []) 
 pub all_taken : {A : Type 0} (all before now : List A) → before ++ now ≡ all → now ≡ [] → before ≡ all
 all_taken {A = A} all before now e is = sym (append-nil before) ∙ (ap (λ (t : List A). before ++ t) (sym is) ∙ e)
 
--- each site of a context is one
-pub site_is_site : (low : ℕ) (ps : List (ℕ × ℕ)) (i : ℕ) (p : ℕ × ℕ) → AreCounts low ps → slice_get ps i ≡ Some p → p.0 < SITES
-site_is_site low [] i p are at = let none : None ≡ Some p = at in cc
-site_is_site low (q ∷ ps) zero p are at = let is : q ≡ p = cc in subst (λ (x : ℕ × ℕ). x.0 < SITES) is are.1
-site_is_site low (q ∷ ps) (suc i) p are at = site_is_site (q.0 + 1) ps i p are.4 at
+-- the version can name each site of a context
+pub site_in : (v : Version) (ps : List (ℕ × ℕ)) (i : ℕ) (p : ℕ × ℕ) → CountsIn v ps → slice_get ps i ≡ Some p → p.0 < sites v
+site_in v [] i p are at = let none : None ≡ Some p = at in cc
+site_in v (q ∷ ps) zero p are at = let is : q ≡ p = cc in subst (λ (x : ℕ × ℕ). x.0 < sites v) is are.0
+site_in v (q ∷ ps) (suc i) p are at = site_in v ps i p are.1 at
+
+pub entry_in_version : (v : Version) (es : List (NameData × ℕ)) (i : ℕ) (e : NameData × ℕ) → EntriesIn v es → slice_get es i ≡ Some e
+    → e.0.site < sites v
+entry_in_version v [] i e are at = let none : None ≡ Some e = at in cc
+entry_in_version v (d ∷ es) zero e are at = let is : d ≡ e = cc in subst (λ (x : NameData × ℕ). x.0.site < sites v) is are.0
+entry_in_version v (d ∷ es) (suc i) e are at = entry_in_version v es i e are.1 at
 
 -- ---- pieces put one after the other
 

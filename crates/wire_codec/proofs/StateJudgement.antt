@@ -1,32 +1,40 @@
 -- The judgement of states is their spelling: what is judged good begins with the spelling of a state, and each is judged so.
-use Rattle.std.proofs.Common.{◌≡◌, ℕ, ◌+◌, ◌*◌, ◌<◌, ◌≤◌, ◌^◌, ltb, Bool, true, false, cond, List, [], ◌++◌, length, take, drop, None, Result, Ok, Err, refl, sym, ap, subst, ◌∙◌, append_assoc, arith, inl, inr, ◌⊎◌}
+use Rattle.std.proofs.Common.{◌≡◌, ℕ, ◌+◌, ◌*◌, ◌<◌, ◌≤◌, ◌^◌, ltb, Bool, true, false, cond, List, [], ◌++◌, length, take, drop, Result, Ok, Err, refl, sym, ap, subst, ◌∙◌, append_assoc, arith, inl, inr, ◌⊎◌}
 use Rattle.std.specs.List.{flat_map}
-use Rattle.std.specs.Int.{w8, w32, to_be_bytes, from_be_bytes}
+use Rattle.std.specs.Int.{w16, w32, to_be_bytes, from_be_bytes}
 use Rattle.std.proofs.lemmas.Bool.{ltb-true, ltb-false, le-ltb, cond-true, cond-false}
 use Rattle.std.proofs.lemmas.List.{append-nil, nil_from_length, length-append, length-take, length-drop, take-append-drop, take-append-le, drop-append-le, take_at, drop_at}
 use Rattle.op_name.specs.NameData.{NameData}
 use Rattle.op_name.specs.declared.name.TheConstants.{SITES}
-use Rattle.wire_codec.specs.declared.limits.TheConstants.{FRAME_SITES}
 use Rattle.context_vector.specs.Contexts.{ContextData, AreCounts, AreEntries}
+use Rattle.context_vector.proofs.CallerLemmas.{length_at_most}
 use Rattle.wire_codec.specs.declared.cause.Cause.TheVariants.{Range}
 use Rattle.wire_codec.specs.declared.fault.Fault.{Fault}
 use Rattle.wire_codec.specs.declared.fault.Unread.{Unread}
 use Rattle.wire_codec.specs.declared.fault.Unread.TheVariants.{More, Bad}
-use Rattle.wire_codec.specs.Spelling.{count_bytes, entry_bytes, counts_bytes}
-use Rattle.wire_codec.specs.Reading.{LeftData, left_at, Found, fault, many, count_at, site_after, entry_at, name_of}
-use Rattle.wire_codec.specs.Judging.{count_len, entry_len, length_of, stray_from}
-use Rattle.wire_codec.specs.States.{named_bytes, state_bytes, IsState, unless_stray, judge_entries, judge_named, judge_counted, sites_of, judge_state, IsStateOf}
+use Rattle.wire_codec.specs.declared.version.Version.TheVariants.{Two}
+use Rattle.wire_codec.specs.declared.listing.Listing.TheVariants.{LongRuns}
+use Rattle.wire_codec.specs.Versions.{sites}
+use Rattle.wire_codec.specs.Runs.{RunData, names_in, runs_of}
+use Rattle.wire_codec.specs.Spelling.{count_bytes, counts_bytes, run_bytes, runs_bytes, entries_bytes}
+use Rattle.wire_codec.specs.Reading.{LeftData, left_at, Found, fault, many, count_at, site_after, run_at, before_next, nothing_before}
+use Rattle.wire_codec.specs.Judging.{count_len, run_len, length_of, stray_from}
+use Rattle.wire_codec.specs.States.{state_bytes, IsState, unless_stray, judge_runs, judge_named, judge_counted, sites_of, judge_state, IsStateOf}
 use Rattle.wire_codec.proofs.Steps.{IsBytes, IsBytes-take, IsBytes-drop, cond_ok, cond_err}
 use Rattle.wire_codec.proofs.TwoWays.{Reads}
-use Rattle.wire_codec.proofs.Numbers.{wide8, wide32}
+use Rattle.wire_codec.proofs.Numbers.{wide16, wide32}
+use Rattle.wire_codec.proofs.Sites.{counts_of_two, entries_of_two}
 use Rattle.wire_codec.proofs.Lists.{Follow, many_reads}
-use Rattle.wire_codec.proofs.Contexts.{IsCount, count_reads, IsEntry, entry_reads, counts_in_order, counts_to, counts_few, entries_in_order, entries_in_turn}
-use Rattle.wire_codec.proofs.WellFormed.{AreOriginals, stray_keeps, has_no_stray, stray_ok, stray_again, stray_faults}
-use Rattle.wire_codec.proofs.Sizes.{length-counts, length-entries}
+use Rattle.wire_codec.proofs.Contexts.{IsCount, count_reads, counts_in_order, counts_to, counts_few}
+use Rattle.wire_codec.proofs.RunNames.{names_of_runs, runs_of_names, length-runs}
+use Rattle.wire_codec.proofs.RunReads.{IsRun, run_reads, runs_in_order, runs_in_turn, many_runs, AreNames, names_listed, runs_listed, length-run_list}
+use Rattle.wire_codec.proofs.Strays.{stray_ok, stray_again, stray_faults}
+use Rattle.wire_codec.proofs.WellFormed.{AreOriginals, stray_keeps, has_no_stray}
+use Rattle.wire_codec.proofs.Sizes.{length-counts}
 
 -- ---- a list in its section of the bytes
 
-module _ {S A : Type 0} (step : S → LeftData → Found A) (next : A → S) (spell : A → List ℕ) (Is : S → A → Type 0)
+module _ {S A : Type 0} (step : S → LeftData → Found A) (next : S → A → S) (spell : A → List ℕ) (Is : S → A → Type 0)
     (one : (s : S) → Reads (step s) spell (Is s))
     (size : ℕ) (long : (xs : List A) → length (flat_map spell xs) ≡ size * length xs) (first : S) where
   -- what is read of a section of the right length is spelled there
@@ -68,21 +76,26 @@ module _ {S A : Type 0} (step : S → LeftData → Found A) (next : A → S) (sp
       e in
       omega (arith, inside, length-take (size * n) bytes)
 
-counts_section : (n at : ℕ) (bytes : List ℕ) (ps : List (ℕ × ℕ)) (m : LeftData) → IsBytes bytes → count_len * n ≤ length bytes
-    → many count_at site_after n 0 (left_at at (take (count_len * n) bytes)) ≡ Ok (ps, m)
-    → (bytes ≡ flat_map count_bytes ps ++ drop (count_len * n) bytes) × (length (flat_map count_bytes ps) ≡ count_len * n) × (length ps ≡ n)
-    × Follow IsCount site_after 0 ps
-counts_section = section_takes count_at site_after count_bytes IsCount count_reads count_len length-counts 0
+counts_section : (n at : ℕ) (bytes : List ℕ) (ps : List (ℕ × ℕ)) (m : LeftData) → IsBytes bytes → count_len Two * n ≤ length bytes
+    → many (count_at Two) site_after n 0 (left_at at (take (count_len Two * n) bytes)) ≡ Ok (ps, m)
+    → (bytes ≡ flat_map (count_bytes Two) ps ++ drop (count_len Two * n) bytes)
+    × (length (flat_map (count_bytes Two) ps) ≡ count_len Two * n) × (length ps ≡ n)
+    × Follow (IsCount Two) site_after 0 ps
+counts_section =
+    section_takes (count_at Two) site_after (count_bytes Two) (IsCount Two) (count_reads Two) (count_len Two) (length-counts Two) 0
 
-entries_section : (n at : ℕ) (bytes : List ℕ) (es : List (NameData × ℕ)) (m : LeftData) → IsBytes bytes → entry_len * n ≤ length bytes
-    → many entry_at name_of n None (left_at at (take (entry_len * n) bytes)) ≡ Ok (es, m)
-    → (bytes ≡ flat_map entry_bytes es ++ drop (entry_len * n) bytes) × (length (flat_map entry_bytes es) ≡ entry_len * n) × (length es ≡ n)
-    × Follow IsEntry name_of None es
-entries_section = section_takes entry_at name_of entry_bytes IsEntry entry_reads entry_len length-entries None
+runs_section : (n at : ℕ) (bytes : List ℕ) (es : List RunData) (m : LeftData) → IsBytes bytes → run_len LongRuns * n ≤ length bytes
+    → many (run_at LongRuns) before_next n nothing_before (left_at at (take (run_len LongRuns * n) bytes)) ≡ Ok (es, m)
+    → (bytes ≡ flat_map (run_bytes LongRuns) es ++ drop (run_len LongRuns * n) bytes)
+    × (length (flat_map (run_bytes LongRuns) es) ≡ run_len LongRuns * n) × (length es ≡ n)
+    × Follow (IsRun LongRuns) before_next nothing_before es
+runs_section =
+    section_takes (run_at LongRuns) before_next (run_bytes LongRuns) (IsRun LongRuns) (run_reads LongRuns) (run_len LongRuns)
+    (length-run_list LongRuns) nothing_before
 
-pub entries_listed : (n : ℕ) (l m : LeftData) (es : List (NameData × ℕ)) → IsBytes l.bytes → many entry_at name_of n None l ≡ Ok (es, m)
-    → length es ≡ n
-entries_listed n l m es fits e = ((many_reads entry_at name_of entry_bytes IsEntry entry_reads n None).takes l m es fits e).1.0
+pub runs_counted : (n : ℕ) (l m : LeftData) (rs : List RunData) → IsBytes l.bytes
+    → many (run_at LongRuns) before_next n nothing_before l ≡ Ok (rs, m) → length rs ≡ n
+runs_counted n l m rs fits e = (many_runs LongRuns n l m rs fits e).0
 
 -- ---- undone names
 
@@ -91,13 +104,18 @@ record Named (counts : List (ℕ × ℕ)) (at : ℕ) (bytes : List ℕ) (c : Con
   same : c.counts ≡ counts
   entries : AreEntries c.entries
   originals : AreOriginals c c.entries
-  few : length c.entries < 2 ^ 32
   rest : List ℕ
-  parts : bytes ≡ named_bytes c.entries ++ rest
-  ends : used ≡ at + length (named_bytes c.entries)
+  parts : bytes ≡ entries_bytes LongRuns c.entries ++ rest
+  ends : used ≡ at + length (entries_bytes LongRuns c.entries)
 
-unfoldable pub entries_read : List ℕ → ℕ → Found (List (NameData × ℕ))
-entries_read bytes at = many entry_at name_of (length_of bytes) None (left_at (at + 4) (take (entry_len * length_of bytes) (drop 4 bytes)))
+unfoldable pub runs_found : List ℕ → ℕ → Found (List RunData)
+runs_found bytes at =
+    many (run_at LongRuns) before_next (length_of bytes) nothing_before
+    (left_at (at + 4) (take (run_len LongRuns * length_of bytes) (drop 4 bytes)))
+
+-- the state of these counts and runs
+abbrev pub with_runs : List (ℕ × ℕ) → List RunData → ContextData
+with_runs counts rs = record { counts = counts; entries = flat_map names_in rs }
 
 pub stray_done : (c d : ContextData) (stop used : ℕ) (r : Result (Unit {0}) Fault) → unless_stray c stop r ≡ Ok (d, used)
     → (r ≡ Ok tt) × (c ≡ d) × (stop ≡ used)
@@ -106,89 +124,106 @@ stray_done c d stop used (Ok u) e =
     (refl, ap (λ (p : ContextData × ℕ). p.0) both, ap (λ (p : ContextData × ℕ). p.1) both)
 stray_done c d stop used (Err f) e = absurd (let no = e in cc)
 
-pub entries_done : (counts : List (ℕ × ℕ)) (begin stop : ℕ) (d : ContextData) (used : ℕ) (r : Found (List (NameData × ℕ)))
-    → judge_entries counts begin stop r ≡ Ok (d, used)
-    → (e : List (NameData × ℕ) × LeftData) × (r ≡ Ok e)
-    × (unless_stray (record { counts = counts; entries = e.0 }) stop (stray_from (record { counts = counts; entries = e.0 }) begin e.0)
-    ≡ Ok (d, used))
-entries_done counts begin stop d used (Ok e) is = (e, refl, is)
-entries_done counts begin stop d used (Err f) is = absurd (let no = is in cc)
+pub runs_done : (counts : List (ℕ × ℕ)) (begin stop : ℕ) (d : ContextData) (used : ℕ) (r : Found (List RunData))
+    → judge_runs counts begin stop r ≡ Ok (d, used)
+    → (e : List RunData × LeftData) × (r ≡ Ok e)
+    × (unless_stray (with_runs counts e.0) stop (stray_from LongRuns (with_runs counts e.0) begin e.0) ≡ Ok (d, used))
+runs_done counts begin stop d used (Ok e) is = (e, refl, is)
+runs_done counts begin stop d used (Err f) is = absurd (let no = is in cc)
 
 named_takes : (counts : List (ℕ × ℕ)) (at : ℕ) (bytes : List ℕ) (c : ContextData) (used : ℕ) → IsBytes bytes
     → judge_named counts at bytes ≡ Ok (c, used) → Named counts at bytes c used
-unfolding judge_named entries_read
+unfolding judge_named runs_found
 named_takes counts at bytes c used fits e =
     let n = length_of bytes in
-    let stop = at + (4 + entry_len * n) in
+    let stop = at + (4 + run_len LongRuns * n) in
     let four =
     cond_ok (ltb (length bytes) 4) (More (at + 4))
-    (cond (ltb (length bytes) (4 + entry_len * n)) (Err (More stop)) (judge_entries counts (at + 4) stop (entries_read bytes at)))
+    (cond (ltb (length bytes) (4 + run_len LongRuns * n)) (Err (More stop)) (judge_runs counts (at + 4) stop (runs_found bytes at)))
     (c, used) e in
     let there =
-    cond_ok (ltb (length bytes) (4 + entry_len * n)) (More stop) (judge_entries counts (at + 4) stop (entries_read bytes at)) (c, used)
+    cond_ok (ltb (length bytes) (4 + run_len LongRuns * n)) (More stop) (judge_runs counts (at + 4) stop (runs_found bytes at)) (c, used)
     four.1 in
     let long = ltb-false _ _ four.0 in
     let enough = ltb-false _ _ there.0 in
-    let read = entries_done counts (at + 4) stop c used (entries_read bytes at) there.1 in
-    let es = read.0.0 in
-    let d : ContextData = record { counts = counts; entries = es } in
-    let kept = stray_done d c stop used (stray_from d (at + 4) es) read.2 in
+    let read = runs_done counts (at + 4) stop c used (runs_found bytes at) there.1 in
+    let rs = read.0.0 in
+    let es = flat_map names_in rs in
+    let d = with_runs counts rs in
+    let kept = stray_done d c stop used (stray_from LongRuns d (at + 4) rs) read.2 in
     let rest_fits = IsBytes-drop 4 bytes fits in
-    let section = entries_section n (at + 4) (drop 4 bytes) es read.0.1 rest_fits (omega (arith, enough, length-drop 4 bytes)) read.1 in
+    let section = runs_section n (at + 4) (drop 4 bytes) rs read.0.1 rest_fits (omega (arith, enough, length-drop 4 bytes)) read.1 in
+    let are = runs_in_order LongRuns rs section.3 in
     let front_len : length (take 4 bytes) ≡ 4 = omega (arith, long, length-take 4 bytes) in
     let front : to_be_bytes w32 n ≡ take 4 bytes = wide32.back (take 4 bytes) front_len (IsBytes-take 4 bytes fits) in
-    let number : to_be_bytes w32 (length es) ≡ take 4 bytes = ap (to_be_bytes w32) section.2 ∙ front in
-    let rest = drop (entry_len * n) (drop 4 bytes) in
-    let parts : bytes ≡ named_bytes es ++ rest =
+    let number : to_be_bytes w32 (length rs) ≡ take 4 bytes = ap (to_be_bytes w32) section.2 ∙ front in
+    let rest = drop (run_len LongRuns * n) (drop 4 bytes) in
+    let spelled : entries_bytes LongRuns es ≡ runs_bytes LongRuns rs = ap (runs_bytes LongRuns) (runs_of_names LongRuns rs are.apart) in
+    let listed : bytes ≡ runs_bytes LongRuns rs ++ rest =
     sym (take-append-drop 4 bytes)
     ∙ (ap (λ (t : List ℕ). take 4 bytes ++ t) section.0
-    ∙ (ap (λ (t : List ℕ). t ++ (flat_map entry_bytes es ++ rest)) (sym number)
-    ∙ sym (append_assoc (to_be_bytes w32 (length es)) (flat_map entry_bytes es) rest))) in
-    let size : length (named_bytes es) ≡ 4 + entry_len * n = omega (arith, section.1) in
+    ∙ (ap (λ (t : List ℕ). t ++ (flat_map (run_bytes LongRuns) rs ++ rest)) (sym number)
+    ∙ sym (append_assoc (to_be_bytes w32 (length rs)) (flat_map (run_bytes LongRuns) rs) rest))) in
+    let size : length (entries_bytes LongRuns es) ≡ 4 + run_len LongRuns * n = omega (arith, ap length spelled, section.1) in
     let whole : Named counts at bytes d used = record {
       same = refl;
-      entries = entries_in_order es section.3;
-      originals = stray_ok d (at + 4) es kept.0;
-      few = (let below = wide32.below (take 4 bytes) (IsBytes-take 4 bytes fits) in omega (arith, below, section.2));
+      entries = (names_listed LongRuns rs are).are;
+      originals = stray_ok LongRuns d (at + 4) rs kept.0;
       rest = rest;
-      parts = parts;
+      parts = listed ∙ ap (λ (t : List ℕ). t ++ rest) (sym spelled);
       ends = (let is = kept.2 in omega (arith, is, size));
     } in
     subst (λ (x : ContextData). Named counts at bytes x used) kept.1 whole
 
-named_again : (c : ContextData) (at : ℕ) (rest : List ℕ) → AreEntries c.entries → AreOriginals c c.entries → length c.entries < 2 ^ 32
-    → judge_named c.counts at (named_bytes c.entries ++ rest) ≡ Ok (c, at + length (named_bytes c.entries))
-unfolding judge_named entries_read
-named_again c at rest are originals few =
+-- the undone names of a state are few enough to be counted, and their sites can be named
+state_names : (es : List (NameData × ℕ)) → AreEntries es → AreNames LongRuns es
+state_names es are = record { are = are; sites = entries_of_two es are; few = tt }
+
+runs_number : (es : List (NameData × ℕ)) → AreEntries es → length (runs_of LongRuns es) < 2 ^ 32
+runs_number es are = omega (arith, length-runs LongRuns es, length_at_most es are)
+
+named_again : (c : ContextData) (at : ℕ) (rest : List ℕ) → AreEntries c.entries → AreOriginals c c.entries
+    → judge_named c.counts at (entries_bytes LongRuns c.entries ++ rest) ≡ Ok (c, at + length (entries_bytes LongRuns c.entries))
+unfolding judge_named runs_found
+named_again c at rest are originals =
     let es = c.entries in
-    let n = length es in
-    let bytes = named_bytes es ++ rest in
-    let size : length_of bytes ≡ n = wide32.again n few in
-    let listed : length (flat_map entry_bytes es) ≡ entry_len * n = length-entries es in
-    let total : length bytes ≡ 4 + (entry_len * n + length rest) = omega (arith, listed, length-append (flat_map entry_bytes es) rest) in
-    let named_len : length (named_bytes es) ≡ 4 + entry_len * n = omega (arith, listed) in
+    let rs = runs_of LongRuns es in
+    let n = length rs in
+    let bytes = entries_bytes LongRuns es ++ rest in
+    let size : length_of bytes ≡ n = wide32.again n (runs_number es are) in
+    let listed : length (flat_map (run_bytes LongRuns) rs) ≡ run_len LongRuns * n = length-run_list LongRuns rs in
+    let total : length bytes ≡ 4 + (run_len LongRuns * n + length rest) =
+    omega (arith, listed, length-append (flat_map (run_bytes LongRuns) rs) rest) in
+    let named_len : length (entries_bytes LongRuns es) ≡ 4 + run_len LongRuns * n = omega (arith, listed) in
     let four : ltb (length bytes) 4 ≡ false = le-ltb _ _ (omega (arith, total)) in
-    let there : ltb (length bytes) (4 + entry_len * length_of bytes) ≡ false = le-ltb _ _ (omega (arith, size, total)) in
+    let there : ltb (length bytes) (4 + run_len LongRuns * length_of bytes) ≡ false = le-ltb _ _ (omega (arith, size, total)) in
     let section =
-    section_again entry_at name_of entry_bytes IsEntry entry_reads entry_len length-entries None es n (at + 4) rest refl
-    (entries_in_turn es are) in
-    let read : entries_read bytes at ≡ Ok (es, section.0) =
-    ap (λ (k : ℕ). many entry_at name_of k None (left_at (at + 4) (take (entry_len * k) (flat_map entry_bytes es ++ rest)))) size
+    section_again (run_at LongRuns) before_next (run_bytes LongRuns) (IsRun LongRuns) (run_reads LongRuns) (run_len LongRuns)
+    (length-run_list LongRuns) nothing_before rs n (at + 4) rest refl
+    (runs_in_turn LongRuns rs (runs_listed LongRuns es (state_names es are))) in
+    let read : runs_found bytes at ≡ Ok (rs, section.0) =
+    ap (λ (k : ℕ). many (run_at LongRuns) before_next k nothing_before
+    (left_at (at + 4) (take (run_len LongRuns * k) (flat_map (run_bytes LongRuns) rs ++ rest)))) size
     ∙ section.1 in
-    let kept : stray_from c (at + 4) es ≡ Ok tt = stray_again c (at + 4) es originals in
-    let stop = at + (4 + entry_len * length_of bytes) in
-    let good : judge_entries c.counts (at + 4) stop (entries_read bytes at) ≡ Ok (c, stop) =
-    ap (judge_entries c.counts (at + 4) stop) read ∙ ap (unless_stray c stop) kept in
-    let ends : stop ≡ at + length (named_bytes es) = omega (arith, size, named_len) in
+    let same : flat_map names_in rs ≡ es = names_of_runs LongRuns es in
+    let whole : with_runs c.counts rs ≡ c = ap (λ (xs : List (NameData × ℕ)). record { counts = c.counts; entries = xs }) same in
+    let kept : stray_from LongRuns c (at + 4) rs ≡ Ok tt =
+    stray_again LongRuns c (at + 4) rs (subst (AreOriginals c) (sym same) originals) in
+    let stop = at + (4 + run_len LongRuns * length_of bytes) in
+    let good : judge_runs c.counts (at + 4) stop (runs_found bytes at) ≡ Ok (c, stop) =
+    ap (judge_runs c.counts (at + 4) stop) read
+    ∙ (ap (λ (d : ContextData). unless_stray d stop (stray_from LongRuns d (at + 4) rs)) whole ∙ ap (unless_stray c stop) kept) in
+    let ends : stop ≡ at + length (entries_bytes LongRuns es) = omega (arith, size, named_len) in
     cond-false _ _ _ four ∙ (cond-false _ _ _ there ∙ (good ∙ ap (λ (k : ℕ). Ok (c, k)) ends))
 
 -- ---- whole states
 
 unfoldable pub counts_read : List ℕ → Found (List (ℕ × ℕ))
-counts_read bytes = many count_at site_after (sites_of bytes) 0 (left_at 1 (take (count_len * sites_of bytes) (drop 1 bytes)))
+counts_read bytes = many (count_at Two) site_after (sites_of bytes) 0 (left_at 2 (take (count_len Two * sites_of bytes) (drop 2 bytes)))
 
 unfoldable pub counted : List ℕ → Result (ContextData × ℕ) Unread
-counted bytes = judge_counted (1 + count_len * sites_of bytes) (drop (count_len * sites_of bytes) (drop 1 bytes)) (counts_read bytes)
+counted bytes =
+    judge_counted (2 + count_len Two * sites_of bytes) (drop (count_len Two * sites_of bytes) (drop 2 bytes)) (counts_read bytes)
 
 counts_done : (at : ℕ) (rest : List ℕ) (d : ContextData) (used : ℕ) (r : Found (List (ℕ × ℕ))) → judge_counted at rest r ≡ Ok (d, used)
     → (x : List (ℕ × ℕ) × LeftData) × (r ≡ Ok x) × (judge_named x.0 at rest ≡ Ok (d, used))
@@ -200,45 +235,45 @@ unfolding judge_state counts_read counted state_bytes
 state_takes bytes c used fits e =
     let n = sites_of bytes in
     let some =
-    cond_ok (ltb (length bytes) 1) (More 1)
-    (cond (ltb FRAME_SITES n) (Err (Bad (fault Range 0)))
-    (cond (ltb (length bytes) (1 + count_len * n)) (Err (More (1 + count_len * n))) (counted bytes))) (c, used) e in
+    cond_ok (ltb (length bytes) 2) (More 2)
+    (cond (ltb (sites Two) n) (Err (Bad (fault Range 0)))
+    (cond (ltb (length bytes) (2 + count_len Two * n)) (Err (More (2 + count_len Two * n))) (counted bytes))) (c, used) e in
     let few =
-    cond_ok (ltb FRAME_SITES n) (Bad (fault Range 0))
-    (cond (ltb (length bytes) (1 + count_len * n)) (Err (More (1 + count_len * n))) (counted bytes)) (c, used) some.1 in
-    let there = cond_ok (ltb (length bytes) (1 + count_len * n)) (More (1 + count_len * n)) (counted bytes) (c, used) few.1 in
+    cond_ok (ltb (sites Two) n) (Bad (fault Range 0))
+    (cond (ltb (length bytes) (2 + count_len Two * n)) (Err (More (2 + count_len Two * n))) (counted bytes)) (c, used) some.1 in
+    let there = cond_ok (ltb (length bytes) (2 + count_len Two * n)) (More (2 + count_len Two * n)) (counted bytes) (c, used) few.1 in
     let long = ltb-false _ _ some.0 in
     let enough = ltb-false _ _ there.0 in
-    let rest = drop (count_len * n) (drop 1 bytes) in
-    let read = counts_done (1 + count_len * n) rest c used (counts_read bytes) there.1 in
+    let rest = drop (count_len Two * n) (drop 2 bytes) in
+    let read = counts_done (2 + count_len Two * n) rest c used (counts_read bytes) there.1 in
     let ps = read.0.0 in
-    let rest_fits = IsBytes-drop (count_len * n) (drop 1 bytes) (IsBytes-drop 1 bytes fits) in
-    let named = named_takes ps (1 + count_len * n) rest c used rest_fits read.2 in
+    let rest_fits = IsBytes-drop (count_len Two * n) (drop 2 bytes) (IsBytes-drop 2 bytes fits) in
+    let named = named_takes ps (2 + count_len Two * n) rest c used rest_fits read.2 in
     let section =
-    counts_section n 1 (drop 1 bytes) ps read.0.1 (IsBytes-drop 1 bytes fits) (omega (arith, enough, length-drop 1 bytes)) read.1 in
-    let front_len : length (take 1 bytes) ≡ 1 = omega (arith, long, length-take 1 bytes) in
-    let front : to_be_bytes w8 n ≡ take 1 bytes = wide8.back (take 1 bytes) front_len (IsBytes-take 1 bytes fits) in
-    let number : to_be_bytes w8 (length ps) ≡ take 1 bytes = ap (to_be_bytes w8) section.2 ∙ front in
-    let head : bytes ≡ counts_bytes ps ++ rest =
-    sym (take-append-drop 1 bytes)
-    ∙ (ap (λ (t : List ℕ). take 1 bytes ++ t) section.0
-    ∙ (ap (λ (t : List ℕ). t ++ (flat_map count_bytes ps ++ rest)) (sym number)
-    ∙ sym (append_assoc (to_be_bytes w8 (length ps)) (flat_map count_bytes ps) rest))) in
+    counts_section n 2 (drop 2 bytes) ps read.0.1 (IsBytes-drop 2 bytes fits) (omega (arith, enough, length-drop 2 bytes)) read.1 in
+    let front_len : length (take 2 bytes) ≡ 2 = omega (arith, long, length-take 2 bytes) in
+    let front : to_be_bytes w16 n ≡ take 2 bytes = wide16.back (take 2 bytes) front_len (IsBytes-take 2 bytes fits) in
+    let number : to_be_bytes w16 (length ps) ≡ take 2 bytes = ap (to_be_bytes w16) section.2 ∙ front in
+    let head : bytes ≡ counts_bytes Two ps ++ rest =
+    sym (take-append-drop 2 bytes)
+    ∙ (ap (λ (t : List ℕ). take 2 bytes ++ t) section.0
+    ∙ (ap (λ (t : List ℕ). t ++ (flat_map (count_bytes Two) ps ++ rest)) (sym number)
+    ∙ sym (append_assoc (to_be_bytes w16 (length ps)) (flat_map (count_bytes Two) ps) rest))) in
     let all : bytes ≡ state_bytes c ++ named.rest =
     head
-    ∙ (ap (λ (t : List ℕ). counts_bytes ps ++ t) named.parts
-    ∙ (ap (λ (t : List (ℕ × ℕ)). counts_bytes t ++ (named_bytes c.entries ++ named.rest)) (sym named.same)
-    ∙ sym (append_assoc (counts_bytes c.counts) (named_bytes c.entries) named.rest))) in
-    let counts_size : length (counts_bytes c.counts) ≡ 1 + count_len * n =
-    ap (λ (t : List (ℕ × ℕ)). length (counts_bytes t)) named.same ∙ (let wide = section.1 in omega (arith, wide)) in
+    ∙ (ap (λ (t : List ℕ). counts_bytes Two ps ++ t) named.parts
+    ∙ (ap (λ (t : List (ℕ × ℕ)). counts_bytes Two t ++ (entries_bytes LongRuns c.entries ++ named.rest)) (sym named.same)
+    ∙ sym (append_assoc (counts_bytes Two c.counts) (entries_bytes LongRuns c.entries) named.rest))) in
+    let counts_size : length (counts_bytes Two c.counts) ≡ 2 + count_len Two * n =
+    ap (λ (t : List (ℕ × ℕ)). length (counts_bytes Two t)) named.same ∙ (let wide = section.1 in omega (arith, wide)) in
     let size : length (state_bytes c) ≡ used =
-    (let is = named.ends in omega (arith, is, counts_size, length-append (counts_bytes c.counts) (named_bytes c.entries))) in
+    (let is = named.ends in omega (arith, is, counts_size, length-append (counts_bytes Two c.counts) (entries_bytes LongRuns c.entries))) in
     let left : drop used bytes ≡ named.rest = ap (drop used) all ∙ drop_at (state_bytes c) named.rest used size in
     record {
       is = record {
-        is = record { counts = subst (AreCounts 0) (sym named.same) (counts_in_order ps section.3); entries = named.entries };
+        is = record { counts = subst (AreCounts 0) (sym named.same) (counts_in_order Two ps section.3).0; entries = named.entries };
         stray = stray_keeps c named.originals;
-        few = named.few;
+        few = (let most = length_at_most c.entries named.entries in omega (arith, most));
       };
       size = sym size;
       parts = all ∙ ap (λ (t : List ℕ). state_bytes c ++ t) (sym left);
@@ -249,33 +284,34 @@ unfolding judge_state counts_read counted state_bytes
 state_again c rest is =
     let ps = c.counts in
     let n = length ps in
-    let behind = named_bytes c.entries ++ rest in
-    let bytes = counts_bytes ps ++ behind in
-    let same : state_bytes c ++ rest ≡ bytes = append_assoc (counts_bytes ps) (named_bytes c.entries) rest in
+    let behind = entries_bytes LongRuns c.entries ++ rest in
+    let bytes = counts_bytes Two ps ++ behind in
+    let same : state_bytes c ++ rest ≡ bytes = append_assoc (counts_bytes Two ps) (entries_bytes LongRuns c.entries) rest in
     let few : n ≤ SITES = (let most = counts_few 0 ps is.is.counts (omega arith) in omega (arith, most)) in
-    let size : sites_of bytes ≡ n = wide8.again n (omega (arith, few)) in
-    let listed : length (flat_map count_bytes ps) ≡ count_len * n = length-counts ps in
-    let total : length bytes ≡ 1 + (count_len * n + length behind) =
-    omega (arith, listed, length-append (flat_map count_bytes ps) behind) in
-    let some : ltb (length bytes) 1 ≡ false = le-ltb _ _ (omega (arith, total)) in
-    let not_many : ltb FRAME_SITES (sites_of bytes) ≡ false = le-ltb _ _ (omega (arith, size, few)) in
-    let there : ltb (length bytes) (1 + count_len * sites_of bytes) ≡ false = le-ltb _ _ (omega (arith, size, total)) in
+    let size : sites_of bytes ≡ n = wide16.again n (omega (arith, few)) in
+    let listed : length (flat_map (count_bytes Two) ps) ≡ count_len Two * n = length-counts Two ps in
+    let total : length bytes ≡ 2 + (count_len Two * n + length behind) =
+    omega (arith, listed, length-append (flat_map (count_bytes Two) ps) behind) in
+    let some : ltb (length bytes) 2 ≡ false = le-ltb _ _ (omega (arith, total)) in
+    let not_many : ltb (sites Two) (sites_of bytes) ≡ false = le-ltb _ _ (omega (arith, size, few)) in
+    let there : ltb (length bytes) (2 + count_len Two * sites_of bytes) ≡ false = le-ltb _ _ (omega (arith, size, total)) in
     let section =
-    section_again count_at site_after count_bytes IsCount count_reads count_len length-counts 0 ps n 1 behind refl
-    (counts_to 0 ps is.is.counts) in
+    section_again (count_at Two) site_after (count_bytes Two) (IsCount Two) (count_reads Two) (count_len Two) (length-counts Two) 0 ps n 2
+    behind refl
+    (counts_to Two 0 ps (is.is.counts, counts_of_two 0 ps is.is.counts)) in
     let read : counts_read bytes ≡ Ok (ps, section.0) =
-    ap (λ (k : ℕ). many count_at site_after k 0 (left_at 1 (take (count_len * k) (flat_map count_bytes ps ++ behind)))) size
+    ap (λ (k : ℕ). many (count_at Two) site_after k 0 (left_at 2 (take (count_len Two * k) (flat_map (count_bytes Two) ps ++ behind)))) size
     ∙ section.1 in
-    let at = 1 + count_len * sites_of bytes in
-    let left : drop (count_len * sites_of bytes) (drop 1 bytes) ≡ behind =
-    ap (λ (k : ℕ). drop (count_len * k) (flat_map count_bytes ps ++ behind)) size
-    ∙ drop_at (flat_map count_bytes ps) behind (count_len * n) listed in
-    let named = named_again c at rest is.is.entries (has_no_stray c is.is.entries is.stray) is.few in
-    let good : counted bytes ≡ Ok (c, at + length (named_bytes c.entries)) =
-    ap (judge_counted at (drop (count_len * sites_of bytes) (drop 1 bytes))) read ∙ (ap (judge_named ps at) left ∙ named) in
-    let counts_size : length (counts_bytes ps) ≡ 1 + count_len * n = omega (arith, listed) in
-    let ends : at + length (named_bytes c.entries) ≡ length (state_bytes c) =
-    omega (arith, size, counts_size, length-append (counts_bytes ps) (named_bytes c.entries)) in
+    let at = 2 + count_len Two * sites_of bytes in
+    let left : drop (count_len Two * sites_of bytes) (drop 2 bytes) ≡ behind =
+    ap (λ (k : ℕ). drop (count_len Two * k) (flat_map (count_bytes Two) ps ++ behind)) size
+    ∙ drop_at (flat_map (count_bytes Two) ps) behind (count_len Two * n) listed in
+    let named = named_again c at rest is.is.entries (has_no_stray c is.is.entries is.stray) in
+    let good : counted bytes ≡ Ok (c, at + length (entries_bytes LongRuns c.entries)) =
+    ap (judge_counted at (drop (count_len Two * sites_of bytes) (drop 2 bytes))) read ∙ (ap (judge_named ps at) left ∙ named) in
+    let counts_size : length (counts_bytes Two ps) ≡ 2 + count_len Two * n = omega (arith, listed) in
+    let ends : at + length (entries_bytes LongRuns c.entries) ≡ length (state_bytes c) =
+    omega (arith, size, counts_size, length-append (counts_bytes Two ps) (entries_bytes LongRuns c.entries)) in
     ap judge_state same ∙ (cond-false _ _ _ some
     ∙ (cond-false _ _ _ not_many ∙ (cond-false _ _ _ there ∙ (good ∙ ap (λ (k : ℕ). Ok (c, k)) ends))))
 
@@ -291,30 +327,33 @@ IsTold y = (n : ℕ) → ¬ (Err (More n) ≡ y)
 
 named_stays : (counts : List (ℕ × ℕ)) (at : ℕ) (bytes more : List ℕ) (y : Result (ContextData × ℕ) Unread) → IsTold y
     → judge_named counts at bytes ≡ y → judge_named counts at (bytes ++ more) ≡ y
-unfolding judge_named entries_read IsTold
+unfolding judge_named runs_found IsTold
 named_stays counts at bytes more y told e =
     let n = length_of bytes in
     let all = bytes ++ more in
     let total = length-append bytes more in
-    let stop = at + (4 + entry_len * n) in
-    let whole = judge_entries counts (at + 4) stop (entries_read bytes at) in
-    elim (split (ltb (length bytes) 4) (More (at + 4)) (cond (ltb (length bytes) (4 + entry_len * n)) (Err (More stop)) whole) y e) [
+    let stop = at + (4 + run_len LongRuns * n) in
+    let whole = judge_runs counts (at + 4) stop (runs_found bytes at) in
+    elim (split (ltb (length bytes) 4) (More (at + 4)) (cond (ltb (length bytes) (4 + run_len LongRuns * n)) (Err (More stop)) whole) y e) [
       | inl short ↦ absurd (told (at + 4) short.1)
-      | inr four ↦ elim (split (ltb (length bytes) (4 + entry_len * n)) (More stop) whole y four.1) [
+      | inr four ↦ elim (split (ltb (length bytes) (4 + run_len LongRuns * n)) (More stop) whole y four.1) [
         | inl short ↦ absurd (told stop short.1)
         | inr there ↦
             let long = ltb-false (length bytes) 4 four.0 in
-            let enough = ltb-false (length bytes) (4 + entry_len * n) there.0 in
+            let enough = ltb-false (length bytes) (4 + run_len LongRuns * n) there.0 in
             let same : length_of all ≡ n = ap (from_be_bytes w32) (take-append-le 4 bytes more long) in
             let four_all : ltb (length all) 4 ≡ false = le-ltb _ _ (omega (arith, long, total)) in
-            let there_all : ltb (length all) (4 + entry_len * length_of all) ≡ false = le-ltb _ _ (omega (arith, enough, total, same)) in
-            let section : entry_len * n ≤ length (drop 4 bytes) = omega (arith, enough, length-drop 4 bytes) in
-            let text : take (entry_len * n) (drop 4 all) ≡ take (entry_len * n) (drop 4 bytes) =
-            ap (take (entry_len * n)) (drop-append-le 4 bytes more long) ∙ take-append-le (entry_len * n) (drop 4 bytes) more section in
-            let good : judge_entries counts (at + 4) (at + (4 + entry_len * length_of all)) (entries_read all at) ≡ whole =
-            ap (λ (k : ℕ). judge_entries counts (at + 4) (at + (4 + entry_len * k))
-            (many entry_at name_of k None (left_at (at + 4) (take (entry_len * k) (drop 4 all))))) same
-            ∙ ap (λ (t : List ℕ). judge_entries counts (at + 4) stop (many entry_at name_of n None (left_at (at + 4) t))) text in
+            let there_all : ltb (length all) (4 + run_len LongRuns * length_of all) ≡ false =
+            le-ltb _ _ (omega (arith, enough, total, same)) in
+            let section : run_len LongRuns * n ≤ length (drop 4 bytes) = omega (arith, enough, length-drop 4 bytes) in
+            let text : take (run_len LongRuns * n) (drop 4 all) ≡ take (run_len LongRuns * n) (drop 4 bytes) =
+            ap (take (run_len LongRuns * n)) (drop-append-le 4 bytes more long)
+            ∙ take-append-le (run_len LongRuns * n) (drop 4 bytes) more section in
+            let good : judge_runs counts (at + 4) (at + (4 + run_len LongRuns * length_of all)) (runs_found all at) ≡ whole =
+            ap (λ (k : ℕ). judge_runs counts (at + 4) (at + (4 + run_len LongRuns * k))
+            (many (run_at LongRuns) before_next k nothing_before (left_at (at + 4) (take (run_len LongRuns * k) (drop 4 all))))) same
+            ∙ ap (λ (t : List ℕ). judge_runs counts (at + 4) stop
+            (many (run_at LongRuns) before_next n nothing_before (left_at (at + 4) t))) text in
             cond-false _ _ _ four_all ∙ (cond-false _ _ _ there_all ∙ (good ∙ there.1))
       ]
     ]
@@ -331,38 +370,39 @@ state_stays bytes more y told e =
     let n = sites_of bytes in
     let all = bytes ++ more in
     let total = length-append bytes more in
-    let behind = cond (ltb (length bytes) (1 + count_len * n)) (Err (More (1 + count_len * n))) (counted bytes) in
-    elim (split (ltb (length bytes) 1) (More 1) (cond (ltb FRAME_SITES n) (Err (Bad (fault Range 0))) behind) y e) [
-      | inl short ↦ absurd (told 1 short.1)
+    let behind = cond (ltb (length bytes) (2 + count_len Two * n)) (Err (More (2 + count_len Two * n))) (counted bytes) in
+    elim (split (ltb (length bytes) 2) (More 2) (cond (ltb (sites Two) n) (Err (Bad (fault Range 0))) behind) y e) [
+      | inl short ↦ absurd (told 2 short.1)
       | inr some ↦
-          let long = ltb-false (length bytes) 1 some.0 in
-          let same : sites_of all ≡ n = ap (from_be_bytes w8) (take-append-le 1 bytes more long) in
-          let some_all : ltb (length all) 1 ≡ false = le-ltb _ _ (omega (arith, long, total)) in
-          elim (split (ltb FRAME_SITES n) (Bad (fault Range 0)) behind y some.1) [
-            | inl here ↦ cond-false _ _ _ some_all ∙ (cond-true _ _ _ (ap (λ (k : ℕ). ltb FRAME_SITES k) same ∙ here.0) ∙ here.1)
-            | inr few ↦ elim (split (ltb (length bytes) (1 + count_len * n)) (More (1 + count_len * n)) (counted bytes) y few.1) [
-              | inl short ↦ absurd (told (1 + count_len * n) short.1)
+          let long = ltb-false (length bytes) 2 some.0 in
+          let same : sites_of all ≡ n = ap (from_be_bytes w16) (take-append-le 2 bytes more long) in
+          let some_all : ltb (length all) 2 ≡ false = le-ltb _ _ (omega (arith, long, total)) in
+          elim (split (ltb (sites Two) n) (Bad (fault Range 0)) behind y some.1) [
+            | inl here ↦ cond-false _ _ _ some_all ∙ (cond-true _ _ _ (ap (λ (k : ℕ). ltb (sites Two) k) same ∙ here.0) ∙ here.1)
+            | inr few ↦ elim (split (ltb (length bytes) (2 + count_len Two * n)) (More (2 + count_len Two * n)) (counted bytes) y few.1) [
+              | inl short ↦ absurd (told (2 + count_len Two * n) short.1)
               | inr there ↦
-                  let enough = ltb-false (length bytes) (1 + count_len * n) there.0 in
-                  let few_all : ltb FRAME_SITES (sites_of all) ≡ false = ap (λ (k : ℕ). ltb FRAME_SITES k) same ∙ few.0 in
-                  let there_all : ltb (length all) (1 + count_len * sites_of all) ≡ false =
+                  let enough = ltb-false (length bytes) (2 + count_len Two * n) there.0 in
+                  let few_all : ltb (sites Two) (sites_of all) ≡ false = ap (λ (k : ℕ). ltb (sites Two) k) same ∙ few.0 in
+                  let there_all : ltb (length all) (2 + count_len Two * sites_of all) ≡ false =
                   le-ltb _ _ (omega (arith, enough, total, same)) in
-                  let section : count_len * n ≤ length (drop 1 bytes) = omega (arith, enough, length-drop 1 bytes) in
-                  let front : drop 1 all ≡ drop 1 bytes ++ more = drop-append-le 1 bytes more long in
-                  let text : take (count_len * n) (drop 1 all) ≡ take (count_len * n) (drop 1 bytes) =
-                  ap (take (count_len * n)) front ∙ take-append-le (count_len * n) (drop 1 bytes) more section in
-                  let left : drop (count_len * n) (drop 1 all) ≡ drop (count_len * n) (drop 1 bytes) ++ more =
-                  ap (drop (count_len * n)) front ∙ drop-append-le (count_len * n) (drop 1 bytes) more section in
-                  let good : counted all ≡ judge_counted (1 + count_len * n) (drop (count_len * n) (drop 1 bytes) ++ more)
+                  let section : count_len Two * n ≤ length (drop 2 bytes) = omega (arith, enough, length-drop 2 bytes) in
+                  let front : drop 2 all ≡ drop 2 bytes ++ more = drop-append-le 2 bytes more long in
+                  let text : take (count_len Two * n) (drop 2 all) ≡ take (count_len Two * n) (drop 2 bytes) =
+                  ap (take (count_len Two * n)) front ∙ take-append-le (count_len Two * n) (drop 2 bytes) more section in
+                  let left : drop (count_len Two * n) (drop 2 all) ≡ drop (count_len Two * n) (drop 2 bytes) ++ more =
+                  ap (drop (count_len Two * n)) front ∙ drop-append-le (count_len Two * n) (drop 2 bytes) more section in
+                  let good : counted all ≡ judge_counted (2 + count_len Two * n) (drop (count_len Two * n) (drop 2 bytes) ++ more)
                   (counts_read bytes) =
-                  ap (λ (k : ℕ). judge_counted (1 + count_len * k) (drop (count_len * k) (drop 1 all))
-                  (many count_at site_after k 0 (left_at 1 (take (count_len * k) (drop 1 all))))) same
-                  ∙ (ap (λ (t : List ℕ). judge_counted (1 + count_len * n) (drop (count_len * n) (drop 1 all))
-                  (many count_at site_after n 0 (left_at 1 t))) text
-                  ∙ ap (λ (t : List ℕ). judge_counted (1 + count_len * n) t (counts_read bytes)) left) in
+                  ap (λ (k : ℕ). judge_counted (2 + count_len Two * k) (drop (count_len Two * k) (drop 2 all))
+                  (many (count_at Two) site_after k 0 (left_at 2 (take (count_len Two * k) (drop 2 all))))) same
+                  ∙ (ap (λ (t : List ℕ). judge_counted (2 + count_len Two * n) (drop (count_len Two * n) (drop 2 all))
+                  (many (count_at Two) site_after n 0 (left_at 2 t))) text
+                  ∙ ap (λ (t : List ℕ). judge_counted (2 + count_len Two * n) t (counts_read bytes)) left) in
                   cond-false _ _ _ some_all ∙ (cond-false _ _ _ few_all
                   ∙ (cond-false _ _ _ there_all ∙ (good
-                  ∙ counted_stays (1 + count_len * n) (drop (count_len * n) (drop 1 bytes)) more (counts_read bytes) y told there.1)))
+                  ∙ counted_stays (2 + count_len Two * n) (drop (count_len Two * n) (drop 2 bytes)) more (counts_read bytes) y told
+                  there.1)))
             ]
           ]
     ]
@@ -373,15 +413,15 @@ stray_bad c stop q (Ok u) e = absurd (let no = e in cc)
 stray_bad c stop q (Err f) e = let same : Bad f ≡ q = cc in (f, same, refl)
 
 -- a fault of the undone names, or one that is no original
-pub entries_bad : (counts : List (ℕ × ℕ)) (begin stop : ℕ) (q : Unread) (r : Found (List (NameData × ℕ)))
-    → judge_entries counts begin stop r ≡ Err q
+pub runs_bad : (counts : List (ℕ × ℕ)) (begin stop : ℕ) (q : Unread) (r : Found (List RunData))
+    → judge_runs counts begin stop r ≡ Err q
     → (f : Fault) × (Bad f ≡ q) × ((r ≡ Err f)
-    ⊎ ((e : List (NameData × ℕ) × LeftData) × (r ≡ Ok e) × (stray_from (record { counts = counts; entries = e.0 }) begin e.0 ≡ Err f)))
-entries_bad counts begin stop q (Ok e) is =
-    let d : ContextData = record { counts = counts; entries = e.0 } in
-    let b = stray_bad d stop q (stray_from d begin e.0) is in
+    ⊎ ((e : List RunData × LeftData) × (r ≡ Ok e) × (stray_from LongRuns (with_runs counts e.0) begin e.0 ≡ Err f)))
+runs_bad counts begin stop q (Ok e) is =
+    let d = with_runs counts e.0 in
+    let b = stray_bad d stop q (stray_from LongRuns d begin e.0) is in
     (b.0, b.1, inr (e, refl, b.2))
-entries_bad counts begin stop q (Err f) is = let same : Bad f ≡ q = cc in (f, same, inl refl)
+runs_bad counts begin stop q (Err f) is = let same : Bad f ≡ q = cc in (f, same, inl refl)
 
 -- what an answer that refuses says of the offsets
 IsRefusedIn : ℕ → Unread → Type 0
@@ -390,43 +430,45 @@ IsRefusedIn stop (Bad f) = f.offset ≤ stop
 
 named_refused : (counts : List (ℕ × ℕ)) (at : ℕ) (bytes : List ℕ) (q : Unread) → IsBytes bytes → judge_named counts at bytes ≡ Err q
     → IsRefusedIn (at + length bytes) q
-unfolding judge_named entries_read IsRefusedIn
+unfolding judge_named runs_found IsRefusedIn
 named_refused counts at bytes q fits e =
     let n = length_of bytes in
-    let stop = at + (4 + entry_len * n) in
-    let whole = judge_entries counts (at + 4) stop (entries_read bytes at) in
-    elim (cond_err (ltb (length bytes) 4) (More (at + 4)) q (cond (ltb (length bytes) (4 + entry_len * n)) (Err (More stop)) whole) e) [
+    let stop = at + (4 + run_len LongRuns * n) in
+    let whole = judge_runs counts (at + 4) stop (runs_found bytes at) in
+    elim (cond_err (ltb (length bytes) 4) (More (at + 4)) q (cond (ltb (length bytes) (4 + run_len LongRuns * n)) (Err (More stop)) whole)
+    e) [
       | inl here ↦ subst (IsRefusedIn (at + length bytes)) here.1 (omega (arith, ltb-true _ _ here.0))
-      | inr four ↦ elim (cond_err (ltb (length bytes) (4 + entry_len * n)) (More stop) q whole four.1) [
+      | inr four ↦ elim (cond_err (ltb (length bytes) (4 + run_len LongRuns * n)) (More stop) q whole four.1) [
         | inl here ↦ subst (IsRefusedIn (at + length bytes)) here.1 (omega (arith, ltb-true _ _ here.0))
         | inr there ↦
             let enough = ltb-false _ _ there.0 in
-            let bad = entries_bad counts (at + 4) stop q (entries_read bytes at) there.1 in
+            let bad = runs_bad counts (at + 4) stop q (runs_found bytes at) there.1 in
             let rest_fits = IsBytes-drop 4 bytes fits in
             subst (IsRefusedIn (at + length bytes)) bad.1
             (elim bad.2 [
               | inl listed ↦
                   let inside =
-                  section_faults entry_at name_of entry_bytes IsEntry entry_reads entry_len length-entries None n (at + 4)
+                  section_faults (run_at LongRuns) before_next (run_bytes LongRuns) (IsRun LongRuns) (run_reads LongRuns) (run_len LongRuns)
+                  (length-run_list LongRuns) nothing_before n (at + 4)
                   (drop 4 bytes) bad.0 rest_fits listed in
                   omega (arith, inside, enough)
               | inr stray ↦
                   let section =
-                  entries_section n (at + 4) (drop 4 bytes) stray.0.0 stray.0.1 rest_fits (omega (arith, enough, length-drop 4 bytes))
+                  runs_section n (at + 4) (drop 4 bytes) stray.0.0 stray.0.1 rest_fits (omega (arith, enough, length-drop 4 bytes))
                   stray.1 in
-                  let inside = stray_faults (record { counts = counts; entries = stray.0.0 }) (at + 4) stray.0.0 bad.0 stray.2 in
+                  let inside = stray_faults LongRuns (with_runs counts stray.0.0) (at + 4) stray.0.0 bad.0 stray.2 in
                   omega (arith, inside, enough, section.2)
             ])
       ]
     ]
 
 counted_refused : (n : ℕ) (bytes rest : List ℕ) (q : Unread) (r : Found (List (ℕ × ℕ))) → IsBytes rest
-    → length bytes ≡ 1 + count_len * n + length rest → ((f : Fault) → r ≡ Err f → f.offset ≤ 1 + count_len * n)
-    → judge_counted (1 + count_len * n) rest r ≡ Err q → IsRefusedIn (length bytes) q
+    → length bytes ≡ 2 + count_len Two * n + length rest → ((f : Fault) → r ≡ Err f → f.offset ≤ 2 + count_len Two * n)
+    → judge_counted (2 + count_len Two * n) rest r ≡ Err q → IsRefusedIn (length bytes) q
 unfolding IsRefusedIn
 counted_refused n bytes rest q (Ok x) fits long inside e =
-    let total : 1 + count_len * n + length rest ≡ length bytes = omega (arith, long) in
-    subst (λ (k : ℕ). IsRefusedIn k q) total (named_refused x.0 (1 + count_len * n) rest q fits e)
+    let total : 2 + count_len Two * n + length rest ≡ length bytes = omega (arith, long) in
+    subst (λ (k : ℕ). IsRefusedIn k q) total (named_refused x.0 (2 + count_len Two * n) rest q fits e)
 counted_refused n bytes rest q (Err f) fits long inside e =
     let same : Bad f ≡ q = cc in
     subst (IsRefusedIn (length bytes)) same (omega (arith, long, inside f refl))
@@ -435,21 +477,22 @@ state_refused : (bytes : List ℕ) (q : Unread) → IsBytes bytes → judge_stat
 unfolding judge_state counts_read counted IsRefusedIn
 state_refused bytes q fits e =
     let n = sites_of bytes in
-    let behind = cond (ltb (length bytes) (1 + count_len * n)) (Err (More (1 + count_len * n))) (counted bytes) in
-    elim (cond_err (ltb (length bytes) 1) (More 1) q (cond (ltb FRAME_SITES n) (Err (Bad (fault Range 0))) behind) e) [
+    let behind = cond (ltb (length bytes) (2 + count_len Two * n)) (Err (More (2 + count_len Two * n))) (counted bytes) in
+    elim (cond_err (ltb (length bytes) 2) (More 2) q (cond (ltb (sites Two) n) (Err (Bad (fault Range 0))) behind) e) [
       | inl here ↦ subst (IsRefusedIn (length bytes)) here.1 (ltb-true _ _ here.0)
-      | inr some ↦ elim (cond_err (ltb FRAME_SITES n) (Bad (fault Range 0)) q behind some.1) [
+      | inr some ↦ elim (cond_err (ltb (sites Two) n) (Bad (fault Range 0)) q behind some.1) [
         | inl here ↦ subst (IsRefusedIn (length bytes)) here.1 (omega arith)
-        | inr few ↦ elim (cond_err (ltb (length bytes) (1 + count_len * n)) (More (1 + count_len * n)) q (counted bytes) few.1) [
+        | inr few ↦ elim (cond_err (ltb (length bytes) (2 + count_len Two * n)) (More (2 + count_len Two * n)) q (counted bytes) few.1) [
           | inl here ↦ subst (IsRefusedIn (length bytes)) here.1 (ltb-true _ _ here.0)
           | inr there ↦
               let enough = ltb-false _ _ there.0 in
-              let front_fits = IsBytes-drop 1 bytes fits in
-              let rest = drop (count_len * n) (drop 1 bytes) in
-              let long : length bytes ≡ 1 + count_len * n + length rest =
-              omega (arith, enough, length-drop 1 bytes, length-drop (count_len * n) (drop 1 bytes)) in
-              counted_refused n bytes rest q (counts_read bytes) (IsBytes-drop (count_len * n) (drop 1 bytes) front_fits) long
-              (λ f faulty. section_faults count_at site_after count_bytes IsCount count_reads count_len length-counts 0 n 1 (drop 1 bytes) f
+              let front_fits = IsBytes-drop 2 bytes fits in
+              let rest = drop (count_len Two * n) (drop 2 bytes) in
+              let long : length bytes ≡ 2 + count_len Two * n + length rest =
+              omega (arith, enough, length-drop 2 bytes, length-drop (count_len Two * n) (drop 2 bytes)) in
+              counted_refused n bytes rest q (counts_read bytes) (IsBytes-drop (count_len Two * n) (drop 2 bytes) front_fits) long
+              (λ f faulty. section_faults (count_at Two) site_after (count_bytes Two) (IsCount Two) (count_reads Two) (count_len Two)
+              (length-counts Two) 0 n 2 (drop 2 bytes) f
               front_fits faulty) there.1
         ]
       ]

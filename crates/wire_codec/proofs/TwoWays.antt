@@ -66,7 +66,7 @@ module _ {A X : Type 0} (r : LeftData → Found A) (k : A → LeftData → Found
   bind = record { takes = bind_takes; again = bind_again; faults = bind_faults }
 
 module _ {A X : Type 0} (r : LeftData → Found A) (s : A → List ℕ) (F : A → Type 0) (f : A → X) (p : X → A) (first : Reads r s F)
-    (back : (a : A) → p (f a) ≡ a) where
+    (back : (a : A) → F a → p (f a) ≡ a) where
   mapped_takes : (l m : LeftData) (x : X) → IsBytes l.bytes → (◌>>=◌ {B = X × LeftData} (r l) (λ a. Ok (f a.0, a.1))) ≡ Ok (x, m)
       → Takes l (s (p x)) m × (F (p x) × (f (p x) ≡ x))
   mapped_takes l m x fits e =
@@ -74,7 +74,7 @@ module _ {A X : Type 0} (r : LeftData → Found A) (s : A → List ℕ) (F : A �
       let made : X × LeftData = (f b.0.0, b.0.1) in
       let one = first.takes l b.0.1 b.0.0 fits b.1 in
       subst (λ (y : X × LeftData). Takes l (s (p y.0)) y.1 × (F (p y.0) × (f (p y.0) ≡ y.0))) (ok_is made (x, m) b.2)
-      (subst (λ (a : A). Takes l (s a) b.0.1 × (F a × (f a ≡ f b.0.0))) (sym (back b.0.0)) (one.0, (one.1, refl)))
+      (subst (λ (a : A). Takes l (s a) b.0.1 × (F a × (f a ≡ f b.0.0))) (sym (back b.0.0 one.1)) (one.0, (one.1, refl)))
 
   mapped_again : (x : X) (at : ℕ) (rest : List ℕ) → F (p x) × (f (p x) ≡ x)
       → (◌>>=◌ {B = X × LeftData} (r (left_at at (s (p x) ++ rest))) (λ a. Ok (f a.0, a.1))) ≡ Ok (x, left_at (at + length (s (p x))) rest)
@@ -88,9 +88,15 @@ module _ {A X : Type 0} (r : LeftData → Found A) (s : A → List ℕ) (F : A �
         | inr b ↦ absurd (let no = b.2 in cc)
       ]
 
-  -- what was read, made into a value of another type
-  pub mapped : Reads (λ l. ◌>>=◌ {B = X × LeftData} (r l) (λ a. Ok (f a.0, a.1))) (λ x. s (p x)) (λ x. F (p x) × (f (p x) ≡ x))
-  mapped = record { takes = mapped_takes; again = mapped_again; faults = mapped_faults }
+  -- what was read, made into a value of another type; what fits can be had back from that
+  pub mapped_where : Reads (λ l. ◌>>=◌ {B = X × LeftData} (r l) (λ a. Ok (f a.0, a.1))) (λ x. s (p x)) (λ x. F (p x) × (f (p x) ≡ x))
+  mapped_where = record { takes = mapped_takes; again = mapped_again; faults = mapped_faults }
+
+-- the same where each value can be had back
+pub mapped : {A X : Type 0} (r : LeftData → Found A) (s : A → List ℕ) (F : A → Type 0) (f : A → X) (p : X → A) → Reads r s F
+    → ((a : A) → p (f a) ≡ a)
+    → Reads (λ l. ◌>>=◌ {B = X × LeftData} (r l) (λ a. Ok (f a.0, a.1))) (λ x. s (p x)) (λ x. F (p x) × (f (p x) ≡ x))
+mapped r s F f p first back = mapped_where r s F f p first (λ a _. back a)
 
 module _ {X : Type 0} (r : LeftData → Found X) (s t : X → List ℕ) (F G : X → Type 0) (first : Reads r s F) where
   -- the same reader, with its spelling and what fits in other words
@@ -103,7 +109,8 @@ module _ {X : Type 0} (r : LeftData → Found X) (s t : X → List ℕ) (F G : X
 
 module _ {X : Type 0} (test : X → Bool) (cause : Cause) (r : LeftData → Found X) (s : X → List ℕ) (F : X → Type 0) (first : Reads r s F)
   where
-    tested_takes : (l m : LeftData) (x : X) → IsBytes l.bytes → tested test cause r l ≡ Ok (x, m) → Takes l (s x) m × (F x × (test x ≡ true))
+    tested_takes : (l m : LeftData) (x : X) → IsBytes l.bytes → tested test cause r l ≡ Ok (x, m)
+        → Takes l (s x) m × (F x × (test x ≡ true))
     tested_takes l m x fits e =
         let b = bind_ok (r l) (λ y. want (test y.0) cause l.at >>= λ _. Ok y) (x, m) e in
         let w = want_ok (test b.0.0) cause l.at (λ _. Ok b.0) (x, m) b.2 in

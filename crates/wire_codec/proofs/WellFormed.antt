@@ -1,16 +1,12 @@
 -- The rules behind the reading are the rules of well-formed operations.
-use Rattle.std.proofs.Common.{◌≡◌, ℕ, ◌+◌, ◌*◌, ◌≤◌, leb, eqb, Bool, true, false, cond, List, [], ◌∷◌, length, Result, Ok, Err, refl, sym, subst, ◌∙◌, arith, inl, inr}
+use Rattle.std.proofs.Common.{◌≡◌, ℕ, ◌+◌, ◌≤◌, leb, eqb, Bool, true, false, cond, List, [], ◌∷◌, refl, subst, arith}
 use Rattle.std.proofs.lemmas.Bool.{le-leb, leb-true, eqb-true, eq-eqb, and_parts, and_from}
 use Rattle.op_name.specs.declared.member.Member.TheVariants.{Original}
 use Rattle.op_name.specs.NameData.{NameData, name_eq}
 use Rattle.op_name.proofs.CallerLemmas.{name_same, name_itself}
 use Rattle.context_vector.specs.Contexts.{ContextData, AreEntries, HasNoStray, has, entry_of, entry_in}
 use Rattle.context_diff.specs.Operations.{OpData, inserting, deleting, undoing, KeepsOwn, KeepsTarget}
-use Rattle.wire_codec.specs.declared.fault.Fault.{Fault}
-use Rattle.wire_codec.specs.declared.cause.Cause.TheVariants.{Stray}
-use Rattle.wire_codec.specs.Reading.{want}
-use Rattle.wire_codec.specs.Judging.{entry_len, is_own, has_target, stray_from}
-use Rattle.wire_codec.proofs.Steps.{want_ok, want_err}
+use Rattle.wire_codec.specs.Judging.{is_own, has_target}
 
 pub own_from : (o : OpData) → is_own o ≡ true → KeepsOwn o
 own_from (inserting n p text c) h = eqb-true _ _ h
@@ -78,47 +74,3 @@ has_no_stray c entries keeps =
     originals_from c c.entries entries
     (λ n found. keeps n (entry_of c n)
     (and_from (leb 1 (entry_of c n)) (leb (entry_of c n) (entry_of c n)) (le-leb _ _ found) (le-leb _ _ (omega arith))))
-
-pub stray_ok : (c : ContextData) (at : ℕ) (es : List (NameData × ℕ)) → stray_from c at es ≡ Ok tt → AreOriginals c es
-unfolding stray_from
-stray_ok c at [] h = tt
-stray_ok c at (e ∷ es) h =
-    let w = want_ok (has c (Original e.0)) Stray at (λ _. stray_from c (at + entry_len) es) tt h in
-    (w.0, stray_ok c (at + entry_len) es w.1)
-
-pub stray_again : (c : ContextData) (at : ℕ) (es : List (NameData × ℕ)) → AreOriginals c es → stray_from c at es ≡ Ok tt
-unfolding stray_from
-stray_again c at [] h = refl
-stray_again c at (e ∷ es) h = rw (h.0) (stray_again c (at + entry_len) es h.1)
-
-pub stray_faults : (c : ContextData) (at : ℕ) (es : List (NameData × ℕ)) (f : Fault) → stray_from c at es ≡ Err f
-    → f.offset ≤ at + entry_len * length es
-unfolding stray_from
-stray_faults c at [] f h = absurd (let no = h in cc)
-stray_faults c at (e ∷ es) f h =
-    elim (want_err (has c (Original e.0)) Stray at (λ _. stray_from c (at + entry_len) es) f h) [
-      | inl here ↦ omega (arith, here)
-      | inr later ↦ omega (arith, stray_faults c (at + entry_len) es f later)
-    ]
-
--- one step over undo entries
-module _ (c : ContextData) (at : ℕ) (before after : List (NameData × ℕ)) (total : Result (Unit {0}) Fault)
-    (so_far : stray_from c at before ≡ total) where
-  pub stray_passes : (e : NameData × ℕ) → before ≡ e ∷ after → want (has c (Original e.0)) Stray at ≡ Ok tt
-      → stray_from c (at + entry_len) after ≡ total
-  unfolding stray_from
-  stray_passes e is known =
-      let step : stray_from c at before ≡ stray_from c (at + entry_len) after = rw (is, known) refl in
-      sym step ∙ so_far
-
-  pub stray_stops : (e : NameData × ℕ) (f : Fault) → before ≡ e ∷ after → want (has c (Original e.0)) Stray at ≡ Err f → total ≡ Err f
-  unfolding stray_from
-  stray_stops e f is unknown =
-      let step : stray_from c at before ≡ Err f = rw (is, unknown) refl in
-      sym so_far ∙ step
-
-  pub stray_over : before ≡ [] → total ≡ Ok tt
-  unfolding stray_from
-  stray_over is =
-      let step : stray_from c at before ≡ Ok tt = rw is refl in
-      sym so_far ∙ step

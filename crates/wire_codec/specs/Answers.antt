@@ -8,6 +8,7 @@ use Rattle.wire_codec.specs.declared.answers.Decoded.{Decoded}
 use Rattle.wire_codec.specs.declared.answers.Decoded.TheVariants as decoded
 use Rattle.wire_codec.specs.declared.fault.Refused.{Refused}
 use Rattle.wire_codec.specs.declared.fault.Refused.TheVariants.{More, Bad}
+use Rattle.wire_codec.specs.declared.version.Version.{Version}
 use Rattle.wire_codec.specs.Reading.{fault}
 use Rattle.wire_codec.specs.Judging.{IsFrame}
 
@@ -24,26 +25,26 @@ judgement_of (decoded.More n) = Err (More n)
 judgement_of (decoded.Bad cause offset) = Err (Bad (fault cause offset))
 
 -- the bytes begin with the frame of some well-formed operation
-pub record BeginsWithFrame (bytes : List ℕ) (used : ℕ) : Type 0 where
+pub record BeginsWithFrame (v : Version) (bytes : List ℕ) (used : ℕ) : Type 0 where
   pub op : OpData
-  pub is : IsFrame bytes op used
+  pub is : IsFrame v bytes op used
 
--- the bytes begin with a frame
-abbrev pub HasFrame : List ℕ → Type 0
-HasFrame bytes = (used : ℕ) × BeginsWithFrame bytes used
+-- the bytes begin with a frame of this version
+abbrev pub HasFrame : Version → List ℕ → Type 0
+HasFrame v bytes = (used : ℕ) × BeginsWithFrame v bytes used
 
 -- a fault is in the bytes, and more bytes don't help: no continuation of them begins with a frame
-pub record IsBad (bytes : List ℕ) (offset : ℕ) : Type 0 where
+pub record IsBad (v : Version) (bytes : List ℕ) (offset : ℕ) : Type 0 where
   pub within : offset ≤ length bytes
-  pub never : (more : List ℕ) → ¬ HasFrame (bytes ++ more)
+  pub never : (more : List ℕ) → ¬ HasFrame v (bytes ++ more)
 
 -- what each answer says of the bytes
-abbrev pub SaysOf : List ℕ → Scan → Type 0
-SaysOf bytes (scanned.Frame used) = BeginsWithFrame bytes used
-SaysOf bytes (scanned.More n) = length bytes < n
-SaysOf bytes (scanned.Bad cause offset) = IsBad bytes offset
+abbrev pub SaysOf : Version → List ℕ → Scan → Type 0
+SaysOf v bytes (scanned.Frame used) = BeginsWithFrame v bytes used
+SaysOf v bytes (scanned.More n) = length bytes < n
+SaysOf v bytes (scanned.Bad cause offset) = IsBad v bytes offset
 
-abbrev pub TellsOf : List ℕ → Decoded → Type 0
-TellsOf bytes (decoded.Got op used) = IsFrame bytes (data_of op) used
-TellsOf bytes (decoded.More n) = length bytes < n
-TellsOf bytes (decoded.Bad cause offset) = IsBad bytes offset
+abbrev pub TellsOf : Version → List ℕ → Decoded → Type 0
+TellsOf v bytes (decoded.Got op used) = IsFrame v bytes (data_of op) used
+TellsOf v bytes (decoded.More n) = length bytes < n
+TellsOf v bytes (decoded.Bad cause offset) = IsBad v bytes offset

@@ -2,4 +2,5 @@
 pub mod Lent
 pub mod Elements
 pub mod Sections
+pub mod RunLists
 pub mod Puts

@@ -1,4 +1,6 @@
 pub mod Causes
+pub mod Versions
+pub mod Runs
 pub mod Spelling
 pub mod Reading
 pub mod Judging

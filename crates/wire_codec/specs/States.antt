@@ -1,10 +1,8 @@
--- States: the members of a site as bytes. A state is spelled as a context is, but for the number of undone names, which has
--- four bytes.
-use Rattle.std.specs.Prelude.{◌≡◌, ℕ, ◌+◌, ◌*◌, ◌<◌, ◌≤◌, ◌^◌, List, ◌++◌, length, take, drop, None, Result, Ok, Err, nat_lt, if◌then◌else◌}
+-- States: the members of a site as bytes. A state is spelled as a context of version 2 is, but for the number of runs and their lengths,
+-- which have four bytes each and no limit.
+use Rattle.std.specs.Prelude.{◌≡◌, ℕ, ◌+◌, ◌*◌, ◌<◌, ◌≤◌, ◌^◌, List, ◌++◌, length, take, drop, Result, Ok, Err, nat_lt, if◌then◌else◌}
 use Rattle.std.specs.List.{flat_map}
-use Rattle.std.specs.Int.{w8, w32, to_be_bytes, from_be_bytes}
-use Rattle.op_name.specs.NameData.{NameData}
-use Rattle.wire_codec.specs.declared.limits.TheConstants.{FRAME_SITES}
+use Rattle.std.specs.Int.{w16, from_be_bytes}
 use Rattle.context_vector.specs.Contexts.{ContextData, IsContext, HasNoStray}
 use Rattle.wire_codec.specs.declared.cause.Cause.TheVariants.{Range}
 use Rattle.wire_codec.specs.declared.fault.Fault.{Fault}
@@ -14,19 +12,19 @@ use Rattle.wire_codec.specs.declared.state_answers.StateScan.{StateScan}
 use Rattle.wire_codec.specs.declared.state_answers.StateScan.TheVariants as scanned
 use Rattle.wire_codec.specs.declared.state_answers.DecodedState.{DecodedState}
 use Rattle.wire_codec.specs.declared.state_answers.DecodedState.TheVariants as decoded
-use Rattle.wire_codec.specs.Spelling.{counts_bytes, entry_bytes}
-use Rattle.wire_codec.specs.Reading.{Found, left_at, fault, many, count_at, site_after, entry_at, name_of}
-use Rattle.wire_codec.specs.Judging.{count_len, entry_len, length_of, stray_from}
+use Rattle.wire_codec.specs.declared.version.Version.TheVariants.{Two}
+use Rattle.wire_codec.specs.declared.listing.Listing.TheVariants.{LongRuns}
+use Rattle.wire_codec.specs.Versions.{sites}
+use Rattle.wire_codec.specs.Runs.{RunData, names_in}
+use Rattle.wire_codec.specs.Spelling.{counts_bytes, entries_bytes}
+use Rattle.wire_codec.specs.Reading.{Found, left_at, fault, many, count_at, site_after, run_at, before_next, nothing_before}
+use Rattle.wire_codec.specs.Judging.{count_len, run_len, length_of, stray_from}
 
 -- ---- Spelling
 
--- how many undone names, and these with their generations
-abbrev pub named_bytes : List (NameData × ℕ) → List ℕ
-named_bytes entries = to_be_bytes w32 (length entries) ++ flat_map entry_bytes entries
-
 -- State: the one spelling of a set of members
 unfoldable pub state_bytes : ContextData → List ℕ
-state_bytes c = counts_bytes c.counts ++ named_bytes c.entries
+state_bytes c = counts_bytes Two c.counts ++ entries_bytes LongRuns c.entries
 
 -- the sets of members that have a spelling: each undone name is an original of the set, and their number fits four bytes
 pub record IsState (c : ContextData) : Type 0 where
@@ -41,37 +39,39 @@ abbrev pub unless_stray : ContextData → ℕ → Result (Unit {0}) Fault → Re
 unless_stray c stop (Ok u) = Ok (c, stop)
 unless_stray c stop (Err f) = Err (Bad f)
 
--- the state of these counts and the undone names that were read
-abbrev pub judge_entries : List (ℕ × ℕ) → ℕ → ℕ → Found (List (NameData × ℕ)) → Result (ContextData × ℕ) Unread
-judge_entries counts begin stop (Ok e) =
-    unless_stray (record { counts = counts; entries = e.0 }) stop (stray_from (record { counts = counts; entries = e.0 }) begin e.0)
-judge_entries counts begin stop (Err f) = Err (Bad f)
+-- the state of these counts and the runs that were read
+abbrev pub judge_runs : List (ℕ × ℕ) → ℕ → ℕ → Found (List RunData) → Result (ContextData × ℕ) Unread
+judge_runs counts begin stop (Ok r) =
+    unless_stray (record { counts = counts; entries = flat_map names_in r.0 }) stop
+    (stray_from LongRuns (record { counts = counts; entries = flat_map names_in r.0 }) begin r.0)
+judge_runs counts begin stop (Err f) = Err (Bad f)
 
--- the state of these counts and the undone names that the bytes, which begin at this offset, begin with
+-- the state of these counts and the runs that the bytes, which begin at this offset, begin with
 unfoldable pub judge_named : List (ℕ × ℕ) → ℕ → List ℕ → Result (ContextData × ℕ) Unread
 judge_named counts at bytes =
     if nat_lt (length bytes) 4 then Err (More (at + 4))
-    else if nat_lt (length bytes) (4 + entry_len * length_of bytes) then Err (More (at + (4 + entry_len * length_of bytes)))
-    else judge_entries counts (at + 4) (at + (4 + entry_len * length_of bytes))
-    (many entry_at name_of (length_of bytes) None (left_at (at + 4) (take (entry_len * length_of bytes) (drop 4 bytes))))
+    else if nat_lt (length bytes) (4 + run_len LongRuns * length_of bytes) then Err (More (at + (4 + run_len LongRuns * length_of bytes)))
+    else judge_runs counts (at + 4) (at + (4 + run_len LongRuns * length_of bytes))
+    (many (run_at LongRuns) before_next (length_of bytes) nothing_before
+    (left_at (at + 4) (take (run_len LongRuns * length_of bytes) (drop 4 bytes))))
 
 -- the same for the counts that were read
 abbrev pub judge_counted : ℕ → List ℕ → Found (List (ℕ × ℕ)) → Result (ContextData × ℕ) Unread
 judge_counted at rest (Ok c) = judge_named c.0 at rest
 judge_counted at rest (Err f) = Err (Bad f)
 
--- the number that one byte says
+-- the number that two bytes say
 abbrev pub sites_of : List ℕ → ℕ
-sites_of bytes = from_be_bytes w8 (take 1 bytes)
+sites_of bytes = from_be_bytes w16 (take 2 bytes)
 
 -- the state that the bytes begin with, and how many bytes it has
 unfoldable pub judge_state : List ℕ → Result (ContextData × ℕ) Unread
 judge_state bytes =
-    if nat_lt (length bytes) 1 then Err (More 1)
-    else if nat_lt FRAME_SITES (sites_of bytes) then Err (Bad (fault Range 0))
-    else if nat_lt (length bytes) (1 + count_len * sites_of bytes) then Err (More (1 + count_len * sites_of bytes))
-    else judge_counted (1 + count_len * sites_of bytes) (drop (count_len * sites_of bytes) (drop 1 bytes))
-    (many count_at site_after (sites_of bytes) 0 (left_at 1 (take (count_len * sites_of bytes) (drop 1 bytes))))
+    if nat_lt (length bytes) 2 then Err (More 2)
+    else if nat_lt (sites Two) (sites_of bytes) then Err (Bad (fault Range 0))
+    else if nat_lt (length bytes) (2 + count_len Two * sites_of bytes) then Err (More (2 + count_len Two * sites_of bytes))
+    else judge_counted (2 + count_len Two * sites_of bytes) (drop (count_len Two * sites_of bytes) (drop 2 bytes))
+    (many (count_at Two) site_after (sites_of bytes) 0 (left_at 2 (take (count_len Two * sites_of bytes) (drop 2 bytes))))
 
 -- ---- What the answers say
 

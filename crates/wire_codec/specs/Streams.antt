@@ -7,20 +7,25 @@ use Rattle.wire_codec.specs.declared.stream.StreamBad.{StreamBad}
 use Rattle.wire_codec.specs.declared.stream.StreamBad.TheVariants as refusals
 use Rattle.wire_codec.specs.declared.fault.Refused.{Refused}
 use Rattle.wire_codec.specs.declared.fault.Refused.TheVariants.{More, Bad}
+use Rattle.wire_codec.specs.declared.version.Version.{Version}
+use Rattle.wire_codec.specs.Versions.{Fits}
 use Rattle.wire_codec.specs.Spelling.{frame}
 use Rattle.wire_codec.specs.Reading.{fault}
 use Rattle.wire_codec.specs.StreamData.{StreamData}
 
 -- a piece follows the bytes left
 pub record Feeds (old : StreamData) (piece : List ℕ) (new : StreamData) : Type 0 where
+  pub version : new.version ≡ old.version
   pub taken : new.taken ≡ old.taken
   pub left : new.left ≡ old.left ++ piece
 
 -- the frame of the operation is taken from the front
 pub record TakesOp (old : StreamData) (op : OpData) (new : StreamData) : Type 0 where
   pub well : IsWellFormed op
-  pub left : old.left ≡ frame op ++ new.left
-  pub taken : new.taken ≡ old.taken + length (frame op)
+  pub fits : Fits old.version op
+  pub version : new.version ≡ old.version
+  pub left : old.left ≡ frame old.version op ++ new.left
+  pub taken : new.taken ≡ old.taken + length (frame old.version op)
 
 -- an answer takes the frame of its operation, and any other takes nothing
 abbrev pub TakesAnswer : StreamData → Result (Option Op) StreamBad → StreamData → Type 0
@@ -29,11 +34,11 @@ TakesAnswer old (Ok None) new = new ≡ old
 TakesAnswer old (Err e) new = new ≡ old
 
 -- the judgement of the bytes left, offsets counted from the first byte fed; out of memory says nothing of it
-abbrev pub IsAnswer : ℕ → Result (Option Op) StreamBad → Result (OpData × ℕ) Refused → Type 0
-IsAnswer taken (Ok (Some op)) j = j ≡ Ok (data_of op, length (frame (data_of op)))
-IsAnswer taken (Ok None) j = (n : ℕ) × (j ≡ Err (More n))
-IsAnswer taken (Err (refusals.Bad cause offset)) j = (place : ℕ) × (j ≡ Err (Bad (fault cause place))) × (offset ≡ taken + place)
-IsAnswer taken (Err refusals.Memory) j = Unit {0}
+abbrev pub IsAnswer : Version → ℕ → Result (Option Op) StreamBad → Result (OpData × ℕ) Refused → Type 0
+IsAnswer v taken (Ok (Some op)) j = j ≡ Ok (data_of op, length (frame v (data_of op)))
+IsAnswer v taken (Ok None) j = (n : ℕ) × (j ≡ Err (More n))
+IsAnswer v taken (Err (refusals.Bad cause offset)) j = (place : ℕ) × (j ≡ Err (Bad (fault cause place))) × (offset ≡ taken + place)
+IsAnswer v taken (Err refusals.Memory) j = Unit {0}
 
 -- what a call did: a piece was fed, an operation was taken, or nothing changed
 pub data Call : Type 0 where

@@ -14,9 +14,9 @@ pub enum Cause {
     Range,
     /// A character is no Unicode scalar value (RFC 3629).
     Char,
-    /// A site or a name of a context isn't above the one before it.
+    /// A site or a name of a context isn't above the one before it, or a run could have been part of the one before it.
     Order,
-    /// A count or a generation of a context is 0.
+    /// A count, a length of a run or a generation of a context is 0.
     Zero,
     /// A field passes the end of the body, or the body goes on after its last field.
     Length,
@@ -24,7 +24,7 @@ pub enum Cause {
     Own,
     /// An undo whose context hasn't its target at the generation before its own.
     Target,
-    /// An undo entry of a context that names no original of that context.
+    /// An undo entry of a context that names no original of that context, or a run with such an entry.
     Stray,
 }
 

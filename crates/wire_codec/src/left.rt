@@ -112,7 +112,8 @@ impl<'a> Left<'a> {
     }
 
     pub(crate) fn bounded16(&mut self, low: u16, high: u16, cause: Cause) -> Result<u16, Fault>
-        ensures { after result self.new ≡ bounded w16 low high cause self.old }
+        ensures read { after result self.new ≡ bounded w16 low high cause self.old }
+        ensures within { IfOk result (λ n. n ≤ high) }
     {
         let start = self.at;
         let n = self.number16()?;

@@ -1,11 +1,8 @@
-//! What the one byte for a site makes of the limits of frames: sites that have no spelling in them can't be named, however many
-//! sites a session may have.
+//! How many sites the frames of each version can name: sites that have no spelling in them can't be named, however many sites a session
+//! may have.
 
-/// The number of sites that a frame can name: 0 to `FRAME_SITES - 1`.
-pub(crate) const FRAME_SITES: u16 = 64;
+/// The number of sites that a frame of version 1 can name, each in one byte: 0 to `SITES_OF_ONE - 1`.
+pub(crate) const SITES_OF_ONE: u16 = 64;
 
-/// The last of these sites.
-pub(crate) const LAST_SITE: u8 = (FRAME_SITES - 1) as u8;
-
-/// The greatest number of sites with counts in a context.
-pub(crate) const MOST_COUNTS: u8 = FRAME_SITES as u8;
+/// The number of sites that a frame of version 2 can name, each in two bytes: 0 to `SITES_OF_TWO - 1`.
+pub(crate) const SITES_OF_TWO: u16 = 1_024;

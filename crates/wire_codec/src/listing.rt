@@ -1,26 +1,35 @@
-//! Reading the two lists of a context, one element after the other.
+//! Reading the sites of a context with their counts, one after the other.
 
-ghost use Rattle.std.specs.Prelude.{◌≡◌, ◌<◌, None, IfOk};
-ghost use Rattle.wire_codec.specs.Reading.{after, is_above, many, count_at, site_after, entry_at, name_of, counts_at, entries_at};
+ghost use Rattle.std.specs.Prelude.{◌≡◌, ◌<◌, ◌≤◌, IfOk};
+ghost use Rattle.wire_codec.specs.declared.cause.Cause.TheVariants.{Range};
+ghost use Rattle.wire_codec.specs.Versions.{site_width, sites};
+ghost use Rattle.wire_codec.specs.Reading.{after, bounded, many, count_at, site_after, counts_at};
 
 use crate::cause::Cause;
 use crate::fault::Fault;
-use crate::heads::{name, site};
+use crate::heads::site;
 use crate::left::{Left, check};
-use crate::limits::{FRAME_SITES, MOST_COUNTS};
-use crate::sections::{Counts, Entries};
-use context_diff::UNDO_ENTRIES;
-use op_name::{NUMBERS, Name};
+use crate::limits::{SITES_OF_ONE, SITES_OF_TWO};
+use crate::sections::Counts;
+use crate::version::Version;
+use op_name::NUMBERS;
 
-const MOST_ENTRIES: u16 = UNDO_ENTRIES as u16;
+/// How undone names are listed: each by itself as in frames of version 1, in runs as in those of version 2, or in runs of any length as in
+/// states.
+#[derive(Clone, Copy)]
+pub(crate) enum Listing {
+    Names,
+    Runs,
+    LongRuns,
+}
 
 #[tactic(auto, unfolding(crate::specs::Reading::count_at))]
-fn count(left: &mut Left, low: u16) -> Result<(u16, u32), Fault>
-    ensures read { after result left.new ≡ count_at low left.old }
-    ensures within { IfOk result (λ p. p.0 < FRAME_SITES) }
+fn count(left: &mut Left, version: Version, low: u16) -> Result<(u16, u32), Fault>
+    ensures read { after result left.new ≡ count_at version low left.old }
+    ensures within { IfOk result (λ p. p.0 < SITES_OF_TWO) }
 {
     let start = left.at();
-    let site = site(left)?;
+    let site = site(left, version)?;
     check(low <= site, Cause::Order, start)?;
     let start = left.at();
     let count = left.number32()?;
@@ -29,71 +38,41 @@ fn count(left: &mut Left, low: u16) -> Result<(u16, u32), Fault>
     Ok((site, count))
 }
 
-fn above(before: Option<Name>, name: Name) -> bool
-    ensures { result ≡ is_above before name }
-{
-    match before {
-        None => true,
-        Some(before) => {
-            before.site < name.site || (before.site == name.site && before.number < name.number)
-        }
-    }
-}
-
-#[tactic(auto, unfolding(crate::specs::Reading::entry_at))]
-fn entry(left: &mut Left, before: Option<Name>) -> Result<(Name, u16), Fault>
-    ensures { after result left.new ≡ entry_at before left.old }
-{
-    let start = left.at();
-    let name = name(left)?;
-    check(above(before, name), Cause::Order, start)?;
-    let start = left.at();
-    let generation = left.number16()?;
-    check(generation > 0, Cause::Zero, start)?;
-    Ok((name, generation))
-}
-
 /// So many sites with their counts, which stay where they are.
-pub(crate) fn counts_of<'a>(left: &mut Left<'a>, len: u8) -> Result<Counts<'a>, Fault>
-    ensures { after result left.new ≡ many count_at site_after len 0 left.old }
+pub(crate) fn counts_of<'a>(
+    left: &mut Left<'a>,
+    version: Version,
+    len: u16,
+) -> Result<Counts<'a>, Fault>
+    ensures { after result left.new ≡ many (count_at version) site_after len 0 left.old }
 {
     let bytes = left.bytes();
     let mut low = 0;
     for _ in 0..len {
-        let (site, _) = count(left, low)?;
+        let (site, _) = count(left, version, low)?;
         low = site + 1;
     }
-    Ok(Counts::new(len, bytes))
+    Ok(Counts::new(version, len, bytes))
+}
+
+// How many sites have counts.
+fn sites_len(left: &mut Left, version: Version) -> Result<u16, Fault>
+    ensures { after result left.new ≡ bounded (site_width version) 0 (sites version) Range left.old }
+{
+    match version {
+        Version::One => {
+            let len = left.bounded8(0, SITES_OF_ONE as u8, Cause::Range)?;
+            Ok(u16::from(len))
+        }
+        Version::Two => left.bounded16(0, SITES_OF_TWO, Cause::Range),
+    }
 }
 
 /// The sites with their counts, and before them how many they are.
 #[tactic(auto, unfolding(crate::specs::Reading::counts_at))]
-pub(crate) fn counts<'a>(left: &mut Left<'a>) -> Result<Counts<'a>, Fault>
-    ensures { after result left.new ≡ counts_at left.old }
+pub(crate) fn counts<'a>(left: &mut Left<'a>, version: Version) -> Result<Counts<'a>, Fault>
+    ensures { after result left.new ≡ counts_at version left.old }
 {
-    let len = left.bounded8(0, MOST_COUNTS, Cause::Range)?;
-    counts_of(left, len)
-}
-
-/// So many undone names with their generations, which stay where they are.
-pub(crate) fn entries_of<'a>(left: &mut Left<'a>, len: u32) -> Result<Entries<'a>, Fault>
-    ensures { after result left.new ≡ many entry_at name_of len None left.old }
-{
-    left.known();
-    let bytes = left.bytes();
-    let mut before = None;
-    for _ in 0..len {
-        let (name, _) = entry(left, before)?;
-        before = Some(name);
-    }
-    Ok(Entries::new(len, bytes))
-}
-
-/// The undone names with their generations, and before them how many they are.
-#[tactic(auto, unfolding(crate::specs::Reading::entries_at))]
-pub(crate) fn entries<'a>(left: &mut Left<'a>) -> Result<Entries<'a>, Fault>
-    ensures { after result left.new ≡ entries_at left.old }
-{
-    let len = left.bounded16(0, MOST_ENTRIES, Cause::Range)?;
-    entries_of(left, u32::from(len))
+    let len = sites_len(left, version)?;
+    counts_of(left, version, len)
 }

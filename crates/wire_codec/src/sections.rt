@@ -1,23 +1,58 @@
-//! The two lists of a context, lent as they lie in a frame.
+//! The sites of a context with their counts, lent as they lie in a frame.
 
-ghost use Rattle.std.specs.Prelude.{◌≡◌, ◌*◌, ◌<◌, ◌^◌, ◌≤◌, length};
+ghost use Rattle.std.specs.Prelude.{◌≡◌, ◌*◌, ◌≤◌, length};
 ghost use Rattle.std.specs.Iterator.{YieldsFirst, item_count};
-ghost use Rattle.context_vector.specs.Contexts.{AreEntries};
-ghost use Rattle.wire_codec.specs.Judging.{count_len, entry_len};
+ghost use Rattle.wire_codec.specs.Judging.{count_len};
 ghost use Rattle.wire_codec.specs.Code.Elements.{elements};
-ghost use Rattle.wire_codec.specs.Code.Sections.{raw_count, raw_entry};
+ghost use Rattle.wire_codec.specs.Code.Sections.{raw_count};
 
-use op_name::Name;
+use crate::version::Version;
 use std::marker::Model;
 
+/// The bytes of a site with its count in version 1.
 pub(crate) const COUNT_LEN: usize = 5;
 
-pub(crate) const ENTRY_LEN: usize = 7;
+/// The same in version 2.
+pub(crate) const COUNT_LEN_TWO: usize = 6;
+
+/// The same in a version.
+pub(crate) fn count_len(version: Version) -> usize
+    ensures { result ≡ count_len version }
+{
+    match version {
+        Version::One => COUNT_LEN,
+        Version::Two => COUNT_LEN_TWO,
+    }
+}
+
+// A site with its count.
+fn raw_count(version: Version, bytes: &[u8]) -> (u16, u32)
+    requires { length bytes.now ≡ count_len version }
+    ensures { result ≡ raw_count version bytes.now }
+{
+    match version {
+        Version::One => {
+            let (site, count) = bytes.split_at(1);
+            (
+                u16::from(site[0]),
+                u32::from_be_bytes([count[0], count[1], count[2], count[3]]),
+            )
+        }
+        Version::Two => {
+            let (site, count) = bytes.split_at(2);
+            (
+                u16::from_be_bytes([site[0], site[1]]),
+                u32::from_be_bytes([count[0], count[1], count[2], count[3]]),
+            )
+        }
+    }
+}
 
 /// Sites with their counts, seen as the list of those that are left.
 #[derive(Drop)]
 pub(crate) struct Counts<'a> {
-    len: u8,
+    version: Version,
+    len: u16,
     bytes: &'a [u8],
 }
 
@@ -29,17 +64,21 @@ impl<'a> Model for Counts<'a> {
 
     ghost Value = { List (ℕ × ℕ) };
 
-    ghost view = { λ c. elements raw_count count_len c.len c.bytes.now };
+    ghost view = { λ c. elements (raw_count c.version) (count_len c.version) c.len c.bytes.now };
 
-    ghost invariant = { λ c. count_len * c.len ≤ length c.bytes.now };
+    ghost invariant = { λ c. count_len c.version * c.len ≤ length c.bytes.now };
 }
 
 impl<'a> Counts<'a> {
-    pub(crate) fn new(len: u8, bytes: &'a [u8]) -> Counts<'a>
-        requires { count_len * len ≤ length bytes.now }
-        ensures { result ≡ elements raw_count count_len len bytes.now }
+    pub(crate) fn new(version: Version, len: u16, bytes: &'a [u8]) -> Counts<'a>
+        requires { count_len version * len ≤ length bytes.now }
+        ensures { result ≡ elements (raw_count version) (count_len version) len bytes.now }
     {
-        Counts { len, bytes }
+        Counts {
+            version,
+            len,
+            bytes,
+        }
     }
 
     /// The same list once more.
@@ -47,6 +86,7 @@ impl<'a> Counts<'a> {
         ensures { result ≡ self.now }
     {
         Counts {
+            version: self.version,
             len: self.len,
             bytes: self.bytes,
         }
@@ -65,97 +105,9 @@ impl<'a> Iterator for Counts<'a> {
         if self.len == 0 {
             return None;
         }
-        let (first, rest) = self.bytes.split_at(COUNT_LEN);
+        let (first, rest) = self.bytes.split_at(count_len(self.version));
         self.len -= 1;
         self.bytes = rest;
-        let (site, count) = first.split_at(1);
-        Some((
-            u16::from(site[0]),
-            u32::from_be_bytes([count[0], count[1], count[2], count[3]]),
-        ))
-    }
-}
-
-/// Undone names with their generations, seen as the list of those that are left.
-#[derive(Drop)]
-pub(crate) struct Entries<'a> {
-    len: u32,
-    bytes: &'a [u8],
-}
-
-impl<'a> Model for Entries<'a> {
-    ghost use Rattle.std.specs.Prelude.{ℕ, List, ◌*◌, ◌<◌, ◌^◌, ◌≤◌, length};
-    ghost use Rattle.op_name.specs.NameData.{NameData};
-    ghost use Rattle.context_vector.specs.Contexts.{AreEntries};
-    ghost use Rattle.wire_codec.specs.Judging.{entry_len};
-    ghost use Rattle.wire_codec.specs.Code.Elements.{elements};
-    ghost use Rattle.wire_codec.specs.Code.Sections.{raw_entry};
-
-    ghost Value = { List (NameData × ℕ) };
-
-    ghost view = { λ e. elements raw_entry entry_len e.len e.bytes.now };
-
-    ghost invariant = { λ e. (entry_len * e.len ≤ length e.bytes.now) × AreEntries (elements raw_entry entry_len e.len e.bytes.now) × (entry_len * e.len < 2 ^ 32) };
-}
-
-impl<'a> Entries<'a> {
-    pub(crate) fn new(len: u32, bytes: &'a [u8]) -> Entries<'a>
-        requires long { entry_len * len ≤ length bytes.now }
-        requires short { entry_len * len < 2 ^ 32 }
-        requires named { AreEntries (elements raw_entry entry_len len bytes.now) }
-        ensures { result ≡ elements raw_entry entry_len len bytes.now }
-    {
-        Entries { len, bytes }
-    }
-
-    /// The same list once more.
-    pub(crate) fn again(&self) -> Entries<'a>
-        ensures { result ≡ self.now }
-    {
-        Entries {
-            len: self.len,
-            bytes: self.bytes,
-        }
-    }
-
-    /// How many are left.
-    #[tactic(auto, using(crate::proofs::Elements::length_elements))]
-    pub(crate) fn len(&self) -> u32
-        ensures value { result ≡ length self.now }
-        ensures short { entry_len * result < 2 ^ 32 }
-    {
-        self.len
-    }
-
-    /// Nothing but what the type keeps.
-    pub(crate) fn known(&self)
-        ensures { AreEntries self.now }
-    {
-        let _ = &self.bytes;
-    }
-}
-
-impl<'a> Iterator for Entries<'a> {
-    type Item = (Name, u16);
-
-    ghost next_gives = { YieldsFirst (λ rest. rest) };
-
-    ghost remaining = { item_count (λ rest. rest) };
-
-    #[tactic(auto, using(crate::proofs::Elements::elements_none, crate::proofs::Elements::elements_step))]
-    fn next(&mut self) -> Option<(Name, u16)> {
-        if self.len == 0 {
-            return None;
-        }
-        let (first, rest) = self.bytes.split_at(ENTRY_LEN);
-        self.len -= 1;
-        self.bytes = rest;
-        let (site, others) = first.split_at(1);
-        let (number, generation) = others.split_at(4);
-        let name = Name {
-            site: u16::from(site[0]),
-            number: u32::from_be_bytes([number[0], number[1], number[2], number[3]]),
-        };
-        Some((name, u16::from_be_bytes([generation[0], generation[1]])))
+        Some(raw_count(self.version, first))
     }
 }

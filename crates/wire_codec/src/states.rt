@@ -2,38 +2,44 @@
 
 ghost use Rattle.std.specs.Prelude.{◌≡◌, ◌<◌, ◌+◌, ◌*◌, ◌++◌, ◌^◌, ℕ, List, length, Ok, IfOk, IsOk, OnOk, OnErr};
 ghost use Rattle.context_vector.specs.Contexts.{ContextData, AreCounts};
-ghost use Rattle.wire_codec.specs.Judging.{entry_len, stray_from};
+ghost use Rattle.wire_codec.specs.declared.listing.Listing.TheVariants.{LongRuns};
+ghost use Rattle.wire_codec.specs.Judging.{run_len, stray_from};
 ghost use Rattle.wire_codec.specs.States.{state_bytes, IsState, unless_stray, judge_named, judge_state, HasState, state_scan_of, state_judgement_of, SaysOfState, TellsOfState};
 ghost use Rattle.wire_codec.specs.Code.Lent.{context_seen, state_as};
 
 use crate::cause::Cause;
 use crate::fault::{Fault, Unread};
 use crate::left::Left;
-use crate::limits::MOST_COUNTS;
-use crate::listing;
-use crate::rules::{LentContext, originals};
-use crate::sections::{COUNT_LEN, Counts, ENTRY_LEN};
+use crate::limits::SITES_OF_TWO;
+use crate::listing::{self, Listing};
+use crate::originals::originals;
+use crate::rules::LentContext;
+use crate::run_reading::runs_of;
+use crate::runs::LONG_RUN_LEN;
+use crate::sections::{COUNT_LEN_TWO, Counts};
 use crate::state_answers::{DecodedState, StateScan};
 use crate::vectors::vector_of;
+use crate::version::Version;
 use op_name::Memory;
 use std::alloc::Global;
 
-// The state that ends at `stop`, unless an undone name is no original of it; the first one begins at `begin`.
+// The state that ends at `stop`, unless an undone name is no original of it; the first run begins at `begin`.
 fn unless_stray<'a>(
     context: LentContext<'a>,
     begin: u32,
     stop: u32,
 ) -> Result<(LentContext<'a>, u32), Unread>
-    requires { begin + entry_len * length context.entries < 2 ^ 32 }
-    ensures { state_as result ≡ unless_stray (context_seen context.entry) stop (stray_from (context_seen context.entry) begin context.entry.entries) }
+    requires { begin + run_len LongRuns * length context.runs < 2 ^ 32 }
+    ensures { state_as result
+        ≡ unless_stray (context_seen context.entry) stop (stray_from LongRuns (context_seen context.entry) begin context.entry.runs) }
 {
-    match originals(&context, begin) {
+    match originals(&context, Listing::LongRuns, begin) {
         Ok(()) => Ok((context, stop)),
         Err(fault) => Err(Unread::Bad(fault)),
     }
 }
 
-// The state of these counts and of the undone names that the bytes, which begin at this offset, begin with.
+// The state of these counts and of the runs that the bytes, which begin at this offset, begin with.
 #[tactic(auto, unfolding(crate::specs::States::judge_named))]
 fn named<'a>(counts: Counts<'a>, at: u32, bytes: &'a [u8]) -> Result<(LentContext<'a>, u32), Unread>
     requires { at + length bytes.now < 2 ^ 32 }
@@ -44,19 +50,16 @@ fn named<'a>(counts: Counts<'a>, at: u32, bytes: &'a [u8]) -> Result<(LentContex
     }
     let (front, rest) = bytes.split_at(4);
     let len = u32::from_be_bytes([front[0], front[1], front[2], front[3]]);
-    let entries = ENTRY_LEN * len as usize;
-    if bytes.len() < 4 + entries {
-        return Err(Unread::More(u64::from(at) + (4 + entries) as u64));
+    let section = LONG_RUN_LEN * len as usize;
+    if bytes.len() < 4 + section {
+        return Err(Unread::More(u64::from(at) + (4 + section) as u64));
     }
-    let mut left = Left::new(at + 4, &rest[..entries]);
-    match listing::entries_of(&mut left, len) {
-        Ok(listed) => unless_stray(
-            LentContext {
-                counts,
-                entries: listed,
-            },
+    let mut left = Left::new(at + 4, &rest[..section]);
+    match runs_of(&mut left, Listing::LongRuns, len) {
+        Ok(runs) => unless_stray(
+            LentContext { counts, runs },
             at + 4,
-            at + (4 + entries as u32),
+            at + (4 + section as u32),
         ),
         Err(fault) => Err(Unread::Bad(fault)),
     }
@@ -68,25 +71,25 @@ fn judge<'a>(bytes: &'a [u8]) -> Result<(LentContext<'a>, u32), Unread>
     requires { length bytes.now < 2 ^ 32 }
     ensures { state_as result ≡ judge_state bytes.now }
 {
-    if bytes.is_empty() {
-        return Err(Unread::More(1));
+    if bytes.len() < 2 {
+        return Err(Unread::More(2));
     }
-    let (first, rest) = bytes.split_at(1);
-    let sites = first[0];
-    if sites > MOST_COUNTS {
+    let (first, rest) = bytes.split_at(2);
+    let sites = u16::from_be_bytes([first[0], first[1]]);
+    if sites > SITES_OF_TWO {
         return Err(Unread::Bad(Fault {
             cause: Cause::Range,
             offset: 0,
         }));
     }
-    let counts = COUNT_LEN * usize::from(sites);
-    if bytes.len() < 1 + counts {
-        return Err(Unread::More((1 + counts) as u64));
+    let counts = COUNT_LEN_TWO * usize::from(sites);
+    if bytes.len() < 2 + counts {
+        return Err(Unread::More((2 + counts) as u64));
     }
     let (section, rest) = rest.split_at(counts);
-    let mut left = Left::new(1, section);
-    match listing::counts_of(&mut left, sites) {
-        Ok(listed) => named(listed, 1 + counts as u32, rest),
+    let mut left = Left::new(2, section);
+    match listing::counts_of(&mut left, Version::Two, sites) {
+        Ok(listed) => named(listed, 2 + counts as u32, rest),
         Err(fault) => Err(Unread::Bad(fault)),
     }
 }

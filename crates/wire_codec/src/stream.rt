@@ -1,13 +1,15 @@
 //! Streams of frames that come in pieces.
 
 ghost use Rattle.std.specs.Prelude.{◌≡◌, ◌≢◌, ◌++◌, [], length, Err, OnOk, OnErr, IfOk, IsOk};
+ghost use Rattle.wire_codec.specs.declared.version.Version.TheVariants.{One, Two};
 ghost use Rattle.wire_codec.specs.Judging.{judge};
 ghost use Rattle.wire_codec.specs.Answers.{HasFrame};
 ghost use Rattle.wire_codec.specs.Streams.{Feeds, TakesAnswer, IsAnswer};
 
 use crate::answers::Decoded;
 use crate::cause::Cause;
-use crate::front::decode;
+use crate::front::decode_in;
+use crate::version::Version;
 use bytes::BytesMut;
 use context_diff::Op;
 use op_name::Memory;
@@ -33,10 +35,11 @@ impl From<Memory> for StreamBad {
     }
 }
 
-/// The frames of a stream of bytes, which is fed in pieces that may be cut anywhere: the bytes that are
+/// The frames, all of one version, of a stream of bytes, which is fed in pieces that may be cut anywhere: the bytes that are
 /// not taken yet, and how many were taken.
 #[derive(Drop)]
 pub struct FrameStream {
+    version: Version,
     taken: u64,
     left: BytesMut,
     alloc: Global,
@@ -48,22 +51,39 @@ impl Model for FrameStream {
 
     ghost Value = { StreamData };
 
-    ghost view = { λ s. record { taken = s.taken; left = s.left.items } };
+    ghost view = { λ s. record { version = s.version; taken = s.taken; left = s.left.items } };
 
     ghost invariant = { λ s. (s.taken + length s.left.items < 2 ^ 64) × (length s.left.items < 2 ^ 32) };
 }
 
 impl FrameStream {
     /// A stream of which nothing is there yet; takes no memory, so it is always made.
-    pub fn new(alloc: Global) -> Result<FrameStream, Memory>
-        ensures fresh { IfOk result (λ s. s ≡ record { taken = 0; left = [] }) }
+    pub fn of(alloc: Global, version: Version) -> Result<FrameStream, Memory>
+        ensures fresh { IfOk result (λ s. s ≡ record { version = version; taken = 0; left = [] }) }
         ensures made { IsOk result }
     {
         Ok(FrameStream {
+            version,
             taken: 0,
             left: BytesMut::new(alloc),
             alloc,
         })
+    }
+
+    /// The same of version 1.
+    pub fn new(alloc: Global) -> Result<FrameStream, Memory>
+        ensures fresh { IfOk result (λ s. s ≡ record { version = One; taken = 0; left = [] }) }
+        ensures made { IsOk result }
+    {
+        FrameStream::of(alloc, Version::One)
+    }
+
+    /// The same of version 2.
+    pub fn new2(alloc: Global) -> Result<FrameStream, Memory>
+        ensures fresh { IfOk result (λ s. s ≡ record { version = Two; taken = 0; left = [] }) }
+        ensures made { IsOk result }
+    {
+        FrameStream::of(alloc, Version::Two)
     }
 
     /// Appends a piece of the stream.
@@ -89,10 +109,10 @@ impl FrameStream {
     /// It costs a constant where the frame isn't whole yet.
     pub fn take(&mut self) -> Result<Option<Op>, StreamBad>
         ensures taken { TakesAnswer self.old result self.new }
-        ensures exact { IsAnswer self.old.taken result (judge self.old.left) }
-        ensures memory { result ≡ Err StreamBad.Memory → HasFrame self.old.left }
+        ensures exact { IsAnswer self.old.version self.old.taken result (judge self.old.version self.old.left) }
+        ensures memory { result ≡ Err StreamBad.Memory → HasFrame self.old.version self.old.left }
     {
-        match decode(self.alloc, self.left.as_slice())? {
+        match decode_in(self.version, self.alloc, self.left.as_slice())? {
             Decoded::Got { op, used } => {
                 self.left.advance(used as usize);
                 self.taken += u64::from(used);

@@ -9,7 +9,7 @@ ghost use Rattle.wire_codec.specs.Code.Elements.{elements, character_len, raw_ch
 use crate::cause::Cause;
 use crate::fault::Fault;
 use crate::left::Left;
-use context_diff::LETTERS;
+use op_name::LETTERS;
 use std::marker::Model;
 
 pub(crate) const CHARACTER_LEN: usize = 4;

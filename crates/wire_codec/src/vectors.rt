@@ -8,7 +8,8 @@ ghost use Rattle.wire_codec.specs.Code.Lent.{context_seen, op_seen};
 
 use crate::head::Head;
 use crate::rules::{LentContext, LentOp};
-use crate::sections::{Counts, Entries};
+use crate::runs::with_entries;
+use crate::sections::Counts;
 use crate::texts::Characters;
 use context_diff::{Letters, LettersBad, Op};
 use context_vector::Vector;
@@ -26,25 +27,13 @@ fn with_counts(alloc: Global, counts: &Counts) -> Result<Vector, Memory>
     Ok(vector)
 }
 
-fn with_entries(vector: Vector, entries: &Entries) -> Result<Vector, Memory>
-    requires { vector.set.entries ≡ [] }
-    ensures { IfOk result (λ v. v.set ≡ record vector.set { entries = entries.now }) }
-{
-    let mut vector = vector;
-    entries.known();
-    for (name, generation) in entries.again() {
-        vector.push_entry(name, generation)?;
-    }
-    Ok(vector)
-}
-
 /// The context as a vector of its own.
 pub(crate) fn vector_of(alloc: Global, context: &LentContext) -> Result<Vector, Memory>
     requires { AreCounts 0 context.now.counts }
     ensures { IfOk result (λ v. v.set ≡ context_seen context.now) }
 {
     let counted = with_counts(alloc, &context.counts)?;
-    with_entries(counted, &context.entries)
+    with_entries(counted, &context.runs)
 }
 
 // The characters in a list of their own.

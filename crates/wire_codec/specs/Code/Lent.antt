@@ -1,5 +1,6 @@
 -- Operations whose contexts are lent as they lie in frames, as contracts see them.
 use Rattle.std.specs.Prelude.{ℕ, Result, Ok, Err}
+use Rattle.std.specs.List.{flat_map}
 use Rattle.context_vector.specs.Contexts.{ContextData}
 use Rattle.context_diff.specs.Operations.{OpData}
 use Rattle.wire_codec.specs.declared.fault.Fault.{Fault}
@@ -7,11 +8,12 @@ use Rattle.wire_codec.specs.declared.fault.Refused.{Refused}
 use Rattle.wire_codec.specs.declared.fault.Unread.{Unread}
 use Rattle.wire_codec.specs.declared.rules.LentContext.{LentContext}
 use Rattle.wire_codec.specs.declared.rules.LentOp.{LentOp}
+use Rattle.wire_codec.specs.Runs.{names_in}
 use Rattle.wire_codec.specs.Spelling.{op_of}
 use Rattle.wire_codec.specs.Reading.{LeftData, Found}
 
 abbrev pub context_seen : LentContext → ContextData
-context_seen c = record { counts = c.counts; entries = c.entries }
+context_seen c = record { counts = c.counts; entries = flat_map names_in c.runs }
 
 abbrev pub op_seen : LentOp → OpData
 op_seen o = op_of o.head (context_seen o.context)

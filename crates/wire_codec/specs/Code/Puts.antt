@@ -1,7 +1,12 @@
 -- Bytes that are appended to others, where there is room for them.
-use Rattle.std.specs.Prelude.{◌≡◌, ℕ, ◌+◌, ◌*◌, ◌≤◌, ◌<◌, ◌==◌, List, ◌++◌, length, vec_len, vec_capacity, if◌then◌else◌}
+use Rattle.std.specs.Prelude.{◌≡◌, ℕ, ◌+◌, ◌*◌, ◌≤◌, ◌<◌, ◌==◌, List, [], ◌∷◌, ◌++◌, length, vec_len, vec_capacity, if◌then◌else◌}
 use Rattle.std.specs.Global.{Vec}
-use Rattle.wire_codec.specs.declared.limits.TheConstants.{FRAME_SITES}
+use Rattle.op_name.specs.NameData.{NameData}
+use Rattle.context_vector.specs.Contexts.{ContextData}
+use Rattle.wire_codec.specs.declared.version.Version.{Version}
+use Rattle.wire_codec.specs.Versions.{site_len, sites}
+use Rattle.wire_codec.specs.Runs.{listing_of}
+use Rattle.wire_codec.specs.Judging.{count_len, run_len}
 use Rattle.wire_codec.specs.Code.Elements.{character_len}
 use Rattle.wire_codec.specs.declared.head.Head.{Head}
 use Rattle.wire_codec.specs.declared.head.Head.TheVariants.{Insert, Delete, Undo}
@@ -25,13 +30,26 @@ abbrev pub text_len : ℕ → ℕ
 text_len len = length_len len + character_len * len
 
 -- how many bytes stand before a context
-abbrev pub head_len : Head → ℕ
-head_len (Insert n p text) = 10 + text_len (length text)
-head_len (Delete n p) = 10
-head_len (Undo a t g) = 9
+abbrev pub head_len : Version → Head → ℕ
+head_len v (Insert n p text) = 9 + site_len v + text_len (length text)
+head_len v (Delete n p) = 9 + site_len v
+head_len v (Undo a t g) = 7 + 2 * site_len v
 
--- the author of an undo is a site
-abbrev pub HasAuthor : Head → Type 0
-HasAuthor (Insert n p text) = Unit {0}
-HasAuthor (Delete n p) = Unit {0}
-HasAuthor (Undo a t g) = a < FRAME_SITES
+-- how many bytes a context has whose undone names are so many runs
+abbrev pub context_len : Version → ContextData → ℕ → ℕ
+context_len v c runs = (site_len v + count_len v * length c.counts) + (2 + run_len (listing_of v) * runs)
+
+-- the sites before a context can be named
+abbrev pub HeadFits : Version → Head → Type 0
+HeadFits v (Insert n p text) = n.site < sites v
+HeadFits v (Delete n p) = n.site < sites v
+HeadFits v (Undo a t g) = (a < sites v) × (t.site < sites v)
+
+-- and those of its two lists
+abbrev pub CountsIn : Version → List (ℕ × ℕ) → Type 0
+CountsIn v [] = Unit {0}
+CountsIn v (p ∷ ps) = (p.0 < sites v) × CountsIn v ps
+
+abbrev pub EntriesIn : Version → List (NameData × ℕ) → Type 0
+EntriesIn v [] = Unit {0}
+EntriesIn v (e ∷ es) = (e.0.site < sites v) × EntriesIn v es
