@@ -5,7 +5,9 @@ use Rattle.std.specs.Prelude.{Option, Some, None, true, false}
 use Rattle.std.proofs.lemmas.Bool.{ltb-true, ltb-false, true≢false, false≢true}
 use Rattle.std.proofs.lemmas.List.{length-append, nil_from_length}
 use Rattle.std.proofs.lemmas.Option.{none-some}
+use Rattle.wire_codec.specs.declared.version.Version.{Version}
 use Rattle.cot_site.specs.States.{State}
+use Rattle.session_log.specs.declared.headers.TheConstants.{HEADER_LEN}
 use Rattle.session_log.specs.declared.log_bad.LogBad.{LogBad}
 use Rattle.session_log.specs.declared.log_bad.LogBad.TheVariants as bad
 use Rattle.session_log.specs.Logs.{header, BeginsWith, IsLogOf}
@@ -14,6 +16,7 @@ use Rattle.session_log.specs.Loadings.{IsLoaded, IsUnloaded}
 use Rattle.session_log.specs.ReaderData.{ReaderData, reader_of}
 use Rattle.session_log.specs.Readers.{IsFaultOf, AreTakenTo, HasRead, KeepsOf, Keeps}
 use Rattle.session_log.specs.Code.Steps.{end_fault}
+use Rattle.session_log.proofs.HeaderFronts.{header_long}
 use Rattle.session_log.proofs.Steps.{fault_on, at_left}
 
 -- why bytes are not read is why they are not loaded
@@ -37,12 +40,13 @@ is_none_of None e = refl
 is_none_of (Some why) e = absurd (true≢false e)
 
 -- a fault that was met stays the fault
-pub still_fault : (n fed : ℕ) (left : List ℕ) (s : State) (refused f : Option LogBad) (spent : Bool) (old : ReaderData) (piece : List ℕ)
-    → reader_of n fed left s refused f spent ≡ old → is_some f ≡ true
-    → (all : List ℕ) → Keeps old all → Keeps (reader_of n (fed + length piece) left s refused f spent) (all ++ piece)
-still_fault n fed left s refused f spent old piece view some all k =
-    let r = reader_of n fed left s refused f spent in
-    let new = reader_of n (fed + length piece) left s refused f spent in
+pub still_fault : (n : ℕ) (v : Version) (fed : ℕ) (left : List ℕ) (s : State) (refused f : Option LogBad) (spent : Bool) (old : ReaderData)
+    (piece : List ℕ)
+    → reader_of n v fed left s refused f spent ≡ old → is_some f ≡ true
+    → (all : List ℕ) → Keeps old all → Keeps (reader_of n v (fed + length piece) left s refused f spent) (all ++ piece)
+still_fault n v fed left s refused f spent old piece view some all k =
+    let r = reader_of n v fed left s refused f spent in
+    let new = reader_of n v (fed + length piece) left s refused f spent in
     let here : Keeps r all = subst (λ (x : ReaderData). Keeps x all) (sym view) k in
     let w = is_some_of f some in
     record {
@@ -52,17 +56,18 @@ still_fault n fed left s refused f spent old piece view some all k =
     }
 
 -- without one, what the piece leaves is kept
-pub fed_on : (n fed : ℕ) (left : List ℕ) (s : State) (refused f : Option LogBad) (spent : Bool) (old : ReaderData) (piece : List ℕ)
-    → reader_of n fed left s refused f spent ≡ old → is_some f ≡ false → spent ≡ false
-    → (fed_then : ℕ) (left_then : List ℕ) (t : State) (now why : Option LogBad)
-    → ((all : List ℕ) → Keeps (reader_of n fed left s refused None false) all
-    → Keeps (reader_of n fed_then left_then t now why false) (all ++ piece))
-    → (all : List ℕ) → Keeps old all → Keeps (reader_of n fed_then left_then t now why spent) (all ++ piece)
-fed_on n fed left s refused f spent old piece view none live fed_then left_then t now why goes all k =
-    let same : old ≡ reader_of n fed left s refused None false =
-    sym view ∙ ap (λ (x : Option LogBad). reader_of n fed left s refused x spent) (is_none_of f none)
-    ∙ ap (reader_of n fed left s refused None) live in
-    subst (λ (b : Bool). Keeps (reader_of n fed_then left_then t now why b) (all ++ piece)) (sym live)
+pub fed_on : (n : ℕ) (v : Version) (fed : ℕ) (left : List ℕ) (s : State) (refused f : Option LogBad) (spent : Bool) (old : ReaderData)
+    (piece : List ℕ)
+    → reader_of n v fed left s refused f spent ≡ old → is_some f ≡ false → spent ≡ false
+    → (turned : Version) (fed_then : ℕ) (left_then : List ℕ) (t : State) (now why : Option LogBad)
+    → ((all : List ℕ) → Keeps (reader_of n v fed left s refused None false) all
+    → Keeps (reader_of n turned fed_then left_then t now why false) (all ++ piece))
+    → (all : List ℕ) → Keeps old all → Keeps (reader_of n turned fed_then left_then t now why spent) (all ++ piece)
+fed_on n v fed left s refused f spent old piece view none live turned fed_then left_then t now why goes all k =
+    let same : old ≡ reader_of n v fed left s refused None false =
+    sym view ∙ ap (λ (x : Option LogBad). reader_of n v fed left s refused x spent) (is_none_of f none)
+    ∙ ap (reader_of n v fed left s refused None) live in
+    subst (λ (b : Bool). Keeps (reader_of n turned fed_then left_then t now why b) (all ++ piece)) (sym live)
     (goes all (subst (λ (x : ReaderData). Keeps x all) same k))
 
 -- a fault of the bytes
@@ -78,37 +83,41 @@ pub faulty_apart : (r : ReaderData) (all : List ℕ) (why : LogBad) → r.fault 
 faulty_apart r all why is k = (fault_of r all why is k).0
 
 -- the header isn't whole
-pub ends_early : (r : ReaderData) (all : List ℕ) → r.fed < length header → Keeps r all → (rest : List ℕ) → all ≢ header ++ rest
-ends_early r all few k rest e = omega (arith, few, k.fed, ap length e, length-append header rest)
+pub ends_early : (r : ReaderData) (all : List ℕ) → r.fed < HEADER_LEN → Keeps r all → IsUnread all bad.Header
+ends_early r all few k v rest e = omega (arith, few, k.fed, ap length e, header_long v, length-append (header v) rest)
 
 -- the header and each whole frame were read
-has_read : (r : ReaderData) (all : List ℕ) → r.fault ≡ None → length header ≤ r.fed → Keeps r all → HasRead r all
+has_read : (r : ReaderData) (all : List ℕ) → r.fault ≡ None → HEADER_LEN ≤ r.fed → Keeps r all → HasRead r all
 has_read r all is enough k = elim (kept_at r all None is k) [
   | inl awaits ↦ absurd (let few = awaits.few in let count = k.fed in omega (arith, few, count, enough))
   | inr has ↦ has
 ]
 
 -- the last frame is cut
-pub ends_cut : (r : ReaderData) (all : List ℕ) → r.fault ≡ None → length header ≤ r.fed → 0 < length r.left → Keeps r all
+pub ends_cut : (r : ReaderData) (all : List ℕ) → r.fault ≡ None → HEADER_LEN ≤ r.fed → 0 < length r.left → Keeps r all
     → IsUnloaded r.site all (bad.Cut (r.fed - length r.left))
 ends_cut r all is enough some k =
     let h = has_read r all is enough k in
     let t = h.taken in
     record {
+      version = r.version;
       before = t.ops;
       rest = r.left;
       begins = t.begins;
       some = λ none. let zero_long = ap length none in omega (arith, some, zero_long);
       needed = h.needs.0;
       judged = h.needs.1;
-      place = omega (arith, k.fed, at_left all r.left t.ops t.begins);
+      place = omega (arith, k.fed, at_left r.version all r.left t.ops t.begins);
     }
 
 -- nothing is left: the bytes are a log
 ends_log : (r : ReaderData) (all : List ℕ) → r.left ≡ [] → (h : HasRead r all) → IsLogOf all h.taken.ops
-ends_log r all none h = subst (λ (t : List ℕ). BeginsWith all h.taken.ops t) none h.taken.begins
+ends_log r all none h = record {
+  version = r.version;
+  begins = subst (λ (t : List ℕ). BeginsWith r.version all h.taken.ops t) none h.taken.begins;
+}
 
-pub ends_refused : (r : ReaderData) (all : List ℕ) (why : LogBad) → r.fault ≡ None → length header ≤ r.fed → r.left ≡ []
+pub ends_refused : (r : ReaderData) (all : List ℕ) (why : LogBad) → r.fault ≡ None → HEADER_LEN ≤ r.fed → r.left ≡ []
     → r.refused ≡ Some why → Keeps r all → (why ≢ bad.Memory) × IsUnloaded r.site all why
 ends_refused r all why is enough none refused k =
     let h = has_read r all is enough k in
@@ -117,7 +126,7 @@ ends_refused r all why is enough none refused k =
     let log = subst (λ (x : List ℕ). IsLogOf x t.ops) (sym (append-nil all)) (ends_log r all none h) in
     (f.0, subst (λ (x : List ℕ). IsUnloaded r.site x why) (append-nil all) (f.1 [] t.ops log))
 
-pub ends_loaded : (r : ReaderData) (all : List ℕ) → r.fault ≡ None → length header ≤ r.fed → r.left ≡ [] → r.refused ≡ None → Keeps r all
+pub ends_loaded : (r : ReaderData) (all : List ℕ) → r.fault ≡ None → HEADER_LEN ≤ r.fed → r.left ≡ [] → r.refused ≡ None → Keeps r all
     → IsLoaded r.site all r.state
 ends_loaded r all is enough none accepted k =
     let h = has_read r all is enough k in
@@ -142,12 +151,12 @@ tests_none false false x y e = (refl, refl)
 pub end_some : (r : ReaderData) (all : List ℕ) (why : LogBad) → Keeps r all → end_fault r.spent r.fault r.fed (length r.left) ≡ Some why
     → (why ≢ bad.Memory) × IsUnloaded r.site all why
 end_some r all why k e = from r.fault refl (ap (λ (b : Bool). end_fault b r.fault r.fed (length r.left)) (sym k.live) ∙ e) where
-  early : r.fed < length header → bad.Header ≡ why → (why ≢ bad.Memory) × IsUnloaded r.site all why
+  early : r.fed < HEADER_LEN → bad.Header ≡ why → (why ≢ bad.Memory) × IsUnloaded r.site all why
   early few is =
       subst (λ (w : LogBad). (w ≢ bad.Memory) × IsUnloaded r.site all w) is
       ((λ no. let never : bad.Header ≡ bad.Memory = no in cc), ends_early r all few k)
 
-  cut : r.fault ≡ None → length header ≤ r.fed → 0 < length r.left → bad.Cut (r.fed - length r.left) ≡ why
+  cut : r.fault ≡ None → HEADER_LEN ≤ r.fed → 0 < length r.left → bad.Cut (r.fed - length r.left) ≡ why
       → (why ≢ bad.Memory) × IsUnloaded r.site all why
   cut none enough some is =
       subst (λ (w : LogBad). (w ≢ bad.Memory) × IsUnloaded r.site all w) is
@@ -160,15 +169,15 @@ end_some r all why k e = from r.fault refl (ap (λ (b : Bool). end_fault b r.fau
       let faulty = is ∙ ap (λ (x : LogBad). Some x) same in
       (faulty_apart r all why faulty k, ends_faulty r all why faulty k)
   from None is e =
-      elim (tests_some (ltb r.fed (length header)) (ltb 0 (length r.left)) bad.Header (bad.Cut (r.fed - length r.left)) why e) [
-        | inl few ↦ early (ltb-true r.fed (length header) few.0) few.1
-        | inr some ↦ cut is (ltb-false r.fed (length header) some.0) (ltb-true 0 (length r.left) some.1) some.2
+      elim (tests_some (ltb r.fed HEADER_LEN) (ltb 0 (length r.left)) bad.Header (bad.Cut (r.fed - length r.left)) why e) [
+        | inl few ↦ early (ltb-true r.fed HEADER_LEN few.0) few.1
+        | inr some ↦ cut is (ltb-false r.fed HEADER_LEN some.0) (ltb-true 0 (length r.left) some.1) some.2
       ]
 
 -- without one, the bytes are a log
 pub record IsWhole (r : ReaderData) : Type 0 where
   pub none : r.fault ≡ None
-  pub enough : length header ≤ r.fed
+  pub enough : HEADER_LEN ≤ r.fed
   pub nothing : r.left ≡ []
 
 pub end_none : (r : ReaderData) (all : List ℕ) → Keeps r all → end_fault r.spent r.fault r.fed (length r.left) ≡ None → IsWhole r
@@ -176,9 +185,9 @@ end_none r all k e = from r.fault refl (ap (λ (b : Bool). end_fault b r.fault r
   from : (f : Option LogBad) → r.fault ≡ f → end_fault false f r.fed (length r.left) ≡ None → IsWhole r
   from (Some w) is e = absurd (none-some w (sym e))
   from None is e =
-      let both = tests_none (ltb r.fed (length header)) (ltb 0 (length r.left)) bad.Header (bad.Cut (r.fed - length r.left)) e in
+      let both = tests_none (ltb r.fed HEADER_LEN) (ltb 0 (length r.left)) bad.Header (bad.Cut (r.fed - length r.left)) e in
       let zero_long = ltb-false 0 (length r.left) both.1 in
-      record { none = is; enough = ltb-false r.fed (length header) both.0; nothing = nil_from_length r.left (omega (arith, zero_long)) }
+      record { none = is; enough = ltb-false r.fed HEADER_LEN both.0; nothing = nil_from_length r.left (omega (arith, zero_long)) }
 
 -- the end, where there is no site
 pub ends_err : (r : ReaderData) (all : List ℕ) (f : Option LogBad) (why : LogBad) → f ≡ end_fault r.spent r.fault r.fed (length r.left)
@@ -196,21 +205,23 @@ ends_ok r all f is e accepted k =
     ends_loaded r all w.none w.enough w.nothing accepted k
 
 -- the same, of a reader of these parts
-pub finish_err : (n fed rest : ℕ) (left : List ℕ) (s : State) (refused f : Option LogBad) (spent : Bool) (old : ReaderData)
-    (at : Option LogBad) (why : LogBad) → reader_of n fed left s refused f spent ≡ old
+pub finish_err : (n : ℕ) (v : Version) (fed rest : ℕ) (left : List ℕ) (s : State) (refused f : Option LogBad) (spent : Bool)
+    (old : ReaderData)
+    (at : Option LogBad) (why : LogBad) → reader_of n v fed left s refused f spent ≡ old
     → at ≡ end_fault spent f fed rest → rest ≡ length left → (at ≡ Some why) ⊎ ((at ≡ None) × (refused ≡ Some why)) → (all : List ℕ)
     → Keeps old all → IsUnloaded old.site all why
-finish_err n fed rest left s refused f spent old at why view is long e all k =
-    let r = reader_of n fed left s refused f spent in
+finish_err n v fed rest left s refused f spent old at why view is long e all k =
+    let r = reader_of n v fed left s refused f spent in
     subst (λ (x : ReaderData). IsUnloaded x.site all why) view
     (ends_err r all at why (is ∙ ap (end_fault spent f fed) long) e (subst (λ (x : ReaderData). Keeps x all) (sym view) k)).1
 
-pub finish_ok : (n fed rest : ℕ) (left : List ℕ) (s t : State) (refused f : Option LogBad) (spent : Bool) (old : ReaderData)
-    (at : Option LogBad) → reader_of n fed left s refused f spent ≡ old
+pub finish_ok : (n : ℕ) (v : Version) (fed rest : ℕ) (left : List ℕ) (s t : State) (refused f : Option LogBad) (spent : Bool)
+    (old : ReaderData)
+    (at : Option LogBad) → reader_of n v fed left s refused f spent ≡ old
     → at ≡ end_fault spent f fed rest → rest ≡ length left → at ≡ None → refused ≡ None → t ≡ s → (all : List ℕ) → Keeps old all
     → IsLoaded old.site all t
-finish_ok n fed rest left s t refused f spent old at view is long e accepted same all k =
-    let r = reader_of n fed left s refused f spent in
+finish_ok n v fed rest left s t refused f spent old at view is long e accepted same all k =
+    let r = reader_of n v fed left s refused f spent in
     subst (IsLoaded old.site all) (sym same)
     (subst (λ (x : ReaderData). IsLoaded x.site all s) view
     (ends_ok r all at (is ∙ ap (end_fault spent f fed) long) e accepted (subst (λ (x : ReaderData). Keeps x all) (sym view) k)))

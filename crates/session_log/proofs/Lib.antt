@@ -1,3 +1,4 @@
+mod HeaderFronts
 pub mod Frames
 mod Appending
 mod Listings

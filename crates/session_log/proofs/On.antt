@@ -2,6 +2,7 @@
 use Rattle.std.proofs.Common.{◌≡◌, ℕ, List, [], ◌++◌, refl, sym, subst, ◌∙◌, append_assoc, append-nil, arith, inl}
 use Rattle.std.specs.Prelude.{Option, None, false}
 use Rattle.std.proofs.lemmas.List.{nil_from_length}
+use Rattle.wire_codec.specs.declared.version.Version.{Version}
 use Rattle.cot_site.specs.States.{State}
 use Rattle.session_log.specs.declared.log_bad.LogBad.{LogBad}
 use Rattle.session_log.specs.Loadings.{new_state, IsLoaded, IsUnloaded}
@@ -26,9 +27,10 @@ begins site r is k = record {
   );
 }
 
-pub new_begins : (site : ℕ) (left : List ℕ) (s : State) (refused : Option LogBad) → left ≡ [] → s ≡ new_state site → refused ≡ None
-    → Begins site (reader_of site 0 left s refused None false)
-new_begins site left s refused none new accepted = begins site (reader_of site 0 left s refused None false) refl (record {
+pub new_begins : (site : ℕ) (v : Version) (left : List ℕ) (s : State) (refused : Option LogBad) → left ≡ [] → s ≡ new_state site
+    → refused ≡ None
+    → Begins site (reader_of site v 0 left s refused None false)
+new_begins site v left s refused none new accepted = begins site (reader_of site v 0 left s refused None false) refl (record {
   live = refl;
   fed = refl;
   kept = inl (record { unread = refl; few = omega arith; front = refl; left = none; state = new; accepted = accepted });

@@ -8,6 +8,7 @@ use Rattle.wire_codec.specs.declared.cause.Cause.{Cause}
 use Rattle.wire_codec.specs.declared.fault.Fault.{Fault}
 use Rattle.wire_codec.specs.declared.fault.Refused.{Refused}
 use Rattle.wire_codec.specs.declared.fault.Refused.TheVariants.{More, Bad}
+use Rattle.wire_codec.specs.declared.version.Version.{Version}
 use Rattle.wire_codec.specs.Reading.{fault}
 use Rattle.wire_codec.specs.Spelling.{frame}
 use Rattle.wire_codec.specs.Judging.{judge}
@@ -16,74 +17,86 @@ use Rattle.cot_site.specs.Sites.{AllFormed}
 use Rattle.cot_site.specs.States.{State}
 use Rattle.session_log.specs.declared.log_bad.LogBad.{LogBad}
 use Rattle.session_log.specs.declared.log_bad.LogBad.TheVariants as bad
-use Rattle.session_log.specs.Logs.{header, frames, BeginsWith, offset_after}
+use Rattle.session_log.specs.Logs.{frames, AllFit, BeginsWith, offset_after}
 use Rattle.session_log.specs.Readings.{IsCutAt, IsFaultyAt, IsUnread}
 use Rattle.session_log.specs.Loadings.{first_refusal, verdicts_after, after_one, after_all, AreTakenIn, new_state, IsFirstRefusal, IsUnloaded}
-use Rattle.session_log.proofs.Frames.{formed_back, good_not_err, continues, log_no_fault, one_log}
+use Rattle.session_log.proofs.Frames.{good_not_err, continues, same_version, log_no_fault, one_log}
 use Rattle.session_log.proofs.TakingIn.{taken_one}
 
 -- ---- faults
 
--- both stop after the same operations, at the same rest
-record IsSame (fs gs : List OpData) (r q : List ℕ) : Type 0 where
+-- both are of the same version, and stop after the same operations, at the same rest
+record IsSame (v w : Version) (fs gs : List OpData) (r q : List ℕ) : Type 0 where
+  pub version : v ≡ w
   pub ops : fs ≡ gs
   pub same_rest : r ≡ q
 
-stops : (bytes : List ℕ) (fs gs : List OpData) (r q : List ℕ) (a b : Refused) → BeginsWith bytes fs r → BeginsWith bytes gs q
-    → judge r ≡ Err a → judge q ≡ Err b → IsSame fs gs r q
-stops bytes fs gs r q a b u v at_r at_q =
-    let c = continues bytes fs gs r q b u v at_q in
-    from c.others c.parts c.left_is
+stops : (v w : Version) (bytes : List ℕ) (fs gs : List OpData) (r q : List ℕ) (a b : Refused) → BeginsWith v bytes fs r
+    → BeginsWith w bytes gs q → judge v r ≡ Err a → judge w q ≡ Err b → IsSame v w fs gs r q
+stops v w bytes fs gs r q a b x y at_r at_q =
+    let c = continues v w bytes fs gs r q b x y at_q in
+    from c.others c.parts c.formed c.fits c.left_is
   where
-    from : (others : List OpData) → gs ≡ fs ++ others → r ≡ frames others ++ q → IsSame fs gs r q
-    from [] parts left = record { ops = sym (parts ∙ append-nil fs); same_rest = left }
-    from (o ∷ os) parts left =
-        let formed = formed_back fs (o ∷ os) (subst AllFormed parts v.formed) in
-        absurd (good_not_err o (frames os ++ q) a (formed o (contains_here o os))
-        (ap judge (sym (append_assoc (frame o) (frames os) q) ∙ sym left) ∙ at_r))
+    same : v ≡ w
+    same = same_version v w bytes fs gs r q x y
+
+    from : (others : List OpData) → gs ≡ fs ++ others → AllFormed others → AllFit v others → r ≡ frames v others ++ q
+        → IsSame v w fs gs r q
+    from [] parts formed fits left = record { version = same; ops = sym (parts ∙ append-nil fs); same_rest = left }
+    from (o ∷ os) parts formed fits left =
+        absurd (good_not_err v o (frames v os ++ q) a (formed o (contains_here o os)) (fits o (contains_here o os))
+        (ap (judge v) (sym (append_assoc (frame v o) (frames v os) q) ∙ sym left) ∙ at_r))
+
+-- the offset after the same operations is the same
+same_place : (v w : Version) (fs gs : List OpData) → v ≡ w → fs ≡ gs → offset_after v fs ≡ offset_after w gs
+same_place v w fs gs version ops = ap (λ (x : Version). offset_after x fs) version ∙ ap (offset_after w) ops
 
 -- of one rest one answer is given
-judged_same : (r q : List ℕ) (a b : Refused) → r ≡ q → judge r ≡ Err a → judge q ≡ Err b → a ≡ b
-judged_same r q a b same at_r at_q =
-    let both : ◌≡◌ {A = Result (OpData × ℕ) Refused} (Err a) (Err b) = sym at_r ∙ ap judge same ∙ at_q in
+judged_same : (v w : Version) (r q : List ℕ) (a b : Refused) → v ≡ w → r ≡ q → judge v r ≡ Err a → judge w q ≡ Err b → a ≡ b
+judged_same v w r q a b version same at_r at_q =
+    let both : ◌≡◌ {A = Result (OpData × ℕ) Refused} (Err a) (Err b) =
+    sym at_r ∙ ap (λ (x : Version). judge x r) version ∙ ap (judge w) same ∙ at_q in
     cc
 
 cut_once : (bytes : List ℕ) (x y : ℕ) → IsCutAt bytes x → IsCutAt bytes y → x ≡ y
 cut_once bytes x y u v =
-    let same = stops bytes u.before v.before u.rest v.rest (More u.needed) (More v.needed) u.begins v.begins u.judged v.judged in
-    u.place ∙ ap offset_after same.ops ∙ sym v.place
+    let same =
+    stops u.version v.version bytes u.before v.before u.rest v.rest (More u.needed) (More v.needed) u.begins v.begins u.judged v.judged in
+    u.place ∙ same_place u.version v.version u.before v.before same.version same.ops ∙ sym v.place
 
 cut_not_faulty : (bytes : List ℕ) (x y : ℕ) (c : Cause) → IsCutAt bytes x → IsFaultyAt bytes y c → ⊥
 cut_not_faulty bytes x y c u v =
-    let same = stops bytes u.before v.before u.rest v.rest (More u.needed) (Bad (fault c v.within)) u.begins v.begins u.judged v.judged in
+    let no = Bad (fault c v.within) in
+    let same = stops u.version v.version bytes u.before v.before u.rest v.rest (More u.needed) no u.begins v.begins u.judged v.judged in
     let both : More u.needed ≡ Bad (fault c v.within) =
-    judged_same u.rest v.rest (More u.needed) (Bad (fault c v.within)) same.same_rest u.judged v.judged in
+    judged_same u.version v.version u.rest v.rest (More u.needed) no same.version same.same_rest u.judged v.judged in
     cc
 
 faulty_once : (bytes : List ℕ) (x y : ℕ) (c d : Cause) → IsFaultyAt bytes x c → IsFaultyAt bytes y d → bad.Bad x c ≡ bad.Bad y d
 faulty_once bytes x y c d u v =
-    let same =
-    stops bytes u.before v.before u.rest v.rest (Bad (fault c u.within)) (Bad (fault d v.within)) u.begins v.begins u.judged v.judged in
+    let e = Bad (fault c u.within) in
+    let f = Bad (fault d v.within) in
+    let same = stops u.version v.version bytes u.before v.before u.rest v.rest e f u.begins v.begins u.judged v.judged in
     let both : Bad (fault c u.within) ≡ Bad (fault d v.within) =
-    judged_same u.rest v.rest (Bad (fault c u.within)) (Bad (fault d v.within)) same.same_rest u.judged v.judged in
+    judged_same u.version v.version u.rest v.rest e f same.version same.same_rest u.judged v.judged in
     let one : fault c u.within ≡ fault d v.within = cc in
     let place : x ≡ y =
-    u.place ∙ ap (λ (os : List OpData). offset_after os + u.within) same.ops ∙ ap (λ (f : Fault). offset_after v.before + f.offset) one
-    ∙ sym v.place in
+    u.place ∙ ap (λ (n : ℕ). n + u.within) (same_place u.version v.version u.before v.before same.version same.ops)
+    ∙ ap (λ (f : Fault). offset_after v.version v.before + f.offset) one ∙ sym v.place in
     ap (λ (n : ℕ). bad.Bad n c) place ∙ ap (λ (f : Fault). bad.Bad y f.cause) one
 
 -- a header stands first where something was read
-headed : (bytes : List ℕ) (fs : List OpData) (r : List ℕ) → ((rest : List ℕ) → bytes ≢ header ++ rest) → BeginsWith bytes fs r → ⊥
-headed bytes fs r none begins = none (frames fs ++ r) begins.parts
+headed : (v : Version) (bytes : List ℕ) (fs : List OpData) (r : List ℕ) → IsUnread bytes bad.Header → BeginsWith v bytes fs r → ⊥
+headed v bytes fs r none begins = none v (frames v fs ++ r) begins.parts
 
 pub one_fault : (bytes : List ℕ) (a b : LogBad) → a ≢ bad.Memory → b ≢ bad.Memory → IsUnread bytes a → IsUnread bytes b → a ≡ b
 one_fault bytes bad.Header bad.Header p q u v = refl
-one_fault bytes bad.Header (bad.Cut y) p q u v = absurd (headed bytes v.before v.rest u v.begins)
-one_fault bytes bad.Header (bad.Bad y d) p q u v = absurd (headed bytes v.before v.rest u v.begins)
-one_fault bytes (bad.Cut x) bad.Header p q u v = absurd (headed bytes u.before u.rest v u.begins)
+one_fault bytes bad.Header (bad.Cut y) p q u v = absurd (headed v.version bytes v.before v.rest u v.begins)
+one_fault bytes bad.Header (bad.Bad y d) p q u v = absurd (headed v.version bytes v.before v.rest u v.begins)
+one_fault bytes (bad.Cut x) bad.Header p q u v = absurd (headed u.version bytes u.before u.rest v u.begins)
 one_fault bytes (bad.Cut x) (bad.Cut y) p q u v = ap (λ (n : ℕ). bad.Cut n) (cut_once bytes x y u v)
 one_fault bytes (bad.Cut x) (bad.Bad y d) p q u v = absurd (cut_not_faulty bytes x y d u v)
-one_fault bytes (bad.Bad x c) bad.Header p q u v = absurd (headed bytes u.before u.rest v u.begins)
+one_fault bytes (bad.Bad x c) bad.Header p q u v = absurd (headed u.version bytes u.before u.rest v u.begins)
 one_fault bytes (bad.Bad x c) (bad.Cut y) p q u v = absurd (cut_not_faulty bytes y x c v u)
 one_fault bytes (bad.Bad x c) (bad.Bad y d) p q u v = faulty_once bytes x y c d u v
 one_fault bytes (bad.Refused x m w) b p q u v = absurd u
@@ -155,7 +168,10 @@ refused_same site bytes x y a b u v =
     sym u.first ∙ ap (λ (os : List OpData). refusal_at (after_all (new_state site) os) u.op) same.ops
     ∙ ap (refusal_at (after_all (new_state site) v.before)) same.op ∙ v.first in
     let one : a ≡ b = cc in
-    (u.place ∙ ap offset_after same.ops ∙ sym v.place, one)
+    let version : u.log.version ≡ v.log.version =
+    same_version u.log.version v.log.version bytes (u.before ++ u.op ∷ u.behind) (v.before ++ v.op ∷ v.behind) [] [] u.log.begins
+    v.log.begins in
+    (u.place ∙ same_place u.log.version v.log.version u.before v.before version same.ops ∙ sym v.place, one)
 
 split : (site : ℕ) (bytes : List ℕ) (why : LogBad) → why ≢ bad.Memory → IsUnloaded site bytes why
     → IsUnread bytes why ⊎ RefusedAs site bytes why

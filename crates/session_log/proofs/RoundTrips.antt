@@ -15,7 +15,9 @@ use Rattle.context_diff.specs.Ops.{op_eq}
 use Rattle.context_diff.proofs.CallerLemmas.{by_pushes, complete, contains_cases, contains_here, contains_none, known_member, shifted}
 use Rattle.causal_gate.specs.Waiting.{AllDifferFrom, AreApart}
 use Rattle.causal_gate.proofs.CallerLemmas.{named_once}
+use Rattle.wire_codec.specs.declared.version.Version.TheVariants.{Two}
 use Rattle.wire_codec.specs.Spelling.{frame}
+use Rattle.wire_codec.proofs.CallerLemmas.{fits_two}
 use Rattle.site_answers.specs.declared.verdict.Verdict.{Verdict}
 use Rattle.site_answers.specs.declared.verdict.Verdict.TheVariants.{Waits, Integrated}
 use Rattle.cot_site.specs.Verdicts.{HasOther, IsNew, lacked, verdict_of}
@@ -167,10 +169,17 @@ waiting_led k h fs (o ∷ bs) valid w =
 -- ---- both
 
 pub written_log : (h w : List OpData) → AllFormed h → AllFormed w → IsLogOf (log_of h w) (h ++ w)
-written_log h w fh fw = record {
-  formed = formed_append h w fh fw;
-  parts = ap (λ (t : List ℕ). header ++ t) (sym (append-nil (frames (h ++ w)) ∙ flat_map-append frame h w));
-}
+written_log h w fh fw =
+    let formed = formed_append h w fh fw in
+    record {
+      version = Two;
+      begins = record {
+        formed = formed;
+        fits = λ o there. fits_two o (formed o there);
+        parts =
+            ap (λ (t : List ℕ). header Two ++ t) (sym (append-nil (frames Two (h ++ w)) ∙ flat_map-append (frame Two) h w));
+      };
+    }
 
 pub came_back : (s : State) (k : ℕ) → IsSound s → IsSettled s → AreApart s.waiting
     → IsLoaded k (log_of s.history s.waiting) (with_waiting k s.history s.waiting)

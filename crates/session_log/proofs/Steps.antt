@@ -7,6 +7,8 @@ use Rattle.context_diff.specs.Operations.{OpData, IsWellFormed}
 use Rattle.context_diff.specs.Ops.{data_of}
 use Rattle.wire_codec.specs.declared.cause.Cause.{Cause}
 use Rattle.wire_codec.specs.declared.fault.Refused.TheVariants.{Bad}
+use Rattle.wire_codec.specs.declared.version.Version.{Version}
+use Rattle.wire_codec.specs.Versions.{Fits}
 use Rattle.wire_codec.specs.Reading.{fault}
 use Rattle.wire_codec.specs.Judging.{judge}
 use Rattle.wire_codec.specs.Spelling.{frame}
@@ -20,6 +22,7 @@ use Rattle.session_log.specs.declared.placed.Placed.{Placed}
 use Rattle.session_log.specs.Logs.{header, frames, BeginsWith, offset_after, IsLogOf}
 use Rattle.session_log.specs.Readings.{IsUnread}
 use Rattle.session_log.specs.Loadings.{first_refusal, verdicts_after, after_one, IsRefusal, IsUnloaded}
+use Rattle.session_log.proofs.HeaderFronts.{header_long}
 use Rattle.session_log.proofs.Frames.{begins_next}
 use Rattle.session_log.proofs.TakingIn.{taken_more, refused_at}
 use Rattle.session_log.specs.Readers.{IsFaultOf, IsRefusalOf, AreTakenTo, HasTaken}
@@ -29,12 +32,13 @@ use Rattle.session_log.proofs.Fronts.{bytes_after}
 
 -- ---- more bytes
 
-pub begins_on : (all left : List ℕ) (ops : List OpData) (more : List ℕ) → BeginsWith all ops left
-    → BeginsWith (all ++ more) ops (left ++ more)
-begins_on all left ops more b = record {
+pub begins_on : (v : Version) (all left : List ℕ) (ops : List OpData) (more : List ℕ) → BeginsWith v all ops left
+    → BeginsWith v (all ++ more) ops (left ++ more)
+begins_on v all left ops more b = record {
   formed = b.formed;
-  parts = ap (λ (t : List ℕ). t ++ more) b.parts ∙ append_assoc header (frames ops ++ left) more
-      ∙ ap (λ (t : List ℕ). header ++ t) (append_assoc (frames ops) left more);
+  fits = b.fits;
+  parts = ap (λ (t : List ℕ). t ++ more) b.parts ∙ append_assoc (header v) (frames v ops ++ left) more
+      ∙ ap (λ (t : List ℕ). header v ++ t) (append_assoc (frames v ops) left more);
 }
 
 pub fault_on : (all more : List ℕ) (why : LogBad) → IsFaultOf all why → IsFaultOf (all ++ more) why
@@ -53,11 +57,11 @@ taken_to_on : (site : ℕ) (all more : List ℕ) (ops : List OpData) (s : State)
 taken_to_on site all more ops s None t = t
 taken_to_on site all more ops s (Some why) t = refusal_on site all more why t
 
-pub has_taken_on : (site : ℕ) (all left : List ℕ) (s : State) (refused : Option LogBad) (more : List ℕ) → HasTaken site all left s refused
-    → HasTaken site (all ++ more) (left ++ more) s refused
-has_taken_on site all left s refused more h = record {
+pub has_taken_on : (site : ℕ) (v : Version) (all left : List ℕ) (s : State) (refused : Option LogBad) (more : List ℕ)
+    → HasTaken site v all left s refused → HasTaken site v (all ++ more) (left ++ more) s refused
+has_taken_on site v all left s refused more h = record {
   ops = h.ops;
-  begins = begins_on all left h.ops more h.begins;
+  begins = begins_on v all left h.ops more h.begins;
   taken = taken_to_on site all more h.ops s refused h.taken;
 }
 
@@ -74,73 +78,87 @@ takes_next s t at o (Err why) now free state refusal kept = subst (TakesIn s Non
 -- ---- one frame
 
 -- where so many bytes were fed, what is left begins where the operations end
-pub at_left : (all left : List ℕ) (ops : List OpData) → BeginsWith all ops left → length all ≡ offset_after ops + length left
-at_left all left ops b = omega (arith, ap length b.parts, length-append header (frames ops ++ left), length-append (frames ops) left)
+pub at_left : (v : Version) (all left : List ℕ) (ops : List OpData) → BeginsWith v all ops left
+    → length all ≡ offset_after v ops + length left
+at_left v all left ops b =
+    omega (
+      arith,
+      ap length b.parts,
+      header_long v,
+      length-append (header v) (frames v ops ++ left),
+      length-append (frames v ops) left,
+    )
 
 -- the operation whose frame comes next is refused
-refused_next : (site : ℕ) (all left next : List ℕ) (ops : List OpData) (o : OpData) (s : State) (at : ℕ) (why : LogBad)
-    → BeginsWith all ops left → left ≡ frame o ++ next → IsWellFormed o → AreTakenTo site all ops s None → at ≡ offset_after ops
-    → why ≢ bad.Memory → IsRefusal at (verdicts_after s o) why → IsRefusalOf site all why
-refused_next site all left next ops o s at bad.Header b is well taken place apart refusal = absurd refusal
-refused_next site all left next ops o s at (bad.Cut offset) b is well taken place apart refusal = absurd refusal
-refused_next site all left next ops o s at (bad.Bad offset cause) b is well taken place apart refusal = absurd refusal
-refused_next site all left next ops o s at (bad.Refused offset member verdict) b is well taken place apart refusal = (
+refused_next : (site : ℕ) (v : Version) (all left next : List ℕ) (ops : List OpData) (o : OpData) (s : State) (at : ℕ) (why : LogBad)
+    → BeginsWith v all ops left → left ≡ frame v o ++ next → IsWellFormed o → Fits v o → AreTakenTo site all ops s None
+    → at ≡ offset_after v ops → why ≢ bad.Memory → IsRefusal at (verdicts_after s o) why → IsRefusalOf site all why
+refused_next site v all left next ops o s at bad.Header b is well fits taken place apart refusal = absurd refusal
+refused_next site v all left next ops o s at (bad.Cut offset) b is well fits taken place apart refusal = absurd refusal
+refused_next site v all left next ops o s at (bad.Bad offset cause) b is well fits taken place apart refusal = absurd refusal
+refused_next site v all left next ops o s at (bad.Refused offset member verdict) b is well fits taken place apart refusal = (
   apart,
   λ more log is_log.
-      let begins = begins_on all next (ops ++ o ∷ []) more (begins_next all left next ops o b is well) in
-      refused_at site (all ++ more) (next ++ more) ops o log s offset (record { member = member; verdict = verdict })
+      let begins = begins_on v all next (ops ++ o ∷ []) more (begins_next v all left next ops o b is well fits) in
+      refused_at site v (all ++ more) (next ++ more) ops o log s offset (record { member = member; verdict = verdict })
       begins is_log taken.0 taken.1 (refusal.0 ∙ place) refusal.1,
 )
-refused_next site all left next ops o s at bad.Memory b is well taken place apart refusal = absurd (apart refl)
+refused_next site v all left next ops o s at bad.Memory b is well fits taken place apart refusal = absurd (apart refl)
 
-taken_next : (site : ℕ) (all left next : List ℕ) (ops : List OpData) (o : OpData) (s t : State) (refused now : Option LogBad) (at : ℕ)
-    → BeginsWith all ops left → left ≡ frame o ++ next → IsWellFormed o → AreTakenTo site all ops s refused → at ≡ offset_after ops
-    → TakesIn s refused at o t now → AreTakenTo site all (ops ++ o ∷ []) t now
-taken_next site all left next ops o s t (Some why) now at b is well taken place takes =
+taken_next : (site : ℕ) (v : Version) (all left next : List ℕ) (ops : List OpData) (o : OpData) (s t : State) (refused now : Option LogBad)
+    (at : ℕ)
+    → BeginsWith v all ops left → left ≡ frame v o ++ next → IsWellFormed o → Fits v o → AreTakenTo site all ops s refused
+    → at ≡ offset_after v ops → TakesIn s refused at o t now → AreTakenTo site all (ops ++ o ∷ []) t now
+taken_next site v all left next ops o s t (Some why) now at b is well fits taken place takes =
     subst (λ (n : Option LogBad). AreTakenTo site all (ops ++ o ∷ []) t n) (sym takes) taken
-taken_next site all left next ops o s t None None at b is well taken place takes = taken_more site ops o s t taken.0 taken.1 takes.0 takes.1
-taken_next site all left next ops o s t None (Some why) at b is well taken place takes =
-    refused_next site all left next ops o s at why b is well taken place takes.0 takes.1
+taken_next site v all left next ops o s t None None at b is well fits taken place takes =
+    taken_more site ops o s t taken.0 taken.1 takes.0 takes.1
+taken_next site v all left next ops o s t None (Some why) at b is well fits taken place takes =
+    refused_next site v all left next ops o s at why b is well fits taken place takes.0 takes.1
 
 -- a frame was taken, and its operation taken in
 pub steps : (site : ℕ) (all : List ℕ) (fed : ℕ) (old new : StreamData) (p : Placed) (s t : State) (refused now : Option LogBad)
-    → fed ≡ length all → HasTaken site all old.left s refused → TakesFrame fed old (Some p) new
-    → TakesIn s refused p.offset (data_of p.op) t now → HasTaken site all new.left t now
+    → fed ≡ length all → HasTaken site old.version all old.left s refused → TakesFrame fed old (Some p) new
+    → TakesIn s refused p.offset (data_of p.op) t now → HasTaken site new.version all new.left t now
 steps site all fed old new p s t refused now count h takes taken =
+    let v = old.version in
     let o = data_of p.op in
-    let place : p.offset ≡ offset_after h.ops = omega (arith, count, takes.1, at_left all old.left h.ops h.begins) in
-    record {
+    let f = takes.0 in
+    let place : p.offset ≡ offset_after v h.ops = omega (arith, count, takes.1, at_left v all old.left h.ops h.begins) in
+    let has : HasTaken site v all new.left t now = record {
       ops = h.ops ++ o ∷ [];
-      begins = begins_next all old.left new.left h.ops o h.begins takes.0.left takes.0.well;
-      taken = taken_next site all old.left new.left h.ops o s t refused now p.offset h.begins takes.0.left takes.0.well h.taken place taken;
-    }
+      begins = begins_next v all old.left new.left h.ops o h.begins f.left f.well f.fits;
+      taken = taken_next site v all old.left new.left h.ops o s t refused now p.offset h.begins f.left f.well f.fits h.taken place taken;
+    } in
+    subst (λ (x : Version). HasTaken site x all new.left t now) (sym f.version) has
 
 -- the fault of what is left is that of the log
 pub stops_for : (site : ℕ) (all : List ℕ) (fed : ℕ) (old : StreamData) (s : State) (refused : Option LogBad) (why : LogBad)
-    → fed ≡ length all → HasTaken site all old.left s refused → Stops fed old why → why ≢ bad.Memory → IsFaultOf all why
+    → fed ≡ length all → HasTaken site old.version all old.left s refused → Stops fed old why → why ≢ bad.Memory → IsFaultOf all why
 stops_for site all fed old s refused bad.Header count h stops apart = absurd stops
 stops_for site all fed old s refused (bad.Cut offset) count h stops apart = absurd stops
 stops_for site all fed old s refused (bad.Bad offset cause) count h (within, judged, place) apart = (
   apart,
   λ more. record {
+    version = old.version;
     before = h.ops;
     rest = old.left ++ more;
-    begins = begins_on all old.left h.ops more h.begins;
+    begins = begins_on old.version all old.left h.ops more h.begins;
     within = within;
-    judged = bad_stays old.left more (fault cause within) judged;
-    place = omega (arith, count, place, at_left all old.left h.ops h.begins);
+    judged = bad_stays old.version old.left more (fault cause within) judged;
+    place = omega (arith, count, place, at_left old.version all old.left h.ops h.begins);
   },
 )
 stops_for site all fed old s refused (bad.Refused offset member verdict) count h stops apart = absurd stops
 stops_for site all fed old s refused bad.Memory count h stops apart = absurd (apart refl)
 
 -- a fault is within what is left
-pub within_left : (left : List ℕ) (cause : Cause) (place : ℕ) → AreBytes left → judge left ≡ Err (Bad (fault cause place))
+pub within_left : (v : Version) (left : List ℕ) (cause : Cause) (place : ℕ) → AreBytes left → judge v left ≡ Err (Bad (fault cause place))
     → place ≤ length left
-within_left left cause place fits e = judge_within left (fault cause place) fits e
+within_left v left cause place fits e = judge_within v left (fault cause place) fits e
 
 pub counted_next : (fed : ℕ) (old new : StreamData) (o : OpData) → IsCounted fed old → TakesOp old o new → IsCounted fed new
 counted_next fed old new o counted takes = (
-  omega (arith, counted.0, takes.taken, ap length takes.left, length-append (frame o) new.left),
-  bytes_after (frame o) new.left old.left takes.left counted.1,
+  omega (arith, counted.0, takes.taken, ap length takes.left, length-append (frame old.version o) new.left),
+  bytes_after (frame old.version o) new.left old.left takes.left counted.1,
 )

@@ -4,6 +4,7 @@ use Rattle.std.specs.Prelude.{ℕ, Some, None}
 use Rattle.std.proofs.lemmas.Bool.{cond-true, cond-false}
 use Rattle.std.proofs.lemmas.Option.{none-some}
 use Rattle.context_diff.specs.Operations.{OpData}
+use Rattle.wire_codec.specs.declared.version.Version.{Version}
 use Rattle.cot_site.specs.States.{State, judged}
 use Rattle.participant.specs.Reached.{from, with_delivered, all_settled}
 use Rattle.participant.specs.Taking.{is_refusal}
@@ -13,7 +14,7 @@ use Rattle.session_log.specs.declared.log_bad.LogBad.TheVariants as bad
 use Rattle.session_log.specs.Logs.{BeginsWith, offset_after, IsLogOf}
 use Rattle.session_log.specs.Loadings.{led_to, first_refusal, verdicts_after, after_one, IsRefusal, after_all, AreTakenIn, new_state, IsLoaded, IsFirstRefusal, IsUnloaded}
 use Rattle.session_log.specs.Code.Passing.{LeftData, PassesOver, HasNoStep}
-use Rattle.session_log.proofs.Frames.{IsPassed, passed_more, passed_end, unread, log_continues, one_log, log_no_fault}
+use Rattle.session_log.proofs.Frames.{IsPassed, passed_more, passed_end, unread, log_continues, log_as, one_log, log_no_fault}
 
 -- ---- one operation
 
@@ -57,19 +58,20 @@ taken_more site ops o s t taken state none is =
     )
 
 -- the operation after these is refused
-pub refused_at : (site : ℕ) (bytes next : List ℕ) (ops : List OpData) (o : OpData) (log : List OpData) (s : State) (offset : ℕ)
-    (r : Release)
-    → BeginsWith bytes (ops ++ o ∷ []) next → IsLogOf bytes log → AreTakenIn (new_state site) ops → s ≡ after_all (new_state site) ops
-    → offset ≡ offset_after ops → first_refusal (verdicts_after s o) ≡ Some r
+pub refused_at : (site : ℕ) (v : Version) (bytes next : List ℕ) (ops : List OpData) (o : OpData) (log : List OpData) (s : State)
+    (offset : ℕ) (r : Release)
+    → BeginsWith v bytes (ops ++ o ∷ []) next → IsLogOf bytes log → AreTakenIn (new_state site) ops → s ≡ after_all (new_state site) ops
+    → offset ≡ offset_after v ops → first_refusal (verdicts_after s o) ≡ Some r
     → IsFirstRefusal site bytes offset r
-refused_at site bytes next ops o log s offset r begins is_log taken state place first =
-    let f = log_continues bytes (ops ++ o ∷ []) log next begins is_log in
+refused_at site v bytes next ops o log s offset r begins is_log taken state place first =
+    let f = log_continues v bytes (ops ++ o ∷ []) log next begins is_log in
     let parts : log ≡ ops ++ o ∷ f.others = f.parts ∙ append_assoc ops (o ∷ []) f.others in
+    let whole = log_as v bytes (ops ++ o ∷ []) log next begins is_log in
     record {
       before = ops;
       op = o;
       behind = f.others;
-      log = subst (IsLogOf bytes) parts is_log;
+      log = record { version = v; begins = subst (λ (os : List OpData). BeginsWith v bytes os []) parts whole };
       place = place;
       taken = taken;
       first = ap (λ (x : State). first_refusal (verdicts_after x o)) (sym state) ∙ first;
@@ -121,8 +123,10 @@ loading_refused site bytes left next s o bad.Header log w step refusal = absurd 
 loading_refused site bytes left next s o (bad.Cut offset) log w step refusal = absurd refusal
 loading_refused site bytes left next s o (bad.Bad offset cause) log w step refusal = absurd refusal
 loading_refused site bytes left next s o (bad.Refused offset member verdict) log w step (place, first) =
-    refused_at site bytes next.bytes w.ops o log.0 s offset (record { member = member; verdict = verdict })
-    (passed_more bytes w.ops o left next w.passed step).begins log.1 w.taken w.state (place ∙ w.passed.place) first
+    let at : offset ≡ offset_after next.version w.ops =
+    place ∙ w.passed.place ∙ ap (λ (v : Version). offset_after v w.ops) (sym step.version) in
+    refused_at site next.version bytes next.bytes w.ops o log.0 s offset (record { member = member; verdict = verdict })
+    (passed_more bytes w.ops o left next w.passed step).begins log.1 w.taken w.state at first
 loading_refused site bytes left next s o bad.Memory log w step refusal = log
 
 -- ---- one loading

@@ -70,7 +70,7 @@ pub record IsFirstRefusal (site : ℕ) (bytes : List ℕ) (offset : ℕ) (r : Re
   pub op : OpData
   pub behind : List OpData
   pub log : IsLogOf bytes (before ++ op ∷ behind)
-  pub place : offset ≡ offset_after before
+  pub place : offset ≡ offset_after log.version before
   pub taken : AreTakenIn (new_state site) before
   pub first : first_refusal (verdicts_after (after_all (new_state site) before) op) ≡ Some r
 

@@ -1,31 +1,42 @@
--- Logs: a header, and after it the frames of operations, to the end.
-use Rattle.std.specs.Prelude.{◌≡◌, ℕ, ◌+◌, List, [], ◌++◌, length, codes}
+-- Logs: the header of a version, and after it the frames of operations in that version, to the end.
+use Rattle.std.specs.Prelude.{◌≡◌, ℕ, ◌+◌, List, [], ◌++◌, length, codes, Contains}
 use Rattle.std.specs.List.{flat_map}
 use Rattle.context_diff.specs.Operations.{OpData}
+use Rattle.wire_codec.specs.declared.version.Version.{Version}
+use Rattle.wire_codec.specs.declared.version.Version.TheVariants.{One, Two}
+use Rattle.wire_codec.specs.Versions.{Fits}
 use Rattle.wire_codec.specs.Spelling.{frame}
 use Rattle.cot_site.specs.Sites.{AllFormed}
+use Rattle.session_log.specs.declared.headers.TheConstants.{HEADER_LEN}
 
--- what each log begins with
-abbrev pub header : List ℕ
-header = codes "COTLOG1\n"
+-- what each log of a version begins with
+abbrev pub header : Version → List ℕ
+header One = codes "COTLOG1\n"
+header Two = codes "COTLOG2\n"
 
--- the frames of these operations, one after the other
-abbrev pub frames : List OpData → List ℕ
-frames os = flat_map frame os
+-- the frames of these operations in a version, one after the other
+abbrev pub frames : Version → List OpData → List ℕ
+frames v os = flat_map (frame v) os
 
--- Log: a history, in the order of integration, and then the operations that wait, in the order of arrival
+-- Log, as it is written: in version 2, a history, in the order of integration, and then the operations that wait, in the order of arrival
 abbrev pub log_of : List OpData → List OpData → List ℕ
-log_of h w = header ++ (frames h ++ frames w)
+log_of h w = header Two ++ (frames Two h ++ frames Two w)
 
--- the header stands first, then the frames of these well-formed operations, then the rest
-pub record BeginsWith (bytes : List ℕ) (os : List OpData) (rest : List ℕ) : Type 0 where
+-- frames of this version can name the sites of all these operations
+abbrev pub AllFit : Version → List OpData → Type 0
+AllFit v os = (o : OpData) → Contains os o → Fits v o
+
+-- the header of the version stands first, then the frames of these well-formed operations, then the rest
+pub record BeginsWith (v : Version) (bytes : List ℕ) (os : List OpData) (rest : List ℕ) : Type 0 where
   pub formed : AllFormed os
-  pub parts : bytes ≡ header ++ (frames os ++ rest)
+  pub fits : AllFit v os
+  pub parts : bytes ≡ header v ++ (frames v os ++ rest)
 
 -- the offset of what follows these operations
-abbrev pub offset_after : List OpData → ℕ
-offset_after os = length header + length (frames os)
+abbrev pub offset_after : Version → List OpData → ℕ
+offset_after v os = HEADER_LEN + length (frames v os)
 
--- the bytes are a log, which has these operations
-abbrev pub IsLogOf : List ℕ → List OpData → Type 0
-IsLogOf bytes os = BeginsWith bytes os []
+-- the bytes are a log, of either version, which has these operations
+pub record IsLogOf (bytes : List ℕ) (os : List OpData) : Type 0 where
+  pub version : Version
+  pub begins : BeginsWith version bytes os []

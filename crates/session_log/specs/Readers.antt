@@ -2,8 +2,10 @@
 use Rattle.std.specs.Prelude.{◌≡◌, ◌≢◌, ◌⊎◌, ◌↔◌, ℕ, ◌<◌, true, false, List, [], ◌++◌, Option, Some, None, Err, length, take}
 use Rattle.context_diff.specs.Operations.{OpData}
 use Rattle.wire_codec.specs.declared.fault.Refused.TheVariants.{More}
+use Rattle.wire_codec.specs.declared.version.Version.{Version}
 use Rattle.wire_codec.specs.Judging.{judge}
 use Rattle.cot_site.specs.States.{State}
+use Rattle.session_log.specs.declared.headers.TheConstants.{HEADER_LEN}
 use Rattle.session_log.specs.declared.log_bad.LogBad.{LogBad}
 use Rattle.session_log.specs.declared.log_bad.LogBad.TheVariants as bad
 use Rattle.session_log.specs.Logs.{header, BeginsWith, IsLogOf}
@@ -25,27 +27,27 @@ abbrev pub AreTakenTo : ℕ → List ℕ → List OpData → State → Option Lo
 AreTakenTo site all ops s None = AreTakenIn (new_state site) ops × (s ≡ after_all (new_state site) ops)
 AreTakenTo site all ops s (Some why) = IsRefusalOf site all why
 
--- after the header the bytes are the frames of some operations, which were taken in, and then what is left
-pub record HasTaken (site : ℕ) (all left : List ℕ) (s : State) (refused : Option LogBad) : Type 0 where
+-- after the header of this version the bytes are the frames of some operations, which were taken in, and then what is left
+pub record HasTaken (site : ℕ) (v : Version) (all left : List ℕ) (s : State) (refused : Option LogBad) : Type 0 where
   pub ops : List OpData
-  pub begins : BeginsWith all ops left
+  pub begins : BeginsWith v all ops left
   pub taken : AreTakenTo site all ops s refused
 
--- what is left begins with no whole frame yet
-abbrev pub NeedsMore : List ℕ → Type 0
-NeedsMore left = (n : ℕ) × (judge left ≡ Err (More n))
+-- what is left begins with no whole frame of this version yet
+abbrev pub NeedsMore : Version → List ℕ → Type 0
+NeedsMore v left = (n : ℕ) × (judge v left ≡ Err (More n))
 
 -- the header was read, and each whole frame after it
 pub record HasRead (r : ReaderData) (all : List ℕ) : Type 0 where
   pub read : r.header ≡ true
-  pub taken : HasTaken r.site all r.left r.state r.refused
-  pub needs : NeedsMore r.left
+  pub taken : HasTaken r.site r.version all r.left r.state r.refused
+  pub needs : NeedsMore r.version r.left
 
--- the bytes are the front of the header, and not the whole of it
+-- the bytes are the front of the header of this version, and not the whole of it
 pub record AwaitsHeader (r : ReaderData) (all : List ℕ) : Type 0 where
   pub unread : r.header ≡ false
-  pub few : length all < length header
-  pub front : all ≡ take (length all) header
+  pub few : length all < HEADER_LEN
+  pub front : all ≡ take (length all) (header r.version)
   pub left : r.left ≡ []
   pub state : r.state ≡ new_state r.site
   pub accepted : r.refused ≡ None
@@ -77,11 +79,12 @@ pub record IsUnloadedOn (r : ReaderData) (more : List ℕ) (why : LogBad) : Type
 abbrev pub KeepsSome : ReaderData → Type 0
 KeepsSome r = (all : List ℕ) × Keeps r all
 
--- with what came of the header before, where so many bytes were fed, the piece is the header and then some bytes
+-- with what came of a header before, where so many bytes were fed, the piece is the header and then some bytes
 pub record GoesPastHeader (fed : ℕ) (piece : List ℕ) : Type 0 where
+  pub version : Version
   pub rest : List ℕ
   pub some : rest ≢ []
-  pub parts : take fed header ++ piece ≡ header ++ rest
+  pub parts : take fed (header version) ++ piece ≡ header version ++ rest
 
 -- whatever follows is loaded, or refused, as what follows these bytes at the reader before
 pub record GoesOn (old : ReaderData) (piece : List ℕ) (new : ReaderData) : Type 0 where

@@ -1,25 +1,25 @@
 //! What is left of a log.
 
-ghost use Rattle.std.specs.Prelude.{◌≡◌, ◌≢◌, ◌+◌, ◌≤◌, ◌++◌, ℕ, List, Err, Option, IfOk, IfErr, IfSome, length, option_map, drop};
+ghost use Rattle.std.specs.Prelude.{◌≡◌, ◌≢◌, ◌+◌, ◌≤◌, ◌++◌, ℕ, List, Err, Option, IfOk, IfErr, IfSome, IsNone, length, option_map, drop};
 ghost use Rattle.std.specs.Option.{is_some};
 ghost use Rattle.context_diff.specs.Operations.{OpData};
 ghost use Rattle.context_diff.specs.Ops.{data_of};
+ghost use Rattle.wire_codec.specs.declared.version.Version as declared;
 ghost use Rattle.session_log.specs.Logs.{header};
 ghost use Rattle.session_log.specs.Code.Passing.{LeftData, Steps, HasNoStep};
 
+use crate::headers::{HEADER_LEN, header};
 use crate::log_bad::LogBad;
 use crate::placed::Placed;
 use crate::reading::MAX_LOG;
 use std::alloc::Global;
 use std::marker::Model;
-use wire_codec::{Cause, Decoded, Scan, decode, scan};
+use wire_codec::{Cause, Decoded, Scan, Version, decode_in, scan_in};
 
-/// What each log begins with.
-pub const HEADER: &[u8] = b"COTLOG1\n";
-
-/// The bytes that are left of a log, and the offset of the first of them, at which a frame begins.
+/// The version of a log, the bytes that are left of it, and the offset of the first of them, at which a frame begins.
 #[derive(Drop)]
 pub(crate) struct Left<'a> {
+    version: Version,
     offset: u32,
     bytes: &'a [u8],
 }
@@ -31,26 +31,42 @@ impl<'a> Model for Left<'a> {
 
     ghost Value = { LeftData };
 
-    ghost view = { λ l. record { offset = l.offset; bytes = l.bytes.now } };
+    ghost view = { λ l. record { version = l.version; offset = l.offset; bytes = l.bytes.now } };
 
     ghost invariant = { λ l. l.offset + length l.bytes.now ≤ MAX_LOG };
 }
 
 impl<'a> Left<'a> {
-    /// What follows the header, if it is there.
+    /// What follows the header, if one of either version is there.
     pub(crate) fn after_header(bytes: &'a [u8]) -> Result<Left<'a>, LogBad>
         requires { length bytes.now ≤ MAX_LOG }
-        ensures begins { IfOk result (λ l. bytes.now ≡ header ++ l.bytes) }
-        ensures offset { IfOk result (λ l. l.offset ≡ length header) }
-        ensures header { IfErr result (λ why. (why ≡ LogBad.Header) × ((rest : List ℕ) → bytes.now ≢ header ++ rest)) }
+        ensures begins { IfOk result (λ l. bytes.now ≡ header l.version ++ l.bytes) }
+        ensures offset { IfOk result (λ l. l.offset ≡ HEADER_LEN) }
+        ensures header { IfErr result (λ why.
+            (why ≡ LogBad.Header) × ((v : declared.Version) (rest : List ℕ) → bytes.now ≢ header v ++ rest)) }
     {
-        match bytes.strip_prefix(HEADER) {
-            Some(rest) => Ok(Left {
-                offset: HEADER.len() as u32,
-                bytes: rest,
-            }),
-            None => Err(LogBad::Header),
+        match Left::after_header_of(Version::Two, bytes) {
+            Some(left) => Ok(left),
+            None => match Left::after_header_of(Version::One, bytes) {
+                Some(left) => Ok(left),
+                None => Err(LogBad::Header),
+            },
         }
+    }
+
+    // What follows the header of this version, if it is there.
+    fn after_header_of(version: Version, bytes: &'a [u8]) -> Option<Left<'a>>
+        requires { length bytes.now ≤ MAX_LOG }
+        ensures begins { IfSome result (λ l. bytes.now ≡ header l.version ++ l.bytes) }
+        ensures offset { IfSome result (λ l. l.offset ≡ HEADER_LEN) }
+        ensures none { IsNone result → (rest : List ℕ) → bytes.now ≢ header version ++ rest }
+    {
+        let rest = bytes.strip_prefix(header(version))?;
+        Some(Left {
+            version,
+            offset: HEADER_LEN as u32,
+            bytes: rest,
+        })
     }
 
     /// Passes over the next frame, and tells whether there was one. It takes no memory.
@@ -62,7 +78,7 @@ impl<'a> Left<'a> {
         if self.bytes.is_empty() {
             return Ok(false);
         }
-        match scan(self.bytes) {
+        match scan_in(self.version, self.bytes) {
             Scan::Frame { used } => {
                 self.advance(used);
                 Ok(true)
@@ -81,7 +97,7 @@ impl<'a> Left<'a> {
         if self.bytes.is_empty() {
             return Ok(None);
         }
-        match decode(alloc, self.bytes) {
+        match decode_in(self.version, alloc, self.bytes) {
             Ok(Decoded::Got { op, used }) => {
                 let offset = self.offset;
                 self.advance(used);
@@ -116,7 +132,7 @@ impl<'a> Left<'a> {
     // Passes over so many bytes.
     fn advance(&mut self, used: u32)
         requires { used ≤ length self.old.bytes }
-        ensures { self.new ≡ record { offset = self.old.offset + used; bytes = drop used self.old.bytes } }
+        ensures { self.new ≡ record { version = self.old.version; offset = self.old.offset + used; bytes = drop used self.old.bytes } }
     {
         let parts = self.bytes.split_at(used as usize);
         self.offset += used;

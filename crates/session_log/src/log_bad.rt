@@ -7,7 +7,7 @@ use wire_codec::Cause;
 /// Why bytes are no log, or why no site can be made of them. Offsets count bytes from the first byte of the log.
 #[derive(Clone, Copy, Debug, PartialEq, Eq, Drop)]
 pub enum LogBad {
-    /// The first eight bytes aren't the header.
+    /// The first eight bytes aren't the header of a version.
     Header,
     /// The bytes end within the frame that begins at this offset.
     Cut {

@@ -2,13 +2,12 @@
 
 ghost use Rattle.std.specs.Prelude.{◌≡◌, ℕ, ◌+◌, ◌≤◌, List, length, IfOk, IfErr};
 ghost use Rattle.cot_site.specs.Sites.{state_of};
-ghost use Rattle.session_log.specs.Logs.{header};
 ghost use Rattle.session_log.specs.Readers.{HasTaken};
 ghost use Rattle.session_log.specs.ReaderData.{IsCounted};
 ghost use Rattle.session_log.specs.Code.Steps.{TakesFrame, Stops, Ends};
 
+use crate::headers::HEADER_LEN;
 use crate::intake::Intake;
-use crate::left::HEADER;
 use crate::log_bad::LogBad;
 use crate::placed::Placed;
 use crate::reading::MAX_LOG;
@@ -23,12 +22,13 @@ pub(crate) fn take_frames(
     intake: &mut Intake,
 ) -> Result<Option<LogBad>, Memory>
     requires counted { IsCounted fed frames.old }
-    requires header { length header ≤ fed }
+    requires header { HEADER_LEN ≤ fed }
     requires limit { fed ≤ MAX_LOG }
     ensures ends { (site : ℕ) (all : List ℕ) → fed ≡ length all
-        → HasTaken site all frames.old.left (state_of intake.old.site) intake.old.refused
-        → IfOk result (Ends site all frames.new.left (state_of intake.new.site) intake.new.refused) }
+        → HasTaken site frames.old.version all frames.old.left (state_of intake.old.site) intake.old.refused
+        → IfOk result (Ends site frames.new.version all frames.new.left (state_of intake.new.site) intake.new.refused) }
     ensures counted { IsCounted fed frames.new }
+    ensures version { frames.new.version ≡ frames.old.version }
 {
     loop {
         match next(frames, fed) {
@@ -43,18 +43,19 @@ pub(crate) fn take_frames(
 // Takes the next whole frame, if there is one.
 fn next(frames: &mut FrameStream, fed: u32) -> Result<Option<Placed>, LogBad>
     requires counted { IsCounted fed frames.old }
-    requires header { length header ≤ fed }
+    requires header { HEADER_LEN ≤ fed }
     requires limit { fed ≤ MAX_LOG }
     ensures takes { IfOk result (λ p. TakesFrame fed frames.old p frames.new) }
     ensures stops { IfErr result (Stops fed frames.old) }
     ensures counted { IsCounted fed frames.new }
+    ensures version { frames.new.version ≡ frames.old.version }
 {
     let offset = fed - frames.rest();
     match frames.take() {
         Ok(Some(op)) => Ok(Some(Placed { offset, op })),
         Ok(None) => Ok(None),
         Err(StreamBad::Bad { cause, offset }) => Err(LogBad::Bad {
-            offset: HEADER.len() as u32 + offset as u32,
+            offset: HEADER_LEN as u32 + offset as u32,
             cause,
         }),
         Err(StreamBad::Memory) => Err(LogBad::Memory),

@@ -8,28 +8,27 @@ ghost use Rattle.session_log.specs.ReaderData.{IsCounted, reader_of};
 ghost use Rattle.session_log.specs.Code.Steps.{end_fault};
 
 use crate::front::after_header;
+use crate::headers::HEADER_LEN;
 use crate::intake::Intake;
 use crate::laws::what_is_kept_decides;
-use crate::left::HEADER;
 use crate::log_bad::LogBad;
 use crate::next_frame::take_frames;
 use crate::reading::MAX_LOG;
+use crate::stream::LogStream;
 use cot_site::Site;
 use op_name::{Memory, SITES};
 use std::alloc::Global;
 use std::marker::Model;
-use wire_codec::FrameStream;
 
 /// A log that comes in pieces, which may be cut anywhere; its operations are taken in as their frames come.
 ///
-/// It *is* the number of its site and the state so far, the bytes not decoded yet, the number of bytes fed, whether the
-/// header was read, the first fault of the bytes, the first refused verdict, and whether it is out of memory: then each
-/// later call answers so.
+/// It *is* the number of its site, the version that the header tells and the state so far, the bytes not decoded yet, the number of
+/// bytes fed, whether the header was read, the first fault of the bytes, the first refused verdict, and whether it is out of memory:
+/// then each later call answers so.
 pub struct LogReader {
     number: u16,
     fed: u32,
-    // what comes after the header
-    frames: FrameStream,
+    frames: LogStream,
     intake: Intake,
     fault: Option<LogBad>,
     spent: bool,
@@ -42,9 +41,11 @@ impl Model for LogReader {
 
     ghost Value = { ReaderData };
 
-    ghost view = { λ r. reader_of r.number r.fed r.frames.left (state_of r.intake.site) r.intake.refused r.fault r.spent };
+    ghost view = { λ r. reader_of r.number r.frames.version r.fed r.frames.stream.left (state_of r.intake.site) r.intake.refused r.fault
+        r.spent };
 
-    ghost invariant = { λ r. r.spent ≡ false → r.fault ≡ None → IsCounted r.fed r.frames };
+    ghost invariant = { λ r. r.spent ≡ false → r.fault ≡ None
+        → IsCounted r.fed r.frames.stream × (r.frames.stream.version ≡ r.frames.version) };
 }
 
 // Written out, as a site's is: whoever gives up a reader makes one call.
@@ -69,7 +70,7 @@ impl LogReader {
         ensures load_on { IfOk result (Begins site) }
         ensures site { IfOk result (λ r. r.site ≡ site) }
     {
-        let frames = FrameStream::new(alloc)?;
+        let frames = LogStream::new(alloc)?;
         Ok(LogReader {
             number: site,
             fed: 0,
@@ -141,7 +142,7 @@ impl LogReader {
             fault,
             spent,
         } = self;
-        intake.finish(fault_at_end(spent, fault, fed, frames.rest()))
+        intake.finish(fault_at_end(spent, fault, fed, frames.stream.rest()))
     }
 }
 
@@ -156,7 +157,7 @@ fn fault_at_end(spent: bool, fault: Option<LogBad>, fed: u32, rest: u32) -> Opti
     if fault.is_some() {
         return fault;
     }
-    if fed < HEADER.len() as u32 {
+    if fed < HEADER_LEN as u32 {
         return Some(LogBad::Header);
     }
     if rest > 0 {
@@ -170,25 +171,31 @@ fn fault_at_end(spent: bool, fault: Option<LogBad>, fed: u32, rest: u32) -> Opti
 fn read_piece(
     before: u32,
     piece: &[u8],
-    frames: &mut FrameStream,
+    frames: &mut LogStream,
     intake: &mut Intake,
 ) -> Result<Option<LogBad>, Memory>
     requires limit { before + length piece.now ≤ MAX_LOG }
-    requires counted { IsCounted before frames.old }
+    requires counted { IsCounted before frames.old.stream }
+    requires version { frames.old.stream.version ≡ frames.old.version }
     ensures keeps { (site : ℕ) (all : List ℕ)
-        → Keeps (reader_of site before frames.old.left (state_of intake.old.site) intake.old.refused None false) all
-        → IfOk result (λ why. Keeps (reader_of site (before + length piece.now) frames.new.left (state_of intake.new.site)
-        intake.new.refused why false) (all ++ piece.now)) }
-    ensures counted { IfOk result (λ why. why ≡ None → IsCounted (before + length piece.now) frames.new) }
+        → Keeps (reader_of site frames.old.version before frames.old.stream.left (state_of intake.old.site)
+        intake.old.refused None false) all
+        → IfOk result (λ why. Keeps (reader_of site frames.new.version (before + length piece.now) frames.new.stream.left
+        (state_of intake.new.site) intake.new.refused why false) (all ++ piece.now)) }
+    ensures counted { IfOk result (λ why. why ≡ None → IsCounted (before + length piece.now) frames.new.stream) }
+    ensures version { IfOk result (λ why. why ≡ None → frames.new.stream.version ≡ frames.new.version) }
     ensures needed { OnErr result (GoesPastHeader before piece.now) }
 {
     let fed = before + piece.len() as u32;
-    match after_header((before as usize).min(HEADER.len()), piece) {
+    match after_header(frames.version, (before as usize).min(HEADER_LEN), piece) {
         None => Ok(Some(LogBad::Header)),
-        Some(rest) if rest.is_empty() => Ok(None),
-        Some(rest) => {
-            frames.feed(rest)?;
-            take_frames(frames, fed, intake)
+        Some((told, rest)) => {
+            frames.turn(before, told)?;
+            if rest.is_empty() {
+                return Ok(None);
+            }
+            frames.stream.feed(rest)?;
+            take_frames(&mut frames.stream, fed, intake)
         }
     }
 }

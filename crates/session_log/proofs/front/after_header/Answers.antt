@@ -1,34 +1,27 @@
-use Rattle.std.proofs.Common.{◌≡◌, ◌≤◌, ◌++◌, ℕ, List, length, take, drop, sym, ap, ◌∙◌, arith}
-use Rattle.std.proofs.lemmas.Bool.{true≢false}
-use Rattle.std.proofs.lemmas.Bool.Decides.{Decides-eqb}
-use Rattle.std.proofs.lemmas.List.{take-append-drop}
-use Rattle.std.proofs.lemmas.Slice.Eq.{starts_is}
+use Rattle.std.proofs.Common.{◌≡◌, ◌++◌, ℕ, List, refl, ap, sym, ◌∙◌, inl, inr, take, append_assoc}
+use Rattle.wire_codec.specs.declared.version.Version.{Version}
 use Rattle.session_log.specs.Logs.{header}
-use Rattle.session_log.proofs.Fronts.{goes_on, parts_of, would_go_on}
+use Rattle.session_log.proofs.HeaderFronts.{fronts_same, one_front}
 use Rattle.session_log.proofs.front.after_header.Goals as goal
 
-pub returns-then-starts_with-clause-some : goal.returns-then-starts_with-clause-some
-returns-then-starts_with-clause-some c =
-    let front = c.split_at-2.result.0.now in
-    let wanted = c.split_at.result.1.now in
-    let begins = (starts_is Decides-eqb wanted front c.starts_with.result c.starts_with.ensures.value).0 c.if-starts_with.true in
-    goes_on c.args.come header c.args.piece.now front c.split_at-2.result.1.now (drop (length front) wanted) c.requires
-    (parts_of c.min.result c.args.piece.now front c.split_at-2.result.1.now c.split_at-2.ensures.front c.split_at-2.ensures.back)
-    (sym c.split_at.ensures.back ∙ begins)
-    (omega (arith, c.split_at-2.ensures.front_len, c.min.ensures, c.split_at.ensures.back_len))
+-- the byte that tells the version came before
+pub returns-then-come-gt-VERSION_AT-clause-none : goal.returns-then-come-gt-VERSION_AT-clause-none
+returns-then-come-gt-VERSION_AT-clause-none c = λ _ v more rest e.
+    let version = c.args.version in
+    let front = take c.args.come (header version) in
+    let same : version ≡ v =
+    one_front version v c.args.come (c.args.piece.now ++ more) rest c.if-come-gt-VERSION_AT.true c.requires
+    (sym (append_assoc front c.args.piece.now more) ∙ e) in
+    c.in_default.ensures.none refl more rest (e ∙ ap (λ (w : Version). header w ++ rest) (sym same))
 
-pub returns-else-starts_with-clause-none : goal.returns-else-starts_with-clause-none
-returns-else-starts_with-clause-none c = λ _ more rest e.
-    let front = c.split_at-2.result.0.now in
-    let wanted = c.split_at.result.1.now in
-    let short : length front ≤ length (drop c.args.come header) =
-    omega (arith, c.split_at-2.ensures.front_len, c.min.ensures, ap length c.split_at.ensures.back) in
-    let same =
-    would_go_on c.args.come header c.args.piece.now front c.split_at-2.result.1.now
-    (parts_of c.min.result c.args.piece.now front c.split_at-2.result.1.now c.split_at-2.ensures.front c.split_at-2.ensures.back) short
-    more rest e in
-    let begins : wanted ≡ front ++ drop (length front) wanted =
-    sym (take-append-drop (length front) wanted)
-    ∙ ap (λ (t : List ℕ). t ++ drop (length front) wanted) (ap (take (length front)) c.split_at.ensures.back ∙ same) in
-    let yes = (starts_is Decides-eqb wanted front c.starts_with.result c.starts_with.ensures.value).1 (drop (length front) wanted) begins in
-    absurd (true≢false (sym yes ∙ c.if-starts_with.false))
+pub returns-in_err-rest-clause-none : goal.returns-in_err-rest-clause-none
+returns-in_err-rest-clause-none c = λ _ v more rest e.
+    let fronts = fronts_same c.other_than-other.result c.args.version c.args.come c.if-come-gt-VERSION_AT.false in
+    elim (c.other_than-other.ensures v) [
+      | inl own ↦ c.in_default.ensures.none refl more rest (e ∙ ap (λ (w : Version). header w ++ rest) own)
+      | inr there ↦ c.in_err-rest.ensures.none refl more rest
+          (ap (λ (t : List ℕ). (t ++ c.args.piece.now) ++ more) fronts ∙ e ∙ ap (λ (w : Version). header w ++ rest) there)
+    ]
+
+pub returns-clause-front : goal.returns-clause-front
+returns-clause-front c = fronts_same c.args.version c.other_than-other.result c.args.come c.if-come-gt-VERSION_AT.false

@@ -11,14 +11,28 @@ use Rattle.session_log.proofs.next_frame.next.Goals as goal
 pub overflow_cast-result-in-Err-Bad : goal.overflow_cast-result-in-Err-Bad
 overflow_cast-result-in-Err-Bad c =
     let old = c.args.frames.now in
-    let is = subst (λ (e : StreamBad). IsAnswer old.taken (Err e) (judge old.left)) c.in-Err-Bad.field-0-is c.in-Err-Bad.ensures.exact in
-    omega (arith, is.2, within_left old.left c.in-Err-Bad.cause is.0 c.requires.counted.1 is.1, c.requires.counted.0, c.requires.limit)
+    let is = subst (λ (e : StreamBad). IsAnswer old.version old.taken (Err e) (judge old.version old.left)) c.in-Err-Bad.field-0-is
+    c.in-Err-Bad.ensures.exact in
+    omega (
+      arith,
+      is.2,
+      within_left old.version old.left c.in-Err-Bad.cause is.0 c.requires.counted.1 is.1,
+      c.requires.counted.0,
+      c.requires.limit,
+    )
 
 pub overflow_add-result : goal.overflow_add-result
 overflow_add-result c =
     let old = c.args.frames.now in
-    let is = subst (λ (e : StreamBad). IsAnswer old.taken (Err e) (judge old.left)) c.in-Err-Bad.field-0-is c.in-Err-Bad.ensures.exact in
-    omega (arith, is.2, within_left old.left c.in-Err-Bad.cause is.0 c.requires.counted.1 is.1, c.requires.counted.0, c.requires.limit)
+    let is = subst (λ (e : StreamBad). IsAnswer old.version old.taken (Err e) (judge old.version old.left)) c.in-Err-Bad.field-0-is
+    c.in-Err-Bad.ensures.exact in
+    omega (
+      arith,
+      is.2,
+      within_left old.version old.left c.in-Err-Bad.cause is.0 c.requires.counted.1 is.1,
+      c.requires.counted.0,
+      c.requires.limit,
+    )
 
 pub returns-in-Ok-Some-clause-counted : goal.returns-in-Ok-Some-clause-counted
 returns-in-Ok-Some-clause-counted c =

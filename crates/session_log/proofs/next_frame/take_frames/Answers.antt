@@ -1,4 +1,4 @@
-use Rattle.std.proofs.Common.{◌≡◌, subst}
+use Rattle.std.proofs.Common.{◌≡◌, ◌∙◌, subst}
 use Rattle.std.specs.Prelude.{Option}
 use Rattle.cot_site.specs.Sites.{state_of}
 use Rattle.session_log.specs.declared.placed.Placed.{Placed}
@@ -13,9 +13,10 @@ loop-placed-preserved c =
     let new = c.next.new.frames in
     let takes = subst (λ (p : Option Placed). TakesFrame c.args.fed old p new) c.in-Ok-Some.field-0-is c.in-Ok-Some.ensures.takes in (
       c.in-Ok-Some.ensures.counted,
+      c.in-Ok-Some.ensures.version ∙ c.loop-placed.invariant.1,
       λ site all count h. steps site all c.args.fed old new c.in-Ok-Some.placed (state_of c.loop-placed.intake.site)
           (state_of c.take.new.self.site) c.loop-placed.intake.refused c.take.new.self.refused
-          count (c.loop-placed.invariant.1 site all count h) takes c.in_ok-take-in-Ok-Some.ensures.takes,
+          count (c.loop-placed.invariant.2 site all count h) takes c.in_ok-take-in-Ok-Some.ensures.takes,
     )
 
 pub returns-in-Err-Bad : goal.returns-in-Err-Bad
@@ -26,6 +27,7 @@ returns-in-Err-Bad c =
     record {
       ends = λ site all count h.
           stops_for site all c.args.fed c.loop-placed.frames s c.loop-placed.intake.refused why count
-          (c.loop-placed.invariant.1 site all count h) stops (λ e. let no : why ≡ bad.Memory = e in cc);
+          (c.loop-placed.invariant.2 site all count h) stops (λ e. let no : why ≡ bad.Memory = e in cc);
       counted = c.in-Err-Bad.ensures.counted;
+      version = c.in-Err-Bad.ensures.version ∙ c.loop-placed.invariant.1;
     }

@@ -5,7 +5,7 @@ use Rattle.session_log.specs.declared.placed.Placed.{Placed}
 use Rattle.session_log.specs.Readings.{IsUnread}
 use Rattle.session_log.proofs.Frames.{unread, has_operation}
 use Rattle.op_name.proofs.CallerLemmas.{handed_on}
-use Rattle.session_log.proofs.Listings.{IsListing, listing_first, listing_more, passes_placed, at_placed}
+use Rattle.session_log.proofs.Listings.{IsListing, listing_first, listing_more, listing_end, ends_placed, passes_placed, at_placed}
 use Rattle.session_log.proofs.reading.read_into.Goals as goal
 
 pub loop-placed-init : goal.loop-placed-init
@@ -26,6 +26,11 @@ loop-placed-preserved c =
     (listing_more c.args.bytes.now c.args.out.now.items c.loop-placed.out.items c.loop-placed.left c.next.new.self p c.loop-placed.invariant
     (passes_placed c.loop-placed.left c.next.new.self c.in_ok-placed.field-0 p c.in-Some.is c.in_ok-placed.ensures.step)
     (at_placed c.loop-placed.left c.in_ok-placed.field-0 p c.in-Some.is c.in_ok-placed.ensures.place))
+
+pub returns-clause-ok : goal.returns-clause-ok
+returns-clause-ok c =
+    listing_end c.args.bytes.now c.args.out.now.items c.loop-placed.out.items c.loop-placed.left c.loop-placed.invariant
+    (ends_placed c.loop-placed.left c.next.new.self c.in_ok-placed.field-0 c.in_default.is c.in_ok-placed.ensures.step)
 
 pub returns-in_err-append-clause-refused : goal.returns-in_err-append-clause-refused
 returns-in_err-append-clause-refused c =

@@ -9,7 +9,8 @@ returns-in-Frame-clause-step c =
       Some f.op,
       record {
         used = c.in-Frame.used;
-        is_frame = subst (λ (l : LeftData). IsFrame l.bytes f.op c.in-Frame.used) c.self.view_is f.is;
+        is_frame = subst (λ (l : LeftData). IsFrame l.version l.bytes f.op c.in-Frame.used) c.self.view_is f.is;
+        version = ap (λ (l : LeftData). l.version) c.advance.ensures;
         offset = ap (λ (l : LeftData). l.offset) c.advance.ensures;
         bytes = ap (λ (l : LeftData). l.bytes) c.advance.ensures;
       },

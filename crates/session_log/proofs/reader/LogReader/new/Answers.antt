@@ -7,5 +7,5 @@ use Rattle.session_log.proofs.reader.LogReader.new.Goals as goal
 pub returns-clause-load_on : goal.returns-clause-load_on
 returns-clause-load_on c =
     let t = c.in_ok-new.field-0 in
-    new_begins c.args.site c.in_ok-frames.frames.left (state_of t.site) t.refused
-    (ap (λ (s : StreamData). s.left) c.in_ok-frames.ensures.fresh) c.in_ok-new.ensures.state c.in_ok-new.ensures.refused
+    new_begins c.args.site c.in_ok-frames.frames.version c.in_ok-frames.frames.stream.left (state_of t.site) t.refused
+    (ap (λ (s : StreamData). s.left) c.in_ok-frames.ensures.1) c.in_ok-new.ensures.state c.in_ok-new.ensures.refused
